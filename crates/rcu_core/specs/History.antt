@@ -1,0 +1,88 @@
+-- What the accepted events so far say. A history is the list of the accepted events, the newest first. So the
+-- history as it was at an earlier event is the part of the list from that event on.
+use Rattle.std.specs.Prelude.{ℕ, ◌+◌, ◌-◌, ◌==◌, Bool, true, false, not, ◌&&◌, ◌||◌, nat_lt, if◌then◌else◌, List, [], ◌∷◌, ◌++◌, slice_get, Option, Some, None}
+use Rattle.rcu_seq.specs.Numbers.{Number, number_at, same_number}
+use Rattle.rcu_core.specs.declared.event.Event.{Event}
+use Rattle.rcu_core.specs.declared.event.Event.TheVariants.{Note, Quiesce, Deliver, Online, Begin, End, Awaits}
+use Rattle.rcu_report.specs.declared.report.Report.{Report}
+
+abbrev pub History : Type 0
+History = List Event
+
+-- how many events pass a test
+abbrev pub count : (Event → Bool) → History → ℕ
+count test [] = 0
+count test (e ∷ h) = if test e then count test h + 1 else count test h
+
+-- the history as it was at the latest event that passes a test, that event included; empty where there is none
+abbrev pub latest : (Event → Bool) → History → History
+latest test [] = []
+latest test (e ∷ h) = if test e then e ∷ h else latest test h
+
+-- a grace period begins
+abbrev pub begins : Event → Bool
+begins Begin = true
+begins _ = false
+
+-- a grace period ends
+abbrev pub ends : Event → Bool
+ends End = true
+ends _ = false
+
+-- the processor arrives
+abbrev pub arrives : ℕ → Event → Bool
+arrives cpu (Online c) = c == cpu
+arrives cpu _ = false
+
+-- the processor takes down the number: at a note, and at its arrival
+abbrev pub notes : ℕ → Event → Bool
+notes cpu (Note c) = c == cpu
+notes cpu (Online c) = c == cpu
+notes cpu _ = false
+
+-- a grace period runs: more began than ended
+abbrev pub running : History → Bool
+running h = nat_lt (count ends h) (count begins h)
+
+-- the grace-period number: four for each end, and one more while a grace period runs
+abbrev pub number : History → Number
+number h = number_at (count ends h) (running h)
+
+-- the processor is online: it is processor 0, or it arrived
+abbrev pub online : ℕ → History → Bool
+online cpu [] = cpu == 0
+online cpu (e ∷ h) = arrives cpu e || online cpu h
+
+-- the noted number: the number at the processor's last note or arrival, 0 before any
+abbrev pub noted : ℕ → History → Number
+noted cpu [] = 0
+noted cpu (e ∷ h) = if notes cpu e then number (e ∷ h) else noted cpu h
+
+-- all reports, the first one first: each quiescent state made one, of its processor and the noted number
+abbrev pub made : History → List Report
+made [] = []
+made (Quiesce cpu ∷ h) = made h ++ record { cpu = cpu; tag = noted cpu h } ∷ []
+made (_ ∷ h) = made h
+
+-- the report of a place, counted from 1
+abbrev pub report_at : ℕ → List Report → Option Report
+report_at place reports = if place == 0 then None else slice_get reports (place - 1)
+
+-- it is a report of this processor and this tag
+abbrev pub is_of : ℕ → Number → Option Report → Bool
+is_of cpu tag None = false
+is_of cpu tag (Some report) = report.cpu == cpu && same_number report.tag tag
+
+-- by this event the processor is heard in the grace period of this tag: a report of both is delivered
+abbrev pub tells : ℕ → Number → Event → History → Bool
+tells cpu tag (Deliver place) h = is_of cpu tag (report_at place (made h))
+tells cpu tag _ h = false
+
+-- the processor was heard since the latest begin
+abbrev pub heard : ℕ → Number → History → Bool
+heard cpu tag [] = false
+heard cpu tag (e ∷ h) = not (begins e) && (tells cpu tag e h || heard cpu tag h)
+
+-- the processor is awaited: a grace period runs at whose begin it was online, and it was not heard since
+abbrev pub awaits : ℕ → History → Bool
+awaits cpu h = running h && (online cpu (latest begins h) && not (heard cpu (number h) h))

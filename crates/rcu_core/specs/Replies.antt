@@ -1,0 +1,118 @@
+-- Which replies are legal to an event after a history.
+use Rattle.std.specs.Prelude.{ℕ, ◌+◌, ◌≡◌, ◌⊎◌, ◌==◌, Bool, true, false, not, ◌&&◌, nat_lt, nat_le, if◌then◌else◌, List, [], ◌∷◌, length, filter, count_by, Option, Some, None, is_none}
+use Rattle.std.specs.List.{range_with_len}
+use Rattle.rcu_seq.specs.Numbers.{Number, number_at, same_number}
+use Rattle.rcu_seq.specs.declared.fault.Fault.{Fault}
+use Rattle.rcu_seq.specs.declared.fault.Fault.TheVariants as fault
+use Rattle.rcu_node.specs.declared.answer.Answer.{Answer}
+use Rattle.rcu_node.specs.declared.answer.Answer.TheVariants.{Taken, Last, Repeat, Stale}
+use Rattle.rcu_report.specs.declared.report.Report.{Report}
+use Rattle.rcu_core.specs.History.{History, count, ends, running, online, awaits, noted, made, report_at}
+use Rattle.rcu_core.specs.declared.event.Event.{Event}
+use Rattle.rcu_core.specs.declared.event.Event.TheVariants.{Note, Quiesce, Deliver, Online, Begin, End, Awaits}
+use Rattle.rcu_core.specs.declared.reply.Reply.{Reply}
+use Rattle.rcu_core.specs.declared.reply.Reply.TheVariants as reply
+
+-- how many processors there are, and the last number
+pub record Size : Type 0 where
+  pub cpus : ℕ
+  pub last : Number
+
+-- what the events so far say
+pub record Situation : Type 0 where
+  pub ends : ℕ
+  pub running : Bool
+  pub online : ℕ → Bool
+  pub awaits : ℕ → Bool
+  pub noted : ℕ → Number
+  pub made : List Report
+
+-- the situation of a history
+abbrev pub situation : History → Situation
+situation h = record {
+    ends = count ends h;
+    running = running h;
+    online = λ cpu. online cpu h;
+    awaits = λ cpu. awaits cpu h;
+    noted = λ cpu. noted cpu h;
+    made = made h;
+  }
+
+-- its number
+abbrev pub number_in : Situation → Number
+number_in v = number_at v.ends v.running
+
+-- how many of the processors pass a test
+abbrev pub how_many : Size → (ℕ → Bool) → ℕ
+how_many s test = count_by test (range_with_len 0 s.cpus)
+
+-- the processors that pass a test, ascending
+abbrev pub which : Size → (ℕ → Bool) → List ℕ
+which s test = filter test (range_with_len 0 s.cpus)
+
+-- what is tested for an event, in order: a cause, and the fault that it is answered by
+abbrev pub causes : Size → Situation → Event → List (Bool × Fault)
+causes s v (Note cpu) = (nat_le s.cpus cpu, fault.BadCpu) ∷ (not (v.online cpu), fault.Offline) ∷ []
+causes s v (Quiesce cpu) = (nat_le s.cpus cpu, fault.BadCpu) ∷ (not (v.online cpu), fault.Offline) ∷ []
+causes s v (Deliver place) = (is_none (report_at place v.made), fault.NoReport) ∷ []
+causes s v (Online cpu) = (nat_le s.cpus cpu, fault.BadCpu) ∷ (v.online cpu, fault.AlreadyOnline) ∷ []
+causes s v Begin = (v.running, fault.Running) ∷ (same_number (number_in v) s.last, fault.Exhausted) ∷ []
+causes s v End = (not v.running, fault.Idle) ∷ (nat_lt 0 (how_many s v.awaits), fault.Waiting) ∷ []
+causes s v Awaits = []
+
+-- the fault of the first cause that holds
+abbrev pub first_fault : List (Bool × Fault) → Option Fault
+first_fault [] = None
+first_fault (cause ∷ causes) = if cause.0 then Some cause.1 else first_fault causes
+
+-- the fault of an event
+abbrev pub fault_in : Size → Situation → Event → Option Fault
+fault_in s v e = first_fault (causes s v e)
+
+-- what a delivered report does: it is stale where no grace period runs or its tag is not the number, a repeat where
+-- its processor is not awaited, the last where that alone is awaited, and taken else
+abbrev pub answered : Size → Situation → Option Report → Answer
+answered s v None = Stale
+answered s v (Some report) =
+    if not (v.running && same_number report.tag (number_in v)) then Stale
+    else (if not (v.awaits report.cpu) then Repeat
+    else (if how_many s v.awaits == 1 then Last else Taken))
+
+-- the reply to an event of which no cause holds
+abbrev pub said : Size → Situation → Event → Reply
+said s v (Note cpu) = reply.Noted (number_in v) (v.awaits cpu)
+said s v (Quiesce cpu) = reply.Made (length v.made + 1) (record { cpu = cpu; tag = v.noted cpu })
+said s v (Deliver place) = reply.Answer (answered s v (report_at place v.made))
+said s v (Online cpu) = reply.Online
+said s v Begin = reply.Begun (number_at v.ends true) (how_many s v.online)
+said s v End = reply.Ended (number_at (v.ends + 1) false)
+said s v Awaits = reply.Awaits (which s v.awaits)
+
+-- the first fault whose cause holds, and else what is said
+abbrev pub or_fault : Option Fault → Reply → Reply
+or_fault None r = r
+or_fault (Some f) r = reply.Fault f
+
+-- the reply to an event, where memory is never wanted
+abbrev pub answer : Size → Situation → Event → Reply
+answer s v e = or_fault (fault_in s v e) (said s v e)
+
+-- the event stores something: a report, or a list that is not empty
+abbrev pub stores : Size → Situation → Event → Bool
+stores s v (Quiesce cpu) = true
+stores s v Awaits = nat_lt 0 (how_many s v.awaits)
+stores s v _ = false
+
+-- the reply is the answer; or memory is wanted, where the event stores something and no other fault holds
+abbrev pub IsLegalReply : Size → Situation → Event → Reply → Type 0
+IsLegalReply s v e r = (r ≡ answer s v e) ⊎ ((stores s v e ≡ true) × (fault_in s v e ≡ None) × (r ≡ reply.Fault fault.NoMemory))
+
+-- the history after an event and its reply: a refused event is not in it
+abbrev pub after : History → Event → Reply → History
+after h e (reply.Fault f) = h
+after h e _ = e ∷ h
+
+-- each event of the history was accepted
+abbrev pub IsHistory : Size → History → Type 0
+IsHistory s [] = Unit {0}
+IsHistory s (e ∷ h) = (fault_in s (situation h) e ≡ None) × IsHistory s h

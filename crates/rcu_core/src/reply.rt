@@ -1,0 +1,27 @@
+//! What the engine answers.
+
+use crate::cpu_list::CpuList;
+use rcu_node::answer::Answer;
+use rcu_report::report::Report;
+use rcu_seq::fault::Fault;
+
+/// The reply to an event.
+#[derive(Debug, Drop)]
+pub enum Reply {
+    /// The number that was taken down, and whether the processor is awaited.
+    Noted(u64, bool),
+    /// The place of the report among all reports, counted from 1, and the report.
+    Made(u64, Report),
+    /// What the delivered report did.
+    Answer(Answer),
+    /// The processor arrived.
+    Online,
+    /// The number of the grace period, and how many processors it awaits.
+    Begun(u64, u32),
+    /// The number after the grace period.
+    Ended(u64),
+    /// The awaited processors, ascending.
+    Awaits(CpuList),
+    /// The event was refused, and changed nothing.
+    Fault(Fault),
+}

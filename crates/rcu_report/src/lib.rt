@@ -1,0 +1,4 @@
+//! Reports of quiescent states.
+#![tactic(auto)]
+
+pub mod report;
