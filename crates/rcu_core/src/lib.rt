@@ -4,3 +4,5 @@
 pub mod cpu_list;
 pub mod event;
 pub mod reply;
+#[cfg(test)]
+mod tests;

@@ -1,5 +1,5 @@
 -- Grace-period numbers. A tag, a noted number and the number at which a grace period began are all such numbers.
-use Rattle.std.specs.Prelude.{ℕ, ◌+◌, ◌*◌, ◌%◌, ◌≤◌, ◌^◌, ◌==◌, ◌&&◌, Bool, nat_le, if◌then◌else◌}
+use Rattle.std.specs.Prelude.{ℕ, ◌+◌, ◌*◌, ◌%◌, ◌^◌, ◌==◌, ◌&&◌, Bool, nat_le, if◌then◌else◌}
 
 abbrev pub Number : Type 0
 Number = ℕ

@@ -3,3 +3,5 @@
 
 pub mod fault;
 pub mod seq;
+#[cfg(test)]
+mod tests;

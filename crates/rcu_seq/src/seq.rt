@@ -29,13 +29,11 @@ impl Model for Seq {
 
     ghost view = { λ s. record { ends = s.value / 4; running = is_running s.value; last = s.last } };
 
-    ghost invariant = {
-        λ s. record {
-            state : s.value % 4 ≤ 1;
-            within : s.value ≤ s.last;
-            last : is_last s.last ≡ true
-        }
-    };
+    ghost invariant = { λ s. record {
+      state : s.value % 4 ≤ 1;
+      within : s.value ≤ s.last;
+      last : is_last s.last ≡ true;
+    } };
 }
 
 impl Seq {

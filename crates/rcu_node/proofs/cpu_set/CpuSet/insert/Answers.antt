@@ -1,0 +1,36 @@
+use Rattle.std.proofs.Common.{arith, ap, ◌∙◌, sym, ◌<◌, length, List, Bool}
+use Rattle.std.proofs.lemmas.List.{length-set}
+use Rattle.rcu_node.specs.CpuSets.{size_of}
+use Rattle.rcu_node.specs.Words.{flags_in}
+use Rattle.rcu_node.proofs.Flags.{size_of-insert, size_of-within}
+use Rattle.rcu_node.proofs.Words.{cpus-is, word_below, insert-is}
+use Rattle.rcu_node.proofs.cpu_set.CpuSet.insert.Goals as goal
+
+pub index_mut-requires : goal.index_mut-requires
+index_mut-requires c =
+    let s = c.self.inside in
+    let size = cpus-is s.cpus s.words.items c.args.self.now c.self.view_is in
+    omega (arith, s.words.ok, word_below s.cpus c.args.cpu (length s.words.items) (omega arith) c.self.invariant.enough)
+
+pub overflow_add-self : goal.overflow_add-self
+overflow_add-self c =
+    let s = c.self.inside in
+    let size = cpus-is s.cpus s.words.items c.args.self.now c.self.view_is in
+    omega (arith, c.self.invariant, size_of-within (flags_in s.cpus s.words.items), ap (λ (set : List Bool). length set) c.self.view_is)
+
+pub returns-clause-set : goal.returns-clause-set
+returns-clause-set c =
+    let s = c.self.inside in
+    let size = cpus-is s.cpus s.words.items c.args.self.now c.self.view_is in
+    let below : c.args.cpu < s.cpus = omega arith in
+    insert-is s.cpus s.words.items c.args.self.now c.args.cpu c.index_mut.result.now c.self.view_is below c.self.invariant.enough c.index_mut.ensures.value
+
+pub invariant_of-self : goal.invariant_of-self
+invariant_of-self c =
+    let s = c.self.inside in
+    let kept = c.self.invariant in
+    let before = kept.counted ∙ ap (λ (set : List Bool). size_of set) c.self.view_is in
+    let after = ap (λ (set : List Bool). size_of set) (returns-clause-set c) in
+    let more = size_of-insert c.args.self.now c.args.cpu c.requires (sym c.contains.ensures ∙ c.if-contains.false) in
+    let stays = length-set s.words.items in
+    record { some = kept.some; few = kept.few; enough = omega (arith, stays); no_more = omega (arith, stays); counted = omega (arith, before, after, more) }

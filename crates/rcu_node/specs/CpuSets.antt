@@ -1,0 +1,15 @@
+-- Sets of processors, as lists of flags: the processor c is in the set where the flag at place c is true.
+use Rattle.std.specs.Prelude.{ℕ, Bool, false, List, map, count_by, slice_index_or}
+use Rattle.std.specs.List.{range_with_len}
+
+-- the processor is in the set
+abbrev pub is_in : List Bool → ℕ → Bool
+is_in set cpu = slice_index_or set cpu false
+
+-- how many processors are in the set
+abbrev pub size_of : List Bool → ℕ
+size_of set = count_by (λ flag. flag) set
+
+-- the processors below n that pass a test
+unfoldable pub listed : ℕ → (ℕ → Bool) → List Bool
+listed n test = map test (range_with_len 0 n)

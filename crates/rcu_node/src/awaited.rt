@@ -1,0 +1,79 @@
+//! The processors that a grace period awaits.
+ghost use Rattle.std.specs.Prelude.{◌≡◌, ◌<◌, ◌≤◌, ◌==◌, ℕ, List, Bool, true, length};
+ghost use Rattle.rcu_seq.specs.Numbers.{is_running};
+ghost use Rattle.rcu_node.specs.CpuSets.{is_in, size_of};
+ghost use Rattle.rcu_node.specs.Reports.{answer_to, without};
+
+use crate::answer::Answer;
+use crate::cpu_set::CpuSet;
+
+/// The processors that a grace period awaits: those of its start set, less those that reported.
+///
+/// Contracts see its tag (the grace period's number), its start set and its awaited set, the sets as a flag for
+/// each processor. At making the tag is 0 and both sets are empty.
+pub trait Awaited: Drop {
+    /// The number of the latest grace period.
+    ghost tag: { Self → ℕ };
+
+    /// The processors that it awaited at its start.
+    ghost start_set: { Self → List Bool };
+
+    /// The processors that it awaits now.
+    ghost awaited: { Self → List Bool };
+
+    /// The number of processors, 1 to 4,096.
+    fn cpus(&self) -> u32
+        ensures { result ≡ length (awaited self.now) };
+
+    /// The number of the latest grace period, 0 before any.
+    fn tag(&self) -> u64
+        ensures { result ≡ tag self.now };
+
+    /// Whether the latest grace period awaited the processor at its start.
+    fn starts(&self, cpu: u32) -> bool
+        requires { cpu < length (awaited self.now) }
+        ensures { result ≡ is_in (start_set self.now) cpu };
+
+    /// Whether the processor is awaited.
+    fn awaits(&self, cpu: u32) -> bool
+        requires { cpu < length (awaited self.now) }
+        ensures { result ≡ is_in (awaited self.now) cpu };
+
+    /// How many processors are awaited.
+    fn count(&self) -> u32
+        ensures { result ≡ size_of (awaited self.now) };
+
+    /// Whether no processor is awaited.
+    fn is_empty(&self) -> bool
+        ensures { result ≡ (size_of (awaited self.now) == 0) };
+
+    /// A grace period of this number begins, and awaits the set. The set is one of as many processors, and the
+    /// number is `4k + 1`.
+    fn begin(&mut self, number: u64, set: &CpuSet)
+        requires alike { length set.now ≡ length (awaited self.old) }
+        requires running { is_running number ≡ true }
+        ensures tag { tag self.new ≡ number }
+        ensures start_set { start_set self.new ≡ set.now }
+        ensures awaited { awaited self.new ≡ set.now };
+
+    /// A processor reports a quiescent state with the number that it had noted. The caller answers for the idle
+    /// case: the report is compared with the tag alone.
+    fn report(&mut self, cpu: u32, number: u64) -> Answer
+        requires { cpu < length (awaited self.old) }
+        ensures answer { result ≡ answer_to (tag self.old) (awaited self.old) cpu number }
+        ensures tag { tag self.new ≡ tag self.old }
+        ensures start_set { start_set self.new ≡ start_set self.old }
+        ensures awaited { awaited self.new ≡ without (tag self.old) (awaited self.old) cpu number };
+
+    /// There is a processor.
+    ghost some: { (set : Self) → 0 < length (awaited set) };
+
+    /// There are at most 4,096 processors.
+    ghost few: { (set : Self) → length (awaited set) ≤ 4096 };
+
+    /// The start set has a flag for each processor too.
+    ghost alike: { (set : Self) → length (start_set set) ≡ length (awaited set) };
+
+    /// Only processors of the start set are awaited.
+    ghost within: { (set : Self) (cpu : ℕ) → is_in (awaited set) cpu ≡ true → is_in (start_set set) cpu ≡ true };
+}

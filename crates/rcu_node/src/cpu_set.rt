@@ -1,0 +1,134 @@
+//! Sets of processors.
+ghost use Rattle.std.specs.Prelude.{◌≡◌, ◌<◌, ◌≤◌, ◌⊎◌, true, false, not, length, slice_set, replicate, IfOk, IfErr};
+ghost use Rattle.rcu_node.specs.CpuSets.{is_in, size_of};
+
+use rcu_seq::fault::Fault;
+use std::alloc::Global;
+use std::marker::Model;
+
+/// The most processors that a set is made for.
+pub const MOST_CPUS: u32 = 4096;
+
+/// How many processors a word holds.
+const WORD_BITS: u32 = 64;
+
+/// A set of processors below a fixed number, 1 to 4,096. Contracts see a flag for each processor.
+///
+/// A bit for each processor in words of 64 (Linux's `cpumask`), and their count beside them: each call but `new`,
+/// `clear` and `copy_from` costs one step.
+#[derive(Drop)]
+pub struct CpuSet {
+    cpus: u32,
+    words: Vec<u64>,
+    count: u32,
+}
+
+impl Model for CpuSet {
+    ghost use Rattle.std.specs.Prelude.{◌≡◌, ◌+◌, ◌*◌, ◌<◌, ◌≤◌, List, Bool, length};
+    ghost use Rattle.rcu_node.specs.CpuSets.{size_of};
+    ghost use Rattle.rcu_node.specs.Words.{flags_in};
+
+    ghost Value = { List Bool };
+
+    ghost view = { λ s. flags_in s.cpus s.words.items };
+
+    ghost invariant = { λ s. record {
+      some : 0 < s.cpus;
+      few : s.cpus ≤ 4096;
+      enough : s.cpus ≤ 64 * length s.words.items;
+      no_more : 64 * length s.words.items < s.cpus + 64;
+      counted : s.count ≡ size_of (flags_in s.cpus s.words.items);
+    } };
+}
+
+impl CpuSet {
+    /// The empty set.
+    ///
+    /// Faults: 17 for no processor or more than 4,096; 16.
+    pub fn new(alloc: Global, cpus: u32) -> Result<Self, Fault>
+        ensures ok { IfOk result (λ set. (set ≡ replicate cpus false) × (0 < cpus) × (cpus ≤ 4096)) }
+        ensures err { IfErr result (λ fault. ((fault ≡ Fault.TooManyCpus) × ((cpus ≡ 0) ⊎ (4096 < cpus))) ⊎ ((fault ≡ Fault.NoMemory) × (0 < cpus) × (cpus ≤ 4096))) }
+    {
+        if cpus == 0 || MOST_CPUS < cpus {
+            return Err(Fault::TooManyCpus);
+        }
+        let Ok(words) = vec![in alloc; 0u64; cpus.div_ceil(WORD_BITS) as usize] else {
+            return Err(Fault::NoMemory);
+        };
+        Ok(CpuSet {
+            cpus,
+            words,
+            count: 0,
+        })
+    }
+
+    /// The number of processors that the set was made for.
+    pub fn cpus(&self) -> u32
+        ensures value { result ≡ length self.now }
+        ensures some { 0 < result }
+        ensures few { result ≤ 4096 }
+    {
+        self.cpus
+    }
+
+    /// Whether the processor is in the set.
+    pub fn contains(&self, cpu: u32) -> bool
+        requires { cpu < length self.now }
+        ensures { result ≡ is_in self.now cpu }
+    {
+        let word = self.words[(cpu / WORD_BITS) as usize];
+        (word >> (cpu % WORD_BITS)) & 1 == 1
+    }
+
+    /// Puts the processor into the set, and answers whether it is new.
+    pub fn insert(&mut self, cpu: u32) -> bool
+        requires { cpu < length self.old }
+        ensures new { result ≡ not (is_in self.old cpu) }
+        ensures set { self.new ≡ slice_set self.old cpu true }
+    {
+        if self.contains(cpu) {
+            return false;
+        }
+        self.words[(cpu / WORD_BITS) as usize] |= 1 << (cpu % WORD_BITS);
+        self.count += 1;
+        true
+    }
+
+    /// Takes the processor out of the set, and answers whether it was there.
+    pub fn remove(&mut self, cpu: u32) -> bool
+        requires { cpu < length self.old }
+        ensures there { result ≡ is_in self.old cpu }
+        ensures set { self.new ≡ slice_set self.old cpu false }
+    {
+        if !self.contains(cpu) {
+            return false;
+        }
+        self.words[(cpu / WORD_BITS) as usize] &= !(1 << (cpu % WORD_BITS));
+        self.count -= 1;
+        true
+    }
+
+    /// Takes every processor out.
+    pub fn clear(&mut self)
+        ensures { self.new ≡ replicate (length self.old) false }
+    {
+        self.words.fill(0);
+        self.count = 0;
+    }
+
+    /// Becomes the same set as another one of as many processors.
+    pub fn copy_from(&mut self, from: &CpuSet)
+        requires { length self.old ≡ length from.now }
+        ensures { self.new ≡ from.now }
+    {
+        self.words.copy_from_slice(&from.words);
+        self.count = from.count;
+    }
+
+    /// How many processors are in the set.
+    pub fn count(&self) -> u32
+        ensures { result ≡ size_of self.now }
+    {
+        self.count
+    }
+}

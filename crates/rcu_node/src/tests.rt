@@ -1,0 +1,184 @@
+//! Each public call once, and two grace periods of each kind of awaited processors.
+ghost use Rattle.std.specs.Prelude.{◌≡◌, false, replicate};
+
+use crate::answer::Answer;
+use crate::awaited::Awaited;
+use crate::cpu_set::CpuSet;
+use crate::flat::Flat;
+use rcu_seq::fault::Fault;
+use std::alloc::Global;
+use std::process::Abort;
+
+/// An empty set, made by a second call where the first is refused a growth.
+fn empty_set(rt: &impl Abort, alloc: Global, cpus: u32) -> CpuSet
+    ensures { result ≡ replicate cpus false }
+{
+    match CpuSet::new(alloc, cpus) {
+        Ok(set) => set,
+        Err(fault) => {
+            assert_eq!(rt; fault, Fault::NoMemory);
+            CpuSet::new(alloc, cpus).expect(rt, "the second call has memory")
+        }
+    }
+}
+
+/// A flat set, made by a second call where the first is refused a growth.
+fn flat(rt: &impl Abort, alloc: Global, cpus: u32) -> Flat {
+    match Flat::new(alloc, cpus) {
+        Ok(flat) => flat,
+        Err(fault) => {
+            assert_eq!(rt; fault, Fault::NoMemory);
+            Flat::new(alloc, cpus).expect(rt, "the second call has memory")
+        }
+    }
+}
+
+/// Puts processors in, and compares whether each is new.
+fn insert(rt: &impl Abort, set: &mut CpuSet, cpus: &[(u32, bool)]) {
+    for (cpu, wanted) in cpus {
+        assert!(rt; *cpu < set.cpus());
+        let new = set.insert(*cpu);
+        assert_eq!(rt; new, *wanted, "processor {cpu}");
+    }
+}
+
+/// Compares whether each processor is in the set.
+fn contains(rt: &impl Abort, set: &CpuSet, cpus: &[(u32, bool)]) {
+    for (cpu, wanted) in cpus {
+        assert!(rt; *cpu < set.cpus());
+        let there = set.contains(*cpu);
+        assert_eq!(rt; there, *wanted, "processor {cpu}");
+    }
+}
+
+/// Makes reports, each of a processor and a number, and compares the answers.
+fn report<A: Awaited>(rt: &impl Abort, awaited: &mut A, reports: &[(u32, u64, Answer)]) {
+    for (cpu, number, wanted) in reports {
+        assert!(rt; *cpu < awaited.cpus());
+        let answer = awaited.report(*cpu, *number);
+        assert_eq!(rt; answer, *wanted, "processor {cpu}, number {number}");
+    }
+}
+
+/// Compares whether each processor was in the start set, and whether it is awaited.
+fn awaits<A: Awaited>(rt: &impl Abort, awaited: &A, cpus: &[(u32, bool, bool)]) {
+    for (cpu, at_start, now) in cpus {
+        assert!(rt; *cpu < awaited.cpus());
+        let starts = awaited.starts(*cpu);
+        assert_eq!(rt; starts, *at_start, "processor {cpu}");
+        let awaits = awaited.awaits(*cpu);
+        assert_eq!(rt; awaits, *now, "processor {cpu}");
+    }
+}
+
+/// Begins a grace period, and compares what the counts say.
+fn begin<A: Awaited>(rt: &impl Abort, awaited: &mut A, number: u64, set: &CpuSet) {
+    assert!(rt; set.cpus() == awaited.cpus());
+    assert!(rt; number % 4 == 1);
+    awaited.begin(number, set);
+    assert_eq!(rt; awaited.tag(), number);
+    assert_eq!(rt; awaited.count(), set.count());
+    assert!(rt; !awaited.is_empty());
+}
+
+/// Two grace periods of five processors.
+fn two_grace_periods<A: Awaited>(rt: &impl Abort, alloc: Global, awaited: &mut A) {
+    assert_eq!(rt; awaited.tag(), 0);
+    assert!(rt; awaited.is_empty());
+
+    let mut set = empty_set(rt, alloc, 5);
+    insert(rt, &mut set, &[(0, true), (2, true), (4, true)]);
+    begin(rt, awaited, 1, &set);
+    report(
+        rt,
+        awaited,
+        &[
+            (1, 1, Answer::Repeat),
+            (0, 5, Answer::Stale),
+            (0, 1, Answer::Taken),
+            (0, 1, Answer::Repeat),
+        ],
+    );
+    awaits(
+        rt,
+        awaited,
+        &[
+            (0, true, false),
+            (1, false, false),
+            (2, true, true),
+            (4, true, true),
+        ],
+    );
+    assert_eq!(rt; awaited.count(), 2);
+    report(rt, awaited, &[(4, 1, Answer::Taken), (2, 1, Answer::Last)]);
+    assert!(rt; awaited.is_empty());
+
+    set.clear();
+    insert(rt, &mut set, &[(3, true)]);
+    begin(rt, awaited, 5, &set);
+    awaits(
+        rt,
+        awaited,
+        &[(0, false, false), (3, true, true), (4, false, false)],
+    );
+    report(
+        rt,
+        awaited,
+        &[
+            (3, 1, Answer::Stale),
+            (0, 5, Answer::Repeat),
+            (3, 5, Answer::Last),
+        ],
+    );
+    assert!(rt; awaited.is_empty());
+}
+
+#[test]
+fn flat_awaits_two_grace_periods(rt: HostRuntime) {
+    two_grace_periods(&rt, rt.alloc(), &mut flat(&rt, rt.alloc(), 5));
+}
+
+#[test]
+fn set_of_three_words(rt: HostRuntime) {
+    let mut set = empty_set(&rt, rt.alloc(), 130);
+    insert(
+        &rt,
+        &mut set,
+        &[(0, true), (63, true), (64, true), (129, true), (64, false)],
+    );
+    let mut copy = empty_set(&rt, rt.alloc(), 130);
+    assert!(rt; copy.cpus() == set.cpus());
+    copy.copy_from(&set);
+
+    assert!(rt; 63 < set.cpus());
+    assert!(rt; set.remove(63));
+    assert!(rt; 63 < set.cpus());
+    assert!(rt; !set.remove(63));
+    contains(
+        &rt,
+        &set,
+        &[(0, true), (63, false), (64, true), (65, false), (129, true)],
+    );
+    assert_eq!(rt; set.count(), 3);
+
+    set.clear();
+    assert_eq!(rt; set.count(), 0);
+    contains(
+        &rt,
+        &copy,
+        &[(0, true), (63, true), (64, true), (65, false), (129, true)],
+    );
+    assert_eq!(rt; copy.count(), 4);
+}
+
+#[test]
+fn sizes(rt: HostRuntime) {
+    for cpus in [0, 4097] {
+        assert!(rt; matches!(CpuSet::new(rt.alloc(), cpus), Err(Fault::TooManyCpus)));
+        assert!(rt; matches!(Flat::new(rt.alloc(), cpus), Err(Fault::TooManyCpus)));
+    }
+    for cpus in [1, 4096] {
+        assert_eq!(rt; empty_set(&rt, rt.alloc(), cpus).cpus(), cpus);
+        assert_eq!(rt; flat(&rt, rt.alloc(), cpus).cpus(), cpus);
+    }
+}
