@@ -9,6 +9,7 @@ fn processors_stay_in_order(rt: HostRuntime) {
     for cpu in [3, 0, 4095] {
         // A growth may be refused once; the list is then as it was.
         if list.push(cpu).is_err() {
+            let _ = println!(rt; "a growth was refused");
             list.push(cpu).expect(&rt, "memory");
         }
     }

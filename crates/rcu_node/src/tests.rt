@@ -7,27 +7,34 @@ use crate::cpu_set::CpuSet;
 use crate::flat::Flat;
 use rcu_seq::fault::Fault;
 use std::alloc::Global;
+use std::io::Print;
 use std::process::Abort;
 
+/// Compares the fault of a making whose growth was refused, and says so for who counts the growths.
+fn refused<R: Abort + Print>(rt: &R, fault: Fault) {
+    assert_eq!(rt; fault, Fault::NoMemory);
+    let _ = println!(rt; "a growth was refused");
+}
+
 /// An empty set, made by a second call where the first is refused a growth.
-fn empty_set(rt: &impl Abort, alloc: Global, cpus: u32) -> CpuSet
+fn empty_set<R: Abort + Print>(rt: &R, alloc: Global, cpus: u32) -> CpuSet
     ensures { result ≡ replicate cpus false }
 {
     match CpuSet::new(alloc, cpus) {
         Ok(set) => set,
         Err(fault) => {
-            assert_eq!(rt; fault, Fault::NoMemory);
+            refused(rt, fault);
             CpuSet::new(alloc, cpus).expect(rt, "the second call has memory")
         }
     }
 }
 
 /// A flat set, made by a second call where the first is refused a growth.
-fn flat(rt: &impl Abort, alloc: Global, cpus: u32) -> Flat {
+fn flat<R: Abort + Print>(rt: &R, alloc: Global, cpus: u32) -> Flat {
     match Flat::new(alloc, cpus) {
         Ok(flat) => flat,
         Err(fault) => {
-            assert_eq!(rt; fault, Fault::NoMemory);
+            refused(rt, fault);
             Flat::new(alloc, cpus).expect(rt, "the second call has memory")
         }
     }
@@ -82,7 +89,7 @@ fn begin<A: Awaited>(rt: &impl Abort, awaited: &mut A, number: u64, set: &CpuSet
 }
 
 /// Two grace periods of five processors.
-fn two_grace_periods<A: Awaited>(rt: &impl Abort, alloc: Global, awaited: &mut A) {
+fn two_grace_periods<A: Awaited, R: Abort + Print>(rt: &R, alloc: Global, awaited: &mut A) {
     assert_eq!(rt; awaited.tag(), 0);
     assert!(rt; awaited.is_empty());
 

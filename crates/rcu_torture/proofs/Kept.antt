@@ -1,0 +1,26 @@
+-- What holds after every history of accepted events.
+use Rattle.std.proofs.Common.{◌≡◌, ℕ, ◌+◌, ◌<◌, ◌≤◌, Bool, true, false, List, [], ◌∷◌, None, arith}
+use Rattle.std.proofs.lemmas.Bool.Decides.{nat_tests}
+use Rattle.rcu_core.specs.History.{History, count, begins, ends, awaits}
+use Rattle.rcu_core.specs.Replies.{Size, situation, fault_in, IsHistory}
+use Rattle.rcu_core.specs.declared.event.Event.{Event}
+use Rattle.rcu_core.specs.declared.event.Event.TheVariants.{Note, Quiesce, Deliver, Online, Begin, End, Awaits}
+use Rattle.rcu_torture.proofs.Counting.{none_passes}
+
+-- grace periods begin and end in turn
+pub record Turns (h : History) : Type 0 where
+  pub ends_le : count ends h ≤ count begins h
+  pub begins_le : count begins h ≤ count ends h + 1
+
+turns_step : (s : Size) (e : Event) (h : History) → fault_in s (situation h) e ≡ None → Turns h → Turns (e ∷ h)
+turns_step s Begin h p t = record { ends_le = grind (arith, nat_tests); begins_le = grind (arith, nat_tests) }
+turns_step s End h p t = record { ends_le = grind (arith, nat_tests); begins_le = grind (arith, nat_tests) }
+turns_step s _ h p t = record { ends_le = omega arith; begins_le = omega arith }
+
+pub turns : (s : Size) (h : History) → IsHistory s h → Turns h
+turns s [] p = record { ends_le = omega arith; begins_le = omega arith }
+turns s (e ∷ h) p = turns_step s e h p.0 (turns s h p.1)
+
+-- where a grace period may end, nobody is awaited
+pub none_awaited : (s : Size) (h : History) → fault_in s (situation h) End ≡ None → (c : ℕ) → c < s.cpus → awaits c h ≡ false
+none_awaited s h p c l = none_passes s.cpus (λ d. awaits d h) (grind (arith, nat_tests)) c l

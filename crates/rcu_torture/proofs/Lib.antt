@@ -1,0 +1,4 @@
+pub mod Counting
+pub mod Kept
+pub mod Follows
+pub mod Steps

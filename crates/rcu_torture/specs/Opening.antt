@@ -1,0 +1,23 @@
+-- What is tested when a run opens.
+use Rattle.std.specs.Prelude.{ℕ, ◌==◌, ◌&&◌, ◌||◌, not, Bool, nat_lt, Option, Some, None, if◌then◌else◌}
+use Rattle.rcu_seq.specs.Numbers.{is_last}
+use Rattle.rcu_seq.specs.declared.fault.Fault.{Fault}
+use Rattle.rcu_seq.specs.declared.fault.Fault.TheVariants.{BadFanout, TooManyCpus, BadLast}
+use Rattle.rcu_core.specs.Replies.{Size}
+use Rattle.rcu_torture.specs.declared.setup.Setup.{Setup}
+
+-- the pairs of fanouts that the program offers
+abbrev pub is_offered : ℕ → ℕ → Bool
+is_offered leaf inner = (leaf == 2 && inner == 2) || ((leaf == 2 && inner == 3) || ((leaf == 4 && inner == 4)
+    || ((leaf == 16 && inner == 64) || (leaf == 64 && inner == 64))))
+
+-- the first fault of a setup
+abbrev pub opening_fault : Setup → Option Fault
+opening_fault setup = if not (is_offered setup.leaf setup.inner) then Some BadFanout
+    else (if setup.cpus == 0 || nat_lt 4096 setup.cpus then Some TooManyCpus
+    else (if not (is_last setup.last) then Some BadLast
+    else None))
+
+-- its size
+abbrev pub size_at : Setup → Size
+size_at setup = record { cpus = setup.cpus; last = setup.last }
