@@ -30,13 +30,13 @@ pub record Situation : Type 0 where
 -- the situation of a history
 abbrev pub situation : History → Situation
 situation h = record {
-    ends = count ends h;
-    running = running h;
-    online = λ cpu. online cpu h;
-    awaits = λ cpu. awaits cpu h;
-    noted = λ cpu. noted cpu h;
-    made = made h;
-  }
+  ends = count ends h;
+  running = running h;
+  online = λ cpu. online cpu h;
+  awaits = λ cpu. awaits cpu h;
+  noted = λ cpu. noted cpu h;
+  made = made h;
+}
 
 -- its number
 abbrev pub number_in : Situation → Number

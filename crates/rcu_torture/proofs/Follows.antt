@@ -53,33 +53,59 @@ none_there v h z x p c = elim (cases_lt c v.size.cpus) [ inl l ↦ x.awaits c �
 
 follows : (v : State) (h : History) (e : Event) → IsSized v → Has v h → fault_in v.size (situation h) e ≡ None → Has (next v e) (e ∷ h)
 follows v h (Note c) z x p = record {
-    accepted = (p, x.accepted); ends = x.ends; running = x.running; made = x.made; online = x.online; awaits = x.awaits;
-    noted = written v.noted c (number_of v) 0 (λ k. noted k h) (λ k. noted k (Note c ∷ h)) (let s = z.noted in grind (arith, nat_tests)) x.noted (let m = number_same v h x in grind (arith, nat_tests)) (λ k n. grind (arith, nat_tests));
-  }
+  accepted = (p, x.accepted);
+  ends = x.ends;
+  running = x.running;
+  made = x.made;
+  online = x.online;
+  awaits = x.awaits;
+  noted = written v.noted c (number_of v) 0 (λ k. noted k h) (λ k. noted k (Note c ∷ h)) (let s = z.noted in grind (arith, nat_tests)) x.noted (let m = number_same v h x in grind (arith, nat_tests)) (λ k n. grind (arith, nat_tests));
+}
 follows v h (Quiesce c) z x p = record {
-    accepted = (p, x.accepted); ends = x.ends; running = x.running; online = x.online; awaits = x.awaits; noted = x.noted;
-    made = rw (x.made, x.noted c);
-  }
+  accepted = (p, x.accepted);
+  ends = x.ends;
+  running = x.running;
+  online = x.online;
+  awaits = x.awaits;
+  noted = x.noted;
+  made = rw (x.made, x.noted c);
+}
 follows v h (Deliver k) z x p = record {
-    accepted = (p, x.accepted); ends = x.ends; running = x.running; online = x.online; made = x.made; noted = x.noted;
-    awaits = λ c. delivered v h (report_at k v.made) x.running (number_same v h x) x.awaits c ∙ ap (λ rs. awaits c h && not (is_of c (number h) (report_at k rs))) x.made ∙ sym (awaits_delivered (running h) (online c (latest begins h)) (is_of c (number h) (report_at k (made h))) (heard c (number h) h));
-  }
+  accepted = (p, x.accepted);
+  ends = x.ends;
+  running = x.running;
+  online = x.online;
+  made = x.made;
+  noted = x.noted;
+  awaits = λ c. delivered v h (report_at k v.made) x.running (number_same v h x) x.awaits c ∙ ap (λ rs. awaits c h && not (is_of c (number h) (report_at k rs))) x.made ∙ sym (awaits_delivered (running h) (online c (latest begins h)) (is_of c (number h) (report_at k (made h))) (heard c (number h) h));
+}
 follows v h (Online c) z x p = record {
-    accepted = (p, x.accepted); ends = x.ends; running = x.running; made = x.made; awaits = x.awaits;
-    online = written v.online c true false (λ k. online k h) (λ k. online k (Online c ∷ h)) (let s = z.online in grind (arith, nat_tests)) x.online (grind (arith, nat_tests)) (λ k n. grind (arith, nat_tests));
-    noted = written v.noted c (number_of v) 0 (λ k. noted k h) (λ k. noted k (Online c ∷ h)) (let s = z.noted in grind (arith, nat_tests)) x.noted (let m = number_same v h x in grind (arith, nat_tests)) (λ k n. grind (arith, nat_tests));
-  }
+  accepted = (p, x.accepted);
+  ends = x.ends;
+  running = x.running;
+  made = x.made;
+  awaits = x.awaits;
+  online = written v.online c true false (λ k. online k h) (λ k. online k (Online c ∷ h)) (let s = z.online in grind (arith, nat_tests)) x.online (grind (arith, nat_tests)) (λ k n. grind (arith, nat_tests));
+  noted = written v.noted c (number_of v) 0 (λ k. noted k h) (λ k. noted k (Online c ∷ h)) (let s = z.noted in grind (arith, nat_tests)) x.noted (let m = number_same v h x in grind (arith, nat_tests)) (λ k n. grind (arith, nat_tests));
+}
 follows v h Begin z x p = let n = turns v.size h x.accepted in record {
-    accepted = (p, x.accepted); ends = x.ends; made = x.made; online = x.online; noted = x.noted;
-    running = grind (arith, nat_tests);
-    awaits = λ c. grind (arith, nat_tests, x.online c);
-  }
+  accepted = (p, x.accepted);
+  ends = x.ends;
+  made = x.made;
+  online = x.online;
+  noted = x.noted;
+  running = grind (arith, nat_tests);
+  awaits = λ c. grind (arith, nat_tests, x.online c);
+}
 follows v h End z x p = let n = turns v.size h x.accepted in record {
-    accepted = (p, x.accepted); made = x.made; online = x.online; noted = x.noted;
-    ends = let m = x.ends in grind (arith, nat_tests);
-    running = grind (arith, nat_tests);
-    awaits = λ c. none_there v h z x p c ∙ grind (arith, nat_tests);
-  }
+  accepted = (p, x.accepted);
+  made = x.made;
+  online = x.online;
+  noted = x.noted;
+  ends = let m = x.ends in grind (arith, nat_tests);
+  running = grind (arith, nat_tests);
+  awaits = λ c. none_there v h z x p c ∙ grind (arith, nat_tests);
+}
 follows v h Awaits z x p = record { accepted = (p, x.accepted); ends = x.ends; running = x.running; made = x.made; online = x.online; awaits = x.awaits; noted = x.noted }
 
 left_said : (v : State) (s : Size) (u : Situation) (e : Event) → left v e (said s u e) ≡ next v e
@@ -133,8 +159,11 @@ get_same (suc n) x (suc k) = get_same n x k
 -- a new machine is in the situation of the empty history
 pub has_new : (n last : ℕ) → 0 < n → Has (record { size = record { cpus = n; last = last }; ends = 0; running = false; online = slice_set (replicate n false) 0 true; awaited = replicate n false; noted = replicate n 0; made = [] }) []
 has_new n last l = record {
-    accepted = tt; ends = refl; running = refl; made = refl;
-    online = λ c. elim (cases_eq c 0) [ inl e ↦ rw e (get_or-set_same (replicate n false) 0 true false (rw length-replicate l)) | inr e ↦ get_or-set_other (replicate n false) 0 c true false e ∙ get_same n false c ∙ sym (ne_eqb c 0 e) ];
-    awaits = get_same n false;
-    noted = get_same n 0;
-  }
+  accepted = tt;
+  ends = refl;
+  running = refl;
+  made = refl;
+  online = λ c. elim (cases_eq c 0) [ inl e ↦ rw e (get_or-set_same (replicate n false) 0 true false (rw length-replicate l)) | inr e ↦ get_or-set_other (replicate n false) 0 c true false e ∙ get_same n false c ∙ sym (ne_eqb c 0 e) ];
+  awaits = get_same n false;
+  noted = get_same n 0;
+}

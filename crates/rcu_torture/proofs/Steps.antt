@@ -82,7 +82,7 @@ pub does_hear : (v w : State) (place : ℕ) (report : Report) (tag : ℕ) (a : A
     → w ≡ record v { size = record v.size { cpus = length later }; awaited = later } → Does v (Deliver place) (reply.Answer a) w
 does_hear v w place report tag a later found sized running same answer without_it left =
     let said_so : a ≡ answered v.size (says v) (Some report) =
-        answer ∙ ap (λ (n : ℕ). answer_to n v.awaited report.cpu report.tag) same ∙ rw (running, passing_is_size v.awaited v.size.cpus sized) refl in
+    answer ∙ ap (λ (n : ℕ). answer_to n v.awaited report.cpu report.tag) same ∙ rw (running, passing_is_size v.awaited v.size.cpus sized) refl in
     let kept : length later ≡ v.size.cpus = ap (λ (l : List Bool). length l) without_it ∙ length-without tag v.awaited report.cpu report.tag ∙ sym sized in
     let gone : later ≡ after_report v (Some report) = without_it ∙ ap (λ (n : ℕ). without n v.awaited report.cpu report.tag) same ∙ rw running refl in
     record {

@@ -32,13 +32,13 @@ IsNew v = (v.ends ≡ 0) × (v.running ≡ false) × (v.made ≡ [])
 -- what a state says
 abbrev pub says : State → Situation
 says v = record {
-    ends = v.ends;
-    running = v.running;
-    online = is_in v.online;
-    awaits = is_in v.awaited;
-    noted = slice_index v.noted;
-    made = v.made;
-  }
+  ends = v.ends;
+  running = v.running;
+  online = is_in v.online;
+  awaits = is_in v.awaited;
+  noted = slice_index v.noted;
+  made = v.made;
+}
 
 -- there is a place for each processor, and each report is of a processor
 pub record IsSized (v : State) : Type 0 where

@@ -36,26 +36,22 @@ impl<A: Awaited> Model for EarlyMachine<A> {
 
     ghost Value = { State };
 
-    ghost view = {
-        λ m. record {
-            size = record { cpus = length (A.awaited m.awaited); last = m.seq.last };
-            ends = m.seq.ends;
-            running = m.seq.running;
-            online = m.online;
-            awaited = A.awaited m.awaited;
-            noted = m.noted.items;
-            made = m.reports.items
-        }
-    };
+    ghost view = { λ m. record {
+      size = record { cpus = length (A.awaited m.awaited); last = m.seq.last };
+      ends = m.seq.ends;
+      running = m.seq.running;
+      online = m.online;
+      awaited = A.awaited m.awaited;
+      noted = m.noted.items;
+      made = m.reports.items;
+    } };
 
-    ghost invariant = {
-        λ m. record {
-            online : length m.online ≡ length (A.awaited m.awaited);
-            noted : length m.noted.items ≡ length (A.awaited m.awaited);
-            made : All (λ report. report.cpu < length (A.awaited m.awaited)) m.reports.items;
-            tag : m.seq.running ≡ true → A.tag m.awaited ≡ number_of m.seq
-        }
-    };
+    ghost invariant = { λ m. record {
+      online : length m.online ≡ length (A.awaited m.awaited);
+      noted : length m.noted.items ≡ length (A.awaited m.awaited);
+      made : All (λ report. report.cpu < length (A.awaited m.awaited)) m.reports.items;
+      tag : m.seq.running ≡ true → A.tag m.awaited ≡ number_of m.seq;
+    } };
 }
 
 /// The report of a place, counted from 1.

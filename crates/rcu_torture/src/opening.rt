@@ -18,7 +18,10 @@ const MOST_CPUS: u32 = 4096;
 fn is_pair_offered(leaf: u32, inner: u32) -> bool
     ensures { result ≡ is_offered leaf inner }
 {
-    matches!((leaf, inner), (2, 2) | (2, 3) | (4, 4) | (16, 64) | (64, 64))
+    matches!(
+        (leaf, inner),
+        (2, 2) | (2, 3) | (4, 4) | (16, 64) | (64, 64)
+    )
 }
 
 /// The machine of a setup, in the situation of the empty history.

@@ -10,4 +10,4 @@ returns-in-Ok g c =
     let all = c.begin.ensures.awaited in
     along _ _ _ _ _ c.self.view_is
     (does_begin _ _ _ _ started.1 started.2 (sym c.self.invariant.online) (started.0 ∙ ap (λ (p : Periods). number_of p) started.3)
-        (c.count.ensures ∙ ap (λ (l : List Bool). size_of l) all) (rw (started.3, all, c.self.invariant.online) refl))
+    (c.count.ensures ∙ ap (λ (l : List Bool). size_of l) all) (rw (started.3, all, c.self.invariant.online) refl))

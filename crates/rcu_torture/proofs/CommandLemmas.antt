@@ -1,0 +1,94 @@
+-- What the command line orders.
+use Rattle.std.proofs.Common.{◌≡◌, Bool, true, false, List, [], ◌∷◌, Option, Some, None, IsSome, MatchOption, codes, is_some, refl, subst, if◌then◌else◌}
+use Rattle.std.specs.Prelude.{ℕ, option_map}
+use Rattle.std.specs.Option.{option_map_or}
+use Rattle.clap.specs.Walk.{answers_to, nothing_held, rows_after, settled, walk, walk_from, finished}
+use Rattle.clap.specs.Simple.{built, entered, names_of, rows_at}
+use Rattle.clap.specs.Faults.{check_fault, defaults_fault, entered_fault, level_fault, settle_fault, walk_fault}
+use Rattle.clap.specs.Words.{App, HasMatchesOf, Row, Text, fault_of, is_simple, is_simple_and_free, subcommand_of, subcommand_rows_of}
+use Rattle.clap.specs.declared.error.kind.ErrorKind.TheVariants.{MissingSubcommand}
+use Rattle.clap.specs.declared.parser.matches.ArgMatches.{ArgMatches}
+use Rattle.rcu_torture.specs.CommandLine.{HasNoOrder, HasNoSetup, IsOrderOf, rcu}
+use Rattle.rcu_torture.specs.declared.order.Order.{Order}
+use Rattle.rcu_torture.specs.declared.order.Order.TheVariants.{Script}
+use Rattle.rcu_torture.proofs.ScriptCommandLemmas.{HasNumbers, built_script, script_numbers}
+use Rattle.rcu_torture.proofs.WalkLemmas.{first_none, next_none}
+
+-- matches that make no setup say no order
+pub no_setup : (name : Text) (rows : List Row) → HasNoSetup rows → HasNoOrder (Some (name, rows))
+no_setup name rows none (Script setup) p = none setup p.1
+
+-- ---- a parse of `rcu`
+
+-- `clap` gives the matches of `rcu` exactly
+rcu_is_simple : is_simple rcu ≡ true
+rcu_is_simple = refl
+
+-- and its faults
+rcu_is_free : is_simple_and_free rcu ≡ true
+rcu_is_free = refl
+
+-- a parse of `rcu` that succeeds has no fault
+pub no_fault : (a : App) (words : List Text) → a ≡ rcu → (is_simple_and_free a ≡ true → fault_of a words ≡ []) → fault_of rcu words ≡ []
+no_fault a words is none = subst (λ (b : App). is_simple_and_free b ≡ true → fault_of b words ≡ []) is none rcu_is_free
+
+-- the subcommand and its matches are those that `clap` gives the words
+pub met_as : (a : App) (words : List Text) (m : ArgMatches) → a ≡ rcu → HasMatchesOf a words m → subcommand_rows_of m ≡ subcommand_of rcu words
+met_as a words m is has = (subst (λ (b : App). HasMatchesOf b words m) is has rcu_is_simple).1
+
+-- ---- where `clap` has no fault there is an order
+
+-- a test that there is a number gives the number
+some_value : (o : Option ℕ) → is_some o ≡ true → (n : ℕ) × (o ≡ Some n)
+some_value (Some n) e = (n, refl)
+some_value None e = absurd (bad e)
+  where
+    bad : false ≡ true → ⊥
+    bad e = cc
+
+-- numbers make a setup
+numbers_make : (rows : List Row) → HasNumbers rows → HasNoSetup rows → ⊥
+numbers_make rows has none =
+    let leaf = some_value _ has.leaf in
+    let inner = some_value _ has.inner in
+    let cpus = some_value _ has.cpus in
+    let last = some_value _ has.last in
+    none (record { leaf = leaf.0; inner = inner.0; leaf2 = leaf.0; inner2 = inner.0; cpus = cpus.0; last = last.0 })
+    (record { leaf = leaf.1; inner = inner.1; leaf2 = refl; inner2 = refl; cpus = cpus.1; last = last.1 })
+
+-- words of `script` that have no fault order something
+script_orders : (words : List Text) → level_fault built_script [] nothing_held words false [] ≡ [] → HasNoOrder (Some (codes "script", rows_after built_script.rules [] words)) → ⊥
+script_orders words e none = numbers_make (rows_after built_script.rules [] words) (script_numbers words e) (λ setup is. none (Script setup) (refl, is))
+
+-- the same by the subcommand at which the walk over all the words stopped
+stop_orders : (rows : List Row) (stop : Option (Text × List Text)) → entered_fault (built rcu) stop ≡ [] → check_fault (built rcu).top rows (is_some (entered (built rcu) stop)) ≡ []
+    → HasNoOrder (entered (built rcu) stop) → ⊥
+stop_orders rows None below check none =
+    let missing : MissingSubcommand ∷ [] ≡ [] = check in cc
+stop_orders rows (Some p) below check none = go (answers_to p.0 (codes "script", [])) below check none
+  where
+    go : (b : Bool) → option_map_or (λ s. level_fault s [] nothing_held p.1 false []) (if b then Some built_script else None) [] ≡ []
+        → check_fault (built rcu).top rows (is_some (option_map (λ s. rows_at s p.1) (if b then Some built_script else None))) ≡ []
+        → HasNoOrder (option_map (λ s. rows_at s p.1) (if b then Some built_script else None)) → ⊥
+    go true below check none = script_orders p.1 below none
+    go false below check none =
+        let missing : MissingSubcommand ∷ [] ≡ [] = check in cc
+
+-- words that have no fault order something
+pub orders : (words : List Text) → fault_of rcu words ≡ [] → HasNoOrder (subcommand_of rcu words) → ⊥
+orders words e none =
+    let top = (built rcu).top in
+    let names = names_of (built rcu) in
+    let met = walk top.rules names nothing_held words in
+    let after_walk = next_none (walk_fault top names (walk_from nothing_held) words) _ e in
+    let below = first_none (entered_fault (built rcu) met.stopped) _ after_walk in
+    let after_below = next_none (entered_fault (built rcu) met.stopped) _ after_walk in
+    let after_settle = next_none (settle_fault top.rules top.args_override_self met.held) _ after_below in
+    let check = next_none (defaults_fault (settled top.rules met.held).rows top.rules) _ after_settle in
+    stop_orders (finished top.rules met.held) met.stopped below check none
+
+-- so the order is there
+pub order_there : (words : List Text) (met : Option (Text × List Row)) (o : Option Order) → met ≡ subcommand_of rcu words → fault_of rcu words ≡ []
+    → MatchOption o (HasNoOrder met) (IsOrderOf met) → IsSome o
+order_there words met (Some order) is none h = refl
+order_there words met None is none h = absurd (orders words none (subst HasNoOrder is h))

@@ -1,0 +1,140 @@
+-- A text without `fault 16` is the one right text.
+use Rattle.std.proofs.Common.{◌≡◌, ◌⊎◌, ◌==◌, ◌∙◌, ◌||◌, ℕ, Bool, true, false, List, [], ◌∷◌, ◌++◌, length, refl, sym, ap, ap₂, subst, inl, inr, append_assoc, append-nil, codes}
+use Rattle.std.specs.Prelude.{fold, flat_map, cond}
+use Rattle.std.specs.Fmt.{decimal, digits}
+use Rattle.std.specs.List.{list_any}
+use Rattle.std.specs.Str.{bytes_eq}
+use Rattle.std.proofs.lemmas.List.Folds.{list_any-append}
+use Rattle.std.proofs.lemmas.List.Sums.{fold-append}
+use Rattle.rcu_seq.specs.FaultNumber.{number_of}
+use Rattle.rcu_seq.specs.declared.fault.Fault.TheVariants as fault
+use Rattle.rcu_node.specs.declared.answer.Answer.TheVariants as answer
+use Rattle.rcu_core.specs.History.{History}
+use Rattle.rcu_core.specs.Replies.{Size, after}
+use Rattle.rcu_core.specs.declared.event.Event.{Event}
+use Rattle.rcu_core.specs.declared.reply.Reply.{Reply}
+use Rattle.rcu_core.specs.declared.reply.Reply.TheVariants as reply
+use Rattle.rcu_torture.specs.Answers.{Answers, AnswersLine}
+use Rattle.rcu_torture.specs.Asked.{asked_by}
+use Rattle.rcu_torture.specs.Exact.{IsAnswer, next_after, replies, reply_to, wants_memory}
+use Rattle.rcu_torture.specs.Lines.{Cut, cut_of, lines_of, nothing_cut, with_byte}
+use Rattle.rcu_torture.specs.Printed.{spaced, text_of}
+use Rattle.rcu_torture.specs.declared.line.Line.{Line}
+use Rattle.rcu_torture.specs.declared.line.Line.TheVariants.{Blank, Malformed, Ask}
+use Rattle.rcu_torture.proofs.ScriptLemmas.{cut_end}
+
+-- ---- a text whose last line is ended
+
+abbrev pub behind : List (List ℕ) → Cut → Cut
+behind lines c = record { ended = lines ++ c.ended; rest = c.rest }
+
+step_behind : (lines : List (List ℕ)) (c : Cut) (b : ℕ) → with_byte (behind lines c) b ≡ behind lines (with_byte c b)
+step_behind lines c b =
+    elim (b == 10) as (λ t. cond t (record { ended = (lines ++ c.ended) ++ c.rest ∷ []; rest = [] }) (record { ended = lines ++ c.ended; rest = c.rest ++ b ∷ [] })
+    ≡ behind lines (cond t (record { ended = c.ended ++ c.rest ∷ []; rest = [] }) (record { ended = c.ended; rest = c.rest ++ b ∷ [] }))) [
+      | true ↦ ap (λ (l : List (List ℕ)). record { ended = l; rest = [] }) (append_assoc lines c.ended (c.rest ∷ []))
+      | false ↦ refl
+    ]
+
+pub cut_behind : (lines : List (List ℕ)) (c : Cut) (bytes : List ℕ) → fold with_byte (behind lines c) bytes ≡ behind lines (fold with_byte c bytes)
+cut_behind lines c [] = refl
+cut_behind lines c (b ∷ bs) = ap (λ (k : Cut). fold with_byte k bs) (step_behind lines c b) ∙ cut_behind lines (with_byte c b) bs
+
+cut_append : (a b : List ℕ) → (cut_of a).rest ≡ [] → (cut_of (a ++ b)).ended ≡ (cut_of a).ended ++ (cut_of b).ended
+unfolding cut_of
+cut_append a b closed =
+    let c = fold with_byte nothing_cut a in
+    let e : c ≡ behind c.ended nothing_cut = ap₂ (λ (x : List (List ℕ)) (y : List ℕ). record { ended = x; rest = y }) (sym (append-nil c.ended)) closed in
+    ap (λ (k : Cut). k.ended) (fold-append with_byte nothing_cut a b ∙ ap (λ (k : Cut). fold with_byte k b) e ∙ cut_behind c.ended nothing_cut b)
+
+-- ---- each line of a reply is ended
+
+-- the last byte is a line end
+abbrev Closes : List ℕ → Type 0
+Closes text = (front : List ℕ) × (text ≡ front ++ 10 ∷ [])
+
+closes_behind : (a b : List ℕ) → Closes b → Closes (a ++ b)
+closes_behind a b c = (a ++ c.0, ap (λ (l : List ℕ). a ++ l) c.1 ∙ sym (append_assoc a c.0 (10 ∷ [])))
+
+closed : (text : List ℕ) → Closes text → (cut_of text).rest ≡ []
+closed text c = ap (λ (l : List ℕ). (cut_of l).rest) c.1 ∙ ap (λ (k : Cut). k.rest) (cut_end c.0)
+
+closes_number : (word rest : List ℕ) (n : ℕ) → Closes rest → Closes (word ++ (decimal n ++ rest))
+closes_number word rest n c = closes_behind word (decimal n ++ rest) (closes_behind (decimal n) rest c)
+
+closes_reply : (r : Reply) → Closes (text_of r)
+closes_reply (reply.Noted n true) = closes_number (codes "noted ") (codes " needed\n") n (codes " needed", refl)
+closes_reply (reply.Noted n false) = closes_number (codes "noted ") (codes " clear\n") n (codes " clear", refl)
+closes_reply (reply.Made place report) =
+    closes_number (codes "report ") _ place (closes_number (codes " cpu ") _ report.cpu (closes_number (codes " tag ") (codes "\n") report.tag ([], refl)))
+closes_reply (reply.Answer answer.Taken) = (codes "taken", refl)
+closes_reply (reply.Answer answer.Last) = (codes "last", refl)
+closes_reply (reply.Answer answer.Repeat) = (codes "repeat", refl)
+closes_reply (reply.Answer answer.Stale) = (codes "stale", refl)
+closes_reply reply.Online = (codes "online", refl)
+closes_reply (reply.Begun n cpus) = closes_number (codes "begun ") _ n (closes_number (codes " awaits ") (codes "\n") cpus ([], refl))
+closes_reply (reply.Ended n) = closes_number (codes "ended ") (codes "\n") n ([], refl)
+closes_reply (reply.Awaits []) = (codes "awaits none", refl)
+closes_reply (reply.Awaits (cpu ∷ cpus)) = closes_behind (codes "awaits") _ (closes_behind (flat_map spaced (cpu ∷ cpus)) (codes "\n") ([], refl))
+closes_reply (reply.Fault f) = closes_number (codes "fault ") (codes "\n") (number_of f) ([], refl)
+
+closed_line : (size : Size) (h : History) (line : Line) (text : List ℕ) (next : History) → AnswersLine size h line text next → (cut_of text).rest ≡ []
+unfolding cut_of
+closed_line size h Blank text next a = ap (λ (l : List ℕ). (cut_of l).rest) a.0
+closed_line size h Malformed text next a = ap (λ (l : List ℕ). (cut_of l).rest) a.0 ∙ closed (text_of (reply.Fault fault.BadLine)) (closes_reply (reply.Fault fault.BadLine))
+closed_line size h (Ask event) text next a = ap (λ (l : List ℕ). (cut_of l).rest) a.2 ∙ closed (text_of a.0) (closes_reply a.0)
+
+-- ---- the one text
+
+both_false : (a b : Bool) → (a || b) ≡ false → (a ≡ false) × (b ≡ false)
+both_false true b h = cc
+both_false false b h = (refl, h)
+
+fault_16 : list_any (bytes_eq (codes "fault 16")) (cut_of (text_of (reply.Fault fault.NoMemory))).ended ≡ true
+unfolding cut_of digits
+fault_16 = refl
+
+-- a line is answered by the one reply, or by `fault 16`
+one_line : (size : Size) (h : History) (line : Line) (text : List ℕ) (next : History) → AnswersLine size h line text next
+    → ((text ≡ reply_to size h line) × (next ≡ next_after size h line)) ⊎ (text ≡ text_of (reply.Fault fault.NoMemory))
+one_line size h Blank text next a = inl a
+one_line size h Malformed text next a = inl a
+one_line size h (Ask event) text next a = elim a.1 [
+  | inl e ↦ inl (a.2 ∙ ap text_of e, a.3 ∙ ap (after h event) e)
+  | inr e ↦ inr (a.2 ∙ ap text_of e.2)
+]
+
+-- an ended line of the text is `fault 16`
+abbrev ended_wants : List ℕ → Bool
+ended_wants text = list_any (bytes_eq (codes "fault 16")) (cut_of text).ended
+
+wants_append : (a b : List ℕ) → (cut_of a).rest ≡ [] → ended_wants (a ++ b) ≡ (ended_wants a || ended_wants b)
+wants_append a b none = ap (list_any (bytes_eq (codes "fault 16"))) (cut_append a b none) ∙ list_any-append (bytes_eq (codes "fault 16")) (cut_of a).ended (cut_of b).ended
+
+exact_text : (size : Size) (h : History) (lines : List (List ℕ)) (text : List ℕ) (end : History)
+    → Answers size h lines text end → ended_wants text ≡ false → text ≡ replies size h lines
+exact_text size h [] text end a none = a.0
+exact_text size h (line ∷ lines) text end a none =
+    let first = a.0 in
+    let closes = closed_line size h (asked_by line) first a.1 a.3 in
+    let apart = both_false (ended_wants first) (ended_wants a.2) (sym (ap ended_wants a.4 ∙ wants_append first a.2 closes) ∙ none) in
+    let rest = exact_text size a.1 lines a.2 end a.5 apart.1 in
+    elim (one_line size h (asked_by line) first a.1 a.3) [
+      | inl e ↦ a.4 ∙ ap₂ (λ (x y : List ℕ). x ++ y) e.0 (rest ∙ ap (λ (m : History). replies size m lines) e.1)
+      | inr e ↦
+          let bad : true ≡ false = sym fault_16 ∙ sym (ap ended_wants e) ∙ apart.0 in
+          cc
+    ]
+
+ended_of_all : (text : List ℕ) → wants_memory text ≡ false → ended_wants text ≡ false
+ended_of_all text h = go (length (cut_of text).rest == 0) refl h
+  where
+    go : (t : Bool) → (length (cut_of text).rest == 0) ≡ t → wants_memory text ≡ false → ended_wants text ≡ false
+    go true e h = rw e at h
+    go false e h =
+        let k : list_any (bytes_eq (codes "fault 16")) ((cut_of text).ended ++ (cut_of text).rest ∷ []) ≡ false = rw e at h in
+        (both_false _ _ (sym (list_any-append (bytes_eq (codes "fault 16")) (cut_of text).ended ((cut_of text).rest ∷ [])) ∙ k)).0
+
+-- a text that answers the lines from the first event on is their answer
+pub is_answer : (size : Size) (lines : List (List ℕ)) (text : List ℕ) (end : History) → Answers size [] lines text end → IsAnswer size lines text
+is_answer size lines text end a = record { end = end; answers = a; exact = λ none. exact_text size [] lines text end a (ended_of_all text none) }

@@ -1,0 +1,58 @@
+-- What a line asks for.
+use Rattle.std.specs.Prelude.{ℕ, ◌-◌, ◌^◌, ◌&&◌, Bool, List, [], ◌∷◌, length, min, nat_le, codes, if◌then◌else◌, Option, Some, None}
+use Rattle.std.specs.Str.{bytes_eq}
+use Rattle.std.specs.List.{list_all}
+use Rattle.std.specs.Option.{option_map_or}
+use Rattle.rcu_torture.specs.Words.{words_of, number_of}
+use Rattle.rcu_core.specs.declared.event.Event.{Event}
+use Rattle.rcu_core.specs.declared.event.Event.TheVariants.{Note, Quiesce, Deliver, Online, Begin, End, Awaits}
+use Rattle.rcu_torture.specs.declared.line.Line.{Line}
+use Rattle.rcu_torture.specs.declared.line.Line.TheVariants.{Blank, Malformed, Ask}
+
+-- a byte that a line may have
+abbrev pub is_printable : ℕ → Bool
+is_printable b = nat_le 32 b && nat_le b 126
+
+-- at most 80 bytes, each of which a line may have
+abbrev pub is_well_formed : List ℕ → Bool
+is_well_formed line = nat_le (length line) 80 && list_all is_printable line
+
+-- the processor of a number: one that does not fit 32 bits is as little a processor as the greatest that does
+abbrev pub cpu_of : ℕ → ℕ
+cpu_of n = min n (2 ^ 32 - 1)
+
+-- the event of a name that stands alone
+abbrev pub event_alone : List ℕ → Option Event
+event_alone name =
+    if bytes_eq name (codes "begin") then Some Begin
+    else (if bytes_eq name (codes "end") then Some End
+    else (if bytes_eq name (codes "awaits") then Some Awaits
+    else None))
+
+-- the event of a name that stands before a number
+abbrev pub event_with_number : List ℕ → ℕ → Option Event
+event_with_number name n =
+    if bytes_eq name (codes "note") then Some (Note (cpu_of n))
+    else (if bytes_eq name (codes "quiet") then Some (Quiesce (cpu_of n))
+    else (if bytes_eq name (codes "deliver") then Some (Deliver n)
+    else (if bytes_eq name (codes "online") then Some (Online (cpu_of n))
+    else None)))
+
+-- the event of a name and a word, which has to be a number
+abbrev pub event_with_word : List ℕ → List ℕ → Option Event
+event_with_word name word = option_map_or (event_with_number name) (number_of word) None
+
+-- the event of a name and the words behind it: the name decides how many they are
+abbrev pub event_of : List ℕ → List (List ℕ) → Option Event
+event_of name [] = event_alone name
+event_of name (word ∷ []) = event_with_word name word
+event_of name (word ∷ more ∷ words) = None
+
+-- a line without a word is blank, one whose words are an event's asks for it, and any other is malformed
+abbrev pub asked_by_words : List (List ℕ) → Line
+asked_by_words [] = Blank
+asked_by_words (name ∷ words) = option_map_or (λ event. Ask event) (event_of name words) Malformed
+
+-- what a line asks for
+abbrev pub asked_by : List ℕ → Line
+asked_by line = if is_well_formed line then asked_by_words (words_of line) else Malformed

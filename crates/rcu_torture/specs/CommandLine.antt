@@ -1,0 +1,98 @@
+-- The command line, as a simple command of `clap`.
+use Rattle.std.specs.Prelude.{◌≡◌, ℕ, true, List, [], ◌∷◌, Option, Some, None, codes, pos, option_and_then, if◌then◌else◌}
+use Rattle.std.specs.Str.Parse.{digits_value, without_leading_plus}
+use Rattle.clap.specs.ValueTests.{is_unsigned_in}
+use Rattle.clap.specs.Simple.{on_top}
+use Rattle.clap.specs.Words.{App, Row, Rule, Text, new_app, new_rule, one_of, with_rule, with_subcommand}
+use Rattle.clap.specs.declared.builder.value_parser.ValueParser.TheVariants as vp
+use Rattle.rcu_torture.specs.declared.order.Order.{Order}
+use Rattle.rcu_torture.specs.declared.order.Order.TheVariants.{Script}
+use Rattle.rcu_torture.specs.declared.setup.Setup.{Setup}
+
+-- ---- the options
+
+-- the greatest number of 32 bits
+abbrev pub u32_max : ℕ
+u32_max = 4294967295
+
+-- the greatest number of 64 bits
+abbrev pub u64_max : ℕ
+u64_max = 18446744073709551615
+
+-- an option `--name` whose value is a number of 32 bits
+abbrev pub u32_rule : Text → Rule
+u32_rule name = record (new_rule name) {
+  long = Some name;
+  parser = Some (vp.Signed (pos 0) (pos u32_max));
+}
+
+-- an option `--name` whose value is a number of 64 bits
+abbrev pub u64_rule : Text → Rule
+u64_rule name = record (new_rule name) {
+  long = Some name;
+  parser = Some (vp.Unsigned 0 u64_max);
+}
+
+-- an option that must be there
+abbrev pub required : Rule → Rule
+required rule = record rule { required = true }
+
+-- the option `--last`, which may be left out
+abbrev pub last_rule : Rule
+last_rule = record (u64_rule (codes "last")) { defaults = codes "4611686018427387904" ∷ [] }
+
+-- ---- the commands
+
+-- `script`: the shape of the tree, the number of processors and the last number
+abbrev pub script : App
+script = with_rule (with_rule (with_rule (with_rule (new_app (codes "script"))
+    (required (u32_rule (codes "leaf"))))
+    (required (u32_rule (codes "inner"))))
+    (required (u32_rule (codes "cpus"))))
+    last_rule
+
+-- `rcu` before it has subcommands: its words come without the program's name, one of them has to name a subcommand,
+-- and `help` is no subcommand
+abbrev pub rcu_alone : App
+rcu_alone = on_top (λ top. record top {
+  no_binary_name = true;
+  subcommand_required = true;
+  disable_help_subcommand = true;
+}) (new_app (codes "rcu"))
+
+-- `rcu` with its subcommands
+abbrev pub rcu : App
+rcu = with_subcommand rcu_alone script.top
+
+-- ---- what the matches say
+
+-- the number that an option has among the matches, where it has a numeral of at most `most`
+abbrev pub number_in : ℕ → List Row → Text → Option ℕ
+number_in most rows name = option_and_then (λ text.
+    if is_unsigned_in 0 most text then Some (digits_value 10 (without_leading_plus text)) else None) (one_of name rows)
+
+-- the setup has the numbers of the options, and its second replica is as the first
+pub record IsSetupOf (rows : List Row) (setup : Setup) : Type 0 where
+  pub leaf : number_in u32_max rows (codes "leaf") ≡ Some setup.leaf
+  pub inner : number_in u32_max rows (codes "inner") ≡ Some setup.inner
+  pub leaf2 : setup.leaf2 ≡ setup.leaf
+  pub inner2 : setup.inner2 ≡ setup.inner
+  pub cpus : number_in u32_max rows (codes "cpus") ≡ Some setup.cpus
+  pub last : number_in u64_max rows (codes "last") ≡ Some setup.last
+
+-- the order is what the subcommand of this name says with its matches
+abbrev pub IsOrder : Text → List Row → Order → Type 0
+IsOrder name rows (Script setup) = (name ≡ codes "script") × IsSetupOf rows setup
+
+-- the order is what the subcommand says, if there is one
+abbrev pub IsOrderOf : Option (Text × List Row) → Order → Type 0
+IsOrderOf None order = ⊥
+IsOrderOf (Some met) order = IsOrder met.0 met.1 order
+
+-- no setup has the numbers of the options
+abbrev pub HasNoSetup : List Row → Type 0
+HasNoSetup rows = (setup : Setup) → ¬ (IsSetupOf rows setup)
+
+-- the subcommand says no order
+abbrev pub HasNoOrder : Option (Text × List Row) → Type 0
+HasNoOrder met = (order : Order) → ¬ (IsOrderOf met order)

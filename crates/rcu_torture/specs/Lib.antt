@@ -1,0 +1,12 @@
+pub mod Answers
+pub mod Asked
+pub mod CommandLine
+pub mod EarlyState
+pub mod Exact
+pub mod Lines
+pub mod Opening
+pub mod Outgoing
+pub mod Printed
+pub mod Script
+pub mod Underway
+pub mod Words

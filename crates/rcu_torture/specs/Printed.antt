@@ -1,0 +1,56 @@
+-- The texts of replies.
+use Rattle.std.specs.Prelude.{ℕ, Bool, true, false, List, [], ◌∷◌, ◌++◌, flat_map, codes, decimal}
+use Rattle.rcu_seq.specs.FaultNumber.{number_of}
+use Rattle.rcu_node.specs.declared.answer.Answer.{Answer}
+use Rattle.rcu_node.specs.declared.answer.Answer.TheVariants.{Taken, Last, Repeat, Stale}
+use Rattle.rcu_report.specs.declared.report.Report.{Report}
+use Rattle.rcu_core.specs.declared.reply.Reply.{Reply}
+use Rattle.rcu_core.specs.declared.reply.Reply.TheVariants.{Noted, Made, Answer as Answered, Online, Begun, Ended, Awaits, Fault}
+use Rattle.rcu_torture.specs.declared.piece.Piece.{Piece}
+use Rattle.rcu_torture.specs.declared.piece.Piece.TheVariants.{Text, Number, Numbers}
+
+-- a space and the number
+abbrev pub spaced : ℕ → List ℕ
+spaced n = 32 ∷ decimal n
+
+-- what a piece prints
+abbrev pub piece_text : Piece → List ℕ
+piece_text (Text text) = text.now
+piece_text (Number n) = decimal n
+piece_text (Numbers numbers) = flat_map spaced numbers.now
+
+-- what a processor noted: it is needed where the processor is awaited
+abbrev pub noted_text : ℕ → Bool → List ℕ
+noted_text n true = codes "noted " ++ (decimal n ++ codes " needed\n")
+noted_text n false = codes "noted " ++ (decimal n ++ codes " clear\n")
+
+-- a report and its place among all reports
+abbrev pub made_text : ℕ → Report → List ℕ
+made_text place report = codes "report " ++ (decimal place ++ (codes " cpu " ++ (decimal report.cpu ++ (codes " tag " ++ (decimal report.tag ++ codes "\n")))))
+
+-- the word for what a report did
+abbrev pub answer_text : Answer → List ℕ
+answer_text Taken = codes "taken\n"
+answer_text Last = codes "last\n"
+answer_text Repeat = codes "repeat\n"
+answer_text Stale = codes "stale\n"
+
+-- the grace period that began, and how many processors it awaits
+abbrev pub begun_text : ℕ → ℕ → List ℕ
+begun_text n cpus = codes "begun " ++ (decimal n ++ (codes " awaits " ++ (decimal cpus ++ codes "\n")))
+
+-- the awaited processors, or `none`
+abbrev pub awaits_text : List ℕ → List ℕ
+awaits_text [] = codes "awaits none\n"
+awaits_text (cpu ∷ cpus) = codes "awaits" ++ (flat_map spaced (cpu ∷ cpus) ++ codes "\n")
+
+-- the line that says a reply
+abbrev pub text_of : Reply → List ℕ
+text_of (Noted n needed) = noted_text n needed
+text_of (Made place report) = made_text place report
+text_of (Answered answer) = answer_text answer
+text_of Online = codes "online\n"
+text_of (Begun n cpus) = begun_text n cpus
+text_of (Ended n) = codes "ended " ++ (decimal n ++ codes "\n")
+text_of (Awaits cpus) = awaits_text cpus
+text_of (Fault fault) = codes "fault " ++ (decimal (number_of fault) ++ codes "\n")

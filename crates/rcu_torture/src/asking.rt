@@ -1,0 +1,92 @@
+//! What a line asks for.
+ghost use Rattle.std.specs.Prelude.{◌≡◌};
+ghost use Rattle.std.specs.List.{list_all};
+ghost use Rattle.rcu_torture.specs.Asked.{asked_by, cpu_of, event_alone, event_of, event_with_number, is_printable, is_well_formed};
+ghost use Rattle.rcu_torture.specs.Words.{words_of};
+
+use crate::line::Line;
+use crate::words::{next_word, number};
+use rcu_core::event::Event;
+
+/// How many bytes a line has at most, its end not counted.
+const LONGEST: usize = 80;
+
+/// What a line asks for.
+pub fn asked(line: &[u8]) -> Line
+    ensures { result ≡ asked_by line.now }
+{
+    if !is_line_well_formed(line) {
+        return Line::Malformed;
+    }
+    match next_word(line) {
+        None => Line::Blank,
+        Some((name, rest)) => match event_named(name, rest) {
+            Some(event) => Line::Ask(event),
+            None => Line::Malformed,
+        },
+    }
+}
+
+fn is_line_well_formed(line: &[u8]) -> bool
+    ensures { result ≡ is_well_formed line.now }
+{
+    line.len() <= LONGEST && are_printable(line)
+}
+
+fn are_printable(line: &[u8]) -> bool
+    ensures { result ≡ list_all is_printable line.now }
+{
+    line.iter().all(|b| 32 <= *b && *b <= 126)
+}
+
+/// The event of a name and the words behind it.
+fn event_named(name: &[u8], rest: &[u8]) -> Option<Event>
+    ensures { result ≡ event_of name.now (words_of rest.now) }
+{
+    match next_word(rest) {
+        None => named_alone(name),
+        Some((word, rest)) => match next_word(rest) {
+            None => named_with_number(name, number(word)?),
+            Some(_) => None,
+        },
+    }
+}
+
+/// The event of a name that stands alone.
+fn named_alone(name: &[u8]) -> Option<Event>
+    ensures { result ≡ event_alone name.now }
+{
+    if name == b"begin".as_slice() {
+        Some(Event::Begin)
+    } else if name == b"end".as_slice() {
+        Some(Event::End)
+    } else if name == b"awaits".as_slice() {
+        Some(Event::Awaits)
+    } else {
+        None
+    }
+}
+
+/// The event of a name that stands before a number.
+fn named_with_number(name: &[u8], n: u64) -> Option<Event>
+    ensures { result ≡ event_with_number name.now n }
+{
+    if name == b"note".as_slice() {
+        Some(Event::Note(cpu(n)))
+    } else if name == b"quiet".as_slice() {
+        Some(Event::Quiesce(cpu(n)))
+    } else if name == b"deliver".as_slice() {
+        Some(Event::Deliver(n))
+    } else if name == b"online".as_slice() {
+        Some(Event::Online(cpu(n)))
+    } else {
+        None
+    }
+}
+
+/// A processor. A number that does not fit 32 bits becomes the greatest one that does, which is no processor either.
+fn cpu(n: u64) -> u32
+    ensures { result ≡ cpu_of n }
+{
+    u32::try_from(n).unwrap_or(u32::MAX)
+}

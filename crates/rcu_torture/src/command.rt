@@ -1,0 +1,124 @@
+//! The command line.
+ghost use Rattle.std.specs.Prelude.{◌≡◌, false, Some, IfOk, map, MatchOption};
+ghost use Rattle.clap.specs.Words.{FailsBy, app_of, fault_of, found_of, rows_of, rule_of, subcommand_of, subcommand_rows_of};
+ghost use Rattle.clap.specs.declared.builder.command.Command.TheViews.{out-Command as fields_of};
+ghost use Rattle.rcu_torture.specs.CommandLine.{IsOrderOf, IsSetupOf, HasNoOrder, HasNoSetup, number_in, last_rule, rcu, required, script, u32_max, u32_rule, u64_max};
+
+use crate::order::Order;
+use crate::setup::Setup;
+use clap::{Arg, ArgMatches, Command, Error, value_parser};
+use std::alloc::{AllocError, Global};
+
+/// The greatest last number, 2^62.
+const GREATEST_LAST: &str = "4611686018427387904";
+
+/// Reads the program's arguments, which are the words without its name.
+///
+/// An error is `clap`'s: its text says what is wrong with the words, or is the help that they ask for. The kind
+/// `OutOfMemory` stands for a growth that was refused, and tests show that it comes only then.
+pub fn read_command<'a>(alloc: Global, words: &'a [&'a str]) -> Result<Order, Error>
+    ensures order { IfOk result (IsOrderOf (subcommand_of rcu (map (λ word. word.now) words.now))) }
+    ensures fails { FailsBy (fault_of rcu (map (λ word. word.now) words.now)) result }
+{
+    let matches = rcu_command(alloc)?.try_get_matches_from(words)?;
+    Ok(order_of(&matches).unwrap())
+}
+
+fn rcu_command<'a>(alloc: Global) -> Result<Command<'a>, AllocError>
+    ensures { IfOk result (λ command. app_of command ≡ rcu) }
+{
+    Command::new(alloc, "rcu")
+        .about("Drives a grace-period engine")
+        .bin_name("rcu")?
+        .no_binary_name(true)
+        .subcommand_required(true)
+        .disable_help_subcommand(true)
+        .subcommand(script_command(alloc)?)
+}
+
+fn script_command<'a>(alloc: Global) -> Result<Command<'a>, AllocError>
+    ensures { IfOk result (λ command. (app_of command ≡ script) × ((fields_of command).has_globals ≡ false)) }
+{
+    Command::new(alloc, "script")
+        .about("Answers the script on standard input")
+        .arg(u32_option(alloc, "leaf", "Processors that a leaf holds"))?
+        .arg(u32_option(alloc, "inner", "Children that an inner node holds"))?
+        .arg(u32_option(alloc, "cpus", "Number of processors"))?
+        .arg(last_option(alloc))
+}
+
+/// A required option whose value is a u32.
+fn u32_option<'a>(alloc: Global, name: &'a str, help: &'a str) -> Arg<'a>
+    ensures rule { rule_of result ≡ required (u32_rule name.entry.now) }
+    ensures local { result.global ≡ false }
+{
+    Arg::new(alloc, name)
+        .long(name)
+        .help(help)
+        .required(true)
+        .value_parser(value_parser!(u32))
+}
+
+/// The option `--last`, which may be left out.
+fn last_option<'a>(alloc: Global) -> Arg<'a>
+    ensures rule { rule_of result ≡ last_rule }
+    ensures local { result.global ≡ false }
+{
+    Arg::new(alloc, "last")
+        .long("last")
+        .help("Number at which no further grace period begins")
+        .value_parser(value_parser!(u64))
+        .default_value(GREATEST_LAST)
+}
+
+/// What the subcommand that `clap` met orders.
+fn order_of(matches: &ArgMatches<'_>) -> Option<Order>
+    ensures { let met = subcommand_rows_of matches.now in MatchOption result (HasNoOrder met) (IsOrderOf met) }
+{
+    let (name, found) = matches.subcommand()?;
+    order_named(name, found)
+}
+
+/// What the subcommand of this name orders by its matches.
+#[tactic(auto, using(crate::proofs::CommandLemmas::no_setup))]
+fn order_named(name: &str, matches: &ArgMatches<'_>) -> Option<Order>
+    ensures { let met = Some (name.now, rows_of (found_of matches.now)) in MatchOption result (HasNoOrder met) (IsOrderOf met) }
+{
+    match name {
+        "script" => Some(Order::Script(setup_of(matches)?)),
+        _ => None,
+    }
+}
+
+/// The setup that a script's options give.
+fn setup_of(matches: &ArgMatches<'_>) -> Option<Setup>
+    ensures { let rows = rows_of (found_of matches.now) in MatchOption result (HasNoSetup rows) (IsSetupOf rows) }
+{
+    let leaf = u32_of(matches, "leaf")?;
+    let inner = u32_of(matches, "inner")?;
+    Some(Setup {
+        leaf,
+        inner,
+        leaf2: leaf,
+        inner2: inner,
+        cpus: u32_of(matches, "cpus")?,
+        last: u64_of(matches, "last")?,
+    })
+}
+
+/// The option's number, where its text is read as one.
+fn u32_of(matches: &ArgMatches<'_>, id: &str) -> Option<u32>
+    ensures { result ≡ number_in u32_max (rows_of (found_of matches.now)) id.now }
+{
+    matches.get_one(id)
+}
+
+/// The same of a number of 64 bits.
+fn u64_of(matches: &ArgMatches<'_>, id: &str) -> Option<u64>
+    ensures { result ≡ number_in u64_max (rows_of (found_of matches.now)) id.now }
+{
+    matches.get_one(id)
+}
+
+#[cfg(test)]
+mod tests;

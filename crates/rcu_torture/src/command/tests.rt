@@ -1,0 +1,101 @@
+use super::*;
+use clap::error::ErrorKind;
+
+/// What the words are read as. Where a growth was refused they are read again.
+fn read(alloc: Global, words: &[&str]) -> Result<Order, ErrorKind> {
+    match read_once(alloc, words) {
+        Err(ErrorKind::OutOfMemory) => read_once(alloc, words),
+        result => result,
+    }
+}
+
+fn read_once(alloc: Global, words: &[&str]) -> Result<Order, ErrorKind> {
+    read_command(alloc, words).map_err(|error| error.kind())
+}
+
+/// The setup of a script of 4 processors with leaves of 2 and inner nodes of 3.
+fn four_cpus(last: u64) -> Result<Order, ErrorKind> {
+    Ok(Order::Script(Setup {
+        leaf: 2,
+        inner: 3,
+        leaf2: 2,
+        inner2: 3,
+        cpus: 4,
+        last,
+    }))
+}
+
+#[test]
+fn a_script_has_its_options_numbers(rt: HostRuntime) {
+    let alloc = rt.alloc();
+    let words = ["script", "--leaf", "2", "--inner", "3", "--cpus", "4"];
+    assert_eq!(rt; read(alloc, &words), four_cpus(4611686018427387904));
+    let words = [
+        "script",
+        "--cpus=4",
+        "--last",
+        "8",
+        "--inner=3",
+        "--leaf",
+        "2",
+    ];
+    assert_eq!(rt; read(alloc, &words), four_cpus(8));
+    let words = [
+        "script",
+        "--last=18446744073709551615",
+        "--leaf=2",
+        "--inner=3",
+        "--cpus=4",
+    ];
+    assert_eq!(rt; read(alloc, &words), four_cpus(18446744073709551615));
+}
+
+#[test]
+fn other_words_are_refused(rt: HostRuntime) {
+    let lines: [(&[&str], ErrorKind); 11] = [
+        (&[], ErrorKind::MissingSubcommand),
+        (&["frob"], ErrorKind::InvalidSubcommand),
+        (&["help"], ErrorKind::InvalidSubcommand),
+        (&["--help"], ErrorKind::DisplayHelp),
+        (&["script", "--help"], ErrorKind::DisplayHelp),
+        (
+            &["script", "--leaf", "2", "--inner", "3"],
+            ErrorKind::MissingRequiredArgument,
+        ),
+        (
+            &["script", "--leaf", "2", "--inner", "3", "--cpus"],
+            ErrorKind::InvalidValue,
+        ),
+        (
+            &[
+                "script",
+                "--leaf",
+                "2",
+                "--inner",
+                "3",
+                "--cpus",
+                "4294967296",
+            ],
+            ErrorKind::ValueValidation,
+        ),
+        (
+            &["script", "--leaf", "2", "--inner", "3", "--cpus", "4x"],
+            ErrorKind::ValueValidation,
+        ),
+        (
+            &[
+                "script", "--leaf", "2", "--inner", "3", "--cpus", "4", "--cpus", "4",
+            ],
+            ErrorKind::ArgumentConflict,
+        ),
+        (
+            &[
+                "script", "--leaf", "2", "--inner", "3", "--cpus", "4", "--seed", "1",
+            ],
+            ErrorKind::UnknownArgument,
+        ),
+    ];
+    for (place, (words, kind)) in lines.iter().enumerate() {
+        assert_eq!(rt; read(rt.alloc(), words), Err(*kind), "at {place}");
+    }
+}

@@ -1,0 +1,130 @@
+//! Replies as text.
+ghost use Rattle.std.specs.Prelude.{◌≡◌};
+ghost use Rattle.rcu_torture.specs.Outgoing.{Puts, out_of};
+ghost use Rattle.rcu_torture.specs.Printed.{answer_text, awaits_text, begun_text, made_text, noted_text, text_of};
+
+use crate::failed::Failed;
+use crate::outbox::Outbox;
+use crate::piece::{Piece, put_pieces};
+use crate::sink::Sink;
+use rcu_core::reply::Reply;
+use rcu_node::answer::Answer;
+use rcu_report::report::Report;
+
+/// Prints a reply as a line.
+///
+/// Where the writer fails, it took a beginning of what waited and the line.
+pub fn put_reply<W: Sink>(outbox: &mut Outbox, writer: &mut W, reply: &Reply) -> Result<(), Failed>
+    ensures { Puts result (out_of (W.taken writer.old) (W.failed writer.old) outbox.old) (out_of (W.taken writer.new) (W.failed writer.new) outbox.new) (text_of reply.now) }
+{
+    match reply {
+        Reply::Noted(n, needed) => put_noted(outbox, writer, *n, *needed),
+        Reply::Made(place, report) => put_made(outbox, writer, *place, *report),
+        Reply::Answer(answer) => outbox.put(writer, answer_line(*answer)),
+        Reply::Online => outbox.put(writer, b"online\n"),
+        Reply::Begun(n, cpus) => put_begun(outbox, writer, *n, *cpus),
+        Reply::Ended(n) => {
+            let pieces = [
+                Piece::Text(b"ended "),
+                Piece::Number(*n),
+                Piece::Text(b"\n"),
+            ];
+            put_pieces(outbox, writer, &pieces)
+        }
+        Reply::Awaits(cpus) => put_awaits(outbox, writer, cpus.as_slice()),
+        Reply::Fault(fault) => {
+            let number = u64::from(fault.number());
+            let pieces = [
+                Piece::Text(b"fault "),
+                Piece::Number(number),
+                Piece::Text(b"\n"),
+            ];
+            put_pieces(outbox, writer, &pieces)
+        }
+    }
+}
+
+fn put_noted<W: Sink>(
+    outbox: &mut Outbox,
+    writer: &mut W,
+    n: u64,
+    needed: bool,
+) -> Result<(), Failed>
+    ensures { Puts result (out_of (W.taken writer.old) (W.failed writer.old) outbox.old) (out_of (W.taken writer.new) (W.failed writer.new) outbox.new) (noted_text n needed) }
+{
+    if needed {
+        let pieces = [
+            Piece::Text(b"noted "),
+            Piece::Number(n),
+            Piece::Text(b" needed\n"),
+        ];
+        put_pieces(outbox, writer, &pieces)
+    } else {
+        let pieces = [
+            Piece::Text(b"noted "),
+            Piece::Number(n),
+            Piece::Text(b" clear\n"),
+        ];
+        put_pieces(outbox, writer, &pieces)
+    }
+}
+
+fn put_made<W: Sink>(
+    outbox: &mut Outbox,
+    writer: &mut W,
+    place: u64,
+    report: Report,
+) -> Result<(), Failed>
+    ensures { Puts result (out_of (W.taken writer.old) (W.failed writer.old) outbox.old) (out_of (W.taken writer.new) (W.failed writer.new) outbox.new) (made_text place report) }
+{
+    let pieces = [
+        Piece::Text(b"report "),
+        Piece::Number(place),
+        Piece::Text(b" cpu "),
+        Piece::Number(u64::from(report.cpu)),
+        Piece::Text(b" tag "),
+        Piece::Number(report.tag),
+        Piece::Text(b"\n"),
+    ];
+    put_pieces(outbox, writer, &pieces)
+}
+
+fn answer_line(answer: Answer) -> &'static [u8]
+    ensures { result.now ≡ answer_text answer }
+{
+    match answer {
+        Answer::Taken => b"taken\n",
+        Answer::Last => b"last\n",
+        Answer::Repeat => b"repeat\n",
+        Answer::Stale => b"stale\n",
+    }
+}
+
+fn put_begun<W: Sink>(outbox: &mut Outbox, writer: &mut W, n: u64, cpus: u32) -> Result<(), Failed>
+    ensures { Puts result (out_of (W.taken writer.old) (W.failed writer.old) outbox.old) (out_of (W.taken writer.new) (W.failed writer.new) outbox.new) (begun_text n cpus) }
+{
+    let pieces = [
+        Piece::Text(b"begun "),
+        Piece::Number(n),
+        Piece::Text(b" awaits "),
+        Piece::Number(u64::from(cpus)),
+        Piece::Text(b"\n"),
+    ];
+    put_pieces(outbox, writer, &pieces)
+}
+
+fn put_awaits<W: Sink>(outbox: &mut Outbox, writer: &mut W, cpus: &[u32]) -> Result<(), Failed>
+    ensures { Puts result (out_of (W.taken writer.old) (W.failed writer.old) outbox.old) (out_of (W.taken writer.new) (W.failed writer.new) outbox.new) (awaits_text cpus.now) }
+{
+    match cpus {
+        [] => outbox.put(writer, b"awaits none\n"),
+        _ => {
+            let pieces = [
+                Piece::Text(b"awaits"),
+                Piece::Numbers(cpus),
+                Piece::Text(b"\n"),
+            ];
+            put_pieces(outbox, writer, &pieces)
+        }
+    }
+}

@@ -1,0 +1,109 @@
+//! Worked rows: scripts with the replies that the rules give, worked out by hand.
+
+use crate::run_fault::RunFault;
+use crate::tests::trial::{gives, is_text, replies, setup};
+use rcu_seq::fault::Fault;
+
+/// The last number where a row names none.
+const FAR: u64 = 1 << 62;
+
+const ONE_PERIOD: &[u8] = b"begin\nnote 0\nquiet 0\ndeliver 1\nend\n";
+
+const ONE_PERIOD_REPLIES: &[u8] =
+    b"begun 1 awaits 1\nnoted 1 needed\nreport 1 cpu 0 tag 1\nlast\nended 4\n";
+
+#[test]
+fn one_grace_period(rt: HostRuntime) {
+    let alloc = rt.alloc();
+    let run = || replies(alloc, &setup((2, 2), 1, FAR), ONE_PERIOD);
+    assert!(rt; gives(&rt, run, ONE_PERIOD_REPLIES));
+}
+
+/// A report of an ended grace period is stale, while none runs and while the next one does.
+#[test]
+fn stale_report_after_end(rt: HostRuntime) {
+    let alloc = rt.alloc();
+    let script = b"begin\nnote 0\nquiet 0\ndeliver 1\nend\ndeliver 1\nbegin\ndeliver 1\nawaits\n";
+    let text =
+        b"begun 1 awaits 1\nnoted 1 needed\nreport 1 cpu 0 tag 1\nlast\nended 4\nstale\nbegun 5 awaits 1\nstale\nawaits 0\n";
+    let run = || replies(alloc, &setup((2, 2), 1, FAR), script);
+    assert!(rt; gives(&rt, run, text));
+}
+
+#[test]
+fn five_shapes_same_bytes(rt: HostRuntime) {
+    let alloc = rt.alloc();
+    let script = b"online 3\nonline 4\nbegin\nnote 4\nquiet 4\ndeliver 1\nawaits\n";
+    let text =
+        b"online\nonline\nbegun 1 awaits 3\nnoted 1 needed\nreport 1 cpu 4 tag 1\ntaken\nawaits 0 3\n";
+    for pair in [(2, 2), (2, 3), (4, 4), (16, 64), (64, 64)] {
+        let run = || replies(alloc, &setup(pair, 5, FAR), script);
+        assert!(rt; gives(&rt, run, text));
+    }
+}
+
+#[test]
+fn empty_and_unended_input(rt: HostRuntime) {
+    let alloc = rt.alloc();
+    assert!(rt; gives(&rt, || replies(alloc, &setup((2, 2), 1, FAR), b""), b""));
+    assert!(rt;
+        gives(
+            &rt,
+            || replies(alloc, &setup((2, 2), 1, FAR), b"begin"),
+            b"begun 1 awaits 1\n"
+        )
+    );
+}
+
+#[test]
+fn stop_at_last_number(rt: HostRuntime) {
+    let alloc = rt.alloc();
+    let script = b"begin\nnote 0\nquiet 0\ndeliver 1\nend\nbegin\n";
+    let text = b"begun 1 awaits 1\nnoted 1 needed\nreport 1 cpu 0 tag 1\nlast\nended 4\nfault 11\n";
+    let run = || replies(alloc, &setup((2, 2), 1, 4), script);
+    assert!(rt; gives(&rt, run, text));
+}
+
+/// Each fault that a line can have, in the order of its tests, and each way to be outside the grammar.
+#[test]
+fn refused_lines(rt: HostRuntime) {
+    let alloc = rt.alloc();
+    let script =
+        b"frob\nnote\nnote 9\nnote 1\nquiet 1\nonline 0\ndeliver 0\nend\nbegin\nbegin\nend\nnote 4294967296\nnote 18446744073709551616\nBEGIN\nbegin 0\n\tbegin\n  \nnote   0  \nquiet +0\nawaits\n";
+    let text =
+        b"fault 21\nfault 21\nfault 1\nfault 2\nfault 2\nfault 3\nfault 7\nfault 9\nbegun 1 awaits 1\nfault 8\nfault 10\nfault 1\nfault 21\nfault 21\nfault 21\nfault 21\nnoted 1 needed\nfault 21\nawaits 0\n";
+    let run = || replies(alloc, &setup((2, 2), 2, FAR), script);
+    assert!(rt; gives(&rt, run, text));
+}
+
+/// The opening's faults, in the order of their tests.
+#[test]
+fn refused_openings(rt: HostRuntime) {
+    let alloc = rt.alloc();
+    for (pair, cpus, last, wanted) in [
+        ((3, 3), 0, 6, Fault::BadFanout),
+        ((2, 4), 1, 4, Fault::BadFanout),
+        ((2, 2), 0, 6, Fault::TooManyCpus),
+        ((2, 2), 4097, 4, Fault::TooManyCpus),
+        ((2, 2), 1, 6, Fault::BadLast),
+        ((2, 2), 1, 0, Fault::BadLast),
+        ((2, 2), 1, FAR + 4, Fault::BadLast),
+    ] {
+        // What is tested before the first growth takes no memory.
+        let fault = match replies(alloc, &setup(pair, cpus, last), b"begin\n") {
+            Err(RunFault::Open(fault)) => Some(fault),
+            _ => None,
+        };
+        assert_eq!(rt; fault, Some(wanted));
+    }
+}
+
+/// The rows do not pass on a body that always answers want of memory, at its opening or at each line that may.
+#[test]
+fn constant_want_of_memory_is_caught(rt: HostRuntime) {
+    assert!(rt; !is_text(&Err(RunFault::Open(Fault::NoMemory)), ONE_PERIOD_REPLIES));
+    let starved = b"begun 1 awaits 1\nnoted 1 needed\nfault 16\nfault 7\nfault 10\n";
+    if let Ok(text) = starved.to_vec(rt.alloc()) {
+        assert!(rt; !is_text(&Ok(text), ONE_PERIOD_REPLIES));
+    }
+}

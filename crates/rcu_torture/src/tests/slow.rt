@@ -1,0 +1,172 @@
+//! A plain slow program for the rules of the engine: for each event it looks back over all that happened.
+
+use arrayvec::ArrayString;
+use rcu_core::event::Event;
+use std::fmt;
+use std::fmt::Write;
+
+/// How many events pass a test.
+fn count<F: Fn(&Event) -> bool>(past: &[Event], test: F) -> u64
+    requires { F.IsAlwaysCallable test }
+{
+    let mut passed = 0u64;
+    for event in past {
+        if test(event) {
+            passed = passed.saturating_add(1);
+        }
+    }
+    passed
+}
+
+fn ends(past: &[Event]) -> u64 {
+    count(past, |event| *event == Event::End)
+}
+
+fn is_running(past: &[Event]) -> bool {
+    count(past, |event| *event == Event::Begin) > ends(past)
+}
+
+fn number(past: &[Event]) -> u64 {
+    let state = if is_running(past) { 1 } else { 0 };
+    ends(past).saturating_mul(4).saturating_add(state)
+}
+
+fn is_online(past: &[Event], cpu: u32) -> bool {
+    cpu == 0 || count(past, |event| *event == Event::Online(cpu)) > 0
+}
+
+/// The number at the last note or arrival, 0 before any.
+fn noted(past: &[Event], cpu: u32) -> u64 {
+    let mut taken = 0;
+    for (i, event) in past.iter().enumerate() {
+        if *event == Event::Note(cpu) || *event == Event::Online(cpu) {
+            taken = number(past.split_at(i + 1).0);
+        }
+    }
+    taken
+}
+
+/// The report of a place: its processor and its tag.
+fn report(past: &[Event], place: u64) -> Option<(u32, u64)> {
+    let mut made = 0u64;
+    for (i, event) in past.iter().enumerate() {
+        if let Event::Quiesce(cpu) = event {
+            made = made.saturating_add(1);
+            if made == place {
+                return Some((*cpu, noted(past.split_at(i).0, *cpu)));
+            }
+        }
+    }
+    None
+}
+
+/// What happened before the latest begin, and since.
+fn at_begin(past: &[Event]) -> (&[Event], &[Event]) {
+    match past.iter().rposition(|event| *event == Event::Begin) {
+        Some(i) if i < past.len() => past.split_at(i),
+        _ => past.split_at(0),
+    }
+}
+
+fn is_heard(past: &[Event], cpu: u32) -> bool {
+    let tag = number(past);
+    let mut heard = false;
+    for event in at_begin(past).1 {
+        if let Event::Deliver(place) = event {
+            if report(past, *place) == Some((cpu, tag)) {
+                heard = true;
+            }
+        }
+    }
+    heard
+}
+
+fn is_awaited(past: &[Event], cpu: u32) -> bool {
+    is_running(past) && is_online(at_begin(past).0, cpu) && !is_heard(past, cpu)
+}
+
+fn awaited(cpus: u32, past: &[Event]) -> u32 {
+    let mut found = 0u32;
+    for cpu in 0..cpus {
+        if is_awaited(past, cpu) {
+            found = found.saturating_add(1);
+        }
+    }
+    found
+}
+
+/// Whether the event has something to store.
+pub fn stores(cpus: u32, past: &[Event], event: Event) -> bool {
+    match event {
+        Event::Quiesce(_) => true,
+        Event::Awaits => awaited(cpus, past) > 0,
+        _ => false,
+    }
+}
+
+/// The fault of an event, by its number, 0 for none.
+pub fn fault(cpus: u32, last: u64, past: &[Event], event: Event) -> u32 {
+    match event {
+        Event::Note(cpu) | Event::Quiesce(cpu) | Event::Online(cpu) if cpu >= cpus => 1,
+        Event::Note(cpu) | Event::Quiesce(cpu) if !is_online(past, cpu) => 2,
+        Event::Online(cpu) if is_online(past, cpu) => 3,
+        Event::Deliver(place) if report(past, place).is_none() => 7,
+        Event::Begin if is_running(past) => 8,
+        Event::Begin if number(past) == last => 11,
+        Event::End if !is_running(past) => 9,
+        Event::End if awaited(cpus, past) > 0 => 10,
+        _ => 0,
+    }
+}
+
+/// Writes what a delivered report does.
+fn write_answer(text: &mut ArrayString<80>, cpus: u32, past: &[Event], place: u64) -> fmt::Result {
+    let answer = match report(past, place) {
+        Some((cpu, tag)) if is_running(past) && tag == number(past) => {
+            if !is_awaited(past, cpu) {
+                "repeat"
+            } else if awaited(cpus, past) == 1 {
+                "last"
+            } else {
+                "taken"
+            }
+        }
+        _ => "stale",
+    };
+    text.write_str(answer)
+}
+
+/// Writes the reply to an event that has no fault. The history goes on from `past` to `now`.
+pub fn write_reply(
+    text: &mut ArrayString<80>,
+    cpus: u32,
+    past: &[Event],
+    now: &[Event],
+    event: Event,
+) -> fmt::Result {
+    match event {
+        Event::Note(cpu) if is_awaited(past, cpu) => write!(text, "noted {} needed", number(past)),
+        Event::Note(_) => write!(text, "noted {} clear", number(past)),
+        Event::Quiesce(cpu) => {
+            let place = count(now, |event| matches!(event, Event::Quiesce(_)));
+            write!(text, "report {place} cpu {cpu} tag {}", noted(past, cpu))
+        }
+        Event::Deliver(place) => write_answer(text, cpus, past, place),
+        Event::Online(_) => text.write_str("online"),
+        Event::Begin => write!(text, "begun {} awaits {}", number(now), awaited(cpus, now)),
+        Event::End => write!(text, "ended {}", number(now)),
+        Event::Awaits => {
+            text.write_str("awaits")?;
+            for cpu in 0..cpus {
+                if is_awaited(past, cpu) {
+                    write!(text, " {cpu}")?;
+                }
+            }
+            if awaited(cpus, past) == 0 {
+                text.write_str(" none")
+            } else {
+                Ok(())
+            }
+        }
+    }
+}

@@ -1,0 +1,123 @@
+//! Scripts of events drawn at random, reply by reply against the slow program.
+
+use crate::tests::slow::{fault, stores, write_reply};
+use crate::tests::trial::{replies, setup};
+use arrayvec::ArrayString;
+use rcu_core::event::Event;
+use std::alloc::AllocError;
+use std::fmt;
+use std::fmt::Write;
+
+/// How many events a script has.
+const LENGTH: usize = 240;
+
+/// The next word of a plain generator.
+fn draw(state: &mut u64) -> u64 {
+    *state = state
+        .wrapping_mul(6364136223846793005)
+        .wrapping_add(1442695040888963407);
+    *state >> 33
+}
+
+/// An event of a processor below 4, or of a report up to one that was not made.
+fn event_of(word: u64, made: u64) -> Event {
+    let cpu = (word / 16 % 4) as u32;
+    match word % 16 {
+        0 | 1 => Event::Begin,
+        2 | 3 => Event::End,
+        4 => Event::Online(cpu),
+        5..=7 => Event::Note(cpu),
+        8..=10 => Event::Quiesce(cpu),
+        11 => Event::Awaits,
+        _ => Event::Deliver(word / 64 % made.saturating_add(2)),
+    }
+}
+
+fn write_line(text: &mut ArrayString<80>, event: Event) -> fmt::Result {
+    match event {
+        Event::Note(cpu) => writeln!(text, "note {cpu}"),
+        Event::Quiesce(cpu) => writeln!(text, "quiet {cpu}"),
+        Event::Deliver(place) => writeln!(text, "deliver {place}"),
+        Event::Online(cpu) => writeln!(text, "online {cpu}"),
+        Event::Begin => text.write_str("begin\n"),
+        Event::End => text.write_str("end\n"),
+        Event::Awaits => text.write_str("awaits\n"),
+    }
+}
+
+/// Whether the line is the reply to the event, or want of memory where the event stores something; then the event is
+/// put behind the past where it was accepted.
+fn is_reply(
+    cpus: u32,
+    last: u64,
+    past: &mut Vec<Event>,
+    event: Event,
+    line: &[u8],
+) -> Result<bool, AllocError> {
+    let mut wanted = ArrayString::<80>::new();
+    let refused = fault(cpus, last, past.as_slice(), event);
+    if refused > 0 {
+        return Ok(write!(wanted, "fault {refused}").is_ok() && wanted.as_bytes() == line);
+    }
+    if line == b"fault 16".as_slice() {
+        return Ok(stores(cpus, past.as_slice(), event));
+    }
+    let before = past.len();
+    past.push(event)?;
+    let now = past.as_slice();
+    let written = write_reply(&mut wanted, cpus, now.split_at(before).0, now, event);
+    Ok(written.is_ok() && wanted.as_bytes() == line)
+}
+
+/// Draws a script, runs it, and looks at each reply; true also where memory was refused to the test itself.
+fn agrees(rt: &HostRuntime, cpus: u32, last: u64, seed: u64) -> Result<bool, AllocError> {
+    let alloc = rt.alloc();
+    let mut state = seed;
+    let mut made = 0u64;
+    let mut events = Vec::with_capacity(alloc, LENGTH)?;
+    let mut script = Vec::with_capacity(alloc, 20 * LENGTH)?;
+    for _ in 0..LENGTH {
+        let event = event_of(draw(&mut state), made);
+        let mut line = ArrayString::<80>::new();
+        if write_line(&mut line, event).is_err() {
+            return Ok(false);
+        }
+        if let Event::Quiesce(_) = event {
+            made = made.saturating_add(1);
+        }
+        events.push(event)?;
+        script.extend_from_slice(line.as_bytes())?;
+    }
+    let Ok(text) = replies(alloc, &setup((2, 2), cpus, last), script.as_slice()) else {
+        return Err(AllocError);
+    };
+    let mut lines = text.split(|b| *b == b'\n');
+    let mut past = Vec::with_capacity(alloc, LENGTH)?;
+    for event in &events {
+        let Some(line) = lines.next() else {
+            return Ok(false);
+        };
+        if !is_reply(cpus, last, &mut past, *event, line)? {
+            return Ok(false);
+        }
+    }
+    Ok(lines.next() == Some(b"".as_slice()) && lines.next().is_none())
+}
+
+#[test]
+fn every_reply_is_what_the_slow_program_says(rt: HostRuntime) {
+    for (cpus, last, seed) in [
+        (1, 4, 1),
+        (1, 400, 2),
+        (2, 8, 3),
+        (2, 400, 4),
+        (3, 12, 5),
+        (3, 400, 6),
+        (3, 400, 7),
+        (4, 400, 8),
+    ] {
+        if let Ok(agreed) = agrees(&rt, cpus, last, seed) {
+            assert!(rt; agreed, "{cpus} processors, last {last}, seed {seed}");
+        }
+    }
+}

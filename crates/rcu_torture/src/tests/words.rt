@@ -1,0 +1,58 @@
+//! Words and numbers.
+
+use crate::asking::asked;
+use crate::line::Line;
+use crate::words::{next_word, number};
+use rcu_core::event::Event;
+
+#[test]
+fn numbers(rt: HostRuntime) {
+    assert_eq!(rt; number(b"0"), Some(0));
+    assert_eq!(rt; number(b"00000000000000000002"), Some(2));
+    assert_eq!(rt; number(b"18446744073709551615"), Some(u64::MAX));
+    assert_eq!(rt; number(b"000000000000000000002"), None);
+    assert_eq!(rt; number(b"18446744073709551616"), None);
+    assert_eq!(rt; number(b"99999999999999999999"), None);
+    assert_eq!(rt; number(b""), None);
+    assert_eq!(rt; number(b"+1"), None);
+    assert_eq!(rt; number(b"-1"), None);
+    assert_eq!(rt; number(b"1x"), None);
+    assert_eq!(rt; number(b"0x1"), None);
+}
+
+#[test]
+fn words(rt: HostRuntime) {
+    assert!(rt; next_word(b"").is_none());
+    assert!(rt; next_word(b"   ").is_none());
+    match next_word(b"  note  3 ") {
+        Some((word, rest)) => {
+            assert_eq!(rt; word, b"note".as_slice());
+            assert_eq!(rt; rest, b"  3 ".as_slice());
+        }
+        None => assert!(rt; false),
+    }
+}
+
+#[test]
+fn lines(rt: HostRuntime) {
+    assert_eq!(rt; asked(b""), Line::Blank);
+    assert_eq!(rt; asked(b"     "), Line::Blank);
+    assert_eq!(rt; asked(b"\t"), Line::Malformed);
+    assert_eq!(rt; asked(b"begin"), Line::Ask(Event::Begin));
+    assert_eq!(rt; asked(b" end "), Line::Ask(Event::End));
+    assert_eq!(rt; asked(b"awaits"), Line::Ask(Event::Awaits));
+    assert_eq!(rt; asked(b"awaits 1"), Line::Malformed);
+    assert_eq!(rt; asked(b"Begin"), Line::Malformed);
+    assert_eq!(rt; asked(b"note"), Line::Malformed);
+    assert_eq!(rt; asked(b"note 3"), Line::Ask(Event::Note(3)));
+    assert_eq!(rt; asked(b"note 3 3"), Line::Malformed);
+    assert_eq!(rt;
+        asked(b"quiet 4294967296"),
+        Line::Ask(Event::Quiesce(u32::MAX))
+    );
+    assert_eq!(rt;
+        asked(b"deliver 18446744073709551615"),
+        Line::Ask(Event::Deliver(u64::MAX))
+    );
+    assert_eq!(rt; asked(b"online 007"), Line::Ask(Event::Online(7)));
+}

@@ -1,0 +1,47 @@
+//! The words of a line, and the numbers among them.
+ghost use Rattle.std.specs.Prelude.{◌≡◌, ◌==◌, ◌<◌, ◌∷◌, [], IfNone, IfSome, length, position};
+ghost use Rattle.rcu_torture.specs.Words.{number_of, words_of};
+
+/// How many digits a number has at most, leading zeros included.
+const DIGITS: usize = 20;
+
+/// The first word, and what stands behind it; none where there is no word.
+pub fn next_word(line: &[u8]) -> Option<(&[u8], &[u8])>
+    ensures none { IfNone result (words_of line.now ≡ []) }
+    ensures some { IfSome result (λ w. words_of line.now ≡ w.0.now ∷ words_of w.1.now) }
+    ensures shorter { IfSome result (λ w. length w.1.now < length line.now) }
+{
+    let mut text = line;
+    while let [b' ', rest @ ..] = text {
+        text = rest;
+    }
+    let length = first_space(text).unwrap_or(text.len());
+    if length == 0 {
+        return None;
+    }
+    Some(text.split_at(length))
+}
+
+/// Where the first space stands.
+fn first_space(line: &[u8]) -> Option<usize>
+    ensures { result ≡ position (λ b. b == 32) line.now }
+{
+    line.iter().position(|b| *b == b' ')
+}
+
+/// The number that a word spells: 1 to 20 decimal digits, of a value that fits 64 bits.
+pub fn number(word: &[u8]) -> Option<u64>
+    ensures { result ≡ number_of word.now }
+{
+    if word.is_empty() || word.len() > DIGITS {
+        return None;
+    }
+    let mut value = 0u128;
+    for b in word {
+        if !b.is_ascii_digit() {
+            return None;
+        }
+        value = 10 * value + u128::from(*b - b'0');
+    }
+    u64::try_from(value).ok()
+}
