@@ -26,6 +26,16 @@ impl<S> Model for Marked<S> {
 }
 
 impl<S> Marked<S> {
+    /// The stream, which has not failed.
+    pub fn new(stream: S) -> Marked<S>
+        ensures { result ≡ (stream, false) }
+    {
+        Marked {
+            stream,
+            has_failed: false,
+        }
+    }
+
     /// The stream.
     pub fn into_inner(self) -> S
         ensures { result ≡ self.0 }
@@ -35,16 +45,6 @@ impl<S> Marked<S> {
             has_failed: _,
         } = self;
         stream
-    }
-
-    /// The stream, which has not failed.
-    pub fn new(stream: S) -> Marked<S>
-        ensures { result ≡ (stream, false) }
-    {
-        Marked {
-            stream,
-            has_failed: false,
-        }
     }
 
     /// Keeps in mind that a call failed.

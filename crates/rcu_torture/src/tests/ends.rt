@@ -4,7 +4,10 @@ ghost use Rattle.std.specs.Prelude.{Some, ◌<◌};
 use crate::failed::Failed;
 use crate::sink::Sink;
 use crate::source::Source;
-use std::alloc::Global;
+use arrayvec::ArrayVec;
+
+/// How many bytes a writer has room for.
+const ROOM: usize = 16_384;
 
 /// Gives bytes in pieces, and fails once it gave so many.
 #[derive(Drop)]
@@ -72,10 +75,10 @@ impl Source for Slow<'_> {
     }
 }
 
-/// Takes bytes in pieces, and fails once it took so many.
+/// Takes bytes in pieces, and fails once it took so many, or has no room for more.
 #[derive(Drop)]
 pub struct Narrow {
-    bytes: Vec<u8>,
+    bytes: ArrayVec<u8, ROOM>,
     /// The most that it takes at once.
     piece: usize,
     /// How many bytes it takes before it fails.
@@ -86,11 +89,11 @@ pub struct Narrow {
 
 impl Narrow {
     /// Takes bytes in pieces, and never fails.
-    pub fn new(alloc: Global, piece: usize) -> Narrow
+    pub fn new(piece: usize) -> Narrow
         requires { 0 < piece }
     {
         Narrow {
-            bytes: Vec::new(alloc),
+            bytes: ArrayVec::new(),
             piece,
             left: usize::MAX,
             has_failed: false,
@@ -98,11 +101,11 @@ impl Narrow {
     }
 
     /// Takes so many bytes in pieces, and then fails.
-    pub fn failing_after(alloc: Global, piece: usize, left: usize) -> Narrow
+    pub fn failing_after(piece: usize, left: usize) -> Narrow
         requires { 0 < piece }
     {
         Narrow {
-            bytes: Vec::new(alloc),
+            bytes: ArrayVec::new(),
             piece,
             left,
             has_failed: false,
@@ -127,7 +130,12 @@ impl Sink for Narrow {
     fn write(&mut self, bytes: &[u8]) -> Result<usize, Failed> {
         let n = self.piece.min(self.left).min(bytes.len());
         let is_stuck = self.left == 0;
-        if is_stuck || self.bytes.extend_from_slice(bytes.split_at(n).0).is_err() {
+        if is_stuck
+            || self
+                .bytes
+                .try_extend_from_slice(bytes.split_at(n).0)
+                .is_err()
+        {
             self.has_failed = true;
             return Err(Failed);
         }

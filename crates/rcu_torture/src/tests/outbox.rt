@@ -2,21 +2,25 @@
 
 use crate::outbox::Outbox;
 use crate::tests::ends::Narrow;
+use arrayvec::ArrayVec;
 use std::test::Fail;
 
 /// The bytes of the tests, 26 of them.
 static LETTERS: &[u8] = b"abcdefghijklmnopqrstuvwxyz";
 
+/// How many bytes 500 times the letters are.
+const MANY: usize = 13_000;
+
 #[test]
 fn more_than_a_block(rt: HostRuntime) -> Result<(), Fail> {
-    let mut wanted = Vec::new(rt.alloc());
-    let mut writer = Narrow::new(rt.alloc(), 7);
+    let mut wanted = ArrayVec::<u8, MANY>::new();
+    let mut writer = Narrow::new(7);
     let mut outbox = Outbox::new();
     for _ in 0..500 {
-        wanted.extend_from_slice(LETTERS)?;
+        wanted.try_extend_from_slice(LETTERS)?;
         outbox.put(&mut writer, LETTERS)?;
     }
-    assert!(rt; writer.as_slice().len() < 13_000);
+    assert!(rt; writer.as_slice().len() < MANY);
     outbox.flush(&mut writer)?;
     assert_eq!(rt; writer.as_slice(), wanted.as_slice());
     Ok(())
@@ -24,11 +28,11 @@ fn more_than_a_block(rt: HostRuntime) -> Result<(), Fail> {
 
 #[test]
 fn longer_than_a_block(rt: HostRuntime) -> Result<(), Fail> {
-    let mut wanted = Vec::new(rt.alloc());
+    let mut wanted = ArrayVec::<u8, MANY>::new();
     for _ in 0..500 {
-        wanted.extend_from_slice(LETTERS)?;
+        wanted.try_extend_from_slice(LETTERS)?;
     }
-    let mut writer = Narrow::new(rt.alloc(), 1000);
+    let mut writer = Narrow::new(1000);
     let mut outbox = Outbox::new();
     outbox.put(&mut writer, wanted.as_slice())?;
     outbox.flush(&mut writer)?;
@@ -39,7 +43,7 @@ fn longer_than_a_block(rt: HostRuntime) -> Result<(), Fail> {
 #[test]
 fn writer_fails(rt: HostRuntime) -> Result<(), Fail> {
     for left in 0..30 {
-        let mut writer = Narrow::failing_after(rt.alloc(), 4, left);
+        let mut writer = Narrow::failing_after(4, left);
         let mut outbox = Outbox::new();
         outbox.put(&mut writer, LETTERS)?;
         outbox.put(&mut writer, b"0123")?;

