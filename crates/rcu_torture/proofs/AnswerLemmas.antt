@@ -1,12 +1,12 @@
 -- One line more is answered.
-use Rattle.std.proofs.Common.{◌≡◌, ◌<◌, ◌≤◌, ℕ, Bool, true, false, List, [], ◌∷◌, ◌++◌, length, take, Result, Ok, Err, refl, sym, ap, ◌∙◌, subst, append_assoc, append-nil}
+use Rattle.std.proofs.Common.{◌≡◌, ℕ, List, [], ◌∷◌, ◌++◌, Result, Ok, Err, refl, sym, ap, ◌∙◌, subst, append_assoc, append-nil}
 use Rattle.rcu_core.specs.History.{History}
 use Rattle.rcu_core.specs.Replies.{Size}
 use Rattle.rcu_torture.specs.Answers.{Answers, AnswersLine, Stands, Stopped, Goes}
 use Rattle.rcu_torture.specs.Asked.{asked_by}
 use Rattle.rcu_torture.specs.Outgoing.{Out, Sends, Stops, Puts}
 use Rattle.rcu_torture.specs.declared.line.Line.{Line}
-use Rattle.rcu_torture.proofs.OutgoingLemmas.{Sends-nil, Sends-trans, Sends-Stops}
+use Rattle.rcu_torture.proofs.OutgoingLemmas.{Sends-trans, Sends-Stops}
 
 pub answers_one : (size : Size) (h : History) (line text : List ℕ) (end : History) → AnswersLine size h (asked_by line) text end → Answers size h (line ∷ []) text end
 answers_one size h line text end a = (text, end, [], a, sym (append-nil text), (refl, refl))

@@ -1,5 +1,5 @@
 -- A text without `fault 16` is the one right text.
-use Rattle.std.proofs.Common.{◌≡◌, ◌⊎◌, ◌==◌, ◌∙◌, ◌||◌, ℕ, Bool, true, false, List, [], ◌∷◌, ◌++◌, length, refl, sym, ap, ap₂, subst, inl, inr, append_assoc, append-nil, codes}
+use Rattle.std.proofs.Common.{◌≡◌, ◌⊎◌, ◌==◌, ◌∙◌, ◌||◌, ℕ, Bool, true, false, List, [], ◌∷◌, ◌++◌, length, refl, sym, ap, ap₂, inl, inr, append_assoc, append-nil, codes}
 use Rattle.std.specs.Prelude.{fold, flat_map, cond}
 use Rattle.std.specs.Fmt.{decimal, digits}
 use Rattle.std.specs.List.{list_any}
@@ -11,13 +11,12 @@ use Rattle.rcu_seq.specs.declared.fault.Fault.TheVariants as fault
 use Rattle.rcu_node.specs.declared.answer.Answer.TheVariants as answer
 use Rattle.rcu_core.specs.History.{History}
 use Rattle.rcu_core.specs.Replies.{Size, after}
-use Rattle.rcu_core.specs.declared.event.Event.{Event}
 use Rattle.rcu_core.specs.declared.reply.Reply.{Reply}
 use Rattle.rcu_core.specs.declared.reply.Reply.TheVariants as reply
 use Rattle.rcu_torture.specs.Answers.{Answers, AnswersLine}
 use Rattle.rcu_torture.specs.Asked.{asked_by}
 use Rattle.rcu_torture.specs.Exact.{IsAnswer, next_after, replies, reply_to, wants_memory}
-use Rattle.rcu_torture.specs.Lines.{Cut, cut_of, lines_of, nothing_cut, with_byte}
+use Rattle.rcu_torture.specs.Lines.{Cut, cut_of, nothing_cut, with_byte}
 use Rattle.rcu_torture.specs.Printed.{spaced, text_of}
 use Rattle.rcu_torture.specs.declared.line.Line.{Line}
 use Rattle.rcu_torture.specs.declared.line.Line.TheVariants.{Blank, Malformed, Ask}

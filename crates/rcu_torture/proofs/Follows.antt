@@ -1,19 +1,18 @@
 -- A step on states follows the step on histories.
-use Rattle.std.proofs.Common.{◌≡◌, ℕ, zero, suc, ◌+◌, ◌<◌, ◌≤◌, Bool, true, false, not, ◌&&◌, ◌||◌, List, [], ◌∷◌, ◌++◌, length, Option, Some, None, refl, sym, ap, subst, ◌∙◌, arith, eqb, get_or, slice_set, slice_index, replicate, ne_eqb, ◌⊎◌, inl, inr}
+use Rattle.std.proofs.Common.{◌≡◌, ℕ, zero, suc, ◌<◌, Bool, true, false, not, ◌&&◌, ◌||◌, List, [], ◌∷◌, length, Option, Some, None, refl, sym, ap, subst, ◌∙◌, arith, eqb, get_or, slice_set, replicate, ne_eqb, inl, inr}
 use Rattle.std.proofs.lemmas.Bool.Decides.{nat_tests}
 use Rattle.std.proofs.lemmas.Bool.{cases_eq, cases_lt, and_right}
 use Rattle.std.proofs.lemmas.List.{get_or-set_same, get_or-set_other, get_or_past, length-replicate}
 use Rattle.rcu_node.specs.CpuSets.{is_in}
 use Rattle.rcu_report.specs.declared.report.Report.{Report}
 use Rattle.rcu_seq.specs.declared.fault.Fault.{Fault}
-use Rattle.rcu_core.specs.History.{History, count, latest, begins, ends, running, number, online, noted, made, report_at, is_of, heard, awaits}
-use Rattle.rcu_core.specs.Replies.{Size, Situation, situation, fault_in, said, answer, or_fault, IsLegalReply, after, IsHistory}
+use Rattle.rcu_core.specs.History.{History, latest, begins, running, number, online, noted, made, report_at, is_of, heard, awaits}
+use Rattle.rcu_core.specs.Replies.{Size, Situation, situation, fault_in, said, or_fault, IsLegalReply, after}
 use Rattle.rcu_core.specs.declared.event.Event.{Event}
 use Rattle.rcu_core.specs.declared.event.Event.TheVariants.{Note, Quiesce, Deliver, Online, Begin, End, Awaits}
 use Rattle.rcu_core.specs.declared.reply.Reply.{Reply}
-use Rattle.rcu_core.specs.declared.reply.Reply.TheVariants as reply
 use Rattle.rcu_torture.specs.EarlyState.{State, IsSized, number_of, says, next, left, Does, Has, after_report}
-use Rattle.rcu_torture.proofs.Kept.{Turns, turns, none_awaited}
+use Rattle.rcu_torture.proofs.Kept.{turns, none_awaited}
 
 -- a state in the situation of a history says what that situation says
 pub same : (v : State) (h : History) → Has v h → says v ≡ situation h

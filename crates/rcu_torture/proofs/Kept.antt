@@ -1,10 +1,10 @@
 -- What holds after every history of accepted events.
-use Rattle.std.proofs.Common.{◌≡◌, ℕ, ◌+◌, ◌<◌, ◌≤◌, Bool, true, false, List, [], ◌∷◌, None, arith}
+use Rattle.std.proofs.Common.{◌≡◌, ℕ, ◌+◌, ◌<◌, ◌≤◌, false, [], ◌∷◌, None, arith}
 use Rattle.std.proofs.lemmas.Bool.Decides.{nat_tests}
 use Rattle.rcu_core.specs.History.{History, count, begins, ends, awaits}
 use Rattle.rcu_core.specs.Replies.{Size, situation, fault_in, IsHistory}
 use Rattle.rcu_core.specs.declared.event.Event.{Event}
-use Rattle.rcu_core.specs.declared.event.Event.TheVariants.{Note, Quiesce, Deliver, Online, Begin, End, Awaits}
+use Rattle.rcu_core.specs.declared.event.Event.TheVariants.{Begin, End}
 use Rattle.rcu_torture.proofs.Counting.{none_passes}
 
 -- grace periods begin and end in turn

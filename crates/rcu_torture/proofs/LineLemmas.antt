@@ -1,11 +1,11 @@
 -- What is kept of a line.
-use Rattle.std.proofs.Common.{◌≡◌, ◌⊎◌, inl, inr, ◌<◌, ◌≤◌, ◌+◌, ◌&&◌, ℕ, suc, zero, Bool, true, false, List, [], ◌∷◌, ◌++◌, length, take, refl, sym, ap, ◌∙◌, arith, length-append, min, cond, subst}
-use Rattle.std.proofs.lemmas.List.{take-append-le, length-take, length-take-le, take_all, take_min}
+use Rattle.std.proofs.Common.{◌≡◌, inl, inr, ◌<◌, ◌+◌, ℕ, false, List, [], ◌∷◌, ◌++◌, length, take, refl, sym, ap, ◌∙◌, arith, min}
+use Rattle.std.proofs.lemmas.List.{take-append-le, length-take-le, take_all, take_min}
 use Rattle.std.proofs.lemmas.Bool.{cases_lt}
 use Rattle.std.proofs.lemmas.Bool.Decides.{nat_tests}
 use Rattle.std.proofs.Math.Seq.{take-append-add}
 use Rattle.std.specs.Prelude.{nat_le}
-use Rattle.rcu_torture.specs.Asked.{asked_by, is_well_formed}
+use Rattle.rcu_torture.specs.Asked.{asked_by}
 use Rattle.rcu_torture.specs.Lines.{kept_of}
 use Rattle.rcu_torture.specs.declared.line.Line.TheVariants.{Malformed}
 

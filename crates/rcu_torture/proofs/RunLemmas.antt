@@ -1,19 +1,19 @@
 -- A run between two reads, and at its end.
 use Rattle.std.proofs.Common.{◌≡◌, ◌==◌, ◌<◌, ◌≤◌, ◌+◌, ◌-◌, ◌^◌, ℕ, Bool, true, false, List, [], ◌∷◌, ◌++◌, length, take, Option, Some, None, Result, Ok, Err, refl, sym, ap, ◌∙◌, subst, arith, append-nil, append_assoc, length-append, IfSome}
-use Rattle.std.proofs.KnownBytes.{Appends-nil, Consumes-nil, Consumes-trans, Consumes-kept, Consumes-whole}
+use Rattle.std.proofs.KnownBytes.{Consumes-nil, Consumes-trans, Consumes-kept, Consumes-whole}
 use Rattle.std.proofs.lemmas.List.{length-take-le}
-use Rattle.std.specs.Io.KnownBytes.{Appends, Consumes, Keeps, IsAtEnd}
+use Rattle.std.specs.Io.KnownBytes.{Consumes, Keeps, IsAtEnd}
 use Rattle.rcu_core.specs.History.{History}
 use Rattle.rcu_core.specs.Replies.{Size}
 use Rattle.rcu_torture.specs.Answers.{Goes, Stands, Stopped}
-use Rattle.rcu_torture.specs.Lines.{cut_of, lines_of, nothing_cut}
+use Rattle.rcu_torture.specs.Lines.{cut_of, lines_of}
 use Rattle.rcu_torture.specs.Outgoing.{Out, Sends, Stops, out_of}
 use Rattle.rcu_torture.specs.Opening.{opening_fault, size_at}
 use Rattle.rcu_torture.specs.Script.{Answered, BrokenOff, Ends, Finished, Ran, RanScript, StoppedReading, StoppedWriting, ends_of}
 use Rattle.rcu_torture.specs.declared.run_fault.RunFault.{RunFault}
 use Rattle.rcu_torture.specs.declared.run_fault.RunFault.TheVariants.{Open, Read, Write}
 use Rattle.rcu_torture.specs.declared.setup.Setup.{Setup}
-use Rattle.rcu_torture.specs.Underway.{GoesOn, StoppedAmong, Underway}
+use Rattle.rcu_torture.specs.Underway.{StoppedAmong, Underway}
 use Rattle.rcu_torture.proofs.ExactLemmas.{is_answer}
 use Rattle.rcu_torture.proofs.OutgoingLemmas.{Sends-nil, Sends-taken}
 use Rattle.rcu_torture.proofs.ScriptLemmas.{ended_grows}

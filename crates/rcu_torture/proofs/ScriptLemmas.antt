@@ -1,12 +1,12 @@
 -- One line more of a script.
-use Rattle.std.proofs.Common.{◌≡◌, ◌≢◌, ◌==◌, ◌<◌, ◌≤◌, ◌+◌, ℕ, suc, Bool, true, false, List, [], ◌∷◌, ◌++◌, length, take, Result, Ok, Err, refl, sym, ap, ◌∙◌, subst, arith, append_assoc, append-nil, cond}
-use Rattle.std.specs.Prelude.{All, MatchResult, fold}
+use Rattle.std.proofs.Common.{◌≡◌, ◌≢◌, ◌==◌, ◌<◌, ℕ, suc, true, false, List, [], ◌∷◌, ◌++◌, length, Result, Ok, Err, refl, sym, ap, ◌∙◌, subst, arith, append_assoc, append-nil, cond}
+use Rattle.std.specs.Prelude.{All, fold}
 use Rattle.std.proofs.lemmas.Bool.{ne_eqb}
 use Rattle.std.proofs.lemmas.Bool.Decides.{nat_tests}
 use Rattle.std.proofs.lemmas.List.Sums.{fold-append}
 use Rattle.rcu_core.specs.History.{History}
 use Rattle.rcu_core.specs.Replies.{Size}
-use Rattle.rcu_torture.specs.Answers.{Answers, Stands, Stopped, Goes}
+use Rattle.rcu_torture.specs.Answers.{Stands, Stopped, Goes}
 use Rattle.rcu_torture.specs.Lines.{Cut, cut_of, kept_of, lines_of, nothing_cut, with_byte}
 use Rattle.rcu_torture.specs.Outgoing.{Out, Sends, Stops, Puts}
 use Rattle.rcu_torture.specs.Underway.{GoesOn, StoppedAmong, Underway}

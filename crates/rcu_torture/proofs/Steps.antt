@@ -1,7 +1,6 @@
 -- Steps on states, over plain variables.
-use Rattle.std.proofs.Common.{◌≡◌, ◌≢◌, ◌&&◌, ℕ, ◌+◌, ◌<◌, ◌≤◌, Bool, true, false, not, cond, List, length, Option, Some, None, refl, sym, ap, ap₂, ◌∙◌, arith, inl, inr, ne_eqb, subst}
-use Rattle.std.specs.Prelude.{nat_lt, count_by, slice_set, slice_index, ◌==◌}
-use Rattle.std.specs.List.{range_with_len}
+use Rattle.std.proofs.Common.{◌≡◌, ◌≢◌, ◌&&◌, ℕ, ◌+◌, ◌<◌, Bool, true, false, not, cond, List, length, Option, Some, None, refl, sym, ap, ap₂, ◌∙◌, arith, inl, inr, ne_eqb, subst}
+use Rattle.std.specs.Prelude.{nat_lt, slice_set, ◌==◌}
 use Rattle.std.proofs.lemmas.List.{length-set}
 use Rattle.std.proofs.lemmas.Bool.Decides.{nat_tests}
 use Rattle.rcu_seq.specs.Numbers.{number_at, same_number}
@@ -10,10 +9,9 @@ use Rattle.rcu_seq.specs.declared.fault.Fault.TheVariants as fault
 use Rattle.rcu_node.specs.CpuSets.{is_in, size_of}
 use Rattle.rcu_node.specs.Reports.{answer_to, without}
 use Rattle.rcu_node.specs.declared.answer.Answer.{Answer}
-use Rattle.rcu_node.specs.declared.answer.Answer.TheVariants.{Stale}
 use Rattle.rcu_report.specs.declared.report.Report.{Report}
 use Rattle.rcu_core.specs.History.{report_at}
-use Rattle.rcu_core.specs.Replies.{Situation, fault_in, said, or_fault, answered, how_many, which}
+use Rattle.rcu_core.specs.Replies.{fault_in, said, or_fault, answered, how_many}
 use Rattle.rcu_core.specs.declared.event.Event.{Event}
 use Rattle.rcu_core.specs.declared.event.Event.TheVariants.{Deliver, Begin, End, Awaits}
 use Rattle.rcu_core.specs.declared.reply.Reply.{Reply}

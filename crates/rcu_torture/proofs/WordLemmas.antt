@@ -1,7 +1,7 @@
 -- The first word of a line, and the rest.
-use Rattle.std.proofs.Common.{◌≡◌, ◌≢◌, ◌==◌, ◌<◌, ◌≤◌, ◌+◌, ℕ, zero, suc, Bool, true, false, not, cond, List, [], ◌∷◌, ◌++◌, length, take, drop, refl, sym, ap, ◌∙◌, arith, eqb, get_or, rules}
+use Rattle.std.proofs.Common.{◌≡◌, ◌==◌, ◌<◌, ℕ, suc, Bool, true, false, List, [], ◌∷◌, take, drop, refl, ap, ◌∙◌, arith}
 use Rattle.std.specs.Prelude.{filter}
-use Rattle.std.specs.List.{slice_split, position_or_len, onto_first}
+use Rattle.std.specs.List.{slice_split, position_or_len}
 use Rattle.rcu_torture.specs.Words.{words_of, has_byte}
 
 abbrev pub space : ℕ → Bool

@@ -1,4 +1,4 @@
-use Rattle.std.proofs.Common.{◌≡◌, ◌∙◌, ap, sym, length, ℕ, List, Bool, refl, rules}
+use Rattle.std.proofs.Common.{◌∙◌, ap, sym, List, Bool, refl}
 use Rattle.rcu_node.specs.CpuSets.{size_of}
 use Rattle.rcu_seq.specs.Numbers.{Periods, number_of}
 use Rattle.rcu_torture.proofs.Steps.{along, does_begin}

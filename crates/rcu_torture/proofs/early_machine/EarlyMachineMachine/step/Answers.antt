@@ -1,4 +1,4 @@
-use Rattle.std.proofs.Common.{◌≡◌, subst, refl}
+use Rattle.std.proofs.Common.{subst, refl}
 use Rattle.rcu_torture.specs.EarlyState.{State, IsSized}
 use Rattle.rcu_torture.proofs.Follows.{goes}
 use Rattle.rcu_torture.proofs.early_machine.EarlyMachineMachine.step.Goals as goal
