@@ -1,0 +1,20 @@
+use Rattle.std.proofs.Common.{arith}
+use Rattle.rcu_geometry.specs.Shapes.{levels}
+use Rattle.rcu_geometry.proofs.Capacities.{levels_range}
+use Rattle.rcu_geometry.proofs.Levels.{one_root, level_some, start_within, leaves_some}
+use Rattle.rcu_geometry.proofs.laws.levels_have_nodes.Goals as goal
+
+pub returns-clause-levels : goal.returns-clause-levels
+returns-clause-levels c = levels_range
+
+pub returns-clause-root : goal.returns-clause-root
+returns-clause-root c = one_root
+
+pub returns-clause-some : goal.returns-clause-some
+returns-clause-some c = level_some
+
+pub returns-clause-few : goal.returns-clause-few
+returns-clause-few c = λ s legal. let range = levels_range s in let within = start_within s (levels s) legal in omega arith
+
+pub returns-clause-leaves : goal.returns-clause-leaves
+returns-clause-leaves c = λ s legal. leaves_some s legal

@@ -1,0 +1,7 @@
+//! The shape of a combining tree.
+#![tactic(auto)]
+
+pub mod geometry;
+pub mod laws;
+#[cfg(test)]
+mod tests;
