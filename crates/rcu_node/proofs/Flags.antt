@@ -1,7 +1,7 @@
 -- Sets of processors as flags: what one write changes, and how many are in.
-use Rattle.std.proofs.Common.{◌≡◌, ◌≢◌, ℕ, ◌+◌, ◌<◌, ◌≤◌, Bool, true, false, cond, List, length, slice_set, replicate, sym, ◌∙◌, arith, inl, inr}
-use Rattle.std.proofs.lemmas.Bool.{cases_eq}
-use Rattle.std.proofs.lemmas.List.{get_or-set_same, get_or-set_other, length-set, ext_get_or, get_or-replicate, length-replicate}
+use Rattle.std.proofs.Common.{◌≡◌, ◌≢◌, ℕ, ◌+◌, ◌<◌, ◌≤◌, Bool, true, false, cond, List, length, slice_set, replicate, sym, ◌∙◌, arith, ap, inl, inr}
+use Rattle.std.proofs.lemmas.Bool.{cases_Bool, cases_eq, cases_lt}
+use Rattle.std.proofs.lemmas.List.{get_or_past, get_or-set_same, get_or-set_other, length-set, ext_get_or, get_or-replicate, length-replicate}
 use Rattle.std.proofs.lemmas.List.FromFn.{length-map-range_with_len, get_or-map-range_with_len}
 use Rattle.std.proofs.lemmas.List.Sums.{sum_by-set, count_by-le-length}
 use Rattle.std.proofs.lemmas.List.Folds.{sum_by-replicate}
@@ -55,3 +55,23 @@ size_of-remove set cpu l e =
 -- no set has more processors than flags
 pub size_of-within : (set : List Bool) → size_of set ≤ length set
 size_of-within set = count_by-le-length (λ flag. flag) set
+
+-- nobody beyond its flags is in a set
+pub is_in-beyond : (set : List Bool) (cpu : ℕ) → length set ≤ cpu → is_in set cpu ≡ false
+is_in-beyond set cpu l = get_or_past set cpu false l
+
+-- a set in which nobody is has none
+pub size_of-empty : (set : List Bool) → ((cpu : ℕ) → cpu < length set → is_in set cpu ≡ false) → size_of set ≡ 0
+size_of-empty set h =
+    let none : set ≡ replicate (length set) false = ext_get_or false set (replicate (length set) false) (sym (length-replicate (length set) false)) (λ cpu l. h cpu l ∙ sym (get_or-replicate (length set) cpu false false l)) in
+    ap (λ (s : List Bool). size_of s) none ∙ size_of-none (length set)
+
+-- and nobody is in a set that has none
+pub nobody_in : (set : List Bool) (cpu : ℕ) → size_of set ≡ 0 → is_in set cpu ≡ false
+nobody_in set cpu e = elim (cases_lt cpu (length set)) [
+  | inl l ↦ elim (cases_Bool (is_in set cpu)) [
+    | inl there ↦ (let less = size_of-remove set cpu l there in absurd (let x : ⊥ = omega (arith, less, e) in x))
+    | inr out ↦ out
+  ]
+  | inr l ↦ is_in-beyond set cpu l
+]

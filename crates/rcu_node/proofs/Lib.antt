@@ -1,3 +1,7 @@
+pub mod Bits
+pub mod Cut
+pub mod Fill
 pub mod Flags
+pub mod Masks
 pub mod Reports
 pub mod Words

@@ -3,45 +3,15 @@ use Rattle.std.proofs.Common.{◌≡◌, ◌≢◌, ℕ, ◌*◌, ◌+◌, ◌/�
 use Rattle.std.specs.Int.{bit_not, w64}
 use Rattle.std.proofs.lemmas.Bool.{cases_eq}
 use Rattle.std.proofs.lemmas.Nat.{mod_below, div-add-mod', div_below}
-use Rattle.std.proofs.lemmas.Nat.Bits.{shr_and_one, bit_at_set_same, bit_at_set_other, bit_at_clear_same, bit_at_clear_other, bit_at-zero}
 use Rattle.std.proofs.lemmas.List.{get_or-set_same, get_or-set_other, get_or-replicate, get_or_read, length-replicate}
 use Rattle.rcu_node.specs.CpuSets.{is_in, size_of}
 use Rattle.rcu_node.specs.Words.{flags_in, has_bit}
+use Rattle.rcu_node.proofs.Bits.{has_bit_shr, has_bit-zero, has_bit_set_same, has_bit_set_other, has_bit_clear_same, has_bit_clear_other}
 use Rattle.rcu_node.proofs.Flags.{length-listed, listed_set, listed_none, is_in-listed, size_of-none}
 
 -- a processor's flag in words
 abbrev pub flag_in : List ℕ → ℕ → Bool
 flag_in words cpu = has_bit (slice_index words (cpu / 64)) (cpu % 64)
-
--- the test of a bit by a shift
-has_bit_shr : (word i : ℕ) → (bit_and (word / 2 ^ i) 1 == 1) ≡ has_bit word i
-unfolding has_bit
-has_bit_shr word i = rw (shr_and_one word i)
-
--- no bit of zero is set
-has_bit-zero : (i : ℕ) → has_bit 0 i ≡ false
-unfolding has_bit
-has_bit-zero i = rw (bit_at-zero i)
-
--- a bit is set
-has_bit_set_same : (word k : ℕ) → k < 64 → has_bit (bit_or word (1 * 2 ^ k % 2 ^ 64)) k ≡ true
-unfolding has_bit
-has_bit_set_same word k l = rw (bit_at_set_same w64 word k l)
-
--- the others stay
-has_bit_set_other : (word k i : ℕ) → k < 64 → i ≢ k → has_bit (bit_or word (1 * 2 ^ k % 2 ^ 64)) i ≡ has_bit word i
-unfolding has_bit
-has_bit_set_other word k i l n = rw (bit_at_set_other w64 word k l i n)
-
--- a bit is cleared
-has_bit_clear_same : (word k : ℕ) → k < 64 → has_bit (bit_and word (bit_not w64 (1 * 2 ^ k % 2 ^ 64))) k ≡ false
-unfolding has_bit
-has_bit_clear_same word k l = rw (bit_at_clear_same w64 word k l)
-
--- the others stay
-has_bit_clear_other : (word k i : ℕ) → k < 64 → i < 64 → i ≢ k → has_bit (bit_and word (bit_not w64 (1 * 2 ^ k % 2 ^ 64))) i ≡ has_bit word i
-unfolding has_bit
-has_bit_clear_other word k i l m n = rw (bit_at_clear_other w64 word k l i m n)
 
 -- the place in a word is below 64
 place_below : (cpu : ℕ) → cpu % 64 < 64

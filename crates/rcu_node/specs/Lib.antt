@@ -1,3 +1,4 @@
 pub mod CpuSets
+pub mod Masks
 pub mod Words
 pub mod Reports

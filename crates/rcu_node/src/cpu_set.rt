@@ -1,6 +1,7 @@
 //! Sets of processors.
-ghost use Rattle.std.specs.Prelude.{◌≡◌, ◌<◌, ◌≤◌, ◌⊎◌, true, false, not, length, slice_set, replicate, IfOk, IfErr};
+ghost use Rattle.std.specs.Prelude.{◌≡◌, ◌<◌, ◌≤◌, ◌+◌, ◌-◌, ◌&&◌, ◌⊎◌, ℕ, if◌then◌else◌, nat_lt, true, false, not, length, slice_set, replicate, IfOk, IfErr};
 ghost use Rattle.rcu_node.specs.CpuSets.{is_in, size_of};
+ghost use Rattle.rcu_node.specs.Words.{has_bit};
 
 use rcu_seq::fault::Fault;
 use std::alloc::Global;
@@ -80,6 +81,19 @@ impl CpuSet {
         (word >> (cpu % WORD_BITS)) & 1 == 1
     }
 
+    /// The flags of `width` processors from `from` on, up to 64 of them, as a word whose lowest bit is the flag of
+    /// `from`; flags beyond the set are 0 (Linux's `bitmap_read`).
+    pub fn bits_from(&self, from: u32, width: u32) -> u64
+        requires from { from < length self.now }
+        requires width { width ≤ 64 }
+        ensures { (bit : ℕ) → has_bit result bit ≡ (nat_lt bit width && is_in self.now (from + bit)) }
+    {
+        let place = (from / WORD_BITS) as usize;
+        let word = self.words[place];
+        let next = self.words.get(place + 1).copied().unwrap_or(0);
+        cut(word, next, from % WORD_BITS, width.min(self.cpus - from))
+    }
+
     /// Puts the processor into the set, and answers whether it is new.
     pub fn insert(&mut self, cpu: u32) -> bool
         requires { cpu < length self.old }
@@ -131,4 +145,14 @@ impl CpuSet {
     {
         self.count
     }
+}
+
+/// `width` bits, from a place of a word on and into the next word.
+fn cut(word: u64, next: u64, place: u32, width: u32) -> u64
+    requires place { place < 64 }
+    requires width { width ≤ 64 }
+    ensures { (bit : ℕ) → has_bit result bit ≡ (nat_lt bit width && (if nat_lt (place + bit) 64 then has_bit word (place + bit) else has_bit next (place + bit - 64))) }
+{
+    let both = (u128::from(next) << WORD_BITS) + u128::from(word);
+    ((both >> place) & ((1 << width) - 1)) as u64
 }

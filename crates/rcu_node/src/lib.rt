@@ -6,5 +6,7 @@ pub mod awaited;
 pub mod cpu_set;
 pub mod flat;
 pub mod laws;
+mod leaves;
 #[cfg(test)]
 mod tests;
+pub mod tree;

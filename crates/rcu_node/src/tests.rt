@@ -5,6 +5,7 @@ use crate::answer::Answer;
 use crate::awaited::Awaited;
 use crate::cpu_set::CpuSet;
 use crate::flat::Flat;
+use crate::tree::Tree;
 use rcu_seq::fault::Fault;
 use std::alloc::Global;
 use std::io::Print;
@@ -36,6 +37,21 @@ fn flat<R: Abort + Print>(rt: &R, alloc: Global, cpus: u32) -> Flat {
         Err(fault) => {
             refused(rt, fault);
             Flat::new(alloc, cpus).expect(rt, "the second call has memory")
+        }
+    }
+}
+
+/// A tree, made by a second call where the first is refused a growth.
+fn tree<const LEAF: u32, const FAN: u32, R: Abort + Print>(
+    rt: &R,
+    alloc: Global,
+    cpus: u32,
+) -> Tree<LEAF, FAN> {
+    match Tree::new(alloc, cpus) {
+        Ok(tree) => tree,
+        Err(fault) => {
+            refused(rt, fault);
+            Tree::new(alloc, cpus).expect(rt, "the second call has memory")
         }
     }
 }
@@ -88,14 +104,10 @@ fn begin<A: Awaited>(rt: &impl Abort, awaited: &mut A, number: u64, set: &CpuSet
     assert!(rt; !awaited.is_empty());
 }
 
-/// Two grace periods of five processors.
-fn two_grace_periods<A: Awaited, R: Abort + Print>(rt: &R, alloc: Global, awaited: &mut A) {
-    assert_eq!(rt; awaited.tag(), 0);
-    assert!(rt; awaited.is_empty());
-
-    let mut set = empty_set(rt, alloc, 5);
-    insert(rt, &mut set, &[(0, true), (2, true), (4, true)]);
-    begin(rt, awaited, 1, &set);
+/// A grace period of processors 0, 2 and 4.
+fn first_grace_period<A: Awaited>(rt: &impl Abort, awaited: &mut A, set: &mut CpuSet) {
+    insert(rt, set, &[(0, true), (2, true), (4, true)]);
+    begin(rt, awaited, 1, set);
     report(
         rt,
         awaited,
@@ -119,10 +131,13 @@ fn two_grace_periods<A: Awaited, R: Abort + Print>(rt: &R, alloc: Global, awaite
     assert_eq!(rt; awaited.count(), 2);
     report(rt, awaited, &[(4, 1, Answer::Taken), (2, 1, Answer::Last)]);
     assert!(rt; awaited.is_empty());
+}
 
+/// A grace period of processor 3.
+fn second_grace_period<A: Awaited>(rt: &impl Abort, awaited: &mut A, set: &mut CpuSet) {
     set.clear();
-    insert(rt, &mut set, &[(3, true)]);
-    begin(rt, awaited, 5, &set);
+    insert(rt, set, &[(3, true)]);
+    begin(rt, awaited, 5, set);
     awaits(
         rt,
         awaited,
@@ -140,9 +155,43 @@ fn two_grace_periods<A: Awaited, R: Abort + Print>(rt: &R, alloc: Global, awaite
     assert!(rt; awaited.is_empty());
 }
 
+/// Two grace periods of five processors.
+fn two_grace_periods<A: Awaited, R: Abort + Print>(rt: &R, alloc: Global, mut awaited: A) {
+    assert_eq!(rt; awaited.tag(), 0);
+    assert!(rt; awaited.is_empty());
+    let mut set = empty_set(rt, alloc, 5);
+    first_grace_period(rt, &mut awaited, &mut set);
+    second_grace_period(rt, &mut awaited, &mut set);
+}
+
 #[test]
 fn flat_awaits_two_grace_periods(rt: HostRuntime) {
-    two_grace_periods(&rt, rt.alloc(), &mut flat(&rt, rt.alloc(), 5));
+    two_grace_periods(&rt, rt.alloc(), flat(&rt, rt.alloc(), 5));
+}
+
+#[test]
+fn trees_await_two_grace_periods(rt: HostRuntime) {
+    two_grace_periods(&rt, rt.alloc(), tree::<2, 2, _>(&rt, rt.alloc(), 5));
+    two_grace_periods(&rt, rt.alloc(), tree::<2, 3, _>(&rt, rt.alloc(), 5));
+    two_grace_periods(&rt, rt.alloc(), tree::<4, 4, _>(&rt, rt.alloc(), 5));
+    two_grace_periods(&rt, rt.alloc(), tree::<16, 64, _>(&rt, rt.alloc(), 5));
+    two_grace_periods(&rt, rt.alloc(), tree::<64, 64, _>(&rt, rt.alloc(), 5));
+}
+
+#[test]
+fn tree_of_27_leaves(rt: HostRuntime) {
+    let mut tree = tree::<2, 3, _>(&rt, rt.alloc(), 54);
+    let mut all = empty_set(&rt, rt.alloc(), 54);
+    for cpu in 0..54 {
+        assert!(rt; cpu < all.cpus());
+        all.insert(cpu);
+    }
+    begin(&rt, &mut tree, 1, &all);
+    for cpu in 0..53 {
+        report(&rt, &mut tree, &[(cpu, 1, Answer::Taken)]);
+        assert_eq!(rt; tree.count(), 53 - cpu);
+    }
+    report(&rt, &mut tree, &[(53, 1, Answer::Last)]);
 }
 
 #[test]
@@ -167,6 +216,10 @@ fn set_of_three_words(rt: HostRuntime) {
         &[(0, true), (63, false), (64, true), (65, false), (129, true)],
     );
     assert_eq!(rt; set.count(), 3);
+    for (from, width, wanted) in [(0, 1, 1), (60, 8, 0b10000), (64, 64, 1), (128, 64, 2)] {
+        assert!(rt; from < set.cpus());
+        assert_eq!(rt; set.bits_from(from, width), wanted, "from {from}");
+    }
 
     set.clear();
     assert_eq!(rt; set.count(), 0);
@@ -183,9 +236,19 @@ fn sizes(rt: HostRuntime) {
     for cpus in [0, 4097] {
         assert!(rt; matches!(CpuSet::new(rt.alloc(), cpus), Err(Fault::TooManyCpus)));
         assert!(rt; matches!(Flat::new(rt.alloc(), cpus), Err(Fault::TooManyCpus)));
+        assert!(rt;
+            matches!(
+                Tree::<64, 64>::new(rt.alloc(), cpus),
+                Err(Fault::TooManyCpus)
+            )
+        );
+        assert!(rt; matches!(Tree::<1, 64>::new(rt.alloc(), cpus), Err(Fault::BadFanout)));
+        assert!(rt; matches!(Tree::<64, 65>::new(rt.alloc(), cpus), Err(Fault::BadFanout)));
     }
+    assert!(rt; matches!(Tree::<2, 2>::new(rt.alloc(), 17), Err(Fault::TooManyCpus)));
     for cpus in [1, 4096] {
         assert_eq!(rt; empty_set(&rt, rt.alloc(), cpus).cpus(), cpus);
         assert_eq!(rt; flat(&rt, rt.alloc(), cpus).cpus(), cpus);
+        assert_eq!(rt; tree::<16, 64, _>(&rt, rt.alloc(), cpus).cpus(), cpus);
     }
 }

@@ -1,0 +1,58 @@
+-- Bits that are read across two words.
+use Rattle.std.proofs.Common.{◌≡◌, ℕ, ◌+◌, ◌-◌, ◌*◌, ◌/◌, ◌%◌, ◌^◌, ◌<◌, ◌≤◌, ◌==◌, ◌&&◌, if◌then◌else◌, Bool, nat_lt, min, List, length, slice_index, bit_and, sym, ap, ◌∙◌, arith, inl, inr}
+use Rattle.std.proofs.lemmas.Bool.{cases_lt}
+use Rattle.std.proofs.lemmas.Bool.Decides.{nat_tests}
+use Rattle.std.proofs.lemmas.Nat.{shr-shr}
+use Rattle.std.proofs.lemmas.Nat.Bits.{bit_at-lt, bit_at_and, bit_at_ones, bit_at_ones_above, bit_at_cat_low, bit_at_cat_high}
+use Rattle.rcu_node.specs.CpuSets.{is_in}
+use Rattle.rcu_node.specs.Words.{has_bit, flags_in}
+use Rattle.rcu_node.proofs.Flags.{is_in-listed, length-listed, is_in-beyond}
+use Rattle.rcu_node.proofs.Words.{flag_in}
+
+-- a shift moves every bit down
+has_bit_shift : (word place bit : ℕ) → has_bit (word / 2 ^ place) bit ≡ has_bit word (place + bit)
+unfolding has_bit
+has_bit_shift word place bit = ap (λ n. n % 2 == 1) (shr-shr word place bit)
+
+-- a mask of ones keeps the lowest bits
+has_bit_low : (word width bit : ℕ) → has_bit (bit_and word (2 ^ width - 1)) bit ≡ (nat_lt bit width && has_bit word bit)
+unfolding has_bit
+has_bit_low word width bit = elim (cases_lt bit width) [
+  | inl l ↦ (let ones = bit_at_ones width bit l in let b = bit_at-lt word bit in rw (bit_at_and word (2 ^ width - 1) bit, ones) (grind (arith, nat_tests, l, b)))
+  | inr l ↦ (let ones = bit_at_ones_above width bit l in rw (bit_at_and word (2 ^ width - 1) bit, ones) (grind (arith, nat_tests, l)))
+]
+
+-- of two words side by side the lower one has the first 64 bits, and the higher one the others
+has_bit_both : (word next bit : ℕ) → word < 2 ^ 64 → has_bit (next * 2 ^ 64 + word) bit ≡ (if nat_lt bit 64 then has_bit word bit else has_bit next (bit - 64))
+unfolding has_bit
+has_bit_both word next bit w = elim (cases_lt bit 64) [
+  | inl l ↦ (let low = ap (λ n. n == 1) (bit_at_cat_low next 64 word bit l) in grind (arith, nat_tests, low, l))
+  | inr l ↦ (let high = ap (λ n. n == 1) (bit_at_cat_high next 64 word bit w l) in grind (arith, nat_tests, high, l))
+]
+
+-- what a cut reads
+pub cut-is : (word next place width bit : ℕ) → word < 2 ^ 64
+    → has_bit (bit_and ((next * 2 ^ 64 + word) / 2 ^ place) (2 ^ width - 1)) bit ≡ (nat_lt bit width && (if nat_lt (place + bit) 64 then has_bit word (place + bit) else has_bit next (place + bit - 64)))
+cut-is word next place width bit w =
+    has_bit_low ((next * 2 ^ 64 + word) / 2 ^ place) width bit ∙ ap (λ b. nat_lt bit width && b) (has_bit_shift (next * 2 ^ 64 + word) place bit ∙ has_bit_both word next (place + bit) w)
+
+-- from a place of a word on, into the next one, lie the flags of the processors from there on
+flag_in-next : (words : List ℕ) (from bit word next : ℕ) → bit < 64 → word ≡ slice_index words (from / 64) → next ≡ slice_index words (from / 64 + 1)
+    → (if nat_lt (from % 64 + bit) 64 then has_bit word (from % 64 + bit) else has_bit next (from % 64 + bit - 64)) ≡ flag_in words (from + bit)
+flag_in-next words from bit word next b e f = elim (cases_lt (from % 64 + bit) 64) [
+  | inl l ↦ (let same : (from + bit) / 64 ≡ from / 64 = omega arith in let place : (from + bit) % 64 ≡ from % 64 + bit = omega arith in rw (same, place, e) (grind (arith, nat_tests, l)))
+  | inr l ↦ (let more : (from + bit) / 64 ≡ from / 64 + 1 = omega arith in let place : (from + bit) % 64 ≡ from % 64 + bit - 64 = omega arith in rw (more, place, f) (grind (arith, nat_tests, l)))
+]
+
+-- the flags of a set from a processor on
+pub bits_from-is : (cpus : ℕ) (words : List ℕ) (set : List Bool) (from width here bit word next : ℕ) → flags_in cpus words ≡ set → from < cpus → width ≤ 64 → here ≡ min width (cpus - from)
+    → word ≡ slice_index words (from / 64) → next ≡ slice_index words (from / 64 + 1)
+    → (nat_lt bit here && (if nat_lt (from % 64 + bit) 64 then has_bit word (from % 64 + bit) else has_bit next (from % 64 + bit - 64))) ≡ (nat_lt bit width && is_in set (from + bit))
+bits_from-is cpus words set from width here bit word next e l k h f g = elim (cases_lt bit here) [
+  | inl b ↦ (let flag = flag_in-next words from bit word next (omega arith) f g ∙ sym (is_in-listed cpus (flag_in words) (from + bit) (omega arith)) ∙ ap (λ s. is_in s (from + bit)) e in
+      let within : bit < width = omega arith in rw flag (grind (arith, nat_tests, b, within)))
+  | inr b ↦ elim (cases_lt bit width) [
+    | inl m ↦ (let size = ap (λ (s : List Bool). length s) e in let n = length-listed cpus (flag_in words) in let beyond = is_in-beyond set (from + bit) (omega arith) in rw beyond (grind (arith, nat_tests, b)))
+    | inr m ↦ grind (arith, nat_tests, b, m)
+  ]
+]
