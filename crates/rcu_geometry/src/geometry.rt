@@ -22,8 +22,11 @@ type Starts = ArrayVec<u32, 5>;
 /// root, 0. Contracts see the two fanouts and the number of processors, and everything else follows by formula.
 #[derive(Drop)]
 pub struct Geometry<const LEAF: u32, const FAN: u32> {
+    /// The number of processors.
     cpus: u32,
+    /// The number of levels, 1 to 4.
     levels: u32,
+    /// The first node of each level, and behind them the number of nodes.
     starts: Starts,
 }
 

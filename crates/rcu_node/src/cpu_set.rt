@@ -19,8 +19,11 @@ const WORD_BITS: u32 = 64;
 /// `clear` and `copy_from` costs one step.
 #[derive(Drop)]
 pub struct CpuSet {
+    /// How many processors the set was made for.
     cpus: u32,
+    /// A bit for each processor, the lowest first.
     words: Vec<u64>,
+    /// How many of these bits are set.
     count: u32,
 }
 

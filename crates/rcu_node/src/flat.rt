@@ -11,8 +11,11 @@ use std::alloc::Global;
 /// The awaited processors as one set, and the start set beside it. A report costs one step.
 #[derive(Drop)]
 pub struct Flat {
+    /// The number of the latest grace period.
     tag: u64,
+    /// The processors that it awaited at its start.
     start: CpuSet,
+    /// The processors that it awaits now.
     awaited: CpuSet,
     ghost some: { 0 < length awaited },
     ghost few: { length awaited ≤ 4096 },

@@ -18,9 +18,13 @@ use std::marker::Model;
 /// masks are not empty. Each call but `new` and `copy_from` costs one step a level.
 #[derive(Drop)]
 pub struct Leaves<const LEAF: u32, const FAN: u32> {
+    /// Where each processor's bit lies.
     geometry: Geometry<LEAF, FAN>,
+    /// A mask for each leaf.
     masks: Vec<u64>,
+    /// The places of the leaves whose masks are not empty.
     root: CpuSet,
+    /// How many bits are set in all masks.
     count: u32,
 }
 

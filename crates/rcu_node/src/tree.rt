@@ -17,8 +17,11 @@ use std::alloc::Global;
 /// one step in its leaf and one in the root; a begin costs a step a leaf.
 #[derive(Drop)]
 pub struct Tree<const LEAF: u32, const FAN: u32> {
+    /// The number of the latest grace period.
     tag: u64,
+    /// The processors that it awaited at its start.
     start: CpuSet,
+    /// The processors that it awaits now.
     awaited: Leaves<LEAF, FAN>,
     ghost some: { 0 < length awaited },
     ghost few: { length awaited ≤ 4096 },

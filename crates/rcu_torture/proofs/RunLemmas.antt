@@ -8,11 +8,10 @@ use Rattle.rcu_core.specs.Replies.{Size}
 use Rattle.rcu_torture.specs.Answers.{Goes, Stands, Stopped}
 use Rattle.rcu_torture.specs.Lines.{cut_of, lines_of}
 use Rattle.rcu_torture.specs.Outgoing.{Out, Sends, Stops, out_of}
-use Rattle.rcu_torture.specs.Opening.{opening_fault, size_at}
-use Rattle.rcu_torture.specs.Script.{Answered, BrokenOff, Ends, Finished, Ran, RanScript, StoppedReading, StoppedWriting, ends_of}
+use Rattle.rcu_torture.specs.Script.{Answered, BrokenOff, Ends, Finished, Ran, RanFrom, StoppedReading, StoppedWriting, ends_of}
 use Rattle.rcu_torture.specs.declared.run_fault.RunFault.{RunFault}
 use Rattle.rcu_torture.specs.declared.run_fault.RunFault.TheVariants.{Open, Read, Write}
-use Rattle.rcu_torture.specs.declared.setup.Setup.{Setup}
+use Rattle.rcu_seq.specs.declared.fault.Fault.{Fault}
 use Rattle.rcu_torture.specs.Underway.{StoppedAmong, Underway}
 use Rattle.rcu_torture.proofs.ExactLemmas.{is_answer}
 use Rattle.rcu_torture.proofs.OutgoingLemmas.{Sends-nil, Sends-taken}
@@ -175,8 +174,8 @@ piece_failed size fits s0 s1 s2 w0 w1 w2 r0 r2 f0 f1 f2 line before waiting bloc
 }
 
 -- what a run on an open machine leaves is what the whole run leaves
-pub ran_script : (r : Result (Unit {0}) RunFault) (setup : Setup) (old new : Ends) → opening_fault setup ≡ None → Ran r (size_at setup) old new → RanScript r setup old new
-ran_script (Ok x) setup old new none ran = (none, ran)
-ran_script (Err (Open f)) setup old new none ran = absurd ran
-ran_script (Err Read) setup old new none ran = (none, ran)
-ran_script (Err Write) setup old new none ran = (none, ran)
+pub ran_from : (r : Result (Unit {0}) RunFault) (first : Option Fault) (size : Size) (old new : Ends) → first ≡ None → Ran r size old new → RanFrom r first size old new
+ran_from (Ok x) first size old new none ran = (none, ran)
+ran_from (Err (Open f)) first size old new none ran = absurd ran
+ran_from (Err Read) first size old new none ran = (none, ran)
+ran_from (Err Write) first size old new none ran = (none, ran)

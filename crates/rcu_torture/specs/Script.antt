@@ -68,13 +68,18 @@ Ran (Err (Open fault)) size old new = ⊥
 Ran (Err Read) size old new = StoppedReading size old new
 Ran (Err Write) size old new = StoppedWriting size old new
 
--- an opening is refused by the fault of its setup, and where that has none, for want of memory
-abbrev pub IsRefusedBy : Setup → Fault → Type 0
-IsRefusedBy setup fault = (opening_fault setup ≡ Some fault) ⊎ ((opening_fault setup ≡ None) × (fault ≡ NoMemory))
+-- an opening is refused by the first fault that is tested, and where there is none, for want of memory
+abbrev pub IsRefusedBy : Option Fault → Fault → Type 0
+IsRefusedBy first fault = (first ≡ Some fault) ⊎ ((first ≡ None) × (fault ≡ NoMemory))
 
--- how a run ends: where the opening is refused, nothing was read or written
+-- how a run ends that is opened at a size, where this is the first fault of its opening: where it is refused, nothing
+-- was read or written
+abbrev pub RanFrom : Result (Unit {0}) RunFault → Option Fault → Size → Ends → Ends → Type 0
+RanFrom (Ok x) first size old new = (first ≡ None) × Finished size old new
+RanFrom (Err (Open fault)) first size old new = IsRefusedBy first fault × (new ≡ old)
+RanFrom (Err Read) first size old new = (first ≡ None) × StoppedReading size old new
+RanFrom (Err Write) first size old new = (first ≡ None) × StoppedWriting size old new
+
+-- how a run of a setup ends
 abbrev pub RanScript : Result (Unit {0}) RunFault → Setup → Ends → Ends → Type 0
-RanScript (Ok x) setup old new = (opening_fault setup ≡ None) × Finished (size_at setup) old new
-RanScript (Err (Open fault)) setup old new = IsRefusedBy setup fault × (new ≡ old)
-RanScript (Err Read) setup old new = (opening_fault setup ≡ None) × StoppedReading (size_at setup) old new
-RanScript (Err Write) setup old new = (opening_fault setup ≡ None) × StoppedWriting (size_at setup) old new
+RanScript result setup old new = RanFrom result (opening_fault setup) (size_at setup) old new

@@ -5,7 +5,8 @@ ghost use Rattle.rcu_core.specs.Replies.{Size};
 ghost use Rattle.rcu_torture.specs.Answers.{Goes};
 ghost use Rattle.rcu_torture.specs.Lines.{kept_of, lines_of};
 ghost use Rattle.rcu_torture.specs.Outgoing.{Out, out_of};
-ghost use Rattle.rcu_torture.specs.Script.{Ran, RanScript, ends_of};
+ghost use Rattle.rcu_torture.specs.Opening.{machine_fault, size_at};
+ghost use Rattle.rcu_torture.specs.Script.{Ran, RanFrom, RanScript, ends_of};
 ghost use Rattle.rcu_torture.specs.Underway.{GoesOn, Underway};
 
 use crate::asking::asked;
@@ -43,7 +44,28 @@ pub fn run_script<R: Source, W: Sink>(
         (ends_of (R.remaining reader.old) (R.failed reader.old) (W.taken writer.old) (W.failed writer.old))
         (ends_of (R.remaining reader.new) (R.failed reader.new) (W.taken writer.new) (W.failed writer.new)) }
 {
-    let mut machine = match open(alloc, setup) {
+    match (setup.leaf, setup.inner) {
+        (2, 2) => run_over::<2, 2, R, W>(alloc, setup, reader, writer),
+        (2, 3) => run_over::<2, 3, R, W>(alloc, setup, reader, writer),
+        (4, 4) => run_over::<4, 4, R, W>(alloc, setup, reader, writer),
+        (16, 64) => run_over::<16, 64, R, W>(alloc, setup, reader, writer),
+        (64, 64) => run_over::<64, 64, R, W>(alloc, setup, reader, writer),
+        _ => Err(RunFault::Open(Fault::BadFanout)),
+    }
+}
+
+/// Runs a script over the tree of two fanouts.
+fn run_over<const LEAF: u32, const INNER: u32, R: Source, W: Sink>(
+    alloc: Global,
+    setup: &Setup,
+    reader: &mut R,
+    writer: &mut W,
+) -> Result<(), RunFault>
+    ensures { RanFrom result (machine_fault LEAF INNER setup.now.cpus setup.now.last) (size_at setup.now)
+        (ends_of (R.remaining reader.old) (R.failed reader.old) (W.taken writer.old) (W.failed writer.old))
+        (ends_of (R.remaining reader.new) (R.failed reader.new) (W.taken writer.new) (W.failed writer.new)) }
+{
+    let mut machine = match open::<LEAF, INNER>(alloc, setup.cpus, setup.last) {
         Ok(machine) => machine,
         Err(fault) => return Err(RunFault::Open(fault)),
     };

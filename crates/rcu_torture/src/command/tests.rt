@@ -1,5 +1,6 @@
 use super::*;
 use clap::error::ErrorKind;
+use std::process::Abort;
 
 /// What the words are read as. Where a growth was refused they are read again.
 fn read(alloc: Global, words: &[&str]) -> Result<Order, ErrorKind> {
@@ -50,14 +51,28 @@ fn a_script_has_its_options_numbers(rt: HostRuntime) {
     assert_eq!(rt; read(alloc, &words), four_cpus(18446744073709551615));
 }
 
+/// Compares why words are refused.
+fn are_refused(rt: &impl Abort, alloc: Global, lines: &[(&[&str], ErrorKind)]) {
+    for (place, (words, kind)) in lines.iter().enumerate() {
+        assert_eq!(rt; read(alloc, words), Err(*kind), "at {place}");
+    }
+}
+
 #[test]
-fn other_words_are_refused(rt: HostRuntime) {
-    let lines: [(&[&str], ErrorKind); 11] = [
+fn other_commands_are_refused(rt: HostRuntime) {
+    let lines: [(&[&str], ErrorKind); 5] = [
         (&[], ErrorKind::MissingSubcommand),
         (&["frob"], ErrorKind::InvalidSubcommand),
         (&["help"], ErrorKind::InvalidSubcommand),
         (&["--help"], ErrorKind::DisplayHelp),
         (&["script", "--help"], ErrorKind::DisplayHelp),
+    ];
+    are_refused(&rt, rt.alloc(), &lines);
+}
+
+#[test]
+fn other_options_are_refused(rt: HostRuntime) {
+    let lines: [(&[&str], ErrorKind); 6] = [
         (
             &["script", "--leaf", "2", "--inner", "3"],
             ErrorKind::MissingRequiredArgument,
@@ -67,15 +82,7 @@ fn other_words_are_refused(rt: HostRuntime) {
             ErrorKind::InvalidValue,
         ),
         (
-            &[
-                "script",
-                "--leaf",
-                "2",
-                "--inner",
-                "3",
-                "--cpus",
-                "4294967296",
-            ],
+            &["script", "--leaf=2", "--inner=3", "--cpus=4294967296"],
             ErrorKind::ValueValidation,
         ),
         (
@@ -83,19 +90,13 @@ fn other_words_are_refused(rt: HostRuntime) {
             ErrorKind::ValueValidation,
         ),
         (
-            &[
-                "script", "--leaf", "2", "--inner", "3", "--cpus", "4", "--cpus", "4",
-            ],
+            &["script", "--leaf=2", "--inner=3", "--cpus=4", "--cpus=4"],
             ErrorKind::ArgumentConflict,
         ),
         (
-            &[
-                "script", "--leaf", "2", "--inner", "3", "--cpus", "4", "--seed", "1",
-            ],
+            &["script", "--leaf=2", "--inner=3", "--cpus=4", "--seed=1"],
             ErrorKind::UnknownArgument,
         ),
     ];
-    for (place, (words, kind)) in lines.iter().enumerate() {
-        assert_eq!(rt; read(rt.alloc(), words), Err(*kind), "at {place}");
-    }
+    are_refused(&rt, rt.alloc(), &lines);
 }

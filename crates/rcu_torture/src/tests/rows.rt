@@ -3,6 +3,7 @@
 use crate::run_fault::RunFault;
 use crate::tests::trial::{gives, is_text, replies, setup, wants_memory};
 use rcu_seq::fault::Fault;
+use std::alloc::Global;
 
 /// The last number where a row names none.
 const FAR: u64 = 1 << 62;
@@ -52,14 +53,10 @@ fn five_shapes_same_bytes(rt: HostRuntime) {
 #[test]
 fn empty_and_unended_input(rt: HostRuntime) {
     let alloc = rt.alloc();
-    assert!(rt; gives(&rt, || replies(alloc, &setup((2, 2), 1, FAR), b""), b""));
-    assert!(rt;
-        gives(
-            &rt,
-            || replies(alloc, &setup((2, 2), 1, FAR), b"begin"),
-            b"begun 1 awaits 1\n"
-        )
-    );
+    let run = || replies(alloc, &setup((2, 2), 1, FAR), b"begin");
+    assert!(rt; gives(&rt, run, b"begun 1 awaits 1\n"));
+    let empty = replies(alloc, &setup((2, 2), 1, FAR), b"");
+    assert!(rt; wants_memory(&empty) || is_text(&empty, b""));
 }
 
 #[test]
@@ -83,26 +80,53 @@ fn refused_lines(rt: HostRuntime) {
     assert!(rt; gives(&rt, run, text));
 }
 
-/// The opening's faults, in the order of their tests.
+/// The fault of a run that is not opened.
+fn opening_fault(alloc: Global, pair: (u32, u32), cpus: u32, last: u64) -> Option<Fault> {
+    match replies(alloc, &setup(pair, cpus, last), b"begin\n") {
+        Err(RunFault::Open(fault)) => Some(fault),
+        _ => None,
+    }
+}
+
+/// The opening's faults, in the order of their tests. What is tested before the first growth takes no memory.
 #[test]
 fn refused_openings(rt: HostRuntime) {
-    let alloc = rt.alloc();
     for (pair, cpus, last, wanted) in [
         ((3, 3), 0, 6, Fault::BadFanout),
         ((2, 4), 1, 4, Fault::BadFanout),
         ((2, 2), 0, 6, Fault::TooManyCpus),
-        ((2, 2), 4097, 4, Fault::TooManyCpus),
+        ((2, 2), 17, 6, Fault::TooManyCpus),
+        ((64, 64), 4097, 4, Fault::TooManyCpus),
         ((2, 2), 1, 6, Fault::BadLast),
         ((2, 2), 1, 0, Fault::BadLast),
         ((2, 2), 1, FAR + 4, Fault::BadLast),
     ] {
-        // What is tested before the first growth takes no memory.
-        let fault = match replies(alloc, &setup(pair, cpus, last), b"begin\n") {
-            Err(RunFault::Open(fault)) => Some(fault),
-            _ => None,
-        };
-        assert_eq!(rt; fault, Some(wanted));
+        assert_eq!(rt; opening_fault(rt.alloc(), pair, cpus, last), Some(wanted));
     }
+}
+
+/// Each pair opens with as many processors as four levels of its own tree hold, up to 4,096, and with no more.
+#[test]
+fn every_offered_pair_opens_by_its_own_shape(rt: HostRuntime) {
+    // A test may be refused one growth.
+    let mut refused = 0u32;
+    for (pair, most) in [
+        ((2, 2), 16),
+        ((2, 3), 54),
+        ((4, 4), 256),
+        ((16, 64), 4096),
+        ((64, 64), 4096),
+    ] {
+        match opening_fault(rt.alloc(), pair, most, FAR) {
+            None => {}
+            Some(fault) => {
+                assert_eq!(rt; fault, Fault::NoMemory);
+                refused = refused.saturating_add(1);
+            }
+        }
+        assert_eq!(rt; opening_fault(rt.alloc(), pair, most + 1, FAR), Some(Fault::TooManyCpus));
+    }
+    assert!(rt; refused <= 1);
 }
 
 /// The rows do not pass on a body that always answers want of memory, at its opening or at each line that may.
