@@ -1,0 +1,45 @@
+-- What the accepted calls of one processor, the newest first, say of its read sections.
+use Rattle.std.specs.Prelude.{ℕ, ◌-◌, ◌==◌, Bool, true, false, not, ◌&&◌, ◌||◌, List, [], ◌∷◌, count_by}
+use Rattle.rcu_seq.specs.Numbers.{Number}
+use Rattle.rcu_cpu.specs.Calls.{Call, Enter, Exit, Note, Arrive, Depart}
+
+-- the call is an enter
+abbrev pub enters : Call → Bool
+enters Enter = true
+enters _ = false
+
+-- the call is an exit
+abbrev pub exits : Call → Bool
+exits Exit = true
+exits _ = false
+
+-- how deep the sections nest: the enters less the exits
+abbrev pub nesting : List Call → ℕ
+nesting calls = count_by enters calls - count_by exits calls
+
+-- the call opens a section: it is an enter at depth 0
+abbrev pub opens : Call → List Call → Bool
+opens call earlier = enters call && nesting earlier == 0
+
+-- the call closes the section: it is an exit that brings the depth back to 0
+abbrev pub closes : Call → List Call → Bool
+closes call earlier = exits call && nesting (call ∷ earlier) == 0
+
+-- a section is open: one was opened, and was not closed since
+abbrev pub is_open : List Call → Bool
+is_open [] = false
+is_open (call ∷ earlier) = opens call earlier || (is_open earlier && not (closes call earlier))
+
+-- the processor is online: its last arrival or departure is an arrival; before any, it is as at its making
+abbrev pub is_online : Bool → List Call → Bool
+is_online at_making [] = at_making
+is_online at_making (Arrive _ ∷ earlier) = true
+is_online at_making (Depart ∷ earlier) = false
+is_online at_making (_ ∷ earlier) = is_online at_making earlier
+
+-- the number of the last note or arrival, 0 before any
+abbrev pub last_noted : List Call → Number
+last_noted [] = 0
+last_noted (Note number ∷ earlier) = number
+last_noted (Arrive number ∷ earlier) = number
+last_noted (_ ∷ earlier) = last_noted earlier

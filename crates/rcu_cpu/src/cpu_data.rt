@@ -1,0 +1,193 @@
+//! What one processor keeps.
+ghost use Rattle.std.specs.Prelude.{◌≡◌, ◌<◌, ◌≤◌, true, false, IfOk, IfErr, OnOk, OnErr};
+ghost use Rattle.rcu_cpu.specs.Processors.{deepest, made, report_of};
+ghost use Rattle.rcu_cpu.specs.Calls.{IsAccepted, after, Enter, Exit, Note, Quiesce, Arrive, Depart};
+
+use rcu_report::report::Report;
+use rcu_seq::fault::Fault;
+use std::marker::Model;
+
+/// How deep read sections nest at most.
+const DEEPEST: u32 = 65_535;
+
+/// What one processor keeps: whether it is online, how deep its read sections nest, and the grace-period number
+/// that it noted (Linux's `rcu_data` and `rcu_read_lock_nesting`).
+///
+/// A read section is open from an enter at depth 0 to the exit that brings the depth back to 0. None is open on an
+/// offline processor.
+#[derive(Debug, Drop)]
+pub struct CpuData {
+    cpu: u32,
+    online: bool,
+    depth: u32,
+    noted: u64,
+}
+
+impl Model for CpuData {
+    ghost use Rattle.std.specs.Prelude.{◌≡◌, ◌≤◌, false};
+    ghost use Rattle.rcu_cpu.specs.Processors.{Processor, deepest};
+
+    ghost Value = { Processor };
+
+    ghost view = { λ p. record { cpu = p.cpu; online = p.online; depth = p.depth; noted = p.noted } };
+
+    ghost invariant = { λ p. record {
+      nesting : p.depth ≤ deepest;
+      offline : p.online ≡ false → p.depth ≡ 0;
+    } };
+}
+
+impl CpuData {
+    /// A processor of this number, with no section open and the number 0 noted.
+    pub fn new(cpu: u32, online: bool) -> CpuData
+        ensures { result ≡ made cpu online }
+    {
+        CpuData {
+            cpu,
+            online,
+            depth: 0,
+            noted: 0,
+        }
+    }
+
+    /// The processor's number.
+    pub fn cpu(&self) -> u32
+        ensures { result ≡ self.now.cpu }
+    {
+        self.cpu
+    }
+
+    /// Whether the processor is online.
+    pub fn online(&self) -> bool
+        ensures { result ≡ self.now.online }
+    {
+        self.online
+    }
+
+    /// How deep the read sections nest, 0 to 65,535: 0 where none is open, as on an offline processor.
+    pub fn depth(&self) -> u32
+        ensures value { result ≡ self.now.depth }
+        ensures range { result ≤ deepest }
+        ensures offline { self.now.online ≡ false → result ≡ 0 }
+    {
+        self.depth
+    }
+
+    /// The grace-period number of the last note or arrival, 0 before any.
+    pub fn noted(&self) -> u64
+        ensures { result ≡ self.now.noted }
+    {
+        self.noted
+    }
+
+    /// Opens a read section, or nests one deeper in the open one, and answers the new depth, 1 to 65,535 (Linux's
+    /// `__rcu_read_lock`).
+    ///
+    /// Faults: 2 where the processor is offline; 6 where the depth is 65,535.
+    pub fn enter(&mut self) -> Result<u32, Fault>
+        ensures ok { IfOk result (λ depth.
+            (depth ≡ self.new.depth) × IsAccepted Enter self.old × (self.new ≡ after Enter self.old)) }
+        ensures offline { IfErr result (λ fault. self.old.online ≡ false → fault ≡ Fault.Offline) }
+        ensures full { IfErr result (λ fault. self.old.online ≡ true →
+            (fault ≡ Fault.NestFull) × (self.old.depth ≡ deepest)) }
+        ensures err { OnErr result (self.new ≡ self.old) }
+    {
+        self.check_online()?;
+        if self.depth == DEEPEST {
+            return Err(Fault::NestFull);
+        }
+        self.depth += 1;
+        Ok(self.depth)
+    }
+
+    /// Leaves the innermost read section, and answers the new depth, 0 to 65,534: at 0 no section is open any more
+    /// (Linux's `__rcu_read_unlock`).
+    ///
+    /// Fault 5: no section is open.
+    pub fn exit(&mut self) -> Result<u32, Fault>
+        ensures ok { IfOk result (λ depth.
+            (depth ≡ self.new.depth) × IsAccepted Exit self.old × (self.new ≡ after Exit self.old)) }
+        ensures not_open { IfErr result (λ fault. (fault ≡ Fault.NotOpen) × (self.old.depth ≡ 0)) }
+        ensures err { OnErr result (self.new ≡ self.old) }
+    {
+        self.depth = self.depth.checked_sub(1).ok_or(Fault::NotOpen)?;
+        Ok(self.depth)
+    }
+
+    /// Notes the grace-period number (Linux's `__note_gp_changes`).
+    ///
+    /// Fault 2: the processor is offline.
+    pub fn note(&mut self, number: u64) -> Result<(), Fault>
+        ensures ok { OnOk result (IsAccepted (Note number) self.old × (self.new ≡ after (Note number) self.old)) }
+        ensures offline { IfErr result (λ fault. (fault ≡ Fault.Offline) × (self.old.online ≡ false)) }
+        ensures err { OnErr result (self.new ≡ self.old) }
+    {
+        self.check_online()?;
+        self.noted = number;
+        Ok(())
+    }
+
+    /// The report of a quiescent state: of the processor and its noted number (Linux's `rcu_report_qs_rdp`).
+    ///
+    /// Faults: 2 where the processor is offline; 4 where a section is open.
+    pub fn quiesce(&self) -> Result<Report, Fault>
+        ensures ok { IfOk result (λ report. (report ≡ report_of self.now) × IsAccepted Quiesce self.now) }
+        ensures offline { IfErr result (λ fault. self.now.online ≡ false → fault ≡ Fault.Offline) }
+        ensures in_section { IfErr result (λ fault. self.now.online ≡ true →
+            (fault ≡ Fault.InSection) × (0 < self.now.depth)) }
+    {
+        self.check_online()?;
+        if self.depth == 0 {
+            Ok(Report {
+                cpu: self.cpu,
+                tag: self.noted,
+            })
+        } else {
+            Err(Fault::InSection)
+        }
+    }
+
+    /// The processor is online from now on, and notes the grace-period number (Linux's `rcutree_report_cpu_starting`).
+    ///
+    /// Fault 3: the processor is online.
+    pub fn arrive(&mut self, number: u64) -> Result<(), Fault>
+        ensures ok { OnOk result (IsAccepted (Arrive number) self.old × (self.new ≡ after (Arrive number) self.old)) }
+        ensures online { IfErr result (λ fault. (fault ≡ Fault.AlreadyOnline) × (self.old.online ≡ true)) }
+        ensures err { OnErr result (self.new ≡ self.old) }
+    {
+        if self.online {
+            return Err(Fault::AlreadyOnline);
+        }
+        self.online = true;
+        self.note(number)
+    }
+
+    /// The processor is offline from now on (Linux's `rcutree_report_cpu_dead`).
+    ///
+    /// Faults: 2 where the processor is offline; 4 where a section is open.
+    pub fn depart(&mut self) -> Result<(), Fault>
+        ensures ok { OnOk result (IsAccepted Depart self.old × (self.new ≡ after Depart self.old)) }
+        ensures offline { IfErr result (λ fault. self.old.online ≡ false → fault ≡ Fault.Offline) }
+        ensures in_section { IfErr result (λ fault. self.old.online ≡ true →
+            (fault ≡ Fault.InSection) × (0 < self.old.depth)) }
+        ensures err { OnErr result (self.new ≡ self.old) }
+    {
+        self.check_online()?;
+        if self.depth > 0 {
+            return Err(Fault::InSection);
+        }
+        self.online = false;
+        Ok(())
+    }
+
+    /// Refuses where the processor is offline, by fault 2.
+    fn check_online(&self) -> Result<(), Fault>
+        ensures ok { OnOk result (self.now.online ≡ true) }
+        ensures err { IfErr result (λ fault. (fault ≡ Fault.Offline) × (self.now.online ≡ false)) }
+    {
+        if !self.online {
+            return Err(Fault::Offline);
+        }
+        Ok(())
+    }
+}

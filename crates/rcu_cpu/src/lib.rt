@@ -1,0 +1,7 @@
+//! One processor: its read sections, its noted number and its quiescent states.
+#![tactic(auto)]
+
+pub mod cpu_data;
+pub mod laws;
+#[cfg(test)]
+mod tests;

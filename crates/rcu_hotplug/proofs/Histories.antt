@@ -1,0 +1,147 @@
+-- What histories of calls say of the processors after them.
+use Rattle.std.proofs.Common.{◌≡◌, ◌≢◌, ℕ, ◌<◌, ◌==◌, ◌&&◌, ◌||◌, Bool, true, false, not, if◌then◌else◌, [], ◌∷◌, length, replicate, None, refl, sym, ap, ◌∙◌, arith, inl, inr}
+use Rattle.std.proofs.Math.Bool.{and-true, or-false}
+use Rattle.std.proofs.lemmas.Bool.{cases_lt}
+use Rattle.std.proofs.lemmas.Bool.Decides.{nat_tests}
+use Rattle.std.proofs.lemmas.List.{length-set, length-replicate}
+use Rattle.rcu_seq.specs.Numbers.{Number, same_number}
+use Rattle.rcu_node.specs.CpuSets.{is_in}
+use Rattle.rcu_hotplug.specs.Calls.{Processors, Arrive, Depart, Begin, Report, refusal, at_first, next}
+use Rattle.rcu_hotplug.specs.History.{History, WasAccepted, Says, after, came, is_done, online, starts, tag}
+use Rattle.rcu_hotplug.proofs.Sets.{in_none, is_in-insert, is_in-remove, is_in-remove_where, length-remove_where}
+
+-- an accepted arrival is of a processor that there is
+arrival_below : (p : Processors) (cpu : ℕ) → refusal p (Arrive cpu) ≡ None → cpu < length p.awaited
+arrival_below p cpu e = elim (cases_lt cpu (length p.awaited)) [
+  | inl l ↦ l
+  | inr l ↦ grind (arith, nat_tests, e, l)
+]
+
+-- an accepted departure is not of processor 0
+departure_of_another : (p : Processors) (cpu : ℕ) → refusal p (Depart cpu) ≡ None → cpu ≢ 0
+departure_of_another p cpu e = λ zero. (let x : ⊥ = elim (cases_lt cpu (length p.awaited)) [
+  | inl l ↦ grind (arith, nat_tests, e, l, zero)
+  | inr l ↦ grind (arith, nat_tests, e, l)
+] in x)
+
+-- who arrives has come
+has_come : (boot latest earlier : Bool) → (latest || (boot || earlier)) ≡ (boot || (if latest || false then latest else earlier))
+has_come true true earlier = refl
+has_come true false earlier = refl
+has_come false true earlier = refl
+has_come false false earlier = refl
+
+-- who departs has gone, and processor 0 does not depart
+has_gone : (boot latest earlier : Bool) → (boot ≡ true → latest ≡ false)
+    → ((boot || earlier) && not latest) ≡ (boot || (if false || latest then false else earlier))
+has_gone true latest earlier h = ap not (h refl)
+has_gone false true true h = refl
+has_gone false true false h = refl
+has_gone false false earlier h = and-true earlier
+
+-- not by this call and not by the others
+neither : (there earlier latest : Bool) → ((there && not earlier) && not latest) ≡ (there && not (latest || earlier))
+neither false earlier latest = refl
+neither true true true = refl
+neither true true false = refl
+neither true false latest = ap not (sym (or-false latest))
+
+-- the processors are as a history says, and there is a flag for each
+record IsTold (cpus : ℕ) (p : Processors) (h : History) : Type 0 where
+  awaited : length p.awaited ≡ cpus
+  online : length p.online ≡ cpus
+  says : Says cpus p h
+
+-- at first
+told_at_first : (cpus : ℕ) → IsTold cpus (at_first cpus) []
+told_at_first cpus = record {
+  awaited = length-replicate cpus false;
+  online = length-set (replicate cpus false) 0 true ∙ length-replicate cpus false;
+  says = record {
+    tag = refl;
+    start_set = λ cpu l. in_none cpus cpu;
+    awaited = λ cpu l. in_none cpus cpu;
+    online = λ cpu l.
+        let nobody = in_none cpus cpu in
+        is_in-insert (replicate cpus false) 0 cpu (omega (arith, l, length-replicate cpus false)) ∙ rw nobody (grind (arith, nat_tests));
+  };
+}
+
+-- after an arrival
+told_arrival : (cpus : ℕ) (p : Processors) (h : History) (other : ℕ) → refusal p (Arrive other) ≡ None → IsTold cpus p h
+    → IsTold cpus (next p (Arrive other)) (Arrive other ∷ h)
+told_arrival cpus p h other accepted told = record {
+  awaited = told.awaited;
+  online = length-set p.online other true ∙ told.online;
+  says = record {
+    tag = told.says.tag;
+    start_set = told.says.start_set;
+    awaited = told.says.awaited;
+    online = λ cpu l.
+        is_in-insert p.online other cpu (omega (arith, arrival_below p other accepted, told.awaited, told.online))
+        ∙ ap (λ b. other == cpu || b) (told.says.online cpu l) ∙ has_come (cpu == 0) (other == cpu) (came cpu h);
+  };
+}
+
+-- after a departure
+told_departure : (cpus : ℕ) (p : Processors) (h : History) (other : ℕ) → refusal p (Depart other) ≡ None → IsTold cpus p h
+    → IsTold cpus (next p (Depart other)) (Depart other ∷ h)
+told_departure cpus p h other accepted told = record {
+  awaited = length-set p.awaited other false ∙ told.awaited;
+  online = length-set p.online other false ∙ told.online;
+  says = record {
+    tag = told.says.tag;
+    start_set = told.says.start_set;
+    awaited = λ cpu l.
+        is_in-remove p.awaited other cpu ∙ ap (λ b. b && not (other == cpu)) (told.says.awaited cpu l)
+        ∙ neither (starts cpu h) (is_done cpu (tag h) h) (other == cpu);
+    online = λ cpu l.
+        let another = departure_of_another p other accepted in
+        is_in-remove p.online other cpu ∙ ap (λ b. b && not (other == cpu)) (told.says.online cpu l)
+        ∙ has_gone (cpu == 0) (other == cpu) (came cpu h) (λ boot. grind (arith, nat_tests, another, boot));
+  };
+}
+
+-- after a begin
+told_begin : (cpus : ℕ) (p : Processors) (h : History) (number : Number) → IsTold cpus p h → IsTold cpus (next p (Begin number)) (Begin number ∷ h)
+told_begin cpus p h number told = record {
+  awaited = told.online;
+  online = told.online;
+  says = record {
+    tag = refl;
+    start_set = told.says.online;
+    awaited = λ cpu l. told.says.online cpu l ∙ sym (and-true (online cpu h));
+    online = told.says.online;
+  };
+}
+
+-- after a report
+told_report : (cpus : ℕ) (p : Processors) (h : History) (other : ℕ) (number : Number) → IsTold cpus p h
+    → IsTold cpus (next p (Report other number)) (Report other number ∷ h)
+told_report cpus p h other number told = record {
+  awaited = length-remove_where (same_number number p.tag) p.awaited other ∙ told.awaited;
+  online = told.online;
+  says = record {
+    tag = told.says.tag;
+    start_set = told.says.start_set;
+    awaited = λ cpu l.
+        is_in-remove_where (same_number number p.tag) p.awaited other cpu
+        ∙ ap (λ (n : Number). is_in p.awaited cpu && not (other == cpu && same_number number n)) told.says.tag
+        ∙ ap (λ b. b && not (other == cpu && same_number number (tag h))) (told.says.awaited cpu l)
+        ∙ neither (starts cpu h) (is_done cpu (tag h) h) (other == cpu && same_number number (tag h))
+        ∙ ap (λ b. starts cpu h && not (b || is_done cpu (tag h) h)) (sym (or-false (other == cpu && same_number number (tag h))));
+    online = told.says.online;
+  };
+}
+
+-- after any accepted calls
+told_always : (cpus : ℕ) (h : History) → WasAccepted cpus h → IsTold cpus (after cpus h) h
+told_always cpus [] accepted = told_at_first cpus
+told_always cpus (Arrive other ∷ h) accepted = told_arrival cpus (after cpus h) h other accepted.0 (told_always cpus h accepted.1)
+told_always cpus (Depart other ∷ h) accepted = told_departure cpus (after cpus h) h other accepted.0 (told_always cpus h accepted.1)
+told_always cpus (Begin number ∷ h) accepted = told_begin cpus (after cpus h) h number (told_always cpus h accepted.1)
+told_always cpus (Report other number ∷ h) accepted = told_report cpus (after cpus h) h other number (told_always cpus h accepted.1)
+
+-- the processors after accepted calls are as their history says
+pub told : (cpus : ℕ) (h : History) → WasAccepted cpus h → Says cpus (after cpus h) h
+told cpus h accepted = (told_always cpus h accepted).says

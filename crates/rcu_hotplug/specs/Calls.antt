@@ -1,0 +1,64 @@
+-- Processors that come and go: what each call of an awaited set leaves, and when it is refused.
+use Rattle.std.specs.Prelude.{ℕ, ◌≡◌, ◌==◌, Bool, true, false, not, nat_lt, if◌then◌else◌, List, length, slice_set, replicate, Option, Some, None}
+use Rattle.rcu_seq.specs.Numbers.{Number}
+use Rattle.rcu_seq.specs.declared.fault.Fault.{Fault}
+use Rattle.rcu_seq.specs.declared.fault.Fault.TheVariants.{BadCpu, Offline, AlreadyOnline, BootStays}
+use Rattle.rcu_node.specs.CpuSets.{is_in}
+use Rattle.rcu_node.specs.Reports.{without}
+
+-- the latest grace period's number, the processors that it awaited at its start, those that it awaits now, and those
+-- that are online
+pub record Processors : Type 0 where
+  pub tag : Number
+  pub start_set : List Bool
+  pub awaited : List Bool
+  pub online : List Bool
+
+-- a call: a processor arrives or departs, a grace period of a number begins, a processor reports a number
+pub data Call : Type 0 where
+  Arrive : ℕ → Call
+  Depart : ℕ → Call
+  Begin : Number → Call
+  Report : ℕ → Number → Call
+
+-- before any call processor 0 is online, and no processor is awaited
+abbrev pub at_first : ℕ → Processors
+at_first cpus = record {
+  tag = 0;
+  start_set = replicate cpus false;
+  awaited = replicate cpus false;
+  online = slice_set (replicate cpus false) 0 true;
+}
+
+-- how many processors there are
+abbrev pub cpus_of : Processors → ℕ
+cpus_of p = length p.awaited
+
+-- why a call is refused, if it is: the first cause that applies
+abbrev pub refusal : Processors → Call → Option Fault
+refusal p (Arrive cpu) =
+    if not (nat_lt cpu (cpus_of p)) then Some BadCpu
+    else (if is_in p.online cpu then Some AlreadyOnline else None)
+refusal p (Depart cpu) =
+    if not (nat_lt cpu (cpus_of p)) then Some BadCpu
+    else (if cpu == 0 then Some BootStays
+    else (if not (is_in p.online cpu) then Some Offline else None))
+refusal p (Begin number) = None
+refusal p (Report cpu number) = None
+
+-- what an accepted call leaves: who arrives is online, who departs is neither online nor awaited, a beginning grace
+-- period awaits the online processors, and a report clears as reports do
+abbrev pub next : Processors → Call → Processors
+next p (Arrive cpu) = record p { online = slice_set p.online cpu true }
+next p (Depart cpu) = record p { online = slice_set p.online cpu false; awaited = slice_set p.awaited cpu false }
+next p (Begin number) = record p { tag = number; start_set = p.online; awaited = p.online }
+next p (Report cpu number) = record p { awaited = without p.tag p.awaited cpu number }
+
+-- what always holds: there is a flag for each processor, processor 0 is online, and only online processors of the
+-- start set are awaited
+pub record AreKept (p : Processors) : Type 0 where
+  pub started : length p.start_set ≡ cpus_of p
+  pub sized : length p.online ≡ cpus_of p
+  pub boot : is_in p.online 0 ≡ true
+  pub within : (cpu : ℕ) → is_in p.awaited cpu ≡ true → is_in p.start_set cpu ≡ true
+  pub present : (cpu : ℕ) → is_in p.awaited cpu ≡ true → is_in p.online cpu ≡ true

@@ -1,0 +1,138 @@
+//! An awaited set with processors that come and go.
+ghost use Rattle.std.specs.Prelude.{◌≡◌, ◌<◌, ℕ, true, false, Some, None, length, replicate, IfErr, IfOk, OnOk};
+ghost use Rattle.rcu_seq.specs.Numbers.{is_running};
+ghost use Rattle.rcu_node.specs.CpuSets.{is_in};
+ghost use Rattle.rcu_node.specs.Reports.{answer_to};
+ghost use Rattle.rcu_hotplug.specs.Calls.{Arrive, Begin, Depart, Report, AreKept, at_first, cpus_of, next, refusal};
+
+use rcu_node::answer::Answer;
+use rcu_node::awaited::Awaited;
+use rcu_node::cpu_set::CpuSet;
+use rcu_seq::fault::Fault;
+use std::alloc::Global;
+use std::marker::Model;
+
+/// An awaited set, and the processors that are online (Linux's `qsmaskinitnext`).
+///
+/// Contracts see the awaited set's tag, start set and awaited set, and the online set. A beginning grace period awaits
+/// the online processors. One that arrives is awaited from the next begin on; one that departs is awaited no more.
+/// Processor 0 is always online. No call but `new` needs memory; each costs what one call of the awaited set costs.
+#[derive(Drop)]
+pub struct Hotplug<A: Awaited> {
+    online: CpuSet,
+    inner: A,
+}
+
+impl<A: Awaited> Model for Hotplug<A> {
+    ghost use Rattle.std.specs.Prelude.{◌≡◌, true, ℕ, length};
+    ghost use Rattle.rcu_node.specs.CpuSets.{is_in};
+    ghost use Rattle.rcu_hotplug.specs.Calls.{Processors};
+
+    ghost Value = { Processors };
+
+    ghost view = { λ h. record {
+      tag = A.tag h.inner;
+      start_set = A.start_set h.inner;
+      awaited = A.awaited h.inner;
+      online = h.online;
+    } };
+
+    ghost invariant = { λ h. record {
+      sized : length h.online ≡ length (A.awaited h.inner);
+      boot : is_in h.online 0 ≡ true;
+      present : (cpu : ℕ) → is_in (A.awaited h.inner) cpu ≡ true → is_in h.online cpu ≡ true;
+    } };
+}
+
+impl<A: Awaited> Hotplug<A> {
+    /// Processor 0 is online, and nobody is awaited. The awaited set is as it was made.
+    ///
+    /// Fault: 16.
+    pub fn new(alloc: Global, inner: A) -> Result<Self, Fault>
+        requires tag { A.tag inner ≡ 0 }
+        requires empty { A.start_set inner ≡ replicate (length (A.awaited inner)) false }
+        ensures ok { IfOk result (λ made. made ≡ at_first (length (A.awaited inner))) }
+        ensures err { IfErr result (λ fault. fault ≡ Fault.NoMemory) }
+    {
+        let mut online = CpuSet::new(alloc, inner.cpus())?;
+        online.insert(0);
+        Ok(Hotplug { online, inner })
+    }
+
+    /// A processor arrives (Linux's `rcutree_report_cpu_starting`).
+    ///
+    /// Faults: 1, 3.
+    pub fn arrive(&mut self, cpu: u32) -> Result<(), Fault>
+        ensures ok { OnOk result (self.new ≡ next self.old (Arrive cpu)) }
+        ensures accepted { OnOk result (refusal self.old (Arrive cpu) ≡ None) }
+        ensures err { IfErr result (λ fault. refusal self.old (Arrive cpu) ≡ Some fault) }
+        ensures refused { IfErr result (λ _. self.new ≡ self.old) }
+    {
+        if cpu >= self.inner.cpus() {
+            return Err(Fault::BadCpu);
+        }
+        if !self.online.insert(cpu) {
+            return Err(Fault::AlreadyOnline);
+        }
+        Ok(())
+    }
+
+    /// A processor departs, and is awaited no more (Linux's `rcutree_report_cpu_dead`).
+    ///
+    /// Faults: 1; 12 for processor 0; 2.
+    pub fn depart(&mut self, cpu: u32) -> Result<(), Fault>
+        ensures ok { OnOk result (self.new ≡ next self.old (Depart cpu)) }
+        ensures accepted { OnOk result (refusal self.old (Depart cpu) ≡ None) }
+        ensures err { IfErr result (λ fault. refusal self.old (Depart cpu) ≡ Some fault) }
+        ensures refused { IfErr result (λ _. self.new ≡ self.old) }
+    {
+        if cpu >= self.inner.cpus() {
+            return Err(Fault::BadCpu);
+        }
+        if cpu == 0 {
+            return Err(Fault::BootStays);
+        }
+        if !self.online.remove(cpu) {
+            return Err(Fault::Offline);
+        }
+        let number = self.inner.tag();
+        self.inner.report(cpu, number);
+        Ok(())
+    }
+
+    /// A grace period of this number begins, and awaits the online processors. The number is `4k + 1`.
+    pub fn begin(&mut self, tag: u64)
+        requires { is_running tag ≡ true }
+        ensures { self.new ≡ next self.old (Begin tag) }
+    {
+        self.inner.begin(tag, &self.online);
+    }
+
+    /// A processor reports a quiescent state with the number that it had noted, as [`Awaited::report`].
+    pub fn report(&mut self, cpu: u32, tag: u64) -> Answer
+        requires { cpu < cpus_of self.old }
+        ensures answer { result ≡ answer_to self.old.tag self.old.awaited cpu tag }
+        ensures state { self.new ≡ next self.old (Report cpu tag) }
+    {
+        self.inner.report(cpu, tag)
+    }
+
+    /// Whether the processor is online.
+    pub fn online(&self, cpu: u32) -> bool
+        requires { cpu < cpus_of self.now }
+        ensures value { result ≡ is_in self.now.online cpu }
+        ensures kept { AreKept self.now }
+    {
+        self.online.contains(cpu)
+    }
+
+    /// The awaited set.
+    pub fn awaited(&self) -> &A
+        ensures tag { A.tag result.now ≡ self.now.tag }
+        ensures start_set { A.start_set result.now ≡ self.now.start_set }
+        ensures awaited { A.awaited result.now ≡ self.now.awaited }
+        ensures kept { AreKept self.now }
+    {
+        &self.inner
+    }
+}

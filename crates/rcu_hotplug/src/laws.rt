@@ -1,0 +1,17 @@
+//! What the definitions say of processors that come and go.
+ghost use Rattle.std.specs.Prelude.{◌≡◌, ◌∷◌, ℕ};
+ghost use Rattle.rcu_seq.specs.Numbers.{Number};
+ghost use Rattle.rcu_hotplug.specs.Calls.{Arrive, Begin};
+ghost use Rattle.rcu_hotplug.specs.History.{History, WasAccepted, Says, after, awaits, online};
+
+/// After any accepted calls the processors are as the history of the calls says.
+pub fn calls_leave_what_their_history_says()
+    ensures { (cpus : ℕ) (h : History) → WasAccepted cpus h → Says cpus (after cpus h) h }
+{}
+
+/// An arrival changes nobody's being awaited; from the next begin on, just the online processors are awaited, until
+/// one reports or departs.
+pub fn arrivals_are_awaited_from_the_next_begin()
+    ensures arrival { (cpu other : ℕ) (h : History) → awaits cpu (Arrive other ∷ h) ≡ awaits cpu h }
+    ensures begin { (cpu : ℕ) (number : Number) (h : History) → awaits cpu (Begin number ∷ h) ≡ online cpu h }
+{}

@@ -1,0 +1,7 @@
+//! Processors that come and go.
+#![tactic(auto)]
+
+pub mod hotplug;
+pub mod laws;
+#[cfg(test)]
+mod tests;

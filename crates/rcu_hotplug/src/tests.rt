@@ -1,0 +1,167 @@
+//! Each public call over each kind of awaited set.
+ghost use Rattle.std.specs.Prelude.{◌≡◌, false, replicate};
+
+use crate::hotplug::Hotplug;
+use rcu_node::answer::Answer;
+use rcu_node::awaited::Awaited;
+use rcu_node::flat::Flat;
+use rcu_node::tree::Tree;
+use rcu_seq::fault::Fault;
+use std::alloc::Global;
+use std::io::Print;
+use std::process::Abort;
+
+/// Compares the fault of a making whose growth was refused, and says so for who counts the growths.
+fn refused<R: Abort + Print>(rt: &R, fault: Fault) {
+    assert_eq!(rt; fault, Fault::NoMemory);
+    let _ = println!(rt; "a growth was refused");
+}
+
+/// A flat set of five processors, made by a second call where the first is refused a growth.
+fn flat<R: Abort + Print>(rt: &R, alloc: Global) -> Flat
+    ensures tag { ⟦<Flat as Awaited>⟧.tag result ≡ 0 }
+    ensures start_set { ⟦<Flat as Awaited>⟧.start_set result ≡ replicate 5 false }
+    ensures awaited { ⟦<Flat as Awaited>⟧.awaited result ≡ replicate 5 false }
+{
+    match Flat::new(alloc, 5) {
+        Ok(flat) => flat,
+        Err(fault) => {
+            refused(rt, fault);
+            Flat::new(alloc, 5).expect(rt, "the second call has memory")
+        }
+    }
+}
+
+/// A tree of five processors, made by a second call where the first is refused a growth.
+fn tree<R: Abort + Print>(rt: &R, alloc: Global) -> Tree<2, 2>
+    ensures tag { ⟦<Tree<2, 2> as Awaited>⟧.tag result ≡ 0 }
+    ensures start_set { ⟦<Tree<2, 2> as Awaited>⟧.start_set result ≡ replicate 5 false }
+    ensures awaited { ⟦<Tree<2, 2> as Awaited>⟧.awaited result ≡ replicate 5 false }
+{
+    match Tree::new(alloc, 5) {
+        Ok(tree) => tree,
+        Err(fault) => {
+            refused(rt, fault);
+            Tree::new(alloc, 5).expect(rt, "the second call has memory")
+        }
+    }
+}
+
+/// The processors over a flat set, made by a second call where the first is refused a growth.
+fn over_flat<R: Abort + Print>(rt: &R, alloc: Global) -> Hotplug<Flat> {
+    match Hotplug::new(alloc, flat(rt, alloc)) {
+        Ok(hotplug) => hotplug,
+        Err(fault) => {
+            refused(rt, fault);
+            Hotplug::new(alloc, flat(rt, alloc)).expect(rt, "the second call has memory")
+        }
+    }
+}
+
+/// The processors over a tree, made by a second call where the first is refused a growth.
+fn over_tree<R: Abort + Print>(rt: &R, alloc: Global) -> Hotplug<Tree<2, 2>> {
+    match Hotplug::new(alloc, tree(rt, alloc)) {
+        Ok(hotplug) => hotplug,
+        Err(fault) => {
+            refused(rt, fault);
+            Hotplug::new(alloc, tree(rt, alloc)).expect(rt, "the second call has memory")
+        }
+    }
+}
+
+/// Compares which processors are awaited, ascending, and that each of them is online.
+fn awaits<A: Awaited>(rt: &impl Abort, hotplug: &Hotplug<A>, wanted: &[u32]) {
+    let awaited = hotplug.awaited();
+    for cpu in 0..awaited.cpus() {
+        let awaits = awaited.awaits(cpu);
+        assert_eq!(rt; awaits, wanted.contains(&cpu), "processor {cpu}");
+        assert!(rt; !awaits || hotplug.online(cpu), "processor {cpu}");
+    }
+    assert_eq!(rt; awaited.count() as usize, wanted.len());
+}
+
+/// Begins a grace period, and compares which processors it awaits.
+fn begin<A: Awaited>(rt: &impl Abort, hotplug: &mut Hotplug<A>, tag: u64, wanted: &[u32]) {
+    assert!(rt; tag % 4 == 1);
+    hotplug.begin(tag);
+    assert_eq!(rt; hotplug.awaited().tag(), tag);
+    awaits(rt, hotplug, wanted);
+}
+
+/// Makes reports, each of a processor and a number, and compares the answers.
+fn report<A: Awaited>(rt: &impl Abort, hotplug: &mut Hotplug<A>, reports: &[(u32, u64, Answer)]) {
+    for (cpu, tag, wanted) in reports {
+        assert!(rt; *cpu < hotplug.awaited().cpus());
+        let answer = hotplug.report(*cpu, *tag);
+        assert_eq!(rt; answer, *wanted, "processor {cpu}, number {tag}");
+    }
+}
+
+/// A processor that arrives while a grace period runs is awaited by the next one.
+fn late_arrival<A: Awaited>(rt: &impl Abort, hotplug: &mut Hotplug<A>) {
+    begin(rt, hotplug, 1, &[0]);
+    assert_eq!(rt; hotplug.arrive(1), Ok(()));
+    awaits(rt, hotplug, &[0]);
+    report(
+        rt,
+        hotplug,
+        &[
+            (1, 1, Answer::Repeat),
+            (0, 5, Answer::Stale),
+            (0, 1, Answer::Last),
+        ],
+    );
+    begin(rt, hotplug, 5, &[0, 1]);
+}
+
+/// A processor that departs is awaited no more; one that came back is awaited by the next grace period.
+fn departed_and_back<A: Awaited>(rt: &impl Abort, hotplug: &mut Hotplug<A>) {
+    assert_eq!(rt; hotplug.arrive(4), Ok(()));
+    begin(rt, hotplug, 9, &[0, 1, 4]);
+    assert_eq!(rt; hotplug.depart(4), Ok(()));
+    awaits(rt, hotplug, &[0, 1]);
+    assert_eq!(rt; hotplug.arrive(4), Ok(()));
+    awaits(rt, hotplug, &[0, 1]);
+    report(
+        rt,
+        hotplug,
+        &[
+            (4, 9, Answer::Repeat),
+            (1, 9, Answer::Taken),
+            (1, 9, Answer::Repeat),
+        ],
+    );
+    assert_eq!(rt; hotplug.depart(1), Ok(()));
+    awaits(rt, hotplug, &[0]);
+    begin(rt, hotplug, 13, &[0, 4]);
+}
+
+/// Each fault, the first cause first; a refused call changes nothing.
+fn faults<A: Awaited>(rt: &impl Abort, hotplug: &mut Hotplug<A>) {
+    assert_eq!(rt; hotplug.arrive(5), Err(Fault::BadCpu));
+    assert_eq!(rt; hotplug.arrive(0), Err(Fault::AlreadyOnline));
+    assert_eq!(rt; hotplug.arrive(4), Err(Fault::AlreadyOnline));
+    assert_eq!(rt; hotplug.depart(5), Err(Fault::BadCpu));
+    assert_eq!(rt; hotplug.depart(0), Err(Fault::BootStays));
+    assert_eq!(rt; hotplug.depart(3), Err(Fault::Offline));
+    awaits(rt, hotplug, &[0, 4]);
+}
+
+/// Four grace periods of five processors.
+fn come_and_go<A: Awaited>(rt: &impl Abort, mut hotplug: Hotplug<A>) {
+    assert_eq!(rt; hotplug.awaited().tag(), 0);
+    awaits(rt, &hotplug, &[]);
+    late_arrival(rt, &mut hotplug);
+    departed_and_back(rt, &mut hotplug);
+    faults(rt, &mut hotplug);
+}
+
+#[test]
+fn come_and_go_over_flat(rt: HostRuntime) {
+    come_and_go(&rt, over_flat(&rt, rt.alloc()));
+}
+
+#[test]
+fn come_and_go_over_tree(rt: HostRuntime) {
+    come_and_go(&rt, over_tree(&rt, rt.alloc()));
+}
