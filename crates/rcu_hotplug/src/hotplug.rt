@@ -19,7 +19,9 @@ use std::marker::Model;
 /// Processor 0 is always online. No call but `new` needs memory; each costs what one call of the awaited set costs.
 #[derive(Drop)]
 pub struct Hotplug<A: Awaited> {
+    /// The processors that are online.
     online: CpuSet,
+    /// The processors that the latest grace period awaits.
     inner: A,
 }
 

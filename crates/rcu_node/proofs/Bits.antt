@@ -1,9 +1,9 @@
 -- One bit of a word: what a test tells, and what a write makes.
-use Rattle.std.proofs.Common.{◌≡◌, ◌≢◌, ℕ, ◌*◌, ◌/◌, ◌%◌, ◌^◌, ◌<◌, ◌≤◌, ◌==◌, refl, sym, ◌∙◌, arith, inl, inr, true, false, bit_and, bit_or}
+use Rattle.std.proofs.Common.{◌≡◌, ◌≢◌, ℕ, ◌*◌, ◌/◌, ◌%◌, ◌^◌, ◌<◌, ◌≤◌, ◌==◌, ◌||◌, refl, sym, ◌∙◌, arith, inl, inr, true, false, bit_and, bit_or}
 use Rattle.std.specs.Int.{bit_at, bit_not, w64}
 use Rattle.std.proofs.lemmas.Bool.{cases_lt}
 use Rattle.std.proofs.lemmas.Bool.Decides.{nat_tests}
-use Rattle.std.proofs.lemmas.Nat.Bits.{shr_and_one, bit_at_set_same, bit_at_set_other, bit_at_clear_same, bit_at_clear_other, bit_at-zero, bit_at-lt, bit_at_and, same_from_bits}
+use Rattle.std.proofs.lemmas.Nat.Bits.{shr_and_one, bit_at_set_same, bit_at_set_other, bit_at_clear_same, bit_at_clear_other, bit_at-zero, bit_at-lt, bit_at_and, bit_at_or, same_from_bits}
 use Rattle.rcu_node.specs.Words.{has_bit}
 
 -- the test of a bit by a shift
@@ -56,3 +56,11 @@ has_bit_clear_rest word k i l n beyond = elim (cases_lt i 64) [
 -- a word without a bit is zero
 pub no_bits : (word : ℕ) → ((i : ℕ) → has_bit word i ≡ false) → word ≡ 0
 no_bits word h = same_from_bits word 0 (λ i. no_bit word i (h i) ∙ sym (bit_at-zero i))
+
+-- a bit of two words together is one of either
+pub has_bit_or : (a b i : ℕ) → has_bit (bit_or a b) i ≡ (has_bit a i || has_bit b i)
+unfolding has_bit
+has_bit_or a b i =
+    let first = bit_at-lt a i in
+    let second = bit_at-lt b i in
+    rw (bit_at_or a b i) (grind (arith, nat_tests, first, second))

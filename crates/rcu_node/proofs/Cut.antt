@@ -1,11 +1,11 @@
 -- Bits that are read across two words.
-use Rattle.std.proofs.Common.{◌≡◌, ℕ, ◌+◌, ◌-◌, ◌*◌, ◌/◌, ◌%◌, ◌^◌, ◌<◌, ◌≤◌, ◌==◌, ◌&&◌, if◌then◌else◌, Bool, nat_lt, min, List, length, slice_index, bit_and, sym, ap, ◌∙◌, arith, inl, inr}
+use Rattle.std.proofs.Common.{◌≡◌, ℕ, ◌+◌, ◌-◌, ◌*◌, ◌/◌, ◌%◌, ◌^◌, ◌<◌, ◌≤◌, ◌==◌, ◌&&◌, if◌then◌else◌, Bool, nat_lt, List, length, slice_index, bit_and, sym, ap, ◌∙◌, arith, inl, inr}
 use Rattle.std.proofs.lemmas.Bool.{cases_lt}
 use Rattle.std.proofs.lemmas.Bool.Decides.{nat_tests}
 use Rattle.std.proofs.lemmas.Nat.{shr-shr}
 use Rattle.std.proofs.lemmas.Nat.Bits.{bit_at-lt, bit_at_and, bit_at_ones, bit_at_ones_above, bit_at_cat_low, bit_at_cat_high}
 use Rattle.rcu_node.specs.CpuSets.{is_in}
-use Rattle.rcu_node.specs.Words.{has_bit, flags_in}
+use Rattle.rcu_node.specs.Words.{has_bit, flags_in, HasNoneFrom}
 use Rattle.rcu_node.proofs.Flags.{is_in-listed, length-listed, is_in-beyond}
 use Rattle.rcu_node.proofs.Words.{flag_in}
 
@@ -45,14 +45,16 @@ flag_in-next words from bit word next b e f = elim (cases_lt (from % 64 + bit) 6
 ]
 
 -- the flags of a set from a processor on
-pub bits_from-is : (cpus : ℕ) (words : List ℕ) (set : List Bool) (from width here bit word next : ℕ) → flags_in cpus words ≡ set → from < cpus → width ≤ 64 → here ≡ min width (cpus - from)
+pub bits_from-is : (cpus : ℕ) (words : List ℕ) (set : List Bool) (from width bit word next : ℕ) → flags_in cpus words ≡ set → HasNoneFrom cpus words → width ≤ 64
     → word ≡ slice_index words (from / 64) → next ≡ slice_index words (from / 64 + 1)
-    → (nat_lt bit here && (if nat_lt (from % 64 + bit) 64 then has_bit word (from % 64 + bit) else has_bit next (from % 64 + bit - 64))) ≡ (nat_lt bit width && is_in set (from + bit))
-bits_from-is cpus words set from width here bit word next e l k h f g = elim (cases_lt bit here) [
-  | inl b ↦ (let flag = flag_in-next words from bit word next (omega arith) f g ∙ sym (is_in-listed cpus (flag_in words) (from + bit) (omega arith)) ∙ ap (λ s. is_in s (from + bit)) e in
-      let within : bit < width = omega arith in rw flag (grind (arith, nat_tests, b, within)))
-  | inr b ↦ elim (cases_lt bit width) [
-    | inl m ↦ (let size = ap (λ (s : List Bool). length s) e in let n = length-listed cpus (flag_in words) in let beyond = is_in-beyond set (from + bit) (omega arith) in rw beyond (grind (arith, nat_tests, b)))
-    | inr m ↦ grind (arith, nat_tests, b, m)
-  ]
+    → (nat_lt bit width && (if nat_lt (from % 64 + bit) 64 then has_bit word (from % 64 + bit) else has_bit next (from % 64 + bit - 64))) ≡ (nat_lt bit width && is_in set (from + bit))
+bits_from-is cpus words set from width bit word next e none k f g = elim (cases_lt bit width) [
+  | inl b ↦ ap (λ flag. nat_lt bit width && flag) (flag_in-next words from bit word next (omega (arith, b, k)) f g ∙ flag_in-set cpus words set (from + bit) e none)
+  | inr b ↦ grind (arith, nat_tests, b)
 ]
+  where
+    flag_in-set : (cpus : ℕ) (words : List ℕ) (set : List Bool) (cpu : ℕ) → flags_in cpus words ≡ set → HasNoneFrom cpus words → flag_in words cpu ≡ is_in set cpu
+    flag_in-set cpus words set cpu e none = elim (cases_lt cpu cpus) [
+      | inl l ↦ sym (is_in-listed cpus (flag_in words) cpu l) ∙ ap (λ (s : List Bool). is_in s cpu) e
+      | inr l ↦ none cpu l ∙ sym (is_in-beyond set cpu (omega (arith, l, ap (λ (s : List Bool). length s) e, length-listed cpus (flag_in words))))
+    ]

@@ -3,5 +3,7 @@ pub mod Cut
 pub mod Fill
 pub mod Flags
 pub mod Masks
+pub mod Ones
 pub mod Reports
+pub mod Union
 pub mod Words

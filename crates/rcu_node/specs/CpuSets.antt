@@ -1,5 +1,5 @@
 -- Sets of processors, as lists of flags: the processor c is in the set where the flag at place c is true.
-use Rattle.std.specs.Prelude.{ℕ, Bool, false, List, map, count_by, slice_index_or}
+use Rattle.std.specs.Prelude.{ℕ, Bool, false, ◌||◌, List, length, map, count_by, slice_index_or}
 use Rattle.std.specs.List.{range_with_len}
 
 -- the processor is in the set
@@ -13,3 +13,7 @@ size_of set = count_by (λ flag. flag) set
 -- the processors below n that pass a test
 unfoldable pub listed : ℕ → (ℕ → Bool) → List Bool
 listed n test = map test (range_with_len 0 n)
+
+-- the processors in one of two sets or in both
+abbrev pub union : List Bool → List Bool → List Bool
+union a b = listed (length a) (λ cpu. is_in a cpu || is_in b cpu)

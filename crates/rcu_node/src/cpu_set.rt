@@ -1,7 +1,7 @@
 //! Sets of processors.
-ghost use Rattle.std.specs.Prelude.{◌≡◌, ◌<◌, ◌≤◌, ◌+◌, ◌-◌, ◌&&◌, ◌⊎◌, ℕ, if◌then◌else◌, nat_lt, true, false, not, length, slice_set, replicate, IfOk, IfErr};
-ghost use Rattle.rcu_node.specs.CpuSets.{is_in, size_of};
-ghost use Rattle.rcu_node.specs.Words.{has_bit};
+ghost use Rattle.std.specs.Prelude.{◌≡◌, ◌<◌, ◌≤◌, ◌+◌, ◌-◌, ◌*◌, ◌&&◌, ◌⊎◌, ℕ, if◌then◌else◌, nat_lt, true, false, not, length, slice_index, slice_set, bit_or, replicate, IfOk, IfErr};
+ghost use Rattle.rcu_node.specs.CpuSets.{is_in, size_of, union};
+ghost use Rattle.rcu_node.specs.Words.{flags_in, has_bit};
 
 use rcu_seq::fault::Fault;
 use std::alloc::Global;
@@ -16,7 +16,7 @@ const WORD_BITS: u32 = 64;
 /// A set of processors below a fixed number, 1 to 4,096. Contracts see a flag for each processor.
 ///
 /// A bit for each processor in words of 64 (Linux's `cpumask`), and their count beside them: each call but `new`,
-/// `clear` and `copy_from` costs one step.
+/// `insert_all`, `clear` and `copy_from` costs one step.
 #[derive(Drop)]
 pub struct CpuSet {
     /// How many processors the set was made for.
@@ -30,7 +30,7 @@ pub struct CpuSet {
 impl Model for CpuSet {
     ghost use Rattle.std.specs.Prelude.{◌≡◌, ◌+◌, ◌*◌, ◌<◌, ◌≤◌, List, Bool, length};
     ghost use Rattle.rcu_node.specs.CpuSets.{size_of};
-    ghost use Rattle.rcu_node.specs.Words.{flags_in};
+    ghost use Rattle.rcu_node.specs.Words.{flags_in, HasNoneFrom};
 
     ghost Value = { List Bool };
 
@@ -41,6 +41,7 @@ impl Model for CpuSet {
       few : s.cpus ≤ 4096;
       enough : s.cpus ≤ 64 * length s.words.items;
       no_more : 64 * length s.words.items < s.cpus + 64;
+      none_beyond : HasNoneFrom s.cpus s.words.items;
       counted : s.count ≡ size_of (flags_in s.cpus s.words.items);
     } };
 }
@@ -94,7 +95,7 @@ impl CpuSet {
         let place = (from / WORD_BITS) as usize;
         let word = self.words[place];
         let next = self.words.get(place + 1).copied().unwrap_or(0);
-        cut(word, next, from % WORD_BITS, width.min(self.cpus - from))
+        cut(word, next, from % WORD_BITS, width)
     }
 
     /// Puts the processor into the set, and answers whether it is new.
@@ -109,6 +110,15 @@ impl CpuSet {
         self.words[(cpu / WORD_BITS) as usize] |= 1 << (cpu % WORD_BITS);
         self.count += 1;
         true
+    }
+
+    /// Puts each processor of another set of as many processors into the set.
+    pub fn insert_all(&mut self, other: &CpuSet)
+        requires { length self.old ≡ length other.now }
+        ensures { self.new ≡ union self.old other.now }
+    {
+        merge(&mut self.words, &other.words);
+        self.count = count_ones(&self.words);
     }
 
     /// Takes the processor out of the set, and answers whether it was there.
@@ -158,4 +168,22 @@ fn cut(word: u64, next: u64, place: u32, width: u32) -> u64
 {
     let both = (u128::from(next) << WORD_BITS) + u128::from(word);
     ((both >> place) & ((1 << width) - 1)) as u64
+}
+
+/// Sets the bits of other words in the words of the same places.
+fn merge(words: &mut [u64], others: &[u64])
+    requires { length words.old ≡ length others.now }
+    ensures { (place : ℕ) → place < length words.old → slice_index words.new place ≡ bit_or (slice_index words.old place) (slice_index others.now place) }
+{
+    for (place, word) in words.iter_mut().enumerate() {
+        *word |= others[place];
+    }
+}
+
+/// How many bits are set in up to 64 words.
+fn count_ones(words: &[u64]) -> u32
+    requires { length words.now ≤ 64 }
+    ensures { result ≡ size_of (flags_in (64 * length words.now) words.now) }
+{
+    words.iter().map(|word| word.count_ones()).sum()
 }

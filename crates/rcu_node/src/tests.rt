@@ -232,6 +232,30 @@ fn set_of_three_words(rt: HostRuntime) {
 }
 
 #[test]
+fn union_of_three_words(rt: HostRuntime) {
+    let mut set = empty_set(&rt, rt.alloc(), 130);
+    insert(&rt, &mut set, &[(0, true), (63, true), (129, true)]);
+    let mut other = empty_set(&rt, rt.alloc(), 130);
+    insert(&rt, &mut other, &[(0, true), (64, true), (128, true)]);
+    assert!(rt; set.cpus() == other.cpus());
+    set.insert_all(&other);
+    contains(
+        &rt,
+        &set,
+        &[
+            (0, true),
+            (1, false),
+            (63, true),
+            (64, true),
+            (128, true),
+            (129, true),
+        ],
+    );
+    assert_eq!(rt; set.count(), 5);
+    assert_eq!(rt; other.count(), 3);
+}
+
+#[test]
 fn sizes(rt: HostRuntime) {
     for cpus in [0, 4097] {
         assert!(rt; matches!(CpuSet::new(rt.alloc(), cpus), Err(Fault::TooManyCpus)));

@@ -1,4 +1,8 @@
 //! Reports of quiescent states.
 #![tactic(auto)]
 
+pub mod batch;
+pub mod laws;
 pub mod report;
+#[cfg(test)]
+mod tests;

@@ -1,2 +1,3 @@
+pub mod Cookies
 pub mod FaultNumber
 pub mod Numbers

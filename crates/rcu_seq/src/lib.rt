@@ -1,7 +1,9 @@
-//! Grace-period numbers, and why a call is refused.
+//! Grace-period numbers, cookies, and why a call is refused.
 #![tactic(auto)]
 
+pub mod cookie;
 pub mod fault;
+pub mod laws;
 pub mod seq;
 #[cfg(test)]
 mod tests;

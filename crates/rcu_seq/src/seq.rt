@@ -1,12 +1,23 @@
 //! The counter of grace periods.
 ghost use Rattle.std.specs.Prelude.{◌≡◌, ◌+◌, ◌*◌, ◌≢◌, ◌≤◌, ◌^◌, ◌%◌, true, false, IfOk, IfErr, MatchResult};
+ghost use Rattle.rcu_seq.specs.Cookies.{is_done, snapshot_of};
 ghost use Rattle.rcu_seq.specs.Numbers.{number_of, is_last};
 
+use crate::cookie::Cookie;
 use crate::fault::Fault;
 use std::marker::Model;
 
 /// From `4k + 1`, where a grace period runs, to `4k + 4`, where it has ended.
 const TO_END: u64 = 3;
+
+/// The low bits of a number, which say whether a grace period runs.
+const STATE_BITS: u64 = 3;
+
+/// From `4k` beyond `4k + 4`, and from `4k + 1` to `4k + 8`.
+const TO_NEXT_END: u64 = 7;
+
+/// The cookie that is done at any time.
+const ALWAYS_DONE: Cookie = Cookie(1);
 
 /// The greatest last number, 2^62.
 const GREATEST_LAST: u64 = 1 << 62;
@@ -72,6 +83,22 @@ impl Seq {
         ensures { result ≡ self.now.running }
     {
         self.value % 4 == 1
+    }
+
+    /// The cookie of a taking now: the number that ends the first grace period to begin from now on (Linux's
+    /// `rcu_seq_snap`). A grace period that runs already is not enough, since a reader may have begun after its start.
+    pub fn snap(&self) -> Cookie
+        ensures { result.0 ≡ snapshot_of self.now }
+    {
+        Cookie((self.value + TO_NEXT_END) & !STATE_BITS)
+    }
+
+    /// Whether a cookie is done (Linux's `poll_state_synchronize_rcu`, without wrap-around): the number is at least
+    /// the cookie's, or the cookie is 1.
+    pub fn done(&self, cookie: Cookie) -> bool
+        ensures { result ≡ is_done cookie.0 self.now }
+    {
+        self.value >= cookie.0 || cookie == ALWAYS_DONE
     }
 
     /// Begins a grace period, and answers its number (Linux's `rcu_seq_start`).

@@ -1,4 +1,5 @@
-//! A counter from its making to its last number, and the numbers of faults.
+//! A counter from its making to its last number, its cookies, and the numbers of faults.
+use crate::cookie::Cookie;
 use crate::fault::Fault;
 use crate::seq::Seq;
 
@@ -13,6 +14,27 @@ fn one_grace_period_to_the_last_number(rt: HostRuntime) {
     assert_eq!(rt; seq.end(), Ok(4));
     assert_eq!(rt; seq.start(), Err(Fault::Exhausted));
     assert_eq!(rt; (seq.value(), seq.last(), seq.is_running()), (4, 4, false));
+}
+
+#[test]
+fn cookies_of_two_grace_periods(rt: HostRuntime) {
+    let mut seq = Seq::new(8).expect(&rt, "8 is a last number");
+    let idle = seq.snap();
+    assert_eq!(rt; idle, Cookie(4));
+    assert_eq!(rt; seq.start(), Ok(1));
+    let running = seq.snap();
+    assert_eq!(rt; running, Cookie(8));
+    assert_eq!(rt;
+        (seq.done(idle), seq.done(running), seq.done(Cookie(1))),
+        (false, false, true)
+    );
+    assert_eq!(rt; seq.end(), Ok(4));
+    assert_eq!(rt;
+        (seq.done(idle), seq.done(running), seq.done(Cookie(1))),
+        (true, false, true)
+    );
+    assert_eq!(rt; (seq.start(), seq.end()), (Ok(5), Ok(8)));
+    assert!(rt; seq.done(running));
 }
 
 #[test]

@@ -1,6 +1,6 @@
-use Rattle.std.proofs.Common.{◌≡◌, arith, ap, ◌∙◌, sym, length, List, Bool, ℕ}
+use Rattle.std.proofs.Common.{◌≡◌, arith, ap, ◌∙◌, sym, subst, length, List, Bool, ℕ}
 use Rattle.rcu_node.specs.CpuSets.{size_of}
-use Rattle.rcu_node.specs.Words.{flags_in}
+use Rattle.rcu_node.specs.Words.{flags_in, HasNoneFrom}
 use Rattle.rcu_node.proofs.Words.{cpus-is}
 use Rattle.rcu_node.proofs.cpu_set.CpuSet.copy_from.Goals as goal
 
@@ -29,5 +29,9 @@ invariant_of-self c =
     let size = cpus-is s.cpus s.words.items c.args.self.now c.self.view_is in
     let other = cpus-is f.cpus f.words.items c.args.from.now c.from.view_is in
     let words = ap (λ (words : List ℕ). length words) (c.copy_from_slice.ensures.items ∙ c.deref.ensures.value) in
+    let copied = c.copy_from_slice.ensures.items ∙ c.deref.ensures.value in
+    let same : f.cpus ≡ s.cpus = omega arith in
+    let none_beyond = subst (λ (words : List ℕ). HasNoneFrom s.cpus words) (sym copied)
+    (subst (λ (n : ℕ). HasNoneFrom n f.words.items) same c.from.invariant.none_beyond) in
     let counted = c.from.invariant.counted ∙ ap (λ (set : List Bool). size_of set) (c.from.view_is ∙ sym (returns c)) in
-    record { some = kept.some; few = kept.few; enough = omega (arith, words, c.from.invariant); no_more = omega (arith, words, c.from.invariant); counted = counted }
+    record { some = kept.some; few = kept.few; enough = omega (arith, words, c.from.invariant); no_more = omega (arith, words, c.from.invariant); none_beyond = none_beyond; counted = counted }

@@ -3,7 +3,7 @@ use Rattle.std.proofs.lemmas.List.{length-set}
 use Rattle.rcu_node.specs.CpuSets.{size_of}
 use Rattle.rcu_node.specs.Words.{flags_in}
 use Rattle.rcu_node.proofs.Flags.{size_of-insert, size_of-within}
-use Rattle.rcu_node.proofs.Words.{cpus-is, word_below, insert-is}
+use Rattle.rcu_node.proofs.Words.{cpus-is, word_below, insert-is, none_beyond-insert}
 use Rattle.rcu_node.proofs.cpu_set.CpuSet.insert.Goals as goal
 
 pub index_mut-requires : goal.index_mut-requires
@@ -33,4 +33,8 @@ invariant_of-self c =
     let after = ap (λ (set : List Bool). size_of set) (returns-clause-set c) in
     let more = size_of-insert c.args.self.now c.args.cpu c.requires (sym c.contains.ensures ∙ c.if-contains.false) in
     let stays = length-set s.words.items in
-    record { some = kept.some; few = kept.few; enough = omega (arith, stays); no_more = omega (arith, stays); counted = omega (arith, before, after, more) }
+    let size = cpus-is s.cpus s.words.items c.args.self.now c.self.view_is in
+    let below : c.args.cpu < s.cpus = omega arith in
+    let none_beyond = none_beyond-insert s.cpus s.words.items c.args.cpu c.index_mut.result.now
+    below kept.enough c.index_mut.ensures.value kept.none_beyond in
+    record { some = kept.some; few = kept.few; enough = omega (arith, stays); no_more = omega (arith, stays); none_beyond = none_beyond; counted = omega (arith, before, after, more) }

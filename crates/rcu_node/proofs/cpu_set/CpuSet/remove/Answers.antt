@@ -2,7 +2,7 @@ use Rattle.std.proofs.Common.{arith, rules, ap, ◌∙◌, ◌<◌, length, List
 use Rattle.std.proofs.lemmas.List.{length-set}
 use Rattle.rcu_node.specs.CpuSets.{size_of}
 use Rattle.rcu_node.proofs.Flags.{size_of-remove}
-use Rattle.rcu_node.proofs.Words.{cpus-is, word_below, remove-is}
+use Rattle.rcu_node.proofs.Words.{cpus-is, word_below, remove-is, none_beyond-remove}
 use Rattle.rcu_node.proofs.cpu_set.CpuSet.remove.Goals as goal
 
 pub index_mut-requires : goal.index_mut-requires
@@ -26,4 +26,8 @@ invariant_of-self c =
     let after = ap (λ (set : List Bool). size_of set) (returns-clause-set c) in
     let less = size_of-remove c.args.self.now c.args.cpu c.requires (let there = c.contains.ensures in let found = c.if-not-contains.false in search rules) in
     let stays = length-set s.words.items in
-    record { some = kept.some; few = kept.few; enough = omega (arith, stays); no_more = omega (arith, stays); counted = omega (arith, before, after, less) }
+    let size = cpus-is s.cpus s.words.items c.args.self.now c.self.view_is in
+    let below : c.args.cpu < s.cpus = omega arith in
+    let none_beyond = none_beyond-remove s.cpus s.words.items c.args.cpu c.index_mut.result.now
+    below kept.enough c.index_mut.ensures.value kept.none_beyond in
+    record { some = kept.some; few = kept.few; enough = omega (arith, stays); no_more = omega (arith, stays); none_beyond = none_beyond; counted = omega (arith, before, after, less) }

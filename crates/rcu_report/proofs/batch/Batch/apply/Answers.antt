@@ -1,0 +1,19 @@
+use Rattle.std.proofs.Common.{◌≤◌, ap, arith, length}
+use Rattle.rcu_report.specs.Batches.{Gathered}
+use Rattle.rcu_report.proofs.Batches.{counted_all, left_by_all}
+use Rattle.rcu_report.proofs.batch.Batch.apply.Goals as goal
+
+pub returns-clause-count : goal.returns-clause-count
+returns-clause-count g c =
+    let loop = c.loop-cpu in
+    let all = counted_all loop.cpu c.args.self.now (g.A.Awaited.tag c.args.to.now) (g.A.Awaited.awaited c.args.to.now)
+    (g.A.Awaited.awaited loop.to) loop.invariant.sized loop.invariant.cleared in
+    omega (arith, all, loop.invariant.counted)
+
+pub returns-clause-awaited : goal.returns-clause-awaited
+returns-clause-awaited g c =
+    let loop = c.loop-cpu in
+    let same = ap (λ (batch : Gathered). length batch.set) c.self.view_is in
+    let past : length (g.A.Awaited.awaited c.args.to.now) ≤ loop.cpu = omega (arith, same, c.requires, c.cpus-cpu-end.ensures.value) in
+    left_by_all loop.cpu c.args.self.now (g.A.Awaited.tag c.args.to.now) (g.A.Awaited.awaited c.args.to.now)
+    (g.A.Awaited.awaited loop.to) loop.invariant.sized past loop.invariant.cleared

@@ -1,0 +1,25 @@
+-- Reports of one tag, gathered as the set of their processors.
+use Rattle.std.specs.Prelude.{ℕ, ◌≡◌, ◌&&◌, Bool, not, List, length, All, if◌then◌else◌}
+use Rattle.rcu_seq.specs.Numbers.{Number, same_number}
+use Rattle.rcu_node.specs.CpuSets.{is_in, listed}
+use Rattle.rcu_node.specs.Reports.{was_reported}
+
+-- a batch, as contracts see it: the tag of its reports, and their processors
+pub record Gathered : Type 0 where
+  pub tag : Number
+  pub set : List Bool
+
+-- the processors of a set that are not in another one
+abbrev pub difference : List Bool → List Bool → List Bool
+difference set other = listed (length set) (λ cpu. is_in set cpu && not (is_in other cpu))
+
+-- what is awaited after the reports of a batch, where the grace period of a number awaits this set: those that no
+-- report of the batch is of, where the tag is the number
+abbrev pub left_by : Gathered → Number → List Bool → List Bool
+left_by batch number awaited = if same_number batch.tag number then difference awaited batch.set else awaited
+
+-- reports, each of a processor and a tag, are those of a batch, in any order and any number of times: each has its
+-- tag, and their processors are its set
+pub record AreOf (batch : Gathered) (reports : List (ℕ × Number)) : Type 0 where
+  pub tags : All (λ report. report.1 ≡ batch.tag) reports
+  pub cpus : (cpu : ℕ) → is_in batch.set cpu ≡ was_reported batch.tag cpu reports
