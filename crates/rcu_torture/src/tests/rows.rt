@@ -124,7 +124,10 @@ fn every_offered_pair_opens_by_its_own_shape(rt: HostRuntime) {
                 refused = refused.saturating_add(1);
             }
         }
-        assert_eq!(rt; opening_fault(rt.alloc(), pair, most + 1, FAR), Some(Fault::TooManyCpus));
+        assert_eq!(rt;
+            opening_fault(rt.alloc(), pair, most + 1, FAR),
+            Some(Fault::TooManyCpus)
+        );
     }
     assert!(rt; refused <= 1);
 }
