@@ -1,0 +1,95 @@
+-- The numbers that callbacks carry, walked in order.
+use Rattle.std.proofs.Common.{◌≡◌, ℕ, ◌≤◌, max, Option, Some, None, Bool, true, false, not, nat_lt, inl, inr, subst, ◌==◌, ◌&&◌, ◌||◌, List, [], ◌∷◌, refl, ap, sym, ◌∙◌, arith}
+use Rattle.std.specs.Prelude.{if◌then◌else◌, All, fold}
+use Rattle.std.proofs.lemmas.List.Elements.{All-nil, All-cons}
+use Rattle.std.proofs.lemmas.Bool.{cases_Bool, cases_eq}
+use Rattle.std.proofs.lemmas.Bool.Decides.{nat_tests}
+use Rattle.std.specs.List.{list_any}
+use Rattle.rcu_seq.specs.Numbers.{Number}
+use Rattle.rcu_cblist.specs.Items.{greatest, has_other, has_two}
+
+-- two numbers below the snapshot differ, found in order: the first one below it, and another behind it
+abbrev pub has_two_ahead : Number → List Number → Bool
+has_two_ahead snap [] = false
+has_two_ahead snap (n ∷ numbers) = if nat_lt n snap then has_other snap n numbers else has_two_ahead snap numbers
+
+-- a number is no other than itself
+other_than_itself : (snap n : Number) (rest : Bool) → ((nat_lt n snap && not (n == n)) || rest) ≡ rest
+other_than_itself snap n rest = grind (arith, nat_tests)
+
+-- where neither of two tests passes, the second does not
+last_of : (a b : Bool) → (a || b) ≡ false → b ≡ false
+last_of true b none = cc
+last_of false b none = none
+
+-- a test that an item fails on its second half, before others that fail
+neither : (a b c : Bool) → b ≡ false → c ≡ false → ((a && b) || c) ≡ false
+neither true b c second others = grind (arith, second, others)
+neither false b c second others = others
+
+-- a test that an item fails on its first half, before others that fail
+above : (a b c : Bool) → a ≡ false → c ≡ false → ((a && b) || c) ≡ false
+above a b c first others = ap (λ t. (t && b) || c) first ∙ others
+
+-- where the first number is below, two differ where another one differs from it
+first_below : (below itself other others ahead : Bool) → below ≡ true → itself ≡ other → (other ≡ false → others ≡ false) →
+    ((below && itself) || others) ≡ (if below then other else ahead)
+first_below true itself true others ahead is same alone = ap (λ t. t || others) same
+first_below true itself false others ahead is same alone = ap (λ t. t || others) same ∙ alone refl
+first_below false itself other others ahead is same alone = cc
+
+-- a number that differs from n, and is no other below the snapshot, is not below it
+not_below : (snap k n : Number) (rest : Bool) → (k ≡ n → ⊥) → ((nat_lt k snap && not (k == n)) || rest) ≡ false →
+    nat_lt k snap ≡ false
+not_below snap k n rest differ none = grind (arith, nat_tests)
+
+-- where no other number than n is below the snapshot, each number below it is n, and no two differ
+none_other : (snap n : Number) (all some : List Number) → has_other snap n all ≡ false → has_other snap n some ≡ false →
+    list_any (λ k. nat_lt k snap && has_other snap k (n ∷ all)) some ≡ false
+none_other snap n all [] no_other none = refl
+none_other snap n all (k ∷ some) no_other none =
+    let Alone : ℕ → Type 0 = λ k. has_other snap k (n ∷ all) ≡ false in
+    elim (cases_eq k n) [
+      | inl same ↦
+          let here : has_other snap k (n ∷ all) ≡ false =
+          subst Alone (sym same) (other_than_itself snap n (has_other snap n all) ∙ no_other) in
+          let rest = none_other snap n all some no_other (last_of _ _ none) in
+          neither _ _ _ here rest
+      | inr differ ↦
+          let here : nat_lt k snap ≡ false = not_below snap k n _ differ none in
+          let rest = none_other snap n all some no_other (last_of _ _ none) in
+          above _ _ _ here rest
+    ]
+
+-- found in order, they are found
+pub has_two_walked : (snap : Number) (numbers : List Number) → has_two snap numbers ≡ has_two_ahead snap numbers
+has_two_walked snap [] = refl
+has_two_walked snap (n ∷ numbers) =
+    let Found : Bool → Type 0 = λ below. ((below && ((below && not (n == n)) || has_other snap n numbers)) ||
+    list_any (λ k. nat_lt k snap && ((below && not (n == k)) || has_other snap k numbers)) numbers) ≡
+    (if below then has_other snap n numbers else has_two_ahead snap numbers) in
+    elim (cases_Bool (nat_lt n snap)) [
+      | inl below ↦ first_below (nat_lt n snap) _ _ _ _ below (other_than_itself snap n (has_other snap n numbers)) (λ none. none_other snap n numbers numbers none none)
+      | inr above ↦ subst Found (sym above) (has_two_walked snap numbers)
+    ]
+
+-- the greatest of some numbers, from one on, is at least that one and each of them
+fold_max_bounds : (n : Number) (numbers : List Number) → (n ≤ fold max n numbers) × All (λ k. k ≤ fold max n numbers) numbers
+fold_max_bounds n [] = (omega arith, All-nil (λ k. k ≤ n))
+fold_max_bounds n (m ∷ numbers) =
+    let rest = fold_max_bounds (max n m) numbers in
+    (omega arith, All-cons (λ k. k ≤ fold max (max n m) numbers) m numbers (omega arith) rest.1)
+
+-- where there is no greatest number, none is above the snapshot
+pub at_most_none : (snap : Number) (numbers : List Number) → greatest numbers ≡ None → All (λ n. n ≤ snap) numbers
+at_most_none snap [] none = All-nil (λ n. n ≤ snap)
+at_most_none snap (n ∷ numbers) none = cc
+
+-- where the greatest number is at most the snapshot, each is
+pub at_most_some : (snap most : Number) (numbers : List Number) → greatest numbers ≡ Some most → most ≤ snap →
+    All (λ n. n ≤ snap) numbers
+at_most_some snap most [] some within = cc
+at_most_some snap most (n ∷ numbers) some within =
+    let bounds = fold_max_bounds n numbers in
+    let same : fold max n numbers ≡ most = cc in
+    All-cons (λ k. k ≤ snap) n numbers (omega arith) (λ k default inside. let here = bounds.1 k default inside in omega arith)

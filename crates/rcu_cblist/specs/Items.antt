@@ -1,0 +1,132 @@
+-- One processor's list, in order: callbacks, each with its mark, and markers.
+use Rattle.std.specs.Prelude.{ℕ, zero, suc, ◌-◌, ◌==◌, ◌≤◌, ◌&&◌, nat_le, nat_lt, max, fold, if◌then◌else◌, Bool, true, false, not, Option, Some, None, List, [], ◌∷◌, ◌++◌, length, map, take, filter_map, count_by, All}
+use Rattle.std.specs.List.{list_any}
+use Rattle.rcu_seq.specs.Numbers.{Number}
+use Rattle.rcu_cblist.specs.declared.queued.Queued.{Queued}
+
+-- what a callback waits for: nothing said yet, a grace-period number, or nothing more
+pub data Mark : Type 0 where
+  Unmarked : Mark
+  Until : Number → Mark
+  Done : Mark
+
+-- a callback with its mark, or a marker, which a barrier leaves behind the callbacks that it waits for
+pub data Item (X : Type 0) : Type 0 where
+  Of : Queued X → Mark → Item X
+  Marker : Item X
+
+-- the mark once the number is reached: a number at most that one becomes done
+abbrev pub mark_advanced : Number → Mark → Mark
+mark_advanced number (Until n) = if nat_le n number then Done else Until n
+mark_advanced number Unmarked = Unmarked
+mark_advanced number Done = Done
+
+-- the mark where an unmarked callback is given a number
+abbrev pub mark_given : Number → Mark → Mark
+mark_given snap Unmarked = Until snap
+mark_given snap (Until n) = Until n
+mark_given snap Done = Done
+
+-- one of the numbers is below the snapshot and differs from this one
+abbrev pub has_other : Number → Number → List Number → Bool
+has_other snap n numbers = list_any (λ k. nat_lt k snap && not (k == n)) numbers
+
+-- two of the numbers are below the snapshot and differ
+abbrev pub has_two : Number → List Number → Bool
+has_two snap numbers = list_any (λ n. nat_lt n snap && has_other snap n numbers) numbers
+
+-- the greatest of the numbers, none where there is none
+abbrev pub greatest : List Number → Option Number
+greatest [] = None
+greatest (n ∷ numbers) = Some (fold max n numbers)
+
+module _ {X : Type 0} where
+  -- the callback of an item, none where it is a marker
+  abbrev pub callback_of : Item X → Option (Queued X)
+  callback_of (Of call mark) = Some call
+  callback_of Marker = None
+
+  -- the number that an item carries, none where it carries none
+  abbrev pub number_of : Item X → Option Number
+  number_of (Of call (Until n)) = Some n
+  number_of (Of call Unmarked) = None
+  number_of (Of call Done) = None
+  number_of Marker = None
+
+  -- the item is a callback that is not done
+  abbrev pub waits : Item X → Bool
+  waits (Of call Done) = false
+  waits (Of call Unmarked) = true
+  waits (Of call (Until n)) = true
+  waits Marker = false
+
+  -- the item is a marker
+  abbrev pub is_marker : Item X → Bool
+  is_marker (Of call mark) = false
+  is_marker Marker = true
+
+  -- the callbacks, in order
+  abbrev pub callbacks : List (Item X) → List (Queued X)
+  callbacks xs = filter_map callback_of xs
+
+  -- the numbers that callbacks carry, in order
+  abbrev pub numbers : List (Item X) → List Number
+  numbers xs = filter_map number_of xs
+
+  -- how many markers there are
+  abbrev pub markers : List (Item X) → ℕ
+  markers xs = count_by is_marker xs
+
+  -- the same item under another mark; a marker has none
+  abbrev pub remarked : (Mark → Mark) → Item X → Item X
+  remarked change (Of call mark) = Of call (change mark)
+  remarked change Marker = Marker
+
+  -- the item without its mark
+  abbrev pub unmarked : Item X → Item X
+  unmarked x = remarked (λ _. Unmarked) x
+
+  -- the list once the number is reached
+  abbrev pub advanced : Number → List (Item X) → List (Item X)
+  advanced number xs = map (remarked (mark_advanced number)) xs
+
+  -- no callback carries a number above the snapshot
+  abbrev pub IsAtMost : Number → List (Item X) → Type 0
+  IsAtMost snap xs = All (λ n. n ≤ snap) (numbers xs)
+
+  -- the list once each unmarked callback is given the snapshot, which changes nothing where two different numbers below it are carried
+  abbrev pub accelerated : Number → List (Item X) → List (Item X)
+  accelerated snap xs = if has_two snap (numbers xs) then xs else map (remarked (mark_given snap)) xs
+
+  -- the done part: the longest front with no callback that waits
+  abbrev pub front : List (Item X) → List (Item X)
+  front [] = []
+  front (x ∷ xs) = if waits x then [] else x ∷ front xs
+
+  -- what is behind it, from the first callback that waits on
+  abbrev pub behind : List (Item X) → List (Item X)
+  behind [] = []
+  behind (x ∷ xs) = if waits x then x ∷ xs else behind xs
+
+  -- what a take hands out: the first callbacks of the done part, at most so many
+  abbrev pub taken : ℕ → List (Item X) → List (Queued X)
+  taken most xs = take most (callbacks (front xs))
+
+  -- the list from one of its callbacks on, which are counted from 0
+  abbrev pub from_callback : ℕ → List (Item X) → List (Item X)
+  from_callback n [] = []
+  from_callback n (Marker ∷ xs) = from_callback n xs
+  from_callback zero (Of call mark ∷ xs) = Of call mark ∷ xs
+  from_callback (suc n) (Of call mark ∷ xs) = from_callback n xs
+
+  -- what a take leaves: the list from the first callback on that it does not hand out
+  abbrev pub untaken : ℕ → List (Item X) → List (Item X)
+  untaken most xs = from_callback (length (taken most xs)) xs
+
+  -- how many markers a take passes
+  abbrev pub passed : ℕ → List (Item X) → ℕ
+  passed most xs = markers xs - markers (untaken most xs)
+
+  -- what a target that had ys has once xs moved there: the done part in front of ys, and the rest behind it without its marks
+  abbrev pub moved : List (Item X) → List (Item X) → List (Item X)
+  moved xs ys = (front xs ++ ys) ++ map unmarked (behind xs)

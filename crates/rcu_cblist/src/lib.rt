@@ -1,0 +1,11 @@
+//! One processor's list of callbacks.
+#![tactic(auto)]
+
+mod kept;
+pub mod queued;
+pub mod refused;
+pub mod seg_list;
+pub mod taken;
+#[cfg(test)]
+mod tests;
+mod walks;

@@ -1,0 +1,180 @@
+//! One processor's list of callbacks.
+ghost use Rattle.std.specs.Prelude.{◌≡◌, ◌≢◌, ◌++◌, ◌∷◌, [], length, OnOk, IfOk, IfErr};
+ghost use Rattle.rcu_cblist.specs.Items.{Of, Unmarked, advanced, accelerated, IsAtMost, taken, untaken, passed, moved, front, behind, callbacks, numbers, greatest};
+
+use crate::kept::{Kept, Wait};
+use crate::queued::Queued;
+use crate::refused::Refused;
+use crate::taken::Taken;
+use crate::walks::{accelerate_all, advance_all, carry, count_front, has_two_below, take_first};
+use rcu_seq::fault::Fault;
+use std::alloc::Global;
+use std::collections::VecDeque;
+use std::marker::Model;
+
+/// One processor's callbacks, in order, each with its mark: none, a grace-period number, or done (Linux's
+/// `rcu_segcblist`). Contracts see the list of items.
+///
+/// The done part is the longest front with no callback that is not done. A call is refused only where a growth was,
+/// and leaves its lists as they were.
+#[derive(Drop)]
+pub struct SegList<T: Drop> {
+    /// The items, in order.
+    items: VecDeque<Kept<T>>,
+    /// How many callbacks the done part has.
+    done: u64,
+    /// How many callbacks there are.
+    count: u64,
+    /// Where the calls that are taken go.
+    alloc: Global,
+}
+
+impl<T: Drop> Model for SegList<T> {
+    ghost use Rattle.std.specs.Prelude.{◌≡◌, List, length};
+    ghost use Rattle.rcu_cblist.specs.Items.{Item, front, callbacks};
+    ghost use Rattle.rcu_cblist.specs.Kept.{items_of};
+
+    ghost Value = { List (Item T) };
+
+    ghost view = { λ s. items_of s.items.items };
+
+    ghost invariant = { λ s. record {
+      done : s.done ≡ length (callbacks (front (items_of s.items.items)));
+      count : s.count ≡ length (callbacks (items_of s.items.items));
+    } };
+}
+
+impl<T: Drop> SegList<T> {
+    /// An empty list, which has grown nothing yet.
+    pub fn new(alloc: Global) -> SegList<T>
+        ensures { result ≡ [] }
+    {
+        SegList {
+            items: VecDeque::new(alloc),
+            done: 0,
+            count: 0,
+            alloc,
+        }
+    }
+
+    /// Queues a callback at the end, without a mark.
+    ///
+    /// Fault 16, which hands the callback back.
+    #[tactic(auto, using(crate::proofs::Lists::front_push, crate::proofs::Lists::callbacks_push, crate::proofs::Lists::view_push))]
+    pub fn queue(&mut self, item: Queued<T>) -> Result<(), Refused<Queued<T>>>
+        ensures ok { OnOk result (self.new ≡ self.old ++ Of item Unmarked ∷ []) }
+        ensures err { IfErr result (λ refused. (refused.fault ≡ Fault.NoMemory) × (refused.value ≡ item) × (self.new ≡ self.old)) }
+    {
+        let Ok(()) = self.items.reserve(1) else {
+            return Err(Refused {
+                fault: Fault::NoMemory,
+                value: item,
+            });
+        };
+        let Ok(()) = self.items.push_back(Kept::Call(item, Wait::Unmarked)) else {
+            unreachable!()
+        };
+        self.count += 1;
+        Ok(())
+    }
+
+    /// Makes each callback done whose number is at most this one (Linux's `rcu_segcblist_advance`).
+    #[tactic(auto, using(crate::proofs::Lists::callbacks_remarked))]
+    pub fn advance(&mut self, number: u64)
+        ensures { self.new ≡ advanced number self.old }
+    {
+        advance_all(&mut self.items, number);
+        self.done = count_front(&self.items).1;
+    }
+
+    /// Gives a number to each callback without a mark, but changes nothing where callbacks carry two different numbers
+    /// below it (Linux's `rcu_segcblist_accelerate`). No callback carries a number above it.
+    #[tactic(auto, using(crate::proofs::Lists::front_given, crate::proofs::Lists::callbacks_remarked))]
+    pub fn accelerate(&mut self, snap: u64)
+        requires { IsAtMost snap self.old }
+        ensures { self.new ≡ accelerated snap self.old }
+    {
+        if !has_two_below(&self.items, snap) {
+            accelerate_all(&mut self.items, snap);
+        }
+    }
+
+    /// Takes the first callbacks of the done part, at most so many, and each marker before the first callback that is
+    /// left. Costs constant time for each.
+    ///
+    /// Fault 16, only where it has a callback to hand out.
+    #[tactic(auto, using(crate::proofs::Lists::taken_least, crate::proofs::Lists::untaken_least, crate::proofs::Lists::front_from, crate::proofs::Lists::callbacks_from, crate::proofs::Lists::length_taken, crate::proofs::Lists::callbacks_parts, crate::proofs::Lists::taken_none))]
+    pub fn take_done(&mut self, max: u64) -> Result<Taken<T>, Fault>
+        ensures calls { IfOk result (λ some. some.calls.items ≡ taken max self.old) }
+        ensures markers { IfOk result (λ some. some.markers ≡ passed max self.old) }
+        ensures left { OnOk result (self.new ≡ untaken max self.old) }
+        ensures err { IfErr result (λ fault. (fault ≡ Fault.NoMemory) × (taken max self.old ≢ []) × (self.new ≡ self.old)) }
+    {
+        let most = self.done.min(max);
+        let mut calls = Vec::new(self.alloc);
+        if most > 0 {
+            let Ok(()) = calls.reserve(most as usize) else {
+                return Err(Fault::NoMemory);
+            };
+        }
+        let markers = take_first(&mut self.items, &mut calls, most);
+        self.done -= most;
+        self.count -= most;
+        Ok(Taken { calls, markers })
+    }
+
+    /// Moves all to a target: the done part goes in front of what is there, and the rest behind it without its marks,
+    /// the order kept. Costs what it moves.
+    ///
+    /// Fault 16, only where there is something to move.
+    #[tactic(auto, using(crate::proofs::Lists::front_moved, crate::proofs::Lists::callbacks_moved, crate::proofs::Lists::callbacks_of_kept, crate::proofs::Lists::front_of_kept))]
+    pub fn migrate_into(&mut self, target: &mut SegList<T>) -> Result<(), Fault>
+        ensures ok { OnOk result ((target.new ≡ moved self.old target.old) × (self.new ≡ [])) }
+        ensures err { IfErr result (λ fault. (fault ≡ Fault.NoMemory) × (self.old ≢ []) × (self.new ≡ self.old) × (target.new ≡ target.old)) }
+    {
+        if self.items.is_empty() {
+            return Ok(());
+        }
+        let Ok(()) = target.items.reserve(self.items.len()) else {
+            return Err(Fault::NoMemory);
+        };
+        carry(&mut self.items, &mut target.items);
+        target.count += self.count;
+        target.done += self.done;
+        self.count = 0;
+        self.done = 0;
+        Ok(())
+    }
+
+    /// How many callbacks the done part has.
+    pub fn done_count(&self) -> u64
+        ensures { result ≡ length (callbacks (front self.now)) }
+    {
+        self.done
+    }
+
+    /// How many callbacks are behind the done part.
+    #[tactic(auto, using(crate::proofs::Lists::callbacks_parts))]
+    pub fn waiting_count(&self) -> u64
+        ensures { result ≡ length (callbacks (behind self.now)) }
+    {
+        self.count - self.done
+    }
+
+    /// The greatest number that a callback carries, none where none carries one.
+    #[tactic(auto, using(crate::proofs::Lists::rest_more))]
+    pub fn greatest_waiting(&self) -> Option<u64>
+        ensures { result ≡ greatest (numbers self.now) }
+    {
+        let mut found = None;
+        for i in 0..self.items.len() {
+            if let Kept::Call(_, Wait::Until(n)) = &self.items[i] {
+                found = match found {
+                    None => Some(*n),
+                    Some(k) => Some(k.max(*n)),
+                };
+            }
+        }
+        found
+    }
+}

@@ -1,0 +1,123 @@
+//! Each public call once, and the values of three marks in a list.
+
+use crate::queued::Queued;
+use crate::seg_list::SegList;
+use rcu_seq::fault::Fault;
+use std::io::Print;
+use std::process::Abort;
+
+/// Compares the fault of a call whose growth was refused, and says so for who counts the growths.
+fn refused<R: Abort + Print>(rt: &R, fault: Fault) {
+    assert_eq!(rt; fault, Fault::NoMemory);
+    let _ = println!(rt; "a growth was refused");
+}
+
+/// Queues a callback, by a second call where the first is refused a growth, and compares what that one hands back.
+fn queue<R: Abort + Print>(rt: &R, list: &mut SegList<u64>, ord: u64, at: u64, value: u64) {
+    if let Err(back) = list.queue(Queued { ord, at, value }) {
+        refused(rt, back.fault);
+        let item = back.value;
+        assert_eq!(rt; (item.ord, item.at, item.value), (ord, at, value));
+        assert!(rt; list.queue(item).is_ok(), "the second call has memory");
+    }
+}
+
+/// Gives a number to the unmarked callbacks, once no callback carries a number above it.
+#[tactic(auto, using(crate::proofs::Numbers::at_most_none, crate::proofs::Numbers::at_most_some))]
+fn accelerate(rt: &impl Abort, list: &mut SegList<u64>, snap: u64) {
+    match list.greatest_waiting() {
+        None => list.accelerate(snap),
+        Some(most) => {
+            assert!(rt; most <= snap);
+            list.accelerate(snap);
+        }
+    }
+}
+
+/// Takes callbacks, by a second call where the first is refused a growth, and compares their values.
+fn take<R: Abort + Print>(rt: &R, list: &mut SegList<u64>, max: u64, wanted: &[u64]) {
+    let taken = match list.take_done(max) {
+        Ok(taken) => taken,
+        Err(fault) => {
+            refused(rt, fault);
+            list.take_done(max).expect(rt, "the second call has memory")
+        }
+    };
+    assert_eq!(rt; taken.markers, 0);
+    assert_eq!(rt; taken.calls.len(), wanted.len());
+    for (call, value) in taken.calls.iter().zip(wanted) {
+        assert_eq!(rt; call.value, *value);
+    }
+}
+
+/// Moves a list, by a second call where the first is refused a growth.
+fn migrate<R: Abort + Print>(rt: &R, list: &mut SegList<u64>, target: &mut SegList<u64>) {
+    if let Err(fault) = list.migrate_into(target) {
+        refused(rt, fault);
+        assert_eq!(rt; list.migrate_into(target), Ok(()));
+    }
+}
+
+/// Compares how many callbacks are done and how many wait, and the greatest number that one carries.
+fn counts(rt: &impl Abort, list: &SegList<u64>, done: u64, waiting: u64, greatest: Option<u64>) {
+    assert_eq!(rt; (list.done_count(), list.waiting_count()), (done, waiting));
+    assert_eq!(rt; list.greatest_waiting(), greatest);
+}
+
+#[test]
+fn three_marks_in_a_list(rt: HostRuntime) {
+    let mut list = SegList::new(rt.alloc());
+    queue(&rt, &mut list, 1, 0, 10);
+    accelerate(&rt, &mut list, 4);
+    queue(&rt, &mut list, 2, 1, 11);
+    accelerate(&rt, &mut list, 8);
+    queue(&rt, &mut list, 3, 5, 12);
+    accelerate(&rt, &mut list, 12);
+    counts(&rt, &list, 0, 3, Some(8));
+
+    list.advance(4);
+    counts(&rt, &list, 1, 2, Some(8));
+    accelerate(&rt, &mut list, 12);
+    counts(&rt, &list, 1, 2, Some(12));
+    take(&rt, &mut list, 9, &[10]);
+    counts(&rt, &list, 0, 2, Some(12));
+
+    list.advance(12);
+    counts(&rt, &list, 2, 0, None);
+    take(&rt, &mut list, 0, &[]);
+    take(&rt, &mut list, 1, &[11]);
+    take(&rt, &mut list, 1, &[12]);
+    take(&rt, &mut list, 1, &[]);
+}
+
+#[test]
+fn migration_around_a_target(rt: HostRuntime) {
+    let mut target = SegList::new(rt.alloc());
+    queue(&rt, &mut target, 1, 0, 20);
+    accelerate(&rt, &mut target, 4);
+    target.advance(4);
+    queue(&rt, &mut target, 2, 5, 21);
+    accelerate(&rt, &mut target, 12);
+
+    let mut list = SegList::new(rt.alloc());
+    queue(&rt, &mut list, 3, 0, 10);
+    accelerate(&rt, &mut list, 4);
+    queue(&rt, &mut list, 4, 9, 11);
+    accelerate(&rt, &mut list, 16);
+    list.advance(4);
+    queue(&rt, &mut list, 5, 9, 12);
+    counts(&rt, &list, 1, 2, Some(16));
+
+    migrate(&rt, &mut list, &mut target);
+    counts(&rt, &list, 0, 0, None);
+    counts(&rt, &target, 2, 3, Some(12));
+    migrate(&rt, &mut list, &mut target);
+    counts(&rt, &target, 2, 3, Some(12));
+
+    target.advance(16);
+    counts(&rt, &target, 3, 2, None);
+    accelerate(&rt, &mut target, 20);
+    take(&rt, &mut target, 9, &[10, 20, 21]);
+    target.advance(20);
+    take(&rt, &mut target, 9, &[11, 12]);
+}
