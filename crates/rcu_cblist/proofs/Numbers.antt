@@ -1,5 +1,5 @@
 -- The numbers that callbacks carry, walked in order.
-use Rattle.std.proofs.Common.{◌≡◌, ℕ, ◌≤◌, max, Option, Some, None, Bool, true, false, not, nat_lt, inl, inr, subst, ◌==◌, ◌&&◌, ◌||◌, List, [], ◌∷◌, refl, ap, sym, ◌∙◌, arith}
+use Rattle.std.proofs.Common.{◌≡◌, ℕ, ◌≤◌, max, Some, None, Bool, true, false, not, nat_lt, inl, inr, subst, ◌==◌, ◌&&◌, ◌||◌, List, [], ◌∷◌, refl, ap, sym, ◌∙◌, arith}
 use Rattle.std.specs.Prelude.{if◌then◌else◌, All, fold}
 use Rattle.std.proofs.lemmas.List.Elements.{All-nil, All-cons}
 use Rattle.std.proofs.lemmas.Bool.{cases_Bool, cases_eq}
@@ -69,7 +69,8 @@ has_two_walked snap (n ∷ numbers) =
     list_any (λ k. nat_lt k snap && ((below && not (n == k)) || has_other snap k numbers)) numbers) ≡
     (if below then has_other snap n numbers else has_two_ahead snap numbers) in
     elim (cases_Bool (nat_lt n snap)) [
-      | inl below ↦ first_below (nat_lt n snap) _ _ _ _ below (other_than_itself snap n (has_other snap n numbers)) (λ none. none_other snap n numbers numbers none none)
+      | inl below ↦ first_below (nat_lt n snap) _ _ _ _ below (other_than_itself snap n (has_other snap n numbers))
+          (λ none. none_other snap n numbers numbers none none)
       | inr above ↦ subst Found (sym above) (has_two_walked snap numbers)
     ]
 

@@ -25,7 +25,7 @@ pub struct SegList<T: Drop> {
     done: u64,
     /// How many callbacks there are.
     count: u64,
-    /// Where the calls that are taken go.
+    /// Where the callbacks that are taken go.
     alloc: Global,
 }
 
@@ -112,11 +112,9 @@ impl<T: Drop> SegList<T> {
     {
         let most = self.done.min(max);
         let mut calls = Vec::new(self.alloc);
-        if most > 0 {
-            let Ok(()) = calls.reserve(most as usize) else {
-                return Err(Fault::NoMemory);
-            };
-        }
+        let Ok(()) = calls.reserve(most as usize) else {
+            return Err(Fault::NoMemory);
+        };
         let markers = take_first(&mut self.items, &mut calls, most);
         self.done -= most;
         self.count -= most;
@@ -132,9 +130,6 @@ impl<T: Drop> SegList<T> {
         ensures ok { OnOk result ((target.new ≡ moved self.old target.old) × (self.new ≡ [])) }
         ensures err { IfErr result (λ fault. (fault ≡ Fault.NoMemory) × (self.old ≢ []) × (self.new ≡ self.old) × (target.new ≡ target.old)) }
     {
-        if self.items.is_empty() {
-            return Ok(());
-        }
         let Ok(()) = target.items.reserve(self.items.len()) else {
             return Err(Fault::NoMemory);
         };
@@ -161,7 +156,7 @@ impl<T: Drop> SegList<T> {
         self.count - self.done
     }
 
-    /// The greatest number that a callback carries, none where none carries one.
+    /// The greatest number that a waiting callback carries, none where none carries one.
     #[tactic(auto, using(crate::proofs::Lists::rest_more))]
     pub fn greatest_waiting(&self) -> Option<u64>
         ensures { result ≡ greatest (numbers self.now) }

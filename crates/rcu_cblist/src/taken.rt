@@ -7,6 +7,6 @@ use crate::queued::Queued;
 pub struct Taken<T: Drop> {
     /// The callbacks, in order.
     pub calls: Vec<Queued<T>>,
-    /// How many markers were passed. Nothing puts a marker into a list, so there is none.
+    /// How many markers were passed: 0, since no call puts a marker into a list yet.
     pub markers: u64,
 }

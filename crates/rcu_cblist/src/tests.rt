@@ -23,7 +23,7 @@ fn queue<R: Abort + Print>(rt: &R, list: &mut SegList<u64>, ord: u64, at: u64, v
 }
 
 /// Gives a number to the unmarked callbacks, once no callback carries a number above it.
-#[tactic(auto, using(crate::proofs::Numbers::at_most_none, crate::proofs::Numbers::at_most_some))]
+#[tactic(auto, using(crate::proofs::Numbers::at_most_none))]
 fn accelerate(rt: &impl Abort, list: &mut SegList<u64>, snap: u64) {
     match list.greatest_waiting() {
         None => list.accelerate(snap),

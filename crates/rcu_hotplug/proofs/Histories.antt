@@ -6,11 +6,9 @@ use Rattle.std.proofs.lemmas.Bool.Decides.{nat_tests}
 use Rattle.std.proofs.lemmas.List.{length-set, length-replicate}
 use Rattle.rcu_seq.specs.Numbers.{Number, same_number}
 use Rattle.rcu_node.specs.CpuSets.{is_in}
-use Rattle.rcu_node.proofs.Masks.{in_none}
-use Rattle.rcu_node.proofs.Reports.{is_in-remove}
 use Rattle.rcu_hotplug.specs.Calls.{Processors, Arrive, Depart, Begin, Report, refusal, at_first, next}
 use Rattle.rcu_hotplug.specs.History.{History, WasAccepted, Says, after, came, is_done, online, starts, tag}
-use Rattle.rcu_hotplug.proofs.Sets.{is_in-insert, is_in-remove_where, length-remove_where}
+use Rattle.rcu_hotplug.proofs.Sets.{in_none, is_in-insert, is_in-remove, is_in-remove_where, length-remove_where}
 
 -- an accepted arrival is of a processor that there is
 arrival_below : (p : Processors) (cpu : ℕ) → refusal p (Arrive cpu) ≡ None → cpu < length p.awaited

@@ -1,12 +1,25 @@
 -- Sets of processors as flags: what one write changes.
-use Rattle.std.proofs.Common.{◌≡◌, ℕ, ◌<◌, ◌==◌, ◌&&◌, ◌||◌, Bool, true, false, not, if◌then◌else◌, List, length, slice_set, replicate, refl, sym, ap, ◌∙◌, arith, inl, inr}
+use Rattle.std.proofs.Common.{◌≡◌, ℕ, zero, suc, [], ◌∷◌, ◌<◌, ◌==◌, ◌&&◌, ◌||◌, Bool, true, false, not, if◌then◌else◌, List, length, slice_set, replicate, refl, sym, ap, ◌∙◌, arith, inl, inr}
 use Rattle.std.proofs.Math.Bool.{and-true, and-false}
-use Rattle.std.proofs.lemmas.Bool.{cases_Bool, cases_eq, true≢false}
+use Rattle.std.proofs.lemmas.Bool.{and_right, cases_Bool, cases_eq, cases_lt, true≢false}
 use Rattle.std.proofs.lemmas.Bool.Decides.{nat_tests}
-use Rattle.std.proofs.lemmas.List.{get_or-set_same, get_or-set_other, length-set, length-replicate, ext_get_or}
+use Rattle.std.proofs.lemmas.List.{get_or_past, get_or-replicate, get_or-set_same, get_or-set_other, length-set, length-replicate, ext_get_or}
 use Rattle.rcu_node.specs.CpuSets.{is_in}
-use Rattle.rcu_node.proofs.Masks.{in_none}
-use Rattle.rcu_node.proofs.Reports.{is_in-remove}
+
+-- nobody is in the empty set
+pub in_none : (n cpu : ℕ) → is_in (replicate n false) cpu ≡ false
+in_none n cpu = elim (cases_lt cpu n) [
+  | inl l ↦ get_or-replicate n cpu false false l
+  | inr l ↦ get_or_past (replicate n false) cpu false (omega (arith, l, length-replicate n false))
+]
+
+-- a flag is cleared, wherever it stands
+pub is_in-remove : (set : List Bool) (cpu k : ℕ) → is_in (slice_set set cpu false) k ≡ (is_in set k && not (cpu == k))
+is_in-remove [] cpu k = refl
+is_in-remove (x ∷ xs) zero zero = sym (and_right x false refl)
+is_in-remove (x ∷ xs) zero (suc k) = grind (arith, nat_tests)
+is_in-remove (x ∷ xs) (suc cpu) zero = grind (arith, nat_tests)
+is_in-remove (x ∷ xs) (suc cpu) (suc k) = is_in-remove xs cpu k ∙ grind (arith, nat_tests)
 
 -- where the start set is empty, so is the awaited set, which lies within it
 pub none_within : (start awaited : List Bool) → start ≡ replicate (length awaited) false

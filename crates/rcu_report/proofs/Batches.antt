@@ -8,10 +8,8 @@ use Rattle.std.proofs.lemmas.List.Sums.{sum_by-cons}
 use Rattle.rcu_seq.specs.Numbers.{Number, same_number}
 use Rattle.rcu_node.specs.CpuSets.{is_in, size_of}
 use Rattle.rcu_node.specs.Reports.{without, after_reports, was_reported}
-use Rattle.rcu_node.proofs.Flags.{length-listed, is_in-listed}
-use Rattle.rcu_node.proofs.Ones.{listed_first, none_listed}
-use Rattle.rcu_node.proofs.Reports.{unreported}
 use Rattle.rcu_report.specs.Batches.{Gathered, difference, left_by, AreOf}
+use Rattle.rcu_report.proofs.Sets.{length-listed, is_in-listed, listed_first, none_listed}
 
 -- what a batch leaves, by its flags
 is_in-left_by : (batch : Gathered) (number : Number) (awaited : List Bool) (cpu : ℕ) → cpu < length awaited
@@ -70,10 +68,15 @@ was_reported-is tag number cpu (report ∷ earlier) all =
     ∙ ap (λ b. ((report.0 == cpu && same_number report.1 tag) && same_number tag number) || b) (was_reported-is tag number cpu earlier others)
     ∙ either_where (report.0 == cpu && same_number report.1 tag) (was_reported tag cpu earlier) (same_number tag number)
 
--- a batch leaves what its reports leave
-pub batch_leaves-reports : (batch : Gathered) (number : Number) (awaited : List Bool) (reports : List (ℕ × Number)) → AreOf batch reports
+-- after any reports just the unreported are awaited
+abbrev pub LeaveUnreported : Type 0
+LeaveUnreported = (number : Number) (set : List Bool) (reports : List (ℕ × Number)) (cpu : ℕ)
+    → is_in (after_reports number set reports) cpu ≡ (is_in set cpu && not (was_reported number cpu reports))
+
+-- so a batch leaves what its reports leave
+pub batch_leaves-reports : LeaveUnreported → (batch : Gathered) (number : Number) (awaited : List Bool) (reports : List (ℕ × Number)) → AreOf batch reports
     → left_by batch number awaited ≡ after_reports number awaited reports
-batch_leaves-reports batch number awaited reports of =
+batch_leaves-reports unreported batch number awaited reports of =
     sym (left_by-is batch number awaited (after_reports number awaited reports) (length-after_reports number awaited reports) (λ cpu l.
     unreported number awaited reports cpu ∙ ap (λ b. is_in awaited cpu && not b)
     (was_reported-is batch.tag number cpu reports of.tags ∙ ap (λ b. b && same_number batch.tag number) (sym (of.cpus cpu)))))

@@ -6,4 +6,5 @@ use Rattle.rcu_cblist.proofs.walks.advance_each.Given as goal
 -- the items before this one are changed, and the others are as they were
 abbrev pub invariant-loop-item : goal.invariant-loop-item
 invariant-loop-item g l =
-    items_of l.items ≡ map (remarked (mark_advanced l.number)) (take l.item-index (items_of l.initial.items)) ++ drop l.item-index (items_of l.initial.items)
+    items_of l.items ≡ map (remarked (mark_advanced l.number)) (take l.item-index (items_of l.initial.items))
+    ++ drop l.item-index (items_of l.initial.items)
