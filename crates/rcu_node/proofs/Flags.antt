@@ -1,6 +1,7 @@
 -- Sets of processors as flags: what one write changes, and how many are in.
-use Rattle.std.proofs.Common.{◌≡◌, ◌≢◌, ℕ, ◌+◌, ◌<◌, ◌≤◌, Bool, true, false, cond, List, length, slice_set, replicate, sym, ◌∙◌, arith, ap, inl, inr}
+use Rattle.std.proofs.Common.{◌≡◌, ◌≢◌, ℕ, ◌+◌, ◌<◌, ◌≤◌, ◌&&◌, Bool, true, false, cond, nat_lt, List, length, slice_set, replicate, sym, ◌∙◌, arith, ap, inl, inr}
 use Rattle.std.proofs.lemmas.Bool.{cases_Bool, cases_eq, cases_lt}
+use Rattle.std.proofs.lemmas.Bool.Decides.{nat_tests}
 use Rattle.std.proofs.lemmas.List.{get_or_past, get_or-set_same, get_or-set_other, length-set, ext_get_or, get_or-replicate, length-replicate}
 use Rattle.std.proofs.lemmas.List.FromFn.{length-map-range_with_len, get_or-map-range_with_len}
 use Rattle.std.proofs.lemmas.List.Sums.{sum_by-set, count_by-le-length}
@@ -74,4 +75,22 @@ nobody_in set cpu e = elim (cases_lt cpu (length set)) [
     | inr out ↦ out
   ]
   | inr l ↦ is_in-beyond set cpu l
+]
+
+-- sets with as many flags that have the same processors are equal
+pub same_from_flags : (a b : List Bool) → length a ≡ length b → ((cpu : ℕ) → is_in a cpu ≡ is_in b cpu) → a ≡ b
+same_from_flags a b e h = ext_get_or false a b e (λ cpu l. h cpu)
+
+-- a processor is in a listed set where it is below the number and passes
+pub is_in-listed_any : (n : ℕ) (test : ℕ → Bool) (cpu : ℕ) → is_in (listed n test) cpu ≡ (nat_lt cpu n && test cpu)
+is_in-listed_any n test cpu = elim (cases_lt cpu n) [
+  | inl l ↦ is_in-listed n test cpu l ∙ grind (arith, nat_tests, l)
+  | inr l ↦ is_in-beyond (listed n test) cpu (omega (arith, l, length-listed n test)) ∙ grind (arith, nat_tests, l)
+]
+
+-- so where only processors of a set pass, all that pass are in
+pub is_in-listed_within : (set : List Bool) (test : ℕ → Bool) (cpu : ℕ) → (is_in set cpu ≡ false → test cpu ≡ false) → is_in (listed (length set) test) cpu ≡ test cpu
+is_in-listed_within set test cpu none = elim (cases_lt cpu (length set)) [
+  | inl l ↦ is_in-listed (length set) test cpu l
+  | inr l ↦ is_in-beyond (listed (length set) test) cpu (omega (arith, l, length-listed (length set) test)) ∙ sym (none (is_in-beyond set cpu l))
 ]

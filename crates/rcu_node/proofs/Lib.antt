@@ -2,7 +2,10 @@ pub mod Bits
 pub mod Cut
 pub mod Fill
 pub mod Flags
+pub mod Heard
+pub mod Joins
 pub mod Masks
+pub mod Merges
 pub mod Ones
 pub mod Reports
 pub mod Union

@@ -1,5 +1,5 @@
 -- Sets of processors, as lists of flags: the processor c is in the set where the flag at place c is true.
-use Rattle.std.specs.Prelude.{ℕ, Bool, false, ◌||◌, List, length, map, count_by, slice_index_or}
+use Rattle.std.specs.Prelude.{ℕ, Bool, false, not, ◌&&◌, ◌||◌, List, length, map, count_by, slice_index_or}
 use Rattle.std.specs.List.{range_with_len}
 
 -- the processor is in the set
@@ -17,3 +17,11 @@ listed n test = map test (range_with_len 0 n)
 -- the processors in one of two sets or in both
 abbrev pub union : List Bool → List Bool → List Bool
 union a b = listed (length a) (λ cpu. is_in a cpu || is_in b cpu)
+
+-- the processors in both of two sets
+abbrev pub intersection : List Bool → List Bool → List Bool
+intersection a b = listed (length a) (λ cpu. is_in a cpu && is_in b cpu)
+
+-- the processors of a set that were not heard
+abbrev pub unheard : List Bool → (ℕ → Bool) → List Bool
+unheard set heard = listed (length set) (λ cpu. is_in set cpu && not (heard cpu))

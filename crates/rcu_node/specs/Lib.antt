@@ -2,3 +2,4 @@ pub mod CpuSets
 pub mod Masks
 pub mod Words
 pub mod Reports
+pub mod Merging

@@ -7,6 +7,7 @@ pub mod cpu_set;
 pub mod flat;
 pub mod laws;
 mod leaves;
+pub mod merging;
 #[cfg(test)]
 mod tests;
 pub mod tree;

@@ -1,5 +1,7 @@
-//! Each public call once, and two grace periods of each kind of awaited processors.
+//! Each public call once, two grace periods of each kind of awaited processors, and their merging.
 ghost use Rattle.std.specs.Prelude.{◌≡◌, false, replicate};
+
+mod merging;
 
 use crate::answer::Answer;
 use crate::awaited::Awaited;

@@ -1,15 +1,23 @@
 -- Cookies, and the grace periods that lie after the taking of one.
-use Rattle.std.specs.Prelude.{◌+◌, ◌≡◌, ◌==◌, ◌||◌, Bool, true, false, nat_le, if◌then◌else◌, List, [], ◌∷◌}
+use Rattle.std.specs.Prelude.{ℕ, ◌+◌, ◌≡◌, ◌==◌, ◌||◌, Bool, true, false, nat_le, if◌then◌else◌, List, [], ◌∷◌}
 use Rattle.rcu_seq.specs.Numbers.{Number, Periods, number_at, number_of}
 
--- the number that ends the first grace period to begin from now on: one that runs is not it, since a reader may have
--- begun after its start
-abbrev pub snapshot_of : Periods → Number
-snapshot_of p = number_at (p.ends + (if p.running then 2 else 1)) false
+-- the number that ends the first grace period to begin from now on, where so many ended and one runs or not: one that
+-- runs is not it, since a reader may have begun after its start
+abbrev pub snapshot_at : ℕ → Bool → Number
+snapshot_at ends running = number_at (ends + (if running then 2 else 1)) false
 
--- the test of a cookie: the number is at least the cookie's; the cookie 1 is done at any time
+-- the same of a counter
+abbrev pub snapshot_of : Periods → Number
+snapshot_of p = snapshot_at p.ends p.running
+
+-- the test of a cookie at a number: it is at least the cookie's; the cookie 1 is done at any time
+abbrev pub is_done_at : Number → Number → Bool
+is_done_at cookie number = nat_le cookie number || cookie == 1
+
+-- the same of a counter
 abbrev pub is_done : Number → Periods → Bool
-is_done cookie p = nat_le cookie (number_of p) || cookie == 1
+is_done cookie p = is_done_at cookie (number_of p)
 
 -- what a counter does
 pub data Turn : Type 0 where

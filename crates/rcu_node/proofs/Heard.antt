@@ -1,0 +1,86 @@
+-- What is awaited by who was heard.
+use Rattle.std.proofs.Common.{◌≡◌, ℕ, ◌==◌, ◌&&◌, ◌||◌, ◌++◌, Bool, true, false, not, List, [], ◌∷◌, length, refl, sym, ap, ◌∙◌, inl, inr}
+use Rattle.std.proofs.Math.Bool.{or-false}
+use Rattle.std.proofs.lemmas.Bool.{cases_Bool}
+use Rattle.std.proofs.lemmas.List.{length-set}
+use Rattle.rcu_seq.specs.Numbers.{Number, same_number}
+use Rattle.rcu_node.specs.CpuSets.{intersection, is_in, unheard}
+use Rattle.rcu_node.specs.Reports.{after_reports, was_reported, without}
+use Rattle.rcu_node.proofs.Flags.{same_from_flags}
+use Rattle.rcu_node.proofs.Joins.{is_in-intersection, length-intersection, is_in-unheard, length-unheard}
+use Rattle.rcu_node.proofs.Reports.{unreported}
+
+-- a report keeps a flag for each processor
+length-without : (number : Number) (set : List Bool) (cpu : ℕ) (tag : Number) → length (without number set cpu tag) ≡ length set
+length-without number set cpu tag = elim (cases_Bool (same_number tag number)) [
+  | inl e ↦ rw e (length-set set cpu false)
+  | inr e ↦ rw e refl
+]
+
+length-after_reports : (number : Number) (set : List Bool) (reports : List (ℕ × Number)) → length (after_reports number set reports) ≡ length set
+length-after_reports number set [] = refl
+length-after_reports number set (report ∷ earlier) =
+    length-without number (after_reports number set earlier) report.0 report.1 ∙ length-after_reports number set earlier
+
+-- after reports the unheard are awaited
+pub after_reports-unheard : (number : Number) (set : List Bool) (reports : List (ℕ × Number))
+    → after_reports number set reports ≡ unheard set (λ cpu. was_reported number cpu reports)
+after_reports-unheard number set reports =
+    let heard = λ (cpu : ℕ). was_reported number cpu reports in
+    same_from_flags (after_reports number set reports) (unheard set heard) (length-after_reports number set reports ∙ sym (length-unheard set heard)) (λ cpu.
+    unreported number set reports cpu ∙ sym (is_in-unheard set heard cpu))
+
+-- where the same were heard, the same are unheard
+unheard-same : (set : List Bool) (heard other : ℕ → Bool) → ((cpu : ℕ) → heard cpu ≡ other cpu) → unheard set heard ≡ unheard set other
+unheard-same set heard other h =
+    same_from_flags (unheard set heard) (unheard set other) (length-unheard set heard ∙ sym (length-unheard set other)) (λ cpu.
+    is_in-unheard set heard cpu ∙ ap (λ b. is_in set cpu && not b) (h cpu) ∙ sym (is_in-unheard set other cpu))
+
+pub equally_heard : (number : Number) (set : List Bool) (reports others : List (ℕ × Number))
+    → ((cpu : ℕ) → was_reported number cpu reports ≡ was_reported number cpu others)
+    → after_reports number set reports ≡ after_reports number set others
+equally_heard number set reports others h =
+    after_reports-unheard number set reports
+    ∙ unheard-same set (λ cpu. was_reported number cpu reports) (λ cpu. was_reported number cpu others) h
+    ∙ sym (after_reports-unheard number set others)
+
+-- unheard of either is unheard of both
+unheard_flag : (there heard other : Bool) → ((there && not heard) && (there && not other)) ≡ (there && not (heard || other))
+unheard_flag true true other = refl
+unheard_flag true false other = refl
+unheard_flag false heard other = refl
+
+pub unheard-merged : (set : List Bool) (heard other : ℕ → Bool) → intersection (unheard set heard) (unheard set other) ≡ unheard set (λ cpu. heard cpu || other cpu)
+unheard-merged set heard other =
+    let either = λ (cpu : ℕ). heard cpu || other cpu in
+    same_from_flags (intersection (unheard set heard) (unheard set other)) (unheard set either)
+    (length-intersection (unheard set heard) (unheard set other) ∙ length-unheard set heard ∙ sym (length-unheard set either)) (λ cpu.
+    is_in-intersection (unheard set heard) (unheard set other) cpu
+    ∙ ap (λ there. there && is_in (unheard set other) cpu) (is_in-unheard set heard cpu)
+    ∙ ap (λ there. (is_in set cpu && not (heard cpu)) && there) (is_in-unheard set other cpu)
+    ∙ unheard_flag (is_in set cpu) (heard cpu) (other cpu) ∙ sym (is_in-unheard set either cpu))
+
+-- a report of either list is one of both together
+or_over : (latest other earlier : Bool) → (latest || (other || earlier)) ≡ (other || (latest || earlier))
+or_over true true earlier = refl
+or_over true false earlier = refl
+or_over false other earlier = refl
+
+was_reported-both : (number : Number) (cpu : ℕ) (reports others : List (ℕ × Number))
+    → (was_reported number cpu reports || was_reported number cpu others) ≡ was_reported number cpu (others ++ reports)
+was_reported-both number cpu reports [] = or-false (was_reported number cpu reports)
+was_reported-both number cpu reports (report ∷ others) =
+    or_over (was_reported number cpu reports) (report.0 == cpu && same_number report.1 number) (was_reported number cpu others)
+    ∙ ap (λ b. (report.0 == cpu && same_number report.1 number) || b) (was_reported-both number cpu reports others)
+
+pub reports-merged : (number : Number) (set : List Bool) (reports others : List (ℕ × Number))
+    → intersection (after_reports number set reports) (after_reports number set others) ≡ after_reports number set (others ++ reports)
+reports-merged number set reports others =
+    let heard = λ (cpu : ℕ). was_reported number cpu reports in
+    let other = λ (cpu : ℕ). was_reported number cpu others in
+    let all = λ (cpu : ℕ). was_reported number cpu (others ++ reports) in
+    ap (λ (s : List Bool). intersection s (after_reports number set others)) (after_reports-unheard number set reports)
+    ∙ ap (λ (s : List Bool). intersection (unheard set heard) s) (after_reports-unheard number set others)
+    ∙ unheard-merged set heard other
+    ∙ unheard-same set (λ cpu. heard cpu || other cpu) all (λ cpu. was_reported-both number cpu reports others)
+    ∙ sym (after_reports-unheard number set (others ++ reports))

@@ -1,0 +1,5 @@
+use Rattle.rcu_node.proofs.Joins.{merged-commutes}
+use Rattle.rcu_node.proofs.laws.merging_commutes.Goals as goal
+
+pub returns : goal.returns
+returns c = merged-commutes
