@@ -1,2 +1,6 @@
+pub mod Awaiting
 pub mod Batches
+pub mod Histories
+pub mod Merged
+pub mod Replicas
 pub mod Sets

@@ -1,1 +1,3 @@
 pub mod Batches
+pub mod History
+pub mod Replicas

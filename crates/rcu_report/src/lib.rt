@@ -3,6 +3,7 @@
 
 pub mod batch;
 pub mod laws;
+pub mod replica;
 pub mod report;
 #[cfg(test)]
 mod tests;

@@ -1,5 +1,7 @@
 //! Batches of reports over a tree.
 
+mod replicas;
+
 use crate::batch::Batch;
 use crate::report::Report;
 use rcu_node::awaited::Awaited;

@@ -1,0 +1,81 @@
+-- What the accepted calls of a replica say. A history is the list of the accepted calls, the newest first.
+use Rattle.std.specs.Prelude.{ℕ, ◌≡◌, ◌+◌, ◌==◌, Bool, true, false, not, ◌&&◌, ◌||◌, List, [], ◌∷◌, None}
+use Rattle.rcu_seq.specs.Numbers.{Number, number_at, same_number}
+use Rattle.rcu_node.specs.CpuSets.{is_in}
+use Rattle.rcu_report.specs.Replicas.{Replicated, Call, Begin, Report, Depart, End, Merge, CanBeMade, at_first, refusal, next}
+
+abbrev pub History : Type 0
+History = List Call
+
+-- the replica after a history, of so many processors and this last number
+abbrev pub after : ℕ → Number → History → Replicated
+after cpus last [] = at_first cpus last
+after cpus last (call ∷ h) = next (after cpus last h) call
+
+-- each call could be made, and was accepted, at its time
+abbrev pub WasAccepted : ℕ → Number → History → Type 0
+WasAccepted cpus last [] = Unit {0}
+WasAccepted cpus last (call ∷ h) =
+    CanBeMade (after cpus last h) call × (refusal (after cpus last h) call ≡ None) × WasAccepted cpus last h
+
+-- a grace period begins
+abbrev pub begins : Call → Bool
+begins (Begin set) = true
+begins _ = false
+
+-- how many grace periods ended
+abbrev pub ends : History → ℕ
+ends [] = 0
+ends (End ∷ h) = ends h + 1
+ends (_ ∷ h) = ends h
+
+-- a grace period runs: one began, and none ended since
+abbrev pub running : History → Bool
+running [] = false
+running (Begin set ∷ h) = true
+running (End ∷ h) = false
+running (_ ∷ h) = running h
+
+-- the number of the latest begin, 0 before any: four for each grace period that had ended, and one more
+abbrev pub tag : History → Number
+tag [] = 0
+tag (Begin set ∷ h) = number_at (ends h) true
+tag (_ ∷ h) = tag h
+
+-- the latest grace period awaited the processor at its start: it was in the set of the latest begin
+abbrev pub starts : ℕ → History → Bool
+starts cpu [] = false
+starts cpu (Begin set ∷ h) = is_in set cpu
+starts cpu (_ ∷ h) = starts cpu h
+
+-- by this call the processor is heard in the grace period of this number: it reports the number, or departs, or
+-- another replica is taken in that heard it in that grace period, so that it started with the processor and awaits it no more
+abbrev pub hears : ℕ → Number → Call → Bool
+hears cpu number (Report c n) = c == cpu && same_number n number
+hears cpu number (Depart c) = c == cpu
+hears cpu number (Merge other) = same_number other.tag number && (is_in other.start_set cpu && not (is_in other.awaited cpu))
+hears cpu number _ = false
+
+-- since the latest begin the processor was heard in the grace period of this number
+abbrev pub is_heard : ℕ → Number → History → Bool
+is_heard cpu number [] = false
+is_heard cpu number (call ∷ h) = not (begins call) && (hears cpu number call || is_heard cpu number h)
+
+-- the processor is awaited: the latest grace period started with it, and it was not heard in it since
+abbrev pub awaits : ℕ → History → Bool
+awaits cpu h = starts cpu h && not (is_heard cpu (tag h) h)
+
+-- the replica is as a history says
+pub record Says (r : Replicated) (h : History) : Type 0 where
+  pub ends : r.periods.ends ≡ ends h
+  pub running : r.periods.running ≡ running h
+  pub tag : r.tag ≡ tag h
+  pub start_set : (cpu : ℕ) → is_in r.start_set cpu ≡ starts cpu h
+  pub awaited : (cpu : ℕ) → is_in r.awaited cpu ≡ awaits cpu h
+
+-- two histories began alike and heard alike: the latest begins have one number and one start set, and of its
+-- processors the same ones were heard since
+pub record AreAlike (x y : History) : Type 0 where
+  pub number : tag x ≡ tag y
+  pub start_set : (cpu : ℕ) → starts cpu x ≡ starts cpu y
+  pub heard : (cpu : ℕ) → starts cpu x ≡ true → is_heard cpu (tag x) x ≡ is_heard cpu (tag y) y

@@ -1,0 +1,95 @@
+-- Replicas of one grace-period engine: what each call leaves, and when it is refused.
+use Rattle.std.specs.Prelude.{ℕ, ◌≡◌, ◌+◌, ◌-◌, ◌==◌, Bool, true, false, not, nat_lt, if◌then◌else◌, List, length, slice_set, replicate, Option, Some, None}
+use Rattle.rcu_seq.specs.Numbers.{Number, Periods, number_at, number_of}
+use Rattle.rcu_seq.specs.declared.fault.Fault.{Fault}
+use Rattle.rcu_seq.specs.declared.fault.Fault.TheVariants.{BadCpu, Running, Idle, Waiting, Exhausted, BootStays, NotAlike}
+use Rattle.rcu_node.specs.CpuSets.{intersection, is_in, size_of}
+use Rattle.rcu_node.specs.Merging.{Standing, are_alike, standing}
+use Rattle.rcu_node.specs.Reports.{answer_to, without}
+use Rattle.rcu_node.specs.declared.answer.Answer.{Answer}
+use Rattle.rcu_node.specs.declared.answer.Answer.TheVariants.{Stale}
+
+-- a replica: its counter of grace periods, the latest one's number, the processors that it awaited at its start, and
+-- those that it awaits now
+pub record Replicated : Type 0 where
+  pub periods : Periods
+  pub tag : Number
+  pub start_set : List Bool
+  pub awaited : List Bool
+
+-- a call: a grace period of a set begins, a processor reports a number or departs, the grace period ends, what another
+-- replica heard is taken in
+pub data Call : Type 0 where
+  Begin : List Bool → Call
+  Report : ℕ → Number → Call
+  Depart : ℕ → Call
+  End : Call
+  Merge : Replicated → Call
+
+-- before any call no grace period began, and no processor is awaited
+abbrev pub at_first : ℕ → Number → Replicated
+at_first cpus last = record {
+  periods = record { ends = 0; running = false; last = last };
+  tag = 0;
+  start_set = replicate cpus false;
+  awaited = replicate cpus false;
+}
+
+-- how many processors there are
+abbrev pub cpus_of : Replicated → ℕ
+cpus_of r = length r.awaited
+
+-- where the latest grace period of a replica stands
+abbrev pub standing_of : Replicated → Standing
+standing_of r = standing r.tag r.start_set r.awaited
+
+-- the number of the latest grace period of a counter, 0 before any
+abbrev pub latest_of : Periods → Number
+latest_of p = if p.running then number_of p else (if p.ends == 0 then 0 else number_at (p.ends - 1) true)
+
+-- the answer to a report: stale while no grace period runs, whatever its number, else as the awaited set's
+abbrev pub answer_of : Replicated → ℕ → Number → Answer
+answer_of r cpu number = if r.periods.running then answer_to r.tag r.awaited cpu number else Stale
+
+-- the call can be made: a set that begins is one of as many processors
+abbrev pub CanBeMade : Replicated → Call → Type 0
+CanBeMade r (Begin set) = length set ≡ cpus_of r
+CanBeMade r _ = Unit {0}
+
+-- why a call is refused, if it is: the first cause that applies
+abbrev pub refusal : Replicated → Call → Option Fault
+refusal r (Begin set) =
+    if r.periods.running then Some Running
+    else (if number_of r.periods == r.periods.last then Some Exhausted else None)
+refusal r (Report cpu number) = if not (nat_lt cpu (cpus_of r)) then Some BadCpu else None
+refusal r (Depart cpu) =
+    if not (nat_lt cpu (cpus_of r)) then Some BadCpu
+    else (if cpu == 0 then Some BootStays else None)
+refusal r End =
+    if not r.periods.running then Some Idle
+    else (if not (size_of r.awaited == 0) then Some Waiting else None)
+refusal r (Merge other) = if are_alike (standing_of r) (standing_of other) then None else Some NotAlike
+
+-- what an accepted call leaves: a beginning grace period awaits its set and has the new number as its tag; a report
+-- clears as reports do while a grace period runs, and nothing else; who departs is awaited no more; an end is counted;
+-- whom the other replica does not await is awaited no more
+abbrev pub next : Replicated → Call → Replicated
+next r (Begin set) = record {
+  periods = record r.periods { running = true };
+  tag = number_at r.periods.ends true;
+  start_set = set;
+  awaited = set;
+}
+next r (Report cpu number) = if r.periods.running then record r { awaited = without r.tag r.awaited cpu number } else r
+next r (Depart cpu) = record r { awaited = slice_set r.awaited cpu false }
+next r End = record r { periods = record r.periods { ends = r.periods.ends + 1; running = false } }
+next r (Merge other) = record r { awaited = intersection r.awaited other.awaited }
+
+-- what always holds: there is a flag for each processor, only processors of the start set are awaited, the tag is the
+-- latest grace period's number, none was awaited before any, and none is while no grace period runs
+pub record AreKept (r : Replicated) : Type 0 where
+  pub started : length r.start_set ≡ cpus_of r
+  pub within : (cpu : ℕ) → is_in r.awaited cpu ≡ true → is_in r.start_set cpu ≡ true
+  pub latest : r.tag ≡ latest_of r.periods
+  pub fresh : r.tag ≡ 0 → r.start_set ≡ replicate (cpus_of r) false
+  pub idle : r.periods.running ≡ false → (cpu : ℕ) → is_in r.awaited cpu ≡ false

@@ -1,0 +1,180 @@
+//! An awaited set with a counter of grace periods.
+ghost use Rattle.std.specs.Prelude.{◌≡◌, ◌≤◌, Some, None, true, false, length, replicate, IfErr, IfOk, OnOk};
+ghost use Rattle.rcu_seq.specs.Numbers.{is_last, number_of};
+ghost use Rattle.rcu_report.specs.Replicas.{Begin, Depart, End, Merge, Report};
+ghost use Rattle.rcu_report.specs.Replicas.{AreKept, answer_of, at_first, cpus_of, next, refusal};
+
+use rcu_node::answer::Answer;
+use rcu_node::awaited::Awaited;
+use rcu_node::cpu_set::CpuSet;
+use rcu_node::merging::merge;
+use rcu_seq::fault::Fault;
+use rcu_seq::seq::Seq;
+use std::marker::Model;
+
+/// An awaited set with a counter: one of two or more replicas of one grace-period engine, which gather reports apart
+/// and are merged.
+///
+/// Contracts see the counter, and the awaited set's tag, start set and awaited set. The tag is the latest grace
+/// period's number, also after its end; nobody is awaited while no grace period runs. No call needs memory; each but
+/// `merge_from` costs what one call of the awaited set costs.
+#[derive(Drop)]
+pub struct Replica<A: Awaited> {
+    /// The counter of grace periods.
+    seq: Seq,
+    /// The processors that the latest grace period awaits.
+    inner: A,
+}
+
+impl<A: Awaited> Model for Replica<A> {
+    ghost use Rattle.std.specs.Prelude.{◌≡◌, true, false, ℕ, length, replicate};
+    ghost use Rattle.rcu_node.specs.CpuSets.{is_in};
+    ghost use Rattle.rcu_report.specs.Replicas.{Replicated, latest_of};
+
+    ghost Value = { Replicated };
+
+    ghost view = { λ r. record {
+      periods = r.seq;
+      tag = A.tag r.inner;
+      start_set = A.start_set r.inner;
+      awaited = A.awaited r.inner;
+    } };
+
+    ghost invariant = { λ r. record {
+      latest : A.tag r.inner ≡ latest_of r.seq;
+      fresh : A.tag r.inner ≡ 0 → A.start_set r.inner ≡ replicate (length (A.awaited r.inner)) false;
+      idle : r.seq.running ≡ false → (cpu : ℕ) → is_in (A.awaited r.inner) cpu ≡ false;
+    } };
+}
+
+impl<A: Awaited> Replica<A> {
+    /// No grace period began, and nobody is awaited. The awaited set is as it was made.
+    ///
+    /// Fault 19: `last` is not a multiple of 4 in 4..=2^62.
+    pub fn new(inner: A, last: u64) -> Result<Self, Fault>
+        requires tag { A.tag inner ≡ 0 }
+        requires empty { A.start_set inner ≡ replicate (length (A.awaited inner)) false }
+        ensures ok { IfOk result (λ made. made ≡ at_first (length (A.awaited inner)) last) }
+        ensures accepted { OnOk result (is_last last ≡ true) }
+        ensures err { IfErr result (λ fault. (fault ≡ Fault.BadLast) × (is_last last ≡ false)) }
+    {
+        Ok(Replica {
+            seq: Seq::new(last)?,
+            inner,
+        })
+    }
+
+    /// A grace period begins, awaits the set and answers its number, `4k + 1`. The set is one of as many processors.
+    ///
+    /// Faults: 8 where one runs; 11 where the number is the last one.
+    pub fn begin(&mut self, set: &CpuSet) -> Result<u64, Fault>
+        requires { length set.now ≡ cpus_of self.old }
+        ensures number { IfOk result (λ number. number ≡ number_of self.new.periods) }
+        ensures ok { OnOk result (self.new ≡ next self.old (Begin set.now)) }
+        ensures accepted { OnOk result (refusal self.old (Begin set.now) ≡ None) }
+        ensures err { IfErr result (λ fault. refusal self.old (Begin set.now) ≡ Some fault) }
+        ensures refused { IfErr result (λ _. self.new ≡ self.old) }
+    {
+        let number = self.seq.start()?;
+        self.inner.begin(number, set);
+        Ok(number)
+    }
+
+    /// A processor reports a quiescent state with the number that it had noted. While no grace period runs each
+    /// report is stale, else it is answered as by [`Awaited::report`].
+    ///
+    /// Fault 1: there is no such processor.
+    pub fn report(&mut self, cpu: u32, tag: u64) -> Result<Answer, Fault>
+        ensures answer { IfOk result (λ answer. answer ≡ answer_of self.old cpu tag) }
+        ensures ok { OnOk result (self.new ≡ next self.old (Report cpu tag)) }
+        ensures accepted { OnOk result (refusal self.old (Report cpu tag) ≡ None) }
+        ensures err { IfErr result (λ fault. refusal self.old (Report cpu tag) ≡ Some fault) }
+        ensures refused { IfErr result (λ _. self.new ≡ self.old) }
+    {
+        if cpu >= self.inner.cpus() {
+            return Err(Fault::BadCpu);
+        }
+        if !self.seq.is_running() {
+            return Ok(Answer::Stale);
+        }
+        Ok(self.inner.report(cpu, tag))
+    }
+
+    /// A processor departs, and is awaited no more.
+    ///
+    /// Faults: 1; 12 for processor 0.
+    pub fn depart(&mut self, cpu: u32) -> Result<(), Fault>
+        ensures ok { OnOk result (self.new ≡ next self.old (Depart cpu)) }
+        ensures accepted { OnOk result (refusal self.old (Depart cpu) ≡ None) }
+        ensures err { IfErr result (λ fault. refusal self.old (Depart cpu) ≡ Some fault) }
+        ensures refused { IfErr result (λ _. self.new ≡ self.old) }
+    {
+        if cpu >= self.inner.cpus() {
+            return Err(Fault::BadCpu);
+        }
+        if cpu == 0 {
+            return Err(Fault::BootStays);
+        }
+        let number = self.inner.tag();
+        self.inner.report(cpu, number);
+        Ok(())
+    }
+
+    /// The grace period ends, and the new number is answered. The awaited set keeps its tag and start set.
+    ///
+    /// Faults: 9 where none runs; 10 where a processor is awaited.
+    #[tactic(auto, using(crate::proofs::Awaiting::refused_while_awaited))]
+    pub fn end(&mut self) -> Result<u64, Fault>
+        ensures number { IfOk result (λ number. number ≡ number_of self.new.periods) }
+        ensures ok { OnOk result (self.new ≡ next self.old End) }
+        ensures accepted { OnOk result (refusal self.old End ≡ None) }
+        ensures err { IfErr result (λ fault. refusal self.old End ≡ Some fault) }
+        ensures refused { IfErr result (λ _. self.new ≡ self.old) }
+    {
+        // While no grace period runs nobody is awaited, so that the counter finds the first fault.
+        if !self.inner.is_empty() {
+            return Err(Fault::Waiting);
+        }
+        self.seq.end()
+    }
+
+    /// Takes in what another replica of the same grace period has heard: it awaits then whom both await, whether the
+    /// grace period still runs here or there or not. It costs a step a processor.
+    ///
+    /// Fault 20: number of processors, tag or start set differ.
+    pub fn merge_from<B: Awaited>(&mut self, other: &Replica<B>) -> Result<(), Fault>
+        ensures ok { OnOk result (self.new ≡ next self.old (Merge other.now)) }
+        ensures accepted { OnOk result (refusal self.old (Merge other.now) ≡ None) }
+        ensures err { IfErr result (λ fault. refusal self.old (Merge other.now) ≡ Some fault) }
+        ensures refused { IfErr result (λ _. self.new ≡ self.old) }
+    {
+        merge(&mut self.inner, &other.inner)
+    }
+
+    /// The awaited set.
+    pub fn awaited(&self) -> &A
+        ensures tag { A.tag result.now ≡ self.now.tag }
+        ensures start_set { A.start_set result.now ≡ self.now.start_set }
+        ensures awaited { A.awaited result.now ≡ self.now.awaited }
+        ensures kept { AreKept self.now }
+    {
+        &self.inner
+    }
+
+    /// The number: 4 times the grace periods that ended, and 1 more while one runs.
+    pub fn value(&self) -> u64
+        ensures value { result ≡ number_of self.now.periods }
+        ensures within { result ≤ self.now.periods.last }
+        ensures kept { AreKept self.now }
+    {
+        self.seq.value()
+    }
+
+    /// Whether a grace period runs.
+    pub fn is_running(&self) -> bool
+        ensures running { result ≡ self.now.periods.running }
+        ensures kept { AreKept self.now }
+    {
+        self.seq.is_running()
+    }
+}
