@@ -1,11 +1,11 @@
 -- Lists with one callback more, walks over a list, and its parts.
-use Rattle.std.proofs.Common.{◌≡◌, ℕ, zero, suc, ◌+◌, ◌-◌, ◌<◌, ◌≤◌, min, List, [], ◌∷◌, ◌++◌, length, map, take, drop, set, get_or, refl, ap, sym, subst, ◌∙◌, add-one, drop-cons, append_assoc, length-append, length-take, length-drop, arith}
+use Rattle.std.proofs.Common.{◌≡◌, ℕ, false, zero, suc, ◌+◌, ◌-◌, ◌<◌, ◌≤◌, min, List, [], ◌∷◌, ◌++◌, length, map, take, drop, set, get_or, refl, ap, sym, subst, ◌∙◌, add-one, drop-cons, append_assoc, length-append, length-take, length-drop, arith}
 use Rattle.std.proofs.Math.Seq.{take-append_seam, drop-append_seam}
 use Rattle.std.proofs.lemmas.List.{map-set, map-append, take-map, drop-map, take-append-le, take_min, get_or-map, get_or_default, length-map, map_push}
 use Rattle.std.proofs.lemmas.List.Edits.{map_over_more}
 use Rattle.std.proofs.lemmas.List.Elements.{filter_map-append}
 use Rattle.rcu_cblist.specs.declared.queued.Queued.{Queued}
-use Rattle.rcu_cblist.specs.Items.{Item, Mark, Of, Marker, Unmarked, Until, Done, callback_of, callbacks, remarked, mark_given, unmarked, front, behind, taken, from_callback, untaken, moved}
+use Rattle.rcu_cblist.specs.Items.{Item, Mark, Of, Marker, Unmarked, Until, Done, callback_of, callbacks, remarked, mark_given, unmarked, front, behind, taken, from_callback, untaken, moved, is_empty, begins_with_marker}
 
 -- the next item of a walk
 pub rest_more : {X Y : Type 0} (f : X → Y) (xs : List X) (i : ℕ) (x : X) → i < length xs → x ≡ get_or xs i x →
@@ -51,6 +51,77 @@ front_push (Marker ∷ xs) call = ap (λ l. Marker ∷ l) (front_push xs call)
 front_push (Of first Done ∷ xs) call = ap (λ l. Of first Done ∷ l) (front_push xs call)
 front_push (Of first Unmarked ∷ xs) call = refl
 front_push (Of first (Until n) ∷ xs) call = refl
+
+-- so does a marker, if its done callbacks are counted
+pub front_marker : {X : Type 0} (xs : List (Item X)) →
+    length (callbacks (front (xs ++ Marker ∷ []))) ≡ length (callbacks (front xs))
+front_marker [] = refl
+front_marker (Marker ∷ xs) = front_marker xs
+front_marker (Of first Done ∷ xs) = ap suc (front_marker xs)
+front_marker (Of first Unmarked ∷ xs) = refl
+front_marker (Of first (Until n) ∷ xs) = refl
+
+-- a marker at the end is no callback
+pub callbacks_marker : {X : Type 0} (xs : List (Item X)) →
+    length (callbacks (xs ++ Marker ∷ [])) ≡ length (callbacks xs)
+callbacks_marker [] = refl
+callbacks_marker (Marker ∷ xs) = callbacks_marker xs
+callbacks_marker (Of call mark ∷ xs) = ap suc (callbacks_marker xs)
+
+-- an item at the end of a list that is not empty leaves the first one as it is
+pub first_push : {X : Type 0} (xs : List (Item X)) (x : Item X) → is_empty xs ≡ false →
+    begins_with_marker (xs ++ x ∷ []) ≡ begins_with_marker xs
+first_push [] x some = cc
+first_push (first ∷ xs) x some = refl
+
+-- a callback at the end of a list that does not begin with a marker
+pub first_queued : {X : Type 0} (xs : List (Item X)) (call : Queued X) (mark : Mark) → begins_with_marker xs ≡ false →
+    begins_with_marker (xs ++ Of call mark ∷ []) ≡ false
+first_queued [] call mark none = refl
+first_queued (first ∷ xs) call mark none = none
+
+-- a change of marks keeps what the first item is
+pub first_remarked : {X : Type 0} (change : Mark → Mark) (xs : List (Item X)) →
+    begins_with_marker (map (remarked change) xs) ≡ begins_with_marker xs
+first_remarked change [] = refl
+first_remarked change (Marker ∷ xs) = refl
+first_remarked change (Of call mark ∷ xs) = refl
+
+-- a list from a callback on does not begin with a marker
+pub first_from : {X : Type 0} (n : ℕ) (xs : List (Item X)) → begins_with_marker (from_callback n xs) ≡ false
+first_from n [] = refl
+first_from n (Marker ∷ xs) = first_from n xs
+first_from zero (Of call mark ∷ xs) = refl
+first_from (suc n) (Of call mark ∷ xs) = first_from n xs
+
+-- nor does what is behind a done part once its marks are gone
+first_behind : {X : Type 0} (xs : List (Item X)) → begins_with_marker (map unmarked (behind xs)) ≡ false
+first_behind [] = refl
+first_behind (Marker ∷ xs) = first_behind xs
+first_behind (Of call Done ∷ xs) = first_behind xs
+first_behind (Of call Unmarked ∷ xs) = refl
+first_behind (Of call (Until n) ∷ xs) = refl
+
+-- nor does a list behind another where neither does
+first_append : {X : Type 0} (xs ys : List (Item X)) → begins_with_marker xs ≡ false → begins_with_marker ys ≡ false →
+    begins_with_marker (xs ++ ys) ≡ false
+first_append [] ys none others = others
+first_append (first ∷ xs) ys none others = none
+
+-- nor does a done part
+first_front : {X : Type 0} (xs : List (Item X)) → begins_with_marker xs ≡ false → begins_with_marker (front xs) ≡ false
+first_front [] none = refl
+first_front (Marker ∷ xs) none = cc
+first_front (Of call Done ∷ xs) none = refl
+first_front (Of call Unmarked ∷ xs) none = refl
+first_front (Of call (Until n) ∷ xs) none = refl
+
+-- nor does a target to which a list moved
+pub first_moved : {X : Type 0} (xs ys : List (Item X)) → begins_with_marker xs ≡ false → begins_with_marker ys ≡ false →
+    begins_with_marker (moved xs ys) ≡ false
+first_moved xs ys none others =
+    first_append (front xs ++ ys) (map unmarked (behind xs)) (first_append (front xs) ys (first_front xs none) others)
+    (first_behind xs)
 
 -- a callback at the end is one callback more
 pub callbacks_push : {X : Type 0} (xs : List (Item X)) (call : Queued X) (mark : Mark) →

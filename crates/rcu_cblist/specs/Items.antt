@@ -82,6 +82,20 @@ module _ {X : Type 0} where
   remarked change (Of call mark) = Of call (change mark)
   remarked change Marker = Marker
 
+  -- the list has no item
+  abbrev pub is_empty : List (Item X) → Bool
+  is_empty [] = true
+  is_empty (x ∷ xs) = false
+
+  -- the first item is a marker
+  abbrev pub begins_with_marker : List (Item X) → Bool
+  begins_with_marker [] = false
+  begins_with_marker (x ∷ xs) = is_marker x
+
+  -- the list once a marker is put behind its callbacks; an empty one gets none
+  abbrev pub entrained : List (Item X) → List (Item X)
+  entrained xs = if is_empty xs then xs else xs ++ Marker ∷ []
+
   -- the item without its mark
   abbrev pub unmarked : Item X → Item X
   unmarked x = remarked (λ _. Unmarked) x

@@ -2,6 +2,7 @@
 #![tactic(auto)]
 
 mod kept;
+pub mod laws;
 pub mod queued;
 pub mod refused;
 pub mod seg_list;

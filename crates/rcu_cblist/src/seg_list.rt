@@ -1,6 +1,6 @@
 //! One processor's list of callbacks.
-ghost use Rattle.std.specs.Prelude.{◌≡◌, ◌≢◌, ◌++◌, ◌∷◌, [], length, OnOk, IfOk, IfErr};
-ghost use Rattle.rcu_cblist.specs.Items.{Of, Unmarked, advanced, accelerated, IsAtMost, taken, untaken, passed, moved, front, behind, callbacks, numbers, greatest};
+ghost use Rattle.std.specs.Prelude.{◌≡◌, ◌≢◌, ◌+◌, ◌<◌, ◌^◌, ◌++◌, ◌∷◌, [], false, not, length, OnOk, IfOk, IfErr};
+ghost use Rattle.rcu_cblist.specs.Items.{Of, Unmarked, advanced, accelerated, IsAtMost, taken, untaken, passed, moved, entrained, is_empty, begins_with_marker, front, behind, callbacks, numbers, greatest};
 
 use crate::kept::{Kept, Wait};
 use crate::queued::Queued;
@@ -15,8 +15,8 @@ use std::marker::Model;
 /// One processor's callbacks, in order, each with its mark: none, a grace-period number, or done (Linux's
 /// `rcu_segcblist`). Contracts see the list of items.
 ///
-/// The done part is the longest front with no callback that is not done. A call is refused only where a growth was,
-/// and leaves its lists as they were.
+/// The done part is the longest front with no callback that is not done. No list begins with a marker, so each marker
+/// has a callback before it. A call is refused only where a growth was, and leaves its lists as they were.
 #[derive(Drop)]
 pub struct SegList<T: Drop> {
     /// The items, in order.
@@ -30,8 +30,8 @@ pub struct SegList<T: Drop> {
 }
 
 impl<T: Drop> Model for SegList<T> {
-    ghost use Rattle.std.specs.Prelude.{◌≡◌, List, length};
-    ghost use Rattle.rcu_cblist.specs.Items.{Item, front, callbacks};
+    ghost use Rattle.std.specs.Prelude.{◌≡◌, List, length, false};
+    ghost use Rattle.rcu_cblist.specs.Items.{Item, front, callbacks, begins_with_marker};
     ghost use Rattle.rcu_cblist.specs.Kept.{items_of};
 
     ghost Value = { List (Item T) };
@@ -41,6 +41,7 @@ impl<T: Drop> Model for SegList<T> {
     ghost invariant = { λ s. record {
       done : s.done ≡ length (callbacks (front (items_of s.items.items)));
       count : s.count ≡ length (callbacks (items_of s.items.items));
+      first : begins_with_marker (items_of s.items.items) ≡ false;
     } };
 }
 
@@ -60,7 +61,7 @@ impl<T: Drop> SegList<T> {
     /// Queues a callback at the end, without a mark.
     ///
     /// Fault 16, which hands the callback back.
-    #[tactic(auto, using(crate::proofs::Lists::front_push, crate::proofs::Lists::callbacks_push, crate::proofs::Lists::view_push))]
+    #[tactic(auto, using(crate::proofs::Lists::front_push, crate::proofs::Lists::callbacks_push, crate::proofs::Lists::first_queued, crate::proofs::Lists::view_push))]
     pub fn queue(&mut self, item: Queued<T>) -> Result<(), Refused<Queued<T>>>
         ensures ok { OnOk result (self.new ≡ self.old ++ Of item Unmarked ∷ []) }
         ensures err { IfErr result (λ refused. (refused.fault ≡ Fault.NoMemory) × (refused.value ≡ item) × (self.new ≡ self.old)) }
@@ -103,7 +104,7 @@ impl<T: Drop> SegList<T> {
     /// left. Costs constant time for each.
     ///
     /// Fault 16, only where it has a callback to hand out.
-    #[tactic(auto, using(crate::proofs::Lists::taken_least, crate::proofs::Lists::untaken_least, crate::proofs::Lists::front_from, crate::proofs::Lists::callbacks_from, crate::proofs::Lists::length_taken, crate::proofs::Lists::callbacks_parts, crate::proofs::Lists::taken_none))]
+    #[tactic(auto, using(crate::proofs::Lists::first_from, crate::proofs::Lists::taken_least, crate::proofs::Lists::untaken_least, crate::proofs::Lists::front_from, crate::proofs::Lists::callbacks_from, crate::proofs::Lists::length_taken, crate::proofs::Lists::callbacks_parts, crate::proofs::Lists::taken_none))]
     pub fn take_done(&mut self, max: u64) -> Result<Taken<T>, Fault>
         ensures calls { IfOk result (λ some. some.calls.items ≡ taken max self.old) }
         ensures markers { IfOk result (λ some. some.markers ≡ passed max self.old) }
@@ -125,7 +126,7 @@ impl<T: Drop> SegList<T> {
     /// the order kept. Costs what it moves.
     ///
     /// Fault 16, only where there is something to move.
-    #[tactic(auto, using(crate::proofs::Lists::front_moved, crate::proofs::Lists::callbacks_moved, crate::proofs::Lists::callbacks_of_kept, crate::proofs::Lists::front_of_kept))]
+    #[tactic(auto, using(crate::proofs::Lists::front_moved, crate::proofs::Lists::callbacks_moved, crate::proofs::Lists::callbacks_of_kept, crate::proofs::Lists::front_of_kept, crate::proofs::Lists::first_moved))]
     pub fn migrate_into(&mut self, target: &mut SegList<T>) -> Result<(), Fault>
         ensures ok { OnOk result ((target.new ≡ moved self.old target.old) × (self.new ≡ [])) }
         ensures err { IfErr result (λ fault. (fault ≡ Fault.NoMemory) × (self.old ≢ []) × (self.new ≡ self.old) × (target.new ≡ target.old)) }
@@ -134,11 +135,69 @@ impl<T: Drop> SegList<T> {
             return Err(Fault::NoMemory);
         };
         carry(&mut self.items, &mut target.items);
-        target.count += self.count;
-        target.done += self.done;
-        self.count = 0;
-        self.done = 0;
+        carry_count(&mut self.count, &mut target.count);
+        carry_count(&mut self.done, &mut target.done);
         Ok(())
+    }
+
+    /// Puts a marker at the end of a list that is not empty (Linux's `rcu_segcblist_entrain`), and answers whether it
+    /// did. An empty list stays as it is, and takes no memory.
+    ///
+    /// Fault 16, only where the list is not empty.
+    #[tactic(auto, using(crate::proofs::Lists::front_marker, crate::proofs::Lists::callbacks_marker, crate::proofs::Lists::first_push, crate::proofs::Lists::view_push))]
+    pub fn entrain(&mut self) -> Result<bool, Fault>
+        ensures ok { IfOk result (λ marked. (marked ≡ not (is_empty self.old)) × (self.new ≡ entrained self.old)) }
+        ensures err { IfErr result (λ fault. (fault ≡ Fault.NoMemory) × (self.old ≢ []) × (self.new ≡ self.old)) }
+    {
+        if self.items.is_empty() {
+            return Ok(false);
+        }
+        match self.items.push_back(Kept::Marker) {
+            Ok(()) => Ok(true),
+            Err(_) => Err(Fault::NoMemory),
+        }
+    }
+
+    /// Moves all to a target, with a marker put behind it first where it is not empty: what `entrain` and then
+    /// `migrate_into` leave, all or nothing. Costs what it moves.
+    ///
+    /// Fault 16, only where there is something to move.
+    #[tactic(auto, using(crate::proofs::Lists::front_moved, crate::proofs::Lists::callbacks_moved, crate::proofs::Lists::callbacks_of_kept, crate::proofs::Lists::front_of_kept, crate::proofs::Lists::first_moved, crate::proofs::Lists::front_marker, crate::proofs::Lists::callbacks_marker, crate::proofs::Lists::first_push, crate::proofs::Lists::view_push))]
+    pub fn migrate_marked_into(&mut self, target: &mut SegList<T>) -> Result<(), Fault>
+        ensures ok { OnOk result ((target.new ≡ moved (entrained self.old) target.old) × (self.new ≡ [])) }
+        ensures err { IfErr result (λ fault. (fault ≡ Fault.NoMemory) × (self.old ≢ []) × (self.new ≡ self.old) × (target.new ≡ target.old)) }
+    {
+        if self.items.is_empty() {
+            return Ok(());
+        }
+        let Ok(()) = self.items.reserve(1) else {
+            return Err(Fault::NoMemory);
+        };
+        let Ok(()) = target.items.reserve(self.items.len() + 1) else {
+            return Err(Fault::NoMemory);
+        };
+        let Ok(()) = self.items.push_back(Kept::Marker) else {
+            unreachable!()
+        };
+        carry(&mut self.items, &mut target.items);
+        carry_count(&mut self.count, &mut target.count);
+        carry_count(&mut self.done, &mut target.done);
+        Ok(())
+    }
+
+    /// Whether it has no item. It never begins with a marker.
+    pub fn is_empty(&self) -> bool
+        ensures empty { result ≡ is_empty self.now }
+        ensures first { begins_with_marker self.now ≡ false }
+    {
+        self.items.is_empty()
+    }
+
+    /// How many callbacks there are.
+    pub fn count(&self) -> u64
+        ensures { result ≡ length (callbacks self.now) }
+    {
+        self.count
     }
 
     /// How many callbacks the done part has.
@@ -172,4 +231,14 @@ impl<T: Drop> SegList<T> {
         }
         found
     }
+}
+
+/// Moves a count to a target's.
+fn carry_count(count: &mut u64, target: &mut u64)
+    requires { target.old + count.old < 2 ^ 64 }
+    ensures target { target.new ≡ target.old + count.old }
+    ensures count { count.new ≡ 0 }
+{
+    *target += *count;
+    *count = 0;
 }

@@ -7,6 +7,6 @@ use crate::queued::Queued;
 pub struct Taken<T: Drop> {
     /// The callbacks, in order.
     pub calls: Vec<Queued<T>>,
-    /// How many markers were passed: 0, since no call puts a marker into a list yet.
+    /// How many markers were passed.
     pub markers: u64,
 }

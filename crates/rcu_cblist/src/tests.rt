@@ -34,8 +34,9 @@ fn accelerate(rt: &impl Abort, list: &mut SegList<u64>, snap: u64) {
     }
 }
 
-/// Takes callbacks, by a second call where the first is refused a growth, and compares their values.
-fn take<R: Abort + Print>(rt: &R, list: &mut SegList<u64>, max: u64, wanted: &[u64]) {
+/// Takes callbacks, by a second call where the first is refused a growth, and compares their values and how many
+/// markers were passed.
+fn take<R: Abort + Print>(rt: &R, list: &mut SegList<u64>, max: u64, wanted: &[u64], markers: u64) {
     let taken = match list.take_done(max) {
         Ok(taken) => taken,
         Err(fault) => {
@@ -43,7 +44,7 @@ fn take<R: Abort + Print>(rt: &R, list: &mut SegList<u64>, max: u64, wanted: &[u
             list.take_done(max).expect(rt, "the second call has memory")
         }
     };
-    assert_eq!(rt; taken.markers, 0);
+    assert_eq!(rt; taken.markers, markers);
     assert_eq!(rt; taken.calls.len(), wanted.len());
     for (call, value) in taken.calls.iter().zip(wanted) {
         assert_eq!(rt; call.value, *value);
@@ -58,9 +59,29 @@ fn migrate<R: Abort + Print>(rt: &R, list: &mut SegList<u64>, target: &mut SegLi
     }
 }
 
+/// Moves a list with a marker behind it, by a second call where the first is refused a growth.
+fn migrate_marked<R: Abort + Print>(rt: &R, list: &mut SegList<u64>, target: &mut SegList<u64>) {
+    if let Err(fault) = list.migrate_marked_into(target) {
+        refused(rt, fault);
+        assert_eq!(rt; list.migrate_marked_into(target), Ok(()));
+    }
+}
+
+/// Puts a marker behind a list, by a second call where the first is refused a growth, and compares whether it did.
+fn entrain<R: Abort + Print>(rt: &R, list: &mut SegList<u64>, wanted: bool) {
+    match list.entrain() {
+        Ok(marked) => assert_eq!(rt; marked, wanted),
+        Err(fault) => {
+            refused(rt, fault);
+            assert_eq!(rt; list.entrain(), Ok(wanted));
+        }
+    }
+}
+
 /// Compares how many callbacks are done and how many wait, and the greatest number that one carries.
 fn counts(rt: &impl Abort, list: &SegList<u64>, done: u64, waiting: u64, greatest: Option<u64>) {
     assert_eq!(rt; (list.done_count(), list.waiting_count()), (done, waiting));
+    assert_eq!(rt; list.count().checked_sub(done), Some(waiting));
     assert_eq!(rt; list.greatest_waiting(), greatest);
 }
 
@@ -79,15 +100,15 @@ fn three_marks_in_a_list(rt: HostRuntime) {
     counts(&rt, &list, 1, 2, Some(8));
     accelerate(&rt, &mut list, 12);
     counts(&rt, &list, 1, 2, Some(12));
-    take(&rt, &mut list, 9, &[10]);
+    take(&rt, &mut list, 9, &[10], 0);
     counts(&rt, &list, 0, 2, Some(12));
 
     list.advance(12);
     counts(&rt, &list, 2, 0, None);
-    take(&rt, &mut list, 0, &[]);
-    take(&rt, &mut list, 1, &[11]);
-    take(&rt, &mut list, 1, &[12]);
-    take(&rt, &mut list, 1, &[]);
+    take(&rt, &mut list, 0, &[], 0);
+    take(&rt, &mut list, 1, &[11], 0);
+    take(&rt, &mut list, 1, &[12], 0);
+    take(&rt, &mut list, 1, &[], 0);
 }
 
 #[test]
@@ -117,7 +138,60 @@ fn migration_around_a_target(rt: HostRuntime) {
     target.advance(16);
     counts(&rt, &target, 3, 2, None);
     accelerate(&rt, &mut target, 20);
-    take(&rt, &mut target, 9, &[10, 20, 21]);
+    take(&rt, &mut target, 9, &[10, 20, 21], 0);
     target.advance(20);
-    take(&rt, &mut target, 9, &[11, 12]);
+    take(&rt, &mut target, 9, &[11, 12], 0);
+}
+
+#[test]
+fn markers_in_a_list(rt: HostRuntime) {
+    let mut list = SegList::new(rt.alloc());
+    assert!(rt; list.is_empty());
+    entrain(&rt, &mut list, false);
+    assert!(rt; list.is_empty());
+
+    queue(&rt, &mut list, 1, 0, 10);
+    accelerate(&rt, &mut list, 4);
+    entrain(&rt, &mut list, true);
+    queue(&rt, &mut list, 2, 1, 11);
+    entrain(&rt, &mut list, true);
+    counts(&rt, &list, 0, 2, Some(4));
+    take(&rt, &mut list, 9, &[], 0);
+
+    list.advance(4);
+    take(&rt, &mut list, 9, &[10], 1);
+    accelerate(&rt, &mut list, 8);
+    list.advance(8);
+    take(&rt, &mut list, 0, &[], 0);
+    take(&rt, &mut list, 1, &[11], 1);
+    assert!(rt; list.is_empty());
+    entrain(&rt, &mut list, false);
+}
+
+#[test]
+fn migration_with_a_marker(rt: HostRuntime) {
+    let mut target = SegList::new(rt.alloc());
+    queue(&rt, &mut target, 1, 0, 20);
+    let mut list = SegList::new(rt.alloc());
+    migrate_marked(&rt, &mut list, &mut target);
+    counts(&rt, &target, 0, 1, None);
+
+    queue(&rt, &mut list, 2, 0, 10);
+    accelerate(&rt, &mut list, 4);
+    list.advance(4);
+    queue(&rt, &mut list, 3, 4, 11);
+    migrate_marked(&rt, &mut list, &mut target);
+    assert!(rt; list.is_empty());
+    counts(&rt, &target, 1, 2, None);
+    accelerate(&rt, &mut target, 8);
+    target.advance(8);
+    take(&rt, &mut target, 2, &[10, 20], 0);
+    take(&rt, &mut target, 1, &[11], 1);
+    assert!(rt; target.is_empty());
+
+    queue(&rt, &mut list, 4, 8, 12);
+    accelerate(&rt, &mut list, 12);
+    list.advance(12);
+    migrate_marked(&rt, &mut list, &mut target);
+    take(&rt, &mut target, 9, &[12], 1);
 }

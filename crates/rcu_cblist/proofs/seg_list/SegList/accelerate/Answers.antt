@@ -1,7 +1,7 @@
 use Rattle.std.proofs.Common.{ap, sym, ◌∙◌, length}
-use Rattle.rcu_cblist.specs.Items.{callbacks, front, mark_given}
+use Rattle.rcu_cblist.specs.Items.{callbacks, front, begins_with_marker, mark_given}
 use Rattle.rcu_cblist.specs.Kept.{items_of}
-use Rattle.rcu_cblist.proofs.Lists.{callbacks_remarked, front_given}
+use Rattle.rcu_cblist.proofs.Lists.{callbacks_remarked, first_remarked, front_given}
 use Rattle.rcu_cblist.proofs.seg_list.SegList.accelerate.Goals as goal
 
 pub invariant_of-self : goal.invariant_of-self
@@ -12,4 +12,5 @@ invariant_of-self g c =
     record {
       done = c.self.invariant.done ∙ sym (ap (λ l. length (callbacks (front l))) c.accelerate_all.ensures ∙ ap length same_done);
       count = c.self.invariant.count ∙ sym (ap (λ l. length (callbacks l)) c.accelerate_all.ensures ∙ ap length same);
+      first = ap begins_with_marker c.accelerate_all.ensures ∙ first_remarked (mark_given c.args.snap) all ∙ c.self.invariant.first;
     }

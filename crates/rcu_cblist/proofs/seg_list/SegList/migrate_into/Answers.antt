@@ -1,11 +1,11 @@
-use Rattle.std.proofs.Common.{◌≡◌, length, map, ap, arith}
-use Rattle.rcu_cblist.specs.Items.{front, callbacks}
+use Rattle.std.proofs.Common.{◌≡◌, ◌∙◌, length, map, ap, arith}
+use Rattle.rcu_cblist.specs.Items.{front, callbacks, begins_with_marker}
 use Rattle.rcu_cblist.specs.Kept.{item_of, items_of}
-use Rattle.rcu_cblist.proofs.Lists.{callbacks_of_kept, front_of_kept, front_moved, callbacks_moved}
+use Rattle.rcu_cblist.proofs.Lists.{callbacks_of_kept, front_of_kept, front_moved, callbacks_moved, first_moved}
 use Rattle.rcu_cblist.proofs.seg_list.SegList.migrate_into.Goals as goal
 
-pub overflow_add-target : goal.overflow_add-target
-overflow_add-target g c =
+pub carry_count-requires : goal.carry_count-requires
+carry_count-requires g c =
     let own = c.self.inside.items in
     let there = c.target.inside.items in
     let few = callbacks_of_kept item_of own.items in
@@ -18,8 +18,8 @@ overflow_add-target g c =
     let kept_there = c.target.invariant in
     omega arith
 
-pub overflow_add-target-2 : goal.overflow_add-target-2
-overflow_add-target-2 g c =
+pub carry_count-requires-2 : goal.carry_count-requires-2
+carry_count-requires-2 g c =
     let own = c.self.inside.items in
     let there = c.target.inside.items in
     let few = front_of_kept item_of own.items in
@@ -45,4 +45,5 @@ invariant_of-target-2 g c =
     let same_all = ap (λ l. length (callbacks l)) same in
     let kept = c.self.invariant in
     let kept_there = c.target.invariant in
-    record { done = omega arith; count = omega arith }
+    let unled = first_moved own (items_of c.reserve.new.self.items) kept.first (ap begins_with_marker same ∙ kept_there.first) in
+    record { done = omega arith; count = omega arith; first = ap begins_with_marker c.carry.ensures.target ∙ unled }
