@@ -1,9 +1,11 @@
 -- What the accepted events so far say. A history is the list of the accepted events, the newest first. So the
--- history as it was at an earlier event is the part of the list from that event on.
-use Rattle.std.specs.Prelude.{ℕ, ◌+◌, ◌-◌, ◌==◌, Bool, true, false, not, ◌&&◌, ◌||◌, nat_lt, if◌then◌else◌, List, [], ◌∷◌, ◌++◌, slice_get, Option, Some, None}
+-- history as it was at an earlier event is the part of the list from that event on. A turn that began or ended a
+-- grace period stands in it as that begin or end.
+use Rattle.std.specs.Prelude.{ℕ, ◌+◌, ◌-◌, ◌==◌, Bool, true, false, not, ◌&&◌, ◌||◌, max, nat_lt, if◌then◌else◌, List, [], ◌∷◌, ◌++◌, slice_get, Option, Some, None}
+use Rattle.rcu_seq.specs.Cookies.{snapshot_at}
 use Rattle.rcu_seq.specs.Numbers.{Number, number_at, same_number}
 use Rattle.rcu_core.specs.declared.event.Event.{Event}
-use Rattle.rcu_core.specs.declared.event.Event.TheVariants.{Note, Quiesce, Deliver, Online, Begin, End}
+use Rattle.rcu_core.specs.declared.event.Event.TheVariants.{Enter, Exit, Note, Quiesce, Deliver, Online, Offline, Begin, End, StartPoll}
 use Rattle.rcu_report.specs.declared.report.Report.{Report}
 
 abbrev pub History : Type 0
@@ -34,6 +36,21 @@ abbrev pub arrives : ℕ → Event → Bool
 arrives cpu (Online c) = c == cpu
 arrives cpu _ = false
 
+-- the processor departs
+abbrev pub departs : ℕ → Event → Bool
+departs cpu (Offline c) = c == cpu
+departs cpu _ = false
+
+-- the processor enters
+abbrev pub enters : ℕ → Event → Bool
+enters cpu (Enter c) = c == cpu
+enters cpu _ = false
+
+-- the processor exits
+abbrev pub exits : ℕ → Event → Bool
+exits cpu (Exit c) = c == cpu
+exits cpu _ = false
+
 -- the processor takes down the number: at a note, and at its arrival
 abbrev pub notes : ℕ → Event → Bool
 notes cpu (Note c) = c == cpu
@@ -48,15 +65,53 @@ running h = nat_lt (count ends h) (count begins h)
 abbrev pub number : History → Number
 number h = number_at (count ends h) (running h)
 
--- the processor is online: it is processor 0, or it arrived
+-- the snapshot: the number that ends the first grace period to begin from now on
+abbrev pub snapshot : History → Number
+snapshot h = snapshot_at (count ends h) (running h)
+
+-- the needed number: the greatest cookie of a started poll, 0 before any
+abbrev pub needed : History → Number
+needed [] = 0
+needed (StartPoll ∷ h) = max (needed h) (snapshot h)
+needed (_ ∷ h) = needed h
+
+-- the processor is online: its last arrival or departure is an arrival; before any, it is processor 0
 abbrev pub online : ℕ → History → Bool
 online cpu [] = cpu == 0
-online cpu (e ∷ h) = arrives cpu e || online cpu h
+online cpu (e ∷ h) = if arrives cpu e then true else (if departs cpu e then false else online cpu h)
 
 -- the noted number: the number at the processor's last note or arrival, 0 before any
 abbrev pub noted : ℕ → History → Number
 noted cpu [] = 0
 noted cpu (e ∷ h) = if notes cpu e then number (e ∷ h) else noted cpu h
+
+-- how often the processor entered
+abbrev pub entered : ℕ → History → ℕ
+entered cpu [] = 0
+entered cpu (e ∷ h) = if enters cpu e then entered cpu h + 1 else entered cpu h
+
+-- how often the processor exited
+abbrev pub exited : ℕ → History → ℕ
+exited cpu [] = 0
+exited cpu (e ∷ h) = if exits cpu e then exited cpu h + 1 else exited cpu h
+
+-- how deep its read sections nest: the enters less the exits
+abbrev pub depth : ℕ → History → ℕ
+depth cpu h = entered cpu h - exited cpu h
+
+-- the history as it was when its latest section was opened, by an enter at depth 0, that enter included
+abbrev pub opening : ℕ → History → History
+opening cpu [] = []
+opening cpu (e ∷ h) = if enters cpu e && depth cpu h == 0 then e ∷ h else opening cpu h
+
+-- its open section, named by the history at its opening: from an enter at depth 0 to the exit that brings the depth
+-- back to 0, or up to now
+abbrev pub section : ℕ → History → Option History
+section cpu h = if nat_lt 0 (depth cpu h) then Some (opening cpu h) else None
+
+-- a section of it is open that began before the running grace period
+abbrev pub is_old : ℕ → History → Bool
+is_old cpu h = running h && (nat_lt 0 (depth cpu h) && nat_lt (number (opening cpu h)) (number h))
 
 -- all reports, the first one first: each quiescent state made one, of its processor and the noted number
 abbrev pub made : History → List Report
@@ -73,9 +128,10 @@ abbrev pub is_of : ℕ → Number → Option Report → Bool
 is_of cpu tag None = false
 is_of cpu tag (Some report) = report.cpu == cpu && same_number report.tag tag
 
--- by this event the processor is heard in the grace period of this tag: a report of both is delivered
+-- by this event the processor is heard in the grace period of this tag: a report of both is delivered, or it departs
 abbrev pub tells : ℕ → Number → Event → History → Bool
 tells cpu tag (Deliver place) h = is_of cpu tag (report_at place (made h))
+tells cpu tag (Offline c) h = c == cpu
 tells cpu tag _ h = false
 
 -- the processor was heard since the latest begin

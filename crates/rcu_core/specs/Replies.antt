@@ -1,15 +1,17 @@
 -- Which replies are legal to an event after a history.
-use Rattle.std.specs.Prelude.{ℕ, ◌+◌, ◌≡◌, ◌⊎◌, ◌==◌, Bool, true, false, not, ◌&&◌, nat_lt, nat_le, if◌then◌else◌, List, [], ◌∷◌, length, filter, count_by, Option, Some, None, is_none}
+use Rattle.std.specs.Prelude.{ℕ, ◌+◌, ◌-◌, ◌≡◌, ◌⊎◌, ◌==◌, Bool, true, false, not, ◌&&◌, nat_lt, nat_le, if◌then◌else◌, List, [], ◌∷◌, length, filter, count_by, Option, Some, None, is_none}
 use Rattle.std.specs.List.{range_with_len}
+use Rattle.rcu_seq.specs.Cookies.{is_done_at, snapshot_at}
 use Rattle.rcu_seq.specs.Numbers.{Number, number_at, same_number}
 use Rattle.rcu_seq.specs.declared.fault.Fault.{Fault}
 use Rattle.rcu_seq.specs.declared.fault.Fault.TheVariants as fault
 use Rattle.rcu_node.specs.declared.answer.Answer.{Answer}
 use Rattle.rcu_node.specs.declared.answer.Answer.TheVariants.{Taken, Last, Repeat, Stale}
 use Rattle.rcu_report.specs.declared.report.Report.{Report}
-use Rattle.rcu_core.specs.History.{History, count, ends, running, online, awaits, noted, made, report_at}
+use Rattle.rcu_cpu.specs.Processors.{deepest}
+use Rattle.rcu_core.specs.History.{History, count, ends, running, needed, online, awaits, depth, noted, made, report_at}
 use Rattle.rcu_core.specs.declared.event.Event.{Event}
-use Rattle.rcu_core.specs.declared.event.Event.TheVariants.{Note, Quiesce, Deliver, Online, Begin, End, Awaits}
+use Rattle.rcu_core.specs.declared.event.Event.TheVariants.{Enter, Exit, Note, Quiesce, Deliver, Online, Offline, Begin, End, Turn, Awaits, Take, StartPoll, Poll}
 use Rattle.rcu_core.specs.declared.reply.Reply.{Reply}
 use Rattle.rcu_core.specs.declared.reply.Reply.TheVariants as reply
 
@@ -22,8 +24,10 @@ pub record Size : Type 0 where
 pub record Situation : Type 0 where
   pub ends : ℕ
   pub running : Bool
+  pub needed : Number
   pub online : ℕ → Bool
   pub awaits : ℕ → Bool
+  pub depth : ℕ → ℕ
   pub noted : ℕ → Number
   pub made : List Report
 
@@ -32,8 +36,10 @@ abbrev pub situation : History → Situation
 situation h = record {
   ends = count ends h;
   running = running h;
+  needed = needed h;
   online = λ cpu. online cpu h;
   awaits = λ cpu. awaits cpu h;
+  depth = λ cpu. depth cpu h;
   noted = λ cpu. noted cpu h;
   made = made h;
 }
@@ -50,15 +56,30 @@ how_many s test = count_by test (range_with_len 0 s.cpus)
 abbrev pub which : Size → (ℕ → Bool) → List ℕ
 which s test = filter test (range_with_len 0 s.cpus)
 
+-- the number is the last one
+abbrev pub is_last_in : Size → Situation → Bool
+is_last_in s v = same_number (number_in v) s.last
+
+-- a later number is needed, and no grace period runs
+abbrev pub wants_begin : Situation → Bool
+wants_begin v = not v.running && nat_lt (number_in v) v.needed
+
 -- what is tested for an event, in order: a cause, and the fault that it is answered by
 abbrev pub causes : Size → Situation → Event → List (Bool × Fault)
+causes s v (Enter cpu) = (nat_le s.cpus cpu, fault.BadCpu) ∷ (not (v.online cpu), fault.Offline) ∷ (v.depth cpu == deepest, fault.NestFull) ∷ []
+causes s v (Exit cpu) = (nat_le s.cpus cpu, fault.BadCpu) ∷ (v.depth cpu == 0, fault.NotOpen) ∷ []
 causes s v (Note cpu) = (nat_le s.cpus cpu, fault.BadCpu) ∷ (not (v.online cpu), fault.Offline) ∷ []
-causes s v (Quiesce cpu) = (nat_le s.cpus cpu, fault.BadCpu) ∷ (not (v.online cpu), fault.Offline) ∷ []
+causes s v (Quiesce cpu) = (nat_le s.cpus cpu, fault.BadCpu) ∷ (not (v.online cpu), fault.Offline) ∷ (nat_lt 0 (v.depth cpu), fault.InSection) ∷ []
 causes s v (Deliver place) = (is_none (report_at place v.made), fault.NoReport) ∷ []
 causes s v (Online cpu) = (nat_le s.cpus cpu, fault.BadCpu) ∷ (v.online cpu, fault.AlreadyOnline) ∷ []
-causes s v Begin = (v.running, fault.Running) ∷ (same_number (number_in v) s.last, fault.Exhausted) ∷ []
+causes s v (Offline cpu) = (nat_le s.cpus cpu, fault.BadCpu) ∷ (cpu == 0, fault.BootStays) ∷ (not (v.online cpu), fault.Offline) ∷ (nat_lt 0 (v.depth cpu), fault.InSection) ∷ []
+causes s v Begin = (v.running, fault.Running) ∷ (is_last_in s v, fault.Exhausted) ∷ []
 causes s v End = (not v.running, fault.Idle) ∷ (nat_lt 0 (how_many s v.awaits), fault.Waiting) ∷ []
+causes s v Turn = (wants_begin v && is_last_in s v, fault.Exhausted) ∷ []
 causes s v Awaits = []
+causes s v Take = []
+causes s v StartPoll = []
+causes s v (Poll cookie) = []
 
 -- the fault of the first cause that holds
 abbrev pub first_fault : List (Bool × Fault) → Option Fault
@@ -78,15 +99,36 @@ answered s v (Some report) =
     else (if not (v.awaits report.cpu) then Repeat
     else (if how_many s v.awaits == 1 then Last else Taken))
 
+-- a grace period begins
+abbrev pub begun : Size → Situation → Reply
+begun s v = reply.Begun (number_at v.ends true) (how_many s v.online)
+
+-- it ends
+abbrev pub ended : Situation → Reply
+ended v = reply.Ended (number_at (v.ends + 1) false)
+
+-- a turn: a running grace period ends where nobody is awaited; where none runs, one begins if a later number is needed
+abbrev pub turned : Size → Situation → Reply
+turned s v =
+    if v.running then (if how_many s v.awaits == 0 then ended v else reply.Waiting (how_many s v.awaits))
+    else (if wants_begin v then begun s v else reply.Nothing)
+
 -- the reply to an event of which no cause holds
 abbrev pub said : Size → Situation → Event → Reply
+said s v (Enter cpu) = reply.Depth (v.depth cpu + 1)
+said s v (Exit cpu) = reply.Depth (v.depth cpu - 1)
 said s v (Note cpu) = reply.Noted (number_in v) (v.awaits cpu)
 said s v (Quiesce cpu) = reply.Made (length v.made + 1) (record { cpu = cpu; tag = v.noted cpu })
 said s v (Deliver place) = reply.Answer (answered s v (report_at place v.made))
 said s v (Online cpu) = reply.Online
-said s v Begin = reply.Begun (number_at v.ends true) (how_many s v.online)
-said s v End = reply.Ended (number_at (v.ends + 1) false)
+said s v (Offline cpu) = reply.Moved 0
+said s v Begin = begun s v
+said s v End = ended v
+said s v Turn = turned s v
 said s v Awaits = reply.Awaits (which s v.awaits)
+said s v Take = reply.Cookie (record { 0 = snapshot_at v.ends v.running })
+said s v StartPoll = reply.Cookie (record { 0 = snapshot_at v.ends v.running })
+said s v (Poll cookie) = reply.Polled (is_done_at cookie (number_in v))
 
 -- the first fault whose cause holds, and else what is said
 abbrev pub or_fault : Option Fault → Reply → Reply
@@ -107,10 +149,21 @@ stores s v _ = false
 abbrev pub IsLegalReply : Size → Situation → Event → Reply → Type 0
 IsLegalReply s v e r = (r ≡ answer s v e) ⊎ ((stores s v e ≡ true) × (fault_in s v e ≡ None) × (r ≡ reply.Fault fault.NoMemory))
 
+-- what a turn was: a begin, an end, or neither
+abbrev pub turn_as : Reply → Event
+turn_as (reply.Begun number cpus) = Begin
+turn_as (reply.Ended number) = End
+turn_as _ = Turn
+
+-- an event as it stands in the history
+abbrev pub recorded : Event → Reply → Event
+recorded Turn r = turn_as r
+recorded e r = e
+
 -- the history after an event and its reply: a refused event is not in it
 abbrev pub after : History → Event → Reply → History
 after h e (reply.Fault f) = h
-after h e _ = e ∷ h
+after h e r = recorded e r ∷ h
 
 -- each event of the history was accepted
 abbrev pub IsHistory : Size → History → Type 0

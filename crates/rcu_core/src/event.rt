@@ -3,18 +3,33 @@
 /// An event: one atomic step of one actor.
 #[derive(Clone, Copy, Debug, PartialEq, Eq)]
 pub enum Event {
+    /// The processor opens a read section, or nests one deeper. Faults: 1, 2, 6.
+    Enter(u32),
+    /// The processor leaves its innermost read section. Faults: 1, 5.
+    Exit(u32),
     /// The processor takes down the number. Faults: 1, 2.
     Note(u32),
-    /// The processor makes a report of its noted number. Faults: 1, 2, 16.
+    /// The processor makes a report of its noted number. Faults: 1, 2, 4, 16.
     Quiesce(u32),
     /// The report of this number, counted from 1, is delivered. Fault: 7.
     Deliver(u64),
     /// The processor arrives, and takes down the number. Faults: 1, 3.
     Online(u32),
+    /// The processor departs, and is awaited no more. Faults: 1, 12, 2, 4.
+    Offline(u32),
     /// A grace period begins, and awaits the processors that are online. Faults: 8, 11.
     Begin,
     /// The grace period ends. Faults: 9, 10.
     End,
+    /// The grace period ends where nobody is awaited; where none runs, one begins if a later number is needed.
+    /// Fault: 11, where it would begin.
+    Turn,
     /// The awaited processors are listed. Fault: 16, where one is listed.
     Awaits,
+    /// A cookie is taken, to be polled.
+    Take,
+    /// A cookie is taken, and its number is needed from now on.
+    StartPoll,
+    /// The cookie of this number is tested.
+    Poll(u64),
 }

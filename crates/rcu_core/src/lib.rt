@@ -1,8 +1,12 @@
-//! The events of the engine, its replies, and what a history of events says.
+//! The events of the engine, its replies, what a history of events says, and the machine that takes them.
 #![tactic(auto)]
 
 pub mod cpu_list;
 pub mod event;
+pub mod event_core;
+pub mod gp_state;
+pub mod laws;
 pub mod reply;
 #[cfg(test)]
 mod tests;
+pub mod turned;

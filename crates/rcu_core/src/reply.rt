@@ -3,11 +3,14 @@
 use crate::cpu_list::CpuList;
 use rcu_node::answer::Answer;
 use rcu_report::report::Report;
+use rcu_seq::cookie::Cookie;
 use rcu_seq::fault::Fault;
 
 /// The reply to an event.
 #[derive(Debug, Drop)]
 pub enum Reply {
+    /// How deep the processor's read sections nest now.
+    Depth(u32),
     /// The number that was taken down, and whether the processor is awaited.
     Noted(u64, bool),
     /// The place of the report among all reports, counted from 1, and the report.
@@ -16,12 +19,22 @@ pub enum Reply {
     Answer(Answer),
     /// The processor arrived.
     Online,
+    /// The processor departed, and so many callbacks moved.
+    Moved(u64),
     /// The number of the grace period, and how many processors it awaits.
     Begun(u64, u32),
     /// The number after the grace period.
     Ended(u64),
+    /// The grace period goes on, and awaits so many processors.
+    Waiting(u32),
+    /// No grace period runs, and none is needed.
+    Nothing,
     /// The awaited processors, ascending.
     Awaits(CpuList),
+    /// The cookie that was taken.
+    Cookie(Cookie),
+    /// Whether the cookie is done.
+    Polled(bool),
     /// The event was refused, and changed nothing.
     Fault(Fault),
 }

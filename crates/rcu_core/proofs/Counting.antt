@@ -1,0 +1,60 @@
+-- Counts and lists of the processors that pass a test.
+use Rattle.std.proofs.Common.{◌≡◌, ℕ, zero, suc, ◌+◌, ◌<◌, ◌≤◌, Bool, true, false, cond, List, [], ◌∷◌, ◌++◌, length, get_or, refl, sym, ap, ◌∙◌, append-nil, arith, map}
+use Rattle.std.specs.Prelude.{filter, count_by}
+use Rattle.std.specs.List.{range_with_len}
+use Rattle.std.proofs.lemmas.List.FromFn.{fill_by_all, length-range_with_len, get_or-range_with_len}
+use Rattle.std.proofs.lemmas.List.Elements.{filter-append}
+use Rattle.std.proofs.lemmas.List.Sums.{get_or-le-sum_by, sum_by-cons}
+use Rattle.rcu_node.specs.CpuSets.{is_in, size_of}
+
+count_by-map : {X Y : Type 0} (p : Y → Bool) (f : X → Y) (xs : List X) → count_by p (map f xs) ≡ count_by (λ x. p (f x)) xs
+count_by-map p f [] = refl
+count_by-map p f (x ∷ xs) =
+    sum_by-cons (λ y. cond (p y) 1 0) (f x) (map f xs)
+    ∙ ap (λ n. cond (p (f x)) 1 0 + n) (count_by-map p f xs)
+    ∙ sym (sum_by-cons (λ z. cond (p (f z)) 1 0) x xs)
+
+-- a set has as many processors as pass its test
+pub passing_is_size : (xs : List Bool) (n : ℕ) → n ≡ length xs → count_by (is_in xs) (range_with_len 0 n) ≡ size_of xs
+passing_is_size xs n e =
+    sym (count_by-map (λ flag. flag) (is_in xs) (range_with_len 0 n))
+    ∙ ap (λ (flags : List Bool). size_of flags) (sym (fill_by_all (is_in xs) xs n false (sym e) (λ k lt. refl)))
+
+at_most_none : (b : Bool) (n : ℕ) → cond b 1 0 ≤ n → n ≡ 0 → b ≡ false
+at_most_none true n le e = absurd (omega arith)
+at_most_none false n le e = refl
+
+-- where no processor passes a test, each of them fails it
+pub none_passes : (n : ℕ) (p : ℕ → Bool) → count_by p (range_with_len 0 n) ≡ 0 → (c : ℕ) → c < n → p c ≡ false
+none_passes n p e c lt =
+    let here : c < length (range_with_len 0 n) = omega (arith, length-range_with_len 0 n) in
+    let le : cond (p (get_or (range_with_len 0 n) c 0)) 1 0 ≤ count_by p (range_with_len 0 n) = get_or-le-sum_by (λ k. cond (p k) 1 0) (range_with_len 0 n) c 0 here in
+    let at : get_or (range_with_len 0 n) c 0 ≡ c = get_or-range_with_len 0 n c 0 lt ∙ omega arith in
+    at_most_none (p c) _ (rw at at le) e
+
+range_last : (a n j : ℕ) → a + n ≡ j → range_with_len a (suc n) ≡ range_with_len a n ++ j ∷ []
+range_last a zero j e = let same : a ≡ j = omega arith in ap (λ k. k ∷ []) same
+range_last a (suc n) j e = ap (λ l. a ∷ l) (range_last (a + 1) n j (omega arith))
+
+-- one processor more
+which_more : (p : ℕ → Bool) (n : ℕ) → filter p (range_with_len 0 (n + 1)) ≡ filter p (range_with_len 0 n) ++ cond (p n) (n ∷ []) []
+which_more p n =
+    let on : n + 1 ≡ suc n = omega arith in
+    ap (λ (k : ℕ). filter p (range_with_len 0 k)) on
+    ∙ ap (λ (l : List ℕ). filter p l) (range_last 0 n n (omega arith))
+    ∙ filter-append p (range_with_len 0 n) (n ∷ [])
+
+-- one processor more, which passes
+pub which_yes : (p : ℕ → Bool) (n : ℕ) (old new : List ℕ) → p n ≡ true → old ≡ filter p (range_with_len 0 n) → new ≡ old ++ n ∷ [] → new ≡ filter p (range_with_len 0 (n + 1))
+which_yes p n old new passes so_far grown = grown ∙ ap (λ (l : List ℕ). l ++ n ∷ []) so_far ∙ sym (which_more p n ∙ rw passes refl)
+
+-- one processor more, which fails
+pub which_no : (p : ℕ → Bool) (n : ℕ) (old new : List ℕ) → p n ≡ false → old ≡ filter p (range_with_len 0 n) → new ≡ old → new ≡ filter p (range_with_len 0 (n + 1))
+which_no p n old new fails so_far same = same ∙ so_far ∙ sym (which_more p n ∙ rw fails (append-nil (filter p (range_with_len 0 n))))
+
+-- a set with a processor in it is not empty
+pub some_in : (xs : List Bool) (c : ℕ) → c < length xs → is_in xs c ≡ true → 0 < size_of xs
+some_in xs c lt e =
+    let le : cond (is_in xs c) 1 0 ≤ size_of xs = get_or-le-sum_by (λ flag. cond flag 1 0) xs c false lt in
+    let one : 1 ≤ size_of xs = rw e at le in
+    omega arith

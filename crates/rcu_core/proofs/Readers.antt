@@ -1,0 +1,97 @@
+-- Read sections over whole runs.
+use Rattle.std.proofs.Common.{◌≡◌, ℕ, ◌+◌, ◌<◌, ◌≤◌, Bool, true, false, [], ◌∷◌, ◌++◌, Option, Some, None, refl, ap, ◌∙◌, arith, cond, ltb, inl, inr, ◌≢◌}
+use Rattle.std.specs.Prelude.{◌==◌}
+use Rattle.std.proofs.lemmas.Bool.Decides.{nat_tests}
+use Rattle.std.proofs.lemmas.Bool.{ltb-true}
+use Rattle.rcu_seq.specs.Cookies.{is_done_at}
+use Rattle.rcu_seq.specs.Numbers.{number_at}
+use Rattle.rcu_seq.specs.declared.fault.Fault.{Fault}
+use Rattle.rcu_core.specs.History.{History, depth, number, opening, section, is_old, awaits, snapshot}
+use Rattle.rcu_core.specs.Replies.{Size, Situation, situation, fault_in, how_many, said, or_fault, wants_begin, recorded, after, IsHistory, IsLegalReply}
+use Rattle.rcu_core.specs.Runs.{Run, IsLegal, history, takes}
+use Rattle.rcu_core.specs.declared.event.Event.{Event}
+use Rattle.rcu_core.specs.declared.event.Event.TheVariants.{Turn, Take, StartPoll, Poll}
+use Rattle.rcu_core.specs.declared.reply.Reply.{Reply}
+use Rattle.rcu_core.specs.declared.reply.Reply.TheVariants as reply
+use Rattle.rcu_core.proofs.Facts.{Facts, facts, snap, snapshot_is}
+use Rattle.rcu_core.proofs.Follows.{after_said}
+
+-- a turn that begins or ends does so where a begin or an end is accepted
+turn_accepted : (s : Size) (u : Situation) (a b d : Bool) (k l m n : ℕ) → u.running ≡ a → (how_many s u.awaits == 0) ≡ b → wants_begin u ≡ d → fault_in s u Turn ≡ None
+    → fault_in s u (recorded Turn (cond a (cond b (reply.Ended k) (reply.Waiting l)) (cond d (reply.Begun m n) reply.Nothing))) ≡ None
+turn_accepted s u true true d k l m n e f g p = grind (arith, nat_tests)
+turn_accepted s u true false d k l m n e f g p = p
+turn_accepted s u false b true k l m n e f g p = grind (arith, nat_tests)
+turn_accepted s u false b false k l m n e f g p = p
+
+accepted_as : (s : Size) (u : Situation) (e : Event) → fault_in s u e ≡ None → fault_in s u (recorded e (said s u e)) ≡ None
+accepted_as s u Turn p = turn_accepted s u u.running (how_many s u.awaits == 0) (wants_begin u) (number_at (u.ends + 1) false) (how_many s u.awaits) (number_at u.ends true) (how_many s u.online) refl refl refl p
+accepted_as s u _ p = p
+
+after_answer : (s : Size) (h : History) (e : Event) (o : Option Fault) → fault_in s (situation h) e ≡ o → IsHistory s h → IsHistory s (after h e (or_fault o (said s (situation h) e)))
+after_answer s h e (Some f) i p = p
+after_answer s h e None i p = rw (after_said s (situation h) h e) (accepted_as s (situation h) e i, p)
+
+after_legal : (s : Size) (h : History) (e : Event) (r : Reply) → IsLegalReply s (situation h) e r → IsHistory s h → IsHistory s (after h e r)
+after_legal s h e r (inl i) p = rw i (after_answer s h e (fault_in s (situation h) e) refl p)
+after_legal s h e r (inr i) p = rw i.2 p
+
+-- the history of a legal run has accepted events alone
+possible : (s : Size) (run : Run) → IsLegal s run → IsHistory s (history run)
+possible s [] l = tt
+possible s (x ∷ run) l = after_legal s (history run) x.0 x.1 l.0 (possible s run l.1)
+
+awaited_from : (s : Size) (c : ℕ) (h : History) → Facts s c h → is_old c h ≡ true → awaits c h ≡ true
+awaited_from s c h f i = let a = f.at_begin in let b = f.unheard in grind (arith, nat_tests)
+
+pub old_is_awaited : (s : Size) (run : Run) (c : ℕ) → IsLegal s run → is_old c (history run) ≡ true → awaits c (history run) ≡ true
+old_is_awaited s run c l i = awaited_from s c (history run) (facts s c (history run) (possible s run l)) i
+
+-- the earlier part of a legal run is one
+legal_before : (s : Size) (later earlier : Run) → IsLegal s (later ++ earlier) → IsLegal s earlier
+legal_before s [] earlier l = l
+legal_before s (x ∷ later) earlier l = legal_before s later earlier l.1
+
+abbrev cookie_in : Reply → ℕ
+cookie_in (reply.Cookie cookie) = cookie.0
+cookie_in _ = 0
+
+cookie_is : (s : Size) (h : History) (e : Event) (k : ℕ) → takes e ≡ true → IsLegalReply s (situation h) e (reply.Cookie (record { 0 = k })) → k ≡ snapshot h
+cookie_is s h Take k t (inl i) = ap (λ r. cookie_in r) i
+cookie_is s h Take k t (inr i) = absurd (cc)
+cookie_is s h StartPoll k t (inl i) = ap (λ r. cookie_in r) i
+cookie_is s h StartPoll k t (inr i) = absurd (cc)
+cookie_is s h _ k t l = absurd (cc)
+
+polled_is : (s : Size) (h : History) (k : ℕ) → IsLegalReply s (situation h) (Poll k) (reply.Polled true) → is_done_at k (number h) ≡ true
+polled_is s h k (inl i) = cc
+polled_is s h k (inr i) = absurd (cc)
+
+record Open (c : ℕ) (h x : History) : Type 0 where
+  pub deep : 0 < depth c h
+  pub at : opening c h ≡ x
+
+open_if : (b : Bool) (x y : History) → cond b (Some x) None ≡ Some y → (b ≡ true) × (x ≡ y)
+open_if true x y e = (refl, cc)
+open_if false x y e = absurd (cc)
+
+open_from : (c : ℕ) (h x : History) → section c h ≡ Some x → Open c h x
+open_from c h x e = let q = open_if (ltb 0 (depth c h)) (opening c h) x e in record { deep = ltb-true _ _ q.0; at = q.1 }
+
+snap_above : (a b n k : ℕ) → a ≤ b → k ≡ snap b → n < snap a → is_done_at k n ≡ true → ⊥
+snap_above a b n k l e m i = grind (arith, nat_tests)
+
+ended_from : (s : Size) (c k : ℕ) (g h x : History) → Facts s c g → Facts s c h → k ≡ snapshot g → is_done_at k (number h) ≡ true → Open c g x → Open c h x → ⊥
+ended_from s c k g h x fg fh e i a b =
+    snap_above (number x) (number g) (number h) k (rw a.at at fg.opening_le) (e ∙ snapshot_is g) (rw b.at at (fh.below_snap b.deep)) i
+
+pub done_is_ended : (s : Size) (later earlier : Run) (e : Event) (k c : ℕ) (opened : History) → takes e ≡ true
+    → IsLegal s ((Poll k, reply.Polled true) ∷ later ++ (e, reply.Cookie (record { 0 = k })) ∷ earlier) → section c (history earlier) ≡ Some opened
+    → section c (history (later ++ (e, reply.Cookie (record { 0 = k })) ∷ earlier)) ≢ Some opened
+done_is_ended s later earlier e k c opened t l a b =
+    let taken = (e, reply.Cookie (record { 0 = k })) ∷ earlier in
+    let m = legal_before s later taken l.1 in
+    ended_from s c k (history earlier) (history (later ++ taken)) opened
+    (facts s c (history earlier) (possible s earlier m.1)) (facts s c (history (later ++ taken)) (possible s (later ++ taken) l.1))
+    (cookie_is s (history earlier) e k t m.0) (polled_is s (history (later ++ taken)) k l.0) (open_from c (history earlier) opened a)
+    (open_from c (history (later ++ taken)) opened b)

@@ -1,0 +1,131 @@
+-- What always holds goes on holding.
+use Rattle.std.proofs.Common.{◌≡◌, ℕ, zero, suc, ◌+◌, ◌<◌, Bool, true, false, cond, List, [], ◌∷◌, ◌++◌, length, map, get_or, slice_set, replicate, refl, sym, ap, ap₂, subst, ◌∙◌, arith, ne_eqb, inl, inr}
+use Rattle.std.specs.Prelude.{◌==◌, All}
+use Rattle.std.specs.List.{range_with_len}
+use Rattle.std.proofs.lemmas.Bool.{cases_eq, cases_lt}
+use Rattle.std.proofs.lemmas.List.{get_or_read_under, set-get_or, get_or-set_same, get_or-set_other, get_or_past, length-replicate, length-set}
+use Rattle.std.proofs.lemmas.List.Elements.{All-append}
+use Rattle.std.proofs.lemmas.List.FromFn.{get_or-map-range_with_len, length-map-range_with_len, map-range_with_len_more}
+use Rattle.rcu_seq.specs.Numbers.{same_number}
+use Rattle.rcu_node.specs.CpuSets.{is_in}
+use Rattle.rcu_report.specs.declared.report.Report.{Report}
+use Rattle.rcu_hotplug.specs.Calls.{cpus_of}
+use Rattle.rcu_cpu.specs.Processors.{Processor, made, report_of}
+use Rattle.rcu_core.specs.Grace.{Grace, at_first, awaited_after, awaited_in, begun, ended, number_in, reported, turned_to, wants_begin}
+use Rattle.rcu_core.specs.State.{State, IsSound, processor, size_at}
+
+-- where the online processors, their number and all that is kept of them stay, what always holds stays
+pub stays_sound : (v : State) (g : Grace) → g.processors.online ≡ v.grace.processors.online → cpus_of g.processors ≡ cpus_of v.grace.processors
+    → IsSound v → IsSound (record v { grace = g })
+stays_sound v g online sized s = record {
+  flags = rw (online, sized) s.flags;
+  sized = rw sized s.sized;
+  placed = s.placed;
+  present = λ cpu. rw online (s.present cpu);
+  made = rw sized s.made;
+}
+
+length-without : (same : Bool) (set : List Bool) (cpu : ℕ) → length (cond same (slice_set set cpu false) set) ≡ length set
+length-without true set cpu = length-set set cpu false
+length-without false set cpu = refl
+
+-- a report leaves as many flags
+pub length-awaited_after : (g : Grace) (report : Report) → length (awaited_after g report) ≡ length g.processors.awaited
+length-awaited_after g report = go g.seq.running
+  where
+    go : (b : Bool) → length (cond b (cond (same_number report.tag (number_in g)) (slice_set g.processors.awaited report.cpu false) g.processors.awaited) g.processors.awaited) ≡ length g.processors.awaited
+    go true = length-without (same_number report.tag (number_in g)) g.processors.awaited report.cpu
+    go false = refl
+
+-- after a report
+pub sound_reported : (v : State) (g : Grace) (report : Report) → g ≡ reported v.grace report → IsSound v → IsSound (record v { grace = g })
+sound_reported v g report e s = stays_sound v g (rw e refl) (rw e (length-awaited_after v.grace report)) s
+
+-- after a begin
+pub sound_begun : (v : State) (g : Grace) → g ≡ begun v.grace → IsSound v → IsSound (record v { grace = g })
+sound_begun v g e s = stays_sound v g (rw e refl) (rw e s.flags) s
+
+-- after a turn
+pub sound_turned : (v : State) (g : Grace) → g ≡ turned_to v.grace → IsSound v → IsSound (record v { grace = g })
+sound_turned v g e s = subst (λ (x : Grace). IsSound (record v { grace = x })) (sym e) (go v.grace.seq.running (awaited_in v.grace == 0) (wants_begin v.grace))
+  where
+    go : (a b d : Bool) → IsSound (record v { grace = cond a (cond b (ended v.grace) v.grace) (cond d (begun v.grace) v.grace) })
+    go true true d = stays_sound v (ended v.grace) refl refl s
+    go true false d = s
+    go false b true = sound_begun v (begun v.grace) refl s
+    go false b false = s
+
+all_one : {X : Type 0} (P : X → Type 0) (x : X) → P x → All P (x ∷ [])
+all_one P x p zero d l = p
+all_one P x p (suc k) d l = absurd (omega arith)
+
+-- after a quiescent state
+pub sound_made : (v : State) (cpu : ℕ) (reports : List Report) → cpu < cpus_of v.grace.processors → reports ≡ v.made ++ report_of (processor v.cpus cpu) ∷ []
+    → IsSound v → IsSound (record v { made = reports })
+sound_made v cpu reports l e s = record {
+  flags = s.flags;
+  sized = s.sized;
+  placed = s.placed;
+  present = s.present;
+  made = rw e (All-append (λ (report : Report). report.cpu < cpus_of v.grace.processors) v.made (report_of (processor v.cpus cpu) ∷ []) s.made
+      (all_one (λ (report : Report). report.cpu < cpus_of v.grace.processors) (report_of (processor v.cpus cpu)) (rw (s.placed cpu) l)));
+}
+
+-- the processors at the start
+abbrev pub first_cpus : ℕ → List Processor
+first_cpus n = map (λ cpu. made cpu (cpu == 0)) (range_with_len 0 n)
+
+-- one more
+pub first_more : (n : ℕ) (old new : List Processor) → old ≡ first_cpus n → new ≡ old ++ made n (n == 0) ∷ [] → new ≡ first_cpus (n + 1)
+first_more n old new e f = f ∙ ap (λ (cpus : List Processor). cpus ++ made n (n == 0) ∷ []) e ∙ sym (map-range_with_len_more (λ cpu. made cpu (cpu == 0)) 0 n n (omega arith))
+
+-- each of them
+pub first_at : (n cpu : ℕ) → 0 < n → processor (first_cpus n) cpu ≡ made cpu (cpu == 0)
+first_at n cpu l = elim (cases_lt cpu n) [
+  | inl m ↦ get_or-map-range_with_len (λ c. made c (c == 0)) 0 n cpu cpu (made cpu false) m (omega arith)
+  | inr m ↦ get_or_past (first_cpus n) cpu (made cpu false) (omega (arith, m, length-map-range_with_len (λ c. made c (c == 0)) 0 n)) ∙ ap (λ (b : Bool). made cpu b) (sym (ne_eqb cpu 0 (λ e. omega (arith, e, l, m))))
+]
+
+get_same : {X : Type 0} (n : ℕ) (x : X) (k : ℕ) → get_or (replicate n x) k x ≡ x
+get_same zero x k = refl
+get_same (suc n) x zero = refl
+get_same (suc n) x (suc k) = get_same n x k
+
+-- nobody is in the empty set
+pub nobody : (n cpu : ℕ) → is_in (replicate n false) cpu ≡ false
+nobody n cpu = get_same n false cpu
+
+-- processor 0 alone is online at the start
+pub boot_alone : (n cpu : ℕ) → 0 < n → is_in (slice_set (replicate n false) 0 true) cpu ≡ (cpu == 0)
+boot_alone n cpu l = elim (cases_eq cpu 0) [
+  | inl e ↦ rw e (get_or-set_same (replicate n false) 0 true false (rw length-replicate l))
+  | inr e ↦ get_or-set_other (replicate n false) 0 cpu true false e ∙ get_same n false cpu ∙ sym (ne_eqb cpu 0 e)
+]
+
+-- it holds at the start
+pub sound_first : (n : ℕ) (last : ℕ) (v : State) → 0 < n → v.grace ≡ at_first n last → v.cpus ≡ first_cpus n → v.made ≡ [] → IsSound v
+sound_first n last v l e f m =
+    subst (λ (x : State). IsSound x) (λ i. record { grace = sym e i; cpus = sym f i; made = sym m i })
+    (record {
+      flags = length-set (replicate n false) 0 true;
+      sized = length-map-range_with_len (λ c. made c (c == 0)) 0 n ∙ sym (length-replicate {A = Bool} n false);
+      placed = λ cpu. ap (λ (p : Processor). p.cpu) (first_at n cpu l);
+      present = λ cpu. ap (λ (p : Processor). p.online) (first_at n cpu l) ∙ sym (boot_alone n cpu l);
+      made = λ k d m. absurd (omega arith);
+    })
+
+-- what is read at a place that is there is the processor there
+pub at_place : (v : State) (cpu : ℕ) (p : Processor) → IsSound v → cpu < cpus_of v.grace.processors → p ≡ get_or v.cpus cpu p → p ≡ processor v.cpus cpu
+at_place v cpu p s l e = get_or_read_under v.cpus cpu (cpus_of v.grace.processors) p (made cpu false) e l (sym s.sized)
+
+-- put back, it changes nothing
+pub put_back : (v : State) (cpu : ℕ) (p q : Processor) → q ≡ p → p ≡ processor v.cpus cpu → record v { cpus = slice_set v.cpus cpu q } ≡ v
+put_back v cpu p q f e = ap (λ (cpus : List Processor). record v { cpus = cpus }) (ap (λ (r : Processor). slice_set v.cpus cpu r) (f ∙ e) ∙ set-get_or v.cpus cpu (made cpu false))
+
+-- how many processors there are at the start
+pub first_count : (n last : ℕ) (g : Grace) → g ≡ at_first n last → cpus_of g.processors ≡ n
+first_count n last g e = ap (λ (x : Grace). cpus_of x.processors) e ∙ length-replicate {A = Bool} n false
+
+-- the size at the start
+pub first_size : (n last : ℕ) (v : State) → v.grace ≡ at_first n last → size_at v ≡ record { cpus = n; last = last }
+first_size n last v e = ap₂ (λ (a b : ℕ). record { cpus = a; last = b }) (first_count n last v.grace e) (ap (λ (x : Grace). x.seq.last) e)

@@ -1,0 +1,203 @@
+//! The state of the grace periods.
+ghost use Rattle.std.specs.Prelude.{◌≡◌, ◌<◌, Some, None, true, false, length, replicate, IfErr, IfOk, OnOk};
+ghost use Rattle.rcu_seq.specs.Cookies.{is_done, snapshot_of};
+ghost use Rattle.rcu_seq.specs.Numbers.{is_last};
+ghost use Rattle.rcu_node.specs.CpuSets.{is_in};
+ghost use Rattle.rcu_hotplug.specs.Calls.{Arrive, Depart, AreKept, cpus_of, refusal};
+ghost use Rattle.rcu_core.specs.Grace.{answer_in, at_first, awaited_in, begin_refusal, begun, end_refusal, ended, number_in, reported, started, turn_of, turn_refusal, turned_to, with_call};
+
+use crate::turned::Turned;
+use rcu_hotplug::hotplug::Hotplug;
+use rcu_node::answer::Answer;
+use rcu_node::awaited::Awaited;
+use rcu_report::report::Report;
+use rcu_seq::cookie::Cookie;
+use rcu_seq::fault::Fault;
+use rcu_seq::seq::Seq;
+use std::alloc::Global;
+use std::marker::Model;
+
+/// The state of the grace periods (Linux's `rcu_state`): the number, the needed number, and the processors that are
+/// online and awaited.
+///
+/// No call but `new` needs memory.
+#[derive(Drop)]
+pub struct GpState<A: Awaited> {
+    /// The number, and whether a grace period runs.
+    seq: Seq,
+    /// The greatest number that was asked for, 0 before any (Linux's `gp_seq_needed`). It never falls.
+    needed: u64,
+    /// The processors.
+    hotplug: Hotplug<A>,
+}
+
+impl<A: Awaited> Model for GpState<A> {
+    ghost use Rattle.std.specs.Prelude.{◌≡◌, true};
+    ghost use Rattle.rcu_seq.specs.Numbers.{number_of};
+    ghost use Rattle.rcu_core.specs.Grace.{Grace};
+
+    ghost Value = { Grace };
+
+    ghost view = { λ g. record { seq = g.seq; needed = g.needed; processors = g.hotplug } };
+
+    ghost invariant = { λ g. record {
+      tag : g.seq.running ≡ true → g.hotplug.tag ≡ number_of g.seq;
+    } };
+}
+
+impl<A: Awaited> GpState<A> {
+    /// No grace period ran yet, none is needed, and processor 0 alone is online. The awaited set is as it was made.
+    ///
+    /// Faults: 19 where `last` is no last number; 16.
+    pub fn new(alloc: Global, inner: A, last: u64) -> Result<Self, Fault>
+        requires tag { A.tag inner ≡ 0 }
+        requires empty { A.start_set inner ≡ replicate (length (A.awaited inner)) false }
+        ensures ok { IfOk result (λ made. made ≡ at_first (length (A.awaited inner)) last) }
+        ensures err { IfErr result (λ fault. is_last last ≡ false → fault ≡ Fault.BadLast) }
+        ensures memory { IfErr result (λ fault. is_last last ≡ true → fault ≡ Fault.NoMemory) }
+    {
+        let seq = Seq::new(last)?;
+        let hotplug = Hotplug::new(alloc, inner)?;
+        Ok(GpState {
+            seq,
+            needed: 0,
+            hotplug,
+        })
+    }
+
+    /// The number of processors.
+    pub fn cpus(&self) -> u32
+        ensures value { result ≡ cpus_of self.now.processors }
+        ensures kept { AreKept self.now.processors }
+    {
+        self.hotplug.awaited().cpus()
+    }
+
+    /// The grace-period number.
+    pub fn value(&self) -> u64
+        ensures { result ≡ number_in self.now }
+    {
+        self.seq.value()
+    }
+
+    /// Whether the processor is online.
+    pub fn online(&self, cpu: u32) -> bool
+        requires { cpu < cpus_of self.now.processors }
+        ensures { result ≡ is_in self.now.processors.online cpu }
+    {
+        self.hotplug.online(cpu)
+    }
+
+    /// The awaited set.
+    pub fn awaited(&self) -> &A
+        ensures value { A.awaited result.now ≡ self.now.processors.awaited }
+        ensures kept { AreKept self.now.processors }
+    {
+        self.hotplug.awaited()
+    }
+
+    /// A grace period begins, and awaits the online processors (Linux's `rcu_gp_init`). Answers its number, and how
+    /// many it awaits.
+    ///
+    /// Faults: 8 where one runs; 11 where the number is the last one.
+    pub fn begin(&mut self) -> Result<(u64, u32), Fault>
+        ensures ok { IfOk result (λ began. (began.0 ≡ number_in self.new) × (began.1 ≡ awaited_in self.new)) }
+        ensures accepted { OnOk result ((begin_refusal self.old ≡ None) × (self.new ≡ begun self.old)) }
+        ensures refused { IfErr result (λ fault. (begin_refusal self.old ≡ Some fault) × (self.new ≡ self.old)) }
+    {
+        let number = self.seq.start()?;
+        self.hotplug.begin(number);
+        Ok((number, self.hotplug.awaited().count()))
+    }
+
+    /// The grace period ends (Linux's `rcu_gp_cleanup`). Answers the new number.
+    ///
+    /// Faults: 9 where none runs; 10 where a processor is awaited.
+    pub fn end(&mut self) -> Result<u64, Fault>
+        ensures ok { IfOk result (λ number. number ≡ number_in self.new) }
+        ensures accepted { OnOk result ((end_refusal self.old ≡ None) × (self.new ≡ ended self.old)) }
+        ensures refused { IfErr result (λ fault. (end_refusal self.old ≡ Some fault) × (self.new ≡ self.old)) }
+    {
+        if self.seq.is_running() && !self.hotplug.awaited().is_empty() {
+            return Err(Fault::Waiting);
+        }
+        self.seq.end()
+    }
+
+    /// A report arrives: stale where no grace period runs or its tag is not the number, else as
+    /// [`Awaited::report`]. The report is of a processor.
+    pub fn report(&mut self, report: Report) -> Answer
+        requires { report.cpu < cpus_of self.old.processors }
+        ensures answer { result ≡ answer_in self.old report }
+        ensures state { self.new ≡ reported self.old report }
+    {
+        // The awaited set keeps its tag when its grace period has ended, so idleness is tested here.
+        if !self.seq.is_running() {
+            return Answer::Stale;
+        }
+        self.hotplug.report(report.cpu, report.tag)
+    }
+
+    /// The running grace period ends where nobody is awaited. Where none runs, one begins if the needed number is above
+    /// the number.
+    ///
+    /// Fault 11: one would begin, and the number is the last one.
+    pub fn turn(&mut self) -> Result<Turned, Fault>
+        ensures ok { IfOk result (λ turned. turned ≡ turn_of self.old) }
+        ensures accepted { OnOk result ((turn_refusal self.old ≡ None) × (self.new ≡ turned_to self.old)) }
+        ensures refused { IfErr result (λ fault. (turn_refusal self.old ≡ Some fault) × (self.new ≡ self.old)) }
+    {
+        if self.seq.is_running() {
+            let awaited = self.hotplug.awaited().count();
+            if awaited > 0 {
+                return Ok(Turned::Waiting(awaited));
+            }
+            return Ok(Turned::Ended(self.end()?));
+        }
+        if self.needed <= self.seq.value() {
+            return Ok(Turned::Nothing);
+        }
+        let (number, awaited) = self.begin()?;
+        Ok(Turned::Begun(number, awaited))
+    }
+
+    /// A processor arrives, as [`Hotplug::arrive`]. Faults: 1, 3.
+    pub fn arrive(&mut self, cpu: u32) -> Result<(), Fault>
+        ensures accepted { OnOk result ((refusal self.old.processors (Arrive cpu) ≡ None) × (self.new ≡ with_call self.old (Arrive cpu))) }
+        ensures refused { IfErr result (λ fault. (refusal self.old.processors (Arrive cpu) ≡ Some fault) × (self.new ≡ self.old)) }
+    {
+        self.hotplug.arrive(cpu)
+    }
+
+    /// A processor departs, and is awaited no more, as [`Hotplug::depart`]. Faults: 1, 12, 2.
+    pub fn depart(&mut self, cpu: u32) -> Result<(), Fault>
+        ensures accepted { OnOk result ((refusal self.old.processors (Depart cpu) ≡ None) × (self.new ≡ with_call self.old (Depart cpu))) }
+        ensures refused { IfErr result (λ fault. (refusal self.old.processors (Depart cpu) ≡ Some fault) × (self.new ≡ self.old)) }
+    {
+        self.hotplug.depart(cpu)
+    }
+
+    /// The cookie of a taking now (Linux's `get_state_synchronize_rcu`).
+    pub fn take(&self) -> Cookie
+        ensures { result.0 ≡ snapshot_of self.now.seq }
+    {
+        self.seq.snap()
+    }
+
+    /// The cookie of a taking now, whose number is needed from now on (Linux's `start_poll_synchronize_rcu`).
+    pub fn start_poll(&mut self) -> Cookie
+        ensures cookie { result.0 ≡ snapshot_of self.old.seq }
+        ensures state { self.new ≡ started self.old }
+    {
+        let cookie = self.seq.snap();
+        self.needed = self.needed.max(cookie.0);
+        cookie
+    }
+
+    /// Whether a cookie is done (Linux's `poll_state_synchronize_rcu`).
+    pub fn done(&self, cookie: Cookie) -> bool
+        ensures { result ≡ is_done cookie.0 self.now.seq }
+    {
+        self.seq.done(cookie)
+    }
+}

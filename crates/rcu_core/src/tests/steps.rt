@@ -1,0 +1,175 @@
+//! The machine over events: one after another, and all of a list.
+ghost use Rattle.std.specs.Prelude.{◌≡◌, false, replicate};
+
+use crate::event::Event;
+use crate::event_core::Core;
+use crate::reply::Reply;
+use rcu_node::answer::Answer;
+use rcu_node::awaited::Awaited;
+use rcu_node::flat::Flat;
+use rcu_seq::cookie::Cookie;
+use rcu_seq::fault::Fault;
+use std::alloc::Global;
+use std::io::Print;
+use std::process::Abort;
+
+/// Says that a growth was refused, for who counts them.
+fn refused<R: Abort + Print>(rt: &R, fault: Fault) {
+    assert_eq!(rt; fault, Fault::NoMemory);
+    let _ = println!(rt; "a growth was refused");
+}
+
+/// A flat set of two processors, made by a second call where the first is refused a growth.
+fn flat<R: Abort + Print>(rt: &R, alloc: Global) -> Flat
+    ensures tag { ⟦<Flat as Awaited>⟧.tag result ≡ 0 }
+    ensures start_set { ⟦<Flat as Awaited>⟧.start_set result ≡ replicate 2 false }
+    ensures awaited { ⟦<Flat as Awaited>⟧.awaited result ≡ replicate 2 false }
+{
+    match Flat::new(alloc, 2) {
+        Ok(flat) => flat,
+        Err(fault) => {
+            refused(rt, fault);
+            Flat::new(alloc, 2).expect(rt, "the second call has memory")
+        }
+    }
+}
+
+/// A machine of two processors with this last number, made by a second call where the first is refused a growth.
+fn core<R: Abort + Print>(rt: &R, alloc: Global, last: u64) -> Core<Flat> {
+    match Core::new(alloc, flat(rt, alloc), last) {
+        Ok(core) => core,
+        Err(fault) => {
+            refused(rt, fault);
+            Core::new(alloc, flat(rt, alloc), last).expect(rt, "the second call has memory")
+        }
+    }
+}
+
+/// The reply to an event, which is taken again where its growth is refused.
+fn step<R: Abort + Print>(rt: &R, core: &mut Core<Flat>, event: Event) -> Reply {
+    match core.step(event) {
+        Reply::Fault(Fault::NoMemory) => {
+            refused(rt, Fault::NoMemory);
+            core.step(event)
+        }
+        reply => reply,
+    }
+}
+
+/// The replies to a list of events, which is taken again where its growth is refused.
+fn run<R: Abort + Print>(rt: &R, core: &mut Core<Flat>, events: &[Event]) -> Vec<Reply> {
+    match core.run(events) {
+        Ok(replies) => replies,
+        Err(fault) => {
+            refused(rt, fault);
+            core.run(events).expect(rt, "the second call has memory")
+        }
+    }
+}
+
+/// A reader holds up the grace period that began after it, and its cookie.
+#[test]
+fn open_section_blocks(rt: HostRuntime) {
+    let mut core = core(&rt, rt.alloc(), 8);
+    assert!(rt; matches!(step(&rt, &mut core, Event::Online(1)), Reply::Online));
+    assert!(rt; matches!(step(&rt, &mut core, Event::Enter(1)), Reply::Depth(1)));
+    assert!(rt; matches!(step(&rt, &mut core, Event::Take), Reply::Cookie(Cookie(4))));
+    assert!(rt; matches!(step(&rt, &mut core, Event::Begin), Reply::Begun(1, 2)));
+    assert!(rt;
+        matches!(
+            step(&rt, &mut core, Event::Quiesce(1)),
+            Reply::Fault(Fault::InSection)
+        )
+    );
+    assert!(rt;
+        matches!(
+            step(&rt, &mut core, Event::Offline(1)),
+            Reply::Fault(Fault::InSection)
+        )
+    );
+    assert!(rt; matches!(step(&rt, &mut core, Event::Exit(1)), Reply::Depth(0)));
+    assert!(rt; matches!(step(&rt, &mut core, Event::Poll(4)), Reply::Polled(false)));
+    assert!(rt; matches!(step(&rt, &mut core, Event::Offline(1)), Reply::Moved(0)));
+    assert!(rt;
+        matches!(
+            step(&rt, &mut core, Event::End),
+            Reply::Fault(Fault::Waiting)
+        )
+    );
+}
+
+/// Turns begin what is needed, wait, and end.
+#[test]
+fn turns_drive_a_grace_period(rt: HostRuntime) {
+    let mut core = core(&rt, rt.alloc(), 4);
+    assert!(rt; matches!(step(&rt, &mut core, Event::Turn), Reply::Nothing));
+    assert!(rt;
+        matches!(
+            step(&rt, &mut core, Event::StartPoll),
+            Reply::Cookie(Cookie(4))
+        )
+    );
+    assert!(rt; matches!(step(&rt, &mut core, Event::Turn), Reply::Begun(1, 1)));
+    assert!(rt; matches!(step(&rt, &mut core, Event::Turn), Reply::Waiting(1)));
+    assert!(rt; matches!(step(&rt, &mut core, Event::Note(0)), Reply::Noted(1, true)));
+    assert!(rt; matches!(step(&rt, &mut core, Event::Quiesce(0)), Reply::Made(1, _)));
+    assert!(rt;
+        matches!(
+            step(&rt, &mut core, Event::Deliver(1)),
+            Reply::Answer(Answer::Last)
+        )
+    );
+    assert!(rt; matches!(step(&rt, &mut core, Event::Turn), Reply::Ended(4)));
+    assert!(rt; matches!(step(&rt, &mut core, Event::Poll(4)), Reply::Polled(true)));
+    assert!(rt;
+        matches!(
+            step(&rt, &mut core, Event::StartPoll),
+            Reply::Cookie(Cookie(8))
+        )
+    );
+    assert!(rt;
+        matches!(
+            step(&rt, &mut core, Event::Turn),
+            Reply::Fault(Fault::Exhausted)
+        )
+    );
+}
+
+/// A list of events gets the replies that single steps get. (Of two growths in one list the second is not made again.)
+#[test]
+fn a_run_replies_as_its_steps(rt: HostRuntime) {
+    let mut core = core(&rt, rt.alloc(), 8);
+    let events = [
+        Event::Begin,
+        Event::Online(1),
+        Event::Note(0),
+        Event::Quiesce(0),
+        Event::Deliver(1),
+        Event::End,
+        Event::Exit(1),
+    ];
+    let replies = run(&rt, &mut core, events.as_slice());
+    assert!(rt; replies.len() == 7);
+    assert!(rt; matches!(replies[0], Reply::Begun(1, 1)));
+    assert!(rt; matches!(replies[1], Reply::Online));
+    assert!(rt; matches!(replies[2], Reply::Noted(1, true)));
+    if matches!(replies[3], Reply::Fault(Fault::NoMemory)) {
+        refused(&rt, Fault::NoMemory);
+        assert!(rt; matches!(replies[4], Reply::Fault(Fault::NoReport)));
+        assert!(rt; matches!(replies[5], Reply::Fault(Fault::Waiting)));
+    } else {
+        assert!(rt; matches!(replies[3], Reply::Made(1, _)));
+        assert!(rt; matches!(replies[4], Reply::Answer(Answer::Last)));
+        assert!(rt; matches!(replies[5], Reply::Ended(4)));
+    }
+    assert!(rt; matches!(replies[6], Reply::Fault(Fault::NotOpen)));
+}
+
+/// No machine opens with a last number that is none.
+#[test]
+fn bad_last_number(rt: HostRuntime) {
+    for last in [0, 6, u64::MAX] {
+        let made = Core::new(rt.alloc(), flat(&rt, rt.alloc()), last);
+        assert!(rt; matches!(made, Err(Fault::BadLast)));
+    }
+}
