@@ -1,0 +1,79 @@
+use Rattle.std.proofs.Common.{◌≡◌, ◌+◌, ◌*◌, ◌/◌, ◌<◌, [], length, set, get_or, refl, ap, sym, subst, ◌∙◌, arith}
+use Rattle.rcu_cblist.specs.Items.{IsAtMost, behind, callbacks, front, markers}
+use Rattle.rcu_barrier.specs.Tending.{AreFours, snapshot, tended}
+use Rattle.rcu_barrier.proofs.Fours.{fours_get, fours_tended, most_advanced, tend_is}
+use Rattle.rcu_barrier.proofs.Kept.{list_is, relisted}
+use Rattle.rcu_barrier.proofs.Markers.{markers_remarked}
+use Rattle.rcu_barrier.proofs.lists.Lists.tend.Goals as goal
+
+pub accelerate-requires : goal.accelerate-requires
+accelerate-requires g c =
+    let i = c.self.inside in
+    let number = c.args.number in
+    let old = c.index_mut-list.result.now in
+    let inside : c.args.cpu < length i.lists.items = subst (λ v. c.args.cpu < length v.lists) (sym c.self.view_is) c.requires.cpu in
+    let within : IsAtMost (snapshot number) (get_or i.lists.items c.args.cpu []) =
+    subst (λ v. IsAtMost (snapshot number) (get_or v.lists c.args.cpu [])) (sym c.self.view_is) c.requires.within in
+    let snap : (number + 3) / 4 * 4 + 4 ≡ snapshot number = omega arith in
+    let is = list_is i.lists.items c.args.cpu old inside c.index_mut-list.ensures.value in
+    rw (snap, c.advance.ensures) (most_advanced number (snapshot number) old (subst (IsAtMost (snapshot number)) (sym is) within))
+
+pub invariant_of-self : goal.invariant_of-self
+invariant_of-self g c =
+    let i = c.self.inside in
+    let k = c.self.invariant in
+    let number = c.args.number in
+    let old = c.index_mut-list.result.now in
+    let inside : c.args.cpu < length i.lists.items = subst (λ v. c.args.cpu < length v.lists) (sym c.self.view_is) c.requires.cpu in
+    let is = list_is i.lists.items c.args.cpu old inside c.index_mut-list.ensures.value in
+    let fours : AreFours old = subst AreFours (sym is) (fours_get i.lists.items c.args.cpu k.1.fours) in
+    let snap : (number + 3) / 4 * 4 + 4 ≡ snapshot number = omega arith in
+    let after : c.accelerate.new.self ≡ tended number old =
+    c.accelerate.ensures ∙ (rw (snap, c.advance.ensures) (tend_is number old c.requires.state fours)) in
+    let same = ap markers after ∙ markers_remarked _ old in
+    relisted (record { lists = i.lists.items; visited = i.visits; running = i.running; queued = i.queued }) i.markers i.markers
+    i.queued c.args.cpu old c.accelerate.new.self i.visits k.0 k.1 inside c.index_mut-list.ensures.value refl (omega arith)
+    (omega arith) k.1.counted (λ _. subst AreFours (sym after) (fours_tended number old fours))
+
+pub returns-clause-state : goal.returns-clause-state
+returns-clause-state g c =
+    let i = c.self.inside in
+    let k = c.self.invariant in
+    let number = c.args.number in
+    let old = c.index_mut-list.result.now in
+    let inside : c.args.cpu < length i.lists.items = subst (λ v. c.args.cpu < length v.lists) (sym c.self.view_is) c.requires.cpu in
+    let is = list_is i.lists.items c.args.cpu old inside c.index_mut-list.ensures.value in
+    let fours : AreFours old = subst AreFours (sym is) (fours_get i.lists.items c.args.cpu k.1.fours) in
+    let snap : (number + 3) / 4 * 4 + 4 ≡ snapshot number = omega arith in
+    let after : c.accelerate.new.self ≡ tended number (get_or i.lists.items c.args.cpu []) =
+    c.accelerate.ensures ∙ (rw (snap, c.advance.ensures) (tend_is number old c.requires.state fours) ∙ ap (tended number) is) in
+    rw (← c.self.view_is)
+    (ap (λ l. record { lists = set i.lists.items c.args.cpu l; visited = i.visits; running = i.running; queued = i.queued }) after)
+
+pub returns-clause-done : goal.returns-clause-done
+returns-clause-done g c =
+    let i = c.self.inside in
+    let k = c.self.invariant in
+    let number = c.args.number in
+    let old = c.index_mut-list.result.now in
+    let inside : c.args.cpu < length i.lists.items = subst (λ v. c.args.cpu < length v.lists) (sym c.self.view_is) c.requires.cpu in
+    let is = list_is i.lists.items c.args.cpu old inside c.index_mut-list.ensures.value in
+    let fours : AreFours old = subst AreFours (sym is) (fours_get i.lists.items c.args.cpu k.1.fours) in
+    let snap : (number + 3) / 4 * 4 + 4 ≡ snapshot number = omega arith in
+    let after : c.accelerate.new.self ≡ tended number (get_or i.lists.items c.args.cpu []) =
+    c.accelerate.ensures ∙ (rw (snap, c.advance.ensures) (tend_is number old c.requires.state fours) ∙ ap (tended number) is) in
+    rw (← c.self.view_is, c.done_count.ensures ∙ ap (λ l. length (callbacks (front l))) after) refl
+
+pub returns-clause-waiting : goal.returns-clause-waiting
+returns-clause-waiting g c =
+    let i = c.self.inside in
+    let k = c.self.invariant in
+    let number = c.args.number in
+    let old = c.index_mut-list.result.now in
+    let inside : c.args.cpu < length i.lists.items = subst (λ v. c.args.cpu < length v.lists) (sym c.self.view_is) c.requires.cpu in
+    let is = list_is i.lists.items c.args.cpu old inside c.index_mut-list.ensures.value in
+    let fours : AreFours old = subst AreFours (sym is) (fours_get i.lists.items c.args.cpu k.1.fours) in
+    let snap : (number + 3) / 4 * 4 + 4 ≡ snapshot number = omega arith in
+    let after : c.accelerate.new.self ≡ tended number (get_or i.lists.items c.args.cpu []) =
+    c.accelerate.ensures ∙ (rw (snap, c.advance.ensures) (tend_is number old c.requires.state fours) ∙ ap (tended number) is) in
+    rw (← c.self.view_is, c.waiting_count.ensures ∙ ap (λ l. length (callbacks (behind l))) after) refl

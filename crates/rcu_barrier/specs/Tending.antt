@@ -1,0 +1,47 @@
+-- What a tend leaves of one processor's list, and which numbers a callback may wait for.
+use Rattle.std.specs.Prelude.{◌≡◌, ◌<◌, ◌≤◌, ◌+◌, ◌*◌, ◌/◌, ◌%◌, ◌==◌, ◌||◌, Bool, true, false, List, [], ◌∷◌, map}
+use Rattle.std.specs.List.{list_any}
+use Rattle.rcu_seq.specs.Numbers.{Number}
+use Rattle.rcu_cblist.specs.Items.{Item, Mark, Of, Marker, Unmarked, Until, Done, mark_advanced, mark_given, remarked}
+
+-- the snapshot of a number: the number that ends the first grace period to begin after it
+abbrev pub snapshot : Number → Number
+snapshot number = 4 * ((number + 3) / 4) + 4
+
+-- the mark after a tend: a number at most the given one becomes done, and where nothing was said it becomes the snapshot
+abbrev pub mark_tended : Number → Mark → Mark
+mark_tended number mark = mark_given (snapshot number) (mark_advanced number mark)
+
+-- a number that a callback may wait for: a multiple of 4 above the given number and at most its snapshot
+pub record MayWait (number n : Number) : Type 0 where
+  pub above : number < n
+  pub within : n ≤ snapshot number
+  pub state : n % 4 ≡ 0
+
+-- it is the snapshot, or 4 below it
+abbrev pub is_near_snapshot : Number → Number → Bool
+is_near_snapshot number n = n == snapshot number || n + 4 == snapshot number
+
+module _ {X : Type 0} where
+  -- the list after a tend
+  abbrev pub tended : Number → List (Item X) → List (Item X)
+  tended number xs = map (remarked (mark_tended number)) xs
+
+  -- the item is a callback without a mark
+  abbrev pub is_unmarked : Item X → Bool
+  is_unmarked (Of call Unmarked) = true
+  is_unmarked (Of call (Until n)) = false
+  is_unmarked (Of call Done) = false
+  is_unmarked Marker = false
+
+  -- a callback of the list has no mark
+  abbrev pub has_unmarked : List (Item X) → Bool
+  has_unmarked xs = list_any is_unmarked xs
+
+  -- each number that a callback of the list carries is a multiple of 4
+  abbrev pub AreFours : List (Item X) → Type 0
+  AreFours [] = Unit {0}
+  AreFours (Of call Unmarked ∷ xs) = AreFours xs
+  AreFours (Of call (Until n) ∷ xs) = (n % 4 ≡ 0) × AreFours xs
+  AreFours (Of call Done ∷ xs) = AreFours xs
+  AreFours (Marker ∷ xs) = AreFours xs

@@ -1,0 +1,11 @@
+//! All processors' lists of callbacks, and the barrier over them.
+#![tactic(auto)]
+
+pub mod barrier_state;
+pub mod laws;
+pub mod lists;
+mod moving;
+#[cfg(test)]
+mod tests;
+pub mod visit;
+mod visits;

@@ -1,0 +1,276 @@
+//! All processors' lists of callbacks, and the barrier over them.
+ghost use Rattle.std.specs.Prelude.{◌≡◌, ◌≢◌, ◌+◌, ◌<◌, ◌≤◌, ◌^◌, ◌%◌, ◌==◌, [], true, false, IfOk, IfErr, OnOk, if◌then◌else◌, length};
+ghost use Rattle.rcu_cblist.specs.Items.{IsAtMost, behind, callbacks, front, greatest, is_empty, numbers, taken};
+ghost use Rattle.rcu_barrier.specs.Tending.{snapshot, tended};
+ghost use Rattle.rcu_barrier.specs.AllLists.{AreKept, at_first, begun, cpus_of, is_owed, is_visited, left_of, list_of, migrated, most_queued, queued_on, run_on, tended_on, test_answer, tested, visit_answer, visited_by};
+
+use crate::barrier_state::BarrierState;
+use crate::moving::{empty_lists, move_to_first};
+use crate::visit::Visit;
+use crate::visits::Visits;
+use rcu_cblist::queued::Queued;
+use rcu_cblist::refused::Refused;
+use rcu_cblist::seg_list::SegList;
+use rcu_cblist::taken::Taken;
+use rcu_seq::fault::Fault;
+use std::alloc::Global;
+use std::marker::Model;
+
+/// How many callbacks may be queued.
+const MOST_QUEUED: u64 = 1_000_000;
+
+/// A list of callbacks for each processor, and a barrier over them (Linux's `rcu_barrier`, without waiting).
+///
+/// Contracts see the lists, which processors the barrier visited, whether one runs, and how many callbacks were queued.
+/// A refused call leaves all as it was. `cpu < cpus` is a condition of each call.
+#[derive(Drop)]
+pub struct Lists<T: Drop> {
+    /// The list of each processor.
+    lists: Vec<SegList<T>>,
+    /// Which processors the barrier visited.
+    visits: Visits,
+    /// Whether a barrier runs.
+    running: bool,
+    /// How many callbacks were queued.
+    queued: u64,
+    /// How many markers the lists have.
+    markers: u64,
+}
+
+impl<T: Drop> Model for Lists<T> {
+    ghost use Rattle.std.specs.Prelude.{◌≡◌};
+    ghost use Rattle.rcu_barrier.specs.AllLists.{AllLists, AreKept, markers_in};
+
+    ghost Value = { AllLists T };
+
+    ghost view = { λ s. record {
+      lists = s.lists.items;
+      visited = s.visits;
+      running = s.running;
+      queued = s.queued;
+    } };
+
+    ghost invariant = { λ s.
+        (s.markers ≡ markers_in s.lists.items)
+        × AreKept (record { lists = s.lists.items; visited = s.visits; running = s.running; queued = s.queued }) };
+}
+
+impl<T: Drop> Lists<T> {
+    /// Empty lists, so many, from 1 to 4,096. No barrier runs.
+    ///
+    /// Fault: 16.
+    pub fn new(alloc: Global, cpus: u32) -> Result<Self, Fault>
+        requires some { 1 ≤ cpus }
+        requires few { cpus ≤ 4096 }
+        ensures ok { IfOk result (λ lists. lists ≡ at_first cpus) }
+        ensures err { IfErr result (λ fault. fault ≡ Fault.NoMemory) }
+    {
+        let lists = empty_lists(alloc, cpus)?;
+        let visits = Visits::new(alloc, cpus)?;
+        Ok(Lists {
+            lists,
+            visits,
+            running: false,
+            queued: 0,
+            markers: 0,
+        })
+    }
+
+    /// Queues a callback on a processor at a grace-period number, and answers how many were queued, which is its place
+    /// among them.
+    ///
+    /// Faults, which hand the value back: 15 where 1,000,000 were queued, 16.
+    pub fn queue(&mut self, cpu: u32, at: u64, value: T) -> Result<u64, Refused<T>>
+        requires { cpu < cpus_of self.old }
+        ensures ok { IfOk result (λ count. (count ≡ self.old.queued + 1) × (count ≤ most_queued) × (self.new ≡ queued_on cpu at value self.old)) }
+        ensures err { IfErr result (λ refused. (refused.fault ≡ (if self.old.queued == most_queued then Fault.CallbacksFull else Fault.NoMemory)) × (refused.value ≡ value) × (self.new ≡ self.old)) }
+    {
+        if self.queued == MOST_QUEUED {
+            return Err(Refused {
+                fault: Fault::CallbacksFull,
+                value,
+            });
+        }
+        let ord = self.queued + 1;
+        let list = &mut self.lists[cpu as usize];
+        match list.queue(Queued { ord, at, value }) {
+            Ok(()) => {}
+            Err(refused) => {
+                let Refused { fault, value } = refused;
+                let Queued { value, .. } = value;
+                return Err(Refused { fault, value });
+            }
+        }
+        self.queued = ord;
+        Ok(ord)
+    }
+
+    /// Makes each callback of a processor done whose number is at most this one, and gives the number's snapshot to
+    /// each that has none (Linux's `rcu_advance_cbs`). Answers how many callbacks are done and how many wait then.
+    /// The number is `4k` or `4k + 1` and at most 2^62; no callback carries one above its snapshot.
+    pub fn tend(&mut self, cpu: u32, number: u64) -> (u64, u64)
+        requires cpu { cpu < cpus_of self.old }
+        requires state { number % 4 ≤ 1 }
+        requires bounded { number ≤ 2 ^ 62 }
+        requires within { IsAtMost (snapshot number) (list_of self.old cpu) }
+        ensures state { self.new ≡ tended_on cpu number self.old }
+        ensures done { result.0 ≡ length (callbacks (front (tended number (list_of self.old cpu)))) }
+        ensures waiting { result.1 ≡ length (callbacks (behind (tended number (list_of self.old cpu)))) }
+    {
+        let list = &mut self.lists[cpu as usize];
+        list.advance(number);
+        list.accelerate((number + 3) / 4 * 4 + 4);
+        (list.done_count(), list.waiting_count())
+    }
+
+    /// Takes the first callbacks of a processor's done part, at most so many (Linux's `rcu_do_batch`). The markers
+    /// before the first callback that is left are dropped.
+    ///
+    /// Fault 16, only where it has a callback to hand out.
+    pub fn run(&mut self, cpu: u32, max: u64) -> Result<Vec<Queued<T>>, Fault>
+        requires { cpu < cpus_of self.old }
+        ensures ok { IfOk result (λ calls. (calls.items ≡ taken max (list_of self.old cpu)) × (self.new ≡ run_on cpu max self.old)) }
+        ensures err { IfErr result (λ fault. (fault ≡ Fault.NoMemory) × (taken max (list_of self.old cpu) ≢ []) × (self.new ≡ self.old)) }
+    {
+        let list = &mut self.lists[cpu as usize];
+        let Taken { calls, markers } = list.take_done(max)?;
+        self.markers -= markers;
+        Ok(calls)
+    }
+
+    /// Moves the list of another processor than 0 to processor 0's (Linux's `rcutree_migrate_callbacks`), and answers
+    /// how many callbacks moved. While a barrier runs, an unvisited processor is visited first.
+    ///
+    /// Fault 16, only where the list is not empty.
+    pub fn migrate(&mut self, cpu: u32) -> Result<u64, Fault>
+        requires other { 0 < cpu }
+        requires cpu { cpu < cpus_of self.old }
+        ensures ok { IfOk result (λ moved. (moved ≡ length (callbacks (list_of self.old cpu))) × (self.new ≡ migrated cpu self.old)) }
+        ensures err { IfErr result (λ fault. (fault ≡ Fault.NoMemory) × (list_of self.old cpu ≢ []) × (self.new ≡ self.old)) }
+    {
+        if self.owes_visit(cpu) {
+            let (moved, marked) = move_to_first(&mut self.lists, cpu as usize, true)?;
+            self.visits.insert(cpu);
+            if marked {
+                self.markers += 1;
+            }
+            return Ok(moved);
+        }
+        let (moved, _) = move_to_first(&mut self.lists, cpu as usize, false)?;
+        Ok(moved)
+    }
+
+    /// Whether a barrier runs that did not visit the processor.
+    fn owes_visit(&self, cpu: u32) -> bool
+        requires { cpu < cpus_of self.now }
+        ensures { result ≡ is_owed cpu self.now }
+    {
+        self.running && !self.visits.contains(cpu)
+    }
+
+    /// Begins a barrier: each processor is unvisited, whether online or not.
+    ///
+    /// Fault 13: one runs.
+    pub fn barrier_begin(&mut self) -> Result<(), Fault>
+        ensures ok { OnOk result ((self.old.running ≡ false) × (self.new ≡ begun self.old)) }
+        ensures err { IfErr result (λ fault. (fault ≡ Fault.BarrierBusy) × (self.old.running ≡ true) × (self.new ≡ self.old)) }
+    {
+        if self.running {
+            return Err(Fault::BarrierBusy);
+        }
+        self.visits.clear();
+        self.running = true;
+        Ok(())
+    }
+
+    /// The barrier visits a processor: where it is unvisited, a marker goes behind its list, if that is not empty.
+    ///
+    /// Faults: 14 where none runs; 16, only where it would put a marker.
+    pub fn visit(&mut self, cpu: u32) -> Result<Visit, Fault>
+        requires { cpu < cpus_of self.old }
+        ensures ok { IfOk result (λ visit. (self.old.running ≡ true) × (visit ≡ visit_answer cpu self.old) × (self.new ≡ visited_by cpu self.old)) }
+        ensures err { IfErr result (λ fault. (fault ≡ (if self.old.running then Fault.NoMemory else Fault.NoBarrier)) × (self.new ≡ self.old)) }
+        ensures memory { IfErr result (λ fault. self.old.running ≡ true → visit_answer cpu self.old ≡ Visit.Marked) }
+    {
+        if !self.running {
+            return Err(Fault::NoBarrier);
+        }
+        if self.visits.contains(cpu) {
+            return Ok(Visit::Already);
+        }
+        let list = &mut self.lists[cpu as usize];
+        let marked = list.entrain()?;
+        self.visits.insert(cpu);
+        if !marked {
+            return Ok(Visit::Empty);
+        }
+        self.markers += 1;
+        Ok(Visit::Marked)
+    }
+
+    /// Whether the barrier is over: no marker is left, and no processor is unvisited. Then none runs from now on.
+    /// Costs no walk over the lists.
+    ///
+    /// Fault 14: none runs.
+    pub fn barrier_test(&mut self) -> Result<BarrierState, Fault>
+        ensures ok { IfOk result (λ state. (self.old.running ≡ true) × (state ≡ test_answer self.old) × (self.new ≡ tested self.old)) }
+        ensures err { IfErr result (λ fault. (fault ≡ Fault.NoBarrier) × (self.old.running ≡ false) × (self.new ≡ self.old)) }
+    {
+        if !self.running {
+            return Err(Fault::NoBarrier);
+        }
+        let left = self.markers + self.visits.left();
+        if left > 0 {
+            return Ok(BarrierState::Waits(left));
+        }
+        self.running = false;
+        Ok(BarrierState::Done)
+    }
+
+    /// How many processors there are, from 1 to 4,096.
+    pub fn cpus(&self) -> u32
+        ensures value { result ≡ cpus_of self.now }
+        ensures kept { AreKept self.now }
+    {
+        self.lists.len() as u32
+    }
+
+    /// How many callbacks were queued, at most 1,000,000.
+    pub fn queued(&self) -> u64
+        ensures value { result ≡ self.now.queued }
+        ensures few { result ≤ most_queued }
+    {
+        self.queued
+    }
+
+    /// Whether a barrier runs.
+    pub fn is_running(&self) -> bool
+        ensures { result ≡ self.now.running }
+    {
+        self.running
+    }
+
+    /// Whether the barrier visited the processor.
+    pub fn is_visited(&self, cpu: u32) -> bool
+        requires { cpu < cpus_of self.now }
+        ensures { result ≡ is_visited self.now cpu }
+    {
+        self.visits.contains(cpu)
+    }
+
+    /// Whether the processor's list is empty.
+    pub fn is_empty(&self, cpu: u32) -> bool
+        requires { cpu < cpus_of self.now }
+        ensures { result ≡ is_empty (list_of self.now cpu) }
+    {
+        self.lists[cpu as usize].is_empty()
+    }
+
+    /// The greatest number that a waiting callback of the processor carries, none where none carries one.
+    pub fn greatest_waiting(&self, cpu: u32) -> Option<u64>
+        requires { cpu < cpus_of self.now }
+        ensures { result ≡ greatest (numbers (list_of self.now cpu)) }
+    {
+        self.lists[cpu as usize].greatest_waiting()
+    }
+}

@@ -1,0 +1,78 @@
+//! Which processors a barrier visited.
+ghost use Rattle.std.specs.Prelude.{◌≡◌, ◌<◌, ◌≤◌, true, false, IfOk, IfErr, length, replicate, slice_index_or, slice_set};
+ghost use Rattle.rcu_barrier.specs.AllLists.{unvisited};
+
+use rcu_seq::fault::Fault;
+use std::alloc::Global;
+use std::marker::Model;
+
+/// A flag for each processor, set once it is visited. Contracts see the list of flags.
+#[derive(Drop)]
+pub(crate) struct Visits {
+    /// The flags.
+    flags: Vec<bool>,
+    /// How many are not set.
+    left: u64,
+}
+
+impl Model for Visits {
+    ghost use Rattle.std.specs.Prelude.{◌≡◌, List, Bool};
+    ghost use Rattle.rcu_barrier.specs.AllLists.{unvisited};
+
+    ghost Value = { List Bool };
+
+    ghost view = { λ v. v.flags.items };
+
+    ghost invariant = { λ v. v.left ≡ unvisited v.flags.items };
+}
+
+impl Visits {
+    /// Each processor is visited.
+    ///
+    /// Fault: 16.
+    #[tactic(auto, using(crate::proofs::Markers::unvisited_all))]
+    pub(crate) fn new(alloc: Global, cpus: u32) -> Result<Visits, Fault>
+        ensures ok { IfOk result (λ visits. visits ≡ replicate cpus true) }
+        ensures err { IfErr result (λ fault. fault ≡ Fault.NoMemory) }
+    {
+        let Ok(flags) = vec![in alloc; true; cpus as usize] else {
+            return Err(Fault::NoMemory);
+        };
+        Ok(Visits { flags, left: 0 })
+    }
+
+    /// Whether the processor is visited.
+    pub(crate) fn contains(&self, cpu: u32) -> bool
+        requires { cpu < length self.now }
+        ensures { result ≡ slice_index_or self.now cpu true }
+    {
+        self.flags[cpu as usize]
+    }
+
+    /// The processor is visited now.
+    #[tactic(auto, using(crate::proofs::Markers::unvisited_set))]
+    pub(crate) fn insert(&mut self, cpu: u32)
+        requires cpu { cpu < length self.old }
+        requires unvisited { slice_index_or self.old cpu true ≡ false }
+        ensures { self.new ≡ slice_set self.old cpu true }
+    {
+        self.flags[cpu as usize] = true;
+        self.left -= 1;
+    }
+
+    /// No processor is visited.
+    #[tactic(auto, using(crate::proofs::Markers::unvisited_none))]
+    pub(crate) fn clear(&mut self)
+        ensures { self.new ≡ replicate (length self.old) false }
+    {
+        self.left = self.flags.len() as u64;
+        self.flags.fill(false);
+    }
+
+    /// How many processors are unvisited.
+    pub(crate) fn left(&self) -> u64
+        ensures { result ≡ unvisited self.now }
+    {
+        self.left
+    }
+}
