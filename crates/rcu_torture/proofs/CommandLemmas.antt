@@ -1,5 +1,5 @@
 -- What the command line orders.
-use Rattle.std.proofs.Common.{◌≡◌, Bool, true, false, List, [], ◌∷◌, Option, Some, None, IsSome, MatchOption, codes, is_some, refl, subst, if◌then◌else◌}
+use Rattle.std.proofs.Common.{◌≡◌, Bool, true, false, List, [], ◌∷◌, Option, Some, None, IsSome, MatchOption, codes, is_some, refl, sym, ◌∙◌, subst, if◌then◌else◌}
 use Rattle.std.specs.Prelude.{ℕ, option_map}
 use Rattle.std.specs.Option.{option_map_or}
 use Rattle.clap.specs.Walk.{answers_to, nothing_held, rows_after, settled, walk, walk_from, finished}
@@ -10,13 +10,24 @@ use Rattle.clap.specs.declared.error.kind.ErrorKind.TheVariants.{MissingSubcomma
 use Rattle.clap.specs.declared.parser.matches.ArgMatches.{ArgMatches}
 use Rattle.rcu_torture.specs.CommandLine.{HasNoOrder, HasNoSetup, IsOrderOf, rcu}
 use Rattle.rcu_torture.specs.declared.order.Order.{Order}
-use Rattle.rcu_torture.specs.declared.order.Order.TheVariants.{Script}
+use Rattle.rcu_torture.specs.declared.order.Order.TheVariants.{Script, Pair}
+use Rattle.rcu_torture.proofs.PairCommandLemmas.{HasPairNumbers, built_pair, pair_numbers}
 use Rattle.rcu_torture.proofs.ScriptCommandLemmas.{HasNumbers, built_script, script_numbers}
 use Rattle.rcu_torture.proofs.WalkLemmas.{first_none, next_none}
 
--- matches that make no setup say no order
-pub no_setup : (name : Text) (rows : List Row) → HasNoSetup rows → HasNoOrder (Some (name, rows))
-no_setup name rows none (Script setup) p = none setup p.1
+-- matches of `script` that make no setup say no order
+pub no_script : (name : Text) (rows : List Row) → name ≡ codes "script" → HasNoSetup (codes "leaf") (codes "inner") rows → HasNoOrder (Some (name, rows))
+no_script name rows is none (Script setup) p = none setup p.1
+no_script name rows is none (Pair setup) p =
+    let other : codes "script" ≡ codes "pair" = sym is ∙ p.0 in
+    cc
+
+-- matches of `pair` that make no setup say no order
+pub no_pair : (name : Text) (rows : List Row) → name ≡ codes "pair" → HasNoSetup (codes "leaf2") (codes "inner2") rows → HasNoOrder (Some (name, rows))
+no_pair name rows is none (Script setup) p =
+    let other : codes "pair" ≡ codes "script" = sym is ∙ p.0 in
+    cc
+no_pair name rows is none (Pair setup) p = none setup p.1
 
 -- ---- a parse of `rcu`
 
@@ -47,31 +58,47 @@ some_value None e = absurd (bad e)
     bad e = cc
 
 -- numbers make a setup
-numbers_make : (rows : List Row) → HasNumbers rows → HasNoSetup rows → ⊥
+numbers_make : (rows : List Row) → HasNumbers rows → HasNoSetup (codes "leaf") (codes "inner") rows → ⊥
 numbers_make rows has none =
     let leaf = some_value _ has.leaf in
     let inner = some_value _ has.inner in
     let cpus = some_value _ has.cpus in
     let last = some_value _ has.last in
     none (record { leaf = leaf.0; inner = inner.0; leaf2 = leaf.0; inner2 = inner.0; cpus = cpus.0; last = last.0 })
-    (record { leaf = leaf.1; inner = inner.1; leaf2 = refl; inner2 = refl; cpus = cpus.1; last = last.1 })
+    (record { leaf = leaf.1; inner = inner.1; leaf2 = leaf.1; inner2 = inner.1; cpus = cpus.1; last = last.1 })
+
+pair_numbers_make : (rows : List Row) → HasPairNumbers rows → HasNoSetup (codes "leaf2") (codes "inner2") rows → ⊥
+pair_numbers_make rows has none =
+    let leaf = some_value _ has.leaf in
+    let inner = some_value _ has.inner in
+    let leaf2 = some_value _ has.leaf2 in
+    let inner2 = some_value _ has.inner2 in
+    let cpus = some_value _ has.cpus in
+    let last = some_value _ has.last in
+    none (record { leaf = leaf.0; inner = inner.0; leaf2 = leaf2.0; inner2 = inner2.0; cpus = cpus.0; last = last.0 })
+    (record { leaf = leaf.1; inner = inner.1; leaf2 = leaf2.1; inner2 = inner2.1; cpus = cpus.1; last = last.1 })
 
 -- words of `script` that have no fault order something
 script_orders : (words : List Text) → level_fault built_script [] nothing_held words false [] ≡ [] → HasNoOrder (Some (codes "script", rows_after built_script.rules [] words)) → ⊥
 script_orders words e none = numbers_make (rows_after built_script.rules [] words) (script_numbers words e) (λ setup is. none (Script setup) (refl, is))
+
+-- words of `pair` that have no fault order something
+pair_orders : (words : List Text) → level_fault built_pair [] nothing_held words false [] ≡ [] → HasNoOrder (Some (codes "pair", rows_after built_pair.rules [] words)) → ⊥
+pair_orders words e none = pair_numbers_make (rows_after built_pair.rules [] words) (pair_numbers words e) (λ setup is. none (Pair setup) (refl, is))
 
 -- the same by the subcommand at which the walk over all the words stopped
 stop_orders : (rows : List Row) (stop : Option (Text × List Text)) → entered_fault (built rcu) stop ≡ [] → check_fault (built rcu).top rows (is_some (entered (built rcu) stop)) ≡ []
     → HasNoOrder (entered (built rcu) stop) → ⊥
 stop_orders rows None below check none =
     let missing : MissingSubcommand ∷ [] ≡ [] = check in cc
-stop_orders rows (Some p) below check none = go (answers_to p.0 (codes "script", [])) below check none
+stop_orders rows (Some p) below check none = go (answers_to p.0 (codes "script", [])) (answers_to p.0 (codes "pair", [])) below check none
   where
-    go : (b : Bool) → option_map_or (λ s. level_fault s [] nothing_held p.1 false []) (if b then Some built_script else None) [] ≡ []
-        → check_fault (built rcu).top rows (is_some (option_map (λ s. rows_at s p.1) (if b then Some built_script else None))) ≡ []
-        → HasNoOrder (option_map (λ s. rows_at s p.1) (if b then Some built_script else None)) → ⊥
-    go true below check none = script_orders p.1 below none
-    go false below check none =
+    go : (b d : Bool) → option_map_or (λ s. level_fault s [] nothing_held p.1 false []) (if b then Some built_script else (if d then Some built_pair else None)) [] ≡ []
+        → check_fault (built rcu).top rows (is_some (option_map (λ s. rows_at s p.1) (if b then Some built_script else (if d then Some built_pair else None)))) ≡ []
+        → HasNoOrder (option_map (λ s. rows_at s p.1) (if b then Some built_script else (if d then Some built_pair else None))) → ⊥
+    go true d below check none = script_orders p.1 below none
+    go false true below check none = pair_orders p.1 below none
+    go false false below check none =
         let missing : MissingSubcommand ∷ [] ≡ [] = check in cc
 
 -- words that have no fault order something

@@ -17,10 +17,10 @@ use Rattle.rcu_torture.specs.Answers.{Answers, AnswersLine}
 use Rattle.rcu_torture.specs.Asked.{asked_by}
 use Rattle.rcu_torture.specs.Exact.{IsAnswer, next_after, replies, reply_to, wants_memory}
 use Rattle.rcu_torture.specs.Lines.{Cut, cut_of, nothing_cut, with_byte}
-use Rattle.rcu_torture.specs.Printed.{spaced, text_of}
+use Rattle.rcu_torture.specs.Printed.{numbered_text, spaced, text_of}
 use Rattle.rcu_torture.specs.declared.line.Line.{Line}
 use Rattle.rcu_torture.specs.declared.line.Line.TheVariants.{Blank, Malformed, Ask}
-use Rattle.rcu_torture.proofs.ScriptLemmas.{cut_end}
+use Rattle.rcu_torture.proofs.CutLemmas.{cut_end}
 
 -- ---- a text whose last line is ended
 
@@ -61,7 +61,11 @@ closed text c = ap (λ (l : List ℕ). (cut_of l).rest) c.1 ∙ ap (λ (k : Cut)
 closes_number : (word rest : List ℕ) (n : ℕ) → Closes rest → Closes (word ++ (decimal n ++ rest))
 closes_number word rest n c = closes_behind word (decimal n ++ rest) (closes_behind (decimal n) rest c)
 
+closes_numbered : (text : List ℕ) (n : ℕ) → Closes (numbered_text text n)
+closes_numbered text n = closes_number text (codes "\n") n ([], refl)
+
 closes_reply : (r : Reply) → Closes (text_of r)
+closes_reply (reply.Depth n) = closes_numbered (codes "depth ") n
 closes_reply (reply.Noted n true) = closes_number (codes "noted ") (codes " needed\n") n (codes " needed", refl)
 closes_reply (reply.Noted n false) = closes_number (codes "noted ") (codes " clear\n") n (codes " clear", refl)
 closes_reply (reply.Made place report) =
@@ -71,11 +75,17 @@ closes_reply (reply.Answer answer.Last) = (codes "last", refl)
 closes_reply (reply.Answer answer.Repeat) = (codes "repeat", refl)
 closes_reply (reply.Answer answer.Stale) = (codes "stale", refl)
 closes_reply reply.Online = (codes "online", refl)
+closes_reply (reply.Moved n) = closes_numbered (codes "offline moved ") n
 closes_reply (reply.Begun n cpus) = closes_number (codes "begun ") _ n (closes_number (codes " awaits ") (codes "\n") cpus ([], refl))
-closes_reply (reply.Ended n) = closes_number (codes "ended ") (codes "\n") n ([], refl)
+closes_reply (reply.Ended n) = closes_numbered (codes "ended ") n
+closes_reply (reply.Waiting n) = closes_numbered (codes "waiting ") n
+closes_reply reply.Nothing = (codes "nothing", refl)
 closes_reply (reply.Awaits []) = (codes "awaits none", refl)
 closes_reply (reply.Awaits (cpu ∷ cpus)) = closes_behind (codes "awaits") _ (closes_behind (flat_map spaced (cpu ∷ cpus)) (codes "\n") ([], refl))
-closes_reply (reply.Fault f) = closes_number (codes "fault ") (codes "\n") (number_of f) ([], refl)
+closes_reply (reply.Cookie c) = closes_numbered (codes "cookie ") c.0
+closes_reply (reply.Polled true) = (codes "done", refl)
+closes_reply (reply.Polled false) = (codes "not yet", refl)
+closes_reply (reply.Fault f) = closes_numbered (codes "fault ") (number_of f)
 
 closed_line : (size : Size) (h : History) (line : Line) (text : List ℕ) (next : History) → AnswersLine size h line text next → (cut_of text).rest ≡ []
 unfolding cut_of

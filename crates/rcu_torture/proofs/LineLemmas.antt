@@ -1,13 +1,12 @@
 -- What is kept of a line.
-use Rattle.std.proofs.Common.{◌≡◌, inl, inr, ◌<◌, ◌+◌, ℕ, false, List, [], ◌∷◌, ◌++◌, length, take, refl, sym, ap, ◌∙◌, arith, min}
+use Rattle.std.proofs.Common.{◌≡◌, ◌⊎◌, inl, inr, ◌<◌, ◌≤◌, ◌+◌, ℕ, false, List, [], ◌∷◌, ◌++◌, length, take, refl, sym, ap, ◌∙◌, arith, append-nil, min}
 use Rattle.std.proofs.lemmas.List.{take-append-le, length-take-le, take_all, take_min}
 use Rattle.std.proofs.lemmas.Bool.{cases_lt}
 use Rattle.std.proofs.lemmas.Bool.Decides.{nat_tests}
 use Rattle.std.proofs.Math.Seq.{take-append-add}
 use Rattle.std.specs.Prelude.{nat_le}
-use Rattle.rcu_torture.specs.Asked.{asked_by}
+use Rattle.rcu_torture.specs.Asked.{asked_by, is_well_formed}
 use Rattle.rcu_torture.specs.Lines.{kept_of}
-use Rattle.rcu_torture.specs.declared.line.Line.TheVariants.{Malformed}
 
 -- as many bytes more as there is room for
 pub kept_more : (line more : List ℕ) (room n : ℕ) → room + length line ≡ 81 → n ≡ min (length more) room → line ++ take n more ≡ take 81 (line ++ more)
@@ -28,35 +27,57 @@ kept_again line more = elim (cases_lt (length line) 81) as (λ _. kept_of (kept_
       take-append-le 81 (kept_of line) more (omega arith) ∙ take_all 81 (kept_of line) (omega arith) ∙ sym (take-append-le 81 line more long)
 ]
 
-too_long : (line : List ℕ) → 80 < length line → asked_by line ≡ Malformed
+-- a line of more than 80 bytes is not well formed
+pub too_long : (line : List ℕ) → 80 < length line → is_well_formed line ≡ false
 too_long line long =
     let e : nat_le (length line) 80 ≡ false = grind (arith, nat_tests) in
     rw e refl
 
--- what is kept of a line decides what it asks for
-pub asked_kept : (line : List ℕ) → asked_by (kept_of line) ≡ asked_by line
-asked_kept line = elim (cases_lt (length line) 81) as (λ _. asked_by (kept_of line) ≡ asked_by line) [
-  | inl short ↦ ap asked_by (take_all 81 line (omega arith))
-  | inr long ↦
-      let full : length (kept_of line) ≡ 81 = length-take-le 81 line long in
-      too_long (kept_of line) (omega arith) ∙ sym (too_long line (omega arith))
+-- lines of which the same is kept are the same, or neither is well formed
+pub kept_alike : (line whole : List ℕ) → kept_of line ≡ kept_of whole → (line ≡ whole) ⊎ ((is_well_formed line ≡ false) × (is_well_formed whole ≡ false))
+kept_alike line whole e = elim (cases_lt (length line) 81) [
+  | inl short ↦ elim (cases_lt (length whole) 81) [
+    | inl small ↦ inl (sym (take_all 81 line (omega arith)) ∙ e ∙ take_all 81 whole (omega arith))
+    | inr large ↦ absurd (too_few line whole short large e)
+  ]
+  | inr long ↦ elim (cases_lt (length whole) 81) [
+    | inl small ↦ absurd (too_few whole line small long (sym e))
+    | inr large ↦ inr (too_long line (omega arith), too_long whole (omega arith))
+  ]
 ]
+  where
+    too_few : (a b : List ℕ) → length a < 81 → 81 ≤ length b → kept_of a ≡ kept_of b → ⊥
+    too_few a b small large e =
+        let full : length (kept_of b) ≡ 81 = length-take-le 81 b large in
+        let some : length (kept_of a) ≡ length a = ap length (take_all 81 a (omega arith)) in
+        let same : length (kept_of a) ≡ length (kept_of b) = ap length e in
+        omega arith
 
 -- of a line that has begun something is kept
 pub nothing_kept : (line : List ℕ) → length (kept_of line) ≡ 0 → line ≡ []
 nothing_kept [] e = refl
 nothing_kept (b ∷ bs) e = absurd (omega arith)
 
--- the line that these bytes end asks for what is kept of it
-pub asked_begun : (begun line longer front slice : List ℕ) → line ≡ kept_of begun → longer ≡ kept_of (line ++ front) → slice ≡ longer → asked_by slice ≡ asked_by (begun ++ front)
-asked_begun begun line longer front slice k e s =
-    ap asked_by (s ∙ e ∙ ap (λ (l : List ℕ). kept_of (l ++ front)) k ∙ kept_again begun front) ∙ asked_kept (begun ++ front)
+kept_twice : (line : List ℕ) → kept_of (kept_of line) ≡ kept_of line
+kept_twice line = ap kept_of (sym (append-nil (kept_of line))) ∙ kept_again line [] ∙ ap kept_of (append-nil line)
+
+-- of the line that these bytes end the same is kept
+pub kept_begun : (begun line longer front slice : List ℕ) → line ≡ kept_of begun → longer ≡ kept_of (line ++ front) → slice ≡ longer → kept_of slice ≡ kept_of (begun ++ front)
+kept_begun begun line longer front slice k e s =
+    ap kept_of (s ∙ e) ∙ kept_twice (line ++ front) ∙ ap (λ (l : List ℕ). kept_of (l ++ front)) k ∙ kept_again begun front
 
 -- where nothing was in hand, these bytes are the line
-pub nothing_begun : (begun line front : List ℕ) → line ≡ kept_of begun → length line ≡ 0 → asked_by front ≡ asked_by (begun ++ front)
+pub nothing_begun : (begun line front : List ℕ) → line ≡ kept_of begun → length line ≡ 0 → kept_of front ≡ kept_of (begun ++ front)
 nothing_begun begun line front k none =
-    ap (λ (l : List ℕ). asked_by (l ++ front)) (sym (nothing_kept begun (sym (ap length k) ∙ none)))
+    ap (λ (l : List ℕ). kept_of (l ++ front)) (sym (nothing_kept begun (sym (ap length k) ∙ none)))
 
--- a line that has no end asks for what is kept of it
-pub asked_whole : (begun line slice : List ℕ) → line ≡ kept_of begun → slice ≡ line → asked_by slice ≡ asked_by begun
-asked_whole begun line slice k s = ap asked_by (s ∙ k) ∙ asked_kept begun
+-- of a line that has no end the same is kept
+pub kept_whole : (begun line slice : List ℕ) → line ≡ kept_of begun → slice ≡ line → kept_of slice ≡ kept_of begun
+kept_whole begun line slice k s = ap kept_of (s ∙ k) ∙ kept_twice begun
+
+-- lines of which the same is kept ask for the same
+pub asked_alike : (line whole : List ℕ) → kept_of line ≡ kept_of whole → asked_by line ≡ asked_by whole
+asked_alike line whole e = elim (kept_alike line whole e) [
+  | inl same ↦ ap asked_by same
+  | inr bad ↦ rw (bad.0, bad.1) refl
+]

@@ -1,12 +1,11 @@
 -- Texts that answer lines.
-use Rattle.std.specs.Prelude.{◌≡◌, ℕ, List, [], ◌∷◌, ◌++◌, Result, MatchResult}
+use Rattle.std.specs.Prelude.{◌≡◌, ℕ, List, [], ◌∷◌, ◌++◌}
 use Rattle.rcu_seq.specs.declared.fault.Fault.TheVariants as fault
 use Rattle.rcu_core.specs.History.{History}
 use Rattle.rcu_core.specs.Replies.{Size, IsLegalReply, after, situation}
 use Rattle.rcu_core.specs.declared.reply.Reply.{Reply}
 use Rattle.rcu_core.specs.declared.reply.Reply.TheVariants as reply
 use Rattle.rcu_torture.specs.Asked.{asked_by}
-use Rattle.rcu_torture.specs.Outgoing.{Out, Sends, Stops}
 use Rattle.rcu_torture.specs.Printed.{text_of}
 use Rattle.rcu_torture.specs.declared.line.Line.{Line}
 use Rattle.rcu_torture.specs.declared.line.Line.TheVariants.{Blank, Malformed, Ask}
@@ -25,23 +24,3 @@ Answers size h [] text end = (text ≡ []) × (end ≡ h)
 Answers size h (line ∷ lines) text end =
     (first : List ℕ) × (next : History) × (rest : List ℕ)
     × AnswersLine size h (asked_by line) first next × (text ≡ first ++ rest) × Answers size next lines rest end
-
--- a text that answers the lines went out in this way, and the machine fits the history at its end
-pub record Stands (size : Size) (h : History) (lines : List (List ℕ)) (fits : History → Type 0) (went : List ℕ → Type 0) : Type 0 where
-  pub text : List ℕ
-  pub end : History
-  pub answers : Answers size h lines text end
-  pub out : went text
-  pub fit : fits end
-
--- a text that answers the lines went out in this way, in part
-pub record Stopped (size : Size) (h : History) (lines : List (List ℕ)) (went : List ℕ → Type 0) : Type 0 where
-  pub text : List ℕ
-  pub end : History
-  pub answers : Answers size h lines text end
-  pub out : went text
-
--- an answer to the lines is sent, or the writer failed in one
-abbrev pub Goes : {X E : Type 0} → Result X E → Size → History → List (List ℕ) → (History → Type 0) → Out → Out → Type 0
-Goes r size h lines fits old new =
-    MatchResult r (λ _. Stands size h lines fits (Sends old new)) (λ _. Stopped size h lines (Stops old new))

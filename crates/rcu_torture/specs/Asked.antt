@@ -5,7 +5,7 @@ use Rattle.std.specs.List.{list_all}
 use Rattle.std.specs.Option.{option_map_or}
 use Rattle.rcu_torture.specs.Words.{words_of, number_of}
 use Rattle.rcu_core.specs.declared.event.Event.{Event}
-use Rattle.rcu_core.specs.declared.event.Event.TheVariants.{Note, Quiesce, Deliver, Online, Begin, End, Awaits}
+use Rattle.rcu_core.specs.declared.event.Event.TheVariants.{Enter, Exit, Note, Quiesce, Deliver, Online, Offline, Begin, End, Turn, Awaits, Take, StartPoll, Poll}
 use Rattle.rcu_torture.specs.declared.line.Line.{Line}
 use Rattle.rcu_torture.specs.declared.line.Line.TheVariants.{Blank, Malformed, Ask}
 
@@ -26,17 +26,29 @@ abbrev pub event_alone : List ℕ → Option Event
 event_alone name =
     if bytes_eq name (codes "begin") then Some Begin
     else (if bytes_eq name (codes "end") then Some End
+    else (if bytes_eq name (codes "turn") then Some Turn
     else (if bytes_eq name (codes "awaits") then Some Awaits
-    else None))
+    else (if bytes_eq name (codes "take") then Some Take
+    else (if bytes_eq name (codes "start") then Some StartPoll
+    else None)))))
 
--- the event of a name that stands before a number
+-- the event of a name that stands before a processor
+abbrev pub event_with_cpu : List ℕ → ℕ → Option Event
+event_with_cpu name cpu =
+    if bytes_eq name (codes "enter") then Some (Enter cpu)
+    else (if bytes_eq name (codes "exit") then Some (Exit cpu)
+    else (if bytes_eq name (codes "note") then Some (Note cpu)
+    else (if bytes_eq name (codes "quiet") then Some (Quiesce cpu)
+    else (if bytes_eq name (codes "online") then Some (Online cpu)
+    else (if bytes_eq name (codes "offline") then Some (Offline cpu)
+    else None)))))
+
+-- the event of a name that stands before a number: of a report's place, a cookie's number, or else a processor's
 abbrev pub event_with_number : List ℕ → ℕ → Option Event
 event_with_number name n =
-    if bytes_eq name (codes "note") then Some (Note (cpu_of n))
-    else (if bytes_eq name (codes "quiet") then Some (Quiesce (cpu_of n))
-    else (if bytes_eq name (codes "deliver") then Some (Deliver n)
-    else (if bytes_eq name (codes "online") then Some (Online (cpu_of n))
-    else None)))
+    if bytes_eq name (codes "deliver") then Some (Deliver n)
+    else (if bytes_eq name (codes "poll") then Some (Poll n)
+    else event_with_cpu name (cpu_of n))
 
 -- the event of a name and a word, which has to be a number
 abbrev pub event_with_word : List ℕ → List ℕ → Option Event

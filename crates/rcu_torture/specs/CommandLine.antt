@@ -6,7 +6,7 @@ use Rattle.clap.specs.Simple.{on_top}
 use Rattle.clap.specs.Words.{App, Row, Rule, Text, new_app, new_rule, one_of, with_rule, with_subcommand}
 use Rattle.clap.specs.declared.builder.value_parser.ValueParser.TheVariants as vp
 use Rattle.rcu_torture.specs.declared.order.Order.{Order}
-use Rattle.rcu_torture.specs.declared.order.Order.TheVariants.{Script}
+use Rattle.rcu_torture.specs.declared.order.Order.TheVariants.{Script, Pair}
 use Rattle.rcu_torture.specs.declared.setup.Setup.{Setup}
 
 -- ---- the options
@@ -51,6 +51,18 @@ script = with_rule (with_rule (with_rule (with_rule (new_app (codes "script"))
     (required (u32_rule (codes "cpus"))))
     last_rule
 
+-- `pair` before its other options: the shapes of both trees
+abbrev pub shapes : App
+shapes = with_rule (with_rule (with_rule (with_rule (new_app (codes "pair"))
+    (required (u32_rule (codes "leaf"))))
+    (required (u32_rule (codes "inner"))))
+    (required (u32_rule (codes "leaf2"))))
+    (required (u32_rule (codes "inner2")))
+
+-- `pair`: the shapes of both trees, the number of processors and the last number
+abbrev pub pair : App
+pair = with_rule (with_rule shapes (required (u32_rule (codes "cpus")))) last_rule
+
 -- `rcu` before it has subcommands: its words come without the program's name, one of them has to name a subcommand,
 -- and `help` is no subcommand
 abbrev pub rcu_alone : App
@@ -60,9 +72,13 @@ rcu_alone = on_top (λ top. record top {
   disable_help_subcommand = true;
 }) (new_app (codes "rcu"))
 
+-- `rcu` with its first subcommand
+abbrev pub rcu_with_script : App
+rcu_with_script = with_subcommand rcu_alone script.top
+
 -- `rcu` with its subcommands
 abbrev pub rcu : App
-rcu = with_subcommand rcu_alone script.top
+rcu = with_subcommand rcu_with_script pair.top
 
 -- ---- what the matches say
 
@@ -71,18 +87,19 @@ abbrev pub number_in : ℕ → List Row → Text → Option ℕ
 number_in most rows name = option_and_then (λ text.
     if is_unsigned_in 0 most text then Some (digits_value 10 (without_leading_plus text)) else None) (one_of name rows)
 
--- the setup has the numbers of the options, and its second replica is as the first
-pub record IsSetupOf (rows : List Row) (setup : Setup) : Type 0 where
+-- the setup has the numbers of the options; those of the second replica's tree have these names
+pub record IsSetupOf (second_leaf second_inner : Text) (rows : List Row) (setup : Setup) : Type 0 where
   pub leaf : number_in u32_max rows (codes "leaf") ≡ Some setup.leaf
   pub inner : number_in u32_max rows (codes "inner") ≡ Some setup.inner
-  pub leaf2 : setup.leaf2 ≡ setup.leaf
-  pub inner2 : setup.inner2 ≡ setup.inner
+  pub leaf2 : number_in u32_max rows second_leaf ≡ Some setup.leaf2
+  pub inner2 : number_in u32_max rows second_inner ≡ Some setup.inner2
   pub cpus : number_in u32_max rows (codes "cpus") ≡ Some setup.cpus
   pub last : number_in u64_max rows (codes "last") ≡ Some setup.last
 
--- the order is what the subcommand of this name says with its matches
+-- the order is what the subcommand of this name says with its matches: the second replica of a script is as the first
 abbrev pub IsOrder : Text → List Row → Order → Type 0
-IsOrder name rows (Script setup) = (name ≡ codes "script") × IsSetupOf rows setup
+IsOrder name rows (Script setup) = (name ≡ codes "script") × IsSetupOf (codes "leaf") (codes "inner") rows setup
+IsOrder name rows (Pair setup) = (name ≡ codes "pair") × IsSetupOf (codes "leaf2") (codes "inner2") rows setup
 
 -- the order is what the subcommand says, if there is one
 abbrev pub IsOrderOf : Option (Text × List Row) → Order → Type 0
@@ -90,8 +107,8 @@ IsOrderOf None order = ⊥
 IsOrderOf (Some met) order = IsOrder met.0 met.1 order
 
 -- no setup has the numbers of the options
-abbrev pub HasNoSetup : List Row → Type 0
-HasNoSetup rows = (setup : Setup) → ¬ (IsSetupOf rows setup)
+abbrev pub HasNoSetup : Text → Text → List Row → Type 0
+HasNoSetup second_leaf second_inner rows = (setup : Setup) → ¬ (IsSetupOf second_leaf second_inner rows setup)
 
 -- the subcommand says no order
 abbrev pub HasNoOrder : Option (Text × List Row) → Type 0

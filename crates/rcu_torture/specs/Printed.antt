@@ -5,7 +5,7 @@ use Rattle.rcu_node.specs.declared.answer.Answer.{Answer}
 use Rattle.rcu_node.specs.declared.answer.Answer.TheVariants.{Taken, Last, Repeat, Stale}
 use Rattle.rcu_report.specs.declared.report.Report.{Report}
 use Rattle.rcu_core.specs.declared.reply.Reply.{Reply}
-use Rattle.rcu_core.specs.declared.reply.Reply.TheVariants.{Noted, Made, Answer as Answered, Online, Begun, Ended, Awaits, Fault}
+use Rattle.rcu_core.specs.declared.reply.Reply.TheVariants.{Depth, Noted, Made, Answer as Answered, Online, Moved, Begun, Ended, Waiting, Nothing, Awaits, Cookie, Polled, Fault}
 use Rattle.rcu_torture.specs.declared.piece.Piece.{Piece}
 use Rattle.rcu_torture.specs.declared.piece.Piece.TheVariants.{Text, Number, Numbers}
 
@@ -18,6 +18,10 @@ abbrev pub piece_text : Piece → List ℕ
 piece_text (Text text) = text.now
 piece_text (Number n) = decimal n
 piece_text (Numbers numbers) = flat_map spaced numbers.now
+
+-- a text with a number behind it, as a line
+abbrev pub numbered_text : List ℕ → ℕ → List ℕ
+numbered_text text n = text ++ (decimal n ++ codes "\n")
 
 -- what a processor noted: it is needed where the processor is awaited
 abbrev pub noted_text : ℕ → Bool → List ℕ
@@ -44,13 +48,24 @@ abbrev pub awaits_text : List ℕ → List ℕ
 awaits_text [] = codes "awaits none\n"
 awaits_text (cpu ∷ cpus) = codes "awaits" ++ (flat_map spaced (cpu ∷ cpus) ++ codes "\n")
 
+-- whether a cookie is done
+abbrev pub polled_text : Bool → List ℕ
+polled_text true = codes "done\n"
+polled_text false = codes "not yet\n"
+
 -- the line that says a reply
 abbrev pub text_of : Reply → List ℕ
+text_of (Depth depth) = numbered_text (codes "depth ") depth
 text_of (Noted n needed) = noted_text n needed
 text_of (Made place report) = made_text place report
 text_of (Answered answer) = answer_text answer
 text_of Online = codes "online\n"
+text_of (Moved calls) = numbered_text (codes "offline moved ") calls
 text_of (Begun n cpus) = begun_text n cpus
-text_of (Ended n) = codes "ended " ++ (decimal n ++ codes "\n")
+text_of (Ended n) = numbered_text (codes "ended ") n
+text_of (Waiting cpus) = numbered_text (codes "waiting ") cpus
+text_of Nothing = codes "nothing\n"
 text_of (Awaits cpus) = awaits_text cpus
-text_of (Fault fault) = codes "fault " ++ (decimal (number_of fault) ++ codes "\n")
+text_of (Cookie cookie) = numbered_text (codes "cookie ") cookie.0
+text_of (Polled done) = polled_text done
+text_of (Fault fault) = numbered_text (codes "fault ") (number_of fault)

@@ -1,85 +1,11 @@
 -- What a run of a script answers and leaves.
-use Rattle.std.specs.Prelude.{◌≡◌, ◌⊎◌, ◌<◌, ◌^◌, ◌-◌, ◌++◌, ℕ, Bool, true, List, length, Option, Some, None, Result, Ok, Err, IfSome}
-use Rattle.std.specs.Io.KnownBytes.{Appends, Consumes}
-use Rattle.rcu_seq.specs.declared.fault.Fault.{Fault}
-use Rattle.rcu_seq.specs.declared.fault.Fault.TheVariants.{NoMemory}
-use Rattle.rcu_core.specs.Replies.{Size}
+use Rattle.std.specs.Prelude.{Result}
 use Rattle.rcu_torture.specs.Exact.{IsAnswer}
-use Rattle.rcu_torture.specs.Lines.{cut_of, lines_of}
 use Rattle.rcu_torture.specs.Opening.{opening_fault, size_at}
+use Rattle.rcu_torture.specs.Runs.{Ends, RanFrom}
 use Rattle.rcu_torture.specs.declared.setup.Setup.{Setup}
 use Rattle.rcu_torture.specs.declared.run_fault.RunFault.{RunFault}
-use Rattle.rcu_torture.specs.declared.run_fault.RunFault.TheVariants.{Open, Read, Write}
 
--- the two ends of a run: what the reader will give and what the writer took, where these are known, and whether a
--- read or a write has failed
-pub record Ends : Type 0 where
-  pub remaining : Option (List ℕ)
-  pub read_failed : Bool
-  pub taken : Option (List ℕ)
-  pub write_failed : Bool
-
--- the ends, of their parts
-abbrev pub ends_of : Option (List ℕ) → Bool → Option (List ℕ) → Bool → Ends
-ends_of remaining read_failed taken write_failed =
-    record { remaining = remaining; read_failed = read_failed; taken = taken; write_failed = write_failed }
-
--- an answer to the lines was written
-pub record Answered (size : Size) (lines : List (List ℕ)) (old new : Option (List ℕ)) : Type 0 where
-  pub text : List ℕ
-  pub answer : IsAnswer size lines text
-  pub out : Appends old new text
-
--- a beginning of an answer to a front of the lines was written
-pub record BrokenOff (size : Size) (lines : List (List ℕ)) (old new : Option (List ℕ)) : Type 0 where
-  pub front : List (List ℕ)
-  pub later : List (List ℕ)
-  pub split : lines ≡ front ++ later
-  pub written : List ℕ
-  pub unwritten : List ℕ
-  pub answer : IsAnswer size front (written ++ unwritten)
-  pub out : Appends old new written
-
--- all lines that were there to read are answered
-pub record Finished (size : Size) (old new : Ends) : Type 0 where
-  pub answered : IfSome old.remaining (λ bytes. Answered size (lines_of bytes) old.taken new.taken)
-  pub read_sound : new.read_failed ≡ old.read_failed
-  pub write_sound : new.write_failed ≡ old.write_failed
-
--- a read failed, and the lines that were read whole are answered. Only after 2^64 - 1 bytes does a run stop so
--- although no read failed
-pub record StoppedReading (size : Size) (old new : Ends) : Type 0 where
-  pub bytes : List ℕ
-  pub read : Consumes old.remaining new.remaining bytes
-  pub answered : Answered size (cut_of bytes).ended old.taken new.taken
-  pub failed : IfSome old.remaining (λ all. length all < 2 ^ 64 - 1 → new.read_failed ≡ true)
-  pub write_sound : new.write_failed ≡ old.write_failed
-
--- a write failed, in an answer to a front of the lines that were there to read
-pub record StoppedWriting (size : Size) (old new : Ends) : Type 0 where
-  pub broken : IfSome old.remaining (λ bytes. BrokenOff size (lines_of bytes) old.taken new.taken)
-  pub failed : new.write_failed ≡ true
-  pub read_sound : new.read_failed ≡ old.read_failed
-
--- how a run ends on a machine that is open
-abbrev pub Ran : Result (Unit {0}) RunFault → Size → Ends → Ends → Type 0
-Ran (Ok x) size old new = Finished size old new
-Ran (Err (Open fault)) size old new = ⊥
-Ran (Err Read) size old new = StoppedReading size old new
-Ran (Err Write) size old new = StoppedWriting size old new
-
--- an opening is refused by the first fault that is tested, and where there is none, for want of memory
-abbrev pub IsRefusedBy : Option Fault → Fault → Type 0
-IsRefusedBy first fault = (first ≡ Some fault) ⊎ ((first ≡ None) × (fault ≡ NoMemory))
-
--- how a run ends that is opened at a size, where this is the first fault of its opening: where it is refused, nothing
--- was read or written
-abbrev pub RanFrom : Result (Unit {0}) RunFault → Option Fault → Size → Ends → Ends → Type 0
-RanFrom (Ok x) first size old new = (first ≡ None) × Finished size old new
-RanFrom (Err (Open fault)) first size old new = IsRefusedBy first fault × (new ≡ old)
-RanFrom (Err Read) first size old new = (first ≡ None) × StoppedReading size old new
-RanFrom (Err Write) first size old new = (first ≡ None) × StoppedWriting size old new
-
--- how a run of a setup ends
+-- how a run of a setup ends: what is written is an answer to the lines
 abbrev pub RanScript : Result (Unit {0}) RunFault → Setup → Ends → Ends → Type 0
-RanScript result setup old new = RanFrom result (opening_fault setup) (size_at setup) old new
+RanScript result setup old new = RanFrom result (opening_fault setup) (IsAnswer (size_at setup)) old new

@@ -1,7 +1,7 @@
 //! What a line asks for.
 ghost use Rattle.std.specs.Prelude.{◌≡◌};
 ghost use Rattle.std.specs.List.{list_all};
-ghost use Rattle.rcu_torture.specs.Asked.{asked_by, cpu_of, event_alone, event_of, event_with_number, is_printable, is_well_formed};
+ghost use Rattle.rcu_torture.specs.Asked.{asked_by, cpu_of, event_alone, event_of, event_with_cpu, event_with_number, is_printable, is_well_formed};
 ghost use Rattle.rcu_torture.specs.Words.{words_of};
 
 use crate::line::Line;
@@ -27,7 +27,8 @@ pub fn asked(line: &[u8]) -> Line
     }
 }
 
-fn is_line_well_formed(line: &[u8]) -> bool
+/// Whether the line has at most 80 bytes, all of them printable.
+pub fn is_line_well_formed(line: &[u8]) -> bool
     ensures { result ≡ is_well_formed line.now }
 {
     line.len() <= LONGEST && are_printable(line)
@@ -60,8 +61,14 @@ fn named_alone(name: &[u8]) -> Option<Event>
         Some(Event::Begin)
     } else if name == b"end".as_slice() {
         Some(Event::End)
+    } else if name == b"turn".as_slice() {
+        Some(Event::Turn)
     } else if name == b"awaits".as_slice() {
         Some(Event::Awaits)
+    } else if name == b"take".as_slice() {
+        Some(Event::Take)
+    } else if name == b"start".as_slice() {
+        Some(Event::StartPoll)
     } else {
         None
     }
@@ -71,21 +78,38 @@ fn named_alone(name: &[u8]) -> Option<Event>
 fn named_with_number(name: &[u8], n: u64) -> Option<Event>
     ensures { result ≡ event_with_number name.now n }
 {
-    if name == b"note".as_slice() {
-        Some(Event::Note(cpu(n)))
-    } else if name == b"quiet".as_slice() {
-        Some(Event::Quiesce(cpu(n)))
-    } else if name == b"deliver".as_slice() {
+    if name == b"deliver".as_slice() {
         Some(Event::Deliver(n))
+    } else if name == b"poll".as_slice() {
+        Some(Event::Poll(n))
+    } else {
+        named_with_cpu(name, cpu(n))
+    }
+}
+
+/// The event of a name that stands before a processor.
+fn named_with_cpu(name: &[u8], cpu: u32) -> Option<Event>
+    ensures { result ≡ event_with_cpu name.now cpu }
+{
+    if name == b"enter".as_slice() {
+        Some(Event::Enter(cpu))
+    } else if name == b"exit".as_slice() {
+        Some(Event::Exit(cpu))
+    } else if name == b"note".as_slice() {
+        Some(Event::Note(cpu))
+    } else if name == b"quiet".as_slice() {
+        Some(Event::Quiesce(cpu))
     } else if name == b"online".as_slice() {
-        Some(Event::Online(cpu(n)))
+        Some(Event::Online(cpu))
+    } else if name == b"offline".as_slice() {
+        Some(Event::Offline(cpu))
     } else {
         None
     }
 }
 
 /// A processor. A number that does not fit 32 bits becomes the greatest one that does, which is no processor either.
-fn cpu(n: u64) -> u32
+pub fn cpu(n: u64) -> u32
     ensures { result ≡ cpu_of n }
 {
     u32::try_from(n).unwrap_or(u32::MAX)

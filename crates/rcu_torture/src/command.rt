@@ -2,7 +2,7 @@
 ghost use Rattle.std.specs.Prelude.{◌≡◌, false, Some, IfOk, map, MatchOption};
 ghost use Rattle.clap.specs.Words.{FailsBy, app_of, fault_of, found_of, rows_of, rule_of, subcommand_of, subcommand_rows_of};
 ghost use Rattle.clap.specs.declared.builder.command.Command.TheViews.{out-Command as fields_of};
-ghost use Rattle.rcu_torture.specs.CommandLine.{IsOrderOf, IsSetupOf, HasNoOrder, HasNoSetup, number_in, last_rule, rcu, required, script, u32_max, u32_rule, u64_max};
+ghost use Rattle.rcu_torture.specs.CommandLine.{IsOrderOf, IsSetupOf, HasNoOrder, HasNoSetup, number_in, last_rule, pair, rcu, rcu_with_script, required, script, shapes, u32_max, u32_rule, u64_max};
 
 use crate::order::Order;
 use crate::setup::Setup;
@@ -27,6 +27,12 @@ pub fn read_command<'a>(alloc: Global, words: &'a [&'a str]) -> Result<Order, Er
 fn rcu_command<'a>(alloc: Global) -> Result<Command<'a>, AllocError>
     ensures { IfOk result (λ command. app_of command ≡ rcu) }
 {
+    rcu_with_script(alloc)?.subcommand(pair_command(alloc)?)
+}
+
+fn rcu_with_script<'a>(alloc: Global) -> Result<Command<'a>, AllocError>
+    ensures { IfOk result (λ command. app_of command ≡ rcu_with_script) }
+{
     Command::new(alloc, "rcu")
         .about("Drives a grace-period engine")
         .bin_name("rcu")?
@@ -45,6 +51,26 @@ fn script_command<'a>(alloc: Global) -> Result<Command<'a>, AllocError>
         .arg(u32_option(alloc, "inner", "Children that an inner node holds"))?
         .arg(u32_option(alloc, "cpus", "Number of processors"))?
         .arg(last_option(alloc))
+}
+
+fn pair_command<'a>(alloc: Global) -> Result<Command<'a>, AllocError>
+    ensures { IfOk result (λ command. (app_of command ≡ pair) × ((fields_of command).has_globals ≡ false)) }
+{
+    shapes_command(alloc)?
+        .arg(u32_option(alloc, "cpus", "Number of processors of each replica"))?
+        .arg(last_option(alloc))
+}
+
+/// The subcommand `pair` with the options of both shapes.
+fn shapes_command<'a>(alloc: Global) -> Result<Command<'a>, AllocError>
+    ensures { IfOk result (λ command. (app_of command ≡ shapes) × ((fields_of command).has_globals ≡ false)) }
+{
+    Command::new(alloc, "pair")
+        .about("Answers the lines of two replicas on standard input")
+        .arg(u32_option(alloc, "leaf", "Processors that a leaf of a holds"))?
+        .arg(u32_option(alloc, "inner", "Children that an inner node of a holds"))?
+        .arg(u32_option(alloc, "leaf2", "Processors that a leaf of b holds"))?
+        .arg(u32_option(alloc, "inner2", "Children that an inner node of b holds"))
 }
 
 /// A required option whose value is a u32.
@@ -80,27 +106,26 @@ fn order_of(matches: &ArgMatches<'_>) -> Option<Order>
 }
 
 /// What the subcommand of this name orders by its matches.
-#[tactic(auto, using(crate::proofs::CommandLemmas::no_setup))]
+#[tactic(auto, using(crate::proofs::CommandLemmas::no_script, crate::proofs::CommandLemmas::no_pair))]
 fn order_named(name: &str, matches: &ArgMatches<'_>) -> Option<Order>
     ensures { let met = Some (name.now, rows_of (found_of matches.now)) in MatchOption result (HasNoOrder met) (IsOrderOf met) }
 {
     match name {
-        "script" => Some(Order::Script(setup_of(matches)?)),
+        "script" => Some(Order::Script(setup_of(matches, "leaf", "inner")?)),
+        "pair" => Some(Order::Pair(setup_of(matches, "leaf2", "inner2")?)),
         _ => None,
     }
 }
 
-/// The setup that a script's options give.
-fn setup_of(matches: &ArgMatches<'_>) -> Option<Setup>
-    ensures { let rows = rows_of (found_of matches.now) in MatchOption result (HasNoSetup rows) (IsSetupOf rows) }
+/// The setup that the options give. Those of the second replica's tree have these names.
+fn setup_of(matches: &ArgMatches<'_>, leaf2: &str, inner2: &str) -> Option<Setup>
+    ensures { let rows = rows_of (found_of matches.now) in MatchOption result (HasNoSetup leaf2.now inner2.now rows) (IsSetupOf leaf2.now inner2.now rows) }
 {
-    let leaf = u32_of(matches, "leaf")?;
-    let inner = u32_of(matches, "inner")?;
     Some(Setup {
-        leaf,
-        inner,
-        leaf2: leaf,
-        inner2: inner,
+        leaf: u32_of(matches, "leaf")?,
+        inner: u32_of(matches, "inner")?,
+        leaf2: u32_of(matches, leaf2)?,
+        inner2: u32_of(matches, inner2)?,
         cpus: u32_of(matches, "cpus")?,
         last: u64_of(matches, "last")?,
     })

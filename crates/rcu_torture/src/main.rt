@@ -1,23 +1,37 @@
 //! The program `rcu`.
 #![tactic(auto)]
 
+pub mod answerer;
+pub mod answering;
 pub mod asking;
 pub mod command;
-pub mod early_machine;
 pub mod failed;
 pub mod laws;
 pub mod line;
 pub mod line_buffer;
+pub mod line_cpus;
 pub mod machine;
 pub mod marked;
 pub mod opening;
 pub mod order;
 pub mod outbox;
+pub mod pair;
+pub mod pair_asking;
+pub mod pair_event;
+pub mod pair_laws;
+pub mod pair_line;
+pub mod pair_machine;
+pub mod pair_opening;
+pub mod pair_printing;
+pub mod pair_reply;
+pub mod pair_step;
 pub mod piece;
 pub mod printing;
 pub mod run_fault;
 pub mod script;
+pub mod script_answerer;
 pub mod setup;
+pub mod side;
 pub mod sink;
 pub mod source;
 #[cfg(test)]
@@ -27,6 +41,7 @@ pub mod words;
 use command::read_command;
 use marked::Marked;
 use order::Order;
+use pair::run_pair;
 use run_fault::RunFault;
 use script::run_script;
 use setup::Setup;
@@ -60,6 +75,7 @@ fn arguments<R: Env + AllocGlobal>(rt: &R) -> io::Result<Vec<String>> {
 fn obey<R: AllocGlobal + Input + Print + Eprint>(rt: &R, words: &[String]) -> ExitCode {
     match read_order(rt.alloc(), words) {
         Ok(Order::Script(setup)) => answer(rt, &setup),
+        Ok(Order::Pair(setup)) => answer_pair(rt, &setup),
         Err(error) => {
             let _ = eprint!(rt; "{error}");
             ExitCode::from(REFUSED)
@@ -78,6 +94,16 @@ fn answer<R: AllocGlobal + Input + Print + Eprint>(rt: &R, setup: &Setup) -> Exi
     let mut reader = Marked::new(rt.reader());
     let mut writer = Marked::new(io::writer(rt));
     match run_script(rt.alloc(), setup, &mut reader, &mut writer) {
+        Ok(()) => ExitCode::SUCCESS,
+        Err(fault) => stop(rt, fault),
+    }
+}
+
+/// Answers the lines of a pair of standard input on standard output.
+fn answer_pair<R: AllocGlobal + Input + Print + Eprint>(rt: &R, setup: &Setup) -> ExitCode {
+    let mut reader = Marked::new(rt.reader());
+    let mut writer = Marked::new(io::writer(rt));
+    match run_pair(rt.alloc(), setup, &mut reader, &mut writer) {
         Ok(()) => ExitCode::SUCCESS,
         Err(fault) => stop(rt, fault),
     }

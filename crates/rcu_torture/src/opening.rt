@@ -2,8 +2,8 @@
 ghost use Rattle.std.specs.Prelude.{◌≡◌, ◌⊎◌, None, Some, [], IfOk, IfErr};
 ghost use Rattle.rcu_torture.specs.Opening.{machine_fault};
 
-use crate::early_machine::EarlyMachine;
 use crate::machine::Machine;
+use rcu_core::event_core::Core;
 use rcu_geometry::geometry::Geometry;
 use rcu_node::tree::Tree;
 use rcu_seq::fault::Fault;
@@ -18,12 +18,12 @@ pub fn open<const LEAF: u32, const INNER: u32>(
     alloc: Global,
     cpus: u32,
     last: u64,
-) -> Result<EarlyMachine<Tree<LEAF, INNER>>, Fault>
-    ensures ok { IfOk result (λ machine. (machine_fault LEAF INNER cpus last ≡ None) × ⟦<EarlyMachine<Tree<LEAF, INNER>> as Machine>⟧.fits (record { cpus = cpus; last = last }) [] machine) }
+) -> Result<Core<Tree<LEAF, INNER>>, Fault>
+    ensures ok { IfOk result (λ machine. (machine_fault LEAF INNER cpus last ≡ None) × ⟦<Core<Tree<LEAF, INNER>> as Machine>⟧.fits (record { cpus = cpus; last = last }) [] machine) }
     ensures err { IfErr result (λ fault. (machine_fault LEAF INNER cpus last ≡ Some fault) ⊎ ((machine_fault LEAF INNER cpus last ≡ None) × (fault ≡ Fault.NoMemory))) }
 {
     let _shape = Geometry::<LEAF, INNER>::new(cpus)?;
-    let seq = Seq::new(last)?;
+    let _seq = Seq::new(last)?;
     let awaited = Tree::<LEAF, INNER>::new(alloc, cpus)?;
-    EarlyMachine::new(alloc, awaited, seq)
+    Core::new(alloc, awaited, last)
 }

@@ -7,4 +7,6 @@ use crate::setup::Setup;
 pub enum Order {
     /// Answer a script of lines.
     Script(Setup),
+    /// Answer the lines of two replicas.
+    Pair(Setup),
 }

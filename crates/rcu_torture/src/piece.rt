@@ -63,7 +63,7 @@ fn put_numbers<W: Sink>(outbox: &mut Outbox, writer: &mut W, numbers: &[u32]) ->
 }
 
 /// Prints a space and a number.
-fn put_spaced<W: Sink>(outbox: &mut Outbox, writer: &mut W, n: u32) -> Result<(), Failed>
+pub fn put_spaced<W: Sink>(outbox: &mut Outbox, writer: &mut W, n: u32) -> Result<(), Failed>
     ensures { Puts result (out_of (W.taken writer.old) (W.failed writer.old) outbox.old) (out_of (W.taken writer.new) (W.failed writer.new) outbox.new) (spaced n) }
 {
     outbox.put(writer, b" ")?;

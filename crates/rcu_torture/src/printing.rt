@@ -1,7 +1,7 @@
 //! Replies as text.
 ghost use Rattle.std.specs.Prelude.{◌≡◌};
 ghost use Rattle.rcu_torture.specs.Outgoing.{Puts, out_of};
-ghost use Rattle.rcu_torture.specs.Printed.{answer_text, awaits_text, begun_text, made_text, noted_text, text_of};
+ghost use Rattle.rcu_torture.specs.Printed.{answer_text, awaits_text, begun_text, made_text, noted_text, numbered_text, polled_text, text_of};
 
 use crate::failed::Failed;
 use crate::outbox::Outbox;
@@ -18,30 +18,34 @@ pub fn put_reply<W: Sink>(outbox: &mut Outbox, writer: &mut W, reply: &Reply) ->
     ensures { Puts result (out_of (W.taken writer.old) (W.failed writer.old) outbox.old) (out_of (W.taken writer.new) (W.failed writer.new) outbox.new) (text_of reply.now) }
 {
     match reply {
+        Reply::Depth(depth) => put_numbered(outbox, writer, b"depth ", u64::from(*depth)),
         Reply::Noted(n, needed) => put_noted(outbox, writer, *n, *needed),
         Reply::Made(place, report) => put_made(outbox, writer, *place, *report),
         Reply::Answer(answer) => outbox.put(writer, answer_line(*answer)),
         Reply::Online => outbox.put(writer, b"online\n"),
+        Reply::Moved(calls) => put_numbered(outbox, writer, b"offline moved ", *calls),
         Reply::Begun(n, cpus) => put_begun(outbox, writer, *n, *cpus),
-        Reply::Ended(n) => {
-            let pieces = [
-                Piece::Text(b"ended "),
-                Piece::Number(*n),
-                Piece::Text(b"\n"),
-            ];
-            put_pieces(outbox, writer, &pieces)
-        }
+        Reply::Ended(n) => put_numbered(outbox, writer, b"ended ", *n),
+        Reply::Waiting(cpus) => put_numbered(outbox, writer, b"waiting ", u64::from(*cpus)),
+        Reply::Nothing => outbox.put(writer, b"nothing\n"),
         Reply::Awaits(cpus) => put_awaits(outbox, writer, cpus.as_slice()),
-        Reply::Fault(fault) => {
-            let number = u64::from(fault.number());
-            let pieces = [
-                Piece::Text(b"fault "),
-                Piece::Number(number),
-                Piece::Text(b"\n"),
-            ];
-            put_pieces(outbox, writer, &pieces)
-        }
+        Reply::Cookie(cookie) => put_numbered(outbox, writer, b"cookie ", cookie.0),
+        Reply::Polled(done) => outbox.put(writer, polled_line(*done)),
+        Reply::Fault(fault) => put_numbered(outbox, writer, b"fault ", u64::from(fault.number())),
     }
+}
+
+/// Prints a text and a number behind it as a line.
+fn put_numbered<W: Sink>(
+    outbox: &mut Outbox,
+    writer: &mut W,
+    text: &[u8],
+    n: u64,
+) -> Result<(), Failed>
+    ensures { Puts result (out_of (W.taken writer.old) (W.failed writer.old) outbox.old) (out_of (W.taken writer.new) (W.failed writer.new) outbox.new) (numbered_text text.now n) }
+{
+    let pieces = [Piece::Text(text), Piece::Number(n), Piece::Text(b"\n")];
+    put_pieces(outbox, writer, &pieces)
 }
 
 fn put_noted<W: Sink>(
@@ -98,6 +102,12 @@ fn answer_line(answer: Answer) -> &'static [u8]
         Answer::Repeat => b"repeat\n",
         Answer::Stale => b"stale\n",
     }
+}
+
+fn polled_line(done: bool) -> &'static [u8]
+    ensures { result.now ≡ polled_text done }
+{
+    if done { b"done\n" } else { b"not yet\n" }
 }
 
 fn put_begun<W: Sink>(outbox: &mut Outbox, writer: &mut W, n: u64, cpus: u32) -> Result<(), Failed>

@@ -2,6 +2,9 @@
 
 mod ends;
 mod outbox;
+mod pair_slow;
+mod pair_slowly;
+mod pairs;
 mod rows;
 mod slow;
 mod slowly;

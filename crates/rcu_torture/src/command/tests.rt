@@ -51,6 +51,29 @@ fn a_script_has_its_options_numbers(rt: HostRuntime) {
     assert_eq!(rt; read(alloc, &words), four_cpus(18446744073709551615));
 }
 
+#[test]
+fn a_pair_has_its_options_numbers(rt: HostRuntime) {
+    let words = [
+        "pair",
+        "--leaf=2",
+        "--inner=3",
+        "--inner2=64",
+        "--leaf2=16",
+        "--cpus",
+        "4",
+        "--last=8",
+    ];
+    let setup = Setup {
+        leaf: 2,
+        inner: 3,
+        leaf2: 16,
+        inner2: 64,
+        cpus: 4,
+        last: 8,
+    };
+    assert_eq!(rt; read(rt.alloc(), &words), Ok(Order::Pair(setup)));
+}
+
 /// Compares why words are refused.
 fn are_refused(rt: &impl Abort, alloc: Global, lines: &[(&[&str], ErrorKind)]) {
     for (place, (words, kind)) in lines.iter().enumerate() {
@@ -72,7 +95,15 @@ fn other_commands_are_refused(rt: HostRuntime) {
 
 #[test]
 fn other_options_are_refused(rt: HostRuntime) {
-    let lines: [(&[&str], ErrorKind); 6] = [
+    let lines: [(&[&str], ErrorKind); 8] = [
+        (
+            &["pair", "--leaf=2", "--inner=3", "--leaf2=2", "--cpus=4"],
+            ErrorKind::MissingRequiredArgument,
+        ),
+        (
+            &["script", "--leaf=2", "--inner=3", "--cpus=4", "--leaf2=2"],
+            ErrorKind::UnknownArgument,
+        ),
         (
             &["script", "--leaf", "2", "--inner", "3"],
             ErrorKind::MissingRequiredArgument,

@@ -31,8 +31,38 @@ fn number(past: &[Event]) -> u64 {
     ends(past).saturating_mul(4).saturating_add(state)
 }
 
+/// The number after the first grace period that begins from now on.
+fn snapshot(past: &[Event]) -> u64 {
+    let more = if is_running(past) { 2 } else { 1 };
+    ends(past).saturating_add(more).saturating_mul(4)
+}
+
+/// The greatest number that a started poll asked for, 0 before any.
+fn needed(past: &[Event]) -> u64 {
+    let mut greatest = 0u64;
+    for (i, event) in past.iter().enumerate() {
+        if *event == Event::StartPoll {
+            greatest = greatest.max(snapshot(past.split_at(i).0));
+        }
+    }
+    greatest
+}
+
 fn is_online(past: &[Event], cpu: u32) -> bool {
-    cpu == 0 || count(past, |event| *event == Event::Online(cpu)) > 0
+    let mut came = cpu == 0;
+    for event in past {
+        if *event == Event::Online(cpu) {
+            came = true;
+        } else if *event == Event::Offline(cpu) {
+            came = false;
+        }
+    }
+    came
+}
+
+fn depth(past: &[Event], cpu: u32) -> u64 {
+    let entered = count(past, |event| *event == Event::Enter(cpu));
+    entered.saturating_sub(count(past, |event| *event == Event::Exit(cpu)))
 }
 
 /// The number at the last note or arrival, 0 before any.
@@ -68,10 +98,14 @@ fn at_begin(past: &[Event]) -> (&[Event], &[Event]) {
     }
 }
 
+/// Whether since the latest begin a report of the processor with the number was delivered, or it departed.
 fn is_heard(past: &[Event], cpu: u32) -> bool {
     let tag = number(past);
     let mut heard = false;
     for event in at_begin(past).1 {
+        if *event == Event::Offline(cpu) {
+            heard = true;
+        }
         if let Event::Deliver(place) = event {
             if report(past, *place) == Some((cpu, tag)) {
                 heard = true;
@@ -95,6 +129,11 @@ fn awaited(cpus: u32, past: &[Event]) -> u32 {
     found
 }
 
+/// Whether a later number is needed while no grace period runs.
+fn wants_begin(past: &[Event]) -> bool {
+    !is_running(past) && needed(past) > number(past)
+}
+
 /// Whether the event has something to store.
 pub fn stores(cpus: u32, past: &[Event], event: Event) -> bool {
     match event {
@@ -104,18 +143,48 @@ pub fn stores(cpus: u32, past: &[Event], event: Event) -> bool {
     }
 }
 
+/// The processor that an event names.
+fn named(event: Event) -> Option<u32> {
+    match event {
+        Event::Enter(cpu)
+        | Event::Exit(cpu)
+        | Event::Note(cpu)
+        | Event::Quiesce(cpu)
+        | Event::Online(cpu)
+        | Event::Offline(cpu) => Some(cpu),
+        _ => None,
+    }
+}
+
 /// The fault of an event, by its number, 0 for none.
 pub fn fault(cpus: u32, last: u64, past: &[Event], event: Event) -> u32 {
+    if named(event).is_some_and(|cpu| cpu >= cpus) {
+        return 1;
+    }
     match event {
-        Event::Note(cpu) | Event::Quiesce(cpu) | Event::Online(cpu) if cpu >= cpus => 1,
-        Event::Note(cpu) | Event::Quiesce(cpu) if !is_online(past, cpu) => 2,
+        Event::Offline(0) => 12,
+        Event::Enter(cpu) | Event::Note(cpu) | Event::Quiesce(cpu) | Event::Offline(cpu)
+            if !is_online(past, cpu) => { 2 }
         Event::Online(cpu) if is_online(past, cpu) => 3,
+        Event::Quiesce(cpu) | Event::Offline(cpu) if depth(past, cpu) > 0 => 4,
+        Event::Exit(cpu) if depth(past, cpu) == 0 => 5,
+        Event::Enter(cpu) if depth(past, cpu) == 65_535 => 6,
         Event::Deliver(place) if report(past, place).is_none() => 7,
         Event::Begin if is_running(past) => 8,
         Event::Begin if number(past) == last => 11,
         Event::End if !is_running(past) => 9,
         Event::End if awaited(cpus, past) > 0 => 10,
+        Event::Turn if wants_begin(past) && number(past) == last => 11,
         _ => 0,
+    }
+}
+
+/// What an accepted event comes to: a turn may be a begin or an end.
+pub fn meant(cpus: u32, past: &[Event], event: Event) -> Event {
+    match event {
+        Event::Turn if wants_begin(past) => Event::Begin,
+        Event::Turn if is_running(past) && awaited(cpus, past) == 0 => Event::End,
+        _ => event,
     }
 }
 
@@ -136,6 +205,29 @@ fn write_answer(text: &mut ArrayString<80>, cpus: u32, past: &[Event], place: u6
     text.write_str(answer)
 }
 
+fn write_awaited(text: &mut ArrayString<80>, cpus: u32, past: &[Event]) -> fmt::Result {
+    text.write_str("awaits")?;
+    for cpu in 0..cpus {
+        if is_awaited(past, cpu) {
+            write!(text, " {cpu}")?;
+        }
+    }
+    if awaited(cpus, past) == 0 {
+        text.write_str(" none")
+    } else {
+        Ok(())
+    }
+}
+
+/// Writes whether the number reached the cookie's.
+fn write_polled(text: &mut ArrayString<80>, past: &[Event], cookie: u64) -> fmt::Result {
+    if cookie == 1 || cookie <= number(past) {
+        text.write_str("done")
+    } else {
+        text.write_str("not yet")
+    }
+}
+
 /// Writes the reply to an event that has no fault. The history goes on from `past` to `now`.
 pub fn write_reply(
     text: &mut ArrayString<80>,
@@ -145,6 +237,7 @@ pub fn write_reply(
     event: Event,
 ) -> fmt::Result {
     match event {
+        Event::Enter(cpu) | Event::Exit(cpu) => write!(text, "depth {}", depth(now, cpu)),
         Event::Note(cpu) if is_awaited(past, cpu) => write!(text, "noted {} needed", number(past)),
         Event::Note(_) => write!(text, "noted {} clear", number(past)),
         Event::Quiesce(cpu) => {
@@ -153,20 +246,13 @@ pub fn write_reply(
         }
         Event::Deliver(place) => write_answer(text, cpus, past, place),
         Event::Online(_) => text.write_str("online"),
+        Event::Offline(_) => text.write_str("offline moved 0"),
         Event::Begin => write!(text, "begun {} awaits {}", number(now), awaited(cpus, now)),
         Event::End => write!(text, "ended {}", number(now)),
-        Event::Awaits => {
-            text.write_str("awaits")?;
-            for cpu in 0..cpus {
-                if is_awaited(past, cpu) {
-                    write!(text, " {cpu}")?;
-                }
-            }
-            if awaited(cpus, past) == 0 {
-                text.write_str(" none")
-            } else {
-                Ok(())
-            }
-        }
+        Event::Turn if is_running(now) => write!(text, "waiting {}", awaited(cpus, now)),
+        Event::Turn => text.write_str("nothing"),
+        Event::Awaits => write_awaited(text, cpus, past),
+        Event::Take | Event::StartPoll => write!(text, "cookie {}", snapshot(past)),
+        Event::Poll(cookie) => write_polled(text, past, cookie),
     }
 }

@@ -1,47 +1,98 @@
 //! Scripts of events drawn at random, reply by reply against the slow program.
 
-use crate::tests::slow::{fault, stores, write_reply};
+use crate::tests::slow::{fault, meant, stores, write_reply};
 use crate::tests::trial::{replies, setup};
 use arrayvec::ArrayString;
 use rcu_core::event::Event;
-use std::alloc::AllocError;
+use std::alloc::{AllocError, Global};
 use std::fmt;
 use std::fmt::Write;
 
 /// How many events a script has.
 const LENGTH: usize = 240;
 
-/// The next word of a plain generator.
-fn draw(state: &mut u64) -> u64 {
+/// The next word of a plain generator, of 31 bits.
+fn draw(state: &mut u64) -> u32 {
     *state = state
         .wrapping_mul(6364136223846793005)
         .wrapping_add(1442695040888963407);
-    *state >> 33
+    (*state >> 33) as u32
 }
 
-/// An event of a processor below 4, or of a report up to one that was not made.
-fn event_of(word: u64, made: u64) -> Event {
-    let cpu = (word / 16 % 4) as u32;
-    match word % 16 {
+/// What leads an event on: from a note to a quiescent state, and from that to the delivery of the report.
+fn next_of(event: Event, made: u64) -> Option<Event> {
+    match event {
+        Event::Note(cpu) => Some(Event::Quiesce(cpu)),
+        Event::Quiesce(_) => Some(Event::Deliver(made)),
+        _ => None,
+    }
+}
+
+/// An event of a processor, which at times is none, of a report up to one that was not made, or of a cookie below 40.
+fn event_of(word: u32, cpus: u32, made: u64) -> Event {
+    let rest = word / 32;
+    let cpu = if rest % 16 == 0 {
+        cpus
+    } else {
+        rest % cpus.max(1)
+    };
+    match word % 32 {
         0 | 1 => Event::Begin,
         2 | 3 => Event::End,
-        4 => Event::Online(cpu),
-        5..=7 => Event::Note(cpu),
-        8..=10 => Event::Quiesce(cpu),
-        11 => Event::Awaits,
-        _ => Event::Deliver(word / 64 % made.saturating_add(2)),
+        4 | 5 => Event::Turn,
+        6 | 7 => Event::Online(cpu),
+        8 => Event::Offline(cpu),
+        9 => Event::Enter(cpu),
+        10..=13 => Event::Exit(cpu),
+        14 => Event::Awaits,
+        15 => Event::Take,
+        16 => Event::StartPoll,
+        17 | 18 => Event::Poll(u64::from(rest % 40)),
+        19..=26 => Event::Note(cpu),
+        27 | 28 => Event::Quiesce(cpu),
+        _ => Event::Deliver(u64::from(rest) % made.saturating_add(2)),
     }
+}
+
+/// Draws the events of a script. Three times of four an event that leads on is followed by what it leads to.
+fn draw_events(alloc: Global, cpus: u32, last: u64, seed: u64) -> Result<Vec<Event>, AllocError> {
+    let mut state = seed;
+    let mut made = 0u64;
+    let mut past = Vec::with_capacity(alloc, LENGTH)?;
+    let mut events: Vec<Event> = Vec::with_capacity(alloc, LENGTH)?;
+    for _ in 0..LENGTH {
+        let word = draw(&mut state);
+        let event = match events.last().and_then(|event| next_of(*event, made)) {
+            Some(event) if word / 32 % 4 != 0 => event,
+            _ => event_of(word, cpus, made),
+        };
+        events.push(event)?;
+        if fault(cpus, last, past.as_slice(), event) == 0 {
+            if let Event::Quiesce(_) = event {
+                made = made.saturating_add(1);
+            }
+            past.push(meant(cpus, past.as_slice(), event))?;
+        }
+    }
+    Ok(events)
 }
 
 fn write_line(text: &mut ArrayString<80>, event: Event) -> fmt::Result {
     match event {
+        Event::Enter(cpu) => writeln!(text, "enter {cpu}"),
+        Event::Exit(cpu) => writeln!(text, "exit {cpu}"),
         Event::Note(cpu) => writeln!(text, "note {cpu}"),
         Event::Quiesce(cpu) => writeln!(text, "quiet {cpu}"),
         Event::Deliver(place) => writeln!(text, "deliver {place}"),
         Event::Online(cpu) => writeln!(text, "online {cpu}"),
+        Event::Offline(cpu) => writeln!(text, "offline {cpu}"),
         Event::Begin => text.write_str("begin\n"),
         Event::End => text.write_str("end\n"),
+        Event::Turn => text.write_str("turn\n"),
         Event::Awaits => text.write_str("awaits\n"),
+        Event::Take => text.write_str("take\n"),
+        Event::StartPoll => text.write_str("start\n"),
+        Event::Poll(cookie) => writeln!(text, "poll {cookie}"),
     }
 }
 
@@ -62,6 +113,7 @@ fn is_reply(
     if line == b"fault 16".as_slice() {
         return Ok(stores(cpus, past.as_slice(), event));
     }
+    let event = meant(cpus, past.as_slice(), event);
     let before = past.len();
     past.push(event)?;
     let now = past.as_slice();
@@ -72,20 +124,13 @@ fn is_reply(
 /// Draws a script, runs it, and looks at each reply; true also where memory was refused to the test itself.
 fn agrees(rt: &HostRuntime, cpus: u32, last: u64, seed: u64) -> Result<bool, AllocError> {
     let alloc = rt.alloc();
-    let mut state = seed;
-    let mut made = 0u64;
-    let mut events = Vec::with_capacity(alloc, LENGTH)?;
+    let events = draw_events(alloc, cpus, last, seed)?;
     let mut script = Vec::with_capacity(alloc, 20 * LENGTH)?;
-    for _ in 0..LENGTH {
-        let event = event_of(draw(&mut state), made);
+    for event in &events {
         let mut line = ArrayString::<80>::new();
-        if write_line(&mut line, event).is_err() {
+        if write_line(&mut line, *event).is_err() {
             return Ok(false);
         }
-        if let Event::Quiesce(_) = event {
-            made = made.saturating_add(1);
-        }
-        events.push(event)?;
         script.extend_from_slice(line.as_bytes())?;
     }
     let Ok(text) = replies(alloc, &setup((2, 2), cpus, last), script.as_slice()) else {

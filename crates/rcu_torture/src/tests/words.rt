@@ -55,4 +55,16 @@ fn lines(rt: HostRuntime) {
         Line::Ask(Event::Deliver(u64::MAX))
     );
     assert_eq!(rt; asked(b"online 007"), Line::Ask(Event::Online(7)));
+    assert_eq!(rt; asked(b"offline 7"), Line::Ask(Event::Offline(7)));
+    assert_eq!(rt; asked(b"enter 7"), Line::Ask(Event::Enter(7)));
+    assert_eq!(rt; asked(b"exit 7"), Line::Ask(Event::Exit(7)));
+    assert_eq!(rt; asked(b"turn"), Line::Ask(Event::Turn));
+    assert_eq!(rt; asked(b"take"), Line::Ask(Event::Take));
+    assert_eq!(rt; asked(b"start"), Line::Ask(Event::StartPoll));
+    assert_eq!(rt; asked(b"start 1"), Line::Malformed);
+    assert_eq!(rt;
+        asked(b"poll 18446744073709551615"),
+        Line::Ask(Event::Poll(u64::MAX))
+    );
+    assert_eq!(rt; asked(b"poll"), Line::Malformed);
 }

@@ -1,0 +1,31 @@
+use Rattle.std.proofs.Common.{◌++◌, ◌∷◌, [], refl, sym, append-nil, subst}
+use Rattle.std.proofs.lemmas.Result.{err_from_is_err_and}
+use Rattle.rcu_torture.specs.Underway.{Underway}
+use Rattle.rcu_torture.proofs.UnderwayLemmas.{piece_line, piece_next, piece_rest, piece_stopped}
+use Rattle.rcu_torture.proofs.answering.take_lines.Goals as goal
+
+pub loop-front-init : goal.loop-front-init
+loop-front-init g c = record {
+  done = [];
+  whole = refl;
+  goes = λ size start bytes u. subst (Underway (g.A.Answerer.past _ size) start _ _) (sym (append-nil bytes)) u;
+}
+
+pub returns-in_err-end_line : goal.returns-in_err-end_line
+returns-in_err-end_line g c = λ size start bytes u.
+    let p = err_from_is_err_and c.from_residual.result c.from_residual.ensures.1 in
+    rw (p.1) (piece_stopped (g.A.Answerer.past _ size) (g.A.Answerer.past _ size) start _ _ _ bytes c.loop-front.invariant.done c.in-Some.front.now c.in-Some.behind.now c.args.piece.now _
+    c.in-Some.ensures.front c.loop-front.invariant.whole c.in-Some.ensures.some (c.loop-front.invariant.goes size start bytes u)
+    (λ lines text begun told kept. c.in_err-end_line.ensures.goes size lines text begun told kept))
+
+pub loop-front-preserved : goal.loop-front-preserved
+loop-front-preserved g c = record {
+  done = c.loop-front.invariant.done ++ (c.in-Some.front.now ++ 10 ∷ []);
+  whole = piece_next c.loop-front.invariant.done c.in-Some.front.now c.in-Some.behind.now c.args.piece.now _ c.loop-front.invariant.whole c.in-Some.ensures.some;
+  goes = λ size start bytes u. piece_line (g.A.Answerer.past _ size) (g.A.Answerer.past _ size) start _ _ _ _ bytes c.loop-front.invariant.done c.in-Some.front.now c.in-Some.ensures.front c.in_ok-end_line.ensures.empty
+      (c.loop-front.invariant.goes size start bytes u) (λ lines text begun told kept. c.in_ok-end_line.ensures.goes size lines text begun told kept);
+}
+
+pub returns : goal.returns
+returns g c = λ size start bytes u.
+    piece_rest (g.A.Answerer.past _ size) start _ _ _ bytes c.loop-front.invariant.done _ c.args.piece.now c.in_default.ensures.none c.loop-front.invariant.whole c.extend.ensures (c.loop-front.invariant.goes size start bytes u)
