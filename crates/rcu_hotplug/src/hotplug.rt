@@ -105,7 +105,8 @@ impl<A: Awaited> Hotplug<A> {
     /// A grace period of this number begins, and awaits the online processors. The number is `4k + 1`.
     pub fn begin(&mut self, tag: u64)
         requires { is_running tag ≡ true }
-        ensures { self.new ≡ next self.old (Begin tag) }
+        ensures state { self.new ≡ next self.old (Begin tag) }
+        ensures sized { cpus_of self.new ≡ cpus_of self.old }
     {
         self.inner.begin(tag, &self.online);
     }

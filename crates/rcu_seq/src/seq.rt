@@ -62,10 +62,11 @@ impl Seq {
         }
     }
 
-    /// The number: 4 times the grace periods that ended, and 1 more while one runs.
+    /// The number: 4 times the grace periods that ended, and 1 more while one runs. It is at most 2^62.
     pub fn value(&self) -> u64
         ensures value { result ≡ number_of self.now }
         ensures within { result ≤ self.now.last }
+        ensures bounded { result ≤ 2 ^ 62 }
     {
         self.value
     }
