@@ -1,24 +1,46 @@
 -- Counts and lists of the processors that pass a test.
-use Rattle.std.proofs.Common.{◌≡◌, ℕ, zero, suc, ◌+◌, ◌<◌, ◌≤◌, Bool, true, false, cond, List, [], ◌∷◌, ◌++◌, length, get_or, refl, sym, ap, ◌∙◌, append-nil, arith, map}
-use Rattle.std.specs.Prelude.{filter, count_by}
+use Rattle.std.proofs.Common.{◌≡◌, ℕ, zero, suc, ◌+◌, ◌<◌, ◌≤◌, Bool, true, false, not, cond, List, [], ◌∷◌, ◌++◌, length, get_or, refl, sym, ap, ◌∙◌, append-nil, arith, map}
+use Rattle.std.specs.Prelude.{filter, count_by, sum_by}
 use Rattle.std.specs.List.{range_with_len}
 use Rattle.std.proofs.lemmas.List.FromFn.{fill_by_all, length-range_with_len, get_or-range_with_len}
 use Rattle.std.proofs.lemmas.List.Elements.{filter-append}
+use Rattle.std.proofs.lemmas.List.Recursion.{is_sum_by}
 use Rattle.std.proofs.lemmas.List.Sums.{get_or-le-sum_by, sum_by-cons}
 use Rattle.rcu_node.specs.CpuSets.{is_in, size_of}
+use Rattle.rcu_cblist.specs.Items.{Item, markers}
+use Rattle.rcu_barrier.specs.AllLists.{markers_in, unvisited}
 
-count_by-map : {X Y : Type 0} (p : Y → Bool) (f : X → Y) (xs : List X) → count_by p (map f xs) ≡ count_by (λ x. p (f x)) xs
-count_by-map p f [] = refl
-count_by-map p f (x ∷ xs) =
-    sum_by-cons (λ y. cond (p y) 1 0) (f x) (map f xs)
-    ∙ ap (λ n. cond (p (f x)) 1 0 + n) (count_by-map p f xs)
-    ∙ sym (sum_by-cons (λ z. cond (p (f z)) 1 0) x xs)
+sum_by-map : {X Y : Type 0} (g : Y → ℕ) (f : X → Y) (xs : List X) → sum_by g (map f xs) ≡ sum_by (λ x. g (f x)) xs
+sum_by-map g f [] = refl
+sum_by-map g f (x ∷ xs) =
+    sum_by-cons g (f x) (map f xs)
+    ∙ ap (λ n. g (f x) + n) (sum_by-map g f xs)
+    ∙ sym (sum_by-cons (λ z. g (f z)) x xs)
 
 -- a set has as many processors as pass its test
 pub passing_is_size : (xs : List Bool) (n : ℕ) → n ≡ length xs → count_by (is_in xs) (range_with_len 0 n) ≡ size_of xs
 passing_is_size xs n e =
-    sym (count_by-map (λ flag. flag) (is_in xs) (range_with_len 0 n))
+    sym (sum_by-map (λ flag. cond flag 1 0) (is_in xs) (range_with_len 0 n))
     ∙ ap (λ (flags : List Bool). size_of flags) (sym (fill_by_all (is_in xs) xs n false (sym e) (λ k lt. refl)))
+
+-- the lists have as many markers as the lists of the processors together
+pub markers_of_each : (lists : List (List (Item ℕ))) (n : ℕ) → n ≡ length lists → sum_by (λ c. markers (get_or lists c [])) (range_with_len 0 n) ≡ markers_in lists
+markers_of_each lists n e =
+    sym (sum_by-map (λ (xs : List (Item ℕ)). markers xs) (λ c. get_or lists c []) (range_with_len 0 n))
+    ∙ ap (λ (ls : List (List (Item ℕ))). sum_by (λ (xs : List (Item ℕ)). markers xs) ls) (sym (fill_by_all (λ c. get_or lists c []) lists n [] (sym e) (λ k lt. refl)))
+    ∙ sym (is_sum_by (λ (ls : List (List (Item ℕ))). markers_in ls) (λ (xs : List (Item ℕ)). markers xs) refl (λ _ _. refl) lists)
+
+unset : (flags : List Bool) → count_by (λ flag. not flag) flags ≡ unvisited flags
+unset [] = refl
+unset (true ∷ flags) = sum_by-cons (λ flag. cond (not flag) 1 0) true flags ∙ (let rest = unset flags in omega arith)
+unset (false ∷ flags) = sum_by-cons (λ flag. cond (not flag) 1 0) false flags ∙ (let rest = unset flags in omega arith)
+
+-- as many processors are unvisited as fail the test of a visit
+pub unvisited_of_each : (flags : List Bool) (n : ℕ) → n ≡ length flags → count_by (λ c. not (is_in flags c)) (range_with_len 0 n) ≡ unvisited flags
+unvisited_of_each flags n e =
+    sym (sum_by-map (λ flag. cond (not flag) 1 0) (is_in flags) (range_with_len 0 n))
+    ∙ ap (λ (fs : List Bool). count_by (λ flag. not flag) fs) (sym (fill_by_all (is_in flags) flags n false (sym e) (λ k lt. refl)))
+    ∙ unset flags
 
 at_most_none : (b : Bool) (n : ℕ) → cond b 1 0 ≤ n → n ≡ 0 → b ≡ false
 at_most_none true n le e = absurd (omega arith)

@@ -22,7 +22,7 @@ pub snapshot_is : (h : History) → snapshot h ≡ snap (number h)
 snapshot_is h = snap_of (count ends h) (running h)
 
 -- the number never falls
-number_step : (s : Size) (e : Event) (h : History) → fault_in s (situation h) e ≡ None → Turns h → number h ≤ number (e ∷ h)
+pub number_step : (s : Size) (e : Event) (h : History) → fault_in s (situation h) e ≡ None → Turns h → number h ≤ number (e ∷ h)
 number_step s Begin h p t = grind (arith, nat_tests)
 number_step s End h p t = grind (arith, nat_tests)
 number_step s _ h p t = omega arith

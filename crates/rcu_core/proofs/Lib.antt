@@ -1,7 +1,17 @@
+pub mod Changes
 pub mod Counting
+pub mod Covered
 pub mod Facts
 pub mod Follows
+pub mod FollowsLists
+pub mod FollowsPeriods
 pub mod Kept
+pub mod Once
 pub mod Readers
+pub mod Recorded
+pub mod Situations
 pub mod Sound
 pub mod Steps
+pub mod Timely
+pub mod Waited
+pub mod Writes

@@ -7,14 +7,14 @@ use Rattle.rcu_seq.specs.Cookies.{is_done_at}
 use Rattle.rcu_seq.specs.Numbers.{number_at}
 use Rattle.rcu_seq.specs.declared.fault.Fault.{Fault}
 use Rattle.rcu_core.specs.History.{History, depth, number, opening, section, is_old, awaits, snapshot}
-use Rattle.rcu_core.specs.Replies.{Size, Situation, situation, fault_in, how_many, said, or_fault, wants_begin, recorded, after, IsHistory, IsLegalReply}
+use Rattle.rcu_core.specs.Replies.{Size, Situation, situation, fault_in, how_many, said, or_fault, waits_for, wants_begin, recorded, after, IsHistory, IsLegalReply}
 use Rattle.rcu_core.specs.Runs.{Run, IsLegal, history, takes}
 use Rattle.rcu_core.specs.declared.event.Event.{Event}
-use Rattle.rcu_core.specs.declared.event.Event.TheVariants.{Turn, Take, StartPoll, Poll}
+use Rattle.rcu_core.specs.declared.event.Event.TheVariants.{Turn, Take, StartPoll, Poll, BarTest}
 use Rattle.rcu_core.specs.declared.reply.Reply.{Reply}
 use Rattle.rcu_core.specs.declared.reply.Reply.TheVariants as reply
 use Rattle.rcu_core.proofs.Facts.{Facts, facts, snap, snapshot_is}
-use Rattle.rcu_core.proofs.Follows.{after_said}
+use Rattle.rcu_core.proofs.Recorded.{after_said, after_test, is_test}
 
 -- a turn that begins or ends does so where a begin or an end is accepted
 turn_accepted : (s : Size) (u : Situation) (a b d : Bool) (k l m n : ℕ) → u.running ≡ a → (how_many s u.awaits == 0) ≡ b → wants_begin u ≡ d → fault_in s u Turn ≡ None
@@ -28,16 +28,27 @@ accepted_as : (s : Size) (u : Situation) (e : Event) → fault_in s u e ≡ None
 accepted_as s u Turn p = turn_accepted s u u.running (how_many s u.awaits == 0) (wants_begin u) (number_at (u.ends + 1) false) (how_many s u.awaits) (number_at u.ends true) (how_many s u.online) refl refl refl p
 accepted_as s u _ p = p
 
+test_accepted : (s : Size) (h : History) (b : Bool) → fault_in s (situation h) BarTest ≡ None → IsHistory s h → IsHistory s (cond b (BarTest ∷ h) h)
+test_accepted s h true i p = (i, p)
+test_accepted s h false i p = p
+
+after_other : (s : Size) (h : History) (e : Event) → is_test e ≡ false → fault_in s (situation h) e ≡ None → IsHistory s h → IsHistory s (after h e (said s (situation h) e))
+after_other s h e n i p = rw (after_said s (situation h) h e n) (accepted_as s (situation h) e i, p)
+
+after_accepted : (s : Size) (h : History) (e : Event) → fault_in s (situation h) e ≡ None → IsHistory s h → IsHistory s (after h e (said s (situation h) e))
+after_accepted s h BarTest i p = rw (after_test s (situation h) h) (test_accepted s h (waits_for s (situation h) == 0) i p)
+after_accepted s h e i p = after_other s h e refl i p
+
 after_answer : (s : Size) (h : History) (e : Event) (o : Option Fault) → fault_in s (situation h) e ≡ o → IsHistory s h → IsHistory s (after h e (or_fault o (said s (situation h) e)))
 after_answer s h e (Some f) i p = p
-after_answer s h e None i p = rw (after_said s (situation h) h e) (accepted_as s (situation h) e i, p)
+after_answer s h e None i p = after_accepted s h e i p
 
 after_legal : (s : Size) (h : History) (e : Event) (r : Reply) → IsLegalReply s (situation h) e r → IsHistory s h → IsHistory s (after h e r)
 after_legal s h e r (inl i) p = rw i (after_answer s h e (fault_in s (situation h) e) refl p)
 after_legal s h e r (inr i) p = rw i.2 p
 
 -- the history of a legal run has accepted events alone
-possible : (s : Size) (run : Run) → IsLegal s run → IsHistory s (history run)
+pub possible : (s : Size) (run : Run) → IsLegal s run → IsHistory s (history run)
 possible s [] l = tt
 possible s (x ∷ run) l = after_legal s (history run) x.0 x.1 l.0 (possible s run l.1)
 

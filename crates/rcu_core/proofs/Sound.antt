@@ -11,17 +11,20 @@ use Rattle.rcu_node.specs.CpuSets.{is_in}
 use Rattle.rcu_report.specs.declared.report.Report.{Report}
 use Rattle.rcu_hotplug.specs.Calls.{cpus_of}
 use Rattle.rcu_cpu.specs.Processors.{Processor, made, report_of}
+use Rattle.rcu_cblist.specs.Items.{Item}
 use Rattle.rcu_core.specs.Grace.{Grace, at_first, awaited_after, awaited_in, begun, ended, number_in, reported, turned_to, wants_begin}
 use Rattle.rcu_core.specs.State.{State, IsSound, processor, size_at}
 
--- where the online processors, their number and all that is kept of them stay, what always holds stays
-pub stays_sound : (v : State) (g : Grace) → g.processors.online ≡ v.grace.processors.online → cpus_of g.processors ≡ cpus_of v.grace.processors
-    → IsSound v → IsSound (record v { grace = g })
-stays_sound v g online sized s = record {
+-- where the online processors, their number, the lists and all that is kept of them stay, what always holds stays
+pub stays_sound : (v : State ℕ) (g : Grace ℕ) → g.processors.online ≡ v.grace.processors.online → cpus_of g.processors ≡ cpus_of v.grace.processors
+    → g.lists ≡ v.grace.lists → IsSound v → IsSound (record v { grace = g })
+stays_sound v g online sized lists s = record {
   flags = rw (online, sized) s.flags;
   sized = rw sized s.sized;
   placed = s.placed;
   present = λ cpu. rw online (s.present cpu);
+  listed = rw (lists, sized) s.listed;
+  visits = rw (lists, sized) s.visits;
   made = rw sized s.made;
 }
 
@@ -30,7 +33,7 @@ length-without true set cpu = length-set set cpu false
 length-without false set cpu = refl
 
 -- a report leaves as many flags
-pub length-awaited_after : (g : Grace) (report : Report) → length (awaited_after g report) ≡ length g.processors.awaited
+pub length-awaited_after : (g : Grace ℕ) (report : Report) → length (awaited_after g report) ≡ length g.processors.awaited
 length-awaited_after g report = go g.seq.running
   where
     go : (b : Bool) → length (cond b (cond (same_number report.tag (number_in g)) (slice_set g.processors.awaited report.cpu false) g.processors.awaited) g.processors.awaited) ≡ length g.processors.awaited
@@ -38,19 +41,19 @@ length-awaited_after g report = go g.seq.running
     go false = refl
 
 -- after a report
-pub sound_reported : (v : State) (g : Grace) (report : Report) → g ≡ reported v.grace report → IsSound v → IsSound (record v { grace = g })
-sound_reported v g report e s = stays_sound v g (rw e refl) (rw e (length-awaited_after v.grace report)) s
+pub sound_reported : (v : State ℕ) (g : Grace ℕ) (report : Report) → g ≡ reported v.grace report → IsSound v → IsSound (record v { grace = g })
+sound_reported v g report e s = stays_sound v g (rw e refl) (rw e (length-awaited_after v.grace report)) (rw e refl) s
 
 -- after a begin
-pub sound_begun : (v : State) (g : Grace) → g ≡ begun v.grace → IsSound v → IsSound (record v { grace = g })
-sound_begun v g e s = stays_sound v g (rw e refl) (rw e s.flags) s
+pub sound_begun : (v : State ℕ) (g : Grace ℕ) → g ≡ begun v.grace → IsSound v → IsSound (record v { grace = g })
+sound_begun v g e s = stays_sound v g (rw e refl) (rw e s.flags) (rw e refl) s
 
 -- after a turn
-pub sound_turned : (v : State) (g : Grace) → g ≡ turned_to v.grace → IsSound v → IsSound (record v { grace = g })
-sound_turned v g e s = subst (λ (x : Grace). IsSound (record v { grace = x })) (sym e) (go v.grace.seq.running (awaited_in v.grace == 0) (wants_begin v.grace))
+pub sound_turned : (v : State ℕ) (g : Grace ℕ) → g ≡ turned_to v.grace → IsSound v → IsSound (record v { grace = g })
+sound_turned v g e s = subst (λ (x : Grace ℕ). IsSound (record v { grace = x })) (sym e) (go v.grace.seq.running (awaited_in v.grace == 0) (wants_begin v.grace))
   where
     go : (a b d : Bool) → IsSound (record v { grace = cond a (cond b (ended v.grace) v.grace) (cond d (begun v.grace) v.grace) })
-    go true true d = stays_sound v (ended v.grace) refl refl s
+    go true true d = stays_sound v (ended v.grace) refl refl refl s
     go true false d = s
     go false b true = sound_begun v (begun v.grace) refl s
     go false b false = s
@@ -60,13 +63,15 @@ all_one P x p zero d l = p
 all_one P x p (suc k) d l = absurd (omega arith)
 
 -- after a quiescent state
-pub sound_made : (v : State) (cpu : ℕ) (reports : List Report) → cpu < cpus_of v.grace.processors → reports ≡ v.made ++ report_of (processor v.cpus cpu) ∷ []
+pub sound_made : (v : State ℕ) (cpu : ℕ) (reports : List Report) → cpu < cpus_of v.grace.processors → reports ≡ v.made ++ report_of (processor v.cpus cpu) ∷ []
     → IsSound v → IsSound (record v { made = reports })
 sound_made v cpu reports l e s = record {
   flags = s.flags;
   sized = s.sized;
   placed = s.placed;
   present = s.present;
+  listed = s.listed;
+  visits = s.visits;
   made = rw e (All-append (λ (report : Report). report.cpu < cpus_of v.grace.processors) v.made (report_of (processor v.cpus cpu) ∷ []) s.made
       (all_one (λ (report : Report). report.cpu < cpus_of v.grace.processors) (report_of (processor v.cpus cpu)) (rw (s.placed cpu) l)));
 }
@@ -95,6 +100,10 @@ get_same (suc n) x (suc k) = get_same n x k
 pub nobody : (n cpu : ℕ) → is_in (replicate n false) cpu ≡ false
 nobody n cpu = get_same n false cpu
 
+-- each list is empty at the start
+pub no_item : (n cpu : ℕ) → get_or {A = List (Item ℕ)} (replicate n []) cpu [] ≡ []
+no_item n cpu = get_same n [] cpu
+
 -- processor 0 alone is online at the start
 pub boot_alone : (n cpu : ℕ) → 0 < n → is_in (slice_set (replicate n false) 0 true) cpu ≡ (cpu == 0)
 boot_alone n cpu l = elim (cases_eq cpu 0) [
@@ -103,29 +112,31 @@ boot_alone n cpu l = elim (cases_eq cpu 0) [
 ]
 
 -- it holds at the start
-pub sound_first : (n : ℕ) (last : ℕ) (v : State) → 0 < n → v.grace ≡ at_first n last → v.cpus ≡ first_cpus n → v.made ≡ [] → IsSound v
+pub sound_first : (n : ℕ) (last : ℕ) (v : State ℕ) → 0 < n → v.grace ≡ at_first n last → v.cpus ≡ first_cpus n → v.made ≡ [] → IsSound v
 sound_first n last v l e f m =
-    subst (λ (x : State). IsSound x) (λ i. record { grace = sym e i; cpus = sym f i; made = sym m i })
+    subst (λ (x : State ℕ). IsSound x) (λ i. record { grace = sym e i; cpus = sym f i; made = sym m i })
     (record {
       flags = length-set (replicate n false) 0 true;
       sized = length-map-range_with_len (λ c. made c (c == 0)) 0 n ∙ sym (length-replicate {A = Bool} n false);
       placed = λ cpu. ap (λ (p : Processor). p.cpu) (first_at n cpu l);
       present = λ cpu. ap (λ (p : Processor). p.online) (first_at n cpu l) ∙ sym (boot_alone n cpu l);
+      listed = length-replicate {A = List (Item ℕ)} n [] ∙ sym (length-replicate {A = Bool} n false);
+      visits = length-replicate {A = Bool} n true ∙ sym (length-replicate {A = Bool} n false);
       made = λ k d m. absurd (omega arith);
     })
 
 -- what is read at a place that is there is the processor there
-pub at_place : (v : State) (cpu : ℕ) (p : Processor) → IsSound v → cpu < cpus_of v.grace.processors → p ≡ get_or v.cpus cpu p → p ≡ processor v.cpus cpu
+pub at_place : (v : State ℕ) (cpu : ℕ) (p : Processor) → IsSound v → cpu < cpus_of v.grace.processors → p ≡ get_or v.cpus cpu p → p ≡ processor v.cpus cpu
 at_place v cpu p s l e = get_or_read_under v.cpus cpu (cpus_of v.grace.processors) p (made cpu false) e l (sym s.sized)
 
 -- put back, it changes nothing
-pub put_back : (v : State) (cpu : ℕ) (p q : Processor) → q ≡ p → p ≡ processor v.cpus cpu → record v { cpus = slice_set v.cpus cpu q } ≡ v
+pub put_back : (v : State ℕ) (cpu : ℕ) (p q : Processor) → q ≡ p → p ≡ processor v.cpus cpu → record v { cpus = slice_set v.cpus cpu q } ≡ v
 put_back v cpu p q f e = ap (λ (cpus : List Processor). record v { cpus = cpus }) (ap (λ (r : Processor). slice_set v.cpus cpu r) (f ∙ e) ∙ set-get_or v.cpus cpu (made cpu false))
 
 -- how many processors there are at the start
-pub first_count : (n last : ℕ) (g : Grace) → g ≡ at_first n last → cpus_of g.processors ≡ n
-first_count n last g e = ap (λ (x : Grace). cpus_of x.processors) e ∙ length-replicate {A = Bool} n false
+pub first_count : (n last : ℕ) (g : Grace ℕ) → g ≡ at_first n last → cpus_of g.processors ≡ n
+first_count n last g e = ap (λ (x : Grace ℕ). cpus_of x.processors) e ∙ length-replicate {A = Bool} n false
 
 -- the size at the start
-pub first_size : (n last : ℕ) (v : State) → v.grace ≡ at_first n last → size_at v ≡ record { cpus = n; last = last }
-first_size n last v e = ap₂ (λ (a b : ℕ). record { cpus = a; last = b }) (first_count n last v.grace e) (ap (λ (x : Grace). x.seq.last) e)
+pub first_size : (n last : ℕ) (v : State ℕ) → v.grace ≡ at_first n last → size_at v ≡ record { cpus = n; last = last }
+first_size n last v e = ap₂ (λ (a b : ℕ). record { cpus = a; last = b }) (first_count n last v.grace e) (ap (λ (x : Grace ℕ). x.seq.last) e)

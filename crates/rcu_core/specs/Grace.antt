@@ -1,5 +1,5 @@
--- The state of the grace periods: what each call leaves, and when it is refused.
-use Rattle.std.specs.Prelude.{ℕ, ◌+◌, ◌==◌, ◌&&◌, Bool, true, false, not, max, nat_lt, if◌then◌else◌, List, Option, Some, None}
+-- The state of the grace periods and the callbacks: what each call leaves, and when it is refused.
+use Rattle.std.specs.Prelude.{ℕ, ◌+◌, ◌≤◌, ◌≡◌, ◌==◌, ◌&&◌, Bool, true, false, not, max, nat_lt, if◌then◌else◌, List, [], ◌∷◌, All, Option, Some, None}
 use Rattle.rcu_seq.specs.Cookies.{snapshot_of}
 use Rattle.rcu_seq.specs.Numbers.{Number, Periods, number_of, same_number}
 use Rattle.rcu_seq.specs.declared.fault.Fault.{Fault}
@@ -9,93 +9,154 @@ use Rattle.rcu_node.specs.Reports.{answer_to, without}
 use Rattle.rcu_node.specs.declared.answer.Answer.{Answer}
 use Rattle.rcu_node.specs.declared.answer.Answer.TheVariants.{Stale}
 use Rattle.rcu_report.specs.declared.report.Report.{Report}
-use Rattle.rcu_hotplug.specs.Calls.{Processors, Call, Begin, next, at_first as present_at_first}
+use Rattle.rcu_hotplug.specs.Calls.{Processors, Call, Begin, cpus_of, next, at_first as present_at_first}
+use Rattle.rcu_cblist.specs.Items.{Item, Mark, Of, Marker, Unmarked, Until, Done, numbers}
+use Rattle.rcu_barrier.specs.AllLists.{AllLists, begun as barred, cpus_of as cpus_of_lists, list_of, migrated as migrated_lists, queued_on, run_on, tended_on, tested, visited_by, at_first as lists_at_first}
+use Rattle.rcu_barrier.specs.Tending.{snapshot}
+use Rattle.rcu_core.specs.Callbacks.{greatest_from}
 use Rattle.rcu_core.specs.declared.turned.Turned.{Turned}
 use Rattle.rcu_core.specs.declared.turned.Turned.TheVariants as turned
 
--- the counter of grace periods, the greatest number that was asked for, and the processors: the online ones, and those
--- that the latest grace period awaits
-pub record Grace : Type 0 where
+-- the counter of grace periods, the greatest number that was asked for, the processors, which are the online ones and
+-- those that the latest grace period awaits, and each processor's list of callbacks
+pub record Grace (X : Type 0) : Type 0 where
   pub seq : Periods
   pub needed : Number
   pub processors : Processors
+  pub lists : AllLists X
 
--- before any call nothing ran, nothing is needed, and processor 0 alone is online
-abbrev pub at_first : ℕ → Number → Grace
-at_first cpus last = record {
-  seq = record { ends = 0; running = false; last = last };
-  needed = 0;
-  processors = present_at_first cpus;
-}
+-- a callback that was queued at a number has this mark at another one: it was queued at no later one; what it waits for is
+-- no sooner than the snapshot of its queueing and no later than that of now; and where it is done, the number has
+-- reached the snapshot of its queueing
+abbrev pub IsTimely : Number → Number → Mark → Type 0
+IsTimely number at Unmarked = at ≤ number
+IsTimely number at (Until n) = (at ≤ number) × (snapshot at ≤ n) × (n ≤ snapshot number)
+IsTimely number at Done = (at ≤ number) × (snapshot at ≤ number)
 
--- the grace-period number
-abbrev pub number_in : Grace → Number
-number_in g = number_of g.seq
+module _ {X : Type 0} where
+  -- before any call nothing ran, nothing is needed, processor 0 alone is online, and the lists are empty
+  abbrev pub at_first : ℕ → Number → Grace X
+  at_first cpus last = record {
+    seq = record { ends = 0; running = false; last = last };
+    needed = 0;
+    processors = present_at_first cpus;
+    lists = lists_at_first cpus;
+  }
 
--- how many processors are awaited
-abbrev pub awaited_in : Grace → ℕ
-awaited_in g = size_of g.processors.awaited
+  -- the grace-period number
+  abbrev pub number_in : Grace X → Number
+  number_in g = number_of g.seq
 
--- after a call on the processors
-abbrev pub with_call : Grace → Call → Grace
-with_call g call = record g { processors = next g.processors call }
+  -- how many processors are awaited
+  abbrev pub awaited_in : Grace X → ℕ
+  awaited_in g = size_of g.processors.awaited
 
--- why no grace period begins: one runs, or the number is the last one
-abbrev pub begin_refusal : Grace → Option Fault
-begin_refusal g =
-    if g.seq.running then Some fault.Running
-    else (if same_number (number_in g) g.seq.last then Some fault.Exhausted else None)
+  -- after a call on the processors
+  abbrev pub with_call : Grace X → Call → Grace X
+  with_call g call = record g { processors = next g.processors call }
 
--- a grace period began: it awaits the online processors, and its tag is the number
-abbrev pub begun : Grace → Grace
-begun g = let seq = record g.seq { running = true } in record (with_call g (Begin (number_of seq))) { seq = seq }
+  -- why no grace period begins: one runs, or the number is the last one
+  abbrev pub begin_refusal : Grace X → Option Fault
+  begin_refusal g =
+      if g.seq.running then Some fault.Running
+      else (if same_number (number_in g) g.seq.last then Some fault.Exhausted else None)
 
--- why none ends: none runs, or a processor is awaited
-abbrev pub end_refusal : Grace → Option Fault
-end_refusal g =
-    if not g.seq.running then Some fault.Idle
-    else (if nat_lt 0 (awaited_in g) then Some fault.Waiting else None)
+  -- a grace period began: it awaits the online processors, and its tag is the number
+  abbrev pub begun : Grace X → Grace X
+  begun g = let seq = record g.seq { running = true } in record (with_call g (Begin (number_of seq))) { seq = seq }
 
--- the grace period ended
-abbrev pub ended : Grace → Grace
-ended g = record g { seq = record g.seq { ends = g.seq.ends + 1; running = false } }
+  -- why none ends: none runs, or a processor is awaited
+  abbrev pub end_refusal : Grace X → Option Fault
+  end_refusal g =
+      if not g.seq.running then Some fault.Idle
+      else (if nat_lt 0 (awaited_in g) then Some fault.Waiting else None)
 
--- the answer to a report: while no grace period runs each is stale
-abbrev pub answer_in : Grace → Report → Answer
-answer_in g report = if g.seq.running then answer_to (number_in g) g.processors.awaited report.cpu report.tag else Stale
+  -- the grace period ended
+  abbrev pub ended : Grace X → Grace X
+  ended g = record g { seq = record g.seq { ends = g.seq.ends + 1; running = false } }
 
--- who is awaited after a report: one that is not stale clears its processor
-abbrev pub awaited_after : Grace → Report → List Bool
-awaited_after g report = if g.seq.running then without (number_in g) g.processors.awaited report.cpu report.tag else g.processors.awaited
+  -- the answer to a report: while no grace period runs each is stale
+  abbrev pub answer_in : Grace X → Report → Answer
+  answer_in g report = if g.seq.running then answer_to (number_in g) g.processors.awaited report.cpu report.tag else Stale
 
--- with these processors awaited
-abbrev pub with_awaited : Grace → List Bool → Grace
-with_awaited g awaited = record g { processors = record g.processors { awaited = awaited } }
+  -- who is awaited after a report: one that is not stale clears its processor
+  abbrev pub awaited_after : Grace X → Report → List Bool
+  awaited_after g report = if g.seq.running then without (number_in g) g.processors.awaited report.cpu report.tag else g.processors.awaited
 
--- after a report
-abbrev pub reported : Grace → Report → Grace
-reported g report = with_awaited g (awaited_after g report)
+  -- with these processors awaited
+  abbrev pub with_awaited : Grace X → List Bool → Grace X
+  with_awaited g awaited = record g { processors = record g.processors { awaited = awaited } }
 
--- a later number is needed, and no grace period runs
-abbrev pub wants_begin : Grace → Bool
-wants_begin g = not g.seq.running && nat_lt (number_in g) g.needed
+  -- after a report
+  abbrev pub reported : Grace X → Report → Grace X
+  reported g report = with_awaited g (awaited_after g report)
 
--- why a turn is refused: it would begin a grace period, and the number is the last one
-abbrev pub turn_refusal : Grace → Option Fault
-turn_refusal g = if wants_begin g && same_number (number_in g) g.seq.last then Some fault.Exhausted else None
+  -- a later number is needed, and no grace period runs
+  abbrev pub wants_begin : Grace X → Bool
+  wants_begin g = not g.seq.running && nat_lt (number_in g) g.needed
 
--- what a turn does: a running grace period ends where nobody is awaited; where none runs, one begins if it is needed
-abbrev pub turn_of : Grace → Turned
-turn_of g =
-    if g.seq.running then (if awaited_in g == 0 then turned.Ended (number_in (ended g)) else turned.Waiting (awaited_in g))
-    else (if wants_begin g then turned.Begun (number_in (begun g)) (awaited_in (begun g)) else turned.Nothing)
+  -- why a turn is refused: it would begin a grace period, and the number is the last one
+  abbrev pub turn_refusal : Grace X → Option Fault
+  turn_refusal g = if wants_begin g && same_number (number_in g) g.seq.last then Some fault.Exhausted else None
 
--- what a turn leaves
-abbrev pub turned_to : Grace → Grace
-turned_to g =
-    if g.seq.running then (if awaited_in g == 0 then ended g else g)
-    else (if wants_begin g then begun g else g)
+  -- what a turn does: a running grace period ends where nobody is awaited; where none runs, one begins if it is needed
+  abbrev pub turn_of : Grace X → Turned
+  turn_of g =
+      if g.seq.running then (if awaited_in g == 0 then turned.Ended (number_in (ended g)) else turned.Waiting (awaited_in g))
+      else (if wants_begin g then turned.Begun (number_in (begun g)) (awaited_in (begun g)) else turned.Nothing)
 
--- a poll was started: the number of its cookie is needed
-abbrev pub started : Grace → Grace
-started g = record g { needed = max g.needed (snapshot_of g.seq) }
+  -- what a turn leaves
+  abbrev pub turned_to : Grace X → Grace X
+  turned_to g =
+      if g.seq.running then (if awaited_in g == 0 then ended g else g)
+      else (if wants_begin g then begun g else g)
+
+  -- a poll was started: the number of its cookie is needed
+  abbrev pub started : Grace X → Grace X
+  started g = record g { needed = max g.needed (snapshot_of g.seq) }
+
+  -- with these lists
+  abbrev pub with_lists : Grace X → AllLists X → Grace X
+  with_lists g lists = record g { lists = lists }
+
+  -- a callback was queued on a processor, at the number
+  abbrev pub queued_to : ℕ → X → Grace X → Grace X
+  queued_to cpu value g = with_lists g (queued_on cpu (number_in g) value g.lists)
+
+  -- a processor's list was tended at the number; what it then waits for is needed
+  abbrev pub tended_of : ℕ → Grace X → Grace X
+  tended_of cpu g = let lists = tended_on cpu (number_in g) g.lists in
+      record g { lists = lists; needed = greatest_from g.needed (numbers (list_of lists cpu)) }
+
+  -- at most so many callbacks were handed out of a processor's done part
+  abbrev pub run_of : ℕ → ℕ → Grace X → Grace X
+  run_of cpu most g = with_lists g (run_on cpu most g.lists)
+
+  -- a processor's list moved to processor 0
+  abbrev pub migrated : ℕ → Grace X → Grace X
+  migrated cpu g = with_lists g (migrated_lists cpu g.lists)
+
+  -- a barrier began
+  abbrev pub barrier_begun : Grace X → Grace X
+  barrier_begun g = with_lists g (barred g.lists)
+
+  -- the barrier visited a processor
+  abbrev pub visited_of : ℕ → Grace X → Grace X
+  visited_of cpu g = with_lists g (visited_by cpu g.lists)
+
+  -- the barrier was tested
+  abbrev pub barrier_tested : Grace X → Grace X
+  barrier_tested g = with_lists g (tested g.lists)
+
+  -- each callback of the list is timely at the number
+  abbrev pub AreTimely : Number → List (Item X) → Type 0
+  AreTimely number [] = Unit {0}
+  AreTimely number (Of call mark ∷ xs) = IsTimely number call.at mark × AreTimely number xs
+  AreTimely number (Marker ∷ xs) = AreTimely number xs
+
+  -- what always holds: a list for each processor; while a grace period runs, its number is the tag of the awaited set; and
+  -- each callback is timely at the number
+  pub record IsKept (g : Grace X) : Type 0 where
+    pub tag : g.seq.running ≡ true → g.processors.tag ≡ number_in g
+    pub sized : cpus_of_lists g.lists ≡ cpus_of g.processors
+    pub timely : All (AreTimely (number_in g)) g.lists.lists

@@ -1,11 +1,11 @@
 -- What the accepted events so far say. A history is the list of the accepted events, the newest first. So the
 -- history as it was at an earlier event is the part of the list from that event on. A turn that began or ended a
 -- grace period stands in it as that begin or end.
-use Rattle.std.specs.Prelude.{ℕ, ◌+◌, ◌-◌, ◌==◌, Bool, true, false, not, ◌&&◌, ◌||◌, max, nat_lt, if◌then◌else◌, List, [], ◌∷◌, ◌++◌, slice_get, Option, Some, None}
+use Rattle.std.specs.Prelude.{ℕ, ◌+◌, ◌-◌, ◌==◌, Bool, true, false, not, ◌&&◌, ◌||◌, nat_lt, if◌then◌else◌, List, [], ◌∷◌, ◌++◌, slice_get, Option, Some, None}
 use Rattle.rcu_seq.specs.Cookies.{snapshot_at}
 use Rattle.rcu_seq.specs.Numbers.{Number, number_at, same_number}
 use Rattle.rcu_core.specs.declared.event.Event.{Event}
-use Rattle.rcu_core.specs.declared.event.Event.TheVariants.{Enter, Exit, Note, Quiesce, Deliver, Online, Offline, Begin, End, StartPoll}
+use Rattle.rcu_core.specs.declared.event.Event.TheVariants.{Enter, Exit, Note, Quiesce, Deliver, Online, Offline, Begin, End}
 use Rattle.rcu_report.specs.declared.report.Report.{Report}
 
 abbrev pub History : Type 0
@@ -68,12 +68,6 @@ number h = number_at (count ends h) (running h)
 -- the snapshot: the number that ends the first grace period to begin from now on
 abbrev pub snapshot : History → Number
 snapshot h = snapshot_at (count ends h) (running h)
-
--- the needed number: the greatest cookie of a started poll, 0 before any
-abbrev pub needed : History → Number
-needed [] = 0
-needed (StartPoll ∷ h) = max (needed h) (snapshot h)
-needed (_ ∷ h) = needed h
 
 -- the processor is online: its last arrival or departure is an arrival; before any, it is processor 0
 abbrev pub online : ℕ → History → Bool

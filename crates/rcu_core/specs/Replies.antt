@@ -1,5 +1,5 @@
 -- Which replies are legal to an event after a history.
-use Rattle.std.specs.Prelude.{ℕ, ◌+◌, ◌-◌, ◌≡◌, ◌⊎◌, ◌==◌, Bool, true, false, not, ◌&&◌, nat_lt, nat_le, if◌then◌else◌, List, [], ◌∷◌, length, filter, count_by, Option, Some, None, is_none}
+use Rattle.std.specs.Prelude.{ℕ, ◌+◌, ◌-◌, ◌≡◌, ◌⊎◌, ◌==◌, Bool, true, false, not, ◌&&◌, nat_lt, nat_le, if◌then◌else◌, List, [], ◌∷◌, length, filter, count_by, map, sum_by, Option, Some, None, is_none}
 use Rattle.std.specs.List.{range_with_len}
 use Rattle.rcu_seq.specs.Cookies.{is_done_at, snapshot_at}
 use Rattle.rcu_seq.specs.Numbers.{Number, number_at, same_number}
@@ -9,9 +9,15 @@ use Rattle.rcu_node.specs.declared.answer.Answer.{Answer}
 use Rattle.rcu_node.specs.declared.answer.Answer.TheVariants.{Taken, Last, Repeat, Stale}
 use Rattle.rcu_report.specs.declared.report.Report.{Report}
 use Rattle.rcu_cpu.specs.Processors.{deepest}
-use Rattle.rcu_core.specs.History.{History, count, ends, running, needed, online, awaits, depth, noted, made, report_at}
+use Rattle.rcu_cblist.specs.Items.{Item, behind, callbacks, front, is_empty, markers, taken}
+use Rattle.rcu_barrier.specs.AllLists.{most_queued}
+use Rattle.rcu_barrier.specs.Tending.{tended}
+use Rattle.rcu_barrier.specs.declared.visit.Visit.{Visit as Visited}
+use Rattle.rcu_barrier.specs.declared.visit.Visit.TheVariants.{Marked, Empty, Already}
+use Rattle.rcu_core.specs.Callbacks.{barrier_runs, is_owed, list, needed, queued}
+use Rattle.rcu_core.specs.History.{History, count, ends, running, online, awaits, depth, noted, made, report_at}
 use Rattle.rcu_core.specs.declared.event.Event.{Event}
-use Rattle.rcu_core.specs.declared.event.Event.TheVariants.{Enter, Exit, Note, Quiesce, Deliver, Online, Offline, Begin, End, Turn, Awaits, Take, StartPoll, Poll}
+use Rattle.rcu_core.specs.declared.event.Event.TheVariants.{Enter, Exit, Note, Quiesce, Deliver, Online, Offline, Begin, End, Turn, Awaits, Take, StartPoll, Poll, Queue, Tend, Run, BarBegin, Visit, BarTest}
 use Rattle.rcu_core.specs.declared.reply.Reply.{Reply}
 use Rattle.rcu_core.specs.declared.reply.Reply.TheVariants as reply
 
@@ -30,6 +36,10 @@ pub record Situation : Type 0 where
   pub depth : ℕ → ℕ
   pub noted : ℕ → Number
   pub made : List Report
+  pub queued : ℕ
+  pub list : ℕ → List (Item ℕ)
+  pub barrier : Bool
+  pub owed : ℕ → Bool
 
 -- the situation of a history
 abbrev pub situation : History → Situation
@@ -42,6 +52,10 @@ situation h = record {
   depth = λ cpu. depth cpu h;
   noted = λ cpu. noted cpu h;
   made = made h;
+  queued = queued h;
+  list = λ cpu. list cpu h;
+  barrier = barrier_runs h;
+  owed = λ cpu. is_owed cpu h;
 }
 
 -- its number
@@ -64,6 +78,14 @@ is_last_in s v = same_number (number_in v) s.last
 abbrev pub wants_begin : Situation → Bool
 wants_begin v = not v.running && nat_lt (number_in v) v.needed
 
+-- the processor's list once it is tended
+abbrev pub tended_list : Situation → ℕ → List (Item ℕ)
+tended_list v cpu = tended (number_in v) (v.list cpu)
+
+-- what the running barrier waits for: markers, and processors that it did not visit
+abbrev pub waits_for : Size → Situation → ℕ
+waits_for s v = sum_by (λ cpu. markers (v.list cpu)) (range_with_len 0 s.cpus) + how_many s v.owed
+
 -- what is tested for an event, in order: a cause, and the fault that it is answered by
 abbrev pub causes : Size → Situation → Event → List (Bool × Fault)
 causes s v (Enter cpu) = (nat_le s.cpus cpu, fault.BadCpu) ∷ (not (v.online cpu), fault.Offline) ∷ (v.depth cpu == deepest, fault.NestFull) ∷ []
@@ -80,6 +102,12 @@ causes s v Awaits = []
 causes s v Take = []
 causes s v StartPoll = []
 causes s v (Poll cookie) = []
+causes s v (Queue cpu value) = (nat_le s.cpus cpu, fault.BadCpu) ∷ (not (v.online cpu), fault.Offline) ∷ (v.queued == most_queued, fault.CallbacksFull) ∷ []
+causes s v (Tend cpu) = (nat_le s.cpus cpu, fault.BadCpu) ∷ []
+causes s v (Run cpu most) = (nat_le s.cpus cpu, fault.BadCpu) ∷ []
+causes s v BarBegin = (v.barrier, fault.BarrierBusy) ∷ []
+causes s v (Visit cpu) = (nat_le s.cpus cpu, fault.BadCpu) ∷ (not v.barrier, fault.NoBarrier) ∷ []
+causes s v BarTest = (not v.barrier, fault.NoBarrier) ∷ []
 
 -- the fault of the first cause that holds
 abbrev pub first_fault : List (Bool × Fault) → Option Fault
@@ -113,6 +141,14 @@ turned s v =
     if v.running then (if how_many s v.awaits == 0 then ended v else reply.Waiting (how_many s v.awaits))
     else (if wants_begin v then begun s v else reply.Nothing)
 
+-- a visit: where the processor is owed one, a marker goes behind its list, if that is not empty
+abbrev pub visit_in : Situation → ℕ → Visited
+visit_in v cpu = if not (v.owed cpu) then Already else (if is_empty (v.list cpu) then Empty else Marked)
+
+-- a test of the barrier: it is done where it waits for nothing
+abbrev pub tested : Size → Situation → Reply
+tested s v = if waits_for s v == 0 then reply.BarDone else reply.BarWaits (waits_for s v)
+
 -- the reply to an event of which no cause holds
 abbrev pub said : Size → Situation → Event → Reply
 said s v (Enter cpu) = reply.Depth (v.depth cpu + 1)
@@ -121,7 +157,7 @@ said s v (Note cpu) = reply.Noted (number_in v) (v.awaits cpu)
 said s v (Quiesce cpu) = reply.Made (length v.made + 1) (record { cpu = cpu; tag = v.noted cpu })
 said s v (Deliver place) = reply.Answer (answered s v (report_at place v.made))
 said s v (Online cpu) = reply.Online
-said s v (Offline cpu) = reply.Moved 0
+said s v (Offline cpu) = reply.Moved (length (callbacks (v.list cpu)))
 said s v Begin = begun s v
 said s v End = ended v
 said s v Turn = turned s v
@@ -129,6 +165,12 @@ said s v Awaits = reply.Awaits (which s v.awaits)
 said s v Take = reply.Cookie (record { 0 = snapshot_at v.ends v.running })
 said s v StartPoll = reply.Cookie (record { 0 = snapshot_at v.ends v.running })
 said s v (Poll cookie) = reply.Polled (is_done_at cookie (number_in v))
+said s v (Queue cpu value) = reply.Queued (v.queued + 1)
+said s v (Tend cpu) = reply.Tended (length (callbacks (front (tended_list v cpu)))) (length (callbacks (behind (tended_list v cpu))))
+said s v (Run cpu most) = reply.Ran (map (λ call. call.value) (taken most (v.list cpu)))
+said s v BarBegin = reply.BarBegun
+said s v (Visit cpu) = reply.Visited (visit_in v cpu)
+said s v BarTest = tested s v
 
 -- the first fault whose cause holds, and else what is said
 abbrev pub or_fault : Option Fault → Reply → Reply
@@ -139,10 +181,14 @@ or_fault (Some f) r = reply.Fault f
 abbrev pub answer : Size → Situation → Event → Reply
 answer s v e = or_fault (fault_in s v e) (said s v e)
 
--- the event stores something: a report, or a list that is not empty
+-- the event stores something: a report, a callback, a marker, or a list that is not empty
 abbrev pub stores : Size → Situation → Event → Bool
 stores s v (Quiesce cpu) = true
 stores s v Awaits = nat_lt 0 (how_many s v.awaits)
+stores s v (Offline cpu) = not (is_empty (v.list cpu))
+stores s v (Queue cpu value) = true
+stores s v (Run cpu most) = nat_lt 0 (length (taken most (v.list cpu)))
+stores s v (Visit cpu) = v.owed cpu && not (is_empty (v.list cpu))
 stores s v _ = false
 
 -- the reply is the answer; or memory is wanted, where the event stores something and no other fault holds
@@ -160,9 +206,10 @@ abbrev pub recorded : Event → Reply → Event
 recorded Turn r = turn_as r
 recorded e r = e
 
--- the history after an event and its reply: a refused event is not in it
+-- the history after an event and its reply: a refused event is not in it, nor is a test that found the barrier waiting
 abbrev pub after : History → Event → Reply → History
 after h e (reply.Fault f) = h
+after h e (reply.BarWaits left) = h
 after h e r = recorded e r ∷ h
 
 -- each event of the history was accepted

@@ -1,5 +1,5 @@
 -- Runs: events with their replies, one after another.
-use Rattle.std.specs.Prelude.{Bool, true, false, List, [], ◌∷◌, ◌≡◌}
+use Rattle.std.specs.Prelude.{ℕ, Bool, true, false, List, [], ◌∷◌, ◌≡◌}
 use Rattle.rcu_core.specs.History.{History}
 use Rattle.rcu_core.specs.Replies.{Size, IsLegalReply, after, situation}
 use Rattle.rcu_core.specs.State.{State, Has, size_at}
@@ -36,7 +36,7 @@ Leads s h (e ∷ events) [] g = ⊥
 
 -- the replies to these events are legal, one after another, and the engine is left in the situation of the history that
 -- they lead to
-pub record Ran (v : State) (h : History) (events : List Event) (replies : List Reply) (w : State) : Type 0 where
+pub record Ran (v : State ℕ) (h : History) (events : List Event) (replies : List Reply) (w : State ℕ) : Type 0 where
   pub reached : History
   pub leads : Leads (size_at v) h events replies reached
   pub has : Has w reached

@@ -1,34 +1,41 @@
 -- What the engine holds, and how it says what a history says.
-use Rattle.std.specs.Prelude.{ℕ, ◌<◌, ◌≡◌, Bool, false, List, [], ◌∷◌, ◌++◌, length, slice_index_or, slice_set, All, Option, Some, None}
+use Rattle.std.specs.Prelude.{ℕ, ◌<◌, ◌≡◌, ◌&&◌, Bool, false, not, List, [], ◌∷◌, ◌++◌, length, slice_index_or, slice_set, All, Option, Some, None}
 use Rattle.rcu_node.specs.CpuSets.{is_in}
 use Rattle.rcu_report.specs.declared.report.Report.{Report}
 use Rattle.rcu_hotplug.specs.Calls.{Arrive as Arrives, Depart as Departs, cpus_of}
 use Rattle.rcu_cpu.specs.Calls.{Call, Enter as Entering, Exit as Exiting, Note as Noting, Arrive as Arriving, Depart as Departing, after as after_call}
 use Rattle.rcu_cpu.specs.Processors.{Processor, made as made_processor, report_of}
-use Rattle.rcu_core.specs.Grace.{Grace, awaited_after, begun, ended, number_in, started, turned_to, with_awaited, with_call}
-use Rattle.rcu_core.specs.History.{History, count, ends, running, needed, online, awaits, depth, noted, made, report_at}
+use Rattle.rcu_cblist.specs.Items.{Item}
+use Rattle.rcu_barrier.specs.AllLists.{AllLists, cpus_of as cpus_of_lists, list_of}
+use Rattle.rcu_core.specs.Callbacks.{barrier_runs, is_owed, list, needed, queued}
+use Rattle.rcu_core.specs.Grace.{Grace, awaited_after, barrier_begun, barrier_tested, begun, ended, migrated, number_in, queued_to, run_of, started, tended_of, turned_to, visited_of, with_awaited, with_call}
+use Rattle.rcu_core.specs.History.{History, count, ends, running, online, awaits, depth, noted, made, report_at}
 use Rattle.rcu_core.specs.Replies.{Size, Situation, IsHistory, IsLegalReply, after, situation}
 use Rattle.rcu_core.specs.declared.event.Event.{Event}
-use Rattle.rcu_core.specs.declared.event.Event.TheVariants.{Enter, Exit, Note, Quiesce, Deliver, Online, Offline, Begin, End, Turn, Awaits, Take, StartPoll, Poll}
+use Rattle.rcu_core.specs.declared.event.Event.TheVariants.{Enter, Exit, Note, Quiesce, Deliver, Online, Offline, Begin, End, Turn, Awaits, Take, StartPoll, Poll, Queue, Tend, Run, BarBegin, Visit, BarTest}
 use Rattle.rcu_core.specs.declared.reply.Reply.{Reply}
 use Rattle.rcu_core.specs.declared.reply.Reply.TheVariants as reply
 
--- the state of the grace periods, each processor at its place, and all reports, the first one first
-pub record State : Type 0 where
-  pub grace : Grace
+-- the state of the grace periods and the callbacks, each processor at its place, and all reports, the first one first
+pub record State (X : Type 0) : Type 0 where
+  pub grace : Grace X
   pub cpus : List Processor
   pub made : List Report
 
 -- how many processors there are, and the last number
-abbrev pub size_at : State → Size
+abbrev pub size_at : {X : Type 0} → State X → Size
 size_at v = record { cpus = cpus_of v.grace.processors; last = v.grace.seq.last }
 
 -- the processor at a place
 abbrev pub processor : List Processor → ℕ → Processor
 processor cpus cpu = slice_index_or cpus cpu (made_processor cpu false)
 
+-- a barrier runs that did not visit the processor yet
+abbrev pub owes : {X : Type 0} → AllLists X → ℕ → Bool
+owes all cpu = all.running && not (slice_index_or all.visited cpu false)
+
 -- what a state says
-abbrev pub says : State → Situation
+abbrev pub says : State ℕ → Situation
 says v = record {
   ends = v.grace.seq.ends;
   running = v.grace.seq.running;
@@ -38,15 +45,21 @@ says v = record {
   depth = λ cpu. (processor v.cpus cpu).depth;
   noted = λ cpu. (processor v.cpus cpu).noted;
   made = v.made;
+  queued = v.grace.lists.queued;
+  list = list_of v.grace.lists;
+  barrier = v.grace.lists.running;
+  owed = owes v.grace.lists;
 }
 
 -- what always holds: there are as many processors as flags, each at its place, and online where the set of the online
--- says so; and each report is of a processor
-pub record IsSound (v : State) : Type 0 where
+-- says so; each has a list, and a flag for the barrier's visit; and each report is of a processor
+pub record IsSound {X : Type 0} (v : State X) : Type 0 where
   pub flags : length v.grace.processors.online ≡ cpus_of v.grace.processors
   pub sized : length v.cpus ≡ cpus_of v.grace.processors
   pub placed : (cpu : ℕ) → (processor v.cpus cpu).cpu ≡ cpu
   pub present : (cpu : ℕ) → (processor v.cpus cpu).online ≡ is_in v.grace.processors.online cpu
+  pub listed : cpus_of_lists v.grace.lists ≡ cpus_of v.grace.processors
+  pub visits : length v.grace.lists.visited ≡ cpus_of v.grace.processors
   pub made : All (λ report. report.cpu < cpus_of v.grace.processors) v.made
 
 -- the processors after a call of one of them
@@ -54,12 +67,12 @@ abbrev pub with_cpu : List Processor → ℕ → Call → List Processor
 with_cpu cpus cpu call = slice_set cpus cpu (after_call call (processor cpus cpu))
 
 -- who is awaited after a report is delivered
-abbrev pub awaited_by : Grace → Option Report → List Bool
+abbrev pub awaited_by : Grace ℕ → Option Report → List Bool
 awaited_by g None = g.processors.awaited
 awaited_by g (Some report) = awaited_after g report
 
 -- what an accepted event leaves
-abbrev pub next : State → Event → State
+abbrev pub next : State ℕ → Event → State ℕ
 next v (Enter cpu) = record v { cpus = with_cpu v.cpus cpu Entering }
 next v (Exit cpu) = record v { cpus = with_cpu v.cpus cpu Exiting }
 next v (Note cpu) = record v { cpus = with_cpu v.cpus cpu (Noting (number_in v.grace)) }
@@ -69,7 +82,7 @@ next v (Online cpu) = record v {
   grace = with_call v.grace (Arrives cpu);
   cpus = with_cpu v.cpus cpu (Arriving (number_in v.grace));
 }
-next v (Offline cpu) = record v { grace = with_call v.grace (Departs cpu); cpus = with_cpu v.cpus cpu Departing }
+next v (Offline cpu) = record v { grace = with_call (migrated cpu v.grace) (Departs cpu); cpus = with_cpu v.cpus cpu Departing }
 next v Begin = record v { grace = begun v.grace }
 next v End = record v { grace = ended v.grace }
 next v Turn = record v { grace = turned_to v.grace }
@@ -77,14 +90,20 @@ next v Awaits = v
 next v Take = v
 next v StartPoll = record v { grace = started v.grace }
 next v (Poll cookie) = v
+next v (Queue cpu value) = record v { grace = queued_to cpu value v.grace }
+next v (Tend cpu) = record v { grace = tended_of cpu v.grace }
+next v (Run cpu most) = record v { grace = run_of cpu most v.grace }
+next v BarBegin = record v { grace = barrier_begun v.grace }
+next v (Visit cpu) = record v { grace = visited_of cpu v.grace }
+next v BarTest = record v { grace = barrier_tested v.grace }
 
 -- what an event and its reply leave: a refused event changes nothing
-abbrev pub left : State → Event → Reply → State
+abbrev pub left : State ℕ → Event → Reply → State ℕ
 left v e (reply.Fault f) = v
 left v e _ = next v e
 
 -- a step on states: the reply is legal, and what it leaves is left
-pub record Does (v : State) (e : Event) (r : Reply) (w : State) : Type 0 where
+pub record Does (v : State ℕ) (e : Event) (r : Reply) (w : State ℕ) : Type 0 where
   pub legal : IsLegalReply (size_at v) (says v) e r
   pub left : w ≡ left v e r
 
@@ -93,7 +112,7 @@ abbrev pub standing : ℕ → History → Processor
 standing cpu h = record { cpu = cpu; online = online cpu h; depth = depth cpu h; noted = noted cpu h }
 
 -- the engine is in the situation of a history
-pub record Has (v : State) (h : History) : Type 0 where
+pub record Has (v : State ℕ) (h : History) : Type 0 where
   pub accepted : IsHistory (size_at v) h
   pub ends : v.grace.seq.ends ≡ count ends h
   pub running : v.grace.seq.running ≡ running h
@@ -102,10 +121,14 @@ pub record Has (v : State) (h : History) : Type 0 where
   pub cpus : (cpu : ℕ) → processor v.cpus cpu ≡ standing cpu h
   pub online : (cpu : ℕ) → is_in v.grace.processors.online cpu ≡ online cpu h
   pub awaits : (cpu : ℕ) → is_in v.grace.processors.awaited cpu ≡ awaits cpu h
+  pub queued : v.grace.lists.queued ≡ queued h
+  pub list : (cpu : ℕ) → list_of v.grace.lists cpu ≡ list cpu h
+  pub barrier : v.grace.lists.running ≡ barrier_runs h
+  pub owed : (cpu : ℕ) → owes v.grace.lists cpu ≡ is_owed cpu h
 
 -- a step after a history: the reply is legal, and the engine is left in the situation of the history, with the event
 -- where it was accepted, at the same size
-pub record Goes (v : State) (h : History) (e : Event) (r : Reply) (w : State) : Type 0 where
+pub record Goes (v : State ℕ) (h : History) (e : Event) (r : Reply) (w : State ℕ) : Type 0 where
   pub legal : IsLegalReply (size_at v) (situation h) e r
   pub has : Has w (after h e r)
   pub size : size_at w ≡ size_at v

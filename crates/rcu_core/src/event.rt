@@ -15,7 +15,8 @@ pub enum Event {
     Deliver(u64),
     /// The processor arrives, and takes down the number. Faults: 1, 3.
     Online(u32),
-    /// The processor departs, and is awaited no more. Faults: 1, 12, 2, 4.
+    /// The processor departs, and is awaited no more. Its list moves to processor 0; a barrier visits it first.
+    /// Faults: 1, 12, 2, 4, 16.
     Offline(u32),
     /// A grace period begins, and awaits the processors that are online. Faults: 8, 11.
     Begin,
@@ -32,4 +33,16 @@ pub enum Event {
     StartPoll,
     /// The cookie of this number is tested.
     Poll(u64),
+    /// A callback of this value is queued on the processor. Faults: 1, 2, 15, 16.
+    Queue(u32, u64),
+    /// The marks of the processor's callbacks are brought up to the number. Fault: 1.
+    Tend(u32),
+    /// The first callbacks of the processor's done part are handed out, at most so many. Faults: 1, 16.
+    Run(u32, u64),
+    /// A barrier begins. Fault: 13.
+    BarBegin,
+    /// The barrier visits the processor. Faults: 1, 14, 16.
+    Visit(u32),
+    /// The barrier is tested. Fault: 14.
+    BarTest,
 }

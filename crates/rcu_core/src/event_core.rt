@@ -14,6 +14,8 @@ use crate::event::Event;
 use crate::gp_state::GpState;
 use crate::reply::Reply;
 use crate::turned::Turned;
+use crate::value_list::ValueList;
+use rcu_barrier::barrier_state::BarrierState;
 use rcu_cpu::cpu_data::CpuData;
 use rcu_node::awaited::Awaited;
 use rcu_report::report::Report;
@@ -22,13 +24,14 @@ use rcu_seq::fault::Fault;
 use std::alloc::{AllocError, Global};
 use std::marker::Model;
 
-/// The machine over events: the state of the grace periods, what each processor keeps, and all reports ever made.
+/// The machine over events: the state of the grace periods and the callbacks, what each processor keeps, and all
+/// reports ever made.
 ///
 /// Contracts see these three.
 #[derive(Drop)]
-pub struct Core<A: Awaited> {
-    /// The state of the grace periods.
-    gp: GpState<A>,
+pub struct Core<A: Awaited, T: Drop> {
+    /// The state of the grace periods and the callbacks.
+    gp: GpState<A, T>,
     /// Each processor, at its place.
     cpus: Vec<CpuData>,
     /// All reports, the first one first.
@@ -37,11 +40,11 @@ pub struct Core<A: Awaited> {
     alloc: Global,
 }
 
-impl<A: Awaited> Model for Core<A> {
+impl<A: Awaited, T: Drop> Model for Core<A, T> {
     ghost use Rattle.std.specs.Prelude.{◌≡◌};
     ghost use Rattle.rcu_core.specs.State.{State, IsSound};
 
-    ghost Value = { State };
+    ghost Value = { State T };
 
     ghost view = { λ m. record { grace = m.gp; cpus = m.cpus.items; made = m.reports.items } };
 
@@ -74,8 +77,8 @@ fn list_awaited<A: Awaited>(alloc: Global, awaited: &A) -> Result<CpuList, Alloc
     Ok(list)
 }
 
-impl<A: Awaited> Core<A> {
-    /// A machine in the situation of the empty history: processor 0 is online, and nothing runs. The awaited set is as
+impl<A: Awaited> Core<A, u64> {
+    /// A machine in the situation of the empty history: processor 0 is online, nothing runs, and the lists are empty. The awaited set is as
     /// it was made, and no grace period begins at the number `last`.
     ///
     /// Faults: 19 where `last` is not a multiple of 4 in 4..=2^62; 16.
@@ -147,6 +150,12 @@ impl<A: Awaited> Core<A> {
             Event::Take => self.take(),
             Event::StartPoll => self.start_poll(),
             Event::Poll(cookie) => self.poll(cookie),
+            Event::Queue(cpu, value) => self.queue(cpu, value),
+            Event::Tend(cpu) => self.tend(cpu),
+            Event::Run(cpu, most) => self.run_callbacks(cpu, most),
+            Event::BarBegin => self.begin_barrier(),
+            Event::Visit(cpu) => self.visit(cpu),
+            Event::BarTest => self.test_barrier(),
         }
     }
 
@@ -250,10 +259,13 @@ impl<A: Awaited> Core<A> {
         if let Some(fault) = self.departure_fault(cpu) {
             return Reply::Fault(fault);
         }
+        let Ok(moved) = self.gp.migrate(cpu) else {
+            return Reply::Fault(Fault::NoMemory);
+        };
         let (Ok(()), Ok(())) = (self.cpus[cpu as usize].depart(), self.gp.depart(cpu)) else {
             unreachable!()
         };
-        Reply::Moved(0)
+        Reply::Moved(moved)
     }
 
     fn begin(&mut self) -> Reply
@@ -311,5 +323,73 @@ impl<A: Awaited> Core<A> {
         ensures { Does self.now (Event.Poll cookie) result self.now }
     {
         Reply::Polled(self.gp.done(Cookie(cookie)))
+    }
+
+    fn queue(&mut self, cpu: u32, value: u64) -> Reply
+        ensures { Does self.old (Event.Queue cpu value) result self.new }
+    {
+        if cpu >= self.gp.cpus() {
+            return Reply::Fault(Fault::BadCpu);
+        }
+        if !self.gp.online(cpu) {
+            return Reply::Fault(Fault::Offline);
+        }
+        match self.gp.queue(cpu, value) {
+            Ok(queued) => Reply::Queued(queued),
+            Err(refused) => Reply::Fault(refused.fault),
+        }
+    }
+
+    fn tend(&mut self, cpu: u32) -> Reply
+        ensures { Does self.old (Event.Tend cpu) result self.new }
+    {
+        if cpu >= self.gp.cpus() {
+            return Reply::Fault(Fault::BadCpu);
+        }
+        let (done, waiting) = self.gp.tend(cpu);
+        Reply::Tended(done, waiting)
+    }
+
+    fn run_callbacks(&mut self, cpu: u32, most: u64) -> Reply
+        ensures { Does self.old (Event.Run cpu most) result self.new }
+    {
+        if cpu >= self.gp.cpus() {
+            return Reply::Fault(Fault::BadCpu);
+        }
+        match self.gp.run(cpu, most) {
+            Ok(calls) => Reply::Ran(ValueList::new(calls)),
+            Err(fault) => Reply::Fault(fault),
+        }
+    }
+
+    fn begin_barrier(&mut self) -> Reply
+        ensures { Does self.old Event.BarBegin result self.new }
+    {
+        match self.gp.barrier_begin() {
+            Ok(()) => Reply::BarBegun,
+            Err(fault) => Reply::Fault(fault),
+        }
+    }
+
+    fn visit(&mut self, cpu: u32) -> Reply
+        ensures { Does self.old (Event.Visit cpu) result self.new }
+    {
+        if cpu >= self.gp.cpus() {
+            return Reply::Fault(Fault::BadCpu);
+        }
+        match self.gp.visit(cpu) {
+            Ok(visit) => Reply::Visited(visit),
+            Err(fault) => Reply::Fault(fault),
+        }
+    }
+
+    fn test_barrier(&mut self) -> Reply
+        ensures { Does self.old Event.BarTest result self.new }
+    {
+        match self.gp.barrier_test() {
+            Ok(BarrierState::Done) => Reply::BarDone,
+            Ok(BarrierState::Waits(left)) => Reply::BarWaits(left),
+            Err(fault) => Reply::Fault(fault),
+        }
     }
 }

@@ -1,12 +1,20 @@
-//! The state of the grace periods.
-ghost use Rattle.std.specs.Prelude.{◌≡◌, ◌<◌, Some, None, true, false, length, replicate, IfErr, IfOk, OnOk};
+//! The state of the grace periods and the callbacks.
+ghost use Rattle.std.specs.Prelude.{◌≡◌, ◌≢◌, ◌<◌, ◌≤◌, ◌==◌, if◌then◌else◌, All, [], Some, None, true, false, length, replicate, IfErr, IfOk, OnErr, OnOk};
 ghost use Rattle.rcu_seq.specs.Cookies.{is_done, snapshot_of};
 ghost use Rattle.rcu_seq.specs.Numbers.{is_last};
 ghost use Rattle.rcu_node.specs.CpuSets.{is_in};
 ghost use Rattle.rcu_hotplug.specs.Calls.{Arrive, Depart, AreKept, cpus_of, refusal};
-ghost use Rattle.rcu_core.specs.Grace.{answer_in, at_first, awaited_in, begin_refusal, begun, end_refusal, ended, number_in, reported, started, turn_of, turn_refusal, turned_to, with_call};
+ghost use Rattle.rcu_cblist.specs.Items.{behind, callbacks, front, is_empty, taken};
+ghost use Rattle.rcu_barrier.specs.AllLists.{list_of, most_queued, test_answer, visit_answer};
+ghost use Rattle.rcu_barrier.specs.Tending.{snapshot};
+ghost use Rattle.rcu_core.specs.Grace.{answer_in, at_first, awaited_in, barrier_begun, barrier_tested, begin_refusal, begun, end_refusal, ended, migrated, number_in, queued_to, reported, run_of, started, tended_of, turn_of, turn_refusal, turned_to, visited_of, with_call};
 
 use crate::turned::Turned;
+use rcu_barrier::barrier_state::BarrierState;
+use rcu_barrier::lists::Lists;
+use rcu_barrier::visit::Visit;
+use rcu_cblist::queued::Queued;
+use rcu_cblist::refused::Refused;
 use rcu_hotplug::hotplug::Hotplug;
 use rcu_node::answer::Answer;
 use rcu_node::awaited::Awaited;
@@ -17,36 +25,35 @@ use rcu_seq::seq::Seq;
 use std::alloc::Global;
 use std::marker::Model;
 
-/// The state of the grace periods (Linux's `rcu_state`): the number, the needed number, and the processors that are
-/// online and awaited.
+/// The state of the grace periods (Linux's `rcu_state`): the number, the needed number, the processors that are online
+/// and awaited, and each processor's list of callbacks.
 ///
-/// No call but `new` needs memory.
+/// Only `new`, `queue`, `run`, `migrate` and `visit` need memory. A refused call leaves all as it was.
 #[derive(Drop)]
-pub struct GpState<A: Awaited> {
+pub struct GpState<A: Awaited, T: Drop> {
     /// The number, and whether a grace period runs.
     seq: Seq,
     /// The greatest number that was asked for, 0 before any (Linux's `gp_seq_needed`). It never falls.
     needed: u64,
     /// The processors.
     hotplug: Hotplug<A>,
+    /// The callbacks.
+    lists: Lists<T>,
 }
 
-impl<A: Awaited> Model for GpState<A> {
-    ghost use Rattle.std.specs.Prelude.{◌≡◌, true};
-    ghost use Rattle.rcu_seq.specs.Numbers.{number_of};
-    ghost use Rattle.rcu_core.specs.Grace.{Grace};
+impl<A: Awaited, T: Drop> Model for GpState<A, T> {
+    ghost use Rattle.rcu_core.specs.Grace.{Grace, IsKept};
 
-    ghost Value = { Grace };
+    ghost Value = { Grace T };
 
-    ghost view = { λ g. record { seq = g.seq; needed = g.needed; processors = g.hotplug } };
+    ghost view = { λ g. record { seq = g.seq; needed = g.needed; processors = g.hotplug; lists = g.lists } };
 
-    ghost invariant = { λ g. record {
-      tag : g.seq.running ≡ true → g.hotplug.tag ≡ number_of g.seq;
-    } };
+    ghost invariant = { λ g. IsKept (record { seq = g.seq; needed = g.needed; processors = g.hotplug; lists = g.lists }) };
 }
 
-impl<A: Awaited> GpState<A> {
-    /// No grace period ran yet, none is needed, and processor 0 alone is online. The awaited set is as it was made.
+impl<A: Awaited, T: Drop> GpState<A, T> {
+    /// No grace period ran yet, none is needed, processor 0 alone is online, and the lists are empty. The awaited set is
+    /// as it was made.
     ///
     /// Faults: 19 where `last` is no last number; 16.
     pub fn new(alloc: Global, inner: A, last: u64) -> Result<Self, Fault>
@@ -57,11 +64,13 @@ impl<A: Awaited> GpState<A> {
         ensures memory { IfErr result (λ fault. is_last last ≡ true → fault ≡ Fault.NoMemory) }
     {
         let seq = Seq::new(last)?;
+        let lists = Lists::new(alloc, inner.cpus())?;
         let hotplug = Hotplug::new(alloc, inner)?;
         Ok(GpState {
             seq,
             needed: 0,
             hotplug,
+            lists,
         })
     }
 
@@ -199,5 +208,86 @@ impl<A: Awaited> GpState<A> {
         ensures { result ≡ is_done cookie.0 self.now.seq }
     {
         self.seq.done(cookie)
+    }
+
+    /// Queues a callback on a processor, at the number (Linux's `call_rcu`). Answers how many were queued, which is its
+    /// place among them.
+    ///
+    /// Faults, which hand the value back: 15 where 1,000,000 were queued, 16.
+    pub fn queue(&mut self, cpu: u32, value: T) -> Result<u64, Refused<T>>
+        requires { cpu < cpus_of self.old.processors }
+        ensures ok { IfOk result (λ count. (count ≡ self.new.lists.queued) × (self.old.lists.queued < most_queued) × (self.new ≡ queued_to cpu value self.old)) }
+        ensures err { IfErr result (λ refused. (refused.fault ≡ (if self.old.lists.queued == most_queued then Fault.CallbacksFull else Fault.NoMemory)) × (refused.value ≡ value) × (self.new ≡ self.old)) }
+    {
+        let number = self.seq.value();
+        self.lists.queue(cpu, number, value)
+    }
+
+    /// Brings the marks of a processor's callbacks up to the number, whose greatest is needed from now on (Linux's
+    /// `rcu_advance_cbs`). Answers how many callbacks of the list are done and how many wait then.
+    pub fn tend(&mut self, cpu: u32) -> (u64, u64)
+        requires { cpu < cpus_of self.old.processors }
+        ensures state { self.new ≡ tended_of cpu self.old }
+        ensures done { result.0 ≡ length (callbacks (front (list_of self.new.lists cpu))) }
+        ensures waiting { result.1 ≡ length (callbacks (behind (list_of self.new.lists cpu))) }
+    {
+        let tended = self.lists.tend(cpu, self.seq.value());
+        if let Some(greatest) = self.lists.greatest_waiting(cpu) {
+            self.needed = self.needed.max(greatest);
+        }
+        tended
+    }
+
+    /// Hands out the first callbacks of a processor's done part, at most so many (Linux's `rcu_do_batch`): only such that
+    /// a full grace period has passed since their queueing.
+    ///
+    /// Fault 16, only where it has a callback to hand out.
+    pub fn run(&mut self, cpu: u32, max: u64) -> Result<Vec<Queued<T>>, Fault>
+        requires { cpu < cpus_of self.old.processors }
+        ensures ok { IfOk result (λ calls. (calls.items ≡ taken max (list_of self.old.lists cpu)) × (self.new ≡ run_of cpu max self.old)) }
+        ensures waited { IfOk result (λ calls. All (λ call. snapshot call.at ≤ number_in self.old) calls.items) }
+        ensures err { IfErr result (λ fault. (fault ≡ Fault.NoMemory) × (taken max (list_of self.old.lists cpu) ≢ []) × (self.new ≡ self.old)) }
+    {
+        self.lists.run(cpu, max)
+    }
+
+    /// Moves the list of another processor than 0 to processor 0's (Linux's `rcutree_migrate_callbacks`); a barrier that
+    /// did not visit it does so first. Answers how many callbacks moved.
+    ///
+    /// Fault 16, only where the list is not empty.
+    pub fn migrate(&mut self, cpu: u32) -> Result<u64, Fault>
+        requires other { 0 < cpu }
+        requires cpu { cpu < cpus_of self.old.processors }
+        ensures ok { IfOk result (λ moved. (moved ≡ length (callbacks (list_of self.old.lists cpu))) × (self.new ≡ migrated cpu self.old)) }
+        ensures err { IfErr result (λ fault. (fault ≡ Fault.NoMemory) × (is_empty (list_of self.old.lists cpu) ≡ false) × (self.new ≡ self.old)) }
+    {
+        self.lists.migrate(cpu)
+    }
+
+    /// Begins a barrier (Linux's `rcu_barrier`). Fault 13: one runs.
+    pub fn barrier_begin(&mut self) -> Result<(), Fault>
+        ensures ok { OnOk result ((self.old.lists.running ≡ false) × (self.new ≡ barrier_begun self.old)) }
+        ensures err { IfErr result (λ fault. (fault ≡ Fault.BarrierBusy) × (self.old.lists.running ≡ true) × (self.new ≡ self.old)) }
+    {
+        self.lists.barrier_begin()
+    }
+
+    /// The barrier visits a processor, as [`Lists::visit`]. Faults: 14 where none runs; 16, only where it would put a
+    /// marker.
+    pub fn visit(&mut self, cpu: u32) -> Result<Visit, Fault>
+        requires { cpu < cpus_of self.old.processors }
+        ensures ok { IfOk result (λ visit. (self.old.lists.running ≡ true) × (visit ≡ visit_answer cpu self.old.lists) × (self.new ≡ visited_of cpu self.old)) }
+        ensures err { IfErr result (λ fault. (fault ≡ (if self.old.lists.running then Fault.NoMemory else Fault.NoBarrier)) × (self.new ≡ self.old)) }
+        ensures memory { IfErr result (λ fault. self.old.lists.running ≡ true → visit_answer cpu self.old.lists ≡ Visit.Marked) }
+    {
+        self.lists.visit(cpu)
+    }
+
+    /// Whether the barrier is over, as [`Lists::barrier_test`]. Fault 14: none runs.
+    pub fn barrier_test(&mut self) -> Result<BarrierState, Fault>
+        ensures ok { IfOk result (λ state. (self.old.lists.running ≡ true) × (state ≡ test_answer self.old.lists) × (self.new ≡ barrier_tested self.old)) }
+        ensures err { IfErr result (λ fault. (fault ≡ Fault.NoBarrier) × (self.old.lists.running ≡ false) × (self.new ≡ self.old)) }
+    {
+        self.lists.barrier_test()
     }
 }

@@ -1,5 +1,7 @@
 //! What the definitions say of every run: of any events, in any order, with legal replies.
-ghost use Rattle.std.specs.Prelude.{◌≡◌, ◌≢◌, ◌∷◌, ◌++◌, ℕ, Some, true};
+ghost use Rattle.std.specs.Prelude.{◌≡◌, ◌≢◌, ◌<◌, ◌≤◌, ◌∷◌, ◌++◌, ℕ, List, Some, true, slice_get};
+ghost use Rattle.rcu_cblist.specs.declared.queued.Queued.{Queued};
+ghost use Rattle.rcu_core.specs.Callbacks.{handed, has_full_period, queued_before_barrier, since, times};
 ghost use Rattle.rcu_core.specs.History.{History, awaits, begins, heard, is_old, latest, number, online, running, section};
 ghost use Rattle.rcu_core.specs.Replies.{Size};
 ghost use Rattle.rcu_core.specs.Runs.{IsLegal, Run, history, takes};
@@ -25,4 +27,24 @@ pub fn readers_finish_before_done()
 pub fn equally_heard_await_the_same()
     ensures { (h g : History) (cpu : ℕ) → running h ≡ running g → online cpu (latest begins h) ≡ online cpu (latest begins g)
         → heard cpu (number h) h ≡ heard cpu (number g) g → awaits cpu h ≡ awaits cpu g }
+{}
+
+/// No callback runs early: between the queueing of a callback and its handing out, a full grace period lies. The callback
+/// at each place of what a run hands out has the value that the reply tells there.
+pub fn no_callback_runs_early()
+    ensures { (size : Size) (run : Run) (cpu most place : ℕ) (values : List ℕ) (call : Queued ℕ)
+        → IsLegal size ((Event.Run cpu most, Reply.Ran values) ∷ run) → slice_get (handed cpu most (history run)) place ≡ Some call
+        → (slice_get values place ≡ Some call.value) × (has_full_period (since call.ord (history run)) ≡ true) }
+{}
+
+/// No callback runs twice: each is handed out at most once.
+pub fn no_callback_runs_twice()
+    ensures { (size : Size) (run : Run) (ord : ℕ) → IsLegal size run → times ord (history run) ≤ 1 }
+{}
+
+/// A barrier covers earlier callbacks: when its test answers done, each callback that was queued before it began has been
+/// handed out.
+pub fn barrier_covers_earlier_callbacks()
+    ensures { (size : Size) (run : Run) (ord : ℕ) → IsLegal size ((Event.BarTest, Reply.BarDone) ∷ run)
+        → 0 < ord → ord ≤ queued_before_barrier (history run) → times ord (history run) ≡ 1 }
 {}

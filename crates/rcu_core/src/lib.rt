@@ -10,3 +10,4 @@ pub mod reply;
 #[cfg(test)]
 mod tests;
 pub mod turned;
+pub mod value_list;

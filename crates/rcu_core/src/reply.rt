@@ -1,6 +1,8 @@
 //! What the engine answers.
 
 use crate::cpu_list::CpuList;
+use crate::value_list::ValueList;
+use rcu_barrier::visit::Visit;
 use rcu_node::answer::Answer;
 use rcu_report::report::Report;
 use rcu_seq::cookie::Cookie;
@@ -35,6 +37,20 @@ pub enum Reply {
     Cookie(Cookie),
     /// Whether the cookie is done.
     Polled(bool),
+    /// How many callbacks were queued so far, which is the place of this one among them.
+    Queued(u64),
+    /// How many callbacks of the list are done now, and how many wait.
+    Tended(u64, u64),
+    /// The values of the callbacks that are handed out, in order.
+    Ran(ValueList),
+    /// A barrier began.
+    BarBegun,
+    /// What the visit did.
+    Visited(Visit),
+    /// The barrier is over.
+    BarDone,
+    /// The barrier goes on, and waits for so many markers and unvisited processors.
+    BarWaits(u64),
     /// The event was refused, and changed nothing.
     Fault(Fault),
 }

@@ -1,4 +1,6 @@
 //! Tests of the public calls.
 
+mod callbacks;
 mod lists;
+mod machine;
 mod steps;

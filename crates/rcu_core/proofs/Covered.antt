@@ -1,0 +1,209 @@
+-- While a barrier runs, each callback from before its begin has a marker behind it where its list was visited.
+use Rattle.std.proofs.Common.{◌≡◌, ℕ, zero, suc, ◌+◌, ◌<◌, ◌≤◌, Bool, true, false, not, ◌&&◌, ◌||◌, List, [], ◌∷◌, ◌++◌, length, None, Some, refl, sym, ap, ◌∙◌, arith, cond, eqb, map, get_or, inl, inr}
+use Rattle.std.specs.Prelude.{sum_by}
+use Rattle.std.specs.List.{range_with_len}
+use Rattle.std.proofs.lemmas.Bool.{eqb-true}
+use Rattle.std.proofs.lemmas.Bool.Decides.{nat_tests}
+use Rattle.std.proofs.lemmas.List.FromFn.{length-range_with_len, get_or-range_with_len}
+use Rattle.std.proofs.lemmas.List.Sums.{get_or-le-sum_by, sum_by-cons}
+use Rattle.rcu_seq.specs.declared.fault.Fault.TheVariants as fault
+use Rattle.rcu_cblist.specs.Items.{Item, Of, Marker, Mark, Unmarked, Until, Done, behind, entrained, from_callback, front, is_marker, markers, moved, remarked, taken, unmarked, untaken}
+use Rattle.rcu_barrier.specs.AllLists.{leaving}
+use Rattle.rcu_barrier.specs.Tending.{mark_tended, tended}
+use Rattle.rcu_core.specs.Callbacks.{barrier_runs, is_owed, list, queued, queued_before_barrier, times, visited}
+use Rattle.rcu_core.specs.History.{History, number}
+use Rattle.rcu_core.specs.Replies.{Size, situation, fault_in, how_many, or_fault, waits_for, IsHistory, IsLegalReply}
+use Rattle.rcu_core.specs.Runs.{IsLegal, history, Run as Trace}
+use Rattle.rcu_core.specs.declared.event.Event.{Event}
+use Rattle.rcu_core.specs.declared.event.Event.TheVariants.{Offline, Queue, Tend, Run, BarBegin, Visit, BarTest}
+use Rattle.rcu_core.specs.declared.reply.Reply.TheVariants as reply
+use Rattle.rcu_core.proofs.Counting.{none_passes}
+use Rattle.rcu_core.proofs.Once.{lies, sum_below, then_once}
+use Rattle.rcu_core.proofs.Readers.{possible}
+
+-- how many markers there are, item by item
+abbrev marks : List (Item ℕ) → ℕ
+marks [] = 0
+marks (Marker ∷ xs) = marks xs + 1
+marks (Of call mark ∷ xs) = marks xs
+
+markers_are : (xs : List (Item ℕ)) → markers xs ≡ marks xs
+markers_are [] = refl
+markers_are (Marker ∷ xs) = let i = markers_are xs in let c = sum_by-cons (λ (x : Item ℕ). cond (is_marker x) 1 0) Marker xs in omega (arith, i, c)
+markers_are (Of call mark ∷ xs) = let i = markers_are xs in let c = sum_by-cons (λ (x : Item ℕ). cond (is_marker x) 1 0) (Of call mark) xs in omega (arith, i, c)
+
+-- each callback up to this place has a marker behind it
+abbrev Covered : ℕ → List (Item ℕ) → Type 0
+Covered b [] = Unit {0}
+Covered b (Marker ∷ xs) = Covered b xs
+Covered b (Of call mark ∷ xs) = (call.ord ≤ b → 0 < marks xs) × Covered b xs
+
+marks-append : (xs ys : List (Item ℕ)) → marks (xs ++ ys) ≡ marks xs + marks ys
+marks-append [] ys = omega arith
+marks-append (Of call mark ∷ xs) ys = marks-append xs ys
+marks-append (Marker ∷ xs) ys = let i = marks-append xs ys in omega (arith, i)
+
+marks-remarked : (f : Mark → Mark) (xs : List (Item ℕ)) → marks (map (remarked f) xs) ≡ marks xs
+marks-remarked f [] = refl
+marks-remarked f (Of call mark ∷ xs) = marks-remarked f xs
+marks-remarked f (Marker ∷ xs) = ap (λ n. n + 1) (marks-remarked f xs)
+
+covered-append : (b : ℕ) (xs ys : List (Item ℕ)) → Covered b xs → Covered b ys → Covered b (xs ++ ys)
+covered-append b [] ys p q = q
+covered-append b (Marker ∷ xs) ys p q = covered-append b xs ys p q
+covered-append b (Of call mark ∷ xs) ys p q = ((λ l. let i = marks-append xs ys in let k = p.0 l in omega (arith, i, k)), covered-append b xs ys p.1 q)
+
+covered-marked : (b : ℕ) (xs : List (Item ℕ)) → Covered b (xs ++ Marker ∷ [])
+covered-marked b [] = tt
+covered-marked b (Marker ∷ xs) = covered-marked b xs
+covered-marked b (Of call mark ∷ xs) = ((λ l. let i = marks-append xs (Marker ∷ []) in omega (arith, i)), covered-marked b xs)
+
+covered-entrained : (b : ℕ) (xs : List (Item ℕ)) → Covered b (entrained xs)
+covered-entrained b [] = tt
+covered-entrained b (x ∷ xs) = covered-marked b (x ∷ xs)
+
+covered-remarked : (b : ℕ) (f : Mark → Mark) (xs : List (Item ℕ)) → Covered b xs → Covered b (map (remarked f) xs)
+covered-remarked b f [] p = tt
+covered-remarked b f (Marker ∷ xs) p = covered-remarked b f xs p
+covered-remarked b f (Of call mark ∷ xs) p = ((λ l. let i = marks-remarked f xs in let k = p.0 l in omega (arith, i, k)), covered-remarked b f xs p.1)
+
+covered-from : (b n : ℕ) (xs : List (Item ℕ)) → Covered b xs → Covered b (from_callback n xs)
+covered-from b n [] p = p
+covered-from b n (Marker ∷ xs) p = covered-from b n xs p
+covered-from b zero (Of call mark ∷ xs) p = p
+covered-from b (suc n) (Of call mark ∷ xs) p = covered-from b n xs p.1
+
+marks-parts : (xs : List (Item ℕ)) → marks (front xs) + marks (behind xs) ≡ marks xs
+marks-parts [] = refl
+marks-parts (Marker ∷ xs) = let i = marks-parts xs in omega (arith, i)
+marks-parts (Of call Unmarked ∷ xs) = omega arith
+marks-parts (Of call (Until n) ∷ xs) = omega arith
+marks-parts (Of call Done ∷ xs) = marks-parts xs
+
+marks-moved : (xs ys : List (Item ℕ)) → marks (moved xs ys) ≡ marks xs + marks ys
+marks-moved xs ys =
+    let a = marks-append (front xs ++ ys) (map unmarked (behind xs)) in let c = marks-append (front xs) ys in
+    let d = marks-remarked (λ _. Unmarked) (behind xs) in let e = marks-parts xs in
+    omega (arith, a, c, d, e)
+
+-- a list that is split at a place and takes in another there
+covered-moved : (b : ℕ) (xs ys : List (Item ℕ)) → Covered b xs → Covered b ys → Covered b (moved xs ys)
+covered-moved b [] ys p q = covered-append b ys [] q tt
+covered-moved b (Marker ∷ xs) ys p q = covered-moved b xs ys p q
+covered-moved b (Of call Unmarked ∷ xs) ys p q = covered-append b ys (map unmarked (Of call Unmarked ∷ xs)) q (covered-remarked b (λ _. Unmarked) (Of call Unmarked ∷ xs) p)
+covered-moved b (Of call (Until n) ∷ xs) ys p q = covered-append b ys (map unmarked (Of call (Until n) ∷ xs)) q (covered-remarked b (λ _. Unmarked) (Of call (Until n) ∷ xs) p)
+covered-moved b (Of call Done ∷ xs) ys p q = ((λ l. let i = marks-moved xs ys in let k = p.0 l in omega (arith, i, k)), covered-moved b xs ys p.1 q)
+
+covered-cond : (b : ℕ) (t : Bool) (xs ys : List (Item ℕ)) → (t ≡ true → Covered b xs) → (t ≡ false → Covered b ys) → Covered b (cond t xs ys)
+covered-cond b true xs ys f g = f refl
+covered-cond b false xs ys f g = g refl
+
+-- a list that is visited now, or was already
+covered-leaving : (b : ℕ) (r v : Bool) (xs : List (Item ℕ)) → r ≡ true → (v ≡ true → Covered b xs) → Covered b (leaving (r && not v) xs)
+covered-leaving b true true xs e f = f refl
+covered-leaving b true false xs e f = covered-entrained b xs
+covered-leaving b false v xs e f = absurd (cc)
+
+or_rest : (a b : Bool) → a ≡ false → (a || b) ≡ true → b ≡ true
+or_rest true b e v = absurd (cc)
+or_rest false b e v = v
+
+-- while a barrier runs, the list of each processor that it visited is covered
+record Barrier (h : History) : Type 0 where
+  pub covered : barrier_runs h ≡ true → (c : ℕ) → visited c h ≡ true → Covered (queued_before_barrier h) (list c h)
+  pub before_le : queued_before_barrier h ≤ queued h
+
+abbrev new_item : ℕ → History → Item ℕ
+new_item y h = Of (record { ord = queued h + 1; at = number h; value = y }) Unmarked
+
+barrier_step : (s : Size) (e : Event) (h : History) → fault_in s (situation h) e ≡ None → Barrier h → Barrier (e ∷ h)
+barrier_step s BarBegin h p f = record { covered = λ r c v. absurd (cc); before_le = omega arith }
+barrier_step s BarTest h p f = record { covered = λ r c v. absurd (cc); before_le = f.before_le }
+barrier_step s (Queue d y) h p f = let b = queued_before_barrier h in let k = f.before_le in record {
+  covered = λ r c v. covered-cond b (eqb d c) (list c h ++ new_item y h ∷ []) (list c h)
+      (λ e. covered-append b (list c h) (new_item y h ∷ []) (f.covered r c v) ((λ l. absurd (omega (arith, k, l))), tt))
+      (λ e. f.covered r c v);
+  before_le = omega (arith, k);
+}
+barrier_step s (Tend d) h p f = let b = queued_before_barrier h in record {
+  covered = λ r c v. covered-cond b (eqb d c) (tended (number h) (list c h)) (list c h) (λ e. covered-remarked b (mark_tended (number h)) (list c h) (f.covered r c v)) (λ e. f.covered r c v);
+  before_le = f.before_le;
+}
+barrier_step s (Run d m) h p f = let b = queued_before_barrier h in record {
+  covered = λ r c v. covered-cond b (eqb d c) (untaken m (list c h)) (list c h) (λ e. covered-from b (length (taken m (list c h))) (list c h) (f.covered r c v)) (λ e. f.covered r c v);
+  before_le = f.before_le;
+}
+barrier_step s (Visit d) h p f = let b = queued_before_barrier h in record {
+  covered = λ r c v. covered-cond b (eqb d c) (leaving (is_owed d h) (list c h)) (list c h)
+      (λ e. covered-leaving b (barrier_runs h) (visited d h) (list c h) r (λ w. f.covered r c (rw (← eqb-true d c e) w)))
+      (λ e. f.covered r c (or_rest (eqb d c) (visited c h) e v));
+  before_le = f.before_le;
+}
+barrier_step s (Offline d) h p f = let b = queued_before_barrier h in let xs = leaving (is_owed d h) (list d h) in record {
+  covered = λ r c v. covered-cond b (eqb d c) [] (cond (eqb c 0) (moved xs (list c h)) (list c h)) (λ e. tt)
+      (λ e. let old = f.covered r c (or_rest (eqb d c) (visited c h) e v) in covered-cond b (eqb c 0) (moved xs (list c h)) (list c h)
+      (λ z. covered-moved b xs (list c h) (covered-leaving b (barrier_runs h) (visited d h) (list d h) r (λ w. f.covered r d w)) old)
+      (λ z. old));
+  before_le = f.before_le;
+}
+barrier_step s _ h p f = record { covered = f.covered; before_le = f.before_le }
+
+barrier_each : (s : Size) (h : History) → IsHistory s h → Barrier h
+barrier_each s [] p = record { covered = λ r c v. absurd (cc); before_le = omega arith }
+barrier_each s (e ∷ h) p = barrier_step s e h p.0 (barrier_each s h p.1)
+
+none_left : (b j : ℕ) (xs : List (Item ℕ)) → Covered b xs → marks xs ≡ 0 → j ≤ b → lies j xs ≡ 0
+none_left b j [] p e l = refl
+none_left b j (Marker ∷ xs) p e l = absurd (omega (arith, e))
+none_left b j (Of call mark ∷ xs) p e l =
+    let i = none_left b j xs p.1 e l in
+    let k : call.ord ≤ b → ⊥ = λ m. let q = p.0 m in omega (arith, q, e) in
+    grind (arith, nat_tests)
+
+sum_zero : (n : ℕ) (f : ℕ → ℕ) → ((c : ℕ) → c < n → f c ≡ 0) → sum_below n f ≡ 0
+sum_zero zero f h = refl
+sum_zero (suc n) f h = let a = h n (omega arith) in let b = sum_zero n f (λ c l. h c (omega arith)) in omega (arith, a, b)
+
+-- where a sum over the processors is 0, each part is
+zero_each : (n : ℕ) (f : ℕ → ℕ) → sum_by f (range_with_len 0 n) ≡ 0 → (c : ℕ) → c < n → f c ≡ 0
+zero_each n f e c l =
+    let here : c < length (range_with_len 0 n) = omega (arith, length-range_with_len 0 n) in
+    let le : f (get_or (range_with_len 0 n) c 0) ≤ sum_by f (range_with_len 0 n) = get_or-le-sum_by f (range_with_len 0 n) c 0 here in
+    let at : get_or (range_with_len 0 n) c 0 ≡ c = get_or-range_with_len 0 n c 0 l ∙ omega arith in
+    let m : f c ≤ sum_by f (range_with_len 0 n) = rw at at le in
+    omega (arith, m, e)
+
+-- where the test of a running barrier finds nothing, every callback from before its begin was handed out
+covered_once : (s : Size) (h : History) (j : ℕ) → IsHistory s h → barrier_runs h ≡ true → waits_for s (situation h) ≡ 0 → 0 < j → j ≤ queued_before_barrier h → times j h ≡ 1
+covered_once s h j p r u z b =
+    let f = barrier_each s h p in
+    let k = f.before_le in
+    let m : sum_by (λ c. markers (list c h)) (range_with_len 0 s.cpus) ≡ 0 = omega (arith, u) in
+    let o : how_many s (λ c. is_owed c h) ≡ 0 = omega (arith, u) in
+    then_once s j h p z (omega (arith, k, b))
+    (sum_zero s.cpus (λ c. lies j (list c h)) (λ c l. none_left (queued_before_barrier h) j (list c h)
+    (f.covered r c (not_owed (barrier_runs h) (visited c h) r (none_passes s.cpus (λ c. is_owed c h) o c l)))
+    (sym (markers_are (list c h)) ∙ zero_each s.cpus (λ c. markers (list c h)) m c l) b))
+  where
+    not_owed : (a v : Bool) → a ≡ true → (a && not v) ≡ false → v ≡ true
+    not_owed true true e f = refl
+    not_owed true false e f = absurd (cc)
+    not_owed false v e f = absurd (cc)
+
+told_done : (b : Bool) (n : ℕ) → eqb n 0 ≡ b → reply.BarDone ≡ cond b reply.BarDone (reply.BarWaits n) → n ≡ 0
+told_done true n i e = eqb-true n 0 i
+told_done false n i e = absurd (cc)
+
+done_parts : (r : Bool) (n : ℕ) → reply.BarDone ≡ or_fault (cond (not r) (Some fault.NoBarrier) None) (cond (eqb n 0) reply.BarDone (reply.BarWaits n)) → (r ≡ true) × (n ≡ 0)
+done_parts true n e = (refl, told_done (eqb n 0) n refl e)
+done_parts false n e = absurd (cc)
+
+test_done : (s : Size) (h : History) → IsLegalReply s (situation h) BarTest reply.BarDone → (barrier_runs h ≡ true) × (waits_for s (situation h) ≡ 0)
+test_done s h (inl i) = done_parts (barrier_runs h) (waits_for s (situation h)) i
+test_done s h (inr i) = absurd (cc)
+
+pub earlier_are_handed : (s : Size) (run : Trace) (j : ℕ) → IsLegal s ((BarTest, reply.BarDone) ∷ run) → 0 < j → j ≤ queued_before_barrier (history run) → times j (history run) ≡ 1
+earlier_are_handed s run j l z b =
+    let h = history run in
+    let q = test_done s h l.0 in
+    covered_once s h j (possible s run l.1) q.0 q.1 z b

@@ -1,0 +1,200 @@
+-- No callback is handed out twice: with those still in the lists, each is there at most once.
+use Rattle.std.proofs.Common.{◌≡◌, ℕ, zero, suc, ◌+◌, ◌<◌, ◌≤◌, Bool, true, false, List, [], ◌∷◌, ◌++◌, None, refl, sym, ap, ◌∙◌, arith, cond, eqb, eq-eqb, ne_eqb, map, ◌⊎◌, inl, inr}
+use Rattle.std.proofs.lemmas.Bool.{cases_eq}
+use Rattle.std.proofs.lemmas.Bool.Decides.{nat_tests}
+use Rattle.std.proofs.lemmas.List.Sums.{sum_by-cons}
+use Rattle.rcu_cblist.specs.declared.queued.Queued.{Queued}
+use Rattle.rcu_cblist.specs.Items.{Item, Of, Marker, Mark, Unmarked, Until, Done, behind, front, moved, remarked, taken, unmarked, untaken}
+use Rattle.rcu_barrier.specs.AllLists.{leaving}
+use Rattle.rcu_barrier.specs.Tending.{mark_tended, tended}
+use Rattle.rcu_core.specs.Callbacks.{copies, is_owed, list, queued, times}
+use Rattle.rcu_core.specs.History.{History, number}
+use Rattle.rcu_core.specs.Replies.{Size, situation, fault_in, IsHistory}
+use Rattle.rcu_core.specs.Runs.{IsLegal, history, Run as Trace}
+use Rattle.rcu_core.specs.declared.event.Event.{Event}
+use Rattle.rcu_core.specs.declared.event.Event.TheVariants.{Offline, Queue, Tend, Run, Visit}
+use Rattle.rcu_core.proofs.Readers.{possible}
+
+-- the sum over the processors below a bound
+abbrev pub sum_below : ℕ → (ℕ → ℕ) → ℕ
+sum_below zero f = 0
+sum_below (suc n) f = sum_below n f + f n
+
+-- how often the callback of this place lies in a list
+abbrev pub lies : ℕ → List (Item ℕ) → ℕ
+lies ord [] = 0
+lies ord (Marker ∷ xs) = lies ord xs
+lies ord (Of call mark ∷ xs) = cond (eqb call.ord ord) 1 0 + lies ord xs
+
+-- one value changes, and the sum with it
+change : (n : ℕ) (f g : ℕ → ℕ) (d : ℕ) → ((c : ℕ) → (c ≡ d → ⊥) → g c ≡ f c) → ((d < n) × (sum_below n g + f d ≡ sum_below n f + g d)) ⊎ ((n ≤ d) × (sum_below n g ≡ sum_below n f))
+change zero f g d h = inr (omega arith, refl)
+change (suc n) f g d h = elim (cases_eq n d) [
+  | inl e ↦ elim (change n f g d h) [ inl a ↦ absurd (omega arith) | inr a ↦ inl (omega arith, let i : f n ≡ f d = ap f e in let j : g n ≡ g d = ap g e in omega arith) ]
+  | inr e ↦ let i = h n e in elim (change n f g d h) [ inl a ↦ inl (omega arith, omega arith) | inr a ↦ inr (omega arith, omega arith) ]
+]
+
+sums : (n : ℕ) (f g : ℕ → ℕ) (d : ℕ) → d < n → ((c : ℕ) → (c ≡ d → ⊥) → g c ≡ f c) → sum_below n g + f d ≡ sum_below n f + g d
+sums n f g d l h = elim (change n f g d h) [ inl a ↦ a.1 | inr a ↦ absurd (omega arith) ]
+
+zero_sum : (n : ℕ) → sum_below n (λ c. 0) ≡ 0
+zero_sum zero = refl
+zero_sum (suc n) = let i = zero_sum n in omega arith
+
+lies-append : (j : ℕ) (xs ys : List (Item ℕ)) → lies j (xs ++ ys) ≡ lies j xs + lies j ys
+lies-append j [] ys = omega arith
+lies-append j (Marker ∷ xs) ys = lies-append j xs ys
+lies-append j (Of call mark ∷ xs) ys = let i = lies-append j xs ys in omega (arith, i)
+
+lies-remarked : (j : ℕ) (f : Mark → Mark) (xs : List (Item ℕ)) → lies j (map (remarked f) xs) ≡ lies j xs
+lies-remarked j f [] = refl
+lies-remarked j f (Marker ∷ xs) = lies-remarked j f xs
+lies-remarked j f (Of call mark ∷ xs) = ap (λ n. cond (eqb call.ord j) 1 0 + n) (lies-remarked j f xs)
+
+-- what a take hands out and what it leaves
+lies-cut : (j m : ℕ) (xs : List (Item ℕ)) → copies j (taken m xs) + lies j (untaken m xs) ≡ lies j xs
+lies-cut j zero [] = refl
+lies-cut j (suc m) [] = refl
+lies-cut j m (Marker ∷ xs) = lies-cut j m xs
+lies-cut j zero (Of call mark ∷ xs) = omega arith
+lies-cut j (suc m) (Of call Unmarked ∷ xs) = omega arith
+lies-cut j (suc m) (Of call (Until n) ∷ xs) = omega arith
+lies-cut j (suc m) (Of call Done ∷ xs) =
+    let i = lies-cut j m xs in
+    let c = sum_by-cons (λ (q : Queued ℕ). cond (eqb q.ord j) 1 0) call (taken m xs) in
+    omega (arith, i, c)
+
+lies-parts : (j : ℕ) (xs : List (Item ℕ)) → lies j (front xs) + lies j (behind xs) ≡ lies j xs
+lies-parts j [] = refl
+lies-parts j (Marker ∷ xs) = lies-parts j xs
+lies-parts j (Of call Unmarked ∷ xs) = omega arith
+lies-parts j (Of call (Until n) ∷ xs) = omega arith
+lies-parts j (Of call Done ∷ xs) = let i = lies-parts j xs in omega (arith, i)
+
+lies-leaving : (j : ℕ) (b : Bool) (xs : List (Item ℕ)) → lies j (leaving b xs) ≡ lies j xs
+lies-leaving j false xs = refl
+lies-leaving j true [] = refl
+lies-leaving j true (x ∷ xs) = lies-append j (x ∷ xs) (Marker ∷ []) ∙ omega arith
+
+lies-moved : (j : ℕ) (xs ys : List (Item ℕ)) → lies j (moved xs ys) ≡ lies j xs + lies j ys
+lies-moved j xs ys =
+    let q = lies-append j (front xs ++ ys) (map unmarked (behind xs)) in let r = lies-append j (front xs) ys in
+    let t = lies-remarked j (λ _. Unmarked) (behind xs) in let u = lies-parts j xs in
+    omega (arith, q, r, t, u)
+
+-- how often the callback of this place lies in the lists of the processors below a bound
+abbrev pub lies_below : ℕ → ℕ → History → ℕ
+lies_below n j h = sum_below n (λ c. lies j (list c h))
+
+-- how often it was handed out or lies in a list
+total : ℕ → ℕ → History → ℕ
+total n j h = times j h + lies_below n j h
+
+record Once (s : Size) (j : ℕ) (h : History) : Type 0 where
+  pub once : total s.cpus j h ≤ 1
+  pub there : 0 < j → j ≤ queued h → total s.cpus j h ≡ 1
+  pub later : queued h < j → total s.cpus j h ≡ 0
+
+cond_same : {X : Type 0} (d : ℕ) (x y : X) → cond (eqb d d) x y ≡ x
+cond_same d x y = rw (eq-eqb d d refl) refl
+
+cond_other : {X : Type 0} (c d : ℕ) (x y : X) → (c ≡ d → ⊥) → cond (eqb d c) x y ≡ y
+cond_other c d x y n = rw (ne_eqb d c (λ e. n (sym e))) refl
+
+-- the list of one processor changes
+one : (s : Size) (j d : ℕ) (h : History) (e : Event) (xs : List (Item ℕ)) → d < s.cpus → list d (e ∷ h) ≡ xs → ((c : ℕ) → (c ≡ d → ⊥) → list c (e ∷ h) ≡ list c h)
+    → lies_below s.cpus j (e ∷ h) + lies j (list d h) ≡ lies_below s.cpus j h + lies j xs
+one s j d h e xs l i o =
+    sums s.cpus (λ c. lies j (list c h)) (λ c. lies j (list c (e ∷ h))) d l (λ c n. ap (λ (ys : List (Item ℕ)). lies j ys) (o c n))
+    ∙ ap (λ (ys : List (Item ℕ)). lies_below s.cpus j h + lies j ys) i
+
+queue_step : (s : Size) (j d y : ℕ) (h : History) → fault_in s (situation h) (Queue d y) ≡ None → Once s j h → Once s j (Queue d y ∷ h)
+unfolding total
+queue_step s j d y h p o =
+    let new : Item ℕ = Of (record { ord = queued h + 1; at = number h; value = y }) Unmarked in
+    let l : d < s.cpus = grind (arith, nat_tests) in
+    let k = one s j d h (Queue d y) (list d h ++ new ∷ []) l (cond_same d (list d h ++ new ∷ []) (list d h)) (λ c n. cond_other c d (list c h ++ new ∷ []) (list c h) n) in
+    let a = lies-append j (list d h) (new ∷ []) in
+    let f = o.later in
+    let q = o.there in
+    record { once = let t = o.once in grind (arith, nat_tests); there = λ z b. grind (arith, nat_tests); later = λ q. grind (arith, nat_tests) }
+
+run_step : (s : Size) (j d m : ℕ) (h : History) → fault_in s (situation h) (Run d m) ≡ None → total s.cpus j (Run d m ∷ h) ≡ total s.cpus j h
+unfolding total
+run_step s j d m h p =
+    let l : d < s.cpus = grind (arith, nat_tests) in
+    let k = one s j d h (Run d m) (untaken m (list d h)) l (cond_same d (untaken m (list d h)) (list d h)) (λ c n. cond_other c d (untaken m (list c h)) (list c h) n) in
+    let a = lies-cut j m (list d h) in
+    omega (arith, k, a)
+
+tend_step : (s : Size) (j d : ℕ) (h : History) → fault_in s (situation h) (Tend d) ≡ None → total s.cpus j (Tend d ∷ h) ≡ total s.cpus j h
+unfolding total
+tend_step s j d h p =
+    let l : d < s.cpus = grind (arith, nat_tests) in
+    let k = one s j d h (Tend d) (tended (number h) (list d h)) l (cond_same d (tended (number h) (list d h)) (list d h)) (λ c n. cond_other c d (tended (number h) (list c h)) (list c h) n) in
+    let a = lies-remarked j (mark_tended (number h)) (list d h) in
+    omega (arith, k, a)
+
+visit_step : (s : Size) (j d : ℕ) (h : History) → fault_in s (situation h) (Visit d) ≡ None → total s.cpus j (Visit d ∷ h) ≡ total s.cpus j h
+unfolding total
+visit_step s j d h p =
+    let l : d < s.cpus = grind (arith, nat_tests) in
+    let owed = is_owed d h in
+    let k = one s j d h (Visit d) (leaving owed (list d h)) l (cond_same d (leaving owed (list d h)) (list d h)) (λ c n. cond_other c d (leaving owed (list c h)) (list c h) n) in
+    let a = lies-leaving j owed (list d h) in
+    omega (arith, k, a)
+
+-- the lists after a departure, but for that of processor 0
+away : ℕ → History → ℕ → List (Item ℕ)
+away d h c = cond (eqb d c) [] (list c h)
+
+-- a processor other than 0 takes no list in
+elsewhere : (j c d : ℕ) (xs ys : List (Item ℕ)) → (c ≡ 0 → ⊥) → lies j (cond (eqb d c) [] (cond (eqb c 0) xs ys)) ≡ lies j (cond (eqb d c) [] ys)
+elsewhere j c d xs ys n = ap (λ (t : Bool). lies j (cond (eqb d c) [] (cond t xs ys))) (ne_eqb c 0 n)
+
+offline_step : (s : Size) (j d : ℕ) (h : History) → fault_in s (situation h) (Offline d) ≡ None → total s.cpus j (Offline d ∷ h) ≡ total s.cpus j h
+unfolding total away
+offline_step s j d h p =
+    let l : d < s.cpus = grind (arith, nat_tests) in
+    let z : (d ≡ 0) → ⊥ = λ e. grind (arith, nat_tests) in
+    let y : (0 ≡ d) → ⊥ = λ e. z (sym e) in
+    let xs : List (Item ℕ) = leaving (is_owed d h) (list d h) in
+    let lists = λ (c : ℕ). moved xs (list c h) in
+    let same = λ (xs : List (Item ℕ)). lies j xs in
+    let k = sums s.cpus (λ c. lies j (list c h)) (λ c. lies j (away d h c)) d l (λ c n. ap same (cond_other c d [] (list c h) n)) in
+    let m = sums s.cpus (λ c. lies j (away d h c)) (λ c. lies j (list c (Offline d ∷ h))) 0 (omega (arith, l)) (λ c n. elsewhere j c d (lists c) (list c h) n) in
+    let a : lies j (away d h d) ≡ 0 = ap same (cond_same d [] (list d h)) in
+    let b : lies j (away d h 0) ≡ lies j (list 0 h) = ap same (cond_other 0 d [] (list 0 h) y) in
+    let e : lies j (list 0 (Offline d ∷ h)) ≡ lies j (lists 0) = ap same (cond_other 0 d [] (lists 0) y) in
+    let q = lies-moved j xs (list 0 h) in
+    let r = lies-leaving j (is_owed d h) (list d h) in
+    omega (arith, k, m, a, b, e, q, r)
+
+same_once : (s : Size) (j : ℕ) (h : History) (e : Event) → total s.cpus j (e ∷ h) ≡ total s.cpus j h → queued (e ∷ h) ≡ queued h → Once s j h → Once s j (e ∷ h)
+same_once s j h e i q o = record { once = rw i o.once; there = λ z b. i ∙ o.there z (rw q at b); later = λ l. i ∙ o.later (rw q at l) }
+
+once_step : (s : Size) (j : ℕ) (e : Event) (h : History) → fault_in s (situation h) e ≡ None → Once s j h → Once s j (e ∷ h)
+unfolding total
+once_step s j (Queue d y) h p o = queue_step s j d y h p o
+once_step s j (Run d m) h p o = same_once s j h (Run d m) (run_step s j d m h p) refl o
+once_step s j (Tend d) h p o = same_once s j h (Tend d) (tend_step s j d h p) refl o
+once_step s j (Visit d) h p o = same_once s j h (Visit d) (visit_step s j d h p) refl o
+once_step s j (Offline d) h p o = same_once s j h (Offline d) (offline_step s j d h p) refl o
+once_step s j e h p o = same_once s j h e refl refl o
+
+once_each : (s : Size) (j : ℕ) (h : History) → IsHistory s h → Once s j h
+unfolding total
+once_each s j [] p = let i = zero_sum s.cpus in record { once = omega (arith, i); there = λ z b. absurd (omega arith); later = λ l. omega (arith, i) }
+once_each s j (e ∷ h) p = once_step s j e h p.0 (once_each s j h p.1)
+
+at_most_once : (s : Size) (j : ℕ) (h : History) → IsHistory s h → times j h ≤ 1
+unfolding total
+at_most_once s j h p = let o = (once_each s j h p).once in omega (arith, o)
+
+pub no_second_run : (s : Size) (run : Trace) (j : ℕ) → IsLegal s run → times j (history run) ≤ 1
+no_second_run s run j l = at_most_once s j (history run) (possible s run l)
+
+-- one that was queued and is in no list was handed out
+pub then_once : (s : Size) (j : ℕ) (h : History) → IsHistory s h → 0 < j → j ≤ queued h → lies_below s.cpus j h ≡ 0 → times j h ≡ 1
+unfolding total
+then_once s j h p z b e = let o = (once_each s j h p).there z b in omega (arith, o, e)

@@ -1,0 +1,39 @@
+-- What a write of one place leaves of what is read.
+use Rattle.std.proofs.Common.{◌≡◌, ℕ, zero, suc, ◌<◌, Bool, true, false, not, cond, ◌&&◌, ◌||◌, List, [], ◌∷◌, length, refl, sym, ap, subst, ◌∙◌, arith, eqb, get_or, slice_set, ne_eqb, inl, inr}
+use Rattle.std.proofs.lemmas.Bool.Decides.{nat_tests}
+use Rattle.std.proofs.lemmas.Bool.{cases_eq, and_right}
+use Rattle.std.proofs.lemmas.List.{get_or-set_same, get_or-set_other, get_or_default}
+
+pub eqb_self : (c : ℕ) → eqb c c ≡ true
+eqb_self c = grind (arith, nat_tests)
+
+-- one place is written, and the others stay
+pub one_written : {X : Type 0} (d : X) (xs : List X) (c : ℕ) (x : X) (f g : ℕ → X) → c < length xs → ((k : ℕ) → get_or xs k d ≡ f k) → g c ≡ x
+    → ((k : ℕ) → eqb c k ≡ false → g k ≡ f k) → (k : ℕ) → get_or (slice_set xs c x) k d ≡ g k
+one_written {X} d xs c x f g l h at other k = elim (cases_eq k c) [
+  | inl i ↦ subst (λ (j : ℕ). get_or (slice_set xs c x) j d ≡ g j) (sym i) (get_or-set_same xs c x d l ∙ sym at)
+  | inr n ↦ get_or-set_other xs c k x d n ∙ h k ∙ sym (other k (ne_eqb c k (λ i. n (sym i))))
+]
+
+eqb_suc : (k c : ℕ) → eqb (suc k) (suc c) ≡ eqb k c
+eqb_suc k c = grind (arith, nat_tests)
+
+-- a flag is cleared, wherever it stands
+pub cleared : (xs : List Bool) (c k : ℕ) → get_or (slice_set xs c false) k false ≡ (get_or xs k false && not (eqb c k))
+cleared [] c k = refl
+cleared (x ∷ xs) zero zero = sym (and_right x false refl)
+cleared (x ∷ xs) zero (suc k) = grind (arith, nat_tests)
+cleared (x ∷ xs) (suc c) zero = grind (arith, nat_tests)
+cleared (x ∷ xs) (suc c) (suc k) = cleared xs c k ∙ ap (λ b. get_or xs k false && not b) (sym (eqb_suc c k))
+
+-- a flag is set, where it is not set already
+pub marked : (set : Bool) (xs : List Bool) (c k : ℕ) → c < length xs → get_or xs c false ≡ set
+    → get_or (cond set xs (slice_set xs c true)) k false ≡ (eqb c k || get_or xs k false)
+marked true xs c k l e = elim (cases_eq k c) [
+  | inl i ↦ rw (i, e, eqb_self c) refl
+  | inr n ↦ rw (ne_eqb c k (λ i. n (sym i))) refl
+]
+marked false xs c k l e = elim (cases_eq k c) [
+  | inl i ↦ rw (i, eqb_self c) (get_or-set_same xs c true false l)
+  | inr n ↦ get_or-set_other xs c k true false n ∙ rw (ne_eqb c k (λ i. n (sym i))) refl
+]

@@ -1,0 +1,11 @@
+use Rattle.std.proofs.Common.{arith}
+use Rattle.rcu_core.specs.declared.event.Event.TheVariants.{Enter}
+use Rattle.rcu_core.proofs.Follows.{ran_more}
+use Rattle.rcu_core.proofs.event_core.Core+A+u64.run.Goals as goal
+
+pub loop-event-preserved : goal.loop-event-preserved
+loop-event-preserved g c = record {
+  room = omega arith;
+  count = omega arith;
+  ran = λ h x. ran_more c.args.self.now c.loop-event.self c.step-reply.new.self h c.args.events.now c.loop-event.event-index (Enter 0) c.loop-event.replies.items c.push_reserved.new.self.items c.step-reply.result c.loop-event-test.true c.push_reserved.ensures.items (c.loop-event.invariant.ran h x) c.step-reply.ensures;
+}

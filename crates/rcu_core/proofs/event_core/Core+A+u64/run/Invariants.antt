@@ -1,0 +1,13 @@
+use Rattle.std.proofs.Common.{◌≡◌, ◌≤◌, length, take, vec_len, vec_capacity}
+use Rattle.rcu_core.specs.History.{History}
+use Rattle.rcu_core.specs.Runs.{Ran}
+use Rattle.rcu_core.specs.State.{Has}
+use Rattle.rcu_core.proofs.event_core.Core+A+u64.run.Given as goal
+
+-- the events so far were answered, and there is room for the other replies
+abbrev pub invariant-loop-event : goal.invariant-loop-event
+invariant-loop-event g l = record {
+  room : length l.events ≤ vec_capacity l.replies;
+  count : vec_len l.replies ≡ l.event-index;
+  ran : (h : History) → Has l.fn.self h → Ran l.fn.self h (take l.event-index l.events) l.replies.items l.self;
+}

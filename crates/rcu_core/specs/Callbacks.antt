@@ -1,0 +1,109 @@
+-- What the accepted events so far say of callbacks: each processor's list, the barrier, and who was handed out.
+use Rattle.std.specs.Prelude.{ℕ, ◌+◌, ◌==◌, Bool, true, false, not, ◌&&◌, ◌||◌, max, fold, if◌then◌else◌, List, [], ◌∷◌, ◌++◌, count_by}
+use Rattle.rcu_seq.specs.Numbers.{Number}
+use Rattle.rcu_cblist.specs.declared.queued.Queued.{Queued}
+use Rattle.rcu_cblist.specs.Items.{Item, Of, Unmarked, moved, numbers, taken, untaken}
+use Rattle.rcu_barrier.specs.AllLists.{leaving}
+use Rattle.rcu_barrier.specs.Tending.{tended}
+use Rattle.rcu_core.specs.History.{History, begins, count, ends, latest, number, snapshot}
+use Rattle.rcu_core.specs.declared.event.Event.{Event}
+use Rattle.rcu_core.specs.declared.event.Event.TheVariants.{Offline, StartPoll, Queue, Tend, Run, BarBegin, Visit, BarTest}
+
+-- a callback is queued
+abbrev pub queues : Event → Bool
+queues (Queue cpu value) = true
+queues _ = false
+
+-- a barrier begins
+abbrev pub begins_barrier : Event → Bool
+begins_barrier BarBegin = true
+begins_barrier _ = false
+
+-- a barrier ends: a test stands in a history only where it found the barrier done
+abbrev pub ends_barrier : Event → Bool
+ends_barrier BarTest = true
+ends_barrier _ = false
+
+-- the barrier visits the processor: as it is asked to, or as the processor departs
+abbrev pub visits : ℕ → Event → Bool
+visits cpu (Visit c) = c == cpu
+visits cpu (Offline c) = c == cpu
+visits cpu _ = false
+
+-- a barrier runs: of its latest begin and end, the begin is the later one
+abbrev pub barrier_runs : History → Bool
+barrier_runs [] = false
+barrier_runs (e ∷ h) = if begins_barrier e then true else (if ends_barrier e then false else barrier_runs h)
+
+-- the processor was visited since the latest barrier began
+abbrev pub visited : ℕ → History → Bool
+visited cpu [] = false
+visited cpu (e ∷ h) = not (begins_barrier e) && (visits cpu e || visited cpu h)
+
+-- a barrier runs that did not visit the processor yet
+abbrev pub is_owed : ℕ → History → Bool
+is_owed cpu h = barrier_runs h && not (visited cpu h)
+
+-- how many callbacks were queued
+abbrev pub queued : History → ℕ
+queued h = count queues h
+
+-- the processor's list, in order. A queued callback goes to its end. A tend at the number gives marks. A run takes away the
+-- first callbacks of the done part. A visit puts a marker behind it. The list of a processor that departs moves to
+-- processor 0: its done part in front of that list, the rest behind it without marks
+abbrev pub list : ℕ → History → List (Item ℕ)
+list cpu [] = []
+list cpu (Queue c value ∷ h) =
+    if c == cpu then list cpu h ++ Of (record { ord = queued h + 1; at = number h; value = value }) Unmarked ∷ [] else list cpu h
+list cpu (Tend c ∷ h) = if c == cpu then tended (number h) (list cpu h) else list cpu h
+list cpu (Run c most ∷ h) = if c == cpu then untaken most (list cpu h) else list cpu h
+list cpu (Visit c ∷ h) = if c == cpu then leaving (is_owed c h) (list cpu h) else list cpu h
+list cpu (Offline c ∷ h) =
+    if c == cpu then []
+    else (if cpu == 0 then moved (leaving (is_owed c h) (list c h)) (list cpu h) else list cpu h)
+list cpu (_ ∷ h) = list cpu h
+
+-- the greatest of a number and some others
+abbrev pub greatest_from : Number → List Number → Number
+greatest_from number numbers = fold max number numbers
+
+-- the needed number: the greatest among the cookies of started polls and, for each tend, the numbers that its list then
+-- waits for; 0 before any
+abbrev pub needed : History → Number
+needed [] = 0
+needed (StartPoll ∷ h) = max (needed h) (snapshot h)
+needed (Tend cpu ∷ h) = greatest_from (needed h) (numbers (list cpu (Tend cpu ∷ h)))
+needed (_ ∷ h) = needed h
+
+-- what a run of at most so many callbacks hands out
+abbrev pub handed : ℕ → ℕ → History → List (Queued ℕ)
+handed cpu most h = taken most (list cpu h)
+
+-- how many of these are the callback of this place among all that were queued, counted from 1
+abbrev pub copies : ℕ → List (Queued ℕ) → ℕ
+copies ord calls = count_by (λ call. call.ord == ord) calls
+
+-- how often the callback of this place was handed out
+abbrev pub times : ℕ → History → ℕ
+times ord [] = 0
+times ord (Run cpu most ∷ h) = copies ord (handed cpu most h) + times ord h
+times ord (_ ∷ h) = times ord h
+
+-- the events since the callback of this place was queued
+abbrev pub since : ℕ → History → History
+since ord [] = []
+since ord (e ∷ h) = if queues e && (queued h + 1 == ord) then [] else e ∷ since ord h
+
+-- a grace period begins among these events
+abbrev pub has_begin : History → Bool
+has_begin [] = false
+has_begin (e ∷ h) = begins e || has_begin h
+
+-- a full grace period lies among these events: it begins and ends there
+abbrev pub has_full_period : History → Bool
+has_full_period [] = false
+has_full_period (e ∷ h) = (ends e && has_begin h) || has_full_period h
+
+-- how many callbacks were queued before the latest barrier began
+abbrev pub queued_before_barrier : History → ℕ
+queued_before_barrier h = queued (latest begins_barrier h)

@@ -1,0 +1,51 @@
+//! Values in a row.
+ghost use Rattle.std.specs.Prelude.{◌≡◌, ◌<◌, ◌==◌, length, map, slice_index};
+
+use rcu_cblist::queued::Queued;
+use std::marker::Model;
+
+/// The values of callbacks that a run hands out. Contracts see the list of the values.
+#[derive(Debug, Drop)]
+pub struct ValueList {
+    /// The callbacks, in order.
+    calls: Vec<Queued<u64>>,
+}
+
+impl Model for ValueList {
+    ghost use Rattle.std.specs.Prelude.{List, ℕ, map};
+
+    ghost Value = { List ℕ };
+
+    ghost view = { λ list. map (λ call. call.value) list.calls.items };
+}
+
+impl ValueList {
+    /// The values of these callbacks. Takes no memory.
+    pub fn new(calls: Vec<Queued<u64>>) -> ValueList
+        ensures { result ≡ map (λ call. call.value) calls.items }
+    {
+        ValueList { calls }
+    }
+
+    /// How many there are.
+    pub fn len(&self) -> usize
+        ensures { result ≡ length self.now }
+    {
+        self.calls.len()
+    }
+
+    /// Whether there is none.
+    pub fn is_empty(&self) -> bool
+        ensures { result ≡ length self.now == 0 }
+    {
+        self.calls.is_empty()
+    }
+
+    /// The value at a place, counted from 0.
+    pub fn value(&self, place: usize) -> u64
+        requires { place < length self.now }
+        ensures { result ≡ slice_index self.now place }
+    {
+        self.calls[place].value
+    }
+}
