@@ -9,6 +9,7 @@ use Rattle.std.proofs.lemmas.List.Sums.{fold-append}
 use Rattle.rcu_seq.specs.FaultNumber.{number_of}
 use Rattle.rcu_seq.specs.declared.fault.Fault.TheVariants as fault
 use Rattle.rcu_node.specs.declared.answer.Answer.TheVariants as answer
+use Rattle.rcu_barrier.specs.declared.visit.Visit.TheVariants as visit
 use Rattle.rcu_core.specs.History.{History}
 use Rattle.rcu_core.specs.Replies.{Size, after}
 use Rattle.rcu_core.specs.declared.reply.Reply.{Reply}
@@ -85,6 +86,16 @@ closes_reply (reply.Awaits (cpu ∷ cpus)) = closes_behind (codes "awaits") _ (c
 closes_reply (reply.Cookie c) = closes_numbered (codes "cookie ") c.0
 closes_reply (reply.Polled true) = (codes "done", refl)
 closes_reply (reply.Polled false) = (codes "not yet", refl)
+closes_reply (reply.Queued n) = closes_numbered (codes "queued ") n
+closes_reply (reply.Tended done waiting) = closes_number (codes "tended ") _ done (closes_number (codes " ") (codes "\n") waiting ([], refl))
+closes_reply (reply.Ran []) = (codes "ran none", refl)
+closes_reply (reply.Ran (value ∷ values)) = closes_behind (codes "ran") _ (closes_behind (flat_map spaced (value ∷ values)) (codes "\n") ([], refl))
+closes_reply reply.BarBegun = (codes "barrier begun", refl)
+closes_reply (reply.Visited visit.Marked) = (codes "marked", refl)
+closes_reply (reply.Visited visit.Empty) = (codes "empty", refl)
+closes_reply (reply.Visited visit.Already) = (codes "already", refl)
+closes_reply reply.BarDone = (codes "barrier done", refl)
+closes_reply (reply.BarWaits n) = closes_numbered (codes "barrier waits ") n
 closes_reply (reply.Fault f) = closes_numbered (codes "fault ") (number_of f)
 
 closed_line : (size : Size) (h : History) (line : Line) (text : List ℕ) (next : History) → AnswersLine size h line text next → (cut_of text).rest ≡ []

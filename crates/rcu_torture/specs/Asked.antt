@@ -5,7 +5,7 @@ use Rattle.std.specs.List.{list_all}
 use Rattle.std.specs.Option.{option_map_or}
 use Rattle.rcu_torture.specs.Words.{words_of, number_of}
 use Rattle.rcu_core.specs.declared.event.Event.{Event}
-use Rattle.rcu_core.specs.declared.event.Event.TheVariants.{Enter, Exit, Note, Quiesce, Deliver, Online, Offline, Begin, End, Turn, Awaits, Take, StartPoll, Poll}
+use Rattle.rcu_core.specs.declared.event.Event.TheVariants.{Enter, Exit, Note, Quiesce, Deliver, Online, Offline, Begin, End, Turn, Awaits, Take, StartPoll, Poll, Queue, Tend, Run, BarBegin, Visit, BarTest}
 use Rattle.rcu_torture.specs.declared.line.Line.{Line}
 use Rattle.rcu_torture.specs.declared.line.Line.TheVariants.{Blank, Malformed, Ask}
 
@@ -30,7 +30,9 @@ event_alone name =
     else (if bytes_eq name (codes "awaits") then Some Awaits
     else (if bytes_eq name (codes "take") then Some Take
     else (if bytes_eq name (codes "start") then Some StartPoll
-    else None)))))
+    else (if bytes_eq name (codes "bar") then Some BarBegin
+    else (if bytes_eq name (codes "bartest") then Some BarTest
+    else None)))))))
 
 -- the event of a name that stands before a processor
 abbrev pub event_with_cpu : List ℕ → ℕ → Option Event
@@ -41,7 +43,9 @@ event_with_cpu name cpu =
     else (if bytes_eq name (codes "quiet") then Some (Quiesce cpu)
     else (if bytes_eq name (codes "online") then Some (Online cpu)
     else (if bytes_eq name (codes "offline") then Some (Offline cpu)
-    else None)))))
+    else (if bytes_eq name (codes "tend") then Some (Tend cpu)
+    else (if bytes_eq name (codes "visit") then Some (Visit cpu)
+    else None)))))))
 
 -- the event of a name that stands before a number: of a report's place, a cookie's number, or else a processor's
 abbrev pub event_with_number : List ℕ → ℕ → Option Event
@@ -54,11 +58,24 @@ event_with_number name n =
 abbrev pub event_with_word : List ℕ → List ℕ → Option Event
 event_with_word name word = option_map_or (event_with_number name) (number_of word) None
 
+-- the event of a name that stands before a processor and a number: of a callback's value, or of how many run at most
+abbrev pub event_with_numbers : List ℕ → ℕ → ℕ → Option Event
+event_with_numbers name cpu n =
+    if bytes_eq name (codes "queue") then Some (Queue (cpu_of cpu) n)
+    else (if bytes_eq name (codes "run") then Some (Run (cpu_of cpu) n)
+    else None)
+
+-- the event of a name and two words, which have to be numbers
+abbrev pub event_with_words : List ℕ → List ℕ → List ℕ → Option Event
+event_with_words name word next =
+    option_map_or (λ cpu. option_map_or (event_with_numbers name cpu) (number_of next) None) (number_of word) None
+
 -- the event of a name and the words behind it: the name decides how many they are
 abbrev pub event_of : List ℕ → List (List ℕ) → Option Event
 event_of name [] = event_alone name
 event_of name (word ∷ []) = event_with_word name word
-event_of name (word ∷ more ∷ words) = None
+event_of name (word ∷ next ∷ []) = event_with_words name word next
+event_of name (word ∷ next ∷ more ∷ words) = None
 
 -- a line without a word is blank, one whose words are an event's asks for it, and any other is malformed
 abbrev pub asked_by_words : List (List ℕ) → Line

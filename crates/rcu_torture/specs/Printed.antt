@@ -4,10 +4,12 @@ use Rattle.rcu_seq.specs.FaultNumber.{number_of}
 use Rattle.rcu_node.specs.declared.answer.Answer.{Answer}
 use Rattle.rcu_node.specs.declared.answer.Answer.TheVariants.{Taken, Last, Repeat, Stale}
 use Rattle.rcu_report.specs.declared.report.Report.{Report}
+use Rattle.rcu_barrier.specs.declared.visit.Visit.{Visit}
+use Rattle.rcu_barrier.specs.declared.visit.Visit.TheVariants.{Marked, Empty, Already}
 use Rattle.rcu_core.specs.declared.reply.Reply.{Reply}
-use Rattle.rcu_core.specs.declared.reply.Reply.TheVariants.{Depth, Noted, Made, Answer as Answered, Online, Moved, Begun, Ended, Waiting, Nothing, Awaits, Cookie, Polled, Fault}
+use Rattle.rcu_core.specs.declared.reply.Reply.TheVariants.{Depth, Noted, Made, Answer as Answered, Online, Moved, Begun, Ended, Waiting, Nothing, Awaits, Cookie, Polled, Queued, Tended, Ran, BarBegun, Visited, BarDone, BarWaits, Fault}
 use Rattle.rcu_torture.specs.declared.piece.Piece.{Piece}
-use Rattle.rcu_torture.specs.declared.piece.Piece.TheVariants.{Text, Number, Numbers}
+use Rattle.rcu_torture.specs.declared.piece.Piece.TheVariants.{Text, Number, Numbers, Values}
 
 -- a space and the number
 abbrev pub spaced : ℕ → List ℕ
@@ -18,6 +20,7 @@ abbrev pub piece_text : Piece → List ℕ
 piece_text (Text text) = text.now
 piece_text (Number n) = decimal n
 piece_text (Numbers numbers) = flat_map spaced numbers.now
+piece_text (Values values) = flat_map spaced values.now
 
 -- a text with a number behind it, as a line
 abbrev pub numbered_text : List ℕ → ℕ → List ℕ
@@ -53,6 +56,21 @@ abbrev pub polled_text : Bool → List ℕ
 polled_text true = codes "done\n"
 polled_text false = codes "not yet\n"
 
+-- how many callbacks of a list are done, and how many wait
+abbrev pub tended_text : ℕ → ℕ → List ℕ
+tended_text done waiting = codes "tended " ++ (decimal done ++ (codes " " ++ (decimal waiting ++ codes "\n")))
+
+-- the values of the callbacks that are handed out, or `none`
+abbrev pub ran_text : List ℕ → List ℕ
+ran_text [] = codes "ran none\n"
+ran_text (value ∷ values) = codes "ran" ++ (flat_map spaced (value ∷ values) ++ codes "\n")
+
+-- the word for what a visit did
+abbrev pub visited_text : Visit → List ℕ
+visited_text Marked = codes "marked\n"
+visited_text Empty = codes "empty\n"
+visited_text Already = codes "already\n"
+
 -- the line that says a reply
 abbrev pub text_of : Reply → List ℕ
 text_of (Depth depth) = numbered_text (codes "depth ") depth
@@ -68,4 +86,11 @@ text_of Nothing = codes "nothing\n"
 text_of (Awaits cpus) = awaits_text cpus
 text_of (Cookie cookie) = numbered_text (codes "cookie ") cookie.0
 text_of (Polled done) = polled_text done
+text_of (Queued n) = numbered_text (codes "queued ") n
+text_of (Tended done waiting) = tended_text done waiting
+text_of (Ran values) = ran_text values
+text_of BarBegun = codes "barrier begun\n"
+text_of (Visited visit) = visited_text visit
+text_of BarDone = codes "barrier done\n"
+text_of (BarWaits n) = numbered_text (codes "barrier waits ") n
 text_of (Fault fault) = numbered_text (codes "fault ") (number_of fault)

@@ -1,7 +1,7 @@
 //! What a line asks for.
 ghost use Rattle.std.specs.Prelude.{◌≡◌};
 ghost use Rattle.std.specs.List.{list_all};
-ghost use Rattle.rcu_torture.specs.Asked.{asked_by, cpu_of, event_alone, event_of, event_with_cpu, event_with_number, is_printable, is_well_formed};
+ghost use Rattle.rcu_torture.specs.Asked.{asked_by, cpu_of, event_alone, event_of, event_with_cpu, event_with_number, event_with_numbers, is_printable, is_well_formed};
 ghost use Rattle.rcu_torture.specs.Words.{words_of};
 
 use crate::line::Line;
@@ -48,7 +48,10 @@ fn event_named(name: &[u8], rest: &[u8]) -> Option<Event>
         None => named_alone(name),
         Some((word, rest)) => match next_word(rest) {
             None => named_with_number(name, number(word)?),
-            Some(_) => None,
+            Some((next, rest)) => match next_word(rest) {
+                None => named_with_numbers(name, number(word)?, number(next)?),
+                Some(_) => None,
+            },
         },
     }
 }
@@ -69,6 +72,10 @@ fn named_alone(name: &[u8]) -> Option<Event>
         Some(Event::Take)
     } else if name == b"start".as_slice() {
         Some(Event::StartPoll)
+    } else if name == b"bar".as_slice() {
+        Some(Event::BarBegin)
+    } else if name == b"bartest".as_slice() {
+        Some(Event::BarTest)
     } else {
         None
     }
@@ -103,6 +110,23 @@ fn named_with_cpu(name: &[u8], cpu: u32) -> Option<Event>
         Some(Event::Online(cpu))
     } else if name == b"offline".as_slice() {
         Some(Event::Offline(cpu))
+    } else if name == b"tend".as_slice() {
+        Some(Event::Tend(cpu))
+    } else if name == b"visit".as_slice() {
+        Some(Event::Visit(cpu))
+    } else {
+        None
+    }
+}
+
+/// The event of a name that stands before a processor and a number.
+fn named_with_numbers(name: &[u8], first: u64, second: u64) -> Option<Event>
+    ensures { result ≡ event_with_numbers name.now first second }
+{
+    if name == b"queue".as_slice() {
+        Some(Event::Queue(cpu(first), second))
+    } else if name == b"run".as_slice() {
+        Some(Event::Run(cpu(first), second))
     } else {
         None
     }

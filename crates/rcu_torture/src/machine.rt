@@ -21,7 +21,7 @@ pub trait Machine {
             → IsLegalReply size (situation h) event result × fits size (after h event result) self.new };
 }
 
-impl<A: Awaited> Machine for Core<A> {
+impl<A: Awaited> Machine for Core<A, u64> {
     ghost fits = { λ size h core. (size_at core ≡ size) × Has core h };
 
     fn step(&mut self, event: Event) -> Reply {

@@ -18,8 +18,8 @@ pub fn open<const LEAF: u32, const INNER: u32>(
     alloc: Global,
     cpus: u32,
     last: u64,
-) -> Result<Core<Tree<LEAF, INNER>>, Fault>
-    ensures ok { IfOk result (λ machine. (machine_fault LEAF INNER cpus last ≡ None) × ⟦<Core<Tree<LEAF, INNER>> as Machine>⟧.fits (record { cpus = cpus; last = last }) [] machine) }
+) -> Result<Core<Tree<LEAF, INNER>, u64>, Fault>
+    ensures ok { IfOk result (λ machine. (machine_fault LEAF INNER cpus last ≡ None) × ⟦<Core<Tree<LEAF, INNER>, u64> as Machine>⟧.fits (record { cpus = cpus; last = last }) [] machine) }
     ensures err { IfErr result (λ fault. (machine_fault LEAF INNER cpus last ≡ Some fault) ⊎ ((machine_fault LEAF INNER cpus last ≡ None) × (fault ≡ Fault.NoMemory))) }
 {
     let _shape = Geometry::<LEAF, INNER>::new(cpus)?;

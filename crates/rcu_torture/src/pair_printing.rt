@@ -82,7 +82,7 @@ fn put_members<A: Awaited, W: Sink>(
 {
     for cpu in 0..awaited.cpus() {
         if awaited.awaits(cpu) {
-            put_spaced(outbox, writer, cpu)?;
+            put_spaced(outbox, writer, u64::from(cpu))?;
         }
     }
     Ok(())

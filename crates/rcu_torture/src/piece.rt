@@ -7,6 +7,7 @@ use crate::failed::Failed;
 use crate::outbox::Outbox;
 use crate::sink::Sink;
 use itoa::Buffer;
+use rcu_core::value_list::ValueList;
 
 /// A part of a reply.
 #[derive(Clone, Copy)]
@@ -17,6 +18,8 @@ pub enum Piece<'a> {
     Number(u64),
     /// The numbers, each behind a space.
     Numbers(&'a [u32]),
+    /// The values, each behind a space.
+    Values(&'a ValueList),
 }
 
 /// Prints pieces, one after another.
@@ -41,6 +44,7 @@ fn put_piece<W: Sink>(outbox: &mut Outbox, writer: &mut W, piece: Piece<'_>) -> 
         Piece::Text(text) => outbox.put(writer, text),
         Piece::Number(n) => put_number(outbox, writer, n),
         Piece::Numbers(numbers) => put_numbers(outbox, writer, numbers),
+        Piece::Values(values) => put_values(outbox, writer, values),
     }
 }
 
@@ -57,15 +61,29 @@ fn put_numbers<W: Sink>(outbox: &mut Outbox, writer: &mut W, numbers: &[u32]) ->
     ensures { Puts result (out_of (W.taken writer.old) (W.failed writer.old) outbox.old) (out_of (W.taken writer.new) (W.failed writer.new) outbox.new) (flat_map spaced numbers.now) }
 {
     for n in numbers {
-        put_spaced(outbox, writer, *n)?;
+        put_spaced(outbox, writer, u64::from(*n))?;
+    }
+    Ok(())
+}
+
+/// Prints values, each behind a space.
+fn put_values<W: Sink>(
+    outbox: &mut Outbox,
+    writer: &mut W,
+    values: &ValueList,
+) -> Result<(), Failed>
+    ensures { Puts result (out_of (W.taken writer.old) (W.failed writer.old) outbox.old) (out_of (W.taken writer.new) (W.failed writer.new) outbox.new) (flat_map spaced values.now) }
+{
+    for place in 0..values.len() {
+        put_spaced(outbox, writer, values.value(place))?;
     }
     Ok(())
 }
 
 /// Prints a space and a number.
-pub fn put_spaced<W: Sink>(outbox: &mut Outbox, writer: &mut W, n: u32) -> Result<(), Failed>
+pub fn put_spaced<W: Sink>(outbox: &mut Outbox, writer: &mut W, n: u64) -> Result<(), Failed>
     ensures { Puts result (out_of (W.taken writer.old) (W.failed writer.old) outbox.old) (out_of (W.taken writer.new) (W.failed writer.new) outbox.new) (spaced n) }
 {
     outbox.put(writer, b" ")?;
-    put_number(outbox, writer, u64::from(n))
+    put_number(outbox, writer, n)
 }

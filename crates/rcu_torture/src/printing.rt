@@ -1,13 +1,15 @@
 //! Replies as text.
 ghost use Rattle.std.specs.Prelude.{◌≡◌};
 ghost use Rattle.rcu_torture.specs.Outgoing.{Puts, out_of};
-ghost use Rattle.rcu_torture.specs.Printed.{answer_text, awaits_text, begun_text, made_text, noted_text, numbered_text, polled_text, text_of};
+ghost use Rattle.rcu_torture.specs.Printed.{answer_text, awaits_text, begun_text, made_text, noted_text, numbered_text, polled_text, ran_text, tended_text, text_of, visited_text};
 
 use crate::failed::Failed;
 use crate::outbox::Outbox;
 use crate::piece::{Piece, put_pieces};
 use crate::sink::Sink;
+use rcu_barrier::visit::Visit;
 use rcu_core::reply::Reply;
+use rcu_core::value_list::ValueList;
 use rcu_node::answer::Answer;
 use rcu_report::report::Report;
 
@@ -31,6 +33,13 @@ pub fn put_reply<W: Sink>(outbox: &mut Outbox, writer: &mut W, reply: &Reply) ->
         Reply::Awaits(cpus) => put_awaits(outbox, writer, cpus.as_slice()),
         Reply::Cookie(cookie) => put_numbered(outbox, writer, b"cookie ", cookie.0),
         Reply::Polled(done) => outbox.put(writer, polled_line(*done)),
+        Reply::Queued(n) => put_numbered(outbox, writer, b"queued ", *n),
+        Reply::Tended(done, waiting) => put_tended(outbox, writer, *done, *waiting),
+        Reply::Ran(values) => put_ran(outbox, writer, values),
+        Reply::BarBegun => outbox.put(writer, b"barrier begun\n"),
+        Reply::Visited(visit) => outbox.put(writer, visited_line(*visit)),
+        Reply::BarDone => outbox.put(writer, b"barrier done\n"),
+        Reply::BarWaits(n) => put_numbered(outbox, writer, b"barrier waits ", *n),
         Reply::Fault(fault) => put_numbered(outbox, writer, b"fault ", u64::from(fault.number())),
     }
 }
@@ -136,5 +145,47 @@ fn put_awaits<W: Sink>(outbox: &mut Outbox, writer: &mut W, cpus: &[u32]) -> Res
             ];
             put_pieces(outbox, writer, &pieces)
         }
+    }
+}
+
+fn put_tended<W: Sink>(
+    outbox: &mut Outbox,
+    writer: &mut W,
+    done: u64,
+    waiting: u64,
+) -> Result<(), Failed>
+    ensures { Puts result (out_of (W.taken writer.old) (W.failed writer.old) outbox.old) (out_of (W.taken writer.new) (W.failed writer.new) outbox.new) (tended_text done waiting) }
+{
+    let pieces = [
+        Piece::Text(b"tended "),
+        Piece::Number(done),
+        Piece::Text(b" "),
+        Piece::Number(waiting),
+        Piece::Text(b"\n"),
+    ];
+    put_pieces(outbox, writer, &pieces)
+}
+
+fn put_ran<W: Sink>(outbox: &mut Outbox, writer: &mut W, values: &ValueList) -> Result<(), Failed>
+    ensures { Puts result (out_of (W.taken writer.old) (W.failed writer.old) outbox.old) (out_of (W.taken writer.new) (W.failed writer.new) outbox.new) (ran_text values.now) }
+{
+    if values.is_empty() {
+        return outbox.put(writer, b"ran none\n");
+    }
+    let pieces = [
+        Piece::Text(b"ran"),
+        Piece::Values(values),
+        Piece::Text(b"\n"),
+    ];
+    put_pieces(outbox, writer, &pieces)
+}
+
+fn visited_line(visit: Visit) -> &'static [u8]
+    ensures { result.now ≡ visited_text visit }
+{
+    match visit {
+        Visit::Marked => b"marked\n",
+        Visit::Empty => b"empty\n",
+        Visit::Already => b"already\n",
     }
 }

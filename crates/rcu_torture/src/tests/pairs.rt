@@ -4,20 +4,16 @@ use crate::marked::Marked;
 use crate::pair::run_pair;
 use crate::run_fault::RunFault;
 use crate::setup::Setup;
-use crate::tests::trial::gives;
+use crate::tests::trial::{FAR, gives};
 use rcu_seq::fault::Fault;
 use std::alloc::Global;
 
-/// The last number where a row names none.
-const FAR: u64 = 1 << 62;
-
-/// The pairs of fanouts that the program offers.
-static OFFERED: [(u32, u32); 5] = [(2, 2), (2, 3), (4, 4), (16, 64), (64, 64)];
-
-static MERGING: &[u8] =
+/// The lines of a row.
+pub static MERGING: &[u8] =
     b"a begin 0 1 2 3 4\nb begin 0 1 2 3 4\na report 0 1\na report 2 1\nb report 4 1\nb report 2 1\nsame\na merge\nb merge\nsame\na awaits\na merge\n";
 
-static MERGING_REPLIES: &[u8] =
+/// The replies to them.
+pub static MERGING_REPLIES: &[u8] =
     b"begun 1 awaits 5\nbegun 1 awaits 5\ntaken\ntaken\ntaken\ntaken\ndiffer\nmerged 2\nmerged 2\nsame\nawaits 1 3\nmerged 2\n";
 
 /// A setup of two pairs of fanouts.
@@ -65,18 +61,6 @@ fn replicas_with_departures(rt: HostRuntime) {
         b"begun 1 awaits 3\nbegun 1 awaits 3\ntaken\nrepeat\nstale\ndeparted\ndeparted\ntaken\nrepeat\nsame\nlast\nended 4\nmerged 0\nended 4\nstale\n";
     let run = || pair_replies(alloc, &two((2, 3), (64, 64), 3, FAR), lines);
     assert!(rt; gives(&rt, run, text));
-}
-
-/// All combinations of the offered pairs of fanouts are accepted, and give the same bytes.
-#[test]
-fn every_combination_gives_the_same_bytes(rt: HostRuntime) {
-    let alloc = rt.alloc();
-    for first in OFFERED {
-        for second in OFFERED {
-            let run = || pair_replies(alloc, &two(first, second, 5, FAR), MERGING);
-            assert!(rt; gives(&rt, run, MERGING_REPLIES));
-        }
-    }
 }
 
 /// Two fresh replicas are alike, an ended one and a fresh one are not, and one that ran on takes in an ended one.

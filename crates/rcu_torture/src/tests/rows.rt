@@ -3,27 +3,11 @@
 use crate::marked::Marked;
 use crate::run_fault::RunFault;
 use crate::script::run_script;
-use crate::tests::trial::{gives, is_text, replies, setup, wants_memory};
+use crate::tests::trial::{
+    FAR, ONE_PERIOD, ONE_PERIOD_REPLIES, answers, is_text, replies, setup, wants_memory,
+};
 use rcu_seq::fault::Fault;
 use std::alloc::Global;
-
-/// The last number where a row names none.
-const FAR: u64 = 1 << 62;
-
-const ONE_PERIOD: &[u8] = b"begin\nnote 0\nquiet 0\ndeliver 1\nend\n";
-
-const ONE_PERIOD_REPLIES: &[u8] =
-    b"begun 1 awaits 1\nnoted 1 needed\nreport 1 cpu 0 tag 1\nlast\nended 4\n";
-
-/// Whether a script over the pair (2, 2) gives the text.
-fn answers(rt: &HostRuntime, cpus: u32, last: u64, script: &[u8], text: &[u8]) -> bool {
-    let alloc = rt.alloc();
-    gives(
-        rt,
-        || replies(alloc, &setup((2, 2), cpus, last), script),
-        text,
-    )
-}
 
 #[test]
 fn one_grace_period(rt: HostRuntime) {
@@ -120,30 +104,13 @@ fn stale_report_after_end(rt: HostRuntime) {
 }
 
 #[test]
-fn five_shapes_same_bytes(rt: HostRuntime) {
-    let alloc = rt.alloc();
-    let script = b"online 3\nonline 4\nbegin\nnote 4\nquiet 4\ndeliver 1\nawaits\n";
-    let text =
-        b"online\nonline\nbegun 1 awaits 3\nnoted 1 needed\nreport 1 cpu 4 tag 1\ntaken\nawaits 0 3\n";
-    // A test may be refused one growth.
-    let mut refused = 0u32;
-    for pair in [(2, 2), (2, 3), (4, 4), (16, 64), (64, 64)] {
-        let run = replies(alloc, &setup(pair, 5, FAR), script);
-        if wants_memory(&run) {
-            refused = refused.saturating_add(1);
-        } else {
-            assert!(rt; is_text(&run, text));
-        }
-    }
-    assert!(rt; refused <= 1);
+fn unended_input(rt: HostRuntime) {
+    assert!(rt; answers(&rt, 1, FAR, b"begin", b"begun 1 awaits 1\n"));
 }
 
 #[test]
-fn empty_and_unended_input(rt: HostRuntime) {
-    let alloc = rt.alloc();
-    assert!(rt; answers(&rt, 1, FAR, b"begin", b"begun 1 awaits 1\n"));
-    let empty = replies(alloc, &setup((2, 2), 1, FAR), b"");
-    assert!(rt; wants_memory(&empty) || is_text(&empty, b""));
+fn empty_input(rt: HostRuntime) {
+    assert!(rt; answers(&rt, 1, FAR, b"", b""));
 }
 
 #[test]
@@ -172,10 +139,14 @@ fn refused_lines(rt: HostRuntime) {
     let text =
         b"fault 21\nfault 21\nfault 1\nfault 12\nfault 3\nfault 5\nfault 7\nfault 21\nnothing\n";
     assert!(rt; answers(&rt, 1, FAR, script, text));
+}
+
+#[test]
+fn line_of_81_bytes(rt: HostRuntime) {
     assert!(rt; answers(&rt, 1, FAR, &[b' '; 81], b"fault 21\n"));
 }
 
-/// Each fault that a line can have, in the order of its tests, and each way to be outside the grammar.
+/// Faults of lines, in the order of their tests, and the ways to be outside the grammar.
 #[test]
 fn faults_in_their_order(rt: HostRuntime) {
     let script =
@@ -183,6 +154,11 @@ fn faults_in_their_order(rt: HostRuntime) {
     let text =
         b"fault 21\nfault 1\nfault 2\nfault 2\nfault 3\nfault 7\nfault 9\nbegun 1 awaits 1\nfault 8\nfault 10\nfault 1\nfault 21\nfault 21\nfault 21\nfault 21\nnoted 1 needed\nfault 21\nawaits 0\n";
     assert!(rt; answers(&rt, 2, FAR, script, text));
+}
+
+/// The faults of a processor that is offline, and of one in a read section.
+#[test]
+fn faults_of_processors_in_their_order(rt: HostRuntime) {
     let script =
         b"enter 1\nexit 1\noffline 2\noffline 1\nonline 1\nenter 1\nquiet 1\noffline 1\nonline 1\nexit 1\noffline 1\nquiet 1\ntake 1\npoll\nturn 0\n";
     let text =
@@ -213,33 +189,6 @@ fn refused_openings(rt: HostRuntime) {
     ] {
         assert_eq!(rt; opening_fault(rt.alloc(), pair, cpus, last), Some(wanted));
     }
-}
-
-/// Each pair opens with as many processors as four levels of its own tree hold, up to 4,096, and with no more.
-#[test]
-fn every_offered_pair_opens_by_its_own_shape(rt: HostRuntime) {
-    // A test may be refused one growth.
-    let mut refused = 0u32;
-    for (pair, most) in [
-        ((2, 2), 16),
-        ((2, 3), 54),
-        ((4, 4), 256),
-        ((16, 64), 4096),
-        ((64, 64), 4096),
-    ] {
-        match opening_fault(rt.alloc(), pair, most, FAR) {
-            None => {}
-            Some(fault) => {
-                assert_eq!(rt; fault, Fault::NoMemory);
-                refused = refused.saturating_add(1);
-            }
-        }
-        assert_eq!(rt;
-            opening_fault(rt.alloc(), pair, most + 1, FAR),
-            Some(Fault::TooManyCpus)
-        );
-    }
-    assert!(rt; refused <= 1);
 }
 
 /// The rows do not pass on a body that always answers want of memory, at its opening or at each line that may.

@@ -1,5 +1,6 @@
 //! A plain slow program for the rules of the engine: for each event it looks back over all that happened.
 
+use crate::tests::slow_lists::gathered;
 use arrayvec::ArrayString;
 use rcu_core::event::Event;
 use std::fmt;
@@ -35,17 +36,6 @@ fn number(past: &[Event]) -> u64 {
 fn snapshot(past: &[Event]) -> u64 {
     let more = if is_running(past) { 2 } else { 1 };
     ends(past).saturating_add(more).saturating_mul(4)
-}
-
-/// The greatest number that a started poll asked for, 0 before any.
-fn needed(past: &[Event]) -> u64 {
-    let mut greatest = 0u64;
-    for (i, event) in past.iter().enumerate() {
-        if *event == Event::StartPoll {
-            greatest = greatest.max(snapshot(past.split_at(i).0));
-        }
-    }
-    greatest
 }
 
 fn is_online(past: &[Event], cpu: u32) -> bool {
@@ -131,7 +121,7 @@ fn awaited(cpus: u32, past: &[Event]) -> u32 {
 
 /// Whether a later number is needed while no grace period runs.
 fn wants_begin(past: &[Event]) -> bool {
-    !is_running(past) && needed(past) > number(past)
+    !is_running(past) && gathered(past).needed > number(past)
 }
 
 /// Whether the event has something to store.
@@ -139,6 +129,13 @@ pub fn stores(cpus: u32, past: &[Event], event: Event) -> bool {
     match event {
         Event::Quiesce(_) => true,
         Event::Awaits => awaited(cpus, past) > 0,
+        Event::Offline(cpu) => !gathered(past).is_empty(cpu),
+        Event::Queue(_, _) => true,
+        Event::Run(cpu, most) => !gathered(past).run(cpu, most).is_empty(),
+        Event::Visit(cpu) => {
+            let lists = gathered(past);
+            lists.is_owed(cpu) && !lists.is_empty(cpu)
+        }
         _ => false,
     }
 }
@@ -151,7 +148,11 @@ fn named(event: Event) -> Option<u32> {
         | Event::Note(cpu)
         | Event::Quiesce(cpu)
         | Event::Online(cpu)
-        | Event::Offline(cpu) => Some(cpu),
+        | Event::Offline(cpu)
+        | Event::Queue(cpu, _)
+        | Event::Tend(cpu)
+        | Event::Run(cpu, _)
+        | Event::Visit(cpu) => Some(cpu),
         _ => None,
     }
 }
@@ -163,7 +164,11 @@ pub fn fault(cpus: u32, last: u64, past: &[Event], event: Event) -> u32 {
     }
     match event {
         Event::Offline(0) => 12,
-        Event::Enter(cpu) | Event::Note(cpu) | Event::Quiesce(cpu) | Event::Offline(cpu)
+        Event::Enter(cpu)
+        | Event::Note(cpu)
+        | Event::Quiesce(cpu)
+        | Event::Offline(cpu)
+        | Event::Queue(cpu, _)
             if !is_online(past, cpu) => { 2 }
         Event::Online(cpu) if is_online(past, cpu) => 3,
         Event::Quiesce(cpu) | Event::Offline(cpu) if depth(past, cpu) > 0 => 4,
@@ -175,16 +180,19 @@ pub fn fault(cpus: u32, last: u64, past: &[Event], event: Event) -> u32 {
         Event::End if !is_running(past) => 9,
         Event::End if awaited(cpus, past) > 0 => 10,
         Event::Turn if wants_begin(past) && number(past) == last => 11,
+        Event::BarBegin if gathered(past).is_barrier_running => 13,
+        Event::Visit(_) | Event::BarTest if !gathered(past).is_barrier_running => 14,
         _ => 0,
     }
 }
 
-/// What an accepted event comes to: a turn may be a begin or an end.
-pub fn meant(cpus: u32, past: &[Event], event: Event) -> Event {
+/// What an accepted event comes to: a turn may be a begin or an end, and a test that finds the barrier waiting is nothing.
+pub fn meant(cpus: u32, past: &[Event], event: Event) -> Option<Event> {
     match event {
-        Event::Turn if wants_begin(past) => Event::Begin,
-        Event::Turn if is_running(past) && awaited(cpus, past) == 0 => Event::End,
-        _ => event,
+        Event::Turn if wants_begin(past) => Some(Event::Begin),
+        Event::Turn if is_running(past) && awaited(cpus, past) == 0 => Some(Event::End),
+        Event::BarTest if gathered(past).waits_for(cpus) > 0 => None,
+        _ => Some(event),
     }
 }
 
@@ -228,6 +236,51 @@ fn write_polled(text: &mut ArrayString<80>, past: &[Event], cookie: u64) -> fmt:
     }
 }
 
+fn write_run(text: &mut ArrayString<80>, past: &[Event], cpu: u32, most: u64) -> fmt::Result {
+    let values = gathered(past).run(cpu, most);
+    text.write_str("ran")?;
+    for value in values.as_slice() {
+        write!(text, " {value}")?;
+    }
+    if values.is_empty() {
+        text.write_str(" none")
+    } else {
+        Ok(())
+    }
+}
+
+/// Writes what a visit does.
+fn write_visit(text: &mut ArrayString<80>, past: &[Event], cpu: u32) -> fmt::Result {
+    let lists = gathered(past);
+    text.write_str(if !lists.is_owed(cpu) {
+        "already"
+    } else if lists.is_empty(cpu) {
+        "empty"
+    } else {
+        "marked"
+    })
+}
+
+/// Writes whether the barrier is over.
+fn write_tested(text: &mut ArrayString<80>, cpus: u32, past: &[Event]) -> fmt::Result {
+    match gathered(past).waits_for(cpus) {
+        0 => text.write_str("barrier done"),
+        waits => write!(text, "barrier waits {waits}"),
+    }
+}
+
+/// Writes how many callbacks are done, and how many wait.
+fn write_counts(text: &mut ArrayString<80>, now: &[Event], cpu: u32) -> fmt::Result {
+    let (done, waiting) = gathered(now).counts(cpu);
+    write!(text, "tended {done} {waiting}")
+}
+
+/// Writes how many callbacks move away from a processor.
+fn write_moved(text: &mut ArrayString<80>, past: &[Event], cpu: u32) -> fmt::Result {
+    let (done, waiting) = gathered(past).counts(cpu);
+    write!(text, "offline moved {}", done.saturating_add(waiting))
+}
+
 /// Writes the reply to an event that has no fault. The history goes on from `past` to `now`.
 pub fn write_reply(
     text: &mut ArrayString<80>,
@@ -246,7 +299,7 @@ pub fn write_reply(
         }
         Event::Deliver(place) => write_answer(text, cpus, past, place),
         Event::Online(_) => text.write_str("online"),
-        Event::Offline(_) => text.write_str("offline moved 0"),
+        Event::Offline(cpu) => write_moved(text, past, cpu),
         Event::Begin => write!(text, "begun {} awaits {}", number(now), awaited(cpus, now)),
         Event::End => write!(text, "ended {}", number(now)),
         Event::Turn if is_running(now) => write!(text, "waiting {}", awaited(cpus, now)),
@@ -254,5 +307,14 @@ pub fn write_reply(
         Event::Awaits => write_awaited(text, cpus, past),
         Event::Take | Event::StartPoll => write!(text, "cookie {}", snapshot(past)),
         Event::Poll(cookie) => write_polled(text, past, cookie),
+        Event::Queue(_, _) => {
+            let queued = count(now, |event| matches!(event, Event::Queue(_, _)));
+            write!(text, "queued {queued}")
+        }
+        Event::Tend(cpu) => write_counts(text, now, cpu),
+        Event::Run(cpu, most) => write_run(text, past, cpu, most),
+        Event::BarBegin => text.write_str("barrier begun"),
+        Event::Visit(cpu) => write_visit(text, past, cpu),
+        Event::BarTest => write_tested(text, cpus, past),
     }
 }

@@ -19,24 +19,28 @@ fn draw(state: &mut u64) -> u32 {
     (*state >> 33) as u32
 }
 
-/// What leads an event on: from a note to a quiescent state, and from that to the delivery of the report.
+/// What leads an event on: from a note to a quiescent state, and from that to the delivery of the report; from a queued
+/// callback to a tend; and from a visit to that of the processor below, and at last to a test of the barrier.
 fn next_of(event: Event, made: u64) -> Option<Event> {
     match event {
         Event::Note(cpu) => Some(Event::Quiesce(cpu)),
         Event::Quiesce(_) => Some(Event::Deliver(made)),
+        Event::Queue(cpu, _) => Some(Event::Tend(cpu)),
+        Event::Visit(0) => Some(Event::BarTest),
+        Event::Visit(cpu) => Some(Event::Visit(cpu - 1)),
         _ => None,
     }
 }
 
 /// An event of a processor, which at times is none, of a report up to one that was not made, or of a cookie below 40.
 fn event_of(word: u32, cpus: u32, made: u64) -> Event {
-    let rest = word / 32;
+    let rest = word / 64;
     let cpu = if rest % 16 == 0 {
         cpus
     } else {
         rest % cpus.max(1)
     };
-    match word % 32 {
+    match word % 64 {
         0 | 1 => Event::Begin,
         2 | 3 => Event::End,
         4 | 5 => Event::Turn,
@@ -50,7 +54,17 @@ fn event_of(word: u32, cpus: u32, made: u64) -> Event {
         17 | 18 => Event::Poll(u64::from(rest % 40)),
         19..=26 => Event::Note(cpu),
         27 | 28 => Event::Quiesce(cpu),
-        _ => Event::Deliver(u64::from(rest) % made.saturating_add(2)),
+        29..=31 => Event::Deliver(u64::from(rest) % made.saturating_add(2)),
+        32..=34 => Event::Queue(cpu, u64::from(rest % 1000)),
+        35..=39 => Event::Tend(cpu),
+        40..=44 => Event::Run(cpu, u64::from(rest % 8)),
+        45 => Event::BarBegin,
+        46 | 47 => Event::Visit(cpu),
+        48 | 49 => Event::BarTest,
+        50 | 51 => Event::Online(cpu),
+        52 | 53 => Event::Offline(cpu),
+        54..=56 => Event::Turn,
+        _ => Event::Note(cpu),
     }
 }
 
@@ -63,7 +77,7 @@ fn draw_events(alloc: Global, cpus: u32, last: u64, seed: u64) -> Result<Vec<Eve
     for _ in 0..LENGTH {
         let word = draw(&mut state);
         let event = match events.last().and_then(|event| next_of(*event, made)) {
-            Some(event) if word / 32 % 4 != 0 => event,
+            Some(event) if word / 64 % 4 != 0 => event,
             _ => event_of(word, cpus, made),
         };
         events.push(event)?;
@@ -71,7 +85,9 @@ fn draw_events(alloc: Global, cpus: u32, last: u64, seed: u64) -> Result<Vec<Eve
             if let Event::Quiesce(_) = event {
                 made = made.saturating_add(1);
             }
-            past.push(meant(cpus, past.as_slice(), event))?;
+            if let Some(event) = meant(cpus, past.as_slice(), event) {
+                past.push(event)?;
+            }
         }
     }
     Ok(events)
@@ -93,6 +109,12 @@ fn write_line(text: &mut ArrayString<80>, event: Event) -> fmt::Result {
         Event::Take => text.write_str("take\n"),
         Event::StartPoll => text.write_str("start\n"),
         Event::Poll(cookie) => writeln!(text, "poll {cookie}"),
+        Event::Queue(cpu, value) => writeln!(text, "queue {cpu} {value}"),
+        Event::Tend(cpu) => writeln!(text, "tend {cpu}"),
+        Event::Run(cpu, most) => writeln!(text, "run {cpu} {most}"),
+        Event::BarBegin => text.write_str("bar\n"),
+        Event::Visit(cpu) => writeln!(text, "visit {cpu}"),
+        Event::BarTest => text.write_str("bartest\n"),
     }
 }
 
@@ -113,11 +135,14 @@ fn is_reply(
     if line == b"fault 16".as_slice() {
         return Ok(stores(cpus, past.as_slice(), event));
     }
-    let event = meant(cpus, past.as_slice(), event);
     let before = past.len();
-    past.push(event)?;
+    let mut said = event;
+    if let Some(event) = meant(cpus, past.as_slice(), event) {
+        past.push(event)?;
+        said = event;
+    }
     let now = past.as_slice();
-    let written = write_reply(&mut wanted, cpus, now.split_at(before).0, now, event);
+    let written = write_reply(&mut wanted, cpus, now.split_at(before).0, now, said);
     Ok(written.is_ok() && wanted.as_bytes() == line)
 }
 
@@ -149,17 +174,18 @@ fn agrees(rt: &HostRuntime, cpus: u32, last: u64, seed: u64) -> Result<bool, All
     Ok(lines.next() == Some(b"".as_slice()) && lines.next().is_none())
 }
 
+/// The seeds are such that callbacks of each kind of mark move, barriers end, and runs pass markers.
 #[test]
 fn every_reply_is_what_the_slow_program_says(rt: HostRuntime) {
     for (cpus, last, seed) in [
         (1, 4, 1),
-        (1, 400, 2),
-        (2, 8, 3),
-        (2, 400, 4),
-        (3, 12, 5),
-        (3, 400, 6),
-        (3, 400, 7),
-        (4, 400, 8),
+        (1, 400, 7),
+        (2, 8, 162),
+        (2, 400, 67),
+        (2, 400, 91),
+        (3, 12, 164),
+        (3, 400, 159),
+        (4, 400, 91),
     ] {
         if let Ok(agreed) = agrees(&rt, cpus, last, seed) {
             assert!(rt; agreed, "{cpus} processors, last {last}, seed {seed}");

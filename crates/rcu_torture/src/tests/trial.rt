@@ -8,6 +8,26 @@ use rcu_seq::fault::Fault;
 use std::alloc::Global;
 use std::io::Print;
 
+/// The last number where a row names none.
+pub const FAR: u64 = 1 << 62;
+
+/// The lines of one whole grace period of processor 0.
+pub const ONE_PERIOD: &[u8] = b"begin\nnote 0\nquiet 0\ndeliver 1\nend\n";
+
+/// The replies to them.
+pub const ONE_PERIOD_REPLIES: &[u8] =
+    b"begun 1 awaits 1\nnoted 1 needed\nreport 1 cpu 0 tag 1\nlast\nended 4\n";
+
+/// Whether a script over the pair (2, 2) gives the text.
+pub fn answers(rt: &HostRuntime, cpus: u32, last: u64, script: &[u8], text: &[u8]) -> bool {
+    let alloc = rt.alloc();
+    gives(
+        rt,
+        || replies(alloc, &setup((2, 2), cpus, last), script),
+        text,
+    )
+}
+
 /// A setup of a pair of fanouts.
 pub fn setup(pair: (u32, u32), cpus: u32, last: u64) -> Setup {
     Setup {

@@ -68,3 +68,23 @@ fn lines(rt: HostRuntime) {
     );
     assert_eq!(rt; asked(b"poll"), Line::Malformed);
 }
+
+#[test]
+fn lines_of_lists(rt: HostRuntime) {
+    assert_eq!(rt; asked(b"queue 2 7"), Line::Ask(Event::Queue(2, 7)));
+    assert_eq!(rt; asked(b"run  2  7 "), Line::Ask(Event::Run(2, 7)));
+    assert_eq!(rt;
+        asked(b"queue 4294967296 18446744073709551615"),
+        Line::Ask(Event::Queue(u32::MAX, u64::MAX))
+    );
+    assert_eq!(rt; asked(b"run 1 2 3"), Line::Malformed);
+    assert_eq!(rt; asked(b"run 1"), Line::Malformed);
+    assert_eq!(rt; asked(b"queue 1 x"), Line::Malformed);
+    assert_eq!(rt; asked(b"queue x 1"), Line::Malformed);
+    assert_eq!(rt; asked(b"note 1 2"), Line::Malformed);
+    assert_eq!(rt; asked(b"tend 3"), Line::Ask(Event::Tend(3)));
+    assert_eq!(rt; asked(b"visit 3"), Line::Ask(Event::Visit(3)));
+    assert_eq!(rt; asked(b"bar"), Line::Ask(Event::BarBegin));
+    assert_eq!(rt; asked(b"bartest"), Line::Ask(Event::BarTest));
+    assert_eq!(rt; asked(b"bartest 0"), Line::Malformed);
+}

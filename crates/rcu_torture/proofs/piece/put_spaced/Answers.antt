@@ -10,4 +10,4 @@ returns-in_err-put g c =
     rw (p.1) (Stops-before _ _ (32 ∷ []) (decimal c.args.n) c.in_err-put.ensures)
 
 pub returns : goal.returns
-returns g c = puts_two _ _ _ _ (32 ∷ []) (decimal c.args.n) c.in_ok-put.ensures (rw c.from.ensures at c.put_number.ensures)
+returns g c = puts_two _ _ _ _ (32 ∷ []) (decimal c.args.n) c.in_ok-put.ensures c.put_number.ensures

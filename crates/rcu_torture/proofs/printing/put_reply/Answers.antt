@@ -2,3 +2,9 @@ use Rattle.rcu_torture.proofs.printing.put_reply.Goals as goal
 
 pub returns-in-Moved : goal.returns-in-Moved
 returns-in-Moved g c = rw c.in-Moved.is c.put_numbered-in-Moved.ensures
+
+pub returns-in-BarBegun : goal.returns-in-BarBegun
+returns-in-BarBegun g c = rw c.in-BarBegun.is c.put-in-BarBegun.ensures
+
+pub returns-in-BarDone : goal.returns-in-BarDone
+returns-in-BarDone g c = rw c.in-BarDone.is c.put-in-BarDone.ensures

@@ -1,6 +1,6 @@
 use Rattle.std.proofs.Common.{subst, ◌∙◌}
 use Rattle.rcu_core.specs.Replies.{Size, IsLegalReply, situation}
-use Rattle.rcu_torture.proofs.machine.CoreMachine.step.Goals as goal
+use Rattle.rcu_torture.proofs.machine.CoreU64Machine.step.Goals as goal
 
 pub returns : goal.returns
 returns g c = λ size h fit.
