@@ -69,11 +69,13 @@ fn bit(cpu: u32) -> u64 {
     if cpu < 64 { 1 << cpu } else { 0 }
 }
 
-/// How many items the done part has: the longest front without a callback that waits.
-fn front(list: &[What]) -> usize {
-    list.iter()
-        .position(|what| matches!(what, What::Call(_, Mark::Unmarked | Mark::Until(_))))
-        .unwrap_or(list.len())
+/// The done part, which is the longest front without a callback that waits, and what is behind it.
+fn parts(list: &[What]) -> (&[What], &[What]) {
+    let waits = |what: &What| matches!(what, What::Call(_, Mark::Unmarked | Mark::Until(_)));
+    match list.iter().position(waits) {
+        Some(i) if i < list.len() => list.split_at(i),
+        _ => list.split_at(list.len()),
+    }
 }
 
 /// How many of these are callbacks.
@@ -181,7 +183,7 @@ impl Lists {
     /// Moves a processor's list to processor 0's: its done part in front, the rest behind it without marks.
     fn move_away(&mut self, cpu: u32) {
         let list = self.list(cpu);
-        let (done, rest) = list.as_slice().split_at(front(list.as_slice()));
+        let (done, rest) = parts(list.as_slice());
         let mut moved = Items::new();
         for what in done {
             let _ = moved.try_push((0, *what));
@@ -226,7 +228,7 @@ impl Lists {
     pub fn run(&self, cpu: u32, most: u64) -> ArrayVec<u64, MOST> {
         let list = self.list(cpu);
         let mut values = ArrayVec::new();
-        for what in list.as_slice().split_at(front(list.as_slice())).0 {
+        for what in parts(list.as_slice()).0 {
             match what {
                 What::Call(value, _) if (values.len() as u64) < most => {
                     let _ = values.try_push(*value);
@@ -240,7 +242,7 @@ impl Lists {
     /// How many callbacks of the processor's list are done, and how many stand behind these.
     pub fn counts(&self, cpu: u32) -> (u64, u64) {
         let list = self.list(cpu);
-        let (done, rest) = list.as_slice().split_at(front(list.as_slice()));
+        let (done, rest) = parts(list.as_slice());
         (callbacks(done), callbacks(rest))
     }
 
