@@ -15,11 +15,13 @@ pub(crate) fn empty_lists<T: Drop>(alloc: Global, cpus: u32) -> Result<Vec<SegLi
     ensures ok { IfOk result (λ lists. lists.items ≡ replicate cpus []) }
     ensures err { IfErr result (λ fault. fault ≡ Fault.NoMemory) }
 {
-    let mut lists = Vec::new(alloc);
+    let Ok(mut lists) = Vec::with_capacity(alloc, cpus as usize) else {
+        return Err(Fault::NoMemory);
+    };
     for _ in 0..cpus {
-        let Ok(()) = lists.push(SegList::new(alloc)) else {
+        if lists.push(SegList::new(alloc)).is_err() {
             return Err(Fault::NoMemory);
-        };
+        }
     }
     Ok(lists)
 }
