@@ -6,7 +6,7 @@ use Rattle.std.proofs.lemmas.List.{length-set, take_more}
 use Rattle.rcu_seq.specs.Cookies.{snapshot_at}
 use Rattle.rcu_seq.specs.declared.fault.Fault.{Fault}
 use Rattle.rcu_cpu.specs.Calls.{Enter as Entering, Exit as Exiting, Note as Noting, Arrive as Arriving, Depart as Departing}
-use Rattle.rcu_core.specs.Grace.{Grace, at_first, awaited_in, begun, ended, number_in, wants_begin}
+use Rattle.rcu_core.specs.Grace.{at_first, awaited_in, begun, ended, number_in, wants_begin}
 use Rattle.rcu_core.specs.History.{History, latest, begins, running, number, online, noted, made, report_at, is_of, heard, awaits}
 use Rattle.rcu_core.specs.Replies.{Size, Situation, situation, fault_in, said, or_fault, IsLegalReply, after}
 use Rattle.rcu_core.specs.Runs.{Leads, Ran}

@@ -1,14 +1,14 @@
 -- What an event does to the lists and the barrier of a state follows what it does to those of a history.
-use Rattle.std.proofs.Common.{◌≡◌, ℕ, ◌+◌, ◌<◌, Bool, true, false, not, cond, ◌&&◌, ◌||◌, List, [], ◌∷◌, ◌++◌, length, None, refl, sym, ap, ap₂, subst, ◌∙◌, arith, eqb, get_or, slice_set}
-use Rattle.std.specs.Prelude.{◌==◌, nat_le}
+use Rattle.std.proofs.Common.{◌≡◌, ℕ, ◌+◌, ◌<◌, Bool, true, false, not, cond, ◌&&◌, ◌||◌, List, [], ◌∷◌, length, None, refl, sym, ap, ap₂, subst, ◌∙◌, arith, eqb, get_or, slice_set}
+use Rattle.std.specs.Prelude.{◌==◌}
 use Rattle.std.proofs.lemmas.Bool.Decides.{nat_tests}
 use Rattle.std.proofs.lemmas.List.{get_or_default, length-set}
 use Rattle.rcu_cblist.specs.Items.{Item, entrained, moved, numbers, untaken}
-use Rattle.rcu_barrier.specs.AllLists.{AllLists, is_owed as owed_to, is_visited, leaving, left_of, list_of, migrated, tended_on, visited_by, with_list}
+use Rattle.rcu_barrier.specs.AllLists.{AllLists, is_owed as owed_to, is_visited, leaving, left_of, list_of, migrated, tended_on, with_list}
 use Rattle.rcu_barrier.specs.Tending.{tended}
 use Rattle.rcu_core.specs.Callbacks.{barrier_runs, greatest_from, is_owed, list, visited}
-use Rattle.rcu_core.specs.Grace.{Grace, number_in, with_lists}
-use Rattle.rcu_core.specs.History.{History, number}
+use Rattle.rcu_core.specs.Grace.{number_in, with_lists}
+use Rattle.rcu_core.specs.History.{History}
 use Rattle.rcu_core.specs.Replies.{Situation, situation, fault_in, after, tested, waits_for}
 use Rattle.rcu_core.specs.State.{State, IsSound, Has, owes, size_at, next, left}
 use Rattle.rcu_core.specs.declared.event.Event.TheVariants.{Offline, Queue, Tend, Run, BarBegin, Visit, BarTest}

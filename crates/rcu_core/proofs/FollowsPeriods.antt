@@ -13,7 +13,6 @@ use Rattle.rcu_core.specs.History.{History, latest, begins, running, number, onl
 use Rattle.rcu_core.specs.Replies.{Situation, situation, fault_in, said, turned, begun as begun_said, ended as ended_said, wants_begin as wants_said, how_many, recorded, after}
 use Rattle.rcu_core.specs.State.{State, IsSound, Has, size_at, says, awaited_by, next, left}
 use Rattle.rcu_core.specs.declared.event.Event.TheVariants.{Begin, End, Turn}
-use Rattle.rcu_core.specs.declared.reply.Reply.{Reply}
 use Rattle.rcu_core.specs.declared.reply.Reply.TheVariants as reply
 use Rattle.rcu_core.proofs.Recorded.{turned_after}
 use Rattle.rcu_core.proofs.Kept.{turns, none_awaited}

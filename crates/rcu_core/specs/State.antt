@@ -5,7 +5,6 @@ use Rattle.rcu_report.specs.declared.report.Report.{Report}
 use Rattle.rcu_hotplug.specs.Calls.{Arrive as Arrives, Depart as Departs, cpus_of}
 use Rattle.rcu_cpu.specs.Calls.{Call, Enter as Entering, Exit as Exiting, Note as Noting, Arrive as Arriving, Depart as Departing, after as after_call}
 use Rattle.rcu_cpu.specs.Processors.{Processor, made as made_processor, report_of}
-use Rattle.rcu_cblist.specs.Items.{Item}
 use Rattle.rcu_barrier.specs.AllLists.{AllLists, cpus_of as cpus_of_lists, list_of}
 use Rattle.rcu_core.specs.Callbacks.{barrier_runs, is_owed, list, needed, queued}
 use Rattle.rcu_core.specs.Grace.{Grace, awaited_after, barrier_begun, barrier_tested, begun, ended, migrated, number_in, queued_to, run_of, started, tended_of, turned_to, visited_of, with_awaited, with_call}

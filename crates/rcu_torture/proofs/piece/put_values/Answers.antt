@@ -1,4 +1,4 @@
-use Rattle.std.proofs.Common.{ℕ, ◌<◌, length, arith}
+use Rattle.std.proofs.Common.{◌<◌, length, arith}
 use Rattle.std.proofs.lemmas.Result.{err_from_is_err_and}
 use Rattle.rcu_torture.specs.Printed.{spaced}
 use Rattle.rcu_torture.proofs.OutgoingLemmas.{item_sent, item_stops}

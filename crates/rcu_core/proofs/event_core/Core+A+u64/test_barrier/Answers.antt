@@ -1,4 +1,4 @@
-use Rattle.std.proofs.Common.{ℕ, ◌∙◌, refl, sym}
+use Rattle.std.proofs.Common.{◌∙◌, refl, sym}
 use Rattle.rcu_core.proofs.Steps.{along, does_refuse, does_test}
 use Rattle.rcu_core.proofs.event_core.Core+A+u64.test_barrier.Goals as goal
 use Rattle.rcu_core.proofs.event_core.Core+A+u64.test_barrier.Goals.{in-Ok-Done, in-Ok-Waits, in-Err}
