@@ -1,0 +1,10 @@
+pub mod CutLemmas
+pub mod LawLemmas
+pub mod LineLemmas
+pub mod NumberLemmas
+pub mod OutputLemmas
+pub mod PlaceLemmas
+pub mod RunLemmas
+pub mod StreamLemmas
+pub mod UnderwayLemmas
+pub mod WordLemmas

@@ -1,0 +1,60 @@
+-- What a run over the lines of a reader answers and leaves. Which texts answer which lines is a relation `IsText`
+-- throughout.
+use Rattle.std.specs.Prelude.{◌≡◌, ◌<◌, ◌^◌, ◌-◌, ◌++◌, ℕ, true, List, length, Option, Result, Ok, Err, IfSome}
+use Rattle.std.specs.Io.KnownBytes.{Appends, Consumes}
+use Rattle.rcu_text.specs.Lines.{cut_of, lines_of}
+use Rattle.rcu_text.specs.Streams.{Incoming, Outgoing}
+use Rattle.rcu_text.specs.declared.line_loop.StreamFault.{StreamFault}
+use Rattle.rcu_text.specs.declared.line_loop.StreamFault.TheVariants.{Read, Write}
+
+-- the two ends of a run
+pub record Ends : Type 0 where
+  pub reader : Incoming
+  pub writer : Outgoing
+
+-- the ends, of their parts
+abbrev pub ends_of : Incoming → Outgoing → Ends
+ends_of reader writer = record { reader = reader; writer = writer }
+
+-- an answer to the lines was written
+pub record Answered (IsText : List (List ℕ) → List ℕ → Type 0) (lines : List (List ℕ)) (old new : Option (List ℕ)) : Type 0 where
+  pub text : List ℕ
+  pub answer : IsText lines text
+  pub out : Appends old new text
+
+-- a beginning of an answer to a front of the lines was written
+pub record BrokenOff (IsText : List (List ℕ) → List ℕ → Type 0) (lines : List (List ℕ)) (old new : Option (List ℕ)) : Type 0 where
+  pub front : List (List ℕ)
+  pub later : List (List ℕ)
+  pub split : lines ≡ front ++ later
+  pub written : List ℕ
+  pub unwritten : List ℕ
+  pub answer : IsText front (written ++ unwritten)
+  pub out : Appends old new written
+
+-- all lines that were there to read are answered
+pub record Finished (IsText : List (List ℕ) → List ℕ → Type 0) (old new : Ends) : Type 0 where
+  pub answered : IfSome old.reader.remaining (λ bytes. Answered IsText (lines_of bytes) old.writer.taken new.writer.taken)
+  pub read_sound : new.reader.failed ≡ old.reader.failed
+  pub write_sound : new.writer.failed ≡ old.writer.failed
+
+-- a read failed, and the lines that were read whole are answered. Only after 2^64 - 1 bytes does a run stop so
+-- although no read failed
+pub record StoppedReading (IsText : List (List ℕ) → List ℕ → Type 0) (old new : Ends) : Type 0 where
+  pub bytes : List ℕ
+  pub read : Consumes old.reader.remaining new.reader.remaining bytes
+  pub answered : Answered IsText (cut_of bytes).ended old.writer.taken new.writer.taken
+  pub failed : IfSome old.reader.remaining (λ all. length all < 2 ^ 64 - 1 → new.reader.failed ≡ true)
+  pub write_sound : new.writer.failed ≡ old.writer.failed
+
+-- a write failed, in an answer to a front of the lines that were there to read
+pub record StoppedWriting (IsText : List (List ℕ) → List ℕ → Type 0) (old new : Ends) : Type 0 where
+  pub broken : IfSome old.reader.remaining (λ bytes. BrokenOff IsText (lines_of bytes) old.writer.taken new.writer.taken)
+  pub failed : new.writer.failed ≡ true
+  pub read_sound : new.reader.failed ≡ old.reader.failed
+
+-- how a run over the lines of a reader ends
+abbrev pub Ran : Result (Unit {0}) StreamFault → (List (List ℕ) → List ℕ → Type 0) → Ends → Ends → Type 0
+Ran (Ok x) IsText old new = Finished IsText old new
+Ran (Err Read) IsText old new = StoppedReading IsText old new
+Ran (Err Write) IsText old new = StoppedWriting IsText old new

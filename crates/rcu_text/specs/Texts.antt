@@ -1,0 +1,14 @@
+-- The texts of numbers.
+use Rattle.std.specs.Prelude.{ℕ, List, ◌∷◌, ◌++◌, codes, decimal}
+
+-- a space and the number
+abbrev pub spaced : ℕ → List ℕ
+spaced n = 32 ∷ decimal n
+
+-- a text with a number behind it
+abbrev pub numbered : List ℕ → ℕ → List ℕ
+numbered text n = text ++ decimal n
+
+-- a text with a number behind it, as a line
+abbrev pub numbered_text : List ℕ → ℕ → List ℕ
+numbered_text text n = text ++ (decimal n ++ codes "\n")

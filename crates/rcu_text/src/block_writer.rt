@@ -1,0 +1,111 @@
+//! The bytes that wait for a writer.
+ghost use Rattle.std.specs.Prelude.{◌≡◌, ◌≤◌, ◌∷◌, [], length, OnOk};
+ghost use Rattle.rcu_text.specs.Outputs.{Out, Puts, behind, waiting_for};
+ghost use Rattle.rcu_text.specs.Streams.{Writes};
+
+use crate::streams::{Failed, Sink};
+use arrayvec::ArrayVec;
+
+/// How many bytes wait at most: a page.
+pub const BLOCK: usize = 4096;
+
+/// What texts are put into. They wait in a block, so room is made first, and then a text is put
+/// without a refusal.
+pub trait Output {
+    /// What the writer took, what waits for it, and how many bytes more may wait.
+    ghost out: { Self → Out };
+
+    /// Makes room for so many bytes: writes those that wait where these would not fit behind them.
+    ///
+    /// Where the writer fails, it took a beginning of what waited.
+    fn make_room(&mut self, most: usize) -> Result<(), Failed>
+        requires { most ≤ 4096 }
+        ensures bytes { Puts result (out self.old) (out self.new) [] }
+        ensures room { OnOk result (most ≤ (out self.new).room) };
+
+    /// Puts a text behind what waits.
+    fn put_text(&mut self, text: &[u8])
+        requires { length text.now ≤ (out self.old).room }
+        ensures { out self.new ≡ behind (out self.old) text.now };
+
+    /// Puts a byte behind what waits.
+    fn put_byte(&mut self, byte: u8)
+        requires { 1 ≤ (out self.old).room }
+        ensures { out self.new ≡ behind (out self.old) (byte ∷ []) };
+
+    /// Writes what waits. At `Ok` nothing waits.
+    ///
+    /// Where the writer fails, it took a beginning of what waited.
+    fn flush(&mut self) -> Result<(), Failed>
+        ensures bytes { Puts result (out self.old) (out self.new) [] }
+        ensures empty { OnOk result ((out self.new).waiting ≡ []) };
+}
+
+/// A writer with the bytes that wait for it. It takes them a block at a time.
+#[derive(Drop)]
+pub struct BlockWriter<'a, W: Sink> {
+    sink: &'a mut W,
+    block: ArrayVec<u8, BLOCK>,
+}
+
+impl<'a, W: Sink> BlockWriter<'a, W> {
+    /// A writer for which no byte waits.
+    pub fn new(sink: &'a mut W) -> BlockWriter<'a, W>
+        ensures { ⟦<BlockWriter<'a, W> as Output>⟧.out result
+            ≡ waiting_for (W.outgoing sink.old) sink.entry.ghost_name 4096 }
+    {
+        BlockWriter {
+            sink,
+            block: ArrayVec::new(),
+        }
+    }
+}
+
+impl<'a, W: Sink> Output for BlockWriter<'a, W> {
+    ghost use Rattle.std.specs.Prelude.{◌-◌};
+
+    ghost out = { λ w. record {
+      writer = W.outgoing w.sink.now;
+      waiting = w.block.items;
+      room = 4096 - length w.block.items;
+      name = w.sink.ghost_name;
+    } };
+
+    fn make_room(&mut self, most: usize) -> Result<(), Failed> {
+        if self.block.remaining_capacity() < most {
+            return self.flush();
+        }
+        Ok(())
+    }
+
+    fn put_text(&mut self, text: &[u8]) {
+        let room = self.block.remaining_capacity();
+        prove!(text.len() <= room);
+        let fits = self.block.try_extend_from_slice(text).is_ok();
+        prove!(fits);
+    }
+
+    fn put_byte(&mut self, byte: u8) {
+        let room = self.block.remaining_capacity();
+        prove!(room > 0);
+        self.block.push(byte);
+    }
+
+    fn flush(&mut self) -> Result<(), Failed> {
+        write_all(self.sink, self.block.as_slice())?;
+        self.block.clear();
+        Ok(())
+    }
+}
+
+/// Writes all of the bytes.
+fn write_all<W: Sink>(sink: &mut W, bytes: &[u8]) -> Result<(), Failed>
+    ensures { Writes result (W.outgoing sink.old) (W.outgoing sink.new) bytes.now }
+{
+    let mut rest = bytes;
+    while !rest.is_empty() {
+        let taken = sink.write(rest)?;
+        rest = rest.split_at(taken).1;
+    }
+    Ok(())
+}

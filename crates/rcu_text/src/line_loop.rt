@@ -1,0 +1,177 @@
+//! The lines of a reader, cut and answered, from bytes to bytes.
+ghost use Rattle.std.specs.Prelude.{◌≡◌, ◌≢◌, ◌++◌, ◌∷◌, ℕ, List, [], All, IfNone, IfSome, OnOk};
+ghost use Rattle.rcu_text.specs.Lines.{kept_of, lines_of};
+ghost use Rattle.rcu_text.specs.Outputs.{Out, Puts};
+ghost use Rattle.rcu_text.specs.Runs.{Ran, ends_of};
+ghost use Rattle.rcu_text.specs.Underway.{GoesOn, OneMore, Replied, Stands, Underway};
+
+use crate::block_writer::{BLOCK, BlockWriter, Output};
+use crate::line_buffer::LineBuffer;
+use crate::streams::{Failed, Sink, Source};
+
+/// Replies to lines, one at a time.
+pub trait Responder {
+    /// Since it stood as the first, these lines were answered by this text, and it stands as the
+    /// second now.
+    ghost past: { Self → Self → List (List ℕ) → List ℕ → Type 0 };
+
+    /// Replies to a line, whose bytes behind the first 81 make no difference.
+    ///
+    /// Where the writer fails, it took a beginning of what waited and the reply.
+    fn reply_to<O: Output>(&mut self, line: &[u8], out: &mut O) -> Result<(), Failed>
+        ensures { Replied (λ opened. past opened self.old) (λ opened. past opened self.new) line.now
+            (Puts result (O.out out.old) (O.out out.new)) };
+}
+
+/// Why a run over lines stopped.
+#[derive(Clone, Copy, Debug, PartialEq, Eq)]
+pub enum StreamFault {
+    /// The reader failed.
+    Read,
+    /// The writer failed.
+    Write,
+}
+
+/// Answers all lines that the reader gives, in order.
+///
+/// Every reply of the lines that were read is written before the next read, so a run that a failed
+/// read stops has answered the lines that were read whole. Where a write failed, a beginning of the
+/// replies was written.
+pub fn run<A: Responder, R: Source, W: Sink>(
+    responder: &mut A,
+    reader: &mut R,
+    writer: &mut W,
+) -> Result<(), StreamFault>
+    ensures { A.past responder.old responder.old [] [] → Ran result (A.past responder.old responder.new)
+        (ends_of (R.incoming reader.old) (W.outgoing writer.old))
+        (ends_of (R.incoming reader.new) (W.outgoing writer.new)) }
+{
+    let mut out = BlockWriter::new(writer);
+    run_through(responder, reader, &mut out)
+}
+
+/// Answers all lines that the reader gives, through an output for which nothing waits.
+fn run_through<A: Responder, R: Source, O: Output>(
+    responder: &mut A,
+    reader: &mut R,
+    out: &mut O,
+) -> Result<(), StreamFault>
+    requires { (O.out out.old).waiting ≡ [] }
+    ensures ran { A.past responder.old responder.old [] [] → Ran result (A.past responder.old responder.new)
+        (ends_of (R.incoming reader.old) (O.out out.old).writer)
+        (ends_of (R.incoming reader.new) (O.out out.new).writer) }
+    ensures same { (O.out out.new).name ≡ (O.out out.old).name }
+{
+    let mut line = LineBuffer::new();
+    let mut block = [0; BLOCK];
+    // One turn reads at least a byte, so that these are turns enough.
+    for _turn in 0..u64::MAX {
+        let read = match reader.read(&mut block) {
+            Ok(read) => read,
+            Err(Failed) => return Err(StreamFault::Read),
+        };
+        if read == 0 {
+            return match finish(responder, &line, out) {
+                Ok(()) => Ok(()),
+                Err(Failed) => Err(StreamFault::Write),
+            };
+        }
+        let (piece, _) = block.split_at(read);
+        match take_piece(responder, &mut line, piece, out) {
+            Ok(()) => {}
+            Err(Failed) => return Err(StreamFault::Write),
+        }
+    }
+    Err(StreamFault::Read)
+}
+
+/// Answers a last line that has no end, and writes what waits.
+fn finish<A: Responder, O: Output>(
+    responder: &mut A,
+    line: &LineBuffer,
+    out: &mut O,
+) -> Result<(), Failed>
+    ensures goes { (opened : A) (start : Out) (bytes : List ℕ)
+        → Underway (A.past opened responder.old) start (O.out out.old) line.now bytes
+        → Stands (A.past opened responder.new) (lines_of bytes) (Puts result start (O.out out.new)) }
+    ensures empty { OnOk result ((O.out out.new).waiting ≡ []) }
+    ensures same { (O.out out.new).name ≡ (O.out out.old).name }
+{
+    if line.is_empty() {
+        return out.flush();
+    }
+    responder.reply_to(line.as_slice(), out)?;
+    out.flush()
+}
+
+/// Takes a piece of the input, and writes the replies to the lines that it ends.
+fn take_piece<A: Responder, O: Output>(
+    responder: &mut A,
+    line: &mut LineBuffer,
+    piece: &[u8],
+    out: &mut O,
+) -> Result<(), Failed>
+    ensures goes { (opened : A) (start : Out) (bytes : List ℕ)
+        → Underway (A.past opened responder.old) start (O.out out.old) line.old bytes
+        → GoesOn result (A.past opened responder.new) start (O.out out.new) line.new (bytes ++ piece.now) }
+    ensures empty { OnOk result ((O.out out.new).waiting ≡ []) }
+    ensures same { (O.out out.new).name ≡ (O.out out.old).name }
+{
+    take_lines(responder, line, piece, out)?;
+    out.flush()
+}
+
+/// Takes a piece of the input: answers the lines that it ends, and keeps the rest in hand.
+fn take_lines<A: Responder, O: Output>(
+    responder: &mut A,
+    line: &mut LineBuffer,
+    piece: &[u8],
+    out: &mut O,
+) -> Result<(), Failed>
+    ensures goes { (opened : A) (start : Out) (bytes : List ℕ)
+        → Underway (A.past opened responder.old) start (O.out out.old) line.old bytes
+        → GoesOn result (A.past opened responder.new) start (O.out out.new) line.new (bytes ++ piece.now) }
+    ensures same { (O.out out.new).name ≡ (O.out out.old).name }
+{
+    let mut rest = piece;
+    while let Some((front, behind)) = split_at_line_end(rest) {
+        end_line(responder, line, front, out)?;
+        rest = behind;
+    }
+    line.extend(rest);
+    Ok(())
+}
+
+/// What stands before the first line end, and what stands behind it; none where no line ends.
+fn split_at_line_end(bytes: &[u8]) -> Option<(&[u8], &[u8])>
+    ensures none { IfNone result (All (λ b. b ≢ 10) bytes.now) }
+    ensures some { IfSome result (λ parts. bytes.now ≡ parts.0.now ++ 10 ∷ parts.1.now) }
+    ensures front { IfSome result (λ parts. All (λ b. b ≢ 10) parts.0.now) }
+{
+    let end = memchr::memchr(b'\n', bytes)?;
+    let (front, behind) = bytes.split_at(end);
+    Some((front, behind.split_at(1).1))
+}
+
+/// Ends the line in hand with these bytes, and answers it.
+fn end_line<A: Responder, O: Output>(
+    responder: &mut A,
+    line: &mut LineBuffer,
+    front: &[u8],
+    out: &mut O,
+) -> Result<(), Failed>
+    ensures goes { (opened : A) (lines : List (List ℕ)) (text begun : List ℕ)
+        → A.past opened responder.old lines text → line.old ≡ kept_of begun
+        → OneMore (A.past opened responder.new) lines text (begun ++ front.now)
+        (Puts result (O.out out.old) (O.out out.new)) }
+    ensures empty { OnOk result (line.new ≡ []) }
+    ensures same { (O.out out.new).name ≡ (O.out out.old).name }
+{
+    if line.is_empty() {
+        return responder.reply_to(front, out);
+    }
+    line.extend(front);
+    responder.reply_to(line.as_slice(), out)?;
+    line.clear();
+    Ok(())
+}
