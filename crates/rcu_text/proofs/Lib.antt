@@ -1,3 +1,4 @@
+pub mod CallerLemmas
 pub mod CutLemmas
 pub mod LawLemmas
 pub mod LineLemmas

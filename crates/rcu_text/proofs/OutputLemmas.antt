@@ -103,3 +103,13 @@ module _ {X : Type 0} (text : X → List ℕ) where
 -- the writer failed where room was made for a text
 pub stops_before_text : (a b : Out) (text : List ℕ) → Stops a b [] → Stops a b text
 stops_before_text a b text s = Stops-before a b [] text s
+
+-- ---- a list between its name and the end of the line
+
+-- the writer failed in the items
+pub list_stops : (a b c : Out) (name items later : List ℕ) → Sends a b name → Stops b c items → Stops a c (name ++ (items ++ later))
+list_stops a b c name items later s t = subst (Stops a c) (append_assoc name items later) (Stops-before a c (name ++ items) later (Sends-Stops a b c name items s t))
+
+-- all was put
+pub list_put : {X E : Type 0} (r : Result X E) (a b c d : Out) (name items later : List ℕ) → Sends a b name → Sends b c items → Puts r c d later → Puts r a d (name ++ (items ++ later))
+list_put r a b c d name items later s t p = subst (Puts r a d) (append_assoc name items later) (puts_two r a c d (name ++ items) later (Sends-trans a b c name items s t) p)

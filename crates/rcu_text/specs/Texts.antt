@@ -12,3 +12,7 @@ numbered text n = text ++ decimal n
 -- a text with a number behind it, as a line
 abbrev pub numbered_text : List ℕ → ℕ → List ℕ
 numbered_text text n = text ++ (decimal n ++ codes "\n")
+
+-- two numbers, each behind its text, as a line
+abbrev pub counts_text : List ℕ → ℕ → List ℕ → ℕ → List ℕ
+counts_text first n second m = first ++ (decimal n ++ (second ++ (decimal m ++ codes "\n")))

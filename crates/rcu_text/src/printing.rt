@@ -1,7 +1,7 @@
 //! The parts of a reply.
 ghost use Rattle.std.specs.Prelude.{◌≡◌, ◌+◌, ◌≤◌, decimal, length};
 ghost use Rattle.rcu_text.specs.Outputs.{Puts, behind};
-ghost use Rattle.rcu_text.specs.Texts.{numbered, numbered_text, spaced};
+ghost use Rattle.rcu_text.specs.Texts.{counts_text, numbered, numbered_text, spaced};
 
 use crate::block_writer::Output;
 use crate::streams::Failed;
@@ -32,6 +32,27 @@ pub fn put_numbered<O: Output>(out: &mut O, text: &[u8], n: u64) -> Result<(), F
 {
     out.make_room(LONGEST_REPLY)?;
     push_numbered(out, text, n);
+    out.put_byte(b'\n');
+    Ok(())
+}
+
+/// Prints a reply of two numbers, each behind its text.
+#[inline(always)]
+pub fn put_counts<O: Output>(
+    out: &mut O,
+    first: &[u8],
+    n: u64,
+    second: &[u8],
+    m: u64,
+) -> Result<(), Failed>
+    requires first { length first.now ≤ 32 }
+    requires second { length second.now ≤ 32 }
+    ensures { Puts result (O.out out.old) (O.out out.new)
+        (counts_text first.now n second.now m) }
+{
+    out.make_room(LONGEST_REPLY)?;
+    push_numbered(out, first, n);
+    push_numbered(out, second, m);
     out.put_byte(b'\n');
     Ok(())
 }

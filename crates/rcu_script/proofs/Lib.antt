@@ -1,0 +1,4 @@
+pub mod AnswerLemmas
+pub mod ExactLemmas
+pub mod ListLemmas
+pub mod RunLemmas

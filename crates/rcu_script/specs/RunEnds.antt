@@ -1,0 +1,25 @@
+-- How a run ends, from its opening on. Which texts answer which lines is a relation `IsText` throughout.
+use Rattle.std.specs.Prelude.{◌≡◌, ◌⊎◌, ℕ, List, Option, Some, None, Result, Ok, Err}
+use Rattle.rcu_seq.specs.declared.fault.Fault.{Fault}
+use Rattle.rcu_seq.specs.declared.fault.Fault.TheVariants.{NoMemory}
+use Rattle.rcu_text.specs.Runs.{Ends, Finished, StoppedReading, StoppedWriting}
+use Rattle.rcu_text.specs.declared.line_loop.StreamFault.{StreamFault}
+use Rattle.rcu_text.specs.declared.line_loop.StreamFault.TheVariants as stream
+use Rattle.rcu_script.specs.declared.runs.RunFault.{RunFault}
+use Rattle.rcu_script.specs.declared.runs.RunFault.TheVariants.{Open, Read, Write}
+
+-- why a run over the lines stopped, as a run's fault
+abbrev pub fault_of : StreamFault → RunFault
+fault_of stream.Read = Read
+fault_of stream.Write = Write
+
+-- an opening is refused by the first fault that is tested, and where there is none, for want of memory
+abbrev pub IsRefusedBy : Option Fault → Fault → Type 0
+IsRefusedBy first fault = (first ≡ Some fault) ⊎ ((first ≡ None) × (fault ≡ NoMemory))
+
+-- how a run ends, where this is the first fault of its opening: where it is refused, nothing was read or written
+abbrev pub RanFrom : Result (Unit {0}) RunFault → Option Fault → (List (List ℕ) → List ℕ → Type 0) → Ends → Ends → Type 0
+RanFrom (Ok x) first IsText old new = (first ≡ None) × Finished IsText old new
+RanFrom (Err (Open fault)) first IsText old new = IsRefusedBy first fault × (new ≡ old)
+RanFrom (Err Read) first IsText old new = (first ≡ None) × StoppedReading IsText old new
+RanFrom (Err Write) first IsText old new = (first ≡ None) × StoppedWriting IsText old new

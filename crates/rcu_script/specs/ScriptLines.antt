@@ -1,0 +1,73 @@
+-- What a line of a script asks for.
+use Rattle.std.specs.Prelude.{ℕ, ◌-◌, ◌^◌, List, [], ◌∷◌, min, codes, if◌then◌else◌, Option, Some, None}
+use Rattle.std.specs.Str.{bytes_eq}
+use Rattle.std.specs.Option.{option_map_or}
+use Rattle.rcu_core.specs.declared.event.Event.{Event}
+use Rattle.rcu_core.specs.declared.event.Event.TheVariants.{Enter, Exit, Note, Quiesce, Deliver, Online, Offline, Begin, End, Turn, Awaits, Take, StartPoll, Poll, Queue, Tend, Run, BarBegin, Visit, BarTest}
+use Rattle.rcu_text.specs.Lines.{line_by}
+use Rattle.rcu_text.specs.Words.{number_of}
+use Rattle.rcu_text.specs.declared.line_shape.Line.{Line}
+
+-- the processor of a number: one that does not fit 32 bits is as little a processor as the greatest that does
+abbrev pub cpu_of : ℕ → ℕ
+cpu_of n = min n (2 ^ 32 - 1)
+
+-- the event of a name that stands alone
+abbrev pub event_alone : List ℕ → Option Event
+event_alone name =
+    if bytes_eq name (codes "begin") then Some Begin
+    else (if bytes_eq name (codes "end") then Some End
+    else (if bytes_eq name (codes "turn") then Some Turn
+    else (if bytes_eq name (codes "awaits") then Some Awaits
+    else (if bytes_eq name (codes "take") then Some Take
+    else (if bytes_eq name (codes "start") then Some StartPoll
+    else (if bytes_eq name (codes "bar") then Some BarBegin
+    else (if bytes_eq name (codes "bartest") then Some BarTest
+    else None)))))))
+
+-- the event of a name that stands before a processor
+abbrev pub event_with_cpu : List ℕ → ℕ → Option Event
+event_with_cpu name cpu =
+    if bytes_eq name (codes "enter") then Some (Enter cpu)
+    else (if bytes_eq name (codes "exit") then Some (Exit cpu)
+    else (if bytes_eq name (codes "note") then Some (Note cpu)
+    else (if bytes_eq name (codes "quiet") then Some (Quiesce cpu)
+    else (if bytes_eq name (codes "online") then Some (Online cpu)
+    else (if bytes_eq name (codes "offline") then Some (Offline cpu)
+    else (if bytes_eq name (codes "tend") then Some (Tend cpu)
+    else (if bytes_eq name (codes "visit") then Some (Visit cpu)
+    else None)))))))
+
+-- the event of a name that stands before a number: of a report's place, a cookie's number, or else a processor's
+abbrev pub event_with_number : List ℕ → ℕ → Option Event
+event_with_number name n =
+    if bytes_eq name (codes "deliver") then Some (Deliver n)
+    else (if bytes_eq name (codes "poll") then Some (Poll n)
+    else event_with_cpu name (cpu_of n))
+
+-- the event of a name and a word, which has to be a number
+abbrev pub event_with_word : List ℕ → List ℕ → Option Event
+event_with_word name word = option_map_or (event_with_number name) (number_of word) None
+
+-- the event of a name that stands before a processor and a number: of a callback's value, or of how many run at most
+abbrev pub event_with_numbers : List ℕ → ℕ → ℕ → Option Event
+event_with_numbers name cpu n =
+    if bytes_eq name (codes "queue") then Some (Queue (cpu_of cpu) n)
+    else (if bytes_eq name (codes "run") then Some (Run (cpu_of cpu) n)
+    else None)
+
+-- the event of a name and two words, which have to be numbers
+abbrev pub event_with_words : List ℕ → List ℕ → List ℕ → Option Event
+event_with_words name word next =
+    option_map_or (λ cpu. option_map_or (event_with_numbers name cpu) (number_of next) None) (number_of word) None
+
+-- the event of a name and the words behind it: the name decides how many they are
+abbrev pub event_of : List ℕ → List (List ℕ) → Option Event
+event_of name [] = event_alone name
+event_of name (word ∷ []) = event_with_word name word
+event_of name (word ∷ next ∷ []) = event_with_words name word next
+event_of name (word ∷ next ∷ more ∷ words) = None
+
+-- what a line asks for
+abbrev pub asked_by : List ℕ → Line Event
+asked_by line = line_by event_of line

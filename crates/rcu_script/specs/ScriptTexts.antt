@@ -1,0 +1,80 @@
+-- The texts of replies.
+use Rattle.std.specs.Prelude.{ℕ, Bool, true, false, List, [], ◌∷◌, ◌++◌, flat_map, codes, decimal}
+use Rattle.rcu_seq.specs.FaultNumber.{number_of}
+use Rattle.rcu_node.specs.declared.answer.Answer.{Answer}
+use Rattle.rcu_node.specs.declared.answer.Answer.TheVariants.{Taken, Last, Repeat, Stale}
+use Rattle.rcu_report.specs.declared.report.Report.{Report}
+use Rattle.rcu_barrier.specs.declared.visit.Visit.{Visit}
+use Rattle.rcu_barrier.specs.declared.visit.Visit.TheVariants.{Marked, Empty, Already}
+use Rattle.rcu_core.specs.declared.reply.Reply.{Reply}
+use Rattle.rcu_core.specs.declared.reply.Reply.TheVariants.{Depth, Noted, Made, Answer as Answered, Online, Moved, Begun, Ended, Waiting, Nothing, Awaits, Cookie, Polled, Queued, Tended, Ran, BarBegun, Visited, BarDone, BarWaits, Fault}
+use Rattle.rcu_text.specs.Texts.{numbered_text, spaced}
+
+-- what a processor noted: it is needed where the processor is awaited
+abbrev pub noted_text : ℕ → Bool → List ℕ
+noted_text n true = codes "noted " ++ (decimal n ++ codes " needed\n")
+noted_text n false = codes "noted " ++ (decimal n ++ codes " clear\n")
+
+-- a report and its place among all reports
+abbrev pub made_text : ℕ → Report → List ℕ
+made_text place report = codes "report " ++ (decimal place ++ (codes " cpu " ++ (decimal report.cpu ++ (codes " tag " ++ (decimal report.tag ++ codes "\n")))))
+
+-- the word for what a report did
+abbrev pub answer_text : Answer → List ℕ
+answer_text Taken = codes "taken\n"
+answer_text Last = codes "last\n"
+answer_text Repeat = codes "repeat\n"
+answer_text Stale = codes "stale\n"
+
+-- the grace period that began, and how many processors it awaits
+abbrev pub begun_text : ℕ → ℕ → List ℕ
+begun_text n cpus = codes "begun " ++ (decimal n ++ (codes " awaits " ++ (decimal cpus ++ codes "\n")))
+
+-- the awaited processors, or `none`
+abbrev pub awaits_text : List ℕ → List ℕ
+awaits_text [] = codes "awaits none\n"
+awaits_text (cpu ∷ cpus) = codes "awaits" ++ (flat_map spaced (cpu ∷ cpus) ++ codes "\n")
+
+-- whether a cookie is done
+abbrev pub polled_text : Bool → List ℕ
+polled_text true = codes "done\n"
+polled_text false = codes "not yet\n"
+
+-- how many callbacks of a list are done, and how many wait
+abbrev pub tended_text : ℕ → ℕ → List ℕ
+tended_text done waiting = codes "tended " ++ (decimal done ++ (codes " " ++ (decimal waiting ++ codes "\n")))
+
+-- the values of the callbacks that are handed out, or `none`
+abbrev pub ran_text : List ℕ → List ℕ
+ran_text [] = codes "ran none\n"
+ran_text (value ∷ values) = codes "ran" ++ (flat_map spaced (value ∷ values) ++ codes "\n")
+
+-- the word for what a visit did
+abbrev pub visited_text : Visit → List ℕ
+visited_text Marked = codes "marked\n"
+visited_text Empty = codes "empty\n"
+visited_text Already = codes "already\n"
+
+-- the line that says a reply
+abbrev pub text_of : Reply → List ℕ
+text_of (Depth depth) = numbered_text (codes "depth ") depth
+text_of (Noted n needed) = noted_text n needed
+text_of (Made place report) = made_text place report
+text_of (Answered answer) = answer_text answer
+text_of Online = codes "online\n"
+text_of (Moved calls) = numbered_text (codes "offline moved ") calls
+text_of (Begun n cpus) = begun_text n cpus
+text_of (Ended n) = numbered_text (codes "ended ") n
+text_of (Waiting cpus) = numbered_text (codes "waiting ") cpus
+text_of Nothing = codes "nothing\n"
+text_of (Awaits cpus) = awaits_text cpus
+text_of (Cookie cookie) = numbered_text (codes "cookie ") cookie.0
+text_of (Polled done) = polled_text done
+text_of (Queued n) = numbered_text (codes "queued ") n
+text_of (Tended done waiting) = tended_text done waiting
+text_of (Ran values) = ran_text values
+text_of BarBegun = codes "barrier begun\n"
+text_of (Visited visit) = visited_text visit
+text_of BarDone = codes "barrier done\n"
+text_of (BarWaits n) = numbered_text (codes "barrier waits ") n
+text_of (Fault fault) = numbered_text (codes "fault ") (number_of fault)

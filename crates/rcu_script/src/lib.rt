@@ -1,0 +1,9 @@
+//! Scripts and pairs of replicas, from bytes to bytes.
+#![tactic(auto)]
+
+pub mod offered;
+pub mod runs;
+pub mod script;
+
+pub use runs::{RunFault, Setup};
+pub use script::run::run_script;

@@ -1,0 +1,52 @@
+//! How a run is made, and why it stopped.
+ghost use Rattle.std.specs.Prelude.{◌≡◌};
+ghost use Rattle.rcu_script.specs.RunEnds.{fault_of};
+
+use rcu_seq::fault::Fault;
+use rcu_text::StreamFault;
+use thiserror::Error;
+
+/// How a run's machine is made. Opening tests the ranges.
+#[derive(Clone, Copy, Debug, PartialEq, Eq)]
+pub struct Setup {
+    /// The processors that a leaf holds.
+    pub leaf: u32,
+    /// The children that an inner node holds.
+    pub inner: u32,
+    /// The processors that a leaf of the second replica holds. A script has no second replica, and
+    /// repeats `leaf`.
+    pub leaf2: u32,
+    /// The children that an inner node of the second replica holds. A script repeats `inner`.
+    pub inner2: u32,
+    /// The number of processors, 1..=4096.
+    pub cpus: u32,
+    /// The number at which no further grace period begins, a multiple of 4 in 4..=2^62.
+    pub last: u64,
+}
+
+/// Why a run stopped. Its text is what the program prints.
+#[derive(Debug, Drop, Error)]
+pub enum RunFault {
+    /// The machine could not be opened.
+    #[error("fault {}", .0.number())]
+    Open(Fault),
+    /// The reader failed.
+    #[error("rcu: read failed")]
+    Read,
+    /// The writer failed.
+    #[error("rcu: write failed")]
+    Write,
+}
+
+/// Why a run over the lines stopped, as a run's fault.
+pub fn stopped(fault: StreamFault) -> RunFault
+    ensures { result ≡ fault_of fault }
+{
+    match fault {
+        StreamFault::Read => RunFault::Read,
+        StreamFault::Write => RunFault::Write,
+    }
+}
+
+#[cfg(test)]
+mod tests;

@@ -1,0 +1,32 @@
+//! The opening of a script.
+ghost use Rattle.std.specs.Prelude.{◌≡◌, None, [], IfOk, IfErr, OnOk};
+ghost use Rattle.rcu_core.specs.State.{Has, size_at};
+ghost use Rattle.rcu_script.specs.Opening.{machine_fault};
+ghost use Rattle.rcu_script.specs.RunEnds.{IsRefusedBy};
+
+use rcu_core::event_core::Core;
+use rcu_geometry::geometry::Geometry;
+use rcu_node::tree::Tree;
+use rcu_seq::fault::Fault;
+use rcu_seq::seq::Seq;
+use std::alloc::Global;
+
+/// A core over the tree of two fanouts, in the situation of the empty history.
+///
+/// Faults: 18 and 17 as [`Geometry::new`] has them, 19 as [`Seq::new`] has it, then 16. What takes no
+/// memory is tested first.
+pub fn open<const LEAF: u32, const INNER: u32>(
+    alloc: Global,
+    cpus: u32,
+    last: u64,
+) -> Result<Core<Tree<LEAF, INNER>, u64>, Fault>
+    ensures accepted { OnOk result (machine_fault LEAF INNER cpus last ≡ None) }
+    ensures size { IfOk result (λ core. size_at core ≡ record { cpus = cpus; last = last }) }
+    ensures fresh { IfOk result (λ core. Has core []) }
+    ensures err { IfErr result (IsRefusedBy (machine_fault LEAF INNER cpus last)) }
+{
+    let _shape = Geometry::<LEAF, INNER>::new(cpus)?;
+    let _seq = Seq::new(last)?;
+    let awaited = Tree::<LEAF, INNER>::new(alloc, cpus)?;
+    Core::new(alloc, awaited, last)
+}

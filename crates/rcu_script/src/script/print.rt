@@ -1,0 +1,140 @@
+//! Replies as text.
+ghost use Rattle.std.specs.Prelude.{◌≡◌, ◌≤◌, flat_map, length};
+ghost use Rattle.rcu_text.specs.Outputs.{Puts};
+ghost use Rattle.rcu_text.specs.Texts.{spaced};
+ghost use Rattle.rcu_script.specs.ScriptTexts.{answer_text, awaits_text, made_text, noted_text, polled_text, ran_text, text_of, visited_text};
+
+use rcu_barrier::visit::Visit;
+use rcu_core::reply::Reply;
+use rcu_core::value_list::ValueList;
+use rcu_node::answer::Answer;
+use rcu_report::report::Report;
+use rcu_text::printing::{LONGEST_REPLY, push_numbered};
+use rcu_text::{Failed, Output, put_counts, put_line, put_numbered, put_spaced};
+
+/// Prints a reply as a line.
+///
+/// Where the writer fails, it took a beginning of what waited and the line.
+pub fn put_reply<O: Output>(out: &mut O, reply: &Reply) -> Result<(), Failed>
+    ensures { Puts result (O.out out.old) (O.out out.new) (text_of reply.now) }
+{
+    match reply {
+        Reply::Depth(depth) => put_numbered(out, b"depth ", u64::from(*depth)),
+        Reply::Noted(n, needed) => put_noted(out, *n, *needed),
+        Reply::Made(place, report) => put_made(out, *place, *report),
+        Reply::Answer(answer) => put_line(out, answer_line(*answer)),
+        Reply::Online => put_line(out, b"online\n"),
+        Reply::Moved(calls) => put_numbered(out, b"offline moved ", *calls),
+        Reply::Begun(n, cpus) => put_counts(out, b"begun ", *n, b" awaits ", u64::from(*cpus)),
+        Reply::Ended(n) => put_numbered(out, b"ended ", *n),
+        Reply::Waiting(cpus) => put_numbered(out, b"waiting ", u64::from(*cpus)),
+        Reply::Nothing => put_line(out, b"nothing\n"),
+        Reply::Awaits(cpus) => put_awaits(out, cpus.as_slice()),
+        Reply::Cookie(cookie) => put_numbered(out, b"cookie ", cookie.0),
+        Reply::Polled(done) => put_line(out, polled_line(*done)),
+        Reply::Queued(n) => put_numbered(out, b"queued ", *n),
+        Reply::Tended(done, waiting) => put_counts(out, b"tended ", *done, b" ", *waiting),
+        Reply::Ran(values) => put_ran(out, values),
+        Reply::BarBegun => put_line(out, b"barrier begun\n"),
+        Reply::Visited(visit) => put_line(out, visited_line(*visit)),
+        Reply::BarDone => put_line(out, b"barrier done\n"),
+        Reply::BarWaits(n) => put_numbered(out, b"barrier waits ", *n),
+        Reply::Fault(fault) => put_numbered(out, b"fault ", u64::from(fault.number())),
+    }
+}
+
+fn put_noted<O: Output>(out: &mut O, n: u64, needed: bool) -> Result<(), Failed>
+    ensures { Puts result (O.out out.old) (O.out out.new) (noted_text n needed) }
+{
+    out.make_room(LONGEST_REPLY)?;
+    push_numbered(out, b"noted ", n);
+    if needed {
+        out.put_text(b" needed\n");
+    } else {
+        out.put_text(b" clear\n");
+    }
+    Ok(())
+}
+
+fn put_made<O: Output>(out: &mut O, place: u64, report: Report) -> Result<(), Failed>
+    ensures { Puts result (O.out out.old) (O.out out.new) (made_text place report) }
+{
+    out.make_room(LONGEST_REPLY)?;
+    push_numbered(out, b"report ", place);
+    push_numbered(out, b" cpu ", u64::from(report.cpu));
+    push_numbered(out, b" tag ", report.tag);
+    out.put_byte(b'\n');
+    Ok(())
+}
+
+fn put_awaits<O: Output>(out: &mut O, cpus: &[u32]) -> Result<(), Failed>
+    ensures { Puts result (O.out out.old) (O.out out.new) (awaits_text cpus.now) }
+{
+    if cpus.is_empty() {
+        return put_line(out, b"awaits none\n");
+    }
+    put_line(out, b"awaits")?;
+    put_cpus(out, cpus)?;
+    put_line(out, b"\n")
+}
+
+/// Prints processors, each behind a space.
+fn put_cpus<O: Output>(out: &mut O, cpus: &[u32]) -> Result<(), Failed>
+    ensures { Puts result (O.out out.old) (O.out out.new) (flat_map spaced cpus.now) }
+{
+    for cpu in cpus {
+        put_spaced(out, u64::from(*cpu))?;
+    }
+    Ok(())
+}
+
+fn put_ran<O: Output>(out: &mut O, values: &ValueList) -> Result<(), Failed>
+    ensures { Puts result (O.out out.old) (O.out out.new) (ran_text values.now) }
+{
+    if values.is_empty() {
+        return put_line(out, b"ran none\n");
+    }
+    put_line(out, b"ran")?;
+    put_values(out, values)?;
+    put_line(out, b"\n")
+}
+
+/// Prints values, each behind a space.
+fn put_values<O: Output>(out: &mut O, values: &ValueList) -> Result<(), Failed>
+    ensures { Puts result (O.out out.old) (O.out out.new) (flat_map spaced values.now) }
+{
+    for place in 0..values.len() {
+        put_spaced(out, values.value(place))?;
+    }
+    Ok(())
+}
+
+fn answer_line(answer: Answer) -> &'static [u8]
+    ensures text { result.now ≡ answer_text answer }
+    ensures short { length result.now ≤ 128 }
+{
+    match answer {
+        Answer::Taken => b"taken\n",
+        Answer::Last => b"last\n",
+        Answer::Repeat => b"repeat\n",
+        Answer::Stale => b"stale\n",
+    }
+}
+
+fn polled_line(done: bool) -> &'static [u8]
+    ensures text { result.now ≡ polled_text done }
+    ensures short { length result.now ≤ 128 }
+{
+    if done { b"done\n" } else { b"not yet\n" }
+}
+
+fn visited_line(visit: Visit) -> &'static [u8]
+    ensures text { result.now ≡ visited_text visit }
+    ensures short { length result.now ≤ 128 }
+{
+    match visit {
+        Visit::Marked => b"marked\n",
+        Visit::Empty => b"empty\n",
+        Visit::Already => b"already\n",
+    }
+}

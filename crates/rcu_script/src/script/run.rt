@@ -1,0 +1,60 @@
+//! A script from bytes to bytes.
+ghost use Rattle.std.specs.Prelude.{◌≡◌, false};
+ghost use Rattle.rcu_text.specs.Runs.{ends_of};
+ghost use Rattle.rcu_script.specs.Opening.{machine_fault, size_at};
+ghost use Rattle.rcu_script.specs.RunEnds.{RanFrom};
+ghost use Rattle.rcu_script.specs.ScriptAnswers.{IsAnswer, RanScript};
+
+use crate::offered::over_offered_tree;
+use crate::runs::{RunFault, Setup, stopped};
+use crate::script::open::open;
+use crate::script::responder::ScriptResponder;
+use rcu_seq::fault::Fault;
+use rcu_text::{Sink, Source, run};
+use std::alloc::Global;
+
+/// Runs a script on the machine of a setup: answers all lines that the reader gives, in order.
+///
+/// Every reply of the lines that were read is written before the next read, so a run that a failed
+/// read stops has answered the lines that were read whole. Where a write failed, a beginning of the
+/// replies was written.
+pub fn run_script<R: Source, W: Sink>(
+    alloc: Global,
+    setup: &Setup,
+    reader: &mut R,
+    writer: &mut W,
+) -> Result<(), RunFault>
+    requires reader { (R.incoming reader.old).failed ≡ false }
+    requires writer { (W.outgoing writer.old).failed ≡ false }
+    ensures { RanScript result setup.now
+        (ends_of (R.incoming reader.old) (W.outgoing writer.old))
+        (ends_of (R.incoming reader.new) (W.outgoing writer.new)) }
+{
+    over_offered_tree!(
+        setup.leaf,
+        setup.inner,
+        run_over::<>(alloc, setup, reader, writer)
+    )
+}
+
+/// Runs a script over the tree of two fanouts.
+fn run_over<const LEAF: u32, const INNER: u32, R: Source, W: Sink>(
+    alloc: Global,
+    setup: &Setup,
+    reader: &mut R,
+    writer: &mut W,
+) -> Result<(), RunFault>
+    ensures { RanFrom result (machine_fault LEAF INNER setup.now.cpus setup.now.last)
+        (IsAnswer (size_at setup.now))
+        (ends_of (R.incoming reader.old) (W.outgoing writer.old))
+        (ends_of (R.incoming reader.new) (W.outgoing writer.new)) }
+{
+    let core = match open::<LEAF, INNER>(alloc, setup.cpus, setup.last) {
+        Ok(core) => core,
+        Err(fault) => return Err(RunFault::Open(fault)),
+    };
+    match run(&mut ScriptResponder { core }, reader, writer) {
+        Ok(()) => Ok(()),
+        Err(fault) => Err(stopped(fault)),
+    }
+}

@@ -1,0 +1,8 @@
+use Rattle.std.proofs.lemmas.Result.{err_from_is_err_and}
+use Rattle.rcu_text.proofs.OutputLemmas.{stops_before_text}
+use Rattle.rcu_text.proofs.printing.put_counts.Goals as goal
+
+pub returns-in_err-make_room : goal.returns-in_err-make_room
+returns-in_err-make_room g c =
+    let p = err_from_is_err_and c.from_residual.result c.from_residual.ensures.1 in
+    rw (p.1) (stops_before_text _ _ _ c.in_err-make_room.ensures.bytes)
