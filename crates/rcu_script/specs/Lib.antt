@@ -1,4 +1,9 @@
 pub mod Opening
+pub mod PairHistory
+pub mod PairLines
+pub mod PairRuns
+pub mod PairState
+pub mod PairTexts
 pub mod RunEnds
 pub mod ScriptAnswers
 pub mod ScriptLines

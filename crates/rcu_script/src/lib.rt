@@ -2,8 +2,10 @@
 #![tactic(auto)]
 
 pub mod offered;
+pub mod pair;
 pub mod runs;
 pub mod script;
 
+pub use pair::run::run_pair;
 pub use runs::{RunFault, Setup};
 pub use script::run::run_script;

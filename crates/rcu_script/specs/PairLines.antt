@@ -1,0 +1,71 @@
+-- What a line of a pair asks for.
+use Rattle.std.specs.Prelude.{ℕ, List, [], ◌∷◌, codes, if◌then◌else◌, Option, Some, None}
+use Rattle.std.specs.Str.{bytes_eq}
+use Rattle.std.specs.Option.{option_map_or}
+use Rattle.rcu_text.specs.Lines.{line_by}
+use Rattle.rcu_text.specs.Words.{number_of}
+use Rattle.rcu_text.specs.declared.line_shape.Line.{Line}
+use Rattle.rcu_script.specs.ScriptLines.{cpu_of}
+use Rattle.rcu_script.specs.declared.pair.event.Side.{Side}
+use Rattle.rcu_script.specs.declared.pair.event.Side.TheVariants.{A, B}
+use Rattle.rcu_script.specs.declared.pair.event.PairEvent.{PairEvent}
+use Rattle.rcu_script.specs.declared.pair.event.PairEvent.TheVariants.{Begin, Report, Depart, End, Awaits, Merge}
+use Rattle.rcu_script.specs.declared.pair.event.PairAsk.{PairAsk}
+use Rattle.rcu_script.specs.declared.pair.event.PairAsk.TheVariants.{Same, Of}
+
+-- the replica of a name
+abbrev pub side_of : List ℕ → Option Side
+side_of name = if bytes_eq name (codes "a") then Some A else (if bytes_eq name (codes "b") then Some B else None)
+
+-- a processor before those of the words behind it, where these are processors
+abbrev pub before : ℕ → Option (List ℕ) → Option (List ℕ)
+before cpu None = None
+before cpu (Some cpus) = Some (cpu ∷ cpus)
+
+-- the processors that words list, where each word is a number
+abbrev pub cpus_in : List (List ℕ) → Option (List ℕ)
+cpus_in [] = Some []
+cpus_in (word ∷ words) = option_map_or (λ n. before (cpu_of n) (cpus_in words)) (number_of word) None
+
+-- `begin` stands before one processor or more
+abbrev pub begin_of : List (List ℕ) → Option PairEvent
+begin_of words = option_map_or (λ cpus. Some (Begin cpus)) (cpus_in words) None
+
+-- `depart` stands before a processor alone
+abbrev pub depart_of : List ℕ → List (List ℕ) → Option PairEvent
+depart_of word [] = option_map_or (λ n. Some (Depart (cpu_of n))) (number_of word) None
+depart_of word (more ∷ words) = None
+
+-- `report` stands before a processor and a number
+abbrev pub report_of : List ℕ → List (List ℕ) → Option PairEvent
+report_of word [] = None
+report_of word (tag ∷ []) =
+    option_map_or (λ n. option_map_or (λ v. Some (Report (cpu_of n) v)) (number_of tag) None) (number_of word) None
+report_of word (tag ∷ more ∷ words) = None
+
+-- the event of a name that stands alone
+abbrev pub pair_event_alone : List ℕ → Option PairEvent
+pair_event_alone name =
+    if bytes_eq name (codes "end") then Some End
+    else (if bytes_eq name (codes "awaits") then Some Awaits
+    else (if bytes_eq name (codes "merge") then Some Merge
+    else None))
+
+-- the event of a name and the words behind it: the name decides how many they are
+abbrev pub pair_event_of : List ℕ → List (List ℕ) → Option PairEvent
+pair_event_of name [] = pair_event_alone name
+pair_event_of name (word ∷ words) =
+    if bytes_eq name (codes "begin") then begin_of (word ∷ words)
+    else (if bytes_eq name (codes "depart") then depart_of word words
+    else (if bytes_eq name (codes "report") then report_of word words
+    else None))
+
+-- what a first word and the words behind it ask for: `same` alone, or a replica's name before an event's words
+abbrev pub pair_ask_of : List ℕ → List (List ℕ) → Option PairAsk
+pair_ask_of first [] = if bytes_eq first (codes "same") then Some Same else None
+pair_ask_of first (name ∷ words) =
+    option_map_or (λ side. option_map_or (λ event. Some (Of side event)) (pair_event_of name words) None) (side_of first) None
+
+-- what a line of a pair asks for
+abbrev pub pair_asked_by : List ℕ → Line PairAsk
+pair_asked_by line = line_by pair_ask_of line

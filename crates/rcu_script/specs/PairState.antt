@@ -1,0 +1,78 @@
+-- Two replicas of one grace-period engine: what their lines ask of them, and what these leave.
+use Rattle.std.specs.Prelude.{ℕ, ◌==◌, Bool, not, nat_lt, if◌then◌else◌, List, Option, Some, None}
+use Rattle.std.specs.List.{list_all, list_any}
+use Rattle.rcu_seq.specs.Numbers.{number_of}
+use Rattle.rcu_seq.specs.declared.fault.Fault.{Fault}
+use Rattle.rcu_seq.specs.declared.fault.Fault.TheVariants.{BadCpu}
+use Rattle.rcu_node.specs.CpuSets.{listed, size_of}
+use Rattle.rcu_report.specs.Replicas.{Replicated, Call, answer_of, at_first, cpus_of, next, refusal}
+use Rattle.rcu_report.specs.Replicas as call
+use Rattle.rcu_core.specs.Replies.{Size}
+use Rattle.rcu_script.specs.declared.pair.event.Side.{Side}
+use Rattle.rcu_script.specs.declared.pair.event.Side.TheVariants.{A, B}
+use Rattle.rcu_script.specs.declared.pair.event.PairEvent.{PairEvent}
+use Rattle.rcu_script.specs.declared.pair.event.PairEvent.TheVariants.{Begin, Report, Depart, End, Awaits, Merge}
+use Rattle.rcu_script.specs.declared.pair.event.PairReply.{PairReply}
+use Rattle.rcu_script.specs.declared.pair.event.PairReply.TheVariants as reply
+
+-- two replicas
+pub record Pair : Type 0 where
+  pub a : Replicated
+  pub b : Replicated
+
+-- two fresh replicas of a size
+abbrev pub pair_at : Size → Pair
+pair_at size = record { a = at_first size.cpus size.last; b = at_first size.cpus size.last }
+
+-- the replica of a side
+abbrev pub own : Side → Pair → Replicated
+own A p = p.a
+own B p = p.b
+
+-- the other replica
+abbrev pub other : Side → Pair → Replicated
+other A p = p.b
+other B p = p.a
+
+-- the pair, once the replica of a side is this one
+abbrev pub with_own : Side → Pair → Replicated → Pair
+with_own A p r = record p { a = r }
+with_own B p r = record p { b = r }
+
+-- the set of the listed processors, in whatever order they stand and however often
+abbrev pub set_of : ℕ → List ℕ → List Bool
+set_of n cpus = listed n (λ cpu. list_any (λ c. c == cpu) cpus)
+
+-- why a begin of the listed processors is refused, if it is: one of them is none, or else as the replica's begin
+abbrev pub begin_refusal : Replicated → List ℕ → Option Fault
+begin_refusal mine cpus =
+    if not (list_all (λ c. nat_lt c (cpus_of mine)) cpus) then Some BadCpu
+    else refusal mine (call.Begin (set_of (cpus_of mine) cpus))
+
+-- why an event is refused, if it is
+abbrev pub refusal_of : Replicated → Replicated → PairEvent → Option Fault
+refusal_of mine its (Begin cpus) = begin_refusal mine cpus
+refusal_of mine its (Report cpu tag) = refusal mine (call.Report cpu tag)
+refusal_of mine its (Depart cpu) = refusal mine (call.Depart cpu)
+refusal_of mine its End = refusal mine call.End
+refusal_of mine its Awaits = None
+refusal_of mine its Merge = refusal mine (call.Merge its)
+
+-- what an accepted event leaves: what the replica's call does; listing changes nothing
+abbrev pub left_by : Replicated → Replicated → PairEvent → Replicated
+left_by mine its (Begin cpus) = next mine (call.Begin (set_of (cpus_of mine) cpus))
+left_by mine its (Report cpu tag) = next mine (call.Report cpu tag)
+left_by mine its (Depart cpu) = next mine (call.Depart cpu)
+left_by mine its End = next mine call.End
+left_by mine its Awaits = mine
+left_by mine its Merge = next mine (call.Merge its)
+
+-- the reply to an accepted event, by what it leaves
+abbrev pub reply_of : Replicated → Replicated → PairEvent → PairReply
+reply_of mine its (Begin cpus) =
+    let left = left_by mine its (Begin cpus) in reply.Begun (number_of left.periods) (size_of left.awaited)
+reply_of mine its (Report cpu tag) = reply.Answer (answer_of mine cpu tag)
+reply_of mine its (Depart cpu) = reply.Departed
+reply_of mine its End = reply.Ended (number_of (left_by mine its End).periods)
+reply_of mine its Awaits = reply.Awaits
+reply_of mine its Merge = reply.Merged (size_of (left_by mine its Merge).awaited)

@@ -1,0 +1,10 @@
+//! Pairs: two replicas of one grace-period engine, which hear of each other by merges.
+
+pub mod event;
+pub mod laws;
+pub mod machine;
+pub mod open;
+pub mod parse;
+pub mod print;
+pub mod run;
+pub mod step;

@@ -1,0 +1,30 @@
+//! What the definitions say of the lines of a pair.
+ghost use Rattle.std.specs.Prelude.{◌≡◌, ℕ, List, codes};
+ghost use Rattle.rcu_report.specs.History.{AreAlike, Says};
+ghost use Rattle.rcu_core.specs.Replies.{Size};
+ghost use Rattle.rcu_script.specs.PairHistory.{calls_of};
+ghost use Rattle.rcu_script.specs.PairState.{pair_at};
+ghost use Rattle.rcu_script.specs.PairTexts.{pair_after, same_text};
+
+use rcu_report::laws::{equally_heard_replicas_await_the_same, replica_is_as_its_history_says};
+
+/// After any lines each replica is as the history of its accepted calls says: it awaits the start
+/// set less those heard since.
+pub fn replicas_are_as_their_calls_say()
+    ensures a { (size : Size) (lines : List (List ℕ))
+        → Says (pair_after (pair_at size) lines).a (calls_of size lines).a }
+    ensures b { (size : Size) (lines : List (List ℕ))
+        → Says (pair_after (pair_at size) lines).b (calls_of size lines).b }
+{
+    replica_is_as_its_history_says();
+}
+
+/// Where both replicas began alike and heard the same processors, `same` is answered `same`:
+/// whatever the fanouts, and in whatever order the reports and departures came.
+pub fn equally_heard_replicas_are_the_same()
+    ensures { (size : Size) (lines : List (List ℕ))
+        → AreAlike (calls_of size lines).a (calls_of size lines).b
+        → same_text (pair_after (pair_at size) lines) ≡ codes "same\n" }
+{
+    equally_heard_replicas_await_the_same();
+}

@@ -1,0 +1,122 @@
+//! What a line of a pair asks for.
+ghost use Rattle.std.specs.Prelude.{◌≡◌, ◌≤◌, length};
+ghost use Rattle.rcu_text.specs.Lines.{line_by};
+ghost use Rattle.rcu_text.specs.Words.{words_of};
+ghost use Rattle.rcu_script.specs.PairLines.{cpus_in, depart_of, pair_ask_of, pair_event_alone};
+ghost use Rattle.rcu_script.specs.PairLines.{pair_event_of, report_of, side_of};
+
+use crate::pair::event::{LineCpus, PairAsk, PairEvent, Side};
+use crate::script::parse::cpu_of_number;
+use rcu_text::{Line, is_well_formed, next_word, number};
+
+/// What a line of a pair asks for.
+pub fn parse_line(line: &[u8]) -> Line<PairAsk>
+    ensures { result ≡ line_by pair_ask_of line.now }
+{
+    if !is_well_formed(line) {
+        return Line::Malformed;
+    }
+    match next_word(line) {
+        None => Line::Blank,
+        Some((first, rest)) => match parse_ask(first, rest) {
+            Some(ask) => Line::Ask(ask),
+            None => Line::Malformed,
+        },
+    }
+}
+
+/// What a first word and the words behind it ask for.
+fn parse_ask(first: &[u8], rest: &[u8]) -> Option<PairAsk>
+    requires { length rest.now ≤ 80 }
+    ensures { result ≡ pair_ask_of first.now (words_of rest.now) }
+{
+    match next_word(rest) {
+        None => match first {
+            b"same" => Some(PairAsk::Same),
+            _ => None,
+        },
+        Some((name, rest)) => {
+            let side = parse_side(first)?;
+            Some(PairAsk::Of(side, parse_event(name, rest)?))
+        }
+    }
+}
+
+/// The replica of a name.
+fn parse_side(name: &[u8]) -> Option<Side>
+    ensures { result ≡ side_of name.now }
+{
+    match name {
+        b"a" => Some(Side::A),
+        b"b" => Some(Side::B),
+        _ => None,
+    }
+}
+
+/// The event of a name and the words behind it.
+fn parse_event(name: &[u8], rest: &[u8]) -> Option<PairEvent>
+    requires { length rest.now ≤ 80 }
+    ensures { result ≡ pair_event_of name.now (words_of rest.now) }
+{
+    match next_word(rest) {
+        None => parse_event_alone(name),
+        Some((word, behind)) => {
+            if name == b"begin".as_slice() {
+                Some(PairEvent::Begin(parse_cpus(rest)?))
+            } else if name == b"depart".as_slice() {
+                parse_depart(word, behind)
+            } else if name == b"report".as_slice() {
+                parse_report(word, behind)
+            } else {
+                None
+            }
+        }
+    }
+}
+
+/// The event of a name that stands alone.
+fn parse_event_alone(name: &[u8]) -> Option<PairEvent>
+    ensures { result ≡ pair_event_alone name.now }
+{
+    match name {
+        b"end" => Some(PairEvent::End),
+        b"awaits" => Some(PairEvent::Awaits),
+        b"merge" => Some(PairEvent::Merge),
+        _ => None,
+    }
+}
+
+/// The processors that the words list, where each is a number.
+fn parse_cpus(words: &[u8]) -> Option<LineCpus>
+    requires { length words.now ≤ 80 }
+    ensures { result ≡ cpus_in (words_of words.now) }
+{
+    let mut cpus = LineCpus::new();
+    let mut rest = words;
+    while let Some((word, behind)) = next_word(rest) {
+        cpus.push(cpu_of_number(number(word)?));
+        rest = behind;
+    }
+    Some(cpus)
+}
+
+/// The departure of a word, behind which no other may stand.
+fn parse_depart(word: &[u8], rest: &[u8]) -> Option<PairEvent>
+    ensures { result ≡ depart_of word.now (words_of rest.now) }
+{
+    match next_word(rest) {
+        None => Some(PairEvent::Depart(cpu_of_number(number(word)?))),
+        Some(_) => None,
+    }
+}
+
+/// The report of a word and the one word behind it.
+fn parse_report(word: &[u8], rest: &[u8]) -> Option<PairEvent>
+    ensures { result ≡ report_of word.now (words_of rest.now) }
+{
+    let (tag, rest) = next_word(rest)?;
+    match next_word(rest) {
+        None => Some(PairEvent::Report(cpu_of_number(number(word)?), number(tag)?)),
+        Some(_) => None,
+    }
+}

@@ -1,0 +1,70 @@
+//! Replies of a pair as text.
+ghost use Rattle.std.specs.Prelude.{◌≡◌, flat_map};
+ghost use Rattle.rcu_text.specs.Outputs.{Puts};
+ghost use Rattle.rcu_text.specs.Texts.{spaced};
+ghost use Rattle.rcu_script.specs.PairTexts.{compared_text, members_of, pair_text};
+ghost use Rattle.rcu_script.specs.ScriptTexts.{awaits_text};
+
+use crate::pair::event::PairReply;
+use crate::script::print::put_reply;
+use rcu_core::reply::Reply;
+use rcu_node::awaited::Awaited;
+use rcu_text::{Failed, Output, put_line, put_numbered, put_spaced};
+
+/// Prints a reply of a replica as a line. The awaited processors are read off its awaited set.
+///
+/// Where the writer fails, it took a beginning of what waited and the line.
+pub fn put_pair_reply<A: Awaited, O: Output>(
+    out: &mut O,
+    reply: PairReply,
+    awaited: &A,
+) -> Result<(), Failed>
+    ensures { Puts result (O.out out.old) (O.out out.new)
+        (pair_text (A.awaited awaited.now) reply) }
+{
+    match reply {
+        PairReply::Begun(n, cpus) => put_reply(out, &Reply::Begun(n, cpus)),
+        PairReply::Answer(answer) => put_reply(out, &Reply::Answer(answer)),
+        PairReply::Departed => put_line(out, b"departed\n"),
+        PairReply::Ended(n) => put_reply(out, &Reply::Ended(n)),
+        PairReply::Awaits => put_awaited(out, awaited),
+        PairReply::Merged(cpus) => put_numbered(out, b"merged ", u64::from(cpus)),
+    }
+}
+
+/// Prints whether both replicas await the same.
+pub fn put_compared<O: Output>(out: &mut O, are_same: bool) -> Result<(), Failed>
+    ensures { Puts result (O.out out.old) (O.out out.new) (compared_text are_same) }
+{
+    if are_same {
+        put_line(out, b"same\n")
+    } else {
+        put_line(out, b"differ\n")
+    }
+}
+
+/// Prints the line of the awaited processors, without a list of them.
+fn put_awaited<A: Awaited, O: Output>(out: &mut O, awaited: &A) -> Result<(), Failed>
+    ensures { Puts result (O.out out.old) (O.out out.new)
+        (awaits_text (members_of (A.awaited awaited.now))) }
+{
+    if awaited.is_empty() {
+        return put_line(out, b"awaits none\n");
+    }
+    put_line(out, b"awaits")?;
+    put_members(out, awaited)?;
+    put_line(out, b"\n")
+}
+
+/// Prints the awaited processors, ascending, each behind a space.
+fn put_members<A: Awaited, O: Output>(out: &mut O, awaited: &A) -> Result<(), Failed>
+    ensures { Puts result (O.out out.old) (O.out out.new)
+        (flat_map spaced (members_of (A.awaited awaited.now))) }
+{
+    for cpu in 0..awaited.cpus() {
+        if awaited.awaits(cpu) {
+            put_spaced(out, u64::from(cpu))?;
+        }
+    }
+    Ok(())
+}

@@ -1,0 +1,82 @@
+//! The lines of two replicas, from bytes to bytes.
+ghost use Rattle.std.specs.Prelude.{◌≡◌, false};
+ghost use Rattle.rcu_text.specs.Runs.{ends_of};
+ghost use Rattle.rcu_script.specs.Opening.{size_at};
+ghost use Rattle.rcu_script.specs.PairRuns.{RanPair, fault_beside, trees_fault};
+ghost use Rattle.rcu_script.specs.PairTexts.{IsPairText};
+ghost use Rattle.rcu_script.specs.RunEnds.{RanFrom};
+
+use crate::offered::over_offered_tree;
+use crate::pair::open::open_pair;
+use crate::runs::{RunFault, Setup, stopped};
+use rcu_seq::fault::Fault;
+use rcu_text::{Sink, Source, run};
+use std::alloc::Global;
+
+/// Runs the lines of a pair on two replicas of a setup: answers all lines that the reader gives, in
+/// order.
+///
+/// Every reply of the lines that were read is written before the next read, so a run that a failed
+/// read stops has answered the lines that were read whole. Where a write failed, a beginning of the
+/// replies was written. No line takes memory, so just one text is right.
+pub fn run_pair<R: Source, W: Sink>(
+    alloc: Global,
+    setup: &Setup,
+    reader: &mut R,
+    writer: &mut W,
+) -> Result<(), RunFault>
+    requires reader { (R.incoming reader.old).failed ≡ false }
+    requires writer { (W.outgoing writer.old).failed ≡ false }
+    ensures { RanPair result setup.now
+        (ends_of (R.incoming reader.old) (W.outgoing writer.old))
+        (ends_of (R.incoming reader.new) (W.outgoing writer.new)) }
+{
+    over_offered_tree!(
+        setup.leaf,
+        setup.inner,
+        run_beside::<>(alloc, setup, reader, writer)
+    )
+}
+
+/// Runs the lines of a pair whose first replica stands over the tree of these fanouts.
+fn run_beside<const LEAF: u32, const INNER: u32, R: Source, W: Sink>(
+    alloc: Global,
+    setup: &Setup,
+    reader: &mut R,
+    writer: &mut W,
+) -> Result<(), RunFault>
+    ensures { RanFrom result (fault_beside LEAF INNER setup.now) (IsPairText (size_at setup.now))
+        (ends_of (R.incoming reader.old) (W.outgoing writer.old))
+        (ends_of (R.incoming reader.new) (W.outgoing writer.new)) }
+{
+    over_offered_tree!(
+        setup.leaf2,
+        setup.inner2,
+        run_over::<LEAF, INNER>(alloc, setup, reader, writer)
+    )
+}
+
+/// Runs the lines of a pair over the trees of these fanouts.
+fn run_over<
+    const LEAF: u32,
+    const INNER: u32,
+    const LEAF2: u32,
+    const INNER2: u32,
+    R: Source,
+    W: Sink,
+>(alloc: Global, setup: &Setup, reader: &mut R, writer: &mut W) -> Result<(), RunFault>
+    ensures { RanFrom result
+        (trees_fault LEAF INNER LEAF2 INNER2 setup.now.cpus setup.now.last)
+        (IsPairText (size_at setup.now))
+        (ends_of (R.incoming reader.old) (W.outgoing writer.old))
+        (ends_of (R.incoming reader.new) (W.outgoing writer.new)) }
+{
+    let mut machine = match open_pair::<LEAF, INNER, LEAF2, INNER2>(alloc, setup.cpus, setup.last) {
+        Ok(machine) => machine,
+        Err(fault) => return Err(RunFault::Open(fault)),
+    };
+    match run(&mut machine, reader, writer) {
+        Ok(()) => Ok(()),
+        Err(fault) => Err(stopped(fault)),
+    }
+}

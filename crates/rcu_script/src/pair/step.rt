@@ -1,0 +1,91 @@
+//! What a replica of a pair does.
+ghost use Rattle.std.specs.Prelude.{◌≡◌, ◌<◌, Some, None, All, length, nat_lt, IfErr, IfOk, OnOk};
+ghost use Rattle.std.specs.List.{list_all};
+ghost use Rattle.rcu_node.specs.CpuSets.{size_of};
+ghost use Rattle.rcu_seq.specs.Numbers.{number_of};
+ghost use Rattle.rcu_report.specs.Replicas.{Begin, cpus_of, next};
+ghost use Rattle.rcu_script.specs.PairState.{begin_refusal, left_by, refusal_of, reply_of, set_of};
+
+use crate::pair::event::{PairEvent, PairReply};
+use rcu_node::awaited::Awaited;
+use rcu_node::cpu_set::CpuSet;
+use rcu_report::replica::Replica;
+use rcu_seq::fault::Fault;
+
+/// Does what a line asks of a replica that stands beside another one. A begin lists its processors
+/// in the set, which is one of as many processors, so that no event takes memory.
+///
+/// Faults: those of the event.
+pub fn step<A: Awaited, B: Awaited>(
+    mine: &mut Replica<A>,
+    other: &Replica<B>,
+    set: &mut CpuSet,
+    event: &PairEvent,
+) -> Result<PairReply, Fault>
+    requires { length set.old ≡ cpus_of mine.old }
+    ensures reply { IfOk result (λ reply. reply ≡ reply_of mine.old other.now event.now) }
+    ensures ok { OnOk result (mine.new ≡ left_by mine.old other.now event.now) }
+    ensures accepted { OnOk result (refusal_of mine.old other.now event.now ≡ None) }
+    ensures err { IfErr result (λ fault. refusal_of mine.old other.now event.now ≡ Some fault) }
+    ensures refused { IfErr result (λ _. mine.new ≡ mine.old) }
+    ensures sized { length set.new ≡ length set.old }
+{
+    match event {
+        PairEvent::Begin(cpus) => begin(mine, set, cpus.as_slice()),
+        PairEvent::Report(cpu, tag) => Ok(PairReply::Answer(mine.report(*cpu, *tag)?)),
+        PairEvent::Depart(cpu) => {
+            mine.depart(*cpu)?;
+            Ok(PairReply::Departed)
+        }
+        PairEvent::End => Ok(PairReply::Ended(mine.end()?)),
+        PairEvent::Awaits => Ok(PairReply::Awaits),
+        PairEvent::Merge => {
+            mine.merge_from(other)?;
+            Ok(PairReply::Merged(mine.awaited().count()))
+        }
+    }
+}
+
+/// Begins a grace period that awaits the listed processors.
+fn begin<A: Awaited>(
+    mine: &mut Replica<A>,
+    set: &mut CpuSet,
+    cpus: &[u32],
+) -> Result<PairReply, Fault>
+    requires { length set.old ≡ cpus_of mine.old }
+    ensures reply { IfOk result (λ reply. reply
+        ≡ PairReply.Begun (number_of mine.new.periods) (size_of mine.new.awaited)) }
+    ensures ok { OnOk result (mine.new
+        ≡ next mine.old (Begin (set_of (cpus_of mine.old) cpus.now))) }
+    ensures accepted { OnOk result (begin_refusal mine.old cpus.now ≡ None) }
+    ensures err { IfErr result (λ fault. begin_refusal mine.old cpus.now ≡ Some fault) }
+    ensures refused { IfErr result (λ _. mine.new ≡ mine.old) }
+    ensures sized { length set.new ≡ length set.old }
+{
+    if !are_cpus(cpus, mine.awaited().cpus()) {
+        return Err(Fault::BadCpu);
+    }
+    list(set, cpus);
+    let number = mine.begin(set)?;
+    Ok(PairReply::Begun(number, mine.awaited().count()))
+}
+
+/// Whether all are processors below a number.
+fn are_cpus(cpus: &[u32], below: u32) -> bool
+    ensures { result ≡ list_all (λ cpu. nat_lt cpu below) cpus.now }
+{
+    cpus.iter().all(|cpu| *cpu < below)
+}
+
+/// Makes the set that of the listed processors.
+#[tactic(auto, using(crate::proofs::PairSets::set_none))]
+fn list(set: &mut CpuSet, cpus: &[u32])
+    requires { All (λ cpu. cpu < length set.old) cpus.now }
+    ensures set { set.new ≡ set_of (length set.old) cpus.now }
+    ensures sized { length set.new ≡ length set.old }
+{
+    set.clear();
+    for cpu in cpus {
+        set.insert(*cpu);
+    }
+}
