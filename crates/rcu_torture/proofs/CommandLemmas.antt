@@ -9,8 +9,8 @@ use Rattle.clap.specs.Words.{App, HasMatchesOf, Row, Text, fault_of, is_simple, 
 use Rattle.clap.specs.declared.error.kind.ErrorKind.TheVariants.{MissingSubcommand}
 use Rattle.clap.specs.declared.parser.matches.ArgMatches.{ArgMatches}
 use Rattle.rcu_torture.specs.CommandLine.{HasNoOrder, HasNoSetup, IsOrderOf, rcu}
-use Rattle.rcu_torture.specs.declared.order.Order.{Order}
-use Rattle.rcu_torture.specs.declared.order.Order.TheVariants.{Script, Pair}
+use Rattle.rcu_torture.specs.declared.command.Order.{Order}
+use Rattle.rcu_torture.specs.declared.command.Order.TheVariants.{Script, Pair}
 use Rattle.rcu_torture.proofs.PairCommandLemmas.{HasPairNumbers, built_pair, pair_numbers}
 use Rattle.rcu_torture.proofs.ScriptCommandLemmas.{HasNumbers, built_script, script_numbers}
 use Rattle.rcu_torture.proofs.WalkLemmas.{first_none, next_none}

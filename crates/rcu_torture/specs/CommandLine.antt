@@ -5,9 +5,9 @@ use Rattle.clap.specs.ValueTests.{is_unsigned_in}
 use Rattle.clap.specs.Simple.{on_top}
 use Rattle.clap.specs.Words.{App, Row, Rule, Text, new_app, new_rule, one_of, with_rule, with_subcommand}
 use Rattle.clap.specs.declared.builder.value_parser.ValueParser.TheVariants as vp
-use Rattle.rcu_torture.specs.declared.order.Order.{Order}
-use Rattle.rcu_torture.specs.declared.order.Order.TheVariants.{Script, Pair}
-use Rattle.rcu_torture.specs.declared.setup.Setup.{Setup}
+use Rattle.rcu_torture.specs.declared.command.Order.{Order}
+use Rattle.rcu_torture.specs.declared.command.Order.TheVariants.{Script, Pair}
+use Rattle.rcu_script.specs.declared.runs.Setup.{Setup}
 
 -- ---- the options
 

@@ -4,13 +4,21 @@ ghost use Rattle.clap.specs.Words.{FailsBy, app_of, fault_of, found_of, rows_of,
 ghost use Rattle.clap.specs.declared.builder.command.Command.TheViews.{out-Command as fields_of};
 ghost use Rattle.rcu_torture.specs.CommandLine.{IsOrderOf, IsSetupOf, HasNoOrder, HasNoSetup, number_in, last_rule, pair, rcu, rcu_with_script, required, script, shapes, u32_max, u32_rule, u64_max};
 
-use crate::order::Order;
-use crate::setup::Setup;
 use clap::{Arg, ArgMatches, Command, Error, value_parser};
+use rcu_script::Setup;
 use std::alloc::{AllocError, Global};
 
 /// The greatest last number, 2^62.
 const GREATEST_LAST: &str = "4611686018427387904";
+
+/// What the program is to do.
+#[derive(Clone, Copy, Debug, PartialEq, Eq)]
+pub enum Order {
+    /// Answer a script of lines.
+    Script(Setup),
+    /// Answer the lines of two replicas.
+    Pair(Setup),
+}
 
 /// Reads the program's arguments, which are the words without its name.
 ///

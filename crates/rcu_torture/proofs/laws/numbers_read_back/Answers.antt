@@ -1,5 +1,0 @@
-use Rattle.rcu_torture.proofs.NumberLemmas.{reads_back}
-use Rattle.rcu_torture.proofs.laws.numbers_read_back.Goals as goal
-
-pub returns : goal.returns
-returns c = λ zeros n fits short. reads_back zeros n fits short

@@ -1,7 +1,0 @@
-use Rattle.std.proofs.Common.{◌∙◌, ap}
-use Rattle.rcu_report.specs.Replicas.{Replicated, cpus_of}
-use Rattle.rcu_torture.proofs.PairLemmas.{cpus_kept}
-use Rattle.rcu_torture.proofs.pair_machine.answer.Goals as goal
-
-pub returns-in-Ok-clause-cpus : goal.returns-in-Ok-clause-cpus
-returns-in-Ok-clause-cpus g c = ap (λ (r : Replicated). cpus_of r) c.in-Ok.ensures.ok ∙ cpus_kept c.args.mine.now c.args.other.now c.args.event.now
