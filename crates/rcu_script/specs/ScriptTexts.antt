@@ -17,7 +17,9 @@ noted_text n false = codes "noted " ++ (decimal n ++ codes " clear\n")
 
 -- a report and its place among all reports
 abbrev pub made_text : ℕ → Report → List ℕ
-made_text place report = codes "report " ++ (decimal place ++ (codes " cpu " ++ (decimal report.cpu ++ (codes " tag " ++ (decimal report.tag ++ codes "\n")))))
+made_text place report =
+    codes "report " ++ (decimal place ++ (codes " cpu " ++ (decimal report.cpu
+    ++ (codes " tag " ++ (decimal report.tag ++ codes "\n")))))
 
 -- the word for what a report did
 abbrev pub answer_text : Answer → List ℕ

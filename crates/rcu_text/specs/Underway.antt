@@ -6,7 +6,8 @@ use Rattle.rcu_text.specs.Outputs.{Out, Sends, Stops}
 
 -- the line is answered by a reply that went out in this way: whatever held of the lines and the text before, for whoever was
 -- opened, holds now with the line and the reply behind them. Of the line only what is kept of it makes a difference
-pub record Replied {S : Type 0} (before after : S → List (List ℕ) → List ℕ → Type 0) (line : List ℕ) (went : List ℕ → Type 0) : Type 0 where
+pub record Replied {S : Type 0} (before after : S → List (List ℕ) → List ℕ → Type 0) (line : List ℕ)
+    (went : List ℕ → Type 0) : Type 0 where
   pub reply : List ℕ
   pub out : went reply
   pub told : (opened : S) (lines : List (List ℕ)) (text whole : List ℕ) → before opened lines text → kept_of line ≡ kept_of whole
@@ -19,7 +20,8 @@ pub record Stands (past : List (List ℕ) → List ℕ → Type 0) (lines : List
   pub out : went text
 
 -- behind these lines and their text one line more was answered, by a reply that went out in this way
-pub record OneMore (past : List (List ℕ) → List ℕ → Type 0) (lines : List (List ℕ)) (text line : List ℕ) (went : List ℕ → Type 0) : Type 0 where
+pub record OneMore (past : List (List ℕ) → List ℕ → Type 0) (lines : List (List ℕ)) (text line : List ℕ)
+    (went : List ℕ → Type 0) : Type 0 where
   pub reply : List ℕ
   pub told : past (lines ++ line ∷ []) (text ++ reply)
   pub out : went reply

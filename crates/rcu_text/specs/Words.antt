@@ -21,7 +21,8 @@ value_of digits = fold (λ n b. 10 * n + (b - 48)) 0 digits
 
 -- a number: 1 to 20 digits whose value fits 64 bits; leading zeros may stand
 abbrev pub is_number : List ℕ → Bool
-is_number word = nat_lt 0 (length word) && (nat_le (length word) 20 && (list_all is_digit word && nat_lt (value_of word) (2 ^ 64)))
+is_number word =
+    nat_lt 0 (length word) && (nat_le (length word) 20 && (list_all is_digit word && nat_lt (value_of word) (2 ^ 64)))
 
 -- the number that a word spells
 abbrev pub number_of : List ℕ → Option ℕ

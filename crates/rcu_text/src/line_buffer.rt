@@ -5,10 +5,12 @@ ghost use Rattle.rcu_text.specs.Lines.{kept_of};
 use arrayvec::ArrayVec;
 use std::marker::Model;
 
-/// How many bytes of a line are kept: one more than a line may have, so that a longer one is known to be longer.
+/// How many bytes of a line are kept: one more than a line may have, so that a longer one is known
+/// to be longer.
 const KEPT: usize = 81;
 
-/// The line that is being read, of which the first 81 bytes are kept. Contracts see the list of these bytes.
+/// The line that is being read, of which the first 81 bytes are kept. Contracts see the list of
+/// these bytes.
 #[derive(Drop)]
 pub struct LineBuffer {
     bytes: ArrayVec<u8, KEPT>,

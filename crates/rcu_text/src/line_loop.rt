@@ -42,7 +42,8 @@ pub fn run<A: Responder, R: Source, W: Sink>(
     reader: &mut R,
     writer: &mut W,
 ) -> Result<(), StreamFault>
-    ensures { A.past responder.old responder.old [] [] → Ran result (A.past responder.old responder.new)
+    ensures { A.past responder.old responder.old [] []
+        → Ran result (A.past responder.old responder.new)
         (ends_of (R.incoming reader.old) (W.outgoing writer.old))
         (ends_of (R.incoming reader.new) (W.outgoing writer.new)) }
 {
@@ -57,7 +58,8 @@ fn run_through<A: Responder, R: Source, O: Output>(
     out: &mut O,
 ) -> Result<(), StreamFault>
     requires { (O.out out.old).waiting ≡ [] }
-    ensures ran { A.past responder.old responder.old [] [] → Ran result (A.past responder.old responder.new)
+    ensures ran { A.past responder.old responder.old [] []
+        → Ran result (A.past responder.old responder.new)
         (ends_of (R.incoming reader.old) (O.out out.old).writer)
         (ends_of (R.incoming reader.new) (O.out out.new).writer) }
     ensures same { (O.out out.new).name ≡ (O.out out.old).name }
@@ -93,7 +95,8 @@ fn finish<A: Responder, O: Output>(
 ) -> Result<(), Failed>
     ensures goes { (opened : A) (start : Out) (bytes : List ℕ)
         → Underway (A.past opened responder.old) start (O.out out.old) line.now bytes
-        → Stands (A.past opened responder.new) (lines_of bytes) (Puts result start (O.out out.new)) }
+        → Stands (A.past opened responder.new) (lines_of bytes)
+        (Puts result start (O.out out.new)) }
     ensures empty { OnOk result ((O.out out.new).waiting ≡ []) }
     ensures same { (O.out out.new).name ≡ (O.out out.old).name }
 {
@@ -113,7 +116,8 @@ fn take_piece<A: Responder, O: Output>(
 ) -> Result<(), Failed>
     ensures goes { (opened : A) (start : Out) (bytes : List ℕ)
         → Underway (A.past opened responder.old) start (O.out out.old) line.old bytes
-        → GoesOn result (A.past opened responder.new) start (O.out out.new) line.new (bytes ++ piece.now) }
+        → GoesOn result (A.past opened responder.new) start (O.out out.new) line.new
+        (bytes ++ piece.now) }
     ensures empty { OnOk result ((O.out out.new).waiting ≡ []) }
     ensures same { (O.out out.new).name ≡ (O.out out.old).name }
 {
@@ -130,7 +134,8 @@ fn take_lines<A: Responder, O: Output>(
 ) -> Result<(), Failed>
     ensures goes { (opened : A) (start : Out) (bytes : List ℕ)
         → Underway (A.past opened responder.old) start (O.out out.old) line.old bytes
-        → GoesOn result (A.past opened responder.new) start (O.out out.new) line.new (bytes ++ piece.now) }
+        → GoesOn result (A.past opened responder.new) start (O.out out.new) line.new
+        (bytes ++ piece.now) }
     ensures same { (O.out out.new).name ≡ (O.out out.old).name }
 {
     let mut rest = piece;

@@ -36,8 +36,8 @@ pub trait Sink {
     fn has_failed(&self) -> bool
         ensures { result ≡ (outgoing self.now).failed };
 
-    /// Takes a front of the bytes, at least one where there is one, and answers how many. At `Failed`
-    /// it took none.
+    /// Takes a front of the bytes, at least one where there is one, and answers how many. At
+    /// `Failed` it took none.
     fn write(&mut self, bytes: &[u8]) -> Result<usize, Failed>
         ensures bound { WritesAtMost result bytes.now }
         ensures some { 0 < length bytes.now → IfOk result (λ n. 0 < n) }

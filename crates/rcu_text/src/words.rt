@@ -60,7 +60,8 @@ fn long_number(word: &[u8]) -> Option<u64>
 /// The value of at most 19 digits.
 fn digits(word: &[u8]) -> Option<u64>
     requires { length word.now ≤ 19 }
-    ensures value { result ≡ (if list_all is_digit word.now then Some (value_of word.now) else None) }
+    ensures value { result
+        ≡ (if list_all is_digit word.now then Some (value_of word.now) else None) }
     ensures fits { IfSome result (λ n. n < 2 ^ 64) }
 {
     let mut value = 0;

@@ -22,8 +22,9 @@ pub enum Order {
 
 /// Reads the program's arguments, which are the words without its name.
 ///
-/// An error is `clap`'s: its text says what is wrong with the words, or is the help that they ask for. The kind
-/// `OutOfMemory` stands for a growth that was refused, and tests show that it comes only then.
+/// An error is `clap`'s: its text says what is wrong with the words, or is the help that they ask
+/// for. The kind `OutOfMemory` stands for a growth that was refused, and tests show that it comes
+/// only then.
 pub fn read_command<'a>(alloc: Global, words: &'a [&'a str]) -> Result<Order, Error>
     ensures order { IfOk result (IsOrderOf (subcommand_of rcu (map (λ word. word.now) words.now))) }
     ensures fails { FailsBy (fault_of rcu (map (λ word. word.now) words.now)) result }
@@ -51,7 +52,8 @@ fn rcu_with_script<'a>(alloc: Global) -> Result<Command<'a>, AllocError>
 }
 
 fn script_command<'a>(alloc: Global) -> Result<Command<'a>, AllocError>
-    ensures { IfOk result (λ command. (app_of command ≡ script) × ((fields_of command).has_globals ≡ false)) }
+    ensures app { IfOk result (λ command. app_of command ≡ script) }
+    ensures local { IfOk result (λ command. (fields_of command).has_globals ≡ false) }
 {
     Command::new(alloc, "script")
         .about("Answers the script on standard input")
@@ -62,7 +64,8 @@ fn script_command<'a>(alloc: Global) -> Result<Command<'a>, AllocError>
 }
 
 fn pair_command<'a>(alloc: Global) -> Result<Command<'a>, AllocError>
-    ensures { IfOk result (λ command. (app_of command ≡ pair) × ((fields_of command).has_globals ≡ false)) }
+    ensures app { IfOk result (λ command. app_of command ≡ pair) }
+    ensures local { IfOk result (λ command. (fields_of command).has_globals ≡ false) }
 {
     shapes_command(alloc)?
         .arg(u32_option(alloc, "cpus", "Number of processors of each replica"))?
@@ -71,7 +74,8 @@ fn pair_command<'a>(alloc: Global) -> Result<Command<'a>, AllocError>
 
 /// The subcommand `pair` with the options of both shapes.
 fn shapes_command<'a>(alloc: Global) -> Result<Command<'a>, AllocError>
-    ensures { IfOk result (λ command. (app_of command ≡ shapes) × ((fields_of command).has_globals ≡ false)) }
+    ensures app { IfOk result (λ command. app_of command ≡ shapes) }
+    ensures local { IfOk result (λ command. (fields_of command).has_globals ≡ false) }
 {
     Command::new(alloc, "pair")
         .about("Answers the lines of two replicas on standard input")
@@ -107,7 +111,8 @@ fn last_option<'a>(alloc: Global) -> Arg<'a>
 
 /// What the subcommand that `clap` met orders.
 fn order_of(matches: &ArgMatches<'_>) -> Option<Order>
-    ensures { let met = subcommand_rows_of matches.now in MatchOption result (HasNoOrder met) (IsOrderOf met) }
+    ensures { let met = subcommand_rows_of matches.now in
+        MatchOption result (HasNoOrder met) (IsOrderOf met) }
 {
     let (name, found) = matches.subcommand()?;
     order_named(name, found)
@@ -116,7 +121,8 @@ fn order_of(matches: &ArgMatches<'_>) -> Option<Order>
 /// What the subcommand of this name orders by its matches.
 #[tactic(auto, using(crate::proofs::CommandLemmas::no_script, crate::proofs::CommandLemmas::no_pair))]
 fn order_named(name: &str, matches: &ArgMatches<'_>) -> Option<Order>
-    ensures { let met = Some (name.now, rows_of (found_of matches.now)) in MatchOption result (HasNoOrder met) (IsOrderOf met) }
+    ensures { let met = Some (name.now, rows_of (found_of matches.now)) in
+        MatchOption result (HasNoOrder met) (IsOrderOf met) }
 {
     match name {
         "script" => Some(Order::Script(setup_of(matches, "leaf", "inner")?)),
@@ -127,7 +133,9 @@ fn order_named(name: &str, matches: &ArgMatches<'_>) -> Option<Order>
 
 /// The setup that the options give. Those of the second replica's tree have these names.
 fn setup_of(matches: &ArgMatches<'_>, leaf2: &str, inner2: &str) -> Option<Setup>
-    ensures { let rows = rows_of (found_of matches.now) in MatchOption result (HasNoSetup leaf2.now inner2.now rows) (IsSetupOf leaf2.now inner2.now rows) }
+    ensures { let rows = rows_of (found_of matches.now) in
+        MatchOption result (HasNoSetup leaf2.now inner2.now rows)
+        (IsSetupOf leaf2.now inner2.now rows) }
 {
     Some(Setup {
         leaf: u32_of(matches, "leaf")?,

@@ -20,7 +20,8 @@ use rcu_seq::fault::Fault;
 use rcu_text::{Failed, Line, Output, Responder};
 use std::marker::Model;
 
-/// Two replicas, of any awaited sets, that reply to lines. Contracts see both. No line takes memory.
+/// Two replicas, of any awaited sets, that reply to lines. Contracts see both. No line takes
+/// memory.
 #[derive(Drop)]
 pub struct PairMachine<A: Awaited, B: Awaited> {
     a: Replica<A>,

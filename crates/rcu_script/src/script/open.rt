@@ -13,8 +13,8 @@ use std::alloc::Global;
 
 /// A core over the tree of two fanouts, in the situation of the empty history.
 ///
-/// Faults: 18 and 17 as [`Geometry::new`] has them, 19 as [`Seq::new`] has it, then 16. What takes no
-/// memory is tested first.
+/// Faults: 18 and 17 as [`Geometry::new`] has them, 19 as [`Seq::new`] has it, then 16. What takes
+/// no memory is tested first.
 pub fn open<const LEAF: u32, const INNER: u32>(
     alloc: Global,
     cpus: u32,

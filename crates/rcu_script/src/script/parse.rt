@@ -114,7 +114,8 @@ fn event_of_two(name: &[u8], first: u64, second: u64) -> Option<Event>
     }
 }
 
-/// A processor. A number that does not fit 32 bits becomes the greatest one that does, which is no processor either.
+/// A processor. A number that does not fit 32 bits becomes the greatest one that does, which is no
+/// processor either.
 pub fn cpu_of_number(n: u64) -> u32
     ensures { result ≡ cpu_of n }
 {
