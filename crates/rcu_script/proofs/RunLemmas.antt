@@ -1,8 +1,8 @@
 -- What a run over the lines leaves, as what the whole run leaves.
-use Rattle.std.proofs.Common.{◌≡◌, ◌++◌, ℕ, List, Option, Some, None, Result, Ok, Err, IfSome}
+use Rattle.std.proofs.Common.{◌≡◌, ◌++◌, ℕ, List, Option, Some, None, Ok, Err, IfSome}
 use Rattle.rcu_seq.specs.declared.fault.Fault.{Fault}
 use Rattle.rcu_text.specs.Lines.{cut_of, lines_of}
-use Rattle.rcu_text.specs.Runs.{Answered, BrokenOff, Ends, Finished, Ran, StoppedReading, StoppedWriting}
+use Rattle.rcu_text.specs.Runs.{Answered, BrokenOff, Ends, Finished, Ran}
 use Rattle.rcu_text.specs.declared.line_loop.StreamFault.{StreamFault}
 use Rattle.rcu_text.specs.declared.line_loop.StreamFault.TheVariants as stream
 use Rattle.rcu_script.specs.RunEnds.{RanFrom, fault_of}

@@ -1,6 +1,5 @@
-use Rattle.std.proofs.Common.{[], refl, sym, ◌∙◌, subst}
+use Rattle.std.proofs.Common.{[], refl, subst}
 use Rattle.rcu_core.specs.Replies.{Size}
-use Rattle.rcu_script.specs.Opening.{size_at}
 use Rattle.rcu_script.specs.ScriptAnswers.{IsAnswer}
 use Rattle.rcu_script.proofs.ExactLemmas.{is_answer}
 use Rattle.rcu_script.proofs.RunLemmas.{finished_from, stopped_from}

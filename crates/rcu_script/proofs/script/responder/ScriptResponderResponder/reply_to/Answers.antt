@@ -1,6 +1,5 @@
 use Rattle.std.proofs.Common.{refl, [], ◌∙◌, subst}
 use Rattle.rcu_seq.specs.declared.fault.Fault.TheVariants as fault
-use Rattle.rcu_core.specs.History.{History}
 use Rattle.rcu_core.specs.Replies.{IsLegalReply, Size, after, situation}
 use Rattle.rcu_core.specs.State.{size_at}
 use Rattle.rcu_core.specs.declared.reply.Reply.TheVariants as reply
