@@ -66,9 +66,9 @@ number_in v = number_at v.ends v.running
 abbrev pub how_many : Size → (ℕ → Bool) → ℕ
 how_many s test = count_by test (range_with_len 0 s.cpus)
 
--- the processors that pass a test, ascending
-abbrev pub which : Size → (ℕ → Bool) → List ℕ
-which s test = filter test (range_with_len 0 s.cpus)
+-- the processors below n that pass a test, ascending
+abbrev pub which : ℕ → (ℕ → Bool) → List ℕ
+which n test = filter test (range_with_len 0 n)
 
 -- the number is the last one
 abbrev pub is_last_in : Size → Situation → Bool
@@ -161,7 +161,7 @@ said s v (Offline cpu) = reply.Moved (length (callbacks (v.list cpu)))
 said s v Begin = begun s v
 said s v End = ended v
 said s v Turn = turned s v
-said s v Awaits = reply.Awaits (which s v.awaits)
+said s v Awaits = reply.Awaits (which s.cpus v.awaits)
 said s v Take = reply.Cookie (record { 0 = snapshot_at v.ends v.running })
 said s v StartPoll = reply.Cookie (record { 0 = snapshot_at v.ends v.running })
 said s v (Poll cookie) = reply.Polled (is_done_at cookie (number_in v))

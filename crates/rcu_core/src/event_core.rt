@@ -1,11 +1,10 @@
 //! The machine over events.
-ghost use Rattle.std.specs.Prelude.{◌≡◌, ◌<◌, ℕ, true, false, [], Some, None, filter, length, replicate, IfErr, IfNone, IfOk, IfSome, OnErr};
-ghost use Rattle.std.specs.List.{range_with_len};
+ghost use Rattle.std.specs.Prelude.{◌≡◌, ◌<◌, ℕ, true, false, [], Some, None, length, replicate, IfErr, IfNone, IfOk, IfSome, OnErr};
 ghost use Rattle.rcu_seq.specs.Numbers.{is_last};
 ghost use Rattle.rcu_node.specs.CpuSets.{is_in, size_of};
 ghost use Rattle.rcu_cpu.specs.Processors.{made};
 ghost use Rattle.rcu_core.specs.History.{History, report_at};
-ghost use Rattle.rcu_core.specs.Replies.{fault_in};
+ghost use Rattle.rcu_core.specs.Replies.{fault_in, which};
 ghost use Rattle.rcu_core.specs.Runs.{Ran};
 ghost use Rattle.rcu_core.specs.State.{Does, Goes, Has, says, size_at};
 
@@ -65,7 +64,7 @@ fn report_of(reports: &[Report], place: u64) -> Option<Report>
 
 /// The awaited processors, ascending.
 fn list_awaited<A: Awaited>(alloc: Global, awaited: &A) -> Result<CpuList, AllocError>
-    ensures ok { IfOk result (λ list. list ≡ filter (is_in (A.awaited awaited.now)) (range_with_len 0 (length (A.awaited awaited.now)))) }
+    ensures ok { IfOk result (λ list. list ≡ which (length (A.awaited awaited.now)) (is_in (A.awaited awaited.now))) }
     ensures err { OnErr result (0 < size_of (A.awaited awaited.now)) }
 {
     let mut list = CpuList::new(alloc);

@@ -1,12 +1,11 @@
 -- The one right text that answers the lines of a pair.
-use Rattle.std.specs.Prelude.{◌≡◌, ℕ, Bool, true, false, List, [], ◌∷◌, ◌++◌, length, filter, codes, Option, Some, None}
-use Rattle.std.specs.List.{range_with_len}
+use Rattle.std.specs.Prelude.{◌≡◌, ℕ, Bool, true, false, List, [], ◌∷◌, ◌++◌, length, codes, Option, Some, None}
 use Rattle.rcu_seq.specs.declared.fault.Fault.{Fault}
 use Rattle.rcu_seq.specs.declared.fault.Fault.TheVariants.{BadLine}
 use Rattle.rcu_node.specs.CpuSets.{is_in}
 use Rattle.rcu_node.specs.Merging.{same_set}
 use Rattle.rcu_report.specs.Replicas.{Replicated}
-use Rattle.rcu_core.specs.Replies.{Size}
+use Rattle.rcu_core.specs.Replies.{Size, which}
 use Rattle.rcu_core.specs.declared.reply.Reply.TheVariants as say
 use Rattle.rcu_text.specs.Texts.{numbered_text}
 use Rattle.rcu_text.specs.declared.line_shape.Line.{Line}
@@ -21,7 +20,7 @@ use Rattle.rcu_script.specs.declared.pair.event.PairReply.TheVariants.{Begun, An
 
 -- the processors of a set, ascending
 abbrev pub members_of : List Bool → List ℕ
-members_of set = filter (is_in set) (range_with_len 0 (length set))
+members_of set = which (length set) (is_in set)
 
 -- the line that says a reply of a replica that awaits this set
 abbrev pub pair_text : List Bool → PairReply → List ℕ
