@@ -10,6 +10,30 @@ use std::alloc::{AllocError, Global};
 /// How many lines a script has.
 const LENGTH: usize = 250;
 
+/// The scripts: how many processors, the last number, and a seed.
+static SEEDS: [(u32, u64, u64); 20] = [
+    (1, 4, 1),
+    (1, 400, 2),
+    (2, 8, 3),
+    (2, 400, 4),
+    (2, 400, 5),
+    (3, 12, 6),
+    (3, 400, 7),
+    (4, 400, 8),
+    (4, 400, 9),
+    (6, 400, 10),
+    (2, 400, 11),
+    (3, 400, 12),
+    (2, 400, 13),
+    (3, 400, 14),
+    (4, 400, 15),
+    (5, 400, 16),
+    (2, 16, 17),
+    (2, 400, 18),
+    (3, 400, 19),
+    (4, 400, 20),
+];
+
 /// Lines outside the grammar, and one that is too long.
 static MALFORMED: [&str; 8] = [
     "frob",
@@ -36,9 +60,9 @@ static SHOWN: [(&str, &str, u64); 10] = [
     ("repeat", "", 8),
 ];
 
-/// What leads an event on: from a note to the delivery of the report; from an end to a tend and a
-/// run of each list; and from a barrier's begin to a visit of each processor, and at last to a
-/// test.
+/// What leads an event on: from a note to the delivery of the report; from some callbacks to a
+/// departure that moves them; from an end to a tend and a run of each list; and from a barrier's
+/// begin to a visit of each processor, and at last to a test.
 fn next_of(event: Event, cpus: u32, reports: u64) -> Option<Event> {
     match event {
         Event::Note(cpu) => Some(Event::Quiesce(cpu)),
@@ -74,7 +98,7 @@ fn useful(cpus: u32, past: &[Event]) -> Event {
 }
 
 /// Any event: of a processor, which at times is none, of a report up to one that was not made, or
-/// of a cookie below 80.
+/// of a cookie below 40.
 fn any_event(rng: &mut Pcg32, cpus: u32, reports: u64) -> Event {
     let number = u64::from(rng.next_u32() % 40);
     let cpu = rng.next_u32() % cpus.saturating_add(1).max(1);
@@ -176,28 +200,7 @@ pub fn count_lines(text: &str, front: &str, but: &str) -> u64 {
 #[test]
 fn drawn_scripts_get_the_replies_of_the_model(rt: HostRuntime) {
     let mut found = [0u64; SHOWN.len()];
-    for (cpus, last, seed) in [
-        (1, 4, 1),
-        (1, 400, 2),
-        (2, 8, 3),
-        (2, 400, 4),
-        (2, 400, 5),
-        (3, 12, 6),
-        (3, 400, 7),
-        (4, 400, 8),
-        (4, 400, 9),
-        (6, 400, 10),
-        (2, 400, 11),
-        (3, 400, 12),
-        (2, 400, 13),
-        (3, 400, 14),
-        (4, 400, 15),
-        (5, 400, 16),
-        (2, 16, 17),
-        (2, 400, 18),
-        (3, 400, 19),
-        (4, 400, 20),
-    ] {
+    for (cpus, last, seed) in SEEDS {
         let (script, replies) = match draw(rt.alloc(), cpus, last, seed) {
             Ok(drawn) => drawn,
             Err(_) => draw(rt.alloc(), cpus, last, seed).expect(&rt, "memory for a script"),
