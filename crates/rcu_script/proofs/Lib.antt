@@ -5,4 +5,5 @@ pub mod PairCalls
 pub mod PairLemmas
 pub mod PairLineLemmas
 pub mod PairSets
+pub mod ParseLemmas
 pub mod RunLemmas

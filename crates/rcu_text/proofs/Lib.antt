@@ -5,6 +5,7 @@ pub mod LineLemmas
 pub mod NumberLemmas
 pub mod OutputLemmas
 pub mod PlaceLemmas
+pub mod PrintableLemmas
 pub mod RunLemmas
 pub mod StreamLemmas
 pub mod UnderwayLemmas

@@ -6,7 +6,7 @@ use Rattle.std.specs.Io.KnownBytes.{Consumes, Keeps, IsAtEnd}
 use Rattle.rcu_text.specs.Lines.{cut_of, lines_of}
 use Rattle.rcu_text.specs.Outputs.{Out, Sends, Stops}
 use Rattle.rcu_text.specs.Runs.{Answered, BrokenOff, Finished, StoppedReading, StoppedWriting, ends_of}
-use Rattle.rcu_text.specs.Streams.{Incoming, Outgoing}
+use Rattle.rcu_text.specs.Streams.{Incoming}
 use Rattle.rcu_text.specs.Underway.{Stands, StoppedAmong, Underway}
 use Rattle.rcu_text.proofs.CutLemmas.{ended_grows}
 use Rattle.rcu_text.proofs.OutputLemmas.{Sends-nil, Sends-taken, Stops-taken}

@@ -7,7 +7,7 @@ use crate::streams::{Failed, Sink};
 use arrayvec::ArrayVec;
 
 /// How many bytes wait at most: a page.
-pub const BLOCK: usize = 4096;
+const BLOCK: usize = 4096;
 
 /// What texts are put into. They wait in a block, so room is made first, and then a text is put
 /// without a refusal.

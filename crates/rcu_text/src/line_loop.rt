@@ -5,9 +5,12 @@ ghost use Rattle.rcu_text.specs.Outputs.{Out, Puts};
 ghost use Rattle.rcu_text.specs.Runs.{Ran, ends_of};
 ghost use Rattle.rcu_text.specs.Underway.{GoesOn, OneMore, Replied, Stands, Underway};
 
-use crate::block_writer::{BLOCK, BlockWriter, Output};
+use crate::block_writer::{BlockWriter, Output};
 use crate::line_buffer::LineBuffer;
 use crate::streams::{Failed, Sink, Source};
+
+/// How many bytes are read at once: some pages, so that a read costs little beside its lines.
+const BLOCK: usize = 16_384;
 
 /// Replies to lines, one at a time.
 pub trait Responder {

@@ -5,7 +5,7 @@ ghost use Rattle.rcu_text.specs.Lines.{is_printable};
 ghost use Rattle.rcu_text.specs.Lines.{is_well_formed as well_formed};
 
 /// How many bytes a line has at most, its end not counted.
-const LONGEST: usize = 80;
+pub const LONGEST: usize = 80;
 
 /// What a line is.
 #[derive(Debug, Drop, PartialEq, Eq)]

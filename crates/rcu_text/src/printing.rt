@@ -5,10 +5,13 @@ ghost use Rattle.rcu_text.specs.Texts.{counts_text, numbered, numbered_text, spa
 
 use crate::block_writer::Output;
 use crate::streams::Failed;
-use itoa::Buffer;
+use itoa::write_digits;
 
 /// How many bytes a reply has at most, where it lists nothing.
 pub const LONGEST_REPLY: usize = 128;
+
+/// How many digits a number has at most.
+const MOST_DIGITS: usize = 20;
 
 /// How many bytes a number has at most, with a space before it.
 const LONGEST_NUMBER: usize = 21;
@@ -99,6 +102,7 @@ fn push_digits<O: Output>(out: &mut O, n: u64)
     ensures puts { O.out out.new ≡ behind (O.out out.old) (decimal n) }
     ensures short { length (decimal n) ≤ 20 }
 {
-    let mut digits = Buffer::new();
-    out.put_text(digits.format(n).as_bytes());
+    let mut digits = [0; MOST_DIGITS];
+    let start = write_digits(n, &mut digits, MOST_DIGITS);
+    out.put_text(&digits[start..]);
 }

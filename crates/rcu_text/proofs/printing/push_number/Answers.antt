@@ -1,4 +1,4 @@
-use Rattle.std.proofs.Common.{◌≡◌, ◌≤◌, ◌+◌, ◌∷◌, [], length, arith, ap}
+use Rattle.std.proofs.Common.{◌≡◌, ◌+◌, ◌∷◌, [], arith}
 use Rattle.std.proofs.lemmas.Fmt.{decimal_digit}
 use Rattle.std.specs.Prelude.{decimal}
 use Rattle.rcu_text.proofs.printing.push_number.Goals as goal

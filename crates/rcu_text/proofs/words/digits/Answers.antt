@@ -1,4 +1,4 @@
-use Rattle.std.proofs.Common.{◌<◌, ◌≤◌, ◌+◌, ◌*◌, ◌^◌, arith, rules}
+use Rattle.std.proofs.Common.{◌<◌, arith, rules}
 use Rattle.rcu_text.proofs.NumberLemmas.{next_digit_fits}
 use Rattle.rcu_text.proofs.words.digits.Goals as goal
 
