@@ -8,9 +8,10 @@ use Rattle.std.proofs.lemmas.List.Elements.{All-nil, All-cons, All-head, All-tai
 use borrow.Author.Tests.{leb-false, ltb-true}
 use Rattle.rcu_seq.specs.Numbers.{Number}
 use Rattle.rcu_cblist.specs.declared.queued.Queued.{Queued}
-use Rattle.rcu_cblist.specs.Items.{Item, Of, Marker, Unmarked, Until, Done, IsAtMost, accelerated, advanced, behind, entrained, from_callback, front, has_other, has_two, mark_given, moved, numbers, remarked, taken, unmarked, untaken}
-use Rattle.rcu_barrier.specs.Tending.{AreFours, MayWait, has_unmarked, is_unmarked, mark_tended, snapshot, tended}
-use Rattle.rcu_barrier.specs.AllLists.{AllFours, leaving}
+use Rattle.rcu_cblist.specs.SegList.{Item, Of, Marker, Unmarked, Until, Done, IsAtMost, after_accelerate, after_advance, behind, after_entrain, from_callback, front, has_other, has_two, mark_given, after_migrate, numbers, remarked, take_answer, without_mark, after_take}
+use Rattle.rcu_barrier.specs.Tending.{AreFours, MayWait, has_unmarked, is_unmarked, mark_after_tend, after_tend}
+use Rattle.rcu_seq.specs.Numbers.{snapshot}
+use Rattle.rcu_barrier.specs.Lists.{AllFours, as_it_leaves}
 
 -- where neither of two tests passes, the second does not
 last_of : (a b : Bool) → (a || b) ≡ false → b ≡ false
@@ -71,32 +72,32 @@ other_one call number n xs false is state four none =
         ]
 
 other_none : {X : Type 0} (number : ℕ) (xs : List (Item X)) → number % 4 ≤ 1 → AreFours xs →
-    has_other (snapshot number) (snapshot number - 4) (numbers (advanced number xs)) ≡ false
+    has_other (snapshot number) (snapshot number - 4) (numbers (after_advance xs number)) ≡ false
 other_none number [] state fours = refl
 other_none number (Of call Unmarked ∷ xs) state fours = other_none number xs state fours
 other_none number (Of call (Until n) ∷ xs) state fours =
-    other_one call number n (advanced number xs) (nat_le n number) refl state fours.0 (other_none number xs state fours.1)
+    other_one call number n (after_advance xs number) (nat_le n number) refl state fours.0 (other_none number xs state fours.1)
 other_none number (Of call Done ∷ xs) state fours = other_none number xs state fours
 other_none number (Marker ∷ xs) state fours = other_none number xs state fours
 
 -- after an advance no two numbers below the snapshot differ
 two_none : {X : Type 0} (number : ℕ) (xs : List (Item X)) → number % 4 ≤ 1 → AreFours xs →
-    has_two (snapshot number) (numbers (advanced number xs)) ≡ false
+    has_two (snapshot number) (numbers (after_advance xs number)) ≡ false
 two_none number xs state fours =
-    let left = numbers (advanced number xs) in
+    let left = numbers (after_advance xs number) in
     let none = other_none number xs state fours in
     one_below (snapshot number) (snapshot number - 4) left left none none
 
 -- the marks of an advance and of an acceleration, one after the other
 given_all : {X : Type 0} (number : ℕ) (xs : List (Item X)) →
-    map (remarked (mark_given (snapshot number))) (advanced number xs) ≡ tended number xs
+    map (remarked (mark_given (snapshot number))) (after_advance xs number) ≡ after_tend xs number
 given_all number [] = refl
-given_all number (Of call mark ∷ xs) = ap (λ l. Of call (mark_tended number mark) ∷ l) (given_all number xs)
+given_all number (Of call mark ∷ xs) = ap (λ l. Of call (mark_after_tend number mark) ∷ l) (given_all number xs)
 given_all number (Marker ∷ xs) = ap (λ l. Marker ∷ l) (given_all number xs)
 
 -- an advance and an acceleration are a tend
 pub tend_is : {X : Type 0} (number : ℕ) (xs : List (Item X)) → number % 4 ≤ 1 → AreFours xs →
-    accelerated (snapshot number) (advanced number xs) ≡ tended number xs
+    after_accelerate (after_advance xs number) (snapshot number) ≡ after_tend xs number
 tend_is number xs state fours = rw (two_none number xs state fours) (given_all number xs)
 
 most_at : {X : Type 0} (call : Queued X) (snap n : ℕ) (xs : List (Item X)) (reached : Bool) → n ≤ snap → IsAtMost snap xs →
@@ -105,11 +106,11 @@ most_at call snap n xs true within rest = rest
 most_at call snap n xs false within rest = All-cons (λ k. k ≤ snap) n (numbers xs) within rest
 
 -- an advance leaves numbers within a bound
-pub most_advanced : {X : Type 0} (number snap : ℕ) (xs : List (Item X)) → IsAtMost snap xs → IsAtMost snap (advanced number xs)
+pub most_advanced : {X : Type 0} (number snap : ℕ) (xs : List (Item X)) → IsAtMost snap xs → IsAtMost snap (after_advance xs number)
 most_advanced number snap [] within = within
 most_advanced number snap (Of call Unmarked ∷ xs) within = most_advanced number snap xs within
 most_advanced number snap (Of call (Until n) ∷ xs) within =
-    most_at call snap n (advanced number xs) (nat_le n number) (All-head (λ k. k ≤ snap) n (numbers xs) within)
+    most_at call snap n (after_advance xs number) (nat_le n number) (All-head (λ k. k ≤ snap) n (numbers xs) within)
     (most_advanced number snap xs (All-tail (λ k. k ≤ snap) n (numbers xs) within))
 most_advanced number snap (Of call Done ∷ xs) within = most_advanced number snap xs within
 most_advanced number snap (Marker ∷ xs) within = most_advanced number snap xs within
@@ -123,11 +124,11 @@ left_at call number n xs false is four within rest =
 
 -- an advance leaves numbers that a callback may wait for
 pub left_may_wait : {X : Type 0} (number : ℕ) (xs : List (Item X)) → AreFours xs → IsAtMost (snapshot number) xs →
-    All (MayWait number) (numbers (advanced number xs))
+    All (MayWait number) (numbers (after_advance xs number))
 left_may_wait number [] fours within = All-nil (MayWait number)
 left_may_wait number (Of call Unmarked ∷ xs) fours within = left_may_wait number xs fours within
 left_may_wait number (Of call (Until n) ∷ xs) fours within =
-    left_at call number n (advanced number xs) (nat_le n number) refl fours.0
+    left_at call number n (after_advance xs number) (nat_le n number) refl fours.0
     (All-head (λ k. k ≤ snapshot number) n (numbers xs) within)
     (left_may_wait number xs fours.1 (All-tail (λ k. k ≤ snapshot number) n (numbers xs) within))
 left_may_wait number (Of call Done ∷ xs) fours within = left_may_wait number xs fours within
@@ -139,7 +140,7 @@ marked_at call snap n true rest none = none
 marked_at call snap n false rest none = none
 
 -- a tend leaves no callback without a mark
-pub all_marked : {X : Type 0} (number : ℕ) (xs : List (Item X)) → has_unmarked (tended number xs) ≡ false
+pub all_marked : {X : Type 0} (number : ℕ) (xs : List (Item X)) → has_unmarked (after_tend xs number) ≡ false
 all_marked number [] = refl
 all_marked number (Of call Unmarked ∷ xs) = all_marked number xs
 all_marked number (Of call (Until n) ∷ xs) = marked_at call (snapshot number) n (nat_le n number) _ (all_marked number xs)
@@ -152,11 +153,11 @@ fours_at call snap n xs true four rest = rest
 fours_at call snap n xs false four rest = (four, rest)
 
 -- each call leaves multiples of 4: a tend
-pub fours_tended : {X : Type 0} (number : ℕ) (xs : List (Item X)) → AreFours xs → AreFours (tended number xs)
+pub fours_tended : {X : Type 0} (number : ℕ) (xs : List (Item X)) → AreFours xs → AreFours (after_tend xs number)
 fours_tended number [] fours = tt
 fours_tended number (Of call Unmarked ∷ xs) fours = (omega arith, fours_tended number xs fours)
 fours_tended number (Of call (Until n) ∷ xs) fours =
-    fours_at call (snapshot number) n (tended number xs) (nat_le n number) fours.0 (fours_tended number xs fours.1)
+    fours_at call (snapshot number) n (after_tend xs number) (nat_le n number) fours.0 (fours_tended number xs fours.1)
 fours_tended number (Of call Done ∷ xs) fours = fours_tended number xs fours
 fours_tended number (Marker ∷ xs) fours = fours_tended number xs fours
 
@@ -177,16 +178,16 @@ fours_from (suc n) (Of call (Until k) ∷ xs) fours = fours_from n xs fours.1
 fours_from (suc n) (Of call Done ∷ xs) fours = fours_from n xs fours
 
 -- a take
-pub fours_untaken : {X : Type 0} (most : ℕ) (xs : List (Item X)) → AreFours xs → AreFours (untaken most xs)
-fours_untaken most xs fours = fours_from (length (taken most xs)) xs fours
+pub fours_untaken : {X : Type 0} (most : ℕ) (xs : List (Item X)) → AreFours xs → AreFours (after_take xs most)
+fours_untaken most xs fours = fours_from (length (take_answer xs most)) xs fours
 
 -- a marker
-pub fours_entrained : {X : Type 0} (xs : List (Item X)) → AreFours xs → AreFours (entrained xs)
+pub fours_entrained : {X : Type 0} (xs : List (Item X)) → AreFours xs → AreFours (after_entrain xs)
 fours_entrained [] fours = tt
 fours_entrained (x ∷ xs) fours = fours_append (x ∷ xs) (Marker ∷ []) fours tt
 
 -- a marker, if one is owed
-pub fours_leaving : {X : Type 0} (owed : Bool) (xs : List (Item X)) → AreFours xs → AreFours (leaving owed xs)
+pub fours_leaving : {X : Type 0} (owed : Bool) (xs : List (Item X)) → AreFours xs → AreFours (as_it_leaves xs owed)
 fours_leaving true xs fours = fours_entrained xs fours
 fours_leaving false xs fours = fours
 
@@ -197,15 +198,15 @@ fours_front (Of call Done ∷ xs) fours = fours_front xs fours
 fours_front (Of call Unmarked ∷ xs) fours = tt
 fours_front (Of call (Until n) ∷ xs) fours = tt
 
-fours_unmarked : {X : Type 0} (xs : List (Item X)) → AreFours (map unmarked xs)
+fours_unmarked : {X : Type 0} (xs : List (Item X)) → AreFours (map without_mark xs)
 fours_unmarked [] = tt
 fours_unmarked (Marker ∷ xs) = fours_unmarked xs
 fours_unmarked (Of call mark ∷ xs) = fours_unmarked xs
 
 -- a migration
-pub fours_moved : {X : Type 0} (xs ys : List (Item X)) → AreFours xs → AreFours ys → AreFours (moved xs ys)
+pub fours_moved : {X : Type 0} (xs ys : List (Item X)) → AreFours xs → AreFours ys → AreFours (after_migrate ys xs)
 fours_moved xs ys fours others =
-    fours_append (front xs ++ ys) (map unmarked (behind xs)) (fours_append (front xs) ys (fours_front xs fours) others)
+    fours_append (front xs ++ ys) (map without_mark (behind xs)) (fours_append (front xs) ys (fours_front xs fours) others)
     (fours_unmarked (behind xs))
 
 -- each of the lists has multiples of 4

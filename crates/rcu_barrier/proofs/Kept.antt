@@ -2,9 +2,9 @@
 use Rattle.std.proofs.Common.{◌≡◌, ◌≢◌, get_or-set_other, ℕ, ◌+◌, ◌<◌, ◌≤◌, Bool, true, false, not, ◌&&◌, ◌∙◌, List, [], length, set, get_or, refl, ap, sym, subst, arith}
 use Rattle.std.specs.Prelude.{replicate}
 use Rattle.std.proofs.lemmas.List.{length-replicate, length-set, get_or_default}
-use Rattle.rcu_cblist.specs.Items.{Item, markers, moved}
+use Rattle.rcu_cblist.specs.SegList.{Item, markers, after_migrate}
 use Rattle.rcu_barrier.specs.Tending.{AreFours}
-use Rattle.rcu_barrier.specs.AllLists.{AllFours, AllLists, AreKept, markers_in, most_queued, unvisited}
+use Rattle.rcu_barrier.specs.Lists.{AllFours, AllLists, IsSound, markers_in, most_queued, unvisited}
 use Rattle.rcu_barrier.proofs.Fours.{fours_get, fours_none, fours_moved, fours_set}
 use Rattle.rcu_barrier.proofs.Markers.{markers_moved, markers_none, markers_set, unvisited_all}
 
@@ -32,7 +32,7 @@ turned_false false marked is fails = let passes = sym fails ∙ is in cc
 -- what is kept at first
 pub kept_first : (X : Type 0) (cpus : ℕ) (lists : List (List (Item X))) (flags : List Bool) → 1 ≤ cpus → cpus ≤ 4096 →
     lists ≡ replicate cpus [] → flags ≡ replicate cpus true →
-    (0 ≡ markers_in lists) × AreKept (record { lists = lists; visited = flags; running = false; queued = 0 })
+    (0 ≡ markers_in lists) × IsSound (record { lists = lists; visited = flags; running = false; queued = 0 })
 kept_first X cpus lists flags some few empty all =
     let long : length lists ≡ cpus = ap length empty ∙ length-replicate cpus [] in
     let sized : length flags ≡ cpus = ap length all ∙ length-replicate cpus true in
@@ -52,11 +52,11 @@ kept_first X cpus lists flags some few empty all =
 
 -- one list changes, and perhaps visits and the count of queued callbacks
 pub relisted : {X : Type 0} (all : AllLists X) (m n queued cpu : ℕ) (old xs : List (Item X)) (flags : List Bool) →
-    m ≡ markers_in all.lists → AreKept all → cpu < length all.lists → old ≡ get_or all.lists cpu old →
+    m ≡ markers_in all.lists → IsSound all → cpu < length all.lists → old ≡ get_or all.lists cpu old →
     length flags ≡ length all.visited → n + markers old ≡ m + markers xs → n + unvisited flags ≤ m + unvisited all.visited →
     queued ≤ most_queued → (AreFours old → AreFours xs) →
     (n ≡ markers_in (set all.lists cpu xs))
-    × AreKept (record { lists = set all.lists cpu xs; visited = flags; running = all.running; queued = queued })
+    × IsSound (record { lists = set all.lists cpu xs; visited = flags; running = all.running; queued = queued })
 relisted all m n queued cpu old xs flags count kept inside read sized now fewer few keeps =
     let is = list_is all.lists cpu old inside read in
     let change = markers_set all.lists cpu xs inside in
@@ -80,23 +80,23 @@ relisted all m n queued cpu old xs flags count kept inside read sized now fewer 
 
 -- a list moves to the first one, perhaps with a marker behind it
 pub moved_kept : {X : Type 0} (all : AllLists X) (m n cpu : ℕ) (xs : List (Item X)) (flags : List Bool) →
-    m ≡ markers_in all.lists → AreKept all → 0 < cpu → cpu < length all.lists → length flags ≡ length all.visited →
+    m ≡ markers_in all.lists → IsSound all → 0 < cpu → cpu < length all.lists → length flags ≡ length all.visited →
     n + markers (get_or all.lists cpu []) ≡ m + markers xs → n + unvisited flags ≤ m + unvisited all.visited → AreFours xs →
-    (n ≡ markers_in (set (set all.lists 0 (moved xs (get_or all.lists 0 []))) cpu []))
-    × AreKept (record {
-      lists = set (set all.lists 0 (moved xs (get_or all.lists 0 []))) cpu [];
+    (n ≡ markers_in (set (set all.lists 0 (after_migrate (get_or all.lists 0 []) xs)) cpu []))
+    × IsSound (record {
+      lists = set (set all.lists 0 (after_migrate (get_or all.lists 0 []) xs)) cpu [];
       visited = flags;
       running = all.running;
       queued = all.queued;
     })
 moved_kept all m n cpu xs flags count kept other inside sized now fewer fours =
     let there = get_or all.lists 0 [] in
-    let first = set all.lists 0 (moved xs there) in
+    let first = set all.lists 0 (after_migrate there xs) in
     let zero_inside : 0 < length all.lists = omega arith in
-    let long_first = length-set all.lists 0 (moved xs there) in
+    let long_first = length-set all.lists 0 (after_migrate there xs) in
     let inside_first : cpu < length first = omega arith in
     let long = length-set first cpu [] in
-    let change_first = markers_set all.lists 0 (moved xs there) zero_inside in
+    let change_first = markers_set all.lists 0 (after_migrate there xs) zero_inside in
     let change = markers_set first cpu [] inside_first in
     let both = markers_moved xs there in
     let apart : cpu ≢ 0 = omega arith in
@@ -105,7 +105,7 @@ moved_kept all m n cpu xs flags count kept other inside sized now fewer fours =
     let some = kept.some in
     let most = kept.few in
     let within = kept.within in
-    let fours_first = fours_set all.lists 0 (moved xs there) kept.fours (fours_moved xs there fours (fours_get all.lists 0 kept.fours)) in (
+    let fours_first = fours_set all.lists 0 (after_migrate there xs) kept.fours (fours_moved xs there fours (fours_get all.lists 0 kept.fours)) in (
       omega arith,
       record {
         some = omega arith;

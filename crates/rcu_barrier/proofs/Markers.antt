@@ -3,8 +3,8 @@ use Rattle.std.proofs.Common.{◌≡◌, ℕ, zero, suc, ◌+◌, ◌<◌, ◌�
 use Rattle.std.specs.Prelude.{if◌then◌else◌, replicate}
 use Rattle.std.proofs.lemmas.List.Sums.{sum_by-append, sum_by-cons}
 use Rattle.rcu_cblist.specs.declared.queued.Queued.{Queued}
-use Rattle.rcu_cblist.specs.Items.{Item, Mark, Of, Marker, Unmarked, Until, Done, front, behind, is_marker, markers, remarked, unmarked, from_callback, taken, untaken, passed, moved, entrained, is_empty}
-use Rattle.rcu_barrier.specs.AllLists.{markers_in, unvisited}
+use Rattle.rcu_cblist.specs.SegList.{Item, Mark, Of, Marker, Unmarked, Until, Done, front, behind, is_marker, markers, remarked, without_mark, from_callback, take_answer, after_take, markers_passed, after_migrate, after_entrain, is_empty}
+use Rattle.rcu_barrier.specs.Lists.{markers_in, unvisited}
 
 -- a marker in front is one more
 marker_more : {X : Type 0} (xs : List (Item X)) → markers (Marker ∷ xs) ≡ 1 + markers xs
@@ -33,16 +33,16 @@ markers_from zero (Of call mark ∷ xs) = omega arith
 markers_from (suc n) (Of call mark ∷ xs) = markers_from n xs
 
 -- the markers that a take passes, and those that it leaves
-pub markers_untaken : {X : Type 0} (most : ℕ) (xs : List (Item X)) → passed most xs + markers (untaken most xs) ≡ markers xs
-markers_untaken most xs = let fewer = markers_from (length (taken most xs)) xs in omega arith
+pub markers_untaken : {X : Type 0} (most : ℕ) (xs : List (Item X)) → markers_passed xs most + markers (after_take xs most) ≡ markers xs
+markers_untaken most xs = let fewer = markers_from (length (take_answer xs most)) xs in omega arith
 
 -- a list that is not empty gets a marker
-pub markers_entrained : {X : Type 0} (xs : List (Item X)) → is_empty xs ≡ false → markers (entrained xs) ≡ markers xs + 1
+pub markers_entrained : {X : Type 0} (xs : List (Item X)) → is_empty xs ≡ false → markers (after_entrain xs) ≡ markers xs + 1
 markers_entrained [] some = cc
 markers_entrained (x ∷ xs) some = markers_append (x ∷ xs) (Marker ∷ [])
 
 -- an empty one gets none
-pub entrained_empty : {X : Type 0} (xs : List (Item X)) → is_empty xs ≡ true → entrained xs ≡ xs
+pub entrained_empty : {X : Type 0} (xs : List (Item X)) → is_empty xs ≡ true → after_entrain xs ≡ xs
 entrained_empty [] none = refl
 entrained_empty (x ∷ xs) none = cc
 
@@ -55,9 +55,9 @@ markers_parts (Of call Unmarked ∷ xs) = omega arith
 markers_parts (Of call (Until n) ∷ xs) = omega arith
 
 -- after a migration the target has the markers of both
-pub markers_moved : {X : Type 0} (xs ys : List (Item X)) → markers (moved xs ys) ≡ markers xs + markers ys
+pub markers_moved : {X : Type 0} (xs ys : List (Item X)) → markers (after_migrate ys xs) ≡ markers xs + markers ys
 markers_moved xs ys =
-    let all = markers_append (front xs ++ ys) (map unmarked (behind xs)) in
+    let all = markers_append (front xs ++ ys) (map without_mark (behind xs)) in
     let first = markers_append (front xs) ys in
     let rest = markers_remarked (λ _. Unmarked) (behind xs) in
     let parts = markers_parts xs in

@@ -1,2 +1,2 @@
-pub mod AllLists
+pub mod Lists
 pub mod Tending

@@ -1,16 +1,12 @@
 -- What a tend leaves of one processor's list, and which numbers a callback may wait for.
 use Rattle.std.specs.Prelude.{◌≡◌, ◌<◌, ◌≤◌, ◌+◌, ◌*◌, ◌/◌, ◌%◌, ◌==◌, ◌||◌, Bool, true, false, List, [], ◌∷◌, map}
 use Rattle.std.specs.List.{list_any}
-use Rattle.rcu_seq.specs.Numbers.{Number}
-use Rattle.rcu_cblist.specs.Items.{Item, Mark, Of, Marker, Unmarked, Until, Done, mark_advanced, mark_given, remarked}
-
--- the snapshot of a number: the number that ends the first grace period to begin after it
-abbrev pub snapshot : Number → Number
-snapshot number = 4 * ((number + 3) / 4) + 4
+use Rattle.rcu_seq.specs.Numbers.{Number, snapshot}
+use Rattle.rcu_cblist.specs.SegList.{Item, Mark, Of, Marker, Unmarked, Until, Done, mark_advanced, mark_given, remarked}
 
 -- the mark after a tend: a number at most the given one becomes done, and where nothing was said it becomes the snapshot
-abbrev pub mark_tended : Number → Mark → Mark
-mark_tended number mark = mark_given (snapshot number) (mark_advanced number mark)
+abbrev pub mark_after_tend : Number → Mark → Mark
+mark_after_tend number mark = mark_given (snapshot number) (mark_advanced number mark)
 
 -- a number that a callback may wait for: a multiple of 4 above the given number and at most its snapshot
 pub record MayWait (number n : Number) : Type 0 where
@@ -24,8 +20,8 @@ is_near_snapshot number n = n == snapshot number || n + 4 == snapshot number
 
 module _ {X : Type 0} where
   -- the list after a tend
-  abbrev pub tended : Number → List (Item X) → List (Item X)
-  tended number xs = map (remarked (mark_tended number)) xs
+  abbrev pub after_tend : List (Item X) → Number → List (Item X)
+  after_tend xs number = map (remarked (mark_after_tend number)) xs
 
   -- the item is a callback without a mark
   abbrev pub is_unmarked : Item X → Bool

@@ -1,8 +1,9 @@
 //! All processors' lists of callbacks, and the barrier over them.
 ghost use Rattle.std.specs.Prelude.{◌≡◌, ◌≢◌, ◌+◌, ◌<◌, ◌≤◌, ◌^◌, ◌%◌, ◌==◌, [], true, false, IfOk, IfErr, OnOk, if◌then◌else◌, length};
-ghost use Rattle.rcu_cblist.specs.Items.{IsAtMost, behind, callbacks, front, greatest, is_empty, numbers, taken};
-ghost use Rattle.rcu_barrier.specs.Tending.{snapshot, tended};
-ghost use Rattle.rcu_barrier.specs.AllLists.{AreKept, at_first, begun, cpus_of, is_owed, is_visited, left_of, list_of, migrated, most_queued, queued_on, run_on, tended_on, test_answer, tested, visit_answer, visited_by};
+ghost use Rattle.rcu_cblist.specs.SegList.{IsAtMost, behind, callbacks, front, greatest, is_empty, numbers, take_answer};
+ghost use Rattle.rcu_seq.specs.Numbers.{snapshot};
+ghost use Rattle.rcu_barrier.specs.Tending.{after_tend};
+ghost use Rattle.rcu_barrier.specs.Lists.{IsSound, at_first, lists_after_barrier_begin, cpus_of, owes_visit, is_visited, barrier_left, list_of, lists_after_migrate, most_queued, lists_after_queue, lists_after_run, lists_after_tend, barrier_test_answer, lists_after_barrier_test, visit_answer, lists_after_visit};
 
 use crate::barrier_state::BarrierState;
 use crate::moving::{empty_lists, move_to_first};
@@ -12,6 +13,7 @@ use rcu_cblist::queued::Queued;
 use rcu_cblist::refused::Refused;
 use rcu_cblist::seg_list::SegList;
 use rcu_cblist::taken::Taken;
+use rcu_seq::cookie::Cookie;
 use rcu_seq::fault::Fault;
 use std::alloc::Global;
 use std::marker::Model;
@@ -39,7 +41,7 @@ pub struct Lists<T: Drop> {
 
 impl<T: Drop> Model for Lists<T> {
     ghost use Rattle.std.specs.Prelude.{◌≡◌};
-    ghost use Rattle.rcu_barrier.specs.AllLists.{AllLists, AreKept, markers_in};
+    ghost use Rattle.rcu_barrier.specs.Lists.{AllLists, IsSound, markers_in};
 
     ghost Value = { AllLists T };
 
@@ -52,7 +54,7 @@ impl<T: Drop> Model for Lists<T> {
 
     ghost invariant = { λ s.
         (s.markers ≡ markers_in s.lists.items)
-        × AreKept (record { lists = s.lists.items; visited = s.visits; running = s.running; queued = s.queued }) };
+        × IsSound (record { lists = s.lists.items; visited = s.visits; running = s.running; queued = s.queued }) };
 }
 
 impl<T: Drop> Lists<T> {
@@ -82,7 +84,7 @@ impl<T: Drop> Lists<T> {
     /// Faults, which hand the value back: 15 where 1,000,000 were queued, 16.
     pub fn queue(&mut self, cpu: u32, at: u64, value: T) -> Result<u64, Refused<T>>
         requires { cpu < cpus_of self.old }
-        ensures ok { IfOk result (λ count. (count ≡ self.old.queued + 1) × (count ≤ most_queued) × (self.new ≡ queued_on cpu at value self.old)) }
+        ensures ok { IfOk result (λ count. (count ≡ self.old.queued + 1) × (count ≤ most_queued) × (self.new ≡ lists_after_queue self.old cpu at value)) }
         ensures err { IfErr result (λ refused. (refused.fault ≡ (if self.old.queued == most_queued then Fault.CallbacksFull else Fault.NoMemory)) × (refused.value ≡ value) × (self.new ≡ self.old)) }
     {
         if self.queued == MOST_QUEUED {
@@ -113,13 +115,13 @@ impl<T: Drop> Lists<T> {
         requires state { number % 4 ≤ 1 }
         requires bounded { number ≤ 2 ^ 62 }
         requires within { IsAtMost (snapshot number) (list_of self.old cpu) }
-        ensures state { self.new ≡ tended_on cpu number self.old }
-        ensures done { result.0 ≡ length (callbacks (front (tended number (list_of self.old cpu)))) }
-        ensures waiting { result.1 ≡ length (callbacks (behind (tended number (list_of self.old cpu)))) }
+        ensures state { self.new ≡ lists_after_tend self.old cpu number }
+        ensures done { result.0 ≡ length (callbacks (front (after_tend (list_of self.old cpu) number))) }
+        ensures waiting { result.1 ≡ length (callbacks (behind (after_tend (list_of self.old cpu) number))) }
     {
         let list = &mut self.lists[cpu as usize];
         list.advance(number);
-        list.accelerate((number + 3) / 4 * 4 + 4);
+        list.accelerate(Cookie::of(number).0);
         (list.done_count(), list.waiting_count())
     }
 
@@ -129,8 +131,8 @@ impl<T: Drop> Lists<T> {
     /// Fault 16, only where it has a callback to hand out.
     pub fn run(&mut self, cpu: u32, max: u64) -> Result<Vec<Queued<T>>, Fault>
         requires { cpu < cpus_of self.old }
-        ensures ok { IfOk result (λ calls. (calls.items ≡ taken max (list_of self.old cpu)) × (self.new ≡ run_on cpu max self.old)) }
-        ensures err { IfErr result (λ fault. (fault ≡ Fault.NoMemory) × (taken max (list_of self.old cpu) ≢ []) × (self.new ≡ self.old)) }
+        ensures ok { IfOk result (λ calls. (calls.items ≡ take_answer (list_of self.old cpu) max) × (self.new ≡ lists_after_run self.old cpu max)) }
+        ensures err { IfErr result (λ fault. (fault ≡ Fault.NoMemory) × (take_answer (list_of self.old cpu) max ≢ []) × (self.new ≡ self.old)) }
     {
         let list = &mut self.lists[cpu as usize];
         let Taken { calls, markers } = list.take_done(max)?;
@@ -145,7 +147,7 @@ impl<T: Drop> Lists<T> {
     pub fn migrate(&mut self, cpu: u32) -> Result<u64, Fault>
         requires other { 0 < cpu }
         requires cpu { cpu < cpus_of self.old }
-        ensures ok { IfOk result (λ moved. (moved ≡ length (callbacks (list_of self.old cpu))) × (self.new ≡ migrated cpu self.old)) }
+        ensures ok { IfOk result (λ moved. (moved ≡ length (callbacks (list_of self.old cpu))) × (self.new ≡ lists_after_migrate self.old cpu)) }
         ensures err { IfErr result (λ fault. (fault ≡ Fault.NoMemory) × (list_of self.old cpu ≢ []) × (self.new ≡ self.old)) }
     {
         if self.owes_visit(cpu) {
@@ -163,7 +165,7 @@ impl<T: Drop> Lists<T> {
     /// Whether a barrier runs that did not visit the processor.
     fn owes_visit(&self, cpu: u32) -> bool
         requires { cpu < cpus_of self.now }
-        ensures { result ≡ is_owed cpu self.now }
+        ensures { result ≡ owes_visit self.now cpu }
     {
         self.running && !self.visits.contains(cpu)
     }
@@ -172,7 +174,7 @@ impl<T: Drop> Lists<T> {
     ///
     /// Fault 13: one runs.
     pub fn barrier_begin(&mut self) -> Result<(), Fault>
-        ensures ok { OnOk result ((self.old.running ≡ false) × (self.new ≡ begun self.old)) }
+        ensures ok { OnOk result ((self.old.running ≡ false) × (self.new ≡ lists_after_barrier_begin self.old)) }
         ensures err { IfErr result (λ fault. (fault ≡ Fault.BarrierBusy) × (self.old.running ≡ true) × (self.new ≡ self.old)) }
     {
         if self.running {
@@ -188,9 +190,9 @@ impl<T: Drop> Lists<T> {
     /// Faults: 14 where none runs; 16, only where it would put a marker.
     pub fn visit(&mut self, cpu: u32) -> Result<Visit, Fault>
         requires { cpu < cpus_of self.old }
-        ensures ok { IfOk result (λ visit. (self.old.running ≡ true) × (visit ≡ visit_answer cpu self.old) × (self.new ≡ visited_by cpu self.old)) }
+        ensures ok { IfOk result (λ visit. (self.old.running ≡ true) × (visit ≡ visit_answer self.old cpu) × (self.new ≡ lists_after_visit self.old cpu)) }
         ensures err { IfErr result (λ fault. (fault ≡ (if self.old.running then Fault.NoMemory else Fault.NoBarrier)) × (self.new ≡ self.old)) }
-        ensures memory { IfErr result (λ fault. self.old.running ≡ true → visit_answer cpu self.old ≡ Visit.Marked) }
+        ensures memory { IfErr result (λ fault. self.old.running ≡ true → visit_answer self.old cpu ≡ Visit.Marked) }
     {
         if !self.running {
             return Err(Fault::NoBarrier);
@@ -213,7 +215,7 @@ impl<T: Drop> Lists<T> {
     ///
     /// Fault 14: none runs.
     pub fn barrier_test(&mut self) -> Result<BarrierState, Fault>
-        ensures ok { IfOk result (λ state. (self.old.running ≡ true) × (state ≡ test_answer self.old) × (self.new ≡ tested self.old)) }
+        ensures ok { IfOk result (λ state. (self.old.running ≡ true) × (state ≡ barrier_test_answer self.old) × (self.new ≡ lists_after_barrier_test self.old)) }
         ensures err { IfErr result (λ fault. (fault ≡ Fault.NoBarrier) × (self.old.running ≡ false) × (self.new ≡ self.old)) }
     {
         if !self.running {
@@ -230,7 +232,7 @@ impl<T: Drop> Lists<T> {
     /// How many processors there are, from 1 to 4,096.
     pub fn cpus(&self) -> u32
         ensures value { result ≡ cpus_of self.now }
-        ensures kept { AreKept self.now }
+        ensures kept { IsSound self.now }
     {
         self.lists.len() as u32
     }

@@ -1,7 +1,7 @@
 //! Lists that are made, and one that moves to the first.
 ghost use Rattle.std.specs.Prelude.{◌≡◌, ◌<◌, ◌≢◌, ◌&&◌, [], not, length, replicate, IfOk, IfErr, slice_index_or, slice_set};
-ghost use Rattle.rcu_cblist.specs.Items.{callbacks, is_empty, moved};
-ghost use Rattle.rcu_barrier.specs.AllLists.{leaving};
+ghost use Rattle.rcu_cblist.specs.SegList.{callbacks, is_empty, after_migrate};
+ghost use Rattle.rcu_barrier.specs.Lists.{as_it_leaves};
 
 use rcu_cblist::seg_list::SegList;
 use rcu_seq::fault::Fault;
@@ -37,7 +37,7 @@ pub(crate) fn move_to_first<T: Drop>(
 ) -> Result<(u64, bool), Fault>
     requires other { 0 < from }
     requires there { from < length lists.old.items }
-    ensures ok { IfOk result (λ n. (n.0 ≡ length (callbacks (slice_index_or lists.old.items from []))) × (n.1 ≡ (owed && not (is_empty (slice_index_or lists.old.items from [])))) × (lists.new.items ≡ slice_set (slice_set lists.old.items 0 (moved (leaving owed (slice_index_or lists.old.items from [])) (slice_index_or lists.old.items 0 []))) from [])) }
+    ensures ok { IfOk result (λ n. (n.0 ≡ length (callbacks (slice_index_or lists.old.items from []))) × (n.1 ≡ (owed && not (is_empty (slice_index_or lists.old.items from [])))) × (lists.new.items ≡ slice_set (slice_set lists.old.items 0 (after_migrate (slice_index_or lists.old.items 0 []) (as_it_leaves (slice_index_or lists.old.items from []) owed))) from [])) }
     ensures err { IfErr result (λ fault. (fault ≡ Fault.NoMemory) × (slice_index_or lists.old.items from [] ≢ []) × (lists.new.items ≡ lists.old.items)) }
 {
     move_slice(lists.as_mut_slice(), from, owed)
@@ -51,7 +51,7 @@ fn move_slice<T: Drop>(
 ) -> Result<(u64, bool), Fault>
     requires other { 0 < from }
     requires there { from < length lists.old }
-    ensures ok { IfOk result (λ n. (n.0 ≡ length (callbacks (slice_index_or lists.old from []))) × (n.1 ≡ (owed && not (is_empty (slice_index_or lists.old from [])))) × (lists.new ≡ slice_set (slice_set lists.old 0 (moved (leaving owed (slice_index_or lists.old from [])) (slice_index_or lists.old 0 []))) from [])) }
+    ensures ok { IfOk result (λ n. (n.0 ≡ length (callbacks (slice_index_or lists.old from []))) × (n.1 ≡ (owed && not (is_empty (slice_index_or lists.old from [])))) × (lists.new ≡ slice_set (slice_set lists.old 0 (after_migrate (slice_index_or lists.old 0 []) (as_it_leaves (slice_index_or lists.old from []) owed))) from [])) }
     ensures err { IfErr result (λ fault. (fault ≡ Fault.NoMemory) × (slice_index_or lists.old from [] ≢ []) × (lists.new ≡ lists.old)) }
 {
     let (first, others) = lists.split_at_mut(1);

@@ -1,6 +1,6 @@
 //! Which processors a barrier visited.
 ghost use Rattle.std.specs.Prelude.{◌≡◌, ◌<◌, ◌≤◌, true, false, IfOk, IfErr, length, replicate, slice_index_or, slice_set};
-ghost use Rattle.rcu_barrier.specs.AllLists.{unvisited};
+ghost use Rattle.rcu_barrier.specs.Lists.{unvisited};
 
 use rcu_seq::fault::Fault;
 use std::alloc::Global;
@@ -17,7 +17,7 @@ pub(crate) struct Visits {
 
 impl Model for Visits {
     ghost use Rattle.std.specs.Prelude.{◌≡◌, List, Bool};
-    ghost use Rattle.rcu_barrier.specs.AllLists.{unvisited};
+    ghost use Rattle.rcu_barrier.specs.Lists.{unvisited};
 
     ghost Value = { List Bool };
 

@@ -5,7 +5,7 @@ use Rattle.std.proofs.lemmas.List.{map-set, map-append, take-map, drop-map, take
 use Rattle.std.proofs.lemmas.List.Edits.{map_over_more}
 use Rattle.std.proofs.lemmas.List.Elements.{filter_map-append}
 use Rattle.rcu_cblist.specs.declared.queued.Queued.{Queued}
-use Rattle.rcu_cblist.specs.Items.{Item, Mark, Of, Marker, Unmarked, Until, Done, callback_of, callbacks, remarked, mark_given, unmarked, front, behind, taken, from_callback, untaken, moved, is_empty, begins_with_marker}
+use Rattle.rcu_cblist.specs.SegList.{Item, Mark, Of, Marker, Unmarked, Until, Done, callback_of, callbacks, remarked, mark_given, without_mark, front, behind, take_answer, from_callback, after_take, after_migrate, is_empty, begins_with_marker}
 
 -- the next item of a walk
 pub rest_more : {X Y : Type 0} (f : X → Y) (xs : List X) (i : ℕ) (x : X) → i < length xs → x ≡ get_or xs i x →
@@ -95,7 +95,7 @@ first_from zero (Of call mark ∷ xs) = refl
 first_from (suc n) (Of call mark ∷ xs) = first_from n xs
 
 -- nor does what is behind a done part once its marks are gone
-first_behind : {X : Type 0} (xs : List (Item X)) → begins_with_marker (map unmarked (behind xs)) ≡ false
+first_behind : {X : Type 0} (xs : List (Item X)) → begins_with_marker (map without_mark (behind xs)) ≡ false
 first_behind [] = refl
 first_behind (Marker ∷ xs) = first_behind xs
 first_behind (Of call Done ∷ xs) = first_behind xs
@@ -118,9 +118,9 @@ first_front (Of call (Until n) ∷ xs) none = refl
 
 -- nor does a target to which a list moved
 pub first_moved : {X : Type 0} (xs ys : List (Item X)) → begins_with_marker xs ≡ false → begins_with_marker ys ≡ false →
-    begins_with_marker (moved xs ys) ≡ false
+    begins_with_marker (after_migrate ys xs) ≡ false
 first_moved xs ys none others =
-    first_append (front xs ++ ys) (map unmarked (behind xs)) (first_append (front xs) ys (first_front xs none) others)
+    first_append (front xs ++ ys) (map without_mark (behind xs)) (first_append (front xs) ys (first_front xs none) others)
     (first_behind xs)
 
 -- a callback at the end is one callback more
@@ -194,12 +194,12 @@ front_from (suc n) (Of call (Until k) ∷ xs) within = absurd (omega arith)
 
 -- a take hands out as many as it may, or all that are done
 pub length_taken : {X : Type 0} (most : ℕ) (xs : List (Item X)) →
-    length (taken most xs) ≡ min (length (callbacks (front xs))) most
+    length (take_answer xs most) ≡ min (length (callbacks (front xs))) most
 length_taken most xs = omega (arith, length-take most (callbacks (front xs)))
 
 -- the first callbacks of all are those that a take hands out
 pub taken_least : {X : Type 0} (most k : ℕ) (xs : List (Item X)) → k ≡ min (length (callbacks (front xs))) most →
-    take k (callbacks xs) ≡ taken most xs
+    take k (callbacks xs) ≡ take_answer xs most
 taken_least most k xs least =
     let done = callbacks (front xs) in
     let least_too : k ≡ min most (length done) = omega arith in
@@ -208,11 +208,11 @@ taken_least most k xs least =
 
 -- the list from the next callback on is what a take leaves
 pub untaken_least : {X : Type 0} (most k : ℕ) (xs : List (Item X)) → k ≡ min (length (callbacks (front xs))) most →
-    from_callback k xs ≡ untaken most xs
+    from_callback k xs ≡ after_take xs most
 untaken_least most k xs least = ap (λ n. from_callback n xs) (least ∙ sym (length_taken most xs))
 
 -- a take that hands out nothing may hand out none, or there is none
-pub taken_none : {X : Type 0} (most : ℕ) (xs : List (Item X)) → taken most xs ≡ [] →
+pub taken_none : {X : Type 0} (most : ℕ) (xs : List (Item X)) → take_answer xs most ≡ [] →
     min (length (callbacks (front xs))) most ≡ 0
 taken_none most xs none = sym (length_taken most xs) ∙ ap length none
 
@@ -252,7 +252,7 @@ front_front (Of call Unmarked ∷ xs) ys = omega arith
 front_front (Of call (Until n) ∷ xs) ys = omega arith
 
 -- what is behind a done part has no done callback in front once its marks are gone
-front_unmarked : {X : Type 0} (xs : List (Item X)) → length (callbacks (front (map unmarked (behind xs)))) ≡ 0
+front_unmarked : {X : Type 0} (xs : List (Item X)) → length (callbacks (front (map without_mark (behind xs)))) ≡ 0
 front_unmarked [] = refl
 front_unmarked (Marker ∷ xs) = front_unmarked xs
 front_unmarked (Of call Done ∷ xs) = front_unmarked xs
@@ -270,15 +270,15 @@ front_before (Of call (Until n) ∷ ys) zs none = refl
 
 -- after a migration the target's done part has the callbacks of both
 pub front_moved : {X : Type 0} (xs ys : List (Item X)) →
-    length (callbacks (front (moved xs ys))) ≡ length (callbacks (front xs)) + length (callbacks (front ys))
+    length (callbacks (front (after_migrate ys xs))) ≡ length (callbacks (front xs)) + length (callbacks (front ys))
 front_moved xs ys =
-    front_before (front xs ++ ys) (map unmarked (behind xs)) (front_unmarked xs) ∙ front_front xs ys
+    front_before (front xs ++ ys) (map without_mark (behind xs)) (front_unmarked xs) ∙ front_front xs ys
 
 -- and the target has the callbacks of both
 pub callbacks_moved : {X : Type 0} (xs ys : List (Item X)) →
-    length (callbacks (moved xs ys)) ≡ length (callbacks xs) + length (callbacks ys)
+    length (callbacks (after_migrate ys xs)) ≡ length (callbacks xs) + length (callbacks ys)
 callbacks_moved xs ys =
-    let all = callbacks_append (front xs ++ ys) (map unmarked (behind xs)) in
+    let all = callbacks_append (front xs ++ ys) (map without_mark (behind xs)) in
     let first = callbacks_append (front xs) ys in
     let rest = ap length (callbacks_remarked (λ _. Unmarked) (behind xs)) in
     let parts = callbacks_parts xs in
@@ -309,18 +309,18 @@ cut_joined target items k n within sized =
 
 -- a list whose items behind the done part lost their marks, put around another, is moved there
 pub carried : {K X : Type 0} (f : K → Item X) (start mid target : List K) (k : ℕ) → k ≡ length (front (map f start)) →
-    map f mid ≡ take k (map f start) ++ map unmarked (drop k (map f start)) →
-    map f (take k mid ++ (target ++ drop k mid)) ≡ moved (map f start) (map f target)
+    map f mid ≡ take k (map f start) ++ map without_mark (drop k (map f start)) →
+    map f (take k mid ++ (target ++ drop k mid)) ≡ after_migrate (map f target) (map f start)
 carried f start mid target k ahead view =
     let seen = map f start in
     let first : take k seen ≡ front seen = ap (λ n. take n seen) ahead ∙ front_take seen in
     let others : drop k seen ≡ behind seen = ap (λ n. drop n seen) ahead ∙ behind_drop seen in
-    let whole : map f mid ≡ front seen ++ map unmarked (behind seen) =
-    view ∙ (ap (λ l. l ++ map unmarked (drop k seen)) first ∙ ap (λ l. front seen ++ map unmarked l) others) in
+    let whole : map f mid ≡ front seen ++ map without_mark (behind seen) =
+    view ∙ (ap (λ l. l ++ map without_mark (drop k seen)) first ∙ ap (λ l. front seen ++ map without_mark l) others) in
     let before : map f (take k mid) ≡ front seen =
-    sym (take-map f k mid) ∙ (ap (take k) whole ∙ cut_front (front seen) (map unmarked (behind seen)) k ahead) in
-    let after : map f (drop k mid) ≡ map unmarked (behind seen) =
-    sym (drop-map f k mid) ∙ (ap (drop k) whole ∙ cut_behind (front seen) (map unmarked (behind seen)) k ahead) in
+    sym (take-map f k mid) ∙ (ap (take k) whole ∙ cut_front (front seen) (map without_mark (behind seen)) k ahead) in
+    let after : map f (drop k mid) ≡ map without_mark (behind seen) =
+    sym (drop-map f k mid) ∙ (ap (drop k) whole ∙ cut_behind (front seen) (map without_mark (behind seen)) k ahead) in
     map-append f (take k mid) (target ++ drop k mid) ∙ (ap (λ l. l ++ map f (target ++ drop k mid)) before ∙
     (ap (λ l. front seen ++ l) (map-append f target (drop k mid) ∙ ap (λ l. map f target ++ l) after) ∙
-    sym (append_assoc (front seen) (map f target) (map unmarked (behind seen)))))
+    sym (append_assoc (front seen) (map f target) (map without_mark (behind seen)))))

@@ -6,7 +6,7 @@ use Rattle.std.proofs.lemmas.Bool.{cases_Bool, cases_eq}
 use Rattle.std.proofs.lemmas.Bool.Decides.{nat_tests}
 use Rattle.std.specs.List.{list_any}
 use Rattle.rcu_seq.specs.Numbers.{Number}
-use Rattle.rcu_cblist.specs.Items.{greatest, has_other, has_two}
+use Rattle.rcu_cblist.specs.SegList.{greatest, has_other, has_two}
 
 -- two numbers below the snapshot differ, found in order: the first one below it, and another behind it
 abbrev pub has_two_ahead : Number → List Number → Bool

@@ -1,6 +1,6 @@
 -- What the kept items mean.
 use Rattle.std.specs.Prelude.{List, map}
-use Rattle.rcu_cblist.specs.Items.{Item, Mark, Of, Marker, Unmarked, Until, Done}
+use Rattle.rcu_cblist.specs.SegList.{Item, Mark, Of, Marker, Unmarked, Until, Done}
 use Rattle.rcu_cblist.specs.declared.kept.Wait.{Wait}
 use Rattle.rcu_cblist.specs.declared.kept.Wait.TheVariants as wait
 use Rattle.rcu_cblist.specs.declared.kept.Kept.{Kept}

@@ -1,6 +1,6 @@
 //! What a list keeps of each item.
 ghost use Rattle.std.specs.Prelude.{◌≡◌};
-ghost use Rattle.rcu_cblist.specs.Items.{remarked, mark_advanced, mark_given, unmarked};
+ghost use Rattle.rcu_cblist.specs.SegList.{remarked, mark_advanced, mark_given, without_mark};
 ghost use Rattle.rcu_cblist.specs.Kept.{item_of, mark_of};
 
 use crate::queued::Queued;
@@ -70,7 +70,7 @@ impl<T: Drop> Kept<T> {
 
     /// Where it is a callback, it loses its mark.
     pub(crate) fn unmark(&mut self)
-        ensures { item_of self.new ≡ unmarked (item_of self.old) }
+        ensures { item_of self.new ≡ without_mark (item_of self.old) }
     {
         match self {
             Kept::Call(_, wait) => *wait = Wait::Unmarked,

@@ -1,7 +1,7 @@
 //! What the definitions say of the numbers that callbacks carry.
 ghost use Rattle.std.specs.Prelude.{◌≡◌, ◌≤◌, All, List, None, Some};
 ghost use Rattle.rcu_seq.specs.Numbers.{Number};
-ghost use Rattle.rcu_cblist.specs.Items.{greatest};
+ghost use Rattle.rcu_cblist.specs.SegList.{greatest};
 
 /// Where the greatest number is at most a bound, or there is none, each number is at most it.
 pub fn greatest_bounds_each()

@@ -1,6 +1,6 @@
 //! One processor's list of callbacks.
 ghost use Rattle.std.specs.Prelude.{◌≡◌, ◌≢◌, ◌+◌, ◌<◌, ◌^◌, ◌++◌, ◌∷◌, [], false, not, length, OnOk, IfOk, IfErr};
-ghost use Rattle.rcu_cblist.specs.Items.{Of, Unmarked, advanced, accelerated, IsAtMost, taken, untaken, passed, moved, entrained, is_empty, begins_with_marker, front, behind, callbacks, numbers, greatest};
+ghost use Rattle.rcu_cblist.specs.SegList.{Of, Unmarked, after_advance, after_accelerate, IsAtMost, take_answer, after_take, markers_passed, after_migrate, after_entrain, is_empty, begins_with_marker, front, behind, callbacks, numbers, greatest};
 
 use crate::kept::{Kept, Wait};
 use crate::queued::Queued;
@@ -31,7 +31,7 @@ pub struct SegList<T: Drop> {
 
 impl<T: Drop> Model for SegList<T> {
     ghost use Rattle.std.specs.Prelude.{◌≡◌, List, length, false};
-    ghost use Rattle.rcu_cblist.specs.Items.{Item, front, callbacks, begins_with_marker};
+    ghost use Rattle.rcu_cblist.specs.SegList.{Item, front, callbacks, begins_with_marker};
     ghost use Rattle.rcu_cblist.specs.Kept.{items_of};
 
     ghost Value = { List (Item T) };
@@ -82,7 +82,7 @@ impl<T: Drop> SegList<T> {
     /// Makes each callback done whose number is at most this one (Linux's `rcu_segcblist_advance`).
     #[tactic(auto, using(crate::proofs::Lists::callbacks_remarked))]
     pub fn advance(&mut self, number: u64)
-        ensures { self.new ≡ advanced number self.old }
+        ensures { self.new ≡ after_advance self.old number }
     {
         advance_all(&mut self.items, number);
         self.done = count_front(&self.items).1;
@@ -93,7 +93,7 @@ impl<T: Drop> SegList<T> {
     #[tactic(auto, using(crate::proofs::Lists::front_given, crate::proofs::Lists::callbacks_remarked))]
     pub fn accelerate(&mut self, snap: u64)
         requires { IsAtMost snap self.old }
-        ensures { self.new ≡ accelerated snap self.old }
+        ensures { self.new ≡ after_accelerate self.old snap }
     {
         if !has_two_below(&self.items, snap) {
             accelerate_all(&mut self.items, snap);
@@ -106,10 +106,10 @@ impl<T: Drop> SegList<T> {
     /// Fault 16, only where it has a callback to hand out.
     #[tactic(auto, using(crate::proofs::Lists::first_from, crate::proofs::Lists::taken_least, crate::proofs::Lists::untaken_least, crate::proofs::Lists::front_from, crate::proofs::Lists::callbacks_from, crate::proofs::Lists::length_taken, crate::proofs::Lists::callbacks_parts, crate::proofs::Lists::taken_none))]
     pub fn take_done(&mut self, max: u64) -> Result<Taken<T>, Fault>
-        ensures calls { IfOk result (λ some. some.calls.items ≡ taken max self.old) }
-        ensures markers { IfOk result (λ some. some.markers ≡ passed max self.old) }
-        ensures left { OnOk result (self.new ≡ untaken max self.old) }
-        ensures err { IfErr result (λ fault. (fault ≡ Fault.NoMemory) × (taken max self.old ≢ []) × (self.new ≡ self.old)) }
+        ensures calls { IfOk result (λ some. some.calls.items ≡ take_answer self.old max) }
+        ensures markers { IfOk result (λ some. some.markers ≡ markers_passed self.old max) }
+        ensures left { OnOk result (self.new ≡ after_take self.old max) }
+        ensures err { IfErr result (λ fault. (fault ≡ Fault.NoMemory) × (take_answer self.old max ≢ []) × (self.new ≡ self.old)) }
     {
         let most = self.done.min(max);
         let mut calls = Vec::new(self.alloc);
@@ -128,7 +128,7 @@ impl<T: Drop> SegList<T> {
     /// Fault 16, only where there is something to move.
     #[tactic(auto, using(crate::proofs::Lists::front_moved, crate::proofs::Lists::callbacks_moved, crate::proofs::Lists::callbacks_of_kept, crate::proofs::Lists::front_of_kept, crate::proofs::Lists::first_moved))]
     pub fn migrate_into(&mut self, target: &mut SegList<T>) -> Result<(), Fault>
-        ensures ok { OnOk result ((target.new ≡ moved self.old target.old) × (self.new ≡ [])) }
+        ensures ok { OnOk result ((target.new ≡ after_migrate target.old self.old) × (self.new ≡ [])) }
         ensures err { IfErr result (λ fault. (fault ≡ Fault.NoMemory) × (self.old ≢ []) × (self.new ≡ self.old) × (target.new ≡ target.old)) }
     {
         let Ok(()) = target.items.reserve(self.items.len()) else {
@@ -146,7 +146,7 @@ impl<T: Drop> SegList<T> {
     /// Fault 16, only where the list is not empty.
     #[tactic(auto, using(crate::proofs::Lists::front_marker, crate::proofs::Lists::callbacks_marker, crate::proofs::Lists::first_push, crate::proofs::Lists::view_push))]
     pub fn entrain(&mut self) -> Result<bool, Fault>
-        ensures ok { IfOk result (λ marked. (marked ≡ not (is_empty self.old)) × (self.new ≡ entrained self.old)) }
+        ensures ok { IfOk result (λ marked. (marked ≡ not (is_empty self.old)) × (self.new ≡ after_entrain self.old)) }
         ensures err { IfErr result (λ fault. (fault ≡ Fault.NoMemory) × (self.old ≢ []) × (self.new ≡ self.old)) }
     {
         if self.items.is_empty() {
@@ -164,7 +164,7 @@ impl<T: Drop> SegList<T> {
     /// Fault 16, only where there is something to move.
     #[tactic(auto, using(crate::proofs::Lists::front_moved, crate::proofs::Lists::callbacks_moved, crate::proofs::Lists::callbacks_of_kept, crate::proofs::Lists::front_of_kept, crate::proofs::Lists::first_moved, crate::proofs::Lists::front_marker, crate::proofs::Lists::callbacks_marker, crate::proofs::Lists::first_push, crate::proofs::Lists::view_push))]
     pub fn migrate_marked_into(&mut self, target: &mut SegList<T>) -> Result<(), Fault>
-        ensures ok { OnOk result ((target.new ≡ moved (entrained self.old) target.old) × (self.new ≡ [])) }
+        ensures ok { OnOk result ((target.new ≡ after_migrate target.old (after_entrain self.old)) × (self.new ≡ [])) }
         ensures err { IfErr result (λ fault. (fault ≡ Fault.NoMemory) × (self.old ≢ []) × (self.new ≡ self.old) × (target.new ≡ target.old)) }
     {
         if self.items.is_empty() {

@@ -2,7 +2,7 @@
 ghost use Rattle.std.specs.Prelude.{◌≡◌, ◌+◌, ◌<◌, ◌≤◌, ◌^◌, ◌++◌, [], map, take, drop, length};
 ghost use Rattle.std.specs.Vec.{vec_len, vec_capacity};
 ghost use Rattle.std.specs.VecDeque.{deque_len, deque_capacity};
-ghost use Rattle.rcu_cblist.specs.Items.{advanced, remarked, mark_given, unmarked, front, callbacks, numbers, markers, has_two, from_callback, moved};
+ghost use Rattle.rcu_cblist.specs.SegList.{after_advance, remarked, mark_given, without_mark, front, callbacks, numbers, markers, has_two, from_callback, after_migrate};
 ghost use Rattle.rcu_cblist.specs.Kept.{items_of};
 
 use crate::kept::{Kept, Wait};
@@ -11,14 +11,14 @@ use std::collections::VecDeque;
 
 /// Makes each callback done whose number is at most this one.
 pub(crate) fn advance_all<T: Drop>(items: &mut VecDeque<Kept<T>>, number: u64)
-    ensures { items_of items.new.items ≡ advanced number (items_of items.old.items) }
+    ensures { items_of items.new.items ≡ after_advance (items_of items.old.items) number }
 {
     advance_each(items.make_contiguous(), number);
 }
 
 /// Makes each callback of a slice done whose number is at most this one.
 fn advance_each<T: Drop>(items: &mut [Kept<T>], number: u64)
-    ensures { items_of items.new ≡ advanced number (items_of items.old) }
+    ensures { items_of items.new ≡ after_advance (items_of items.old) number }
 {
     for item in items.iter_mut() {
         item.advance(number);
@@ -121,7 +121,7 @@ pub(crate) fn take_first<T: Drop>(
 /// Moves a list to a target: the done part goes before what is there, and the rest behind it without its marks.
 pub(crate) fn carry<T: Drop>(items: &mut VecDeque<Kept<T>>, target: &mut VecDeque<Kept<T>>)
     requires room { deque_len target.old + deque_len items.old ≤ deque_capacity target.old }
-    ensures target { items_of target.new.items ≡ moved (items_of items.old.items) (items_of target.old.items) }
+    ensures target { items_of target.new.items ≡ after_migrate (items_of target.old.items) (items_of items.old.items) }
     ensures items { items.new.items ≡ [] }
 {
     let ahead = count_front(items).0;
@@ -133,7 +133,7 @@ pub(crate) fn carry<T: Drop>(items: &mut VecDeque<Kept<T>>, target: &mut VecDequ
 #[tactic(auto, using(crate::proofs::Lists::split_view))]
 fn unmark_behind<T: Drop>(items: &mut VecDeque<Kept<T>>, ahead: usize)
     requires { ahead ≤ length items.old.items }
-    ensures view { items_of items.new.items ≡ take ahead (items_of items.old.items) ++ map unmarked (drop ahead (items_of items.old.items)) }
+    ensures view { items_of items.new.items ≡ take ahead (items_of items.old.items) ++ map without_mark (drop ahead (items_of items.old.items)) }
     ensures len { deque_len items.new ≡ deque_len items.old }
 {
     let (_, rest) = items.make_contiguous().split_at_mut(ahead);
@@ -142,7 +142,7 @@ fn unmark_behind<T: Drop>(items: &mut VecDeque<Kept<T>>, ahead: usize)
 
 /// Takes the mark from each item of a slice.
 fn unmark_each<T: Drop>(items: &mut [Kept<T>])
-    ensures { items_of items.new ≡ map unmarked (items_of items.old) }
+    ensures { items_of items.new ≡ map without_mark (items_of items.old) }
 {
     for item in items.iter_mut() {
         item.unmark();

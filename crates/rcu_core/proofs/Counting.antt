@@ -6,9 +6,9 @@ use Rattle.std.proofs.lemmas.List.FromFn.{fill_by_all, length-range_with_len, ge
 use Rattle.std.proofs.lemmas.List.Elements.{filter-append}
 use Rattle.std.proofs.lemmas.List.Recursion.{is_sum_by}
 use Rattle.std.proofs.lemmas.List.Sums.{get_or-le-sum_by, sum_by-cons}
-use Rattle.rcu_node.specs.CpuSets.{is_in, size_of}
-use Rattle.rcu_cblist.specs.Items.{Item, markers}
-use Rattle.rcu_barrier.specs.AllLists.{markers_in, unvisited}
+use Rattle.rcu_node.specs.CpuSet.{is_in, size_of}
+use Rattle.rcu_cblist.specs.SegList.{Item, markers}
+use Rattle.rcu_barrier.specs.Lists.{markers_in, unvisited}
 
 sum_by-map : {X Y : Type 0} (g : Y → ℕ) (f : X → Y) (xs : List X) → sum_by g (map f xs) ≡ sum_by (λ x. g (f x)) xs
 sum_by-map g f [] = refl

@@ -7,13 +7,13 @@ use Rattle.std.proofs.lemmas.Bool.Decides.{nat_tests}
 use Rattle.std.proofs.lemmas.List.FromFn.{length-range_with_len, get_or-range_with_len}
 use Rattle.std.proofs.lemmas.List.Sums.{get_or-le-sum_by, sum_by-cons}
 use Rattle.rcu_seq.specs.declared.fault.Fault.TheVariants as fault
-use Rattle.rcu_cblist.specs.Items.{Item, Of, Marker, Mark, Unmarked, Until, Done, behind, entrained, from_callback, front, is_marker, markers, moved, remarked, taken, unmarked, untaken}
-use Rattle.rcu_barrier.specs.AllLists.{leaving}
-use Rattle.rcu_barrier.specs.Tending.{mark_tended, tended}
-use Rattle.rcu_core.specs.Callbacks.{barrier_runs, is_owed, list, queued, queued_before_barrier, times, visited}
+use Rattle.rcu_cblist.specs.SegList.{Item, Of, Marker, Mark, Unmarked, Until, Done, behind, after_entrain, from_callback, front, is_marker, markers, after_migrate, remarked, take_answer, without_mark, after_take}
+use Rattle.rcu_barrier.specs.Lists.{as_it_leaves}
+use Rattle.rcu_barrier.specs.Tending.{mark_after_tend, after_tend}
+use Rattle.rcu_core.specs.Callbacks.{barrier_runs, is_owed, list, queued, queued_before_barrier, times_handed_out, was_visited}
 use Rattle.rcu_core.specs.History.{History, number}
-use Rattle.rcu_core.specs.Replies.{Size, situation, fault_in, how_many, or_fault, waits_for, IsHistory, IsLegalReply}
-use Rattle.rcu_core.specs.Runs.{IsLegal, history, Run as Trace}
+use Rattle.rcu_core.specs.Replies.{Size, situation, fault_in, how_many, or_fault, waits_for, AreAccepted, IsLegalReply}
+use Rattle.rcu_core.specs.Runs.{IsLegalRun, history, Run as Trace}
 use Rattle.rcu_core.specs.declared.event.Event.{Event}
 use Rattle.rcu_core.specs.declared.event.Event.TheVariants.{Offline, Queue, Tend, Run, BarBegin, Visit, BarTest}
 use Rattle.rcu_core.specs.declared.reply.Reply.TheVariants as reply
@@ -58,7 +58,7 @@ covered-marked b [] = tt
 covered-marked b (Marker ∷ xs) = covered-marked b xs
 covered-marked b (Of call mark ∷ xs) = ((λ l. let i = marks-append xs (Marker ∷ []) in omega (arith, i)), covered-marked b xs)
 
-covered-entrained : (b : ℕ) (xs : List (Item ℕ)) → Covered b (entrained xs)
+covered-entrained : (b : ℕ) (xs : List (Item ℕ)) → Covered b (after_entrain xs)
 covered-entrained b [] = tt
 covered-entrained b (x ∷ xs) = covered-marked b (x ∷ xs)
 
@@ -80,18 +80,18 @@ marks-parts (Of call Unmarked ∷ xs) = omega arith
 marks-parts (Of call (Until n) ∷ xs) = omega arith
 marks-parts (Of call Done ∷ xs) = marks-parts xs
 
-marks-moved : (xs ys : List (Item ℕ)) → marks (moved xs ys) ≡ marks xs + marks ys
+marks-moved : (xs ys : List (Item ℕ)) → marks (after_migrate ys xs) ≡ marks xs + marks ys
 marks-moved xs ys =
-    let a = marks-append (front xs ++ ys) (map unmarked (behind xs)) in let c = marks-append (front xs) ys in
+    let a = marks-append (front xs ++ ys) (map without_mark (behind xs)) in let c = marks-append (front xs) ys in
     let d = marks-remarked (λ _. Unmarked) (behind xs) in let e = marks-parts xs in
     omega (arith, a, c, d, e)
 
 -- a list that is split at a place and takes in another there
-covered-moved : (b : ℕ) (xs ys : List (Item ℕ)) → Covered b xs → Covered b ys → Covered b (moved xs ys)
+covered-moved : (b : ℕ) (xs ys : List (Item ℕ)) → Covered b xs → Covered b ys → Covered b (after_migrate ys xs)
 covered-moved b [] ys p q = covered-append b ys [] q tt
 covered-moved b (Marker ∷ xs) ys p q = covered-moved b xs ys p q
-covered-moved b (Of call Unmarked ∷ xs) ys p q = covered-append b ys (map unmarked (Of call Unmarked ∷ xs)) q (covered-remarked b (λ _. Unmarked) (Of call Unmarked ∷ xs) p)
-covered-moved b (Of call (Until n) ∷ xs) ys p q = covered-append b ys (map unmarked (Of call (Until n) ∷ xs)) q (covered-remarked b (λ _. Unmarked) (Of call (Until n) ∷ xs) p)
+covered-moved b (Of call Unmarked ∷ xs) ys p q = covered-append b ys (map without_mark (Of call Unmarked ∷ xs)) q (covered-remarked b (λ _. Unmarked) (Of call Unmarked ∷ xs) p)
+covered-moved b (Of call (Until n) ∷ xs) ys p q = covered-append b ys (map without_mark (Of call (Until n) ∷ xs)) q (covered-remarked b (λ _. Unmarked) (Of call (Until n) ∷ xs) p)
 covered-moved b (Of call Done ∷ xs) ys p q = ((λ l. let i = marks-moved xs ys in let k = p.0 l in omega (arith, i, k)), covered-moved b xs ys p.1 q)
 
 covered-cond : (b : ℕ) (t : Bool) (xs ys : List (Item ℕ)) → (t ≡ true → Covered b xs) → (t ≡ false → Covered b ys) → Covered b (cond t xs ys)
@@ -99,7 +99,7 @@ covered-cond b true xs ys f g = f refl
 covered-cond b false xs ys f g = g refl
 
 -- a list that is visited now, or was already
-covered-leaving : (b : ℕ) (r v : Bool) (xs : List (Item ℕ)) → r ≡ true → (v ≡ true → Covered b xs) → Covered b (leaving (r && not v) xs)
+covered-leaving : (b : ℕ) (r v : Bool) (xs : List (Item ℕ)) → r ≡ true → (v ≡ true → Covered b xs) → Covered b (as_it_leaves xs (r && not v))
 covered-leaving b true true xs e f = f refl
 covered-leaving b true false xs e f = covered-entrained b xs
 covered-leaving b false v xs e f = absurd (cc)
@@ -110,7 +110,7 @@ or_rest false b e v = v
 
 -- while a barrier runs, the list of each processor that it visited is covered
 record Barrier (h : History) : Type 0 where
-  pub covered : barrier_runs h ≡ true → (c : ℕ) → visited c h ≡ true → Covered (queued_before_barrier h) (list c h)
+  pub covered : barrier_runs h ≡ true → (c : ℕ) → was_visited c h ≡ true → Covered (queued_before_barrier h) (list c h)
   pub before_le : queued_before_barrier h ≤ queued h
 
 abbrev new_item : ℕ → History → Item ℕ
@@ -126,29 +126,29 @@ barrier_step s (Queue d y) h p f = let b = queued_before_barrier h in let k = f.
   before_le = omega (arith, k);
 }
 barrier_step s (Tend d) h p f = let b = queued_before_barrier h in record {
-  covered = λ r c v. covered-cond b (eqb d c) (tended (number h) (list c h)) (list c h) (λ e. covered-remarked b (mark_tended (number h)) (list c h) (f.covered r c v)) (λ e. f.covered r c v);
+  covered = λ r c v. covered-cond b (eqb d c) (after_tend (list c h) (number h)) (list c h) (λ e. covered-remarked b (mark_after_tend (number h)) (list c h) (f.covered r c v)) (λ e. f.covered r c v);
   before_le = f.before_le;
 }
 barrier_step s (Run d m) h p f = let b = queued_before_barrier h in record {
-  covered = λ r c v. covered-cond b (eqb d c) (untaken m (list c h)) (list c h) (λ e. covered-from b (length (taken m (list c h))) (list c h) (f.covered r c v)) (λ e. f.covered r c v);
+  covered = λ r c v. covered-cond b (eqb d c) (after_take (list c h) m) (list c h) (λ e. covered-from b (length (take_answer (list c h) m)) (list c h) (f.covered r c v)) (λ e. f.covered r c v);
   before_le = f.before_le;
 }
 barrier_step s (Visit d) h p f = let b = queued_before_barrier h in record {
-  covered = λ r c v. covered-cond b (eqb d c) (leaving (is_owed d h) (list c h)) (list c h)
-      (λ e. covered-leaving b (barrier_runs h) (visited d h) (list c h) r (λ w. f.covered r c (rw (← eqb-true d c e) w)))
-      (λ e. f.covered r c (or_rest (eqb d c) (visited c h) e v));
+  covered = λ r c v. covered-cond b (eqb d c) (as_it_leaves (list c h) (is_owed d h)) (list c h)
+      (λ e. covered-leaving b (barrier_runs h) (was_visited d h) (list c h) r (λ w. f.covered r c (rw (← eqb-true d c e) w)))
+      (λ e. f.covered r c (or_rest (eqb d c) (was_visited c h) e v));
   before_le = f.before_le;
 }
-barrier_step s (Offline d) h p f = let b = queued_before_barrier h in let xs = leaving (is_owed d h) (list d h) in record {
-  covered = λ r c v. covered-cond b (eqb d c) [] (cond (eqb c 0) (moved xs (list c h)) (list c h)) (λ e. tt)
-      (λ e. let old = f.covered r c (or_rest (eqb d c) (visited c h) e v) in covered-cond b (eqb c 0) (moved xs (list c h)) (list c h)
-      (λ z. covered-moved b xs (list c h) (covered-leaving b (barrier_runs h) (visited d h) (list d h) r (λ w. f.covered r d w)) old)
+barrier_step s (Offline d) h p f = let b = queued_before_barrier h in let xs = as_it_leaves (list d h) (is_owed d h) in record {
+  covered = λ r c v. covered-cond b (eqb d c) [] (cond (eqb c 0) (after_migrate (list c h) xs) (list c h)) (λ e. tt)
+      (λ e. let old = f.covered r c (or_rest (eqb d c) (was_visited c h) e v) in covered-cond b (eqb c 0) (after_migrate (list c h) xs) (list c h)
+      (λ z. covered-moved b xs (list c h) (covered-leaving b (barrier_runs h) (was_visited d h) (list d h) r (λ w. f.covered r d w)) old)
       (λ z. old));
   before_le = f.before_le;
 }
 barrier_step s _ h p f = record { covered = f.covered; before_le = f.before_le }
 
-barrier_each : (s : Size) (h : History) → IsHistory s h → Barrier h
+barrier_each : (s : Size) (h : History) → AreAccepted s h → Barrier h
 barrier_each s [] p = record { covered = λ r c v. absurd (cc); before_le = omega arith }
 barrier_each s (e ∷ h) p = barrier_step s e h p.0 (barrier_each s h p.1)
 
@@ -174,7 +174,7 @@ zero_each n f e c l =
     omega (arith, m, e)
 
 -- where the test of a running barrier finds nothing, every callback from before its begin was handed out
-covered_once : (s : Size) (h : History) (j : ℕ) → IsHistory s h → barrier_runs h ≡ true → waits_for s (situation h) ≡ 0 → 0 < j → j ≤ queued_before_barrier h → times j h ≡ 1
+covered_once : (s : Size) (h : History) (j : ℕ) → AreAccepted s h → barrier_runs h ≡ true → waits_for s (situation h) ≡ 0 → 0 < j → j ≤ queued_before_barrier h → times_handed_out j h ≡ 1
 covered_once s h j p r u z b =
     let f = barrier_each s h p in
     let k = f.before_le in
@@ -182,7 +182,7 @@ covered_once s h j p r u z b =
     let o : how_many s (λ c. is_owed c h) ≡ 0 = omega (arith, u) in
     then_once s j h p z (omega (arith, k, b))
     (sum_zero s.cpus (λ c. lies j (list c h)) (λ c l. none_left (queued_before_barrier h) j (list c h)
-    (f.covered r c (not_owed (barrier_runs h) (visited c h) r (none_passes s.cpus (λ c. is_owed c h) o c l)))
+    (f.covered r c (not_owed (barrier_runs h) (was_visited c h) r (none_passes s.cpus (λ c. is_owed c h) o c l)))
     (sym (markers_are (list c h)) ∙ zero_each s.cpus (λ c. markers (list c h)) m c l) b))
   where
     not_owed : (a v : Bool) → a ≡ true → (a && not v) ≡ false → v ≡ true
@@ -202,7 +202,7 @@ test_done : (s : Size) (h : History) → IsLegalReply s (situation h) BarTest re
 test_done s h (inl i) = done_parts (barrier_runs h) (waits_for s (situation h)) i
 test_done s h (inr i) = absurd (cc)
 
-pub earlier_are_handed : (s : Size) (run : Trace) (j : ℕ) → IsLegal s ((BarTest, reply.BarDone) ∷ run) → 0 < j → j ≤ queued_before_barrier (history run) → times j (history run) ≡ 1
+pub earlier_are_handed : (s : Size) (run : Trace) (j : ℕ) → IsLegalRun s ((BarTest, reply.BarDone) ∷ run) → 0 < j → j ≤ queued_before_barrier (history run) → times_handed_out j (history run) ≡ 1
 earlier_are_handed s run j l z b =
     let h = history run in
     let q = test_done s h l.0 in

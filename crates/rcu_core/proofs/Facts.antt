@@ -4,8 +4,10 @@ use Rattle.std.proofs.lemmas.Bool.Decides.{nat_tests}
 use Rattle.rcu_seq.specs.Numbers.{Number, number_at}
 use Rattle.rcu_seq.specs.Cookies.{snapshot_at}
 use Rattle.rcu_report.specs.declared.report.Report.{Report}
-use Rattle.rcu_core.specs.History.{History, count, latest, begins, ends, running, number, snapshot, online, noted, entered, exited, depth, opening, made, report_at, is_of, heard}
-use Rattle.rcu_core.specs.Replies.{Size, situation, fault_in, IsHistory}
+use Rattle.rcu_core.specs.History.{History, begins, ends, running, number, snapshot, online, noted, entered, exited, depth, opening, reports_made, report_at, is_of, is_heard}
+use Rattle.std.specs.Prelude.{count_by}
+use Rattle.rcu_seq.specs.Histories.{latest}
+use Rattle.rcu_core.specs.Replies.{Size, situation, fault_in, AreAccepted}
 use Rattle.rcu_core.specs.declared.event.Event.{Event}
 use Rattle.rcu_core.specs.declared.event.Event.TheVariants.{Enter, Exit, Note, Quiesce, Deliver, Online, Offline, Begin, End}
 use Rattle.rcu_core.proofs.Kept.{Turns, turns, none_awaited, exits_step}
@@ -19,7 +21,7 @@ snap_of ends true = grind (arith, nat_tests)
 snap_of ends false = grind (arith, nat_tests)
 
 pub snapshot_is : (h : History) → snapshot h ≡ snap (number h)
-snapshot_is h = snap_of (count ends h) (running h)
+snapshot_is h = snap_of (count_by ends h) (running h)
 
 -- the number never falls
 pub number_step : (s : Size) (e : Event) (h : History) → fault_in s (situation h) e ≡ None → Turns h → number h ≤ number (e ∷ h)
@@ -52,11 +54,11 @@ pub record Facts (s : Size) (c : ℕ) (h : History) : Type 0 where
   pub at_open : 0 < depth c h → online c h ≡ true
   pub noted_le : noted c h ≤ number h
   pub opening_le : number (opening c h) ≤ number h
-  pub made_le : (k : ℕ) (r : Report) → slice_get (made h) k ≡ Some r → r.cpu ≡ c → r.tag ≤ number h
-  pub made_before : 0 < depth c h → (k : ℕ) (r : Report) → slice_get (made h) k ≡ Some r → r.cpu ≡ c → r.tag ≤ number (opening c h)
+  pub made_le : (k : ℕ) (r : Report) → slice_get (reports_made h) k ≡ Some r → r.cpu ≡ c → r.tag ≤ number h
+  pub made_before : 0 < depth c h → (k : ℕ) (r : Report) → slice_get (reports_made h) k ≡ Some r → r.cpu ≡ c → r.tag ≤ number (opening c h)
   pub below_snap : 0 < depth c h → number h < snap (number (opening c h))
   pub at_begin : running h ≡ true → 0 < depth c h → number (opening c h) < number h → online c (latest begins h) ≡ true
-  pub unheard : running h ≡ true → 0 < depth c h → number (opening c h) < number h → heard c (number h) h ≡ false
+  pub unheard : running h ≡ true → 0 < depth c h → number (opening c h) < number h → is_heard c (number h) h ≡ false
 
 opening_step : (s : Size) (c : ℕ) (e : Event) (h : History) → fault_in s (situation h) e ≡ None → Turns h → number (opening c h) ≤ number h → number (opening c (e ∷ h)) ≤ number (e ∷ h)
 opening_step s c (Enter d) h p t g = grind (arith, nat_tests)
@@ -92,10 +94,10 @@ some_of true o r e = absurd (cc)
 some_of false o r e = e
 
 -- a report that is too old tells nothing
-tells-false : (c tag v k : ℕ) (h : History) → ((k : ℕ) (r : Report) → slice_get (made h) k ≡ Some r → r.cpu ≡ c → r.tag ≤ v) → v < tag → is_of c tag (report_at k (made h)) ≡ false
-tells-false c tag v k h f l = is_of-false c tag v (report_at k (made h)) (λ r e. f (k - 1) r (some_of (eqb k 0) (slice_get (made h) (k - 1)) r e)) l
+tells-false : (c tag v k : ℕ) (h : History) → ((k : ℕ) (r : Report) → slice_get (reports_made h) k ≡ Some r → r.cpu ≡ c → r.tag ≤ v) → v < tag → is_of c tag (report_at k (reports_made h)) ≡ false
+tells-false c tag v k h f l = is_of-false c tag v (report_at k (reports_made h)) (λ r e. f (k - 1) r (some_of (eqb k 0) (slice_get (reports_made h) (k - 1)) r e)) l
 
-unheard_step : (s : Size) (c : ℕ) (e : Event) (h : History) → fault_in s (situation h) e ≡ None → Turns h → Facts s c h → running (e ∷ h) ≡ true → 0 < depth c (e ∷ h) → number (opening c (e ∷ h)) < number (e ∷ h) → heard c (number (e ∷ h)) (e ∷ h) ≡ false
+unheard_step : (s : Size) (c : ℕ) (e : Event) (h : History) → fault_in s (situation h) e ≡ None → Turns h → Facts s c h → running (e ∷ h) ≡ true → 0 < depth c (e ∷ h) → number (opening c (e ∷ h)) < number (e ∷ h) → is_heard c (number (e ∷ h)) (e ∷ h) ≡ false
 unheard_step s c Begin h p t f r o b = refl
 unheard_step s c End h p t f r o b = grind (arith, nat_tests)
 unheard_step s c (Enter d) h p t f r o b = let g = f.unheard in grind (arith, nat_tests)
@@ -114,14 +116,14 @@ get_push (z ∷ xs) y x (suc k) e = get_push xs y x k e
 made_push : (c v d tag : ℕ) (xs : List Report) → ((k : ℕ) (r : Report) → slice_get xs k ≡ Some r → r.cpu ≡ c → r.tag ≤ v) → (d ≡ c → tag ≤ v) → (k : ℕ) (r : Report) → slice_get (xs ++ record { cpu = d; tag = tag } ∷ []) k ≡ Some r → r.cpu ≡ c → r.tag ≤ v
 made_push c v d tag xs f g k r e i = elim (get_push xs (record { cpu = d; tag = tag }) r k e) [ inl a ↦ f k r a i | inr a ↦ rw (← a) (g (ap (λ (r : Report). r.cpu) a ∙ i)) ]
 
-made_le_step : (s : Size) (c : ℕ) (e : Event) (h : History) → fault_in s (situation h) e ≡ None → Turns h → Facts s c h → (k : ℕ) (r : Report) → slice_get (made (e ∷ h)) k ≡ Some r → r.cpu ≡ c → r.tag ≤ number (e ∷ h)
-made_le_step s c (Quiesce d) h p t f k r e i = made_push c (number h) d (noted d h) (made h) f.made_le (λ i. rw i f.noted_le) k r e i
+made_le_step : (s : Size) (c : ℕ) (e : Event) (h : History) → fault_in s (situation h) e ≡ None → Turns h → Facts s c h → (k : ℕ) (r : Report) → slice_get (reports_made (e ∷ h)) k ≡ Some r → r.cpu ≡ c → r.tag ≤ number (e ∷ h)
+made_le_step s c (Quiesce d) h p t f k r e i = made_push c (number h) d (noted d h) (reports_made h) f.made_le (λ i. rw i f.noted_le) k r e i
 made_le_step s c Begin h p t f k r e i = let m = number_step s Begin h p t in let g = f.made_le k r e i in omega (arith, m, g)
 made_le_step s c End h p t f k r e i = let m = number_step s End h p t in let g = f.made_le k r e i in omega (arith, m, g)
 made_le_step s c _ h p t f k r e i = f.made_le k r e i
 
-made_before_step : (s : Size) (c : ℕ) (e : Event) (h : History) → fault_in s (situation h) e ≡ None → Turns h → Facts s c h → 0 < depth c (e ∷ h) → (k : ℕ) (r : Report) → slice_get (made (e ∷ h)) k ≡ Some r → r.cpu ≡ c → r.tag ≤ number (opening c (e ∷ h))
-made_before_step s c (Quiesce d) h p t f o k r e i = made_push c (number (opening c h)) d (noted d h) (made h) (f.made_before o) (λ i. grind (arith, nat_tests)) k r e i
+made_before_step : (s : Size) (c : ℕ) (e : Event) (h : History) → fault_in s (situation h) e ≡ None → Turns h → Facts s c h → 0 < depth c (e ∷ h) → (k : ℕ) (r : Report) → slice_get (reports_made (e ∷ h)) k ≡ Some r → r.cpu ≡ c → r.tag ≤ number (opening c (e ∷ h))
+made_before_step s c (Quiesce d) h p t f o k r e i = made_push c (number (opening c h)) d (noted d h) (reports_made h) (f.made_before o) (λ i. grind (arith, nat_tests)) k r e i
 made_before_step s c (Enter d) h p t f o k r e i = let g = f.made_le k r e i in let b : 0 < depth c h → r.tag ≤ number (opening c h) = λ o. f.made_before o k r e i in grind (arith, nat_tests)
 made_before_step s c (Exit d) h p t f o k r e i = let b : 0 < depth c h → r.tag ≤ number (opening c h) = λ o. f.made_before o k r e i in grind (arith, nat_tests)
 made_before_step s c _ h p t f o k r e i = f.made_before o k r e i
@@ -131,7 +133,7 @@ in_range_step s c (Enter d) h p f o = let g = f.in_range in grind (arith, nat_te
 in_range_step s c (Exit d) h p f o = let g = f.in_range in grind (arith, nat_tests)
 in_range_step s c _ h p f o = f.in_range o
 
-pub facts : (s : Size) (c : ℕ) (h : History) → IsHistory s h → Facts s c h
+pub facts : (s : Size) (c : ℕ) (h : History) → AreAccepted s h → Facts s c h
 facts s c [] p = record {
   in_range = λ o. absurd (omega arith);
   exits_le = omega arith;

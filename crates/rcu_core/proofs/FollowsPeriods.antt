@@ -5,13 +5,14 @@ use Rattle.std.proofs.lemmas.Bool.Decides.{nat_tests}
 use Rattle.std.proofs.lemmas.Bool.{cases_lt, and_right}
 use Rattle.std.proofs.lemmas.List.{get_or_past}
 use Rattle.rcu_seq.specs.Numbers.{number_at, same_number}
-use Rattle.rcu_node.specs.CpuSets.{is_in}
+use Rattle.rcu_node.specs.CpuSet.{is_in}
 use Rattle.rcu_report.specs.declared.report.Report.{Report}
-use Rattle.rcu_hotplug.specs.Calls.{cpus_of}
-use Rattle.rcu_core.specs.Grace.{Grace, awaited_in, begun, ended, number_in, wants_begin}
-use Rattle.rcu_core.specs.History.{History, latest, begins, running, number, online, is_of, heard, awaits}
-use Rattle.rcu_core.specs.Replies.{Situation, situation, fault_in, said, turned, begun as begun_said, ended as ended_said, wants_begin as wants_said, how_many, recorded, after}
-use Rattle.rcu_core.specs.State.{State, IsSound, Has, size_at, says, awaited_by, next, left}
+use Rattle.rcu_hotplug.specs.Hotplug.{cpus_of}
+use Rattle.rcu_core.specs.GpState.{Grace, awaited_in, after_begin, after_end, number_in, wants_begin}
+use Rattle.rcu_core.specs.History.{History, begins, running, number, online, is_of, is_heard, awaits}
+use Rattle.rcu_seq.specs.Histories.{latest}
+use Rattle.rcu_core.specs.Replies.{Situation, situation, fault_in, accepted_reply, turn_reply, begin_reply as begun_said, end_reply as ended_said, wants_begin as wants_said, how_many, recorded, with_event}
+use Rattle.rcu_core.specs.Core.{State, IsSound, Represents, size_at, says, awaited_by, after_event, after_reply}
 use Rattle.rcu_core.specs.declared.event.Event.TheVariants.{Begin, End, Turn}
 use Rattle.rcu_core.specs.declared.reply.Reply.TheVariants as reply
 use Rattle.rcu_core.proofs.Recorded.{turned_after}
@@ -46,7 +47,7 @@ heard_of g h (Some report) r m w c =
     reported_awaited g.seq.running (same_number report.tag (number_in g)) g.processors.awaited report.cpu c
     ∙ ap₂ (λ (a s : Bool). a && not (g.seq.running && (s && eqb report.cpu c))) (w c) (ap (λ n. same_number report.tag n) m)
     ∙ ap (λ (b : Bool). awaits c h && not (b && (same_number report.tag (number h) && eqb report.cpu c))) r
-    ∙ hears (running h) (online c (latest begins h) && not (heard c (number h) h)) (same_number report.tag (number h)) (eqb report.cpu c)
+    ∙ hears (running h) (online c (latest begins h) && not (is_heard c (number h) h)) (same_number report.tag (number h)) (eqb report.cpu c)
 
 pub length-awaited_by : (g : Grace ℕ) (o : Option Report) → length (awaited_by g o) ≡ length g.processors.awaited
 length-awaited_by g None = refl
@@ -58,16 +59,16 @@ awaits_delivered true false a b = refl
 awaits_delivered true true true b = sym (and_right (not b) false refl)
 awaits_delivered true true false b = and_yes (not b)
 
-none_there : (v : State ℕ) (h : History) → Has v h → fault_in (size_at v) (situation h) End ≡ None → (c : ℕ) → is_in v.grace.processors.awaited c ≡ false
+none_there : (v : State ℕ) (h : History) → Represents v h → fault_in (size_at v) (situation h) End ≡ None → (c : ℕ) → is_in v.grace.processors.awaited c ≡ false
 none_there v h x p c = elim (cases_lt c (cpus_of v.grace.processors)) [
   | inl l ↦ x.awaits c ∙ none_awaited (size_at v) h p c l
   | inr l ↦ get_or_past v.grace.processors.awaited c false l
 ]
 
 -- a grace period begins
-pub follows_begin : (v : State ℕ) (h : History) → IsSound v → Has v h → fault_in (size_at v) (situation h) Begin ≡ None → Has (next v Begin) (Begin ∷ h)
+pub follows_begin : (v : State ℕ) (h : History) → IsSound v → Represents v h → fault_in (size_at v) (situation h) Begin ≡ None → Represents (after_event v Begin) (Begin ∷ h)
 follows_begin v h s x p = let t = turns (size_at v) h x.accepted in record {
-  accepted = longer v (next v Begin) h Begin x p s.flags refl;
+  accepted = longer v (after_event v Begin) h Begin x p s.flags refl;
   ends = x.ends;
   needed = x.needed;
   made = x.made;
@@ -82,7 +83,7 @@ follows_begin v h s x p = let t = turns (size_at v) h x.accepted in record {
 }
 
 -- it ends
-pub follows_end : (v : State ℕ) (h : History) → Has v h → fault_in (size_at v) (situation h) End ≡ None → Has (next v End) (End ∷ h)
+pub follows_end : (v : State ℕ) (h : History) → Represents v h → fault_in (size_at v) (situation h) End ≡ None → Represents (after_event v End) (End ∷ h)
 follows_end v h x p = let t = turns (size_at v) h x.accepted in record {
   accepted = (p, x.accepted);
   needed = x.needed;
@@ -99,7 +100,7 @@ follows_end v h x p = let t = turns (size_at v) h x.accepted in record {
 }
 
 -- a turn that does neither
-unturned : (v : State ℕ) (h : History) → Has v h → fault_in (size_at v) (situation h) Turn ≡ None → Has v (Turn ∷ h)
+unturned : (v : State ℕ) (h : History) → Represents v h → fault_in (size_at v) (situation h) Turn ≡ None → Represents v (Turn ∷ h)
 unturned v h x p = record {
   accepted = (p, x.accepted);
   ends = x.ends;
@@ -116,39 +117,39 @@ unturned v h x p = record {
 }
 
 -- a turn is a begin, an end, or neither
-turn_kept : (v : State ℕ) (h : History) (a b d : Bool) (n m : ℕ) → IsSound v → Has v h → v.grace.seq.running ≡ a → (awaited_in v.grace == 0) ≡ b → wants_begin v.grace ≡ d
+turn_kept : (v : State ℕ) (h : History) (a b d : Bool) (n m : ℕ) → IsSound v → Represents v h → v.grace.seq.running ≡ a → (awaited_in v.grace == 0) ≡ b → wants_begin v.grace ≡ d
     → fault_in (size_at v) (says v) Turn ≡ None
-    → Has (record v { grace = cond a (cond b (ended v.grace) v.grace) (cond d (begun v.grace) v.grace) })
+    → Represents (record v { grace = cond a (cond b (after_end v.grace) v.grace) (cond d (after_begin v.grace) v.grace) })
     (recorded Turn (cond a (cond b (ended_said (says v)) (reply.Waiting n)) (cond d (reply.Begun (number_at v.grace.seq.ends true) m) reply.Nothing)) ∷ h)
 turn_kept v h true true d n m s x i j k p = follows_end v h x (subst (λ (u : Situation). fault_in (size_at v) u End ≡ None) (same v h x) (let size = awaited_size v in grind (arith, nat_tests)))
 turn_kept v h true false d n m s x i j k p = unturned v h x (subst (λ (u : Situation). fault_in (size_at v) u Turn ≡ None) (same v h x) p)
 turn_kept v h false b true n m s x i j k p = follows_begin v h s x (subst (λ (u : Situation). fault_in (size_at v) u Begin ≡ None) (same v h x) (grind (arith, nat_tests)))
 turn_kept v h false b false n m s x i j k p = unturned v h x (subst (λ (u : Situation). fault_in (size_at v) u Turn ≡ None) (same v h x) p)
 
-turned_so : (v : State ℕ) (h : History) → IsSound v → Has v h → fault_in (size_at v) (situation h) Turn ≡ None → Has (next v Turn) (recorded Turn (said (size_at v) (situation h) Turn) ∷ h)
+turned_so : (v : State ℕ) (h : History) → IsSound v → Represents v h → fault_in (size_at v) (situation h) Turn ≡ None → Represents (after_event v Turn) (recorded Turn (accepted_reply (size_at v) (situation h) Turn) ∷ h)
 turned_so v h s x p =
     let q = subst (λ (u : Situation). fault_in (size_at v) u Turn ≡ None) (sym (same v h x)) p in
     let g = v.grace in
-    subst (λ (u : Situation). Has (next v Turn) (recorded Turn (turned (size_at v) u) ∷ h)) (same v h x)
-    (subst (λ (n : ℕ). Has (next v Turn) (recorded Turn (cond g.seq.running (cond (n == 0) (ended_said (says v)) (reply.Waiting n)) (cond (wants_begin g) (begun_said (size_at v) (says v)) reply.Nothing)) ∷ h))
+    subst (λ (u : Situation). Represents (after_event v Turn) (recorded Turn (turn_reply (size_at v) u) ∷ h)) (same v h x)
+    (subst (λ (n : ℕ). Represents (after_event v Turn) (recorded Turn (cond g.seq.running (cond (n == 0) (ended_said (says v)) (reply.Waiting n)) (cond (wants_begin g) (begun_said (size_at v) (says v)) reply.Nothing)) ∷ h))
     (sym (awaited_size v))
     (turn_kept v h g.seq.running (awaited_in g == 0) (wants_begin g) (awaited_in g) (how_many (size_at v) (is_in g.processors.online)) s x refl refl refl q))
 
-turned_left : (v : State ℕ) (a b d : Bool) (k l m n : ℕ) → left v Turn (cond a (cond b (reply.Ended k) (reply.Waiting l)) (cond d (reply.Begun m n) reply.Nothing)) ≡ next v Turn
+turned_left : (v : State ℕ) (a b d : Bool) (k l m n : ℕ) → after_reply v Turn (cond a (cond b (reply.Ended k) (reply.Waiting l)) (cond d (reply.Begun m n) reply.Nothing)) ≡ after_event v Turn
 turned_left v true true d k l m n = refl
 turned_left v true false d k l m n = refl
 turned_left v false b true k l m n = refl
 turned_left v false b false k l m n = refl
 
 -- a turn
-pub follows_turn : (v : State ℕ) (h : History) → IsSound v → Has v h → fault_in (size_at v) (situation h) Turn ≡ None
-    → Has (left v Turn (turned (size_at v) (situation h))) (after h Turn (turned (size_at v) (situation h)))
+pub follows_turn : (v : State ℕ) (h : History) → IsSound v → Represents v h → fault_in (size_at v) (situation h) Turn ≡ None
+    → Represents (after_reply v Turn (turn_reply (size_at v) (situation h))) (with_event h Turn (turn_reply (size_at v) (situation h)))
 follows_turn v h s x p =
     let u = situation h in
     let n = how_many (size_at v) u.awaits in
     let m = how_many (size_at v) u.online in
     rw (
       turned_left v u.running (n == 0) (wants_said u) (number_at (u.ends + 1) false) n (number_at u.ends true) m,
-      turned_after h u.running (n == 0) (wants_said u) (number_at (u.ends + 1) false) n (number_at u.ends true) m (turned (size_at v) u) refl,
+      turned_after h u.running (n == 0) (wants_said u) (number_at (u.ends + 1) false) n (number_at u.ends true) m (turn_reply (size_at v) u) refl,
     )
     (turned_so v h s x p)

@@ -4,13 +4,13 @@ use Rattle.std.proofs.lemmas.Bool.{cases_eq}
 use Rattle.std.proofs.lemmas.Bool.Decides.{nat_tests}
 use Rattle.std.proofs.lemmas.List.Sums.{sum_by-cons}
 use Rattle.rcu_cblist.specs.declared.queued.Queued.{Queued}
-use Rattle.rcu_cblist.specs.Items.{Item, Of, Marker, Mark, Unmarked, Until, Done, behind, front, moved, remarked, taken, unmarked, untaken}
-use Rattle.rcu_barrier.specs.AllLists.{leaving}
-use Rattle.rcu_barrier.specs.Tending.{mark_tended, tended}
-use Rattle.rcu_core.specs.Callbacks.{copies, is_owed, list, queued, times}
+use Rattle.rcu_cblist.specs.SegList.{Item, Of, Marker, Mark, Unmarked, Until, Done, behind, front, after_migrate, remarked, take_answer, without_mark, after_take}
+use Rattle.rcu_barrier.specs.Lists.{as_it_leaves}
+use Rattle.rcu_barrier.specs.Tending.{mark_after_tend, after_tend}
+use Rattle.rcu_core.specs.Callbacks.{copies, is_owed, list, queued, times_handed_out}
 use Rattle.rcu_core.specs.History.{History, number}
-use Rattle.rcu_core.specs.Replies.{Size, situation, fault_in, IsHistory}
-use Rattle.rcu_core.specs.Runs.{IsLegal, history, Run as Trace}
+use Rattle.rcu_core.specs.Replies.{Size, situation, fault_in, AreAccepted}
+use Rattle.rcu_core.specs.Runs.{IsLegalRun, history, Run as Trace}
 use Rattle.rcu_core.specs.declared.event.Event.{Event}
 use Rattle.rcu_core.specs.declared.event.Event.TheVariants.{Offline, Queue, Tend, Run, Visit}
 use Rattle.rcu_core.proofs.Readers.{possible}
@@ -52,7 +52,7 @@ lies-remarked j f (Marker ∷ xs) = lies-remarked j f xs
 lies-remarked j f (Of call mark ∷ xs) = ap (λ n. cond (eqb call.ord j) 1 0 + n) (lies-remarked j f xs)
 
 -- what a take hands out and what it leaves
-lies-cut : (j m : ℕ) (xs : List (Item ℕ)) → copies j (taken m xs) + lies j (untaken m xs) ≡ lies j xs
+lies-cut : (j m : ℕ) (xs : List (Item ℕ)) → copies j (take_answer xs m) + lies j (after_take xs m) ≡ lies j xs
 lies-cut j zero [] = refl
 lies-cut j (suc m) [] = refl
 lies-cut j m (Marker ∷ xs) = lies-cut j m xs
@@ -61,7 +61,7 @@ lies-cut j (suc m) (Of call Unmarked ∷ xs) = omega arith
 lies-cut j (suc m) (Of call (Until n) ∷ xs) = omega arith
 lies-cut j (suc m) (Of call Done ∷ xs) =
     let i = lies-cut j m xs in
-    let c = sum_by-cons (λ (q : Queued ℕ). cond (eqb q.ord j) 1 0) call (taken m xs) in
+    let c = sum_by-cons (λ (q : Queued ℕ). cond (eqb q.ord j) 1 0) call (take_answer xs m) in
     omega (arith, i, c)
 
 lies-parts : (j : ℕ) (xs : List (Item ℕ)) → lies j (front xs) + lies j (behind xs) ≡ lies j xs
@@ -71,14 +71,14 @@ lies-parts j (Of call Unmarked ∷ xs) = omega arith
 lies-parts j (Of call (Until n) ∷ xs) = omega arith
 lies-parts j (Of call Done ∷ xs) = let i = lies-parts j xs in omega (arith, i)
 
-lies-leaving : (j : ℕ) (b : Bool) (xs : List (Item ℕ)) → lies j (leaving b xs) ≡ lies j xs
+lies-leaving : (j : ℕ) (b : Bool) (xs : List (Item ℕ)) → lies j (as_it_leaves xs b) ≡ lies j xs
 lies-leaving j false xs = refl
 lies-leaving j true [] = refl
 lies-leaving j true (x ∷ xs) = lies-append j (x ∷ xs) (Marker ∷ []) ∙ omega arith
 
-lies-moved : (j : ℕ) (xs ys : List (Item ℕ)) → lies j (moved xs ys) ≡ lies j xs + lies j ys
+lies-moved : (j : ℕ) (xs ys : List (Item ℕ)) → lies j (after_migrate ys xs) ≡ lies j xs + lies j ys
 lies-moved j xs ys =
-    let q = lies-append j (front xs ++ ys) (map unmarked (behind xs)) in let r = lies-append j (front xs) ys in
+    let q = lies-append j (front xs ++ ys) (map without_mark (behind xs)) in let r = lies-append j (front xs) ys in
     let t = lies-remarked j (λ _. Unmarked) (behind xs) in let u = lies-parts j xs in
     omega (arith, q, r, t, u)
 
@@ -88,7 +88,7 @@ lies_below n j h = sum_below n (λ c. lies j (list c h))
 
 -- how often it was handed out or lies in a list
 total : ℕ → ℕ → History → ℕ
-total n j h = times j h + lies_below n j h
+total n j h = times_handed_out j h + lies_below n j h
 
 record Once (s : Size) (j : ℕ) (h : History) : Type 0 where
   pub once : total s.cpus j h ≤ 1
@@ -123,7 +123,7 @@ run_step : (s : Size) (j d m : ℕ) (h : History) → fault_in s (situation h) (
 unfolding total
 run_step s j d m h p =
     let l : d < s.cpus = grind (arith, nat_tests) in
-    let k = one s j d h (Run d m) (untaken m (list d h)) l (cond_same d (untaken m (list d h)) (list d h)) (λ c n. cond_other c d (untaken m (list c h)) (list c h) n) in
+    let k = one s j d h (Run d m) (after_take (list d h) m) l (cond_same d (after_take (list d h) m) (list d h)) (λ c n. cond_other c d (after_take (list c h) m) (list c h) n) in
     let a = lies-cut j m (list d h) in
     omega (arith, k, a)
 
@@ -131,8 +131,8 @@ tend_step : (s : Size) (j d : ℕ) (h : History) → fault_in s (situation h) (T
 unfolding total
 tend_step s j d h p =
     let l : d < s.cpus = grind (arith, nat_tests) in
-    let k = one s j d h (Tend d) (tended (number h) (list d h)) l (cond_same d (tended (number h) (list d h)) (list d h)) (λ c n. cond_other c d (tended (number h) (list c h)) (list c h) n) in
-    let a = lies-remarked j (mark_tended (number h)) (list d h) in
+    let k = one s j d h (Tend d) (after_tend (list d h) (number h)) l (cond_same d (after_tend (list d h) (number h)) (list d h)) (λ c n. cond_other c d (after_tend (list c h) (number h)) (list c h) n) in
+    let a = lies-remarked j (mark_after_tend (number h)) (list d h) in
     omega (arith, k, a)
 
 visit_step : (s : Size) (j d : ℕ) (h : History) → fault_in s (situation h) (Visit d) ≡ None → total s.cpus j (Visit d ∷ h) ≡ total s.cpus j h
@@ -140,7 +140,7 @@ unfolding total
 visit_step s j d h p =
     let l : d < s.cpus = grind (arith, nat_tests) in
     let owed = is_owed d h in
-    let k = one s j d h (Visit d) (leaving owed (list d h)) l (cond_same d (leaving owed (list d h)) (list d h)) (λ c n. cond_other c d (leaving owed (list c h)) (list c h) n) in
+    let k = one s j d h (Visit d) (as_it_leaves (list d h) owed) l (cond_same d (as_it_leaves (list d h) owed) (list d h)) (λ c n. cond_other c d (as_it_leaves (list c h) owed) (list c h) n) in
     let a = lies-leaving j owed (list d h) in
     omega (arith, k, a)
 
@@ -158,8 +158,8 @@ offline_step s j d h p =
     let l : d < s.cpus = grind (arith, nat_tests) in
     let z : (d ≡ 0) → ⊥ = λ e. grind (arith, nat_tests) in
     let y : (0 ≡ d) → ⊥ = λ e. z (sym e) in
-    let xs : List (Item ℕ) = leaving (is_owed d h) (list d h) in
-    let lists = λ (c : ℕ). moved xs (list c h) in
+    let xs : List (Item ℕ) = as_it_leaves (list d h) (is_owed d h) in
+    let lists = λ (c : ℕ). after_migrate (list c h) xs in
     let same = λ (xs : List (Item ℕ)). lies j xs in
     let k = sums s.cpus (λ c. lies j (list c h)) (λ c. lies j (away d h c)) d l (λ c n. ap same (cond_other c d [] (list c h) n)) in
     let m = sums s.cpus (λ c. lies j (away d h c)) (λ c. lies j (list c (Offline d ∷ h))) 0 (omega (arith, l)) (λ c n. elsewhere j c d (lists c) (list c h) n) in
@@ -182,19 +182,19 @@ once_step s j (Visit d) h p o = same_once s j h (Visit d) (visit_step s j d h p)
 once_step s j (Offline d) h p o = same_once s j h (Offline d) (offline_step s j d h p) refl o
 once_step s j e h p o = same_once s j h e refl refl o
 
-once_each : (s : Size) (j : ℕ) (h : History) → IsHistory s h → Once s j h
+once_each : (s : Size) (j : ℕ) (h : History) → AreAccepted s h → Once s j h
 unfolding total
 once_each s j [] p = let i = zero_sum s.cpus in record { once = omega (arith, i); there = λ z b. absurd (omega arith); later = λ l. omega (arith, i) }
 once_each s j (e ∷ h) p = once_step s j e h p.0 (once_each s j h p.1)
 
-at_most_once : (s : Size) (j : ℕ) (h : History) → IsHistory s h → times j h ≤ 1
+at_most_once : (s : Size) (j : ℕ) (h : History) → AreAccepted s h → times_handed_out j h ≤ 1
 unfolding total
 at_most_once s j h p = let o = (once_each s j h p).once in omega (arith, o)
 
-pub no_second_run : (s : Size) (run : Trace) (j : ℕ) → IsLegal s run → times j (history run) ≤ 1
+pub no_second_run : (s : Size) (run : Trace) (j : ℕ) → IsLegalRun s run → times_handed_out j (history run) ≤ 1
 no_second_run s run j l = at_most_once s j (history run) (possible s run l)
 
 -- one that was queued and is in no list was handed out
-pub then_once : (s : Size) (j : ℕ) (h : History) → IsHistory s h → 0 < j → j ≤ queued h → lies_below s.cpus j h ≡ 0 → times j h ≡ 1
+pub then_once : (s : Size) (j : ℕ) (h : History) → AreAccepted s h → 0 < j → j ≤ queued h → lies_below s.cpus j h ≡ 0 → times_handed_out j h ≡ 1
 unfolding total
 then_once s j h p z b e = let o = (once_each s j h p).there z b in omega (arith, o, e)

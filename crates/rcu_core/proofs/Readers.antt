@@ -3,12 +3,12 @@ use Rattle.std.proofs.Common.{◌≡◌, ℕ, ◌+◌, ◌<◌, ◌≤◌, Bool,
 use Rattle.std.specs.Prelude.{◌==◌}
 use Rattle.std.proofs.lemmas.Bool.Decides.{nat_tests}
 use Rattle.std.proofs.lemmas.Bool.{ltb-true}
-use Rattle.rcu_seq.specs.Cookies.{is_done_at}
+use Rattle.rcu_seq.specs.Numbers.{is_done_at}
 use Rattle.rcu_seq.specs.Numbers.{number_at}
 use Rattle.rcu_seq.specs.declared.fault.Fault.{Fault}
 use Rattle.rcu_core.specs.History.{History, depth, number, opening, section, is_old, awaits, snapshot}
-use Rattle.rcu_core.specs.Replies.{Size, Situation, situation, fault_in, how_many, said, or_fault, waits_for, wants_begin, recorded, after, IsHistory, IsLegalReply}
-use Rattle.rcu_core.specs.Runs.{Run, IsLegal, history, takes}
+use Rattle.rcu_core.specs.Replies.{Size, Situation, situation, fault_in, how_many, accepted_reply, or_fault, waits_for, wants_begin, recorded, with_event, AreAccepted, IsLegalReply}
+use Rattle.rcu_core.specs.Runs.{Run, IsLegalRun, history, takes}
 use Rattle.rcu_core.specs.declared.event.Event.{Event}
 use Rattle.rcu_core.specs.declared.event.Event.TheVariants.{Turn, Take, StartPoll, Poll, BarTest}
 use Rattle.rcu_core.specs.declared.reply.Reply.{Reply}
@@ -24,42 +24,42 @@ turn_accepted s u true false d k l m n e f g p = p
 turn_accepted s u false b true k l m n e f g p = grind (arith, nat_tests)
 turn_accepted s u false b false k l m n e f g p = p
 
-accepted_as : (s : Size) (u : Situation) (e : Event) → fault_in s u e ≡ None → fault_in s u (recorded e (said s u e)) ≡ None
+accepted_as : (s : Size) (u : Situation) (e : Event) → fault_in s u e ≡ None → fault_in s u (recorded e (accepted_reply s u e)) ≡ None
 accepted_as s u Turn p = turn_accepted s u u.running (how_many s u.awaits == 0) (wants_begin u) (number_at (u.ends + 1) false) (how_many s u.awaits) (number_at u.ends true) (how_many s u.online) refl refl refl p
 accepted_as s u _ p = p
 
-test_accepted : (s : Size) (h : History) (b : Bool) → fault_in s (situation h) BarTest ≡ None → IsHistory s h → IsHistory s (cond b (BarTest ∷ h) h)
+test_accepted : (s : Size) (h : History) (b : Bool) → fault_in s (situation h) BarTest ≡ None → AreAccepted s h → AreAccepted s (cond b (BarTest ∷ h) h)
 test_accepted s h true i p = (i, p)
 test_accepted s h false i p = p
 
-after_other : (s : Size) (h : History) (e : Event) → is_test e ≡ false → fault_in s (situation h) e ≡ None → IsHistory s h → IsHistory s (after h e (said s (situation h) e))
+after_other : (s : Size) (h : History) (e : Event) → is_test e ≡ false → fault_in s (situation h) e ≡ None → AreAccepted s h → AreAccepted s (with_event h e (accepted_reply s (situation h) e))
 after_other s h e n i p = rw (after_said s (situation h) h e n) (accepted_as s (situation h) e i, p)
 
-after_accepted : (s : Size) (h : History) (e : Event) → fault_in s (situation h) e ≡ None → IsHistory s h → IsHistory s (after h e (said s (situation h) e))
+after_accepted : (s : Size) (h : History) (e : Event) → fault_in s (situation h) e ≡ None → AreAccepted s h → AreAccepted s (with_event h e (accepted_reply s (situation h) e))
 after_accepted s h BarTest i p = rw (after_test s (situation h) h) (test_accepted s h (waits_for s (situation h) == 0) i p)
 after_accepted s h e i p = after_other s h e refl i p
 
-after_answer : (s : Size) (h : History) (e : Event) (o : Option Fault) → fault_in s (situation h) e ≡ o → IsHistory s h → IsHistory s (after h e (or_fault o (said s (situation h) e)))
+after_answer : (s : Size) (h : History) (e : Event) (o : Option Fault) → fault_in s (situation h) e ≡ o → AreAccepted s h → AreAccepted s (with_event h e (or_fault o (accepted_reply s (situation h) e)))
 after_answer s h e (Some f) i p = p
 after_answer s h e None i p = after_accepted s h e i p
 
-after_legal : (s : Size) (h : History) (e : Event) (r : Reply) → IsLegalReply s (situation h) e r → IsHistory s h → IsHistory s (after h e r)
+after_legal : (s : Size) (h : History) (e : Event) (r : Reply) → IsLegalReply s (situation h) e r → AreAccepted s h → AreAccepted s (with_event h e r)
 after_legal s h e r (inl i) p = rw i (after_answer s h e (fault_in s (situation h) e) refl p)
 after_legal s h e r (inr i) p = rw i.2 p
 
 -- the history of a legal run has accepted events alone
-pub possible : (s : Size) (run : Run) → IsLegal s run → IsHistory s (history run)
+pub possible : (s : Size) (run : Run) → IsLegalRun s run → AreAccepted s (history run)
 possible s [] l = tt
 possible s (x ∷ run) l = after_legal s (history run) x.0 x.1 l.0 (possible s run l.1)
 
 awaited_from : (s : Size) (c : ℕ) (h : History) → Facts s c h → is_old c h ≡ true → awaits c h ≡ true
 awaited_from s c h f i = let a = f.at_begin in let b = f.unheard in grind (arith, nat_tests)
 
-pub old_is_awaited : (s : Size) (run : Run) (c : ℕ) → IsLegal s run → is_old c (history run) ≡ true → awaits c (history run) ≡ true
+pub old_is_awaited : (s : Size) (run : Run) (c : ℕ) → IsLegalRun s run → is_old c (history run) ≡ true → awaits c (history run) ≡ true
 old_is_awaited s run c l i = awaited_from s c (history run) (facts s c (history run) (possible s run l)) i
 
 -- the earlier part of a legal run is one
-legal_before : (s : Size) (later earlier : Run) → IsLegal s (later ++ earlier) → IsLegal s earlier
+legal_before : (s : Size) (later earlier : Run) → IsLegalRun s (later ++ earlier) → IsLegalRun s earlier
 legal_before s [] earlier l = l
 legal_before s (x ∷ later) earlier l = legal_before s later earlier l.1
 
@@ -97,7 +97,7 @@ ended_from s c k g h x fg fh e i a b =
     snap_above (number x) (number g) (number h) k (rw a.at at fg.opening_le) (e ∙ snapshot_is g) (rw b.at at (fh.below_snap b.deep)) i
 
 pub done_is_ended : (s : Size) (later earlier : Run) (e : Event) (k c : ℕ) (opened : History) → takes e ≡ true
-    → IsLegal s ((Poll k, reply.Polled true) ∷ later ++ (e, reply.Cookie (record { 0 = k })) ∷ earlier) → section c (history earlier) ≡ Some opened
+    → IsLegalRun s ((Poll k, reply.Polled true) ∷ later ++ (e, reply.Cookie (record { 0 = k })) ∷ earlier) → section c (history earlier) ≡ Some opened
     → section c (history (later ++ (e, reply.Cookie (record { 0 = k })) ∷ earlier)) ≢ Some opened
 done_is_ended s later earlier e k c opened t l a b =
     let taken = (e, reply.Cookie (record { 0 = k })) ∷ earlier in

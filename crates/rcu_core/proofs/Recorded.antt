@@ -3,25 +3,25 @@ use Rattle.std.proofs.Common.{◌≡◌, ℕ, ◌+◌, Bool, true, false, cond, 
 use Rattle.std.specs.Prelude.{◌==◌}
 use Rattle.rcu_seq.specs.Numbers.{number_at}
 use Rattle.rcu_core.specs.History.{History}
-use Rattle.rcu_core.specs.Replies.{Size, Situation, said, turned, waits_for, wants_begin, how_many, recorded, after}
+use Rattle.rcu_core.specs.Replies.{Size, Situation, accepted_reply, turn_reply, waits_for, wants_begin, how_many, recorded, with_event}
 use Rattle.rcu_core.specs.declared.event.Event.{Event}
 use Rattle.rcu_core.specs.declared.event.Event.TheVariants.{Enter, Exit, Note, Quiesce, Deliver, Online, Offline, Turn, Poll, Queue, Tend, Run, Visit, BarTest}
 use Rattle.rcu_core.specs.declared.reply.Reply.{Reply}
 use Rattle.rcu_core.specs.declared.reply.Reply.TheVariants as reply
 
 -- what a turn did stands in the history as it is recorded
-pub turned_after : (h : History) (a b d : Bool) (k l m n : ℕ) (r : Reply) → r ≡ cond a (cond b (reply.Ended k) (reply.Waiting l)) (cond d (reply.Begun m n) reply.Nothing) → after h Turn r ≡ recorded Turn r ∷ h
+pub turned_after : (h : History) (a b d : Bool) (k l m n : ℕ) (r : Reply) → r ≡ cond a (cond b (reply.Ended k) (reply.Waiting l)) (cond d (reply.Begun m n) reply.Nothing) → with_event h Turn r ≡ recorded Turn r ∷ h
 turned_after h true true d k l m n r e = rw e refl
 turned_after h true false d k l m n r e = rw e refl
 turned_after h false b true k l m n r e = rw e refl
 turned_after h false b false k l m n r e = rw e refl
 
-tested_after : (h : History) (b : Bool) (n : ℕ) → after h BarTest (cond b reply.BarDone (reply.BarWaits n)) ≡ cond b (BarTest ∷ h) h
+tested_after : (h : History) (b : Bool) (n : ℕ) → with_event h BarTest (cond b reply.BarDone (reply.BarWaits n)) ≡ cond b (BarTest ∷ h) h
 tested_after h true n = refl
 tested_after h false n = refl
 
 -- a test stands in the history where it waits for nothing
-pub after_test : (s : Size) (u : Situation) (h : History) → after h BarTest (said s u BarTest) ≡ cond (waits_for s u == 0) (BarTest ∷ h) h
+pub after_test : (s : Size) (u : Situation) (h : History) → with_event h BarTest (accepted_reply s u BarTest) ≡ cond (waits_for s u == 0) (BarTest ∷ h) h
 after_test s u h = tested_after h (waits_for s u == 0) (waits_for s u)
 
 -- it is no test of a barrier
@@ -30,7 +30,7 @@ is_test BarTest = true
 is_test _ = false
 
 -- any other event stands in it as it is recorded
-pub after_said : (s : Size) (u : Situation) (h : History) (e : Event) → is_test e ≡ false → after h e (said s u e) ≡ recorded e (said s u e) ∷ h
+pub after_said : (s : Size) (u : Situation) (h : History) (e : Event) → is_test e ≡ false → with_event h e (accepted_reply s u e) ≡ recorded e (accepted_reply s u e) ∷ h
 after_said s u h (Enter c) n = refl
 after_said s u h (Exit c) n = refl
 after_said s u h (Note c) n = refl
@@ -38,7 +38,7 @@ after_said s u h (Quiesce c) n = refl
 after_said s u h (Deliver k) n = refl
 after_said s u h (Online c) n = refl
 after_said s u h (Offline c) n = refl
-after_said s u h Turn n = turned_after h u.running (how_many s u.awaits == 0) (wants_begin u) (number_at (u.ends + 1) false) (how_many s u.awaits) (number_at u.ends true) (how_many s u.online) (turned s u) refl
+after_said s u h Turn n = turned_after h u.running (how_many s u.awaits == 0) (wants_begin u) (number_at (u.ends + 1) false) (how_many s u.awaits) (number_at u.ends true) (how_many s u.online) (turn_reply s u) refl
 after_said s u h (Poll k) n = refl
 after_said s u h (Queue c x) n = refl
 after_said s u h (Tend c) n = refl

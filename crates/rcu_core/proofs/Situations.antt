@@ -5,17 +5,17 @@ use Rattle.std.proofs.lemmas.Bool.Decides.{nat_tests}
 use Rattle.std.proofs.lemmas.Bool.{cases_eq}
 use Rattle.std.proofs.lemmas.List.{get_or-set_same, get_or-set_other}
 use Rattle.rcu_seq.specs.Numbers.{number_at}
-use Rattle.rcu_hotplug.specs.Calls.{cpus_of}
-use Rattle.rcu_cpu.specs.Calls.{Call, after as after_call}
-use Rattle.rcu_cpu.specs.Processors.{Processor, made as made_processor}
-use Rattle.rcu_core.specs.Grace.{number_in}
+use Rattle.rcu_hotplug.specs.Hotplug.{cpus_of}
+use Rattle.rcu_cpu.specs.CpuData.{Call, after_call}
+use Rattle.rcu_cpu.specs.CpuData.{Processor, at_first as made_processor}
+use Rattle.rcu_core.specs.GpState.{number_in}
 use Rattle.rcu_core.specs.History.{History, number}
-use Rattle.rcu_core.specs.Replies.{Size, situation, fault_in, IsHistory}
-use Rattle.rcu_core.specs.State.{State, IsSound, Has, size_at, says, processor, with_cpu, standing}
+use Rattle.rcu_core.specs.Replies.{Size, situation, fault_in, AreAccepted}
+use Rattle.rcu_core.specs.Core.{State, IsSound, Represents, size_at, says, processor, with_cpu, processor_in}
 use Rattle.rcu_core.specs.declared.event.Event.{Event}
 
 -- a state in the situation of a history says what that situation says
-pub same : (v : State ℕ) (h : History) → Has v h → says v ≡ situation h
+pub same : (v : State ℕ) (h : History) → Represents v h → says v ≡ situation h
 same v h x = λ i. record {
   ends = x.ends i;
   running = x.running i;
@@ -31,23 +31,23 @@ same v h x = λ i. record {
   owed = λ c. x.owed c i;
 }
 
-pub number_same : (v : State ℕ) (h : History) → Has v h → number_in v.grace ≡ number h
+pub number_same : (v : State ℕ) (h : History) → Represents v h → number_in v.grace ≡ number h
 number_same v h x = ap₂ (λ n r. number_at n r) x.ends x.running
 
 -- one processor changes, and the others stay
-pub one_changed : (v : State ℕ) (h : History) (e : Event) (c : ℕ) (call : Call) → c < length v.cpus → ((k : ℕ) → processor v.cpus k ≡ standing k h)
-    → after_call call (standing c h) ≡ standing c (e ∷ h) → ((k : ℕ) → eqb c k ≡ false → standing k (e ∷ h) ≡ standing k h)
-    → (k : ℕ) → processor (with_cpu v.cpus c call) k ≡ standing k (e ∷ h)
+pub one_changed : (v : State ℕ) (h : History) (e : Event) (c : ℕ) (call : Call) → c < length v.cpus → ((k : ℕ) → processor v.cpus k ≡ processor_in k h)
+    → after_call (processor_in c h) call ≡ processor_in c (e ∷ h) → ((k : ℕ) → eqb c k ≡ false → processor_in k (e ∷ h) ≡ processor_in k h)
+    → (k : ℕ) → processor (with_cpu v.cpus c call) k ≡ processor_in k (e ∷ h)
 one_changed v h e c call l x at other k = elim (cases_eq k c) [
-  | inl i ↦ subst (λ (j : ℕ). processor (with_cpu v.cpus c call) j ≡ standing j (e ∷ h)) (sym i)
-      (get_or-set_same v.cpus c (after_call call (processor v.cpus c)) (made_processor c false) l ∙ ap (λ (p : Processor). after_call call p) (x c) ∙ at)
-  | inr n ↦ get_or-set_other v.cpus c k (after_call call (processor v.cpus c)) (made_processor k false) n ∙ x k ∙ sym (other k (ne_eqb c k (λ i. n (sym i))))
+  | inl i ↦ subst (λ (j : ℕ). processor (with_cpu v.cpus c call) j ≡ processor_in j (e ∷ h)) (sym i)
+      (get_or-set_same v.cpus c (after_call (processor v.cpus c) call) (made_processor c false) l ∙ ap (λ (p : Processor). after_call p call) (x c) ∙ at)
+  | inr n ↦ get_or-set_other v.cpus c k (after_call (processor v.cpus c) call) (made_processor k false) n ∙ x k ∙ sym (other k (ne_eqb c k (λ i. n (sym i))))
 ]
 
 -- the history grew by an accepted event, and the size stayed
-pub longer : (v w : State ℕ) (h : History) (e : Event) → Has v h → fault_in (size_at v) (situation h) e ≡ None → cpus_of w.grace.processors ≡ cpus_of v.grace.processors
-    → w.grace.seq.last ≡ v.grace.seq.last → IsHistory (size_at w) (e ∷ h)
-longer v w h e x p n l = subst (λ (s : Size). IsHistory s (e ∷ h)) (ap₂ (λ (a b : ℕ). record { cpus = a; last = b }) (sym n) (sym l)) (p, x.accepted)
+pub longer : (v w : State ℕ) (h : History) (e : Event) → Represents v h → fault_in (size_at v) (situation h) e ≡ None → cpus_of w.grace.processors ≡ cpus_of v.grace.processors
+    → w.grace.seq.last ≡ v.grace.seq.last → AreAccepted (size_at w) (e ∷ h)
+longer v w h e x p n l = subst (λ (s : Size). AreAccepted s (e ∷ h)) (ap₂ (λ (a b : ℕ). record { cpus = a; last = b }) (sym n) (sym l)) (p, x.accepted)
 
 -- a processor whose number is not too high is there
 pub within : (v : State ℕ) (c : ℕ) → IsSound v → nat_le (cpus_of v.grace.processors) c ≡ false → c < length v.cpus

@@ -5,11 +5,12 @@ use Rattle.std.proofs.lemmas.List.Elements.{All-nil, All-cons, All-head, All-tai
 use borrow.Author.Tests.{leb-true}
 use Rattle.rcu_seq.specs.Numbers.{Number}
 use Rattle.rcu_cblist.specs.declared.queued.Queued.{Queued}
-use Rattle.rcu_cblist.specs.Items.{Item, Mark, Of, Marker, Unmarked, Until, Done, IsAtMost, behind, callbacks, entrained, from_callback, front, greatest, mark_given, moved, numbers, taken, unmarked, untaken}
-use Rattle.rcu_barrier.specs.AllLists.{leaving}
-use Rattle.rcu_barrier.specs.Tending.{snapshot, tended}
+use Rattle.rcu_cblist.specs.SegList.{Item, Mark, Of, Marker, Unmarked, Until, Done, IsAtMost, behind, callbacks, after_entrain, from_callback, front, greatest, mark_given, after_migrate, numbers, take_answer, without_mark, after_take}
+use Rattle.rcu_barrier.specs.Lists.{as_it_leaves}
+use Rattle.rcu_seq.specs.Numbers.{snapshot}
+use Rattle.rcu_barrier.specs.Tending.{after_tend}
 use Rattle.rcu_core.specs.Callbacks.{greatest_from}
-use Rattle.rcu_core.specs.Grace.{AreTimely, IsTimely}
+use Rattle.rcu_core.specs.GpState.{AreTimely, IsTimely}
 
 pub snapshot_rises : (n m : Number) → n ≤ m → snapshot n ≤ snapshot m
 snapshot_rises n m le = omega arith
@@ -48,16 +49,16 @@ timely_from n zero (Of call mark ∷ xs) timely = timely
 timely_from n (suc k) (Of call mark ∷ xs) timely = timely_from n k xs timely.1
 
 -- what a take leaves
-pub timely_untaken : {X : Type 0} (n : Number) (most : ℕ) (xs : List (Item X)) → AreTimely n xs → AreTimely n (untaken most xs)
-timely_untaken n most xs timely = timely_from n (length (taken most xs)) xs timely
+pub timely_untaken : {X : Type 0} (n : Number) (most : ℕ) (xs : List (Item X)) → AreTimely n xs → AreTimely n (after_take xs most)
+timely_untaken n most xs timely = timely_from n (length (take_answer xs most)) xs timely
 
 -- a marker behind a list
-pub timely_entrained : {X : Type 0} (n : Number) (xs : List (Item X)) → AreTimely n xs → AreTimely n (entrained xs)
+pub timely_entrained : {X : Type 0} (n : Number) (xs : List (Item X)) → AreTimely n xs → AreTimely n (after_entrain xs)
 timely_entrained n [] timely = tt
 timely_entrained n (x ∷ xs) timely = timely_append n (x ∷ xs) (Marker ∷ []) timely tt
 
 -- a marker, if one is owed
-pub timely_leaving : {X : Type 0} (n : Number) (owed : Bool) (xs : List (Item X)) → AreTimely n xs → AreTimely n (leaving owed xs)
+pub timely_leaving : {X : Type 0} (n : Number) (owed : Bool) (xs : List (Item X)) → AreTimely n xs → AreTimely n (as_it_leaves xs owed)
 timely_leaving n true xs timely = timely_entrained n xs timely
 timely_leaving n false xs timely = timely
 
@@ -75,7 +76,7 @@ timely_behind n (Of call Done ∷ xs) timely = timely_behind n xs timely.1
 timely_behind n (Of call Unmarked ∷ xs) timely = timely
 timely_behind n (Of call (Until k) ∷ xs) timely = timely
 
-timely_unmarked : {X : Type 0} (n : Number) (xs : List (Item X)) → AreTimely n xs → AreTimely n (map unmarked xs)
+timely_unmarked : {X : Type 0} (n : Number) (xs : List (Item X)) → AreTimely n xs → AreTimely n (map without_mark xs)
 timely_unmarked n [] timely = tt
 timely_unmarked n (Marker ∷ xs) timely = timely_unmarked n xs timely
 timely_unmarked n (Of call Unmarked ∷ xs) timely = (timely.0, timely_unmarked n xs timely.1)
@@ -83,9 +84,9 @@ timely_unmarked n (Of call (Until k) ∷ xs) timely = (timely.0.0, timely_unmark
 timely_unmarked n (Of call Done ∷ xs) timely = (timely.0.0, timely_unmarked n xs timely.1)
 
 -- a migration
-pub timely_moved : {X : Type 0} (n : Number) (xs ys : List (Item X)) → AreTimely n xs → AreTimely n ys → AreTimely n (moved xs ys)
+pub timely_moved : {X : Type 0} (n : Number) (xs ys : List (Item X)) → AreTimely n xs → AreTimely n ys → AreTimely n (after_migrate ys xs)
 timely_moved n xs ys timely others =
-    timely_append n (front xs ++ ys) (map unmarked (behind xs)) (timely_append n (front xs) ys (timely_front n xs timely) others)
+    timely_append n (front xs ++ ys) (map without_mark (behind xs)) (timely_append n (front xs) ys (timely_front n xs timely) others)
     (timely_unmarked n (behind xs) (timely_behind n xs timely))
 
 -- a mark whose number may be reached
@@ -95,7 +96,7 @@ reached_mark number at n true is timely = let le = leb-true n number is in (time
 reached_mark number at n false is timely = timely
 
 -- a tend at the number
-pub timely_tended : {X : Type 0} (number : Number) (xs : List (Item X)) → AreTimely number xs → AreTimely number (tended number xs)
+pub timely_tended : {X : Type 0} (number : Number) (xs : List (Item X)) → AreTimely number xs → AreTimely number (after_tend xs number)
 timely_tended number [] timely = tt
 timely_tended number (Marker ∷ xs) timely = timely_tended number xs timely
 timely_tended number (Of call Unmarked ∷ xs) timely =
@@ -124,7 +125,7 @@ front_waited number (Of call Done ∷ xs) timely =
 
 -- a take hands out only callbacks whose snapshot the number has reached
 pub taken_waited : {X : Type 0} (number : Number) (most : ℕ) (xs : List (Item X)) (calls : List (Queued X)) → AreTimely number xs →
-    calls ≡ taken most xs → All (λ call. snapshot call.at ≤ number) calls
+    calls ≡ take_answer xs most → All (λ call. snapshot call.at ≤ number) calls
 taken_waited number most xs calls timely is =
     rw is (All-take (λ call. snapshot call.at ≤ number) most (callbacks (front xs)) (front_waited number xs timely))
 

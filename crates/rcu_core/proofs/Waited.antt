@@ -9,14 +9,15 @@ use Rattle.rcu_seq.specs.Numbers.{Number}
 use Rattle.rcu_seq.specs.declared.fault.Fault.{Fault}
 use Rattle.rcu_seq.specs.declared.fault.Fault.TheVariants as fault
 use Rattle.rcu_cblist.specs.declared.queued.Queued.{Queued}
-use Rattle.rcu_cblist.specs.Items.{Item, Of, Marker, Mark, Unmarked, Until, Done, behind, callbacks, from_callback, front, moved, mark_given, remarked, taken, unmarked, untaken}
-use Rattle.rcu_barrier.specs.AllLists.{leaving}
-use Rattle.rcu_barrier.specs.Tending.{mark_tended, snapshot, tended}
-use Rattle.rcu_core.specs.Callbacks.{handed, has_begin, has_full_period, is_owed, list, queued, since}
-use Rattle.rcu_core.specs.Grace.{IsTimely}
+use Rattle.rcu_cblist.specs.SegList.{Item, Of, Marker, Mark, Unmarked, Until, Done, behind, callbacks, from_callback, front, after_migrate, mark_given, remarked, take_answer, without_mark, after_take}
+use Rattle.rcu_barrier.specs.Lists.{as_it_leaves}
+use Rattle.rcu_barrier.specs.Tending.{mark_after_tend, after_tend}
+use Rattle.rcu_seq.specs.Numbers.{snapshot}
+use Rattle.rcu_core.specs.Callbacks.{handed_out, has_begin, has_full_period, is_owed, list, queued, since}
+use Rattle.rcu_core.specs.GpState.{IsTimely}
 use Rattle.rcu_core.specs.History.{History, running, number}
-use Rattle.rcu_core.specs.Replies.{Size, situation, fault_in, IsHistory, IsLegalReply, or_fault}
-use Rattle.rcu_core.specs.Runs.{IsLegal, history, Run as Trace}
+use Rattle.rcu_core.specs.Replies.{Size, situation, fault_in, AreAccepted, IsLegalReply, or_fault}
+use Rattle.rcu_core.specs.Runs.{IsLegalRun, history, Run as Trace}
 use Rattle.rcu_core.specs.declared.event.Event.{Event}
 use Rattle.rcu_core.specs.declared.event.Event.TheVariants.{Offline, Begin, End, Queue, Tend, Run, Visit}
 use Rattle.rcu_core.specs.declared.reply.Reply.{Reply}
@@ -55,7 +56,7 @@ since_step s j End h p t f = let b = f.below in let o = f.before in let r = f.ru
 }
 since_step s j _ h p t f = record { below = f.below; before = f.before; runs = f.runs }
 
-since_each : (s : Size) (j : ℕ) (h : History) → IsHistory s h → Since j h
+since_each : (s : Size) (j : ℕ) (h : History) → AreAccepted s h → Since j h
 since_each s j [] p = record { below = λ u. omega arith; before = λ u w. omega arith; runs = λ u w. absurd (cc) }
 since_each s j (e ∷ h) p = since_step s j e h p.0 (turns s h p.1) (since_each s j h p.1)
 
@@ -79,7 +80,7 @@ reached : (v at n : Number) (b : Bool) → leb n v ≡ b → IsTimely v at (Unti
 reached v at n true e t = let l = leb-true n v e in let u = t.1 in (t.0, omega (arith, l, u))
 reached v at n false e t = t
 
-timely_tended : (v at : Number) (m : Mark) → IsTimely v at m → IsTimely v at (mark_tended v m)
+timely_tended : (v at : Number) (m : Mark) → IsTimely v at m → IsTimely v at (mark_after_tend v m)
 timely_tended v at Unmarked t = (t, omega (arith, t), omega arith)
 timely_tended v at (Until n) t = reached v at n (leb n v) refl t
 timely_tended v at Done t = t
@@ -100,11 +101,11 @@ keeps : (s : Size) (e : Event) (h : History) → fault_in s (situation h) e ≡ 
 keeps s e h p t (Of call mark) k = keeps_call s e h p t call mark k
 keeps s e h p t Marker k = tt
 
-tends : (c : ℕ) (h : History) (x : Item ℕ) → KeptItem h x → KeptItem (Tend c ∷ h) (remarked (mark_tended (number h)) x)
+tends : (c : ℕ) (h : History) (x : Item ℕ) → KeptItem h x → KeptItem (Tend c ∷ h) (remarked (mark_after_tend (number h)) x)
 tends c h (Of call mark) k = record { was = k.was; at = k.at; timely = timely_tended (number h) call.at mark k.timely }
 tends c h Marker k = tt
 
-unmarks : (h : History) (x : Item ℕ) → KeptItem h x → KeptItem h (unmarked x)
+unmarks : (h : History) (x : Item ℕ) → KeptItem h x → KeptItem h (without_mark x)
 unmarks h (Of call mark) k = record { was = k.was; at = k.at; timely = timely_unmarked (number h) call.at mark k.timely }
 unmarks h Marker k = tt
 
@@ -135,15 +136,15 @@ each_behind P (Of call Unmarked ∷ xs) a = a
 each_behind P (Of call (Until n) ∷ xs) a = a
 each_behind P (Of call Done ∷ xs) a = each_behind P xs (All-tail P (Of call Done) xs a)
 
-each_leaving : (P : Item ℕ → Type 0) (b : Bool) (xs : List (Item ℕ)) → P Marker → All P xs → All P (leaving b xs)
+each_leaving : (P : Item ℕ → Type 0) (b : Bool) (xs : List (Item ℕ)) → P Marker → All P xs → All P (as_it_leaves xs b)
 each_leaving P false xs m a = a
 each_leaving P true [] m a = a
 each_leaving P true (x ∷ xs) m a = All-push P (x ∷ xs) Marker a m
 
-each_moved : (P : Item ℕ → Type 0) (xs ys : List (Item ℕ)) → ((x : Item ℕ) → P x → P (unmarked x)) → All P xs → All P ys → All P (moved xs ys)
+each_moved : (P : Item ℕ → Type 0) (xs ys : List (Item ℕ)) → ((x : Item ℕ) → P x → P (without_mark x)) → All P xs → All P ys → All P (after_migrate ys xs)
 each_moved P xs ys u a b =
-    All-append P (front xs ++ ys) (map unmarked (behind xs)) (All-append P (front xs) ys (each_front P xs a) b)
-    (All-map P unmarked (behind xs) (All-weaker P (λ x. P (unmarked x)) u (behind xs) (each_behind P xs a)))
+    All-append P (front xs ++ ys) (map without_mark (behind xs)) (All-append P (front xs) ys (each_front P xs a) b)
+    (All-map P without_mark (behind xs) (All-weaker P (λ x. P (without_mark x)) u (behind xs) (each_behind P xs a)))
 
 lists_step : (s : Size) (e : Event) (h : History) → fault_in s (situation h) e ≡ None → Turns h → ((c : ℕ) → All (KeptItem h) (list c h)) → (c : ℕ) → All (KeptItem (e ∷ h)) (list c (e ∷ h))
 lists_step s (Queue d y) h p t a c =
@@ -151,27 +152,27 @@ lists_step s (Queue d y) h p t a c =
     let b = All-weaker (KeptItem h) K (keeps s e h p t) (list c h) (a c) in
     each_cond K (eqb d c) (list c h ++ Of (record { ord = queued h + 1; at = number h; value = y }) Unmarked ∷ []) (list c h) (All-push K (list c h) _ b (queued_now d y h)) b
 lists_step s (Tend d) h p t a c =
-    let e = Tend d in let K = KeptItem (e ∷ h) in let change = remarked (mark_tended (number h)) in
-    each_cond K (eqb d c) (tended (number h) (list c h)) (list c h)
+    let e = Tend d in let K = KeptItem (e ∷ h) in let change = remarked (mark_after_tend (number h)) in
+    each_cond K (eqb d c) (after_tend (list c h) (number h)) (list c h)
     (All-map K change (list c h) (All-weaker (KeptItem h) (λ x. K (change x)) (tends d h) (list c h) (a c)))
     (All-weaker (KeptItem h) K (keeps s e h p t) (list c h) (a c))
 lists_step s (Run d m) h p t a c =
     let e = Run d m in let K = KeptItem (e ∷ h) in
     let b = All-weaker (KeptItem h) K (keeps s e h p t) (list c h) (a c) in
-    each_cond K (eqb d c) (untaken m (list c h)) (list c h) (each_from K (length (taken m (list c h))) (list c h) b) b
+    each_cond K (eqb d c) (after_take (list c h) m) (list c h) (each_from K (length (take_answer (list c h) m)) (list c h) b) b
 lists_step s (Visit d) h p t a c =
     let e = Visit d in let K = KeptItem (e ∷ h) in
     let b = All-weaker (KeptItem h) K (keeps s e h p t) (list c h) (a c) in
-    each_cond K (eqb d c) (leaving (is_owed d h) (list c h)) (list c h) (each_leaving K (is_owed d h) (list c h) tt b) b
+    each_cond K (eqb d c) (as_it_leaves (list c h) (is_owed d h)) (list c h) (each_leaving K (is_owed d h) (list c h) tt b) b
 lists_step s (Offline d) h p t a c =
     let e = Offline d in let K = KeptItem (e ∷ h) in
     let w = λ (c : ℕ). All-weaker (KeptItem h) K (keeps s e h p t) (list c h) (a c) in
-    let xs = leaving (is_owed d h) (list d h) in
-    each_cond K (eqb d c) [] (cond (eqb c 0) (moved xs (list c h)) (list c h)) (All-nil K)
-    (each_cond K (eqb c 0) (moved xs (list c h)) (list c h) (each_moved K xs (list c h) (unmarks (e ∷ h)) (each_leaving K (is_owed d h) (list d h) tt (w d)) (w c)) (w c))
+    let xs = as_it_leaves (list d h) (is_owed d h) in
+    each_cond K (eqb d c) [] (cond (eqb c 0) (after_migrate (list c h) xs) (list c h)) (All-nil K)
+    (each_cond K (eqb c 0) (after_migrate (list c h) xs) (list c h) (each_moved K xs (list c h) (unmarks (e ∷ h)) (each_leaving K (is_owed d h) (list d h) tt (w d)) (w c)) (w c))
 lists_step s e h p t a c = All-weaker (KeptItem h) (KeptItem (e ∷ h)) (keeps s e h p t) (list c h) (a c)
 
-lists_kept : (s : Size) (h : History) → IsHistory s h → (c : ℕ) → All (KeptItem h) (list c h)
+lists_kept : (s : Size) (h : History) → AreAccepted s h → (c : ℕ) → All (KeptItem h) (list c h)
 lists_kept s [] p c = All-nil (KeptItem [])
 lists_kept s (e ∷ h) p c = lists_step s e h p.0 (turns s h p.1) (lists_kept s h p.1) c
 
@@ -192,15 +193,15 @@ front_waited h (Of call Done ∷ xs) a =
 all_at : {X : Type 0} (P : X → Type 0) (xs : List X) (k : ℕ) (x : X) → All P xs → slice_get xs k ≡ Some x → P x
 all_at P xs k x a e = subst P (get_or_from_slice_get xs k x x e) (a k x (slice_get_within xs k x e))
 
-period_passed : (s : Size) (h : History) (call : Queued ℕ) → IsHistory s h → Waited h call → has_full_period (since call.ord h) ≡ true
+period_passed : (s : Size) (h : History) (call : Queued ℕ) → AreAccepted s h → Waited h call → has_full_period (since call.ord h) ≡ true
 period_passed s h call p w =
     let f = (since_each s call.ord h p).below in
     let l : snapshot (number_at_queueing call.ord h) ≤ number h = rw w.at at w.reached in
     true_from_ne_false (has_full_period (since call.ord h)) (λ u. let b = f u in omega (arith, b, l))
 
-handed_waited : (s : Size) (h : History) (c m k : ℕ) (call : Queued ℕ) → IsHistory s h → slice_get (handed c m h) k ≡ Some call → has_full_period (since call.ord h) ≡ true
+handed_waited : (s : Size) (h : History) (c m k : ℕ) (call : Queued ℕ) → AreAccepted s h → slice_get (handed_out c m h) k ≡ Some call → has_full_period (since call.ord h) ≡ true
 handed_waited s h c m k call p e =
-    period_passed s h call p (all_at (Waited h) (handed c m h) k call (All-take (Waited h) m (callbacks (front (list c h))) (front_waited h (list c h) (lists_kept s h p c))) e)
+    period_passed s h call p (all_at (Waited h) (handed_out c m h) k call (All-take (Waited h) m (callbacks (front (list c h))) (front_waited h (list c h) (lists_kept s h p c))) e)
 
 abbrev values_in : Reply → List ℕ
 values_in (reply.Ran values) = values
@@ -213,11 +214,11 @@ ran_from : (b : Bool) (f : Fault) (xs values : List ℕ) → reply.Ran values �
 ran_from true f xs values e = absurd (cc)
 ran_from false f xs values e = ap values_in e
 
-ran_values : (s : Size) (h : History) (c m : ℕ) (values : List ℕ) → IsLegalReply s (situation h) (Run c m) (reply.Ran values) → values ≡ map (λ (call : Queued ℕ). call.value) (handed c m h)
-ran_values s h c m values (inl i) = ran_from (leb s.cpus c) fault.BadCpu (map (λ (call : Queued ℕ). call.value) (handed c m h)) values i
+ran_values : (s : Size) (h : History) (c m : ℕ) (values : List ℕ) → IsLegalReply s (situation h) (Run c m) (reply.Ran values) → values ≡ map (λ (call : Queued ℕ). call.value) (handed_out c m h)
+ran_values s h c m values (inl i) = ran_from (leb s.cpus c) fault.BadCpu (map (λ (call : Queued ℕ). call.value) (handed_out c m h)) values i
 ran_values s h c m values (inr i) = absurd (cc)
 
-pub no_early_run : (s : Size) (run : Trace) (c m k : ℕ) (values : List ℕ) (call : Queued ℕ) → IsLegal s ((Run c m, reply.Ran values) ∷ run)
-    → slice_get (handed c m (history run)) k ≡ Some call → (slice_get values k ≡ Some call.value) × (has_full_period (since call.ord (history run)) ≡ true)
+pub no_early_run : (s : Size) (run : Trace) (c m k : ℕ) (values : List ℕ) (call : Queued ℕ) → IsLegalRun s ((Run c m, reply.Ran values) ∷ run)
+    → slice_get (handed_out c m (history run)) k ≡ Some call → (slice_get values k ≡ Some call.value) × (has_full_period (since call.ord (history run)) ≡ true)
 no_early_run s run c m k values call l e =
-    (value_at (handed c m (history run)) values k call (ran_values s (history run) c m values l.0) e, handed_waited s (history run) c m k call (possible s run l.1) e)
+    (value_at (handed_out c m (history run)) values k call (ran_values s (history run) c m values l.0) e, handed_waited s (history run) c m k call (possible s run l.1) e)

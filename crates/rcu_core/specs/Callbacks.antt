@@ -2,10 +2,12 @@
 use Rattle.std.specs.Prelude.{ℕ, ◌+◌, ◌==◌, Bool, true, false, not, ◌&&◌, ◌||◌, max, fold, if◌then◌else◌, List, [], ◌∷◌, ◌++◌, count_by}
 use Rattle.rcu_seq.specs.Numbers.{Number}
 use Rattle.rcu_cblist.specs.declared.queued.Queued.{Queued}
-use Rattle.rcu_cblist.specs.Items.{Item, Of, Unmarked, moved, numbers, taken, untaken}
-use Rattle.rcu_barrier.specs.AllLists.{leaving}
-use Rattle.rcu_barrier.specs.Tending.{tended}
-use Rattle.rcu_core.specs.History.{History, begins, count, ends, latest, number, snapshot}
+use Rattle.rcu_cblist.specs.SegList.{Item, Of, Unmarked, after_migrate, numbers, take_answer, after_take}
+use Rattle.rcu_barrier.specs.Lists.{as_it_leaves}
+use Rattle.rcu_barrier.specs.Tending.{after_tend}
+use Rattle.rcu_core.specs.History.{History, begins, ends, number, snapshot}
+use Rattle.std.specs.Prelude.{count_by}
+use Rattle.rcu_seq.specs.Histories.{latest}
 use Rattle.rcu_core.specs.declared.event.Event.{Event}
 use Rattle.rcu_core.specs.declared.event.Event.TheVariants.{Offline, StartPoll, Queue, Tend, Run, BarBegin, Visit, BarTest}
 
@@ -36,17 +38,17 @@ barrier_runs [] = false
 barrier_runs (e ∷ h) = if begins_barrier e then true else (if ends_barrier e then false else barrier_runs h)
 
 -- the processor was visited since the latest barrier began
-abbrev pub visited : ℕ → History → Bool
-visited cpu [] = false
-visited cpu (e ∷ h) = not (begins_barrier e) && (visits cpu e || visited cpu h)
+abbrev pub was_visited : ℕ → History → Bool
+was_visited cpu [] = false
+was_visited cpu (e ∷ h) = not (begins_barrier e) && (visits cpu e || was_visited cpu h)
 
 -- a barrier runs that did not visit the processor yet
 abbrev pub is_owed : ℕ → History → Bool
-is_owed cpu h = barrier_runs h && not (visited cpu h)
+is_owed cpu h = barrier_runs h && not (was_visited cpu h)
 
 -- how many callbacks were queued
 abbrev pub queued : History → ℕ
-queued h = count queues h
+queued h = count_by queues h
 
 -- the processor's list, in order. A queued callback goes to its end. A tend at the number gives marks. A run takes away the
 -- first callbacks of the done part. A visit puts a marker behind it. The list of a processor that departs moves to
@@ -55,12 +57,12 @@ abbrev pub list : ℕ → History → List (Item ℕ)
 list cpu [] = []
 list cpu (Queue c value ∷ h) =
     if c == cpu then list cpu h ++ Of (record { ord = queued h + 1; at = number h; value = value }) Unmarked ∷ [] else list cpu h
-list cpu (Tend c ∷ h) = if c == cpu then tended (number h) (list cpu h) else list cpu h
-list cpu (Run c most ∷ h) = if c == cpu then untaken most (list cpu h) else list cpu h
-list cpu (Visit c ∷ h) = if c == cpu then leaving (is_owed c h) (list cpu h) else list cpu h
+list cpu (Tend c ∷ h) = if c == cpu then after_tend (list cpu h) (number h) else list cpu h
+list cpu (Run c most ∷ h) = if c == cpu then after_take (list cpu h) most else list cpu h
+list cpu (Visit c ∷ h) = if c == cpu then as_it_leaves (list cpu h) (is_owed c h) else list cpu h
 list cpu (Offline c ∷ h) =
     if c == cpu then []
-    else (if cpu == 0 then moved (leaving (is_owed c h) (list c h)) (list cpu h) else list cpu h)
+    else (if cpu == 0 then after_migrate (list cpu h) (as_it_leaves (list c h) (is_owed c h)) else list cpu h)
 list cpu (_ ∷ h) = list cpu h
 
 -- the greatest of a number and some others
@@ -76,18 +78,18 @@ needed (Tend cpu ∷ h) = greatest_from (needed h) (numbers (list cpu (Tend cpu 
 needed (_ ∷ h) = needed h
 
 -- what a run of at most so many callbacks hands out
-abbrev pub handed : ℕ → ℕ → History → List (Queued ℕ)
-handed cpu most h = taken most (list cpu h)
+abbrev pub handed_out : ℕ → ℕ → History → List (Queued ℕ)
+handed_out cpu most h = take_answer (list cpu h) most
 
 -- how many of these are the callback of this place among all that were queued, counted from 1
 abbrev pub copies : ℕ → List (Queued ℕ) → ℕ
 copies ord calls = count_by (λ call. call.ord == ord) calls
 
 -- how often the callback of this place was handed out
-abbrev pub times : ℕ → History → ℕ
-times ord [] = 0
-times ord (Run cpu most ∷ h) = copies ord (handed cpu most h) + times ord h
-times ord (_ ∷ h) = times ord h
+abbrev pub times_handed_out : ℕ → History → ℕ
+times_handed_out ord [] = 0
+times_handed_out ord (Run cpu most ∷ h) = copies ord (handed_out cpu most h) + times_handed_out ord h
+times_handed_out ord (_ ∷ h) = times_handed_out ord h
 
 -- the events since the callback of this place was queued
 abbrev pub since : ℕ → History → History

@@ -12,9 +12,9 @@ abbrev pub History : Type 0
 History = List Event
 
 -- how many events pass a test
-abbrev pub count : (Event → Bool) → History → ℕ
-count test [] = 0
-count test (e ∷ h) = if test e then count test h + 1 else count test h
+abbrev pub count_by : (Event → Bool) → History → ℕ
+count_by test [] = 0
+count_by test (e ∷ h) = if test e then count_by test h + 1 else count_by test h
 
 -- the history as it was at the latest event that passes a test, that event included; empty where there is none
 abbrev pub latest : (Event → Bool) → History → History
@@ -59,15 +59,15 @@ notes cpu _ = false
 
 -- a grace period runs: more began than ended
 abbrev pub running : History → Bool
-running h = nat_lt (count ends h) (count begins h)
+running h = nat_lt (count_by ends h) (count_by begins h)
 
 -- the grace-period number: four for each end, and one more while a grace period runs
 abbrev pub number : History → Number
-number h = number_at (count ends h) (running h)
+number h = number_at (count_by ends h) (running h)
 
 -- the snapshot: the number that ends the first grace period to begin from now on
 abbrev pub snapshot : History → Number
-snapshot h = snapshot_at (count ends h) (running h)
+snapshot h = snapshot_at (count_by ends h) (running h)
 
 -- the processor is online: its last arrival or departure is an arrival; before any, it is processor 0
 abbrev pub online : ℕ → History → Bool
@@ -108,10 +108,10 @@ abbrev pub is_old : ℕ → History → Bool
 is_old cpu h = running h && (nat_lt 0 (depth cpu h) && nat_lt (number (opening cpu h)) (number h))
 
 -- all reports, the first one first: each quiescent state made one, of its processor and the noted number
-abbrev pub made : History → List Report
-made [] = []
-made (Quiesce cpu ∷ h) = made h ++ record { cpu = cpu; tag = noted cpu h } ∷ []
-made (_ ∷ h) = made h
+abbrev pub reports_made : History → List Report
+reports_made [] = []
+reports_made (Quiesce cpu ∷ h) = reports_made h ++ record { cpu = cpu; tag = noted cpu h } ∷ []
+reports_made (_ ∷ h) = reports_made h
 
 -- the report of a place, counted from 1
 abbrev pub report_at : ℕ → List Report → Option Report
@@ -123,16 +123,16 @@ is_of cpu tag None = false
 is_of cpu tag (Some report) = report.cpu == cpu && same_number report.tag tag
 
 -- by this event the processor is heard in the grace period of this tag: a report of both is delivered, or it departs
-abbrev pub tells : ℕ → Number → Event → History → Bool
-tells cpu tag (Deliver place) h = is_of cpu tag (report_at place (made h))
-tells cpu tag (Offline c) h = c == cpu
-tells cpu tag _ h = false
+abbrev pub hears : ℕ → Number → Event → History → Bool
+hears cpu tag (Deliver place) h = is_of cpu tag (report_at place (reports_made h))
+hears cpu tag (Offline c) h = c == cpu
+hears cpu tag _ h = false
 
 -- the processor was heard since the latest begin
-abbrev pub heard : ℕ → Number → History → Bool
-heard cpu tag [] = false
-heard cpu tag (e ∷ h) = not (begins e) && (tells cpu tag e h || heard cpu tag h)
+abbrev pub is_heard : ℕ → Number → History → Bool
+is_heard cpu tag [] = false
+is_heard cpu tag (e ∷ h) = not (begins e) && (hears cpu tag e h || is_heard cpu tag h)
 
 -- the processor is awaited: a grace period runs at whose begin it was online, and it was not heard since
 abbrev pub awaits : ℕ → History → Bool
-awaits cpu h = running h && (online cpu (latest begins h) && not (heard cpu (number h) h))
+awaits cpu h = running h && (online cpu (latest begins h) && not (is_heard cpu (number h) h))

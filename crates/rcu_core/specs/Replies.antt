@@ -1,21 +1,23 @@
 -- Which replies are legal to an event after a history.
 use Rattle.std.specs.Prelude.{ℕ, ◌+◌, ◌-◌, ◌≡◌, ◌⊎◌, ◌==◌, Bool, true, false, not, ◌&&◌, nat_lt, nat_le, if◌then◌else◌, List, [], ◌∷◌, length, filter, count_by, map, sum_by, Option, Some, None, is_none}
 use Rattle.std.specs.List.{range_with_len}
-use Rattle.rcu_seq.specs.Cookies.{is_done_at, snapshot_at}
+use Rattle.rcu_seq.specs.Numbers.{is_done_at}
+use Rattle.rcu_seq.specs.Cookies.{snapshot_at}
 use Rattle.rcu_seq.specs.Numbers.{Number, number_at, same_number}
 use Rattle.rcu_seq.specs.declared.fault.Fault.{Fault}
 use Rattle.rcu_seq.specs.declared.fault.Fault.TheVariants as fault
 use Rattle.rcu_node.specs.declared.answer.Answer.{Answer}
 use Rattle.rcu_node.specs.declared.answer.Answer.TheVariants.{Taken, Last, Repeat, Stale}
 use Rattle.rcu_report.specs.declared.report.Report.{Report}
-use Rattle.rcu_cpu.specs.Processors.{deepest}
-use Rattle.rcu_cblist.specs.Items.{Item, behind, callbacks, front, is_empty, markers, taken}
-use Rattle.rcu_barrier.specs.AllLists.{most_queued}
-use Rattle.rcu_barrier.specs.Tending.{tended}
+use Rattle.rcu_cpu.specs.CpuData.{deepest}
+use Rattle.rcu_cblist.specs.SegList.{Item, behind, callbacks, front, is_empty, markers, take_answer}
+use Rattle.rcu_barrier.specs.Lists.{most_queued}
+use Rattle.rcu_barrier.specs.Tending.{after_tend}
 use Rattle.rcu_barrier.specs.declared.visit.Visit.{Visit as Visited}
 use Rattle.rcu_barrier.specs.declared.visit.Visit.TheVariants.{Marked, Empty, Already}
 use Rattle.rcu_core.specs.Callbacks.{barrier_runs, is_owed, list, needed, queued}
-use Rattle.rcu_core.specs.History.{History, count, ends, running, online, awaits, depth, noted, made, report_at}
+use Rattle.rcu_core.specs.History.{History, ends, running, online, awaits, depth, noted, reports_made, report_at}
+use Rattle.std.specs.Prelude.{count_by}
 use Rattle.rcu_core.specs.declared.event.Event.{Event}
 use Rattle.rcu_core.specs.declared.event.Event.TheVariants.{Enter, Exit, Note, Quiesce, Deliver, Online, Offline, Begin, End, Turn, Awaits, Take, StartPoll, Poll, Queue, Tend, Run, BarBegin, Visit, BarTest}
 use Rattle.rcu_core.specs.declared.reply.Reply.{Reply}
@@ -44,14 +46,14 @@ pub record Situation : Type 0 where
 -- the situation of a history
 abbrev pub situation : History → Situation
 situation h = record {
-  ends = count ends h;
+  ends = count_by ends h;
   running = running h;
   needed = needed h;
   online = λ cpu. online cpu h;
   awaits = λ cpu. awaits cpu h;
   depth = λ cpu. depth cpu h;
   noted = λ cpu. noted cpu h;
-  made = made h;
+  made = reports_made h;
   queued = queued h;
   list = λ cpu. list cpu h;
   barrier = barrier_runs h;
@@ -80,7 +82,7 @@ wants_begin v = not v.running && nat_lt (number_in v) v.needed
 
 -- the processor's list once it is tended
 abbrev pub tended_list : Situation → ℕ → List (Item ℕ)
-tended_list v cpu = tended (number_in v) (v.list cpu)
+tended_list v cpu = after_tend (v.list cpu) (number_in v)
 
 -- what the running barrier waits for: markers, and processors that it did not visit
 abbrev pub waits_for : Size → Situation → ℕ
@@ -120,57 +122,57 @@ fault_in s v e = first_fault (causes s v e)
 
 -- what a delivered report does: it is stale where no grace period runs or its tag is not the number, a repeat where
 -- its processor is not awaited, the last where that alone is awaited, and taken else
-abbrev pub answered : Size → Situation → Option Report → Answer
-answered s v None = Stale
-answered s v (Some report) =
+abbrev pub answer_to_report : Size → Situation → Option Report → Answer
+answer_to_report s v None = Stale
+answer_to_report s v (Some report) =
     if not (v.running && same_number report.tag (number_in v)) then Stale
     else (if not (v.awaits report.cpu) then Repeat
     else (if how_many s v.awaits == 1 then Last else Taken))
 
 -- a grace period begins
-abbrev pub begun : Size → Situation → Reply
-begun s v = reply.Begun (number_at v.ends true) (how_many s v.online)
+abbrev pub begin_reply : Size → Situation → Reply
+begin_reply s v = reply.Begun (number_at v.ends true) (how_many s v.online)
 
 -- it ends
-abbrev pub ended : Situation → Reply
-ended v = reply.Ended (number_at (v.ends + 1) false)
+abbrev pub end_reply : Situation → Reply
+end_reply v = reply.Ended (number_at (v.ends + 1) false)
 
 -- a turn: a running grace period ends where nobody is awaited; where none runs, one begins if a later number is needed
-abbrev pub turned : Size → Situation → Reply
-turned s v =
-    if v.running then (if how_many s v.awaits == 0 then ended v else reply.Waiting (how_many s v.awaits))
-    else (if wants_begin v then begun s v else reply.Nothing)
+abbrev pub turn_reply : Size → Situation → Reply
+turn_reply s v =
+    if v.running then (if how_many s v.awaits == 0 then end_reply v else reply.Waiting (how_many s v.awaits))
+    else (if wants_begin v then begin_reply s v else reply.Nothing)
 
 -- a visit: where the processor is owed one, a marker goes behind its list, if that is not empty
 abbrev pub visit_in : Situation → ℕ → Visited
 visit_in v cpu = if not (v.owed cpu) then Already else (if is_empty (v.list cpu) then Empty else Marked)
 
 -- a test of the barrier: it is done where it waits for nothing
-abbrev pub tested : Size → Situation → Reply
-tested s v = if waits_for s v == 0 then reply.BarDone else reply.BarWaits (waits_for s v)
+abbrev pub barrier_test_reply : Size → Situation → Reply
+barrier_test_reply s v = if waits_for s v == 0 then reply.BarDone else reply.BarWaits (waits_for s v)
 
 -- the reply to an event of which no cause holds
-abbrev pub said : Size → Situation → Event → Reply
-said s v (Enter cpu) = reply.Depth (v.depth cpu + 1)
-said s v (Exit cpu) = reply.Depth (v.depth cpu - 1)
-said s v (Note cpu) = reply.Noted (number_in v) (v.awaits cpu)
-said s v (Quiesce cpu) = reply.Made (length v.made + 1) (record { cpu = cpu; tag = v.noted cpu })
-said s v (Deliver place) = reply.Answer (answered s v (report_at place v.made))
-said s v (Online cpu) = reply.Online
-said s v (Offline cpu) = reply.Moved (length (callbacks (v.list cpu)))
-said s v Begin = begun s v
-said s v End = ended v
-said s v Turn = turned s v
-said s v Awaits = reply.Awaits (which s.cpus v.awaits)
-said s v Take = reply.Cookie (record { 0 = snapshot_at v.ends v.running })
-said s v StartPoll = reply.Cookie (record { 0 = snapshot_at v.ends v.running })
-said s v (Poll cookie) = reply.Polled (is_done_at cookie (number_in v))
-said s v (Queue cpu value) = reply.Queued (v.queued + 1)
-said s v (Tend cpu) = reply.Tended (length (callbacks (front (tended_list v cpu)))) (length (callbacks (behind (tended_list v cpu))))
-said s v (Run cpu most) = reply.Ran (map (λ call. call.value) (taken most (v.list cpu)))
-said s v BarBegin = reply.BarBegun
-said s v (Visit cpu) = reply.Visited (visit_in v cpu)
-said s v BarTest = tested s v
+abbrev pub accepted_reply : Size → Situation → Event → Reply
+accepted_reply s v (Enter cpu) = reply.Depth (v.depth cpu + 1)
+accepted_reply s v (Exit cpu) = reply.Depth (v.depth cpu - 1)
+accepted_reply s v (Note cpu) = reply.Noted (number_in v) (v.awaits cpu)
+accepted_reply s v (Quiesce cpu) = reply.Made (length v.made + 1) (record { cpu = cpu; tag = v.noted cpu })
+accepted_reply s v (Deliver place) = reply.Answer (answer_to_report s v (report_at place v.made))
+accepted_reply s v (Online cpu) = reply.Online
+accepted_reply s v (Offline cpu) = reply.Moved (length (callbacks (v.list cpu)))
+accepted_reply s v Begin = begin_reply s v
+accepted_reply s v End = end_reply v
+accepted_reply s v Turn = turn_reply s v
+accepted_reply s v Awaits = reply.Awaits (which s.cpus v.awaits)
+accepted_reply s v Take = reply.Cookie (record { 0 = snapshot_at v.ends v.running })
+accepted_reply s v StartPoll = reply.Cookie (record { 0 = snapshot_at v.ends v.running })
+accepted_reply s v (Poll cookie) = reply.Polled (is_done_at cookie (number_in v))
+accepted_reply s v (Queue cpu value) = reply.Queued (v.queued + 1)
+accepted_reply s v (Tend cpu) = reply.Tended (length (callbacks (front (tended_list v cpu)))) (length (callbacks (behind (tended_list v cpu))))
+accepted_reply s v (Run cpu most) = reply.Ran (map (λ call. call.value) (take_answer (v.list cpu) most))
+accepted_reply s v BarBegin = reply.BarBegun
+accepted_reply s v (Visit cpu) = reply.Visited (visit_in v cpu)
+accepted_reply s v BarTest = barrier_test_reply s v
 
 -- the first fault whose cause holds, and else what is said
 abbrev pub or_fault : Option Fault → Reply → Reply
@@ -179,7 +181,7 @@ or_fault (Some f) r = reply.Fault f
 
 -- the reply to an event, where memory is never wanted
 abbrev pub answer : Size → Situation → Event → Reply
-answer s v e = or_fault (fault_in s v e) (said s v e)
+answer s v e = or_fault (fault_in s v e) (accepted_reply s v e)
 
 -- the event stores something: a report, a callback, a marker, or a list that is not empty
 abbrev pub stores : Size → Situation → Event → Bool
@@ -187,7 +189,7 @@ stores s v (Quiesce cpu) = true
 stores s v Awaits = nat_lt 0 (how_many s v.awaits)
 stores s v (Offline cpu) = not (is_empty (v.list cpu))
 stores s v (Queue cpu value) = true
-stores s v (Run cpu most) = nat_lt 0 (length (taken most (v.list cpu)))
+stores s v (Run cpu most) = nat_lt 0 (length (take_answer (v.list cpu) most))
 stores s v (Visit cpu) = v.owed cpu && not (is_empty (v.list cpu))
 stores s v _ = false
 
@@ -207,12 +209,12 @@ recorded Turn r = turn_as r
 recorded e r = e
 
 -- the history after an event and its reply: a refused event is not in it, nor is a test that found the barrier waiting
-abbrev pub after : History → Event → Reply → History
-after h e (reply.Fault f) = h
-after h e (reply.BarWaits left) = h
-after h e r = recorded e r ∷ h
+abbrev pub with_event : History → Event → Reply → History
+with_event h e (reply.Fault f) = h
+with_event h e (reply.BarWaits left) = h
+with_event h e r = recorded e r ∷ h
 
 -- each event of the history was accepted
-abbrev pub IsHistory : Size → History → Type 0
-IsHistory s [] = Unit {0}
-IsHistory s (e ∷ h) = (fault_in s (situation h) e ≡ None) × IsHistory s h
+abbrev pub AreAccepted : Size → History → Type 0
+AreAccepted s [] = Unit {0}
+AreAccepted s (e ∷ h) = (fault_in s (situation h) e ≡ None) × AreAccepted s h

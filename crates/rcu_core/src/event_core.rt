@@ -1,12 +1,12 @@
 //! The machine over events.
 ghost use Rattle.std.specs.Prelude.{◌≡◌, ◌<◌, ℕ, true, false, [], Some, None, length, replicate, IfErr, IfNone, IfOk, IfSome, OnErr};
 ghost use Rattle.rcu_seq.specs.Numbers.{is_last};
-ghost use Rattle.rcu_node.specs.CpuSets.{is_in, size_of};
-ghost use Rattle.rcu_cpu.specs.Processors.{made};
+ghost use Rattle.rcu_node.specs.CpuSet.{is_in, size_of};
+ghost use Rattle.rcu_cpu.specs.CpuData.{at_first};
 ghost use Rattle.rcu_core.specs.History.{History, report_at};
 ghost use Rattle.rcu_core.specs.Replies.{fault_in, which};
-ghost use Rattle.rcu_core.specs.Runs.{Ran};
-ghost use Rattle.rcu_core.specs.State.{Does, Goes, Has, says, size_at};
+ghost use Rattle.rcu_core.specs.Runs.{RunsLegally};
+ghost use Rattle.rcu_core.specs.Core.{StepsLegally, Follows, Represents, says, size_at};
 
 use crate::cpu_list::CpuList;
 use crate::event::Event;
@@ -41,7 +41,7 @@ pub struct Core<A: Awaited, T: Drop> {
 
 impl<A: Awaited, T: Drop> Model for Core<A, T> {
     ghost use Rattle.std.specs.Prelude.{◌≡◌};
-    ghost use Rattle.rcu_core.specs.State.{State, IsSound};
+    ghost use Rattle.rcu_core.specs.Core.{State, IsSound};
 
     ghost Value = { State T };
 
@@ -84,7 +84,7 @@ impl<A: Awaited> Core<A, u64> {
     pub fn new(alloc: Global, inner: A, last: u64) -> Result<Self, Fault>
         requires tag { A.tag inner ≡ 0 }
         requires empty { A.start_set inner ≡ replicate (length (A.awaited inner)) false }
-        ensures ok { IfOk result (λ made. Has made [] × (size_at made ≡ record { cpus = length (A.awaited inner); last = last })) }
+        ensures ok { IfOk result (λ made. Represents at_first [] × (size_at at_first ≡ record { cpus = length (A.awaited inner); last = last })) }
         ensures err { IfErr result (λ fault. is_last last ≡ false → fault ≡ Fault.BadLast) }
         ensures memory { IfErr result (λ fault. is_last last ≡ true → fault ≡ Fault.NoMemory) }
     {
@@ -108,7 +108,7 @@ impl<A: Awaited> Core<A, u64> {
     /// Takes an event: the reply is legal, and the machine is left in the situation of the history, with the event
     /// where it was accepted. A refused event changes nothing.
     pub fn step(&mut self, event: Event) -> Reply
-        ensures { (h : History) → Has self.old h → Goes self.old h event result self.new }
+        ensures { (h : History) → Represents self.old h → Follows self.old h event result self.new }
     {
         let _ = &self.gp;
         self.apply(event)
@@ -118,7 +118,7 @@ impl<A: Awaited> Core<A, u64> {
     ///
     /// Fault 16: no event was taken.
     pub fn run(&mut self, events: &[Event]) -> Result<Vec<Reply>, Fault>
-        ensures ok { IfOk result (λ replies. (h : History) → Has self.old h → Ran self.old h events.now replies.items self.new) }
+        ensures ok { IfOk result (λ replies. (h : History) → Represents self.old h → RunsLegally self.old h events.now replies.items self.new) }
         ensures err { IfErr result (λ fault. (fault ≡ Fault.NoMemory) × (self.new ≡ self.old)) }
     {
         let Ok(mut replies) = Vec::with_capacity(self.alloc, events.len()) else {
@@ -132,7 +132,7 @@ impl<A: Awaited> Core<A, u64> {
     }
 
     fn apply(&mut self, event: Event) -> Reply
-        ensures { Does self.old event result self.new }
+        ensures { StepsLegally self.old event result self.new }
     {
         match event {
             Event::Enter(cpu) => self.enter(cpu),
@@ -159,7 +159,7 @@ impl<A: Awaited> Core<A, u64> {
     }
 
     fn enter(&mut self, cpu: u32) -> Reply
-        ensures { Does self.old (Event.Enter cpu) result self.new }
+        ensures { StepsLegally self.old (Event.Enter cpu) result self.new }
     {
         if cpu >= self.gp.cpus() {
             return Reply::Fault(Fault::BadCpu);
@@ -171,7 +171,7 @@ impl<A: Awaited> Core<A, u64> {
     }
 
     fn exit(&mut self, cpu: u32) -> Reply
-        ensures { Does self.old (Event.Exit cpu) result self.new }
+        ensures { StepsLegally self.old (Event.Exit cpu) result self.new }
     {
         if cpu >= self.gp.cpus() {
             return Reply::Fault(Fault::BadCpu);
@@ -183,7 +183,7 @@ impl<A: Awaited> Core<A, u64> {
     }
 
     fn note(&mut self, cpu: u32) -> Reply
-        ensures { Does self.old (Event.Note cpu) result self.new }
+        ensures { StepsLegally self.old (Event.Note cpu) result self.new }
     {
         if cpu >= self.gp.cpus() {
             return Reply::Fault(Fault::BadCpu);
@@ -196,7 +196,7 @@ impl<A: Awaited> Core<A, u64> {
     }
 
     fn quiesce(&mut self, cpu: u32) -> Reply
-        ensures { Does self.old (Event.Quiesce cpu) result self.new }
+        ensures { StepsLegally self.old (Event.Quiesce cpu) result self.new }
     {
         if cpu >= self.gp.cpus() {
             return Reply::Fault(Fault::BadCpu);
@@ -212,7 +212,7 @@ impl<A: Awaited> Core<A, u64> {
     }
 
     fn deliver(&mut self, place: u64) -> Reply
-        ensures { Does self.old (Event.Deliver place) result self.new }
+        ensures { StepsLegally self.old (Event.Deliver place) result self.new }
     {
         match report_of(self.reports.as_slice(), place) {
             Some(report) => Reply::Answer(self.gp.report(report)),
@@ -221,7 +221,7 @@ impl<A: Awaited> Core<A, u64> {
     }
 
     fn arrive(&mut self, cpu: u32) -> Reply
-        ensures { Does self.old (Event.Online cpu) result self.new }
+        ensures { StepsLegally self.old (Event.Online cpu) result self.new }
     {
         if let Err(fault) = self.gp.arrive(cpu) {
             return Reply::Fault(fault);
@@ -253,7 +253,7 @@ impl<A: Awaited> Core<A, u64> {
     }
 
     fn depart(&mut self, cpu: u32) -> Reply
-        ensures { Does self.old (Event.Offline cpu) result self.new }
+        ensures { StepsLegally self.old (Event.Offline cpu) result self.new }
     {
         if let Some(fault) = self.departure_fault(cpu) {
             return Reply::Fault(fault);
@@ -268,7 +268,7 @@ impl<A: Awaited> Core<A, u64> {
     }
 
     fn begin(&mut self) -> Reply
-        ensures { Does self.old Event.Begin result self.new }
+        ensures { StepsLegally self.old Event.Begin result self.new }
     {
         match self.gp.begin() {
             Ok((number, awaited)) => Reply::Begun(number, awaited),
@@ -277,7 +277,7 @@ impl<A: Awaited> Core<A, u64> {
     }
 
     fn end(&mut self) -> Reply
-        ensures { Does self.old Event.End result self.new }
+        ensures { StepsLegally self.old Event.End result self.new }
     {
         match self.gp.end() {
             Ok(number) => Reply::Ended(number),
@@ -286,7 +286,7 @@ impl<A: Awaited> Core<A, u64> {
     }
 
     fn turn(&mut self) -> Reply
-        ensures { Does self.old Event.Turn result self.new }
+        ensures { StepsLegally self.old Event.Turn result self.new }
     {
         match self.gp.turn() {
             Ok(Turned::Begun(number, awaited)) => Reply::Begun(number, awaited),
@@ -298,7 +298,7 @@ impl<A: Awaited> Core<A, u64> {
     }
 
     fn awaits(&self) -> Reply
-        ensures { Does self.now Event.Awaits result self.now }
+        ensures { StepsLegally self.now Event.Awaits result self.now }
     {
         match list_awaited(self.alloc, self.gp.awaited()) {
             Ok(list) => Reply::Awaits(list),
@@ -307,25 +307,25 @@ impl<A: Awaited> Core<A, u64> {
     }
 
     fn take(&self) -> Reply
-        ensures { Does self.now Event.Take result self.now }
+        ensures { StepsLegally self.now Event.Take result self.now }
     {
         Reply::Cookie(self.gp.take())
     }
 
     fn start_poll(&mut self) -> Reply
-        ensures { Does self.old Event.StartPoll result self.new }
+        ensures { StepsLegally self.old Event.StartPoll result self.new }
     {
         Reply::Cookie(self.gp.start_poll())
     }
 
     fn poll(&self, cookie: u64) -> Reply
-        ensures { Does self.now (Event.Poll cookie) result self.now }
+        ensures { StepsLegally self.now (Event.Poll cookie) result self.now }
     {
         Reply::Polled(self.gp.done(Cookie(cookie)))
     }
 
     fn queue(&mut self, cpu: u32, value: u64) -> Reply
-        ensures { Does self.old (Event.Queue cpu value) result self.new }
+        ensures { StepsLegally self.old (Event.Queue cpu value) result self.new }
     {
         if cpu >= self.gp.cpus() {
             return Reply::Fault(Fault::BadCpu);
@@ -340,7 +340,7 @@ impl<A: Awaited> Core<A, u64> {
     }
 
     fn tend(&mut self, cpu: u32) -> Reply
-        ensures { Does self.old (Event.Tend cpu) result self.new }
+        ensures { StepsLegally self.old (Event.Tend cpu) result self.new }
     {
         if cpu >= self.gp.cpus() {
             return Reply::Fault(Fault::BadCpu);
@@ -350,7 +350,7 @@ impl<A: Awaited> Core<A, u64> {
     }
 
     fn run_callbacks(&mut self, cpu: u32, most: u64) -> Reply
-        ensures { Does self.old (Event.Run cpu most) result self.new }
+        ensures { StepsLegally self.old (Event.Run cpu most) result self.new }
     {
         if cpu >= self.gp.cpus() {
             return Reply::Fault(Fault::BadCpu);
@@ -362,7 +362,7 @@ impl<A: Awaited> Core<A, u64> {
     }
 
     fn begin_barrier(&mut self) -> Reply
-        ensures { Does self.old Event.BarBegin result self.new }
+        ensures { StepsLegally self.old Event.BarBegin result self.new }
     {
         match self.gp.barrier_begin() {
             Ok(()) => Reply::BarBegun,
@@ -371,7 +371,7 @@ impl<A: Awaited> Core<A, u64> {
     }
 
     fn visit(&mut self, cpu: u32) -> Reply
-        ensures { Does self.old (Event.Visit cpu) result self.new }
+        ensures { StepsLegally self.old (Event.Visit cpu) result self.new }
     {
         if cpu >= self.gp.cpus() {
             return Reply::Fault(Fault::BadCpu);
@@ -383,7 +383,7 @@ impl<A: Awaited> Core<A, u64> {
     }
 
     fn test_barrier(&mut self) -> Reply
-        ensures { Does self.old Event.BarTest result self.new }
+        ensures { StepsLegally self.old Event.BarTest result self.new }
     {
         match self.gp.barrier_test() {
             Ok(BarrierState::Done) => Reply::BarDone,

@@ -1,13 +1,13 @@
 //! The state of the grace periods and the callbacks.
 ghost use Rattle.std.specs.Prelude.{◌≡◌, ◌≢◌, ◌<◌, ◌≤◌, ◌==◌, if◌then◌else◌, All, [], Some, None, true, false, length, replicate, IfErr, IfOk, OnErr, OnOk};
-ghost use Rattle.rcu_seq.specs.Cookies.{is_done, snapshot_of};
+ghost use Rattle.rcu_seq.specs.Seq.{is_done, snapshot_of};
 ghost use Rattle.rcu_seq.specs.Numbers.{is_last};
-ghost use Rattle.rcu_node.specs.CpuSets.{is_in};
-ghost use Rattle.rcu_hotplug.specs.Calls.{Arrive, Depart, AreKept, cpus_of, refusal};
-ghost use Rattle.rcu_cblist.specs.Items.{behind, callbacks, front, is_empty, taken};
-ghost use Rattle.rcu_barrier.specs.AllLists.{list_of, most_queued, test_answer, visit_answer};
-ghost use Rattle.rcu_barrier.specs.Tending.{snapshot};
-ghost use Rattle.rcu_core.specs.Grace.{answer_in, at_first, awaited_in, barrier_begun, barrier_tested, begin_refusal, begun, end_refusal, ended, migrated, number_in, queued_to, reported, run_of, started, tended_of, turn_of, turn_refusal, turned_to, visited_of, with_call};
+ghost use Rattle.rcu_node.specs.CpuSet.{is_in};
+ghost use Rattle.rcu_hotplug.specs.Hotplug.{Arrive, Depart, IsSound, cpus_of, refusal};
+ghost use Rattle.rcu_cblist.specs.SegList.{behind, callbacks, front, is_empty, take_answer};
+ghost use Rattle.rcu_barrier.specs.Lists.{list_of, most_queued, barrier_test_answer, visit_answer};
+ghost use Rattle.rcu_seq.specs.Numbers.{snapshot};
+ghost use Rattle.rcu_core.specs.GpState.{report_answer_in, at_first, awaited_in, after_barrier_begin, after_barrier_test, begin_refusal, after_begin, end_refusal, after_end, after_migrate, number_in, after_queue, after_report, after_run, after_start_poll, after_tend, turn_answer, turn_refusal, after_turn, after_visit, with_call};
 
 use crate::turned::Turned;
 use rcu_barrier::barrier_state::BarrierState;
@@ -42,13 +42,13 @@ pub struct GpState<A: Awaited, T: Drop> {
 }
 
 impl<A: Awaited, T: Drop> Model for GpState<A, T> {
-    ghost use Rattle.rcu_core.specs.Grace.{Grace, IsKept};
+    ghost use Rattle.rcu_core.specs.GpState.{Grace, IsSound};
 
     ghost Value = { Grace T };
 
     ghost view = { λ g. record { seq = g.seq; needed = g.needed; processors = g.hotplug; lists = g.lists } };
 
-    ghost invariant = { λ g. IsKept (record { seq = g.seq; needed = g.needed; processors = g.hotplug; lists = g.lists }) };
+    ghost invariant = { λ g. IsSound (record { seq = g.seq; needed = g.needed; processors = g.hotplug; lists = g.lists }) };
 }
 
 impl<A: Awaited, T: Drop> GpState<A, T> {
@@ -77,7 +77,7 @@ impl<A: Awaited, T: Drop> GpState<A, T> {
     /// The number of processors.
     pub fn cpus(&self) -> u32
         ensures value { result ≡ cpus_of self.now.processors }
-        ensures kept { AreKept self.now.processors }
+        ensures kept { IsSound self.now.processors }
     {
         self.hotplug.awaited().cpus()
     }
@@ -100,7 +100,7 @@ impl<A: Awaited, T: Drop> GpState<A, T> {
     /// The awaited set.
     pub fn awaited(&self) -> &A
         ensures value { A.awaited result.now ≡ self.now.processors.awaited }
-        ensures kept { AreKept self.now.processors }
+        ensures kept { IsSound self.now.processors }
     {
         self.hotplug.awaited()
     }
@@ -111,7 +111,7 @@ impl<A: Awaited, T: Drop> GpState<A, T> {
     /// Faults: 8 where one runs; 11 where the number is the last one.
     pub fn begin(&mut self) -> Result<(u64, u32), Fault>
         ensures ok { IfOk result (λ began. (began.0 ≡ number_in self.new) × (began.1 ≡ awaited_in self.new)) }
-        ensures accepted { OnOk result ((begin_refusal self.old ≡ None) × (self.new ≡ begun self.old)) }
+        ensures accepted { OnOk result ((begin_refusal self.old ≡ None) × (self.new ≡ after_begin self.old)) }
         ensures refused { IfErr result (λ fault. (begin_refusal self.old ≡ Some fault) × (self.new ≡ self.old)) }
     {
         let number = self.seq.start()?;
@@ -124,7 +124,7 @@ impl<A: Awaited, T: Drop> GpState<A, T> {
     /// Faults: 9 where none runs; 10 where a processor is awaited.
     pub fn end(&mut self) -> Result<u64, Fault>
         ensures ok { IfOk result (λ number. number ≡ number_in self.new) }
-        ensures accepted { OnOk result ((end_refusal self.old ≡ None) × (self.new ≡ ended self.old)) }
+        ensures accepted { OnOk result ((end_refusal self.old ≡ None) × (self.new ≡ after_end self.old)) }
         ensures refused { IfErr result (λ fault. (end_refusal self.old ≡ Some fault) × (self.new ≡ self.old)) }
     {
         if self.seq.is_running() && !self.hotplug.awaited().is_empty() {
@@ -137,8 +137,8 @@ impl<A: Awaited, T: Drop> GpState<A, T> {
     /// [`Awaited::report`]. The report is of a processor.
     pub fn report(&mut self, report: Report) -> Answer
         requires { report.cpu < cpus_of self.old.processors }
-        ensures answer { result ≡ answer_in self.old report }
-        ensures state { self.new ≡ reported self.old report }
+        ensures answer { result ≡ report_answer_in self.old report }
+        ensures state { self.new ≡ after_report self.old report }
     {
         // The awaited set keeps its tag when its grace period has ended, so idleness is tested here.
         if !self.seq.is_running() {
@@ -152,8 +152,8 @@ impl<A: Awaited, T: Drop> GpState<A, T> {
     ///
     /// Fault 11: one would begin, and the number is the last one.
     pub fn turn(&mut self) -> Result<Turned, Fault>
-        ensures ok { IfOk result (λ turned. turned ≡ turn_of self.old) }
-        ensures accepted { OnOk result ((turn_refusal self.old ≡ None) × (self.new ≡ turned_to self.old)) }
+        ensures ok { IfOk result (λ turned. turned ≡ turn_answer self.old) }
+        ensures accepted { OnOk result ((turn_refusal self.old ≡ None) × (self.new ≡ after_turn self.old)) }
         ensures refused { IfErr result (λ fault. (turn_refusal self.old ≡ Some fault) × (self.new ≡ self.old)) }
     {
         if self.seq.is_running() {
@@ -196,7 +196,7 @@ impl<A: Awaited, T: Drop> GpState<A, T> {
     /// The cookie of a taking now, whose number is needed from now on (Linux's `start_poll_synchronize_rcu`).
     pub fn start_poll(&mut self) -> Cookie
         ensures cookie { result.0 ≡ snapshot_of self.old.seq }
-        ensures state { self.new ≡ started self.old }
+        ensures state { self.new ≡ after_start_poll self.old }
     {
         let cookie = self.seq.snap();
         self.needed = self.needed.max(cookie.0);
@@ -216,7 +216,7 @@ impl<A: Awaited, T: Drop> GpState<A, T> {
     /// Faults, which hand the value back: 15 where 1,000,000 were queued, 16.
     pub fn queue(&mut self, cpu: u32, value: T) -> Result<u64, Refused<T>>
         requires { cpu < cpus_of self.old.processors }
-        ensures ok { IfOk result (λ count. (count ≡ self.new.lists.queued) × (self.old.lists.queued < most_queued) × (self.new ≡ queued_to cpu value self.old)) }
+        ensures ok { IfOk result (λ count. (count ≡ self.new.lists.queued) × (self.old.lists.queued < most_queued) × (self.new ≡ after_queue self.old cpu value)) }
         ensures err { IfErr result (λ refused. (refused.fault ≡ (if self.old.lists.queued == most_queued then Fault.CallbacksFull else Fault.NoMemory)) × (refused.value ≡ value) × (self.new ≡ self.old)) }
     {
         let number = self.seq.value();
@@ -227,7 +227,7 @@ impl<A: Awaited, T: Drop> GpState<A, T> {
     /// `rcu_advance_cbs`). Answers how many callbacks of the list are done and how many wait then.
     pub fn tend(&mut self, cpu: u32) -> (u64, u64)
         requires { cpu < cpus_of self.old.processors }
-        ensures state { self.new ≡ tended_of cpu self.old }
+        ensures state { self.new ≡ after_tend self.old cpu }
         ensures done { result.0 ≡ length (callbacks (front (list_of self.new.lists cpu))) }
         ensures waiting { result.1 ≡ length (callbacks (behind (list_of self.new.lists cpu))) }
     {
@@ -244,9 +244,9 @@ impl<A: Awaited, T: Drop> GpState<A, T> {
     /// Fault 16, only where it has a callback to hand out.
     pub fn run(&mut self, cpu: u32, max: u64) -> Result<Vec<Queued<T>>, Fault>
         requires { cpu < cpus_of self.old.processors }
-        ensures ok { IfOk result (λ calls. (calls.items ≡ taken max (list_of self.old.lists cpu)) × (self.new ≡ run_of cpu max self.old)) }
+        ensures ok { IfOk result (λ calls. (calls.items ≡ take_answer (list_of self.old.lists cpu) max) × (self.new ≡ after_run self.old cpu max)) }
         ensures waited { IfOk result (λ calls. All (λ call. snapshot call.at ≤ number_in self.old) calls.items) }
-        ensures err { IfErr result (λ fault. (fault ≡ Fault.NoMemory) × (taken max (list_of self.old.lists cpu) ≢ []) × (self.new ≡ self.old)) }
+        ensures err { IfErr result (λ fault. (fault ≡ Fault.NoMemory) × (take_answer (list_of self.old.lists cpu) max ≢ []) × (self.new ≡ self.old)) }
     {
         self.lists.run(cpu, max)
     }
@@ -258,7 +258,7 @@ impl<A: Awaited, T: Drop> GpState<A, T> {
     pub fn migrate(&mut self, cpu: u32) -> Result<u64, Fault>
         requires other { 0 < cpu }
         requires cpu { cpu < cpus_of self.old.processors }
-        ensures ok { IfOk result (λ moved. (moved ≡ length (callbacks (list_of self.old.lists cpu))) × (self.new ≡ migrated cpu self.old)) }
+        ensures ok { IfOk result (λ moved. (moved ≡ length (callbacks (list_of self.old.lists cpu))) × (self.new ≡ after_migrate self.old cpu)) }
         ensures err { IfErr result (λ fault. (fault ≡ Fault.NoMemory) × (is_empty (list_of self.old.lists cpu) ≡ false) × (self.new ≡ self.old)) }
     {
         self.lists.migrate(cpu)
@@ -266,7 +266,7 @@ impl<A: Awaited, T: Drop> GpState<A, T> {
 
     /// Begins a barrier (Linux's `rcu_barrier`). Fault 13: one runs.
     pub fn barrier_begin(&mut self) -> Result<(), Fault>
-        ensures ok { OnOk result ((self.old.lists.running ≡ false) × (self.new ≡ barrier_begun self.old)) }
+        ensures ok { OnOk result ((self.old.lists.running ≡ false) × (self.new ≡ after_barrier_begin self.old)) }
         ensures err { IfErr result (λ fault. (fault ≡ Fault.BarrierBusy) × (self.old.lists.running ≡ true) × (self.new ≡ self.old)) }
     {
         self.lists.barrier_begin()
@@ -276,16 +276,16 @@ impl<A: Awaited, T: Drop> GpState<A, T> {
     /// marker.
     pub fn visit(&mut self, cpu: u32) -> Result<Visit, Fault>
         requires { cpu < cpus_of self.old.processors }
-        ensures ok { IfOk result (λ visit. (self.old.lists.running ≡ true) × (visit ≡ visit_answer cpu self.old.lists) × (self.new ≡ visited_of cpu self.old)) }
+        ensures ok { IfOk result (λ visit. (self.old.lists.running ≡ true) × (visit ≡ visit_answer self.old.lists cpu) × (self.new ≡ after_visit self.old cpu)) }
         ensures err { IfErr result (λ fault. (fault ≡ (if self.old.lists.running then Fault.NoMemory else Fault.NoBarrier)) × (self.new ≡ self.old)) }
-        ensures memory { IfErr result (λ fault. self.old.lists.running ≡ true → visit_answer cpu self.old.lists ≡ Visit.Marked) }
+        ensures memory { IfErr result (λ fault. self.old.lists.running ≡ true → visit_answer self.old.lists cpu ≡ Visit.Marked) }
     {
         self.lists.visit(cpu)
     }
 
     /// Whether the barrier is over, as [`Lists::barrier_test`]. Fault 14: none runs.
     pub fn barrier_test(&mut self) -> Result<BarrierState, Fault>
-        ensures ok { IfOk result (λ state. (self.old.lists.running ≡ true) × (state ≡ test_answer self.old.lists) × (self.new ≡ barrier_tested self.old)) }
+        ensures ok { IfOk result (λ state. (self.old.lists.running ≡ true) × (state ≡ barrier_test_answer self.old.lists) × (self.new ≡ after_barrier_test self.old)) }
         ensures err { IfErr result (λ fault. (fault ≡ Fault.NoBarrier) × (self.old.lists.running ≡ false) × (self.new ≡ self.old)) }
     {
         self.lists.barrier_test()

@@ -3,8 +3,8 @@ use Rattle.std.proofs.Common.{◌≡◌, ℕ, ◌+◌, ◌-◌, ◌<◌, ◌≤�
 use Rattle.std.proofs.Math.Bool.{and-true}
 use Rattle.std.proofs.lemmas.Bool.Decides.{nat_tests}
 use Rattle.std.proofs.lemmas.List.Sums.{sum_by-cons}
-use Rattle.rcu_cpu.specs.Calls.{Call, Enter, Exit, Note, Quiesce, Arrive, Depart, IsAccepted, AreAccepted, after_all}
-use Rattle.rcu_cpu.specs.Processors.{report_of}
+use Rattle.rcu_cpu.specs.CpuData.{Call, Enter, Exit, Note, Quiesce, Arrive, Depart, IsAccepted, AreAccepted, after_calls}
+use Rattle.rcu_cpu.specs.CpuData.{report_of}
 use Rattle.rcu_cpu.specs.Sections.{enters, exits, nesting, is_open, is_online, last_noted}
 
 -- one call more counts 1 where it passes the test
@@ -14,7 +14,7 @@ count_by-cons test call earlier = sum_by-cons (λ c. cond (test c) 1 0) call ear
 
 -- the depth and the exits are together the enters
 depth_and_exits : (cpu : ℕ) (online : Bool) (calls : List Call) → AreAccepted cpu online calls →
-    (after_all cpu online calls).depth + count_by exits calls ≡ count_by enters calls
+    (after_calls cpu online calls).depth + count_by exits calls ≡ count_by enters calls
 depth_and_exits cpu online [] accepted = refl
 depth_and_exits cpu online (Enter ∷ earlier) accepted =
     let before = depth_and_exits cpu online earlier accepted.1 in
@@ -28,7 +28,7 @@ depth_and_exits cpu online (call ∷ earlier) accepted =
 
 -- the depth is the enters less the exits
 pub depth_is_nesting : (cpu : ℕ) (online : Bool) (calls : List Call) → AreAccepted cpu online calls →
-    (after_all cpu online calls).depth ≡ nesting calls
+    (after_calls cpu online calls).depth ≡ nesting calls
 depth_is_nesting cpu online calls accepted = let both = depth_and_exits cpu online calls accepted in omega arith
 
 -- there are no more exits than enters
@@ -48,7 +48,7 @@ exited depth nested was_open deep same before = grind (arith, nat_tests)
 
 -- a section is open exactly where the depth is not 0
 pub open_where_nested : (cpu : ℕ) (online : Bool) (calls : List Call) → AreAccepted cpu online calls →
-    is_open calls ≡ not ((after_all cpu online calls).depth == 0)
+    is_open calls ≡ not ((after_calls cpu online calls).depth == 0)
 open_where_nested cpu online [] accepted = refl
 open_where_nested cpu online (Enter ∷ earlier) accepted =
     entered _ _ _ (depth_is_nesting cpu online earlier accepted.1) (open_where_nested cpu online earlier accepted.1)
@@ -63,18 +63,18 @@ above_1 depth above = grind (arith, nat_tests)
 
 -- an exit from above depth 1 leaves the section open
 pub open_after_inner_exit : (cpu : ℕ) (online : Bool) (calls : List Call) → AreAccepted cpu online calls →
-    1 < (after_all cpu online calls).depth → is_open (Exit ∷ calls) ≡ true
+    1 < (after_calls cpu online calls).depth → is_open (Exit ∷ calls) ≡ true
 open_after_inner_exit cpu online calls accepted deep =
     open_where_nested cpu online (Exit ∷ calls) (omega arith, accepted) ∙ above_1 _ deep
 
 -- an exit from depth 1 leaves none open
 pub closed_after_outer_exit : (cpu : ℕ) (online : Bool) (calls : List Call) → AreAccepted cpu online calls →
-    (after_all cpu online calls).depth ≡ 1 → is_open (Exit ∷ calls) ≡ false
+    (after_calls cpu online calls).depth ≡ 1 → is_open (Exit ∷ calls) ≡ false
 closed_after_outer_exit cpu online calls accepted one =
     open_where_nested cpu online (Exit ∷ calls) (omega arith, accepted) ∙ ap (λ depth. not (depth - 1 == 0)) one
 
 -- the processor is online where the calls say so
-online_as_said : (cpu : ℕ) (online : Bool) (calls : List Call) → (after_all cpu online calls).online ≡ is_online online calls
+online_as_said : (cpu : ℕ) (online : Bool) (calls : List Call) → (after_calls cpu online calls).online ≡ is_online online calls
 online_as_said cpu online [] = refl
 online_as_said cpu online (Arrive _ ∷ earlier) = refl
 online_as_said cpu online (Depart ∷ earlier) = refl
@@ -82,7 +82,7 @@ online_as_said cpu online (_ ∷ earlier) = online_as_said cpu online earlier
 
 -- an offline processor has depth 0
 offline_at_depth_0 : (cpu : ℕ) (online : Bool) (calls : List Call) → AreAccepted cpu online calls →
-    (after_all cpu online calls).online ≡ false → (after_all cpu online calls).depth ≡ 0
+    (after_calls cpu online calls).online ≡ false → (after_calls cpu online calls).depth ≡ 0
 offline_at_depth_0 cpu online [] accepted offline = refl
 offline_at_depth_0 cpu online (Enter ∷ earlier) accepted offline = cc
 offline_at_depth_0 cpu online (Exit ∷ earlier) accepted offline =
@@ -104,7 +104,7 @@ not_tested depth test = grind (arith, nat_tests)
 
 -- a quiescent state is reported exactly where the processor is online and no section is open
 pub accepted_outside_sections : (cpu : ℕ) (online : Bool) (calls : List Call) → AreAccepted cpu online calls →
-    IsAccepted Quiesce (after_all cpu online calls) ↔ ((is_online online calls ≡ true) × (is_open calls ≡ false))
+    IsAccepted (after_calls cpu online calls) Quiesce ↔ ((is_online online calls ≡ true) × (is_open calls ≡ false))
 accepted_outside_sections cpu online calls accepted =
     let there = online_as_said cpu online calls in
     let nested = open_where_nested cpu online calls accepted in (
@@ -113,13 +113,13 @@ accepted_outside_sections cpu online calls accepted =
     )
 
 -- the processor keeps its number
-cpu_stays : (cpu : ℕ) (online : Bool) (calls : List Call) → (after_all cpu online calls).cpu ≡ cpu
+cpu_stays : (cpu : ℕ) (online : Bool) (calls : List Call) → (after_calls cpu online calls).cpu ≡ cpu
 cpu_stays cpu online [] = refl
 cpu_stays cpu online (Enter ∷ earlier) = cpu_stays cpu online earlier
 cpu_stays cpu online (_ ∷ earlier) = cpu_stays cpu online earlier
 
 -- the noted number is that of the last note or arrival
-noted_as_said : (cpu : ℕ) (online : Bool) (calls : List Call) → (after_all cpu online calls).noted ≡ last_noted calls
+noted_as_said : (cpu : ℕ) (online : Bool) (calls : List Call) → (after_calls cpu online calls).noted ≡ last_noted calls
 noted_as_said cpu online [] = refl
 noted_as_said cpu online (Note _ ∷ earlier) = refl
 noted_as_said cpu online (Arrive _ ∷ earlier) = refl
@@ -127,5 +127,5 @@ noted_as_said cpu online (_ ∷ earlier) = noted_as_said cpu online earlier
 
 -- the report is of the processor and of the number of the last note or arrival
 pub report_as_said : (cpu : ℕ) (online : Bool) (calls : List Call) → AreAccepted cpu online calls →
-    report_of (after_all cpu online calls) ≡ record { cpu = cpu; tag = last_noted calls }
+    report_of (after_calls cpu online calls) ≡ record { cpu = cpu; tag = last_noted calls }
 report_as_said cpu online calls accepted = rw (cpu_stays cpu online calls, noted_as_said cpu online calls)

@@ -1,3 +1,2 @@
-pub mod Calls
-pub mod Processors
+pub mod CpuData
 pub mod Sections

@@ -1,7 +1,7 @@
 -- What the accepted calls of one processor, the newest first, say of its read sections.
 use Rattle.std.specs.Prelude.{ℕ, ◌-◌, ◌==◌, Bool, true, false, not, ◌&&◌, ◌||◌, List, [], ◌∷◌, count_by}
 use Rattle.rcu_seq.specs.Numbers.{Number}
-use Rattle.rcu_cpu.specs.Calls.{Call, Enter, Exit, Note, Arrive, Depart}
+use Rattle.rcu_cpu.specs.CpuData.{Call, Enter, Exit, Note, Arrive, Depart}
 
 -- the call is an enter
 abbrev pub enters : Call → Bool

@@ -1,7 +1,7 @@
 //! What one processor keeps.
 ghost use Rattle.std.specs.Prelude.{◌≡◌, ◌<◌, ◌≤◌, true, false, IfOk, IfErr, OnOk, OnErr};
-ghost use Rattle.rcu_cpu.specs.Processors.{deepest, made, report_of};
-ghost use Rattle.rcu_cpu.specs.Calls.{IsAccepted, after, Enter, Exit, Note, Quiesce, Arrive, Depart};
+ghost use Rattle.rcu_cpu.specs.CpuData.{deepest, at_first, report_of};
+ghost use Rattle.rcu_cpu.specs.CpuData.{IsAccepted, after_call, Enter, Exit, Note, Quiesce, Arrive, Depart};
 
 use rcu_report::report::Report;
 use rcu_seq::fault::Fault;
@@ -25,7 +25,7 @@ pub struct CpuData {
 
 impl Model for CpuData {
     ghost use Rattle.std.specs.Prelude.{◌≡◌, ◌≤◌, false};
-    ghost use Rattle.rcu_cpu.specs.Processors.{Processor, deepest};
+    ghost use Rattle.rcu_cpu.specs.CpuData.{Processor, deepest};
 
     ghost Value = { Processor };
 
@@ -40,7 +40,7 @@ impl Model for CpuData {
 impl CpuData {
     /// A processor of this number, with no section open and the number 0 noted.
     pub fn new(cpu: u32, online: bool) -> CpuData
-        ensures { result ≡ made cpu online }
+        ensures { result ≡ at_first cpu online }
     {
         CpuData {
             cpu,
@@ -86,7 +86,7 @@ impl CpuData {
     /// Faults: 2 where the processor is offline; 6 where the depth is 65,535.
     pub fn enter(&mut self) -> Result<u32, Fault>
         ensures ok { IfOk result (λ depth.
-            (depth ≡ self.new.depth) × IsAccepted Enter self.old × (self.new ≡ after Enter self.old)) }
+            (depth ≡ self.new.depth) × IsAccepted self.old Enter × (self.new ≡ after_call self.old Enter)) }
         ensures offline { IfErr result (λ fault. self.old.online ≡ false → fault ≡ Fault.Offline) }
         ensures full { IfErr result (λ fault. self.old.online ≡ true →
             (fault ≡ Fault.NestFull) × (self.old.depth ≡ deepest)) }
@@ -106,7 +106,7 @@ impl CpuData {
     /// Fault 5: no section is open.
     pub fn exit(&mut self) -> Result<u32, Fault>
         ensures ok { IfOk result (λ depth.
-            (depth ≡ self.new.depth) × IsAccepted Exit self.old × (self.new ≡ after Exit self.old)) }
+            (depth ≡ self.new.depth) × IsAccepted self.old Exit × (self.new ≡ after_call self.old Exit)) }
         ensures not_open { IfErr result (λ fault. (fault ≡ Fault.NotOpen) × (self.old.depth ≡ 0)) }
         ensures err { OnErr result (self.new ≡ self.old) }
     {
@@ -118,7 +118,7 @@ impl CpuData {
     ///
     /// Fault 2: the processor is offline.
     pub fn note(&mut self, number: u64) -> Result<(), Fault>
-        ensures ok { OnOk result (IsAccepted (Note number) self.old × (self.new ≡ after (Note number) self.old)) }
+        ensures ok { OnOk result (IsAccepted self.old (Note number) × (self.new ≡ after_call self.old (Note number))) }
         ensures offline { IfErr result (λ fault. (fault ≡ Fault.Offline) × (self.old.online ≡ false)) }
         ensures err { OnErr result (self.new ≡ self.old) }
     {
@@ -131,7 +131,7 @@ impl CpuData {
     ///
     /// Faults: 2 where the processor is offline; 4 where a section is open.
     pub fn quiesce(&self) -> Result<Report, Fault>
-        ensures ok { IfOk result (λ report. (report ≡ report_of self.now) × IsAccepted Quiesce self.now) }
+        ensures ok { IfOk result (λ report. (report ≡ report_of self.now) × IsAccepted self.now Quiesce) }
         ensures offline { IfErr result (λ fault. self.now.online ≡ false → fault ≡ Fault.Offline) }
         ensures in_section { IfErr result (λ fault. self.now.online ≡ true →
             (fault ≡ Fault.InSection) × (0 < self.now.depth)) }
@@ -151,7 +151,7 @@ impl CpuData {
     ///
     /// Fault 3: the processor is online.
     pub fn arrive(&mut self, number: u64) -> Result<(), Fault>
-        ensures ok { OnOk result (IsAccepted (Arrive number) self.old × (self.new ≡ after (Arrive number) self.old)) }
+        ensures ok { OnOk result (IsAccepted self.old (Arrive number) × (self.new ≡ after_call self.old (Arrive number))) }
         ensures online { IfErr result (λ fault. (fault ≡ Fault.AlreadyOnline) × (self.old.online ≡ true)) }
         ensures err { OnErr result (self.new ≡ self.old) }
     {
@@ -166,7 +166,7 @@ impl CpuData {
     ///
     /// Faults: 2 where the processor is offline; 4 where a section is open.
     pub fn depart(&mut self) -> Result<(), Fault>
-        ensures ok { OnOk result (IsAccepted Depart self.old × (self.new ≡ after Depart self.old)) }
+        ensures ok { OnOk result (IsAccepted self.old Depart × (self.new ≡ after_call self.old Depart)) }
         ensures offline { IfErr result (λ fault. self.old.online ≡ false → fault ≡ Fault.Offline) }
         ensures in_section { IfErr result (λ fault. self.old.online ≡ true →
             (fault ≡ Fault.InSection) × (0 < self.old.depth)) }

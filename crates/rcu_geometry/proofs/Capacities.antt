@@ -5,7 +5,7 @@ use Rattle.std.proofs.lemmas.Bool.Decides.{nat_tests}
 use Rattle.std.proofs.lemmas.Nat.{mul-le}
 use Rattle.std.proofs.lemmas.Grind.{div_ceil_times}
 use Rattle.std.proofs.Math.Nat.{pow-le-pow_left, pow-le-pow_right, one-le-pow, pow-suc, mul_comm}
-use Rattle.rcu_geometry.specs.Shapes.{Shape, IsLegal, capacity, levels, ceil}
+use Rattle.rcu_geometry.specs.Geometry.{Shape, IsLegalShape, capacity, levels, ceil}
 
 -- a place below the quotient rounded up begins below the whole
 pub begins_below : (whole part place : ℕ) → 0 < part → place < ceil whole part → place * part < whole
@@ -32,7 +32,7 @@ capacity_up s height =
     rw power (grind arith)
 
 -- each node holds some processor
-pub capacity_some : (s : Shape) → IsLegal s → (height : ℕ) → 0 < capacity s height
+pub capacity_some : (s : Shape) → IsLegalShape s → (height : ℕ) → 0 < capacity s height
 capacity_some s legal height =
     let leaf = legal.leaf_low in let fan = legal.fan_low in
     let power = one-le-pow height s.fan (omega arith) in
@@ -40,7 +40,7 @@ capacity_some s legal height =
     omega (arith, product)
 
 -- the higher a node, the more it holds
-pub capacity_rises : (s : Shape) → IsLegal s → (low high : ℕ) → low ≤ high → capacity s low ≤ capacity s high
+pub capacity_rises : (s : Shape) → IsLegalShape s → (low high : ℕ) → low ≤ high → capacity s low ≤ capacity s high
 capacity_rises s legal low high order =
     let fan = legal.fan_low in
     let power = pow-le-pow_right {n = s.fan} (omega arith) order in
@@ -63,7 +63,7 @@ unfolding levels
 levels_range s = grind (arith, nat_tests)
 
 -- the levels hold all processors
-pub levels_hold : (s : Shape) → IsLegal s → s.cpus ≤ capacity s (levels s - 1)
+pub levels_hold : (s : Shape) → IsLegalShape s → s.cpus ≤ capacity s (levels s - 1)
 unfolding levels
 levels_hold s legal =
     let held = legal.held in
@@ -72,7 +72,7 @@ levels_hold s legal =
     grind (arith, nat_tests)
 
 -- and fewer levels do not
-pub levels_least : (s : Shape) → IsLegal s → 1 < levels s → capacity s (levels s - 2) < s.cpus
+pub levels_least : (s : Shape) → IsLegalShape s → 1 < levels s → capacity s (levels s - 2) < s.cpus
 unfolding levels
 levels_least s legal more =
     let first = capacity_rises s legal 0 1 (omega arith) in
@@ -80,7 +80,7 @@ levels_least s legal more =
     grind (arith, nat_tests)
 
 -- a number of levels that hold all processors, where one less would not, is theirs
-pub levels_at : (s : Shape) (n : ℕ) → IsLegal s → 1 ≤ n → (1 < n → capacity s (n - 2) < s.cpus) → s.cpus ≤ capacity s (n - 1) → levels s ≡ n
+pub levels_at : (s : Shape) (n : ℕ) → IsLegalShape s → 1 ≤ n → (1 < n → capacity s (n - 2) < s.cpus) → s.cpus ≤ capacity s (n - 1) → levels s ≡ n
 levels_at s n legal some least enough = elim (cases_lt (levels s) n) [
   | inl fewer ↦ (
       let range = levels_range s in

@@ -5,14 +5,14 @@ use Rattle.std.proofs.lemmas.Bool.{cases_lt}
 use Rattle.std.proofs.lemmas.Bool.Decides.{nat_tests}
 use Rattle.std.proofs.lemmas.Nat.{mod_below}
 use Rattle.std.proofs.Math.Nat.{mul-div_cancel, mul-mod_left, mul_assoc, mul-one, pow-zero}
-use Rattle.rcu_geometry.specs.Shapes.{Shape, IsLegal, capacity, levels, level_start, nodes, level_of, place_of, parent, bit_in_parent, first_leaf, leaf_of, bit_of}
+use Rattle.rcu_geometry.specs.Geometry.{Shape, IsLegalShape, capacity, levels, level_start, nodes, level_of, place_of, parent, bit_in_parent, first_leaf, leaf_of, bit_of}
 use Rattle.rcu_geometry.proofs.Counts.{count-within}
 use Rattle.rcu_geometry.proofs.Capacities.{capacity_up, levels_range}
 use Rattle.rcu_geometry.proofs.Levels.{start_next, start_zero, in_level, to_level, level_some, start_rises, level_at}
 use Rattle.rcu_geometry.proofs.Places.{Lies, lies, lies_below, parent_is, bit_is, same_child, same_cpu}
 
 -- every bit is below the fanout
-bit_below : (s : Shape) → IsLegal s → (node : ℕ) → bit_in_parent s node < s.fan
+bit_below : (s : Shape) → IsLegalShape s → (node : ℕ) → bit_in_parent s node < s.fan
 unfolding bit_in_parent
 bit_below s legal node = let fan = legal.fan_low in mod_below (place_of s node) s.fan (omega arith)
 
@@ -21,7 +21,7 @@ equal_if : (a b : ℕ) → (a == b) ≡ true → a ≡ b
 equal_if a b passes = grind (arith, nat_tests)
 
 -- a node has at most fan children
-pub few_children : (s : Shape) (node : ℕ) → IsLegal s → count_by (λ child. parent s child == node) (range_with_len 1 (nodes s - 1)) ≤ s.fan
+pub few_children : (s : Shape) (node : ℕ) → IsLegalShape s → count_by (λ child. parent s child == node) (range_with_len 1 (nodes s - 1)) ≤ s.fan
 few_children s node legal =
     count-within (λ child. parent s child == node) (bit_in_parent s) 1 (nodes s - 1) s.fan
     (record {
@@ -32,7 +32,7 @@ few_children s node legal =
     (bit_below s legal)
 
 -- a leaf has at most leaf processors
-pub few_cpus : (s : Shape) (node : ℕ) → IsLegal s → count_by (λ cpu. leaf_of s cpu == node) (range_with_len 0 s.cpus) ≤ s.leaf
+pub few_cpus : (s : Shape) (node : ℕ) → IsLegalShape s → count_by (λ cpu. leaf_of s cpu == node) (range_with_len 0 s.cpus) ≤ s.leaf
 few_cpus s node legal =
     count-within (λ cpu. leaf_of s cpu == node) (bit_of s) 0 s.cpus s.leaf
     (record {
@@ -65,7 +65,7 @@ pub record IsFirstChild (s : Shape) (node child : ℕ) : Type 0 where
   pub bit : bit_in_parent s child ≡ 0
 
 -- a node above the last level has a first child
-pub first_child : (s : Shape) (node level place : ℕ) → IsLegal s → Lies s node level place → level + 1 < levels s
+pub first_child : (s : Shape) (node level place : ℕ) → IsLegalShape s → Lies s node level place → level + 1 < levels s
     → IsFirstChild s node (level_start s (level + 1) + place * s.fan)
 first_child s node level place legal there inner =
     let fan = legal.fan_low in
@@ -95,7 +95,7 @@ first_child s node level place legal there inner =
     }
 
 -- each inner node has a child
-pub some_child : (s : Shape) (node : ℕ) → IsLegal s → node < first_leaf s → (child : ℕ) × IsFirstChild s node child
+pub some_child : (s : Shape) (node : ℕ) → IsLegalShape s → node < first_leaf s → (child : ℕ) × IsFirstChild s node child
 some_child s node legal inner =
     let range = levels_range s in
     let rises = start_rises s (levels s - 1) (levels s) (omega arith) in
@@ -111,7 +111,7 @@ pub record IsFirstCpu (s : Shape) (node cpu : ℕ) : Type 0 where
   pub bit : bit_of s cpu ≡ 0
 
 -- a leaf has a first processor
-pub first_cpu : (s : Shape) (node place : ℕ) → IsLegal s → Lies s node (levels s - 1) place → IsFirstCpu s node (place * s.leaf)
+pub first_cpu : (s : Shape) (node place : ℕ) → IsLegalShape s → Lies s node (levels s - 1) place → IsFirstCpu s node (place * s.leaf)
 first_cpu s node place legal there =
     let leaf = legal.leaf_low in
     let height : levels s - 1 - (levels s - 1) ≡ 0 = omega arith in
@@ -127,7 +127,7 @@ first_cpu s node place legal there =
     }
 
 -- each leaf has a processor
-pub some_cpu : (s : Shape) (node : ℕ) → IsLegal s → first_leaf s ≤ node → node < nodes s → (cpu : ℕ) × IsFirstCpu s node cpu
+pub some_cpu : (s : Shape) (node : ℕ) → IsLegalShape s → first_leaf s ≤ node → node < nodes s → (cpu : ℕ) × IsFirstCpu s node cpu
 some_cpu s node legal from below =
     let there = subst (λ level. Lies s node level (place_of s node)) (leaf_level s node from below) (lies s node below) in
     (place_of s node * s.leaf, first_cpu s node (place_of s node) legal there)

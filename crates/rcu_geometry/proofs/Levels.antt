@@ -5,7 +5,7 @@ use Rattle.std.proofs.lemmas.Bool.Decides.{nat_tests}
 use Rattle.std.proofs.lemmas.List.{length_push, get_or_push, get_or_append_left}
 use Rattle.std.proofs.lemmas.Nat.{mul-le}
 use Rattle.std.proofs.Math.Nat.{div-mul-le_self, mul-one, pow-zero, mul_assoc}
-use Rattle.rcu_geometry.specs.Shapes.{Shape, IsLegal, capacity, levels, ceil, level_nodes, level_start, level_of, nodes, first_leaf}
+use Rattle.rcu_geometry.specs.Geometry.{Shape, IsLegalShape, capacity, levels, ceil, level_nodes, level_start, level_of, nodes, first_leaf}
 use Rattle.rcu_geometry.proofs.Capacities.{levels_range, begins_below, below_ceil, capacity_up, capacity_some, levels_hold}
 
 -- the next level begins behind the nodes of this one
@@ -19,21 +19,21 @@ unfolding level_start
 start_zero s = refl
 
 -- the first processor below a node of a level is there
-pub in_level : (s : Shape) (i place : ℕ) → IsLegal s → place < level_nodes s i → place * capacity s (levels s - 1 - i) < s.cpus
+pub in_level : (s : Shape) (i place : ℕ) → IsLegalShape s → place < level_nodes s i → place * capacity s (levels s - 1 - i) < s.cpus
 unfolding level_nodes
 in_level s i place legal below = begins_below s.cpus (capacity s (levels s - 1 - i)) place (capacity_some s legal (levels s - 1 - i)) below
 
 -- and a place whose first processor is there is in the level
-pub to_level : (s : Shape) (i place : ℕ) → IsLegal s → place * capacity s (levels s - 1 - i) < s.cpus → place < level_nodes s i
+pub to_level : (s : Shape) (i place : ℕ) → IsLegalShape s → place * capacity s (levels s - 1 - i) < s.cpus → place < level_nodes s i
 unfolding level_nodes
 to_level s i place legal begins = below_ceil s.cpus (capacity s (levels s - 1 - i)) place (capacity_some s legal (levels s - 1 - i)) begins
 
 -- each level has a node
-pub level_some : (s : Shape) (i : ℕ) → IsLegal s → 0 < level_nodes s i
+pub level_some : (s : Shape) (i : ℕ) → IsLegalShape s → 0 < level_nodes s i
 level_some s i legal = let some = legal.some in to_level s i 0 legal (omega arith)
 
 -- there is one root
-pub one_root : (s : Shape) → IsLegal s → level_nodes s 0 ≡ 1
+pub one_root : (s : Shape) → IsLegalShape s → level_nodes s 0 ≡ 1
 one_root s legal =
     let hold = levels_hold s legal in
     let root = level_some s 0 legal in
@@ -47,7 +47,7 @@ one_root s legal =
     ]
 
 -- a level has at most as many nodes as there are processors
-pub level_within : (s : Shape) (i : ℕ) → IsLegal s → level_nodes s i ≤ 4096
+pub level_within : (s : Shape) (i : ℕ) → IsLegalShape s → level_nodes s i ≤ 4096
 level_within s i legal = elim (cases_lt 4096 (level_nodes s i)) [
   | inl more ↦ (
       let few = legal.few in
@@ -70,7 +70,7 @@ start_rises s i (suc j) order = elim (cases_lt j i) [
 ]
 
 -- there is a leaf
-pub leaves_some : (s : Shape) → IsLegal s → first_leaf s < nodes s
+pub leaves_some : (s : Shape) → IsLegalShape s → first_leaf s < nodes s
 leaves_some s legal =
     let range = levels_range s in
     let next = start_next s (levels s - 1) in
@@ -79,7 +79,7 @@ leaves_some s legal =
     omega arith
 
 -- at most 4,096 nodes a level are before a level
-pub start_within : (s : Shape) (i : ℕ) → IsLegal s → level_start s i ≤ 4096 * i
+pub start_within : (s : Shape) (i : ℕ) → IsLegalShape s → level_start s i ≤ 4096 * i
 start_within s zero legal = let first = start_zero s in omega arith
 start_within s (suc i) legal =
     let before = start_within s i legal in
@@ -109,7 +109,7 @@ level_at s node (suc (suc (suc zero))) few from below =
 level_at s node (suc (suc (suc (suc i)))) few from below = absurd (let no : ⊥ = omega arith in no)
 
 -- the parent's place is in the level above
-pub parent_place : (s : Shape) (i place : ℕ) → IsLegal s → i + 1 < levels s → place < level_nodes s (i + 1) → place / s.fan < level_nodes s i
+pub parent_place : (s : Shape) (i place : ℕ) → IsLegalShape s → i + 1 < levels s → place < level_nodes s (i + 1) → place / s.fan < level_nodes s i
 parent_place s i place legal inner below =
     let height = levels s - 1 - (i + 1) in
     let begins = in_level s (i + 1) place legal below in
@@ -120,7 +120,7 @@ parent_place s i place legal inner below =
     to_level s i (place / s.fan) legal (rw up (omega (arith, product, grouped, begins)))
 
 -- a processor's leaf is in the last level
-pub leaf_place : (s : Shape) (cpu : ℕ) → IsLegal s → cpu < s.cpus → cpu / s.leaf < level_nodes s (levels s - 1)
+pub leaf_place : (s : Shape) (cpu : ℕ) → IsLegalShape s → cpu < s.cpus → cpu / s.leaf < level_nodes s (levels s - 1)
 leaf_place s cpu legal below =
     let height : levels s - 1 - (levels s - 1) ≡ 0 = omega arith in
     let capacity_zero : s.leaf * s.fan ^ 0 ≡ s.leaf = ap (λ power. s.leaf * power) (pow-zero s.fan) ∙ mul-one s.leaf in
@@ -157,7 +157,7 @@ starts_first s starts i e z = rw (e, z) (record {
 
 -- the table with one more level
 pub starts_more : (s : Shape) (starts more : List ℕ) (next count i k : ℕ)
-    → IsLegal s → AreStarts s starts next i → count ≡ level_nodes s i → more ≡ starts ++ (next + count) ∷ [] → k ≡ i + 1
+    → IsLegalShape s → AreStarts s starts next i → count ≡ level_nodes s i → more ≡ starts ++ (next + count) ∷ [] → k ≡ i + 1
     → AreStarts s more (next + count) k
 starts_more s starts more next count i k legal before counted pushed e =
     let begins : next + count ≡ level_start s (i + 1) = (let is = before.begins in let behind = start_next s i in omega arith) in

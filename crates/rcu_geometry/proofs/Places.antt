@@ -2,7 +2,7 @@
 use Rattle.std.proofs.Common.{◌≡◌, ℕ, zero, suc, ◌+◌, ◌-◌, ◌*◌, ◌/◌, ◌%◌, ◌<◌, ◌≤◌, refl, sym, ap, subst, ◌∙◌, arith, inl, inr, add-one}
 use Rattle.std.proofs.lemmas.Bool.{cases_lt}
 use Rattle.std.proofs.lemmas.Nat.{mod_below, div-add-mod'}
-use Rattle.rcu_geometry.specs.Shapes.{Shape, IsLegal, levels, level_nodes, level_start, nodes, level_of, place_of, parent, bit_in_parent, first_leaf, leaf_of, bit_of}
+use Rattle.rcu_geometry.specs.Geometry.{Shape, IsLegalShape, levels, level_nodes, level_start, nodes, level_of, place_of, parent, bit_in_parent, first_leaf, leaf_of, bit_of}
 use Rattle.rcu_geometry.proofs.Capacities.{levels_range}
 use Rattle.rcu_geometry.proofs.Levels.{start_next, start_zero, one_root, start_rises, level_at, parent_place, leaf_place}
 
@@ -50,7 +50,7 @@ lies_below s node level place lies =
     omega arith
 
 -- a node other than the root lies below another level
-pub lies_inner : (s : Shape) (node level place : ℕ) → IsLegal s → 0 < node → Lies s node level place → (above : ℕ) × Lies s node (above + 1) place
+pub lies_inner : (s : Shape) (node level place : ℕ) → IsLegalShape s → 0 < node → Lies s node level place → (above : ℕ) × Lies s node (above + 1) place
 lies_inner s node zero place legal other lies =
     let is = lies.is in let below = lies.below in let root = one_root s legal in let first = start_zero s in
     absurd (let no : ⊥ = omega arith in no)
@@ -76,13 +76,13 @@ bit_is s node above place lies =
     ap (λ level. (node - level_start s level) % s.fan) (level_lies s node (above + 1) place lies) ∙ ap (λ p. p % s.fan) there
 
 -- a parent lies one level up
-pub parent_lies : (s : Shape) (node above place : ℕ) → IsLegal s → Lies s node (above + 1) place → Lies s (parent s node) above (place / s.fan)
+pub parent_lies : (s : Shape) (node above place : ℕ) → IsLegalShape s → Lies s node (above + 1) place → Lies s (parent s node) above (place / s.fan)
 parent_lies s node above place legal lies =
     let inner = lies.inner in
     record { is = parent_is s node above place lies; inner = omega arith; below = parent_place s above place legal inner lies.below }
 
 -- a processor's leaf lies in the last level
-pub leaf_lies : (s : Shape) (cpu : ℕ) → IsLegal s → cpu < s.cpus → Lies s (leaf_of s cpu) (levels s - 1) (cpu / s.leaf)
+pub leaf_lies : (s : Shape) (cpu : ℕ) → IsLegalShape s → cpu < s.cpus → Lies s (leaf_of s cpu) (levels s - 1) (cpu / s.leaf)
 leaf_lies s cpu legal below = let range = levels_range s in record { is = refl; inner = omega arith; below = leaf_place s cpu legal below }
 
 -- what a tree needs of the parent of a node other than the root
@@ -93,7 +93,7 @@ pub record HasParent (s : Shape) (node : ℕ) : Type 0 where
   pub up : level_of s node ≡ level_of s (parent s node) + 1
 
 -- each node other than the root has a parent
-pub has_parent : (s : Shape) (node : ℕ) → IsLegal s → 0 < node → node < nodes s → HasParent s node
+pub has_parent : (s : Shape) (node : ℕ) → IsLegalShape s → 0 < node → node < nodes s → HasParent s node
 has_parent s node legal other below =
     let place = place_of s node in
     let child = lies_inner s node (level_of s node) place legal other (lies s node below) in
@@ -111,7 +111,7 @@ has_parent s node legal other below =
     }
 
 -- a node other than the root is not in the first level
-pub level_some_of : (s : Shape) (node : ℕ) → IsLegal s → 0 < node → node < nodes s → 0 < level_of s node
+pub level_some_of : (s : Shape) (node : ℕ) → IsLegalShape s → 0 < node → node < nodes s → 0 < level_of s node
 level_some_of s node legal other below = let up = (has_parent s node legal other below).up in omega arith
 
 -- equal quotients and remainders are of equal numbers
@@ -120,7 +120,7 @@ same_by_quotient a b n quotient remainder =
     sym (div-add-mod' a n) ∙ ap (λ q. q * n + a % n) quotient ∙ ap (λ r. b / n * n + r) remainder ∙ div-add-mod' b n
 
 -- no two nodes have one bit in one parent
-pub same_child : (s : Shape) (one two : ℕ) → IsLegal s → 0 < one → one < nodes s → 0 < two → two < nodes s
+pub same_child : (s : Shape) (one two : ℕ) → IsLegalShape s → 0 < one → one < nodes s → 0 < two → two < nodes s
     → parent s one ≡ parent s two → bit_in_parent s one ≡ bit_in_parent s two → one ≡ two
 same_child s one two legal one_other one_below two_other two_below parents bits =
     let place_one = place_of s one in let place_two = place_of s two in

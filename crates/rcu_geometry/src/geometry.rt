@@ -1,6 +1,6 @@
 //! Levels, parents and bits of a combining tree.
 ghost use Rattle.std.specs.Prelude.{◌≡◌, ◌<◌, ◌≤◌, ◌+◌, ◌-◌, ◌*◌, ◌^◌, ◌==◌, ℕ, if◌then◌else◌, Some, None, IfOk, IfErr, IfSome, length, slice_index};
-ghost use Rattle.rcu_geometry.specs.Shapes.{Shape, shape, is_fanout as is_a_fanout, IsLegal, capacity as capacity_of, refusal, ceil, levels as levels_of, level_nodes as level_nodes_of, level_start as level_start_of, nodes as nodes_of, level_of as level_of_node, parent as parent_of, bit_in_parent as bit_in_parent_of, leaf_of as leaf_of_cpu, bit_of as bit_of_cpu};
+ghost use Rattle.rcu_geometry.specs.Geometry.{Shape, shape, is_fanout as is_a_fanout, IsLegalShape, capacity as capacity_of, refusal, ceil, levels as levels_of, level_nodes as level_nodes_of, level_start as level_start_of, nodes as nodes_of, level_of as level_of_node, parent as parent_of, bit_in_parent as bit_in_parent_of, leaf_of as leaf_of_cpu, bit_of as bit_of_cpu};
 
 use arrayvec::ArrayVec;
 use rcu_seq::fault::Fault;
@@ -32,14 +32,14 @@ pub struct Geometry<const LEAF: u32, const FAN: u32> {
 
 impl<const LEAF: u32, const FAN: u32> Model for Geometry<LEAF, FAN> {
     ghost use Rattle.std.specs.Prelude.{◌≡◌, ◌≤◌, ◌+◌, ℕ, length, slice_index};
-    ghost use Rattle.rcu_geometry.specs.Shapes.{Shape, shape, IsLegal, levels as levels_of, level_start as level_start_of};
+    ghost use Rattle.rcu_geometry.specs.Geometry.{Shape, shape, IsLegalShape, levels as levels_of, level_start as level_start_of};
 
     ghost Value = { Shape };
 
     ghost view = { λ g. shape LEAF FAN g.cpus };
 
     ghost invariant = { λ g. record {
-      legal : IsLegal (shape LEAF FAN g.cpus);
+      legal : IsLegalShape (shape LEAF FAN g.cpus);
       leveled : g.levels ≡ levels_of (shape LEAF FAN g.cpus);
       sized : length g.starts.items ≡ g.levels + 1;
       started : (i : ℕ) → i ≤ g.levels → slice_index g.starts.items i ≡ level_start_of (shape LEAF FAN g.cpus) i;
@@ -53,7 +53,7 @@ impl<const LEAF: u32, const FAN: u32> Geometry<LEAF, FAN> {
     /// hold.
     pub fn new(cpus: u32) -> Result<Self, Fault>
         ensures ok { IfOk result (λ g. (g ≡ shape LEAF FAN cpus) × (refusal g ≡ None)) }
-        ensures legal { IfOk result (λ g. IsLegal g) }
+        ensures legal { IfOk result (λ g. IsLegalShape g) }
         ensures err { IfErr result (λ fault. refusal (shape LEAF FAN cpus) ≡ Some fault) }
     {
         if !is_fanout(LEAF) || !is_fanout(FAN) {
@@ -74,7 +74,7 @@ impl<const LEAF: u32, const FAN: u32> Geometry<LEAF, FAN> {
     pub fn cpus(&self) -> u32
         ensures value { result ≡ self.now.cpus }
         ensures fanouts { (self.now.leaf ≡ LEAF) × (self.now.fan ≡ FAN) }
-        ensures legal { IsLegal self.now }
+        ensures legal { IsLegalShape self.now }
     {
         self.cpus
     }
@@ -167,7 +167,7 @@ impl<const LEAF: u32, const FAN: u32> Geometry<LEAF, FAN> {
         ensures few { result ≤ 16384 }
         ensures leaf { self.now.leaf ≡ LEAF }
         ensures fanout { self.now.fan ≡ FAN }
-        ensures shape { IsLegal self.now }
+        ensures shape { IsLegalShape self.now }
     {
         self.starts[i as usize]
     }
@@ -209,7 +209,7 @@ fn capacity(leaf: u32, fan: u32, height: u32) -> u32
 
 /// The least number of levels whose capacity holds all processors.
 fn least_levels(leaf: u32, fan: u32, cpus: u32) -> u32
-    requires { IsLegal (shape leaf fan cpus) }
+    requires { IsLegalShape (shape leaf fan cpus) }
     ensures { result ≡ levels_of (shape leaf fan cpus) }
 {
     let mut levels = 1;
@@ -221,7 +221,7 @@ fn least_levels(leaf: u32, fan: u32, cpus: u32) -> u32
 
 /// How many nodes the level that is `height` above the leaves has.
 fn nodes_at(leaf: u32, fan: u32, cpus: u32, height: u32) -> u32
-    requires legal { IsLegal (shape leaf fan cpus) }
+    requires legal { IsLegalShape (shape leaf fan cpus) }
     requires height { height ≤ 3 }
     ensures { result ≡ ceil cpus (leaf * fan ^ height) }
 {
@@ -230,7 +230,7 @@ fn nodes_at(leaf: u32, fan: u32, cpus: u32, height: u32) -> u32
 
 /// The first node of each level, and behind them the number of nodes.
 fn level_starts(leaf: u32, fan: u32, cpus: u32, levels: u32) -> Starts
-    requires legal { IsLegal (shape leaf fan cpus) }
+    requires legal { IsLegalShape (shape leaf fan cpus) }
     requires leveled { levels ≡ levels_of (shape leaf fan cpus) }
     ensures sized { length result.items ≡ levels + 1 }
     ensures started { (i : ℕ) → i ≤ levels → slice_index result.items i ≡ level_start_of (shape leaf fan cpus) i }

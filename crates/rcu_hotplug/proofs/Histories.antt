@@ -5,9 +5,9 @@ use Rattle.std.proofs.lemmas.Bool.{cases_lt}
 use Rattle.std.proofs.lemmas.Bool.Decides.{nat_tests}
 use Rattle.std.proofs.lemmas.List.{length-set, length-replicate}
 use Rattle.rcu_seq.specs.Numbers.{Number, same_number}
-use Rattle.rcu_node.specs.CpuSets.{is_in}
-use Rattle.rcu_hotplug.specs.Calls.{Processors, Arrive, Depart, Begin, Report, refusal, at_first, next}
-use Rattle.rcu_hotplug.specs.History.{History, WasAccepted, Says, after, came, is_done, online, starts, tag}
+use Rattle.rcu_node.specs.CpuSet.{is_in}
+use Rattle.rcu_hotplug.specs.Hotplug.{Processors, Arrive, Depart, Begin, Report, refusal, at_first, after_call}
+use Rattle.rcu_hotplug.specs.History.{History, AreAccepted, Represents, after_calls, came, is_heard, online, starts, tag}
 use Rattle.rcu_hotplug.proofs.Sets.{in_none, is_in-insert, is_in-remove, is_in-remove_where, length-remove_where}
 
 -- an accepted arrival is of a processor that there is
@@ -50,7 +50,7 @@ neither true false latest = ap not (sym (or-false latest))
 record IsTold (cpus : ℕ) (p : Processors) (h : History) : Type 0 where
   awaited : length p.awaited ≡ cpus
   online : length p.online ≡ cpus
-  says : Says cpus p h
+  says : Represents cpus p h
 
 -- at first
 told_at_first : (cpus : ℕ) → IsTold cpus (at_first cpus) []
@@ -69,7 +69,7 @@ told_at_first cpus = record {
 
 -- after an arrival
 told_arrival : (cpus : ℕ) (p : Processors) (h : History) (other : ℕ) → refusal p (Arrive other) ≡ None → IsTold cpus p h
-    → IsTold cpus (next p (Arrive other)) (Arrive other ∷ h)
+    → IsTold cpus (after_call p (Arrive other)) (Arrive other ∷ h)
 told_arrival cpus p h other accepted told = record {
   awaited = told.awaited;
   online = length-set p.online other true ∙ told.online;
@@ -85,7 +85,7 @@ told_arrival cpus p h other accepted told = record {
 
 -- after a departure
 told_departure : (cpus : ℕ) (p : Processors) (h : History) (other : ℕ) → refusal p (Depart other) ≡ None → IsTold cpus p h
-    → IsTold cpus (next p (Depart other)) (Depart other ∷ h)
+    → IsTold cpus (after_call p (Depart other)) (Depart other ∷ h)
 told_departure cpus p h other accepted told = record {
   awaited = length-set p.awaited other false ∙ told.awaited;
   online = length-set p.online other false ∙ told.online;
@@ -94,7 +94,7 @@ told_departure cpus p h other accepted told = record {
     start_set = told.says.start_set;
     awaited = λ cpu l.
         is_in-remove p.awaited other cpu ∙ ap (λ b. b && not (other == cpu)) (told.says.awaited cpu l)
-        ∙ neither (starts cpu h) (is_done cpu (tag h) h) (other == cpu);
+        ∙ neither (starts cpu h) (is_heard cpu (tag h) h) (other == cpu);
     online = λ cpu l.
         let another = departure_of_another p other accepted in
         is_in-remove p.online other cpu ∙ ap (λ b. b && not (other == cpu)) (told.says.online cpu l)
@@ -103,7 +103,7 @@ told_departure cpus p h other accepted told = record {
 }
 
 -- after a begin
-told_begin : (cpus : ℕ) (p : Processors) (h : History) (number : Number) → IsTold cpus p h → IsTold cpus (next p (Begin number)) (Begin number ∷ h)
+told_begin : (cpus : ℕ) (p : Processors) (h : History) (number : Number) → IsTold cpus p h → IsTold cpus (after_call p (Begin number)) (Begin number ∷ h)
 told_begin cpus p h number told = record {
   awaited = told.online;
   online = told.online;
@@ -117,7 +117,7 @@ told_begin cpus p h number told = record {
 
 -- after a report
 told_report : (cpus : ℕ) (p : Processors) (h : History) (other : ℕ) (number : Number) → IsTold cpus p h
-    → IsTold cpus (next p (Report other number)) (Report other number ∷ h)
+    → IsTold cpus (after_call p (Report other number)) (Report other number ∷ h)
 told_report cpus p h other number told = record {
   awaited = length-remove_where (same_number number p.tag) p.awaited other ∙ told.awaited;
   online = told.online;
@@ -128,20 +128,20 @@ told_report cpus p h other number told = record {
         is_in-remove_where (same_number number p.tag) p.awaited other cpu
         ∙ ap (λ (n : Number). is_in p.awaited cpu && not (other == cpu && same_number number n)) told.says.tag
         ∙ ap (λ b. b && not (other == cpu && same_number number (tag h))) (told.says.awaited cpu l)
-        ∙ neither (starts cpu h) (is_done cpu (tag h) h) (other == cpu && same_number number (tag h))
-        ∙ ap (λ b. starts cpu h && not (b || is_done cpu (tag h) h)) (sym (or-false (other == cpu && same_number number (tag h))));
+        ∙ neither (starts cpu h) (is_heard cpu (tag h) h) (other == cpu && same_number number (tag h))
+        ∙ ap (λ b. starts cpu h && not (b || is_heard cpu (tag h) h)) (sym (or-false (other == cpu && same_number number (tag h))));
     online = told.says.online;
   };
 }
 
 -- after any accepted calls
-told_always : (cpus : ℕ) (h : History) → WasAccepted cpus h → IsTold cpus (after cpus h) h
+told_always : (cpus : ℕ) (h : History) → AreAccepted cpus h → IsTold cpus (after_calls cpus h) h
 told_always cpus [] accepted = told_at_first cpus
-told_always cpus (Arrive other ∷ h) accepted = told_arrival cpus (after cpus h) h other accepted.0 (told_always cpus h accepted.1)
-told_always cpus (Depart other ∷ h) accepted = told_departure cpus (after cpus h) h other accepted.0 (told_always cpus h accepted.1)
-told_always cpus (Begin number ∷ h) accepted = told_begin cpus (after cpus h) h number (told_always cpus h accepted.1)
-told_always cpus (Report other number ∷ h) accepted = told_report cpus (after cpus h) h other number (told_always cpus h accepted.1)
+told_always cpus (Arrive other ∷ h) accepted = told_arrival cpus (after_calls cpus h) h other accepted.0 (told_always cpus h accepted.1)
+told_always cpus (Depart other ∷ h) accepted = told_departure cpus (after_calls cpus h) h other accepted.0 (told_always cpus h accepted.1)
+told_always cpus (Begin number ∷ h) accepted = told_begin cpus (after_calls cpus h) h number (told_always cpus h accepted.1)
+told_always cpus (Report other number ∷ h) accepted = told_report cpus (after_calls cpus h) h other number (told_always cpus h accepted.1)
 
 -- the processors after accepted calls are as their history says
-pub told : (cpus : ℕ) (h : History) → WasAccepted cpus h → Says cpus (after cpus h) h
+pub told : (cpus : ℕ) (h : History) → AreAccepted cpus h → Represents cpus (after_calls cpus h) h
 told cpus h accepted = (told_always cpus h accepted).says

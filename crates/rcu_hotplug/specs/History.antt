@@ -2,21 +2,21 @@
 -- it was at an earlier call is the part of the list from that call on.
 use Rattle.std.specs.Prelude.{ℕ, ◌≡◌, ◌<◌, ◌==◌, Bool, true, false, not, ◌&&◌, ◌||◌, if◌then◌else◌, List, [], ◌∷◌, None}
 use Rattle.rcu_seq.specs.Numbers.{Number, same_number}
-use Rattle.rcu_node.specs.CpuSets.{is_in}
-use Rattle.rcu_hotplug.specs.Calls.{Processors, Call, Arrive, Depart, Begin, Report, at_first, refusal, next}
+use Rattle.rcu_node.specs.CpuSet.{is_in}
+use Rattle.rcu_hotplug.specs.Hotplug.{Processors, Call, Arrive, Depart, Begin, Report, at_first, refusal, after_call}
 
 abbrev pub History : Type 0
 History = List Call
 
 -- the processors after a history
-abbrev pub after : ℕ → History → Processors
-after cpus [] = at_first cpus
-after cpus (call ∷ h) = next (after cpus h) call
+abbrev pub after_calls : ℕ → History → Processors
+after_calls cpus [] = at_first cpus
+after_calls cpus (call ∷ h) = after_call (after_calls cpus h) call
 
 -- each call was accepted at its time
-abbrev pub WasAccepted : ℕ → History → Type 0
-WasAccepted cpus [] = Unit {0}
-WasAccepted cpus (call ∷ h) = (refusal (after cpus h) call ≡ None) × WasAccepted cpus h
+abbrev pub AreAccepted : ℕ → History → Type 0
+AreAccepted cpus [] = Unit {0}
+AreAccepted cpus (call ∷ h) = (refusal (after_calls cpus h) call ≡ None) × AreAccepted cpus h
 
 -- the processor arrives
 abbrev pub arrives : ℕ → Call → Bool
@@ -68,17 +68,17 @@ abbrev pub starts : ℕ → History → Bool
 starts cpu h = has_begun h && online cpu (before_begin h)
 
 -- since the latest begin the processor reported this number, or departed
-abbrev pub is_done : ℕ → Number → History → Bool
-is_done cpu number [] = false
-is_done cpu number (call ∷ h) = not (begins call) && ((reports cpu number call || departs cpu call) || is_done cpu number h)
+abbrev pub is_heard : ℕ → Number → History → Bool
+is_heard cpu number [] = false
+is_heard cpu number (call ∷ h) = not (begins call) && ((reports cpu number call || departs cpu call) || is_heard cpu number h)
 
 -- the processor is awaited: it was online at the latest begin, and since then it did not report with the grace
 -- period's number, and did not depart
 abbrev pub awaits : ℕ → History → Bool
-awaits cpu h = starts cpu h && not (is_done cpu (tag h) h)
+awaits cpu h = starts cpu h && not (is_heard cpu (tag h) h)
 
 -- the processors are as a history says
-pub record Says (cpus : ℕ) (p : Processors) (h : History) : Type 0 where
+pub record Represents (cpus : ℕ) (p : Processors) (h : History) : Type 0 where
   pub tag : p.tag ≡ tag h
   pub start_set : (cpu : ℕ) → cpu < cpus → is_in p.start_set cpu ≡ starts cpu h
   pub awaited : (cpu : ℕ) → cpu < cpus → is_in p.awaited cpu ≡ awaits cpu h

@@ -1,9 +1,9 @@
 //! An awaited set with processors that come and go.
 ghost use Rattle.std.specs.Prelude.{◌≡◌, ◌<◌, ℕ, true, false, Some, None, length, replicate, IfErr, IfOk, OnOk};
 ghost use Rattle.rcu_seq.specs.Numbers.{is_running};
-ghost use Rattle.rcu_node.specs.CpuSets.{is_in};
-ghost use Rattle.rcu_node.specs.Reports.{answer_to};
-ghost use Rattle.rcu_hotplug.specs.Calls.{Arrive, Begin, Depart, Report, AreKept, at_first, cpus_of, next, refusal};
+ghost use Rattle.rcu_node.specs.CpuSet.{is_in};
+ghost use Rattle.rcu_node.specs.Reports.{report_answer};
+ghost use Rattle.rcu_hotplug.specs.Hotplug.{Arrive, Begin, Depart, Report, IsSound, at_first, cpus_of, after_call, refusal};
 
 use rcu_node::answer::Answer;
 use rcu_node::awaited::Awaited;
@@ -27,8 +27,8 @@ pub struct Hotplug<A: Awaited> {
 
 impl<A: Awaited> Model for Hotplug<A> {
     ghost use Rattle.std.specs.Prelude.{◌≡◌, true, ℕ, length};
-    ghost use Rattle.rcu_node.specs.CpuSets.{is_in};
-    ghost use Rattle.rcu_hotplug.specs.Calls.{Processors};
+    ghost use Rattle.rcu_node.specs.CpuSet.{is_in};
+    ghost use Rattle.rcu_hotplug.specs.Hotplug.{Processors};
 
     ghost Value = { Processors };
 
@@ -65,7 +65,7 @@ impl<A: Awaited> Hotplug<A> {
     ///
     /// Faults: 1, 3.
     pub fn arrive(&mut self, cpu: u32) -> Result<(), Fault>
-        ensures ok { OnOk result (self.new ≡ next self.old (Arrive cpu)) }
+        ensures ok { OnOk result (self.new ≡ after_call self.old (Arrive cpu)) }
         ensures accepted { OnOk result (refusal self.old (Arrive cpu) ≡ None) }
         ensures err { IfErr result (λ fault. refusal self.old (Arrive cpu) ≡ Some fault) }
         ensures refused { IfErr result (λ _. self.new ≡ self.old) }
@@ -83,7 +83,7 @@ impl<A: Awaited> Hotplug<A> {
     ///
     /// Faults: 1; 12 for processor 0; 2.
     pub fn depart(&mut self, cpu: u32) -> Result<(), Fault>
-        ensures ok { OnOk result (self.new ≡ next self.old (Depart cpu)) }
+        ensures ok { OnOk result (self.new ≡ after_call self.old (Depart cpu)) }
         ensures accepted { OnOk result (refusal self.old (Depart cpu) ≡ None) }
         ensures err { IfErr result (λ fault. refusal self.old (Depart cpu) ≡ Some fault) }
         ensures refused { IfErr result (λ _. self.new ≡ self.old) }
@@ -105,7 +105,7 @@ impl<A: Awaited> Hotplug<A> {
     /// A grace period of this number begins, and awaits the online processors. The number is `4k + 1`.
     pub fn begin(&mut self, tag: u64)
         requires { is_running tag ≡ true }
-        ensures state { self.new ≡ next self.old (Begin tag) }
+        ensures state { self.new ≡ after_call self.old (Begin tag) }
         ensures sized { cpus_of self.new ≡ cpus_of self.old }
     {
         self.inner.begin(tag, &self.online);
@@ -114,8 +114,8 @@ impl<A: Awaited> Hotplug<A> {
     /// A processor reports a quiescent state with the number that it had noted, as [`Awaited::report`].
     pub fn report(&mut self, cpu: u32, tag: u64) -> Answer
         requires { cpu < cpus_of self.old }
-        ensures answer { result ≡ answer_to self.old.tag self.old.awaited cpu tag }
-        ensures state { self.new ≡ next self.old (Report cpu tag) }
+        ensures answer { result ≡ report_answer self.old.tag self.old.awaited cpu tag }
+        ensures state { self.new ≡ after_call self.old (Report cpu tag) }
     {
         self.inner.report(cpu, tag)
     }
@@ -124,7 +124,7 @@ impl<A: Awaited> Hotplug<A> {
     pub fn online(&self, cpu: u32) -> bool
         requires { cpu < cpus_of self.now }
         ensures value { result ≡ is_in self.now.online cpu }
-        ensures kept { AreKept self.now }
+        ensures kept { IsSound self.now }
     {
         self.online.contains(cpu)
     }
@@ -134,7 +134,7 @@ impl<A: Awaited> Hotplug<A> {
         ensures tag { A.tag result.now ≡ self.now.tag }
         ensures start_set { A.start_set result.now ≡ self.now.start_set }
         ensures awaited { A.awaited result.now ≡ self.now.awaited }
-        ensures kept { AreKept self.now }
+        ensures kept { IsSound self.now }
     {
         &self.inner
     }

@@ -1,12 +1,12 @@
 //! What the definitions say of processors that come and go.
 ghost use Rattle.std.specs.Prelude.{◌≡◌, ◌∷◌, ℕ};
 ghost use Rattle.rcu_seq.specs.Numbers.{Number};
-ghost use Rattle.rcu_hotplug.specs.Calls.{Arrive, Begin};
-ghost use Rattle.rcu_hotplug.specs.History.{History, WasAccepted, Says, after, awaits, online};
+ghost use Rattle.rcu_hotplug.specs.Hotplug.{Arrive, Begin};
+ghost use Rattle.rcu_hotplug.specs.History.{History, AreAccepted, Represents, after_calls, awaits, online};
 
 /// After any accepted calls the processors are as the history of the calls says.
 pub fn calls_leave_what_their_history_says()
-    ensures { (cpus : ℕ) (h : History) → WasAccepted cpus h → Says cpus (after cpus h) h }
+    ensures { (cpus : ℕ) (h : History) → AreAccepted cpus h → Represents cpus (after_calls cpus h) h }
 {}
 
 /// An arrival changes nobody's being awaited; from the next begin on, just the online processors are awaited, until

@@ -3,8 +3,8 @@ use Rattle.std.proofs.Common.{◌≡◌, ◌≢◌, ℕ, ◌*◌, ◌+◌, ◌<�
 use Rattle.std.proofs.lemmas.Bool.{cases_eq}
 use Rattle.std.proofs.lemmas.Bool.Decides.{nat_tests}
 use Rattle.std.proofs.lemmas.List.{get_or-set_same, get_or-set_other, length-set, length-replicate}
-use Rattle.rcu_geometry.specs.Shapes.{ceil}
-use Rattle.rcu_node.specs.CpuSets.{is_in}
+use Rattle.rcu_geometry.specs.Geometry.{ceil}
+use Rattle.rcu_node.specs.CpuSet.{is_in}
 use Rattle.rcu_node.specs.Masks.{AreMasks, IsRoot}
 use Rattle.rcu_node.specs.Words.{has_bit}
 use Rattle.rcu_node.proofs.Masks.{in_none}

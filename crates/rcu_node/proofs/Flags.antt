@@ -6,7 +6,7 @@ use Rattle.std.proofs.lemmas.List.{get_or_past, get_or-set_same, get_or-set_othe
 use Rattle.std.proofs.lemmas.List.FromFn.{length-map-range_with_len, get_or-map-range_with_len}
 use Rattle.std.proofs.lemmas.List.Sums.{sum_by-set, count_by-le-length}
 use Rattle.std.proofs.lemmas.List.Folds.{sum_by-replicate}
-use Rattle.rcu_node.specs.CpuSets.{listed, is_in, size_of}
+use Rattle.rcu_node.specs.CpuSet.{listed, is_in, size_of}
 
 -- a listed set has a flag for each processor
 pub length-listed : (n : ℕ) (test : ℕ → Bool) → length (listed n test) ≡ n

@@ -4,30 +4,30 @@ use Rattle.std.proofs.Math.Bool.{or-false}
 use Rattle.std.proofs.lemmas.Bool.{cases_Bool}
 use Rattle.std.proofs.lemmas.List.{length-set}
 use Rattle.rcu_seq.specs.Numbers.{Number, same_number}
-use Rattle.rcu_node.specs.CpuSets.{intersection, is_in, unheard}
-use Rattle.rcu_node.specs.Reports.{after_reports, was_reported, without}
+use Rattle.rcu_node.specs.CpuSet.{intersection, is_in, unheard}
+use Rattle.rcu_node.specs.Reports.{awaited_after_reports, was_reported, awaited_after_report}
 use Rattle.rcu_node.proofs.Flags.{same_from_flags}
 use Rattle.rcu_node.proofs.Joins.{is_in-intersection, length-intersection, is_in-unheard, length-unheard}
 use Rattle.rcu_node.proofs.Reports.{unreported}
 
 -- a report keeps a flag for each processor
-length-without : (number : Number) (set : List Bool) (cpu : ℕ) (tag : Number) → length (without number set cpu tag) ≡ length set
+length-without : (number : Number) (set : List Bool) (cpu : ℕ) (tag : Number) → length (awaited_after_report number set cpu tag) ≡ length set
 length-without number set cpu tag = elim (cases_Bool (same_number tag number)) [
   | inl e ↦ rw e (length-set set cpu false)
   | inr e ↦ rw e refl
 ]
 
-length-after_reports : (number : Number) (set : List Bool) (reports : List (ℕ × Number)) → length (after_reports number set reports) ≡ length set
+length-after_reports : (number : Number) (set : List Bool) (reports : List (ℕ × Number)) → length (awaited_after_reports number set reports) ≡ length set
 length-after_reports number set [] = refl
 length-after_reports number set (report ∷ earlier) =
-    length-without number (after_reports number set earlier) report.0 report.1 ∙ length-after_reports number set earlier
+    length-without number (awaited_after_reports number set earlier) report.0 report.1 ∙ length-after_reports number set earlier
 
 -- after reports the unheard are awaited
 pub after_reports-unheard : (number : Number) (set : List Bool) (reports : List (ℕ × Number))
-    → after_reports number set reports ≡ unheard set (λ cpu. was_reported number cpu reports)
+    → awaited_after_reports number set reports ≡ unheard set (λ cpu. was_reported number cpu reports)
 after_reports-unheard number set reports =
     let heard = λ (cpu : ℕ). was_reported number cpu reports in
-    same_from_flags (after_reports number set reports) (unheard set heard) (length-after_reports number set reports ∙ sym (length-unheard set heard)) (λ cpu.
+    same_from_flags (awaited_after_reports number set reports) (unheard set heard) (length-after_reports number set reports ∙ sym (length-unheard set heard)) (λ cpu.
     unreported number set reports cpu ∙ sym (is_in-unheard set heard cpu))
 
 -- where the same were heard, the same are unheard
@@ -38,7 +38,7 @@ unheard-same set heard other h =
 
 pub equally_heard : (number : Number) (set : List Bool) (reports others : List (ℕ × Number))
     → ((cpu : ℕ) → was_reported number cpu reports ≡ was_reported number cpu others)
-    → after_reports number set reports ≡ after_reports number set others
+    → awaited_after_reports number set reports ≡ awaited_after_reports number set others
 equally_heard number set reports others h =
     after_reports-unheard number set reports
     ∙ unheard-same set (λ cpu. was_reported number cpu reports) (λ cpu. was_reported number cpu others) h
@@ -74,12 +74,12 @@ was_reported-both number cpu reports (report ∷ others) =
     ∙ ap (λ b. (report.0 == cpu && same_number report.1 number) || b) (was_reported-both number cpu reports others)
 
 pub reports-merged : (number : Number) (set : List Bool) (reports others : List (ℕ × Number))
-    → intersection (after_reports number set reports) (after_reports number set others) ≡ after_reports number set (others ++ reports)
+    → intersection (awaited_after_reports number set reports) (awaited_after_reports number set others) ≡ awaited_after_reports number set (others ++ reports)
 reports-merged number set reports others =
     let heard = λ (cpu : ℕ). was_reported number cpu reports in
     let other = λ (cpu : ℕ). was_reported number cpu others in
     let all = λ (cpu : ℕ). was_reported number cpu (others ++ reports) in
-    ap (λ (s : List Bool). intersection s (after_reports number set others)) (after_reports-unheard number set reports)
+    ap (λ (s : List Bool). intersection s (awaited_after_reports number set others)) (after_reports-unheard number set reports)
     ∙ ap (λ (s : List Bool). intersection (unheard set heard) s) (after_reports-unheard number set others)
     ∙ unheard-merged set heard other
     ∙ unheard-same set (λ cpu. heard cpu || other cpu) all (λ cpu. was_reported-both number cpu reports others)

@@ -4,7 +4,7 @@ use Rattle.std.specs.Bool.{Decides}
 use Rattle.std.proofs.lemmas.Bool.{and_parts}
 use Rattle.std.proofs.lemmas.Bool.Decides.{Decides-eqb}
 use Rattle.rcu_seq.specs.Numbers.{same_number}
-use Rattle.rcu_node.specs.CpuSets.{intersection, is_in, unheard}
+use Rattle.rcu_node.specs.CpuSet.{intersection, is_in, unheard}
 use Rattle.rcu_node.specs.Merging.{IsAtLeast, Standing, are_alike, merged, same_set}
 use Rattle.rcu_node.proofs.Flags.{length-listed, is_in-listed_within, same_from_flags}
 use Rattle.rcu_node.proofs.Merges.{same_set-Decides}

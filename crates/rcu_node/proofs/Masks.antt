@@ -6,8 +6,8 @@ use Rattle.std.proofs.lemmas.Bool.Decides.{nat_tests}
 use Rattle.std.proofs.lemmas.Nat.{mod_below, div-add-mod', div_below, mul-le, same_from_place, one_shl}
 use Rattle.std.proofs.lemmas.Grind.{div_ceil_times}
 use Rattle.std.proofs.lemmas.List.{get_or_past, get_or_read, get_or-set_same, get_or-set_other, get_or-replicate, length-set, length-replicate}
-use Rattle.rcu_geometry.specs.Shapes.{Shape, IsLegal, ceil}
-use Rattle.rcu_node.specs.CpuSets.{is_in, size_of}
+use Rattle.rcu_geometry.specs.Geometry.{Shape, IsLegalShape, ceil}
+use Rattle.rcu_node.specs.CpuSet.{is_in, size_of}
 use Rattle.rcu_node.specs.Masks.{members, AreMasks, IsRoot}
 use Rattle.rcu_node.specs.Words.{has_bit}
 use Rattle.rcu_node.proofs.Bits.{has_bit_shr, has_bit-zero, has_bit_clear_same, has_bit_clear_rest, no_bits}
@@ -46,13 +46,13 @@ members-is s masks set w e kept =
     kept.bit (cpu / s.leaf) (cpu % s.leaf) here ∙ rw (div-add-mod' cpu s.leaf) (grind (arith, nat_tests, low)))
 
 -- a processor's mask is there
-pub leaf_here : (leaf : ℕ) (s : Shape) (masks : List ℕ) (set : List Bool) (cpu : ℕ) → s.leaf ≡ leaf → IsLegal s → AreMasks leaf masks (members s masks) → members s masks ≡ set → cpu < length set → cpu / leaf < length masks
+pub leaf_here : (leaf : ℕ) (s : Shape) (masks : List ℕ) (set : List Bool) (cpu : ℕ) → s.leaf ≡ leaf → IsLegalShape s → AreMasks leaf masks (members s masks) → members s masks ≡ set → cpu < length set → cpu / leaf < length masks
 leaf_here leaf s masks set cpu e legal kept f l =
     let below : cpu < length (members s masks) = rw f l in
     rw kept.sized (leaf_below leaf cpu (length (members s masks)) (omega (arith, e, legal.leaf_low)) below)
 
 -- its bit tells whether it is in the set
-pub contains-is : (leaf : ℕ) (s : Shape) (masks : List ℕ) (set : List Bool) (cpu place bit mask : ℕ) → s.leaf ≡ leaf → IsLegal s → AreMasks leaf masks (members s masks) → members s masks ≡ set → cpu < length set
+pub contains-is : (leaf : ℕ) (s : Shape) (masks : List ℕ) (set : List Bool) (cpu place bit mask : ℕ) → s.leaf ≡ leaf → IsLegalShape s → AreMasks leaf masks (members s masks) → members s masks ≡ set → cpu < length set
     → place ≡ cpu / leaf → bit ≡ cpu % s.leaf → mask ≡ get_or masks place mask → (bit_and (mask / 2 ^ bit) 1 == 1) ≡ is_in set cpu
 contains-is leaf s masks set cpu place bit mask e legal kept f l i j r =
     let here : place < length masks = rw i (leaf_here leaf s masks set cpu e legal kept f l) in
@@ -173,13 +173,13 @@ pub record AreHeld (leaf : ℕ) (s : Shape) (masks : List ℕ) (set : List Bool)
   pub kept : AreMasks leaf masks (members s masks)
 
 -- masks of a set are seen as it
-pub held : (leaf : ℕ) (s : Shape) (masks : List ℕ) (set : List Bool) → s.leaf ≡ leaf → IsLegal s → length set ≡ s.cpus → AreMasks leaf masks set → AreHeld leaf s masks set
+pub held : (leaf : ℕ) (s : Shape) (masks : List ℕ) (set : List Bool) → s.leaf ≡ leaf → IsLegalShape s → length set ≡ s.cpus → AreMasks leaf masks set → AreHeld leaf s masks set
 held leaf s masks set e legal f kept =
     let seen = members-is s masks set (omega (arith, legal.leaf_low)) f (subst (λ n. AreMasks n masks set) (sym e) kept) in
     record { seen = seen; kept = subst (λ (members : List Bool). AreMasks leaf masks members) (sym seen) kept }
 
 -- a processor's bit is cleared in its leaf
-pub removed : (leaf : ℕ) (s : Shape) (masks new : List ℕ) (set : List Bool) (cpu place bit : ℕ) → s.leaf ≡ leaf → IsLegal s → AreMasks leaf masks (members s masks) → members s masks ≡ set → cpu < length set
+pub removed : (leaf : ℕ) (s : Shape) (masks new : List ℕ) (set : List Bool) (cpu place bit : ℕ) → s.leaf ≡ leaf → IsLegalShape s → AreMasks leaf masks (members s masks) → members s masks ≡ set → cpu < length set
     → place ≡ cpu / leaf → bit ≡ cpu % s.leaf → new ≡ slice_set masks place (bit_and (slice_index masks place) (bit_not w64 (2 ^ bit)))
     → AreHeld leaf s new (slice_set set cpu false)
 removed leaf s masks new set cpu place bit e legal kept f l i j h =
@@ -190,5 +190,5 @@ removed leaf s masks new set cpu place bit e legal kept f l i j h =
     held leaf s new (slice_set set cpu false) e legal (length-set set cpu false ∙ sym (cpus-is s masks set f)) without
 
 -- masks of zeros hold nobody
-pub held-none : (leaf : ℕ) (s : Shape) (masks : List ℕ) (n : ℕ) → s.leaf ≡ leaf → IsLegal s → masks ≡ replicate n 0 → n ≡ ceil s.cpus leaf → AreHeld leaf s masks (replicate s.cpus false)
+pub held-none : (leaf : ℕ) (s : Shape) (masks : List ℕ) (n : ℕ) → s.leaf ≡ leaf → IsLegalShape s → masks ≡ replicate n 0 → n ≡ ceil s.cpus leaf → AreHeld leaf s masks (replicate s.cpus false)
 held-none leaf s masks n e legal f g = rw f (held leaf s (replicate n 0) (replicate s.cpus false) e legal (length-replicate s.cpus false) (masks-none leaf n s.cpus g))

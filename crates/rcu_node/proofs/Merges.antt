@@ -6,7 +6,7 @@ use Rattle.std.proofs.lemmas.Bool.{cases_Bool}
 use Rattle.std.proofs.lemmas.Bool.Decides.{nat_tests}
 use Rattle.std.proofs.lemmas.List.{ext_get_or}
 use Rattle.std.proofs.lemmas.Slice.Eq.{slice_eq-Decides}
-use Rattle.rcu_node.specs.CpuSets.{is_in, intersection}
+use Rattle.rcu_node.specs.CpuSet.{is_in, intersection}
 use Rattle.rcu_node.specs.Merging.{same_set}
 use Rattle.rcu_node.proofs.Flags.{length-listed, is_in-listed}
 

@@ -8,7 +8,7 @@ use Rattle.std.proofs.lemmas.Nat.{ones_le_self}
 use Rattle.std.proofs.lemmas.Nat.Bits.{bit_at-suc, bit_at_lowest}
 use Rattle.std.proofs.Math.Nat.{pow-suc}
 use lib.Count.{ones_step}
-use Rattle.rcu_node.specs.CpuSets.{listed, is_in, size_of}
+use Rattle.rcu_node.specs.CpuSet.{listed, is_in, size_of}
 use Rattle.rcu_node.specs.Words.{flags_in, has_bit}
 use Rattle.rcu_node.proofs.Flags.{length-listed, is_in-listed, listed_same, listed_none, size_of-none}
 use Rattle.rcu_node.proofs.Words.{flag_in}

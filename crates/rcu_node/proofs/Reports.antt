@@ -4,8 +4,8 @@ use Rattle.std.proofs.Math.Bool.{and-true, and-false, or-false}
 use Rattle.std.proofs.lemmas.Bool.Decides.{nat_tests}
 use Rattle.std.proofs.lemmas.Bool.{and_right}
 use Rattle.rcu_seq.specs.Numbers.{Number, same_number}
-use Rattle.rcu_node.specs.CpuSets.{is_in}
-use Rattle.rcu_node.specs.Reports.{after_reports, was_reported}
+use Rattle.rcu_node.specs.CpuSet.{is_in}
+use Rattle.rcu_node.specs.Reports.{awaited_after_reports, was_reported}
 
 -- a flag is cleared, wherever it stands
 pub is_in-remove : (set : List Bool) (cpu k : ℕ) → is_in (slice_set set cpu false) k ≡ (is_in set k && not (cpu == k))
@@ -28,9 +28,9 @@ neither true true false = refl
 neither true false latest = ap not (sym (or-false latest))
 
 -- exactly the processors of the start set without a report of the number are awaited
-pub unreported : (number : Number) (set : List Bool) (reports : List (ℕ × Number)) (cpu : ℕ) → is_in (after_reports number set reports) cpu ≡ (is_in set cpu && not (was_reported number cpu reports))
+pub unreported : (number : Number) (set : List Bool) (reports : List (ℕ × Number)) (cpu : ℕ) → is_in (awaited_after_reports number set reports) cpu ≡ (is_in set cpu && not (was_reported number cpu reports))
 unreported number set [] cpu = sym (and-true (is_in set cpu))
 unreported number set (report ∷ earlier) cpu =
-    is_in-remove_where (same_number report.1 number) (after_reports number set earlier) report.0 cpu
+    is_in-remove_where (same_number report.1 number) (awaited_after_reports number set earlier) report.0 cpu
     ∙ ap (λ b. b && not (report.0 == cpu && same_number report.1 number)) (unreported number set earlier cpu)
     ∙ neither (is_in set cpu) (was_reported number cpu earlier) (report.0 == cpu && same_number report.1 number)

@@ -2,7 +2,7 @@
 use Rattle.std.proofs.Common.{◌≡◌, ℕ, ◌*◌, ◌/◌, ◌%◌, ◌<◌, ◌≤◌, ◌||◌, Bool, List, ◌++◌, length, take, drop, slice_index, bit_or, sym, ap, ◌∙◌, arith, inl, inr}
 use Rattle.std.proofs.lemmas.Bool.{cases_lt}
 use Rattle.std.proofs.lemmas.List.{take-append-le, take_all}
-use Rattle.rcu_node.specs.CpuSets.{is_in, size_of, union}
+use Rattle.rcu_node.specs.CpuSet.{is_in, size_of, union}
 use Rattle.rcu_node.specs.Words.{flags_in, has_bit, HasNoneFrom}
 use Rattle.rcu_node.proofs.Bits.{has_bit_or}
 use Rattle.rcu_node.proofs.Flags.{length-listed, is_in-listed, listed_same}

@@ -4,7 +4,7 @@ use Rattle.std.specs.Int.{bit_not, w64}
 use Rattle.std.proofs.lemmas.Bool.{cases_eq, cases_lt}
 use Rattle.std.proofs.lemmas.Nat.{mod_below, div-add-mod', div_below}
 use Rattle.std.proofs.lemmas.List.{get_or_past, get_or-set_same, get_or-set_other, get_or-replicate, get_or_read, length-replicate}
-use Rattle.rcu_node.specs.CpuSets.{is_in, size_of}
+use Rattle.rcu_node.specs.CpuSet.{is_in, size_of}
 use Rattle.rcu_node.specs.Words.{flags_in, has_bit, HasNoneFrom}
 use Rattle.rcu_node.proofs.Bits.{has_bit_shr, has_bit-zero, has_bit_set_same, has_bit_set_other, has_bit_clear_same, has_bit_clear_other}
 use Rattle.rcu_node.proofs.Flags.{length-listed, listed_set, listed_none, is_in-listed, size_of-none}

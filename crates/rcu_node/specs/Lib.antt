@@ -1,4 +1,4 @@
-pub mod CpuSets
+pub mod CpuSet
 pub mod Masks
 pub mod Words
 pub mod Reports

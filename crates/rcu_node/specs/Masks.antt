@@ -1,7 +1,7 @@
 -- Sets of processors in the masks of a tree's leaves, below one root.
 use Rattle.std.specs.Prelude.{ℕ, ◌+◌, ◌*◌, ◌/◌, ◌%◌, ◌<◌, ◌≡◌, ◌==◌, ◌&&◌, nat_lt, Bool, not, List, length, slice_index}
-use Rattle.rcu_geometry.specs.Shapes.{Shape, ceil}
-use Rattle.rcu_node.specs.CpuSets.{is_in, listed}
+use Rattle.rcu_geometry.specs.Geometry.{Shape, ceil}
+use Rattle.rcu_node.specs.CpuSet.{is_in, listed}
 use Rattle.rcu_node.specs.Words.{has_bit}
 
 -- the processors whose bits are set: a processor's bit lies in the leaf at a leaf-th of its number

@@ -3,7 +3,7 @@ use Rattle.std.specs.Prelude.{ℕ, ◌==◌, ◌≡◌, ◌&&◌, Bool, true, Li
 use Rattle.std.specs.Cmp.Lexicographic.{pointwise}
 use Rattle.std.specs.Bool.{beq}
 use Rattle.rcu_seq.specs.Numbers.{Number, same_number}
-use Rattle.rcu_node.specs.CpuSets.{intersection, is_in}
+use Rattle.rcu_node.specs.CpuSet.{intersection, is_in}
 
 -- where a grace period stands: its tag, the processors that it awaited at its start, and those that it awaits now
 pub record Standing : Type 0 where

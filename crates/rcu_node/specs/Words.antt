@@ -1,7 +1,7 @@
 -- Sets of processors in words of 64 bits.
 use Rattle.std.specs.Prelude.{ℕ, ◌/◌, ◌%◌, ◌≤◌, ◌≡◌, ◌==◌, Bool, false, List, slice_index}
 use Rattle.std.specs.Int.{bit_at}
-use Rattle.rcu_node.specs.CpuSets.{listed}
+use Rattle.rcu_node.specs.CpuSet.{listed}
 
 -- bit i of a word is set
 unfoldable pub has_bit : ℕ → ℕ → Bool

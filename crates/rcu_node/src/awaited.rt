@@ -1,8 +1,8 @@
 //! The processors that a grace period awaits.
 ghost use Rattle.std.specs.Prelude.{◌≡◌, ◌<◌, ◌≤◌, ◌==◌, ℕ, List, Bool, true, length};
 ghost use Rattle.rcu_seq.specs.Numbers.{is_running};
-ghost use Rattle.rcu_node.specs.CpuSets.{is_in, size_of};
-ghost use Rattle.rcu_node.specs.Reports.{answer_to, without};
+ghost use Rattle.rcu_node.specs.CpuSet.{is_in, size_of};
+ghost use Rattle.rcu_node.specs.Reports.{report_answer, awaited_after_report};
 
 use crate::answer::Answer;
 use crate::cpu_set::CpuSet;
@@ -60,10 +60,10 @@ pub trait Awaited: Drop {
     /// case: the report is compared with the tag alone.
     fn report(&mut self, cpu: u32, number: u64) -> Answer
         requires { cpu < length (awaited self.old) }
-        ensures answer { result ≡ answer_to (tag self.old) (awaited self.old) cpu number }
+        ensures answer { result ≡ report_answer (tag self.old) (awaited self.old) cpu number }
         ensures tag { tag self.new ≡ tag self.old }
         ensures start_set { start_set self.new ≡ start_set self.old }
-        ensures awaited { awaited self.new ≡ without (tag self.old) (awaited self.old) cpu number };
+        ensures awaited { awaited self.new ≡ awaited_after_report (tag self.old) (awaited self.old) cpu number };
 
     /// There is a processor.
     ghost some: { (set : Self) → 0 < length (awaited set) };

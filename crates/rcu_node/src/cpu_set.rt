@@ -1,6 +1,6 @@
 //! Sets of processors.
 ghost use Rattle.std.specs.Prelude.{◌≡◌, ◌<◌, ◌≤◌, ◌+◌, ◌-◌, ◌*◌, ◌&&◌, ◌⊎◌, ℕ, if◌then◌else◌, nat_lt, true, false, not, length, slice_index, slice_set, bit_or, replicate, IfOk, IfErr};
-ghost use Rattle.rcu_node.specs.CpuSets.{is_in, size_of, union};
+ghost use Rattle.rcu_node.specs.CpuSet.{is_in, size_of, union};
 ghost use Rattle.rcu_node.specs.Words.{flags_in, has_bit};
 
 use rcu_seq::fault::Fault;
@@ -29,7 +29,7 @@ pub struct CpuSet {
 
 impl Model for CpuSet {
     ghost use Rattle.std.specs.Prelude.{◌≡◌, ◌+◌, ◌*◌, ◌<◌, ◌≤◌, List, Bool, length};
-    ghost use Rattle.rcu_node.specs.CpuSets.{size_of};
+    ghost use Rattle.rcu_node.specs.CpuSet.{size_of};
     ghost use Rattle.rcu_node.specs.Words.{flags_in, HasNoneFrom};
 
     ghost Value = { List Bool };

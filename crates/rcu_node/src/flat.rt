@@ -1,6 +1,6 @@
 //! The awaited processors in a flat set.
 ghost use Rattle.std.specs.Prelude.{◌≡◌, ◌<◌, ◌≤◌, ◌⊎◌, true, false, ℕ, length, replicate, IfOk, IfErr};
-ghost use Rattle.rcu_node.specs.CpuSets.{is_in};
+ghost use Rattle.rcu_node.specs.CpuSet.{is_in};
 
 use crate::answer::Answer;
 use crate::awaited::Awaited;

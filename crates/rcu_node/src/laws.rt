@@ -2,9 +2,9 @@
 ghost use Rattle.std.specs.Bool.{Decides};
 ghost use Rattle.std.specs.Prelude.{◌≡◌, ◌==◌, ◌&&◌, ◌||◌, ◌++◌, ℕ, Bool, List, true, false, length, nat_lt, not, slice_set};
 ghost use Rattle.rcu_seq.specs.Numbers.{Number};
-ghost use Rattle.rcu_node.specs.CpuSets.{intersection, is_in, listed, unheard};
+ghost use Rattle.rcu_node.specs.CpuSet.{intersection, is_in, listed, unheard};
 ghost use Rattle.rcu_node.specs.Merging.{IsAtLeast, Standing, are_alike, merged};
-ghost use Rattle.rcu_node.specs.Reports.{after_reports, was_reported};
+ghost use Rattle.rcu_node.specs.Reports.{awaited_after_reports, was_reported};
 
 /// A listed set has a flag for each processor below the number that it was listed for.
 pub fn listed_has_its_length()
@@ -25,14 +25,14 @@ pub fn removal_leaves_the_others()
 /// and no report of it had the grace period's number.
 pub fn reports_leave_the_unreported()
     ensures { (number : Number) (set : List Bool) (reports : List (ℕ × Number)) (cpu : ℕ)
-        → is_in (after_reports number set reports) cpu ≡ (is_in set cpu && not (was_reported number cpu reports)) }
+        → is_in (awaited_after_reports number set reports) cpu ≡ (is_in set cpu && not (was_reported number cpu reports)) }
 {}
 
 /// So the awaited set is the start set less the processors that were heard, and has a flag for each processor too. A
 /// departed processor is heard as one that reports the grace period's number.
 pub fn reports_leave_the_unheard()
     ensures { (number : Number) (set : List Bool) (reports : List (ℕ × Number))
-        → after_reports number set reports ≡ unheard set (λ cpu. was_reported number cpu reports) }
+        → awaited_after_reports number set reports ≡ unheard set (λ cpu. was_reported number cpu reports) }
 {}
 
 /// Equal numbers, start sets and sets of heard processors give equal awaited sets, in whatever order the reports came,
@@ -40,7 +40,7 @@ pub fn reports_leave_the_unheard()
 pub fn equally_heard_await_the_same()
     ensures { (number : Number) (set : List Bool) (reports others : List (ℕ × Number))
         → ((cpu : ℕ) → was_reported number cpu reports ≡ was_reported number cpu others)
-        → after_reports number set reports ≡ after_reports number set others }
+        → awaited_after_reports number set reports ≡ awaited_after_reports number set others }
 {}
 
 /// Two are alike exactly where number of processors, tag and start set are equal.
@@ -91,5 +91,5 @@ pub fn merging_hears_what_the_other_heard()
     ensures heard { (set : List Bool) (heard other : ℕ → Bool)
         → intersection (unheard set heard) (unheard set other) ≡ unheard set (λ cpu. heard cpu || other cpu) }
     ensures reports { (number : Number) (set : List Bool) (reports others : List (ℕ × Number))
-        → intersection (after_reports number set reports) (after_reports number set others) ≡ after_reports number set (others ++ reports) }
+        → intersection (awaited_after_reports number set reports) (awaited_after_reports number set others) ≡ awaited_after_reports number set (others ++ reports) }
 {}

@@ -1,8 +1,8 @@
 //! The awaited processors of a tree, in masks.
 ghost use Rattle.std.specs.Prelude.{◌≡◌, ◌<◌, ◌≤◌, ◌*◌, ◌/◌, ◌^◌, ◌==◌, ◌⊎◌, if◌then◌else◌, None, Some, true, false, length, slice_index, slice_set, bit_and, replicate, IfOk, IfErr};
 ghost use Rattle.std.specs.Int.{bit_not, w64};
-ghost use Rattle.rcu_geometry.specs.Shapes.{shape, refusal, ceil};
-ghost use Rattle.rcu_node.specs.CpuSets.{is_in, size_of};
+ghost use Rattle.rcu_geometry.specs.Geometry.{shape, refusal, ceil};
+ghost use Rattle.rcu_node.specs.CpuSet.{is_in, size_of};
 ghost use Rattle.rcu_node.specs.Masks.{AreMasks, IsRoot};
 
 use crate::cpu_set::CpuSet;
@@ -30,8 +30,8 @@ pub struct Leaves<const LEAF: u32, const FAN: u32> {
 
 impl<const LEAF: u32, const FAN: u32> Model for Leaves<LEAF, FAN> {
     ghost use Rattle.std.specs.Prelude.{◌≡◌, List, Bool};
-    ghost use Rattle.rcu_geometry.specs.Shapes.{IsLegal};
-    ghost use Rattle.rcu_node.specs.CpuSets.{size_of};
+    ghost use Rattle.rcu_geometry.specs.Geometry.{IsLegalShape};
+    ghost use Rattle.rcu_node.specs.CpuSet.{size_of};
     ghost use Rattle.rcu_node.specs.Masks.{members, AreMasks, IsRoot};
 
     ghost Value = { List Bool };
@@ -39,7 +39,7 @@ impl<const LEAF: u32, const FAN: u32> Model for Leaves<LEAF, FAN> {
     ghost view = { λ l. members l.geometry l.masks.items };
 
     ghost invariant = { λ l. record {
-      legal : IsLegal l.geometry;
+      legal : IsLegalShape l.geometry;
       leaf : l.geometry.leaf ≡ LEAF;
       masks : AreMasks LEAF l.masks.items (members l.geometry l.masks.items);
       root : IsRoot l.masks.items l.root;

@@ -1,6 +1,6 @@
 //! Merging what two replicas know of one grace period.
 ghost use Rattle.std.specs.Prelude.{◌≡◌, ◌<◌, ◌&&◌, true, false, not, if◌then◌else◌, length, slice_set, IfErr, OnOk};
-ghost use Rattle.rcu_node.specs.CpuSets.{intersection, is_in};
+ghost use Rattle.rcu_node.specs.CpuSet.{intersection, is_in};
 ghost use Rattle.rcu_node.specs.Merging.{are_alike, merged, same_set, standing};
 
 use crate::awaited::Awaited;

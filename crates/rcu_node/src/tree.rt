@@ -1,7 +1,7 @@
 //! The awaited processors in a combining tree.
 ghost use Rattle.std.specs.Prelude.{◌≡◌, ◌<◌, ◌≤◌, ◌⊎◌, Some, None, true, false, ℕ, length, replicate, IfOk, IfErr};
-ghost use Rattle.rcu_geometry.specs.Shapes.{shape, refusal};
-ghost use Rattle.rcu_node.specs.CpuSets.{is_in};
+ghost use Rattle.rcu_geometry.specs.Geometry.{shape, refusal};
+ghost use Rattle.rcu_node.specs.CpuSet.{is_in};
 
 use crate::answer::Answer;
 use crate::awaited::Awaited;

@@ -4,8 +4,8 @@ use Rattle.std.proofs.lemmas.Bool.{cases_Bool, cases_lt, true≢false}
 use Rattle.std.proofs.lemmas.List.{get_or_past, get_or-replicate, length-replicate, ext_get_or}
 use Rattle.std.proofs.lemmas.List.Sums.{sum_by-cons}
 use Rattle.rcu_seq.specs.declared.fault.Fault.TheVariants.{Waiting}
-use Rattle.rcu_node.specs.CpuSets.{intersection, is_in, size_of}
-use Rattle.rcu_report.specs.Replicas.{Replicated, End, refusal}
+use Rattle.rcu_node.specs.CpuSet.{intersection, is_in, size_of}
+use Rattle.rcu_report.specs.Replica.{Replicated, End, refusal}
 use Rattle.rcu_report.proofs.Sets.{is_in-listed, length-listed}
 
 -- nobody is in the empty set

@@ -6,14 +6,14 @@ use Rattle.std.proofs.lemmas.Bool.Decides.{nat_tests}
 use Rattle.std.proofs.lemmas.List.{length-set, ext_get_or}
 use Rattle.std.proofs.lemmas.List.Sums.{sum_by-cons}
 use Rattle.rcu_seq.specs.Numbers.{Number, same_number}
-use Rattle.rcu_node.specs.CpuSets.{is_in, size_of}
-use Rattle.rcu_node.specs.Reports.{without, after_reports, was_reported}
-use Rattle.rcu_report.specs.Batches.{Gathered, difference, left_by, AreOf}
+use Rattle.rcu_node.specs.CpuSet.{is_in, size_of}
+use Rattle.rcu_node.specs.Reports.{awaited_after_report, awaited_after_reports, was_reported}
+use Rattle.rcu_report.specs.Batch.{Gathered, difference, awaited_after_batch, AreOf}
 use Rattle.rcu_report.proofs.Sets.{length-listed, is_in-listed, listed_first, none_listed}
 
 -- what a batch leaves, by its flags
 is_in-left_by : (batch : Gathered) (number : Number) (awaited : List Bool) (cpu : ℕ) → cpu < length awaited
-    → is_in (left_by batch number awaited) cpu ≡ (is_in awaited cpu && not (is_in batch.set cpu && same_number batch.tag number))
+    → is_in (awaited_after_batch number awaited batch) cpu ≡ (is_in awaited cpu && not (is_in batch.set cpu && same_number batch.tag number))
 is_in-left_by batch number awaited cpu l = elim (cases_Bool (same_number batch.tag number)) [
   | inl e ↦ rw e (is_in-listed (length awaited) (λ k. is_in awaited k && not (is_in batch.set k)) cpu l
       ∙ ap (λ b. is_in awaited cpu && not b) (sym (and-true (is_in batch.set cpu))))
@@ -21,7 +21,7 @@ is_in-left_by batch number awaited cpu l = elim (cases_Bool (same_number batch.t
 ]
 
 -- and it has a flag for each processor
-length-left_by : (batch : Gathered) (number : Number) (awaited : List Bool) → length (left_by batch number awaited) ≡ length awaited
+length-left_by : (batch : Gathered) (number : Number) (awaited : List Bool) → length (awaited_after_batch number awaited batch) ≡ length awaited
 length-left_by batch number awaited = elim (cases_Bool (same_number batch.tag number)) [
   | inl e ↦ rw e (length-listed (length awaited) (λ k. is_in awaited k && not (is_in batch.set k)))
   | inr e ↦ rw e refl
@@ -30,13 +30,13 @@ length-left_by batch number awaited = elim (cases_Bool (same_number batch.tag nu
 -- the list with those flags is what the batch leaves
 pub left_by-is : (batch : Gathered) (number : Number) (awaited later : List Bool) → length later ≡ length awaited
     → ((cpu : ℕ) → cpu < length awaited → is_in later cpu ≡ (is_in awaited cpu && not (is_in batch.set cpu && same_number batch.tag number)))
-    → later ≡ left_by batch number awaited
+    → later ≡ awaited_after_batch number awaited batch
 left_by-is batch number awaited later e h =
-    ext_get_or false later (left_by batch number awaited) (e ∙ sym (length-left_by batch number awaited))
+    ext_get_or false later (awaited_after_batch number awaited batch) (e ∙ sym (length-left_by batch number awaited))
     (λ cpu l. let m : cpu < length awaited = omega (arith, l, e) in h cpu m ∙ sym (is_in-left_by batch number awaited cpu m))
 
 -- a report keeps a flag for each processor
-pub length-without : (number : Number) (awaited : List Bool) (cpu : ℕ) (tag : Number) → length (without number awaited cpu tag) ≡ length awaited
+pub length-without : (number : Number) (awaited : List Bool) (cpu : ℕ) (tag : Number) → length (awaited_after_report number awaited cpu tag) ≡ length awaited
 length-without number awaited cpu tag = elim (cases_Bool (same_number tag number)) [
   | inl e ↦ rw e (length-set awaited cpu false)
   | inr e ↦ rw e refl
@@ -44,10 +44,10 @@ length-without number awaited cpu tag = elim (cases_Bool (same_number tag number
 
 -- reports too
 length-after_reports : (number : Number) (awaited : List Bool) (reports : List (ℕ × Number))
-    → length (after_reports number awaited reports) ≡ length awaited
+    → length (awaited_after_reports number awaited reports) ≡ length awaited
 length-after_reports number awaited [] = refl
 length-after_reports number awaited (report ∷ earlier) =
-    length-without number (after_reports number awaited earlier) report.0 report.1 ∙ length-after_reports number awaited earlier
+    length-without number (awaited_after_reports number awaited earlier) report.0 report.1 ∙ length-after_reports number awaited earlier
 
 -- a test of a report and one of the others, both under a third
 either_where : (a b c : Bool) → ((a && c) || (b && c)) ≡ ((a || b) && c)
@@ -71,13 +71,13 @@ was_reported-is tag number cpu (report ∷ earlier) all =
 -- after any reports just the unreported are awaited
 abbrev pub LeaveUnreported : Type 0
 LeaveUnreported = (number : Number) (set : List Bool) (reports : List (ℕ × Number)) (cpu : ℕ)
-    → is_in (after_reports number set reports) cpu ≡ (is_in set cpu && not (was_reported number cpu reports))
+    → is_in (awaited_after_reports number set reports) cpu ≡ (is_in set cpu && not (was_reported number cpu reports))
 
 -- so a batch leaves what its reports leave
 pub batch_leaves-reports : LeaveUnreported → (batch : Gathered) (number : Number) (awaited : List Bool) (reports : List (ℕ × Number)) → AreOf batch reports
-    → left_by batch number awaited ≡ after_reports number awaited reports
+    → awaited_after_batch number awaited batch ≡ awaited_after_reports number awaited reports
 batch_leaves-reports unreported batch number awaited reports of =
-    sym (left_by-is batch number awaited (after_reports number awaited reports) (length-after_reports number awaited reports) (λ cpu l.
+    sym (left_by-is batch number awaited (awaited_after_reports number awaited reports) (length-after_reports number awaited reports) (λ cpu l.
     unreported number awaited reports cpu ∙ ap (λ b. is_in awaited cpu && not b)
     (was_reported-is batch.tag number cpu reports of.tags ∙ ap (λ b. b && same_number batch.tag number) (sym (of.cpus cpu)))))
 
@@ -115,7 +115,7 @@ IsClearedBelow counter batch number awaited now =
 
 -- once those on all processors are made, it is what the batch leaves
 pub left_by_all : (counter : ℕ) (batch : Gathered) (number : Number) (awaited now : List Bool) → length now ≡ length awaited → length awaited ≤ counter
-    → IsClearedBelow counter batch number awaited now → now ≡ left_by batch number awaited
+    → IsClearedBelow counter batch number awaited now → now ≡ awaited_after_batch number awaited batch
 left_by_all counter batch number awaited now e all h =
     left_by-is batch number awaited now e (λ cpu l.
     let below : nat_lt cpu counter ≡ true = grind (arith, nat_tests, l, all) in

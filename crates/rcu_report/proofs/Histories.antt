@@ -5,10 +5,10 @@ use Rattle.std.proofs.lemmas.Bool.{cases_Bool}
 use Rattle.std.proofs.lemmas.Bool.Decides.{nat_tests}
 use Rattle.std.proofs.lemmas.List.{length-set, length-replicate, ext_get_or}
 use Rattle.rcu_seq.specs.Numbers.{Number, number_at, same_number}
-use Rattle.rcu_node.specs.CpuSets.{is_in}
-use Rattle.rcu_node.specs.Reports.{without}
-use Rattle.rcu_report.specs.Replicas.{Replicated, Call, Begin, Report, Depart, End, Merge, AreKept, CanBeMade, cpus_of, next, refusal}
-use Rattle.rcu_report.specs.History.{History, WasAccepted, Says, AreAlike, after, awaits, hears, is_heard, starts, tag}
+use Rattle.rcu_node.specs.CpuSet.{is_in}
+use Rattle.rcu_node.specs.Reports.{awaited_after_report}
+use Rattle.rcu_report.specs.Replica.{Replicated, Call, Begin, Report, Depart, End, Merge, IsSound, CanBeMade, cpus_of, after_call, refusal}
+use Rattle.rcu_report.specs.History.{History, AreAccepted, Represents, AreAlike, after_calls, awaits, hears, is_heard, starts, tag}
 use Rattle.rcu_report.proofs.Awaiting.{in_none, is_in-intersection, length-intersection}
 use Rattle.rcu_report.proofs.Batches.{length-without}
 use Rattle.rcu_report.proofs.Replicas.{by_running, is_in-remove, is_in-without, kept_at_first, kept_next, merging_agrees}
@@ -40,22 +40,22 @@ nor_by_the_other true false false = refl
 -- the replica keeps what always holds, is as a history says, and has so many processors
 record IsTold (cpus : ℕ) (r : Replicated) (h : History) : Type 0 where
   sized : cpus_of r ≡ cpus
-  kept : AreKept r
-  says : Says r h
+  kept : IsSound r
+  says : Represents r h
 
 -- how many processors there are stays
-cpus_of-next : (r : Replicated) (call : Call) → CanBeMade r call → cpus_of (next r call) ≡ cpus_of r
+cpus_of-next : (r : Replicated) (call : Call) → CanBeMade r call → cpus_of (after_call r call) ≡ cpus_of r
 cpus_of-next r (Begin set) made = made
 cpus_of-next r (Report cpu number) made =
-    by_running (λ (left : Replicated). cpus_of left ≡ cpus_of r) r (record r { awaited = without r.tag r.awaited cpu number })
+    by_running (λ (left : Replicated). cpus_of left ≡ cpus_of r) r (record r { awaited = awaited_after_report r.tag r.awaited cpu number })
     (λ runs. length-without r.tag r.awaited cpu number) (λ rests. refl)
 cpus_of-next r (Depart cpu) made = length-set r.awaited cpu false
 cpus_of-next r End made = refl
 cpus_of-next r (Merge other) made = length-intersection r.awaited other.awaited
 
 -- a report of a running grace period
-says_report : (r : Replicated) (h : History) (other : ℕ) (number : Number) → Says r h
-    → Says (record r { awaited = without r.tag r.awaited other number }) (Report other number ∷ h)
+says_report : (r : Replicated) (h : History) (other : ℕ) (number : Number) → Represents r h
+    → Represents (record r { awaited = awaited_after_report r.tag r.awaited other number }) (Report other number ∷ h)
 says_report r h other number says = record {
   ends = says.ends;
   running = says.running;
@@ -69,8 +69,8 @@ says_report r h other number says = record {
 }
 
 -- a report while none runs
-says_idle_report : (r : Replicated) (h : History) (other : ℕ) (number : Number) → ((cpu : ℕ) → is_in r.awaited cpu ≡ false) → Says r h
-    → Says r (Report other number ∷ h)
+says_idle_report : (r : Replicated) (h : History) (other : ℕ) (number : Number) → ((cpu : ℕ) → is_in r.awaited cpu ≡ false) → Represents r h
+    → Represents r (Report other number ∷ h)
 says_idle_report r h other number none says = record {
   ends = says.ends;
   running = says.running;
@@ -81,7 +81,7 @@ says_idle_report r h other number none says = record {
 }
 
 -- after an accepted call the replica is as the history with it says
-says_next : (r : Replicated) (h : History) (call : Call) → refusal r call ≡ None → AreKept r → Says r h → Says (next r call) (call ∷ h)
+says_next : (r : Replicated) (h : History) (call : Call) → refusal r call ≡ None → IsSound r → Represents r h → Represents (after_call r call) (call ∷ h)
 says_next r h (Begin set) accepted kept says = record {
   ends = says.ends;
   running = refl;
@@ -90,7 +90,7 @@ says_next r h (Begin set) accepted kept says = record {
   awaited = λ cpu. sym (and-true (is_in set cpu));
 }
 says_next r h (Report other number) accepted kept says =
-    by_running (λ (left : Replicated). Says left (Report other number ∷ h)) r (record r { awaited = without r.tag r.awaited other number })
+    by_running (λ (left : Replicated). Represents left (Report other number ∷ h)) r (record r { awaited = awaited_after_report r.tag r.awaited other number })
     (λ runs. says_report r h other number says) (λ rests. says_idle_report r h other number (kept.idle rests) says)
 says_next r h (Depart other) accepted kept says = record {
   ends = says.ends;
@@ -122,7 +122,7 @@ says_next r h (Merge other) accepted kept says = record {
 }
 
 -- after any accepted calls
-told : (cpus : ℕ) (last : Number) (h : History) → WasAccepted cpus last h → IsTold cpus (after cpus last h) h
+told : (cpus : ℕ) (last : Number) (h : History) → AreAccepted cpus last h → IsTold cpus (after_calls cpus last h) h
 told cpus last [] accepted = record {
   sized = length-replicate cpus false;
   kept = kept_at_first cpus last;
@@ -130,7 +130,7 @@ told cpus last [] accepted = record {
 }
 told cpus last (call ∷ h) accepted =
     let before = told cpus last h accepted.2 in
-    let r = after cpus last h in
+    let r = after_calls cpus last h in
     record {
       sized = cpus_of-next r call accepted.0 ∙ before.sized;
       kept = kept_next r call accepted.0 accepted.1 before.kept;
@@ -138,11 +138,11 @@ told cpus last (call ∷ h) accepted =
     }
 
 -- the replica after accepted calls is as their history says
-pub says_always : (cpus : ℕ) (last : Number) (h : History) → WasAccepted cpus last h → Says (after cpus last h) h
+pub says_always : (cpus : ℕ) (last : Number) (h : History) → AreAccepted cpus last h → Represents (after_calls cpus last h) h
 says_always cpus last h accepted = (told cpus last h accepted).says
 
 -- and keeps what always holds
-pub kept_always : (cpus : ℕ) (last : Number) (h : History) → WasAccepted cpus last h → AreKept (after cpus last h)
+pub kept_always : (cpus : ℕ) (last : Number) (h : History) → AreAccepted cpus last h → IsSound (after_calls cpus last h)
 kept_always cpus last h accepted = (told cpus last h accepted).kept
 
 -- started with, and awaited no more, is heard
@@ -152,8 +152,8 @@ heard_since true false = refl
 heard_since false earlier = refl
 
 -- a replica that is taken in tells whom it heard
-pub hears_the_heard : (cpus : ℕ) (last : Number) (h : History) (cpu : ℕ) (number : Number) → WasAccepted cpus last h
-    → hears cpu number (Merge (after cpus last h)) ≡ (same_number (tag h) number && (starts cpu h && is_heard cpu (tag h) h))
+pub hears_the_heard : (cpus : ℕ) (last : Number) (h : History) (cpu : ℕ) (number : Number) → AreAccepted cpus last h
+    → hears cpu number (Merge (after_calls cpus last h)) ≡ (same_number (tag h) number && (starts cpu h && is_heard cpu (tag h) h))
 hears_the_heard cpus last h cpu number accepted =
     let says = says_always cpus last h accepted in
     rw (says.tag, says.start_set cpu, says.awaited cpu)
@@ -167,10 +167,10 @@ awaits-alike x y alike cpu = elim (cases_Bool (starts cpu x)) [
 ]
 
 -- two that began alike and heard alike await the same processors
-pub alike_await_the_same : (cpus : ℕ) (last other : Number) (x y : History) → WasAccepted cpus last x → WasAccepted cpus other y → AreAlike x y
-    → (after cpus last x).awaited ≡ (after cpus other y).awaited
+pub alike_await_the_same : (cpus : ℕ) (last other : Number) (x y : History) → AreAccepted cpus last x → AreAccepted cpus other y → AreAlike x y
+    → (after_calls cpus last x).awaited ≡ (after_calls cpus other y).awaited
 alike_await_the_same cpus last other x y first second alike =
     let one = told cpus last x first in
     let two = told cpus other y second in
-    ext_get_or false (after cpus last x).awaited (after cpus other y).awaited (one.sized ∙ sym two.sized)
+    ext_get_or false (after_calls cpus last x).awaited (after_calls cpus other y).awaited (one.sized ∙ sym two.sized)
     (λ cpu l. one.says.awaited cpu ∙ awaits-alike x y alike cpu ∙ sym (two.says.awaited cpu))

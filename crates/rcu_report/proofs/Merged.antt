@@ -1,9 +1,9 @@
 -- Replicas that take in one another.
 use Rattle.std.proofs.Common.{◌≡◌, true, length, None, refl, sym, ap, ◌∙◌}
 use Rattle.std.specs.Bool.{Decides}
-use Rattle.rcu_node.specs.CpuSets.{intersection}
+use Rattle.rcu_node.specs.CpuSet.{intersection}
 use Rattle.rcu_node.specs.Merging.{Standing, are_alike, merged}
-use Rattle.rcu_report.specs.Replicas.{Replicated, Merge, next, refusal, standing_of}
+use Rattle.rcu_report.specs.Replica.{Replicated, Merge, after_call, refusal, standing_of}
 use Rattle.rcu_report.proofs.Replicas.{merging_alike}
 
 -- what is known of merging: alike are two that agree, it commutes, what is merged stays alike, and merging again
@@ -28,7 +28,7 @@ alike_back agree x y e = let same = (agree x y).0 e in (agree y x).1 (sym same.0
 pub accepted_back : AlikeAgree → (x y : Replicated) → refusal x (Merge y) ≡ None → refusal y (Merge x) ≡ None
 accepted_back agree x y e = let alike = alike_back agree (standing_of x) (standing_of y) (merging_alike x y e) in rw alike refl
 
-pub accepted_after : AlikeAgree → StaysAlike → (x y : Replicated) → refusal x (Merge y) ≡ None → refusal y (Merge (next x (Merge y))) ≡ None
+pub accepted_after : AlikeAgree → StaysAlike → (x y : Replicated) → refusal x (Merge y) ≡ None → refusal y (Merge (after_call x (Merge y))) ≡ None
 accepted_after agree stays x y e =
     let alike = stays (standing_of y) (standing_of x) (standing_of y) ∙ alike_back agree (standing_of x) (standing_of y) (merging_alike x y e) in
     rw alike refl

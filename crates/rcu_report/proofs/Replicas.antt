@@ -7,10 +7,10 @@ use Rattle.std.proofs.lemmas.Bool.Decides.{nat_tests}
 use Rattle.std.proofs.lemmas.List.{length-set, length-replicate}
 use Rattle.std.proofs.lemmas.Slice.Eq.{slice_eq-Decides}
 use Rattle.rcu_seq.specs.Numbers.{Number, same_number}
-use Rattle.rcu_node.specs.CpuSets.{intersection, is_in, size_of}
+use Rattle.rcu_node.specs.CpuSet.{intersection, is_in, size_of}
 use Rattle.rcu_node.specs.Merging.{Standing, are_alike, same_set}
-use Rattle.rcu_node.specs.Reports.{without}
-use Rattle.rcu_report.specs.Replicas.{Replicated, Call, Begin, Report, Depart, End, Merge, AreKept, CanBeMade, at_first, cpus_of, next, refusal, standing_of}
+use Rattle.rcu_node.specs.Reports.{awaited_after_report}
+use Rattle.rcu_report.specs.Replica.{Replicated, Call, Begin, Report, Depart, End, Merge, IsSound, CanBeMade, at_first, cpus_of, after_call, refusal, standing_of}
 use Rattle.rcu_report.proofs.Awaiting.{in_none, is_in-intersection, length-intersection, nobody_in}
 use Rattle.rcu_report.proofs.Batches.{length-without}
 
@@ -24,7 +24,7 @@ is_in-remove (x ∷ xs) (suc cpu) (suc k) = is_in-remove xs cpu k ∙ grind (ari
 
 -- and by a report
 pub is_in-without : (number : Number) (set : List Bool) (cpu : ℕ) (tag : Number) (k : ℕ)
-    → is_in (without number set cpu tag) k ≡ (is_in set k && not (cpu == k && same_number tag number))
+    → is_in (awaited_after_report number set cpu tag) k ≡ (is_in set k && not (cpu == k && same_number tag number))
 is_in-without number set cpu tag k = elim (cases_Bool (same_number tag number)) [
   | inl e ↦ rw e (is_in-remove set cpu k ∙ ap (λ b. is_in set k && not b) (sym (and-true (cpu == k))))
   | inr e ↦ rw e (sym (and-true (is_in set k)) ∙ ap (λ b. is_in set k && not b) (sym (and-false (cpu == k))))
@@ -81,7 +81,7 @@ end_awaits_nobody r e = elim (cases_Bool (size_of r.awaited == 0)) [
 ]
 
 -- what holds at first
-pub kept_at_first : (cpus : ℕ) (last : Number) → AreKept (at_first cpus last)
+pub kept_at_first : (cpus : ℕ) (last : Number) → IsSound (at_first cpus last)
 kept_at_first cpus last = record {
   started = refl;
   within = λ cpu there. there;
@@ -92,7 +92,7 @@ kept_at_first cpus last = record {
 
 -- what holds where just the awaited set is cut down
 kept_cut : (r : Replicated) (less : List Bool) → length less ≡ cpus_of r → ((cpu : ℕ) → is_in less cpu ≡ true → is_in r.awaited cpu ≡ true)
-    → AreKept r → AreKept (record r { awaited = less })
+    → IsSound r → IsSound (record r { awaited = less })
 kept_cut r less sized part kept = record {
   started = kept.started ∙ sym sized;
   within = λ cpu there. kept.within cpu (part cpu there);
@@ -115,7 +115,7 @@ by_running P r left runs rests = go P r left r.periods.running runs rests
     go P r left false runs rests = rests refl
 
 -- what an accepted call keeps
-pub kept_next : (r : Replicated) (call : Call) → CanBeMade r call → refusal r call ≡ None → AreKept r → AreKept (next r call)
+pub kept_next : (r : Replicated) (call : Call) → CanBeMade r call → refusal r call ≡ None → IsSound r → IsSound (after_call r call)
 kept_next r (Begin set) made accepted kept = record {
   started = refl;
   within = λ cpu there. there;
@@ -124,8 +124,8 @@ kept_next r (Begin set) made accepted kept = record {
   idle = λ rests. absurd (true≢false rests);
 }
 kept_next r (Report cpu number) made accepted kept =
-    by_running AreKept r (record r { awaited = without r.tag r.awaited cpu number })
-    (λ runs. kept_cut r (without r.tag r.awaited cpu number) (length-without r.tag r.awaited cpu number)
+    by_running IsSound r (record r { awaited = awaited_after_report r.tag r.awaited cpu number })
+    (λ runs. kept_cut r (awaited_after_report r.tag r.awaited cpu number) (length-without r.tag r.awaited cpu number)
     (λ k there. first_of (is_in r.awaited k) (not (cpu == k && same_number number r.tag)) (sym (is_in-without r.tag r.awaited cpu number k) ∙ there)) kept)
     (λ rests. kept)
 kept_next r (Depart cpu) made accepted kept =

@@ -2,7 +2,7 @@
 use Rattle.std.proofs.Common.{◌≡◌, ℕ, zero, suc, ◌<◌, Bool, false, List, [], ◌∷◌, length, refl, sym, ap, ◌∙◌, arith}
 use Rattle.std.proofs.lemmas.List.{ext_get_or}
 use Rattle.std.proofs.lemmas.List.FromFn.{length-map-range_with_len, get_or-map-range_with_len}
-use Rattle.rcu_node.specs.CpuSets.{listed, is_in, size_of}
+use Rattle.rcu_node.specs.CpuSet.{listed, is_in, size_of}
 
 -- a listed set has a flag for each processor
 pub length-listed : (n : ℕ) (test : ℕ → Bool) → length (listed n test) ≡ n

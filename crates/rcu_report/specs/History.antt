@@ -1,22 +1,22 @@
 -- What the accepted calls of a replica say. A history is the list of the accepted calls, the newest first.
 use Rattle.std.specs.Prelude.{ℕ, ◌≡◌, ◌+◌, ◌==◌, Bool, true, false, not, ◌&&◌, ◌||◌, List, [], ◌∷◌, None}
 use Rattle.rcu_seq.specs.Numbers.{Number, number_at, same_number}
-use Rattle.rcu_node.specs.CpuSets.{is_in}
-use Rattle.rcu_report.specs.Replicas.{Replicated, Call, Begin, Report, Depart, End, Merge, CanBeMade, at_first, refusal, next}
+use Rattle.rcu_node.specs.CpuSet.{is_in}
+use Rattle.rcu_report.specs.Replica.{Replicated, Call, Begin, Report, Depart, End, Merge, CanBeMade, at_first, refusal, after_call}
 
 abbrev pub History : Type 0
 History = List Call
 
 -- the replica after a history, of so many processors and this last number
-abbrev pub after : ℕ → Number → History → Replicated
-after cpus last [] = at_first cpus last
-after cpus last (call ∷ h) = next (after cpus last h) call
+abbrev pub after_calls : ℕ → Number → History → Replicated
+after_calls cpus last [] = at_first cpus last
+after_calls cpus last (call ∷ h) = after_call (after_calls cpus last h) call
 
 -- each call could be made, and was accepted, at its time
-abbrev pub WasAccepted : ℕ → Number → History → Type 0
-WasAccepted cpus last [] = Unit {0}
-WasAccepted cpus last (call ∷ h) =
-    CanBeMade (after cpus last h) call × (refusal (after cpus last h) call ≡ None) × WasAccepted cpus last h
+abbrev pub AreAccepted : ℕ → Number → History → Type 0
+AreAccepted cpus last [] = Unit {0}
+AreAccepted cpus last (call ∷ h) =
+    CanBeMade (after_calls cpus last h) call × (refusal (after_calls cpus last h) call ≡ None) × AreAccepted cpus last h
 
 -- a grace period begins
 abbrev pub begins : Call → Bool
@@ -66,7 +66,7 @@ abbrev pub awaits : ℕ → History → Bool
 awaits cpu h = starts cpu h && not (is_heard cpu (tag h) h)
 
 -- the replica is as a history says
-pub record Says (r : Replicated) (h : History) : Type 0 where
+pub record Represents (r : Replicated) (h : History) : Type 0 where
   pub ends : r.periods.ends ≡ ends h
   pub running : r.periods.running ≡ running h
   pub tag : r.tag ≡ tag h

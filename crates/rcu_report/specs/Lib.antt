@@ -1,3 +1,3 @@
-pub mod Batches
+pub mod Batch
 pub mod History
-pub mod Replicas
+pub mod Replica

@@ -1,9 +1,9 @@
 //! Reports of one tag, as a set.
 ghost use Rattle.std.specs.Prelude.{◌≡◌, ◌≢◌, ◌<◌, ◌≤◌, ◌+◌, ◌&&◌, ◌⊎◌, if◌then◌else◌, true, false, length, slice_set, replicate, IfErr, IfOk, OnOk};
 ghost use Rattle.rcu_seq.specs.Numbers.{same_number};
-ghost use Rattle.rcu_node.specs.CpuSets.{is_in, size_of, union};
-ghost use Rattle.rcu_node.specs.Reports.{without};
-ghost use Rattle.rcu_report.specs.Batches.{difference, left_by};
+ghost use Rattle.rcu_node.specs.CpuSet.{is_in, size_of, union};
+ghost use Rattle.rcu_node.specs.Reports.{awaited_after_report};
+ghost use Rattle.rcu_report.specs.Batch.{difference, awaited_after_batch};
 
 use crate::report::Report;
 use rcu_node::answer::Answer;
@@ -25,7 +25,7 @@ pub struct Batch {
 }
 
 impl Model for Batch {
-    ghost use Rattle.rcu_report.specs.Batches.{Gathered};
+    ghost use Rattle.rcu_report.specs.Batch.{Gathered};
 
     ghost Value = { Gathered };
 
@@ -114,7 +114,7 @@ impl Batch {
         ensures count { result ≡ size_of (difference (A.awaited to.old) (A.awaited to.new)) }
         ensures tag { A.tag to.new ≡ A.tag to.old }
         ensures start_set { A.start_set to.new ≡ A.start_set to.old }
-        ensures awaited { A.awaited to.new ≡ left_by self.now (A.tag to.old) (A.awaited to.old) }
+        ensures awaited { A.awaited to.new ≡ awaited_after_batch (A.tag to.old) (A.awaited to.old) self.now }
     {
         let mut cleared = 0;
         for cpu in 0..self.set.cpus() {
@@ -130,7 +130,7 @@ impl Batch {
         ensures count { result + size_of (A.awaited to.new) ≡ size_of (A.awaited to.old) }
         ensures tag { A.tag to.new ≡ A.tag to.old }
         ensures start_set { A.start_set to.new ≡ A.start_set to.old }
-        ensures awaited { A.awaited to.new ≡ (if is_in self.now.set cpu then without (A.tag to.old) (A.awaited to.old) cpu self.now.tag else A.awaited to.old) }
+        ensures awaited { A.awaited to.new ≡ (if is_in self.now.set cpu then awaited_after_report (A.tag to.old) (A.awaited to.old) cpu self.now.tag else A.awaited to.old) }
     {
         if !self.set.contains(cpu) {
             return 0;
@@ -145,7 +145,7 @@ fn clears<A: Awaited>(to: &mut A, cpu: u32, tag: u64) -> bool
     ensures cleared { result ≡ (same_number tag (A.tag to.old) && is_in (A.awaited to.old) cpu) }
     ensures tag { A.tag to.new ≡ A.tag to.old }
     ensures start_set { A.start_set to.new ≡ A.start_set to.old }
-    ensures awaited { A.awaited to.new ≡ without (A.tag to.old) (A.awaited to.old) cpu tag }
+    ensures awaited { A.awaited to.new ≡ awaited_after_report (A.tag to.old) (A.awaited to.old) cpu tag }
 {
     matches!(to.report(cpu, tag), Answer::Taken | Answer::Last)
 }

@@ -1,8 +1,9 @@
 //! An awaited set with a counter of grace periods.
 ghost use Rattle.std.specs.Prelude.{◌≡◌, ◌≤◌, Some, None, true, false, length, replicate, IfErr, IfOk, OnOk};
-ghost use Rattle.rcu_seq.specs.Numbers.{is_last, number_of};
-ghost use Rattle.rcu_report.specs.Replicas.{Begin, Depart, End, Merge, Report};
-ghost use Rattle.rcu_report.specs.Replicas.{AreKept, answer_of, at_first, cpus_of, next, refusal};
+ghost use Rattle.rcu_seq.specs.Numbers.{is_last};
+ghost use Rattle.rcu_seq.specs.Seq.{number_of};
+ghost use Rattle.rcu_report.specs.Replica.{Begin, Depart, End, Merge, Report};
+ghost use Rattle.rcu_report.specs.Replica.{IsSound, answer_of, at_first, cpus_of, after_call, refusal};
 
 use rcu_node::answer::Answer;
 use rcu_node::awaited::Awaited;
@@ -28,8 +29,8 @@ pub struct Replica<A: Awaited> {
 
 impl<A: Awaited> Model for Replica<A> {
     ghost use Rattle.std.specs.Prelude.{◌≡◌, true, false, ℕ, length, replicate};
-    ghost use Rattle.rcu_node.specs.CpuSets.{is_in};
-    ghost use Rattle.rcu_report.specs.Replicas.{Replicated, latest_of};
+    ghost use Rattle.rcu_node.specs.CpuSet.{is_in};
+    ghost use Rattle.rcu_report.specs.Replica.{Replicated, latest_of};
 
     ghost Value = { Replicated };
 
@@ -70,7 +71,7 @@ impl<A: Awaited> Replica<A> {
     pub fn begin(&mut self, set: &CpuSet) -> Result<u64, Fault>
         requires { length set.now ≡ cpus_of self.old }
         ensures number { IfOk result (λ number. number ≡ number_of self.new.periods) }
-        ensures ok { OnOk result (self.new ≡ next self.old (Begin set.now)) }
+        ensures ok { OnOk result (self.new ≡ after_call self.old (Begin set.now)) }
         ensures accepted { OnOk result (refusal self.old (Begin set.now) ≡ None) }
         ensures err { IfErr result (λ fault. refusal self.old (Begin set.now) ≡ Some fault) }
         ensures refused { IfErr result (λ _. self.new ≡ self.old) }
@@ -86,7 +87,7 @@ impl<A: Awaited> Replica<A> {
     /// Fault 1: there is no such processor.
     pub fn report(&mut self, cpu: u32, tag: u64) -> Result<Answer, Fault>
         ensures answer { IfOk result (λ answer. answer ≡ answer_of self.old cpu tag) }
-        ensures ok { OnOk result (self.new ≡ next self.old (Report cpu tag)) }
+        ensures ok { OnOk result (self.new ≡ after_call self.old (Report cpu tag)) }
         ensures accepted { OnOk result (refusal self.old (Report cpu tag) ≡ None) }
         ensures err { IfErr result (λ fault. refusal self.old (Report cpu tag) ≡ Some fault) }
         ensures refused { IfErr result (λ _. self.new ≡ self.old) }
@@ -104,7 +105,7 @@ impl<A: Awaited> Replica<A> {
     ///
     /// Faults: 1; 12 for processor 0.
     pub fn depart(&mut self, cpu: u32) -> Result<(), Fault>
-        ensures ok { OnOk result (self.new ≡ next self.old (Depart cpu)) }
+        ensures ok { OnOk result (self.new ≡ after_call self.old (Depart cpu)) }
         ensures accepted { OnOk result (refusal self.old (Depart cpu) ≡ None) }
         ensures err { IfErr result (λ fault. refusal self.old (Depart cpu) ≡ Some fault) }
         ensures refused { IfErr result (λ _. self.new ≡ self.old) }
@@ -126,7 +127,7 @@ impl<A: Awaited> Replica<A> {
     #[tactic(auto, using(crate::proofs::Awaiting::refused_while_awaited))]
     pub fn end(&mut self) -> Result<u64, Fault>
         ensures number { IfOk result (λ number. number ≡ number_of self.new.periods) }
-        ensures ok { OnOk result (self.new ≡ next self.old End) }
+        ensures ok { OnOk result (self.new ≡ after_call self.old End) }
         ensures accepted { OnOk result (refusal self.old End ≡ None) }
         ensures err { IfErr result (λ fault. refusal self.old End ≡ Some fault) }
         ensures refused { IfErr result (λ _. self.new ≡ self.old) }
@@ -143,7 +144,7 @@ impl<A: Awaited> Replica<A> {
     ///
     /// Fault 20: number of processors, tag or start set differ.
     pub fn merge_from<B: Awaited>(&mut self, other: &Replica<B>) -> Result<(), Fault>
-        ensures ok { OnOk result (self.new ≡ next self.old (Merge other.now)) }
+        ensures ok { OnOk result (self.new ≡ after_call self.old (Merge other.now)) }
         ensures accepted { OnOk result (refusal self.old (Merge other.now) ≡ None) }
         ensures err { IfErr result (λ fault. refusal self.old (Merge other.now) ≡ Some fault) }
         ensures refused { IfErr result (λ _. self.new ≡ self.old) }
@@ -156,7 +157,7 @@ impl<A: Awaited> Replica<A> {
         ensures tag { A.tag result.now ≡ self.now.tag }
         ensures start_set { A.start_set result.now ≡ self.now.start_set }
         ensures awaited { A.awaited result.now ≡ self.now.awaited }
-        ensures kept { AreKept self.now }
+        ensures kept { IsSound self.now }
     {
         &self.inner
     }
@@ -165,7 +166,7 @@ impl<A: Awaited> Replica<A> {
     pub fn value(&self) -> u64
         ensures value { result ≡ number_of self.now.periods }
         ensures within { result ≤ self.now.periods.last }
-        ensures kept { AreKept self.now }
+        ensures kept { IsSound self.now }
     {
         self.seq.value()
     }
@@ -173,7 +174,7 @@ impl<A: Awaited> Replica<A> {
     /// Whether a grace period runs.
     pub fn is_running(&self) -> bool
         ensures running { result ≡ self.now.periods.running }
-        ensures kept { AreKept self.now }
+        ensures kept { IsSound self.now }
     {
         self.seq.is_running()
     }

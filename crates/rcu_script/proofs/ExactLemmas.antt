@@ -5,12 +5,12 @@ use Rattle.std.specs.Fmt.{decimal, digits}
 use Rattle.std.specs.List.{list_any}
 use Rattle.std.specs.Str.{bytes_eq}
 use Rattle.std.proofs.lemmas.List.Folds.{list_any-append}
-use Rattle.rcu_seq.specs.FaultNumber.{number_of}
+use Rattle.rcu_seq.specs.Fault.{fault_number}
 use Rattle.rcu_seq.specs.declared.fault.Fault.TheVariants as fault
 use Rattle.rcu_node.specs.declared.answer.Answer.TheVariants as answer
 use Rattle.rcu_barrier.specs.declared.visit.Visit.TheVariants as visit
 use Rattle.rcu_core.specs.History.{History}
-use Rattle.rcu_core.specs.Replies.{Size, after}
+use Rattle.rcu_core.specs.Replies.{Size, with_event}
 use Rattle.rcu_core.specs.declared.event.Event.{Event}
 use Rattle.rcu_core.specs.declared.reply.Reply.{Reply}
 use Rattle.rcu_core.specs.declared.reply.Reply.TheVariants as reply
@@ -62,7 +62,7 @@ closes_reply (reply.Visited visit.Empty) = (codes "empty", refl)
 closes_reply (reply.Visited visit.Already) = (codes "already", refl)
 closes_reply reply.BarDone = (codes "barrier done", refl)
 closes_reply (reply.BarWaits n) = closes_numbered (codes "barrier waits ") n
-closes_reply (reply.Fault f) = closes_numbered (codes "fault ") (number_of f)
+closes_reply (reply.Fault f) = closes_numbered (codes "fault ") (fault_number f)
 
 closed_line : (size : Size) (h : History) (line : Line Event) (text : List ℕ) (next : History) → AnswersLine size h line text next → (cut_of text).rest ≡ []
 unfolding cut_of
@@ -86,7 +86,7 @@ one_line : (size : Size) (h : History) (line : Line Event) (text : List ℕ) (ne
 one_line size h Blank text next a = inl a
 one_line size h Malformed text next a = inl a
 one_line size h (Ask event) text next a = elim a.1 [
-  | inl e ↦ inl (a.2 ∙ ap text_of e, a.3 ∙ ap (after h event) e)
+  | inl e ↦ inl (a.2 ∙ ap text_of e, a.3 ∙ ap (with_event h event) e)
   | inr e ↦ inr (a.2 ∙ ap text_of e.2)
 ]
 

@@ -6,9 +6,9 @@ use Rattle.rcu_seq.specs.Numbers.{Number}
 use Rattle.rcu_seq.specs.declared.fault.Fault.{Fault}
 use Rattle.rcu_seq.specs.declared.fault.Fault.TheVariants.{BadCpu}
 use Rattle.rcu_node.specs.Merging.{same_set}
-use Rattle.rcu_report.specs.History.{History, WasAccepted, after}
-use Rattle.rcu_report.specs.Replicas.{CanBeMade, Call, Replicated, cpus_of, next, refusal}
-use Rattle.rcu_report.specs.Replicas as call
+use Rattle.rcu_report.specs.History.{History, AreAccepted, after_calls}
+use Rattle.rcu_report.specs.Replica.{CanBeMade, Call, Replicated, cpus_of, after_call, refusal}
+use Rattle.rcu_report.specs.Replica as call
 use Rattle.rcu_core.specs.Replies.{Size}
 use Rattle.rcu_text.specs.declared.line_shape.Line.{Line}
 use Rattle.rcu_text.specs.declared.line_shape.Line.TheVariants.{Blank, Malformed, Ask}
@@ -25,14 +25,14 @@ use Rattle.rcu_script.proofs.PairSets.{length-listed, same_when_all_agree}
 
 -- a replica is what its calls make it, and each of them was accepted
 pub record IsMade (cpus : ℕ) (last : Number) (r : Replicated) (h : History) : Type 0 where
-  pub is : r ≡ after cpus last h
-  pub accepted : WasAccepted cpus last h
+  pub is : r ≡ after_calls cpus last h
+  pub accepted : AreAccepted cpus last h
 
 -- with one call more, where that is accepted
-one_more : (cpus : ℕ) (last : Number) (mine left : Replicated) (made : Call) (refused : Option Fault) (h : History) → IsMade cpus last mine h → left ≡ next mine made → CanBeMade mine made
+one_more : (cpus : ℕ) (last : Number) (mine left : Replicated) (made : Call) (refused : Option Fault) (h : History) → IsMade cpus last mine h → left ≡ after_call mine made → CanBeMade mine made
     → (refused ≡ None → refusal mine made ≡ None) → IsMade cpus last (replica_after refused mine left) (calls_with refused (Some made) h)
 one_more cpus last mine left made None h m e can allowed = record {
-  is = e ∙ ap (λ (r : Replicated). next r made) m.is;
+  is = e ∙ ap (λ (r : Replicated). after_call r made) m.is;
   accepted = (subst (λ (r : Replicated). CanBeMade r made) m.is can, subst (λ (r : Replicated). refusal r made ≡ None) m.is (allowed refl), m.accepted);
 }
 one_more cpus last mine left made (Some fault) h m e can allowed = m

@@ -5,9 +5,9 @@ use Rattle.std.specs.List.{range_with_len}
 use Rattle.std.proofs.lemmas.Bool.Decides.{nat_tests}
 use Rattle.std.proofs.lemmas.List.{length-set}
 use Rattle.rcu_seq.specs.Numbers.{same_number}
-use Rattle.rcu_node.specs.CpuSets.{size_of}
+use Rattle.rcu_node.specs.CpuSet.{size_of}
 use Rattle.rcu_node.specs.Merging.{same_set}
-use Rattle.rcu_report.specs.Replicas.{Replicated, cpus_of}
+use Rattle.rcu_report.specs.Replica.{Replicated, cpus_of}
 use Rattle.rcu_text.specs.Outputs.{Out, Sends, Stops}
 use Rattle.rcu_text.specs.Texts.{spaced}
 use Rattle.rcu_text.specs.Underway.{Replied}

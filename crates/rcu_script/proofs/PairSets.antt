@@ -13,7 +13,7 @@ use Rattle.std.proofs.lemmas.List.Folds.{list_any-append}
 use Rattle.std.proofs.lemmas.List.FromFn.{length-map-range_with_len, get_or-map-range_with_len, fill_by_all}
 use Rattle.std.proofs.lemmas.List.Sums.{length-filter, sum_by-cons}
 use Rattle.std.proofs.lemmas.Slice.Eq.{slice_eq-Decides}
-use Rattle.rcu_node.specs.CpuSets.{is_in, listed, size_of}
+use Rattle.rcu_node.specs.CpuSet.{is_in, listed, size_of}
 use Rattle.rcu_node.specs.Merging.{same_set}
 use Rattle.rcu_script.specs.PairState.{set_of}
 use Rattle.rcu_script.specs.PairTexts.{members_of}

@@ -2,8 +2,8 @@
 use Rattle.std.specs.Prelude.{ℕ, List, [], ◌∷◌, Option, Some, None}
 use Rattle.rcu_seq.specs.declared.fault.Fault.{Fault}
 use Rattle.rcu_report.specs.History.{History}
-use Rattle.rcu_report.specs.Replicas.{Replicated, Call, cpus_of}
-use Rattle.rcu_report.specs.Replicas as call
+use Rattle.rcu_report.specs.Replica.{Replicated, Call, cpus_of}
+use Rattle.rcu_report.specs.Replica as call
 use Rattle.rcu_core.specs.Replies.{Size}
 use Rattle.rcu_text.specs.declared.line_shape.Line.{Line}
 use Rattle.rcu_text.specs.declared.line_shape.Line.TheVariants.{Ask}

@@ -3,7 +3,7 @@ use Rattle.std.specs.Prelude.{ℕ, ◌&&◌, not, Option, Some, None, Result, if
 use Rattle.rcu_seq.specs.Numbers.{Number, is_last}
 use Rattle.rcu_seq.specs.declared.fault.Fault.{Fault}
 use Rattle.rcu_seq.specs.declared.fault.Fault.TheVariants.{BadFanout, TooManyCpus, BadLast}
-use Rattle.rcu_geometry.specs.Shapes.{shape, is_fanout, is_held}
+use Rattle.rcu_geometry.specs.Geometry.{shape, is_fanout, is_held}
 use Rattle.rcu_script.specs.Opening.{is_offered, size_at}
 use Rattle.rcu_script.specs.PairTexts.{IsPairText}
 use Rattle.rcu_text.specs.Runs.{Ends}

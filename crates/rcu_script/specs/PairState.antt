@@ -1,12 +1,12 @@
 -- Two replicas of one grace-period engine: what their lines ask of them, and what these leave.
 use Rattle.std.specs.Prelude.{ℕ, ◌==◌, Bool, not, nat_lt, if◌then◌else◌, List, Option, Some, None}
 use Rattle.std.specs.List.{list_all, list_any}
-use Rattle.rcu_seq.specs.Numbers.{number_of}
+use Rattle.rcu_seq.specs.Seq.{number_of}
 use Rattle.rcu_seq.specs.declared.fault.Fault.{Fault}
 use Rattle.rcu_seq.specs.declared.fault.Fault.TheVariants.{BadCpu}
-use Rattle.rcu_node.specs.CpuSets.{listed, size_of}
-use Rattle.rcu_report.specs.Replicas.{Replicated, Call, answer_of, at_first, cpus_of, next, refusal}
-use Rattle.rcu_report.specs.Replicas as call
+use Rattle.rcu_node.specs.CpuSet.{listed, size_of}
+use Rattle.rcu_report.specs.Replica.{Replicated, Call, answer_of, at_first, cpus_of, after_call, refusal}
+use Rattle.rcu_report.specs.Replica as call
 use Rattle.rcu_core.specs.Replies.{Size}
 use Rattle.rcu_script.specs.declared.pair.event.Side.{Side}
 use Rattle.rcu_script.specs.declared.pair.event.Side.TheVariants.{A, B}
@@ -60,12 +60,12 @@ refusal_of mine its Merge = refusal mine (call.Merge its)
 
 -- what an accepted event leaves: what the replica's call does; listing changes nothing
 abbrev pub left_by : Replicated → Replicated → PairEvent → Replicated
-left_by mine its (Begin cpus) = next mine (call.Begin (set_of (cpus_of mine) cpus))
-left_by mine its (Report cpu tag) = next mine (call.Report cpu tag)
-left_by mine its (Depart cpu) = next mine (call.Depart cpu)
-left_by mine its End = next mine call.End
+left_by mine its (Begin cpus) = after_call mine (call.Begin (set_of (cpus_of mine) cpus))
+left_by mine its (Report cpu tag) = after_call mine (call.Report cpu tag)
+left_by mine its (Depart cpu) = after_call mine (call.Depart cpu)
+left_by mine its End = after_call mine call.End
 left_by mine its Awaits = mine
-left_by mine its Merge = next mine (call.Merge its)
+left_by mine its Merge = after_call mine (call.Merge its)
 
 -- the reply to an accepted event, by what it leaves
 abbrev pub reply_of : Replicated → Replicated → PairEvent → PairReply

@@ -2,9 +2,9 @@
 use Rattle.std.specs.Prelude.{◌≡◌, ℕ, Bool, true, false, List, [], ◌∷◌, ◌++◌, length, codes, Option, Some, None}
 use Rattle.rcu_seq.specs.declared.fault.Fault.{Fault}
 use Rattle.rcu_seq.specs.declared.fault.Fault.TheVariants.{BadLine}
-use Rattle.rcu_node.specs.CpuSets.{is_in}
+use Rattle.rcu_node.specs.CpuSet.{is_in}
 use Rattle.rcu_node.specs.Merging.{same_set}
-use Rattle.rcu_report.specs.Replicas.{Replicated}
+use Rattle.rcu_report.specs.Replica.{Replicated}
 use Rattle.rcu_core.specs.Replies.{Size, which}
 use Rattle.rcu_core.specs.declared.reply.Reply.TheVariants as say
 use Rattle.rcu_text.specs.Texts.{numbered_text}

@@ -4,7 +4,7 @@ use Rattle.std.specs.Str.{bytes_eq}
 use Rattle.std.specs.List.{list_any}
 use Rattle.rcu_seq.specs.declared.fault.Fault.TheVariants as fault
 use Rattle.rcu_core.specs.History.{History}
-use Rattle.rcu_core.specs.Replies.{Size, IsLegalReply, after, answer, situation}
+use Rattle.rcu_core.specs.Replies.{Size, IsLegalReply, with_event, answer, situation}
 use Rattle.rcu_core.specs.declared.event.Event.{Event}
 use Rattle.rcu_core.specs.declared.reply.Reply.{Reply}
 use Rattle.rcu_core.specs.declared.reply.Reply.TheVariants as reply
@@ -25,7 +25,7 @@ abbrev pub AnswersLine : Size → History → Line Event → List ℕ → Histor
 AnswersLine size h Blank text next = (text ≡ []) × (next ≡ h)
 AnswersLine size h Malformed text next = (text ≡ text_of (reply.Fault fault.BadLine)) × (next ≡ h)
 AnswersLine size h (Ask event) text next =
-    (r : Reply) × IsLegalReply size (situation h) event r × (text ≡ text_of r) × (next ≡ after h event r)
+    (r : Reply) × IsLegalReply size (situation h) event r × (text ≡ text_of r) × (next ≡ with_event h event r)
 
 -- the text answers the lines, one after another
 abbrev pub Answers : Size → History → List (List ℕ) → List ℕ → History → Type 0
@@ -44,7 +44,7 @@ reply_to size h (Ask event) = text_of (answer size (situation h) event)
 abbrev pub next_after : Size → History → Line Event → History
 next_after size h Blank = h
 next_after size h Malformed = h
-next_after size h (Ask event) = after h event (answer size (situation h) event)
+next_after size h (Ask event) = with_event h event (answer size (situation h) event)
 
 -- the replies to the lines, where memory is never wanted
 abbrev pub replies : Size → History → List (List ℕ) → List ℕ

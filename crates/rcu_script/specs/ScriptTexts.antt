@@ -1,6 +1,6 @@
 -- The texts of replies.
 use Rattle.std.specs.Prelude.{ℕ, Bool, true, false, List, [], ◌∷◌, ◌++◌, flat_map, codes, decimal}
-use Rattle.rcu_seq.specs.FaultNumber.{number_of}
+use Rattle.rcu_seq.specs.Fault.{fault_number}
 use Rattle.rcu_node.specs.declared.answer.Answer.{Answer}
 use Rattle.rcu_node.specs.declared.answer.Answer.TheVariants.{Taken, Last, Repeat, Stale}
 use Rattle.rcu_report.specs.declared.report.Report.{Report}
@@ -79,4 +79,4 @@ text_of BarBegun = codes "barrier begun\n"
 text_of (Visited visit) = visited_text visit
 text_of BarDone = codes "barrier done\n"
 text_of (BarWaits n) = numbered_text (codes "barrier waits ") n
-text_of (Fault fault) = numbered_text (codes "fault ") (number_of fault)
+text_of (Fault fault) = numbered_text (codes "fault ") (fault_number fault)

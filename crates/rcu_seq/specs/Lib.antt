@@ -1,3 +1,4 @@
-pub mod Cookies
-pub mod FaultNumber
+pub mod Fault
+pub mod Histories
 pub mod Numbers
+pub mod Seq

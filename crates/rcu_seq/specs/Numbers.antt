@@ -1,5 +1,5 @@
--- Grace-period numbers. A tag, a noted number and the number at which a grace period began are all such numbers.
-use Rattle.std.specs.Prelude.{ℕ, ◌+◌, ◌*◌, ◌%◌, ◌^◌, ◌==◌, ◌&&◌, Bool, nat_le, if◌then◌else◌}
+-- Grace-period numbers. A tag, a noted number, a cookie and the number at which a grace period began are all such numbers.
+use Rattle.std.specs.Prelude.{ℕ, ◌+◌, ◌*◌, ◌/◌, ◌%◌, ◌^◌, ◌==◌, ◌&&◌, ◌||◌, Bool, nat_le, if◌then◌else◌}
 
 abbrev pub Number : Type 0
 Number = ℕ
@@ -20,12 +20,11 @@ is_running n = n % 4 == 1
 abbrev pub is_last : Number → Bool
 is_last n = n % 4 == 0 && (nat_le 4 n && nat_le n (2 ^ 62))
 
--- a counter of grace periods: how many ended, whether one runs, and the number at which no further one begins
-pub record Periods : Type 0 where
-  pub ends : ℕ
-  pub running : Bool
-  pub last : Number
+-- the snapshot of a number: the number that ends the first grace period to begin after it. A grace period that runs is not
+-- that one, since a reader may have begun after its start
+abbrev pub snapshot : Number → Number
+snapshot number = 4 * ((number + 3) / 4) + 4
 
--- the number of a counter
-abbrev pub number_of : Periods → Number
-number_of p = number_at p.ends p.running
+-- the test of a cookie at a number: it is at least the cookie's; the cookie 1 is done at any time
+abbrev pub is_done_at : Number → Number → Bool
+is_done_at cookie number = nat_le cookie number || cookie == 1

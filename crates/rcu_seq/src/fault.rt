@@ -73,11 +73,11 @@ pub enum Fault {
 
 impl Fault {
     ghost use Rattle.std.specs.Prelude.{◌≡◌};
-    ghost use Rattle.rcu_seq.specs.FaultNumber.{number_of};
+    ghost use Rattle.rcu_seq.specs.Fault.{fault_number};
 
     /// The fault's number, from 1 to 21, as the replies of the program show it.
     pub fn number(&self) -> u32
-        ensures { result ≡ number_of self.now }
+        ensures { result ≡ fault_number self.now }
     {
         *self as u32
     }

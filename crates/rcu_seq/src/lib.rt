@@ -7,3 +7,7 @@ pub mod laws;
 pub mod seq;
 #[cfg(test)]
 mod tests;
+
+pub use cookie::Cookie;
+pub use fault::Fault;
+pub use seq::Seq;

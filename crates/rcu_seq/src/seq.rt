@@ -1,7 +1,7 @@
 //! The counter of grace periods.
-ghost use Rattle.std.specs.Prelude.{◌≡◌, ◌+◌, ◌*◌, ◌≢◌, ◌≤◌, ◌^◌, ◌%◌, true, false, IfOk, IfErr, MatchResult};
-ghost use Rattle.rcu_seq.specs.Cookies.{is_done, snapshot_of};
-ghost use Rattle.rcu_seq.specs.Numbers.{number_of, is_last};
+ghost use Rattle.std.specs.Prelude.{◌≡◌, ◌+◌, ◌*◌, ◌≢◌, ◌≤◌, ◌^◌, ◌%◌, true, false, IfOk, IfErr, OnOk, OnErr, MatchResult};
+ghost use Rattle.rcu_seq.specs.Numbers.{is_last};
+ghost use Rattle.rcu_seq.specs.Seq.{is_done, number_of, snapshot_of};
 
 use crate::cookie::Cookie;
 use crate::fault::Fault;
@@ -9,15 +9,6 @@ use std::marker::Model;
 
 /// From `4k + 1`, where a grace period runs, to `4k + 4`, where it has ended.
 const TO_END: u64 = 3;
-
-/// The low bits of a number, which say whether a grace period runs.
-const STATE_BITS: u64 = 3;
-
-/// From `4k` beyond `4k + 4`, and from `4k + 1` to `4k + 8`.
-const TO_NEXT_END: u64 = 7;
-
-/// The cookie that is done at any time.
-const ALWAYS_DONE: Cookie = Cookie(1);
 
 /// The greatest last number, 2^62.
 const GREATEST_LAST: u64 = 1 << 62;
@@ -34,7 +25,8 @@ pub struct Seq {
 
 impl Model for Seq {
     ghost use Rattle.std.specs.Prelude.{◌≡◌, ◌≤◌, ◌/◌, ◌%◌, true};
-    ghost use Rattle.rcu_seq.specs.Numbers.{Periods, is_last, is_running};
+    ghost use Rattle.rcu_seq.specs.Seq.{Periods};
+    ghost use Rattle.rcu_seq.specs.Numbers.{is_last, is_running};
 
     ghost Value = { Periods };
 
@@ -52,7 +44,8 @@ impl Seq {
     ///
     /// Fault 19: `last` is not a multiple of 4 in 4..=2^62.
     pub fn new(last: u64) -> Result<Seq, Fault>
-        ensures ok { IfOk result (λ seq. (seq ≡ record { ends = 0; running = false; last = last }) × (is_last last ≡ true)) }
+        ensures ok { IfOk result (λ seq. seq ≡ record { ends = 0; running = false; last = last }) }
+        ensures last { OnOk result (is_last last ≡ true) }
         ensures err { IfErr result (λ fault. (fault ≡ Fault.BadLast) × (is_last last ≡ false)) }
     {
         if last % 4 == 0 && 4 <= last && last <= GREATEST_LAST {
@@ -86,30 +79,32 @@ impl Seq {
         self.value % 4 == 1
     }
 
-    /// The cookie of a taking now: the number that ends the first grace period to begin from now on (Linux's
-    /// `rcu_seq_snap`). A grace period that runs already is not enough, since a reader may have begun after its start.
+    /// The cookie of a taking now, as [`Cookie::of`] has it.
     pub fn snap(&self) -> Cookie
         ensures { result.0 ≡ snapshot_of self.now }
     {
-        Cookie((self.value + TO_NEXT_END) & !STATE_BITS)
+        Cookie::of(self.value)
     }
 
-    /// Whether a cookie is done (Linux's `poll_state_synchronize_rcu`, without wrap-around): the number is at least
-    /// the cookie's, or the cookie is 1.
+    /// Whether a cookie is done now, as [`Cookie::is_done_at`] has it.
     pub fn done(&self, cookie: Cookie) -> bool
         ensures { result ≡ is_done cookie.0 self.now }
     {
-        self.value >= cookie.0 || cookie == ALWAYS_DONE
+        cookie.is_done_at(self.value)
     }
 
     /// Begins a grace period, and answers its number (Linux's `rcu_seq_start`).
     ///
     /// Faults: 8 where one runs; 11 where the number is `last`.
     pub fn start(&mut self) -> Result<u64, Fault>
-        ensures ok { IfOk result (λ n. (n ≡ number_of self.new) × (self.old.running ≡ false) × (number_of self.old ≢ self.old.last) × (self.new ≡ record self.old { running = true })) }
+        ensures ok { IfOk result (λ number. number ≡ number_of self.new) }
+        ensures idle { OnOk result (self.old.running ≡ false) }
+        ensures before_last { OnOk result (number_of self.old ≢ self.old.last) }
+        ensures begun { OnOk result (self.new ≡ record self.old { running = true }) }
         ensures running { IfErr result (λ fault. self.old.running ≡ true → fault ≡ Fault.Running) }
-        ensures exhausted { IfErr result (λ fault. self.old.running ≡ false → (fault ≡ Fault.Exhausted) × (number_of self.old ≡ self.old.last)) }
-        ensures err { IfErr result (λ _. self.new ≡ self.old) }
+        ensures exhausted { IfErr result (λ fault. self.old.running ≡ false → fault ≡ Fault.Exhausted) }
+        ensures at_last { OnErr result (self.old.running ≡ false → number_of self.old ≡ self.old.last) }
+        ensures unchanged { OnErr result (self.new ≡ self.old) }
     {
         if self.is_running() {
             return Err(Fault::Running);
@@ -125,8 +120,11 @@ impl Seq {
     ///
     /// Fault 9: none runs.
     pub fn end(&mut self) -> Result<u64, Fault>
-        ensures ok { IfOk result (λ n. (n ≡ number_of self.new) × (self.old.running ≡ true) × (self.new ≡ record self.old { ends = self.old.ends + 1; running = false })) }
-        ensures err { IfErr result (λ fault. (fault ≡ Fault.Idle) × (self.old.running ≡ false) × (self.new ≡ self.old)) }
+        ensures ok { IfOk result (λ number. number ≡ number_of self.new) }
+        ensures ran { OnOk result (self.old.running ≡ true) }
+        ensures ended { OnOk result (self.new ≡ record self.old { ends = self.old.ends + 1; running = false }) }
+        ensures idle { IfErr result (λ fault. (fault ≡ Fault.Idle) × (self.old.running ≡ false)) }
+        ensures unchanged { OnErr result (self.new ≡ self.old) }
     {
         if !self.is_running() {
             return Err(Fault::Idle);

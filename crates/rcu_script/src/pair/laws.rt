@@ -1,6 +1,6 @@
 //! What the definitions say of the lines of a pair.
 ghost use Rattle.std.specs.Prelude.{◌≡◌, ℕ, List, codes};
-ghost use Rattle.rcu_report.specs.History.{AreAlike, Says};
+ghost use Rattle.rcu_report.specs.History.{AreAlike, Represents};
 ghost use Rattle.rcu_core.specs.Replies.{Size};
 ghost use Rattle.rcu_script.specs.PairHistory.{calls_of};
 ghost use Rattle.rcu_script.specs.PairState.{pair_at};
@@ -12,9 +12,9 @@ use rcu_report::laws::{equally_heard_replicas_await_the_same, replica_is_as_its_
 /// set less those heard since.
 pub fn replicas_are_as_their_calls_say()
     ensures a { (size : Size) (lines : List (List ℕ))
-        → Says (pair_after (pair_at size) lines).a (calls_of size lines).a }
+        → Represents (pair_after (pair_at size) lines).a (calls_of size lines).a }
     ensures b { (size : Size) (lines : List (List ℕ))
-        → Says (pair_after (pair_at size) lines).b (calls_of size lines).b }
+        → Represents (pair_after (pair_at size) lines).b (calls_of size lines).b }
 {
     replica_is_as_its_history_says();
 }

@@ -1,7 +1,7 @@
 //! Two replicas that reply to lines.
 ghost use Rattle.std.specs.Prelude.{◌≡◌, length};
 ghost use Rattle.rcu_node.specs.Merging.{same_set};
-ghost use Rattle.rcu_report.specs.Replicas.{cpus_of};
+ghost use Rattle.rcu_report.specs.Replica.{cpus_of};
 ghost use Rattle.rcu_text.specs.Outputs.{Puts};
 ghost use Rattle.rcu_script.specs.PairState.{left_by, refusal_of, reply_of};
 ghost use Rattle.rcu_script.specs.PairTexts.{outcome_text, pair_after, pair_replies};
@@ -32,7 +32,7 @@ pub struct PairMachine<A: Awaited, B: Awaited> {
 
 impl<A: Awaited, B: Awaited> Model for PairMachine<A, B> {
     ghost use Rattle.std.specs.Prelude.{◌≡◌, length};
-    ghost use Rattle.rcu_report.specs.Replicas.{cpus_of};
+    ghost use Rattle.rcu_report.specs.Replica.{cpus_of};
     ghost use Rattle.rcu_script.specs.PairState.{Pair};
 
     ghost Value = { Pair };

@@ -1,9 +1,9 @@
 //! What a replica of a pair does.
 ghost use Rattle.std.specs.Prelude.{◌≡◌, ◌<◌, Some, None, All, length, nat_lt, IfErr, IfOk, OnOk};
 ghost use Rattle.std.specs.List.{list_all};
-ghost use Rattle.rcu_node.specs.CpuSets.{size_of};
-ghost use Rattle.rcu_seq.specs.Numbers.{number_of};
-ghost use Rattle.rcu_report.specs.Replicas.{Begin, cpus_of, next};
+ghost use Rattle.rcu_node.specs.CpuSet.{size_of};
+ghost use Rattle.rcu_seq.specs.Seq.{number_of};
+ghost use Rattle.rcu_report.specs.Replica.{Begin, cpus_of, after_call};
 ghost use Rattle.rcu_script.specs.PairState.{begin_refusal, left_by, refusal_of, reply_of, set_of};
 
 use crate::pair::event::{PairEvent, PairReply};
@@ -56,7 +56,7 @@ fn begin<A: Awaited>(
     ensures reply { IfOk result (λ reply. reply
         ≡ PairReply.Begun (number_of mine.new.periods) (size_of mine.new.awaited)) }
     ensures ok { OnOk result (mine.new
-        ≡ next mine.old (Begin (set_of (cpus_of mine.old) cpus.now))) }
+        ≡ after_call mine.old (Begin (set_of (cpus_of mine.old) cpus.now))) }
     ensures accepted { OnOk result (begin_refusal mine.old cpus.now ≡ None) }
     ensures err { IfErr result (λ fault. begin_refusal mine.old cpus.now ≡ Some fault) }
     ensures refused { IfErr result (λ _. mine.new ≡ mine.old) }

@@ -1,6 +1,6 @@
 //! The opening of a script.
 ghost use Rattle.std.specs.Prelude.{◌≡◌, None, [], IfOk, IfErr, OnOk};
-ghost use Rattle.rcu_core.specs.State.{Has, size_at};
+ghost use Rattle.rcu_core.specs.Core.{Represents, size_at};
 ghost use Rattle.rcu_script.specs.Opening.{machine_fault};
 ghost use Rattle.rcu_script.specs.RunEnds.{IsRefusedBy};
 
@@ -22,7 +22,7 @@ pub fn open<const LEAF: u32, const INNER: u32>(
 ) -> Result<Core<Tree<LEAF, INNER>, u64>, Fault>
     ensures accepted { OnOk result (machine_fault LEAF INNER cpus last ≡ None) }
     ensures size { IfOk result (λ core. size_at core ≡ record { cpus = cpus; last = last }) }
-    ensures fresh { IfOk result (λ core. Has core []) }
+    ensures fresh { IfOk result (λ core. Represents core []) }
     ensures err { IfErr result (IsRefusedBy (machine_fault LEAF INNER cpus last)) }
 {
     let _shape = Geometry::<LEAF, INNER>::new(cpus)?;

@@ -1,7 +1,7 @@
 //! Who replies to the lines of a script.
 ghost use Rattle.std.specs.Prelude.{◌≡◌, []};
 ghost use Rattle.rcu_core.specs.History.{History};
-ghost use Rattle.rcu_core.specs.State.{Has, size_at};
+ghost use Rattle.rcu_core.specs.Core.{Represents, size_at};
 ghost use Rattle.rcu_script.specs.ScriptAnswers.{Answers};
 
 use crate::script::parse::parse_line;
@@ -22,7 +22,7 @@ pub struct ScriptResponder<A: Awaited> {
 impl<A: Awaited> Responder for ScriptResponder<A> {
     ghost past = { λ opened now lines text. (end : History)
         × Answers (size_at opened.core) [] lines text end
-        × (size_at now.core ≡ size_at opened.core) × Has now.core end };
+        × (size_at now.core ≡ size_at opened.core) × Represents now.core end };
 
     fn reply_to<O: Output>(&mut self, line: &[u8], out: &mut O) -> Result<(), Failed> {
         match parse_line(line) {

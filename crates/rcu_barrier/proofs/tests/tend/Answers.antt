@@ -1,7 +1,7 @@
 use Rattle.std.proofs.Common.{sym, ◌∙◌, arith}
-use Rattle.rcu_cblist.specs.Items.{numbers}
-use Rattle.rcu_barrier.specs.Tending.{snapshot}
-use Rattle.rcu_barrier.specs.AllLists.{list_of}
+use Rattle.rcu_cblist.specs.SegList.{numbers}
+use Rattle.rcu_seq.specs.Numbers.{snapshot}
+use Rattle.rcu_barrier.specs.Lists.{list_of}
 use Rattle.rcu_barrier.proofs.tests.tend.Goals as goal
 
 pub tend-counts-requires-in-Some-clause-within : goal.tend-counts-requires-in-Some-clause-within

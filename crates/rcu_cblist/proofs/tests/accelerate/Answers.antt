@@ -1,5 +1,5 @@
 use Rattle.std.proofs.Common.{arith, sym, ◌∙◌}
-use Rattle.rcu_cblist.specs.Items.{numbers}
+use Rattle.rcu_cblist.specs.SegList.{numbers}
 use Rattle.rcu_cblist.proofs.Numbers.{at_most_some}
 use Rattle.rcu_cblist.proofs.tests.accelerate.Goals as goal
 

@@ -1,6 +1,6 @@
 use Rattle.std.proofs.Common.{◌≡◌, length, sym, ◌∙◌, arith}
 use Rattle.std.proofs.lemmas.List.{length-map}
-use Rattle.rcu_cblist.specs.Items.{remarked, mark_given}
+use Rattle.rcu_cblist.specs.SegList.{remarked, mark_given}
 use Rattle.rcu_cblist.specs.Kept.{item_of, items_of}
 use Rattle.rcu_cblist.proofs.Lists.{walked_more}
 use Rattle.rcu_cblist.proofs.walks.accelerate_each.Goals as goal

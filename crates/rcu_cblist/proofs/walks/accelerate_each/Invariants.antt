@@ -1,5 +1,5 @@
 use Rattle.std.proofs.Common.{◌≡◌, map, take, drop, ◌++◌}
-use Rattle.rcu_cblist.specs.Items.{remarked, mark_given}
+use Rattle.rcu_cblist.specs.SegList.{remarked, mark_given}
 use Rattle.rcu_cblist.specs.Kept.{items_of}
 use Rattle.rcu_cblist.proofs.walks.accelerate_each.Given as goal
 

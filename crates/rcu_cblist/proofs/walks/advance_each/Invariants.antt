@@ -1,5 +1,5 @@
 use Rattle.std.proofs.Common.{◌≡◌, map, take, drop, ◌++◌}
-use Rattle.rcu_cblist.specs.Items.{remarked, mark_advanced}
+use Rattle.rcu_cblist.specs.SegList.{remarked, mark_advanced}
 use Rattle.rcu_cblist.specs.Kept.{items_of}
 use Rattle.rcu_cblist.proofs.walks.advance_each.Given as goal
 

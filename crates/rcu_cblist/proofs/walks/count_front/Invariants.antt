@@ -1,5 +1,5 @@
 use Rattle.std.proofs.Common.{◌≡◌, ◌≤◌, ◌+◌, drop, length}
-use Rattle.rcu_cblist.specs.Items.{front, callbacks}
+use Rattle.rcu_cblist.specs.SegList.{front, callbacks}
 use Rattle.rcu_cblist.specs.Kept.{items_of}
 use Rattle.rcu_cblist.proofs.walks.count_front.Given as goal
 

@@ -1,6 +1,6 @@
 use Rattle.std.proofs.Common.{◌≡◌, drop}
 use Rattle.std.specs.Option.{MatchOption}
-use Rattle.rcu_cblist.specs.Items.{has_two, has_other, numbers}
+use Rattle.rcu_cblist.specs.SegList.{has_two, has_other, numbers}
 use Rattle.rcu_cblist.specs.Kept.{items_of}
 use Rattle.rcu_cblist.proofs.Numbers.{has_two_ahead}
 use Rattle.rcu_cblist.proofs.walks.has_two_below.Given as goal

@@ -1,6 +1,6 @@
 use Rattle.std.proofs.Common.{◌≡◌, ◌≤◌, ◌<◌, ◌+◌, ◌^◌, ◌++◌, take, length, vec_len}
 use Rattle.std.specs.Vec.{vec_capacity}
-use Rattle.rcu_cblist.specs.Items.{callbacks, markers, from_callback}
+use Rattle.rcu_cblist.specs.SegList.{callbacks, markers, from_callback}
 use Rattle.rcu_cblist.specs.Kept.{items_of}
 use Rattle.rcu_cblist.proofs.walks.take_first.Given as goal
 

@@ -1,10 +1,10 @@
 use Rattle.std.proofs.Common.{◌≡◌, map, take, drop, ◌++◌}
-use Rattle.rcu_cblist.specs.Items.{unmarked}
+use Rattle.rcu_cblist.specs.SegList.{without_mark}
 use Rattle.rcu_cblist.specs.Kept.{items_of}
 use Rattle.rcu_cblist.proofs.walks.unmark_each.Given as goal
 
 -- the items before this one are changed, and the others are as they were
 abbrev pub invariant-loop-item : goal.invariant-loop-item
 invariant-loop-item g l =
-    items_of l.items ≡ map unmarked (take l.item-index (items_of l.initial.items))
+    items_of l.items ≡ map without_mark (take l.item-index (items_of l.initial.items))
     ++ drop l.item-index (items_of l.initial.items)

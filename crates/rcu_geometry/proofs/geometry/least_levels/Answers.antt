@@ -1,5 +1,5 @@
 use Rattle.std.proofs.Common.{sym, arith}
-use Rattle.rcu_geometry.specs.Shapes.{shape}
+use Rattle.rcu_geometry.specs.Geometry.{shape}
 use Rattle.rcu_geometry.proofs.Capacities.{levels_at}
 use Rattle.rcu_geometry.proofs.geometry.least_levels.Goals as goal
 

@@ -1,5 +1,5 @@
 use Rattle.std.proofs.Common.{◌-◌, ◌<◌, ◌≤◌}
-use Rattle.rcu_geometry.specs.Shapes.{shape, capacity}
+use Rattle.rcu_geometry.specs.Geometry.{shape, capacity}
 use Rattle.rcu_geometry.proofs.geometry.least_levels.Given as goal
 
 -- one level less does not hold all processors

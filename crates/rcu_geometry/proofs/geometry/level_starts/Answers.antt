@@ -1,5 +1,5 @@
 use Rattle.std.proofs.Common.{◌-◌, ap, ◌∙◌, ◌++◌, ◌∷◌, [], arith, rules}
-use Rattle.rcu_geometry.specs.Shapes.{shape}
+use Rattle.rcu_geometry.specs.Geometry.{shape}
 use Rattle.rcu_geometry.proofs.Capacities.{levels_range}
 use Rattle.rcu_geometry.proofs.Levels.{level_nodes_by, level_within, starts_first, starts_more}
 use Rattle.rcu_geometry.proofs.geometry.level_starts.Goals as goal

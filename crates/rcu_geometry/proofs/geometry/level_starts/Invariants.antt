@@ -1,5 +1,5 @@
 use Rattle.std.proofs.Common.{◌-◌}
-use Rattle.rcu_geometry.specs.Shapes.{shape}
+use Rattle.rcu_geometry.specs.Geometry.{shape}
 use Rattle.rcu_geometry.proofs.Levels.{AreStarts}
 use Rattle.rcu_geometry.proofs.geometry.level_starts.Given as goal
 

@@ -1,5 +1,5 @@
 use Rattle.std.proofs.Common.{arith}
-use Rattle.rcu_geometry.specs.Shapes.{level_of}
+use Rattle.rcu_geometry.specs.Geometry.{level_of}
 use Rattle.rcu_geometry.proofs.Capacities.{levels_range}
 use Rattle.rcu_geometry.proofs.Levels.{start_next, start_zero, level_some, level_at}
 use Rattle.rcu_geometry.proofs.Places.{lies}

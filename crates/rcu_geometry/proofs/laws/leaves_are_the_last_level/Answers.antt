@@ -1,6 +1,6 @@
 use Rattle.std.proofs.Common.{◌-◌, ◌/◌, arith}
 use Rattle.std.proofs.lemmas.Nat.{mod_below}
-use Rattle.rcu_geometry.specs.Shapes.{levels, leaf_of}
+use Rattle.rcu_geometry.specs.Geometry.{levels, leaf_of}
 use Rattle.rcu_geometry.proofs.Children.{leaf_level}
 use Rattle.rcu_geometry.proofs.Places.{lies_below, leaf_lies}
 use Rattle.rcu_geometry.proofs.laws.leaves_are_the_last_level.Goals as goal

@@ -1,5 +1,5 @@
 use Rattle.std.proofs.Common.{arith}
-use Rattle.rcu_geometry.specs.Shapes.{levels}
+use Rattle.rcu_geometry.specs.Geometry.{levels}
 use Rattle.rcu_geometry.proofs.Capacities.{levels_range}
 use Rattle.rcu_geometry.proofs.Levels.{one_root, level_some, start_within, leaves_some}
 use Rattle.rcu_geometry.proofs.laws.levels_have_nodes.Goals as goal

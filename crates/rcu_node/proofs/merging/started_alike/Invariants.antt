@@ -1,5 +1,5 @@
 use Rattle.std.proofs.Common.{◌≡◌, ◌<◌, ℕ}
-use Rattle.rcu_node.specs.CpuSets.{is_in}
+use Rattle.rcu_node.specs.CpuSet.{is_in}
 use Rattle.rcu_node.proofs.merging.started_alike.Given as goal
 
 -- so far the start sets agree

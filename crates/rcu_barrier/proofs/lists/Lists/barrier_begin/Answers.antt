@@ -1,6 +1,6 @@
 use Rattle.std.proofs.Common.{false, length, ap, ◌∙◌, arith}
 use Rattle.std.proofs.lemmas.List.{length-replicate}
-use Rattle.rcu_barrier.specs.AllLists.{unvisited}
+use Rattle.rcu_barrier.specs.Lists.{unvisited}
 use Rattle.rcu_barrier.proofs.Markers.{unvisited_none}
 use Rattle.rcu_barrier.proofs.lists.Lists.barrier_begin.Goals as goal
 

@@ -1,5 +1,5 @@
 use Rattle.std.proofs.Common.{◌+◌, ◌<◌, length, refl, ap, sym, subst, ◌∙◌, arith}
-use Rattle.rcu_cblist.specs.Items.{markers}
+use Rattle.rcu_cblist.specs.SegList.{markers}
 use Rattle.rcu_barrier.specs.Tending.{AreFours}
 use Rattle.rcu_barrier.proofs.Fours.{fours_append}
 use Rattle.rcu_barrier.proofs.Kept.{relisted}

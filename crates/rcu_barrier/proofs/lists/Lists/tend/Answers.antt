@@ -1,6 +1,7 @@
 use Rattle.std.proofs.Common.{◌≡◌, ◌+◌, ◌*◌, ◌/◌, ◌<◌, [], length, set, get_or, refl, ap, sym, subst, ◌∙◌, arith}
-use Rattle.rcu_cblist.specs.Items.{IsAtMost, behind, callbacks, front, markers}
-use Rattle.rcu_barrier.specs.Tending.{AreFours, snapshot, tended}
+use Rattle.rcu_cblist.specs.SegList.{IsAtMost, behind, callbacks, front, markers}
+use Rattle.rcu_barrier.specs.Tending.{AreFours, after_tend}
+use Rattle.rcu_seq.specs.Numbers.{snapshot}
 use Rattle.rcu_barrier.proofs.Fours.{fours_get, fours_tended, most_advanced, tend_is}
 use Rattle.rcu_barrier.proofs.Kept.{list_is, relisted}
 use Rattle.rcu_barrier.proofs.Markers.{markers_remarked}
@@ -14,7 +15,7 @@ accelerate-requires g c =
     let inside : c.args.cpu < length i.lists.items = subst (λ v. c.args.cpu < length v.lists) (sym c.self.view_is) c.requires.cpu in
     let within : IsAtMost (snapshot number) (get_or i.lists.items c.args.cpu []) =
     subst (λ v. IsAtMost (snapshot number) (get_or v.lists c.args.cpu [])) (sym c.self.view_is) c.requires.within in
-    let snap : (number + 3) / 4 * 4 + 4 ≡ snapshot number = omega arith in
+    let snap = c.of.ensures in
     let is = list_is i.lists.items c.args.cpu old inside c.index_mut-list.ensures.value in
     rw (snap, c.advance.ensures) (most_advanced number (snapshot number) old (subst (IsAtMost (snapshot number)) (sym is) within))
 
@@ -27,8 +28,8 @@ invariant_of-self g c =
     let inside : c.args.cpu < length i.lists.items = subst (λ v. c.args.cpu < length v.lists) (sym c.self.view_is) c.requires.cpu in
     let is = list_is i.lists.items c.args.cpu old inside c.index_mut-list.ensures.value in
     let fours : AreFours old = subst AreFours (sym is) (fours_get i.lists.items c.args.cpu k.1.fours) in
-    let snap : (number + 3) / 4 * 4 + 4 ≡ snapshot number = omega arith in
-    let after : c.accelerate.new.self ≡ tended number old =
+    let snap = c.of.ensures in
+    let after : c.accelerate.new.self ≡ after_tend old number =
     c.accelerate.ensures ∙ (rw (snap, c.advance.ensures) (tend_is number old c.requires.state fours)) in
     let same = ap markers after ∙ markers_remarked _ old in
     relisted (record { lists = i.lists.items; visited = i.visits; running = i.running; queued = i.queued }) i.markers i.markers
@@ -44,9 +45,9 @@ returns-clause-state g c =
     let inside : c.args.cpu < length i.lists.items = subst (λ v. c.args.cpu < length v.lists) (sym c.self.view_is) c.requires.cpu in
     let is = list_is i.lists.items c.args.cpu old inside c.index_mut-list.ensures.value in
     let fours : AreFours old = subst AreFours (sym is) (fours_get i.lists.items c.args.cpu k.1.fours) in
-    let snap : (number + 3) / 4 * 4 + 4 ≡ snapshot number = omega arith in
-    let after : c.accelerate.new.self ≡ tended number (get_or i.lists.items c.args.cpu []) =
-    c.accelerate.ensures ∙ (rw (snap, c.advance.ensures) (tend_is number old c.requires.state fours) ∙ ap (tended number) is) in
+    let snap = c.of.ensures in
+    let after : c.accelerate.new.self ≡ after_tend (get_or i.lists.items c.args.cpu []) number =
+    c.accelerate.ensures ∙ (rw (snap, c.advance.ensures) (tend_is number old c.requires.state fours) ∙ ap (after_tend number) is) in
     rw (← c.self.view_is)
     (ap (λ l. record { lists = set i.lists.items c.args.cpu l; visited = i.visits; running = i.running; queued = i.queued }) after)
 
@@ -59,9 +60,9 @@ returns-clause-done g c =
     let inside : c.args.cpu < length i.lists.items = subst (λ v. c.args.cpu < length v.lists) (sym c.self.view_is) c.requires.cpu in
     let is = list_is i.lists.items c.args.cpu old inside c.index_mut-list.ensures.value in
     let fours : AreFours old = subst AreFours (sym is) (fours_get i.lists.items c.args.cpu k.1.fours) in
-    let snap : (number + 3) / 4 * 4 + 4 ≡ snapshot number = omega arith in
-    let after : c.accelerate.new.self ≡ tended number (get_or i.lists.items c.args.cpu []) =
-    c.accelerate.ensures ∙ (rw (snap, c.advance.ensures) (tend_is number old c.requires.state fours) ∙ ap (tended number) is) in
+    let snap = c.of.ensures in
+    let after : c.accelerate.new.self ≡ after_tend (get_or i.lists.items c.args.cpu []) number =
+    c.accelerate.ensures ∙ (rw (snap, c.advance.ensures) (tend_is number old c.requires.state fours) ∙ ap (after_tend number) is) in
     rw (← c.self.view_is, c.done_count.ensures ∙ ap (λ l. length (callbacks (front l))) after) refl
 
 pub returns-clause-waiting : goal.returns-clause-waiting
@@ -73,7 +74,7 @@ returns-clause-waiting g c =
     let inside : c.args.cpu < length i.lists.items = subst (λ v. c.args.cpu < length v.lists) (sym c.self.view_is) c.requires.cpu in
     let is = list_is i.lists.items c.args.cpu old inside c.index_mut-list.ensures.value in
     let fours : AreFours old = subst AreFours (sym is) (fours_get i.lists.items c.args.cpu k.1.fours) in
-    let snap : (number + 3) / 4 * 4 + 4 ≡ snapshot number = omega arith in
-    let after : c.accelerate.new.self ≡ tended number (get_or i.lists.items c.args.cpu []) =
-    c.accelerate.ensures ∙ (rw (snap, c.advance.ensures) (tend_is number old c.requires.state fours) ∙ ap (tended number) is) in
+    let snap = c.of.ensures in
+    let after : c.accelerate.new.self ≡ after_tend (get_or i.lists.items c.args.cpu []) number =
+    c.accelerate.ensures ∙ (rw (snap, c.advance.ensures) (tend_is number old c.requires.state fours) ∙ ap (after_tend number) is) in
     rw (← c.self.view_is, c.waiting_count.ensures ∙ ap (λ l. length (callbacks (behind l))) after) refl

@@ -1,8 +1,8 @@
 use Rattle.std.proofs.Common.{◌≡◌, ◌+◌, ◌<◌, true, false, length, get_or, ap, sym, subst, ◌∙◌, arith}
 use Rattle.std.proofs.lemmas.List.{length-set}
-use Rattle.rcu_cblist.specs.Items.{is_empty, markers}
+use Rattle.rcu_cblist.specs.SegList.{is_empty, markers}
 use Rattle.rcu_barrier.specs.Tending.{AreFours}
-use Rattle.rcu_barrier.specs.AllLists.{unvisited}
+use Rattle.rcu_barrier.specs.Lists.{unvisited}
 use Rattle.rcu_barrier.proofs.Fours.{fours_entrained}
 use Rattle.rcu_barrier.proofs.Kept.{relisted, turned_false, turned_true}
 use Rattle.rcu_barrier.proofs.Markers.{entrained_empty, markers_entrained, unvisited_set}

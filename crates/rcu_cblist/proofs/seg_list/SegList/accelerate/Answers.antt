@@ -1,5 +1,5 @@
 use Rattle.std.proofs.Common.{ap, sym, ◌∙◌, length}
-use Rattle.rcu_cblist.specs.Items.{callbacks, front, begins_with_marker, mark_given}
+use Rattle.rcu_cblist.specs.SegList.{callbacks, front, begins_with_marker, mark_given}
 use Rattle.rcu_cblist.specs.Kept.{items_of}
 use Rattle.rcu_cblist.proofs.Lists.{callbacks_remarked, first_remarked, front_given}
 use Rattle.rcu_cblist.proofs.seg_list.SegList.accelerate.Goals as goal

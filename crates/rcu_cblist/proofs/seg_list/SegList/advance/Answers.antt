@@ -1,5 +1,5 @@
 use Rattle.std.proofs.Common.{ap, sym, ◌∙◌, length}
-use Rattle.rcu_cblist.specs.Items.{callbacks, begins_with_marker, mark_advanced}
+use Rattle.rcu_cblist.specs.SegList.{callbacks, begins_with_marker, mark_advanced}
 use Rattle.rcu_cblist.specs.Kept.{items_of}
 use Rattle.rcu_cblist.proofs.Lists.{callbacks_remarked, first_remarked}
 use Rattle.rcu_cblist.proofs.seg_list.SegList.advance.Goals as goal

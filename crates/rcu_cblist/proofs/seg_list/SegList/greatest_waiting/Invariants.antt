@@ -1,6 +1,6 @@
 use Rattle.std.proofs.Common.{◌≡◌, drop, fold, max, Some}
 use Rattle.std.specs.Option.{MatchOption}
-use Rattle.rcu_cblist.specs.Items.{greatest, numbers}
+use Rattle.rcu_cblist.specs.SegList.{greatest, numbers}
 use Rattle.rcu_cblist.specs.Kept.{items_of}
 use Rattle.rcu_cblist.proofs.seg_list.SegList.greatest_waiting.Given as goal
 

@@ -1,5 +1,5 @@
 use Rattle.std.proofs.Common.{◌≡◌, ◌∙◌, length, map, ap, arith}
-use Rattle.rcu_cblist.specs.Items.{front, callbacks, begins_with_marker}
+use Rattle.rcu_cblist.specs.SegList.{front, callbacks, begins_with_marker}
 use Rattle.rcu_cblist.specs.Kept.{item_of, items_of}
 use Rattle.rcu_cblist.proofs.Lists.{callbacks_of_kept, front_of_kept, front_moved, callbacks_moved, first_moved}
 use Rattle.rcu_cblist.proofs.seg_list.SegList.migrate_into.Goals as goal

@@ -1,5 +1,5 @@
 use Rattle.std.proofs.Common.{ℕ, ◌∙◌, ap, refl}
-use Rattle.rcu_core.specs.Grace.{Grace, awaited_in, number_in}
+use Rattle.rcu_core.specs.GpState.{Grace, awaited_in, number_in}
 use Rattle.rcu_core.proofs.Steps.{along, does_begin, does_refuse}
 use Rattle.rcu_core.proofs.event_core.Core+A+u64.begin.Goals as goal
 use Rattle.rcu_core.proofs.event_core.Core+A+u64.begin.Goals.{in-Ok, in-Err}

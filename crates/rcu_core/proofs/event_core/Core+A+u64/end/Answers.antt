@@ -1,5 +1,5 @@
 use Rattle.std.proofs.Common.{ℕ, ◌∙◌, ap, refl}
-use Rattle.rcu_core.specs.Grace.{Grace, number_in}
+use Rattle.rcu_core.specs.GpState.{Grace, number_in}
 use Rattle.rcu_core.proofs.Steps.{along, does_end, refuses_end}
 use Rattle.rcu_core.proofs.event_core.Core+A+u64.end.Goals as goal
 use Rattle.rcu_core.proofs.event_core.Core+A+u64.end.Goals.{in-Ok, in-Err}

@@ -1,7 +1,7 @@
 use Rattle.std.proofs.Common.{◌∙◌, ◌<◌, ◌≡◌, ◌+◌, ap, refl, rules, subst, sym}
-use Rattle.rcu_hotplug.specs.Calls.{cpus_of}
-use Rattle.rcu_cpu.specs.Processors.{Processor, deepest}
-use Rattle.rcu_core.specs.State.{processor}
+use Rattle.rcu_hotplug.specs.Hotplug.{cpus_of}
+use Rattle.rcu_cpu.specs.CpuData.{Processor, deepest}
+use Rattle.rcu_core.specs.Core.{processor}
 use Rattle.rcu_core.proofs.Sound.{at_place, put_back}
 use Rattle.rcu_core.proofs.Steps.{along, does_enter, refuses_enter}
 use Rattle.rcu_core.proofs.event_core.Core+A+u64.enter.Goals as goal

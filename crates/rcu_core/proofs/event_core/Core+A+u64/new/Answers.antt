@@ -1,5 +1,5 @@
 use Rattle.std.proofs.Common.{◌≡◌, ◌∙◌, ap, arith, length, rules}
-use Rattle.rcu_core.specs.Grace.{at_first}
+use Rattle.rcu_core.specs.GpState.{at_first}
 use Rattle.rcu_core.proofs.Follows.{has_first}
 use Rattle.rcu_core.proofs.Sound.{first_count, first_cpus, first_more, first_size, sound_first}
 use Rattle.rcu_core.proofs.event_core.Core+A+u64.new.Goals as goal

@@ -1,7 +1,7 @@
 use Rattle.std.proofs.Common.{◌∙◌, ◌<◌, ◌≡◌, ap, refl, rules, subst, sym, true}
-use Rattle.rcu_hotplug.specs.Calls.{cpus_of}
-use Rattle.rcu_cpu.specs.Processors.{Processor, report_of}
-use Rattle.rcu_core.specs.State.{processor}
+use Rattle.rcu_hotplug.specs.Hotplug.{cpus_of}
+use Rattle.rcu_cpu.specs.CpuData.{Processor, report_of}
+use Rattle.rcu_core.specs.Core.{processor}
 use Rattle.rcu_core.proofs.Sound.{at_place, sound_made}
 use Rattle.rcu_core.proofs.Steps.{along, does_make, refused_along, refuses_quiet, wants_room}
 use Rattle.rcu_core.proofs.event_core.Core+A+u64.quiesce.Goals as goal

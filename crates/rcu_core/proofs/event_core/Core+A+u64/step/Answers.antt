@@ -1,5 +1,5 @@
 use Rattle.std.proofs.Common.{ℕ, subst}
-use Rattle.rcu_core.specs.State.{State, IsSound}
+use Rattle.rcu_core.specs.Core.{State, IsSound}
 use Rattle.rcu_core.proofs.Follows.{goes}
 use Rattle.rcu_core.proofs.event_core.Core+A+u64.step.Goals as goal
 

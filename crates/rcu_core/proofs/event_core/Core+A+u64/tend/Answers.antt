@@ -1,5 +1,5 @@
 use Rattle.std.proofs.Common.{◌<◌, rules}
-use Rattle.rcu_hotplug.specs.Calls.{cpus_of}
+use Rattle.rcu_hotplug.specs.Hotplug.{cpus_of}
 use Rattle.rcu_core.proofs.Steps.{along, does_tend}
 use Rattle.rcu_core.proofs.event_core.Core+A+u64.tend.Goals as goal
 

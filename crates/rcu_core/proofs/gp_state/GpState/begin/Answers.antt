@@ -1,6 +1,6 @@
 use Rattle.std.proofs.Common.{◌≡◌, subst}
-use Rattle.rcu_hotplug.specs.Calls.{Begin, next}
-use Rattle.rcu_core.specs.Grace.{Grace}
+use Rattle.rcu_hotplug.specs.Hotplug.{Begin, after_call}
+use Rattle.rcu_core.specs.GpState.{Grace}
 use Rattle.rcu_core.proofs.Changes.{begun_kept}
 use Rattle.rcu_core.proofs.gp_state.GpState.begin.Goals as goal
 
@@ -10,4 +10,4 @@ invariant_of-self-2 g c =
     let old : Grace g.row.T.Denot = record { seq = i.seq; needed = i.needed; processors = i.hotplug; lists = i.lists } in
     let started = c.in_ok-number.ensures.ok in
     begun_kept old c.start.new.self c.begin.new.self c.self.invariant started.1 started.3
-    (subst (λ n. c.begin.new.self ≡ next i.hotplug (Begin n)) started.0 c.begin.ensures.state) c.begin.ensures.sized
+    (subst (λ n. c.begin.new.self ≡ after_call i.hotplug (Begin n)) started.0 c.begin.ensures.state) c.begin.ensures.sized

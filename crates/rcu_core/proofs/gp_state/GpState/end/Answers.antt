@@ -1,4 +1,4 @@
-use Rattle.rcu_core.specs.Grace.{Grace}
+use Rattle.rcu_core.specs.GpState.{Grace}
 use Rattle.rcu_core.proofs.Changes.{ended_kept, idle_kept, on_either}
 use Rattle.rcu_core.proofs.gp_state.GpState.end.Goals as goal
 

@@ -1,4 +1,4 @@
-use Rattle.rcu_core.specs.Grace.{Grace}
+use Rattle.rcu_core.specs.GpState.{Grace}
 use Rattle.rcu_core.proofs.Changes.{migrated_kept, on_either, same_kept}
 use Rattle.rcu_core.proofs.gp_state.GpState.migrate.Goals as goal
 

@@ -1,4 +1,4 @@
-use Rattle.rcu_core.specs.Grace.{Grace}
+use Rattle.rcu_core.specs.GpState.{Grace}
 use Rattle.rcu_core.proofs.Changes.{on_either, queued_kept, same_kept}
 use Rattle.rcu_core.proofs.gp_state.GpState.queue.Goals as goal
 

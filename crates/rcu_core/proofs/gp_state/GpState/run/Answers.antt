@@ -1,6 +1,6 @@
 use Rattle.std.proofs.lemmas.Result.{IfOk-weaker}
-use Rattle.rcu_barrier.specs.AllLists.{list_of}
-use Rattle.rcu_core.specs.Grace.{Grace, number_in}
+use Rattle.rcu_barrier.specs.Lists.{list_of}
+use Rattle.rcu_core.specs.GpState.{Grace, number_in}
 use Rattle.rcu_core.proofs.Changes.{on_either, run_kept, same_kept}
 use Rattle.rcu_core.proofs.Timely.{taken_waited, timely_get}
 use Rattle.rcu_core.proofs.gp_state.GpState.run.Goals as goal

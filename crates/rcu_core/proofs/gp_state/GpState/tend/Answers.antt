@@ -1,8 +1,8 @@
 use Rattle.std.proofs.Common.{sym, subst, ◌∙◌}
-use Rattle.rcu_cblist.specs.Items.{IsAtMost}
-use Rattle.rcu_barrier.specs.AllLists.{list_of}
-use Rattle.rcu_barrier.specs.Tending.{snapshot}
-use Rattle.rcu_core.specs.Grace.{Grace, number_in}
+use Rattle.rcu_cblist.specs.SegList.{IsAtMost}
+use Rattle.rcu_barrier.specs.Lists.{list_of}
+use Rattle.rcu_seq.specs.Numbers.{snapshot}
+use Rattle.rcu_core.specs.GpState.{Grace, number_in}
 use Rattle.rcu_core.proofs.Changes.{tended_is, tended_kept}
 use Rattle.rcu_core.proofs.Timely.{timely_at_most, timely_get}
 use Rattle.rcu_core.proofs.gp_state.GpState.tend.Goals as goal

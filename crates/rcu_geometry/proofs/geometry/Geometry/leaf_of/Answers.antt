@@ -1,5 +1,5 @@
 use Rattle.std.proofs.Common.{◌-◌, ap, ◌∙◌, arith, rules}
-use Rattle.rcu_geometry.specs.Shapes.{levels, leaf_of}
+use Rattle.rcu_geometry.specs.Geometry.{levels, leaf_of}
 use Rattle.rcu_geometry.proofs.Capacities.{levels_range}
 use Rattle.rcu_geometry.proofs.Places.{lies_below, leaf_lies}
 use Rattle.rcu_geometry.proofs.geometry.Geometry.leaf_of.Goals as goal

@@ -1,5 +1,5 @@
 use Rattle.std.proofs.Common.{◌≡◌, ◌-◌, arith, ◌∙◌}
-use Rattle.rcu_geometry.specs.Shapes.{level_nodes}
+use Rattle.rcu_geometry.specs.Geometry.{level_nodes}
 use Rattle.rcu_geometry.proofs.Levels.{start_next, level_within, leaves_by}
 use Rattle.rcu_geometry.proofs.geometry.Geometry.level_nodes.Goals as goal
 

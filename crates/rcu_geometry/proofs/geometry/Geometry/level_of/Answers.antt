@@ -1,5 +1,5 @@
 use Rattle.std.proofs.Common.{◌≡◌, ◌-◌, ◌≤◌, subst, ap, ◌∙◌, arith}
-use Rattle.rcu_geometry.specs.Shapes.{IsLegal, levels, level_start}
+use Rattle.rcu_geometry.specs.Geometry.{IsLegalShape, levels, level_start}
 use Rattle.rcu_geometry.proofs.Capacities.{levels_range}
 use Rattle.rcu_geometry.proofs.Levels.{start_zero, level_by}
 use Rattle.rcu_geometry.proofs.Places.{level_some_of}
@@ -43,12 +43,12 @@ returns-clause-value g c =
 
 pub returns-then-node-start-clause-below_root : goal.returns-then-node-start-clause-below_root
 returns-then-node-start-clause-below_root g c = λ other.
-    let legal = subst (λ s. IsLegal s) c.self.view_is c.self.invariant.legal in
+    let legal = subst (λ s. IsLegalShape s) c.self.view_is c.self.invariant.legal in
     let some = level_some_of c.args.self.now c.args.node legal other c.requires in
     omega (arith, some, returns-then-node-start-clause-value g c)
 
 pub returns-clause-below_root : goal.returns-clause-below_root
 returns-clause-below_root g c = λ other.
-    let legal = subst (λ s. IsLegal s) c.self.view_is c.self.invariant.legal in
+    let legal = subst (λ s. IsLegalShape s) c.self.view_is c.self.invariant.legal in
     let some = level_some_of c.args.self.now c.args.node legal other c.requires in
     omega (arith, some, returns-clause-value g c)

@@ -1,5 +1,5 @@
 use Rattle.std.proofs.Common.{◌-◌, ◌≤◌}
-use Rattle.rcu_geometry.specs.Shapes.{level_start}
+use Rattle.rcu_geometry.specs.Geometry.{level_start}
 use Rattle.rcu_geometry.proofs.geometry.Geometry.level_of.Given as goal
 
 -- the node is in no level before

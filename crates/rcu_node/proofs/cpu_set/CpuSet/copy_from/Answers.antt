@@ -1,5 +1,5 @@
 use Rattle.std.proofs.Common.{◌≡◌, arith, ap, ◌∙◌, sym, subst, length, List, Bool, ℕ}
-use Rattle.rcu_node.specs.CpuSets.{size_of}
+use Rattle.rcu_node.specs.CpuSet.{size_of}
 use Rattle.rcu_node.specs.Words.{flags_in, HasNoneFrom}
 use Rattle.rcu_node.proofs.Words.{cpus-is}
 use Rattle.rcu_node.proofs.cpu_set.CpuSet.copy_from.Goals as goal

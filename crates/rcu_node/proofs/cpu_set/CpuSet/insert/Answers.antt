@@ -1,6 +1,6 @@
 use Rattle.std.proofs.Common.{arith, ap, ◌∙◌, sym, ◌<◌, length, List, Bool}
 use Rattle.std.proofs.lemmas.List.{length-set}
-use Rattle.rcu_node.specs.CpuSets.{size_of}
+use Rattle.rcu_node.specs.CpuSet.{size_of}
 use Rattle.rcu_node.specs.Words.{flags_in}
 use Rattle.rcu_node.proofs.Flags.{size_of-insert, size_of-within}
 use Rattle.rcu_node.proofs.Words.{cpus-is, word_below, insert-is, none_beyond-insert}

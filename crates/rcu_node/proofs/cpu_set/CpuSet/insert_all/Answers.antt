@@ -1,5 +1,5 @@
 use Rattle.std.proofs.Common.{◌≡◌, ◌≤◌, ◌*◌, ◌∙◌, arith, sym, ap, subst, length, List, ℕ}
-use Rattle.rcu_node.specs.CpuSets.{size_of}
+use Rattle.rcu_node.specs.CpuSet.{size_of}
 use Rattle.rcu_node.specs.Words.{flags_in, HasNoneFrom}
 use Rattle.rcu_node.proofs.Words.{cpus-is}
 use Rattle.rcu_node.proofs.Union.{union-is, none_beyond-merged, count-is, written_merged}

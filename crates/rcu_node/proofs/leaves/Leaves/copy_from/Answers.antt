@@ -1,5 +1,5 @@
 use Rattle.std.proofs.Common.{sym, ap, ◌∙◌, List, Bool}
-use Rattle.rcu_node.specs.CpuSets.{size_of}
+use Rattle.rcu_node.specs.CpuSet.{size_of}
 use Rattle.rcu_node.proofs.Masks.{cpus-is, held}
 use Rattle.rcu_node.proofs.leaves.Leaves.copy_from.Goals as goal
 

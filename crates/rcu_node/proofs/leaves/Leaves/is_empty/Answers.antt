@@ -1,5 +1,5 @@
 use Rattle.std.proofs.Common.{◌∙◌, ◌==◌, ◌<◌, ap, arith, List, Bool}
-use Rattle.rcu_node.specs.CpuSets.{size_of}
+use Rattle.rcu_node.specs.CpuSet.{size_of}
 use Rattle.rcu_node.specs.Masks.{members}
 use Rattle.rcu_node.proofs.Masks.{empty-is}
 use Rattle.rcu_node.proofs.leaves.Leaves.is_empty.Goals as goal

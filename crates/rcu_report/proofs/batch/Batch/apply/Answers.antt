@@ -1,5 +1,5 @@
 use Rattle.std.proofs.Common.{◌≤◌, ap, arith, length}
-use Rattle.rcu_report.specs.Batches.{Gathered}
+use Rattle.rcu_report.specs.Batch.{Gathered}
 use Rattle.rcu_report.proofs.Batches.{counted_all, left_by_all}
 use Rattle.rcu_report.proofs.batch.Batch.apply.Goals as goal
 

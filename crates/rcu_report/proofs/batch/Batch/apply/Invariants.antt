@@ -1,5 +1,5 @@
 use Rattle.std.proofs.Common.{◌≡◌, ◌+◌, length}
-use Rattle.rcu_node.specs.CpuSets.{size_of}
+use Rattle.rcu_node.specs.CpuSet.{size_of}
 use Rattle.rcu_report.proofs.Batches.{IsClearedBelow}
 use Rattle.rcu_report.proofs.batch.Batch.apply.Given as goal
 

@@ -1,5 +1,5 @@
 use Rattle.std.proofs.Common.{◌≡◌, false, replicate, Ok, Err, OnOk, IfErr, inl, inr, ap, ◌∙◌, sym}
-use Rattle.rcu_node.specs.CpuSets.{intersection}
+use Rattle.rcu_node.specs.CpuSet.{intersection}
 use Rattle.rcu_report.proofs.Awaiting.{IsMerged, length-merged, none_merged}
 use Rattle.rcu_report.proofs.replica.Replica.merge_from.Goals as goal
 

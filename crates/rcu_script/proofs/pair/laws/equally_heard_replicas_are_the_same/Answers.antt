@@ -1,5 +1,5 @@
 use Rattle.std.proofs.Common.{sym, ap, ◌∙◌}
-use Rattle.rcu_report.specs.Replicas.{Replicated}
+use Rattle.rcu_report.specs.Replica.{Replicated}
 use Rattle.rcu_script.proofs.PairCalls.{are_made, equal_sets_are_same}
 use Rattle.rcu_script.proofs.pair.laws.equally_heard_replicas_are_the_same.Goals as goal
 

@@ -1,5 +1,5 @@
 use Rattle.std.proofs.Common.{◌∙◌, ap}
-use Rattle.rcu_report.specs.Replicas.{Replicated, cpus_of}
+use Rattle.rcu_report.specs.Replica.{Replicated, cpus_of}
 use Rattle.rcu_script.proofs.PairLemmas.{cpus_kept}
 use Rattle.rcu_script.proofs.pair.machine.answer.Goals as goal
 

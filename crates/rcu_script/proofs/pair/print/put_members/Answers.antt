@@ -1,6 +1,6 @@
 use Rattle.std.proofs.Common.{◌≡◌, ◌∙◌, sym, length, arith}
 use Rattle.std.proofs.lemmas.Result.{err_from_is_err_and}
-use Rattle.rcu_node.specs.CpuSets.{is_in}
+use Rattle.rcu_node.specs.CpuSet.{is_in}
 use Rattle.rcu_script.proofs.PairLemmas.{member_none, member_sent, member_stops, members_all}
 use Rattle.rcu_script.proofs.pair.print.put_members.Goals as goal
 use Rattle.rcu_script.proofs.pair.print.put_members.Goals.{then-awaits+in_ok-put_spaced, else-awaits}

@@ -1,6 +1,6 @@
 use Rattle.std.specs.Prelude.{filter, flat_map}
 use Rattle.std.specs.List.{range_with_len}
-use Rattle.rcu_node.specs.CpuSets.{is_in}
+use Rattle.rcu_node.specs.CpuSet.{is_in}
 use Rattle.rcu_text.specs.Outputs.{Sends}
 use Rattle.rcu_text.specs.Texts.{spaced}
 use Rattle.rcu_script.proofs.pair.print.put_members.Given as goal

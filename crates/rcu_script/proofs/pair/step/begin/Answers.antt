@@ -2,7 +2,7 @@ use Rattle.std.proofs.Common.{rules, ◌≡◌, true}
 use Rattle.std.proofs.lemmas.Result.{err_from_is_err_and}
 use Rattle.std.specs.List.{list_all}
 use Rattle.std.specs.Prelude.{nat_lt}
-use Rattle.rcu_report.specs.Replicas.{cpus_of}
+use Rattle.rcu_report.specs.Replica.{cpus_of}
 use Rattle.rcu_script.proofs.pair.step.begin.Goals as goal
 
 pub returns-in_err-number-clause-err : goal.returns-in_err-number-clause-err

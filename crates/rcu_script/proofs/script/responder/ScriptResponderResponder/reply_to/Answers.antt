@@ -1,7 +1,7 @@
 use Rattle.std.proofs.Common.{refl, [], ◌∙◌, subst}
 use Rattle.rcu_seq.specs.declared.fault.Fault.TheVariants as fault
-use Rattle.rcu_core.specs.Replies.{IsLegalReply, Size, after, situation}
-use Rattle.rcu_core.specs.State.{size_at}
+use Rattle.rcu_core.specs.Replies.{IsLegalReply, Size, with_event, situation}
+use Rattle.rcu_core.specs.Core.{size_at}
 use Rattle.rcu_core.specs.declared.reply.Reply.TheVariants as reply
 use Rattle.rcu_script.specs.ScriptAnswers.{AnswersLine}
 use Rattle.rcu_script.specs.ScriptLines.{asked_by}
@@ -40,7 +40,7 @@ returns-in-Ask g c =
       out = c.put_reply-in-Ask.ensures;
       told = λ opened lines text whole told alike.
           let size = size_at opened.core in
-          let end = after told.0 c.in-Ask.event said in
+          let end = with_event told.0 c.in-Ask.event said in
           let went = c.step-reply.ensures told.0 told.3 in
           let legal : IsLegalReply size (situation told.0) c.in-Ask.event said = subst (λ (s : Size). IsLegalReply s (situation told.0) c.in-Ask.event said) told.2 went.legal in
           let a : AnswersLine size told.0 (asked_by whole) (text_of said) end =

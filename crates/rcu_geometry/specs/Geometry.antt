@@ -31,7 +31,7 @@ refusal s =
     else (if not (is_held s) then Some TooManyCpus else None)
 
 -- a shape that a tree can have
-pub record IsLegal (s : Shape) : Type 0 where
+pub record IsLegalShape (s : Shape) : Type 0 where
   pub leaf_low : 2 ≤ s.leaf
   pub leaf_high : s.leaf ≤ 64
   pub fan_low : 2 ≤ s.fan

@@ -1,18 +1,19 @@
 -- The state of the grace periods and the callbacks: what each call leaves, and when it is refused.
 use Rattle.std.specs.Prelude.{ℕ, ◌+◌, ◌≤◌, ◌≡◌, ◌==◌, ◌&&◌, Bool, true, false, not, max, nat_lt, if◌then◌else◌, List, [], ◌∷◌, All, Option, Some, None}
-use Rattle.rcu_seq.specs.Cookies.{snapshot_of}
-use Rattle.rcu_seq.specs.Numbers.{Number, Periods, number_of, same_number}
+use Rattle.rcu_seq.specs.Seq.{snapshot_of}
+use Rattle.rcu_seq.specs.Numbers.{Number, same_number}
+use Rattle.rcu_seq.specs.Seq.{Periods, number_of}
 use Rattle.rcu_seq.specs.declared.fault.Fault.{Fault}
 use Rattle.rcu_seq.specs.declared.fault.Fault.TheVariants as fault
-use Rattle.rcu_node.specs.CpuSets.{size_of}
-use Rattle.rcu_node.specs.Reports.{answer_to, without}
+use Rattle.rcu_node.specs.CpuSet.{size_of}
+use Rattle.rcu_node.specs.Reports.{report_answer, awaited_after_report}
 use Rattle.rcu_node.specs.declared.answer.Answer.{Answer}
 use Rattle.rcu_node.specs.declared.answer.Answer.TheVariants.{Stale}
 use Rattle.rcu_report.specs.declared.report.Report.{Report}
-use Rattle.rcu_hotplug.specs.Calls.{Processors, Call, Begin, cpus_of, next, at_first as present_at_first}
-use Rattle.rcu_cblist.specs.Items.{Item, Mark, Of, Marker, Unmarked, Until, Done, numbers}
-use Rattle.rcu_barrier.specs.AllLists.{AllLists, begun as barred, cpus_of as cpus_of_lists, list_of, migrated as migrated_lists, queued_on, run_on, tended_on, tested, visited_by, at_first as lists_at_first}
-use Rattle.rcu_barrier.specs.Tending.{snapshot}
+use Rattle.rcu_hotplug.specs.Hotplug.{Processors, Call, Begin, cpus_of, after_call, at_first as present_at_first}
+use Rattle.rcu_cblist.specs.SegList.{Item, Mark, Of, Marker, Unmarked, Until, Done, numbers}
+use Rattle.rcu_barrier.specs.Lists.{AllLists, lists_after_barrier_begin as barred, cpus_of as cpus_of_lists, list_of, lists_after_migrate as migrated_lists, lists_after_queue, lists_after_run, lists_after_tend, lists_after_barrier_test, lists_after_visit, at_first as lists_at_first}
+use Rattle.rcu_seq.specs.Numbers.{snapshot}
 use Rattle.rcu_core.specs.Callbacks.{greatest_from}
 use Rattle.rcu_core.specs.declared.turned.Turned.{Turned}
 use Rattle.rcu_core.specs.declared.turned.Turned.TheVariants as turned
@@ -53,7 +54,7 @@ module _ {X : Type 0} where
 
   -- after a call on the processors
   abbrev pub with_call : Grace X → Call → Grace X
-  with_call g call = record g { processors = next g.processors call }
+  with_call g call = record g { processors = after_call g.processors call }
 
   -- why no grace period begins: one runs, or the number is the last one
   abbrev pub begin_refusal : Grace X → Option Fault
@@ -62,8 +63,8 @@ module _ {X : Type 0} where
       else (if same_number (number_in g) g.seq.last then Some fault.Exhausted else None)
 
   -- a grace period began: it awaits the online processors, and its tag is the number
-  abbrev pub begun : Grace X → Grace X
-  begun g = let seq = record g.seq { running = true } in record (with_call g (Begin (number_of seq))) { seq = seq }
+  abbrev pub after_begin : Grace X → Grace X
+  after_begin g = let seq = record g.seq { running = true } in record (with_call g (Begin (number_of seq))) { seq = seq }
 
   -- why none ends: none runs, or a processor is awaited
   abbrev pub end_refusal : Grace X → Option Fault
@@ -72,24 +73,24 @@ module _ {X : Type 0} where
       else (if nat_lt 0 (awaited_in g) then Some fault.Waiting else None)
 
   -- the grace period ended
-  abbrev pub ended : Grace X → Grace X
-  ended g = record g { seq = record g.seq { ends = g.seq.ends + 1; running = false } }
+  abbrev pub after_end : Grace X → Grace X
+  after_end g = record g { seq = record g.seq { ends = g.seq.ends + 1; running = false } }
 
   -- the answer to a report: while no grace period runs each is stale
-  abbrev pub answer_in : Grace X → Report → Answer
-  answer_in g report = if g.seq.running then answer_to (number_in g) g.processors.awaited report.cpu report.tag else Stale
+  abbrev pub report_answer_in : Grace X → Report → Answer
+  report_answer_in g report = if g.seq.running then report_answer (number_in g) g.processors.awaited report.cpu report.tag else Stale
 
   -- who is awaited after a report: one that is not stale clears its processor
   abbrev pub awaited_after : Grace X → Report → List Bool
-  awaited_after g report = if g.seq.running then without (number_in g) g.processors.awaited report.cpu report.tag else g.processors.awaited
+  awaited_after g report = if g.seq.running then awaited_after_report (number_in g) g.processors.awaited report.cpu report.tag else g.processors.awaited
 
   -- with these processors awaited
   abbrev pub with_awaited : Grace X → List Bool → Grace X
   with_awaited g awaited = record g { processors = record g.processors { awaited = awaited } }
 
   -- after a report
-  abbrev pub reported : Grace X → Report → Grace X
-  reported g report = with_awaited g (awaited_after g report)
+  abbrev pub after_report : Grace X → Report → Grace X
+  after_report g report = with_awaited g (awaited_after g report)
 
   -- a later number is needed, and no grace period runs
   abbrev pub wants_begin : Grace X → Bool
@@ -100,53 +101,53 @@ module _ {X : Type 0} where
   turn_refusal g = if wants_begin g && same_number (number_in g) g.seq.last then Some fault.Exhausted else None
 
   -- what a turn does: a running grace period ends where nobody is awaited; where none runs, one begins if it is needed
-  abbrev pub turn_of : Grace X → Turned
-  turn_of g =
-      if g.seq.running then (if awaited_in g == 0 then turned.Ended (number_in (ended g)) else turned.Waiting (awaited_in g))
-      else (if wants_begin g then turned.Begun (number_in (begun g)) (awaited_in (begun g)) else turned.Nothing)
+  abbrev pub turn_answer : Grace X → Turned
+  turn_answer g =
+      if g.seq.running then (if awaited_in g == 0 then turned.Ended (number_in (after_end g)) else turned.Waiting (awaited_in g))
+      else (if wants_begin g then turned.Begun (number_in (after_begin g)) (awaited_in (after_begin g)) else turned.Nothing)
 
   -- what a turn leaves
-  abbrev pub turned_to : Grace X → Grace X
-  turned_to g =
-      if g.seq.running then (if awaited_in g == 0 then ended g else g)
-      else (if wants_begin g then begun g else g)
+  abbrev pub after_turn : Grace X → Grace X
+  after_turn g =
+      if g.seq.running then (if awaited_in g == 0 then after_end g else g)
+      else (if wants_begin g then after_begin g else g)
 
   -- a poll was started: the number of its cookie is needed
-  abbrev pub started : Grace X → Grace X
-  started g = record g { needed = max g.needed (snapshot_of g.seq) }
+  abbrev pub after_start_poll : Grace X → Grace X
+  after_start_poll g = record g { needed = max g.needed (snapshot_of g.seq) }
 
   -- with these lists
   abbrev pub with_lists : Grace X → AllLists X → Grace X
   with_lists g lists = record g { lists = lists }
 
   -- a callback was queued on a processor, at the number
-  abbrev pub queued_to : ℕ → X → Grace X → Grace X
-  queued_to cpu value g = with_lists g (queued_on cpu (number_in g) value g.lists)
+  abbrev pub after_queue : Grace X → ℕ → X → Grace X
+  after_queue g cpu value = with_lists g (lists_after_queue g.lists cpu (number_in g) value)
 
   -- a processor's list was tended at the number; what it then waits for is needed
-  abbrev pub tended_of : ℕ → Grace X → Grace X
-  tended_of cpu g = let lists = tended_on cpu (number_in g) g.lists in
+  abbrev pub after_tend : Grace X → ℕ → Grace X
+  after_tend g cpu = let lists = lists_after_tend g.lists cpu (number_in g) in
       record g { lists = lists; needed = greatest_from g.needed (numbers (list_of lists cpu)) }
 
   -- at most so many callbacks were handed out of a processor's done part
-  abbrev pub run_of : ℕ → ℕ → Grace X → Grace X
-  run_of cpu most g = with_lists g (run_on cpu most g.lists)
+  abbrev pub after_run : Grace X → ℕ → ℕ → Grace X
+  after_run g cpu most = with_lists g (lists_after_run g.lists cpu most)
 
   -- a processor's list moved to processor 0
-  abbrev pub migrated : ℕ → Grace X → Grace X
-  migrated cpu g = with_lists g (migrated_lists cpu g.lists)
+  abbrev pub after_migrate : Grace X → ℕ → Grace X
+  after_migrate g cpu = with_lists g (migrated_lists g.lists cpu)
 
   -- a barrier began
-  abbrev pub barrier_begun : Grace X → Grace X
-  barrier_begun g = with_lists g (barred g.lists)
+  abbrev pub after_barrier_begin : Grace X → Grace X
+  after_barrier_begin g = with_lists g (barred g.lists)
 
   -- the barrier visited a processor
-  abbrev pub visited_of : ℕ → Grace X → Grace X
-  visited_of cpu g = with_lists g (visited_by cpu g.lists)
+  abbrev pub after_visit : Grace X → ℕ → Grace X
+  after_visit g cpu = with_lists g (lists_after_visit g.lists cpu)
 
   -- the barrier was tested
-  abbrev pub barrier_tested : Grace X → Grace X
-  barrier_tested g = with_lists g (tested g.lists)
+  abbrev pub after_barrier_test : Grace X → Grace X
+  after_barrier_test g = with_lists g (lists_after_barrier_test g.lists)
 
   -- each callback of the list is timely at the number
   abbrev pub AreTimely : Number → List (Item X) → Type 0
@@ -156,7 +157,7 @@ module _ {X : Type 0} where
 
   -- what always holds: a list for each processor; while a grace period runs, its number is the tag of the awaited set; and
   -- each callback is timely at the number
-  pub record IsKept (g : Grace X) : Type 0 where
+  pub record IsSound (g : Grace X) : Type 0 where
     pub tag : g.seq.running ≡ true → g.processors.tag ≡ number_in g
     pub sized : cpus_of_lists g.lists ≡ cpus_of g.processors
     pub timely : All (AreTimely (number_in g)) g.lists.lists

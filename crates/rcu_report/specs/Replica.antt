@@ -1,11 +1,12 @@
 -- Replicas of one grace-period engine: what each call leaves, and when it is refused.
 use Rattle.std.specs.Prelude.{ℕ, ◌≡◌, ◌+◌, ◌-◌, ◌==◌, Bool, true, false, not, nat_lt, if◌then◌else◌, List, length, slice_set, replicate, Option, Some, None}
-use Rattle.rcu_seq.specs.Numbers.{Number, Periods, number_at, number_of}
+use Rattle.rcu_seq.specs.Numbers.{Number, number_at}
+use Rattle.rcu_seq.specs.Seq.{Periods, number_of}
 use Rattle.rcu_seq.specs.declared.fault.Fault.{Fault}
 use Rattle.rcu_seq.specs.declared.fault.Fault.TheVariants.{BadCpu, Running, Idle, Waiting, Exhausted, BootStays, NotAlike}
-use Rattle.rcu_node.specs.CpuSets.{intersection, is_in, size_of}
+use Rattle.rcu_node.specs.CpuSet.{intersection, is_in, size_of}
 use Rattle.rcu_node.specs.Merging.{Standing, are_alike, standing}
-use Rattle.rcu_node.specs.Reports.{answer_to, without}
+use Rattle.rcu_node.specs.Reports.{report_answer, awaited_after_report}
 use Rattle.rcu_node.specs.declared.answer.Answer.{Answer}
 use Rattle.rcu_node.specs.declared.answer.Answer.TheVariants.{Stale}
 
@@ -49,7 +50,7 @@ latest_of p = if p.running then number_of p else (if p.ends == 0 then 0 else num
 
 -- the answer to a report: stale while no grace period runs, whatever its number, else as the awaited set's
 abbrev pub answer_of : Replicated → ℕ → Number → Answer
-answer_of r cpu number = if r.periods.running then answer_to r.tag r.awaited cpu number else Stale
+answer_of r cpu number = if r.periods.running then report_answer r.tag r.awaited cpu number else Stale
 
 -- the call can be made: a set that begins is one of as many processors
 abbrev pub CanBeMade : Replicated → Call → Type 0
@@ -73,21 +74,21 @@ refusal r (Merge other) = if are_alike (standing_of r) (standing_of other) then 
 -- what an accepted call leaves: a beginning grace period awaits its set and has the new number as its tag; a report
 -- clears as reports do while a grace period runs, and nothing else; who departs is awaited no more; an end is counted;
 -- whom the other replica does not await is awaited no more
-abbrev pub next : Replicated → Call → Replicated
-next r (Begin set) = record {
+abbrev pub after_call : Replicated → Call → Replicated
+after_call r (Begin set) = record {
   periods = record r.periods { running = true };
   tag = number_at r.periods.ends true;
   start_set = set;
   awaited = set;
 }
-next r (Report cpu number) = if r.periods.running then record r { awaited = without r.tag r.awaited cpu number } else r
-next r (Depart cpu) = record r { awaited = slice_set r.awaited cpu false }
-next r End = record r { periods = record r.periods { ends = r.periods.ends + 1; running = false } }
-next r (Merge other) = record r { awaited = intersection r.awaited other.awaited }
+after_call r (Report cpu number) = if r.periods.running then record r { awaited = awaited_after_report r.tag r.awaited cpu number } else r
+after_call r (Depart cpu) = record r { awaited = slice_set r.awaited cpu false }
+after_call r End = record r { periods = record r.periods { ends = r.periods.ends + 1; running = false } }
+after_call r (Merge other) = record r { awaited = intersection r.awaited other.awaited }
 
 -- what always holds: there is a flag for each processor, only processors of the start set are awaited, the tag is the
 -- latest grace period's number, none was awaited before any, and none is while no grace period runs
-pub record AreKept (r : Replicated) : Type 0 where
+pub record IsSound (r : Replicated) : Type 0 where
   pub started : length r.start_set ≡ cpus_of r
   pub within : (cpu : ℕ) → is_in r.awaited cpu ≡ true → is_in r.start_set cpu ≡ true
   pub latest : r.tag ≡ latest_of r.periods

@@ -1,7 +1,7 @@
 -- Reports of one tag, gathered as the set of their processors.
 use Rattle.std.specs.Prelude.{ℕ, ◌≡◌, ◌&&◌, Bool, not, List, length, All, if◌then◌else◌}
 use Rattle.rcu_seq.specs.Numbers.{Number, same_number}
-use Rattle.rcu_node.specs.CpuSets.{is_in, listed}
+use Rattle.rcu_node.specs.CpuSet.{is_in, listed}
 use Rattle.rcu_node.specs.Reports.{was_reported}
 
 -- a batch, as contracts see it: the tag of its reports, and their processors
@@ -15,8 +15,8 @@ difference set other = listed (length set) (λ cpu. is_in set cpu && not (is_in 
 
 -- what is awaited after the reports of a batch, where the grace period of a number awaits this set: those that no
 -- report of the batch is of, where the tag is the number
-abbrev pub left_by : Gathered → Number → List Bool → List Bool
-left_by batch number awaited = if same_number batch.tag number then difference awaited batch.set else awaited
+abbrev pub awaited_after_batch : Number → List Bool → Gathered → List Bool
+awaited_after_batch number awaited batch = if same_number batch.tag number then difference awaited batch.set else awaited
 
 -- reports, each of a processor and a tag, are those of a batch, in any order and any number of times: each has its
 -- tag, and their processors are its set

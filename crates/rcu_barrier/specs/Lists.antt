@@ -1,8 +1,8 @@
 -- All processors' lists, and the barrier over them: what each call leaves, and what it answers.
 use Rattle.std.specs.Prelude.{ℕ, ◌≡◌, ◌≤◌, ◌+◌, ◌==◌, ◌&&◌, Bool, true, false, not, if◌then◌else◌, List, [], ◌∷◌, ◌++◌, length, replicate, slice_index_or, slice_set}
 use Rattle.rcu_seq.specs.Numbers.{Number}
-use Rattle.rcu_cblist.specs.Items.{Item, Of, Unmarked, entrained, is_empty, markers, moved, untaken}
-use Rattle.rcu_barrier.specs.Tending.{AreFours, tended}
+use Rattle.rcu_cblist.specs.SegList.{Item, Of, Unmarked, after_entrain, is_empty, markers, after_migrate, after_take}
+use Rattle.rcu_barrier.specs.Tending.{AreFours, after_tend}
 use Rattle.rcu_barrier.specs.declared.visit.Visit.{Visit}
 use Rattle.rcu_barrier.specs.declared.visit.Visit.TheVariants as visit
 use Rattle.rcu_barrier.specs.declared.barrier_state.BarrierState.{BarrierState}
@@ -53,74 +53,74 @@ module _ {X : Type 0} where
   is_visited all cpu = slice_index_or all.visited cpu true
 
   -- the processor has this list, and the others theirs
-  abbrev pub with_list : ℕ → List (Item X) → AllLists X → AllLists X
-  with_list cpu xs all = record all { lists = slice_set all.lists cpu xs }
+  abbrev pub with_list : AllLists X → ℕ → List (Item X) → AllLists X
+  with_list all cpu xs = record all { lists = slice_set all.lists cpu xs }
 
   -- a callback, queued at this number, is at the end of the processor's list, and is counted
-  abbrev pub queued_on : ℕ → Number → X → AllLists X → AllLists X
-  queued_on cpu number x all =
-      record (with_list cpu (list_of all cpu ++ Of (record { ord = all.queued + 1; at = number; value = x }) Unmarked ∷ []) all) {
+  abbrev pub lists_after_queue : AllLists X → ℕ → Number → X → AllLists X
+  lists_after_queue all cpu number x =
+      record (with_list all cpu (list_of all cpu ++ Of (record { ord = all.queued + 1; at = number; value = x }) Unmarked ∷ [])) {
         queued = all.queued + 1;
       }
 
   -- the processor's list is tended at this number
-  abbrev pub tended_on : ℕ → Number → AllLists X → AllLists X
-  tended_on cpu number all = with_list cpu (tended number (list_of all cpu)) all
+  abbrev pub lists_after_tend : AllLists X → ℕ → Number → AllLists X
+  lists_after_tend all cpu number = with_list all cpu (after_tend (list_of all cpu) number)
 
   -- what a take of at most so many callbacks leaves of the processor's list
-  abbrev pub run_on : ℕ → ℕ → AllLists X → AllLists X
-  run_on cpu most all = with_list cpu (untaken most (list_of all cpu)) all
+  abbrev pub lists_after_run : AllLists X → ℕ → ℕ → AllLists X
+  lists_after_run all cpu most = with_list all cpu (after_take (list_of all cpu) most)
 
   -- a barrier runs that did not visit the processor
-  abbrev pub is_owed : ℕ → AllLists X → Bool
-  is_owed cpu all = all.running && not (is_visited all cpu)
+  abbrev pub owes_visit : AllLists X → ℕ → Bool
+  owes_visit all cpu = all.running && not (is_visited all cpu)
 
   -- the list as it leaves, with a marker behind it where a visit is owed
-  abbrev pub leaving : Bool → List (Item X) → List (Item X)
-  leaving owed xs = if owed then entrained xs else xs
+  abbrev pub as_it_leaves : List (Item X) → Bool → List (Item X)
+  as_it_leaves xs owed = if owed then after_entrain xs else xs
 
   -- the processor is visited where that is owed, and its list moved to processor 0
-  abbrev pub migrated : ℕ → AllLists X → AllLists X
-  migrated cpu all = record all {
-    lists = slice_set (slice_set all.lists 0 (moved (leaving (is_owed cpu all) (list_of all cpu)) (list_of all 0))) cpu [];
-    visited = if is_owed cpu all then slice_set all.visited cpu true else all.visited;
+  abbrev pub lists_after_migrate : AllLists X → ℕ → AllLists X
+  lists_after_migrate all cpu = record all {
+    lists = slice_set (slice_set all.lists 0 (after_migrate (list_of all 0) (as_it_leaves (list_of all cpu) (owes_visit all cpu)))) cpu [];
+    visited = if owes_visit all cpu then slice_set all.visited cpu true else all.visited;
   }
 
   -- a barrier begins, with each processor unvisited
-  abbrev pub begun : AllLists X → AllLists X
-  begun all = record all { visited = replicate (cpus_of all) false; running = true }
+  abbrev pub lists_after_barrier_begin : AllLists X → AllLists X
+  lists_after_barrier_begin all = record all { visited = replicate (cpus_of all) false; running = true }
 
   -- a visit of a processor: where it is unvisited, a marker behind its list, if that is not empty
-  abbrev pub visited_by : ℕ → AllLists X → AllLists X
-  visited_by cpu all =
+  abbrev pub lists_after_visit : AllLists X → ℕ → AllLists X
+  lists_after_visit all cpu =
       if is_visited all cpu then all
-      else record (with_list cpu (entrained (list_of all cpu)) all) { visited = slice_set all.visited cpu true }
+      else record (with_list all cpu (after_entrain (list_of all cpu))) { visited = slice_set all.visited cpu true }
 
   -- what a visit answers
-  abbrev pub visit_answer : ℕ → AllLists X → Visit
-  visit_answer cpu all =
+  abbrev pub visit_answer : AllLists X → ℕ → Visit
+  visit_answer all cpu =
       if is_visited all cpu then visit.Already
       else (if is_empty (list_of all cpu) then visit.Empty else visit.Marked)
 
   -- what the barrier waits for: markers, and unvisited processors
-  abbrev pub left_of : AllLists X → ℕ
-  left_of all = markers_in all.lists + unvisited all.visited
+  abbrev pub barrier_left : AllLists X → ℕ
+  barrier_left all = markers_in all.lists + unvisited all.visited
 
   -- a test ends the barrier where it waits for nothing
-  abbrev pub tested : AllLists X → AllLists X
-  tested all = if left_of all == 0 then record all { running = false } else all
+  abbrev pub lists_after_barrier_test : AllLists X → AllLists X
+  lists_after_barrier_test all = if barrier_left all == 0 then record all { running = false } else all
 
   -- what a test answers
-  abbrev pub test_answer : AllLists X → BarrierState
-  test_answer all = if left_of all == 0 then state.Done else state.Waits (left_of all)
+  abbrev pub barrier_test_answer : AllLists X → BarrierState
+  barrier_test_answer all = if barrier_left all == 0 then state.Done else state.Waits (barrier_left all)
 
   -- what always holds: 1 to 4,096 processors, each with a flag; a barrier waits for at most one thing a processor, and
   -- for nothing while none runs, so that no marker is left then; at most so many are queued; numbers are multiples of 4
-  pub record AreKept (all : AllLists X) : Type 0 where
+  pub record IsSound (all : AllLists X) : Type 0 where
     pub some : 1 ≤ cpus_of all
     pub few : cpus_of all ≤ 4096
     pub sized : length all.visited ≡ cpus_of all
-    pub within : left_of all ≤ cpus_of all
-    pub idle : all.running ≡ false → left_of all ≡ 0
+    pub within : barrier_left all ≤ cpus_of all
+    pub idle : all.running ≡ false → barrier_left all ≡ 0
     pub counted : all.queued ≤ most_queued
     pub fours : AllFours all.lists

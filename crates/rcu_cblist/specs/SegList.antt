@@ -47,11 +47,11 @@ module _ {X : Type 0} where
   callback_of Marker = None
 
   -- the number that an item carries, none where it carries none
-  abbrev pub number_of : Item X → Option Number
-  number_of (Of call (Until n)) = Some n
-  number_of (Of call Unmarked) = None
-  number_of (Of call Done) = None
-  number_of Marker = None
+  abbrev pub number_carried : Item X → Option Number
+  number_carried (Of call (Until n)) = Some n
+  number_carried (Of call Unmarked) = None
+  number_carried (Of call Done) = None
+  number_carried Marker = None
 
   -- the item is a callback that is not done
   abbrev pub waits : Item X → Bool
@@ -71,7 +71,7 @@ module _ {X : Type 0} where
 
   -- the numbers that callbacks carry, in order
   abbrev pub numbers : List (Item X) → List Number
-  numbers xs = filter_map number_of xs
+  numbers xs = filter_map number_carried xs
 
   -- how many markers there are
   abbrev pub markers : List (Item X) → ℕ
@@ -93,24 +93,24 @@ module _ {X : Type 0} where
   begins_with_marker (x ∷ xs) = is_marker x
 
   -- the list once a marker is put behind its callbacks; an empty one gets none
-  abbrev pub entrained : List (Item X) → List (Item X)
-  entrained xs = if is_empty xs then xs else xs ++ Marker ∷ []
+  abbrev pub after_entrain : List (Item X) → List (Item X)
+  after_entrain xs = if is_empty xs then xs else xs ++ Marker ∷ []
 
   -- the item without its mark
-  abbrev pub unmarked : Item X → Item X
-  unmarked x = remarked (λ _. Unmarked) x
+  abbrev pub without_mark : Item X → Item X
+  without_mark x = remarked (λ _. Unmarked) x
 
   -- the list once the number is reached
-  abbrev pub advanced : Number → List (Item X) → List (Item X)
-  advanced number xs = map (remarked (mark_advanced number)) xs
+  abbrev pub after_advance : List (Item X) → Number → List (Item X)
+  after_advance xs number = map (remarked (mark_advanced number)) xs
 
   -- no callback carries a number above the snapshot
   abbrev pub IsAtMost : Number → List (Item X) → Type 0
   IsAtMost snap xs = All (λ n. n ≤ snap) (numbers xs)
 
   -- the list once each unmarked callback is given the snapshot, which changes nothing where two different numbers below it are carried
-  abbrev pub accelerated : Number → List (Item X) → List (Item X)
-  accelerated snap xs = if has_two snap (numbers xs) then xs else map (remarked (mark_given snap)) xs
+  abbrev pub after_accelerate : List (Item X) → Number → List (Item X)
+  after_accelerate xs snap = if has_two snap (numbers xs) then xs else map (remarked (mark_given snap)) xs
 
   -- the done part: the longest front with no callback that waits
   abbrev pub front : List (Item X) → List (Item X)
@@ -123,8 +123,8 @@ module _ {X : Type 0} where
   behind (x ∷ xs) = if waits x then x ∷ xs else behind xs
 
   -- what a take hands out: the first callbacks of the done part, at most so many
-  abbrev pub taken : ℕ → List (Item X) → List (Queued X)
-  taken most xs = take most (callbacks (front xs))
+  abbrev pub take_answer : List (Item X) → ℕ → List (Queued X)
+  take_answer xs most = take most (callbacks (front xs))
 
   -- the list from one of its callbacks on, which are counted from 0
   abbrev pub from_callback : ℕ → List (Item X) → List (Item X)
@@ -134,13 +134,13 @@ module _ {X : Type 0} where
   from_callback (suc n) (Of call mark ∷ xs) = from_callback n xs
 
   -- what a take leaves: the list from the first callback on that it does not hand out
-  abbrev pub untaken : ℕ → List (Item X) → List (Item X)
-  untaken most xs = from_callback (length (taken most xs)) xs
+  abbrev pub after_take : List (Item X) → ℕ → List (Item X)
+  after_take xs most = from_callback (length (take_answer xs most)) xs
 
   -- how many markers a take passes
-  abbrev pub passed : ℕ → List (Item X) → ℕ
-  passed most xs = markers xs - markers (untaken most xs)
+  abbrev pub markers_passed : List (Item X) → ℕ → ℕ
+  markers_passed xs most = markers xs - markers (after_take xs most)
 
   -- what a target that had ys has once xs moved there: the done part in front of ys, and the rest behind it without its marks
-  abbrev pub moved : List (Item X) → List (Item X) → List (Item X)
-  moved xs ys = (front xs ++ ys) ++ map unmarked (behind xs)
+  abbrev pub after_migrate : List (Item X) → List (Item X) → List (Item X)
+  after_migrate ys xs = (front xs ++ ys) ++ map without_mark (behind xs)

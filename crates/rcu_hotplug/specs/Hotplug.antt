@@ -3,8 +3,8 @@ use Rattle.std.specs.Prelude.{ℕ, ◌≡◌, ◌==◌, Bool, true, false, not, 
 use Rattle.rcu_seq.specs.Numbers.{Number}
 use Rattle.rcu_seq.specs.declared.fault.Fault.{Fault}
 use Rattle.rcu_seq.specs.declared.fault.Fault.TheVariants.{BadCpu, Offline, AlreadyOnline, BootStays}
-use Rattle.rcu_node.specs.CpuSets.{is_in}
-use Rattle.rcu_node.specs.Reports.{without}
+use Rattle.rcu_node.specs.CpuSet.{is_in}
+use Rattle.rcu_node.specs.Reports.{awaited_after_report}
 
 -- the latest grace period's number, the processors that it awaited at its start, those that it awaits now, and those
 -- that are online
@@ -48,15 +48,15 @@ refusal p (Report cpu number) = None
 
 -- what an accepted call leaves: who arrives is online, who departs is neither online nor awaited, a beginning grace
 -- period awaits the online processors, and a report clears as reports do
-abbrev pub next : Processors → Call → Processors
-next p (Arrive cpu) = record p { online = slice_set p.online cpu true }
-next p (Depart cpu) = record p { online = slice_set p.online cpu false; awaited = slice_set p.awaited cpu false }
-next p (Begin number) = record p { tag = number; start_set = p.online; awaited = p.online }
-next p (Report cpu number) = record p { awaited = without p.tag p.awaited cpu number }
+abbrev pub after_call : Processors → Call → Processors
+after_call p (Arrive cpu) = record p { online = slice_set p.online cpu true }
+after_call p (Depart cpu) = record p { online = slice_set p.online cpu false; awaited = slice_set p.awaited cpu false }
+after_call p (Begin number) = record p { tag = number; start_set = p.online; awaited = p.online }
+after_call p (Report cpu number) = record p { awaited = awaited_after_report p.tag p.awaited cpu number }
 
 -- what always holds: there is a flag for each processor, processor 0 is online, and only online processors of the
 -- start set are awaited
-pub record AreKept (p : Processors) : Type 0 where
+pub record IsSound (p : Processors) : Type 0 where
   pub started : length p.start_set ≡ cpus_of p
   pub sized : length p.online ≡ cpus_of p
   pub boot : is_in p.online 0 ≡ true

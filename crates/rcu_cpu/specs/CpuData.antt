@@ -1,0 +1,60 @@
+-- One processor: its calls, where each is accepted, and what it leaves.
+use Rattle.std.specs.Prelude.{ℕ, ◌+◌, ◌-◌, ◌≡◌, ◌<◌, Bool, true, false, List, [], ◌∷◌}
+use Rattle.rcu_seq.specs.Numbers.{Number}
+use Rattle.rcu_report.specs.declared.report.Report.{Report}
+
+-- a processor: its number, whether it is online, how deep its read sections nest, and the number that it noted
+pub record Processor : Type 0 where
+  pub cpu : ℕ
+  pub online : Bool
+  pub depth : ℕ
+  pub noted : Number
+
+-- how deep read sections nest at most
+abbrev pub deepest : ℕ
+deepest = 65535
+
+-- a processor at its making: no section is open, and the number 0 is noted
+abbrev pub at_first : ℕ → Bool → Processor
+at_first cpu online = record { cpu = cpu; online = online; depth = 0; noted = 0 }
+
+-- the report of its quiescent state: its number, and the number that it noted
+abbrev pub report_of : Processor → Report
+report_of p = record { cpu = p.cpu; tag = p.noted }
+
+-- a call; a note and an arrival are given the grace-period number
+pub data Call : Type 0 where
+  Enter : Call
+  Exit : Call
+  Note : Number → Call
+  Quiesce : Call
+  Arrive : Number → Call
+  Depart : Call
+
+-- the call is accepted: no cause of its faults stands
+abbrev pub IsAccepted : Processor → Call → Type 0
+IsAccepted p Enter = (p.online ≡ true) × (p.depth < deepest)
+IsAccepted p Exit = 0 < p.depth
+IsAccepted p (Note _) = p.online ≡ true
+IsAccepted p Quiesce = (p.online ≡ true) × (p.depth ≡ 0)
+IsAccepted p (Arrive _) = p.online ≡ false
+IsAccepted p Depart = (p.online ≡ true) × (p.depth ≡ 0)
+
+-- the processor after an accepted call
+abbrev pub after_call : Processor → Call → Processor
+after_call p Enter = record p { depth = p.depth + 1 }
+after_call p Exit = record p { depth = p.depth - 1 }
+after_call p (Note number) = record p { noted = number }
+after_call p Quiesce = p
+after_call p (Arrive number) = record p { online = true; noted = number }
+after_call p Depart = record p { online = false }
+
+-- the processor made so, after these calls, the newest first
+abbrev pub after_calls : ℕ → Bool → List Call → Processor
+after_calls cpu online [] = at_first cpu online
+after_calls cpu online (call ∷ earlier) = after_call (after_calls cpu online earlier) call
+
+-- each of the calls was accepted, after the earlier ones
+abbrev pub AreAccepted : ℕ → Bool → List Call → Type 0
+AreAccepted cpu online [] = Unit {0}
+AreAccepted cpu online (call ∷ earlier) = IsAccepted (after_calls cpu online earlier) call × AreAccepted cpu online earlier
