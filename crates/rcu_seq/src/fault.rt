@@ -2,8 +2,8 @@
 
 use thiserror::Error;
 
-/// Why a call is refused. A call tests its causes in the order that its documentation gives, and a refused call
-/// changes nothing.
+/// Why a call is refused. A call tests its causes in the order that its documentation gives, and a
+/// refused call changes nothing.
 #[derive(Clone, Copy, Debug, PartialEq, Eq, Error)]
 pub enum Fault {
     /// The processor's number is not below the number of processors.

@@ -1,5 +1,6 @@
 //! The counter of grace periods.
-ghost use Rattle.std.specs.Prelude.{◌≡◌, ◌+◌, ◌*◌, ◌≢◌, ◌≤◌, ◌^◌, ◌%◌, true, false, IfOk, IfErr, OnOk, OnErr, MatchResult};
+ghost use Rattle.std.specs.Prelude.{◌≡◌, ◌+◌, ◌*◌, ◌≢◌, ◌≤◌, ◌^◌, ◌%◌, true, false, IfOk, IfErr};
+ghost use Rattle.std.specs.Prelude.{OnOk, OnErr, MatchResult};
 ghost use Rattle.rcu_seq.specs.Numbers.{is_last};
 ghost use Rattle.rcu_seq.specs.Seq.{is_done, number_of, snapshot_of};
 
@@ -13,10 +14,11 @@ const TO_END: u64 = 3;
 /// The greatest last number, 2^62.
 const GREATEST_LAST: u64 = 1 << 62;
 
-/// The counter of grace periods, which begins idle at 0 (Linux's `gp_seq`, RCU's Data-Structures document).
+/// The counter of grace periods, which begins idle at 0 (Linux's `gp_seq`, RCU's Data-Structures
+/// document).
 ///
-/// Its number is `4k` where `k` grace periods ended and none runs, and `4k + 1` while one runs. Contracts see
-/// the count of ended grace periods, whether one runs, and the last number.
+/// Its number is `4k` where `k` grace periods ended and none runs, and `4k + 1` while one runs.
+/// Contracts see the count of ended grace periods, whether one runs, and the last number.
 #[derive(Debug, Drop)]
 pub struct Seq {
     value: u64,
@@ -30,7 +32,11 @@ impl Model for Seq {
 
     ghost Value = { Periods };
 
-    ghost view = { λ s. record { ends = s.value / 4; running = is_running s.value; last = s.last } };
+    ghost view = { λ s. record {
+      ends = s.value / 4;
+      running = is_running s.value;
+      last = s.last;
+    } };
 
     ghost invariant = { λ s. record {
       state : s.value % 4 ≤ 1;
@@ -55,7 +61,8 @@ impl Seq {
         }
     }
 
-    /// The number: 4 times the grace periods that ended, and 1 more while one runs. It is at most 2^62.
+    /// The number: 4 times the grace periods that ended, and 1 more while one runs. It is at most
+    /// 2^62.
     pub fn value(&self) -> u64
         ensures value { result ≡ number_of self.now }
         ensures within { result ≤ self.now.last }
@@ -102,8 +109,10 @@ impl Seq {
         ensures before_last { OnOk result (number_of self.old ≢ self.old.last) }
         ensures begun { OnOk result (self.new ≡ record self.old { running = true }) }
         ensures running { IfErr result (λ fault. self.old.running ≡ true → fault ≡ Fault.Running) }
-        ensures exhausted { IfErr result (λ fault. self.old.running ≡ false → fault ≡ Fault.Exhausted) }
-        ensures at_last { OnErr result (self.old.running ≡ false → number_of self.old ≡ self.old.last) }
+        ensures exhausted { IfErr result (λ fault. self.old.running ≡ false →
+            fault ≡ Fault.Exhausted) }
+        ensures at_last { OnErr result (self.old.running ≡ false →
+            number_of self.old ≡ self.old.last) }
         ensures unchanged { OnErr result (self.new ≡ self.old) }
     {
         if self.is_running() {
@@ -122,7 +131,10 @@ impl Seq {
     pub fn end(&mut self) -> Result<u64, Fault>
         ensures ok { IfOk result (λ number. number ≡ number_of self.new) }
         ensures ran { OnOk result (self.old.running ≡ true) }
-        ensures ended { OnOk result (self.new ≡ record self.old { ends = self.old.ends + 1; running = false }) }
+        ensures ended { OnOk result (self.new ≡ record self.old {
+          ends = self.old.ends + 1;
+          running = false;
+        }) }
         ensures idle { IfErr result (λ fault. (fault ≡ Fault.Idle) × (self.old.running ≡ false)) }
         ensures unchanged { OnErr result (self.new ≡ self.old) }
     {
