@@ -6,7 +6,7 @@ use Rattle.std.proofs.lemmas.Nat.{shr-shr}
 use Rattle.std.proofs.lemmas.Nat.Bits.{bit_at-lt, bit_at_and, bit_at_ones, bit_at_ones_above, bit_at_cat_low, bit_at_cat_high}
 use Rattle.rcu_node.specs.CpuSet.{is_in}
 use Rattle.rcu_node.specs.Words.{has_bit, flags_in, HasNoneFrom}
-use Rattle.rcu_node.proofs.Flags.{is_in-listed, length-listed, is_in-beyond}
+use Rattle.rcu_node.proofs.CpuSetLemmas.{is_in-listed, length-listed, is_in-beyond}
 use Rattle.rcu_node.proofs.Words.{flag_in}
 
 -- a shift moves every bit down

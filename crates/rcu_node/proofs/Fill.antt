@@ -7,7 +7,7 @@ use Rattle.rcu_geometry.specs.Geometry.{ceil}
 use Rattle.rcu_node.specs.CpuSet.{is_in}
 use Rattle.rcu_node.specs.Masks.{AreMasks, IsRoot}
 use Rattle.rcu_node.specs.Words.{has_bit}
-use Rattle.rcu_node.proofs.Masks.{in_none}
+use Rattle.rcu_node.proofs.CpuSetLemmas.{in_none}
 
 -- the first i leaves hold a set, and the root has just those of them that are not empty
 pub record AreFilled (leaf : ℕ) (masks : List ℕ) (root set : List Bool) (i : ℕ) : Type 0 where

@@ -1,33 +1,18 @@
 -- What is awaited by who was heard.
-use Rattle.std.proofs.Common.{◌≡◌, ℕ, ◌==◌, ◌&&◌, ◌||◌, ◌++◌, Bool, true, false, not, List, [], ◌∷◌, length, refl, sym, ap, ◌∙◌, inl, inr}
+use Rattle.std.proofs.Common.{◌≡◌, ℕ, ◌==◌, ◌&&◌, ◌||◌, ◌++◌, Bool, true, false, not, List, [], ◌∷◌, refl, sym, ap, ◌∙◌}
 use Rattle.std.proofs.Math.Bool.{or-false}
-use Rattle.std.proofs.lemmas.Bool.{cases_Bool}
-use Rattle.std.proofs.lemmas.List.{length-set}
 use Rattle.rcu_seq.specs.Numbers.{Number, same_number}
 use Rattle.rcu_node.specs.CpuSet.{intersection, is_in, unheard}
-use Rattle.rcu_node.specs.Reports.{awaited_after_reports, was_reported, awaited_after_report}
-use Rattle.rcu_node.proofs.Flags.{same_from_flags}
-use Rattle.rcu_node.proofs.Joins.{is_in-intersection, length-intersection, is_in-unheard, length-unheard}
-use Rattle.rcu_node.proofs.Reports.{unreported}
-
--- a report keeps a flag for each processor
-length-without : (number : Number) (set : List Bool) (cpu : ℕ) (tag : Number) → length (awaited_after_report number set cpu tag) ≡ length set
-length-without number set cpu tag = elim (cases_Bool (same_number tag number)) [
-  | inl e ↦ rw e (length-set set cpu false)
-  | inr e ↦ rw e refl
-]
-
-length-after_reports : (number : Number) (set : List Bool) (reports : List (ℕ × Number)) → length (awaited_after_reports number set reports) ≡ length set
-length-after_reports number set [] = refl
-length-after_reports number set (report ∷ earlier) =
-    length-without number (awaited_after_reports number set earlier) report.0 report.1 ∙ length-after_reports number set earlier
+use Rattle.rcu_node.specs.Reports.{awaited_after_reports, was_reported}
+use Rattle.rcu_node.proofs.CpuSetLemmas.{is_in-intersection, is_in-unheard, length-intersection, length-unheard, same_from_flags}
+use Rattle.rcu_node.proofs.ReportLemmas.{length-awaited_after_reports, unreported}
 
 -- after reports the unheard are awaited
 pub after_reports-unheard : (number : Number) (set : List Bool) (reports : List (ℕ × Number))
     → awaited_after_reports number set reports ≡ unheard set (λ cpu. was_reported number cpu reports)
 after_reports-unheard number set reports =
     let heard = λ (cpu : ℕ). was_reported number cpu reports in
-    same_from_flags (awaited_after_reports number set reports) (unheard set heard) (length-after_reports number set reports ∙ sym (length-unheard set heard)) (λ cpu.
+    same_from_flags (awaited_after_reports number set reports) (unheard set heard) (length-awaited_after_reports number set reports ∙ sym (length-unheard set heard)) (λ cpu.
     unreported number set reports cpu ∙ sym (is_in-unheard set heard cpu))
 
 -- where the same were heard, the same are unheard

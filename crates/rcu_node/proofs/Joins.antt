@@ -1,27 +1,12 @@
 -- Merging is a join.
-use Rattle.std.proofs.Common.{◌≡◌, ℕ, ◌==◌, ◌&&◌, Bool, true, false, not, List, length, refl, sym, ap, ◌∙◌}
+use Rattle.std.proofs.Common.{◌≡◌, ℕ, ◌==◌, ◌&&◌, Bool, true, false, List, length, refl, sym, ap, ◌∙◌}
 use Rattle.std.specs.Bool.{Decides}
 use Rattle.std.proofs.lemmas.Bool.{and_parts}
 use Rattle.std.proofs.lemmas.Bool.Decides.{Decides-eqb}
 use Rattle.rcu_seq.specs.Numbers.{same_number}
-use Rattle.rcu_node.specs.CpuSet.{intersection, is_in, unheard}
+use Rattle.rcu_node.specs.CpuSet.{intersection, is_in}
 use Rattle.rcu_node.specs.Merging.{IsAtLeast, Standing, are_alike, merged, same_set}
-use Rattle.rcu_node.proofs.Flags.{length-listed, is_in-listed_within, same_from_flags}
-use Rattle.rcu_node.proofs.Merges.{same_set-Decides}
-
--- a processor is in an intersection where it is in both
-pub is_in-intersection : (a b : List Bool) (cpu : ℕ) → is_in (intersection a b) cpu ≡ (is_in a cpu && is_in b cpu)
-is_in-intersection a b cpu = is_in-listed_within a (λ k. is_in a k && is_in b k) cpu (λ e. rw e refl)
-
-pub length-intersection : (a b : List Bool) → length (intersection a b) ≡ length a
-length-intersection a b = length-listed (length a) (λ cpu. is_in a cpu && is_in b cpu)
-
--- a processor is unheard where it is in the set and was not heard
-pub is_in-unheard : (set : List Bool) (heard : ℕ → Bool) (cpu : ℕ) → is_in (unheard set heard) cpu ≡ (is_in set cpu && not (heard cpu))
-is_in-unheard set heard cpu = is_in-listed_within set (λ k. is_in set k && not (heard k)) cpu (λ e. rw e refl)
-
-pub length-unheard : (set : List Bool) (heard : ℕ → Bool) → length (unheard set heard) ≡ length set
-length-unheard set heard = length-listed (length set) (λ cpu. is_in set cpu && not (heard cpu))
+use Rattle.rcu_node.proofs.CpuSetLemmas.{is_in-intersection, length-intersection, same_from_flags, same_set-Decides}
 
 -- tests of one, two and three sets
 and_commutes : (a b : Bool) → (a && b) ≡ (b && a)

@@ -1,12 +1,13 @@
 pub mod Bits
+pub mod CpuSetLemmas
 pub mod Cut
 pub mod Fill
-pub mod Flags
 pub mod Heard
 pub mod Joins
 pub mod Masks
 pub mod Merges
 pub mod Ones
-pub mod Reports
+pub mod RangeLemmas
+pub mod ReportLemmas
 pub mod Union
 pub mod Words

@@ -5,13 +5,13 @@ use Rattle.std.proofs.lemmas.Bool.{cases_eq, cases_lt}
 use Rattle.std.proofs.lemmas.Bool.Decides.{nat_tests}
 use Rattle.std.proofs.lemmas.Nat.{mod_below, div-add-mod', div_below, mul-le, same_from_place, one_shl}
 use Rattle.std.proofs.lemmas.Grind.{div_ceil_times}
-use Rattle.std.proofs.lemmas.List.{get_or_past, get_or_read, get_or-set_same, get_or-set_other, get_or-replicate, length-set, length-replicate}
+use Rattle.std.proofs.lemmas.List.{get_or_read, get_or-set_same, get_or-set_other, get_or-replicate, length-set, length-replicate}
 use Rattle.rcu_geometry.specs.Geometry.{Shape, IsLegalShape, ceil}
 use Rattle.rcu_node.specs.CpuSet.{is_in, size_of}
 use Rattle.rcu_node.specs.Masks.{members, AreMasks, IsRoot}
 use Rattle.rcu_node.specs.Words.{has_bit}
 use Rattle.rcu_node.proofs.Bits.{has_bit_shr, has_bit-zero, has_bit_clear_same, has_bit_clear_rest, no_bits}
-use Rattle.rcu_node.proofs.Flags.{length-listed, is_in-listed, listed_same, size_of-empty, nobody_in}
+use Rattle.rcu_node.proofs.CpuSetLemmas.{in_none, is_in-listed, length-listed, listed_same, nobody_in, size_of-empty}
 
 -- the leaf of a processor is there
 pub leaf_below : (leaf cpu cpus : ℕ) → 0 < leaf → cpu < cpus → cpu / leaf < ceil cpus leaf
@@ -24,13 +24,6 @@ leaf_starts_below leaf place cpus w l =
     let more = mul-le (place + 1) leaf (ceil cpus leaf) leaf (omega arith) (omega arith) in
     let split : (place + 1) * leaf ≡ place * leaf + leaf = grind arith in
     omega (arith, bounds, more, split)
-
--- nobody is in the empty set
-pub in_none : (n cpu : ℕ) → is_in (replicate n false) cpu ≡ false
-in_none n cpu = elim (cases_lt cpu n) [
-  | inl l ↦ get_or-replicate n cpu false false l
-  | inr l ↦ get_or_past (replicate n false) cpu false (omega (arith, l, length-replicate n false))
-]
 
 -- the set has a flag for each processor
 pub cpus-is : (s : Shape) (masks : List ℕ) (set : List Bool) → members s masks ≡ set → s.cpus ≡ length set
@@ -104,7 +97,7 @@ pub masks-none : (leaf n cpus : ℕ) → n ≡ ceil cpus leaf → AreMasks leaf 
 masks-none leaf n cpus e = record {
   sized = length-replicate {A = ℕ} n 0 ∙ e ∙ ap (λ m. ceil m leaf) (sym (length-replicate cpus false));
   bit = λ place bit l.
-      let empty = get_or-replicate n place 0 0 (omega (arith, l, length-replicate {A = ℕ} n 0)) in
+      let empty : slice_index (replicate n 0) place ≡ 0 = get_or-replicate n place 0 0 (omega (arith, l, length-replicate {A = ℕ} n 0)) in
       let nobody = in_none cpus (place * leaf + bit) in
       ap (λ v. has_bit v bit) empty ∙ has_bit-zero bit ∙ rw nobody (grind (arith, nat_tests));
 }
@@ -141,7 +134,7 @@ empty_below : (leaf : ℕ) (masks : List ℕ) (root set : List Bool) → 0 < lea
 empty_below leaf masks root set w kept top e = size_of-empty set (λ cpu l.
     let here : cpu / leaf < length masks = rw kept.sized (leaf_below leaf cpu (length set) w l) in
     let low = mod_below cpu leaf w in
-    let flag = sym (top.flag (cpu / leaf) here) ∙ nobody_in root (cpu / leaf) e in
+    let flag = sym (top.flag (cpu / leaf) here) ∙ nobody_in root e (cpu / leaf) in
     let zero : slice_index masks (cpu / leaf) ≡ 0 = grind (arith, nat_tests, flag) in
     let bit = kept.bit (cpu / leaf) (cpu % leaf) here in
     let none = ap (λ v. has_bit v (cpu % leaf)) zero ∙ has_bit-zero (cpu % leaf) in
@@ -153,7 +146,7 @@ empty_below leaf masks root set w kept top e = size_of-empty set (λ cpu l.
 empty_above : (leaf : ℕ) (masks : List ℕ) (root set : List Bool) → AreMasks leaf masks set → IsRoot masks root → size_of set ≡ 0 → size_of root ≡ 0
 empty_above leaf masks root set kept top e = size_of-empty root (λ place l.
     let here : place < length masks = omega (arith, l, top.sized) in
-    let zero = no_bits (slice_index masks place) (λ bit. let nobody = nobody_in set (place * leaf + bit) e in kept.bit place bit here ∙ rw nobody (grind (arith, nat_tests))) in
+    let zero = no_bits (slice_index masks place) (λ bit. let nobody = nobody_in set e (place * leaf + bit) in kept.bit place bit here ∙ rw nobody (grind (arith, nat_tests))) in
     top.flag place here ∙ ap (λ v. not (v == 0)) zero)
 
 -- the root tells whether the set is empty

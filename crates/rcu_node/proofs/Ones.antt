@@ -8,28 +8,14 @@ use Rattle.std.proofs.lemmas.Nat.{ones_le_self}
 use Rattle.std.proofs.lemmas.Nat.Bits.{bit_at-suc, bit_at_lowest}
 use Rattle.std.proofs.Math.Nat.{pow-suc}
 use lib.Count.{ones_step}
-use Rattle.rcu_node.specs.CpuSet.{listed, is_in, size_of}
+use Rattle.rcu_node.specs.CpuSet.{listed, size_of}
 use Rattle.rcu_node.specs.Words.{flags_in, has_bit}
-use Rattle.rcu_node.proofs.Flags.{length-listed, is_in-listed, listed_same, listed_none, size_of-none}
+use Rattle.rcu_node.proofs.CpuSetLemmas.{is_in-listed, length-listed, listed_first, listed_same, none_listed, size_of-none}
 use Rattle.rcu_node.proofs.Words.{flag_in}
-
--- no flag, no processor
-pub none_listed : (test : ℕ → Bool) → size_of (listed 0 test) ≡ 0
-none_listed test = ap (λ (set : List Bool). size_of set) (listed_none 0 test (λ i l. absurd (omega (arith, l)))) ∙ size_of-none 0
 
 -- two sets one after the other have as many as both
 size_of-append : (a b : List Bool) → size_of (a ++ b) ≡ size_of a + size_of b
 size_of-append a b = sum_by-append (λ (flag : Bool). cond flag 1 0) a b
-
--- the flag of the first, before the others
-pub listed_first : (n : ℕ) (test : ℕ → Bool) → listed (suc n) test ≡ test 0 ∷ listed n (λ i. test (suc i))
-listed_first n test =
-    let length : length (test 0 ∷ listed n (λ i. test (suc i))) ≡ suc n = ap suc (length-listed n (λ i. test (suc i))) in
-    listed_same (suc n) test (test 0 ∷ listed n (λ i. test (suc i))) length (flag n test)
-  where
-    flag : (n : ℕ) (test : ℕ → Bool) (i : ℕ) → i < suc n → test i ≡ is_in (test 0 ∷ listed n (λ k. test (suc k))) i
-    flag n test zero l = refl
-    flag n test (suc i) l = sym (is_in-listed n (λ k. test (suc k)) i (omega arith))
 
 -- those of m flags, and then those of the n after them
 listed_both : (m n : ℕ) (test first rest : ℕ → Bool) → ((i : ℕ) → i < m → test i ≡ first i) → ((i : ℕ) → i < n → test (m + i) ≡ rest i)

@@ -5,7 +5,7 @@ use Rattle.std.proofs.lemmas.List.{take-append-le, take_all}
 use Rattle.rcu_node.specs.CpuSet.{is_in, size_of, union}
 use Rattle.rcu_node.specs.Words.{flags_in, has_bit, HasNoneFrom}
 use Rattle.rcu_node.proofs.Bits.{has_bit_or}
-use Rattle.rcu_node.proofs.Flags.{length-listed, is_in-listed, listed_same}
+use Rattle.rcu_node.proofs.CpuSetLemmas.{length-listed, is_in-listed, listed_same}
 use Rattle.rcu_node.proofs.Ones.{size_of-listed_rest}
 use Rattle.rcu_node.proofs.Words.{flag_in, flag_in_past, cpus-is}
 

@@ -7,7 +7,7 @@ use Rattle.std.proofs.lemmas.List.{get_or_past, get_or-set_same, get_or-set_othe
 use Rattle.rcu_node.specs.CpuSet.{is_in, size_of}
 use Rattle.rcu_node.specs.Words.{flags_in, has_bit, HasNoneFrom}
 use Rattle.rcu_node.proofs.Bits.{has_bit_shr, has_bit-zero, has_bit_set_same, has_bit_set_other, has_bit_clear_same, has_bit_clear_other}
-use Rattle.rcu_node.proofs.Flags.{length-listed, listed_set, listed_none, is_in-listed, size_of-none}
+use Rattle.rcu_node.proofs.CpuSetLemmas.{length-listed, listed_set, listed_none, is_in-listed, size_of-none}
 
 -- a processor's flag in words
 abbrev pub flag_in : List ℕ → ℕ → Bool

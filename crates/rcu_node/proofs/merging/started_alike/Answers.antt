@@ -1,5 +1,5 @@
 use Rattle.std.proofs.Common.{◌≤◌, sym, arith, length}
-use Rattle.rcu_node.proofs.Merges.{same_when_all_agree, other_where_one_differs}
+use Rattle.rcu_node.proofs.CpuSetLemmas.{same_when_all_agree, other_where_one_differs}
 use Rattle.rcu_node.proofs.merging.started_alike.Goals as goal
 
 pub returns-then-starts : goal.returns-then-starts

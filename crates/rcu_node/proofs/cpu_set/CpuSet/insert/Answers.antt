@@ -2,7 +2,7 @@ use Rattle.std.proofs.Common.{arith, ap, ◌∙◌, sym, ◌<◌, length, List, 
 use Rattle.std.proofs.lemmas.List.{length-set}
 use Rattle.rcu_node.specs.CpuSet.{size_of}
 use Rattle.rcu_node.specs.Words.{flags_in}
-use Rattle.rcu_node.proofs.Flags.{size_of-insert, size_of-within}
+use Rattle.rcu_node.proofs.CpuSetLemmas.{size_of-insert, size_of-within}
 use Rattle.rcu_node.proofs.Words.{cpus-is, word_below, insert-is, none_beyond-insert}
 use Rattle.rcu_node.proofs.cpu_set.CpuSet.insert.Goals as goal
 

@@ -1,7 +1,7 @@
 use Rattle.std.proofs.Common.{arith, rules, ap, ◌∙◌, ◌<◌, length, List, Bool}
 use Rattle.std.proofs.lemmas.List.{length-set}
 use Rattle.rcu_node.specs.CpuSet.{size_of}
-use Rattle.rcu_node.proofs.Flags.{size_of-remove}
+use Rattle.rcu_node.proofs.CpuSetLemmas.{size_of-remove}
 use Rattle.rcu_node.proofs.Words.{cpus-is, word_below, remove-is, none_beyond-remove}
 use Rattle.rcu_node.proofs.cpu_set.CpuSet.remove.Goals as goal
 

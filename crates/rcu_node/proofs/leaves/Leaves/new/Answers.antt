@@ -1,7 +1,7 @@
 use Rattle.std.proofs.Common.{◌≡◌, ◌+◌, ◌-◌, ◌∙◌, sym, ap, rules, arith, replicate, false, List, Bool}
 use Rattle.rcu_geometry.specs.Geometry.{levels, refusal}
 use Rattle.rcu_node.specs.CpuSet.{size_of}
-use Rattle.rcu_node.proofs.Flags.{size_of-none}
+use Rattle.rcu_node.proofs.CpuSetLemmas.{size_of-none}
 use Rattle.rcu_node.proofs.Masks.{held-none, root-none}
 use Rattle.rcu_node.proofs.leaves.Leaves.new.Goals as goal
 

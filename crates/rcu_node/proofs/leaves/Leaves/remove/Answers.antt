@@ -1,6 +1,6 @@
 use Rattle.std.proofs.Common.{arith, rules, lit<, ap, ◌∙◌, List, Bool}
 use Rattle.rcu_node.specs.CpuSet.{size_of}
-use Rattle.rcu_node.proofs.Flags.{size_of-remove}
+use Rattle.rcu_node.proofs.CpuSetLemmas.{size_of-remove}
 use Rattle.rcu_node.proofs.Masks.{cpus-is, removed}
 use Rattle.rcu_node.proofs.leaves.Leaves.remove.Goals as goal
 
