@@ -6,9 +6,10 @@ use Rattle.std.proofs.lemmas.Bool.Decides.{nat_tests}
 use Rattle.std.proofs.lemmas.List.{length-set, length-replicate}
 use Rattle.rcu_seq.specs.Numbers.{Number, same_number}
 use Rattle.rcu_node.specs.CpuSet.{is_in}
+use Rattle.rcu_node.proofs.CpuSetLemmas.{in_none, is_in-insert, is_in-remove}
+use Rattle.rcu_node.proofs.ReportLemmas.{is_in-awaited_after_report, length-awaited_after_report, neither}
 use Rattle.rcu_hotplug.specs.Hotplug.{Processors, Arrive, Depart, Begin, Report, refusal, at_first, after_call}
 use Rattle.rcu_hotplug.specs.History.{History, AreAccepted, Represents, after_calls, came, is_heard, online, starts, tag}
-use Rattle.rcu_hotplug.proofs.Sets.{in_none, is_in-insert, is_in-remove, is_in-remove_where, length-remove_where}
 
 -- an accepted arrival is of a processor that there is
 arrival_below : (p : Processors) (cpu : ℕ) → refusal p (Arrive cpu) ≡ None → cpu < length p.awaited
@@ -38,13 +39,6 @@ has_gone true latest earlier h = ap not (h refl)
 has_gone false true true h = refl
 has_gone false true false h = refl
 has_gone false false earlier h = and-true earlier
-
--- not by this call and not by the others
-neither : (there earlier latest : Bool) → ((there && not earlier) && not latest) ≡ (there && not (latest || earlier))
-neither false earlier latest = refl
-neither true true true = refl
-neither true true false = refl
-neither true false latest = ap not (sym (or-false latest))
 
 -- the processors are as a history says, and there is a flag for each
 record IsTold (cpus : ℕ) (p : Processors) (h : History) : Type 0 where
@@ -119,13 +113,13 @@ told_begin cpus p h number told = record {
 told_report : (cpus : ℕ) (p : Processors) (h : History) (other : ℕ) (number : Number) → IsTold cpus p h
     → IsTold cpus (after_call p (Report other number)) (Report other number ∷ h)
 told_report cpus p h other number told = record {
-  awaited = length-remove_where (same_number number p.tag) p.awaited other ∙ told.awaited;
+  awaited = length-awaited_after_report p.tag p.awaited other number ∙ told.awaited;
   online = told.online;
   says = record {
     tag = told.says.tag;
     start_set = told.says.start_set;
     awaited = λ cpu l.
-        is_in-remove_where (same_number number p.tag) p.awaited other cpu
+        is_in-awaited_after_report p.tag p.awaited other number cpu
         ∙ ap (λ (n : Number). is_in p.awaited cpu && not (other == cpu && same_number number n)) told.says.tag
         ∙ ap (λ b. b && not (other == cpu && same_number number (tag h))) (told.says.awaited cpu l)
         ∙ neither (starts cpu h) (is_heard cpu (tag h) h) (other == cpu && same_number number (tag h))

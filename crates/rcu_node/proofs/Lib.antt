@@ -3,9 +3,9 @@ pub mod CpuSetLemmas
 pub mod Cut
 pub mod Fill
 pub mod Heard
-pub mod Joins
 pub mod Masks
 pub mod Merges
+pub mod MergingLemmas
 pub mod Ones
 pub mod RangeLemmas
 pub mod ReportLemmas

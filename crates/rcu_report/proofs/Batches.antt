@@ -3,13 +3,14 @@ use Rattle.std.proofs.Common.{◌≡◌, ℕ, suc, ◌+◌, ◌<◌, ◌≤◌, 
 use Rattle.std.proofs.Math.Bool.{and-true, and-false}
 use Rattle.std.proofs.lemmas.Bool.{cases_Bool}
 use Rattle.std.proofs.lemmas.Bool.Decides.{nat_tests}
-use Rattle.std.proofs.lemmas.List.{length-set, ext_get_or}
+use Rattle.std.proofs.lemmas.List.{ext_get_or}
 use Rattle.std.proofs.lemmas.List.Sums.{sum_by-cons}
 use Rattle.rcu_seq.specs.Numbers.{Number, same_number}
 use Rattle.rcu_node.specs.CpuSet.{is_in, size_of}
-use Rattle.rcu_node.specs.Reports.{awaited_after_report, awaited_after_reports, was_reported}
+use Rattle.rcu_node.specs.Reports.{awaited_after_reports, was_reported}
+use Rattle.rcu_node.proofs.CpuSetLemmas.{is_in-listed, length-listed, listed_first, none_listed}
+use Rattle.rcu_node.proofs.ReportLemmas.{length-awaited_after_reports, unreported}
 use Rattle.rcu_report.specs.Batch.{Gathered, difference, awaited_after_batch, AreOf}
-use Rattle.rcu_report.proofs.Sets.{length-listed, is_in-listed, listed_first, none_listed}
 
 -- what a batch leaves, by its flags
 is_in-left_by : (batch : Gathered) (number : Number) (awaited : List Bool) (cpu : ℕ) → cpu < length awaited
@@ -35,20 +36,6 @@ left_by-is batch number awaited later e h =
     ext_get_or false later (awaited_after_batch number awaited batch) (e ∙ sym (length-left_by batch number awaited))
     (λ cpu l. let m : cpu < length awaited = omega (arith, l, e) in h cpu m ∙ sym (is_in-left_by batch number awaited cpu m))
 
--- a report keeps a flag for each processor
-pub length-without : (number : Number) (awaited : List Bool) (cpu : ℕ) (tag : Number) → length (awaited_after_report number awaited cpu tag) ≡ length awaited
-length-without number awaited cpu tag = elim (cases_Bool (same_number tag number)) [
-  | inl e ↦ rw e (length-set awaited cpu false)
-  | inr e ↦ rw e refl
-]
-
--- reports too
-length-after_reports : (number : Number) (awaited : List Bool) (reports : List (ℕ × Number))
-    → length (awaited_after_reports number awaited reports) ≡ length awaited
-length-after_reports number awaited [] = refl
-length-after_reports number awaited (report ∷ earlier) =
-    length-without number (awaited_after_reports number awaited earlier) report.0 report.1 ∙ length-after_reports number awaited earlier
-
 -- a test of a report and one of the others, both under a third
 either_where : (a b c : Bool) → ((a && c) || (b && c)) ≡ ((a || b) && c)
 either_where true b true = refl
@@ -68,16 +55,11 @@ was_reported-is tag number cpu (report ∷ earlier) all =
     ∙ ap (λ b. ((report.0 == cpu && same_number report.1 tag) && same_number tag number) || b) (was_reported-is tag number cpu earlier others)
     ∙ either_where (report.0 == cpu && same_number report.1 tag) (was_reported tag cpu earlier) (same_number tag number)
 
--- after any reports just the unreported are awaited
-abbrev pub LeaveUnreported : Type 0
-LeaveUnreported = (number : Number) (set : List Bool) (reports : List (ℕ × Number)) (cpu : ℕ)
-    → is_in (awaited_after_reports number set reports) cpu ≡ (is_in set cpu && not (was_reported number cpu reports))
-
--- so a batch leaves what its reports leave
-pub batch_leaves-reports : LeaveUnreported → (batch : Gathered) (number : Number) (awaited : List Bool) (reports : List (ℕ × Number)) → AreOf batch reports
+-- a batch leaves what its reports leave
+pub batch_leaves-reports : (batch : Gathered) (number : Number) (awaited : List Bool) (reports : List (ℕ × Number)) → AreOf batch reports
     → awaited_after_batch number awaited batch ≡ awaited_after_reports number awaited reports
-batch_leaves-reports unreported batch number awaited reports of =
-    sym (left_by-is batch number awaited (awaited_after_reports number awaited reports) (length-after_reports number awaited reports) (λ cpu l.
+batch_leaves-reports batch number awaited reports of =
+    sym (left_by-is batch number awaited (awaited_after_reports number awaited reports) (length-awaited_after_reports number awaited reports) (λ cpu l.
     unreported number awaited reports cpu ∙ ap (λ b. is_in awaited cpu && not b)
     (was_reported-is batch.tag number cpu reports of.tags ∙ ap (λ b. b && same_number batch.tag number) (sym (of.cpus cpu)))))
 

@@ -7,19 +7,11 @@ use Rattle.std.proofs.lemmas.List.{length-set, length-replicate, ext_get_or}
 use Rattle.rcu_seq.specs.Numbers.{Number, number_at, same_number}
 use Rattle.rcu_node.specs.CpuSet.{is_in}
 use Rattle.rcu_node.specs.Reports.{awaited_after_report}
+use Rattle.rcu_node.proofs.CpuSetLemmas.{in_none, is_in-intersection, is_in-remove, length-intersection}
+use Rattle.rcu_node.proofs.ReportLemmas.{is_in-awaited_after_report, length-awaited_after_report, neither}
 use Rattle.rcu_report.specs.Replica.{Replicated, Call, Begin, Report, Depart, End, Merge, IsSound, CanBeMade, cpus_of, after_call, refusal}
 use Rattle.rcu_report.specs.History.{History, AreAccepted, Represents, AreAlike, after_calls, awaits, hears, is_heard, starts, tag}
-use Rattle.rcu_report.proofs.Awaiting.{in_none, is_in-intersection, length-intersection}
-use Rattle.rcu_report.proofs.Batches.{length-without}
-use Rattle.rcu_report.proofs.Replicas.{by_running, is_in-remove, is_in-without, kept_at_first, kept_next, merging_agrees}
-
--- not by this call and not by the others
-neither : (there earlier latest : Bool) → ((there && not earlier) && not latest) ≡ (there && not (latest || earlier))
-neither false earlier latest = refl
-neither true true true = refl
-neither true true false = refl
-neither true false true = refl
-neither true false false = refl
+use Rattle.rcu_report.proofs.Replicas.{by_running, kept_at_first, kept_next, merging_agrees}
 
 -- who is awaited no more stays so
 no_more : (there earlier latest : Bool) → (there && not earlier) ≡ false → (there && not (latest || earlier)) ≡ false
@@ -48,7 +40,7 @@ cpus_of-next : (r : Replicated) (call : Call) → CanBeMade r call → cpus_of (
 cpus_of-next r (Begin set) made = made
 cpus_of-next r (Report cpu number) made =
     by_running (λ (left : Replicated). cpus_of left ≡ cpus_of r) r (record r { awaited = awaited_after_report r.tag r.awaited cpu number })
-    (λ runs. length-without r.tag r.awaited cpu number) (λ rests. refl)
+    (λ runs. length-awaited_after_report r.tag r.awaited cpu number) (λ rests. refl)
 cpus_of-next r (Depart cpu) made = length-set r.awaited cpu false
 cpus_of-next r End made = refl
 cpus_of-next r (Merge other) made = length-intersection r.awaited other.awaited
@@ -62,7 +54,7 @@ says_report r h other number says = record {
   tag = says.tag;
   start_set = says.start_set;
   awaited = λ cpu.
-      is_in-without r.tag r.awaited other number cpu
+      is_in-awaited_after_report r.tag r.awaited other number cpu
       ∙ ap (λ (n : Number). is_in r.awaited cpu && not (other == cpu && same_number number n)) says.tag
       ∙ ap (λ b. b && not (other == cpu && same_number number (tag h))) (says.awaited cpu)
       ∙ neither (starts cpu h) (is_heard cpu (tag h) h) (other == cpu && same_number number (tag h));
@@ -115,8 +107,8 @@ says_next r h (Merge other) accepted kept says = record {
   start_set = says.start_set;
   awaited = λ cpu.
       let agrees = merging_agrees r other accepted in
-      let started = ap (λ (set : List Bool). is_in set cpu) (sym agrees.start_set) ∙ says.start_set cpu in
-      let tagged : same_number other.tag (tag h) ≡ true = grind (arith, nat_tests, agrees.tag, says.tag) in
+      let started = ap (λ (set : List Bool). is_in set cpu) (sym agrees.2) ∙ says.start_set cpu in
+      let tagged : same_number other.tag (tag h) ≡ true = grind (arith, nat_tests, agrees.1, says.tag) in
       is_in-intersection r.awaited other.awaited cpu ∙ ap (λ b. b && is_in other.awaited cpu) (says.awaited cpu)
       ∙ rw (tagged, started) (nor_by_the_other (starts cpu h) (is_heard cpu (tag h) h) (is_in other.awaited cpu));
 }

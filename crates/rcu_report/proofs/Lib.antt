@@ -3,4 +3,3 @@ pub mod Batches
 pub mod Histories
 pub mod Merged
 pub mod Replicas
-pub mod Sets

@@ -1,61 +1,21 @@
 -- What the calls of replicas keep.
-use Rattle.std.proofs.Common.{◌≡◌, ℕ, zero, suc, ◌==◌, ◌&&◌, Bool, true, false, not, if◌then◌else◌, List, [], ◌∷◌, length, slice_set, replicate, None, refl, sym, ap, ◌∙◌, arith, inl, inr}
-use Rattle.std.specs.Cmp.{booleans_Decides}
-use Rattle.std.proofs.Math.Bool.{and-true, and-false}
-use Rattle.std.proofs.lemmas.Bool.{and_right, cases_Bool, true≢false}
+use Rattle.std.proofs.Common.{◌≡◌, ℕ, ◌==◌, ◌&&◌, Bool, true, false, not, if◌then◌else◌, List, length, slice_set, replicate, None, refl, sym, ap, ◌∙◌, arith, inl, inr}
+use Rattle.std.proofs.lemmas.Bool.{cases_Bool, true≢false}
 use Rattle.std.proofs.lemmas.Bool.Decides.{nat_tests}
 use Rattle.std.proofs.lemmas.List.{length-set, length-replicate}
-use Rattle.std.proofs.lemmas.Slice.Eq.{slice_eq-Decides}
 use Rattle.rcu_seq.specs.Numbers.{Number, same_number}
 use Rattle.rcu_node.specs.CpuSet.{intersection, is_in, size_of}
-use Rattle.rcu_node.specs.Merging.{Standing, are_alike, same_set}
+use Rattle.rcu_node.specs.Merging.{are_alike}
 use Rattle.rcu_node.specs.Reports.{awaited_after_report}
+use Rattle.rcu_node.proofs.CpuSetLemmas.{in_none, is_in-intersection, is_in-remove, length-intersection, nobody_in}
+use Rattle.rcu_node.proofs.MergingLemmas.{Equals, are_alike-Decides}
+use Rattle.rcu_node.proofs.ReportLemmas.{is_in-awaited_after_report, length-awaited_after_report}
 use Rattle.rcu_report.specs.Replica.{Replicated, Call, Begin, Report, Depart, End, Merge, IsSound, CanBeMade, at_first, cpus_of, after_call, refusal, standing_of}
-use Rattle.rcu_report.proofs.Awaiting.{in_none, is_in-intersection, length-intersection, nobody_in}
-use Rattle.rcu_report.proofs.Batches.{length-without}
-
--- a flag is cleared, wherever it stands
-pub is_in-remove : (set : List Bool) (cpu k : ℕ) → is_in (slice_set set cpu false) k ≡ (is_in set k && not (cpu == k))
-is_in-remove [] cpu k = refl
-is_in-remove (x ∷ xs) zero zero = sym (and_right x false refl)
-is_in-remove (x ∷ xs) zero (suc k) = grind (arith, nat_tests)
-is_in-remove (x ∷ xs) (suc cpu) zero = grind (arith, nat_tests)
-is_in-remove (x ∷ xs) (suc cpu) (suc k) = is_in-remove xs cpu k ∙ grind (arith, nat_tests)
-
--- and by a report
-pub is_in-without : (number : Number) (set : List Bool) (cpu : ℕ) (tag : Number) (k : ℕ)
-    → is_in (awaited_after_report number set cpu tag) k ≡ (is_in set k && not (cpu == k && same_number tag number))
-is_in-without number set cpu tag k = elim (cases_Bool (same_number tag number)) [
-  | inl e ↦ rw e (is_in-remove set cpu k ∙ ap (λ b. is_in set k && not b) (sym (and-true (cpu == k))))
-  | inr e ↦ rw e (sym (and-true (is_in set k)) ∙ ap (λ b. is_in set k && not b) (sym (and-false (cpu == k))))
-]
 
 -- who is in what both tests leave, passes the first
 first_of : (there gone : Bool) → (there && gone) ≡ true → there ≡ true
 first_of true gone e = refl
 first_of false gone e = e
-
--- two that began alike have the same number of processors, tag and start set
-pub record Agree (x y : Standing) : Type 0 where
-  pub cpus : length x.awaited ≡ length y.awaited
-  pub tag : x.tag ≡ y.tag
-  pub start_set : x.start_set ≡ y.start_set
-
-pub alike_agree : (x y : Standing) → are_alike x y ≡ true → Agree x y
-alike_agree x y e =
-    let rest = last_of (length x.awaited == length y.awaited) (same_number x.tag y.tag && same_set x.start_set y.start_set) e in
-    let cpus = first_of (length x.awaited == length y.awaited) (same_number x.tag y.tag && same_set x.start_set y.start_set) e in
-    let tag = first_of (same_number x.tag y.tag) (same_set x.start_set y.start_set) rest in
-    let set = last_of (same_number x.tag y.tag) (same_set x.start_set y.start_set) rest in
-    record {
-      cpus = grind (arith, nat_tests, cpus);
-      tag = grind (arith, nat_tests, tag);
-      start_set = (slice_eq-Decides booleans_Decides x.start_set y.start_set (same_set x.start_set y.start_set) refl).0 set;
-    }
-  where
-    last_of : (a b : Bool) → (a && b) ≡ true → b ≡ true
-    last_of true b e = e
-    last_of false b e = absurd (true≢false (sym e))
 
 -- an accepted merging is of an alike replica
 pub merging_alike : (r other : Replicated) → refusal r (Merge other) ≡ None → are_alike (standing_of r) (standing_of other) ≡ true
@@ -64,8 +24,8 @@ merging_alike r other e = elim (cases_Bool (are_alike (standing_of r) (standing_
   | inr unlike ↦ absurd (let never : ⊥ = grind (arith, e, unlike) in never)
 ]
 
-pub merging_agrees : (r other : Replicated) → refusal r (Merge other) ≡ None → Agree (standing_of r) (standing_of other)
-merging_agrees r other e = alike_agree (standing_of r) (standing_of other) (merging_alike r other e)
+pub merging_agrees : (r other : Replicated) → refusal r (Merge other) ≡ None → Equals (standing_of r) (standing_of other)
+merging_agrees r other e = (are_alike-Decides (standing_of r) (standing_of other)).0 (merging_alike r other e)
 
 -- an accepted end is one of a grace period that runs, where nobody is awaited
 pub end_runs : (r : Replicated) → refusal r End ≡ None → r.periods.running ≡ true
@@ -125,8 +85,8 @@ kept_next r (Begin set) made accepted kept = record {
 }
 kept_next r (Report cpu number) made accepted kept =
     by_running IsSound r (record r { awaited = awaited_after_report r.tag r.awaited cpu number })
-    (λ runs. kept_cut r (awaited_after_report r.tag r.awaited cpu number) (length-without r.tag r.awaited cpu number)
-    (λ k there. first_of (is_in r.awaited k) (not (cpu == k && same_number number r.tag)) (sym (is_in-without r.tag r.awaited cpu number k) ∙ there)) kept)
+    (λ runs. kept_cut r (awaited_after_report r.tag r.awaited cpu number) (length-awaited_after_report r.tag r.awaited cpu number)
+    (λ k there. first_of (is_in r.awaited k) (not (cpu == k && same_number number r.tag)) (sym (is_in-awaited_after_report r.tag r.awaited cpu number k) ∙ there)) kept)
     (λ rests. kept)
 kept_next r (Depart cpu) made accepted kept =
     kept_cut r (slice_set r.awaited cpu false) (length-set r.awaited cpu false)

@@ -1,4 +1,4 @@
-use Rattle.rcu_node.proofs.Joins.{at_least-itself, at_least-on, at_least-both}
+use Rattle.rcu_node.proofs.MergingLemmas.{at_least-itself, at_least-on, at_least-both}
 use Rattle.rcu_node.proofs.laws.at_least_is_an_order.Goals as goal
 
 pub returns-clause-itself : goal.returns-clause-itself

@@ -1,4 +1,4 @@
-use Rattle.rcu_node.proofs.Joins.{merged-alike_first, merged-alike_second}
+use Rattle.rcu_node.proofs.MergingLemmas.{merged-alike_first, merged-alike_second}
 use Rattle.rcu_node.proofs.laws.merged_stays_alike.Goals as goal
 
 pub returns-clause-first : goal.returns-clause-first

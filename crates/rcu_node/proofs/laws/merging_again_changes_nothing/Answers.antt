@@ -1,4 +1,4 @@
-use Rattle.rcu_node.proofs.Joins.{merged-itself, merged-again}
+use Rattle.rcu_node.proofs.MergingLemmas.{merged-itself, merged-again}
 use Rattle.rcu_node.proofs.laws.merging_again_changes_nothing.Goals as goal
 
 pub returns-clause-itself : goal.returns-clause-itself

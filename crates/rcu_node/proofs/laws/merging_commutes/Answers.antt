@@ -1,4 +1,4 @@
-use Rattle.rcu_node.proofs.Joins.{merged-commutes}
+use Rattle.rcu_node.proofs.MergingLemmas.{merged-commutes}
 use Rattle.rcu_node.proofs.laws.merging_commutes.Goals as goal
 
 pub returns : goal.returns

@@ -1,5 +1,5 @@
 use Rattle.std.proofs.Common.{◌≤◌, arith, length}
-use Rattle.rcu_node.proofs.Joins.{same_standing}
+use Rattle.rcu_node.proofs.MergingLemmas.{same_standing}
 use Rattle.rcu_node.proofs.Merges.{cut_all}
 use Rattle.rcu_node.specs.Merging.{merged, standing}
 use Rattle.rcu_node.proofs.merging.merge.Goals as goal

@@ -2,4 +2,4 @@ use Rattle.rcu_report.proofs.Batches.{batch_leaves-reports}
 use Rattle.rcu_report.proofs.laws.batch_leaves_what_its_reports_leave.Goals as goal
 
 pub returns : goal.returns
-returns c = batch_leaves-reports c.reports_leave_the_unreported.ensures
+returns c = batch_leaves-reports

@@ -1,5 +1,5 @@
 use Rattle.std.proofs.Common.{◌∙◌, ap, false, true, List, Bool, replicate, slice_set}
-use Rattle.rcu_hotplug.proofs.Sets.{none_within}
+use Rattle.rcu_node.proofs.CpuSetLemmas.{is_none, none_within}
 use Rattle.rcu_hotplug.proofs.hotplug.Hotplug.new.Goals as goal
 
 pub returns-clause-ok : goal.returns-clause-ok
@@ -7,7 +7,7 @@ returns-clause-ok g c =
     let inner = c.args.inner in
     let tag = c.requires.tag in
     let start_set = c.requires.empty in
-    let awaited = none_within _ _ start_set (g.met.A.Awaited.within inner) in
+    let awaited = is_none _ (none_within _ _ _ start_set (g.met.A.Awaited.within inner)) in
     let none = c.in_ok-online.ensures.ok.0 ∙ ap (λ n. replicate n false) c.cpus.ensures in
     let online = c.insert.ensures.set ∙ ap (λ (set : List Bool). slice_set set 0 true) none in
     cc

@@ -1,4 +1,4 @@
-use Rattle.rcu_report.proofs.Awaiting.{is_none, none_within}
+use Rattle.rcu_node.proofs.CpuSetLemmas.{is_none, none_within}
 use Rattle.rcu_report.proofs.replica.Replica.new.Goals as goal
 
 pub returns-clause-ok : goal.returns-clause-ok

@@ -1,4 +1,4 @@
--- Merging is a join.
+-- Merging is a join: for all who prove something of replicas that are merged.
 use Rattle.std.proofs.Common.{◌≡◌, ℕ, ◌==◌, ◌&&◌, Bool, true, false, List, length, refl, sym, ap, ◌∙◌}
 use Rattle.std.specs.Bool.{Decides}
 use Rattle.std.proofs.lemmas.Bool.{and_parts}
@@ -55,8 +55,8 @@ intersection-again a b =
 abbrev pub Equals : Standing → Standing → Type 0
 Equals x y = (length x.awaited ≡ length y.awaited) × (x.tag ≡ y.tag) × (x.start_set ≡ y.start_set)
 
-alike-equals : (x y : Standing) → are_alike x y ≡ true → Equals x y
-alike-equals x y e =
+are_alike-equals : (x y : Standing) → are_alike x y ≡ true → Equals x y
+are_alike-equals x y e =
     let one = and_parts (length x.awaited == length y.awaited) (same_number x.tag y.tag && same_set x.start_set y.start_set) e in
     let two = and_parts (same_number x.tag y.tag) (same_set x.start_set y.start_set) one.1 in
     ((Decides-eqb (length x.awaited) (length y.awaited)).0 one.0, (Decides-eqb x.tag y.tag).0 two.0, (same_set-Decides x.start_set y.start_set).0 two.1)
@@ -69,7 +69,7 @@ equals-alike x y h =
     rw (cpus, tag, start)
 
 pub are_alike-Decides : (x y : Standing) → Decides (are_alike x y) (Equals x y)
-are_alike-Decides x y = (alike-equals x y, equals-alike x y)
+are_alike-Decides x y = (are_alike-equals x y, equals-alike x y)
 
 -- who awaits a part of its own stays alike to the same
 pub merged-alike_first : (x y z : Standing) → are_alike (merged x y) z ≡ are_alike x z
@@ -84,7 +84,7 @@ same_standing x y e f h = rw (e, f, h)
 
 pub merged-commutes : (x y : Standing) → are_alike x y ≡ true → merged x y ≡ merged y x
 merged-commutes x y e =
-    let equal = alike-equals x y e in
+    let equal = are_alike-equals x y e in
     same_standing (merged x y) (merged y x) equal.1 equal.2 (intersection-commutes x.awaited y.awaited equal.0)
 
 pub merged-associates : (x y z : Standing) → merged (merged x y) z ≡ merged x (merged y z)
@@ -97,24 +97,24 @@ pub merged-again : (x y : Standing) → merged (merged x y) y ≡ merged x y
 merged-again x y = ap (λ (set : List Bool). record x { awaited = set }) (intersection-again x.awaited y.awaited)
 
 -- being alike is an equivalence
-alike-itself : (x : Standing) → are_alike x x ≡ true
-alike-itself x = equals-alike x x (refl, refl, refl)
+are_alike-itself : (x : Standing) → are_alike x x ≡ true
+are_alike-itself x = equals-alike x x (refl, refl, refl)
 
-alike-back : (x y : Standing) → are_alike x y ≡ true → are_alike y x ≡ true
-alike-back x y e = let h = alike-equals x y e in equals-alike y x (sym h.0, sym h.1, sym h.2)
+pub are_alike-back : (x y : Standing) → are_alike x y ≡ true → are_alike y x ≡ true
+are_alike-back x y e = let h = are_alike-equals x y e in equals-alike y x (sym h.0, sym h.1, sym h.2)
 
-alike-on : (x y z : Standing) → are_alike x y ≡ true → are_alike y z ≡ true → are_alike x z ≡ true
-alike-on x y z e f =
-    let one = alike-equals x y e in
-    let two = alike-equals y z f in
+are_alike-on : (x y z : Standing) → are_alike x y ≡ true → are_alike y z ≡ true → are_alike x z ≡ true
+are_alike-on x y z e f =
+    let one = are_alike-equals x y e in
+    let two = are_alike-equals y z f in
     equals-alike x z (one.0 ∙ two.0, one.1 ∙ two.1, one.2 ∙ two.2)
 
 pub at_least-itself : (x : Standing) → IsAtLeast x x
-at_least-itself x = record { alike = alike-itself x; part = λ cpu there. there }
+at_least-itself x = record { alike = are_alike-itself x; part = λ cpu there. there }
 
 pub at_least-on : (x y z : Standing) → IsAtLeast x y → IsAtLeast y z → IsAtLeast x z
 at_least-on x y z one two = record {
-  alike = alike-on x y z one.alike two.alike;
+  alike = are_alike-on x y z one.alike two.alike;
   part = λ cpu there. two.part cpu (one.part cpu there);
 }
 
@@ -126,7 +126,7 @@ same_test false false h k = refl
 
 pub at_least-both : (x y : Standing) → IsAtLeast x y → IsAtLeast y x → x ≡ y
 at_least-both x y one two =
-    let equal = alike-equals x y one.alike in
+    let equal = are_alike-equals x y one.alike in
     same_standing x y equal.1 equal.2 (same_from_flags x.awaited y.awaited equal.0 (λ cpu.
     same_test (is_in x.awaited cpu) (is_in y.awaited cpu) (one.part cpu) (two.part cpu)))
 
@@ -136,7 +136,7 @@ part_of_both x y cpu there = and_parts (is_in x.awaited cpu) (is_in y.awaited cp
 
 pub merged-at_least_first : (x y : Standing) → are_alike x y ≡ true → IsAtLeast (merged x y) x
 merged-at_least_first x y e = record {
-  alike = merged-alike_first x y x ∙ alike-itself x;
+  alike = merged-alike_first x y x ∙ are_alike-itself x;
   part = λ cpu there. (part_of_both x y cpu there).0;
 }
 
