@@ -32,6 +32,9 @@ to_level s i place legal begins = below_ceil s.cpus (capacity s (levels s - 1 - 
 pub level_some : (s : Shape) (i : ℕ) → IsLegalShape s → 0 < level_nodes s i
 level_some s i legal = let some = legal.some in to_level s i 0 legal (omega arith)
 
+-- what is known of one level
+pub ruleset level_rules = (levels_range, start_next, level_some)
+
 -- there is one root
 pub one_root : (s : Shape) → IsLegalShape s → level_nodes s 0 ≡ 1
 one_root s legal =

@@ -1,6 +1,12 @@
 //! Levels, parents and bits of a combining tree.
-ghost use Rattle.std.specs.Prelude.{◌≡◌, ◌<◌, ◌≤◌, ◌+◌, ◌-◌, ◌*◌, ◌^◌, ◌==◌, ℕ, if◌then◌else◌, Some, None, IfOk, IfErr, IfSome, length, slice_index};
-ghost use Rattle.rcu_geometry.specs.Geometry.{Shape, shape, is_fanout as is_a_fanout, IsLegalShape, capacity as capacity_of, refusal, ceil, levels as levels_of, level_nodes as level_nodes_of, level_start as level_start_of, nodes as nodes_of, level_of as level_of_node, parent as parent_of, bit_in_parent as bit_in_parent_of, leaf_of as leaf_of_cpu, bit_of as bit_of_cpu};
+ghost use Rattle.std.specs.Prelude.{◌≡◌, ◌<◌, ◌≤◌, ◌+◌, ◌-◌, ◌*◌, ◌^◌, ◌==◌, ℕ, if◌then◌else◌};
+ghost use Rattle.std.specs.Prelude.{Some, None, IfOk, IfErr, IfSome, OnOk, length, slice_index};
+ghost use Rattle.rcu_geometry.specs.Geometry.{IsLegalShape, Shape, ceil, refusal, shape};
+ghost use Rattle.rcu_geometry.specs.Geometry.{bit_in_parent as bit_in_parent_of, bit_of as bit_of_cpu};
+ghost use Rattle.rcu_geometry.specs.Geometry.{capacity as capacity_of, is_fanout as is_a_fanout};
+ghost use Rattle.rcu_geometry.specs.Geometry.{leaf_of as leaf_of_cpu, level_nodes as level_nodes_of};
+ghost use Rattle.rcu_geometry.specs.Geometry.{level_of as level_of_node, level_start as level_start_of};
+ghost use Rattle.rcu_geometry.specs.Geometry.{levels as levels_of, nodes as nodes_of, parent as parent_of};
 
 use arrayvec::ArrayVec;
 use rcu_seq::fault::Fault;
@@ -15,11 +21,13 @@ const MOST_LEVELS: u32 = 4;
 /// The first node of each level, and behind them the number of nodes.
 type Starts = ArrayVec<u32, 5>;
 
-/// The shape of a combining tree whose leaves have up to `LEAF` processors, and whose inner nodes have up to `FAN`
-/// children, both 2 to 64 (Linux's `rcu_node_tree.h`, and the Data-Structures document).
+/// The shape of a combining tree whose leaves have up to `LEAF` processors, and whose inner nodes
+/// have up to `FAN` children, both 2 to 64 (Linux's `rcu_node_tree.h`, and the Data-Structures
+/// document).
 ///
-/// It has the fewest levels that hold all processors, at most four. Nodes are numbered level by level from the
-/// root, 0. Contracts see the two fanouts and the number of processors, and everything else follows by formula.
+/// It has the fewest levels that hold all processors, at most four. Nodes are numbered level by
+/// level from the root, 0. Contracts see the two fanouts and the number of processors, and
+/// everything else follows by formula.
 #[derive(Drop)]
 pub struct Geometry<const LEAF: u32, const FAN: u32> {
     /// The number of processors.
@@ -32,7 +40,8 @@ pub struct Geometry<const LEAF: u32, const FAN: u32> {
 
 impl<const LEAF: u32, const FAN: u32> Model for Geometry<LEAF, FAN> {
     ghost use Rattle.std.specs.Prelude.{◌≡◌, ◌≤◌, ◌+◌, ℕ, length, slice_index};
-    ghost use Rattle.rcu_geometry.specs.Geometry.{Shape, shape, IsLegalShape, levels as levels_of, level_start as level_start_of};
+    ghost use Rattle.rcu_geometry.specs.Geometry.{IsLegalShape, Shape, shape};
+    ghost use Rattle.rcu_geometry.specs.Geometry.{level_start as level_start_of, levels as levels_of};
 
     ghost Value = { Shape };
 
@@ -42,17 +51,19 @@ impl<const LEAF: u32, const FAN: u32> Model for Geometry<LEAF, FAN> {
       legal : IsLegalShape (shape LEAF FAN g.cpus);
       leveled : g.levels ≡ levels_of (shape LEAF FAN g.cpus);
       sized : length g.starts.items ≡ g.levels + 1;
-      started : (i : ℕ) → i ≤ g.levels → slice_index g.starts.items i ≡ level_start_of (shape LEAF FAN g.cpus) i;
+      started : (i : ℕ) → i ≤ g.levels
+          → slice_index g.starts.items i ≡ level_start_of (shape LEAF FAN g.cpus) i;
     } };
 }
 
 impl<const LEAF: u32, const FAN: u32> Geometry<LEAF, FAN> {
     /// The shape of a tree for this number of processors.
     ///
-    /// Faults: 18 where a fanout is outside 2..=64; 17 for no processor, more than 4,096, or more than four levels
-    /// hold.
+    /// Faults: 18 where a fanout is outside 2..=64; 17 for no processor, more than 4,096, or more
+    /// than four levels hold.
     pub fn new(cpus: u32) -> Result<Self, Fault>
-        ensures ok { IfOk result (λ g. (g ≡ shape LEAF FAN cpus) × (refusal g ≡ None)) }
+        ensures ok { IfOk result (λ g. g ≡ shape LEAF FAN cpus) }
+        ensures accepted { OnOk result (refusal (shape LEAF FAN cpus) ≡ None) }
         ensures legal { IfOk result (λ g. IsLegalShape g) }
         ensures err { IfErr result (λ fault. refusal (shape LEAF FAN cpus) ≡ Some fault) }
     {
@@ -73,17 +84,19 @@ impl<const LEAF: u32, const FAN: u32> Geometry<LEAF, FAN> {
     /// The number of processors, 1 to 4,096.
     pub fn cpus(&self) -> u32
         ensures value { result ≡ self.now.cpus }
-        ensures fanouts { (self.now.leaf ≡ LEAF) × (self.now.fan ≡ FAN) }
+        ensures leaf { self.now.leaf ≡ LEAF }
+        ensures fanout { self.now.fan ≡ FAN }
         ensures legal { IsLegalShape self.now }
     {
         self.cpus
     }
 
     /// The number of levels, 1 to 4.
-    #[tactic(auto, using(crate::proofs::Capacities::levels_range, crate::proofs::Capacities::levels_hold, crate::proofs::Capacities::levels_least))]
+    #[tactic(auto, using(crate::proofs::Capacities::levels_rules))]
     pub fn levels(&self) -> u32
         ensures value { result ≡ levels_of self.now }
-        ensures range { (1 ≤ result) × (result ≤ 4) }
+        ensures some { 1 ≤ result }
+        ensures few { result ≤ 4 }
         ensures enough { self.now.cpus ≤ capacity_of self.now (result - 1) }
         ensures least { 1 < result → capacity_of self.now (result - 2) < self.now.cpus }
     {
@@ -106,7 +119,7 @@ impl<const LEAF: u32, const FAN: u32> Geometry<LEAF, FAN> {
     }
 
     /// How many nodes a level has. The level is below `levels()`.
-    #[tactic(auto, using(crate::proofs::Capacities::levels_range, crate::proofs::Levels::start_next, crate::proofs::Levels::level_some))]
+    #[tactic(auto, using(crate::proofs::Levels::level_rules))]
     pub fn level_nodes(&self, i: u32) -> u32
         requires { i < levels_of self.now }
         ensures value { result ≡ level_nodes_of self.now i }
@@ -117,11 +130,13 @@ impl<const LEAF: u32, const FAN: u32> Geometry<LEAF, FAN> {
         self.start(i + 1) - self.start(i)
     }
 
-    /// The parent of a node, which lies one level up; none of the root. The node is below `nodes()`.
+    /// The parent of a node, which lies one level up; none of the root. The node is below
+    /// `nodes()`.
     pub fn parent(&self, node: u32) -> Option<u32>
         requires { node < nodes_of self.now }
         ensures value { result ≡ (if node == 0 then None else Some (parent_of self.now node)) }
-        ensures one_level_up { IfSome result (λ parent. level_of_node self.now node ≡ level_of_node self.now parent + 1) }
+        ensures one_level_up { IfSome result (λ parent.
+            level_of_node self.now node ≡ level_of_node self.now parent + 1) }
         ensures before { IfSome result (λ parent. parent < node) }
     {
         if node == 0 {
@@ -131,8 +146,8 @@ impl<const LEAF: u32, const FAN: u32> Geometry<LEAF, FAN> {
         Some(self.start(level - 1) + (node - self.start(level)) / FAN)
     }
 
-    /// The bit of a node in its parent, below `FAN`; none of the root (Linux's `grpnum`, whose mask is `grpmask`).
-    /// The node is below `nodes()`.
+    /// The bit of a node in its parent, below `FAN`; none of the root (Linux's `grpnum`, whose mask
+    /// is `grpmask`). The node is below `nodes()`.
     pub fn bit_in_parent(&self, node: u32) -> Option<u32>
         requires { node < nodes_of self.now }
         ensures value { result ≡ (if node == 0 then None else Some (bit_in_parent_of self.now node)) }
@@ -233,7 +248,8 @@ fn level_starts(leaf: u32, fan: u32, cpus: u32, levels: u32) -> Starts
     requires legal { IsLegalShape (shape leaf fan cpus) }
     requires leveled { levels ≡ levels_of (shape leaf fan cpus) }
     ensures sized { length result.items ≡ levels + 1 }
-    ensures started { (i : ℕ) → i ≤ levels → slice_index result.items i ≡ level_start_of (shape leaf fan cpus) i }
+    ensures started { (i : ℕ) → i ≤ levels
+        → slice_index result.items i ≡ level_start_of (shape leaf fan cpus) i }
 {
     let mut starts = ArrayVec::new();
     let mut next = 0;

@@ -9,8 +9,8 @@ use crate::cpu_set::CpuSet;
 
 /// The processors that a grace period awaits: those of its start set, less those that reported.
 ///
-/// Contracts see its tag (the grace period's number), its start set and its awaited set, the sets as a flag for
-/// each processor. At making the tag is 0 and both sets are empty.
+/// Contracts see its tag (the grace period's number), its start set and its awaited set, the sets
+/// as a flag for each processor. At making the tag is 0 and both sets are empty.
 pub trait Awaited: Drop {
     /// The number of the latest grace period.
     ghost tag: { Self → ℕ };
@@ -47,8 +47,8 @@ pub trait Awaited: Drop {
     fn is_empty(&self) -> bool
         ensures { result ≡ (size_of (awaited self.now) == 0) };
 
-    /// A grace period of this number begins, and awaits the set. The set is one of as many processors, and the
-    /// number is `4k + 1`.
+    /// A grace period of this number begins, and awaits the set. The set is one of as many
+    /// processors, and the number is `4k + 1`.
     fn begin(&mut self, number: u64, set: &CpuSet)
         requires alike { length set.now ≡ length (awaited self.old) }
         requires running { is_running number ≡ true }
@@ -56,14 +56,15 @@ pub trait Awaited: Drop {
         ensures start_set { start_set self.new ≡ set.now }
         ensures awaited { awaited self.new ≡ set.now };
 
-    /// A processor reports a quiescent state with the number that it had noted. The caller answers for the idle
-    /// case: the report is compared with the tag alone.
+    /// A processor reports a quiescent state with the number that it had noted. The caller answers
+    /// for the idle case: the report is compared with the tag alone.
     fn report(&mut self, cpu: u32, number: u64) -> Answer
         requires { cpu < length (awaited self.old) }
         ensures answer { result ≡ report_answer (tag self.old) (awaited self.old) cpu number }
         ensures tag { tag self.new ≡ tag self.old }
         ensures start_set { start_set self.new ≡ start_set self.old }
-        ensures awaited { awaited self.new ≡ awaited_after_report (tag self.old) (awaited self.old) cpu number };
+        ensures awaited { awaited self.new
+            ≡ awaited_after_report (tag self.old) (awaited self.old) cpu number };
 
     /// There is a processor.
     ghost some: { (set : Self) → 0 < length (awaited set) };
@@ -75,5 +76,6 @@ pub trait Awaited: Drop {
     ghost alike: { (set : Self) → length (start_set set) ≡ length (awaited set) };
 
     /// Only processors of the start set are awaited.
-    ghost within: { (set : Self) (cpu : ℕ) → is_in (awaited set) cpu ≡ true → is_in (start_set set) cpu ≡ true };
+    ghost within: { (set : Self) (cpu : ℕ) → is_in (awaited set) cpu ≡ true
+        → is_in (start_set set) cpu ≡ true };
 }

@@ -1,6 +1,8 @@
 //! Sets of processors.
-ghost use Rattle.std.specs.Prelude.{◌≡◌, ◌<◌, ◌≤◌, ◌+◌, ◌-◌, ◌*◌, ◌&&◌, ◌⊎◌, ℕ, if◌then◌else◌, nat_lt, true, false, not, length, slice_index, slice_set, bit_or, replicate, IfOk, IfErr};
-ghost use Rattle.rcu_node.specs.CpuSet.{is_in, size_of, union};
+ghost use Rattle.std.specs.Prelude.{◌≡◌, ◌<◌, ◌≤◌, ◌+◌, ◌-◌, ◌*◌, ◌&&◌, ℕ, true, false, not, nat_lt};
+ghost use Rattle.std.specs.Prelude.{if◌then◌else◌, length, slice_index, slice_set, bit_or, replicate};
+ghost use Rattle.std.specs.Prelude.{IfOk, IfErr, OnOk};
+ghost use Rattle.rcu_node.specs.CpuSet.{IsSetFault, is_in, size_of, union};
 ghost use Rattle.rcu_node.specs.Words.{flags_in, has_bit};
 
 use rcu_seq::fault::Fault;
@@ -15,8 +17,8 @@ const WORD_BITS: u32 = 64;
 
 /// A set of processors below a fixed number, 1 to 4,096. Contracts see a flag for each processor.
 ///
-/// A bit for each processor in words of 64 (Linux's `cpumask`), and their count beside them: each call but `new`,
-/// `insert_all`, `clear` and `copy_from` costs one step.
+/// A bit for each processor in words of 64 (Linux's `cpumask`), and their count beside them: each
+/// call but `new`, `insert_all`, `clear` and `copy_from` costs one step.
 #[derive(Drop)]
 pub struct CpuSet {
     /// How many processors the set was made for.
@@ -51,8 +53,10 @@ impl CpuSet {
     ///
     /// Faults: 17 for no processor or more than 4,096; 16.
     pub fn new(alloc: Global, cpus: u32) -> Result<Self, Fault>
-        ensures ok { IfOk result (λ set. (set ≡ replicate cpus false) × (0 < cpus) × (cpus ≤ 4096)) }
-        ensures err { IfErr result (λ fault. ((fault ≡ Fault.TooManyCpus) × ((cpus ≡ 0) ⊎ (4096 < cpus))) ⊎ ((fault ≡ Fault.NoMemory) × (0 < cpus) × (cpus ≤ 4096))) }
+        ensures ok { IfOk result (λ set. set ≡ replicate cpus false) }
+        ensures some { OnOk result (0 < cpus) }
+        ensures few { OnOk result (cpus ≤ 4096) }
+        ensures err { IfErr result (λ fault. IsSetFault cpus fault) }
     {
         if cpus == 0 || MOST_CPUS < cpus {
             return Err(Fault::TooManyCpus);
@@ -85,12 +89,13 @@ impl CpuSet {
         (word >> (cpu % WORD_BITS)) & 1 == 1
     }
 
-    /// The flags of `width` processors from `from` on, up to 64 of them, as a word whose lowest bit is the flag of
-    /// `from`; flags beyond the set are 0 (Linux's `bitmap_read`).
+    /// The flags of `width` processors from `from` on, up to 64 of them, as a word whose lowest bit
+    /// is the flag of `from`; flags beyond the set are 0 (Linux's `bitmap_read`).
     pub fn bits_from(&self, from: u32, width: u32) -> u64
         requires from { from < length self.now }
         requires width { width ≤ 64 }
-        ensures { (bit : ℕ) → has_bit result bit ≡ (nat_lt bit width && is_in self.now (from + bit)) }
+        ensures { (bit : ℕ) → has_bit result bit
+            ≡ (nat_lt bit width && is_in self.now (from + bit)) }
     {
         let place = (from / WORD_BITS) as usize;
         let word = self.words[place];
@@ -164,7 +169,9 @@ impl CpuSet {
 fn cut(word: u64, next: u64, place: u32, width: u32) -> u64
     requires place { place < 64 }
     requires width { width ≤ 64 }
-    ensures { (bit : ℕ) → has_bit result bit ≡ (nat_lt bit width && (if nat_lt (place + bit) 64 then has_bit word (place + bit) else has_bit next (place + bit - 64))) }
+    ensures { (bit : ℕ) → has_bit result bit
+        ≡ (nat_lt bit width && (if nat_lt (place + bit) 64 then has_bit word (place + bit)
+            else has_bit next (place + bit - 64))) }
 {
     let both = (u128::from(next) << WORD_BITS) + u128::from(word);
     ((both >> place) & ((1 << width) - 1)) as u64
@@ -173,7 +180,8 @@ fn cut(word: u64, next: u64, place: u32, width: u32) -> u64
 /// Sets the bits of other words in the words of the same places.
 fn merge(words: &mut [u64], others: &[u64])
     requires { length words.old ≡ length others.now }
-    ensures { (place : ℕ) → place < length words.old → slice_index words.new place ≡ bit_or (slice_index words.old place) (slice_index others.now place) }
+    ensures { (place : ℕ) → place < length words.old → slice_index words.new place
+        ≡ bit_or (slice_index words.old place) (slice_index others.now place) }
 {
     for (place, word) in words.iter_mut().enumerate() {
         *word |= others[place];

@@ -1,6 +1,6 @@
 //! The awaited processors in a flat set.
-ghost use Rattle.std.specs.Prelude.{◌≡◌, ◌<◌, ◌≤◌, ◌⊎◌, true, false, ℕ, length, replicate, IfOk, IfErr};
-ghost use Rattle.rcu_node.specs.CpuSet.{is_in};
+ghost use Rattle.std.specs.Prelude.{◌≡◌, ◌<◌, ◌≤◌, true, false, ℕ, length, replicate, IfOk, IfErr, OnOk};
+ghost use Rattle.rcu_node.specs.CpuSet.{IsSetFault, is_in};
 
 use crate::answer::Answer;
 use crate::awaited::Awaited;
@@ -28,10 +28,14 @@ impl Flat {
     ///
     /// Faults: 17 for no processor or more than 4,096; 16.
     pub fn new(alloc: Global, cpus: u32) -> Result<Flat, Fault>
-        ensures ok { IfOk result (λ flat. (0 < cpus) × (cpus ≤ 4096) × (⟦<Flat as Awaited>⟧.tag flat ≡ 0)) }
-        ensures start_set { IfOk result (λ flat. ⟦<Flat as Awaited>⟧.start_set flat ≡ replicate cpus false) }
-        ensures awaited { IfOk result (λ flat. ⟦<Flat as Awaited>⟧.awaited flat ≡ replicate cpus false) }
-        ensures err { IfErr result (λ fault. ((fault ≡ Fault.TooManyCpus) × ((cpus ≡ 0) ⊎ (4096 < cpus))) ⊎ ((fault ≡ Fault.NoMemory) × (0 < cpus) × (cpus ≤ 4096))) }
+        ensures some { OnOk result (0 < cpus) }
+        ensures few { OnOk result (cpus ≤ 4096) }
+        ensures tag { IfOk result (λ flat. ⟦<Flat as Awaited>⟧.tag flat ≡ 0) }
+        ensures start_set { IfOk result (λ flat.
+            ⟦<Flat as Awaited>⟧.start_set flat ≡ replicate cpus false) }
+        ensures awaited { IfOk result (λ flat.
+            ⟦<Flat as Awaited>⟧.awaited flat ≡ replicate cpus false) }
+        ensures err { IfErr result (λ fault. IsSetFault cpus fault) }
     {
         Ok(Flat {
             tag: 0,

@@ -1,6 +1,7 @@
 //! What the definitions say of sets, of reports and of merging.
 ghost use Rattle.std.specs.Bool.{Decides};
-ghost use Rattle.std.specs.Prelude.{◌≡◌, ◌==◌, ◌&&◌, ◌||◌, ◌++◌, ℕ, Bool, List, true, false, length, nat_lt, not, slice_set};
+ghost use Rattle.std.specs.Prelude.{◌≡◌, ◌==◌, ◌&&◌, ◌||◌, ◌++◌, ℕ, Bool, List, true, false};
+ghost use Rattle.std.specs.Prelude.{length, nat_lt, not, slice_set};
 ghost use Rattle.rcu_seq.specs.Numbers.{Number};
 ghost use Rattle.rcu_node.specs.CpuSet.{intersection, is_in, listed, unheard};
 ghost use Rattle.rcu_node.specs.Merging.{IsAtLeast, Standing, are_alike, merged};
@@ -13,30 +14,34 @@ pub fn listed_has_its_length()
 
 /// A processor is in a listed set exactly where it is below that number and passes the test.
 pub fn listed_holds_what_passes()
-    ensures { (n : ℕ) (test : ℕ → Bool) (cpu : ℕ) → is_in (listed n test) cpu ≡ (nat_lt cpu n && test cpu) }
+    ensures { (n : ℕ) (test : ℕ → Bool) (cpu : ℕ)
+        → is_in (listed n test) cpu ≡ (nat_lt cpu n && test cpu) }
 {}
 
 /// Taking a processor out of a set leaves the others.
 pub fn removal_leaves_the_others()
-    ensures { (set : List Bool) (cpu other : ℕ) → is_in (slice_set set cpu false) other ≡ (is_in set other && not (cpu == other)) }
+    ensures { (set : List Bool) (cpu other : ℕ)
+        → is_in (slice_set set cpu false) other ≡ (is_in set other && not (cpu == other)) }
 {}
 
-/// After any reports, in any order and of any tags, a processor is awaited exactly where it was in the start set
-/// and no report of it had the grace period's number.
+/// After any reports, in any order and of any tags, a processor is awaited exactly where it was in
+/// the start set and no report of it had the grace period's number.
 pub fn reports_leave_the_unreported()
     ensures { (number : Number) (set : List Bool) (reports : List (ℕ × Number)) (cpu : ℕ)
-        → is_in (awaited_after_reports number set reports) cpu ≡ (is_in set cpu && not (was_reported number cpu reports)) }
+        → is_in (awaited_after_reports number set reports) cpu
+        ≡ (is_in set cpu && not (was_reported number cpu reports)) }
 {}
 
-/// So the awaited set is the start set less the processors that were heard, and has a flag for each processor too. A
-/// departed processor is heard as one that reports the grace period's number.
+/// So the awaited set is the start set less the processors that were heard, and has a flag for each
+/// processor too. A departed processor is heard as one that reports the grace period's number.
 pub fn reports_leave_the_unheard()
     ensures { (number : Number) (set : List Bool) (reports : List (ℕ × Number))
-        → awaited_after_reports number set reports ≡ unheard set (λ cpu. was_reported number cpu reports) }
+        → awaited_after_reports number set reports
+        ≡ unheard set (λ cpu. was_reported number cpu reports) }
 {}
 
-/// Equal numbers, start sets and sets of heard processors give equal awaited sets, in whatever order the reports came,
-/// however often, and whichever stale ones came between them.
+/// Equal numbers, start sets and sets of heard processors give equal awaited sets, in whatever
+/// order the reports came, however often, and whichever stale ones came between them.
 pub fn equally_heard_await_the_same()
     ensures { (number : Number) (set : List Bool) (reports others : List (ℕ × Number))
         → ((cpu : ℕ) → was_reported number cpu reports ≡ was_reported number cpu others)
@@ -46,7 +51,8 @@ pub fn equally_heard_await_the_same()
 /// Two are alike exactly where number of processors, tag and start set are equal.
 pub fn alike_where_nothing_differs()
     ensures { (x y : Standing)
-        → Decides (are_alike x y) ((length x.awaited ≡ length y.awaited) × (x.tag ≡ y.tag) × (x.start_set ≡ y.start_set)) }
+        → Decides (are_alike x y)
+        ((length x.awaited ≡ length y.awaited) × (x.tag ≡ y.tag) × (x.start_set ≡ y.start_set)) }
 {}
 
 /// What is merged stays alike to whatever it was alike to.
@@ -78,18 +84,23 @@ pub fn at_least_is_an_order()
     ensures both { (x y : Standing) → IsAtLeast x y → IsAtLeast y x → x ≡ y }
 {}
 
-/// Of two alike ones the merged one is at least both, and whatever is at least both is at least the merged one.
+/// Of two alike ones the merged one is at least both, and whatever is at least both is at least the
+/// merged one.
 pub fn merged_is_the_least_of_both()
     ensures first { (x y : Standing) → are_alike x y ≡ true → IsAtLeast (merged x y) x }
     ensures second { (x y : Standing) → are_alike x y ≡ true → IsAtLeast (merged x y) y }
-    ensures least { (x y z : Standing) → IsAtLeast z x → IsAtLeast z y → IsAtLeast z (merged x y) }
+    ensures least { (x y z : Standing) → IsAtLeast z x → IsAtLeast z y
+        → IsAtLeast z (merged x y) }
 {}
 
-/// Merging takes in what the other one has heard: the start set less those that either heard is awaited then, as after
-/// the reports of both.
+/// Merging takes in what the other one has heard: the start set less those that either heard is
+/// awaited then, as after the reports of both.
 pub fn merging_hears_what_the_other_heard()
     ensures heard { (set : List Bool) (heard other : ℕ → Bool)
-        → intersection (unheard set heard) (unheard set other) ≡ unheard set (λ cpu. heard cpu || other cpu) }
+        → intersection (unheard set heard) (unheard set other)
+        ≡ unheard set (λ cpu. heard cpu || other cpu) }
     ensures reports { (number : Number) (set : List Bool) (reports others : List (ℕ × Number))
-        → intersection (awaited_after_reports number set reports) (awaited_after_reports number set others) ≡ awaited_after_reports number set (others ++ reports) }
+        → intersection (awaited_after_reports number set reports)
+        (awaited_after_reports number set others)
+        ≡ awaited_after_reports number set (others ++ reports) }
 {}

@@ -1,7 +1,8 @@
 //! The awaited processors of a tree, in masks.
-ghost use Rattle.std.specs.Prelude.{◌≡◌, ◌<◌, ◌≤◌, ◌*◌, ◌/◌, ◌^◌, ◌==◌, ◌⊎◌, if◌then◌else◌, None, Some, true, false, length, slice_index, slice_set, bit_and, replicate, IfOk, IfErr};
+ghost use Rattle.std.specs.Prelude.{◌≡◌, ◌<◌, ◌≤◌, ◌*◌, ◌/◌, ◌^◌, ◌==◌, if◌then◌else◌, None, true, false};
+ghost use Rattle.std.specs.Prelude.{length, slice_index, slice_set, bit_and, replicate, IfOk, IfErr, OnOk};
 ghost use Rattle.std.specs.Int.{bit_not, w64};
-ghost use Rattle.rcu_geometry.specs.Geometry.{shape, refusal, ceil};
+ghost use Rattle.rcu_geometry.specs.Geometry.{IsTreeFault, ceil, refusal, shape};
 ghost use Rattle.rcu_node.specs.CpuSet.{is_in, size_of};
 ghost use Rattle.rcu_node.specs.Masks.{AreMasks, IsRoot};
 
@@ -11,11 +12,12 @@ use rcu_seq::fault::Fault;
 use std::alloc::Global;
 use std::marker::Model;
 
-/// A set of processors in the leaves of a tree, with one root above all leaves. Contracts see a flag for each
-/// processor.
+/// A set of processors in the leaves of a tree, with one root above all leaves. Contracts see a
+/// flag for each processor.
 ///
-/// A leaf's mask has a bit for each of its processors in the set (Linux's `qsmask`), and the root has the leaves whose
-/// masks are not empty. Each call but `new` and `copy_from` costs one step a level.
+/// A leaf's mask has a bit for each of its processors in the set (Linux's `qsmask`), and the root
+/// has the leaves whose masks are not empty. Each call but `new` and `copy_from` costs one step a
+/// level.
 #[derive(Drop)]
 pub struct Leaves<const LEAF: u32, const FAN: u32> {
     /// Where each processor's bit lies.
@@ -52,8 +54,9 @@ impl<const LEAF: u32, const FAN: u32> Leaves<LEAF, FAN> {
     ///
     /// Faults: 18 and 17 as [`Geometry::new`] has them; 16.
     pub fn new(alloc: Global, cpus: u32) -> Result<Self, Fault>
-        ensures ok { IfOk result (λ leaves. (leaves ≡ replicate cpus false) × (refusal (shape LEAF FAN cpus) ≡ None)) }
-        ensures err { IfErr result (λ fault. (refusal (shape LEAF FAN cpus) ≡ Some fault) ⊎ ((fault ≡ Fault.NoMemory) × (refusal (shape LEAF FAN cpus) ≡ None))) }
+        ensures ok { IfOk result (λ leaves. leaves ≡ replicate cpus false) }
+        ensures accepted { OnOk result (refusal (shape LEAF FAN cpus) ≡ None) }
+        ensures err { IfErr result (λ fault. IsTreeFault (shape LEAF FAN cpus) fault) }
     {
         let geometry = Geometry::<LEAF, FAN>::new(cpus)?;
         let leaves = geometry.level_nodes(geometry.levels() - 1);
@@ -86,8 +89,8 @@ impl<const LEAF: u32, const FAN: u32> Leaves<LEAF, FAN> {
         (mask >> self.geometry.bit_of(cpu)) & 1 == 1
     }
 
-    /// Takes the processor out of the set, and answers whether it was there. Where its leaf's mask is empty then, the
-    /// root loses the leaf.
+    /// Takes the processor out of the set, and answers whether it was there. Where its leaf's mask
+    /// is empty then, the root loses the leaf.
     pub fn remove(&mut self, cpu: u32) -> bool
         requires { cpu < length self.old }
         ensures there { result ≡ is_in self.old cpu }
@@ -144,7 +147,8 @@ fn clear_bit(masks: &mut Vec<u64>, root: &mut CpuSet, place: u32, bit: u32)
     requires place { place < length masks.old.items }
     requires bit { bit < 64 }
     requires root { IsRoot masks.old.items root.old }
-    ensures masks { masks.new.items ≡ slice_set masks.old.items place (bit_and (slice_index masks.old.items place) (bit_not w64 (2 ^ bit))) }
+    ensures masks { masks.new.items ≡ slice_set masks.old.items place
+        (bit_and (slice_index masks.old.items place) (bit_not w64 (2 ^ bit))) }
     ensures root { IsRoot masks.new.items root.new }
 {
     let mask = masks[place as usize] & !(1 << bit);

@@ -11,3 +11,9 @@ pub mod merging;
 #[cfg(test)]
 mod tests;
 pub mod tree;
+
+pub use answer::Answer;
+pub use awaited::Awaited;
+pub use cpu_set::CpuSet;
+pub use flat::Flat;
+pub use tree::Tree;

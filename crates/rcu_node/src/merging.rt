@@ -1,27 +1,32 @@
 //! Merging what two replicas know of one grace period.
-ghost use Rattle.std.specs.Prelude.{◌≡◌, ◌<◌, ◌&&◌, true, false, not, if◌then◌else◌, length, slice_set, IfErr, OnOk};
+ghost use Rattle.std.specs.Prelude.{◌≡◌, ◌<◌, ◌&&◌, true, false, not, if◌then◌else◌};
+ghost use Rattle.std.specs.Prelude.{length, slice_set, IfErr, OnErr, OnOk};
 ghost use Rattle.rcu_node.specs.CpuSet.{intersection, is_in};
 ghost use Rattle.rcu_node.specs.Merging.{are_alike, merged, same_set, standing};
 
 use crate::awaited::Awaited;
 use rcu_seq::fault::Fault;
 
-/// Takes in what another replica of the same grace period has heard: it awaits then whom both await, and tag and start
-/// set stay. Neither has to be of the other's kind or fanouts, nor has a grace period to run.
+/// Takes in what another replica of the same grace period has heard: it awaits then whom both
+/// await, and tag and start set stay. Neither has to be of the other's kind or fanouts, nor has a
+/// grace period to run.
 ///
 /// Fault: 20 where number of processors, tag or start set differ.
 pub fn merge<A: Awaited, B: Awaited>(to: &mut A, from: &B) -> Result<(), Fault>
     ensures ok { OnOk result (standing (A.tag to.new) (A.start_set to.new) (A.awaited to.new)
         ≡ merged (standing (A.tag to.old) (A.start_set to.old) (A.awaited to.old))
         (standing (B.tag from.now) (B.start_set from.now) (B.awaited from.now))) }
-    ensures alike { OnOk result (are_alike (standing (A.tag to.old) (A.start_set to.old) (A.awaited to.old))
+    ensures alike { OnOk result (are_alike
+        (standing (A.tag to.old) (A.start_set to.old) (A.awaited to.old))
         (standing (B.tag from.now) (B.start_set from.now) (B.awaited from.now)) ≡ true) }
     ensures tag { A.tag to.new ≡ A.tag to.old }
     ensures start_set { A.start_set to.new ≡ A.start_set to.old }
-    ensures awaited { OnOk result (A.awaited to.new ≡ intersection (A.awaited to.old) (B.awaited from.now)) }
-    ensures err { IfErr result (λ fault. (fault ≡ Fault.NotAlike)
-        × (are_alike (standing (A.tag to.old) (A.start_set to.old) (A.awaited to.old))
-        (standing (B.tag from.now) (B.start_set from.now) (B.awaited from.now)) ≡ false)) }
+    ensures awaited { OnOk result (
+        A.awaited to.new ≡ intersection (A.awaited to.old) (B.awaited from.now)) }
+    ensures err { IfErr result (λ fault. fault ≡ Fault.NotAlike) }
+    ensures unlike { OnErr result (are_alike
+        (standing (A.tag to.old) (A.start_set to.old) (A.awaited to.old))
+        (standing (B.tag from.now) (B.start_set from.now) (B.awaited from.now)) ≡ false) }
     ensures refused { IfErr result (λ _. to.new ≡ to.old) }
 {
     if !began_alike(to, from) {
@@ -35,7 +40,8 @@ pub fn merge<A: Awaited, B: Awaited>(to: &mut A, from: &B) -> Result<(), Fault>
 
 /// Whether two have as many processors, the same tag and the same start set.
 fn began_alike<A: Awaited, B: Awaited>(first: &A, second: &B) -> bool
-    ensures { result ≡ are_alike (standing (A.tag first.now) (A.start_set first.now) (A.awaited first.now))
+    ensures { result ≡ are_alike
+        (standing (A.tag first.now) (A.start_set first.now) (A.awaited first.now))
         (standing (B.tag second.now) (B.start_set second.now) (B.awaited second.now)) }
 {
     first.cpus() == second.cpus() && first.tag() == second.tag() && started_alike(first, second)
@@ -61,7 +67,8 @@ fn hear<A: Awaited, B: Awaited>(to: &mut A, from: &B, cpu: u32)
     ensures tag { A.tag to.new ≡ A.tag to.old }
     ensures start_set { A.start_set to.new ≡ A.start_set to.old }
     ensures awaited { A.awaited to.new
-        ≡ (if is_in (A.awaited to.old) cpu && not (is_in (B.awaited from.now) cpu) then slice_set (A.awaited to.old) cpu false else A.awaited to.old) }
+        ≡ (if is_in (A.awaited to.old) cpu && not (is_in (B.awaited from.now) cpu)
+            then slice_set (A.awaited to.old) cpu false else A.awaited to.old) }
 {
     if to.awaits(cpu) && !from.awaits(cpu) {
         to.report(cpu, to.tag());

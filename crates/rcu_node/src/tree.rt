@@ -1,6 +1,6 @@
 //! The awaited processors in a combining tree.
-ghost use Rattle.std.specs.Prelude.{◌≡◌, ◌<◌, ◌≤◌, ◌⊎◌, Some, None, true, false, ℕ, length, replicate, IfOk, IfErr};
-ghost use Rattle.rcu_geometry.specs.Geometry.{shape, refusal};
+ghost use Rattle.std.specs.Prelude.{◌≡◌, ◌<◌, ◌≤◌, None, true, false, ℕ, length, replicate, IfOk, IfErr, OnOk};
+ghost use Rattle.rcu_geometry.specs.Geometry.{IsTreeFault, refusal, shape};
 ghost use Rattle.rcu_node.specs.CpuSet.{is_in};
 
 use crate::answer::Answer;
@@ -10,11 +10,11 @@ use crate::leaves::Leaves;
 use rcu_seq::fault::Fault;
 use std::alloc::Global;
 
-/// The awaited processors in a tree of up to `LEAF` processors a leaf and `FAN` children an inner node (Linux's
-/// `rcu_node`, and the Data-Structures document), and the start set beside it.
+/// The awaited processors in a tree of up to `LEAF` processors a leaf and `FAN` children an inner
+/// node (Linux's `rcu_node`, and the Data-Structures document), and the start set beside it.
 ///
-/// It has the leaves of that tree, and in place of its inner nodes one root with a flag for each leaf. A report costs
-/// one step in its leaf and one in the root; a begin costs a step a leaf.
+/// It has the leaves of that tree, and in place of its inner nodes one root with a flag for each
+/// leaf. A report costs one step in its leaf and one in the root; a begin costs a step a leaf.
 #[derive(Drop)]
 pub struct Tree<const LEAF: u32, const FAN: u32> {
     /// The number of the latest grace period.
@@ -32,13 +32,16 @@ pub struct Tree<const LEAF: u32, const FAN: u32> {
 impl<const LEAF: u32, const FAN: u32> Tree<LEAF, FAN> {
     /// Nobody is awaited, at tag 0.
     ///
-    /// Faults: 18 where a fanout is outside 2..=64; 17 for no processor, more than 4,096, or more than four levels
-    /// hold; 16.
+    /// Faults: 18 where a fanout is outside 2..=64; 17 for no processor, more than 4,096, or more
+    /// than four levels hold; 16.
     pub fn new(alloc: Global, cpus: u32) -> Result<Self, Fault>
-        ensures ok { IfOk result (λ tree. (refusal (shape LEAF FAN cpus) ≡ None) × (⟦<Tree<LEAF, FAN> as Awaited>⟧.tag tree ≡ 0)) }
-        ensures start_set { IfOk result (λ tree. ⟦<Tree<LEAF, FAN> as Awaited>⟧.start_set tree ≡ replicate cpus false) }
-        ensures awaited { IfOk result (λ tree. ⟦<Tree<LEAF, FAN> as Awaited>⟧.awaited tree ≡ replicate cpus false) }
-        ensures err { IfErr result (λ fault. (refusal (shape LEAF FAN cpus) ≡ Some fault) ⊎ ((fault ≡ Fault.NoMemory) × (refusal (shape LEAF FAN cpus) ≡ None))) }
+        ensures accepted { OnOk result (refusal (shape LEAF FAN cpus) ≡ None) }
+        ensures tag { IfOk result (λ tree. ⟦<Tree<LEAF, FAN> as Awaited>⟧.tag tree ≡ 0) }
+        ensures start_set { IfOk result (λ tree.
+            ⟦<Tree<LEAF, FAN> as Awaited>⟧.start_set tree ≡ replicate cpus false) }
+        ensures awaited { IfOk result (λ tree.
+            ⟦<Tree<LEAF, FAN> as Awaited>⟧.awaited tree ≡ replicate cpus false) }
+        ensures err { IfErr result (λ fault. IsTreeFault (shape LEAF FAN cpus) fault) }
     {
         let awaited = Leaves::new(alloc, cpus)?;
         let start = CpuSet::new(alloc, cpus)?;

@@ -4,8 +4,11 @@ use Rattle.rcu_geometry.proofs.Capacities.{levels_range}
 use Rattle.rcu_geometry.proofs.Levels.{one_root, level_some, start_within, leaves_some}
 use Rattle.rcu_geometry.proofs.laws.levels_have_nodes.Goals as goal
 
-pub returns-clause-levels : goal.returns-clause-levels
-returns-clause-levels c = levels_range
+pub returns-clause-least : goal.returns-clause-least
+returns-clause-least c = λ s. (levels_range s).0
+
+pub returns-clause-most : goal.returns-clause-most
+returns-clause-most c = λ s. (levels_range s).1
 
 pub returns-clause-root : goal.returns-clause-root
 returns-clause-root c = one_root

@@ -1,5 +1,5 @@
 use Rattle.std.proofs.Common.{◌≡◌, ◌+◌, ◌-◌, ◌∙◌, sym, ap, rules, arith, replicate, false, List, Bool}
-use Rattle.rcu_geometry.specs.Geometry.{levels, refusal}
+use Rattle.rcu_geometry.specs.Geometry.{levels}
 use Rattle.rcu_node.specs.CpuSet.{size_of}
 use Rattle.rcu_node.proofs.CpuSetLemmas.{size_of-none}
 use Rattle.rcu_node.proofs.Masks.{held-none, root-none}
@@ -15,8 +15,8 @@ returns-in_err-new-clause-err g c =
 pub invariant_of-result : goal.invariant_of-result
 invariant_of-result g c =
     let s = c.in_ok-geometry.geometry in
-    let shaped = c.in_ok-geometry.ensures.ok.0 in
-    let last : c.levels.result - 1 + 1 ≡ levels s = omega (arith, c.levels.ensures.value, c.levels.ensures.range) in
+    let shaped = c.in_ok-geometry.ensures.ok in
+    let last : c.levels.result - 1 + 1 ≡ levels s = omega (arith, c.levels.ensures.value, c.levels.ensures.some) in
     let leaf = ap (λ shape. shape.leaf) shaped in
     let masks : c.in-Ok.masks.items ≡ replicate c.level_nodes-leaves.result 0 = search rules in
     let held = held-none g.row.LEAF s c.in-Ok.masks.items c.level_nodes-leaves.result leaf c.in_ok-geometry.ensures.legal masks (c.level_nodes-leaves.ensures.leaves last) in
@@ -24,16 +24,16 @@ invariant_of-result g c =
       legal = c.in_ok-geometry.ensures.legal;
       leaf = leaf;
       masks = held.kept;
-      root = rw (masks, c.in_ok-new.ensures.ok.0) (root-none c.level_nodes-leaves.result);
+      root = rw (masks, c.in_ok-new.ensures.ok) (root-none c.level_nodes-leaves.result);
       counted = sym (ap (λ (set : List Bool). size_of set) held.seen ∙ size_of-none s.cpus);
     }
 
 pub returns-clause-ok : goal.returns-clause-ok
 returns-clause-ok g c =
     let s = c.in_ok-geometry.geometry in
-    let shaped = c.in_ok-geometry.ensures.ok.0 in
-    let last : c.levels.result - 1 + 1 ≡ levels s = omega (arith, c.levels.ensures.value, c.levels.ensures.range) in
+    let shaped = c.in_ok-geometry.ensures.ok in
+    let last : c.levels.result - 1 + 1 ≡ levels s = omega (arith, c.levels.ensures.value, c.levels.ensures.some) in
     let leaf = ap (λ shape. shape.leaf) shaped in
     let masks : c.in-Ok.masks.items ≡ replicate c.level_nodes-leaves.result 0 = search rules in
     let held = held-none g.row.LEAF s c.in-Ok.masks.items c.level_nodes-leaves.result leaf c.in_ok-geometry.ensures.legal masks (c.level_nodes-leaves.ensures.leaves last) in
-    (held.seen ∙ ap (λ shape. replicate shape.cpus false) shaped, sym (ap refusal shaped) ∙ c.in_ok-geometry.ensures.ok.1)
+    held.seen ∙ ap (λ shape. replicate shape.cpus false) shaped
