@@ -1,5 +1,5 @@
 -- What histories of calls say of the processors after them.
-use Rattle.std.proofs.Common.{◌≡◌, ◌≢◌, ℕ, ◌<◌, ◌==◌, ◌&&◌, ◌||◌, Bool, true, false, not, if◌then◌else◌, [], ◌∷◌, length, replicate, None, refl, sym, ap, ◌∙◌, arith, inl, inr}
+use Rattle.std.proofs.Common.{◌≡◌, ℕ, ◌<◌, ◌==◌, ◌&&◌, ◌||◌, Bool, true, false, not, if◌then◌else◌, [], ◌∷◌, length, replicate, None, refl, sym, ap, ◌∙◌, arith, inl, inr}
 use Rattle.std.proofs.Math.Bool.{and-true, or-false}
 use Rattle.std.proofs.lemmas.Bool.{cases_lt}
 use Rattle.std.proofs.lemmas.Bool.Decides.{nat_tests}
@@ -9,7 +9,7 @@ use Rattle.rcu_node.specs.CpuSet.{is_in}
 use Rattle.rcu_node.proofs.CpuSetLemmas.{in_none, is_in-insert, is_in-remove}
 use Rattle.rcu_node.proofs.ReportLemmas.{is_in-awaited_after_report, length-awaited_after_report, neither}
 use Rattle.rcu_hotplug.specs.Hotplug.{Processors, Arrive, Depart, Begin, Report, refusal, at_first, after_call}
-use Rattle.rcu_hotplug.specs.History.{History, AreAccepted, Represents, after_calls, came, is_heard, online, starts, tag}
+use Rattle.rcu_hotplug.specs.History.{History, AreAccepted, Represents, after_calls, is_heard, online, starts, tag}
 
 -- an accepted arrival is of a processor that there is
 arrival_below : (p : Processors) (cpu : ℕ) → refusal p (Arrive cpu) ≡ None → cpu < length p.awaited
@@ -18,27 +18,16 @@ arrival_below p cpu e = elim (cases_lt cpu (length p.awaited)) [
   | inr l ↦ grind (arith, nat_tests, e, l)
 ]
 
--- an accepted departure is not of processor 0
-departure_of_another : (p : Processors) (cpu : ℕ) → refusal p (Depart cpu) ≡ None → cpu ≢ 0
-departure_of_another p cpu e = λ zero. (let x : ⊥ = elim (cases_lt cpu (length p.awaited)) [
-  | inl l ↦ grind (arith, nat_tests, e, l, zero)
-  | inr l ↦ grind (arith, nat_tests, e, l)
-] in x)
-
 -- who arrives has come
-has_come : (boot latest earlier : Bool) → (latest || (boot || earlier)) ≡ (boot || (if latest || false then latest else earlier))
-has_come true true earlier = refl
-has_come true false earlier = refl
-has_come false true earlier = refl
-has_come false false earlier = refl
+has_come : (arrived earlier : Bool) → (arrived || earlier) ≡ (if arrived then true else earlier)
+has_come true earlier = refl
+has_come false earlier = refl
 
--- who departs has gone, and processor 0 does not depart
-has_gone : (boot latest earlier : Bool) → (boot ≡ true → latest ≡ false)
-    → ((boot || earlier) && not latest) ≡ (boot || (if false || latest then false else earlier))
-has_gone true latest earlier h = ap not (h refl)
-has_gone false true true h = refl
-has_gone false true false h = refl
-has_gone false false earlier h = and-true earlier
+-- who departs has gone
+has_gone : (departed earlier : Bool) → (earlier && not departed) ≡ (if departed then false else earlier)
+has_gone true true = refl
+has_gone true false = refl
+has_gone false earlier = and-true earlier
 
 -- the processors are as a history says, and there is a flag for each
 record IsTold (cpus : ℕ) (p : Processors) (h : History) : Type 0 where
@@ -73,14 +62,14 @@ told_arrival cpus p h other accepted told = record {
     awaited = told.says.awaited;
     online = λ cpu l.
         is_in-insert p.online other cpu (omega (arith, arrival_below p other accepted, told.awaited, told.online))
-        ∙ ap (λ b. other == cpu || b) (told.says.online cpu l) ∙ has_come (cpu == 0) (other == cpu) (came cpu h);
+        ∙ ap (λ b. other == cpu || b) (told.says.online cpu l) ∙ has_come (other == cpu) (online cpu h);
   };
 }
 
 -- after a departure
-told_departure : (cpus : ℕ) (p : Processors) (h : History) (other : ℕ) → refusal p (Depart other) ≡ None → IsTold cpus p h
+told_departure : (cpus : ℕ) (p : Processors) (h : History) (other : ℕ) → IsTold cpus p h
     → IsTold cpus (after_call p (Depart other)) (Depart other ∷ h)
-told_departure cpus p h other accepted told = record {
+told_departure cpus p h other told = record {
   awaited = length-set p.awaited other false ∙ told.awaited;
   online = length-set p.online other false ∙ told.online;
   says = record {
@@ -90,9 +79,8 @@ told_departure cpus p h other accepted told = record {
         is_in-remove p.awaited other cpu ∙ ap (λ b. b && not (other == cpu)) (told.says.awaited cpu l)
         ∙ neither (starts cpu h) (is_heard cpu (tag h) h) (other == cpu);
     online = λ cpu l.
-        let another = departure_of_another p other accepted in
         is_in-remove p.online other cpu ∙ ap (λ b. b && not (other == cpu)) (told.says.online cpu l)
-        ∙ has_gone (cpu == 0) (other == cpu) (came cpu h) (λ boot. grind (arith, nat_tests, another, boot));
+        ∙ has_gone (other == cpu) (online cpu h);
   };
 }
 
@@ -132,7 +120,7 @@ told_report cpus p h other number told = record {
 told_always : (cpus : ℕ) (h : History) → AreAccepted cpus h → IsTold cpus (after_calls cpus h) h
 told_always cpus [] accepted = told_at_first cpus
 told_always cpus (Arrive other ∷ h) accepted = told_arrival cpus (after_calls cpus h) h other accepted.0 (told_always cpus h accepted.1)
-told_always cpus (Depart other ∷ h) accepted = told_departure cpus (after_calls cpus h) h other accepted.0 (told_always cpus h accepted.1)
+told_always cpus (Depart other ∷ h) accepted = told_departure cpus (after_calls cpus h) h other (told_always cpus h accepted.1)
 told_always cpus (Begin number ∷ h) accepted = told_begin cpus (after_calls cpus h) h number (told_always cpus h accepted.1)
 told_always cpus (Report other number ∷ h) accepted = told_report cpus (after_calls cpus h) h other number (told_always cpus h accepted.1)
 

@@ -1,6 +1,8 @@
 -- What the accepted calls so far say. A history is the list of the accepted calls, the newest first. So the history as
 -- it was at an earlier call is the part of the list from that call on.
-use Rattle.std.specs.Prelude.{ℕ, ◌≡◌, ◌<◌, ◌==◌, Bool, true, false, not, ◌&&◌, ◌||◌, if◌then◌else◌, List, [], ◌∷◌, None}
+use Rattle.std.specs.Prelude.{ℕ, ◌≡◌, ◌<◌, ◌==◌, Bool, true, false, not, ◌&&◌, ◌||◌, List, [], ◌∷◌, None}
+use Rattle.std.specs.List.{list_any}
+use Rattle.rcu_seq.specs.Histories.{is_on, latest, some_since}
 use Rattle.rcu_seq.specs.Numbers.{Number, same_number}
 use Rattle.rcu_node.specs.CpuSet.{is_in}
 use Rattle.rcu_hotplug.specs.Hotplug.{Processors, Call, Arrive, Depart, Begin, Report, at_first, refusal, after_call}
@@ -38,39 +40,27 @@ abbrev pub reports : ℕ → Number → Call → Bool
 reports cpu number (Report c tag) = c == cpu && same_number tag number
 reports cpu number _ = false
 
--- the history as it was at the latest begin, without that begin; empty where there is none
-abbrev pub before_begin : History → History
-before_begin [] = []
-before_begin (call ∷ h) = if begins call then h else before_begin h
-
--- a grace period began
-abbrev pub has_begun : History → Bool
-has_begun [] = false
-has_begun (call ∷ h) = begins call || has_begun h
-
 -- the number of the latest begin, 0 before any
 abbrev pub tag : History → Number
 tag [] = 0
 tag (Begin number ∷ h) = number
 tag (_ ∷ h) = tag h
 
--- the processor's last arrival or departure is an arrival
-abbrev pub came : ℕ → History → Bool
-came cpu [] = false
-came cpu (call ∷ h) = if arrives cpu call || departs cpu call then arrives cpu call else came cpu h
-
--- the processor is online: it is processor 0, or its last arrival or departure is an arrival
+-- the processor is online: its last arrival or departure is an arrival; before any, it is processor 0
 abbrev pub online : ℕ → History → Bool
-online cpu h = cpu == 0 || came cpu h
+online cpu h = is_on (cpu == 0) (arrives cpu) (departs cpu) h
 
 -- the latest grace period awaited the processor at its start: it was online then
 abbrev pub starts : ℕ → History → Bool
-starts cpu h = has_begun h && online cpu (before_begin h)
+starts cpu h = list_any begins h && online cpu (latest begins h)
 
--- since the latest begin the processor reported this number, or departed
+-- by this call the processor is heard in the grace period of this number: it reports the number, or departs
+abbrev pub hears : ℕ → Number → Call → Bool
+hears cpu number call = reports cpu number call || departs cpu call
+
+-- since the latest begin the processor was heard in the grace period of this number
 abbrev pub is_heard : ℕ → Number → History → Bool
-is_heard cpu number [] = false
-is_heard cpu number (call ∷ h) = not (begins call) && ((reports cpu number call || departs cpu call) || is_heard cpu number h)
+is_heard cpu number h = some_since begins (λ call earlier. hears cpu number call) h
 
 -- the processor is awaited: it was online at the latest begin, and since then it did not report with the grace
 -- period's number, and did not depart

@@ -1,5 +1,6 @@
 -- Processors that come and go: what each call of an awaited set leaves, and when it is refused.
-use Rattle.std.specs.Prelude.{ℕ, ◌≡◌, ◌==◌, Bool, true, false, not, nat_lt, if◌then◌else◌, List, length, slice_set, replicate, Option, Some, None}
+use Rattle.std.specs.Prelude.{ℕ, ◌≡◌, ◌==◌, Bool, true, false, not, nat_lt, List, [], ◌∷◌, length, slice_set, replicate, Option}
+use Rattle.rcu_seq.specs.Fault.{first_fault}
 use Rattle.rcu_seq.specs.Numbers.{Number}
 use Rattle.rcu_seq.specs.declared.fault.Fault.{Fault}
 use Rattle.rcu_seq.specs.declared.fault.Fault.TheVariants.{BadCpu, Offline, AlreadyOnline, BootStays}
@@ -34,17 +35,17 @@ at_first cpus = record {
 abbrev pub cpus_of : Processors → ℕ
 cpus_of p = length p.awaited
 
--- why a call is refused, if it is: the first cause that applies
+-- what is tested of a call, in order: a cause, and the fault that it is answered by
+abbrev pub causes : Processors → Call → List (Bool × Fault)
+causes p (Arrive cpu) = (not (nat_lt cpu (cpus_of p)), BadCpu) ∷ (is_in p.online cpu, AlreadyOnline) ∷ []
+causes p (Depart cpu) =
+    (not (nat_lt cpu (cpus_of p)), BadCpu) ∷ (cpu == 0, BootStays) ∷ (not (is_in p.online cpu), Offline) ∷ []
+causes p (Begin number) = []
+causes p (Report cpu number) = []
+
+-- why a call is refused, if it is: the fault of the first cause that holds
 abbrev pub refusal : Processors → Call → Option Fault
-refusal p (Arrive cpu) =
-    if not (nat_lt cpu (cpus_of p)) then Some BadCpu
-    else (if is_in p.online cpu then Some AlreadyOnline else None)
-refusal p (Depart cpu) =
-    if not (nat_lt cpu (cpus_of p)) then Some BadCpu
-    else (if cpu == 0 then Some BootStays
-    else (if not (is_in p.online cpu) then Some Offline else None))
-refusal p (Begin number) = None
-refusal p (Report cpu number) = None
+refusal p call = first_fault (causes p call)
 
 -- what an accepted call leaves: who arrives is online, who departs is neither online nor awaited, a beginning grace
 -- period awaits the online processors, and a report clears as reports do

@@ -1,9 +1,11 @@
 //! An awaited set with processors that come and go.
-ghost use Rattle.std.specs.Prelude.{◌≡◌, ◌<◌, ℕ, true, false, Some, None, length, replicate, IfErr, IfOk, OnOk};
+ghost use Rattle.std.specs.Prelude.{◌≡◌, ◌<◌, ℕ, true, false, Some, None, length, replicate};
+ghost use Rattle.std.specs.Prelude.{IfErr, IfOk, OnErr, OnOk};
 ghost use Rattle.rcu_seq.specs.Numbers.{is_running};
 ghost use Rattle.rcu_node.specs.CpuSet.{is_in};
 ghost use Rattle.rcu_node.specs.Reports.{report_answer};
-ghost use Rattle.rcu_hotplug.specs.Hotplug.{Arrive, Begin, Depart, Report, IsSound, at_first, cpus_of, after_call, refusal};
+ghost use Rattle.rcu_hotplug.specs.Hotplug.{Arrive, Begin, Depart, Report};
+ghost use Rattle.rcu_hotplug.specs.Hotplug.{IsSound, after_call, at_first, cpus_of, refusal};
 
 use rcu_node::answer::Answer;
 use rcu_node::awaited::Awaited;
@@ -14,9 +16,10 @@ use std::marker::Model;
 
 /// An awaited set, and the processors that are online (Linux's `qsmaskinitnext`).
 ///
-/// Contracts see the awaited set's tag, start set and awaited set, and the online set. A beginning grace period awaits
-/// the online processors. One that arrives is awaited from the next begin on; one that departs is awaited no more.
-/// Processor 0 is always online. No call but `new` needs memory; each costs what one call of the awaited set costs.
+/// Contracts see the awaited set's tag, start set and awaited set, and the online set. A beginning
+/// grace period awaits the online processors. One that arrives is awaited from the next begin on;
+/// one that departs is awaited no more. Processor 0 is always online. No call but `new` needs
+/// memory; each costs what one call of the awaited set costs.
 #[derive(Drop)]
 pub struct Hotplug<A: Awaited> {
     /// The processors that are online.
@@ -68,7 +71,7 @@ impl<A: Awaited> Hotplug<A> {
         ensures ok { OnOk result (self.new ≡ after_call self.old (Arrive cpu)) }
         ensures accepted { OnOk result (refusal self.old (Arrive cpu) ≡ None) }
         ensures err { IfErr result (λ fault. refusal self.old (Arrive cpu) ≡ Some fault) }
-        ensures refused { IfErr result (λ _. self.new ≡ self.old) }
+        ensures refused { OnErr result (self.new ≡ self.old) }
     {
         if cpu >= self.inner.cpus() {
             return Err(Fault::BadCpu);
@@ -86,7 +89,7 @@ impl<A: Awaited> Hotplug<A> {
         ensures ok { OnOk result (self.new ≡ after_call self.old (Depart cpu)) }
         ensures accepted { OnOk result (refusal self.old (Depart cpu) ≡ None) }
         ensures err { IfErr result (λ fault. refusal self.old (Depart cpu) ≡ Some fault) }
-        ensures refused { IfErr result (λ _. self.new ≡ self.old) }
+        ensures refused { OnErr result (self.new ≡ self.old) }
     {
         if cpu >= self.inner.cpus() {
             return Err(Fault::BadCpu);
@@ -102,7 +105,8 @@ impl<A: Awaited> Hotplug<A> {
         Ok(())
     }
 
-    /// A grace period of this number begins, and awaits the online processors. The number is `4k + 1`.
+    /// A grace period of this number begins, and awaits the online processors. The number is `4k +
+    /// 1`.
     pub fn begin(&mut self, tag: u64)
         requires { is_running tag ≡ true }
         ensures state { self.new ≡ after_call self.old (Begin tag) }
@@ -111,7 +115,8 @@ impl<A: Awaited> Hotplug<A> {
         self.inner.begin(tag, &self.online);
     }
 
-    /// A processor reports a quiescent state with the number that it had noted, as [`Awaited::report`].
+    /// A processor reports a quiescent state with the number that it had noted, as
+    /// [`Awaited::report`].
     pub fn report(&mut self, cpu: u32, tag: u64) -> Answer
         requires { cpu < cpus_of self.old }
         ensures answer { result ≡ report_answer self.old.tag self.old.awaited cpu tag }

@@ -114,7 +114,8 @@ fn late_arrival<A: Awaited>(rt: &impl Abort, hotplug: &mut Hotplug<A>) {
     begin(rt, hotplug, 5, &[0, 1]);
 }
 
-/// A processor that departs is awaited no more; one that came back is awaited by the next grace period.
+/// A processor that departs is awaited no more; one that came back is awaited by the next grace
+/// period.
 fn departed_and_back<A: Awaited>(rt: &impl Abort, hotplug: &mut Hotplug<A>) {
     assert_eq!(rt; hotplug.arrive(4), Ok(()));
     begin(rt, hotplug, 9, &[0, 1, 4]);
