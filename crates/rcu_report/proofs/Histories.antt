@@ -1,16 +1,17 @@
 -- What histories of calls say of the replica after them.
-use Rattle.std.proofs.Common.{◌≡◌, ℕ, ◌+◌, ◌==◌, ◌&&◌, ◌||◌, Bool, true, false, not, List, [], ◌∷◌, None, refl, sym, ap, ◌∙◌, arith, inl, inr}
+use Rattle.std.proofs.Common.{◌≡◌, ℕ, ◌+◌, ◌==◌, ◌&&◌, ◌||◌, Bool, true, false, cond, not, count_by, List, [], ◌∷◌, None, refl, sym, ap, ◌∙◌, arith, inl, inr}
 use Rattle.std.proofs.Math.Bool.{and-true}
 use Rattle.std.proofs.lemmas.Bool.{cases_Bool}
 use Rattle.std.proofs.lemmas.Bool.Decides.{nat_tests}
 use Rattle.std.proofs.lemmas.List.{length-set, length-replicate, ext_get_or}
+use Rattle.std.proofs.lemmas.List.Sums.{sum_by-cons}
 use Rattle.rcu_seq.specs.Numbers.{Number, number_at, same_number}
 use Rattle.rcu_node.specs.CpuSet.{is_in}
 use Rattle.rcu_node.specs.Reports.{awaited_after_report}
 use Rattle.rcu_node.proofs.CpuSetLemmas.{in_none, is_in-intersection, is_in-remove, length-intersection}
 use Rattle.rcu_node.proofs.ReportLemmas.{is_in-awaited_after_report, length-awaited_after_report, neither}
 use Rattle.rcu_report.specs.Replica.{Replicated, Call, Begin, Report, Depart, End, Merge, IsSound, CanBeMade, cpus_of, after_call, refusal}
-use Rattle.rcu_report.specs.History.{History, AreAccepted, Represents, AreAlike, after_calls, awaits, hears, is_heard, starts, tag}
+use Rattle.rcu_report.specs.History.{History, AreAccepted, Represents, AreAlike, after_calls, awaits, ends, hears, is_heard, starts, tag}
 use Rattle.rcu_report.proofs.Replicas.{by_running, kept_at_first, kept_next, merging_agrees}
 
 -- who is awaited no more stays so
@@ -35,6 +36,16 @@ record IsTold (cpus : ℕ) (r : Replicated) (h : History) : Type 0 where
   kept : IsSound r
   says : Represents r h
 
+-- an end counts one more
+ends_more : (h : History) → count_by ends (End ∷ h) ≡ count_by ends h + 1
+ends_more h = omega (arith, sum_by-cons (λ (call : Call). cond (ends call) 1 0) End h)
+
+-- any other call leaves the count
+ends_stay : (call : Call) (h : History) → ends call ≡ false → count_by ends (call ∷ h) ≡ count_by ends h
+ends_stay call h e =
+    let none : ◌≡◌ {A = ℕ} (cond (ends call) 1 0) 0 = rw e refl in
+    omega (arith, none, sum_by-cons (λ (c : Call). cond (ends c) 1 0) call h)
+
 -- how many processors there are stays
 cpus_of-next : (r : Replicated) (call : Call) → CanBeMade r call → cpus_of (after_call r call) ≡ cpus_of r
 cpus_of-next r (Begin set) made = made
@@ -49,7 +60,7 @@ cpus_of-next r (Merge other) made = length-intersection r.awaited other.awaited
 says_report : (r : Replicated) (h : History) (other : ℕ) (number : Number) → Represents r h
     → Represents (record r { awaited = awaited_after_report r.tag r.awaited other number }) (Report other number ∷ h)
 says_report r h other number says = record {
-  ends = says.ends;
+  ends = says.ends ∙ sym (ends_stay (Report other number) h refl);
   running = says.running;
   tag = says.tag;
   start_set = says.start_set;
@@ -64,7 +75,7 @@ says_report r h other number says = record {
 says_idle_report : (r : Replicated) (h : History) (other : ℕ) (number : Number) → ((cpu : ℕ) → is_in r.awaited cpu ≡ false) → Represents r h
     → Represents r (Report other number ∷ h)
 says_idle_report r h other number none says = record {
-  ends = says.ends;
+  ends = says.ends ∙ sym (ends_stay (Report other number) h refl);
   running = says.running;
   tag = says.tag;
   start_set = says.start_set;
@@ -75,7 +86,7 @@ says_idle_report r h other number none says = record {
 -- after an accepted call the replica is as the history with it says
 says_next : (r : Replicated) (h : History) (call : Call) → refusal r call ≡ None → IsSound r → Represents r h → Represents (after_call r call) (call ∷ h)
 says_next r h (Begin set) accepted kept says = record {
-  ends = says.ends;
+  ends = says.ends ∙ sym (ends_stay (Begin set) h refl);
   running = refl;
   tag = ap (λ n. number_at n true) says.ends;
   start_set = λ cpu. refl;
@@ -85,7 +96,7 @@ says_next r h (Report other number) accepted kept says =
     by_running (λ (left : Replicated). Represents left (Report other number ∷ h)) r (record r { awaited = awaited_after_report r.tag r.awaited other number })
     (λ runs. says_report r h other number says) (λ rests. says_idle_report r h other number (kept.idle rests) says)
 says_next r h (Depart other) accepted kept says = record {
-  ends = says.ends;
+  ends = says.ends ∙ sym (ends_stay (Depart other) h refl);
   running = says.running;
   tag = says.tag;
   start_set = says.start_set;
@@ -94,14 +105,14 @@ says_next r h (Depart other) accepted kept says = record {
       ∙ neither (starts cpu h) (is_heard cpu (tag h) h) (other == cpu);
 }
 says_next r h End accepted kept says = record {
-  ends = ap (λ n. n + 1) says.ends;
+  ends = ap (λ n. n + 1) says.ends ∙ sym (ends_more h);
   running = refl;
   tag = says.tag;
   start_set = says.start_set;
   awaited = says.awaited;
 }
 says_next r h (Merge other) accepted kept says = record {
-  ends = says.ends;
+  ends = says.ends ∙ sym (ends_stay (Merge other) h refl);
   running = says.running;
   tag = says.tag;
   start_set = says.start_set;

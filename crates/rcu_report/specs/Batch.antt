@@ -1,7 +1,7 @@
 -- Reports of one tag, gathered as the set of their processors.
-use Rattle.std.specs.Prelude.{ℕ, ◌≡◌, ◌&&◌, Bool, not, List, length, All, if◌then◌else◌}
+use Rattle.std.specs.Prelude.{ℕ, ◌≡◌, Bool, List, All, if◌then◌else◌}
 use Rattle.rcu_seq.specs.Numbers.{Number, same_number}
-use Rattle.rcu_node.specs.CpuSet.{is_in, listed}
+use Rattle.rcu_node.specs.CpuSet.{is_in, unheard}
 use Rattle.rcu_node.specs.Reports.{was_reported}
 
 -- a batch, as contracts see it: the tag of its reports, and their processors
@@ -11,7 +11,7 @@ pub record Gathered : Type 0 where
 
 -- the processors of a set that are not in another one
 abbrev pub difference : List Bool → List Bool → List Bool
-difference set other = listed (length set) (λ cpu. is_in set cpu && not (is_in other cpu))
+difference set other = unheard set (is_in other)
 
 -- what is awaited after the reports of a batch, where the grace period of a number awaits this set: those that no
 -- report of the batch is of, where the tag is the number

@@ -1,5 +1,6 @@
 -- What the accepted calls of a replica say. A history is the list of the accepted calls, the newest first.
-use Rattle.std.specs.Prelude.{ℕ, ◌≡◌, ◌+◌, ◌==◌, Bool, true, false, not, ◌&&◌, ◌||◌, List, [], ◌∷◌, None}
+use Rattle.std.specs.Prelude.{ℕ, ◌≡◌, ◌==◌, Bool, true, false, not, ◌&&◌, List, [], ◌∷◌, None, count_by}
+use Rattle.rcu_seq.specs.Histories.{is_on, some_since}
 use Rattle.rcu_seq.specs.Numbers.{Number, number_at, same_number}
 use Rattle.rcu_node.specs.CpuSet.{is_in}
 use Rattle.rcu_report.specs.Replica.{Replicated, Call, Begin, Report, Depart, End, Merge, CanBeMade, at_first, refusal, after_call}
@@ -23,23 +24,19 @@ abbrev pub begins : Call → Bool
 begins (Begin set) = true
 begins _ = false
 
--- how many grace periods ended
-abbrev pub ends : History → ℕ
-ends [] = 0
-ends (End ∷ h) = ends h + 1
-ends (_ ∷ h) = ends h
+-- a grace period ends
+abbrev pub ends : Call → Bool
+ends End = true
+ends _ = false
 
 -- a grace period runs: one began, and none ended since
 abbrev pub running : History → Bool
-running [] = false
-running (Begin set ∷ h) = true
-running (End ∷ h) = false
-running (_ ∷ h) = running h
+running h = is_on false begins ends h
 
 -- the number of the latest begin, 0 before any: four for each grace period that had ended, and one more
 abbrev pub tag : History → Number
 tag [] = 0
-tag (Begin set ∷ h) = number_at (ends h) true
+tag (Begin set ∷ h) = number_at (count_by ends h) true
 tag (_ ∷ h) = tag h
 
 -- the latest grace period awaited the processor at its start: it was in the set of the latest begin
@@ -58,8 +55,7 @@ hears cpu number _ = false
 
 -- since the latest begin the processor was heard in the grace period of this number
 abbrev pub is_heard : ℕ → Number → History → Bool
-is_heard cpu number [] = false
-is_heard cpu number (call ∷ h) = not (begins call) && (hears cpu number call || is_heard cpu number h)
+is_heard cpu number h = some_since begins (λ call earlier. hears cpu number call) h
 
 -- the processor is awaited: the latest grace period started with it, and it was not heard in it since
 abbrev pub awaits : ℕ → History → Bool
@@ -67,7 +63,7 @@ awaits cpu h = starts cpu h && not (is_heard cpu (tag h) h)
 
 -- the replica is as a history says
 pub record Represents (r : Replicated) (h : History) : Type 0 where
-  pub ends : r.periods.ends ≡ ends h
+  pub ends : r.periods.ends ≡ count_by ends h
   pub running : r.periods.running ≡ running h
   pub tag : r.tag ≡ tag h
   pub start_set : (cpu : ℕ) → is_in r.start_set cpu ≡ starts cpu h

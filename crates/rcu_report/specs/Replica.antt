@@ -1,5 +1,6 @@
 -- Replicas of one grace-period engine: what each call leaves, and when it is refused.
-use Rattle.std.specs.Prelude.{ℕ, ◌≡◌, ◌+◌, ◌-◌, ◌==◌, Bool, true, false, not, nat_lt, if◌then◌else◌, List, length, slice_set, replicate, Option, Some, None}
+use Rattle.std.specs.Prelude.{ℕ, ◌≡◌, ◌+◌, ◌-◌, ◌==◌, Bool, true, false, not, nat_lt, if◌then◌else◌, List, [], ◌∷◌, length, slice_set, replicate, Option}
+use Rattle.rcu_seq.specs.Fault.{first_fault}
 use Rattle.rcu_seq.specs.Numbers.{Number, number_at}
 use Rattle.rcu_seq.specs.Seq.{Periods, number_of}
 use Rattle.rcu_seq.specs.declared.fault.Fault.{Fault}
@@ -57,19 +58,17 @@ abbrev pub CanBeMade : Replicated → Call → Type 0
 CanBeMade r (Begin set) = length set ≡ cpus_of r
 CanBeMade r _ = Unit {0}
 
--- why a call is refused, if it is: the first cause that applies
+-- what is tested of a call, in order: a cause, and the fault that it is answered by
+abbrev pub causes : Replicated → Call → List (Bool × Fault)
+causes r (Begin set) = (r.periods.running, Running) ∷ (number_of r.periods == r.periods.last, Exhausted) ∷ []
+causes r (Report cpu number) = (not (nat_lt cpu (cpus_of r)), BadCpu) ∷ []
+causes r (Depart cpu) = (not (nat_lt cpu (cpus_of r)), BadCpu) ∷ (cpu == 0, BootStays) ∷ []
+causes r End = (not r.periods.running, Idle) ∷ (not (size_of r.awaited == 0), Waiting) ∷ []
+causes r (Merge other) = (not (are_alike (standing_of r) (standing_of other)), NotAlike) ∷ []
+
+-- why a call is refused, if it is: the fault of the first cause that holds
 abbrev pub refusal : Replicated → Call → Option Fault
-refusal r (Begin set) =
-    if r.periods.running then Some Running
-    else (if number_of r.periods == r.periods.last then Some Exhausted else None)
-refusal r (Report cpu number) = if not (nat_lt cpu (cpus_of r)) then Some BadCpu else None
-refusal r (Depart cpu) =
-    if not (nat_lt cpu (cpus_of r)) then Some BadCpu
-    else (if cpu == 0 then Some BootStays else None)
-refusal r End =
-    if not r.periods.running then Some Idle
-    else (if not (size_of r.awaited == 0) then Some Waiting else None)
-refusal r (Merge other) = if are_alike (standing_of r) (standing_of other) then None else Some NotAlike
+refusal r call = first_fault (causes r call)
 
 -- what an accepted call leaves: a beginning grace period awaits its set and has the new number as its tag; a report
 -- clears as reports do while a grace period runs, and nothing else; who departs is awaited no more; an end is counted;
@@ -81,7 +80,8 @@ after_call r (Begin set) = record {
   start_set = set;
   awaited = set;
 }
-after_call r (Report cpu number) = if r.periods.running then record r { awaited = awaited_after_report r.tag r.awaited cpu number } else r
+after_call r (Report cpu number) =
+    if r.periods.running then record r { awaited = awaited_after_report r.tag r.awaited cpu number } else r
 after_call r (Depart cpu) = record r { awaited = slice_set r.awaited cpu false }
 after_call r End = record r { periods = record r.periods { ends = r.periods.ends + 1; running = false } }
 after_call r (Merge other) = record r { awaited = intersection r.awaited other.awaited }

@@ -1,7 +1,8 @@
 //! Reports of one tag, as a set.
-ghost use Rattle.std.specs.Prelude.{◌≡◌, ◌≢◌, ◌<◌, ◌≤◌, ◌+◌, ◌&&◌, ◌⊎◌, if◌then◌else◌, true, false, length, slice_set, replicate, IfErr, IfOk, OnOk};
+ghost use Rattle.std.specs.Prelude.{◌≡◌, ◌≢◌, ◌<◌, ◌≤◌, ◌+◌, ◌&&◌, ◌⊎◌, if◌then◌else◌, true, false};
+ghost use Rattle.std.specs.Prelude.{length, slice_set, replicate, IfErr, IfOk, OnErr, OnOk};
 ghost use Rattle.rcu_seq.specs.Numbers.{same_number};
-ghost use Rattle.rcu_node.specs.CpuSet.{is_in, size_of, union};
+ghost use Rattle.rcu_node.specs.CpuSet.{IsSetFault, is_in, size_of, union};
 ghost use Rattle.rcu_node.specs.Reports.{awaited_after_report};
 ghost use Rattle.rcu_report.specs.Batch.{difference, awaited_after_batch};
 
@@ -13,7 +14,8 @@ use rcu_seq::fault::Fault;
 use std::alloc::Global;
 use std::marker::Model;
 
-/// The reports of one tag, as the set of their processors. Contracts see the tag and a flag for each processor.
+/// The reports of one tag, as the set of their processors. Contracts see the tag and a flag for
+/// each processor.
 ///
 /// A batch gathers reports before they are delivered. A report that is added twice stands once.
 #[derive(Drop)]
@@ -40,9 +42,11 @@ impl Batch {
     ///
     /// Faults: 17 for no processor or more than 4,096; 16.
     pub fn new(alloc: Global, cpus: u32, tag: u64) -> Result<Self, Fault>
-        ensures ok { IfOk result (λ batch. batch ≡ record { tag = tag; set = replicate cpus false }) }
-        ensures sized { OnOk result ((0 < cpus) × (cpus ≤ 4096)) }
-        ensures err { IfErr result (λ fault. ((fault ≡ Fault.TooManyCpus) × ((cpus ≡ 0) ⊎ (4096 < cpus))) ⊎ ((fault ≡ Fault.NoMemory) × (0 < cpus) × (cpus ≤ 4096))) }
+        ensures ok { IfOk result (λ batch.
+            batch ≡ record { tag = tag; set = replicate cpus false }) }
+        ensures some { OnOk result (0 < cpus) }
+        ensures few { OnOk result (cpus ≤ 4096) }
+        ensures err { IfErr result (λ fault. IsSetFault cpus fault) }
     {
         Ok(Batch {
             tag,
@@ -79,10 +83,12 @@ impl Batch {
     /// Fault: 20 for another tag.
     pub fn add(&mut self, report: Report) -> Result<(), Fault>
         requires { report.cpu < length self.old.set }
-        ensures ok { OnOk result (self.new ≡ record self.old { set = slice_set self.old.set report.cpu true }) }
+        ensures ok { OnOk result (
+            self.new ≡ record self.old { set = slice_set self.old.set report.cpu true }) }
         ensures alike { OnOk result (report.tag ≡ self.old.tag) }
-        ensures err { IfErr result (λ fault. (fault ≡ Fault.NotAlike) × (report.tag ≢ self.old.tag)) }
-        ensures refused { IfErr result (λ _. self.new ≡ self.old) }
+        ensures err { IfErr result (λ fault. fault ≡ Fault.NotAlike) }
+        ensures unlike { OnErr result (report.tag ≢ self.old.tag) }
+        ensures refused { OnErr result (self.new ≡ self.old) }
     {
         if report.tag != self.tag {
             return Err(Fault::NotAlike);
@@ -95,10 +101,14 @@ impl Batch {
     ///
     /// Fault: 20 for another tag or another number of processors.
     pub fn join(&mut self, other: &Batch) -> Result<(), Fault>
-        ensures ok { OnOk result (self.new ≡ record self.old { set = union self.old.set other.now.set }) }
-        ensures alike { OnOk result ((other.now.tag ≡ self.old.tag) × (length other.now.set ≡ length self.old.set)) }
-        ensures err { IfErr result (λ fault. (fault ≡ Fault.NotAlike) × ((other.now.tag ≢ self.old.tag) ⊎ (length other.now.set ≢ length self.old.set))) }
-        ensures refused { IfErr result (λ _. self.new ≡ self.old) }
+        ensures ok { OnOk result (
+            self.new ≡ record self.old { set = union self.old.set other.now.set }) }
+        ensures alike { OnOk result (other.now.tag ≡ self.old.tag) }
+        ensures sized { OnOk result (length other.now.set ≡ length self.old.set) }
+        ensures err { IfErr result (λ fault. fault ≡ Fault.NotAlike) }
+        ensures unlike { OnErr result ((other.now.tag ≢ self.old.tag)
+            ⊎ (length other.now.set ≢ length self.old.set)) }
+        ensures refused { OnErr result (self.new ≡ self.old) }
     {
         if other.tag != self.tag || other.set.cpus() != self.set.cpus() {
             return Err(Fault::NotAlike);
@@ -107,14 +117,15 @@ impl Batch {
         Ok(())
     }
 
-    /// Makes each of the reports, and answers how many processors they cleared. There are as many processors in the
-    /// batch as in the awaited set.
+    /// Makes each of the reports, and answers how many processors they cleared. There are as many
+    /// processors in the batch as in the awaited set.
     pub fn apply<A: Awaited>(&self, to: &mut A) -> u32
         requires { length (A.awaited to.old) ≡ length self.now.set }
         ensures count { result ≡ size_of (difference (A.awaited to.old) (A.awaited to.new)) }
         ensures tag { A.tag to.new ≡ A.tag to.old }
         ensures start_set { A.start_set to.new ≡ A.start_set to.old }
-        ensures awaited { A.awaited to.new ≡ awaited_after_batch (A.tag to.old) (A.awaited to.old) self.now }
+        ensures awaited { A.awaited to.new
+            ≡ awaited_after_batch (A.tag to.old) (A.awaited to.old) self.now }
     {
         let mut cleared = 0;
         for cpu in 0..self.set.cpus() {
@@ -123,14 +134,17 @@ impl Batch {
         cleared
     }
 
-    /// Makes the report of a processor, if it is in the batch, and answers how many processors it cleared.
+    /// Makes the report of a processor, if it is in the batch, and answers how many processors it
+    /// cleared.
     fn deliver<A: Awaited>(&self, to: &mut A, cpu: u32) -> u32
         requires there { cpu < length self.now.set }
         requires sized { length (A.awaited to.old) ≡ length self.now.set }
         ensures count { result + size_of (A.awaited to.new) ≡ size_of (A.awaited to.old) }
         ensures tag { A.tag to.new ≡ A.tag to.old }
         ensures start_set { A.start_set to.new ≡ A.start_set to.old }
-        ensures awaited { A.awaited to.new ≡ (if is_in self.now.set cpu then awaited_after_report (A.tag to.old) (A.awaited to.old) cpu self.now.tag else A.awaited to.old) }
+        ensures awaited { A.awaited to.new ≡ (if is_in self.now.set cpu
+            then awaited_after_report (A.tag to.old) (A.awaited to.old) cpu self.now.tag
+            else A.awaited to.old) }
     {
         if !self.set.contains(cpu) {
             return 0;
@@ -145,7 +159,8 @@ fn clears<A: Awaited>(to: &mut A, cpu: u32, tag: u64) -> bool
     ensures cleared { result ≡ (same_number tag (A.tag to.old) && is_in (A.awaited to.old) cpu) }
     ensures tag { A.tag to.new ≡ A.tag to.old }
     ensures start_set { A.start_set to.new ≡ A.start_set to.old }
-    ensures awaited { A.awaited to.new ≡ awaited_after_report (A.tag to.old) (A.awaited to.old) cpu tag }
+    ensures awaited { A.awaited to.new
+        ≡ awaited_after_report (A.tag to.old) (A.awaited to.old) cpu tag }
 {
     matches!(to.report(cpu, tag), Answer::Taken | Answer::Last)
 }

@@ -23,7 +23,8 @@ pub fn replica_is_as_its_history_says()
         → IsSound (after_calls cpus last h) }
 {}
 
-/// A replica that takes in another hears whom that one has heard in the same grace period, ended or not.
+/// A replica that takes in another hears whom that one has heard in the same grace period, ended or
+/// not.
 pub fn merging_takes_in_what_the_other_heard()
     ensures { (cpus : ℕ) (last : Number) (h : History) (cpu : ℕ) (number : Number)
         → AreAccepted cpus last h
@@ -32,7 +33,8 @@ pub fn merging_takes_in_what_the_other_heard()
 {}
 
 /// Two replicas that began alike and heard the same processors await the same ones, in whatever
-/// order the reports and departures came, however often, and whichever stale ones came between them.
+/// order the reports and departures came, however often, and whichever stale ones came between
+/// them.
 pub fn equally_heard_replicas_await_the_same()
     ensures { (cpus : ℕ) (last other : Number) (x y : History)
         → AreAccepted cpus last x → AreAccepted cpus other y → AreAlike x y

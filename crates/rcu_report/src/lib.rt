@@ -7,3 +7,7 @@ pub mod replica;
 pub mod report;
 #[cfg(test)]
 mod tests;
+
+pub use batch::Batch;
+pub use replica::Replica;
+pub use report::Report;

@@ -1,5 +1,6 @@
 //! An awaited set with a counter of grace periods.
-ghost use Rattle.std.specs.Prelude.{◌≡◌, ◌≤◌, Some, None, true, false, length, replicate, IfErr, IfOk, OnOk};
+ghost use Rattle.std.specs.Prelude.{◌≡◌, ◌≤◌, Some, None, true, false, length, replicate};
+ghost use Rattle.std.specs.Prelude.{IfErr, IfOk, OnErr, OnOk};
 ghost use Rattle.rcu_seq.specs.Numbers.{is_last};
 ghost use Rattle.rcu_seq.specs.Seq.{number_of};
 ghost use Rattle.rcu_report.specs.Replica.{Begin, Depart, End, Merge, Report};
@@ -13,12 +14,12 @@ use rcu_seq::fault::Fault;
 use rcu_seq::seq::Seq;
 use std::marker::Model;
 
-/// An awaited set with a counter: one of two or more replicas of one grace-period engine, which gather reports apart
-/// and are merged.
+/// An awaited set with a counter: one of two or more replicas of one grace-period engine, which
+/// gather reports apart and are merged.
 ///
-/// Contracts see the counter, and the awaited set's tag, start set and awaited set. The tag is the latest grace
-/// period's number, also after its end; nobody is awaited while no grace period runs. No call needs memory; each but
-/// `merge_from` costs what one call of the awaited set costs.
+/// Contracts see the counter, and the awaited set's tag, start set and awaited set. The tag is the
+/// latest grace period's number, also after its end; nobody is awaited while no grace period runs.
+/// No call needs memory; each but `merge_from` costs what one call of the awaited set costs.
 #[derive(Drop)]
 pub struct Replica<A: Awaited> {
     /// The counter of grace periods.
@@ -43,7 +44,8 @@ impl<A: Awaited> Model for Replica<A> {
 
     ghost invariant = { λ r. record {
       latest : A.tag r.inner ≡ latest_of r.seq;
-      fresh : A.tag r.inner ≡ 0 → A.start_set r.inner ≡ replicate (length (A.awaited r.inner)) false;
+      fresh : A.tag r.inner ≡ 0
+          → A.start_set r.inner ≡ replicate (length (A.awaited r.inner)) false;
       idle : r.seq.running ≡ false → (cpu : ℕ) → is_in (A.awaited r.inner) cpu ≡ false;
     } };
 }
@@ -57,7 +59,8 @@ impl<A: Awaited> Replica<A> {
         requires empty { A.start_set inner ≡ replicate (length (A.awaited inner)) false }
         ensures ok { IfOk result (λ made. made ≡ at_first (length (A.awaited inner)) last) }
         ensures accepted { OnOk result (is_last last ≡ true) }
-        ensures err { IfErr result (λ fault. (fault ≡ Fault.BadLast) × (is_last last ≡ false)) }
+        ensures err { IfErr result (λ fault. fault ≡ Fault.BadLast) }
+        ensures bad_last { OnErr result (is_last last ≡ false) }
     {
         Ok(Replica {
             seq: Seq::new(last)?,
@@ -65,7 +68,8 @@ impl<A: Awaited> Replica<A> {
         })
     }
 
-    /// A grace period begins, awaits the set and answers its number, `4k + 1`. The set is one of as many processors.
+    /// A grace period begins, awaits the set and answers its number, `4k + 1`. The set is one of as
+    /// many processors.
     ///
     /// Faults: 8 where one runs; 11 where the number is the last one.
     pub fn begin(&mut self, set: &CpuSet) -> Result<u64, Fault>
@@ -74,15 +78,15 @@ impl<A: Awaited> Replica<A> {
         ensures ok { OnOk result (self.new ≡ after_call self.old (Begin set.now)) }
         ensures accepted { OnOk result (refusal self.old (Begin set.now) ≡ None) }
         ensures err { IfErr result (λ fault. refusal self.old (Begin set.now) ≡ Some fault) }
-        ensures refused { IfErr result (λ _. self.new ≡ self.old) }
+        ensures refused { OnErr result (self.new ≡ self.old) }
     {
         let number = self.seq.start()?;
         self.inner.begin(number, set);
         Ok(number)
     }
 
-    /// A processor reports a quiescent state with the number that it had noted. While no grace period runs each
-    /// report is stale, else it is answered as by [`Awaited::report`].
+    /// A processor reports a quiescent state with the number that it had noted. While no grace
+    /// period runs each report is stale, else it is answered as by [`Awaited::report`].
     ///
     /// Fault 1: there is no such processor.
     pub fn report(&mut self, cpu: u32, tag: u64) -> Result<Answer, Fault>
@@ -90,7 +94,7 @@ impl<A: Awaited> Replica<A> {
         ensures ok { OnOk result (self.new ≡ after_call self.old (Report cpu tag)) }
         ensures accepted { OnOk result (refusal self.old (Report cpu tag) ≡ None) }
         ensures err { IfErr result (λ fault. refusal self.old (Report cpu tag) ≡ Some fault) }
-        ensures refused { IfErr result (λ _. self.new ≡ self.old) }
+        ensures refused { OnErr result (self.new ≡ self.old) }
     {
         if cpu >= self.inner.cpus() {
             return Err(Fault::BadCpu);
@@ -108,7 +112,7 @@ impl<A: Awaited> Replica<A> {
         ensures ok { OnOk result (self.new ≡ after_call self.old (Depart cpu)) }
         ensures accepted { OnOk result (refusal self.old (Depart cpu) ≡ None) }
         ensures err { IfErr result (λ fault. refusal self.old (Depart cpu) ≡ Some fault) }
-        ensures refused { IfErr result (λ _. self.new ≡ self.old) }
+        ensures refused { OnErr result (self.new ≡ self.old) }
     {
         if cpu >= self.inner.cpus() {
             return Err(Fault::BadCpu);
@@ -121,7 +125,8 @@ impl<A: Awaited> Replica<A> {
         Ok(())
     }
 
-    /// The grace period ends, and the new number is answered. The awaited set keeps its tag and start set.
+    /// The grace period ends, and the new number is answered. The awaited set keeps its tag and
+    /// start set.
     ///
     /// Faults: 9 where none runs; 10 where a processor is awaited.
     #[tactic(auto, using(crate::proofs::Awaiting::refused_while_awaited))]
@@ -130,7 +135,7 @@ impl<A: Awaited> Replica<A> {
         ensures ok { OnOk result (self.new ≡ after_call self.old End) }
         ensures accepted { OnOk result (refusal self.old End ≡ None) }
         ensures err { IfErr result (λ fault. refusal self.old End ≡ Some fault) }
-        ensures refused { IfErr result (λ _. self.new ≡ self.old) }
+        ensures refused { OnErr result (self.new ≡ self.old) }
     {
         // While no grace period runs nobody is awaited, so that the counter finds the first fault.
         if !self.inner.is_empty() {
@@ -139,15 +144,16 @@ impl<A: Awaited> Replica<A> {
         self.seq.end()
     }
 
-    /// Takes in what another replica of the same grace period has heard: it awaits then whom both await, whether the
-    /// grace period still runs here or there or not. It costs a step a processor.
+    /// Takes in what another replica of the same grace period has heard: it awaits then whom both
+    /// await, whether the grace period still runs here or there or not. It costs a step a
+    /// processor.
     ///
     /// Fault 20: number of processors, tag or start set differ.
     pub fn merge_from<B: Awaited>(&mut self, other: &Replica<B>) -> Result<(), Fault>
         ensures ok { OnOk result (self.new ≡ after_call self.old (Merge other.now)) }
         ensures accepted { OnOk result (refusal self.old (Merge other.now) ≡ None) }
         ensures err { IfErr result (λ fault. refusal self.old (Merge other.now) ≡ Some fault) }
-        ensures refused { IfErr result (λ _. self.new ≡ self.old) }
+        ensures refused { OnErr result (self.new ≡ self.old) }
     {
         merge(&mut self.inner, &other.inner)
     }

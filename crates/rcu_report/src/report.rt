@@ -1,6 +1,7 @@
 //! A report of a quiescent state.
 
-/// A report of a quiescent state: its processor, and the grace-period number that the processor had noted.
+/// A report of a quiescent state: its processor, and the grace-period number that the processor had
+/// noted.
 #[derive(Clone, Copy, Debug, PartialEq, Eq)]
 pub struct Report {
     /// The processor.

@@ -183,7 +183,8 @@ fn replicas_with_departures(rt: HostRuntime) {
     assert_eq!(rt; a.report(0, 1), Ok(Answer::Stale));
 }
 
-/// Each fault of a running replica of two processors, the first cause first; a refused call changes nothing.
+/// Each fault of a running replica of two processors, the first cause first; a refused call changes
+/// nothing.
 fn faults_while_running<A: Awaited>(rt: &impl Abort, replica: &mut Replica<A>, all: &CpuSet) {
     begin(rt, replica, all, Err(Fault::Running));
     assert_eq!(rt; replica.end(), Err(Fault::Waiting));
