@@ -1,5 +1,6 @@
 -- What the accepted calls of one processor, the newest first, say of its read sections.
 use Rattle.std.specs.Prelude.{ℕ, ◌-◌, ◌==◌, Bool, true, false, not, ◌&&◌, ◌||◌, List, [], ◌∷◌, count_by}
+use Rattle.rcu_seq.specs.Histories.{is_on}
 use Rattle.rcu_seq.specs.Numbers.{Number}
 use Rattle.rcu_cpu.specs.CpuData.{Call, Enter, Exit, Note, Arrive, Depart}
 
@@ -12,6 +13,16 @@ enters _ = false
 abbrev pub exits : Call → Bool
 exits Exit = true
 exits _ = false
+
+-- the call is an arrival
+abbrev pub arrives : Call → Bool
+arrives (Arrive _) = true
+arrives _ = false
+
+-- the call is a departure
+abbrev pub departs : Call → Bool
+departs Depart = true
+departs _ = false
 
 -- how deep the sections nest: the enters less the exits
 abbrev pub nesting : List Call → ℕ
@@ -32,10 +43,7 @@ is_open (call ∷ earlier) = opens call earlier || (is_open earlier && not (clos
 
 -- the processor is online: its last arrival or departure is an arrival; before any, it is as at its making
 abbrev pub is_online : Bool → List Call → Bool
-is_online at_making [] = at_making
-is_online at_making (Arrive _ ∷ earlier) = true
-is_online at_making (Depart ∷ earlier) = false
-is_online at_making (_ ∷ earlier) = is_online at_making earlier
+is_online at_making calls = is_on at_making arrives departs calls
 
 -- the number of the last note or arrival, 0 before any
 abbrev pub last_noted : List Call → Number

@@ -1,7 +1,7 @@
 //! What one processor keeps.
 ghost use Rattle.std.specs.Prelude.{◌≡◌, ◌<◌, ◌≤◌, true, false, IfOk, IfErr, OnOk, OnErr};
-ghost use Rattle.rcu_cpu.specs.CpuData.{deepest, at_first, report_of};
-ghost use Rattle.rcu_cpu.specs.CpuData.{IsAccepted, after_call, Enter, Exit, Note, Quiesce, Arrive, Depart};
+ghost use Rattle.rcu_cpu.specs.CpuData.{IsAccepted, after_call, at_first, deepest, report_of};
+ghost use Rattle.rcu_cpu.specs.CpuData.{Arrive, Depart, Enter, Exit, Note, Quiesce};
 
 use rcu_report::report::Report;
 use rcu_seq::fault::Fault;
@@ -10,11 +10,11 @@ use std::marker::Model;
 /// How deep read sections nest at most.
 const DEEPEST: u32 = 65_535;
 
-/// What one processor keeps: whether it is online, how deep its read sections nest, and the grace-period number
-/// that it noted (Linux's `rcu_data` and `rcu_read_lock_nesting`).
+/// What one processor keeps: whether it is online, how deep its read sections nest, and the
+/// grace-period number that it noted (Linux's `rcu_data` and `rcu_read_lock_nesting`).
 ///
-/// A read section is open from an enter at depth 0 to the exit that brings the depth back to 0. None is open on an
-/// offline processor.
+/// A read section is open from an enter at depth 0 to the exit that brings the depth back to 0.
+/// None is open on an offline processor.
 #[derive(Debug, Drop)]
 pub struct CpuData {
     cpu: u32,
@@ -64,7 +64,8 @@ impl CpuData {
         self.online
     }
 
-    /// How deep the read sections nest, 0 to 65,535: 0 where none is open, as on an offline processor.
+    /// How deep the read sections nest, 0 to 65,535: 0 where none is open, as on an offline
+    /// processor.
     pub fn depth(&self) -> u32
         ensures value { result ≡ self.now.depth }
         ensures range { result ≤ deepest }
@@ -80,17 +81,18 @@ impl CpuData {
         self.noted
     }
 
-    /// Opens a read section, or nests one deeper in the open one, and answers the new depth, 1 to 65,535 (Linux's
-    /// `__rcu_read_lock`).
+    /// Opens a read section, or nests one deeper in the open one, and answers the new depth, 1 to
+    /// 65,535 (Linux's `__rcu_read_lock`).
     ///
     /// Faults: 2 where the processor is offline; 6 where the depth is 65,535.
     pub fn enter(&mut self) -> Result<u32, Fault>
-        ensures ok { IfOk result (λ depth.
-            (depth ≡ self.new.depth) × IsAccepted self.old Enter × (self.new ≡ after_call self.old Enter)) }
+        ensures depth { IfOk result (λ depth. depth ≡ self.new.depth) }
+        ensures ok { OnOk result (self.new ≡ after_call self.old Enter) }
+        ensures accepted { OnOk result (IsAccepted self.old Enter) }
         ensures offline { IfErr result (λ fault. self.old.online ≡ false → fault ≡ Fault.Offline) }
-        ensures full { IfErr result (λ fault. self.old.online ≡ true →
-            (fault ≡ Fault.NestFull) × (self.old.depth ≡ deepest)) }
-        ensures err { OnErr result (self.new ≡ self.old) }
+        ensures full { IfErr result (λ fault. self.old.online ≡ true → fault ≡ Fault.NestFull) }
+        ensures deepest { OnErr result (self.old.online ≡ true → self.old.depth ≡ deepest) }
+        ensures refused { OnErr result (self.new ≡ self.old) }
     {
         self.check_online()?;
         if self.depth == DEEPEST {
@@ -100,15 +102,17 @@ impl CpuData {
         Ok(self.depth)
     }
 
-    /// Leaves the innermost read section, and answers the new depth, 0 to 65,534: at 0 no section is open any more
-    /// (Linux's `__rcu_read_unlock`).
+    /// Leaves the innermost read section, and answers the new depth, 0 to 65,534: at 0 no section
+    /// is open any more (Linux's `__rcu_read_unlock`).
     ///
     /// Fault 5: no section is open.
     pub fn exit(&mut self) -> Result<u32, Fault>
-        ensures ok { IfOk result (λ depth.
-            (depth ≡ self.new.depth) × IsAccepted self.old Exit × (self.new ≡ after_call self.old Exit)) }
-        ensures not_open { IfErr result (λ fault. (fault ≡ Fault.NotOpen) × (self.old.depth ≡ 0)) }
-        ensures err { OnErr result (self.new ≡ self.old) }
+        ensures depth { IfOk result (λ depth. depth ≡ self.new.depth) }
+        ensures ok { OnOk result (self.new ≡ after_call self.old Exit) }
+        ensures accepted { OnOk result (IsAccepted self.old Exit) }
+        ensures not_open { IfErr result (λ fault. fault ≡ Fault.NotOpen) }
+        ensures none { OnErr result (self.old.depth ≡ 0) }
+        ensures refused { OnErr result (self.new ≡ self.old) }
     {
         self.depth = self.depth.checked_sub(1).ok_or(Fault::NotOpen)?;
         Ok(self.depth)
@@ -118,23 +122,27 @@ impl CpuData {
     ///
     /// Fault 2: the processor is offline.
     pub fn note(&mut self, number: u64) -> Result<(), Fault>
-        ensures ok { OnOk result (IsAccepted self.old (Note number) × (self.new ≡ after_call self.old (Note number))) }
-        ensures offline { IfErr result (λ fault. (fault ≡ Fault.Offline) × (self.old.online ≡ false)) }
-        ensures err { OnErr result (self.new ≡ self.old) }
+        ensures ok { OnOk result (self.new ≡ after_call self.old (Note number)) }
+        ensures accepted { OnOk result (IsAccepted self.old (Note number)) }
+        ensures offline { IfErr result (λ fault. fault ≡ Fault.Offline) }
+        ensures was_offline { OnErr result (self.old.online ≡ false) }
+        ensures refused { OnErr result (self.new ≡ self.old) }
     {
         self.check_online()?;
         self.noted = number;
         Ok(())
     }
 
-    /// The report of a quiescent state: of the processor and its noted number (Linux's `rcu_report_qs_rdp`).
+    /// The report of a quiescent state: of the processor and its noted number (Linux's
+    /// `rcu_report_qs_rdp`).
     ///
     /// Faults: 2 where the processor is offline; 4 where a section is open.
     pub fn quiesce(&self) -> Result<Report, Fault>
-        ensures ok { IfOk result (λ report. (report ≡ report_of self.now) × IsAccepted self.now Quiesce) }
+        ensures ok { IfOk result (λ report. report ≡ report_of self.now) }
+        ensures accepted { OnOk result (IsAccepted self.now Quiesce) }
         ensures offline { IfErr result (λ fault. self.now.online ≡ false → fault ≡ Fault.Offline) }
-        ensures in_section { IfErr result (λ fault. self.now.online ≡ true →
-            (fault ≡ Fault.InSection) × (0 < self.now.depth)) }
+        ensures in_section { IfErr result (λ fault. self.now.online ≡ true → fault ≡ Fault.InSection) }
+        ensures open { OnErr result (self.now.online ≡ true → 0 < self.now.depth) }
     {
         self.check_online()?;
         if self.depth == 0 {
@@ -147,13 +155,16 @@ impl CpuData {
         }
     }
 
-    /// The processor is online from now on, and notes the grace-period number (Linux's `rcutree_report_cpu_starting`).
+    /// The processor is online from now on, and notes the grace-period number (Linux's
+    /// `rcutree_report_cpu_starting`).
     ///
     /// Fault 3: the processor is online.
     pub fn arrive(&mut self, number: u64) -> Result<(), Fault>
-        ensures ok { OnOk result (IsAccepted self.old (Arrive number) × (self.new ≡ after_call self.old (Arrive number))) }
-        ensures online { IfErr result (λ fault. (fault ≡ Fault.AlreadyOnline) × (self.old.online ≡ true)) }
-        ensures err { OnErr result (self.new ≡ self.old) }
+        ensures ok { OnOk result (self.new ≡ after_call self.old (Arrive number)) }
+        ensures accepted { OnOk result (IsAccepted self.old (Arrive number)) }
+        ensures online { IfErr result (λ fault. fault ≡ Fault.AlreadyOnline) }
+        ensures was_online { OnErr result (self.old.online ≡ true) }
+        ensures refused { OnErr result (self.new ≡ self.old) }
     {
         if self.online {
             return Err(Fault::AlreadyOnline);
@@ -166,11 +177,12 @@ impl CpuData {
     ///
     /// Faults: 2 where the processor is offline; 4 where a section is open.
     pub fn depart(&mut self) -> Result<(), Fault>
-        ensures ok { OnOk result (IsAccepted self.old Depart × (self.new ≡ after_call self.old Depart)) }
+        ensures ok { OnOk result (self.new ≡ after_call self.old Depart) }
+        ensures accepted { OnOk result (IsAccepted self.old Depart) }
         ensures offline { IfErr result (λ fault. self.old.online ≡ false → fault ≡ Fault.Offline) }
-        ensures in_section { IfErr result (λ fault. self.old.online ≡ true →
-            (fault ≡ Fault.InSection) × (0 < self.old.depth)) }
-        ensures err { OnErr result (self.new ≡ self.old) }
+        ensures in_section { IfErr result (λ fault. self.old.online ≡ true → fault ≡ Fault.InSection) }
+        ensures open { OnErr result (self.old.online ≡ true → 0 < self.old.depth) }
+        ensures refused { OnErr result (self.new ≡ self.old) }
     {
         self.check_online()?;
         if self.depth > 0 {
@@ -183,7 +195,8 @@ impl CpuData {
     /// Refuses where the processor is offline, by fault 2.
     fn check_online(&self) -> Result<(), Fault>
         ensures ok { OnOk result (self.now.online ≡ true) }
-        ensures err { IfErr result (λ fault. (fault ≡ Fault.Offline) × (self.now.online ≡ false)) }
+        ensures err { IfErr result (λ fault. fault ≡ Fault.Offline) }
+        ensures offline { OnErr result (self.now.online ≡ false) }
     {
         if !self.online {
             return Err(Fault::Offline);

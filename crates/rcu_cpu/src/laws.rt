@@ -1,35 +1,36 @@
 //! What the definitions say of read sections, after any accepted calls of a processor.
-ghost use Rattle.std.specs.Prelude.{◌≡◌, ◌<◌, ◌≤◌, ◌↔◌, ◌==◌, ◌∷◌, ℕ, Bool, true, false, not, List, count_by};
-ghost use Rattle.rcu_cpu.specs.CpuData.{Call, Exit, Quiesce, IsAccepted, AreAccepted, after_calls};
-ghost use Rattle.rcu_cpu.specs.CpuData.{report_of};
+ghost use Rattle.std.specs.Prelude.{◌≡◌, ◌<◌, ◌≤◌, ◌↔◌, ◌==◌, ◌∷◌, ℕ, Bool, true, false, not};
+ghost use Rattle.std.specs.Prelude.{List, count_by};
+ghost use Rattle.rcu_cpu.specs.CpuData.{AreAccepted, Call, Exit, IsAccepted, Quiesce, after_calls, report_of};
 ghost use Rattle.rcu_cpu.specs.Sections.{enters, exits, nesting, is_open, is_online, last_noted};
 
 /// The depth is the enters less the exits, of which there are no more than enters.
 pub fn depth_is_enters_less_exits()
-    ensures depth { (cpu : ℕ) (online : Bool) (calls : List Call) → AreAccepted cpu online calls →
-        (after_calls cpu online calls).depth ≡ nesting calls }
-    ensures exits { (cpu : ℕ) (online : Bool) (calls : List Call) → AreAccepted cpu online calls →
-        count_by exits calls ≤ count_by enters calls }
+    ensures depth { (cpu : ℕ) (online : Bool) (calls : List Call) → AreAccepted cpu online calls
+        → (after_calls cpu online calls).depth ≡ nesting calls }
+    ensures exits { (cpu : ℕ) (online : Bool) (calls : List Call) → AreAccepted cpu online calls
+        → count_by exits calls ≤ count_by enters calls }
 {}
 
-/// A section is open exactly where the depth is not 0: an exit from above depth 1 leaves it open, and the one from
-/// depth 1 does not. None is open on an offline processor.
+/// A section is open exactly where the depth is not 0: an exit from above depth 1 leaves it open,
+/// and the one from depth 1 does not. None is open on an offline processor.
 pub fn sections_are_open_where_they_nest()
-    ensures nested { (cpu : ℕ) (online : Bool) (calls : List Call) → AreAccepted cpu online calls →
-        is_open calls ≡ not ((after_calls cpu online calls).depth == 0) }
-    ensures inner_exit { (cpu : ℕ) (online : Bool) (calls : List Call) → AreAccepted cpu online calls →
-        1 < (after_calls cpu online calls).depth → is_open (Exit ∷ calls) ≡ true }
-    ensures outer_exit { (cpu : ℕ) (online : Bool) (calls : List Call) → AreAccepted cpu online calls →
-        (after_calls cpu online calls).depth ≡ 1 → is_open (Exit ∷ calls) ≡ false }
-    ensures offline { (cpu : ℕ) (online : Bool) (calls : List Call) → AreAccepted cpu online calls →
-        is_online online calls ≡ false → is_open calls ≡ false }
+    ensures nested { (cpu : ℕ) (online : Bool) (calls : List Call) → AreAccepted cpu online calls
+        → is_open calls ≡ not ((after_calls cpu online calls).depth == 0) }
+    ensures inner_exit { (cpu : ℕ) (online : Bool) (calls : List Call) → AreAccepted cpu online calls
+        → 1 < (after_calls cpu online calls).depth → is_open (Exit ∷ calls) ≡ true }
+    ensures outer_exit { (cpu : ℕ) (online : Bool) (calls : List Call) → AreAccepted cpu online calls
+        → (after_calls cpu online calls).depth ≡ 1 → is_open (Exit ∷ calls) ≡ false }
+    ensures offline { (cpu : ℕ) (online : Bool) (calls : List Call) → AreAccepted cpu online calls
+        → is_online online calls ≡ false → is_open calls ≡ false }
 {}
 
-/// A quiescent state is reported exactly where the processor is online and no section is open, with the number of
-/// the last note or arrival.
+/// A quiescent state is reported exactly where the processor is online and no section is open, with
+/// the number of the last note or arrival.
 pub fn reports_are_made_outside_sections()
-    ensures accepted { (cpu : ℕ) (online : Bool) (calls : List Call) → AreAccepted cpu online calls →
-        IsAccepted (after_calls cpu online calls) Quiesce ↔ ((is_online online calls ≡ true) × (is_open calls ≡ false)) }
-    ensures report { (cpu : ℕ) (online : Bool) (calls : List Call) → AreAccepted cpu online calls →
-        report_of (after_calls cpu online calls) ≡ record { cpu = cpu; tag = last_noted calls } }
+    ensures accepted { (cpu : ℕ) (online : Bool) (calls : List Call) → AreAccepted cpu online calls
+        → IsAccepted (after_calls cpu online calls) Quiesce
+        ↔ ((is_online online calls ≡ true) × (is_open calls ≡ false)) }
+    ensures report { (cpu : ℕ) (online : Bool) (calls : List Call) → AreAccepted cpu online calls
+        → report_of (after_calls cpu online calls) ≡ record { cpu = cpu; tag = last_noted calls } }
 {}
