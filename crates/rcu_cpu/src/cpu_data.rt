@@ -29,7 +29,12 @@ impl Model for CpuData {
 
     ghost Value = { Processor };
 
-    ghost view = { λ p. record { cpu = p.cpu; online = p.online; depth = p.depth; noted = p.noted } };
+    ghost view = { λ p. record {
+      cpu = p.cpu;
+      online = p.online;
+      depth = p.depth;
+      noted = p.noted;
+    } };
 
     ghost invariant = { λ p. record {
       nesting : p.depth ≤ deepest;
@@ -141,7 +146,8 @@ impl CpuData {
         ensures ok { IfOk result (λ report. report ≡ report_of self.now) }
         ensures accepted { OnOk result (IsAccepted self.now Quiesce) }
         ensures offline { IfErr result (λ fault. self.now.online ≡ false → fault ≡ Fault.Offline) }
-        ensures in_section { IfErr result (λ fault. self.now.online ≡ true → fault ≡ Fault.InSection) }
+        ensures in_section { IfErr result (λ fault.
+            self.now.online ≡ true → fault ≡ Fault.InSection) }
         ensures open { OnErr result (self.now.online ≡ true → 0 < self.now.depth) }
     {
         self.check_online()?;
@@ -180,7 +186,8 @@ impl CpuData {
         ensures ok { OnOk result (self.new ≡ after_call self.old Depart) }
         ensures accepted { OnOk result (IsAccepted self.old Depart) }
         ensures offline { IfErr result (λ fault. self.old.online ≡ false → fault ≡ Fault.Offline) }
-        ensures in_section { IfErr result (λ fault. self.old.online ≡ true → fault ≡ Fault.InSection) }
+        ensures in_section { IfErr result (λ fault.
+            self.old.online ≡ true → fault ≡ Fault.InSection) }
         ensures open { OnErr result (self.old.online ≡ true → 0 < self.old.depth) }
         ensures refused { OnErr result (self.new ≡ self.old) }
     {

@@ -17,9 +17,11 @@ pub fn depth_is_enters_less_exits()
 pub fn sections_are_open_where_they_nest()
     ensures nested { (cpu : ℕ) (online : Bool) (calls : List Call) → AreAccepted cpu online calls
         → is_open calls ≡ not ((after_calls cpu online calls).depth == 0) }
-    ensures inner_exit { (cpu : ℕ) (online : Bool) (calls : List Call) → AreAccepted cpu online calls
+    ensures inner_exit { (cpu : ℕ) (online : Bool) (calls : List Call)
+        → AreAccepted cpu online calls
         → 1 < (after_calls cpu online calls).depth → is_open (Exit ∷ calls) ≡ true }
-    ensures outer_exit { (cpu : ℕ) (online : Bool) (calls : List Call) → AreAccepted cpu online calls
+    ensures outer_exit { (cpu : ℕ) (online : Bool) (calls : List Call)
+        → AreAccepted cpu online calls
         → (after_calls cpu online calls).depth ≡ 1 → is_open (Exit ∷ calls) ≡ false }
     ensures offline { (cpu : ℕ) (online : Bool) (calls : List Call) → AreAccepted cpu online calls
         → is_online online calls ≡ false → is_open calls ≡ false }

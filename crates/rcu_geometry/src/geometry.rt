@@ -150,7 +150,8 @@ impl<const LEAF: u32, const FAN: u32> Geometry<LEAF, FAN> {
     /// is `grpmask`). The node is below `nodes()`.
     pub fn bit_in_parent(&self, node: u32) -> Option<u32>
         requires { node < nodes_of self.now }
-        ensures value { result ≡ (if node == 0 then None else Some (bit_in_parent_of self.now node)) }
+        ensures value { result
+            ≡ (if node == 0 then None else Some (bit_in_parent_of self.now node)) }
         ensures below { IfSome result (λ bit. bit < FAN) }
     {
         (node != 0).then_some((node - self.start(self.level_of(node))) % FAN)

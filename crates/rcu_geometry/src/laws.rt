@@ -46,7 +46,8 @@ pub fn parents_are_inner_nodes()
 /// fanout.
 pub fn leaves_are_the_last_level()
     ensures from { (s : Shape) (cpu : ℕ) → first_leaf s ≤ leaf_of s cpu }
-    ensures below { (s : Shape) (cpu : ℕ) → IsLegalShape s → cpu < s.cpus → leaf_of s cpu < nodes s }
+    ensures below { (s : Shape) (cpu : ℕ) → IsLegalShape s → cpu < s.cpus
+        → leaf_of s cpu < nodes s }
     ensures bit { (s : Shape) (cpu : ℕ) → IsLegalShape s → bit_of s cpu < s.leaf }
     ensures level { (s : Shape) (node : ℕ) → first_leaf s ≤ node → node < nodes s
         → level_of s node ≡ levels s - 1 }
@@ -56,8 +57,10 @@ pub fn leaves_are_the_last_level()
 /// behind it. The root is in level 0.
 pub fn each_node_is_in_one_level()
     ensures level { (s : Shape) (node : ℕ) → node < nodes s → level_of s node < levels s }
-    ensures from { (s : Shape) (node : ℕ) → node < nodes s → level_start s (level_of s node) ≤ node }
-    ensures below { (s : Shape) (node : ℕ) → node < nodes s → node < level_start s (level_of s node + 1) }
+    ensures from { (s : Shape) (node : ℕ) → node < nodes s
+        → level_start s (level_of s node) ≤ node }
+    ensures below { (s : Shape) (node : ℕ) → node < nodes s
+        → node < level_start s (level_of s node + 1) }
     ensures only { (s : Shape) (node i : ℕ) → i < levels s
         → level_start s i ≤ node → node < level_start s (i + 1) → level_of s node ≡ i }
     ensures root { (s : Shape) → IsLegalShape s → level_of s 0 ≡ 0 }
@@ -77,7 +80,8 @@ pub fn levels_have_nodes()
 /// Each node before the first leaf has a child of bit 0.
 pub fn each_inner_node_has_a_child()
     ensures { (s : Shape) (node : ℕ) → IsLegalShape s → node < first_leaf s
-        → (child : ℕ) × (0 < child) × (child < nodes s) × (parent s child ≡ node) × (bit_in_parent s child ≡ 0) }
+        → (child : ℕ) × (0 < child) × (child < nodes s)
+        × (parent s child ≡ node) × (bit_in_parent s child ≡ 0) }
 {}
 
 /// Each leaf has a processor of bit 0.

@@ -9,8 +9,8 @@ ghost use Rattle.rcu_report.specs.Replica.{IsSound, Merge, Replicated, after_cal
 
 /// A batch leaves what its reports leave, one after another, in any order and any number of times.
 pub fn batch_leaves_what_its_reports_leave()
-    ensures { (batch : Gathered) (number : Number) (awaited : List Bool) (reports : List (ℕ × Number))
-        → AreOf batch reports
+    ensures { (batch : Gathered) (number : Number) (awaited : List Bool)
+        → (reports : List (ℕ × Number)) → AreOf batch reports
         → awaited_after_batch number awaited batch ≡ awaited_after_reports number awaited reports }
 {}
 
@@ -50,5 +50,6 @@ pub fn merged_replicas_await_the_same()
     ensures still { (x y : Replicated) → refusal x (Merge y) ≡ None
         → refusal y (Merge (after_call x (Merge y))) ≡ None }
     ensures in_turn { (x y : Replicated) → refusal x (Merge y) ≡ None
-        → (after_call x (Merge y)).awaited ≡ (after_call y (Merge (after_call x (Merge y)))).awaited }
+        → (after_call x (Merge y)).awaited
+        ≡ (after_call y (Merge (after_call x (Merge y)))).awaited }
 {}
