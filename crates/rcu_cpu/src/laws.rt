@@ -1,7 +1,8 @@
 //! What the definitions say of read sections, after any accepted calls of a processor.
 ghost use Rattle.std.specs.Prelude.{◌≡◌, ◌<◌, ◌≤◌, ◌↔◌, ◌==◌, ◌∷◌, ℕ, Bool, true, false, not};
 ghost use Rattle.std.specs.Prelude.{List, count_by};
-ghost use Rattle.rcu_cpu.specs.CpuData.{AreAccepted, Call, Exit, IsAccepted, Quiesce, after_calls, report_of};
+ghost use Rattle.rcu_cpu.specs.CpuData.{AreAccepted, Call, Exit, IsAccepted, Quiesce, after_calls};
+ghost use Rattle.rcu_cpu.specs.CpuData.{report_of};
 ghost use Rattle.rcu_cpu.specs.Sections.{enters, exits, nesting, is_open, is_online, last_noted};
 
 /// The depth is the enters less the exits, of which there are no more than enters.

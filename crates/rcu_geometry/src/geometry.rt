@@ -2,11 +2,15 @@
 ghost use Rattle.std.specs.Prelude.{◌≡◌, ◌<◌, ◌≤◌, ◌+◌, ◌-◌, ◌*◌, ◌^◌, ◌==◌, ℕ, if◌then◌else◌};
 ghost use Rattle.std.specs.Prelude.{Some, None, IfOk, IfErr, IfSome, OnOk, length, slice_index};
 ghost use Rattle.rcu_geometry.specs.Geometry.{IsLegalShape, Shape, ceil, refusal, shape};
-ghost use Rattle.rcu_geometry.specs.Geometry.{bit_in_parent as bit_in_parent_of, bit_of as bit_of_cpu};
+ghost use Rattle.rcu_geometry.specs.Geometry.{bit_in_parent as bit_in_parent_of};
+ghost use Rattle.rcu_geometry.specs.Geometry.{bit_of as bit_of_cpu};
 ghost use Rattle.rcu_geometry.specs.Geometry.{capacity as capacity_of, is_fanout as is_a_fanout};
-ghost use Rattle.rcu_geometry.specs.Geometry.{leaf_of as leaf_of_cpu, level_nodes as level_nodes_of};
-ghost use Rattle.rcu_geometry.specs.Geometry.{level_of as level_of_node, level_start as level_start_of};
-ghost use Rattle.rcu_geometry.specs.Geometry.{levels as levels_of, nodes as nodes_of, parent as parent_of};
+ghost use Rattle.rcu_geometry.specs.Geometry.{leaf_of as leaf_of_cpu};
+ghost use Rattle.rcu_geometry.specs.Geometry.{level_nodes as level_nodes_of};
+ghost use Rattle.rcu_geometry.specs.Geometry.{level_of as level_of_node};
+ghost use Rattle.rcu_geometry.specs.Geometry.{level_start as level_start_of};
+ghost use Rattle.rcu_geometry.specs.Geometry.{levels as levels_of, nodes as nodes_of};
+ghost use Rattle.rcu_geometry.specs.Geometry.{parent as parent_of};
 
 use arrayvec::ArrayVec;
 use rcu_seq::fault::Fault;
@@ -41,7 +45,8 @@ pub struct Geometry<const LEAF: u32, const FAN: u32> {
 impl<const LEAF: u32, const FAN: u32> Model for Geometry<LEAF, FAN> {
     ghost use Rattle.std.specs.Prelude.{◌≡◌, ◌≤◌, ◌+◌, ℕ, length, slice_index};
     ghost use Rattle.rcu_geometry.specs.Geometry.{IsLegalShape, Shape, shape};
-    ghost use Rattle.rcu_geometry.specs.Geometry.{level_start as level_start_of, levels as levels_of};
+    ghost use Rattle.rcu_geometry.specs.Geometry.{level_start as level_start_of};
+    ghost use Rattle.rcu_geometry.specs.Geometry.{levels as levels_of};
 
     ghost Value = { Shape };
 

@@ -1,8 +1,10 @@
 //! What the formulas say of every tree.
 ghost use Rattle.std.specs.Prelude.{◌≡◌, ◌<◌, ◌≤◌, ◌+◌, ◌-◌, ◌==◌, ℕ, count_by};
 ghost use Rattle.std.specs.List.{range_with_len};
-ghost use Rattle.rcu_geometry.specs.Geometry.{IsLegalShape, Shape, bit_in_parent, bit_of, first_leaf, leaf_of};
-ghost use Rattle.rcu_geometry.specs.Geometry.{level_nodes, level_of, level_start, levels, nodes, parent};
+ghost use Rattle.rcu_geometry.specs.Geometry.{IsLegalShape, Shape, bit_in_parent, bit_of};
+ghost use Rattle.rcu_geometry.specs.Geometry.{first_leaf, leaf_of};
+ghost use Rattle.rcu_geometry.specs.Geometry.{level_nodes, level_of, level_start, levels, nodes};
+ghost use Rattle.rcu_geometry.specs.Geometry.{parent};
 
 /// Two processors with one leaf and one bit are the same.
 pub fn each_processor_has_its_own_bit()

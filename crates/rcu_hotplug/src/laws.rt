@@ -2,7 +2,8 @@
 ghost use Rattle.std.specs.Prelude.{◌≡◌, ◌∷◌, ℕ};
 ghost use Rattle.rcu_seq.specs.Numbers.{Number};
 ghost use Rattle.rcu_hotplug.specs.Hotplug.{Arrive, Begin};
-ghost use Rattle.rcu_hotplug.specs.History.{History, AreAccepted, Represents, after_calls, awaits, online};
+ghost use Rattle.rcu_hotplug.specs.History.{History, AreAccepted, Represents, after_calls, awaits};
+ghost use Rattle.rcu_hotplug.specs.History.{online};
 
 /// After any accepted calls the processors are as the history of the calls says.
 pub fn calls_leave_what_their_history_says()

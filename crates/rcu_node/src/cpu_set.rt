@@ -1,6 +1,8 @@
 //! Sets of processors.
-ghost use Rattle.std.specs.Prelude.{◌≡◌, ◌<◌, ◌≤◌, ◌+◌, ◌-◌, ◌*◌, ◌&&◌, ℕ, true, false, not, nat_lt};
-ghost use Rattle.std.specs.Prelude.{if◌then◌else◌, length, slice_index, slice_set, bit_or, replicate};
+ghost use Rattle.std.specs.Prelude.{◌≡◌, ◌<◌, ◌≤◌, ◌+◌, ◌-◌, ◌*◌, ◌&&◌, ℕ, true, false, not};
+ghost use Rattle.std.specs.Prelude.{nat_lt};
+ghost use Rattle.std.specs.Prelude.{if◌then◌else◌, length, slice_index, slice_set, bit_or};
+ghost use Rattle.std.specs.Prelude.{replicate};
 ghost use Rattle.std.specs.Prelude.{IfOk, IfErr, OnOk};
 ghost use Rattle.rcu_node.specs.CpuSet.{IsSetFault, is_in, size_of, union};
 ghost use Rattle.rcu_node.specs.Words.{flags_in, has_bit};

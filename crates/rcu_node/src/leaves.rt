@@ -1,6 +1,8 @@
 //! The awaited processors of a tree, in masks.
-ghost use Rattle.std.specs.Prelude.{◌≡◌, ◌<◌, ◌≤◌, ◌*◌, ◌/◌, ◌^◌, ◌==◌, if◌then◌else◌, None, true, false};
-ghost use Rattle.std.specs.Prelude.{length, slice_index, slice_set, bit_and, replicate, IfOk, IfErr, OnOk};
+ghost use Rattle.std.specs.Prelude.{◌≡◌, ◌<◌, ◌≤◌, ◌*◌, ◌/◌, ◌^◌, ◌==◌, if◌then◌else◌, None, true};
+ghost use Rattle.std.specs.Prelude.{false};
+ghost use Rattle.std.specs.Prelude.{length, slice_index, slice_set, bit_and, replicate, IfOk};
+ghost use Rattle.std.specs.Prelude.{IfErr, OnOk};
 ghost use Rattle.std.specs.Int.{bit_not, w64};
 ghost use Rattle.rcu_geometry.specs.Geometry.{IsTreeFault, ceil, refusal, shape};
 ghost use Rattle.rcu_node.specs.CpuSet.{is_in, size_of};

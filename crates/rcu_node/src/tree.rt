@@ -1,5 +1,6 @@
 //! The awaited processors in a combining tree.
-ghost use Rattle.std.specs.Prelude.{◌≡◌, ◌<◌, ◌≤◌, None, true, false, ℕ, length, replicate, IfOk, IfErr, OnOk};
+ghost use Rattle.std.specs.Prelude.{◌≡◌, ◌<◌, ◌≤◌, None, true, false, ℕ, length, replicate, IfOk};
+ghost use Rattle.std.specs.Prelude.{IfErr, OnOk};
 ghost use Rattle.rcu_geometry.specs.Geometry.{IsTreeFault, refusal, shape};
 ghost use Rattle.rcu_node.specs.CpuSet.{is_in};
 

@@ -4,7 +4,8 @@ ghost use Rattle.std.specs.Prelude.{IfErr, IfOk, OnErr, OnOk};
 ghost use Rattle.rcu_seq.specs.Numbers.{is_last};
 ghost use Rattle.rcu_seq.specs.Seq.{number_of};
 ghost use Rattle.rcu_report.specs.Replica.{Begin, Depart, End, Merge, Report};
-ghost use Rattle.rcu_report.specs.Replica.{IsSound, answer_of, at_first, cpus_of, after_call, refusal};
+ghost use Rattle.rcu_report.specs.Replica.{IsSound, answer_of, at_first, cpus_of, after_call};
+ghost use Rattle.rcu_report.specs.Replica.{refusal};
 
 use rcu_node::answer::Answer;
 use rcu_node::awaited::Awaited;
