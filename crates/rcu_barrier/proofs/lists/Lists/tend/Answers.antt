@@ -47,7 +47,7 @@ returns-clause-state g c =
     let fours : AreFours old = subst AreFours (sym is) (fours_get i.lists.items c.args.cpu k.1.fours) in
     let snap = c.of.ensures in
     let after : c.accelerate.new.self ≡ after_tend (get_or i.lists.items c.args.cpu []) number =
-    c.accelerate.ensures ∙ (rw (snap, c.advance.ensures) (tend_is number old c.requires.state fours) ∙ ap (after_tend number) is) in
+    c.accelerate.ensures ∙ (rw (snap, c.advance.ensures) (tend_is number old c.requires.state fours) ∙ ap (λ l. after_tend l number) is) in
     rw (← c.self.view_is)
     (ap (λ l. record { lists = set i.lists.items c.args.cpu l; visited = i.visits; running = i.running; queued = i.queued }) after)
 
@@ -62,7 +62,7 @@ returns-clause-done g c =
     let fours : AreFours old = subst AreFours (sym is) (fours_get i.lists.items c.args.cpu k.1.fours) in
     let snap = c.of.ensures in
     let after : c.accelerate.new.self ≡ after_tend (get_or i.lists.items c.args.cpu []) number =
-    c.accelerate.ensures ∙ (rw (snap, c.advance.ensures) (tend_is number old c.requires.state fours) ∙ ap (after_tend number) is) in
+    c.accelerate.ensures ∙ (rw (snap, c.advance.ensures) (tend_is number old c.requires.state fours) ∙ ap (λ l. after_tend l number) is) in
     rw (← c.self.view_is, c.done_count.ensures ∙ ap (λ l. length (callbacks (front l))) after) refl
 
 pub returns-clause-waiting : goal.returns-clause-waiting
@@ -76,5 +76,5 @@ returns-clause-waiting g c =
     let fours : AreFours old = subst AreFours (sym is) (fours_get i.lists.items c.args.cpu k.1.fours) in
     let snap = c.of.ensures in
     let after : c.accelerate.new.self ≡ after_tend (get_or i.lists.items c.args.cpu []) number =
-    c.accelerate.ensures ∙ (rw (snap, c.advance.ensures) (tend_is number old c.requires.state fours) ∙ ap (after_tend number) is) in
+    c.accelerate.ensures ∙ (rw (snap, c.advance.ensures) (tend_is number old c.requires.state fours) ∙ ap (λ l. after_tend l number) is) in
     rw (← c.self.view_is, c.waiting_count.ensures ∙ ap (λ l. length (callbacks (behind l))) after) refl
