@@ -76,7 +76,7 @@ markers_none X zero = refl
 markers_none X (suc n) = let rest = markers_none X n in omega arith
 
 -- one that is visited is unvisited no more
-pub unvisited_set : (flags : List Bool) (cpu : ℕ) → cpu < length flags → get_or flags cpu true ≡ false →
+pub unvisited_set : (flags : List Bool) (cpu : ℕ) → cpu < length flags → get_or flags cpu false ≡ false →
     unvisited (set flags cpu true) + 1 ≡ unvisited flags
 unvisited_set [] cpu within none = absurd (omega arith)
 unvisited_set (true ∷ flags) zero within none = cc

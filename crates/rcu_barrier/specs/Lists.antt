@@ -50,7 +50,7 @@ module _ {X : Type 0} where
 
   -- the barrier visited the processor
   abbrev pub is_visited : AllLists X → ℕ → Bool
-  is_visited all cpu = slice_index_or all.visited cpu true
+  is_visited all cpu = slice_index_or all.visited cpu false
 
   -- the processor has this list, and the others theirs
   abbrev pub with_list : AllLists X → ℕ → List (Item X) → AllLists X

@@ -44,7 +44,7 @@ impl Visits {
     /// Whether the processor is visited.
     pub(crate) fn contains(&self, cpu: u32) -> bool
         requires { cpu < length self.now }
-        ensures { result ≡ slice_index_or self.now cpu true }
+        ensures { result ≡ slice_index_or self.now cpu false }
     {
         self.flags[cpu as usize]
     }
@@ -53,7 +53,7 @@ impl Visits {
     #[tactic(auto, using(crate::proofs::Markers::unvisited_set))]
     pub(crate) fn insert(&mut self, cpu: u32)
         requires cpu { cpu < length self.old }
-        requires unvisited { slice_index_or self.old cpu true ≡ false }
+        requires unvisited { slice_index_or self.old cpu false ≡ false }
         ensures { self.new ≡ slice_set self.old cpu true }
     {
         self.flags[cpu as usize] = true;

@@ -16,7 +16,7 @@ invariant_of-self-then-marked g c =
     let sized = k.1.sized in
     let owed : owes_visit (record { lists = i.lists.items; visited = i.visits; running = i.running; queued = i.queued }) cpu ≡ true =
     subst (λ v. owes_visit v cpu ≡ true) (sym c.self.view_is) (sym c.owes_visit.ensures ∙ c.if-owes_visit.true) in
-    let off = (owed_parts i.running (get_or i.visits cpu true) owed).1 in
+    let off = (owed_parts i.running (get_or i.visits cpu false) owed).1 in
     let fewer = unvisited_set i.visits cpu (omega arith) off in
     let flags = ap unvisited c.insert.ensures in
     let old = get_or i.lists.items cpu [] in
@@ -43,7 +43,7 @@ invariant_of-self-else-marked g c =
     let sized = k.1.sized in
     let owed : owes_visit (record { lists = i.lists.items; visited = i.visits; running = i.running; queued = i.queued }) cpu ≡ true =
     subst (λ v. owes_visit v cpu ≡ true) (sym c.self.view_is) (sym c.owes_visit.ensures ∙ c.if-owes_visit.true) in
-    let off = (owed_parts i.running (get_or i.visits cpu true) owed).1 in
+    let off = (owed_parts i.running (get_or i.visits cpu false) owed).1 in
     let fewer = unvisited_set i.visits cpu (omega arith) off in
     let flags = ap unvisited c.insert.ensures in
     let old = get_or i.lists.items cpu [] in
