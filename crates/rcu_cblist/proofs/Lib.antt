@@ -1,2 +1,3 @@
+pub mod SegListLemmas
 pub mod Lists
 pub mod Numbers

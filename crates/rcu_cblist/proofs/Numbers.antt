@@ -6,6 +6,7 @@ use Rattle.std.proofs.lemmas.Bool.{cases_Bool, cases_eq}
 use Rattle.std.proofs.lemmas.Bool.Decides.{nat_tests}
 use Rattle.std.specs.List.{list_any}
 use Rattle.rcu_seq.specs.Numbers.{Number}
+use Rattle.rcu_cblist.proofs.SegListLemmas.{none_other, other_same}
 use Rattle.rcu_cblist.specs.SegList.{greatest, has_other, has_two}
 
 -- two numbers below the snapshot differ, found in order: the first one below it, and another behind it
@@ -13,53 +14,12 @@ abbrev pub has_two_ahead : Number → List Number → Bool
 has_two_ahead snap [] = false
 has_two_ahead snap (n ∷ numbers) = if nat_lt n snap then has_other snap n numbers else has_two_ahead snap numbers
 
--- a number is no other than itself
-other_than_itself : (snap n : Number) (rest : Bool) → ((nat_lt n snap && not (n == n)) || rest) ≡ rest
-other_than_itself snap n rest = grind (arith, nat_tests)
-
--- where neither of two tests passes, the second does not
-last_of : (a b : Bool) → (a || b) ≡ false → b ≡ false
-last_of true b none = cc
-last_of false b none = none
-
--- a test that an item fails on its second half, before others that fail
-neither : (a b c : Bool) → b ≡ false → c ≡ false → ((a && b) || c) ≡ false
-neither true b c second others = grind (arith, second, others)
-neither false b c second others = others
-
--- a test that an item fails on its first half, before others that fail
-above : (a b c : Bool) → a ≡ false → c ≡ false → ((a && b) || c) ≡ false
-above a b c first others = ap (λ t. (t && b) || c) first ∙ others
-
 -- where the first number is below, two differ where another one differs from it
 first_below : (below itself other others ahead : Bool) → below ≡ true → itself ≡ other → (other ≡ false → others ≡ false) →
     ((below && itself) || others) ≡ (if below then other else ahead)
 first_below true itself true others ahead is same alone = ap (λ t. t || others) same
 first_below true itself false others ahead is same alone = ap (λ t. t || others) same ∙ alone refl
 first_below false itself other others ahead is same alone = cc
-
--- a number that differs from n, and is no other below the snapshot, is not below it
-not_below : (snap k n : Number) (rest : Bool) → (k ≡ n → ⊥) → ((nat_lt k snap && not (k == n)) || rest) ≡ false →
-    nat_lt k snap ≡ false
-not_below snap k n rest differ none = grind (arith, nat_tests)
-
--- where no other number than n is below the snapshot, each number below it is n, and no two differ
-none_other : (snap n : Number) (all some : List Number) → has_other snap n all ≡ false → has_other snap n some ≡ false →
-    list_any (λ k. nat_lt k snap && has_other snap k (n ∷ all)) some ≡ false
-none_other snap n all [] no_other none = refl
-none_other snap n all (k ∷ some) no_other none =
-    let Alone : ℕ → Type 0 = λ k. has_other snap k (n ∷ all) ≡ false in
-    elim (cases_eq k n) [
-      | inl same ↦
-          let here : has_other snap k (n ∷ all) ≡ false =
-          subst Alone (sym same) (other_than_itself snap n (has_other snap n all) ∙ no_other) in
-          let rest = none_other snap n all some no_other (last_of _ _ none) in
-          neither _ _ _ here rest
-      | inr differ ↦
-          let here : nat_lt k snap ≡ false = not_below snap k n _ differ none in
-          let rest = none_other snap n all some no_other (last_of _ _ none) in
-          above _ _ _ here rest
-    ]
 
 -- found in order, they are found
 pub has_two_walked : (snap : Number) (numbers : List Number) → has_two snap numbers ≡ has_two_ahead snap numbers
@@ -69,8 +29,8 @@ has_two_walked snap (n ∷ numbers) =
     list_any (λ k. nat_lt k snap && ((below && not (n == k)) || has_other snap k numbers)) numbers) ≡
     (if below then has_other snap n numbers else has_two_ahead snap numbers) in
     elim (cases_Bool (nat_lt n snap)) [
-      | inl below ↦ first_below (nat_lt n snap) _ _ _ _ below (other_than_itself snap n (has_other snap n numbers))
-          (λ none. none_other snap n numbers numbers none none)
+      | inl below ↦ first_below (nat_lt n snap) _ _ _ _ below (other_same snap n numbers)
+          (λ none. none_other snap n (n ∷ numbers) numbers (other_same snap n numbers ∙ none) none)
       | inr above ↦ subst Found (sym above) (has_two_walked snap numbers)
     ]
 
