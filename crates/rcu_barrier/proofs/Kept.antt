@@ -1,12 +1,14 @@
 -- What is kept where one list changes, and where one moves to the first.
 use Rattle.std.proofs.Common.{◌≡◌, ◌≢◌, get_or-set_other, ℕ, ◌+◌, ◌<◌, ◌≤◌, Bool, true, false, not, ◌&&◌, ◌∙◌, List, [], length, set, get_or, refl, ap, sym, subst, arith}
-use Rattle.std.specs.Prelude.{replicate}
+use Rattle.std.specs.Prelude.{◌%◌, ◌∷◌, if◌then◌else◌, replicate}
 use Rattle.std.proofs.lemmas.List.{length-replicate, length-set, get_or_default}
-use Rattle.rcu_cblist.specs.SegList.{Item, markers, after_migrate}
+use Rattle.rcu_cblist.specs.SegList.{Item, after_migrate, is_empty, markers}
+use Rattle.rcu_cblist.proofs.SegListLemmas.{markers_entrained, markers_moved}
+use Rattle.std.proofs.lemmas.List.Elements.{All-nil}
 use Rattle.rcu_barrier.specs.Tending.{AreFours}
-use Rattle.rcu_barrier.specs.Lists.{AllFours, AllLists, IsSound, markers_in, most_queued, unvisited}
+use Rattle.rcu_barrier.specs.Lists.{AllFours, AllLists, IsSound, as_it_leaves, list_of, lists_after_move, markers_in, most_queued, unvisited}
 use Rattle.rcu_barrier.proofs.Fours.{fours_get, fours_none, fours_moved, fours_set}
-use Rattle.rcu_barrier.proofs.Markers.{markers_moved, markers_none, markers_set, unvisited_all}
+use Rattle.rcu_barrier.proofs.Markers.{markers_none, markers_set, unvisited_all}
 
 -- a list that was read is the processor's
 pub list_is : {X : Type 0} (lists : List (List (Item X))) (cpu : ℕ) (old : List (Item X)) → cpu < length lists →
@@ -78,18 +80,34 @@ relisted all m n queued cpu old xs flags count kept inside read sized now fewer 
       },
     )
 
--- a list moves to the first one, perhaps with a marker behind it
-pub moved_kept : {X : Type 0} (all : AllLists X) (m n cpu : ℕ) (xs : List (Item X)) (flags : List Bool) →
+-- a list that leaves gets a marker where a visit is owed and it is not empty
+markers_leaving : {X : Type 0} (xs : List (Item X)) (owed : Bool) →
+    markers (as_it_leaves xs owed) ≡ markers xs + (if owed && not (is_empty xs) then 1 else 0)
+markers_leaving xs false = omega arith
+markers_leaving [] true = refl
+markers_leaving (x ∷ xs) true = markers_entrained (x ∷ xs) refl
+
+-- one marker at most for a visit
+marked_within : (owed empty : Bool) → (if owed && not empty then 1 else 0) ≤ (if owed then 1 else 0)
+marked_within true true = omega arith
+marked_within true false = omega arith
+marked_within false empty = omega arith
+
+-- a list moves to the first one, with a marker behind it where a visit is owed
+pub moved_kept : {X : Type 0} (all : AllLists X) (m n cpu : ℕ) (owed : Bool) (flags : List Bool) →
     m ≡ markers_in all.lists → IsSound all → 0 < cpu → cpu < length all.lists → length flags ≡ length all.visited →
-    n + markers (get_or all.lists cpu []) ≡ m + markers xs → n + unvisited flags ≤ m + unvisited all.visited → AreFours xs →
-    (n ≡ markers_in (set (set all.lists 0 (after_migrate (get_or all.lists 0 []) xs)) cpu []))
+    n ≡ m + (if owed && not (is_empty (list_of all cpu)) then 1 else 0) →
+    unvisited flags + (if owed then 1 else 0) ≡ unvisited all.visited →
+    (n ≡ markers_in (lists_after_move all.lists cpu owed))
     × IsSound (record {
-      lists = set (set all.lists 0 (after_migrate (get_or all.lists 0 []) xs)) cpu [];
+      lists = lists_after_move all.lists cpu owed;
       visited = flags;
       running = all.running;
       queued = all.queued;
     })
-moved_kept all m n cpu xs flags count kept other inside sized now fewer fours =
+moved_kept all m n cpu owed flags count kept other inside sized now fewer =
+    let old = get_or all.lists cpu [] in
+    let xs = as_it_leaves old owed in
     let there = get_or all.lists 0 [] in
     let first = set all.lists 0 (after_migrate there xs) in
     let zero_inside : 0 < length all.lists = omega arith in
@@ -99,13 +117,15 @@ moved_kept all m n cpu xs flags count kept other inside sized now fewer fours =
     let change_first = markers_set all.lists 0 (after_migrate there xs) zero_inside in
     let change = markers_set first cpu [] inside_first in
     let both = markers_moved xs there in
+    let put = markers_leaving old owed in
+    let least = marked_within owed (is_empty old) in
     let apart : cpu ≢ 0 = omega arith in
-    let same : get_or first cpu [] ≡ get_or all.lists cpu [] = rw get_or-set_other refl in
+    let same : get_or first cpu [] ≡ old = rw get_or-set_other refl in
     let same_count = ap markers same in
     let some = kept.some in
     let most = kept.few in
     let within = kept.within in
-    let fours_first = fours_set all.lists 0 (after_migrate there xs) kept.fours (fours_moved xs there fours (fours_get all.lists 0 kept.fours)) in (
+    let fours_first = fours_set all.lists 0 (after_migrate there xs) kept.fours (fours_moved xs there (fours_get all.lists 0 kept.fours)) in (
       omega arith,
       record {
         some = omega arith;
@@ -114,6 +134,6 @@ moved_kept all m n cpu xs flags count kept other inside sized now fewer fours =
         within = omega arith;
         idle = λ off. let none = kept.idle off in omega arith;
         counted = kept.counted;
-        fours = fours_set first cpu [] fours_first tt;
+        fours = fours_set first cpu [] fours_first (All-nil (λ n. n % 4 ≡ 0));
       },
     )

@@ -1,6 +1,9 @@
 -- All processors' lists, and the barrier over them: what each call leaves, and what it answers.
-use Rattle.std.specs.Prelude.{ℕ, ◌≡◌, ◌≤◌, ◌+◌, ◌==◌, ◌&&◌, Bool, true, false, not, if◌then◌else◌, List, [], ◌∷◌, ◌++◌, length, replicate, slice_index_or, slice_set}
+use Rattle.std.specs.Prelude.{ℕ, ◌≡◌, ◌≤◌, ◌+◌, ◌==◌, ◌&&◌, Bool, true, false, not, if◌then◌else◌, List, [], ◌∷◌, ◌++◌, All, count_by, length, replicate, slice_index_or, slice_set, sum_by}
 use Rattle.rcu_seq.specs.Numbers.{Number}
+use Rattle.rcu_seq.specs.declared.fault.Fault.{Fault}
+use Rattle.rcu_seq.specs.declared.fault.Fault.TheVariants as fault
+use Rattle.rcu_cblist.specs.declared.queued.Queued.{Queued}
 use Rattle.rcu_cblist.specs.SegList.{Item, Of, Unmarked, after_entrain, is_empty, markers, after_migrate, after_take}
 use Rattle.rcu_barrier.specs.Tending.{AreFours, after_tend}
 use Rattle.rcu_barrier.specs.declared.visit.Visit.{Visit}
@@ -21,20 +24,20 @@ most_queued = 1000000
 
 -- how many processors are unvisited
 abbrev pub unvisited : List Bool → ℕ
-unvisited [] = 0
-unvisited (true ∷ flags) = unvisited flags
-unvisited (false ∷ flags) = unvisited flags + 1
+unvisited flags = count_by not flags
 
 module _ {X : Type 0} where
   -- how many markers the lists have
   abbrev pub markers_in : List (List (Item X)) → ℕ
-  markers_in [] = 0
-  markers_in (xs ∷ lists) = markers xs + markers_in lists
+  markers_in lists = sum_by markers lists
 
   -- in each list, each number that a callback carries is a multiple of 4
   abbrev pub AllFours : List (List (Item X)) → Type 0
-  AllFours [] = Unit {0}
-  AllFours (xs ∷ lists) = AreFours xs × AllFours lists
+  AllFours lists = All AreFours lists
+
+  -- the list at this place, empty where there is none
+  abbrev pub list_at : List (List (Item X)) → ℕ → List (Item X)
+  list_at lists place = slice_index_or lists place []
 
   -- at first the lists are empty, no barrier runs, and no processor is unvisited
   abbrev pub at_first : ℕ → AllLists X
@@ -46,7 +49,7 @@ module _ {X : Type 0} where
 
   -- the processor's list
   abbrev pub list_of : AllLists X → ℕ → List (Item X)
-  list_of all cpu = slice_index_or all.lists cpu []
+  list_of all cpu = list_at all.lists cpu
 
   -- the barrier visited the processor
   abbrev pub is_visited : AllLists X → ℕ → Bool
@@ -56,12 +59,15 @@ module _ {X : Type 0} where
   abbrev pub with_list : AllLists X → ℕ → List (Item X) → AllLists X
   with_list all cpu xs = record all { lists = slice_set all.lists cpu xs }
 
+  -- why a callback is not queued: there are too many, or memory was refused
+  abbrev pub queue_fault : AllLists X → Fault
+  queue_fault all = if all.queued == most_queued then fault.CallbacksFull else fault.NoMemory
+
   -- a callback, queued at this number, is at the end of the processor's list, and is counted
   abbrev pub lists_after_queue : AllLists X → ℕ → Number → X → AllLists X
   lists_after_queue all cpu number x =
-      record (with_list all cpu (list_of all cpu ++ Of (record { ord = all.queued + 1; at = number; value = x }) Unmarked ∷ [])) {
-        queued = all.queued + 1;
-      }
+      let call : Queued X = record { ord = all.queued + 1; at = number; value = x } in
+      record (with_list all cpu (list_of all cpu ++ Of call Unmarked ∷ [])) { queued = all.queued + 1 }
 
   -- the processor's list is tended at this number
   abbrev pub lists_after_tend : AllLists X → ℕ → Number → AllLists X
@@ -79,10 +85,15 @@ module _ {X : Type 0} where
   abbrev pub as_it_leaves : List (Item X) → Bool → List (Item X)
   as_it_leaves xs owed = if owed then after_entrain xs else xs
 
+  -- the lists once the one at a place moved to the first, with a marker behind it where a visit is owed
+  abbrev pub lists_after_move : List (List (Item X)) → ℕ → Bool → List (List (Item X))
+  lists_after_move lists from owed =
+      slice_set (slice_set lists 0 (after_migrate (list_at lists 0) (as_it_leaves (list_at lists from) owed))) from []
+
   -- the processor is visited where that is owed, and its list moved to processor 0
   abbrev pub lists_after_migrate : AllLists X → ℕ → AllLists X
   lists_after_migrate all cpu = record all {
-    lists = slice_set (slice_set all.lists 0 (after_migrate (list_of all 0) (as_it_leaves (list_of all cpu) (owes_visit all cpu)))) cpu [];
+    lists = lists_after_move all.lists cpu (owes_visit all cpu);
     visited = if owes_visit all cpu then slice_set all.visited cpu true else all.visited;
   }
 
@@ -95,6 +106,10 @@ module _ {X : Type 0} where
   lists_after_visit all cpu =
       if is_visited all cpu then all
       else record (with_list all cpu (after_entrain (list_of all cpu))) { visited = slice_set all.visited cpu true }
+
+  -- why a visit is refused: no barrier runs, or memory was refused
+  abbrev pub visit_fault : AllLists X → Fault
+  visit_fault all = if all.running then fault.NoMemory else fault.NoBarrier
 
   -- what a visit answers
   abbrev pub visit_answer : AllLists X → ℕ → Visit

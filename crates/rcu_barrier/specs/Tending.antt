@@ -1,8 +1,8 @@
 -- What a tend leaves of one processor's list, and which numbers a callback may wait for.
-use Rattle.std.specs.Prelude.{◌≡◌, ◌<◌, ◌≤◌, ◌+◌, ◌*◌, ◌/◌, ◌%◌, ◌==◌, ◌||◌, Bool, true, false, List, [], ◌∷◌, map}
+use Rattle.std.specs.Prelude.{◌≡◌, ◌<◌, ◌≤◌, ◌+◌, ◌*◌, ◌/◌, ◌%◌, ◌==◌, ◌||◌, Bool, true, false, List, [], map, All}
 use Rattle.std.specs.List.{list_any}
 use Rattle.rcu_seq.specs.Numbers.{Number, snapshot}
-use Rattle.rcu_cblist.specs.SegList.{Item, Mark, Of, Marker, Unmarked, Until, Done, mark_advanced, mark_given, remarked}
+use Rattle.rcu_cblist.specs.SegList.{Item, Mark, Of, Marker, Unmarked, Until, Done, mark_advanced, mark_given, numbers, remarked}
 
 -- the mark after a tend: a number at most the given one becomes done, and where nothing was said it becomes the snapshot
 abbrev pub mark_after_tend : Number → Mark → Mark
@@ -36,8 +36,4 @@ module _ {X : Type 0} where
 
   -- each number that a callback of the list carries is a multiple of 4
   abbrev pub AreFours : List (Item X) → Type 0
-  AreFours [] = Unit {0}
-  AreFours (Of call Unmarked ∷ xs) = AreFours xs
-  AreFours (Of call (Until n) ∷ xs) = (n % 4 ≡ 0) × AreFours xs
-  AreFours (Of call Done ∷ xs) = AreFours xs
-  AreFours (Marker ∷ xs) = AreFours xs
+  AreFours xs = All (λ n. n % 4 ≡ 0) (numbers xs)

@@ -1,9 +1,16 @@
 //! All processors' lists of callbacks, and the barrier over them.
-ghost use Rattle.std.specs.Prelude.{◌≡◌, ◌≢◌, ◌+◌, ◌<◌, ◌≤◌, ◌^◌, ◌%◌, ◌==◌, [], true, false, IfOk, IfErr, OnOk, if◌then◌else◌, length};
-ghost use Rattle.rcu_cblist.specs.SegList.{IsAtMost, behind, callbacks, front, greatest, is_empty, numbers, take_answer};
+ghost use Rattle.std.specs.Prelude.{◌≡◌, ◌≢◌, ◌+◌, ◌<◌, ◌≤◌, ◌^◌, ◌%◌};
+ghost use Rattle.std.specs.Prelude.{[], true, false, IfOk, IfErr, OnOk, OnErr, length};
+ghost use Rattle.rcu_cblist.specs.SegList.{IsAtMost, behind, callbacks, front, greatest, is_empty};
+ghost use Rattle.rcu_cblist.specs.SegList.{numbers, take_answer};
 ghost use Rattle.rcu_seq.specs.Numbers.{snapshot};
 ghost use Rattle.rcu_barrier.specs.Tending.{after_tend};
-ghost use Rattle.rcu_barrier.specs.Lists.{IsSound, at_first, lists_after_barrier_begin, cpus_of, owes_visit, is_visited, barrier_left, list_of, lists_after_migrate, most_queued, lists_after_queue, lists_after_run, lists_after_tend, barrier_test_answer, lists_after_barrier_test, visit_answer, lists_after_visit};
+ghost use Rattle.rcu_barrier.specs.Lists.{IsSound, at_first, barrier_test_answer, cpus_of, is_visited};
+ghost use Rattle.rcu_barrier.specs.Lists.{list_of, lists_after_barrier_begin};
+ghost use Rattle.rcu_barrier.specs.Lists.{lists_after_barrier_test, lists_after_migrate};
+ghost use Rattle.rcu_barrier.specs.Lists.{lists_after_queue, lists_after_run, lists_after_tend};
+ghost use Rattle.rcu_barrier.specs.Lists.{lists_after_visit, most_queued, owes_visit, queue_fault};
+ghost use Rattle.rcu_barrier.specs.Lists.{visit_answer, visit_fault};
 
 use crate::barrier_state::BarrierState;
 use crate::moving::{empty_lists, move_to_first};
@@ -84,8 +91,12 @@ impl<T: Drop> Lists<T> {
     /// Faults, which hand the value back: 15 where 1,000,000 were queued, 16.
     pub fn queue(&mut self, cpu: u32, at: u64, value: T) -> Result<u64, Refused<T>>
         requires { cpu < cpus_of self.old }
-        ensures ok { IfOk result (λ count. (count ≡ self.old.queued + 1) × (count ≤ most_queued) × (self.new ≡ lists_after_queue self.old cpu at value)) }
-        ensures err { IfErr result (λ refused. (refused.fault ≡ (if self.old.queued == most_queued then Fault.CallbacksFull else Fault.NoMemory)) × (refused.value ≡ value) × (self.new ≡ self.old)) }
+        ensures place { IfOk result (λ count. count ≡ self.old.queued + 1) }
+        ensures few { IfOk result (λ count. count ≤ most_queued) }
+        ensures ok { OnOk result (self.new ≡ lists_after_queue self.old cpu at value) }
+        ensures err { IfErr result (λ refused. refused.fault ≡ queue_fault self.old) }
+        ensures handed_back { IfErr result (λ refused. refused.value ≡ value) }
+        ensures unchanged { OnErr result (self.new ≡ self.old) }
     {
         if self.queued == MOST_QUEUED {
             return Err(Refused {
@@ -116,8 +127,12 @@ impl<T: Drop> Lists<T> {
         requires bounded { number ≤ 2 ^ 62 }
         requires within { IsAtMost (snapshot number) (list_of self.old cpu) }
         ensures state { self.new ≡ lists_after_tend self.old cpu number }
-        ensures done { result.0 ≡ length (callbacks (front (after_tend (list_of self.old cpu) number))) }
-        ensures waiting { result.1 ≡ length (callbacks (behind (after_tend (list_of self.old cpu) number))) }
+        ensures done {
+            result.0 ≡ length (callbacks (front (after_tend (list_of self.old cpu) number)))
+        }
+        ensures waiting {
+            result.1 ≡ length (callbacks (behind (after_tend (list_of self.old cpu) number)))
+        }
     {
         let list = &mut self.lists[cpu as usize];
         list.advance(number);
@@ -131,8 +146,11 @@ impl<T: Drop> Lists<T> {
     /// Fault 16, only where it has a callback to hand out.
     pub fn run(&mut self, cpu: u32, max: u64) -> Result<Vec<Queued<T>>, Fault>
         requires { cpu < cpus_of self.old }
-        ensures ok { IfOk result (λ calls. (calls.items ≡ take_answer (list_of self.old cpu) max) × (self.new ≡ lists_after_run self.old cpu max)) }
-        ensures err { IfErr result (λ fault. (fault ≡ Fault.NoMemory) × (take_answer (list_of self.old cpu) max ≢ []) × (self.new ≡ self.old)) }
+        ensures calls { IfOk result (λ calls. calls.items ≡ take_answer (list_of self.old cpu) max) }
+        ensures ok { OnOk result (self.new ≡ lists_after_run self.old cpu max) }
+        ensures err { IfErr result (λ fault. fault ≡ Fault.NoMemory) }
+        ensures memory { OnErr result (take_answer (list_of self.old cpu) max ≢ []) }
+        ensures unchanged { OnErr result (self.new ≡ self.old) }
     {
         let list = &mut self.lists[cpu as usize];
         let Taken { calls, markers } = list.take_done(max)?;
@@ -147,18 +165,18 @@ impl<T: Drop> Lists<T> {
     pub fn migrate(&mut self, cpu: u32) -> Result<u64, Fault>
         requires other { 0 < cpu }
         requires cpu { cpu < cpus_of self.old }
-        ensures ok { IfOk result (λ moved. (moved ≡ length (callbacks (list_of self.old cpu))) × (self.new ≡ lists_after_migrate self.old cpu)) }
-        ensures err { IfErr result (λ fault. (fault ≡ Fault.NoMemory) × (list_of self.old cpu ≢ []) × (self.new ≡ self.old)) }
+        ensures moved { IfOk result (λ moved. moved ≡ length (callbacks (list_of self.old cpu))) }
+        ensures ok { OnOk result (self.new ≡ lists_after_migrate self.old cpu) }
+        ensures err { IfErr result (λ fault. fault ≡ Fault.NoMemory) }
+        ensures memory { OnErr result (list_of self.old cpu ≢ []) }
+        ensures unchanged { OnErr result (self.new ≡ self.old) }
     {
-        if self.owes_visit(cpu) {
-            let (moved, marked) = move_to_first(&mut self.lists, cpu as usize, true)?;
+        let owed = self.owes_visit(cpu);
+        let (moved, marked) = move_to_first(self.lists.as_mut_slice(), cpu as usize, owed)?;
+        if owed {
             self.visits.insert(cpu);
-            if marked {
-                self.markers += 1;
-            }
-            return Ok(moved);
         }
-        let (moved, _) = move_to_first(&mut self.lists, cpu as usize, false)?;
+        self.markers += u64::from(marked);
         Ok(moved)
     }
 
@@ -174,8 +192,11 @@ impl<T: Drop> Lists<T> {
     ///
     /// Fault 13: one runs.
     pub fn barrier_begin(&mut self) -> Result<(), Fault>
-        ensures ok { OnOk result ((self.old.running ≡ false) × (self.new ≡ lists_after_barrier_begin self.old)) }
-        ensures err { IfErr result (λ fault. (fault ≡ Fault.BarrierBusy) × (self.old.running ≡ true) × (self.new ≡ self.old)) }
+        ensures idle { OnOk result (self.old.running ≡ false) }
+        ensures ok { OnOk result (self.new ≡ lists_after_barrier_begin self.old) }
+        ensures err { IfErr result (λ fault. fault ≡ Fault.BarrierBusy) }
+        ensures busy { OnErr result (self.old.running ≡ true) }
+        ensures unchanged { OnErr result (self.new ≡ self.old) }
     {
         if self.running {
             return Err(Fault::BarrierBusy);
@@ -190,9 +211,14 @@ impl<T: Drop> Lists<T> {
     /// Faults: 14 where none runs; 16, only where it would put a marker.
     pub fn visit(&mut self, cpu: u32) -> Result<Visit, Fault>
         requires { cpu < cpus_of self.old }
-        ensures ok { IfOk result (λ visit. (self.old.running ≡ true) × (visit ≡ visit_answer self.old cpu) × (self.new ≡ lists_after_visit self.old cpu)) }
-        ensures err { IfErr result (λ fault. (fault ≡ (if self.old.running then Fault.NoMemory else Fault.NoBarrier)) × (self.new ≡ self.old)) }
-        ensures memory { IfErr result (λ fault. self.old.running ≡ true → visit_answer self.old cpu ≡ Visit.Marked) }
+        ensures busy { OnOk result (self.old.running ≡ true) }
+        ensures answer { IfOk result (λ visit. visit ≡ visit_answer self.old cpu) }
+        ensures ok { OnOk result (self.new ≡ lists_after_visit self.old cpu) }
+        ensures err { IfErr result (λ fault. fault ≡ visit_fault self.old) }
+        ensures memory {
+            OnErr result (self.old.running ≡ true → visit_answer self.old cpu ≡ Visit.Marked)
+        }
+        ensures unchanged { OnErr result (self.new ≡ self.old) }
     {
         if !self.running {
             return Err(Fault::NoBarrier);
@@ -215,8 +241,12 @@ impl<T: Drop> Lists<T> {
     ///
     /// Fault 14: none runs.
     pub fn barrier_test(&mut self) -> Result<BarrierState, Fault>
-        ensures ok { IfOk result (λ state. (self.old.running ≡ true) × (state ≡ barrier_test_answer self.old) × (self.new ≡ lists_after_barrier_test self.old)) }
-        ensures err { IfErr result (λ fault. (fault ≡ Fault.NoBarrier) × (self.old.running ≡ false) × (self.new ≡ self.old)) }
+        ensures busy { OnOk result (self.old.running ≡ true) }
+        ensures answer { IfOk result (λ state. state ≡ barrier_test_answer self.old) }
+        ensures ok { OnOk result (self.new ≡ lists_after_barrier_test self.old) }
+        ensures err { IfErr result (λ fault. fault ≡ Fault.NoBarrier) }
+        ensures idle { OnErr result (self.old.running ≡ false) }
+        ensures unchanged { OnErr result (self.new ≡ self.old) }
     {
         if !self.running {
             return Err(Fault::NoBarrier);

@@ -1,80 +1,60 @@
-use Rattle.std.proofs.Common.{◌≡◌, ◌+◌, ◌<◌, [], true, false, length, get_or, refl, ap, sym, subst, ◌∙◌, arith}
-use Rattle.std.proofs.lemmas.List.{length-set}
-use Rattle.rcu_cblist.specs.SegList.{after_entrain, is_empty, markers}
-use Rattle.rcu_barrier.specs.Lists.{IsSound, owes_visit, markers_in, unvisited}
-use Rattle.rcu_barrier.proofs.Fours.{fours_entrained, fours_get}
-use Rattle.rcu_barrier.proofs.Kept.{moved_kept, owed_parts, turned_false, turned_true}
-use Rattle.rcu_barrier.proofs.Markers.{entrained_empty, markers_entrained, unvisited_set}
+use Rattle.std.proofs.Common.{ℕ, ◌≡◌, ◌+◌, ◌<◌, Bool, List, true, false, not, ◌&&◌, [], get_or, length, set, refl, ap, sym, subst, ◌∙◌, arith}
+use Rattle.std.specs.Prelude.{if◌then◌else◌}
+use Rattle.std.proofs.lemmas.List.{length-set, with_items_is}
+use mir.Val.{bool_byte}
+use Rattle.rcu_cblist.specs.SegList.{Item, after_migrate, is_empty}
+use Rattle.rcu_barrier.specs.Lists.{AllLists, IsSound, as_it_leaves, list_at, list_of, lists_after_move, markers_in, owes_visit, unvisited}
+use Rattle.rcu_barrier.specs.declared.lists.Lists.TheInside.{Inside}
+use Rattle.rcu_barrier.proofs.Kept.{moved_kept, owed_parts}
+use Rattle.rcu_barrier.proofs.Markers.{unvisited_set}
+use Rattle.rcu_barrier.proofs.lists.Lists.migrate.Goals.{then-owed, else-owed}
 use Rattle.rcu_barrier.proofs.lists.Lists.migrate.Goals as goal
 
-pub invariant_of-self-then-marked : goal.invariant_of-self-then-marked
-invariant_of-self-then-marked g c =
-    let i = c.self.inside in
-    let k = c.self.invariant in
-    let cpu = c.args.cpu in
-    let inside : cpu < length i.lists.items = subst (λ v. cpu < length v.lists) (sym c.self.view_is) c.requires.cpu in
-    let sized = k.1.sized in
-    let owed : owes_visit (record { lists = i.lists.items; visited = i.visits; running = i.running; queued = i.queued }) cpu ≡ true =
-    subst (λ v. owes_visit v cpu ≡ true) (sym c.self.view_is) (sym c.owes_visit.ensures ∙ c.if-owes_visit.true) in
-    let off = (owed_parts i.running (get_or i.visits cpu false) owed).1 in
-    let fewer = unvisited_set i.visits cpu (omega arith) off in
-    let flags = ap unvisited c.insert.ensures in
-    let old = get_or i.lists.items cpu [] in
-    let after = c.in_ok-moved.ensures.ok in
-    let some : is_empty old ≡ false = turned_true (is_empty old) c.in_ok-moved.marked after.1 c.if-marked.true in
-    let more = markers_entrained old some in
-    subst (λ l. ((i.markers + 1) ≡ markers_in l) × IsSound (record {
-      lists = l;
-      visited = c.insert.new.self;
-      running = i.running;
-      queued = i.queued;
-    })) (sym after.2)
-    (moved_kept (record { lists = i.lists.items; visited = i.visits; running = i.running; queued = i.queued }) i.markers (i.markers + 1) cpu
-    (after_entrain old) c.insert.new.self k.0 k.1 c.requires.other inside
-    (ap length c.insert.ensures ∙ length-set i.visits cpu true) (omega arith) (omega arith)
-    (fours_entrained old (fours_get i.lists.items cpu k.1.fours)))
+-- a test as a number
+abbrev one_if : Bool → ℕ
+one_if put = if put then 1 else 0
 
-pub invariant_of-self-else-marked : goal.invariant_of-self-else-marked
-invariant_of-self-else-marked g c =
-    let i = c.self.inside in
-    let k = c.self.invariant in
-    let cpu = c.args.cpu in
-    let inside : cpu < length i.lists.items = subst (λ v. cpu < length v.lists) (sym c.self.view_is) c.requires.cpu in
-    let sized = k.1.sized in
-    let owed : owes_visit (record { lists = i.lists.items; visited = i.visits; running = i.running; queued = i.queued }) cpu ≡ true =
-    subst (λ v. owes_visit v cpu ≡ true) (sym c.self.view_is) (sym c.owes_visit.ensures ∙ c.if-owes_visit.true) in
-    let off = (owed_parts i.running (get_or i.visits cpu false) owed).1 in
-    let fewer = unvisited_set i.visits cpu (omega arith) off in
-    let flags = ap unvisited c.insert.ensures in
-    let old = get_or i.lists.items cpu [] in
-    let after = c.in_ok-moved.ensures.ok in
-    let none : is_empty old ≡ true = turned_false (is_empty old) c.in_ok-moved.marked after.1 c.if-marked.false in
-    let more = ap markers (entrained_empty old none) in
-    subst (λ l. (i.markers ≡ markers_in l) × IsSound (record {
-      lists = l;
-      visited = c.insert.new.self;
-      running = i.running;
-      queued = i.queued;
-    })) (sym after.2)
-    (moved_kept (record { lists = i.lists.items; visited = i.visits; running = i.running; queued = i.queued }) i.markers i.markers cpu
-    (after_entrain old) c.insert.new.self k.0 k.1 c.requires.other inside
-    (ap length c.insert.ensures ∙ length-set i.visits cpu true) (omega arith) (omega arith)
-    (fours_entrained old (fours_get i.lists.items cpu k.1.fours)))
+byte_is : (put : Bool) → bool_byte put ≡ one_if put
+byte_is true = refl
+byte_is false = refl
 
 pub invariant_of-self-2 : goal.invariant_of-self-2
 invariant_of-self-2 g c =
     let i = c.self.inside in
     let k = c.self.invariant in
     let cpu = c.args.cpu in
+    let old : AllLists g.row.T.Denot = record { lists = i.lists.items; visited = i.visits; running = i.running; queued = i.queued } in
     let inside : cpu < length i.lists.items = subst (λ v. cpu < length v.lists) (sym c.self.view_is) c.requires.cpu in
-    let old = get_or i.lists.items cpu [] in
-    let after = c.in_ok-moved-2.ensures.ok in
-    subst (λ l. (i.markers ≡ markers_in l) × IsSound (record {
-      lists = l;
-      visited = i.visits;
-      running = i.running;
-      queued = i.queued;
-    })) (sym after.2)
-    (moved_kept (record { lists = i.lists.items; visited = i.visits; running = i.running; queued = i.queued }) i.markers i.markers
-    cpu old i.visits k.0 k.1 c.requires.other inside refl (omega arith) (omega arith)
-    (fours_get i.lists.items cpu k.1.fours))
+    let owed = c.owes_visit-owed.result in
+    let owes : owes_visit old cpu ≡ owed = subst (λ v. owes_visit v cpu ≡ owed) (sym c.self.view_is) (sym c.owes_visit-owed.ensures) in
+    let moved : c.move_to_first.new.lists ≡ lists_after_move i.lists.items cpu owed =
+    c.in_ok-moved.ensures.ok ∙ ap (λ l. lists_after_move l cpu owed) c.as_mut_slice.ensures.value in
+    let first = after_migrate (list_at i.lists.items 0) (as_it_leaves (list_at i.lists.items cpu) owed) in
+    let long = ap length moved ∙ (length-set (set i.lists.items 0 first) cpu [] ∙ length-set i.lists.items 0 first) in
+    let back = with_items_is i.lists c.move_to_first.new.lists (long ∙ sym i.lists.ok.0) ∙ moved in
+    let marked : c.in_ok-moved.marked ≡ (owed && not (is_empty (list_at i.lists.items cpu))) =
+    c.in_ok-moved.ensures.marked ∙ ap (λ l. owed && not (is_empty (list_at l cpu))) c.as_mut_slice.ensures.value in
+    let more : i.markers + c.from.result ≡ i.markers + one_if (owed && not (is_empty (list_of old cpu))) =
+    ap (λ n. i.markers + n) (c.from.ensures ∙ (byte_is c.in_ok-moved.marked ∙ ap one_if marked)) in
+    let Sound : Inside g.row.T.Denot → Type 0 = λ s. (s.markers + c.from.result ≡ markers_in s.lists.items)
+    × IsSound (record { lists = s.lists.items; visited = s.visits; running = s.running; queued = s.queued }) in
+    let Kept : List Bool → List (List (Item g.row.T.Denot)) → Type 0 = λ flags lists.
+    (i.markers + c.from.result ≡ markers_in lists)
+    × IsSound (record { lists = lists; visited = flags; running = i.running; queued = i.queued }) in
+    elim c.if-owed.branch [
+      | then-owed w ↦
+          let sized = k.1.sized in
+          let off = (owed_parts i.running (get_or i.visits cpu false) (owes ∙ w.if-owed.true)).1 in
+          let fewer = unvisited_set i.visits cpu (omega arith) off in
+          let flags = ap unvisited w.insert.ensures in
+          let one : one_if owed ≡ 1 = ap one_if w.if-owed.true in
+          subst Sound (sym w.self-inside-is)
+          (subst (Kept w.insert.new.self) (sym back)
+          (moved_kept old i.markers (i.markers + c.from.result) cpu owed w.insert.new.self k.0 k.1 c.requires.other inside
+          (ap length w.insert.ensures ∙ length-set i.visits cpu true) more (omega arith)))
+      | else-owed w ↦
+          let none : one_if owed ≡ 0 = ap one_if w.if-owed.false in
+          subst Sound (sym w.self-inside-is)
+          (subst (Kept i.visits) (sym back)
+          (moved_kept old i.markers (i.markers + c.from.result) cpu owed i.visits k.0 k.1 c.requires.other inside refl more (omega arith)))
+    ]

@@ -1,9 +1,10 @@
-use Rattle.std.proofs.Common.{◌+◌, ◌<◌, length, refl, ap, sym, subst, ◌∙◌, arith}
+use Rattle.std.proofs.lemmas.List.Elements.{All-nil}
+use Rattle.std.proofs.Common.{◌≡◌, ◌%◌, ◌+◌, ◌<◌, length, refl, ap, sym, subst, ◌∙◌, arith}
 use Rattle.rcu_cblist.specs.SegList.{markers}
 use Rattle.rcu_barrier.specs.Tending.{AreFours}
 use Rattle.rcu_barrier.proofs.Fours.{fours_append}
 use Rattle.rcu_barrier.proofs.Kept.{relisted}
-use Rattle.rcu_barrier.proofs.Markers.{markers_append}
+use Rattle.rcu_cblist.proofs.SegListLemmas.{markers_append}
 use Rattle.rcu_barrier.proofs.lists.Lists.queue.Goals as goal
 
 pub invariant_of-self-2 : goal.invariant_of-self-2
@@ -18,4 +19,4 @@ invariant_of-self-2 g c =
     let few = c.if-self-eq-MOST_QUEUED.false in
     relisted (record { lists = i.lists.items; visited = i.visits; running = i.running; queued = i.queued }) i.markers i.markers
     (i.queued + 1) c.args.cpu old c.queue.new.self i.visits k.0 k.1 inside c.index_mut-list.ensures.value refl (omega arith)
-    (omega arith) (omega arith) (λ fours. subst AreFours (sym after) (fours_append old _ fours tt))
+    (omega arith) (omega arith) (λ fours. subst AreFours (sym after) (fours_append old _ fours (All-nil (λ n. n % 4 ≡ 0))))

@@ -3,7 +3,8 @@ use Rattle.rcu_cblist.specs.SegList.{markers}
 use Rattle.rcu_barrier.specs.Tending.{AreFours}
 use Rattle.rcu_barrier.proofs.Fours.{fours_untaken}
 use Rattle.rcu_barrier.proofs.Kept.{list_is, relisted}
-use Rattle.rcu_barrier.proofs.Markers.{markers_set, markers_untaken}
+use Rattle.rcu_barrier.proofs.Markers.{markers_set}
+use Rattle.rcu_cblist.proofs.SegListLemmas.{markers_untaken}
 use Rattle.rcu_barrier.proofs.lists.Lists.run.Goals as goal
 
 pub overflow_sub-self : goal.overflow_sub-self

@@ -4,7 +4,7 @@ use Rattle.rcu_barrier.specs.Tending.{AreFours, after_tend}
 use Rattle.rcu_seq.specs.Numbers.{snapshot}
 use Rattle.rcu_barrier.proofs.Fours.{fours_get, fours_tended, most_advanced, tend_is}
 use Rattle.rcu_barrier.proofs.Kept.{list_is, relisted}
-use Rattle.rcu_barrier.proofs.Markers.{markers_remarked}
+use Rattle.rcu_cblist.proofs.SegListLemmas.{markers_remarked}
 use Rattle.rcu_barrier.proofs.lists.Lists.tend.Goals as goal
 
 pub accelerate-requires : goal.accelerate-requires

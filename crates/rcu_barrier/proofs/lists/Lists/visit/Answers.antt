@@ -3,9 +3,10 @@ use Rattle.std.proofs.lemmas.List.{length-set}
 use Rattle.rcu_cblist.specs.SegList.{is_empty, markers}
 use Rattle.rcu_barrier.specs.Tending.{AreFours}
 use Rattle.rcu_barrier.specs.Lists.{unvisited}
-use Rattle.rcu_barrier.proofs.Fours.{fours_entrained}
+use Rattle.rcu_barrier.proofs.Fours.{fours_leaving}
 use Rattle.rcu_barrier.proofs.Kept.{relisted, turned_false, turned_true}
-use Rattle.rcu_barrier.proofs.Markers.{entrained_empty, markers_entrained, unvisited_set}
+use Rattle.rcu_barrier.proofs.Markers.{unvisited_set}
+use Rattle.rcu_cblist.proofs.SegListLemmas.{entrained_empty, markers_entrained}
 use Rattle.rcu_barrier.proofs.lists.Lists.visit.Goals as goal
 
 pub invariant_of-self-then-not-marked : goal.invariant_of-self-then-not-marked
@@ -24,7 +25,7 @@ invariant_of-self-then-not-marked g c =
     relisted (record { lists = i.lists.items; visited = i.visits; running = i.running; queued = i.queued }) i.markers i.markers
     i.queued c.args.cpu old c.entrain.new.self c.insert.new.self k.0 k.1 inside c.index_mut-list.ensures.value
     (ap length c.insert.ensures ∙ length-set i.visits c.args.cpu true) (omega arith) (omega arith) k.1.counted
-    (λ fours. subst AreFours (sym after.1) (fours_entrained old fours))
+    (λ fours. subst AreFours (sym after.1) (fours_leaving true old fours))
 
 pub invariant_of-self-2 : goal.invariant_of-self-2
 invariant_of-self-2 g c =
@@ -42,4 +43,4 @@ invariant_of-self-2 g c =
     relisted (record { lists = i.lists.items; visited = i.visits; running = i.running; queued = i.queued }) i.markers
     (i.markers + 1) i.queued c.args.cpu old c.entrain.new.self c.insert.new.self k.0 k.1 inside c.index_mut-list.ensures.value
     (ap length c.insert.ensures ∙ length-set i.visits c.args.cpu true) (omega arith) (omega arith) k.1.counted
-    (λ fours. subst AreFours (sym after.1) (fours_entrained old fours))
+    (λ fours. subst AreFours (sym after.1) (fours_leaving true old fours))
