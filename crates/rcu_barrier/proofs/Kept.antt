@@ -21,16 +21,6 @@ owed_parts true false owed = (refl, refl)
 owed_parts true true owed = cc
 owed_parts false visited owed = cc
 
--- a test turned round that passes
-pub turned_true : (empty marked : Bool) → marked ≡ not empty → marked ≡ true → empty ≡ false
-turned_true true marked is passes = let fails = sym passes ∙ is in cc
-turned_true false marked is passes = refl
-
--- a test turned round that fails
-pub turned_false : (empty marked : Bool) → marked ≡ not empty → marked ≡ false → empty ≡ true
-turned_false true marked is fails = refl
-turned_false false marked is fails = let passes = sym fails ∙ is in cc
-
 -- what is kept at first
 pub kept_first : (X : Type 0) (cpus : ℕ) (lists : List (List (Item X))) (flags : List Bool) → 1 ≤ cpus → cpus ≤ 4096 →
     lists ≡ replicate cpus [] → flags ≡ replicate cpus true →

@@ -20,9 +20,9 @@ pub(crate) fn empty_lists<T: Drop>(alloc: Global, cpus: u32) -> Result<Vec<SegLi
         return Err(Fault::NoMemory);
     };
     for _ in 0..cpus {
-        if lists.push(SegList::new(alloc)).is_err() {
-            return Err(Fault::NoMemory);
-        }
+        let Ok(()) = lists.push(SegList::new(alloc)) else {
+            unreachable!()
+        };
     }
     Ok(lists)
 }

@@ -5,7 +5,7 @@ use Rattle.std.proofs.lemmas.List.{map-set, map-append, take-map, drop-map, take
 use Rattle.std.proofs.lemmas.List.Edits.{map_over_more}
 use Rattle.std.proofs.lemmas.List.Elements.{filter_map-append}
 use Rattle.rcu_cblist.specs.declared.queued.Queued.{Queued}
-use Rattle.rcu_cblist.specs.SegList.{Item, Mark, Of, Marker, Unmarked, Until, Done, callback_of, callbacks, remarked, mark_given, without_mark, front, behind, take_answer, from_callback, after_take, after_migrate, is_empty, begins_with_marker}
+use Rattle.rcu_cblist.specs.SegList.{after_entrain, Item, Mark, Of, Marker, Unmarked, Until, Done, callback_of, callbacks, remarked, mark_given, without_mark, front, behind, take_answer, from_callback, after_take, after_migrate, is_empty, begins_with_marker}
 
 -- the next item of a walk
 pub rest_more : {X Y : Type 0} (f : X → Y) (xs : List X) (i : ℕ) (x : X) → i < length xs → x ≡ get_or xs i x →
@@ -324,3 +324,35 @@ carried f start mid target k ahead view =
     map-append f (take k mid) (target ++ drop k mid) ∙ (ap (λ l. l ++ map f (target ++ drop k mid)) before ∙
     (ap (λ l. front seen ++ l) (map-append f target (drop k mid) ∙ ap (λ l. map f target ++ l) after) ∙
     sym (append_assoc (front seen) (map f target) (map without_mark (behind seen)))))
+
+-- a list that got a marker is as it was once its last item goes again
+pub marker_gone : {K X : Type 0} (f : K → Item X) (marked rest : List K) (n : ℕ) (xs : List (Item X)) →
+    is_empty xs ≡ false → map f marked ≡ after_entrain xs → n ≡ length marked → rest ≡ take (n - 1) marked → map f rest ≡ xs
+marker_gone f marked rest n [] some seen sized cut = cc
+marker_gone f marked rest n (x ∷ xs) some seen sized cut =
+    let long = sym (length-map marked f) ∙ (ap length seen ∙ length-append (x ∷ xs) (Marker ∷ [])) in
+    let least : n - 1 ≡ length (x ∷ xs) = omega arith in
+    ap (map f) cut ∙ (sym (take-map f (n - 1) marked) ∙ (ap (take (n - 1)) seen ∙
+    cut_front (x ∷ xs) (Marker ∷ []) (n - 1) least))
+
+-- a marker behind a list leaves as many done callbacks, as many callbacks, and the first item
+pub entrained_front : {X : Type 0} (xs : List (Item X)) →
+    length (callbacks (front (after_entrain xs))) ≡ length (callbacks (front xs))
+entrained_front [] = refl
+entrained_front (x ∷ xs) = front_marker (x ∷ xs)
+
+pub entrained_callbacks : {X : Type 0} (xs : List (Item X)) → length (callbacks (after_entrain xs)) ≡ length (callbacks xs)
+entrained_callbacks [] = refl
+entrained_callbacks (x ∷ xs) = callbacks_marker (x ∷ xs)
+
+pub entrained_first : {X : Type 0} (xs : List (Item X)) → begins_with_marker (after_entrain xs) ≡ begins_with_marker xs
+entrained_first [] = refl
+entrained_first (x ∷ xs) = refl
+
+-- what the calls leave of the counts, and what they show
+pub ruleset queue_steps = (front_push, callbacks_push, first_queued, view_push)
+pub ruleset given_steps = (front_given, callbacks_remarked)
+pub ruleset take_steps = (
+  first_from, taken_least, untaken_least, front_from, callbacks_from, length_taken, callbacks_parts, taken_none)
+pub ruleset move_steps = (front_moved, callbacks_moved, callbacks_of_kept, front_of_kept, first_moved)
+pub ruleset entrain_steps = (front_marker, callbacks_marker, first_push, view_push)

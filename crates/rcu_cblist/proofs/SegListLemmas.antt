@@ -55,6 +55,18 @@ pub entrained_empty : {X : Type 0} (xs : List (Item X)) → is_empty xs ≡ true
 entrained_empty [] none = refl
 entrained_empty (x ∷ xs) none = cc
 
+-- a list that got a marker is not empty
+pub marked_some : {X : Type 0} (xs : List (Item X)) (marked : Bool) → marked ≡ not (is_empty xs) → marked ≡ true →
+    is_empty xs ≡ false
+marked_some [] marked is passes = let fails = sym passes ∙ is in cc
+marked_some (x ∷ xs) marked is passes = refl
+
+-- one that got none is empty
+pub unmarked_none : {X : Type 0} (xs : List (Item X)) (marked : Bool) → marked ≡ not (is_empty xs) → marked ≡ false →
+    is_empty xs ≡ true
+unmarked_none [] marked is fails = refl
+unmarked_none (x ∷ xs) marked is fails = let passes = sym fails ∙ is in cc
+
 -- the markers of the done part and of what is behind it
 pub markers_parts : {X : Type 0} (xs : List (Item X)) → markers (front xs) + markers (behind xs) ≡ markers xs
 markers_parts [] = refl

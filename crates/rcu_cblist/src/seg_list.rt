@@ -1,6 +1,10 @@
 //! One processor's list of callbacks.
-ghost use Rattle.std.specs.Prelude.{◌≡◌, ◌≢◌, ◌+◌, ◌<◌, ◌^◌, ◌++◌, ◌∷◌, [], false, not, length, OnOk, IfOk, IfErr};
-ghost use Rattle.rcu_cblist.specs.SegList.{Of, Unmarked, after_advance, after_accelerate, IsAtMost, take_answer, after_take, markers_passed, after_migrate, after_entrain, is_empty, begins_with_marker, front, behind, callbacks, numbers, greatest};
+ghost use Rattle.std.specs.Prelude.{◌≡◌, ◌≢◌, ◌+◌, ◌<◌, ◌^◌, ◌++◌, ◌∷◌, [], false, not, length};
+ghost use Rattle.std.specs.Prelude.{OnOk, OnErr, IfOk, IfErr};
+ghost use Rattle.rcu_cblist.specs.SegList.{IsAtMost, Of, Unmarked, after_accelerate, after_advance};
+ghost use Rattle.rcu_cblist.specs.SegList.{after_entrain, after_migrate, after_take, behind};
+ghost use Rattle.rcu_cblist.specs.SegList.{begins_with_marker, callbacks, front, greatest, is_empty};
+ghost use Rattle.rcu_cblist.specs.SegList.{markers_passed, numbers, take_answer};
 
 use crate::kept::{Kept, Wait};
 use crate::queued::Queued;
@@ -12,11 +16,12 @@ use std::alloc::Global;
 use std::collections::VecDeque;
 use std::marker::Model;
 
-/// One processor's callbacks, in order, each with its mark: none, a grace-period number, or done (Linux's
-/// `rcu_segcblist`). Contracts see the list of items.
+/// One processor's callbacks, in order, each with its mark: none, a grace-period number, or done
+/// (Linux's `rcu_segcblist`). Contracts see the list of items.
 ///
-/// The done part is the longest front with no callback that is not done. No list begins with a marker, so each marker
-/// has a callback before it. A call is refused only where a growth was, and leaves its lists as they were.
+/// The done part is the longest front with no callback that is not done. No list begins with a
+/// marker, so each marker has a callback before it. A call is refused only where a growth was, and
+/// leaves its lists as they were.
 #[derive(Drop)]
 pub struct SegList<T: Drop> {
     /// The items, in order.
@@ -61,10 +66,12 @@ impl<T: Drop> SegList<T> {
     /// Queues a callback at the end, without a mark.
     ///
     /// Fault 16, which hands the callback back.
-    #[tactic(auto, using(crate::proofs::Lists::front_push, crate::proofs::Lists::callbacks_push, crate::proofs::Lists::first_queued, crate::proofs::Lists::view_push))]
+    #[tactic(auto, using(crate::proofs::Lists::queue_steps))]
     pub fn queue(&mut self, item: Queued<T>) -> Result<(), Refused<Queued<T>>>
         ensures ok { OnOk result (self.new ≡ self.old ++ Of item Unmarked ∷ []) }
-        ensures err { IfErr result (λ refused. (refused.fault ≡ Fault.NoMemory) × (refused.value ≡ item) × (self.new ≡ self.old)) }
+        ensures err { IfErr result (λ refused. refused.fault ≡ Fault.NoMemory) }
+        ensures handed_back { IfErr result (λ refused. refused.value ≡ item) }
+        ensures unchanged { OnErr result (self.new ≡ self.old) }
     {
         let Ok(()) = self.items.reserve(1) else {
             return Err(Refused {
@@ -88,9 +95,10 @@ impl<T: Drop> SegList<T> {
         self.done = count_front(&self.items).1;
     }
 
-    /// Gives a number to each callback without a mark, but changes nothing where callbacks carry two different numbers
-    /// below it (Linux's `rcu_segcblist_accelerate`). No callback carries a number above it.
-    #[tactic(auto, using(crate::proofs::Lists::front_given, crate::proofs::Lists::callbacks_remarked))]
+    /// Gives a number to each callback without a mark, but changes nothing where callbacks carry two
+    /// different numbers below it (Linux's `rcu_segcblist_accelerate`). No callback carries a number
+    /// above it.
+    #[tactic(auto, using(crate::proofs::Lists::given_steps))]
     pub fn accelerate(&mut self, snap: u64)
         requires { IsAtMost snap self.old }
         ensures { self.new ≡ after_accelerate self.old snap }
@@ -100,16 +108,18 @@ impl<T: Drop> SegList<T> {
         }
     }
 
-    /// Takes the first callbacks of the done part, at most so many, and each marker before the first callback that is
-    /// left. Costs constant time for each.
+    /// Takes the first callbacks of the done part, at most so many, and each marker before the first
+    /// callback that is left. Costs constant time for each.
     ///
     /// Fault 16, only where it has a callback to hand out.
-    #[tactic(auto, using(crate::proofs::Lists::first_from, crate::proofs::Lists::taken_least, crate::proofs::Lists::untaken_least, crate::proofs::Lists::front_from, crate::proofs::Lists::callbacks_from, crate::proofs::Lists::length_taken, crate::proofs::Lists::callbacks_parts, crate::proofs::Lists::taken_none))]
+    #[tactic(auto, using(crate::proofs::Lists::take_steps))]
     pub fn take_done(&mut self, max: u64) -> Result<Taken<T>, Fault>
         ensures calls { IfOk result (λ some. some.calls.items ≡ take_answer self.old max) }
         ensures markers { IfOk result (λ some. some.markers ≡ markers_passed self.old max) }
         ensures left { OnOk result (self.new ≡ after_take self.old max) }
-        ensures err { IfErr result (λ fault. (fault ≡ Fault.NoMemory) × (take_answer self.old max ≢ []) × (self.new ≡ self.old)) }
+        ensures err { IfErr result (λ fault. fault ≡ Fault.NoMemory) }
+        ensures memory { OnErr result (take_answer self.old max ≢ []) }
+        ensures unchanged { OnErr result (self.new ≡ self.old) }
     {
         let most = self.done.min(max);
         let mut calls = Vec::new(self.alloc);
@@ -122,14 +132,18 @@ impl<T: Drop> SegList<T> {
         Ok(Taken { calls, markers })
     }
 
-    /// Moves all to a target: the done part goes in front of what is there, and the rest behind it without its marks,
-    /// the order kept. Costs what it moves.
+    /// Moves all to a target: the done part goes in front of what is there, and the rest behind it
+    /// without its marks, the order kept. Costs what it moves.
     ///
     /// Fault 16, only where there is something to move.
-    #[tactic(auto, using(crate::proofs::Lists::front_moved, crate::proofs::Lists::callbacks_moved, crate::proofs::Lists::callbacks_of_kept, crate::proofs::Lists::front_of_kept, crate::proofs::Lists::first_moved))]
+    #[tactic(auto, using(crate::proofs::Lists::move_steps))]
     pub fn migrate_into(&mut self, target: &mut SegList<T>) -> Result<(), Fault>
-        ensures ok { OnOk result ((target.new ≡ after_migrate target.old self.old) × (self.new ≡ [])) }
-        ensures err { IfErr result (λ fault. (fault ≡ Fault.NoMemory) × (self.old ≢ []) × (self.new ≡ self.old) × (target.new ≡ target.old)) }
+        ensures ok { OnOk result (target.new ≡ after_migrate target.old self.old) }
+        ensures emptied { OnOk result (self.new ≡ []) }
+        ensures err { IfErr result (λ fault. fault ≡ Fault.NoMemory) }
+        ensures memory { OnErr result (self.old ≢ []) }
+        ensures unchanged { OnErr result (self.new ≡ self.old) }
+        ensures target { OnErr result (target.new ≡ target.old) }
     {
         let Ok(()) = target.items.reserve(self.items.len()) else {
             return Err(Fault::NoMemory);
@@ -140,14 +154,17 @@ impl<T: Drop> SegList<T> {
         Ok(())
     }
 
-    /// Puts a marker at the end of a list that is not empty (Linux's `rcu_segcblist_entrain`), and answers whether it
-    /// did. An empty list stays as it is, and takes no memory.
+    /// Puts a marker at the end of a list that is not empty (Linux's `rcu_segcblist_entrain`), and
+    /// answers whether it did. An empty list stays as it is, and takes no memory.
     ///
     /// Fault 16, only where the list is not empty.
-    #[tactic(auto, using(crate::proofs::Lists::front_marker, crate::proofs::Lists::callbacks_marker, crate::proofs::Lists::first_push, crate::proofs::Lists::view_push))]
+    #[tactic(auto, using(crate::proofs::Lists::entrain_steps))]
     pub fn entrain(&mut self) -> Result<bool, Fault>
-        ensures ok { IfOk result (λ marked. (marked ≡ not (is_empty self.old)) × (self.new ≡ after_entrain self.old)) }
-        ensures err { IfErr result (λ fault. (fault ≡ Fault.NoMemory) × (self.old ≢ []) × (self.new ≡ self.old)) }
+        ensures marked { IfOk result (λ marked. marked ≡ not (is_empty self.old)) }
+        ensures ok { OnOk result (self.new ≡ after_entrain self.old) }
+        ensures err { IfErr result (λ fault. fault ≡ Fault.NoMemory) }
+        ensures memory { OnErr result (self.old ≢ []) }
+        ensures unchanged { OnErr result (self.new ≡ self.old) }
     {
         if self.items.is_empty() {
             return Ok(false);
@@ -158,31 +175,24 @@ impl<T: Drop> SegList<T> {
         }
     }
 
-    /// Moves all to a target, with a marker put behind it first where it is not empty: what `entrain` and then
-    /// `migrate_into` leave, all or nothing. Costs what it moves.
+    /// Moves all to a target, with a marker put behind it first where it is not empty: what `entrain`
+    /// and then `migrate_into` leave, all or nothing. Costs what it moves.
     ///
     /// Fault 16, only where there is something to move.
-    #[tactic(auto, using(crate::proofs::Lists::front_moved, crate::proofs::Lists::callbacks_moved, crate::proofs::Lists::callbacks_of_kept, crate::proofs::Lists::front_of_kept, crate::proofs::Lists::first_moved, crate::proofs::Lists::front_marker, crate::proofs::Lists::callbacks_marker, crate::proofs::Lists::first_push, crate::proofs::Lists::view_push))]
     pub fn migrate_marked_into(&mut self, target: &mut SegList<T>) -> Result<(), Fault>
-        ensures ok { OnOk result ((target.new ≡ after_migrate target.old (after_entrain self.old)) × (self.new ≡ [])) }
-        ensures err { IfErr result (λ fault. (fault ≡ Fault.NoMemory) × (self.old ≢ []) × (self.new ≡ self.old) × (target.new ≡ target.old)) }
+        ensures ok { OnOk result (target.new ≡ after_migrate target.old (after_entrain self.old)) }
+        ensures emptied { OnOk result (self.new ≡ []) }
+        ensures err { IfErr result (λ fault. fault ≡ Fault.NoMemory) }
+        ensures memory { OnErr result (self.old ≢ []) }
+        ensures unchanged { OnErr result (self.new ≡ self.old) }
+        ensures target { OnErr result (target.new ≡ target.old) }
     {
-        if self.items.is_empty() {
-            return Ok(());
+        let marked = self.entrain()?;
+        let moved = self.migrate_into(target);
+        if marked && moved.is_err() {
+            self.items.pop_back();
         }
-        let Ok(()) = self.items.reserve(1) else {
-            return Err(Fault::NoMemory);
-        };
-        let Ok(()) = target.items.reserve(self.items.len() + 1) else {
-            return Err(Fault::NoMemory);
-        };
-        let Ok(()) = self.items.push_back(Kept::Marker) else {
-            unreachable!()
-        };
-        carry(&mut self.items, &mut target.items);
-        carry_count(&mut self.count, &mut target.count);
-        carry_count(&mut self.done, &mut target.done);
-        Ok(())
+        moved
     }
 
     /// Whether it has no item. It never begins with a marker.

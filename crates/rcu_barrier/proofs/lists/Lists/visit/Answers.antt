@@ -4,9 +4,9 @@ use Rattle.rcu_cblist.specs.SegList.{is_empty, markers}
 use Rattle.rcu_barrier.specs.Tending.{AreFours}
 use Rattle.rcu_barrier.specs.Lists.{unvisited}
 use Rattle.rcu_barrier.proofs.Fours.{fours_leaving}
-use Rattle.rcu_barrier.proofs.Kept.{relisted, turned_false, turned_true}
+use Rattle.rcu_barrier.proofs.Kept.{relisted}
 use Rattle.rcu_barrier.proofs.Markers.{unvisited_set}
-use Rattle.rcu_cblist.proofs.SegListLemmas.{entrained_empty, markers_entrained}
+use Rattle.rcu_cblist.proofs.SegListLemmas.{entrained_empty, marked_some, markers_entrained, unmarked_none}
 use Rattle.rcu_barrier.proofs.lists.Lists.visit.Goals as goal
 
 pub invariant_of-self-then-not-marked : goal.invariant_of-self-then-not-marked
@@ -18,14 +18,14 @@ invariant_of-self-then-not-marked g c =
     let sized = k.1.sized in
     let off : get_or i.visits c.args.cpu false ≡ false = sym c.contains.ensures ∙ c.if-contains.false in
     let fewer = unvisited_set i.visits c.args.cpu (omega arith) off in
-    let after = c.in_ok-marked.ensures.ok in
-    let none : is_empty old ≡ true = turned_false (is_empty old) c.in_ok-marked.marked after.0 c.if-not-marked.true in
-    let same = ap markers (after.1 ∙ entrained_empty old none) in
+    let after = c.in_ok-marked.ensures in
+    let none : is_empty old ≡ true = unmarked_none old c.in_ok-marked.marked after.marked c.if-not-marked.true in
+    let same = ap markers (after.ok ∙ entrained_empty old none) in
     let flags = ap unvisited c.insert.ensures in
     relisted (record { lists = i.lists.items; visited = i.visits; running = i.running; queued = i.queued }) i.markers i.markers
     i.queued c.args.cpu old c.entrain.new.self c.insert.new.self k.0 k.1 inside c.index_mut-list.ensures.value
     (ap length c.insert.ensures ∙ length-set i.visits c.args.cpu true) (omega arith) (omega arith) k.1.counted
-    (λ fours. subst AreFours (sym after.1) (fours_leaving true old fours))
+    (λ fours. subst AreFours (sym after.ok) (fours_leaving true old fours))
 
 pub invariant_of-self-2 : goal.invariant_of-self-2
 invariant_of-self-2 g c =
@@ -36,11 +36,11 @@ invariant_of-self-2 g c =
     let sized = k.1.sized in
     let off : get_or i.visits c.args.cpu false ≡ false = sym c.contains.ensures ∙ c.if-contains.false in
     let fewer = unvisited_set i.visits c.args.cpu (omega arith) off in
-    let after = c.in_ok-marked.ensures.ok in
-    let some : is_empty old ≡ false = turned_true (is_empty old) c.in_ok-marked.marked after.0 c.if-not-marked.false in
-    let more = ap markers after.1 ∙ markers_entrained old some in
+    let after = c.in_ok-marked.ensures in
+    let some : is_empty old ≡ false = marked_some old c.in_ok-marked.marked after.marked c.if-not-marked.false in
+    let more = ap markers after.ok ∙ markers_entrained old some in
     let flags = ap unvisited c.insert.ensures in
     relisted (record { lists = i.lists.items; visited = i.visits; running = i.running; queued = i.queued }) i.markers
     (i.markers + 1) i.queued c.args.cpu old c.entrain.new.self c.insert.new.self k.0 k.1 inside c.index_mut-list.ensures.value
     (ap length c.insert.ensures ∙ length-set i.visits c.args.cpu true) (omega arith) (omega arith) k.1.counted
-    (λ fours. subst AreFours (sym after.1) (fours_leaving true old fours))
+    (λ fours. subst AreFours (sym after.ok) (fours_leaving true old fours))
