@@ -5,8 +5,8 @@ ghost use Rattle.rcu_cblist.specs.SegList.{IsAtMost, behind, callbacks, front, g
 ghost use Rattle.rcu_cblist.specs.SegList.{numbers, take_answer};
 ghost use Rattle.rcu_seq.specs.Numbers.{snapshot};
 ghost use Rattle.rcu_barrier.specs.Tending.{after_tend};
-ghost use Rattle.rcu_barrier.specs.Lists.{IsSound, at_first, barrier_test_answer, cpus_of, is_visited};
-ghost use Rattle.rcu_barrier.specs.Lists.{list_of, lists_after_barrier_begin};
+ghost use Rattle.rcu_barrier.specs.Lists.{IsSound, at_first, barrier_test_answer, cpus_of};
+ghost use Rattle.rcu_barrier.specs.Lists.{is_visited, list_of, lists_after_barrier_begin};
 ghost use Rattle.rcu_barrier.specs.Lists.{lists_after_barrier_test, lists_after_migrate};
 ghost use Rattle.rcu_barrier.specs.Lists.{lists_after_queue, lists_after_run, lists_after_tend};
 ghost use Rattle.rcu_barrier.specs.Lists.{lists_after_visit, most_queued, owes_visit, queue_fault};
@@ -28,10 +28,12 @@ use std::marker::Model;
 /// How many callbacks may be queued.
 const MOST_QUEUED: u64 = 1_000_000;
 
-/// A list of callbacks for each processor, and a barrier over them (Linux's `rcu_barrier`, without waiting).
+/// A list of callbacks for each processor, and a barrier over them (Linux's `rcu_barrier`, without
+/// waiting).
 ///
-/// Contracts see the lists, which processors the barrier visited, whether one runs, and how many callbacks were queued.
-/// A refused call leaves all as it was. `cpu < cpus` is a condition of each call.
+/// Contracts see the lists, which processors the barrier visited, whether one runs, and how many
+/// callbacks were queued. A refused call leaves all as it was. `cpu < cpus` is a condition of each
+/// call.
 #[derive(Drop)]
 pub struct Lists<T: Drop> {
     /// The list of each processor.
@@ -59,9 +61,12 @@ impl<T: Drop> Model for Lists<T> {
       queued = s.queued;
     } };
 
-    ghost invariant = { λ s.
-        (s.markers ≡ markers_in s.lists.items)
-        × IsSound (record { lists = s.lists.items; visited = s.visits; running = s.running; queued = s.queued }) };
+    ghost invariant = { λ s. (s.markers ≡ markers_in s.lists.items) × IsSound (record {
+      lists = s.lists.items;
+      visited = s.visits;
+      running = s.running;
+      queued = s.queued;
+    }) };
 }
 
 impl<T: Drop> Lists<T> {
@@ -85,8 +90,8 @@ impl<T: Drop> Lists<T> {
         })
     }
 
-    /// Queues a callback on a processor at a grace-period number, and answers how many were queued, which is its place
-    /// among them.
+    /// Queues a callback on a processor at a grace-period number, and answers how many were queued,
+    /// which is its place among them.
     ///
     /// Faults, which hand the value back: 15 where 1,000,000 were queued, 16.
     pub fn queue(&mut self, cpu: u32, at: u64, value: T) -> Result<u64, Refused<T>>
@@ -118,9 +123,10 @@ impl<T: Drop> Lists<T> {
         Ok(ord)
     }
 
-    /// Makes each callback of a processor done whose number is at most this one, and gives the number's snapshot to
-    /// each that has none (Linux's `rcu_advance_cbs`). Answers how many callbacks are done and how many wait then.
-    /// The number is `4k` or `4k + 1` and at most 2^62; no callback carries one above its snapshot.
+    /// Makes each callback of a processor done whose number is at most this one, and gives the
+    /// number's snapshot to each that has none (Linux's `rcu_advance_cbs`). Answers how many
+    /// callbacks are done and how many wait then. The number is `4k` or `4k + 1` and at most 2^62;
+    /// no callback carries one above its snapshot.
     pub fn tend(&mut self, cpu: u32, number: u64) -> (u64, u64)
         requires cpu { cpu < cpus_of self.old }
         requires state { number % 4 ≤ 1 }
@@ -140,13 +146,15 @@ impl<T: Drop> Lists<T> {
         (list.done_count(), list.waiting_count())
     }
 
-    /// Takes the first callbacks of a processor's done part, at most so many (Linux's `rcu_do_batch`). The markers
-    /// before the first callback that is left are dropped.
+    /// Takes the first callbacks of a processor's done part, at most so many (Linux's
+    /// `rcu_do_batch`). The markers before the first callback that is left are dropped.
     ///
     /// Fault 16, only where it has a callback to hand out.
     pub fn run(&mut self, cpu: u32, max: u64) -> Result<Vec<Queued<T>>, Fault>
         requires { cpu < cpus_of self.old }
-        ensures calls { IfOk result (λ calls. calls.items ≡ take_answer (list_of self.old cpu) max) }
+        ensures calls {
+            IfOk result (λ calls. calls.items ≡ take_answer (list_of self.old cpu) max)
+        }
         ensures ok { OnOk result (self.new ≡ lists_after_run self.old cpu max) }
         ensures err { IfErr result (λ fault. fault ≡ Fault.NoMemory) }
         ensures memory { OnErr result (take_answer (list_of self.old cpu) max ≢ []) }
@@ -158,8 +166,9 @@ impl<T: Drop> Lists<T> {
         Ok(calls)
     }
 
-    /// Moves the list of another processor than 0 to processor 0's (Linux's `rcutree_migrate_callbacks`), and answers
-    /// how many callbacks moved. While a barrier runs, an unvisited processor is visited first.
+    /// Moves the list of another processor than 0 to processor 0's (Linux's
+    /// `rcutree_migrate_callbacks`), and answers how many callbacks moved. While a barrier runs, an
+    /// unvisited processor is visited first.
     ///
     /// Fault 16, only where the list is not empty.
     pub fn migrate(&mut self, cpu: u32) -> Result<u64, Fault>
@@ -206,7 +215,8 @@ impl<T: Drop> Lists<T> {
         Ok(())
     }
 
-    /// The barrier visits a processor: where it is unvisited, a marker goes behind its list, if that is not empty.
+    /// The barrier visits a processor: where it is unvisited, a marker goes behind its list, if
+    /// that is not empty.
     ///
     /// Faults: 14 where none runs; 16, only where it would put a marker.
     pub fn visit(&mut self, cpu: u32) -> Result<Visit, Fault>
@@ -236,8 +246,8 @@ impl<T: Drop> Lists<T> {
         Ok(Visit::Marked)
     }
 
-    /// Whether the barrier is over: no marker is left, and no processor is unvisited. Then none runs from now on.
-    /// Costs no walk over the lists.
+    /// Whether the barrier is over: no marker is left, and no processor is unvisited. Then none
+    /// runs from now on. Costs no walk over the lists.
     ///
     /// Fault 14: none runs.
     pub fn barrier_test(&mut self) -> Result<BarrierState, Fault>
@@ -298,7 +308,8 @@ impl<T: Drop> Lists<T> {
         self.lists[cpu as usize].is_empty()
     }
 
-    /// The greatest number that a waiting callback of the processor carries, none where none carries one.
+    /// The greatest number that a waiting callback of the processor carries, none where none
+    /// carries one.
     pub fn greatest_waiting(&self, cpu: u32) -> Option<u64>
         requires { cpu < cpus_of self.now }
         ensures { result ≡ greatest (numbers (list_of self.now cpu)) }

@@ -1,4 +1,5 @@
-//! The barrier over empty lists and during a departure, migrated callbacks, and a million callbacks.
+//! The barrier over empty lists and during a departure, migrated callbacks, and a million
+//! callbacks.
 ghost use Rattle.std.specs.Prelude.{◌≤◌, ◌%◌, ◌^◌};
 
 use crate::barrier_state::BarrierState;
@@ -27,7 +28,8 @@ fn lists<R: Abort + Print>(rt: &R, alloc: Global) -> Lists<u64> {
     }
 }
 
-/// Queues a callback, by a second call where the first is refused a growth, and compares how many were queued.
+/// Queues a callback, by a second call where the first is refused a growth, and compares how many
+/// were queued.
 fn queue<R: Abort + Print>(rt: &R, lists: &mut Lists<u64>, cpu: u32, value: u64, wanted: u64) {
     assert!(rt; cpu < lists.cpus());
     match lists.queue(cpu, 0, value) {
@@ -58,7 +60,8 @@ fn tend<R: Abort + Print>(rt: &R, lists: &mut Lists<u64>, cpu: u32, number: u64,
     assert_eq!(rt; counts, wanted);
 }
 
-/// Takes callbacks, by a second call where the first is refused a growth, and compares their values.
+/// Takes callbacks, by a second call where the first is refused a growth, and compares their
+/// values.
 fn run<R: Abort + Print>(rt: &R, lists: &mut Lists<u64>, cpu: u32, max: u64, wanted: &[u64]) {
     assert!(rt; cpu < lists.cpus());
     let calls = match lists.run(cpu, max) {
@@ -75,7 +78,8 @@ fn run<R: Abort + Print>(rt: &R, lists: &mut Lists<u64>, cpu: u32, max: u64, wan
     }
 }
 
-/// Moves processor 1's list, by a second call where the first is refused a growth, and compares how many moved.
+/// Moves processor 1's list, by a second call where the first is refused a growth, and compares how
+/// many moved.
 fn migrate<R: Abort + Print>(rt: &R, lists: &mut Lists<u64>, wanted: u64) {
     assert!(rt; 1 < lists.cpus());
     match lists.migrate(1) {
@@ -90,7 +94,8 @@ fn migrate<R: Abort + Print>(rt: &R, lists: &mut Lists<u64>, wanted: u64) {
     assert!(rt; lists.is_empty(1));
 }
 
-/// Visits a processor, by a second call where the first is refused a growth, and compares what it did.
+/// Visits a processor, by a second call where the first is refused a growth, and compares what it
+/// did.
 fn visit<R: Abort + Print>(rt: &R, lists: &mut Lists<u64>, cpu: u32, wanted: Visit) {
     assert!(rt; cpu < lists.cpus());
     match lists.visit(cpu) {
@@ -182,8 +187,8 @@ fn full(rt: &impl Abort, lists: &mut Lists<u64>) {
     }
 }
 
-/// Queues a million callbacks on processor 0. Who counts the growths is not told of these, since each would take this
-/// long test once more.
+/// Queues a million callbacks on processor 0. Who counts the growths is not told of these, since
+/// each would take this long test once more.
 fn fill<R: Abort + Print>(rt: &R, lists: &mut Lists<u64>) {
     for count in 0..1_000_000 {
         assert!(rt; 0 < lists.cpus());

@@ -1,5 +1,6 @@
 //! Which processors a barrier visited.
-ghost use Rattle.std.specs.Prelude.{◌≡◌, ◌<◌, ◌≤◌, true, false, IfOk, IfErr, length, replicate, slice_index_or, slice_set};
+ghost use Rattle.std.specs.Prelude.{◌≡◌, ◌<◌, ◌≤◌, true, false, IfOk, IfErr};
+ghost use Rattle.std.specs.Prelude.{length, replicate, slice_index_or, slice_set};
 ghost use Rattle.rcu_barrier.specs.Lists.{unvisited};
 
 use rcu_seq::fault::Fault;

@@ -3,8 +3,8 @@ ghost use Rattle.std.specs.Prelude.{◌≡◌, ◌≢◌, ◌+◌, ◌<◌, ◌^
 ghost use Rattle.std.specs.Prelude.{OnOk, OnErr, IfOk, IfErr};
 ghost use Rattle.rcu_cblist.specs.SegList.{IsAtMost, Of, Unmarked, after_accelerate, after_advance};
 ghost use Rattle.rcu_cblist.specs.SegList.{after_entrain, after_migrate, after_take, behind};
-ghost use Rattle.rcu_cblist.specs.SegList.{begins_with_marker, callbacks, front, greatest, is_empty};
-ghost use Rattle.rcu_cblist.specs.SegList.{markers_passed, numbers, take_answer};
+ghost use Rattle.rcu_cblist.specs.SegList.{begins_with_marker, callbacks, front, greatest};
+ghost use Rattle.rcu_cblist.specs.SegList.{is_empty, markers_passed, numbers, take_answer};
 
 use crate::kept::{Kept, Wait};
 use crate::queued::Queued;
@@ -95,9 +95,9 @@ impl<T: Drop> SegList<T> {
         self.done = count_front(&self.items).1;
     }
 
-    /// Gives a number to each callback without a mark, but changes nothing where callbacks carry two
-    /// different numbers below it (Linux's `rcu_segcblist_accelerate`). No callback carries a number
-    /// above it.
+    /// Gives a number to each callback without a mark, but changes nothing where callbacks carry
+    /// two different numbers below it (Linux's `rcu_segcblist_accelerate`). No callback carries a
+    /// number above it.
     #[tactic(auto, using(crate::proofs::Lists::given_steps))]
     pub fn accelerate(&mut self, snap: u64)
         requires { IsAtMost snap self.old }
@@ -108,8 +108,8 @@ impl<T: Drop> SegList<T> {
         }
     }
 
-    /// Takes the first callbacks of the done part, at most so many, and each marker before the first
-    /// callback that is left. Costs constant time for each.
+    /// Takes the first callbacks of the done part, at most so many, and each marker before the
+    /// first callback that is left. Costs constant time for each.
     ///
     /// Fault 16, only where it has a callback to hand out.
     #[tactic(auto, using(crate::proofs::Lists::take_steps))]
@@ -175,8 +175,8 @@ impl<T: Drop> SegList<T> {
         }
     }
 
-    /// Moves all to a target, with a marker put behind it first where it is not empty: what `entrain`
-    /// and then `migrate_into` leave, all or nothing. Costs what it moves.
+    /// Moves all to a target, with a marker put behind it first where it is not empty: what
+    /// `entrain` and then `migrate_into` leave, all or nothing. Costs what it moves.
     ///
     /// Fault 16, only where there is something to move.
     pub fn migrate_marked_into(&mut self, target: &mut SegList<T>) -> Result<(), Fault>

@@ -12,7 +12,8 @@ fn refused<R: Abort + Print>(rt: &R, fault: Fault) {
     let _ = println!(rt; "a growth was refused");
 }
 
-/// Queues a callback, by a second call where the first is refused a growth, and compares what that one hands back.
+/// Queues a callback, by a second call where the first is refused a growth, and compares what that
+/// one hands back.
 fn queue<R: Abort + Print>(rt: &R, list: &mut SegList<u64>, ord: u64, at: u64, value: u64) {
     if let Err(back) = list.queue(Queued { ord, at, value }) {
         refused(rt, back.fault);
@@ -34,8 +35,8 @@ fn accelerate(rt: &impl Abort, list: &mut SegList<u64>, snap: u64) {
     }
 }
 
-/// Takes callbacks, by a second call where the first is refused a growth, and compares their values and how many
-/// markers were passed.
+/// Takes callbacks, by a second call where the first is refused a growth, and compares their values
+/// and how many markers were passed.
 fn take<R: Abort + Print>(rt: &R, list: &mut SegList<u64>, max: u64, wanted: &[u64], markers: u64) {
     let taken = match list.take_done(max) {
         Ok(taken) => taken,
@@ -67,7 +68,8 @@ fn migrate_marked<R: Abort + Print>(rt: &R, list: &mut SegList<u64>, target: &mu
     }
 }
 
-/// Puts a marker behind a list, by a second call where the first is refused a growth, and compares whether it did.
+/// Puts a marker behind a list, by a second call where the first is refused a growth, and compares
+/// whether it did.
 fn entrain<R: Abort + Print>(rt: &R, list: &mut SegList<u64>, wanted: bool) {
     match list.entrain() {
         Ok(marked) => assert_eq!(rt; marked, wanted),
@@ -78,7 +80,8 @@ fn entrain<R: Abort + Print>(rt: &R, list: &mut SegList<u64>, wanted: bool) {
     }
 }
 
-/// Compares how many callbacks are done and how many wait, and the greatest number that one carries.
+/// Compares how many callbacks are done and how many wait, and the greatest number that one
+/// carries.
 fn counts(rt: &impl Abort, list: &SegList<u64>, done: u64, waiting: u64, greatest: Option<u64>) {
     assert_eq!(rt; (list.done_count(), list.waiting_count()), (done, waiting));
     assert_eq!(rt; list.count().checked_sub(done), Some(waiting));

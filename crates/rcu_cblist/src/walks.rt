@@ -2,7 +2,9 @@
 ghost use Rattle.std.specs.Prelude.{◌≡◌, ◌+◌, ◌<◌, ◌≤◌, ◌^◌, ◌++◌, [], map, take, drop, length};
 ghost use Rattle.std.specs.Vec.{vec_len, vec_capacity};
 ghost use Rattle.std.specs.VecDeque.{deque_len, deque_capacity};
-ghost use Rattle.rcu_cblist.specs.SegList.{after_advance, remarked, mark_given, without_mark, front, callbacks, numbers, markers, has_two, from_callback, after_migrate};
+ghost use Rattle.rcu_cblist.specs.SegList.{after_advance, after_migrate, callbacks, from_callback};
+ghost use Rattle.rcu_cblist.specs.SegList.{front, has_two, mark_given, markers, numbers, remarked};
+ghost use Rattle.rcu_cblist.specs.SegList.{without_mark};
 ghost use Rattle.rcu_cblist.specs.Kept.{items_of};
 
 use crate::kept::{Kept, Wait};
@@ -27,7 +29,9 @@ fn advance_each<T: Drop>(items: &mut [Kept<T>], number: u64)
 
 /// Gives the number to each unmarked callback.
 pub(crate) fn accelerate_all<T: Drop>(items: &mut VecDeque<Kept<T>>, snap: u64)
-    ensures { items_of items.new.items ≡ map (remarked (mark_given snap)) (items_of items.old.items) }
+    ensures {
+        items_of items.new.items ≡ map (remarked (mark_given snap)) (items_of items.old.items)
+    }
 {
     accelerate_each(items.make_contiguous(), snap);
 }
@@ -83,8 +87,8 @@ pub(crate) fn count_front<T: Drop>(items: &VecDeque<Kept<T>>) -> (usize, u64)
     (ahead, done)
 }
 
-/// Takes the first callbacks, at most so many, and each marker before the first callback that is left. Answers how
-/// many markers.
+/// Takes the first callbacks, at most so many, and each marker before the first callback that is
+/// left. Answers how many markers.
 #[tactic(auto, using(crate::proofs::Lists::map_split))]
 pub(crate) fn take_first<T: Drop>(
     items: &mut VecDeque<Kept<T>>,
@@ -93,9 +97,13 @@ pub(crate) fn take_first<T: Drop>(
 ) -> u64
     requires room { vec_len calls.old + most ≤ vec_capacity calls.old }
     requires few { length items.old.items < 2 ^ 63 }
-    ensures calls { calls.new.items ≡ calls.old.items ++ take most (callbacks (items_of items.old.items)) }
+    ensures calls {
+        calls.new.items ≡ calls.old.items ++ take most (callbacks (items_of items.old.items))
+    }
     ensures items { items_of items.new.items ≡ from_callback most (items_of items.old.items) }
-    ensures markers { result + markers (items_of items.new.items) ≡ markers (items_of items.old.items) }
+    ensures markers {
+        result + markers (items_of items.new.items) ≡ markers (items_of items.old.items)
+    }
 {
     let mut markers = 0;
     let mut left = most;
@@ -118,10 +126,14 @@ pub(crate) fn take_first<T: Drop>(
     }
 }
 
-/// Moves a list to a target: the done part goes before what is there, and the rest behind it without its marks.
+/// Moves a list to a target: the done part goes before what is there, and the rest behind it
+/// without its marks.
 pub(crate) fn carry<T: Drop>(items: &mut VecDeque<Kept<T>>, target: &mut VecDeque<Kept<T>>)
     requires room { deque_len target.old + deque_len items.old ≤ deque_capacity target.old }
-    ensures target { items_of target.new.items ≡ after_migrate (items_of target.old.items) (items_of items.old.items) }
+    ensures target {
+        items_of target.new.items
+        ≡ after_migrate (items_of target.old.items) (items_of items.old.items)
+    }
     ensures items { items.new.items ≡ [] }
 {
     let ahead = count_front(items).0;
@@ -133,7 +145,11 @@ pub(crate) fn carry<T: Drop>(items: &mut VecDeque<Kept<T>>, target: &mut VecDequ
 #[tactic(auto, using(crate::proofs::Lists::split_view))]
 fn unmark_behind<T: Drop>(items: &mut VecDeque<Kept<T>>, ahead: usize)
     requires { ahead ≤ length items.old.items }
-    ensures view { items_of items.new.items ≡ take ahead (items_of items.old.items) ++ map without_mark (drop ahead (items_of items.old.items)) }
+    ensures view {
+        items_of items.new.items
+        ≡ take ahead (items_of items.old.items)
+        ++ map without_mark (drop ahead (items_of items.old.items))
+    }
     ensures len { deque_len items.new ≡ deque_len items.old }
 {
     let (_, rest) = items.make_contiguous().split_at_mut(ahead);
@@ -154,7 +170,10 @@ fn unmark_each<T: Drop>(items: &mut [Kept<T>])
 fn join_around<T: Drop>(target: &mut VecDeque<T>, items: &mut VecDeque<T>, ahead: usize)
     requires ahead { ahead ≤ length items.old.items }
     requires room { deque_len target.old + deque_len items.old ≤ deque_capacity target.old }
-    ensures target { target.new.items ≡ take ahead items.old.items ++ (target.old.items ++ drop ahead items.old.items) }
+    ensures target {
+        target.new.items
+        ≡ take ahead items.old.items ++ (target.old.items ++ drop ahead items.old.items)
+    }
     ensures items { items.new.items ≡ [] }
 {
     items.rotate_left(ahead);
