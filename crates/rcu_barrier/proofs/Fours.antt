@@ -6,10 +6,10 @@ use Rattle.std.proofs.lemmas.List.Elements.{All-nil, All-head, All-tail, All-app
 use borrow.Author.Tests.{leb-false, ltb-true}
 use Rattle.rcu_seq.specs.Numbers.{Number, snapshot}
 use Rattle.rcu_cblist.specs.declared.queued.Queued.{Queued}
-use Rattle.rcu_cblist.specs.SegList.{Item, Of, Marker, Unmarked, Until, Done, IsAtMost, after_accelerate, after_advance, after_migrate, after_take, has_other, has_two, mark_given, numbers, remarked}
+use Rattle.rcu_cblist.specs.SegList.{Item, Of, Marker, Unmarked, Until, Done, IsAtMost, after_accelerate, after_advance, after_migrate, after_take, as_it_leaves, has_other, has_two, mark_given, numbers, remarked}
 use Rattle.rcu_cblist.proofs.SegListLemmas.{no_two, numbers_advanced, numbers_append, numbers_entrained, numbers_given, numbers_moved, numbers_untaken, other_above, other_same}
 use Rattle.rcu_barrier.specs.Tending.{AreFours, MayWait, has_unmarked, is_unmarked, mark_after_tend, after_tend}
-use Rattle.rcu_barrier.specs.Lists.{AllFours, as_it_leaves}
+use Rattle.rcu_barrier.specs.Lists.{AllFours}
 
 -- a number is a multiple of 4
 abbrev IsFour : Number → Type 0

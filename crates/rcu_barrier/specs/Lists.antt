@@ -4,7 +4,7 @@ use Rattle.rcu_seq.specs.Numbers.{Number}
 use Rattle.rcu_seq.specs.declared.fault.Fault.{Fault}
 use Rattle.rcu_seq.specs.declared.fault.Fault.TheVariants as fault
 use Rattle.rcu_cblist.specs.declared.queued.Queued.{Queued}
-use Rattle.rcu_cblist.specs.SegList.{Item, Of, Unmarked, after_entrain, is_empty, markers, after_migrate, after_take}
+use Rattle.rcu_cblist.specs.SegList.{Item, Of, Unmarked, after_entrain, after_migrate, after_take, as_it_leaves, is_empty, markers}
 use Rattle.rcu_barrier.specs.Tending.{AreFours, after_tend}
 use Rattle.rcu_barrier.specs.declared.visit.Visit.{Visit}
 use Rattle.rcu_barrier.specs.declared.visit.Visit.TheVariants as visit
@@ -80,10 +80,6 @@ module _ {X : Type 0} where
   -- a barrier runs that did not visit the processor
   abbrev pub owes_visit : AllLists X → ℕ → Bool
   owes_visit all cpu = all.running && not (is_visited all cpu)
-
-  -- the list as it leaves, with a marker behind it where a visit is owed
-  abbrev pub as_it_leaves : List (Item X) → Bool → List (Item X)
-  as_it_leaves xs owed = if owed then after_entrain xs else xs
 
   -- the lists once the one at a place moved to the first, with a marker behind it where a visit is owed
   abbrev pub lists_after_move : List (List (Item X)) → ℕ → Bool → List (List (Item X))

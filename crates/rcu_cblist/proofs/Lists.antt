@@ -1,11 +1,12 @@
 -- Lists with one callback more, walks over a list, and its parts.
-use Rattle.std.proofs.Common.{◌≡◌, ℕ, false, zero, suc, ◌+◌, ◌-◌, ◌<◌, ◌≤◌, min, List, [], ◌∷◌, ◌++◌, length, map, take, drop, set, get_or, refl, ap, sym, subst, ◌∙◌, add-one, drop-cons, append_assoc, length-append, length-take, length-drop, arith}
+use Rattle.std.proofs.Common.{◌≡◌, ◌==◌, ℕ, Bool, true, false, not, ◌&&◌, zero, suc, ◌+◌, ◌-◌, ◌<◌, ◌≤◌, min, List, [], ◌∷◌, ◌++◌, length, map, take, drop, set, get_or, refl, ap, sym, subst, ◌∙◌, add-one, drop-cons, append_assoc, length-append, length-take, length-drop, arith}
 use Rattle.std.proofs.Math.Seq.{take-append_seam, drop-append_seam}
 use Rattle.std.proofs.lemmas.List.{map-set, map-append, take-map, drop-map, take-append-le, take_min, get_or-map, get_or_default, length-map, map_push}
+use Rattle.std.proofs.lemmas.Bool.Decides.{nat_tests}
 use Rattle.std.proofs.lemmas.List.Edits.{map_over_more}
 use Rattle.std.proofs.lemmas.List.Elements.{filter_map-append}
 use Rattle.rcu_cblist.specs.declared.queued.Queued.{Queued}
-use Rattle.rcu_cblist.specs.SegList.{after_entrain, Item, Mark, Of, Marker, Unmarked, Until, Done, callback_of, callbacks, remarked, mark_given, without_mark, front, behind, take_answer, from_callback, after_take, after_migrate, is_empty, begins_with_marker}
+use Rattle.rcu_cblist.specs.SegList.{as_it_leaves, Item, Mark, Of, Marker, Unmarked, Until, Done, callback_of, callbacks, remarked, mark_given, without_mark, front, behind, take_answer, from_callback, after_take, after_migrate, is_empty, begins_with_marker}
 
 -- the next item of a walk
 pub rest_more : {X Y : Type 0} (f : X → Y) (xs : List X) (i : ℕ) (x : X) → i < length xs → x ≡ get_or xs i x →
@@ -325,29 +326,45 @@ carried f start mid target k ahead view =
     (ap (λ l. front seen ++ l) (map-append f target (drop k mid) ∙ ap (λ l. map f target ++ l) after) ∙
     sym (append_assoc (front seen) (map f target) (map without_mark (behind seen)))))
 
--- a list that got a marker is as it was once its last item goes again
-pub marker_gone : {K X : Type 0} (f : K → Item X) (marked rest : List K) (n : ℕ) (xs : List (Item X)) →
-    is_empty xs ≡ false → map f marked ≡ after_entrain xs → n ≡ length marked → rest ≡ take (n - 1) marked → map f rest ≡ xs
-marker_gone f marked rest n [] some seen sized cut = cc
-marker_gone f marked rest n (x ∷ xs) some seen sized cut =
-    let long = sym (length-map marked f) ∙ (ap length seen ∙ length-append (x ∷ xs) (Marker ∷ [])) in
-    let least : n - 1 ≡ length (x ∷ xs) = omega arith in
-    ap (map f) cut ∙ (sym (take-map f (n - 1) marked) ∙ (ap (take (n - 1)) seen ∙
-    cut_front (x ∷ xs) (Marker ∷ []) (n - 1) least))
+-- where no item is kept, none is seen
+pub empty_seen : {K X : Type 0} (f : K → Item X) (xs : List K) (n : ℕ) → n ≡ length xs → (n == 0) ≡ is_empty (map f xs)
+empty_seen f [] n sized = grind (arith, nat_tests)
+empty_seen f (x ∷ xs) n sized = grind (arith, nat_tests)
 
--- a marker behind a list leaves as many done callbacks, as many callbacks, and the first item
-pub entrained_front : {X : Type 0} (xs : List (Item X)) →
-    length (callbacks (front (after_entrain xs))) ≡ length (callbacks (front xs))
-entrained_front [] = refl
-entrained_front (x ∷ xs) = front_marker (x ∷ xs)
+-- where a marker is put, the list leaves with it
+pub leaves_marked : {X : Type 0} (xs : List (Item X)) (wanted : Bool) → (wanted && not (is_empty xs)) ≡ true →
+    xs ++ Marker ∷ [] ≡ as_it_leaves xs wanted
+leaves_marked [] true put = cc
+leaves_marked [] false put = cc
+leaves_marked (x ∷ xs) true put = refl
+leaves_marked (x ∷ xs) false put = cc
 
-pub entrained_callbacks : {X : Type 0} (xs : List (Item X)) → length (callbacks (after_entrain xs)) ≡ length (callbacks xs)
-entrained_callbacks [] = refl
-entrained_callbacks (x ∷ xs) = callbacks_marker (x ∷ xs)
+-- where none is put, it leaves as it is
+pub leaves_same : {X : Type 0} (xs : List (Item X)) (wanted : Bool) → (wanted && not (is_empty xs)) ≡ false →
+    xs ≡ as_it_leaves xs wanted
+leaves_same [] true put = refl
+leaves_same [] false put = refl
+leaves_same (x ∷ xs) true put = cc
+leaves_same (x ∷ xs) false put = refl
 
-pub entrained_first : {X : Type 0} (xs : List (Item X)) → begins_with_marker (after_entrain xs) ≡ begins_with_marker xs
-entrained_first [] = refl
-entrained_first (x ∷ xs) = refl
+-- a list that leaves has as many done callbacks, as many callbacks, and its first item
+pub leaving_front : {X : Type 0} (xs : List (Item X)) (wanted : Bool) →
+    length (callbacks (front (as_it_leaves xs wanted))) ≡ length (callbacks (front xs))
+leaving_front xs false = refl
+leaving_front [] true = refl
+leaving_front (x ∷ xs) true = front_marker (x ∷ xs)
+
+pub leaving_callbacks : {X : Type 0} (xs : List (Item X)) (wanted : Bool) →
+    length (callbacks (as_it_leaves xs wanted)) ≡ length (callbacks xs)
+leaving_callbacks xs false = refl
+leaving_callbacks [] true = refl
+leaving_callbacks (x ∷ xs) true = callbacks_marker (x ∷ xs)
+
+pub leaving_first : {X : Type 0} (xs : List (Item X)) (wanted : Bool) →
+    begins_with_marker (as_it_leaves xs wanted) ≡ begins_with_marker xs
+leaving_first xs false = refl
+leaving_first [] true = refl
+leaving_first (x ∷ xs) true = refl
 
 -- what the calls leave of the counts, and what they show
 pub ruleset queue_steps = (front_push, callbacks_push, first_queued, view_push)

@@ -96,6 +96,10 @@ module _ {X : Type 0} where
   abbrev pub after_entrain : List (Item X) → List (Item X)
   after_entrain xs = if is_empty xs then xs else xs ++ Marker ∷ []
 
+  -- the list as it leaves, with a marker put behind it first where that is wanted
+  abbrev pub as_it_leaves : List (Item X) → Bool → List (Item X)
+  as_it_leaves xs wanted = if wanted then after_entrain xs else xs
+
   -- the item without its mark
   abbrev pub without_mark : Item X → Item X
   without_mark x = remarked (λ _. Unmarked) x

@@ -2,8 +2,8 @@
 ghost use Rattle.std.specs.Prelude.{◌≡◌, ◌≢◌, ◌+◌, ◌<◌, ◌^◌, ◌++◌, ◌∷◌, [], false, not, length};
 ghost use Rattle.std.specs.Prelude.{OnOk, OnErr, IfOk, IfErr};
 ghost use Rattle.rcu_cblist.specs.SegList.{IsAtMost, Of, Unmarked, after_accelerate, after_advance};
-ghost use Rattle.rcu_cblist.specs.SegList.{after_entrain, after_migrate, after_take, behind};
-ghost use Rattle.rcu_cblist.specs.SegList.{begins_with_marker, callbacks, front, greatest};
+ghost use Rattle.rcu_cblist.specs.SegList.{after_entrain, after_migrate, after_take, as_it_leaves};
+ghost use Rattle.rcu_cblist.specs.SegList.{begins_with_marker, behind, callbacks, front, greatest};
 ghost use Rattle.rcu_cblist.specs.SegList.{is_empty, markers_passed, numbers, take_answer};
 
 use crate::kept::{Kept, Wait};
@@ -136,7 +136,6 @@ impl<T: Drop> SegList<T> {
     /// without its marks, the order kept. Costs what it moves.
     ///
     /// Fault 16, only where there is something to move.
-    #[tactic(auto, using(crate::proofs::Lists::move_steps))]
     pub fn migrate_into(&mut self, target: &mut SegList<T>) -> Result<(), Fault>
         ensures ok { OnOk result (target.new ≡ after_migrate target.old self.old) }
         ensures emptied { OnOk result (self.new ≡ []) }
@@ -145,13 +144,7 @@ impl<T: Drop> SegList<T> {
         ensures unchanged { OnErr result (self.new ≡ self.old) }
         ensures target { OnErr result (target.new ≡ target.old) }
     {
-        let Ok(()) = target.items.reserve(self.items.len()) else {
-            return Err(Fault::NoMemory);
-        };
-        carry(&mut self.items, &mut target.items);
-        carry_count(&mut self.count, &mut target.count);
-        carry_count(&mut self.done, &mut target.done);
-        Ok(())
+        self.move_into(target, false)
     }
 
     /// Puts a marker at the end of a list that is not empty (Linux's `rcu_segcblist_entrain`), and
@@ -187,12 +180,41 @@ impl<T: Drop> SegList<T> {
         ensures unchanged { OnErr result (self.new ≡ self.old) }
         ensures target { OnErr result (target.new ≡ target.old) }
     {
-        let marked = self.entrain()?;
-        let moved = self.migrate_into(target);
-        if marked && moved.is_err() {
-            self.items.pop_back();
+        self.move_into(target, true)
+    }
+
+    /// Moves all to a target, with a marker put behind it first where that is wanted and it is not
+    /// empty. Room for both is made before either.
+    ///
+    /// Fault 16, only where there is something to move.
+    #[tactic(auto, using(crate::proofs::Lists::move_steps))]
+    fn move_into(&mut self, target: &mut SegList<T>, marked: bool) -> Result<(), Fault>
+        ensures ok {
+            OnOk result (target.new ≡ after_migrate target.old (as_it_leaves self.old marked))
         }
-        moved
+        ensures emptied { OnOk result (self.new ≡ []) }
+        ensures err { IfErr result (λ fault. fault ≡ Fault.NoMemory) }
+        ensures memory { OnErr result (self.old ≢ []) }
+        ensures unchanged { OnErr result (self.new ≡ self.old) }
+        ensures target { OnErr result (target.new ≡ target.old) }
+    {
+        let marker = marked && !self.items.is_empty();
+        let more = usize::from(marker);
+        let Ok(()) = self.items.reserve(more) else {
+            return Err(Fault::NoMemory);
+        };
+        let Ok(()) = target.items.reserve(self.items.len() + more) else {
+            return Err(Fault::NoMemory);
+        };
+        if marker {
+            let Ok(()) = self.items.push_back(Kept::Marker) else {
+                unreachable!()
+            };
+        }
+        carry(&mut self.items, &mut target.items);
+        carry_count(&mut self.count, &mut target.count);
+        carry_count(&mut self.done, &mut target.done);
+        Ok(())
     }
 
     /// Whether it has no item. It never begins with a marker.

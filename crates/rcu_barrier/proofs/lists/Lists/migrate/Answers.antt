@@ -2,8 +2,8 @@ use Rattle.std.proofs.Common.{ℕ, ◌≡◌, ◌+◌, ◌<◌, Bool, List, true
 use Rattle.std.specs.Prelude.{if◌then◌else◌}
 use Rattle.std.proofs.lemmas.List.{length-set, with_items_is}
 use mir.Val.{bool_byte}
-use Rattle.rcu_cblist.specs.SegList.{Item, after_migrate, is_empty}
-use Rattle.rcu_barrier.specs.Lists.{AllLists, IsSound, as_it_leaves, list_at, list_of, lists_after_move, markers_in, owes_visit, unvisited}
+use Rattle.rcu_cblist.specs.SegList.{Item, after_migrate, as_it_leaves, is_empty}
+use Rattle.rcu_barrier.specs.Lists.{AllLists, IsSound, list_at, list_of, lists_after_move, markers_in, owes_visit, unvisited}
 use Rattle.rcu_barrier.specs.declared.lists.Lists.TheInside.{Inside}
 use Rattle.rcu_barrier.proofs.Kept.{moved_kept, owed_parts}
 use Rattle.rcu_barrier.proofs.Markers.{unvisited_set}
