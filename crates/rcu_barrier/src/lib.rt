@@ -9,3 +9,7 @@ mod moving;
 mod tests;
 pub mod visit;
 mod visits;
+
+pub use barrier_state::BarrierState;
+pub use lists::Lists;
+pub use visit::Visit;

@@ -10,3 +10,8 @@ pub mod taken;
 #[cfg(test)]
 mod tests;
 mod walks;
+
+pub use queued::Queued;
+pub use refused::Refused;
+pub use seg_list::SegList;
+pub use taken::Taken;
