@@ -4,7 +4,7 @@ ghost use Rattle.std.specs.Prelude.{IfOk, IfErr, OnOk, OnErr};
 ghost use Rattle.rcu_cblist.specs.SegList.{callbacks, is_empty};
 ghost use Rattle.rcu_barrier.specs.Lists.{list_at, lists_after_move};
 
-use rcu_cblist::seg_list::SegList;
+use rcu_cblist::SegList;
 use rcu_seq::fault::Fault;
 use std::alloc::Global;
 
