@@ -74,7 +74,8 @@ closed_after_outer_exit cpu online calls accepted one =
     open_where_nested cpu online (Exit ∷ calls) (omega arith, accepted) ∙ ap (λ depth. not (depth - 1 == 0)) one
 
 -- the processor is online where the calls say so
-online_as_said : (cpu : ℕ) (online : Bool) (calls : List Call) → (after_calls cpu online calls).online ≡ is_online online calls
+online_as_said : (cpu : ℕ) (online : Bool) (calls : List Call)
+    → (after_calls cpu online calls).online ≡ is_online online calls
 online_as_said cpu online [] = refl
 online_as_said cpu online (Arrive _ ∷ earlier) = refl
 online_as_said cpu online (Depart ∷ earlier) = refl

@@ -57,4 +57,5 @@ after_calls cpu online (call ∷ earlier) = after_call (after_calls cpu online e
 -- each of the calls was accepted, after the earlier ones
 abbrev pub AreAccepted : ℕ → Bool → List Call → Type 0
 AreAccepted cpu online [] = Unit {0}
-AreAccepted cpu online (call ∷ earlier) = IsAccepted (after_calls cpu online earlier) call × AreAccepted cpu online earlier
+AreAccepted cpu online (call ∷ earlier) =
+    IsAccepted (after_calls cpu online earlier) call × AreAccepted cpu online earlier

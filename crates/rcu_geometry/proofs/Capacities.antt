@@ -28,7 +28,8 @@ below_ceil whole part place some begins = elim (cases_lt place (ceil whole part)
 -- one level up a node holds as many as fan nodes below
 pub capacity_up : (s : Shape) (height : ℕ) → capacity s (height + 1) ≡ s.fan * capacity s height
 capacity_up s height =
-    let power : s.fan ^ (height + 1) ≡ s.fan * s.fan ^ height = rw (add-one, pow-suc) (mul_comm (s.fan ^ height) s.fan) in
+    let power : s.fan ^ (height + 1) ≡ s.fan * s.fan ^ height =
+    rw (add-one, pow-suc) (mul_comm (s.fan ^ height) s.fan) in
     rw power (grind arith)
 
 -- each node holds some processor
@@ -55,7 +56,8 @@ power_within fan height few low =
 
 -- the capacities of the four levels are below 2^25
 pub capacity_within : (leaf fan height : ℕ) → leaf ≤ 64 → fan ≤ 64 → height ≤ 3 → leaf * fan ^ height ≤ 64 * 64 ^ 3
-capacity_within leaf fan height leaf_few fan_few low = mul-le leaf (fan ^ height) 64 (64 ^ 3) leaf_few (power_within fan height fan_few low)
+capacity_within leaf fan height leaf_few fan_few low =
+    mul-le leaf (fan ^ height) 64 (64 ^ 3) leaf_few (power_within fan height fan_few low)
 
 -- there are one to four levels
 pub levels_range : (s : Shape) → (1 ≤ levels s) × (levels s ≤ 4)
@@ -83,7 +85,8 @@ levels_least s legal more =
 pub ruleset levels_rules = (levels_range, levels_hold, levels_least)
 
 -- a number of levels that hold all processors, where one less would not, is theirs
-pub levels_at : (s : Shape) (n : ℕ) → IsLegalShape s → 1 ≤ n → (1 < n → capacity s (n - 2) < s.cpus) → s.cpus ≤ capacity s (n - 1) → levels s ≡ n
+pub levels_at : (s : Shape) (n : ℕ) → IsLegalShape s → 1 ≤ n → (1 < n → capacity s (n - 2) < s.cpus)
+    → s.cpus ≤ capacity s (n - 1) → levels s ≡ n
 levels_at s n legal some least enough = elim (cases_lt (levels s) n) [
   | inl fewer ↦ (
       let range = levels_range s in

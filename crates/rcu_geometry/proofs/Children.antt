@@ -21,7 +21,8 @@ equal_if : (a b : ℕ) → (a == b) ≡ true → a ≡ b
 equal_if a b passes = grind (arith, nat_tests)
 
 -- a node has at most fan children
-pub few_children : (s : Shape) (node : ℕ) → IsLegalShape s → count_by (λ child. parent s child == node) (range_with_len 1 (nodes s - 1)) ≤ s.fan
+pub few_children : (s : Shape) (node : ℕ) → IsLegalShape s
+    → count_by (λ child. parent s child == node) (range_with_len 1 (nodes s - 1)) ≤ s.fan
 few_children s node legal =
     count-within (λ child. parent s child == node) (bit_in_parent s) 1 (nodes s - 1) s.fan
     (record {
@@ -32,7 +33,8 @@ few_children s node legal =
     (bit_below s legal)
 
 -- a leaf has at most leaf processors
-pub few_cpus : (s : Shape) (node : ℕ) → IsLegalShape s → count_by (λ cpu. leaf_of s cpu == node) (range_with_len 0 s.cpus) ≤ s.leaf
+pub few_cpus : (s : Shape) (node : ℕ) → IsLegalShape s
+    → count_by (λ cpu. leaf_of s cpu == node) (range_with_len 0 s.cpus) ≤ s.leaf
 few_cpus s node legal =
     count-within (λ cpu. leaf_of s cpu == node) (bit_of s) 0 s.cpus s.leaf
     (record {
@@ -47,7 +49,8 @@ inner_level s node inner below =
     let there = lies s node below in
     elim (cases_lt (level_of s node) (levels s - 1)) [
       | inl above ↦ omega arith
-      | inr last ↦ (let rises = start_rises s (levels s - 1) (level_of s node) last in let is = there.is in absurd (let no : ⊥ = omega arith in no))
+      | inr last ↦ (let rises = start_rises s (levels s - 1) (level_of s node) last in
+          let is = there.is in absurd (let no : ⊥ = omega arith in no))
     ]
 
 -- a leaf's level is the last
@@ -79,7 +82,9 @@ first_child s node level place legal there inner =
     record {
       is = refl;
       inner = inner;
-      below = to_level s (level + 1) (place * s.fan) legal (let held : place * s.fan * capacity s height < s.cpus = omega arith in held);
+      below =
+          to_level s (level + 1) (place * s.fan) legal
+          (let held : place * s.fan * capacity s height < s.cpus = omega arith in held);
     } in
     let rises = start_rises s 1 (level + 1) (omega arith) in
     let next = start_next s 0 in let first = start_zero s in let root = level_some s 0 legal in
@@ -111,7 +116,8 @@ pub record IsFirstCpu (s : Shape) (node cpu : ℕ) : Type 0 where
   pub bit : bit_of s cpu ≡ 0
 
 -- a leaf has a first processor
-pub first_cpu : (s : Shape) (node place : ℕ) → IsLegalShape s → Lies s node (levels s - 1) place → IsFirstCpu s node (place * s.leaf)
+pub first_cpu : (s : Shape) (node place : ℕ) → IsLegalShape s → Lies s node (levels s - 1) place
+    → IsFirstCpu s node (place * s.leaf)
 first_cpu s node place legal there =
     let leaf = legal.leaf_low in
     let height : levels s - 1 - (levels s - 1) ≡ 0 = omega arith in
@@ -127,7 +133,9 @@ first_cpu s node place legal there =
     }
 
 -- each leaf has a processor
-pub some_cpu : (s : Shape) (node : ℕ) → IsLegalShape s → first_leaf s ≤ node → node < nodes s → (cpu : ℕ) × IsFirstCpu s node cpu
+pub some_cpu : (s : Shape) (node : ℕ) → IsLegalShape s → first_leaf s ≤ node → node < nodes s
+    → (cpu : ℕ) × IsFirstCpu s node cpu
 some_cpu s node legal from below =
-    let there = subst (λ level. Lies s node level (place_of s node)) (leaf_level s node from below) (lies s node below) in
+    let there =
+    subst (λ level. Lies s node level (place_of s node)) (leaf_level s node from below) (lies s node below) in
     (place_of s node * s.leaf, first_cpu s node (place_of s node) legal there)

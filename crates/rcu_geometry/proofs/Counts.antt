@@ -6,7 +6,8 @@ use Rattle.std.proofs.lemmas.Bool.Decides.{nat_tests}
 use Rattle.std.proofs.lemmas.List.Sums.{sum_by-cons, sum_by-le-sum_by}
 
 -- where none passes there is none
-count-none : (test : ℕ → Bool) (a n : ℕ) → ((i : ℕ) → a ≤ i → i < a + n → test i ≡ false) → count_by test (range_with_len a n) ≡ 0
+count-none : (test : ℕ → Bool) (a n : ℕ) → ((i : ℕ) → a ≤ i → i < a + n → test i ≡ false)
+    → count_by test (range_with_len a n) ≡ 0
 count-none test a zero fails = omega arith
 count-none test a (suc n) fails =
     let first : ◌≡◌ {A = ℕ} (cond (test a) 1 0) 0 = rw (fails a (omega arith) (omega arith)) in
@@ -22,13 +23,16 @@ count-one test a (suc n) same = elim (cases_Bool (test a)) [
   | inl passes ↦ (
       let first : ◌≡◌ {A = ℕ} (cond (test a) 1 0) 1 = rw passes in
       let rest = count-none test (a + 1) n (λ i from below. elim (cases_Bool (test i)) [
-        | inl also ↦ (let e = same a i (omega arith) (omega arith) (omega arith) (omega arith) passes also in absurd (let no : ⊥ = omega arith in no))
+        | inl also ↦ (let e = same a i (omega arith) (omega arith) (omega arith) (omega arith) passes also in
+            absurd (let no : ⊥ = omega arith in no))
         | inr fails ↦ fails
       ]) in
       omega (arith, sum_by-cons (λ i. cond (test i) 1 0) a (range_with_len (a + 1) n), first, rest))
   | inr fails ↦ (
       let first : ◌≡◌ {A = ℕ} (cond (test a) 1 0) 0 = rw fails in
-      let rest = count-one test (a + 1) n (λ i j from_i below_i from_j below_j. same i j (omega arith) (omega arith) (omega arith) (omega arith)) in
+      let rest =
+      count-one test (a + 1) n
+      (λ i j from_i below_i from_j below_j. same i j (omega arith) (omega arith) (omega arith) (omega arith)) in
       omega (arith, sum_by-cons (λ i. cond (test i) 1 0) a (range_with_len (a + 1) n), first, rest))
 ]
 
@@ -57,7 +61,8 @@ count-below test key a n zero own =
 count-below test key a n (suc k) own =
     let lower = count-below test key a n k own in
     let here = count-one (λ i. test i && key i == k) a n (λ i j from_i below_i from_j below_j passes_i passes_j.
-    own.same i j from_i below_i from_j below_j (grind (arith, nat_tests)) (grind (arith, nat_tests)) (grind (arith, nat_tests))) in
+    own.same i j from_i below_i from_j below_j (grind (arith, nat_tests)) (grind (arith, nat_tests))
+    (grind (arith, nat_tests))) in
     let split =
     count-split (λ i. test i && nat_lt (key i) (suc k)) (λ i. test i && nat_lt (key i) k) (λ i. test i && key i == k)
     (λ x. grind (arith, nat_tests)) (range_with_len a n) in

@@ -19,14 +19,18 @@ unfolding level_start
 start_zero s = refl
 
 -- the first processor below a node of a level is there
-pub in_level : (s : Shape) (i place : ℕ) → IsLegalShape s → place < level_nodes s i → place * capacity s (levels s - 1 - i) < s.cpus
+pub in_level : (s : Shape) (i place : ℕ) → IsLegalShape s → place < level_nodes s i
+    → place * capacity s (levels s - 1 - i) < s.cpus
 unfolding level_nodes
-in_level s i place legal below = begins_below s.cpus (capacity s (levels s - 1 - i)) place (capacity_some s legal (levels s - 1 - i)) below
+in_level s i place legal below =
+    begins_below s.cpus (capacity s (levels s - 1 - i)) place (capacity_some s legal (levels s - 1 - i)) below
 
 -- and a place whose first processor is there is in the level
-pub to_level : (s : Shape) (i place : ℕ) → IsLegalShape s → place * capacity s (levels s - 1 - i) < s.cpus → place < level_nodes s i
+pub to_level : (s : Shape) (i place : ℕ) → IsLegalShape s → place * capacity s (levels s - 1 - i) < s.cpus
+    → place < level_nodes s i
 unfolding level_nodes
-to_level s i place legal begins = below_ceil s.cpus (capacity s (levels s - 1 - i)) place (capacity_some s legal (levels s - 1 - i)) begins
+to_level s i place legal begins =
+    below_ceil s.cpus (capacity s (levels s - 1 - i)) place (capacity_some s legal (levels s - 1 - i)) begins
 
 -- each level has a node
 pub level_some : (s : Shape) (i : ℕ) → IsLegalShape s → 0 < level_nodes s i
@@ -55,7 +59,8 @@ level_within s i legal = elim (cases_lt 4096 (level_nodes s i)) [
   | inl more ↦ (
       let few = legal.few in
       let last = in_level s i 4096 legal more in
-      let product = mul-le 4096 1 4096 (capacity s (levels s - 1 - i)) (omega arith) (capacity_some s legal (levels s - 1 - i)) in
+      let product =
+      mul-le 4096 1 4096 (capacity s (levels s - 1 - i)) (omega arith) (capacity_some s legal (levels s - 1 - i)) in
       omega (arith, last, product, few))
   | inr few ↦ few
 ]
@@ -93,7 +98,8 @@ start_within s (suc i) legal =
     omega arith
 
 -- the level of a node that lies between two starts
-pub level_at : (s : Shape) (node i : ℕ) → i < 4 → level_start s i ≤ node → node < level_start s (i + 1) → level_of s node ≡ i
+pub level_at : (s : Shape) (node i : ℕ) → i < 4 → level_start s i ≤ node → node < level_start s (i + 1)
+    → level_of s node ≡ i
 unfolding level_of
 level_at s node zero few from below =
     let second = start_rises s 1 2 (omega arith) in
@@ -112,13 +118,16 @@ level_at s node (suc (suc (suc zero))) few from below =
 level_at s node (suc (suc (suc (suc i)))) few from below = absurd (let no : ⊥ = omega arith in no)
 
 -- the parent's place is in the level above
-pub parent_place : (s : Shape) (i place : ℕ) → IsLegalShape s → i + 1 < levels s → place < level_nodes s (i + 1) → place / s.fan < level_nodes s i
+pub parent_place : (s : Shape) (i place : ℕ) → IsLegalShape s → i + 1 < levels s → place < level_nodes s (i + 1)
+    → place / s.fan < level_nodes s i
 parent_place s i place legal inner below =
     let height = levels s - 1 - (i + 1) in
     let begins = in_level s (i + 1) place legal below in
     let up : capacity s (levels s - 1 - i) ≡ s.fan * capacity s height =
     ap (capacity s) (let above : levels s - 1 - i ≡ height + 1 = omega arith in above) ∙ capacity_up s height in
-    let product = mul-le (place / s.fan * s.fan) (capacity s height) place (capacity s height) (div-mul-le_self place s.fan) (omega arith) in
+    let product =
+    mul-le (place / s.fan * s.fan) (capacity s height) place (capacity s height) (div-mul-le_self place s.fan)
+    (omega arith) in
     let grouped = mul_assoc (place / s.fan) s.fan (capacity s height) in
     to_level s i (place / s.fan) legal (rw up (omega (arith, product, grouped, begins)))
 
@@ -131,12 +140,15 @@ leaf_place s cpu legal below =
     to_level s (levels s - 1) (cpu / s.leaf) legal (rw (height, capacity_zero) (omega (arith, product)))
 
 -- the level of a node by the next level
-pub level_by : (s : Shape) (node level next : ℕ) → level + 1 ≡ next → level < 4 → level_start s level ≤ node → node < level_start s next
+pub level_by : (s : Shape) (node level next : ℕ) → level + 1 ≡ next → level < 4 → level_start s level ≤ node
+    → node < level_start s next
     → level ≡ level_of s node
-level_by s node level next e few from below = sym (level_at s node level few from (subst (λ i. node < level_start s i) (sym e) below))
+level_by s node level next e few from below =
+    sym (level_at s node level few from (subst (λ i. node < level_start s i) (sym e) below))
 
 -- how many nodes a level has, by its height above the leaves
-pub level_nodes_by : (s : Shape) (i height count : ℕ) → height + i + 1 ≡ levels s → count ≡ ceil s.cpus (capacity s height) → count ≡ level_nodes s i
+pub level_nodes_by : (s : Shape) (i height count : ℕ) → height + i + 1 ≡ levels s
+    → count ≡ ceil s.cpus (capacity s height) → count ≡ level_nodes s i
 unfolding level_nodes
 level_nodes_by s i height count e is =
     let above : height ≡ levels s - 1 - i = omega arith in
@@ -160,10 +172,12 @@ starts_first s starts i e z = rw (e, z) (record {
 
 -- the table with one more level
 pub starts_more : (s : Shape) (starts more : List ℕ) (next count i k : ℕ)
-    → IsLegalShape s → AreStarts s starts next i → count ≡ level_nodes s i → more ≡ starts ++ (next + count) ∷ [] → k ≡ i + 1
+    → IsLegalShape s → AreStarts s starts next i → count ≡ level_nodes s i → more ≡ starts ++ (next + count) ∷ []
+    → k ≡ i + 1
     → AreStarts s more (next + count) k
 starts_more s starts more next count i k legal before counted pushed e =
-    let begins : next + count ≡ level_start s (i + 1) = (let is = before.begins in let behind = start_next s i in omega arith) in
+    let begins : next + count ≡ level_start s (i + 1) =
+    (let is = before.begins in let behind = start_next s i in omega arith) in
     let sized = before.sized in
     rw (pushed, e) (record {
       sized = length_push starts (next + count) ∙ ap (λ n. n + 1) sized;

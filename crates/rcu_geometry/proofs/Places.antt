@@ -21,7 +21,8 @@ level_lies s node level place lies =
     level_at s node level (omega arith) (omega arith) (omega arith)
 
 -- a node between two starts lies there
-lies_between : (s : Shape) (node level : ℕ) → level < levels s → level_start s level ≤ node → node < level_start s (level + 1)
+lies_between : (s : Shape) (node level : ℕ) → level < levels s → level_start s level ≤ node
+    → node < level_start s (level + 1)
     → Lies s node (level_of s node) (place_of s node)
 lies_between s node level inner from below =
     let range = levels_range s in
@@ -30,7 +31,8 @@ lies_between s node level inner from below =
     rw same record { is = omega arith; inner = inner; below = omega arith }
 
 -- a node before the start of a level lies in a level before
-lies_before : (s : Shape) (node level : ℕ) → level ≤ levels s → node < level_start s level → Lies s node (level_of s node) (place_of s node)
+lies_before : (s : Shape) (node level : ℕ) → level ≤ levels s → node < level_start s level
+    → Lies s node (level_of s node) (place_of s node)
 lies_before s node zero inner below = absurd (let first = start_zero s in let no : ⊥ = omega arith in no)
 lies_before s node (suc level) inner below = elim (cases_lt node (level_start s level)) [
   | inl before ↦ lies_before s node level (omega arith) before
@@ -50,20 +52,24 @@ lies_below s node level place lies =
     omega arith
 
 -- a node other than the root lies below another level
-pub lies_inner : (s : Shape) (node level place : ℕ) → IsLegalShape s → 0 < node → Lies s node level place → (above : ℕ) × Lies s node (above + 1) place
+pub lies_inner : (s : Shape) (node level place : ℕ) → IsLegalShape s → 0 < node → Lies s node level place
+    → (above : ℕ) × Lies s node (above + 1) place
 lies_inner s node zero place legal other lies =
     let is = lies.is in let below = lies.below in let root = one_root s legal in let first = start_zero s in
     absurd (let no : ⊥ = omega arith in no)
-lies_inner s node (suc above) place legal other lies = (above, subst (λ level. Lies s node level place) (sym (add-one above)) lies)
+lies_inner s node (suc above) place legal other lies =
+    (above, subst (λ level. Lies s node level place) (sym (add-one above)) lies)
 
 -- the parent of a node that lies somewhere
-pub parent_is : (s : Shape) (node above place : ℕ) → Lies s node (above + 1) place → parent s node ≡ level_start s above + place / s.fan
+pub parent_is : (s : Shape) (node above place : ℕ) → Lies s node (above + 1) place
+    → parent s node ≡ level_start s above + place / s.fan
 unfolding parent
 parent_is s node above place lies =
     let is = lies.is in
     let up : above + 1 - 1 ≡ above = omega arith in
     let there : node - level_start s (above + 1) ≡ place = omega arith in
-    ap (λ level. level_start s (level - 1) + (node - level_start s level) / s.fan) (level_lies s node (above + 1) place lies)
+    ap (λ level. level_start s (level - 1) + (node - level_start s level) / s.fan)
+    (level_lies s node (above + 1) place lies)
     ∙ ap (λ level. level_start s level + (node - level_start s (above + 1)) / s.fan) up
     ∙ ap (λ p. level_start s above + p / s.fan) there
 
@@ -73,17 +79,21 @@ unfolding bit_in_parent
 bit_is s node above place lies =
     let is = lies.is in
     let there : node - level_start s (above + 1) ≡ place = omega arith in
-    ap (λ level. (node - level_start s level) % s.fan) (level_lies s node (above + 1) place lies) ∙ ap (λ p. p % s.fan) there
+    ap (λ level. (node - level_start s level) % s.fan) (level_lies s node (above + 1) place lies)
+    ∙ ap (λ p. p % s.fan) there
 
 -- a parent lies one level up
-pub parent_lies : (s : Shape) (node above place : ℕ) → IsLegalShape s → Lies s node (above + 1) place → Lies s (parent s node) above (place / s.fan)
+pub parent_lies : (s : Shape) (node above place : ℕ) → IsLegalShape s → Lies s node (above + 1) place
+    → Lies s (parent s node) above (place / s.fan)
 parent_lies s node above place legal lies =
     let inner = lies.inner in
     record { is = parent_is s node above place lies; inner = omega arith; below = parent_place s above place legal inner lies.below }
 
 -- a processor's leaf lies in the last level
-pub leaf_lies : (s : Shape) (cpu : ℕ) → IsLegalShape s → cpu < s.cpus → Lies s (leaf_of s cpu) (levels s - 1) (cpu / s.leaf)
-leaf_lies s cpu legal below = let range = levels_range s in record { is = refl; inner = omega arith; below = leaf_place s cpu legal below }
+pub leaf_lies : (s : Shape) (cpu : ℕ) → IsLegalShape s → cpu < s.cpus
+    → Lies s (leaf_of s cpu) (levels s - 1) (cpu / s.leaf)
+leaf_lies s cpu legal below =
+    let range = levels_range s in record { is = refl; inner = omega arith; below = leaf_place s cpu legal below }
 
 -- what a tree needs of the parent of a node other than the root
 pub record HasParent (s : Shape) (node : ℕ) : Type 0 where
@@ -107,7 +117,9 @@ has_parent s node legal other below =
       before = omega arith;
       inner = omega arith;
       bit = rw (bit_is s node above place child.1) (mod_below place s.fan (omega arith));
-      up = level_lies s node (above + 1) place child.1 ∙ ap (λ level. level + 1) (sym (level_lies s (parent s node) above (place / s.fan) up));
+      up =
+          level_lies s node (above + 1) place child.1
+          ∙ ap (λ level. level + 1) (sym (level_lies s (parent s node) above (place / s.fan) up));
     }
 
 -- a node other than the root is not in the first level

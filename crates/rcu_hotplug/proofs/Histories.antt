@@ -46,7 +46,8 @@ told_at_first cpus = record {
     awaited = λ cpu l. in_none cpus cpu;
     online = λ cpu l.
         let nobody = in_none cpus cpu in
-        is_in-insert (replicate cpus false) 0 cpu (omega (arith, l, length-replicate cpus false)) ∙ rw nobody (grind (arith, nat_tests));
+        is_in-insert (replicate cpus false) 0 cpu (omega (arith, l, length-replicate cpus false))
+        ∙ rw nobody (grind (arith, nat_tests));
   };
 }
 
@@ -85,7 +86,8 @@ told_departure cpus p h other told = record {
 }
 
 -- after a begin
-told_begin : (cpus : ℕ) (p : Processors) (h : History) (number : Number) → IsTold cpus p h → IsTold cpus (after_call p (Begin number)) (Begin number ∷ h)
+told_begin : (cpus : ℕ) (p : Processors) (h : History) (number : Number) → IsTold cpus p h
+    → IsTold cpus (after_call p (Begin number)) (Begin number ∷ h)
 told_begin cpus p h number told = record {
   awaited = told.online;
   online = told.online;
@@ -119,10 +121,14 @@ told_report cpus p h other number told = record {
 -- after any accepted calls
 told_always : (cpus : ℕ) (h : History) → AreAccepted cpus h → IsTold cpus (after_calls cpus h) h
 told_always cpus [] accepted = told_at_first cpus
-told_always cpus (Arrive other ∷ h) accepted = told_arrival cpus (after_calls cpus h) h other accepted.0 (told_always cpus h accepted.1)
-told_always cpus (Depart other ∷ h) accepted = told_departure cpus (after_calls cpus h) h other (told_always cpus h accepted.1)
-told_always cpus (Begin number ∷ h) accepted = told_begin cpus (after_calls cpus h) h number (told_always cpus h accepted.1)
-told_always cpus (Report other number ∷ h) accepted = told_report cpus (after_calls cpus h) h other number (told_always cpus h accepted.1)
+told_always cpus (Arrive other ∷ h) accepted =
+    told_arrival cpus (after_calls cpus h) h other accepted.0 (told_always cpus h accepted.1)
+told_always cpus (Depart other ∷ h) accepted =
+    told_departure cpus (after_calls cpus h) h other (told_always cpus h accepted.1)
+told_always cpus (Begin number ∷ h) accepted =
+    told_begin cpus (after_calls cpus h) h number (told_always cpus h accepted.1)
+told_always cpus (Report other number ∷ h) accepted =
+    told_report cpus (after_calls cpus h) h other number (told_always cpus h accepted.1)
 
 -- the processors after accepted calls are as their history says
 pub told : (cpus : ℕ) (h : History) → AreAccepted cpus h → Represents cpus (after_calls cpus h) h

@@ -32,7 +32,8 @@ unfolding has_bit
 has_bit_clear_same word k l = rw (bit_at_clear_same w64 word k l)
 
 -- the others stay
-pub has_bit_clear_other : (word k i : ℕ) → k < 64 → i < 64 → i ≢ k → has_bit (bit_and word (bit_not w64 (1 * 2 ^ k % 2 ^ 64))) i ≡ has_bit word i
+pub has_bit_clear_other : (word k i : ℕ) → k < 64 → i < 64 → i ≢ k
+    → has_bit (bit_and word (bit_not w64 (1 * 2 ^ k % 2 ^ 64))) i ≡ has_bit word i
 unfolding has_bit
 has_bit_clear_other word k i l m n = rw (bit_at_clear_other w64 word k l i m n)
 
@@ -44,10 +45,13 @@ no_bit word i h = let below = bit_at-lt word i in grind (arith, nat_tests, h, be
 -- a bit that is not set is not set in a part of the word either
 has_bit_and_none : (word other i : ℕ) → has_bit word i ≡ false → has_bit (bit_and word other) i ≡ false
 unfolding has_bit
-has_bit_and_none word other i h = let none = no_bit word i h in let part : bit_at (bit_and word other) i ≡ 0 = omega (arith, bit_at_and word other i, none) in rw part refl
+has_bit_and_none word other i h =
+    let none = no_bit word i h in
+    let part : bit_at (bit_and word other) i ≡ 0 = omega (arith, bit_at_and word other i, none) in rw part refl
 
 -- where a bit beyond a word is not set, it is not set once another is cleared
-pub has_bit_clear_rest : (word k i : ℕ) → k < 64 → i ≢ k → (64 ≤ i → has_bit word i ≡ false) → has_bit (bit_and word (bit_not w64 (1 * 2 ^ k % 2 ^ 64))) i ≡ has_bit word i
+pub has_bit_clear_rest : (word k i : ℕ) → k < 64 → i ≢ k → (64 ≤ i → has_bit word i ≡ false)
+    → has_bit (bit_and word (bit_not w64 (1 * 2 ^ k % 2 ^ 64))) i ≡ has_bit word i
 has_bit_clear_rest word k i l n beyond = elim (cases_lt i 64) [
   | inl m ↦ has_bit_clear_other word k i l m n
   | inr m ↦ has_bit_and_none word (bit_not w64 (1 * 2 ^ k % 2 ^ 64)) i (beyond m) ∙ sym (beyond m)

@@ -66,14 +66,16 @@ listed_same n test set e h =
 pub listed_set : (n : ℕ) (test changed : ℕ → Bool) (cpu : ℕ) (flag : Bool) → cpu < n → changed cpu ≡ flag
     → ((k : ℕ) → k < n → k ≢ cpu → changed k ≡ test k) → listed n changed ≡ slice_set (listed n test) cpu flag
 listed_set n test changed cpu flag l e h =
-    listed_same n changed (slice_set (listed n test) cpu flag) (length-set (listed n test) cpu flag ∙ length-listed n test)
+    listed_same n changed (slice_set (listed n test) cpu flag)
+    (length-set (listed n test) cpu flag ∙ length-listed n test)
     (λ k m. elim (cases_eq k cpu) [
       | inl i ↦ rw i (e ∙ sym (get_or-set_same (listed n test) cpu flag false (rw length-listed l)))
       | inr i ↦ h k m i ∙ sym (is_in-listed n test k m) ∙ sym (get_or-set_other (listed n test) cpu k flag false i)
     ])
 
 -- a test that none passes lists the empty set
-pub listed_none : (n : ℕ) (test : ℕ → Bool) → ((cpu : ℕ) → cpu < n → test cpu ≡ false) → listed n test ≡ replicate n false
+pub listed_none : (n : ℕ) (test : ℕ → Bool) → ((cpu : ℕ) → cpu < n → test cpu ≡ false)
+    → listed n test ≡ replicate n false
 listed_none n test h =
     listed_same n test (replicate n false) (length-replicate n false)
     (λ cpu l. h cpu l ∙ sym (get_or-replicate n cpu false false l))
@@ -84,7 +86,8 @@ listed_first n test =
     let long = ap suc (length-listed n (λ cpu. test (suc cpu))) in
     listed_same (suc n) test (test 0 ∷ listed n (λ cpu. test (suc cpu))) long (flag n test)
   where
-    flag : (n : ℕ) (test : ℕ → Bool) (cpu : ℕ) → cpu < suc n → test cpu ≡ is_in (test 0 ∷ listed n (λ k. test (suc k))) cpu
+    flag : (n : ℕ) (test : ℕ → Bool) (cpu : ℕ) → cpu < suc n
+        → test cpu ≡ is_in (test 0 ∷ listed n (λ k. test (suc k))) cpu
     flag n test zero l = refl
     flag n test (suc cpu) l = sym (is_in-listed n (λ k. test (suc k)) cpu (omega arith))
 
@@ -197,7 +200,8 @@ nobody_in set e cpu = elim (cases_lt cpu (length set)) [
 ]
 
 -- a set has as many processors as pass its test
-pub count_by-is_in : (set : List Bool) (n : ℕ) → n ≡ length set → count_by (is_in set) (range_with_len 0 n) ≡ size_of set
+pub count_by-is_in : (set : List Bool) (n : ℕ) → n ≡ length set
+    → count_by (is_in set) (range_with_len 0 n) ≡ size_of set
 count_by-is_in set n e =
     sym (count_by-map (λ flag. flag) (is_in set) (range_with_len 0 n))
     ∙ ap (λ (flags : List Bool). size_of flags) (sym (fill_by_all (is_in set) set n false (sym e) (λ k lt. refl)))

@@ -12,13 +12,16 @@ pub after_reports-unheard : (number : Number) (set : List Bool) (reports : List 
     → awaited_after_reports number set reports ≡ unheard set (λ cpu. was_reported number cpu reports)
 after_reports-unheard number set reports =
     let heard = λ (cpu : ℕ). was_reported number cpu reports in
-    same_from_flags (awaited_after_reports number set reports) (unheard set heard) (length-awaited_after_reports number set reports ∙ sym (length-unheard set heard)) (λ cpu.
+    same_from_flags (awaited_after_reports number set reports) (unheard set heard)
+    (length-awaited_after_reports number set reports ∙ sym (length-unheard set heard)) (λ cpu.
     unreported number set reports cpu ∙ sym (is_in-unheard set heard cpu))
 
 -- where the same were heard, the same are unheard
-unheard-same : (set : List Bool) (heard other : ℕ → Bool) → ((cpu : ℕ) → heard cpu ≡ other cpu) → unheard set heard ≡ unheard set other
+unheard-same : (set : List Bool) (heard other : ℕ → Bool) → ((cpu : ℕ) → heard cpu ≡ other cpu)
+    → unheard set heard ≡ unheard set other
 unheard-same set heard other h =
-    same_from_flags (unheard set heard) (unheard set other) (length-unheard set heard ∙ sym (length-unheard set other)) (λ cpu.
+    same_from_flags (unheard set heard) (unheard set other) (length-unheard set heard ∙ sym (length-unheard set other))
+    (λ cpu.
     is_in-unheard set heard cpu ∙ ap (λ b. is_in set cpu && not b) (h cpu) ∙ sym (is_in-unheard set other cpu))
 
 pub equally_heard : (number : Number) (set : List Bool) (reports others : List (ℕ × Number))
@@ -30,12 +33,14 @@ equally_heard number set reports others h =
     ∙ sym (after_reports-unheard number set others)
 
 -- unheard of either is unheard of both
-unheard_flag : (there heard other : Bool) → ((there && not heard) && (there && not other)) ≡ (there && not (heard || other))
+unheard_flag : (there heard other : Bool)
+    → ((there && not heard) && (there && not other)) ≡ (there && not (heard || other))
 unheard_flag true true other = refl
 unheard_flag true false other = refl
 unheard_flag false heard other = refl
 
-pub unheard-merged : (set : List Bool) (heard other : ℕ → Bool) → intersection (unheard set heard) (unheard set other) ≡ unheard set (λ cpu. heard cpu || other cpu)
+pub unheard-merged : (set : List Bool) (heard other : ℕ → Bool)
+    → intersection (unheard set heard) (unheard set other) ≡ unheard set (λ cpu. heard cpu || other cpu)
 unheard-merged set heard other =
     let either = λ (cpu : ℕ). heard cpu || other cpu in
     same_from_flags (intersection (unheard set heard) (unheard set other)) (unheard set either)
@@ -55,16 +60,19 @@ was_reported-both : (number : Number) (cpu : ℕ) (reports others : List (ℕ ×
     → (was_reported number cpu reports || was_reported number cpu others) ≡ was_reported number cpu (others ++ reports)
 was_reported-both number cpu reports [] = or-false (was_reported number cpu reports)
 was_reported-both number cpu reports (report ∷ others) =
-    or_over (was_reported number cpu reports) (report.0 == cpu && same_number report.1 number) (was_reported number cpu others)
+    or_over (was_reported number cpu reports) (report.0 == cpu && same_number report.1 number)
+    (was_reported number cpu others)
     ∙ ap (λ b. (report.0 == cpu && same_number report.1 number) || b) (was_reported-both number cpu reports others)
 
 pub reports-merged : (number : Number) (set : List Bool) (reports others : List (ℕ × Number))
-    → intersection (awaited_after_reports number set reports) (awaited_after_reports number set others) ≡ awaited_after_reports number set (others ++ reports)
+    → intersection (awaited_after_reports number set reports) (awaited_after_reports number set others)
+    ≡ awaited_after_reports number set (others ++ reports)
 reports-merged number set reports others =
     let heard = λ (cpu : ℕ). was_reported number cpu reports in
     let other = λ (cpu : ℕ). was_reported number cpu others in
     let all = λ (cpu : ℕ). was_reported number cpu (others ++ reports) in
-    ap (λ (s : List Bool). intersection s (awaited_after_reports number set others)) (after_reports-unheard number set reports)
+    ap (λ (s : List Bool). intersection s (awaited_after_reports number set others))
+    (after_reports-unheard number set reports)
     ∙ ap (λ (s : List Bool). intersection (unheard set heard) s) (after_reports-unheard number set others)
     ∙ unheard-merged set heard other
     ∙ unheard-same set (λ cpu. heard cpu || other cpu) all (λ cpu. was_reported-both number cpu reports others)

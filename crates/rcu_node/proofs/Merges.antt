@@ -17,10 +17,12 @@ cut_flag true false = refl
 cut_flag false other = refl
 
 -- once the counter is past all, those are left that are in both
-pub cut_all : (counter : ℕ) (set other now : List Bool) → length set ≤ counter → IsCutBelow counter set other now → now ≡ intersection set other
+pub cut_all : (counter : ℕ) (set other now : List Bool) → length set ≤ counter → IsCutBelow counter set other now
+    → now ≡ intersection set other
 cut_all counter set other now past h =
     let both = λ (cpu : ℕ). is_in set cpu && is_in other cpu in
     ext_get_or false now (intersection set other) (h.sized ∙ sym (length-listed (length set) both)) (λ cpu l.
     let below : cpu < length set = omega (arith, l, h.sized) in
     let passed : nat_lt cpu counter ≡ true = grind (arith, nat_tests, below, past) in
-    h.flag cpu ∙ rw passed (cut_flag (is_in set cpu) (is_in other cpu)) ∙ sym (is_in-listed (length set) both cpu below))
+    h.flag cpu ∙ rw passed (cut_flag (is_in set cpu) (is_in other cpu))
+    ∙ sym (is_in-listed (length set) both cpu below))

@@ -30,7 +30,8 @@ and_again false b = refl
 
 intersection-commutes : (a b : List Bool) → length a ≡ length b → intersection a b ≡ intersection b a
 intersection-commutes a b e =
-    same_from_flags (intersection a b) (intersection b a) (length-intersection a b ∙ e ∙ sym (length-intersection b a)) (λ cpu.
+    same_from_flags (intersection a b) (intersection b a) (length-intersection a b ∙ e ∙ sym (length-intersection b a))
+    (λ cpu.
     is_in-intersection a b cpu ∙ and_commutes (is_in a cpu) (is_in b cpu) ∙ sym (is_in-intersection b a cpu))
 
 intersection-associates : (a b c : List Bool) → intersection (intersection a b) c ≡ intersection a (intersection b c)
@@ -39,15 +40,18 @@ intersection-associates a b c =
     (length-intersection (intersection a b) c ∙ length-intersection a b ∙ sym (length-intersection a (intersection b c))) (λ cpu.
     is_in-intersection (intersection a b) c cpu ∙ ap (λ there. there && is_in c cpu) (is_in-intersection a b cpu)
     ∙ and_associates (is_in a cpu) (is_in b cpu) (is_in c cpu)
-    ∙ ap (λ there. is_in a cpu && there) (sym (is_in-intersection b c cpu)) ∙ sym (is_in-intersection a (intersection b c) cpu))
+    ∙ ap (λ there. is_in a cpu && there) (sym (is_in-intersection b c cpu))
+    ∙ sym (is_in-intersection a (intersection b c) cpu))
 
 intersection-itself : (a : List Bool) → intersection a a ≡ a
 intersection-itself a =
-    same_from_flags (intersection a a) a (length-intersection a a) (λ cpu. is_in-intersection a a cpu ∙ and_itself (is_in a cpu))
+    same_from_flags (intersection a a) a (length-intersection a a)
+    (λ cpu. is_in-intersection a a cpu ∙ and_itself (is_in a cpu))
 
 intersection-again : (a b : List Bool) → intersection (intersection a b) b ≡ intersection a b
 intersection-again a b =
-    same_from_flags (intersection (intersection a b) b) (intersection a b) (length-intersection (intersection a b) b) (λ cpu.
+    same_from_flags (intersection (intersection a b) b) (intersection a b) (length-intersection (intersection a b) b)
+    (λ cpu.
     is_in-intersection (intersection a b) b cpu ∙ ap (λ there. there && is_in b cpu) (is_in-intersection a b cpu)
     ∙ and_again (is_in a cpu) (is_in b cpu) ∙ sym (is_in-intersection a b cpu))
 
@@ -57,7 +61,8 @@ Equals x y = (length x.awaited ≡ length y.awaited) × (x.tag ≡ y.tag) × (x.
 
 are_alike-equals : (x y : Standing) → are_alike x y ≡ true → Equals x y
 are_alike-equals x y e =
-    let one = and_parts (length x.awaited == length y.awaited) (same_number x.tag y.tag && same_set x.start_set y.start_set) e in
+    let one =
+    and_parts (length x.awaited == length y.awaited) (same_number x.tag y.tag && same_set x.start_set y.start_set) e in
     let two = and_parts (same_number x.tag y.tag) (same_set x.start_set y.start_set) one.1 in
     ((Decides-eqb (length x.awaited) (length y.awaited)).0 one.0, (Decides-eqb x.tag y.tag).0 two.0, (same_set-Decides x.start_set y.start_set).0 two.1)
 
@@ -88,7 +93,8 @@ merged-commutes x y e =
     same_standing (merged x y) (merged y x) equal.1 equal.2 (intersection-commutes x.awaited y.awaited equal.0)
 
 pub merged-associates : (x y z : Standing) → merged (merged x y) z ≡ merged x (merged y z)
-merged-associates x y z = ap (λ (set : List Bool). record x { awaited = set }) (intersection-associates x.awaited y.awaited z.awaited)
+merged-associates x y z =
+    ap (λ (set : List Bool). record x { awaited = set }) (intersection-associates x.awaited y.awaited z.awaited)
 
 pub merged-itself : (x : Standing) → merged x x ≡ x
 merged-itself x = ap (λ (set : List Bool). record x { awaited = set }) (intersection-itself x.awaited)
@@ -131,8 +137,10 @@ at_least-both x y one two =
     same_test (is_in x.awaited cpu) (is_in y.awaited cpu) (one.part cpu) (two.part cpu)))
 
 -- the merged one awaits a part of what each awaits
-part_of_both : (x y : Standing) (cpu : ℕ) → is_in (merged x y).awaited cpu ≡ true → (is_in x.awaited cpu ≡ true) × (is_in y.awaited cpu ≡ true)
-part_of_both x y cpu there = and_parts (is_in x.awaited cpu) (is_in y.awaited cpu) (sym (is_in-intersection x.awaited y.awaited cpu) ∙ there)
+part_of_both : (x y : Standing) (cpu : ℕ) → is_in (merged x y).awaited cpu ≡ true
+    → (is_in x.awaited cpu ≡ true) × (is_in y.awaited cpu ≡ true)
+part_of_both x y cpu there =
+    and_parts (is_in x.awaited cpu) (is_in y.awaited cpu) (sym (is_in-intersection x.awaited y.awaited cpu) ∙ there)
 
 pub merged-at_least_first : (x y : Standing) → are_alike x y ≡ true → IsAtLeast (merged x y) x
 merged-at_least_first x y e = record {

@@ -18,7 +18,8 @@ size_of-append : (a b : List Bool) → size_of (a ++ b) ≡ size_of a + size_of 
 size_of-append a b = sum_by-append (λ (flag : Bool). cond flag 1 0) a b
 
 -- those of m flags, and then those of the n after them
-listed_both : (m n : ℕ) (test first rest : ℕ → Bool) → ((i : ℕ) → i < m → test i ≡ first i) → ((i : ℕ) → i < n → test (m + i) ≡ rest i)
+listed_both : (m n : ℕ) (test first rest : ℕ → Bool) → ((i : ℕ) → i < m → test i ≡ first i)
+    → ((i : ℕ) → i < n → test (m + i) ≡ rest i)
     → listed (m + n) test ≡ listed m first ++ listed n rest
 listed_both m n test first rest h k =
     let before = length-listed m first in
@@ -28,12 +29,14 @@ listed_both m n test first rest h k =
       | inl low ↦ h i low ∙ sym (is_in-listed m first i low)
           ∙ sym (get_or_append_left (listed m first) (listed n rest) false i (omega (arith, low, before)))
       | inr high ↦ (let place : i ≡ m + (i - m) = omega (arith, high) in
-          ap test place ∙ k (i - m) (omega (arith, high, l)) ∙ sym (is_in-listed n rest (i - m) (omega (arith, high, l)))
+          ap test place ∙ k (i - m) (omega (arith, high, l))
+          ∙ sym (is_in-listed n rest (i - m) (omega (arith, high, l)))
           ∙ sym (get_or-append_right (listed m first) (listed n rest) m i false before high))
     ])
 
 -- flags of which none is set from a place on have as many as those before it
-pub size_of-listed_rest : (m n : ℕ) (test : ℕ → Bool) → m ≤ n → ((i : ℕ) → m ≤ i → test i ≡ false) → size_of (listed n test) ≡ size_of (listed m test)
+pub size_of-listed_rest : (m n : ℕ) (test : ℕ → Bool) → m ≤ n → ((i : ℕ) → m ≤ i → test i ≡ false)
+    → size_of (listed n test) ≡ size_of (listed m test)
 size_of-listed_rest m n test l none =
     let all : n ≡ m + (n - m) = omega arith in
     let parts = listed_both m (n - m) test test (λ i. false) (λ i low. refl) (λ i low. none (m + i) (omega arith)) in
@@ -81,9 +84,11 @@ sum_of_ones-is (word ∷ words) fits =
     omega (arith, all, here, others, one)
   where
     in_first : (word : ℕ) (words : List ℕ) (i : ℕ) → i < 64 → flag_in (word ∷ words) i ≡ has_bit word i
-    in_first word words i l = let first : i / 64 ≡ 0 = omega arith in let place : i % 64 ≡ i = omega arith in rw (first, place) refl
+    in_first word words i l =
+        let first : i / 64 ≡ 0 = omega arith in let place : i % 64 ≡ i = omega arith in rw (first, place) refl
 
-    in_rest : (word : ℕ) (words : List ℕ) (i : ℕ) → i < 64 * length words → flag_in (word ∷ words) (64 + i) ≡ flag_in words i
+    in_rest : (word : ℕ) (words : List ℕ) (i : ℕ) → i < 64 * length words
+        → flag_in (word ∷ words) (64 + i) ≡ flag_in words i
     in_rest word words i l =
         let next : (64 + i) / 64 ≡ suc (i / 64) = omega arith in
         let place : (64 + i) % 64 ≡ i % 64 = omega arith in

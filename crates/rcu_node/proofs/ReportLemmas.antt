@@ -7,7 +7,8 @@ use Rattle.rcu_node.specs.Reports.{awaited_after_report, awaited_after_reports, 
 use Rattle.rcu_node.proofs.CpuSetLemmas.{is_in-remove_where, length-remove_where}
 
 -- not by this report and not by the others
-pub neither : (there earlier latest : Bool) → ((there && not earlier) && not latest) ≡ (there && not (latest || earlier))
+pub neither : (there earlier latest : Bool)
+    → ((there && not earlier) && not latest) ≡ (there && not (latest || earlier))
 neither false earlier latest = refl
 neither true true true = refl
 neither true true false = refl

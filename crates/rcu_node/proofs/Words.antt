@@ -23,7 +23,8 @@ word_below cpus cpu words l h = div_below cpu 64 words (lit< tt) (omega arith)
 
 -- two processors in one word have different places
 places_differ : (a b : ℕ) → a / 64 ≡ b / 64 → a ≢ b → a % 64 ≢ b % 64
-places_differ a b same n e = n (sym (div-add-mod' a 64) ∙ (ap (λ q. q * 64 + a % 64) same ∙ ap (λ r. b / 64 * 64 + r) e) ∙ div-add-mod' b 64)
+places_differ a b same n e =
+    n (sym (div-add-mod' a 64) ∙ (ap (λ q. q * 64 + a % 64) same ∙ ap (λ r. b / 64 * 64 + r) e) ∙ div-add-mod' b 64)
 
 -- the set has a flag for each processor
 pub cpus-is : (cpus : ℕ) (words : List ℕ) (set : List Bool) → flags_in cpus words ≡ set → cpus ≡ length set
@@ -45,7 +46,8 @@ flags_in-set : (cpus : ℕ) (words : List ℕ) (cpu word : ℕ) (flag : Bool) �
     → flags_in cpus (slice_set words (cpu / 64) word) ≡ slice_set (flags_in cpus words) cpu flag
 flags_in-set cpus words cpu word flag l m e h =
     let here : cpu / 64 < length words = word_below cpus cpu (length words) l m in
-    let now : slice_index (slice_set words (cpu / 64) word) (cpu / 64) ≡ word = get_or-set_same words (cpu / 64) word 0 here in
+    let now : slice_index (slice_set words (cpu / 64) word) (cpu / 64) ≡ word =
+    get_or-set_same words (cpu / 64) word 0 here in
     listed_set cpus (flag_in words) (flag_in (slice_set words (cpu / 64) word)) cpu flag l
     (ap (λ v. has_bit v (cpu % 64)) now ∙ e)
     (λ k kl n. flag_in-set_other words cpu word k here n h)
@@ -59,39 +61,52 @@ none_beyond-set cpus words cpu word l m h none = λ k beyond.
     flag_in-set_other words cpu word k (word_below cpus cpu (length words) l m) another h ∙ none k beyond
 
 -- the word that was read
-read_is : (cpus : ℕ) (words : List ℕ) (cpu word : ℕ) → cpu < cpus → cpus ≤ 64 * length words → word ≡ get_or words (cpu / 64) word → word ≡ slice_index words (cpu / 64)
+read_is : (cpus : ℕ) (words : List ℕ) (cpu word : ℕ) → cpu < cpus → cpus ≤ 64 * length words
+    → word ≡ get_or words (cpu / 64) word → word ≡ slice_index words (cpu / 64)
 read_is cpus words cpu word l m r = get_or_read words (cpu / 64) word (word_below cpus cpu (length words) l m) r 0
 
 -- the bit that was read tells whether the processor is in the set
-pub contains-is : (cpus : ℕ) (words : List ℕ) (set : List Bool) (cpu word : ℕ) → flags_in cpus words ≡ set → cpu < cpus → cpus ≤ 64 * length words → word ≡ get_or words (cpu / 64) word
+pub contains-is : (cpus : ℕ) (words : List ℕ) (set : List Bool) (cpu word : ℕ) → flags_in cpus words ≡ set → cpu < cpus
+    → cpus ≤ 64 * length words → word ≡ get_or words (cpu / 64) word
     → (bit_and (word / 2 ^ (cpu % 64)) 1 == 1) ≡ is_in set cpu
 contains-is cpus words set cpu word e l m r =
-    has_bit_shr word (cpu % 64) ∙ ap (λ v. has_bit v (cpu % 64)) (read_is cpus words cpu word l m r) ∙ sym (is_in-listed cpus (flag_in words) cpu l) ∙ ap (λ s. is_in s cpu) e
+    has_bit_shr word (cpu % 64) ∙ ap (λ v. has_bit v (cpu % 64)) (read_is cpus words cpu word l m r)
+    ∙ sym (is_in-listed cpus (flag_in words) cpu l) ∙ ap (λ s. is_in s cpu) e
 
 -- with its bit set the processor is in
-pub insert-is : (cpus : ℕ) (words : List ℕ) (set : List Bool) (cpu word : ℕ) → flags_in cpus words ≡ set → cpu < cpus → cpus ≤ 64 * length words → word ≡ get_or words (cpu / 64) word
+pub insert-is : (cpus : ℕ) (words : List ℕ) (set : List Bool) (cpu word : ℕ) → flags_in cpus words ≡ set → cpu < cpus
+    → cpus ≤ 64 * length words → word ≡ get_or words (cpu / 64) word
     → flags_in cpus (slice_set words (cpu / 64) (bit_or word (1 * 2 ^ (cpu % 64) % 2 ^ 64))) ≡ slice_set set cpu true
 insert-is cpus words set cpu word e l m r =
-    flags_in-set cpus words cpu (bit_or word (1 * 2 ^ (cpu % 64) % 2 ^ 64)) true l m (has_bit_set_same word (cpu % 64) (place_below cpu))
-    (λ i il n. has_bit_set_other word (cpu % 64) i (place_below cpu) n ∙ ap (λ v. has_bit v i) (read_is cpus words cpu word l m r)) ∙ ap (λ s. slice_set s cpu true) e
+    flags_in-set cpus words cpu (bit_or word (1 * 2 ^ (cpu % 64) % 2 ^ 64)) true l m
+    (has_bit_set_same word (cpu % 64) (place_below cpu))
+    (λ i il n. has_bit_set_other word (cpu % 64) i (place_below cpu) n ∙ ap (λ v. has_bit v i) (read_is cpus words cpu word l m r))
+    ∙ ap (λ s. slice_set s cpu true) e
 
 -- and no bit beyond the set is set
-pub none_beyond-insert : (cpus : ℕ) (words : List ℕ) (cpu word : ℕ) → cpu < cpus → cpus ≤ 64 * length words → word ≡ get_or words (cpu / 64) word
+pub none_beyond-insert : (cpus : ℕ) (words : List ℕ) (cpu word : ℕ) → cpu < cpus → cpus ≤ 64 * length words
+    → word ≡ get_or words (cpu / 64) word
     → HasNoneFrom cpus words → HasNoneFrom cpus (slice_set words (cpu / 64) (bit_or word (1 * 2 ^ (cpu % 64) % 2 ^ 64)))
 none_beyond-insert cpus words cpu word l m r =
     none_beyond-set cpus words cpu (bit_or word (1 * 2 ^ (cpu % 64) % 2 ^ 64)) l m
     (λ i il n. has_bit_set_other word (cpu % 64) i (place_below cpu) n ∙ ap (λ v. has_bit v i) (read_is cpus words cpu word l m r))
 
 -- with its bit cleared the processor is out
-pub remove-is : (cpus : ℕ) (words : List ℕ) (set : List Bool) (cpu word : ℕ) → flags_in cpus words ≡ set → cpu < cpus → cpus ≤ 64 * length words → word ≡ get_or words (cpu / 64) word
-    → flags_in cpus (slice_set words (cpu / 64) (bit_and word (bit_not w64 (1 * 2 ^ (cpu % 64) % 2 ^ 64)))) ≡ slice_set set cpu false
+pub remove-is : (cpus : ℕ) (words : List ℕ) (set : List Bool) (cpu word : ℕ) → flags_in cpus words ≡ set → cpu < cpus
+    → cpus ≤ 64 * length words → word ≡ get_or words (cpu / 64) word
+    → flags_in cpus (slice_set words (cpu / 64) (bit_and word (bit_not w64 (1 * 2 ^ (cpu % 64) % 2 ^ 64))))
+    ≡ slice_set set cpu false
 remove-is cpus words set cpu word e l m r =
-    flags_in-set cpus words cpu (bit_and word (bit_not w64 (1 * 2 ^ (cpu % 64) % 2 ^ 64))) false l m (has_bit_clear_same word (cpu % 64) (place_below cpu))
-    (λ i il n. has_bit_clear_other word (cpu % 64) i (place_below cpu) il n ∙ ap (λ v. has_bit v i) (read_is cpus words cpu word l m r)) ∙ ap (λ s. slice_set s cpu false) e
+    flags_in-set cpus words cpu (bit_and word (bit_not w64 (1 * 2 ^ (cpu % 64) % 2 ^ 64))) false l m
+    (has_bit_clear_same word (cpu % 64) (place_below cpu))
+    (λ i il n. has_bit_clear_other word (cpu % 64) i (place_below cpu) il n ∙ ap (λ v. has_bit v i) (read_is cpus words cpu word l m r))
+    ∙ ap (λ s. slice_set s cpu false) e
 
 -- and no bit beyond the set is set
-pub none_beyond-remove : (cpus : ℕ) (words : List ℕ) (cpu word : ℕ) → cpu < cpus → cpus ≤ 64 * length words → word ≡ get_or words (cpu / 64) word
-    → HasNoneFrom cpus words → HasNoneFrom cpus (slice_set words (cpu / 64) (bit_and word (bit_not w64 (1 * 2 ^ (cpu % 64) % 2 ^ 64))))
+pub none_beyond-remove : (cpus : ℕ) (words : List ℕ) (cpu word : ℕ) → cpu < cpus → cpus ≤ 64 * length words
+    → word ≡ get_or words (cpu / 64) word
+    → HasNoneFrom cpus words
+    → HasNoneFrom cpus (slice_set words (cpu / 64) (bit_and word (bit_not w64 (1 * 2 ^ (cpu % 64) % 2 ^ 64))))
 none_beyond-remove cpus words cpu word l m r =
     none_beyond-set cpus words cpu (bit_and word (bit_not w64 (1 * 2 ^ (cpu % 64) % 2 ^ 64))) l m
     (λ i il n. has_bit_clear_other word (cpu % 64) i (place_below cpu) il n ∙ ap (λ v. has_bit v i) (read_is cpus words cpu word l m r))
@@ -110,7 +125,8 @@ none_in_zeros n from = λ i beyond. elim (cases_lt (i / 64) n) [
 -- words of zeros are the empty set
 flags_in-zeros : (cpus n : ℕ) → cpus ≤ 64 * n → flags_in cpus (replicate n 0) ≡ replicate cpus false
 flags_in-zeros cpus n h =
-    listed_none cpus (flag_in (replicate n 0)) (λ cpu l. ap (λ v. has_bit v (cpu % 64)) (get_or-replicate n (cpu / 64) 0 0 (word_below cpus cpu n l h)) ∙ has_bit-zero (cpu % 64))
+    listed_none cpus (flag_in (replicate n 0))
+    (λ cpu l. ap (λ v. has_bit v (cpu % 64)) (get_or-replicate n (cpu / 64) 0 0 (word_below cpus cpu n l h)) ∙ has_bit-zero (cpu % 64))
 
 -- what n words of zeros are
 pub zeros : (cpus n : ℕ) (words : List ℕ) → words ≡ replicate n 0 → cpus ≤ 64 * n → record {

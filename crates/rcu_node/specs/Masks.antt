@@ -11,7 +11,8 @@ members s masks = listed s.cpus (λ cpu. has_bit (slice_index masks (cpu / s.lea
 -- there are just as many masks as hold a set, and each has a bit for each of its processors in the set, and no other bit
 pub record AreMasks (leaf : ℕ) (masks : List ℕ) (set : List Bool) : Type 0 where
   pub sized : length masks ≡ ceil (length set) leaf
-  pub bit : (place bit : ℕ) → place < length masks → has_bit (slice_index masks place) bit ≡ (nat_lt bit leaf && is_in set (place * leaf + bit))
+  pub bit : (place bit : ℕ) → place < length masks
+      → has_bit (slice_index masks place) bit ≡ (nat_lt bit leaf && is_in set (place * leaf + bit))
 
 -- the root has a flag for each mask, which is set exactly where the mask is not empty
 pub record IsRoot (masks : List ℕ) (root : List Bool) : Type 0 where

@@ -19,9 +19,11 @@ awaited_after_report number awaited cpu tag = if same_number tag number then sli
 -- what is awaited after reports, the newest first, each of a processor and a tag
 abbrev pub awaited_after_reports : Number → List Bool → List (ℕ × Number) → List Bool
 awaited_after_reports number set [] = set
-awaited_after_reports number set (report ∷ earlier) = awaited_after_report number (awaited_after_reports number set earlier) report.0 report.1
+awaited_after_reports number set (report ∷ earlier) =
+    awaited_after_report number (awaited_after_reports number set earlier) report.0 report.1
 
 -- one of the reports is of this processor and this tag
 abbrev pub was_reported : Number → ℕ → List (ℕ × Number) → Bool
 was_reported number cpu [] = false
-was_reported number cpu (report ∷ earlier) = (report.0 == cpu && same_number report.1 number) || was_reported number cpu earlier
+was_reported number cpu (report ∷ earlier) =
+    (report.0 == cpu && same_number report.1 number) || was_reported number cpu earlier

@@ -173,7 +173,7 @@ fn cut(word: u64, next: u64, place: u32, width: u32) -> u64
     requires width { width ≤ 64 }
     ensures { (bit : ℕ) → has_bit result bit
         ≡ (nat_lt bit width && (if nat_lt (place + bit) 64 then has_bit word (place + bit)
-            else has_bit next (place + bit - 64))) }
+        else has_bit next (place + bit - 64))) }
 {
     let both = (u128::from(next) << WORD_BITS) + u128::from(word);
     ((both >> place) & ((1 << width) - 1)) as u64

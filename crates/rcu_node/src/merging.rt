@@ -68,7 +68,7 @@ fn hear<A: Awaited, B: Awaited>(to: &mut A, from: &B, cpu: u32)
     ensures start_set { A.start_set to.new ≡ A.start_set to.old }
     ensures awaited { A.awaited to.new
         ≡ (if is_in (A.awaited to.old) cpu && not (is_in (B.awaited from.now) cpu)
-            then slice_set (A.awaited to.old) cpu false else A.awaited to.old) }
+        then slice_set (A.awaited to.old) cpu false else A.awaited to.old) }
 {
     if to.awaits(cpu) && !from.awaits(cpu) {
         to.report(cpu, to.tag());

@@ -26,8 +26,10 @@ length-merged old other now h = elim h [
 ]
 
 -- nobody is in it where nobody was
-pub none_merged : (old other now : List Bool) → IsMerged old other now → ((cpu : ℕ) → is_in old cpu ≡ false) → (cpu : ℕ) → is_in now cpu ≡ false
+pub none_merged : (old other now : List Bool) → IsMerged old other now → ((cpu : ℕ) → is_in old cpu ≡ false) → (cpu : ℕ)
+    → is_in now cpu ≡ false
 none_merged old other now h none cpu = elim h [
-  | inl e ↦ ap (λ (s : List Bool). is_in s cpu) e ∙ is_in-intersection old other cpu ∙ ap (λ x. x && is_in other cpu) (none cpu)
+  | inl e ↦ ap (λ (s : List Bool). is_in s cpu) e ∙ is_in-intersection old other cpu
+      ∙ ap (λ x. x && is_in other cpu) (none cpu)
   | inr e ↦ ap (λ (s : List Bool). is_in s cpu) e ∙ none cpu
 ]

@@ -14,15 +14,18 @@ use Rattle.rcu_report.specs.Batch.{Gathered, difference, awaited_after_batch, Ar
 
 -- what a batch leaves, by its flags
 is_in-left_by : (batch : Gathered) (number : Number) (awaited : List Bool) (cpu : ℕ) → cpu < length awaited
-    → is_in (awaited_after_batch number awaited batch) cpu ≡ (is_in awaited cpu && not (is_in batch.set cpu && same_number batch.tag number))
+    → is_in (awaited_after_batch number awaited batch) cpu
+    ≡ (is_in awaited cpu && not (is_in batch.set cpu && same_number batch.tag number))
 is_in-left_by batch number awaited cpu l = elim (cases_Bool (same_number batch.tag number)) [
   | inl e ↦ rw e (is_in-listed (length awaited) (λ k. is_in awaited k && not (is_in batch.set k)) cpu l
       ∙ ap (λ b. is_in awaited cpu && not b) (sym (and-true (is_in batch.set cpu))))
-  | inr e ↦ rw e (sym (and-true (is_in awaited cpu)) ∙ ap (λ b. is_in awaited cpu && not b) (sym (and-false (is_in batch.set cpu))))
+  | inr e ↦ rw e
+      (sym (and-true (is_in awaited cpu)) ∙ ap (λ b. is_in awaited cpu && not b) (sym (and-false (is_in batch.set cpu))))
 ]
 
 -- and it has a flag for each processor
-length-left_by : (batch : Gathered) (number : Number) (awaited : List Bool) → length (awaited_after_batch number awaited batch) ≡ length awaited
+length-left_by : (batch : Gathered) (number : Number) (awaited : List Bool)
+    → length (awaited_after_batch number awaited batch) ≡ length awaited
 length-left_by batch number awaited = elim (cases_Bool (same_number batch.tag number)) [
   | inl e ↦ rw e (length-listed (length awaited) (λ k. is_in awaited k && not (is_in batch.set k)))
   | inr e ↦ rw e refl
@@ -30,7 +33,8 @@ length-left_by batch number awaited = elim (cases_Bool (same_number batch.tag nu
 
 -- the list with those flags is what the batch leaves
 pub left_by-is : (batch : Gathered) (number : Number) (awaited later : List Bool) → length later ≡ length awaited
-    → ((cpu : ℕ) → cpu < length awaited → is_in later cpu ≡ (is_in awaited cpu && not (is_in batch.set cpu && same_number batch.tag number)))
+    →
+    ((cpu : ℕ) → cpu < length awaited → is_in later cpu ≡ (is_in awaited cpu && not (is_in batch.set cpu && same_number batch.tag number)))
     → later ≡ awaited_after_batch number awaited batch
 left_by-is batch number awaited later e h =
     ext_get_or false later (awaited_after_batch number awaited batch) (e ∙ sym (length-left_by batch number awaited))
@@ -56,10 +60,12 @@ was_reported-is tag number cpu (report ∷ earlier) all =
     ∙ either_where (report.0 == cpu && same_number report.1 tag) (was_reported tag cpu earlier) (same_number tag number)
 
 -- a batch leaves what its reports leave
-pub batch_leaves-reports : (batch : Gathered) (number : Number) (awaited : List Bool) (reports : List (ℕ × Number)) → AreOf batch reports
+pub batch_leaves-reports : (batch : Gathered) (number : Number) (awaited : List Bool) (reports : List (ℕ × Number))
+    → AreOf batch reports
     → awaited_after_batch number awaited batch ≡ awaited_after_reports number awaited reports
 batch_leaves-reports batch number awaited reports of =
-    sym (left_by-is batch number awaited (awaited_after_reports number awaited reports) (length-awaited_after_reports number awaited reports) (λ cpu l.
+    sym
+    (left_by-is batch number awaited (awaited_after_reports number awaited reports) (length-awaited_after_reports number awaited reports) (λ cpu l.
     unreported number awaited reports cpu ∙ ap (λ b. is_in awaited cpu && not b)
     (was_reported-is batch.tag number cpu reports of.tags ∙ ap (λ b. b && same_number batch.tag number) (sym (of.cpus cpu)))))
 
@@ -76,7 +82,8 @@ counted_more false true now later gone h e = let never = h refl in cc
 counted_more false false now later gone h e = omega (arith, e)
 
 -- a set has as many processors as a part of it and the others
-pub size_of-difference : (set part : List Bool) → length part ≡ length set → ((cpu : ℕ) → is_in part cpu ≡ true → is_in set cpu ≡ true)
+pub size_of-difference : (set part : List Bool) → length part ≡ length set
+    → ((cpu : ℕ) → is_in part cpu ≡ true → is_in set cpu ≡ true)
     → size_of set ≡ size_of part + size_of (difference set part)
 size_of-difference [] [] e h = omega (arith, none_listed (λ cpu. is_in [] cpu && not (is_in [] cpu)))
 size_of-difference [] (y ∷ ys) e h = absurd (omega (arith, e))
@@ -96,7 +103,8 @@ IsClearedBelow counter batch number awaited now =
     (cpu : ℕ) → is_in now cpu ≡ (is_in awaited cpu && not ((nat_lt cpu counter && is_in batch.set cpu) && same_number batch.tag number))
 
 -- once those on all processors are made, it is what the batch leaves
-pub left_by_all : (counter : ℕ) (batch : Gathered) (number : Number) (awaited now : List Bool) → length now ≡ length awaited → length awaited ≤ counter
+pub left_by_all : (counter : ℕ) (batch : Gathered) (number : Number) (awaited now : List Bool)
+    → length now ≡ length awaited → length awaited ≤ counter
     → IsClearedBelow counter batch number awaited now → now ≡ awaited_after_batch number awaited batch
 left_by_all counter batch number awaited now e all h =
     left_by-is batch number awaited now e (λ cpu l.
@@ -109,8 +117,10 @@ part_of true gone h = refl
 part_of false gone h = h
 
 -- so the others were cleared
-pub counted_all : (counter : ℕ) (batch : Gathered) (number : Number) (awaited now : List Bool) → length now ≡ length awaited
+pub counted_all : (counter : ℕ) (batch : Gathered) (number : Number) (awaited now : List Bool)
+    → length now ≡ length awaited
     → IsClearedBelow counter batch number awaited now → size_of awaited ≡ size_of now + size_of (difference awaited now)
 counted_all counter batch number awaited now e h =
     size_of-difference awaited now e (λ cpu there.
-    part_of (is_in awaited cpu) ((nat_lt cpu counter && is_in batch.set cpu) && same_number batch.tag number) (sym (h cpu) ∙ there))
+    part_of (is_in awaited cpu) ((nat_lt cpu counter && is_in batch.set cpu) && same_number batch.tag number)
+    (sym (h cpu) ∙ there))

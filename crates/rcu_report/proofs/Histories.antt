@@ -23,7 +23,8 @@ no_more true false true e = refl
 no_more true false false e = e
 
 -- not heard by the replica, and awaited by the other one, which started with the same processors
-nor_by_the_other : (there earlier other : Bool) → ((there && not earlier) && other) ≡ (there && not ((true && (there && not other)) || earlier))
+nor_by_the_other : (there earlier other : Bool)
+    → ((there && not earlier) && other) ≡ (there && not ((true && (there && not other)) || earlier))
 nor_by_the_other false earlier other = refl
 nor_by_the_other true true true = refl
 nor_by_the_other true true false = refl
@@ -50,7 +51,8 @@ ends_stay call h e =
 cpus_of-next : (r : Replicated) (call : Call) → CanBeMade r call → cpus_of (after_call r call) ≡ cpus_of r
 cpus_of-next r (Begin set) made = made
 cpus_of-next r (Report cpu number) made =
-    by_running (λ (left : Replicated). cpus_of left ≡ cpus_of r) r (record r { awaited = awaited_after_report r.tag r.awaited cpu number })
+    by_running (λ (left : Replicated). cpus_of left ≡ cpus_of r) r
+    (record r { awaited = awaited_after_report r.tag r.awaited cpu number })
     (λ runs. length-awaited_after_report r.tag r.awaited cpu number) (λ rests. refl)
 cpus_of-next r (Depart cpu) made = length-set r.awaited cpu false
 cpus_of-next r End made = refl
@@ -72,7 +74,8 @@ says_report r h other number says = record {
 }
 
 -- a report while none runs
-says_idle_report : (r : Replicated) (h : History) (other : ℕ) (number : Number) → ((cpu : ℕ) → is_in r.awaited cpu ≡ false) → Represents r h
+says_idle_report : (r : Replicated) (h : History) (other : ℕ) (number : Number)
+    → ((cpu : ℕ) → is_in r.awaited cpu ≡ false) → Represents r h
     → Represents r (Report other number ∷ h)
 says_idle_report r h other number none says = record {
   ends = says.ends ∙ sym (ends_stay (Report other number) h refl);
@@ -80,11 +83,13 @@ says_idle_report r h other number none says = record {
   tag = says.tag;
   start_set = says.start_set;
   awaited = λ cpu.
-      none cpu ∙ sym (no_more (starts cpu h) (is_heard cpu (tag h) h) (other == cpu && same_number number (tag h)) (sym (says.awaited cpu) ∙ none cpu));
+      none cpu
+      ∙ sym (no_more (starts cpu h) (is_heard cpu (tag h) h) (other == cpu && same_number number (tag h)) (sym (says.awaited cpu) ∙ none cpu));
 }
 
 -- after an accepted call the replica is as the history with it says
-says_next : (r : Replicated) (h : History) (call : Call) → refusal r call ≡ None → IsSound r → Represents r h → Represents (after_call r call) (call ∷ h)
+says_next : (r : Replicated) (h : History) (call : Call) → refusal r call ≡ None → IsSound r → Represents r h
+    → Represents (after_call r call) (call ∷ h)
 says_next r h (Begin set) accepted kept says = record {
   ends = says.ends ∙ sym (ends_stay (Begin set) h refl);
   running = refl;
@@ -93,7 +98,8 @@ says_next r h (Begin set) accepted kept says = record {
   awaited = λ cpu. sym (and-true (is_in set cpu));
 }
 says_next r h (Report other number) accepted kept says =
-    by_running (λ (left : Replicated). Represents left (Report other number ∷ h)) r (record r { awaited = awaited_after_report r.tag r.awaited other number })
+    by_running (λ (left : Replicated). Represents left (Report other number ∷ h)) r
+    (record r { awaited = awaited_after_report r.tag r.awaited other number })
     (λ runs. says_report r h other number says) (λ rests. says_idle_report r h other number (kept.idle rests) says)
 says_next r h (Depart other) accepted kept says = record {
   ends = says.ends ∙ sym (ends_stay (Depart other) h refl);
@@ -141,7 +147,8 @@ told cpus last (call ∷ h) accepted =
     }
 
 -- the replica after accepted calls is as their history says
-pub says_always : (cpus : ℕ) (last : Number) (h : History) → AreAccepted cpus last h → Represents (after_calls cpus last h) h
+pub says_always : (cpus : ℕ) (last : Number) (h : History) → AreAccepted cpus last h
+    → Represents (after_calls cpus last h) h
 says_always cpus last h accepted = (told cpus last h accepted).says
 
 -- and keeps what always holds
@@ -156,7 +163,8 @@ heard_since false earlier = refl
 
 -- a replica that is taken in tells whom it heard
 pub hears_the_heard : (cpus : ℕ) (last : Number) (h : History) (cpu : ℕ) (number : Number) → AreAccepted cpus last h
-    → hears cpu number (Merge (after_calls cpus last h)) ≡ (same_number (tag h) number && (starts cpu h && is_heard cpu (tag h) h))
+    → hears cpu number (Merge (after_calls cpus last h))
+    ≡ (same_number (tag h) number && (starts cpu h && is_heard cpu (tag h) h))
 hears_the_heard cpus last h cpu number accepted =
     let says = says_always cpus last h accepted in
     rw (says.tag, says.start_set cpu, says.awaited cpu)
@@ -166,11 +174,13 @@ hears_the_heard cpus last h cpu number accepted =
 awaits-alike : (x y : History) → AreAlike x y → (cpu : ℕ) → awaits cpu x ≡ awaits cpu y
 awaits-alike x y alike cpu = elim (cases_Bool (starts cpu x)) [
   | inl there ↦ rw (alike.heard cpu there) (ap (λ b. b && not (is_heard cpu (tag y) y)) (alike.start_set cpu))
-  | inr out ↦ ap (λ b. b && not (is_heard cpu (tag x) x)) out ∙ sym (ap (λ b. b && not (is_heard cpu (tag y) y)) (sym (alike.start_set cpu) ∙ out))
+  | inr out ↦ ap (λ b. b && not (is_heard cpu (tag x) x)) out
+      ∙ sym (ap (λ b. b && not (is_heard cpu (tag y) y)) (sym (alike.start_set cpu) ∙ out))
 ]
 
 -- two that began alike and heard alike await the same processors
-pub alike_await_the_same : (cpus : ℕ) (last other : Number) (x y : History) → AreAccepted cpus last x → AreAccepted cpus other y → AreAlike x y
+pub alike_await_the_same : (cpus : ℕ) (last other : Number) (x y : History) → AreAccepted cpus last x
+    → AreAccepted cpus other y → AreAlike x y
     → (after_calls cpus last x).awaited ≡ (after_calls cpus other y).awaited
 alike_await_the_same cpus last other x y first second alike =
     let one = told cpus last x first in

@@ -26,7 +26,8 @@ accepted_after x y e = let alike = other_still_alike x y e in rw alike refl
 -- both await the same, where each takes in the other as it was
 pub same_apart : (x y : Replicated) → refusal x (Merge y) ≡ None
     → intersection x.awaited y.awaited ≡ intersection y.awaited x.awaited
-same_apart x y e = ap (λ (s : Standing). s.awaited) (merged-commutes (standing_of x) (standing_of y) (merging_alike x y e))
+same_apart x y e =
+    ap (λ (s : Standing). s.awaited) (merged-commutes (standing_of x) (standing_of y) (merging_alike x y e))
 
 -- and where the other takes in what the first became
 pub same_in_turn : (x y : Replicated) → refusal x (Merge y) ≡ None

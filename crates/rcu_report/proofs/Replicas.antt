@@ -18,13 +18,15 @@ first_of true gone e = refl
 first_of false gone e = e
 
 -- an accepted merging is of an alike replica
-pub merging_alike : (r other : Replicated) → refusal r (Merge other) ≡ None → are_alike (standing_of r) (standing_of other) ≡ true
+pub merging_alike : (r other : Replicated) → refusal r (Merge other) ≡ None
+    → are_alike (standing_of r) (standing_of other) ≡ true
 merging_alike r other e = elim (cases_Bool (are_alike (standing_of r) (standing_of other))) [
   | inl alike ↦ alike
   | inr unlike ↦ absurd (let never : ⊥ = grind (arith, e, unlike) in never)
 ]
 
-pub merging_agrees : (r other : Replicated) → refusal r (Merge other) ≡ None → Equals (standing_of r) (standing_of other)
+pub merging_agrees : (r other : Replicated) → refusal r (Merge other) ≡ None
+    → Equals (standing_of r) (standing_of other)
 merging_agrees r other e = (are_alike-Decides (standing_of r) (standing_of other)).0 (merging_alike r other e)
 
 -- an accepted end is one of a grace period that runs, where nobody is awaited
@@ -51,7 +53,8 @@ kept_at_first cpus last = record {
 }
 
 -- what holds where just the awaited set is cut down
-kept_cut : (r : Replicated) (less : List Bool) → length less ≡ cpus_of r → ((cpu : ℕ) → is_in less cpu ≡ true → is_in r.awaited cpu ≡ true)
+kept_cut : (r : Replicated) (less : List Bool) → length less ≡ cpus_of r
+    → ((cpu : ℕ) → is_in less cpu ≡ true → is_in r.awaited cpu ≡ true)
     → IsSound r → IsSound (record r { awaited = less })
 kept_cut r less sized part kept = record {
   started = kept.started ∙ sym sized;
@@ -65,17 +68,20 @@ kept_cut r less sized part kept = record {
 }
 
 -- what holds of what is left while a grace period runs, and while none does
-pub by_running : (P : Replicated → Type 0) (r left : Replicated) → (r.periods.running ≡ true → P left) → (r.periods.running ≡ false → P r)
+pub by_running : (P : Replicated → Type 0) (r left : Replicated) → (r.periods.running ≡ true → P left)
+    → (r.periods.running ≡ false → P r)
     → P (if r.periods.running then left else r)
 by_running P r left runs rests = go P r left r.periods.running runs rests
   where
-    go : (P : Replicated → Type 0) (r left : Replicated) (running : Bool) → (running ≡ true → P left) → (running ≡ false → P r)
+    go : (P : Replicated → Type 0) (r left : Replicated) (running : Bool) → (running ≡ true → P left)
+        → (running ≡ false → P r)
         → P (if running then left else r)
     go P r left true runs rests = runs refl
     go P r left false runs rests = rests refl
 
 -- what an accepted call keeps
-pub kept_next : (r : Replicated) (call : Call) → CanBeMade r call → refusal r call ≡ None → IsSound r → IsSound (after_call r call)
+pub kept_next : (r : Replicated) (call : Call) → CanBeMade r call → refusal r call ≡ None → IsSound r
+    → IsSound (after_call r call)
 kept_next r (Begin set) made accepted kept = record {
   started = refl;
   within = λ cpu there. there;

@@ -16,7 +16,8 @@ difference set other = unheard set (is_in other)
 -- what is awaited after the reports of a batch, where the grace period of a number awaits this set: those that no
 -- report of the batch is of, where the tag is the number
 abbrev pub awaited_after_batch : Number → List Bool → Gathered → List Bool
-awaited_after_batch number awaited batch = if same_number batch.tag number then difference awaited batch.set else awaited
+awaited_after_batch number awaited batch =
+    if same_number batch.tag number then difference awaited batch.set else awaited
 
 -- reports, each of a processor and a tag, are those of a batch, in any order and any number of times: each has its
 -- tag, and their processors are its set

@@ -50,7 +50,8 @@ starts cpu (_ ∷ h) = starts cpu h
 abbrev pub hears : ℕ → Number → Call → Bool
 hears cpu number (Report c n) = c == cpu && same_number n number
 hears cpu number (Depart c) = c == cpu
-hears cpu number (Merge other) = same_number other.tag number && (is_in other.start_set cpu && not (is_in other.awaited cpu))
+hears cpu number (Merge other) =
+    same_number other.tag number && (is_in other.start_set cpu && not (is_in other.awaited cpu))
 hears cpu number _ = false
 
 -- since the latest begin the processor was heard in the grace period of this number

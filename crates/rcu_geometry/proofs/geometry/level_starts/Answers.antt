@@ -10,7 +10,8 @@ loop-height-init c =
     (c.push.ensures.items ∙ ap (λ starts. starts ++ 0 ∷ []) c.new-starts.ensures) (omega arith)
 
 pub nodes_at-next-requires-clause-height : goal.nodes_at-next-requires-clause-height
-nodes_at-next-requires-clause-height c = let range = levels_range (shape c.args.leaf c.args.fan c.args.cpus) in omega arith
+nodes_at-next-requires-clause-height c =
+    let range = levels_range (shape c.args.leaf c.args.fan c.args.cpus) in omega arith
 
 pub overflow_add-next : goal.overflow_add-next
 overflow_add-next c =
@@ -19,7 +20,8 @@ overflow_add-next c =
     let range = levels_range s in
     let within = level_within s i c.requires.legal in
     let before = c.loop-height.invariant.few in
-    let counted = level_nodes_by s i (c.loop-height.height - 1) c.nodes_at-next.result (omega arith) c.nodes_at-next.ensures in
+    let counted =
+    level_nodes_by s i (c.loop-height.height - 1) c.nodes_at-next.result (omega arith) c.nodes_at-next.ensures in
     omega arith
 
 pub push-requires-in-loop-height : goal.push-requires-in-loop-height
@@ -33,7 +35,8 @@ loop-height-preserved c =
     let s = shape c.args.leaf c.args.fan c.args.cpus in
     let i = c.args.levels - c.loop-height.height in
     let range = levels_range s in
-    let counted = level_nodes_by s i (c.loop-height.height - 1) c.nodes_at-next.result (omega arith) c.nodes_at-next.ensures in
+    let counted =
+    level_nodes_by s i (c.loop-height.height - 1) c.nodes_at-next.result (omega arith) c.nodes_at-next.ensures in
     starts_more s c.loop-height.starts.items c.push-in-loop-height.new.self.items c.loop-height.next c.nodes_at-next.result i
     (c.args.levels - (c.loop-height.height - 1))
     c.requires.legal c.loop-height.invariant counted c.push-in-loop-height.ensures.items (omega arith)

@@ -19,7 +19,8 @@ returns-clause-below c = λ s node below.
     omega arith
 
 pub returns-clause-only : goal.returns-clause-only
-returns-clause-only c = λ s node i inner from below. level_at s node i (let range = levels_range s in omega arith) from below
+returns-clause-only c = λ s node i inner from below.
+    level_at s node i (let range = levels_range s in omega arith) from below
 
 pub returns-clause-root : goal.returns-clause-root
 returns-clause-root c = λ s legal.

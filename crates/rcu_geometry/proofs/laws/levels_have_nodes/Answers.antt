@@ -17,7 +17,8 @@ pub returns-clause-some : goal.returns-clause-some
 returns-clause-some c = level_some
 
 pub returns-clause-few : goal.returns-clause-few
-returns-clause-few c = λ s legal. let range = levels_range s in let within = start_within s (levels s) legal in omega arith
+returns-clause-few c = λ s legal.
+    let range = levels_range s in let within = start_within s (levels s) legal in omega arith
 
 pub returns-clause-leaves : goal.returns-clause-leaves
 returns-clause-leaves c = λ s legal. leaves_some s legal

@@ -7,7 +7,8 @@ returns-then-starts g c =
     let first = g.A.Awaited.start_set c.args.first.now in
     let second = g.B.Awaited.start_set c.args.second.now in
     let cpu = c.loop-cpu.cpu in
-    sym (other_where_one_differs first second cpu c.starts.result c.starts-in-loop-cpu.result c.starts.ensures c.starts-in-loop-cpu.ensures c.if-starts.true)
+    sym
+    (other_where_one_differs first second cpu c.starts.result c.starts-in-loop-cpu.result c.starts.ensures c.starts-in-loop-cpu.ensures c.if-starts.true)
 
 pub returns : goal.returns
 returns g c =
@@ -15,6 +16,8 @@ returns g c =
     let second = c.args.second.now in
     let one = g.met.A.Awaited.alike first in
     let two = g.met.B.Awaited.alike second in
-    let all : length (g.A.Awaited.start_set first) ≤ c.loop-cpu.cpu = omega (arith, one, c.cpus-cpu-end.ensures, c.loop-cpu-test.false) in
-    sym (same_when_all_agree (g.A.Awaited.start_set first) (g.B.Awaited.start_set second) (omega (arith, one, two, c.requires))
+    let all : length (g.A.Awaited.start_set first) ≤ c.loop-cpu.cpu =
+    omega (arith, one, c.cpus-cpu-end.ensures, c.loop-cpu-test.false) in
+    sym
+    (same_when_all_agree (g.A.Awaited.start_set first) (g.B.Awaited.start_set second) (omega (arith, one, two, c.requires))
     (λ cpu l. c.loop-cpu.invariant cpu (omega (arith, l, all))))

@@ -11,7 +11,9 @@ overflow_add-result g c =
     let value =
     parent_by s c.args.node c.level_of-level.result c.start.result c.start-2.result g.row.FAN
     (sym c.start.ensures.fanout) c.level_of-level.ensures.value c.start.ensures.value c.start-2.ensures.value in
-    let up = has_parent s c.args.node c.start.ensures.shape (let other = c.if-node-eq0.false in grind (arith, other)) c.requires in
+    let up =
+    has_parent s c.args.node c.start.ensures.shape
+    (let other = c.if-node-eq0.false in grind (arith, other)) c.requires in
     omega (arith, value, up.before)
 
 pub returns : goal.returns
@@ -20,7 +22,9 @@ returns g c =
     let value =
     parent_by s c.args.node c.level_of-level.result c.start.result c.start-2.result g.row.FAN
     (sym c.start.ensures.fanout) c.level_of-level.ensures.value c.start.ensures.value c.start-2.ensures.value in
-    let up = has_parent s c.args.node c.start.ensures.shape (let other = c.if-node-eq0.false in grind (arith, other)) c.requires in
+    let up =
+    has_parent s c.args.node c.start.ensures.shape
+    (let other = c.if-node-eq0.false in grind (arith, other)) c.requires in
     record {
       value = rw (ne_eqb c.args.node 0 c.if-node-eq0.false) (ap (λ node. Some node) value);
       one_level_up = rw value up.up;

@@ -19,7 +19,9 @@ returns c =
     let size = cpus-is s.cpus s.words.items c.args.self.now c.self.view_is in
     let other = cpus-is f.cpus f.words.items c.args.from.now c.from.view_is in
     let same : s.cpus ≡ f.cpus = omega arith in
-    ap (λ n. flags_in n c.copy_from_slice.new.self.items) same ∙ ap (λ (words : List ℕ). flags_in f.cpus words) (c.copy_from_slice.ensures.items ∙ c.deref.ensures.value) ∙ c.from.view_is
+    ap (λ n. flags_in n c.copy_from_slice.new.self.items) same
+    ∙ ap (λ (words : List ℕ). flags_in f.cpus words) (c.copy_from_slice.ensures.items ∙ c.deref.ensures.value)
+    ∙ c.from.view_is
 
 pub invariant_of-self : goal.invariant_of-self
 invariant_of-self c =

@@ -16,7 +16,8 @@ pub overflow_add-self : goal.overflow_add-self
 overflow_add-self c =
     let s = c.self.inside in
     let size = cpus-is s.cpus s.words.items c.args.self.now c.self.view_is in
-    omega (arith, c.self.invariant, size_of-within (flags_in s.cpus s.words.items), ap (λ (set : List Bool). length set) c.self.view_is)
+    omega
+    (arith, c.self.invariant, size_of-within (flags_in s.cpus s.words.items), ap (λ (set : List Bool). length set) c.self.view_is)
 
 pub returns-clause-set : goal.returns-clause-set
 returns-clause-set c =

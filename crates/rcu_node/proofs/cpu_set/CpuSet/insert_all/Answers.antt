@@ -25,7 +25,9 @@ returns c =
     let merged = written_merged s.words.len c.deref_mut.result.now c.deref.result.now c.merge.new.words s.words.items c.deref-2.result.now
     alike c.merge.auto.words c.deref_mut.ensures.len c.merge.ensures c.deref-2.ensures.value in
     let first = ap (λ (words : List ℕ). flags_in s.cpus words) c.deref_mut.ensures.value ∙ c.self.view_is in
-    let second = ap (λ (words : List ℕ). flags_in s.cpus words) c.deref.ensures.value ∙ ap (λ n. flags_in n o.words.items) same ∙ c.other.view_is in
+    let second =
+    ap (λ (words : List ℕ). flags_in s.cpus words) c.deref.ensures.value ∙ ap (λ n. flags_in n o.words.items) same
+    ∙ c.other.view_is in
     ap (λ (words : List ℕ). flags_in s.cpus words) (sym c.deref-2.ensures.value)
     ∙ union-is s.cpus c.deref_mut.result.now c.deref.result.now c.deref-2.result.now c.args.self.now c.args.other.now first second merged
 
@@ -44,7 +46,8 @@ invariant_of-self c =
     let none = subst (λ (words : List ℕ). HasNoneFrom s.cpus words) (sym c.deref_mut.ensures.value) kept.none_beyond in
     let neither = subst (λ (words : List ℕ). HasNoneFrom s.cpus words) (sym c.deref.ensures.value)
     (subst (λ (n : ℕ). HasNoneFrom n o.words.items) same c.other.invariant.none_beyond) in
-    let beyond = none_beyond-merged s.cpus c.deref_mut.result.now c.deref.result.now c.deref-2.result.now none neither merged in
+    let beyond =
+    none_beyond-merged s.cpus c.deref_mut.result.now c.deref.result.now c.deref-2.result.now none neither merged in
     let stored = c.deref-2.ensures.value in
     let long = ap (λ (words : List ℕ). length words) stored in
     let enough : s.cpus ≤ 64 * length c.deref-2.result.now = omega (arith, kept, s.words.ok, c.deref-2.ensures.len) in

@@ -24,7 +24,9 @@ invariant_of-self c =
     let kept = c.self.invariant in
     let before = kept.counted ∙ ap (λ (set : List Bool). size_of set) c.self.view_is in
     let after = ap (λ (set : List Bool). size_of set) (returns-clause-set c) in
-    let less = size_of-remove c.args.self.now c.args.cpu c.requires (let there = c.contains.ensures in let found = c.if-not-contains.false in search rules) in
+    let less =
+    size_of-remove c.args.self.now c.args.cpu c.requires
+    (let there = c.contains.ensures in let found = c.if-not-contains.false in search rules) in
     let stays = length-set s.words.items in
     let size = cpus-is s.cpus s.words.items c.args.self.now c.self.view_is in
     let below : c.args.cpu < s.cpus = omega arith in

@@ -15,7 +15,9 @@ invariant_of-self g c =
     let l = c.self.inside in
     let kept = c.self.invariant in
     let size = cpus-is l.geometry l.masks.items c.args.self.now c.self.view_is in
-    let held = held g.row.LEAF l.geometry c.fill.new.masks.items c.args.from.now kept.leaf kept.legal (sym (size ∙ c.requires)) c.fill.ensures.masks in
+    let held =
+    held g.row.LEAF l.geometry c.fill.new.masks.items c.args.from.now kept.leaf kept.legal
+    (sym (size ∙ c.requires)) c.fill.ensures.masks in
     record {
       legal = kept.legal;
       leaf = kept.leaf;

@@ -9,4 +9,6 @@ returns g c =
     let l = c.self.inside in
     let kept = c.self.invariant in
     let some : 0 < g.row.LEAF = omega (arith, kept.leaf, kept.legal.leaf_low) in
-    ap (λ n. n == 0) c.count.ensures ∙ empty-is g.row.LEAF l.masks.items l.root (members l.geometry l.masks.items) some kept.masks kept.root ∙ ap (λ (set : List Bool). size_of set == 0) c.self.view_is
+    ap (λ n. n == 0) c.count.ensures
+    ∙ empty-is g.row.LEAF l.masks.items l.root (members l.geometry l.masks.items) some kept.masks kept.root
+    ∙ ap (λ (set : List Bool). size_of set == 0) c.self.view_is

@@ -19,7 +19,9 @@ invariant_of-result g c =
     let last : c.levels.result - 1 + 1 ≡ levels s = omega (arith, c.levels.ensures.value, c.levels.ensures.some) in
     let leaf = ap (λ shape. shape.leaf) shaped in
     let masks : c.in-Ok.masks.items ≡ replicate c.level_nodes-leaves.result 0 = search rules in
-    let held = held-none g.row.LEAF s c.in-Ok.masks.items c.level_nodes-leaves.result leaf c.in_ok-geometry.ensures.legal masks (c.level_nodes-leaves.ensures.leaves last) in
+    let held =
+    held-none g.row.LEAF s c.in-Ok.masks.items c.level_nodes-leaves.result leaf c.in_ok-geometry.ensures.legal masks
+    (c.level_nodes-leaves.ensures.leaves last) in
     record {
       legal = c.in_ok-geometry.ensures.legal;
       leaf = leaf;
@@ -35,5 +37,7 @@ returns-clause-ok g c =
     let last : c.levels.result - 1 + 1 ≡ levels s = omega (arith, c.levels.ensures.value, c.levels.ensures.some) in
     let leaf = ap (λ shape. shape.leaf) shaped in
     let masks : c.in-Ok.masks.items ≡ replicate c.level_nodes-leaves.result 0 = search rules in
-    let held = held-none g.row.LEAF s c.in-Ok.masks.items c.level_nodes-leaves.result leaf c.in_ok-geometry.ensures.legal masks (c.level_nodes-leaves.ensures.leaves last) in
+    let held =
+    held-none g.row.LEAF s c.in-Ok.masks.items c.level_nodes-leaves.result leaf c.in_ok-geometry.ensures.legal masks
+    (c.level_nodes-leaves.ensures.leaves last) in
     held.seen ∙ ap (λ shape. replicate shape.cpus false) shaped

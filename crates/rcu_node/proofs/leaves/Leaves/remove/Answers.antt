@@ -5,7 +5,9 @@ use Rattle.rcu_node.proofs.Masks.{cpus-is, removed}
 use Rattle.rcu_node.proofs.leaves.Leaves.remove.Goals as goal
 
 pub bit_of-requires : goal.bit_of-requires
-bit_of-requires g c = let size = cpus-is c.self.inside.geometry c.self.inside.masks.items c.args.self.now c.self.view_is in (lit< tt, omega (arith, size))
+bit_of-requires g c =
+    let size = cpus-is c.self.inside.geometry c.self.inside.masks.items c.args.self.now c.self.view_is in
+    (lit< tt, omega (arith, size))
 
 pub returns-clause-set : goal.returns-clause-set
 returns-clause-set g c =
@@ -22,5 +24,7 @@ invariant_of-self g c =
     kept.leaf kept.legal kept.masks c.self.view_is c.requires c.place_of-place.ensures c.bit_of.ensures.value c.clear_bit.ensures.masks in
     let before = kept.counted ∙ ap (λ (set : List Bool). size_of set) c.self.view_is in
     let after = ap (λ (set : List Bool). size_of set) held.seen in
-    let less = size_of-remove c.args.self.now c.args.cpu c.requires (let there = c.contains.ensures in let found = c.if-not-contains.false in search rules) in
+    let less =
+    size_of-remove c.args.self.now c.args.cpu c.requires
+    (let there = c.contains.ensures in let found = c.if-not-contains.false in search rules) in
     record { legal = kept.legal; leaf = kept.leaf; masks = held.kept; root = c.clear_bit.ensures.root; counted = omega (arith, before, after, less) }

@@ -14,6 +14,7 @@ pub returns-clause-awaited : goal.returns-clause-awaited
 returns-clause-awaited g c =
     let loop = c.loop-cpu in
     let same = ap (λ (batch : Gathered). length batch.set) c.self.view_is in
-    let past : length (g.A.Awaited.awaited c.args.to.now) ≤ loop.cpu = omega (arith, same, c.requires, c.cpus-cpu-end.ensures.value) in
+    let past : length (g.A.Awaited.awaited c.args.to.now) ≤ loop.cpu =
+    omega (arith, same, c.requires, c.cpus-cpu-end.ensures.value) in
     left_by_all loop.cpu c.args.self.now (g.A.Awaited.tag c.args.to.now) (g.A.Awaited.awaited c.args.to.now)
     (g.A.Awaited.awaited loop.to) loop.invariant.sized past loop.invariant.cleared
