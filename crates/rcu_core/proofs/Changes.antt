@@ -8,7 +8,7 @@ use Rattle.rcu_seq.specs.Seq.{Periods, number_of}
 use Rattle.rcu_hotplug.specs.Hotplug.{Processors, Begin, cpus_of, after_call}
 use Rattle.rcu_cblist.specs.SegList.{Item, after_entrain, greatest, after_migrate, numbers}
 use Rattle.rcu_barrier.specs.Lists.{AllLists, cpus_of as cpus_of_lists, owes_visit, is_visited, as_it_leaves, list_of, lists_after_migrate, lists_after_queue, lists_after_run, lists_after_tend, lists_after_visit, with_list}
-use Rattle.rcu_barrier.specs.Tending.{after_tend}
+use Rattle.rcu_barrier.specs.Tending.{after_tend as list_after_tend}
 use Rattle.rcu_core.specs.Callbacks.{greatest_from}
 use Rattle.rcu_core.specs.GpState.{AreTimely, Grace, IsSound, after_end, number_in, after_tend, with_lists}
 use Rattle.rcu_core.proofs.Timely.{all_later, greatest_is, timely_append, timely_entrained, timely_get, timely_leaving, timely_moved, timely_tended, timely_untaken}
@@ -51,7 +51,7 @@ queued_kept g cpu at value lists k now is =
 pub tended_kept : {X : Type 0} (g : Grace X) (needed : Number) (cpu : ℕ) (at : Number) (lists : AllLists X) → IsSound g →
     at ≡ number_in g → lists ≡ lists_after_tend g.lists cpu at → IsSound (record g { needed = needed; lists = lists })
 tended_kept g needed cpu at lists k now is =
-    set_kept g needed lists cpu (after_tend (list_of g.lists cpu) at) k (ap (λ l. l.lists) is)
+    set_kept g needed lists cpu (list_after_tend (list_of g.lists cpu) at) k (ap (λ l. l.lists) is)
     (rw now (timely_tended (number_in g) (list_of g.lists cpu) (timely_get (number_in g) g.lists.lists cpu k.timely)))
 
 -- a tend whose list waits for a number needs the greatest

@@ -18,6 +18,7 @@ use Rattle.rcu_core.specs.declared.event.Event.{Event}
 use Rattle.rcu_core.specs.declared.event.Event.TheVariants.{Offline, Queue, Tend, Run, BarBegin, Visit, BarTest}
 use Rattle.rcu_core.specs.declared.reply.Reply.TheVariants as reply
 use Rattle.rcu_core.proofs.Counting.{none_passes}
+use Rattle.rcu_core.proofs.Kept.{queue_counts}
 use Rattle.rcu_core.proofs.Once.{lies, sum_below, then_once}
 use Rattle.rcu_core.proofs.Readers.{possible}
 
@@ -119,11 +120,11 @@ new_item y h = Of (record { ord = queued h + 1; at = number h; value = y }) Unma
 barrier_step : (s : Size) (e : Event) (h : History) → fault_in s (situation h) e ≡ None → Barrier h → Barrier (e ∷ h)
 barrier_step s BarBegin h p f = record { covered = λ r c v. absurd (cc); before_le = omega arith }
 barrier_step s BarTest h p f = record { covered = λ r c v. absurd (cc); before_le = f.before_le }
-barrier_step s (Queue d y) h p f = let b = queued_before_barrier h in let k = f.before_le in record {
+barrier_step s (Queue d y) h p f = let n = queue_counts d y h in let b = queued_before_barrier h in let k = f.before_le in record {
   covered = λ r c v. covered-cond b (eqb d c) (list c h ++ new_item y h ∷ []) (list c h)
       (λ e. covered-append b (list c h) (new_item y h ∷ []) (f.covered r c v) ((λ l. absurd (omega (arith, k, l))), tt))
       (λ e. f.covered r c v);
-  before_le = omega (arith, k);
+  before_le = omega (arith, k, n);
 }
 barrier_step s (Tend d) h p f = let b = queued_before_barrier h in record {
   covered = λ r c v. covered-cond b (eqb d c) (after_tend (list c h) (number h)) (list c h) (λ e. covered-remarked b (mark_after_tend (number h)) (list c h) (f.covered r c v)) (λ e. f.covered r c v);

@@ -3,11 +3,11 @@ use Rattle.std.proofs.Common.{◌≡◌, ℕ, ◌+◌, ◌<◌, Bool, true, fals
 use Rattle.std.specs.Prelude.{◌==◌, max}
 use Rattle.std.proofs.lemmas.Bool.Decides.{nat_tests}
 use Rattle.std.proofs.lemmas.List.{length-set, take_more}
-use Rattle.rcu_seq.specs.Cookies.{snapshot_at}
+use Rattle.rcu_seq.specs.Numbers.{snapshot}
 use Rattle.rcu_seq.specs.declared.fault.Fault.{Fault}
 use Rattle.rcu_cpu.specs.CpuData.{Enter as Entering, Exit as Exiting, Note as Noting, Arrive as Arriving, Depart as Departing}
 use Rattle.rcu_core.specs.GpState.{at_first, awaited_in, after_begin, after_end, number_in, wants_begin}
-use Rattle.rcu_core.specs.History.{History, begins, running, number, online, noted, reports_made, report_at, is_of, is_heard, awaits}
+use Rattle.rcu_core.specs.History.{History, begins, running, number, online, noted, entered, exited, reports_made, report_at, is_of, is_heard, awaits}
 use Rattle.rcu_seq.specs.Histories.{latest}
 use Rattle.rcu_core.specs.Replies.{Size, Situation, situation, fault_in, accepted_reply, or_fault, IsLegalReply, with_event}
 use Rattle.rcu_core.specs.Runs.{Leads, RunsLegally}
@@ -18,7 +18,7 @@ use Rattle.rcu_core.specs.declared.reply.Reply.{Reply}
 use Rattle.rcu_core.specs.declared.reply.Reply.TheVariants as reply
 use Rattle.rcu_core.proofs.FollowsLists.{follows_barrier, follows_queue, follows_run, follows_tend, follows_test, follows_visit, moved_lists, moved_owed}
 use Rattle.rcu_core.proofs.FollowsPeriods.{awaits_delivered, follows_begin, follows_end, follows_turn, heard_of, length-awaited_by}
-use Rattle.rcu_core.proofs.Kept.{exits_le}
+use Rattle.rcu_core.proofs.Kept.{enter_counts, exit_counts, exits_le}
 use Rattle.rcu_core.proofs.Situations.{longer, number_same, one_changed, same, within, within_all}
 use Rattle.rcu_core.proofs.Sound.{first_cpus, first_at, no_item, nobody, boot_alone}
 use Rattle.rcu_core.proofs.Writes.{cleared, eqb_self, one_written}
@@ -34,7 +34,7 @@ follows v h (Enter c) s x p = record {
   online = x.online;
   awaits = x.awaits;
   cpus = one_changed v h (Enter c) c Entering (within v c s (grind (arith, nat_tests))) x.cpus
-      (ap (λ (n : ℕ). record { cpu = c; online = online c h; depth = n; noted = noted c h }) (let le = exits_le (size_at v) c h x.accepted in rw (eqb_self c) (omega arith)))
+      (ap (λ (n : ℕ). record { cpu = c; online = online c h; depth = n; noted = noted c h }) (let le = exits_le (size_at v) c h x.accepted in let n : entered c (Enter c ∷ h) ≡ 1 + entered c h = enter_counts c c h ∙ ap (λ b. cond b 1 0 + entered c h) (eqb_self c) in omega (arith, le, n)))
       (λ k n. rw n refl);
   queued = x.queued;
   list = x.list;
@@ -50,7 +50,7 @@ follows v h (Exit c) s x p = record {
   online = x.online;
   awaits = x.awaits;
   cpus = one_changed v h (Exit c) c Exiting (within v c s (grind (arith, nat_tests))) x.cpus
-      (ap (λ (n : ℕ). record { cpu = c; online = online c h; depth = n; noted = noted c h }) (rw (eqb_self c) (omega arith)))
+      (ap (λ (n : ℕ). record { cpu = c; online = online c h; depth = n; noted = noted c h }) (let n : exited c (Exit c ∷ h) ≡ 1 + exited c h = exit_counts c c h ∙ ap (λ b. cond b 1 0 + exited c h) (eqb_self c) in omega (arith, n)))
       (λ k n. rw n refl);
   queued = x.queued;
   list = x.list;
@@ -176,7 +176,7 @@ follows v h StartPoll s x p = record {
   accepted = (p, x.accepted);
   ends = x.ends;
   running = x.running;
-  needed = ap₂ (λ (a b : ℕ). max a b) x.needed (ap₂ (λ n r. snapshot_at n r) x.ends x.running);
+  needed = ap₂ (λ (a b : ℕ). max a b) x.needed (ap (λ n. snapshot n) (number_same v h x));
   made = x.made;
   online = x.online;
   awaits = x.awaits;

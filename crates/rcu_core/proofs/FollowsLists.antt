@@ -2,17 +2,18 @@
 use Rattle.std.proofs.Common.{◌≡◌, ℕ, ◌+◌, ◌<◌, Bool, true, false, not, cond, ◌&&◌, ◌||◌, List, [], ◌∷◌, length, None, refl, sym, ap, ap₂, subst, ◌∙◌, arith, eqb, get_or, slice_set}
 use Rattle.std.specs.Prelude.{◌==◌}
 use Rattle.std.proofs.lemmas.Bool.Decides.{nat_tests}
-use Rattle.std.proofs.lemmas.List.{get_or_default, length-set}
+use Rattle.std.proofs.lemmas.List.{length-set}
 use Rattle.rcu_cblist.specs.SegList.{Item, after_entrain, after_migrate, numbers, after_take}
-use Rattle.rcu_barrier.specs.Lists.{AllLists, owes_visit as owed_to, is_visited, as_it_leaves, barrier_left, list_of, lists_after_migrate, lists_after_tend, with_list}
+use Rattle.rcu_barrier.specs.Lists.{AllLists, owes_visit, is_visited, as_it_leaves, barrier_left, list_of, lists_after_migrate, lists_after_tend, with_list}
 use Rattle.rcu_barrier.specs.Tending.{after_tend}
 use Rattle.rcu_core.specs.Callbacks.{barrier_runs, greatest_from, is_owed, list, was_visited}
 use Rattle.rcu_core.specs.GpState.{number_in, with_lists}
 use Rattle.rcu_core.specs.History.{History}
 use Rattle.rcu_core.specs.Replies.{Situation, situation, fault_in, with_event, barrier_test_reply, waits_for}
-use Rattle.rcu_core.specs.Core.{State, IsSound, Represents, owes, size_at, after_event, after_reply}
+use Rattle.rcu_core.specs.Core.{State, IsSound, Represents, size_at, after_event, after_reply}
 use Rattle.rcu_core.specs.declared.event.Event.TheVariants.{Offline, Queue, Tend, Run, BarBegin, Visit, BarTest}
 use Rattle.rcu_core.specs.declared.reply.Reply.TheVariants as reply
+use Rattle.rcu_core.proofs.Kept.{queue_counts}
 use Rattle.rcu_core.proofs.Situations.{number_same, same, within_all}
 use Rattle.rcu_core.proofs.Sound.{nobody}
 use Rattle.rcu_core.proofs.Steps.{waits_said}
@@ -24,7 +25,7 @@ HaveLists all h = (k : ℕ) → list_of all k ≡ list k h
 
 -- the processors that the barrier did not visit are those of the history
 abbrev pub HaveOwed : AllLists ℕ → History → Type 0
-HaveOwed all h = (k : ℕ) → owes all k ≡ is_owed k h
+HaveOwed all h = (k : ℕ) → owes_visit all k ≡ is_owed k h
 
 -- a callback is queued
 pub follows_queue : (v : State ℕ) (h : History) (c value : ℕ) → IsSound v → Represents v h → fault_in (size_at v) (situation h) (Queue c value) ≡ None → Represents (after_event v (Queue c value)) (Queue c value ∷ h)
@@ -37,7 +38,7 @@ follows_queue v h c value s x p = record {
   online = x.online;
   awaits = x.awaits;
   cpus = x.cpus;
-  queued = ap (λ n. n + 1) x.queued;
+  queued = ap (λ n. n + 1) x.queued ∙ (let n = queue_counts c value h in omega (arith, n));
   list = one_written [] v.grace.lists.lists c _ (λ k. list k h) (λ k. list k (Queue c value ∷ h)) (within_all v c s (grind (arith, nat_tests))).1 x.list
       (rw (eqb_self c, x.list c, x.queued, number_same v h x) refl) (λ k n. rw n refl);
   barrier = x.barrier;
@@ -112,12 +113,8 @@ no_barrier r b e p q off runs = ap (λ a. a && not p) off ∙ sym (ap (λ a. a &
 visit_owed : (v : State ℕ) (h : History) (c k : ℕ) (seen : Bool) → Represents v h → c < length v.grace.lists.visited → is_visited v.grace.lists c ≡ seen
     → (v.grace.lists.running && not (get_or (cond seen v.grace.lists.visited (slice_set v.grace.lists.visited c true)) k false)) ≡ (barrier_runs h && not (eqb c k || was_visited k h))
 visit_owed v h c k seen x l e =
-    ap (λ b. v.grace.lists.running && not b) (marked seen v.grace.lists.visited c k l (get_or_default v.grace.lists.visited c false true l ∙ e))
+    ap (λ b. v.grace.lists.running && not b) (marked seen v.grace.lists.visited c k l e)
     ∙ owed_after v.grace.lists.running (barrier_runs h) (eqb c k) (get_or v.grace.lists.visited k false) (was_visited k h) x.barrier (x.owed k)
-
--- a processor is owed a visit by the lists where the history owes it one
-same_owed : (v : State ℕ) (h : History) (c : ℕ) → Represents v h → c < length v.grace.lists.visited → owed_to v.grace.lists c ≡ is_owed c h
-same_owed v h c x l = ap (λ b. v.grace.lists.running && not b) (sym (get_or_default v.grace.lists.visited c false true l)) ∙ x.owed c
 
 either : {X : Type 0} (b : Bool) (x : X) → x ≡ cond b x x
 either true x = refl
@@ -127,7 +124,7 @@ visit_kept : (v : State ℕ) (h : History) (c : ℕ) (seen : Bool) → Represent
     → c < length v.grace.lists.lists → c < length v.grace.lists.visited → v.grace.lists.running ≡ true → is_visited v.grace.lists c ≡ seen
     → Represents (record v { grace = with_lists v.grace (cond seen v.grace.lists (record (with_list v.grace.lists c (after_entrain (list_of v.grace.lists c))) { visited = slice_set v.grace.lists.visited c true })) }) (Visit c ∷ h)
 visit_kept v h c true x p l m runs e =
-    let unowed : is_owed c h ≡ false = sym (same_owed v h c x m) ∙ ap₂ (λ a b. a && not b) runs e in
+    let unowed : is_owed c h ≡ false = sym (x.owed c) ∙ ap₂ (λ a b. a && not b) runs e in
     record {
       accepted = (p, x.accepted);
       ends = x.ends;
@@ -143,7 +140,7 @@ visit_kept v h c true x p l m runs e =
       owed = λ k. visit_owed v h c k true x m e;
     }
 visit_kept v h c false x p l m runs e =
-    let owed : is_owed c h ≡ true = sym (same_owed v h c x m) ∙ ap₂ (λ a b. a && not b) runs e in
+    let owed : is_owed c h ≡ true = sym (x.owed c) ∙ ap₂ (λ a b. a && not b) runs e in
     record {
       accepted = (p, x.accepted);
       ends = x.ends;
@@ -207,8 +204,8 @@ turned_about k n = grind (arith, nat_tests)
 pub moved_lists : (v : State ℕ) (h : History) (c : ℕ) → Represents v h → c < length v.grace.lists.lists → c < length v.grace.lists.visited → HaveLists (lists_after_migrate v.grace.lists c) (Offline c ∷ h)
 moved_lists v h c x l m =
     let all = v.grace.lists in
-    let boot = after_migrate (list_of all 0) (as_it_leaves (list_of all c) (owed_to all c)) in
-    let own : as_it_leaves (list_of all c) (owed_to all c) ≡ as_it_leaves (list c h) (is_owed c h) = ap₂ (λ (o : Bool) (xs : List (Item ℕ)). as_it_leaves xs o) (same_owed v h c x m) (x.list c) in
+    let boot = after_migrate (list_of all 0) (as_it_leaves (list_of all c) (owes_visit all c)) in
+    let own : as_it_leaves (list_of all c) (owes_visit all c) ≡ as_it_leaves (list c h) (is_owed c h) = ap₂ (λ (o : Bool) (xs : List (Item ℕ)). as_it_leaves xs o) (x.owed c) (x.list c) in
     let between = λ (k : ℕ). cond (eqb k 0) (after_migrate (list k h) (as_it_leaves (list c h) (is_owed c h))) (list k h) in
     one_written [] (slice_set all.lists 0 boot) c [] between (λ k. list k (Offline c ∷ h)) (rw length-set l)
     (one_written [] all.lists 0 boot (λ k. list k h) between (omega arith) x.list (ap₂ (λ (xs ys : List (Item ℕ)). after_migrate ys xs) (sym own) (sym (x.list 0))) (λ k n. rw (turned_about k n) refl))

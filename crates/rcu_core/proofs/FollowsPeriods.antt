@@ -16,7 +16,7 @@ use Rattle.rcu_core.specs.Core.{State, IsSound, Represents, size_at, says, await
 use Rattle.rcu_core.specs.declared.event.Event.TheVariants.{Begin, End, Turn}
 use Rattle.rcu_core.specs.declared.reply.Reply.TheVariants as reply
 use Rattle.rcu_core.proofs.Recorded.{turned_after}
-use Rattle.rcu_core.proofs.Kept.{turns, none_awaited}
+use Rattle.rcu_core.proofs.Kept.{begin_counts, end_counts, turns, none_awaited}
 use Rattle.rcu_core.proofs.Situations.{longer, same}
 use Rattle.rcu_core.proofs.Sound.{length-awaited_after}
 use Rattle.rcu_core.proofs.Steps.{awaited_size}
@@ -78,8 +78,8 @@ follows_begin v h s x p = let t = turns (size_at v) h x.accepted in record {
   list = x.list;
   barrier = x.barrier;
   owed = x.owed;
-  running = grind (arith, nat_tests);
-  awaits = λ c. let o = x.online c in grind (arith, nat_tests);
+  running = let n = begin_counts h in grind (arith, nat_tests);
+  awaits = λ c. let n = begin_counts h in let o = x.online c in grind (arith, nat_tests);
 }
 
 -- it ends
@@ -94,9 +94,9 @@ follows_end v h x p = let t = turns (size_at v) h x.accepted in record {
   list = x.list;
   barrier = x.barrier;
   owed = x.owed;
-  ends = let m = x.ends in grind (arith, nat_tests);
-  running = grind (arith, nat_tests);
-  awaits = λ c. none_there v h x p c ∙ grind (arith, nat_tests);
+  ends = let m = x.ends in let n = end_counts h in grind (arith, nat_tests);
+  running = let n = end_counts h in grind (arith, nat_tests);
+  awaits = λ c. let n = end_counts h in none_there v h x p c ∙ grind (arith, nat_tests);
 }
 
 -- a turn that does neither

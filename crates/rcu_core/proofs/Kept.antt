@@ -1,12 +1,34 @@
 -- What holds after every history of accepted events.
-use Rattle.std.proofs.Common.{◌≡◌, ℕ, ◌+◌, ◌<◌, ◌≤◌, false, [], ◌∷◌, None, arith}
+use Rattle.std.proofs.Common.{◌≡◌, ℕ, ◌+◌, ◌<◌, ◌≤◌, Bool, false, cond, eqb, [], ◌∷◌, None, subst, arith}
 use Rattle.std.proofs.lemmas.Bool.Decides.{nat_tests}
-use Rattle.rcu_core.specs.History.{History, begins, ends, entered, exited, awaits}
+use Rattle.std.proofs.lemmas.List.Sums.{sum_by-cons}
+use Rattle.rcu_core.specs.History.{History, begins, ends, enters, exits, entered, exited, depth, awaits}
 use Rattle.std.specs.Prelude.{count_by}
+use Rattle.rcu_core.specs.Callbacks.{queued, queues}
 use Rattle.rcu_core.specs.Replies.{Size, situation, fault_in, AreAccepted}
 use Rattle.rcu_core.specs.declared.event.Event.{Event}
-use Rattle.rcu_core.specs.declared.event.Event.TheVariants.{Enter, Exit, Begin, End}
+use Rattle.rcu_core.specs.declared.event.Event.TheVariants.{Enter, Exit, Quiesce, Offline, Begin, End, Queue}
 use Rattle.rcu_core.proofs.Counting.{none_passes}
+
+-- one event more, counted where it passes the test
+counted : (test : Event → Bool) (e : Event) (h : History) → count_by test (e ∷ h) ≡ cond (test e) 1 0 + count_by test h
+counted test e h = sum_by-cons (λ e. cond (test e) 1 0) e h
+
+-- a begin, an end, an enter, an exit and a queueing are counted
+pub begin_counts : (h : History) → count_by begins (Begin ∷ h) ≡ 1 + count_by begins h
+begin_counts h = counted begins Begin h
+
+pub end_counts : (h : History) → count_by ends (End ∷ h) ≡ 1 + count_by ends h
+end_counts h = counted ends End h
+
+pub enter_counts : (c d : ℕ) (h : History) → entered c (Enter d ∷ h) ≡ cond (eqb d c) 1 0 + entered c h
+enter_counts c d h = counted (enters c) (Enter d) h
+
+pub exit_counts : (c d : ℕ) (h : History) → exited c (Exit d ∷ h) ≡ cond (eqb d c) 1 0 + exited c h
+exit_counts c d h = counted (exits c) (Exit d) h
+
+pub queue_counts : (c value : ℕ) (h : History) → queued (Queue c value ∷ h) ≡ 1 + queued h
+queue_counts c value h = counted queues (Queue c value) h
 
 -- grace periods begin and end in turn
 pub record Turns (h : History) : Type 0 where
@@ -14,8 +36,8 @@ pub record Turns (h : History) : Type 0 where
   pub begins_le : count_by begins h ≤ count_by ends h + 1
 
 pub turns_step : (s : Size) (e : Event) (h : History) → fault_in s (situation h) e ≡ None → Turns h → Turns (e ∷ h)
-turns_step s Begin h p t = record { ends_le = grind (arith, nat_tests); begins_le = grind (arith, nat_tests) }
-turns_step s End h p t = record { ends_le = grind (arith, nat_tests); begins_le = grind (arith, nat_tests) }
+turns_step s Begin h p t = let n = begin_counts h in record { ends_le = grind (arith, nat_tests); begins_le = grind (arith, nat_tests) }
+turns_step s End h p t = let n = end_counts h in record { ends_le = grind (arith, nat_tests); begins_le = grind (arith, nat_tests) }
 turns_step s _ h p t = record { ends_le = omega arith; begins_le = omega arith }
 
 pub turns : (s : Size) (h : History) → AreAccepted s h → Turns h
@@ -26,10 +48,21 @@ turns s (e ∷ h) p = turns_step s e h p.0 (turns s h p.1)
 pub none_awaited : (s : Size) (h : History) → fault_in s (situation h) End ≡ None → (c : ℕ) → c < s.cpus → awaits c h ≡ false
 none_awaited s h p c l = none_passes s.cpus (λ d. awaits d h) (grind (arith, nat_tests)) c l
 
+-- a section is open where one is left
+is_inside : (s : Size) (c d : ℕ) (h : History) → fault_in s (situation h) (Exit d) ≡ None → d ≡ c → 0 < depth c h
+is_inside s c d h p e = subst (λ k. 0 < depth k h) e (grind (arith, nat_tests))
+
+-- none is open where a report is made, or where the processor departs
+pub quiet_where_reported : (s : Size) (c d : ℕ) (h : History) → fault_in s (situation h) (Quiesce d) ≡ None → d ≡ c → depth c h ≡ 0
+quiet_where_reported s c d h p e = subst (λ k. depth k h ≡ 0) e (grind (arith, nat_tests))
+
+pub quiet_where_departed : (s : Size) (c d : ℕ) (h : History) → fault_in s (situation h) (Offline d) ≡ None → d ≡ c → depth c h ≡ 0
+quiet_where_departed s c d h p e = subst (λ k. depth k h ≡ 0) e (grind (arith, nat_tests))
+
 -- a processor exits at most as often as it entered
 pub exits_step : (s : Size) (c : ℕ) (e : Event) (h : History) → fault_in s (situation h) e ≡ None → exited c h ≤ entered c h → exited c (e ∷ h) ≤ entered c (e ∷ h)
-exits_step s c (Enter d) h p le = grind (arith, nat_tests)
-exits_step s c (Exit d) h p le = grind (arith, nat_tests)
+exits_step s c (Enter d) h p le = let n = enter_counts c d h in grind (arith, nat_tests)
+exits_step s c (Exit d) h p le = let n = exit_counts c d h in let q = is_inside s c d h p in grind (arith, nat_tests)
 exits_step s c _ h p le = omega arith
 
 pub exits_le : (s : Size) (c : ℕ) (h : History) → AreAccepted s h → exited c h ≤ entered c h

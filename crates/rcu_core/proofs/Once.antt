@@ -13,6 +13,7 @@ use Rattle.rcu_core.specs.Replies.{Size, situation, fault_in, AreAccepted}
 use Rattle.rcu_core.specs.Runs.{IsLegalRun, history, Run as Trace}
 use Rattle.rcu_core.specs.declared.event.Event.{Event}
 use Rattle.rcu_core.specs.declared.event.Event.TheVariants.{Offline, Queue, Tend, Run, Visit}
+use Rattle.rcu_core.proofs.Kept.{queue_counts}
 use Rattle.rcu_core.proofs.Readers.{possible}
 
 -- the sum over the processors below a bound
@@ -115,6 +116,7 @@ queue_step s j d y h p o =
     let l : d < s.cpus = grind (arith, nat_tests) in
     let k = one s j d h (Queue d y) (list d h ++ new ∷ []) l (cond_same d (list d h ++ new ∷ []) (list d h)) (λ c n. cond_other c d (list c h ++ new ∷ []) (list c h) n) in
     let a = lies-append j (list d h) (new ∷ []) in
+    let n = queue_counts d y h in
     let f = o.later in
     let q = o.there in
     record { once = let t = o.once in grind (arith, nat_tests); there = λ z b. grind (arith, nat_tests); later = λ q. grind (arith, nat_tests) }

@@ -3,17 +3,16 @@ use Rattle.std.proofs.Common.{◌≡◌, ℕ, ◌+◌, ◌<◌, ◌≤◌, Bool,
 use Rattle.std.specs.Prelude.{◌==◌}
 use Rattle.std.proofs.lemmas.Bool.Decides.{nat_tests}
 use Rattle.std.proofs.lemmas.Bool.{ltb-true}
-use Rattle.rcu_seq.specs.Numbers.{is_done_at}
-use Rattle.rcu_seq.specs.Numbers.{number_at}
+use Rattle.rcu_seq.specs.Numbers.{is_done_at, number_at, snapshot}
 use Rattle.rcu_seq.specs.declared.fault.Fault.{Fault}
-use Rattle.rcu_core.specs.History.{History, depth, number, opening, section, is_old, awaits, snapshot}
+use Rattle.rcu_core.specs.History.{History, depth, number, opening, section, is_old, awaits}
 use Rattle.rcu_core.specs.Replies.{Size, Situation, situation, fault_in, how_many, accepted_reply, or_fault, waits_for, wants_begin, recorded, with_event, AreAccepted, IsLegalReply}
 use Rattle.rcu_core.specs.Runs.{Run, IsLegalRun, history, takes}
 use Rattle.rcu_core.specs.declared.event.Event.{Event}
 use Rattle.rcu_core.specs.declared.event.Event.TheVariants.{Turn, Take, StartPoll, Poll, BarTest}
 use Rattle.rcu_core.specs.declared.reply.Reply.{Reply}
 use Rattle.rcu_core.specs.declared.reply.Reply.TheVariants as reply
-use Rattle.rcu_core.proofs.Facts.{Facts, facts, snap, snapshot_is}
+use Rattle.rcu_core.proofs.Facts.{Facts, facts}
 use Rattle.rcu_core.proofs.Recorded.{after_said, after_test, is_test}
 
 -- a turn that begins or ends does so where a begin or an end is accepted
@@ -67,7 +66,7 @@ abbrev cookie_in : Reply → ℕ
 cookie_in (reply.Cookie cookie) = cookie.0
 cookie_in _ = 0
 
-cookie_is : (s : Size) (h : History) (e : Event) (k : ℕ) → takes e ≡ true → IsLegalReply s (situation h) e (reply.Cookie (record { 0 = k })) → k ≡ snapshot h
+cookie_is : (s : Size) (h : History) (e : Event) (k : ℕ) → takes e ≡ true → IsLegalReply s (situation h) e (reply.Cookie (record { 0 = k })) → k ≡ snapshot (number h)
 cookie_is s h Take k t (inl i) = ap (λ r. cookie_in r) i
 cookie_is s h Take k t (inr i) = absurd (cc)
 cookie_is s h StartPoll k t (inl i) = ap (λ r. cookie_in r) i
@@ -89,12 +88,12 @@ open_if false x y e = absurd (cc)
 open_from : (c : ℕ) (h x : History) → section c h ≡ Some x → Open c h x
 open_from c h x e = let q = open_if (ltb 0 (depth c h)) (opening c h) x e in record { deep = ltb-true _ _ q.0; at = q.1 }
 
-snap_above : (a b n k : ℕ) → a ≤ b → k ≡ snap b → n < snap a → is_done_at k n ≡ true → ⊥
+snap_above : (a b n k : ℕ) → a ≤ b → k ≡ snapshot b → n < snapshot a → is_done_at k n ≡ true → ⊥
 snap_above a b n k l e m i = grind (arith, nat_tests)
 
-ended_from : (s : Size) (c k : ℕ) (g h x : History) → Facts s c g → Facts s c h → k ≡ snapshot g → is_done_at k (number h) ≡ true → Open c g x → Open c h x → ⊥
+ended_from : (s : Size) (c k : ℕ) (g h x : History) → Facts s c g → Facts s c h → k ≡ snapshot (number g) → is_done_at k (number h) ≡ true → Open c g x → Open c h x → ⊥
 ended_from s c k g h x fg fh e i a b =
-    snap_above (number x) (number g) (number h) k (rw a.at at fg.opening_le) (e ∙ snapshot_is g) (rw b.at at (fh.below_snap b.deep)) i
+    snap_above (number x) (number g) (number h) k (rw a.at at fg.opening_le) e (rw b.at at (fh.below_snap b.deep)) i
 
 pub done_is_ended : (s : Size) (later earlier : Run) (e : Event) (k c : ℕ) (opened : History) → takes e ≡ true
     → IsLegalRun s ((Poll k, reply.Polled true) ∷ later ++ (e, reply.Cookie (record { 0 = k })) ∷ earlier) → section c (history earlier) ≡ Some opened

@@ -10,7 +10,7 @@ use Rattle.rcu_seq.specs.Numbers.{same_number}
 use Rattle.rcu_node.specs.CpuSet.{is_in}
 use Rattle.rcu_report.specs.declared.report.Report.{Report}
 use Rattle.rcu_hotplug.specs.Hotplug.{cpus_of}
-use Rattle.rcu_cpu.specs.CpuData.{Processor, at_first, report_of}
+use Rattle.rcu_cpu.specs.CpuData.{Processor, at_first as made_processor, report_of}
 use Rattle.rcu_cblist.specs.SegList.{Item}
 use Rattle.rcu_core.specs.GpState.{Grace, at_first, awaited_after, awaited_in, after_begin, after_end, number_in, after_report, after_turn, wants_begin}
 use Rattle.rcu_core.specs.Core.{State, IsSound, processor, size_at}
@@ -72,23 +72,23 @@ sound_made v cpu reports l e s = record {
   present = s.present;
   listed = s.listed;
   visits = s.visits;
-  at_first = rw e (All-append (λ (report : Report). report.cpu < cpus_of v.grace.processors) v.made (report_of (processor v.cpus cpu) ∷ []) s.made
+  made = rw e (All-append (λ (report : Report). report.cpu < cpus_of v.grace.processors) v.made (report_of (processor v.cpus cpu) ∷ []) s.made
       (all_one (λ (report : Report). report.cpu < cpus_of v.grace.processors) (report_of (processor v.cpus cpu)) (rw (s.placed cpu) l)));
 }
 
 -- the processors at the start
 abbrev pub first_cpus : ℕ → List Processor
-first_cpus n = map (λ cpu. at_first cpu (cpu == 0)) (range_with_len 0 n)
+first_cpus n = map (λ cpu. made_processor cpu (cpu == 0)) (range_with_len 0 n)
 
 -- one more
-pub first_more : (n : ℕ) (old new : List Processor) → old ≡ first_cpus n → new ≡ old ++ at_first n (n == 0) ∷ [] → new ≡ first_cpus (n + 1)
-first_more n old new e f = f ∙ ap (λ (cpus : List Processor). cpus ++ at_first n (n == 0) ∷ []) e ∙ sym (map-range_with_len_more (λ cpu. at_first cpu (cpu == 0)) 0 n n (omega arith))
+pub first_more : (n : ℕ) (old new : List Processor) → old ≡ first_cpus n → new ≡ old ++ made_processor n (n == 0) ∷ [] → new ≡ first_cpus (n + 1)
+first_more n old new e f = f ∙ ap (λ (cpus : List Processor). cpus ++ made_processor n (n == 0) ∷ []) e ∙ sym (map-range_with_len_more (λ cpu. made_processor cpu (cpu == 0)) 0 n n (omega arith))
 
 -- each of them
-pub first_at : (n cpu : ℕ) → 0 < n → processor (first_cpus n) cpu ≡ at_first cpu (cpu == 0)
+pub first_at : (n cpu : ℕ) → 0 < n → processor (first_cpus n) cpu ≡ made_processor cpu (cpu == 0)
 first_at n cpu l = elim (cases_lt cpu n) [
-  | inl m ↦ get_or-map-range_with_len (λ c. at_first c (c == 0)) 0 n cpu cpu (at_first cpu false) m (omega arith)
-  | inr m ↦ get_or_past (first_cpus n) cpu (at_first cpu false) (omega (arith, m, length-map-range_with_len (λ c. at_first c (c == 0)) 0 n)) ∙ ap (λ (b : Bool). at_first cpu b) (sym (ne_eqb cpu 0 (λ e. omega (arith, e, l, m))))
+  | inl m ↦ get_or-map-range_with_len (λ c. made_processor c (c == 0)) 0 n cpu cpu (made_processor cpu false) m (omega arith)
+  | inr m ↦ get_or_past (first_cpus n) cpu (made_processor cpu false) (omega (arith, m, length-map-range_with_len (λ c. made_processor c (c == 0)) 0 n)) ∙ ap (λ (b : Bool). made_processor cpu b) (sym (ne_eqb cpu 0 (λ e. omega (arith, e, l, m))))
 ]
 
 get_same : {X : Type 0} (n : ℕ) (x : X) (k : ℕ) → get_or (replicate n x) k x ≡ x
@@ -117,7 +117,7 @@ sound_first n last v l e f m =
     subst (λ (x : State ℕ). IsSound x) (λ i. record { grace = sym e i; cpus = sym f i; made = sym m i })
     (record {
       flags = length-set (replicate n false) 0 true;
-      sized = length-map-range_with_len (λ c. at_first c (c == 0)) 0 n ∙ sym (length-replicate {A = Bool} n false);
+      sized = length-map-range_with_len (λ c. made_processor c (c == 0)) 0 n ∙ sym (length-replicate {A = Bool} n false);
       placed = λ cpu. ap (λ (p : Processor). p.cpu) (first_at n cpu l);
       present = λ cpu. ap (λ (p : Processor). p.online) (first_at n cpu l) ∙ sym (boot_alone n cpu l);
       listed = length-replicate {A = List (Item ℕ)} n [] ∙ sym (length-replicate {A = Bool} n false);
@@ -127,11 +127,11 @@ sound_first n last v l e f m =
 
 -- what is read at a place that is there is the processor there
 pub at_place : (v : State ℕ) (cpu : ℕ) (p : Processor) → IsSound v → cpu < cpus_of v.grace.processors → p ≡ get_or v.cpus cpu p → p ≡ processor v.cpus cpu
-at_place v cpu p s l e = get_or_read_under v.cpus cpu (cpus_of v.grace.processors) p (at_first cpu false) e l (sym s.sized)
+at_place v cpu p s l e = get_or_read_under v.cpus cpu (cpus_of v.grace.processors) p (made_processor cpu false) e l (sym s.sized)
 
 -- put back, it changes nothing
 pub put_back : (v : State ℕ) (cpu : ℕ) (p q : Processor) → q ≡ p → p ≡ processor v.cpus cpu → record v { cpus = slice_set v.cpus cpu q } ≡ v
-put_back v cpu p q f e = ap (λ (cpus : List Processor). record v { cpus = cpus }) (ap (λ (r : Processor). slice_set v.cpus cpu r) (f ∙ e) ∙ set-get_or v.cpus cpu (at_first cpu false))
+put_back v cpu p q f e = ap (λ (cpus : List Processor). record v { cpus = cpus }) (ap (λ (r : Processor). slice_set v.cpus cpu r) (f ∙ e) ∙ set-get_or v.cpus cpu (made_processor cpu false))
 
 -- how many processors there are at the start
 pub first_count : (n last : ℕ) (g : Grace ℕ) → g ≡ at_first n last → cpus_of g.processors ≡ n

@@ -1,21 +1,21 @@
 -- A full grace period lies between a callback's queueing and its handing out.
 use Rattle.std.proofs.Common.{◌≡◌, ℕ, zero, suc, ◌+◌, ◌<◌, ◌≤◌, Bool, true, false, List, [], ◌∷◌, ◌++◌, length, Some, None, refl, ap, subst, arith, cond, eqb, leb, slice_get, map, inl, inr}
 use Rattle.std.specs.Prelude.{All}
+use Rattle.std.specs.List.{list_any}
 use Rattle.std.proofs.lemmas.Bool.Decides.{nat_tests}
 use Rattle.std.proofs.lemmas.Bool.{leb-true, true_from_ne_false}
 use Rattle.std.proofs.lemmas.List.Elements.{All-nil, All-cons, All-head, All-tail, All-append, All-push, All-weaker, All-take, All-map}
 use Rattle.std.proofs.lemmas.Option.{slice_get_within, get_or_from_slice_get, slice_get-map}
-use Rattle.rcu_seq.specs.Numbers.{Number}
+use Rattle.rcu_seq.specs.Numbers.{Number, snapshot}
 use Rattle.rcu_seq.specs.declared.fault.Fault.{Fault}
 use Rattle.rcu_seq.specs.declared.fault.Fault.TheVariants as fault
 use Rattle.rcu_cblist.specs.declared.queued.Queued.{Queued}
 use Rattle.rcu_cblist.specs.SegList.{Item, Of, Marker, Mark, Unmarked, Until, Done, behind, callbacks, from_callback, front, after_migrate, mark_given, remarked, take_answer, without_mark, after_take}
 use Rattle.rcu_barrier.specs.Lists.{as_it_leaves}
 use Rattle.rcu_barrier.specs.Tending.{mark_after_tend, after_tend}
-use Rattle.rcu_seq.specs.Numbers.{snapshot}
-use Rattle.rcu_core.specs.Callbacks.{handed_out, has_begin, has_full_period, is_owed, list, queued, since}
+use Rattle.rcu_core.specs.Callbacks.{handed_out, has_full_period, is_owed, list, queued, since}
 use Rattle.rcu_core.specs.GpState.{IsTimely}
-use Rattle.rcu_core.specs.History.{History, running, number}
+use Rattle.rcu_core.specs.History.{History, begins, running, number}
 use Rattle.rcu_core.specs.Replies.{Size, situation, fault_in, AreAccepted, IsLegalReply, or_fault}
 use Rattle.rcu_core.specs.Runs.{IsLegalRun, history, Run as Trace}
 use Rattle.rcu_core.specs.declared.event.Event.{Event}
@@ -23,7 +23,7 @@ use Rattle.rcu_core.specs.declared.event.Event.TheVariants.{Offline, Begin, End,
 use Rattle.rcu_core.specs.declared.reply.Reply.{Reply}
 use Rattle.rcu_core.specs.declared.reply.Reply.TheVariants as reply
 use Rattle.rcu_core.proofs.Facts.{number_step}
-use Rattle.rcu_core.proofs.Kept.{Turns, turns}
+use Rattle.rcu_core.proofs.Kept.{Turns, begin_counts, end_counts, queue_counts, turns}
 use Rattle.rcu_core.proofs.Readers.{possible}
 
 -- the number at the queueing of the callback of this place, 0 before it
@@ -35,21 +35,21 @@ number_at_queueing ord (_ ∷ h) = number_at_queueing ord h
 -- where no full grace period lies after the queueing, the number is below the snapshot there
 pub record Since (ord : ℕ) (h : History) : Type 0 where
   pub below : has_full_period (since ord h) ≡ false → number h < snapshot (number_at_queueing ord h)
-  pub before : has_full_period (since ord h) ≡ false → has_begin (since ord h) ≡ false → number h + 4 ≤ snapshot (number_at_queueing ord h)
-  pub runs : has_full_period (since ord h) ≡ false → has_begin (since ord h) ≡ true → running h ≡ true
+  pub before : has_full_period (since ord h) ≡ false → list_any begins (since ord h) ≡ false → number h + 4 ≤ snapshot (number_at_queueing ord h)
+  pub runs : has_full_period (since ord h) ≡ false → list_any begins (since ord h) ≡ true → running h ≡ true
 
 since_step : (s : Size) (j : ℕ) (e : Event) (h : History) → fault_in s (situation h) e ≡ None → Turns h → Since j h → Since j (e ∷ h)
-since_step s j (Queue c x) h p t f = let b = f.below in let o = f.before in let r = f.runs in record {
+since_step s j (Queue c x) h p t f = let n = queue_counts c x h in let b = f.below in let o = f.before in let r = f.runs in record {
   below = λ u. grind (arith, nat_tests);
   before = λ u w. grind (arith, nat_tests);
   runs = λ u w. grind (arith, nat_tests);
 }
-since_step s j Begin h p t f = let b = f.below in let o = f.before in let r = f.runs in record {
+since_step s j Begin h p t f = let n = begin_counts h in let b = f.below in let o = f.before in let r = f.runs in record {
   below = λ u. grind (arith, nat_tests);
   before = λ u w. absurd (cc);
   runs = λ u w. grind (arith, nat_tests);
 }
-since_step s j End h p t f = let b = f.below in let o = f.before in let r = f.runs in record {
+since_step s j End h p t f = let n = end_counts h in let b = f.below in let o = f.before in let r = f.runs in record {
   below = λ u. grind (arith, nat_tests);
   before = λ u w. grind (arith, nat_tests);
   runs = λ u w. grind (arith, nat_tests);
@@ -92,7 +92,7 @@ timely_unmarked v at Done t = t.0
 
 -- another event leaves the callback what it was
 keeps_call : (s : Size) (e : Event) (h : History) → fault_in s (situation h) e ≡ None → Turns h → (call : Queued ℕ) (mark : Mark) → Kept call mark h → Kept call mark (e ∷ h)
-keeps_call s (Queue c y) h p t call mark k = let w = k.was in let a = k.at in record { was = grind (arith, nat_tests); at = grind (arith, nat_tests); timely = k.timely }
+keeps_call s (Queue c y) h p t call mark k = let n = queue_counts c y h in let w = k.was in let a = k.at in record { was = grind (arith, nat_tests); at = grind (arith, nat_tests); timely = k.timely }
 keeps_call s Begin h p t call mark k = record { was = k.was; at = k.at; timely = timely_later (number h) (number (Begin ∷ h)) call.at mark (number_step s Begin h p t) k.timely }
 keeps_call s End h p t call mark k = record { was = k.was; at = k.at; timely = timely_later (number h) (number (End ∷ h)) call.at mark (number_step s End h p t) k.timely }
 keeps_call s _ h p t call mark k = record { was = k.was; at = k.at; timely = k.timely }
@@ -110,7 +110,7 @@ unmarks h (Of call mark) k = record { was = k.was; at = k.at; timely = timely_un
 unmarks h Marker k = tt
 
 queued_now : (c y : ℕ) (h : History) → Kept (record { ord = queued h + 1; at = number h; value = y }) Unmarked (Queue c y ∷ h)
-queued_now c y h = record { was = omega arith; at = grind (arith, nat_tests); timely = omega arith }
+queued_now c y h = let n = queue_counts c y h in record { was = omega arith; at = grind (arith, nat_tests); timely = omega arith }
 
 each_cond : (P : Item ℕ → Type 0) (b : Bool) (xs ys : List (Item ℕ)) → All P xs → All P ys → All P (cond b xs ys)
 each_cond P true xs ys a b = a

@@ -1,13 +1,12 @@
 -- What the accepted events so far say of callbacks: each processor's list, the barrier, and who was handed out.
-use Rattle.std.specs.Prelude.{ℕ, ◌+◌, ◌==◌, Bool, true, false, not, ◌&&◌, ◌||◌, max, fold, if◌then◌else◌, List, [], ◌∷◌, ◌++◌, count_by}
-use Rattle.rcu_seq.specs.Numbers.{Number}
+use Rattle.std.specs.Prelude.{ℕ, ◌+◌, ◌==◌, Bool, true, false, not, ◌&&◌, max, fold, if◌then◌else◌, List, [], ◌∷◌, ◌++◌, count_by}
+use Rattle.rcu_seq.specs.Histories.{has_full, is_on, latest, some_since}
+use Rattle.rcu_seq.specs.Numbers.{Number, snapshot}
 use Rattle.rcu_cblist.specs.declared.queued.Queued.{Queued}
 use Rattle.rcu_cblist.specs.SegList.{Item, Of, Unmarked, after_migrate, numbers, take_answer, after_take}
 use Rattle.rcu_barrier.specs.Lists.{as_it_leaves}
 use Rattle.rcu_barrier.specs.Tending.{after_tend}
-use Rattle.rcu_core.specs.History.{History, begins, ends, number, snapshot}
-use Rattle.std.specs.Prelude.{count_by}
-use Rattle.rcu_seq.specs.Histories.{latest}
+use Rattle.rcu_core.specs.History.{History, begins, ends, number}
 use Rattle.rcu_core.specs.declared.event.Event.{Event}
 use Rattle.rcu_core.specs.declared.event.Event.TheVariants.{Offline, StartPoll, Queue, Tend, Run, BarBegin, Visit, BarTest}
 
@@ -34,13 +33,11 @@ visits cpu _ = false
 
 -- a barrier runs: of its latest begin and end, the begin is the later one
 abbrev pub barrier_runs : History → Bool
-barrier_runs [] = false
-barrier_runs (e ∷ h) = if begins_barrier e then true else (if ends_barrier e then false else barrier_runs h)
+barrier_runs h = is_on false begins_barrier ends_barrier h
 
 -- the processor was visited since the latest barrier began
 abbrev pub was_visited : ℕ → History → Bool
-was_visited cpu [] = false
-was_visited cpu (e ∷ h) = not (begins_barrier e) && (visits cpu e || was_visited cpu h)
+was_visited cpu h = some_since begins_barrier (λ e _. visits cpu e) h
 
 -- a barrier runs that did not visit the processor yet
 abbrev pub is_owed : ℕ → History → Bool
@@ -73,7 +70,7 @@ greatest_from number numbers = fold max number numbers
 -- waits for; 0 before any
 abbrev pub needed : History → Number
 needed [] = 0
-needed (StartPoll ∷ h) = max (needed h) (snapshot h)
+needed (StartPoll ∷ h) = max (needed h) (snapshot (number h))
 needed (Tend cpu ∷ h) = greatest_from (needed h) (numbers (list cpu (Tend cpu ∷ h)))
 needed (_ ∷ h) = needed h
 
@@ -96,15 +93,9 @@ abbrev pub since : ℕ → History → History
 since ord [] = []
 since ord (e ∷ h) = if queues e && (queued h + 1 == ord) then [] else e ∷ since ord h
 
--- a grace period begins among these events
-abbrev pub has_begin : History → Bool
-has_begin [] = false
-has_begin (e ∷ h) = begins e || has_begin h
-
 -- a full grace period lies among these events: it begins and ends there
 abbrev pub has_full_period : History → Bool
-has_full_period [] = false
-has_full_period (e ∷ h) = (ends e && has_begin h) || has_full_period h
+has_full_period h = has_full begins ends h
 
 -- how many callbacks were queued before the latest barrier began
 abbrev pub queued_before_barrier : History → ℕ

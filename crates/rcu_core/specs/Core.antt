@@ -1,15 +1,14 @@
 -- What the engine holds, and how it says what a history says.
-use Rattle.std.specs.Prelude.{ℕ, ◌<◌, ◌≡◌, ◌&&◌, Bool, false, not, List, [], ◌∷◌, ◌++◌, length, slice_index_or, slice_set, All, Option, Some, None}
+use Rattle.std.specs.Prelude.{ℕ, ◌<◌, ◌≡◌, Bool, false, List, [], ◌∷◌, ◌++◌, length, slice_index_or, slice_set, All, Option, Some, None, count_by}
 use Rattle.rcu_node.specs.CpuSet.{is_in}
 use Rattle.rcu_report.specs.declared.report.Report.{Report}
 use Rattle.rcu_hotplug.specs.Hotplug.{Arrive as Arrives, Depart as Departs, cpus_of}
 use Rattle.rcu_cpu.specs.CpuData.{Call, Enter as Entering, Exit as Exiting, Note as Noting, Arrive as Arriving, Depart as Departing, after_call}
 use Rattle.rcu_cpu.specs.CpuData.{Processor, at_first as made_processor, report_of}
-use Rattle.rcu_barrier.specs.Lists.{AllLists, cpus_of as cpus_of_lists, list_of}
+use Rattle.rcu_barrier.specs.Lists.{AllLists, cpus_of as cpus_of_lists, list_of, owes_visit}
 use Rattle.rcu_core.specs.Callbacks.{barrier_runs, is_owed, list, needed, queued}
 use Rattle.rcu_core.specs.GpState.{Grace, awaited_after, after_barrier_begin, after_barrier_test, after_begin, after_end, after_migrate, number_in, after_queue, after_run, after_start_poll, after_tend, after_turn, after_visit, with_awaited, with_call}
 use Rattle.rcu_core.specs.History.{History, ends, running, online, awaits, depth, noted, reports_made, report_at}
-use Rattle.std.specs.Prelude.{count_by}
 use Rattle.rcu_core.specs.Replies.{Size, Situation, AreAccepted, IsLegalReply, with_event, situation}
 use Rattle.rcu_core.specs.declared.event.Event.{Event}
 use Rattle.rcu_core.specs.declared.event.Event.TheVariants.{Enter, Exit, Note, Quiesce, Deliver, Online, Offline, Begin, End, Turn, Awaits, Take, StartPoll, Poll, Queue, Tend, Run, BarBegin, Visit, BarTest}
@@ -30,10 +29,6 @@ size_at v = record { cpus = cpus_of v.grace.processors; last = v.grace.seq.last 
 abbrev pub processor : List Processor → ℕ → Processor
 processor cpus cpu = slice_index_or cpus cpu (made_processor cpu false)
 
--- a barrier runs that did not visit the processor yet
-abbrev pub owes : {X : Type 0} → AllLists X → ℕ → Bool
-owes all cpu = all.running && not (slice_index_or all.visited cpu false)
-
 -- what a state says
 abbrev pub says : State ℕ → Situation
 says v = record {
@@ -48,7 +43,7 @@ says v = record {
   queued = v.grace.lists.queued;
   list = list_of v.grace.lists;
   barrier = v.grace.lists.running;
-  owed = owes v.grace.lists;
+  owed = owes_visit v.grace.lists;
 }
 
 -- what always holds: there are as many processors as flags, each at its place, and online where the set of the online
@@ -124,7 +119,7 @@ pub record Represents (v : State ℕ) (h : History) : Type 0 where
   pub queued : v.grace.lists.queued ≡ queued h
   pub list : (cpu : ℕ) → list_of v.grace.lists cpu ≡ list cpu h
   pub barrier : v.grace.lists.running ≡ barrier_runs h
-  pub owed : (cpu : ℕ) → owes v.grace.lists cpu ≡ is_owed cpu h
+  pub owed : (cpu : ℕ) → owes_visit v.grace.lists cpu ≡ is_owed cpu h
 
 -- a step after a history: the reply is legal, and the engine is left in the situation of the history, with the event
 -- where it was accepted, at the same size

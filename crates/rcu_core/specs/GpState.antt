@@ -1,8 +1,7 @@
 -- The state of the grace periods and the callbacks: what each call leaves, and when it is refused.
 use Rattle.std.specs.Prelude.{ℕ, ◌+◌, ◌≤◌, ◌≡◌, ◌==◌, ◌&&◌, Bool, true, false, not, max, nat_lt, if◌then◌else◌, List, [], ◌∷◌, All, Option, Some, None}
-use Rattle.rcu_seq.specs.Seq.{snapshot_of}
-use Rattle.rcu_seq.specs.Numbers.{Number, same_number}
-use Rattle.rcu_seq.specs.Seq.{Periods, number_of}
+use Rattle.rcu_seq.specs.Numbers.{Number, same_number, snapshot}
+use Rattle.rcu_seq.specs.Seq.{Periods, number_of, snapshot_of}
 use Rattle.rcu_seq.specs.declared.fault.Fault.{Fault}
 use Rattle.rcu_seq.specs.declared.fault.Fault.TheVariants as fault
 use Rattle.rcu_node.specs.CpuSet.{size_of}
@@ -13,7 +12,6 @@ use Rattle.rcu_report.specs.declared.report.Report.{Report}
 use Rattle.rcu_hotplug.specs.Hotplug.{Processors, Call, Begin, cpus_of, after_call, at_first as present_at_first}
 use Rattle.rcu_cblist.specs.SegList.{Item, Mark, Of, Marker, Unmarked, Until, Done, numbers}
 use Rattle.rcu_barrier.specs.Lists.{AllLists, lists_after_barrier_begin as barred, cpus_of as cpus_of_lists, list_of, lists_after_migrate as migrated_lists, lists_after_queue, lists_after_run, lists_after_tend, lists_after_barrier_test, lists_after_visit, at_first as lists_at_first}
-use Rattle.rcu_seq.specs.Numbers.{snapshot}
 use Rattle.rcu_core.specs.Callbacks.{greatest_from}
 use Rattle.rcu_core.specs.declared.turned.Turned.{Turned}
 use Rattle.rcu_core.specs.declared.turned.Turned.TheVariants as turned

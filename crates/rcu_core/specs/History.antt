@@ -1,8 +1,8 @@
 -- What the accepted events so far say. A history is the list of the accepted events, the newest first. So the
 -- history as it was at an earlier event is the part of the list from that event on. A turn that began or ended a
 -- grace period stands in it as that begin or end.
-use Rattle.std.specs.Prelude.{ℕ, ◌+◌, ◌-◌, ◌==◌, Bool, true, false, not, ◌&&◌, ◌||◌, nat_lt, if◌then◌else◌, List, [], ◌∷◌, ◌++◌, slice_get, Option, Some, None}
-use Rattle.rcu_seq.specs.Cookies.{snapshot_at}
+use Rattle.std.specs.Prelude.{ℕ, ◌-◌, ◌==◌, Bool, true, false, not, ◌&&◌, nat_lt, if◌then◌else◌, List, [], ◌∷◌, ◌++◌, count_by, slice_get, Option, Some, None}
+use Rattle.rcu_seq.specs.Histories.{is_on, latest, some_since}
 use Rattle.rcu_seq.specs.Numbers.{Number, number_at, same_number}
 use Rattle.rcu_core.specs.declared.event.Event.{Event}
 use Rattle.rcu_core.specs.declared.event.Event.TheVariants.{Enter, Exit, Note, Quiesce, Deliver, Online, Offline, Begin, End}
@@ -10,16 +10,6 @@ use Rattle.rcu_report.specs.declared.report.Report.{Report}
 
 abbrev pub History : Type 0
 History = List Event
-
--- how many events pass a test
-abbrev pub count_by : (Event → Bool) → History → ℕ
-count_by test [] = 0
-count_by test (e ∷ h) = if test e then count_by test h + 1 else count_by test h
-
--- the history as it was at the latest event that passes a test, that event included; empty where there is none
-abbrev pub latest : (Event → Bool) → History → History
-latest test [] = []
-latest test (e ∷ h) = if test e then e ∷ h else latest test h
 
 -- a grace period begins
 abbrev pub begins : Event → Bool
@@ -65,14 +55,9 @@ running h = nat_lt (count_by ends h) (count_by begins h)
 abbrev pub number : History → Number
 number h = number_at (count_by ends h) (running h)
 
--- the snapshot: the number that ends the first grace period to begin from now on
-abbrev pub snapshot : History → Number
-snapshot h = snapshot_at (count_by ends h) (running h)
-
 -- the processor is online: its last arrival or departure is an arrival; before any, it is processor 0
 abbrev pub online : ℕ → History → Bool
-online cpu [] = cpu == 0
-online cpu (e ∷ h) = if arrives cpu e then true else (if departs cpu e then false else online cpu h)
+online cpu h = is_on (cpu == 0) (arrives cpu) (departs cpu) h
 
 -- the noted number: the number at the processor's last note or arrival, 0 before any
 abbrev pub noted : ℕ → History → Number
@@ -81,13 +66,11 @@ noted cpu (e ∷ h) = if notes cpu e then number (e ∷ h) else noted cpu h
 
 -- how often the processor entered
 abbrev pub entered : ℕ → History → ℕ
-entered cpu [] = 0
-entered cpu (e ∷ h) = if enters cpu e then entered cpu h + 1 else entered cpu h
+entered cpu h = count_by (enters cpu) h
 
 -- how often the processor exited
 abbrev pub exited : ℕ → History → ℕ
-exited cpu [] = 0
-exited cpu (e ∷ h) = if exits cpu e then exited cpu h + 1 else exited cpu h
+exited cpu h = count_by (exits cpu) h
 
 -- how deep its read sections nest: the enters less the exits
 abbrev pub depth : ℕ → History → ℕ
@@ -130,8 +113,7 @@ hears cpu tag _ h = false
 
 -- the processor was heard since the latest begin
 abbrev pub is_heard : ℕ → Number → History → Bool
-is_heard cpu tag [] = false
-is_heard cpu tag (e ∷ h) = not (begins e) && (hears cpu tag e h || is_heard cpu tag h)
+is_heard cpu tag h = some_since begins (hears cpu tag) h
 
 -- the processor is awaited: a grace period runs at whose begin it was online, and it was not heard since
 abbrev pub awaits : ℕ → History → Bool

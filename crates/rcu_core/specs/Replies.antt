@@ -1,9 +1,8 @@
 -- Which replies are legal to an event after a history.
 use Rattle.std.specs.Prelude.{ℕ, ◌+◌, ◌-◌, ◌≡◌, ◌⊎◌, ◌==◌, Bool, true, false, not, ◌&&◌, nat_lt, nat_le, if◌then◌else◌, List, [], ◌∷◌, length, filter, count_by, map, sum_by, Option, Some, None, is_none}
 use Rattle.std.specs.List.{range_with_len}
-use Rattle.rcu_seq.specs.Numbers.{is_done_at}
-use Rattle.rcu_seq.specs.Cookies.{snapshot_at}
-use Rattle.rcu_seq.specs.Numbers.{Number, number_at, same_number}
+use Rattle.rcu_seq.specs.Numbers.{Number, is_done_at, number_at, same_number, snapshot}
+use Rattle.rcu_seq.specs.Fault.{first_fault}
 use Rattle.rcu_seq.specs.declared.fault.Fault.{Fault}
 use Rattle.rcu_seq.specs.declared.fault.Fault.TheVariants as fault
 use Rattle.rcu_node.specs.declared.answer.Answer.{Answer}
@@ -17,7 +16,6 @@ use Rattle.rcu_barrier.specs.declared.visit.Visit.{Visit as Visited}
 use Rattle.rcu_barrier.specs.declared.visit.Visit.TheVariants.{Marked, Empty, Already}
 use Rattle.rcu_core.specs.Callbacks.{barrier_runs, is_owed, list, needed, queued}
 use Rattle.rcu_core.specs.History.{History, ends, running, online, awaits, depth, noted, reports_made, report_at}
-use Rattle.std.specs.Prelude.{count_by}
 use Rattle.rcu_core.specs.declared.event.Event.{Event}
 use Rattle.rcu_core.specs.declared.event.Event.TheVariants.{Enter, Exit, Note, Quiesce, Deliver, Online, Offline, Begin, End, Turn, Awaits, Take, StartPoll, Poll, Queue, Tend, Run, BarBegin, Visit, BarTest}
 use Rattle.rcu_core.specs.declared.reply.Reply.{Reply}
@@ -111,11 +109,6 @@ causes s v BarBegin = (v.barrier, fault.BarrierBusy) ∷ []
 causes s v (Visit cpu) = (nat_le s.cpus cpu, fault.BadCpu) ∷ (not v.barrier, fault.NoBarrier) ∷ []
 causes s v BarTest = (not v.barrier, fault.NoBarrier) ∷ []
 
--- the fault of the first cause that holds
-abbrev pub first_fault : List (Bool × Fault) → Option Fault
-first_fault [] = None
-first_fault (cause ∷ causes) = if cause.0 then Some cause.1 else first_fault causes
-
 -- the fault of an event
 abbrev pub fault_in : Size → Situation → Event → Option Fault
 fault_in s v e = first_fault (causes s v e)
@@ -164,8 +157,8 @@ accepted_reply s v Begin = begin_reply s v
 accepted_reply s v End = end_reply v
 accepted_reply s v Turn = turn_reply s v
 accepted_reply s v Awaits = reply.Awaits (which s.cpus v.awaits)
-accepted_reply s v Take = reply.Cookie (record { 0 = snapshot_at v.ends v.running })
-accepted_reply s v StartPoll = reply.Cookie (record { 0 = snapshot_at v.ends v.running })
+accepted_reply s v Take = reply.Cookie (record { 0 = snapshot (number_in v) })
+accepted_reply s v StartPoll = reply.Cookie (record { 0 = snapshot (number_in v) })
 accepted_reply s v (Poll cookie) = reply.Polled (is_done_at cookie (number_in v))
 accepted_reply s v (Queue cpu value) = reply.Queued (v.queued + 1)
 accepted_reply s v (Tend cpu) = reply.Tended (length (callbacks (front (tended_list v cpu)))) (length (callbacks (behind (tended_list v cpu))))

@@ -84,7 +84,7 @@ impl<A: Awaited> Core<A, u64> {
     pub fn new(alloc: Global, inner: A, last: u64) -> Result<Self, Fault>
         requires tag { A.tag inner ≡ 0 }
         requires empty { A.start_set inner ≡ replicate (length (A.awaited inner)) false }
-        ensures ok { IfOk result (λ made. Represents at_first [] × (size_at at_first ≡ record { cpus = length (A.awaited inner); last = last })) }
+        ensures ok { IfOk result (λ made. Represents made [] × (size_at made ≡ record { cpus = length (A.awaited inner); last = last })) }
         ensures err { IfErr result (λ fault. is_last last ≡ false → fault ≡ Fault.BadLast) }
         ensures memory { IfErr result (λ fault. is_last last ≡ true → fault ≡ Fault.NoMemory) }
     {

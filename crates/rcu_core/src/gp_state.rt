@@ -3,7 +3,8 @@ ghost use Rattle.std.specs.Prelude.{◌≡◌, ◌≢◌, ◌<◌, ◌≤◌, �
 ghost use Rattle.rcu_seq.specs.Seq.{is_done, snapshot_of};
 ghost use Rattle.rcu_seq.specs.Numbers.{is_last};
 ghost use Rattle.rcu_node.specs.CpuSet.{is_in};
-ghost use Rattle.rcu_hotplug.specs.Hotplug.{Arrive, Depart, IsSound, cpus_of, refusal};
+ghost use Rattle.rcu_hotplug.specs.Hotplug.{Arrive, Depart, cpus_of, refusal};
+ghost use Rattle.rcu_hotplug.specs.Hotplug as hotplug;
 ghost use Rattle.rcu_cblist.specs.SegList.{behind, callbacks, front, is_empty, take_answer};
 ghost use Rattle.rcu_barrier.specs.Lists.{list_of, most_queued, barrier_test_answer, visit_answer};
 ghost use Rattle.rcu_seq.specs.Numbers.{snapshot};
@@ -77,7 +78,7 @@ impl<A: Awaited, T: Drop> GpState<A, T> {
     /// The number of processors.
     pub fn cpus(&self) -> u32
         ensures value { result ≡ cpus_of self.now.processors }
-        ensures kept { IsSound self.now.processors }
+        ensures kept { hotplug.IsSound self.now.processors }
     {
         self.hotplug.awaited().cpus()
     }
@@ -100,7 +101,7 @@ impl<A: Awaited, T: Drop> GpState<A, T> {
     /// The awaited set.
     pub fn awaited(&self) -> &A
         ensures value { A.awaited result.now ≡ self.now.processors.awaited }
-        ensures kept { IsSound self.now.processors }
+        ensures kept { hotplug.IsSound self.now.processors }
     {
         self.hotplug.awaited()
     }
