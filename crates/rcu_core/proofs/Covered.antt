@@ -12,7 +12,8 @@ use Rattle.rcu_barrier.specs.Lists.{as_it_leaves}
 use Rattle.rcu_barrier.specs.Tending.{mark_after_tend, after_tend}
 use Rattle.rcu_core.specs.Callbacks.{barrier_runs, is_owed, list, queued, queued_before_barrier, times_handed_out, was_visited}
 use Rattle.rcu_core.specs.History.{History, number}
-use Rattle.rcu_core.specs.Replies.{Size, situation, fault_in, how_many, or_fault, waits_for, AreAccepted, IsLegalReply}
+use Rattle.rcu_core.specs.Replies.{Size, fault_in, how_many, or_fault, waits_for, AreAccepted, IsLegalReply}
+use Rattle.rcu_core.specs.Situation.{situation}
 use Rattle.rcu_core.specs.Runs.{IsLegalRun, history, Run as Trace}
 use Rattle.rcu_core.specs.declared.event.Event.{Event}
 use Rattle.rcu_core.specs.declared.event.Event.TheVariants.{Offline, Queue, Tend, Run, BarBegin, Visit, BarTest}

@@ -5,7 +5,8 @@ use Rattle.rcu_seq.specs.Numbers.{snapshot}
 use Rattle.rcu_report.specs.declared.report.Report.{Report}
 use Rattle.rcu_core.specs.History.{History, begins, ends, running, number, online, noted, entered, exited, depth, opening, reports_made, report_at, is_of, is_heard}
 use Rattle.rcu_seq.specs.Histories.{latest}
-use Rattle.rcu_core.specs.Replies.{Size, situation, fault_in, AreAccepted}
+use Rattle.rcu_core.specs.Replies.{Size, fault_in, AreAccepted}
+use Rattle.rcu_core.specs.Situation.{situation}
 use Rattle.rcu_core.specs.declared.event.Event.{Event}
 use Rattle.rcu_core.specs.declared.event.Event.TheVariants.{Enter, Exit, Note, Quiesce, Deliver, Online, Offline, Begin, End}
 use Rattle.rcu_core.proofs.Kept.{Turns, turns, none_awaited, exits_step, quiet_where_departed, quiet_where_reported, begin_counts, end_counts, enter_counts, exit_counts}

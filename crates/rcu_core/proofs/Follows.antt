@@ -1,210 +1,235 @@
 -- A step on states follows the step on histories.
-use Rattle.std.proofs.Common.{◌≡◌, ℕ, ◌+◌, ◌<◌, Bool, true, false, not, cond, ◌&&◌, List, [], ◌∷◌, length, Option, Some, None, refl, sym, ap, ap₂, subst, ◌++◌, ◌∙◌, arith, eqb, get_or, take, inl, inr}
+use Rattle.std.proofs.Common.{◌≡◌, ℕ, ◌+◌, ◌-◌, ◌<◌, Bool, true, false, cond, List, [], ◌∷◌, ◌++◌, length, Option, Some, None}
+use Rattle.std.proofs.Common.{refl, sym, ap, ap₂, subst, ◌∙◌, arith, get_or, take, inl, inr}
 use Rattle.std.specs.Prelude.{◌==◌, max}
 use Rattle.std.proofs.lemmas.Bool.Decides.{nat_tests}
 use Rattle.std.proofs.lemmas.List.{length-set, take_more}
 use Rattle.rcu_seq.specs.Numbers.{snapshot}
+use Rattle.rcu_seq.specs.Seq.{number_of}
 use Rattle.rcu_seq.specs.declared.fault.Fault.{Fault}
-use Rattle.rcu_cpu.specs.CpuData.{Enter as Entering, Exit as Exiting, Note as Noting, Arrive as Arriving, Depart as Departing}
-use Rattle.rcu_core.specs.GpState.{at_first, awaited_in, after_begin, after_end, number_in, wants_begin}
-use Rattle.rcu_core.specs.History.{History, begins, running, number, online, noted, entered, exited, reports_made, report_at, is_of, is_heard, awaits}
-use Rattle.rcu_seq.specs.Histories.{latest}
-use Rattle.rcu_core.specs.Replies.{Size, Situation, situation, fault_in, accepted_reply, or_fault, IsLegalReply, with_event}
+use Rattle.rcu_cpu.specs.CpuData as cpu_data
+use Rattle.rcu_cpu.specs.CpuData.{Processor}
+use Rattle.rcu_cblist.specs.SegList.{Item, numbers}
+use Rattle.rcu_barrier.specs.Lists.{barrier_left}
+use Rattle.rcu_core.specs.Callbacks.{barrier_runs, greatest_from}
+use Rattle.rcu_core.specs.GpState.{after_begin, after_end, at_first, awaited_in, periods_of}
+use Rattle.rcu_core.specs.History.{History, online, noted, depth, entered, exited, report_at}
+use Rattle.rcu_core.specs.Replies.{Size, AreAccepted, IsLegalReply, accepted_reply, barrier_test_reply, fault_in, or_fault}
+use Rattle.rcu_core.specs.Replies.{waits_for, with_event}
 use Rattle.rcu_core.specs.Runs.{Leads, RunsLegally}
+use Rattle.rcu_core.specs.Situation.{Situation, cpus_in, situation, wants_begin}
 use Rattle.rcu_core.specs.Core.{State, IsSound, StepsLegally, Represents, Follows, size_at, after_event, after_reply}
 use Rattle.rcu_core.specs.declared.event.Event.{Event}
-use Rattle.rcu_core.specs.declared.event.Event.TheVariants.{Enter, Exit, Note, Quiesce, Deliver, Online, Offline, Begin, End, Turn, Awaits, Take, StartPoll, Poll, Queue, Tend, Run, BarBegin, Visit, BarTest}
+use Rattle.rcu_core.specs.declared.event.Event.TheVariants.{Enter, Exit, Note, Quiesce, Deliver, Online, Offline, Begin, End}
+use Rattle.rcu_core.specs.declared.event.Event.TheVariants.{Turn, Awaits, Take, StartPoll, Poll, Queue, Tend, Run, BarBegin}
+use Rattle.rcu_core.specs.declared.event.Event.TheVariants.{Visit, BarTest}
 use Rattle.rcu_core.specs.declared.reply.Reply.{Reply}
 use Rattle.rcu_core.specs.declared.reply.Reply.TheVariants as reply
-use Rattle.rcu_core.proofs.FollowsLists.{follows_barrier, follows_queue, follows_run, follows_tend, follows_test, follows_visit, moved_lists, moved_owed}
-use Rattle.rcu_core.proofs.FollowsPeriods.{awaits_delivered, follows_begin, follows_end, follows_turn, heard_of, length-awaited_by}
+use Rattle.rcu_core.proofs.FollowsLists.{calls_begun, calls_moved, calls_queued, calls_run, calls_tended, calls_tested}
+use Rattle.rcu_core.proofs.FollowsLists.{calls_visited}
+use Rattle.rcu_core.proofs.FollowsPeriods.{awaits_delivered, awaits_departed, follows_begin, follows_end, follows_turn}
+use Rattle.rcu_core.proofs.FollowsPeriods.{length-awaited_by}
 use Rattle.rcu_core.proofs.Kept.{enter_counts, exit_counts, exits_le}
-use Rattle.rcu_core.proofs.Situations.{longer, number_same, one_changed, same, within, within_all}
+use Rattle.rcu_core.proofs.Situations.{number_same, longer, one_changed, same, within, within_all}
 use Rattle.rcu_core.proofs.Sound.{first_cpus, first_at, no_item, nobody, boot_alone}
-use Rattle.rcu_core.proofs.Writes.{cleared, eqb_self, one_written}
+use Rattle.rcu_core.proofs.Steps.{waits_said}
+use Rattle.rcu_core.proofs.Writes.{eqb_self, one_written}
 
-follows : (v : State ℕ) (h : History) (e : Event) → IsSound v → Represents v h → fault_in (size_at v) (situation h) e ≡ None
-    → Represents (after_reply v e (accepted_reply (size_at v) (situation h) e)) (with_event h e (accepted_reply (size_at v) (situation h) e))
+-- where it waits for something, a test of the barrier changes nothing
+left_tested : (v : State ℕ) (b : Bool) (n : ℕ) →
+    after_reply v BarTest (cond b reply.BarDone (reply.BarWaits n)) ≡ after_event v BarTest
+left_tested v true n = refl
+left_tested v false n = refl
+
+test_kept : (v : State ℕ) (h : History) (b : Bool) (n : ℕ) → Represents v h →
+    fault_in (size_at v) (situation h) BarTest ≡ None →
+    Represents (record v { grace = record v.grace { lists = cond b (record v.grace.lists { running = false }) v.grace.lists } })
+    (with_event h BarTest (cond b reply.BarDone (reply.BarWaits n)))
+test_kept v h true n x p = record {
+  accepted = (p, x.accepted);
+  periods = x.periods;
+  cpus = x.cpus;
+  calls = calls_tested v.grace.lists h x.calls;
+}
+test_kept v h false n x p = x
+
+-- the barrier is tested
+follows_test : (v : State ℕ) (h : History) → IsSound v → Represents v h →
+    fault_in (size_at v) (situation h) BarTest ≡ None →
+    Represents (after_reply v BarTest (barrier_test_reply (size_at v) (situation h)))
+    (with_event h BarTest (barrier_test_reply (size_at v) (situation h)))
+follows_test v h s x p =
+    let n = waits_for (size_at v) (situation h) in
+    let all = v.grace.lists in
+    let runs : barrier_runs h ≡ true = grind (arith, nat_tests) in
+    let counted : n ≡ barrier_left all =
+    ap (λ (u : Situation). waits_for (size_at v) u) (sym (same v h x)) ∙ waits_said v s (x.calls.barrier ∙ runs) in
+    let after = λ (m : ℕ). with_event h BarTest (cond (m == 0) reply.BarDone (reply.BarWaits m)) in
+    subst (λ (w : State ℕ). Represents w (after n)) (sym (left_tested v (n == 0) n))
+    (subst (λ (m : ℕ). Represents (after_event v BarTest) (after m)) (sym counted)
+    (test_kept v h (barrier_left all == 0) (barrier_left all) x p))
+
+-- the depth after an enter and after an exit
+deeper : (s : Size) (c : ℕ) (h : History) → AreAccepted s h → depth c h + 1 ≡ depth c (Enter c ∷ h)
+deeper s c h p =
+    let le = exits_le s c h p in
+    let n : entered c (Enter c ∷ h) ≡ 1 + entered c h = enter_counts c c h ∙ ap (λ b. cond b 1 0 + entered c h) (eqb_self c) in
+    omega (arith, le, n)
+
+shallower : (c : ℕ) (h : History) → depth c h - 1 ≡ depth c (Exit c ∷ h)
+shallower c h =
+    let n : exited c (Exit c ∷ h) ≡ 1 + exited c h = exit_counts c c h ∙ ap (λ b. cond b 1 0 + exited c h) (eqb_self c) in
+    omega (arith, n)
+
+-- with its sections nested so deep
+abbrev so_deep : ℕ → History → ℕ → Processor
+so_deep c h n = record { cpu = c; online = online c h; depth = n; noted = noted c h }
+
+follows : (v : State ℕ) (h : History) (e : Event) → IsSound v → Represents v h →
+    fault_in (size_at v) (situation h) e ≡ None →
+    Represents (after_reply v e (accepted_reply (size_at v) (situation h) e))
+    (with_event h e (accepted_reply (size_at v) (situation h) e))
 follows v h (Enter c) s x p = record {
   accepted = (p, x.accepted);
-  ends = x.ends;
-  running = x.running;
-  needed = x.needed;
-  made = x.made;
-  online = x.online;
-  awaits = x.awaits;
-  cpus = one_changed v h (Enter c) c Entering (within v c s (grind (arith, nat_tests))) x.cpus
-      (ap (λ (n : ℕ). record { cpu = c; online = online c h; depth = n; noted = noted c h }) (let le = exits_le (size_at v) c h x.accepted in let n : entered c (Enter c ∷ h) ≡ 1 + entered c h = enter_counts c c h ∙ ap (λ b. cond b 1 0 + entered c h) (eqb_self c) in omega (arith, le, n)))
-      (λ k n. rw n refl);
-  queued = x.queued;
-  list = x.list;
-  barrier = x.barrier;
-  owed = x.owed;
+  periods = x.periods;
+  cpus = record {
+    online = x.cpus.online;
+    awaits = x.cpus.awaits;
+    each = one_changed v.cpus (cpus_in h) (cpus_in (Enter c ∷ h)) c cpu_data.Enter (within v c s (grind (arith, nat_tests)))
+        x.cpus.each (ap (λ n. so_deep c h n) (deeper (size_at v) c h x.accepted)) (λ k n. rw n refl);
+    made = x.cpus.made;
+  };
+  calls = x.calls;
 }
 follows v h (Exit c) s x p = record {
   accepted = (p, x.accepted);
-  ends = x.ends;
-  running = x.running;
-  needed = x.needed;
-  made = x.made;
-  online = x.online;
-  awaits = x.awaits;
-  cpus = one_changed v h (Exit c) c Exiting (within v c s (grind (arith, nat_tests))) x.cpus
-      (ap (λ (n : ℕ). record { cpu = c; online = online c h; depth = n; noted = noted c h }) (let n : exited c (Exit c ∷ h) ≡ 1 + exited c h = exit_counts c c h ∙ ap (λ b. cond b 1 0 + exited c h) (eqb_self c) in omega (arith, n)))
-      (λ k n. rw n refl);
-  queued = x.queued;
-  list = x.list;
-  barrier = x.barrier;
-  owed = x.owed;
+  periods = x.periods;
+  cpus = record {
+    online = x.cpus.online;
+    awaits = x.cpus.awaits;
+    each = one_changed v.cpus (cpus_in h) (cpus_in (Exit c ∷ h)) c cpu_data.Exit (within v c s (grind (arith, nat_tests)))
+        x.cpus.each (ap (λ n. so_deep c h n) (shallower c h)) (λ k n. rw n refl);
+    made = x.cpus.made;
+  };
+  calls = x.calls;
 }
 follows v h (Note c) s x p = record {
   accepted = (p, x.accepted);
-  ends = x.ends;
-  running = x.running;
-  needed = x.needed;
-  made = x.made;
-  online = x.online;
-  awaits = x.awaits;
-  cpus = one_changed v h (Note c) c (Noting (number_in v.grace)) (within v c s (grind (arith, nat_tests))) x.cpus
-      (rw (eqb_self c, number_same v h x) refl)
-      (λ k n. rw n refl);
-  queued = x.queued;
-  list = x.list;
-  barrier = x.barrier;
-  owed = x.owed;
+  periods = x.periods;
+  cpus = record {
+    online = x.cpus.online;
+    awaits = x.cpus.awaits;
+    each = one_changed v.cpus (cpus_in h) (cpus_in (Note c ∷ h)) c (cpu_data.Note (number_of v.grace.seq))
+        (within v c s (grind (arith, nat_tests))) x.cpus.each (rw (eqb_self c, number_same v h x) refl) (λ k n. rw n refl);
+    made = x.cpus.made;
+  };
+  calls = x.calls;
 }
 follows v h (Quiesce c) s x p = record {
   accepted = (p, x.accepted);
-  ends = x.ends;
-  running = x.running;
-  needed = x.needed;
-  made = rw (x.made, x.cpus c) refl;
-  online = x.online;
-  awaits = x.awaits;
-  cpus = x.cpus;
-  queued = x.queued;
-  list = x.list;
-  barrier = x.barrier;
-  owed = x.owed;
+  periods = x.periods;
+  cpus = record {
+    online = x.cpus.online;
+    awaits = x.cpus.awaits;
+    each = x.cpus.each;
+    made = rw (x.cpus.made, x.cpus.each c) refl;
+  };
+  calls = x.calls;
 }
 follows v h (Deliver k) s x p = record {
   accepted = longer v (after_event v (Deliver k)) h (Deliver k) x p (length-awaited_by v.grace (report_at k v.made)) refl;
-  ends = x.ends;
-  running = x.running;
-  needed = x.needed;
-  made = x.made;
-  online = x.online;
-  awaits = λ c.
-      heard_of v.grace h (report_at k v.made) x.running (number_same v h x) x.awaits c
-      ∙ ap (λ rs. awaits c h && not (is_of c (number h) (report_at k rs))) x.made
-      ∙ sym (awaits_delivered (running h) (online c (latest begins h)) (is_of c (number h) (report_at k (reports_made h))) (is_heard c (number h) h));
-  cpus = x.cpus;
-  queued = x.queued;
-  list = x.list;
-  barrier = x.barrier;
-  owed = x.owed;
+  periods = x.periods;
+  cpus = record {
+    online = x.cpus.online;
+    awaits = awaits_delivered v h k x;
+    each = x.cpus.each;
+    made = x.cpus.made;
+  };
+  calls = x.calls;
 }
 follows v h (Online c) s x p = record {
   accepted = (p, x.accepted);
-  ends = x.ends;
-  running = x.running;
-  needed = x.needed;
-  made = x.made;
-  online = one_written false v.grace.processors.online c true (λ k. online k h) (λ k. online k (Online c ∷ h)) (within_all v c s (grind (arith, nat_tests))).0 x.online
-      (rw (eqb_self c) refl) (λ k n. rw n refl);
-  awaits = x.awaits;
-  cpus = one_changed v h (Online c) c (Arriving (number_in v.grace)) (within v c s (grind (arith, nat_tests))) x.cpus
-      (rw (eqb_self c, number_same v h x) refl)
-      (λ k n. rw n refl);
-  queued = x.queued;
-  list = x.list;
-  barrier = x.barrier;
-  owed = x.owed;
+  periods = x.periods;
+  cpus = record {
+    online = one_written false v.grace.processors.online c true (λ k. online k h) (λ k. online k (Online c ∷ h))
+        (within_all v c s (grind (arith, nat_tests))).0 x.cpus.online (rw (eqb_self c) refl) (λ k n. rw n refl);
+    awaits = x.cpus.awaits;
+    each = one_changed v.cpus (cpus_in h) (cpus_in (Online c ∷ h)) c (cpu_data.Arrive (number_of v.grace.seq))
+        (within v c s (grind (arith, nat_tests))) x.cpus.each (rw (eqb_self c, number_same v h x) refl) (λ k n. rw n refl);
+    made = x.cpus.made;
+  };
+  calls = x.calls;
 }
 follows v h (Offline c) s x p = let here = within_all v c s (grind (arith, nat_tests)) in record {
   accepted = longer v (after_event v (Offline c)) h (Offline c) x p (length-set v.grace.processors.awaited c false) refl;
-  ends = x.ends;
-  running = x.running;
-  needed = x.needed;
-  made = x.made;
-  online = one_written false v.grace.processors.online c false (λ k. online k h) (λ k. online k (Offline c ∷ h)) here.0 x.online
-      (rw (eqb_self c) refl) (λ k n. rw n refl);
-  awaits = λ k.
-      cleared v.grace.processors.awaited c k
-      ∙ ap (λ (b : Bool). b && not (eqb c k)) (x.awaits k)
-      ∙ sym (awaits_delivered (running h) (online k (latest begins h)) (eqb c k) (is_heard k (number h) h));
-  cpus = one_changed v h (Offline c) c Departing (within v c s (grind (arith, nat_tests))) x.cpus
-      (rw (eqb_self c) refl)
-      (λ k n. rw n refl);
-  queued = x.queued;
-  list = moved_lists v h c x here.1 here.2;
-  barrier = x.barrier;
-  owed = moved_owed v h c x here.2;
+  periods = x.periods;
+  cpus = record {
+    online = one_written false v.grace.processors.online c false (λ k. online k h) (λ k. online k (Offline c ∷ h)) here.0
+        x.cpus.online (rw (eqb_self c) refl) (λ k n. rw n refl);
+    awaits = awaits_departed v h c x;
+    each = one_changed v.cpus (cpus_in h) (cpus_in (Offline c ∷ h)) c cpu_data.Depart (within v c s (grind (arith, nat_tests)))
+        x.cpus.each (rw (eqb_self c) refl) (λ k n. rw n refl);
+    made = x.cpus.made;
+  };
+  calls = calls_moved v.grace.lists h c here.1 here.2 x.calls;
 }
 follows v h Begin s x p = follows_begin v h s x p
 follows v h End s x p = follows_end v h x p
 follows v h Turn s x p = follows_turn v h s x p
-follows v h Awaits s x p = record {
-  accepted = (p, x.accepted);
-  ends = x.ends;
-  running = x.running;
-  needed = x.needed;
-  made = x.made;
-  online = x.online;
-  awaits = x.awaits;
-  cpus = x.cpus;
-  queued = x.queued;
-  list = x.list;
-  barrier = x.barrier;
-  owed = x.owed;
-}
-follows v h Take s x p = record {
-  accepted = (p, x.accepted);
-  ends = x.ends;
-  running = x.running;
-  needed = x.needed;
-  made = x.made;
-  online = x.online;
-  awaits = x.awaits;
-  cpus = x.cpus;
-  queued = x.queued;
-  list = x.list;
-  barrier = x.barrier;
-  owed = x.owed;
-}
+follows v h Awaits s x p = record { accepted = (p, x.accepted); periods = x.periods; cpus = x.cpus; calls = x.calls }
+follows v h Take s x p = record { accepted = (p, x.accepted); periods = x.periods; cpus = x.cpus; calls = x.calls }
 follows v h StartPoll s x p = record {
   accepted = (p, x.accepted);
-  ends = x.ends;
-  running = x.running;
-  needed = ap₂ (λ (a b : ℕ). max a b) x.needed (ap (λ n. snapshot n) (number_same v h x));
-  made = x.made;
-  online = x.online;
-  awaits = x.awaits;
+  periods = record {
+    ends = x.periods.ends;
+    running = x.periods.running;
+    needed = ap₂ (λ (a b : ℕ). max a b) x.periods.needed (ap (λ n. snapshot n) (number_same v h x));
+  };
   cpus = x.cpus;
-  queued = x.queued;
-  list = x.list;
-  barrier = x.barrier;
-  owed = x.owed;
+  calls = x.calls;
 }
-follows v h (Poll k) s x p = record {
+follows v h (Poll k) s x p = record { accepted = (p, x.accepted); periods = x.periods; cpus = x.cpus; calls = x.calls }
+follows v h (Queue c value) s x p = record {
   accepted = (p, x.accepted);
-  ends = x.ends;
-  running = x.running;
-  needed = x.needed;
-  made = x.made;
-  online = x.online;
-  awaits = x.awaits;
+  periods = x.periods;
   cpus = x.cpus;
-  queued = x.queued;
-  list = x.list;
-  barrier = x.barrier;
-  owed = x.owed;
+  calls = calls_queued v.grace.lists h c value (number_of v.grace.seq) (within_all v c s (grind (arith, nat_tests))).1
+      (number_same v h x) x.calls;
 }
-follows v h (Queue c value) s x p = follows_queue v h c value s x p
-follows v h (Tend c) s x p = follows_tend v h c s x p
-follows v h (Run c most) s x p = follows_run v h c most s x p
-follows v h BarBegin s x p = follows_barrier v h x p
-follows v h (Visit c) s x p = follows_visit v h c s x p
+follows v h (Tend c) s x p =
+    let here = (within_all v c s (grind (arith, nat_tests))).1 in
+    let tended = calls_tended v.grace.lists h c (number_of v.grace.seq) here (number_same v h x) x.calls in
+    record {
+      accepted = (p, x.accepted);
+      periods = record {
+        ends = x.periods.ends;
+        running = x.periods.running;
+        needed = ap₂ (λ (n : ℕ) (xs : List (Item ℕ)). greatest_from n (numbers xs)) x.periods.needed (tended.list c);
+      };
+      cpus = x.cpus;
+      calls = tended;
+    }
+follows v h (Run c most) s x p = record {
+  accepted = (p, x.accepted);
+  periods = x.periods;
+  cpus = x.cpus;
+  calls = calls_run v.grace.lists h c most (within_all v c s (grind (arith, nat_tests))).1 x.calls;
+}
+follows v h BarBegin s x p = record {
+  accepted = (p, x.accepted);
+  periods = x.periods;
+  cpus = x.cpus;
+  calls = calls_begun v.grace.lists h x.calls;
+}
+follows v h (Visit c) s x p =
+    let here = within_all v c s (grind (arith, nat_tests)) in
+    let runs : barrier_runs h ≡ true = grind (arith, nat_tests) in
+    record {
+      accepted = (p, x.accepted);
+      periods = x.periods;
+      cpus = x.cpus;
+      calls = calls_visited v.grace.lists h c here.1 here.2 (x.calls.barrier ∙ runs) x.calls;
+    }
 follows v h BarTest s x p = follows_test v h s x p
 
 went_answer : (v w : State ℕ) (h : History) (e : Event) (o : Option Fault) → IsSound v → Represents v h → fault_in (size_at v) (situation h) e ≡ o
@@ -229,7 +254,7 @@ next_size : (v : State ℕ) (e : Event) → IsSound v → size_at (after_event v
 next_size v (Deliver k) s = ap (λ n. the_size n v.grace.seq.last) (length-awaited_by v.grace (report_at k v.made))
 next_size v (Offline c) s = ap (λ n. the_size n v.grace.seq.last) (length-set v.grace.processors.awaited c false)
 next_size v Begin s = ap (λ n. the_size n v.grace.seq.last) s.flags
-next_size v Turn s = turn_size v v.grace.seq.running (awaited_in v.grace == 0) (wants_begin v.grace) s
+next_size v Turn s = turn_size v v.grace.seq.running (awaited_in v.grace == 0) (wants_begin (periods_of v.grace)) s
 next_size v _ s = refl
 
 left_size : (v : State ℕ) (e : Event) (r : Reply) → IsSound v → size_at (after_reply v e r) ≡ size_at v
@@ -248,17 +273,9 @@ has_first n last v l e f m =
     subst (λ (x : State ℕ). Represents x []) (λ i. record { grace = sym e i; cpus = sym f i; made = sym m i })
     (record {
       accepted = tt;
-      ends = refl;
-      running = refl;
-      needed = refl;
-      made = refl;
-      cpus = λ c. first_at n c l;
-      online = λ c. boot_alone n c l;
-      awaits = nobody n;
-      queued = refl;
-      list = no_item n;
-      barrier = refl;
-      owed = λ c. refl;
+      periods = record { ends = refl; running = refl; needed = refl };
+      cpus = record { online = λ c. boot_alone n c l; awaits = nobody n; each = λ c. first_at n c l; made = refl };
+      calls = record { queued = refl; list = no_item n; barrier = refl; owed = λ c. refl };
     })
 
 leads_on : (s : Size) (h g : History) (es : List Event) (rs : List Reply) (e : Event) (r : Reply) → Leads s h es rs g → IsLegalReply s (situation g) e r → Leads s h (es ++ e ∷ []) (rs ++ r ∷ []) (with_event g e r)

@@ -8,16 +8,18 @@ use Rattle.rcu_seq.specs.Numbers.{number_at, same_number}
 use Rattle.rcu_node.specs.CpuSet.{is_in}
 use Rattle.rcu_report.specs.declared.report.Report.{Report}
 use Rattle.rcu_hotplug.specs.Hotplug.{cpus_of}
-use Rattle.rcu_core.specs.GpState.{Grace, awaited_in, after_begin, after_end, number_in, wants_begin}
-use Rattle.rcu_core.specs.History.{History, begins, running, number, online, is_of, is_heard, awaits}
+use Rattle.rcu_seq.specs.Seq.{number_of}
+use Rattle.rcu_core.specs.GpState.{Grace, after_begin, after_end, awaited_in, periods_of}
+use Rattle.rcu_core.specs.History.{History, begins, running, number, online, reports_made, report_at, is_of, is_heard, awaits}
 use Rattle.rcu_seq.specs.Histories.{latest}
-use Rattle.rcu_core.specs.Replies.{Situation, situation, fault_in, accepted_reply, turn_reply, begin_reply as begun_said, end_reply as ended_said, wants_begin as wants_said, how_many, recorded, with_event}
+use Rattle.rcu_core.specs.Replies.{fault_in, accepted_reply, turn_reply, begin_reply as begun_said, end_reply as ended_said, how_many, recorded, with_event}
+use Rattle.rcu_core.specs.Situation.{Situation, situation, wants_begin}
 use Rattle.rcu_core.specs.Core.{State, IsSound, Represents, size_at, says, awaited_by, after_event, after_reply}
-use Rattle.rcu_core.specs.declared.event.Event.TheVariants.{Begin, End, Turn}
+use Rattle.rcu_core.specs.declared.event.Event.TheVariants.{Begin, Deliver, End, Offline, Turn}
 use Rattle.rcu_core.specs.declared.reply.Reply.TheVariants as reply
 use Rattle.rcu_core.proofs.Recorded.{turned_after}
 use Rattle.rcu_core.proofs.Kept.{begin_counts, end_counts, turns, none_awaited}
-use Rattle.rcu_core.proofs.Situations.{longer, same}
+use Rattle.rcu_core.proofs.Situations.{longer, number_same, same}
 use Rattle.rcu_core.proofs.Sound.{length-awaited_after}
 use Rattle.rcu_core.proofs.Steps.{awaited_size}
 use Rattle.rcu_core.proofs.Writes.{cleared}
@@ -40,11 +42,11 @@ hears true o false true = refl
 hears true o false false = refl
 
 -- what is awaited after a delivery
-pub heard_of : (g : Grace ℕ) (h : History) (o : Option Report) → g.seq.running ≡ running h → number_in g ≡ number h → ((c : ℕ) → is_in g.processors.awaited c ≡ awaits c h)
+pub heard_of : (g : Grace ℕ) (h : History) (o : Option Report) → g.seq.running ≡ running h → number_of g.seq ≡ number h → ((c : ℕ) → is_in g.processors.awaited c ≡ awaits c h)
     → (c : ℕ) → is_in (awaited_by g o) c ≡ (awaits c h && not (is_of c (number h) o))
 heard_of g h None r m w c = w c ∙ and_yes (awaits c h)
 heard_of g h (Some report) r m w c =
-    reported_awaited g.seq.running (same_number report.tag (number_in g)) g.processors.awaited report.cpu c
+    reported_awaited g.seq.running (same_number report.tag (number_of g.seq)) g.processors.awaited report.cpu c
     ∙ ap₂ (λ (a s : Bool). a && not (g.seq.running && (s && eqb report.cpu c))) (w c) (ap (λ n. same_number report.tag n) m)
     ∙ ap (λ (b : Bool). awaits c h && not (b && (same_number report.tag (number h) && eqb report.cpu c))) r
     ∙ hears (running h) (online c (latest begins h) && not (is_heard c (number h) h)) (same_number report.tag (number h)) (eqb report.cpu c)
@@ -53,71 +55,75 @@ pub length-awaited_by : (g : Grace ℕ) (o : Option Report) → length (awaited_
 length-awaited_by g None = refl
 length-awaited_by g (Some report) = length-awaited_after g report
 
-pub awaits_delivered : (r o a b : Bool) → (r && (o && not (a || b))) ≡ ((r && (o && not b)) && not a)
-awaits_delivered false o a b = refl
-awaits_delivered true false a b = refl
-awaits_delivered true true true b = sym (and_right (not b) false refl)
-awaits_delivered true true false b = and_yes (not b)
+unless_heard : (r o a b : Bool) → (r && (o && not (a || b))) ≡ ((r && (o && not b)) && not a)
+unless_heard false o a b = refl
+unless_heard true false a b = refl
+unless_heard true true true b = sym (and_right (not b) false refl)
+unless_heard true true false b = and_yes (not b)
+
+-- who is awaited after a delivery, and after a departure
+pub awaits_delivered : (v : State ℕ) (h : History) (k : ℕ) → Represents v h →
+    (c : ℕ) → is_in (awaited_by v.grace (report_at k v.made)) c ≡ awaits c (Deliver k ∷ h)
+awaits_delivered v h k x c =
+    heard_of v.grace h (report_at k v.made) x.periods.running (number_same v h x) x.cpus.awaits c
+    ∙ ap (λ rs. awaits c h && not (is_of c (number h) (report_at k rs))) x.cpus.made
+    ∙ sym (unless_heard (running h) (online c (latest begins h)) (is_of c (number h) (report_at k (reports_made h)))
+    (is_heard c (number h) h))
+
+pub awaits_departed : (v : State ℕ) (h : History) (c : ℕ) → Represents v h →
+    (k : ℕ) → is_in (slice_set v.grace.processors.awaited c false) k ≡ awaits k (Offline c ∷ h)
+awaits_departed v h c x k =
+    cleared v.grace.processors.awaited c k
+    ∙ ap (λ (b : Bool). b && not (eqb c k)) (x.cpus.awaits k)
+    ∙ sym (unless_heard (running h) (online k (latest begins h)) (eqb c k) (is_heard k (number h) h))
 
 none_there : (v : State ℕ) (h : History) → Represents v h → fault_in (size_at v) (situation h) End ≡ None → (c : ℕ) → is_in v.grace.processors.awaited c ≡ false
 none_there v h x p c = elim (cases_lt c (cpus_of v.grace.processors)) [
-  | inl l ↦ x.awaits c ∙ none_awaited (size_at v) h p c l
+  | inl l ↦ x.cpus.awaits c ∙ none_awaited (size_at v) h p c l
   | inr l ↦ get_or_past v.grace.processors.awaited c false l
 ]
 
 -- a grace period begins
-pub follows_begin : (v : State ℕ) (h : History) → IsSound v → Represents v h → fault_in (size_at v) (situation h) Begin ≡ None → Represents (after_event v Begin) (Begin ∷ h)
-follows_begin v h s x p = let t = turns (size_at v) h x.accepted in record {
+pub follows_begin : (v : State ℕ) (h : History) → IsSound v → Represents v h →
+    fault_in (size_at v) (situation h) Begin ≡ None → Represents (after_event v Begin) (Begin ∷ h)
+follows_begin v h s x p = let t = turns (size_at v) h x.accepted in let n = begin_counts h in record {
   accepted = longer v (after_event v Begin) h Begin x p s.flags refl;
-  ends = x.ends;
-  needed = x.needed;
-  made = x.made;
-  online = x.online;
-  cpus = x.cpus;
-  queued = x.queued;
-  list = x.list;
-  barrier = x.barrier;
-  owed = x.owed;
-  running = let n = begin_counts h in grind (arith, nat_tests);
-  awaits = λ c. let n = begin_counts h in let o = x.online c in grind (arith, nat_tests);
+  periods = record { ends = x.periods.ends; running = grind (arith, nat_tests); needed = x.periods.needed };
+  cpus = record {
+    online = x.cpus.online;
+    awaits = λ c. let o = x.cpus.online c in grind (arith, nat_tests);
+    each = x.cpus.each;
+    made = x.cpus.made;
+  };
+  calls = x.calls;
 }
 
 -- it ends
-pub follows_end : (v : State ℕ) (h : History) → Represents v h → fault_in (size_at v) (situation h) End ≡ None → Represents (after_event v End) (End ∷ h)
-follows_end v h x p = let t = turns (size_at v) h x.accepted in record {
+pub follows_end : (v : State ℕ) (h : History) → Represents v h → fault_in (size_at v) (situation h) End ≡ None →
+    Represents (after_event v End) (End ∷ h)
+follows_end v h x p = let t = turns (size_at v) h x.accepted in let n = end_counts h in record {
   accepted = (p, x.accepted);
-  needed = x.needed;
-  made = x.made;
-  online = x.online;
-  cpus = x.cpus;
-  queued = x.queued;
-  list = x.list;
-  barrier = x.barrier;
-  owed = x.owed;
-  ends = let m = x.ends in let n = end_counts h in grind (arith, nat_tests);
-  running = let n = end_counts h in grind (arith, nat_tests);
-  awaits = λ c. let n = end_counts h in none_there v h x p c ∙ grind (arith, nat_tests);
+  periods = record {
+    ends = let m = x.periods.ends in grind (arith, nat_tests);
+    running = grind (arith, nat_tests);
+    needed = x.periods.needed;
+  };
+  cpus = record {
+    online = x.cpus.online;
+    awaits = λ c. none_there v h x p c ∙ grind (arith, nat_tests);
+    each = x.cpus.each;
+    made = x.cpus.made;
+  };
+  calls = x.calls;
 }
 
 -- a turn that does neither
-unturned : (v : State ℕ) (h : History) → Represents v h → fault_in (size_at v) (situation h) Turn ≡ None → Represents v (Turn ∷ h)
-unturned v h x p = record {
-  accepted = (p, x.accepted);
-  ends = x.ends;
-  running = x.running;
-  needed = x.needed;
-  made = x.made;
-  online = x.online;
-  awaits = x.awaits;
-  cpus = x.cpus;
-  queued = x.queued;
-  list = x.list;
-  barrier = x.barrier;
-  owed = x.owed;
-}
+unturned : (v : State ℕ) (h : History) → Represents v h → fault_in (size_at v) (situation h) Turn ≡ None →
+    Represents v (Turn ∷ h)
+unturned v h x p = record { accepted = (p, x.accepted); periods = x.periods; cpus = x.cpus; calls = x.calls }
 
 -- a turn is a begin, an end, or neither
-turn_kept : (v : State ℕ) (h : History) (a b d : Bool) (n m : ℕ) → IsSound v → Represents v h → v.grace.seq.running ≡ a → (awaited_in v.grace == 0) ≡ b → wants_begin v.grace ≡ d
+turn_kept : (v : State ℕ) (h : History) (a b d : Bool) (n m : ℕ) → IsSound v → Represents v h → v.grace.seq.running ≡ a → (awaited_in v.grace == 0) ≡ b → wants_begin (periods_of v.grace) ≡ d
     → fault_in (size_at v) (says v) Turn ≡ None
     → Represents (record v { grace = cond a (cond b (after_end v.grace) v.grace) (cond d (after_begin v.grace) v.grace) })
     (recorded Turn (cond a (cond b (ended_said (says v)) (reply.Waiting n)) (cond d (reply.Begun (number_at v.grace.seq.ends true) m) reply.Nothing)) ∷ h)
@@ -131,9 +137,9 @@ turned_so v h s x p =
     let q = subst (λ (u : Situation). fault_in (size_at v) u Turn ≡ None) (sym (same v h x)) p in
     let g = v.grace in
     subst (λ (u : Situation). Represents (after_event v Turn) (recorded Turn (turn_reply (size_at v) u) ∷ h)) (same v h x)
-    (subst (λ (n : ℕ). Represents (after_event v Turn) (recorded Turn (cond g.seq.running (cond (n == 0) (ended_said (says v)) (reply.Waiting n)) (cond (wants_begin g) (begun_said (size_at v) (says v)) reply.Nothing)) ∷ h))
+    (subst (λ (n : ℕ). Represents (after_event v Turn) (recorded Turn (cond g.seq.running (cond (n == 0) (ended_said (says v)) (reply.Waiting n)) (cond (wants_begin (periods_of g)) (begun_said (size_at v) (says v)) reply.Nothing)) ∷ h))
     (sym (awaited_size v))
-    (turn_kept v h g.seq.running (awaited_in g == 0) (wants_begin g) (awaited_in g) (how_many (size_at v) (is_in g.processors.online)) s x refl refl refl q))
+    (turn_kept v h g.seq.running (awaited_in g == 0) (wants_begin (periods_of g)) (awaited_in g) (how_many (size_at v) (is_in g.processors.online)) s x refl refl refl q))
 
 turned_left : (v : State ℕ) (a b d : Bool) (k l m n : ℕ) → after_reply v Turn (cond a (cond b (reply.Ended k) (reply.Waiting l)) (cond d (reply.Begun m n) reply.Nothing)) ≡ after_event v Turn
 turned_left v true true d k l m n = refl
@@ -146,10 +152,10 @@ pub follows_turn : (v : State ℕ) (h : History) → IsSound v → Represents v 
     → Represents (after_reply v Turn (turn_reply (size_at v) (situation h))) (with_event h Turn (turn_reply (size_at v) (situation h)))
 follows_turn v h s x p =
     let u = situation h in
-    let n = how_many (size_at v) u.awaits in
-    let m = how_many (size_at v) u.online in
+    let n = how_many (size_at v) u.cpus.awaits in
+    let m = how_many (size_at v) u.cpus.online in
     rw (
-      turned_left v u.running (n == 0) (wants_said u) (number_at (u.ends + 1) false) n (number_at u.ends true) m,
-      turned_after h u.running (n == 0) (wants_said u) (number_at (u.ends + 1) false) n (number_at u.ends true) m (turn_reply (size_at v) u) refl,
+      turned_left v u.periods.running (n == 0) (wants_begin u.periods) (number_at (u.periods.ends + 1) false) n (number_at u.periods.ends true) m,
+      turned_after h u.periods.running (n == 0) (wants_begin u.periods) (number_at (u.periods.ends + 1) false) n (number_at u.periods.ends true) m (turn_reply (size_at v) u) refl,
     )
     (turned_so v h s x p)

@@ -5,7 +5,8 @@ use Rattle.std.proofs.lemmas.List.Sums.{sum_by-cons}
 use Rattle.rcu_core.specs.History.{History, begins, ends, enters, exits, entered, exited, depth, awaits}
 use Rattle.std.specs.Prelude.{count_by}
 use Rattle.rcu_core.specs.Callbacks.{queued, queues}
-use Rattle.rcu_core.specs.Replies.{Size, situation, fault_in, AreAccepted}
+use Rattle.rcu_core.specs.Replies.{Size, fault_in, AreAccepted}
+use Rattle.rcu_core.specs.Situation.{situation}
 use Rattle.rcu_core.specs.declared.event.Event.{Event}
 use Rattle.rcu_core.specs.declared.event.Event.TheVariants.{Enter, Exit, Quiesce, Offline, Begin, End, Queue}
 use Rattle.rcu_core.proofs.Counting.{none_passes}

@@ -3,7 +3,8 @@ use Rattle.std.proofs.Common.{◌≡◌, ℕ, ◌+◌, Bool, true, false, cond, 
 use Rattle.std.specs.Prelude.{◌==◌}
 use Rattle.rcu_seq.specs.Numbers.{number_at}
 use Rattle.rcu_core.specs.History.{History}
-use Rattle.rcu_core.specs.Replies.{Size, Situation, accepted_reply, turn_reply, waits_for, wants_begin, how_many, recorded, with_event}
+use Rattle.rcu_core.specs.Replies.{Size, accepted_reply, turn_reply, waits_for, how_many, recorded, with_event}
+use Rattle.rcu_core.specs.Situation.{Situation, wants_begin}
 use Rattle.rcu_core.specs.declared.event.Event.{Event}
 use Rattle.rcu_core.specs.declared.event.Event.TheVariants.{Enter, Exit, Note, Quiesce, Deliver, Online, Offline, Turn, Poll, Queue, Tend, Run, Visit, BarTest}
 use Rattle.rcu_core.specs.declared.reply.Reply.{Reply}
@@ -38,7 +39,7 @@ after_said s u h (Quiesce c) n = refl
 after_said s u h (Deliver k) n = refl
 after_said s u h (Online c) n = refl
 after_said s u h (Offline c) n = refl
-after_said s u h Turn n = turned_after h u.running (how_many s u.awaits == 0) (wants_begin u) (number_at (u.ends + 1) false) (how_many s u.awaits) (number_at u.ends true) (how_many s u.online) (turn_reply s u) refl
+after_said s u h Turn n = turned_after h u.periods.running (how_many s u.cpus.awaits == 0) (wants_begin u.periods) (number_at (u.periods.ends + 1) false) (how_many s u.cpus.awaits) (number_at u.periods.ends true) (how_many s u.cpus.online) (turn_reply s u) refl
 after_said s u h (Poll k) n = refl
 after_said s u h (Queue c x) n = refl
 after_said s u h (Tend c) n = refl

@@ -1,5 +1,5 @@
 -- A state in the situation of a history.
-use Rattle.std.proofs.Common.{◌≡◌, ℕ, ◌<◌, false, ◌∷◌, length, None, sym, ap, ap₂, subst, ◌∙◌, arith, eqb, ne_eqb, inl, inr}
+use Rattle.std.proofs.Common.{◌≡◌, ℕ, ◌<◌, false, List, ◌∷◌, length, None, sym, ap, ap₂, subst, ◌∙◌, arith, eqb, ne_eqb, inl, inr}
 use Rattle.std.specs.Prelude.{nat_le}
 use Rattle.std.proofs.lemmas.Bool.Decides.{nat_tests}
 use Rattle.std.proofs.lemmas.Bool.{cases_eq}
@@ -8,46 +8,55 @@ use Rattle.rcu_seq.specs.Numbers.{number_at}
 use Rattle.rcu_hotplug.specs.Hotplug.{cpus_of}
 use Rattle.rcu_cpu.specs.CpuData.{Call, after_call}
 use Rattle.rcu_cpu.specs.CpuData.{Processor, at_first as made_processor}
-use Rattle.rcu_core.specs.GpState.{number_in}
+use Rattle.rcu_seq.specs.Seq.{number_of}
 use Rattle.rcu_core.specs.History.{History, number}
-use Rattle.rcu_core.specs.Replies.{Size, situation, fault_in, AreAccepted}
+use Rattle.rcu_core.specs.Replies.{Size, fault_in, AreAccepted}
+use Rattle.rcu_core.specs.Situation.{CpuSituation, situation}
 use Rattle.rcu_core.specs.Core.{State, IsSound, Represents, size_at, says, processor, with_cpu, processor_in}
 use Rattle.rcu_core.specs.declared.event.Event.{Event}
 
 -- a state in the situation of a history says what that situation says
 pub same : (v : State ℕ) (h : History) → Represents v h → says v ≡ situation h
 same v h x = λ i. record {
-  ends = x.ends i;
-  running = x.running i;
-  needed = x.needed i;
-  online = λ c. x.online c i;
-  awaits = λ c. x.awaits c i;
-  depth = λ c. (x.cpus c i).depth;
-  noted = λ c. (x.cpus c i).noted;
-  made = x.made i;
-  queued = x.queued i;
-  list = λ c. x.list c i;
-  barrier = x.barrier i;
-  owed = λ c. x.owed c i;
+  periods = record { ends = x.periods.ends i; running = x.periods.running i; needed = x.periods.needed i };
+  cpus = record {
+    online = λ c. x.cpus.online c i;
+    awaits = λ c. x.cpus.awaits c i;
+    depth = λ c. (x.cpus.each c i).depth;
+    noted = λ c. (x.cpus.each c i).noted;
+    made = x.cpus.made i;
+  };
+  calls = record {
+    queued = x.calls.queued i;
+    list = λ c. x.calls.list c i;
+    barrier = x.calls.barrier i;
+    owed = λ c. x.calls.owed c i;
+  };
 }
 
-pub number_same : (v : State ℕ) (h : History) → Represents v h → number_in v.grace ≡ number h
-number_same v h x = ap₂ (λ n r. number_at n r) x.ends x.running
+pub number_same : (v : State ℕ) (h : History) → Represents v h → number_of v.grace.seq ≡ number h
+number_same v h x = ap₂ (λ n r. number_at n r) x.periods.ends x.periods.running
 
 -- one processor changes, and the others stay
-pub one_changed : (v : State ℕ) (h : History) (e : Event) (c : ℕ) (call : Call) → c < length v.cpus → ((k : ℕ) → processor v.cpus k ≡ processor_in k h)
-    → after_call (processor_in c h) call ≡ processor_in c (e ∷ h) → ((k : ℕ) → eqb c k ≡ false → processor_in k (e ∷ h) ≡ processor_in k h)
-    → (k : ℕ) → processor (with_cpu v.cpus c call) k ≡ processor_in k (e ∷ h)
-one_changed v h e c call l x at other k = elim (cases_eq k c) [
-  | inl i ↦ subst (λ (j : ℕ). processor (with_cpu v.cpus c call) j ≡ processor_in j (e ∷ h)) (sym i)
-      (get_or-set_same v.cpus c (after_call (processor v.cpus c) call) (made_processor c false) l ∙ ap (λ (p : Processor). after_call p call) (x c) ∙ at)
-  | inr n ↦ get_or-set_other v.cpus c k (after_call (processor v.cpus c) call) (made_processor k false) n ∙ x k ∙ sym (other k (ne_eqb c k (λ i. n (sym i))))
+pub one_changed : (cpus : List Processor) (u w : CpuSituation) (c : ℕ) (call : Call) → c < length cpus →
+    ((k : ℕ) → processor cpus k ≡ processor_in u k) → after_call (processor_in u c) call ≡ processor_in w c →
+    ((k : ℕ) → eqb c k ≡ false → processor_in w k ≡ processor_in u k) →
+    (k : ℕ) → processor (with_cpu cpus c call) k ≡ processor_in w k
+one_changed cpus u w c call l x at other k = elim (cases_eq k c) [
+  | inl i ↦ subst (λ (j : ℕ). processor (with_cpu cpus c call) j ≡ processor_in w j) (sym i)
+      (get_or-set_same cpus c (after_call (processor cpus c) call) (made_processor c false) l
+      ∙ ap (λ (p : Processor). after_call p call) (x c) ∙ at)
+  | inr n ↦ get_or-set_other cpus c k (after_call (processor cpus c) call) (made_processor k false) n
+      ∙ x k ∙ sym (other k (ne_eqb c k (λ i. n (sym i))))
 ]
 
 -- the history grew by an accepted event, and the size stayed
-pub longer : (v w : State ℕ) (h : History) (e : Event) → Represents v h → fault_in (size_at v) (situation h) e ≡ None → cpus_of w.grace.processors ≡ cpus_of v.grace.processors
-    → w.grace.seq.last ≡ v.grace.seq.last → AreAccepted (size_at w) (e ∷ h)
-longer v w h e x p n l = subst (λ (s : Size). AreAccepted s (e ∷ h)) (ap₂ (λ (a b : ℕ). record { cpus = a; last = b }) (sym n) (sym l)) (p, x.accepted)
+pub longer : (v w : State ℕ) (h : History) (e : Event) → Represents v h → fault_in (size_at v) (situation h) e ≡ None →
+    cpus_of w.grace.processors ≡ cpus_of v.grace.processors → w.grace.seq.last ≡ v.grace.seq.last →
+    AreAccepted (size_at w) (e ∷ h)
+longer v w h e x p n l =
+    subst (λ (s : Size). AreAccepted s (e ∷ h)) (ap₂ (λ (a b : ℕ). record { cpus = a; last = b }) (sym n) (sym l))
+    (p, x.accepted)
 
 -- a processor whose number is not too high is there
 pub within : (v : State ℕ) (c : ℕ) → IsSound v → nat_le (cpus_of v.grace.processors) c ≡ false → c < length v.cpus

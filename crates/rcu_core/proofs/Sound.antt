@@ -12,7 +12,9 @@ use Rattle.rcu_report.specs.declared.report.Report.{Report}
 use Rattle.rcu_hotplug.specs.Hotplug.{cpus_of}
 use Rattle.rcu_cpu.specs.CpuData.{Processor, at_first as made_processor, report_of}
 use Rattle.rcu_cblist.specs.SegList.{Item}
-use Rattle.rcu_core.specs.GpState.{Grace, at_first, awaited_after, awaited_in, after_begin, after_end, number_in, after_report, after_turn, wants_begin}
+use Rattle.rcu_seq.specs.Seq.{number_of}
+use Rattle.rcu_core.specs.GpState.{Grace, after_begin, after_end, after_report, after_turn, at_first, awaited_after, awaited_in, periods_of}
+use Rattle.rcu_core.specs.Situation.{wants_begin}
 use Rattle.rcu_core.specs.Core.{State, IsSound, processor, size_at}
 
 -- where the online processors, their number, the lists and all that is kept of them stay, what always holds stays
@@ -36,8 +38,8 @@ length-without false set cpu = refl
 pub length-awaited_after : (g : Grace ℕ) (report : Report) → length (awaited_after g report) ≡ length g.processors.awaited
 length-awaited_after g report = go g.seq.running
   where
-    go : (b : Bool) → length (cond b (cond (same_number report.tag (number_in g)) (slice_set g.processors.awaited report.cpu false) g.processors.awaited) g.processors.awaited) ≡ length g.processors.awaited
-    go true = length-without (same_number report.tag (number_in g)) g.processors.awaited report.cpu
+    go : (b : Bool) → length (cond b (cond (same_number report.tag (number_of g.seq)) (slice_set g.processors.awaited report.cpu false) g.processors.awaited) g.processors.awaited) ≡ length g.processors.awaited
+    go true = length-without (same_number report.tag (number_of g.seq)) g.processors.awaited report.cpu
     go false = refl
 
 -- after a report
@@ -50,7 +52,7 @@ sound_begun v g e s = stays_sound v g (rw e refl) (rw e s.flags) (rw e refl) s
 
 -- after a turn
 pub sound_turned : (v : State ℕ) (g : Grace ℕ) → g ≡ after_turn v.grace → IsSound v → IsSound (record v { grace = g })
-sound_turned v g e s = subst (λ (x : Grace ℕ). IsSound (record v { grace = x })) (sym e) (go v.grace.seq.running (awaited_in v.grace == 0) (wants_begin v.grace))
+sound_turned v g e s = subst (λ (x : Grace ℕ). IsSound (record v { grace = x })) (sym e) (go v.grace.seq.running (awaited_in v.grace == 0) (wants_begin (periods_of v.grace)))
   where
     go : (a b d : Bool) → IsSound (record v { grace = cond a (cond b (after_end v.grace) v.grace) (cond d (after_begin v.grace) v.grace) })
     go true true d = stays_sound v (after_end v.grace) refl refl refl s

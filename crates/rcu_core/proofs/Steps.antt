@@ -17,7 +17,9 @@ use Rattle.rcu_barrier.specs.Lists.{barrier_left, list_of, barrier_test_answer}
 use Rattle.rcu_barrier.specs.Tending.{after_tend}
 use Rattle.rcu_barrier.specs.declared.barrier_state.BarrierState.{BarrierState}
 use Rattle.rcu_barrier.specs.declared.barrier_state.BarrierState.TheVariants as barrier
-use Rattle.rcu_core.specs.GpState.{report_answer_in, awaited_in, begin_refusal, after_begin, end_refusal, after_end, number_in, after_report, turn_answer, turn_refusal, wants_begin}
+use Rattle.rcu_seq.specs.Seq.{number_of}
+use Rattle.rcu_core.specs.GpState.{after_begin, after_end, after_report, awaited_in, begin_refusal, end_refusal, periods_of, report_answer_in, turn_answer, turn_refusal}
+use Rattle.rcu_core.specs.Situation.{wants_begin}
 use Rattle.rcu_core.specs.History.{report_at}
 use Rattle.rcu_core.specs.Replies.{fault_in, accepted_reply, or_fault, how_many, answer_to_report, waits_for}
 use Rattle.rcu_core.specs.Core.{State, IsSound, StepsLegally, says, after_event, after_reply, processor, size_at}
@@ -54,7 +56,7 @@ online_size : (v : State ℕ) → IsSound v → how_many (size_at v) (is_in v.gr
 online_size v s = passing_is_size v.grace.processors.online (length v.grace.processors.awaited) (sym s.flags)
 
 -- a grace period begins
-pub does_begin : (v w : State ℕ) (n count : ℕ) → IsSound v → begin_refusal v.grace ≡ None → n ≡ number_in (after_begin v.grace) → count ≡ awaited_in (after_begin v.grace)
+pub does_begin : (v w : State ℕ) (n count : ℕ) → IsSound v → begin_refusal v.grace ≡ None → n ≡ number_of (after_begin v.grace).seq → count ≡ awaited_in (after_begin v.grace)
     → w ≡ after_event v Begin → StepsLegally v Begin (reply.Begun n count) w
 does_begin v w n count s none number counted kept = record {
   legal = inl (says_so v Begin (reply.Begun n count) none (ap₂ (λ x y. reply.Begun x y) number (counted ∙ sym (online_size v s))));
@@ -65,7 +67,7 @@ end_fault : (v : State ℕ) → fault_in (size_at v) (says v) End ≡ end_refusa
 end_fault v = ap (λ n. if not v.grace.seq.running then Some fault.Idle else (if nat_lt 0 n then Some fault.Waiting else None)) (awaited_size v)
 
 -- a grace period ends
-pub does_end : (v w : State ℕ) (n : ℕ) → end_refusal v.grace ≡ None → n ≡ number_in (after_end v.grace) → w ≡ after_event v End → StepsLegally v End (reply.Ended n) w
+pub does_end : (v w : State ℕ) (n : ℕ) → end_refusal v.grace ≡ None → n ≡ number_of (after_end v.grace).seq → w ≡ after_event v End → StepsLegally v End (reply.Ended n) w
 does_end v w n none number kept = record {
   legal = inl (says_so v End (reply.Ended n) (end_fault v ∙ none) (ap (λ x. reply.Ended x) number));
   left = kept;
@@ -97,9 +99,9 @@ reply_cond false b false p q r t = refl
 turn_said : (v : State ℕ) → IsSound v → reply_of (turn_answer v.grace) ≡ accepted_reply (size_at v) (says v) Turn
 turn_said v s =
     let g = v.grace in
-    reply_cond g.seq.running (awaited_in g == 0) (wants_begin g) (turned.Ended (number_in (after_end g))) (turned.Waiting (awaited_in g)) (turned.Begun (number_in (after_begin g)) (awaited_in (after_begin g))) turned.Nothing
-    ∙ ap₂ (λ n m. if g.seq.running then (if n == 0 then reply.Ended (number_in (after_end g)) else reply.Waiting n)
-    else (if wants_begin g then reply.Begun (number_in (after_begin g)) m else reply.Nothing))
+    reply_cond g.seq.running (awaited_in g == 0) (wants_begin (periods_of g)) (turned.Ended (number_of (after_end g).seq)) (turned.Waiting (awaited_in g)) (turned.Begun (number_of (after_begin g).seq) (awaited_in (after_begin g))) turned.Nothing
+    ∙ ap₂ (λ n m. if g.seq.running then (if n == 0 then reply.Ended (number_of (after_end g).seq) else reply.Waiting n)
+    else (if wants_begin (periods_of g) then reply.Begun (number_of (after_begin g).seq) m else reply.Nothing))
     (sym (awaited_size v)) (sym (online_size v s))
 
 -- a turn
@@ -117,7 +119,7 @@ heard_so false same a = refl
 answer_said : (v : State ℕ) (report : Report) → report_answer_in v.grace report ≡ answer_to_report (size_at v) (says v) (Some report)
 answer_said v report =
     let g = v.grace in
-    let same = same_number report.tag (number_in g) in
+    let same = same_number report.tag (number_of g.seq) in
     heard_so g.seq.running same (cond (not (is_in g.processors.awaited report.cpu)) Repeat (cond (awaited_in g == 1) Last Taken))
     ∙ ap (λ n. cond (not (g.seq.running && same)) Stale (cond (not (is_in g.processors.awaited report.cpu)) Repeat (cond (n == 1) Last Taken))) (sym (awaited_size v))
 
@@ -188,9 +190,9 @@ pub does_tend : (v w : State ℕ) (cpu done waiting : ℕ) → IsSound v → cpu
     → done ≡ length (callbacks (front (list_of w.grace.lists cpu))) → waiting ≡ length (callbacks (behind (list_of w.grace.lists cpu)))
     → StepsLegally v (Tend cpu) (reply.Tended done waiting) w
 does_tend v w cpu done waiting s within kept are_done wait =
-    let here : list_of w.grace.lists cpu ≡ after_tend (list_of v.grace.lists cpu) (number_in v.grace) =
+    let here : list_of w.grace.lists cpu ≡ after_tend (list_of v.grace.lists cpu) (number_of v.grace.seq) =
     ap (λ (x : State ℕ). list_of x.grace.lists cpu) kept
-    ∙ get_or-set_same v.grace.lists.lists cpu (after_tend (list_of v.grace.lists cpu) (number_in v.grace)) [] (rw s.listed within) in
+    ∙ get_or-set_same v.grace.lists.lists cpu (after_tend (list_of v.grace.lists cpu) (number_of v.grace.seq)) [] (rw s.listed within) in
     record {
       legal = inl (says_so v (Tend cpu) (reply.Tended done waiting) (grind (arith, nat_tests, within))
           (ap₂ (λ n m. reply.Tended n m) (are_done ∙ ap (λ (xs : List (Item ℕ)). length (callbacks (front xs))) here) (wait ∙ ap (λ (xs : List (Item ℕ)). length (callbacks (behind xs))) here)));

@@ -16,7 +16,8 @@ use Rattle.rcu_barrier.specs.Tending.{mark_after_tend, after_tend}
 use Rattle.rcu_core.specs.Callbacks.{handed_out, has_full_period, is_owed, list, queued, since}
 use Rattle.rcu_core.specs.GpState.{IsTimely}
 use Rattle.rcu_core.specs.History.{History, begins, running, number}
-use Rattle.rcu_core.specs.Replies.{Size, situation, fault_in, AreAccepted, IsLegalReply, or_fault}
+use Rattle.rcu_core.specs.Replies.{Size, fault_in, AreAccepted, IsLegalReply, or_fault}
+use Rattle.rcu_core.specs.Situation.{situation}
 use Rattle.rcu_core.specs.Runs.{IsLegalRun, history, Run as Trace}
 use Rattle.rcu_core.specs.declared.event.Event.{Event}
 use Rattle.rcu_core.specs.declared.event.Event.TheVariants.{Offline, Begin, End, Queue, Tend, Run, Visit}

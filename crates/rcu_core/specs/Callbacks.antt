@@ -1,5 +1,6 @@
 -- What the accepted events so far say of callbacks: each processor's list, the barrier, and who was handed out.
-use Rattle.std.specs.Prelude.{ℕ, ◌+◌, ◌==◌, Bool, true, false, not, ◌&&◌, max, fold, if◌then◌else◌, List, [], ◌∷◌, ◌++◌, count_by}
+use Rattle.std.specs.Prelude.{ℕ, ◌+◌, ◌==◌, Bool, true, false, not, ◌&&◌, max, fold, if◌then◌else◌}
+use Rattle.std.specs.Prelude.{List, [], ◌∷◌, ◌++◌, count_by}
 use Rattle.rcu_seq.specs.Histories.{has_full, is_on, latest, some_since}
 use Rattle.rcu_seq.specs.Numbers.{Number, snapshot}
 use Rattle.rcu_cblist.specs.declared.queued.Queued.{Queued}
@@ -53,7 +54,8 @@ queued h = count_by queues h
 abbrev pub list : ℕ → History → List (Item ℕ)
 list cpu [] = []
 list cpu (Queue c value ∷ h) =
-    if c == cpu then list cpu h ++ Of (record { ord = queued h + 1; at = number h; value = value }) Unmarked ∷ [] else list cpu h
+    if c == cpu then list cpu h ++ Of (record { ord = queued h + 1; at = number h; value = value }) Unmarked ∷ []
+    else list cpu h
 list cpu (Tend c ∷ h) = if c == cpu then after_tend (list cpu h) (number h) else list cpu h
 list cpu (Run c most ∷ h) = if c == cpu then after_take (list cpu h) most else list cpu h
 list cpu (Visit c ∷ h) = if c == cpu then as_it_leaves (list cpu h) (is_owed c h) else list cpu h

@@ -1,5 +1,6 @@
 -- The state of the grace periods and the callbacks: what each call leaves, and when it is refused.
-use Rattle.std.specs.Prelude.{ℕ, ◌+◌, ◌≤◌, ◌≡◌, ◌==◌, ◌&&◌, Bool, true, false, not, max, nat_lt, if◌then◌else◌, List, [], ◌∷◌, All, Option, Some, None}
+use Rattle.std.specs.Prelude.{ℕ, ◌+◌, ◌≤◌, ◌≡◌, ◌==◌, ◌&&◌, Bool, true, false, not, max, nat_lt, if◌then◌else◌}
+use Rattle.std.specs.Prelude.{List, [], ◌∷◌, All, Option, Some, None}
 use Rattle.rcu_seq.specs.Numbers.{Number, same_number, snapshot}
 use Rattle.rcu_seq.specs.Seq.{Periods, number_of, snapshot_of}
 use Rattle.rcu_seq.specs.declared.fault.Fault.{Fault}
@@ -9,10 +10,13 @@ use Rattle.rcu_node.specs.Reports.{report_answer, awaited_after_report}
 use Rattle.rcu_node.specs.declared.answer.Answer.{Answer}
 use Rattle.rcu_node.specs.declared.answer.Answer.TheVariants.{Stale}
 use Rattle.rcu_report.specs.declared.report.Report.{Report}
-use Rattle.rcu_hotplug.specs.Hotplug.{Processors, Call, Begin, cpus_of, after_call, at_first as present_at_first}
+use Rattle.rcu_hotplug.specs.Hotplug as hotplug
+use Rattle.rcu_hotplug.specs.Hotplug.{Processors, Call, Begin}
 use Rattle.rcu_cblist.specs.SegList.{Item, Mark, Of, Marker, Unmarked, Until, Done, numbers}
-use Rattle.rcu_barrier.specs.Lists.{AllLists, lists_after_barrier_begin as barred, cpus_of as cpus_of_lists, list_of, lists_after_migrate as migrated_lists, lists_after_queue, lists_after_run, lists_after_tend, lists_after_barrier_test, lists_after_visit, at_first as lists_at_first}
+use Rattle.rcu_barrier.specs.Lists as lists
+use Rattle.rcu_barrier.specs.Lists.{AllLists}
 use Rattle.rcu_core.specs.Callbacks.{greatest_from}
+use Rattle.rcu_core.specs.Situation.{PeriodSituation, wants_begin}
 use Rattle.rcu_core.specs.declared.turned.Turned.{Turned}
 use Rattle.rcu_core.specs.declared.turned.Turned.TheVariants as turned
 
@@ -24,8 +28,8 @@ pub record Grace (X : Type 0) : Type 0 where
   pub processors : Processors
   pub lists : AllLists X
 
--- a callback that was queued at a number has this mark at another one: it was queued at no later one; what it waits for is
--- no sooner than the snapshot of its queueing and no later than that of now; and where it is done, the number has
+-- a callback that was queued at a number has this mark at another one: it was queued at no later one; what it waits for
+-- is no sooner than the snapshot of its queueing and no later than that of now; and where it is done, the number has
 -- reached the snapshot of its queueing
 abbrev pub IsTimely : Number → Number → Mark → Type 0
 IsTimely number at Unmarked = at ≤ number
@@ -38,13 +42,9 @@ module _ {X : Type 0} where
   at_first cpus last = record {
     seq = record { ends = 0; running = false; last = last };
     needed = 0;
-    processors = present_at_first cpus;
-    lists = lists_at_first cpus;
+    processors = hotplug.at_first cpus;
+    lists = lists.at_first cpus;
   }
-
-  -- the grace-period number
-  abbrev pub number_in : Grace X → Number
-  number_in g = number_of g.seq
 
   -- how many processors are awaited
   abbrev pub awaited_in : Grace X → ℕ
@@ -52,17 +52,18 @@ module _ {X : Type 0} where
 
   -- after a call on the processors
   abbrev pub with_call : Grace X → Call → Grace X
-  with_call g call = record g { processors = after_call g.processors call }
+  with_call g call = record g { processors = hotplug.after_call g.processors call }
 
   -- why no grace period begins: one runs, or the number is the last one
   abbrev pub begin_refusal : Grace X → Option Fault
   begin_refusal g =
       if g.seq.running then Some fault.Running
-      else (if same_number (number_in g) g.seq.last then Some fault.Exhausted else None)
+      else (if same_number (number_of g.seq) g.seq.last then Some fault.Exhausted else None)
 
   -- a grace period began: it awaits the online processors, and its tag is the number
   abbrev pub after_begin : Grace X → Grace X
-  after_begin g = let seq = record g.seq { running = true } in record (with_call g (Begin (number_of seq))) { seq = seq }
+  after_begin g =
+      let seq = record g.seq { running = true } in record (with_call g (Begin (number_of seq))) { seq = seq }
 
   -- why none ends: none runs, or a processor is awaited
   abbrev pub end_refusal : Grace X → Option Fault
@@ -76,11 +77,14 @@ module _ {X : Type 0} where
 
   -- the answer to a report: while no grace period runs each is stale
   abbrev pub report_answer_in : Grace X → Report → Answer
-  report_answer_in g report = if g.seq.running then report_answer (number_in g) g.processors.awaited report.cpu report.tag else Stale
+  report_answer_in g report =
+      if g.seq.running then report_answer (number_of g.seq) g.processors.awaited report.cpu report.tag else Stale
 
   -- who is awaited after a report: one that is not stale clears its processor
   abbrev pub awaited_after : Grace X → Report → List Bool
-  awaited_after g report = if g.seq.running then awaited_after_report (number_in g) g.processors.awaited report.cpu report.tag else g.processors.awaited
+  awaited_after g report =
+      if g.seq.running then awaited_after_report (number_of g.seq) g.processors.awaited report.cpu report.tag
+      else g.processors.awaited
 
   -- with these processors awaited
   abbrev pub with_awaited : Grace X → List Bool → Grace X
@@ -90,62 +94,65 @@ module _ {X : Type 0} where
   abbrev pub after_report : Grace X → Report → Grace X
   after_report g report = with_awaited g (awaited_after g report)
 
-  -- a later number is needed, and no grace period runs
-  abbrev pub wants_begin : Grace X → Bool
-  wants_begin g = not g.seq.running && nat_lt (number_in g) g.needed
+  -- what its counter and its needed number say
+  abbrev pub periods_of : Grace X → PeriodSituation
+  periods_of g = record { ends = g.seq.ends; running = g.seq.running; needed = g.needed }
 
   -- why a turn is refused: it would begin a grace period, and the number is the last one
   abbrev pub turn_refusal : Grace X → Option Fault
-  turn_refusal g = if wants_begin g && same_number (number_in g) g.seq.last then Some fault.Exhausted else None
+  turn_refusal g =
+      if wants_begin (periods_of g) && same_number (number_of g.seq) g.seq.last then Some fault.Exhausted else None
 
   -- what a turn does: a running grace period ends where nobody is awaited; where none runs, one begins if it is needed
   abbrev pub turn_answer : Grace X → Turned
   turn_answer g =
-      if g.seq.running then (if awaited_in g == 0 then turned.Ended (number_in (after_end g)) else turned.Waiting (awaited_in g))
-      else (if wants_begin g then turned.Begun (number_in (after_begin g)) (awaited_in (after_begin g)) else turned.Nothing)
+      if g.seq.running
+      then (if awaited_in g == 0 then turned.Ended (number_of (after_end g).seq) else turned.Waiting (awaited_in g))
+      else (if wants_begin (periods_of g) then turned.Begun (number_of (after_begin g).seq) (awaited_in (after_begin g))
+      else turned.Nothing)
 
   -- what a turn leaves
   abbrev pub after_turn : Grace X → Grace X
   after_turn g =
       if g.seq.running then (if awaited_in g == 0 then after_end g else g)
-      else (if wants_begin g then after_begin g else g)
+      else (if wants_begin (periods_of g) then after_begin g else g)
 
   -- a poll was started: the number of its cookie is needed
   abbrev pub after_start_poll : Grace X → Grace X
   after_start_poll g = record g { needed = max g.needed (snapshot_of g.seq) }
 
-  -- with these lists
-  abbrev pub with_lists : Grace X → AllLists X → Grace X
-  with_lists g lists = record g { lists = lists }
+  -- with the lists changed
+  abbrev pub on_lists : (AllLists X → AllLists X) → Grace X → Grace X
+  on_lists change g = record g { lists = change g.lists }
 
   -- a callback was queued on a processor, at the number
   abbrev pub after_queue : Grace X → ℕ → X → Grace X
-  after_queue g cpu value = with_lists g (lists_after_queue g.lists cpu (number_in g) value)
+  after_queue g cpu value = on_lists (λ all. lists.lists_after_queue all cpu (number_of g.seq) value) g
 
   -- a processor's list was tended at the number; what it then waits for is needed
   abbrev pub after_tend : Grace X → ℕ → Grace X
-  after_tend g cpu = let lists = lists_after_tend g.lists cpu (number_in g) in
-      record g { lists = lists; needed = greatest_from g.needed (numbers (list_of lists cpu)) }
+  after_tend g cpu = let tended = on_lists (λ all. lists.lists_after_tend all cpu (number_of g.seq)) g in
+      record tended { needed = greatest_from g.needed (numbers (lists.list_of tended.lists cpu)) }
 
   -- at most so many callbacks were handed out of a processor's done part
   abbrev pub after_run : Grace X → ℕ → ℕ → Grace X
-  after_run g cpu most = with_lists g (lists_after_run g.lists cpu most)
+  after_run g cpu most = on_lists (λ all. lists.lists_after_run all cpu most) g
 
   -- a processor's list moved to processor 0
   abbrev pub after_migrate : Grace X → ℕ → Grace X
-  after_migrate g cpu = with_lists g (migrated_lists g.lists cpu)
+  after_migrate g cpu = on_lists (λ all. lists.lists_after_migrate all cpu) g
 
   -- a barrier began
   abbrev pub after_barrier_begin : Grace X → Grace X
-  after_barrier_begin g = with_lists g (barred g.lists)
+  after_barrier_begin g = on_lists lists.lists_after_barrier_begin g
 
   -- the barrier visited a processor
   abbrev pub after_visit : Grace X → ℕ → Grace X
-  after_visit g cpu = with_lists g (lists_after_visit g.lists cpu)
+  after_visit g cpu = on_lists (λ all. lists.lists_after_visit all cpu) g
 
   -- the barrier was tested
   abbrev pub after_barrier_test : Grace X → Grace X
-  after_barrier_test g = with_lists g (lists_after_barrier_test g.lists)
+  after_barrier_test g = on_lists lists.lists_after_barrier_test g
 
   -- each callback of the list is timely at the number
   abbrev pub AreTimely : Number → List (Item X) → Type 0
@@ -153,9 +160,9 @@ module _ {X : Type 0} where
   AreTimely number (Of call mark ∷ xs) = IsTimely number call.at mark × AreTimely number xs
   AreTimely number (Marker ∷ xs) = AreTimely number xs
 
-  -- what always holds: a list for each processor; while a grace period runs, its number is the tag of the awaited set; and
-  -- each callback is timely at the number
+  -- what always holds: a list for each processor; while a grace period runs, its number is the tag of the awaited set;
+  -- and each callback is timely at the number
   pub record IsSound (g : Grace X) : Type 0 where
-    pub tag : g.seq.running ≡ true → g.processors.tag ≡ number_in g
-    pub sized : cpus_of_lists g.lists ≡ cpus_of g.processors
-    pub timely : All (AreTimely (number_in g)) g.lists.lists
+    pub tag : g.seq.running ≡ true → g.processors.tag ≡ number_of g.seq
+    pub sized : lists.cpus_of g.lists ≡ hotplug.cpus_of g.processors
+    pub timely : All (AreTimely (number_of g.seq)) g.lists.lists

@@ -1,5 +1,6 @@
 -- Which replies are legal to an event after a history.
-use Rattle.std.specs.Prelude.{ℕ, ◌+◌, ◌-◌, ◌≡◌, ◌⊎◌, ◌==◌, Bool, true, false, not, ◌&&◌, nat_lt, nat_le, if◌then◌else◌, List, [], ◌∷◌, length, filter, count_by, map, sum_by, Option, Some, None, is_none}
+use Rattle.std.specs.Prelude.{ℕ, ◌+◌, ◌-◌, ◌≡◌, ◌⊎◌, ◌==◌, Bool, true, false, not, ◌&&◌, nat_lt, nat_le, if◌then◌else◌}
+use Rattle.std.specs.Prelude.{List, [], ◌∷◌, length, filter, count_by, map, sum_by, Option, Some, None, is_none}
 use Rattle.std.specs.List.{range_with_len}
 use Rattle.rcu_seq.specs.Numbers.{Number, is_done_at, number_at, same_number, snapshot}
 use Rattle.rcu_seq.specs.Fault.{first_fault}
@@ -14,10 +15,12 @@ use Rattle.rcu_barrier.specs.Lists.{most_queued}
 use Rattle.rcu_barrier.specs.Tending.{after_tend}
 use Rattle.rcu_barrier.specs.declared.visit.Visit.{Visit as Visited}
 use Rattle.rcu_barrier.specs.declared.visit.Visit.TheVariants.{Marked, Empty, Already}
-use Rattle.rcu_core.specs.Callbacks.{barrier_runs, is_owed, list, needed, queued}
-use Rattle.rcu_core.specs.History.{History, ends, running, online, awaits, depth, noted, reports_made, report_at}
+use Rattle.rcu_core.specs.History.{History, report_at}
+use Rattle.rcu_core.specs.Situation.{Situation, number_in, situation, wants_begin}
 use Rattle.rcu_core.specs.declared.event.Event.{Event}
-use Rattle.rcu_core.specs.declared.event.Event.TheVariants.{Enter, Exit, Note, Quiesce, Deliver, Online, Offline, Begin, End, Turn, Awaits, Take, StartPoll, Poll, Queue, Tend, Run, BarBegin, Visit, BarTest}
+use Rattle.rcu_core.specs.declared.event.Event.TheVariants.{Enter, Exit, Note, Quiesce, Deliver, Online, Offline, Begin}
+use Rattle.rcu_core.specs.declared.event.Event.TheVariants.{End, Turn, Awaits, Take, StartPoll, Poll, Queue, Tend, Run}
+use Rattle.rcu_core.specs.declared.event.Event.TheVariants.{BarBegin, Visit, BarTest}
 use Rattle.rcu_core.specs.declared.reply.Reply.{Reply}
 use Rattle.rcu_core.specs.declared.reply.Reply.TheVariants as reply
 
@@ -25,42 +28,6 @@ use Rattle.rcu_core.specs.declared.reply.Reply.TheVariants as reply
 pub record Size : Type 0 where
   pub cpus : ℕ
   pub last : Number
-
--- what the events so far say
-pub record Situation : Type 0 where
-  pub ends : ℕ
-  pub running : Bool
-  pub needed : Number
-  pub online : ℕ → Bool
-  pub awaits : ℕ → Bool
-  pub depth : ℕ → ℕ
-  pub noted : ℕ → Number
-  pub made : List Report
-  pub queued : ℕ
-  pub list : ℕ → List (Item ℕ)
-  pub barrier : Bool
-  pub owed : ℕ → Bool
-
--- the situation of a history
-abbrev pub situation : History → Situation
-situation h = record {
-  ends = count_by ends h;
-  running = running h;
-  needed = needed h;
-  online = λ cpu. online cpu h;
-  awaits = λ cpu. awaits cpu h;
-  depth = λ cpu. depth cpu h;
-  noted = λ cpu. noted cpu h;
-  made = reports_made h;
-  queued = queued h;
-  list = λ cpu. list cpu h;
-  barrier = barrier_runs h;
-  owed = λ cpu. is_owed cpu h;
-}
-
--- its number
-abbrev pub number_in : Situation → Number
-number_in v = number_at v.ends v.running
 
 -- how many of the processors pass a test
 abbrev pub how_many : Size → (ℕ → Bool) → ℕ
@@ -72,42 +39,51 @@ which n test = filter test (range_with_len 0 n)
 
 -- the number is the last one
 abbrev pub is_last_in : Size → Situation → Bool
-is_last_in s v = same_number (number_in v) s.last
-
--- a later number is needed, and no grace period runs
-abbrev pub wants_begin : Situation → Bool
-wants_begin v = not v.running && nat_lt (number_in v) v.needed
+is_last_in s v = same_number (number_in v.periods) s.last
 
 -- the processor's list once it is tended
 abbrev pub tended_list : Situation → ℕ → List (Item ℕ)
-tended_list v cpu = after_tend (v.list cpu) (number_in v)
+tended_list v cpu = after_tend (v.calls.list cpu) (number_in v.periods)
 
 -- what the running barrier waits for: markers, and processors that it did not visit
 abbrev pub waits_for : Size → Situation → ℕ
-waits_for s v = sum_by (λ cpu. markers (v.list cpu)) (range_with_len 0 s.cpus) + how_many s v.owed
+waits_for s v = sum_by (λ cpu. markers (v.calls.list cpu)) (range_with_len 0 s.cpus) + how_many s v.calls.owed
+
+-- causes that several events test: there is no such processor, it is offline, a section of it is open
+abbrev pub no_cpu : Size → ℕ → Bool × Fault
+no_cpu s cpu = (nat_le s.cpus cpu, fault.BadCpu)
+
+abbrev pub is_offline : Situation → ℕ → Bool × Fault
+is_offline v cpu = (not (v.cpus.online cpu), fault.Offline)
+
+abbrev pub is_inside : Situation → ℕ → Bool × Fault
+is_inside v cpu = (nat_lt 0 (v.cpus.depth cpu), fault.InSection)
 
 -- what is tested for an event, in order: a cause, and the fault that it is answered by
 abbrev pub causes : Size → Situation → Event → List (Bool × Fault)
-causes s v (Enter cpu) = (nat_le s.cpus cpu, fault.BadCpu) ∷ (not (v.online cpu), fault.Offline) ∷ (v.depth cpu == deepest, fault.NestFull) ∷ []
-causes s v (Exit cpu) = (nat_le s.cpus cpu, fault.BadCpu) ∷ (v.depth cpu == 0, fault.NotOpen) ∷ []
-causes s v (Note cpu) = (nat_le s.cpus cpu, fault.BadCpu) ∷ (not (v.online cpu), fault.Offline) ∷ []
-causes s v (Quiesce cpu) = (nat_le s.cpus cpu, fault.BadCpu) ∷ (not (v.online cpu), fault.Offline) ∷ (nat_lt 0 (v.depth cpu), fault.InSection) ∷ []
-causes s v (Deliver place) = (is_none (report_at place v.made), fault.NoReport) ∷ []
-causes s v (Online cpu) = (nat_le s.cpus cpu, fault.BadCpu) ∷ (v.online cpu, fault.AlreadyOnline) ∷ []
-causes s v (Offline cpu) = (nat_le s.cpus cpu, fault.BadCpu) ∷ (cpu == 0, fault.BootStays) ∷ (not (v.online cpu), fault.Offline) ∷ (nat_lt 0 (v.depth cpu), fault.InSection) ∷ []
-causes s v Begin = (v.running, fault.Running) ∷ (is_last_in s v, fault.Exhausted) ∷ []
-causes s v End = (not v.running, fault.Idle) ∷ (nat_lt 0 (how_many s v.awaits), fault.Waiting) ∷ []
-causes s v Turn = (wants_begin v && is_last_in s v, fault.Exhausted) ∷ []
+causes s v (Enter cpu) = no_cpu s cpu ∷ is_offline v cpu ∷ (v.cpus.depth cpu == deepest, fault.NestFull) ∷ []
+causes s v (Exit cpu) = no_cpu s cpu ∷ (v.cpus.depth cpu == 0, fault.NotOpen) ∷ []
+causes s v (Note cpu) = no_cpu s cpu ∷ is_offline v cpu ∷ []
+causes s v (Quiesce cpu) = no_cpu s cpu ∷ is_offline v cpu ∷ is_inside v cpu ∷ []
+causes s v (Deliver place) = (is_none (report_at place v.cpus.made), fault.NoReport) ∷ []
+causes s v (Online cpu) = no_cpu s cpu ∷ (v.cpus.online cpu, fault.AlreadyOnline) ∷ []
+causes s v (Offline cpu) =
+    no_cpu s cpu ∷ (cpu == 0, fault.BootStays) ∷ is_offline v cpu ∷ is_inside v cpu ∷ []
+causes s v Begin = (v.periods.running, fault.Running) ∷ (is_last_in s v, fault.Exhausted) ∷ []
+causes s v End =
+    (not v.periods.running, fault.Idle) ∷ (nat_lt 0 (how_many s v.cpus.awaits), fault.Waiting) ∷ []
+causes s v Turn = (wants_begin v.periods && is_last_in s v, fault.Exhausted) ∷ []
 causes s v Awaits = []
 causes s v Take = []
 causes s v StartPoll = []
 causes s v (Poll cookie) = []
-causes s v (Queue cpu value) = (nat_le s.cpus cpu, fault.BadCpu) ∷ (not (v.online cpu), fault.Offline) ∷ (v.queued == most_queued, fault.CallbacksFull) ∷ []
-causes s v (Tend cpu) = (nat_le s.cpus cpu, fault.BadCpu) ∷ []
-causes s v (Run cpu most) = (nat_le s.cpus cpu, fault.BadCpu) ∷ []
-causes s v BarBegin = (v.barrier, fault.BarrierBusy) ∷ []
-causes s v (Visit cpu) = (nat_le s.cpus cpu, fault.BadCpu) ∷ (not v.barrier, fault.NoBarrier) ∷ []
-causes s v BarTest = (not v.barrier, fault.NoBarrier) ∷ []
+causes s v (Queue cpu value) =
+    no_cpu s cpu ∷ is_offline v cpu ∷ (v.calls.queued == most_queued, fault.CallbacksFull) ∷ []
+causes s v (Tend cpu) = no_cpu s cpu ∷ []
+causes s v (Run cpu most) = no_cpu s cpu ∷ []
+causes s v BarBegin = (v.calls.barrier, fault.BarrierBusy) ∷ []
+causes s v (Visit cpu) = no_cpu s cpu ∷ (not v.calls.barrier, fault.NoBarrier) ∷ []
+causes s v BarTest = (not v.calls.barrier, fault.NoBarrier) ∷ []
 
 -- the fault of an event
 abbrev pub fault_in : Size → Situation → Event → Option Fault
@@ -118,27 +94,27 @@ fault_in s v e = first_fault (causes s v e)
 abbrev pub answer_to_report : Size → Situation → Option Report → Answer
 answer_to_report s v None = Stale
 answer_to_report s v (Some report) =
-    if not (v.running && same_number report.tag (number_in v)) then Stale
-    else (if not (v.awaits report.cpu) then Repeat
-    else (if how_many s v.awaits == 1 then Last else Taken))
+    if not (v.periods.running && same_number report.tag (number_in v.periods)) then Stale
+    else (if not (v.cpus.awaits report.cpu) then Repeat
+    else (if how_many s v.cpus.awaits == 1 then Last else Taken))
 
 -- a grace period begins
 abbrev pub begin_reply : Size → Situation → Reply
-begin_reply s v = reply.Begun (number_at v.ends true) (how_many s v.online)
+begin_reply s v = reply.Begun (number_at v.periods.ends true) (how_many s v.cpus.online)
 
 -- it ends
 abbrev pub end_reply : Situation → Reply
-end_reply v = reply.Ended (number_at (v.ends + 1) false)
+end_reply v = reply.Ended (number_at (v.periods.ends + 1) false)
 
 -- a turn: a running grace period ends where nobody is awaited; where none runs, one begins if a later number is needed
 abbrev pub turn_reply : Size → Situation → Reply
 turn_reply s v =
-    if v.running then (if how_many s v.awaits == 0 then end_reply v else reply.Waiting (how_many s v.awaits))
-    else (if wants_begin v then begin_reply s v else reply.Nothing)
+    if v.periods.running then (if how_many s v.cpus.awaits == 0 then end_reply v else reply.Waiting (how_many s v.cpus.awaits))
+    else (if wants_begin v.periods then begin_reply s v else reply.Nothing)
 
 -- a visit: where the processor is owed one, a marker goes behind its list, if that is not empty
 abbrev pub visit_in : Situation → ℕ → Visited
-visit_in v cpu = if not (v.owed cpu) then Already else (if is_empty (v.list cpu) then Empty else Marked)
+visit_in v cpu = if not (v.calls.owed cpu) then Already else (if is_empty (v.calls.list cpu) then Empty else Marked)
 
 -- a test of the barrier: it is done where it waits for nothing
 abbrev pub barrier_test_reply : Size → Situation → Reply
@@ -146,23 +122,25 @@ barrier_test_reply s v = if waits_for s v == 0 then reply.BarDone else reply.Bar
 
 -- the reply to an event of which no cause holds
 abbrev pub accepted_reply : Size → Situation → Event → Reply
-accepted_reply s v (Enter cpu) = reply.Depth (v.depth cpu + 1)
-accepted_reply s v (Exit cpu) = reply.Depth (v.depth cpu - 1)
-accepted_reply s v (Note cpu) = reply.Noted (number_in v) (v.awaits cpu)
-accepted_reply s v (Quiesce cpu) = reply.Made (length v.made + 1) (record { cpu = cpu; tag = v.noted cpu })
-accepted_reply s v (Deliver place) = reply.Answer (answer_to_report s v (report_at place v.made))
+accepted_reply s v (Enter cpu) = reply.Depth (v.cpus.depth cpu + 1)
+accepted_reply s v (Exit cpu) = reply.Depth (v.cpus.depth cpu - 1)
+accepted_reply s v (Note cpu) = reply.Noted (number_in v.periods) (v.cpus.awaits cpu)
+accepted_reply s v (Quiesce cpu) =
+    reply.Made (length v.cpus.made + 1) (record { cpu = cpu; tag = v.cpus.noted cpu })
+accepted_reply s v (Deliver place) = reply.Answer (answer_to_report s v (report_at place v.cpus.made))
 accepted_reply s v (Online cpu) = reply.Online
-accepted_reply s v (Offline cpu) = reply.Moved (length (callbacks (v.list cpu)))
+accepted_reply s v (Offline cpu) = reply.Moved (length (callbacks (v.calls.list cpu)))
 accepted_reply s v Begin = begin_reply s v
 accepted_reply s v End = end_reply v
 accepted_reply s v Turn = turn_reply s v
-accepted_reply s v Awaits = reply.Awaits (which s.cpus v.awaits)
-accepted_reply s v Take = reply.Cookie (record { 0 = snapshot (number_in v) })
-accepted_reply s v StartPoll = reply.Cookie (record { 0 = snapshot (number_in v) })
-accepted_reply s v (Poll cookie) = reply.Polled (is_done_at cookie (number_in v))
-accepted_reply s v (Queue cpu value) = reply.Queued (v.queued + 1)
-accepted_reply s v (Tend cpu) = reply.Tended (length (callbacks (front (tended_list v cpu)))) (length (callbacks (behind (tended_list v cpu))))
-accepted_reply s v (Run cpu most) = reply.Ran (map (λ call. call.value) (take_answer (v.list cpu) most))
+accepted_reply s v Awaits = reply.Awaits (which s.cpus v.cpus.awaits)
+accepted_reply s v Take = reply.Cookie (record { 0 = snapshot (number_in v.periods) })
+accepted_reply s v StartPoll = reply.Cookie (record { 0 = snapshot (number_in v.periods) })
+accepted_reply s v (Poll cookie) = reply.Polled (is_done_at cookie (number_in v.periods))
+accepted_reply s v (Queue cpu value) = reply.Queued (v.calls.queued + 1)
+accepted_reply s v (Tend cpu) =
+    let xs = tended_list v cpu in reply.Tended (length (callbacks (front xs))) (length (callbacks (behind xs)))
+accepted_reply s v (Run cpu most) = reply.Ran (map (λ call. call.value) (take_answer (v.calls.list cpu) most))
 accepted_reply s v BarBegin = reply.BarBegun
 accepted_reply s v (Visit cpu) = reply.Visited (visit_in v cpu)
 accepted_reply s v BarTest = barrier_test_reply s v
@@ -179,16 +157,17 @@ answer s v e = or_fault (fault_in s v e) (accepted_reply s v e)
 -- the event stores something: a report, a callback, a marker, or a list that is not empty
 abbrev pub stores : Size → Situation → Event → Bool
 stores s v (Quiesce cpu) = true
-stores s v Awaits = nat_lt 0 (how_many s v.awaits)
-stores s v (Offline cpu) = not (is_empty (v.list cpu))
+stores s v Awaits = nat_lt 0 (how_many s v.cpus.awaits)
+stores s v (Offline cpu) = not (is_empty (v.calls.list cpu))
 stores s v (Queue cpu value) = true
-stores s v (Run cpu most) = nat_lt 0 (length (take_answer (v.list cpu) most))
-stores s v (Visit cpu) = v.owed cpu && not (is_empty (v.list cpu))
+stores s v (Run cpu most) = nat_lt 0 (length (take_answer (v.calls.list cpu) most))
+stores s v (Visit cpu) = v.calls.owed cpu && not (is_empty (v.calls.list cpu))
 stores s v _ = false
 
 -- the reply is the answer; or memory is wanted, where the event stores something and no other fault holds
 abbrev pub IsLegalReply : Size → Situation → Event → Reply → Type 0
-IsLegalReply s v e r = (r ≡ answer s v e) ⊎ ((stores s v e ≡ true) × (fault_in s v e ≡ None) × (r ≡ reply.Fault fault.NoMemory))
+IsLegalReply s v e r =
+    (r ≡ answer s v e) ⊎ ((stores s v e ≡ true) × (fault_in s v e ≡ None) × (r ≡ reply.Fault fault.NoMemory))
 
 -- what a turn was: a begin, an end, or neither
 abbrev pub turn_as : Reply → Event

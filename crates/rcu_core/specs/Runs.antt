@@ -1,7 +1,8 @@
 -- Runs: events with their replies, one after another.
 use Rattle.std.specs.Prelude.{ℕ, Bool, true, false, List, [], ◌∷◌, ◌≡◌}
 use Rattle.rcu_core.specs.History.{History}
-use Rattle.rcu_core.specs.Replies.{Size, IsLegalReply, with_event, situation}
+use Rattle.rcu_core.specs.Replies.{Size, IsLegalReply, with_event}
+use Rattle.rcu_core.specs.Situation.{situation}
 use Rattle.rcu_core.specs.Core.{State, Represents, size_at}
 use Rattle.rcu_core.specs.declared.event.Event.{Event}
 use Rattle.rcu_core.specs.declared.event.Event.TheVariants.{Take, StartPoll}
@@ -30,13 +31,15 @@ takes _ = false
 -- legal replies to events, the first one first, lead from a history to another
 abbrev pub Leads : Size → History → List Event → List Reply → History → Type 0
 Leads s h [] [] g = g ≡ h
-Leads s h (e ∷ events) (r ∷ replies) g = IsLegalReply s (situation h) e r × Leads s (with_event h e r) events replies g
+Leads s h (e ∷ events) (r ∷ replies) g =
+    IsLegalReply s (situation h) e r × Leads s (with_event h e r) events replies g
 Leads s h [] (r ∷ replies) g = ⊥
 Leads s h (e ∷ events) [] g = ⊥
 
 -- the replies to these events are legal, one after another, and the engine is left in the situation of the history that
 -- they lead to
-pub record RunsLegally (v : State ℕ) (h : History) (events : List Event) (replies : List Reply) (w : State ℕ) : Type 0 where
+pub record RunsLegally (v : State ℕ) (h : History) (events : List Event) (replies : List Reply) (w : State ℕ)
+    : Type 0 where
   pub reached : History
   pub leads : Leads (size_at v) h events replies reached
   pub has : Represents w reached

@@ -1,6 +1,6 @@
 //! The state of the grace periods and the callbacks.
 ghost use Rattle.std.specs.Prelude.{◌≡◌, ◌≢◌, ◌<◌, ◌≤◌, ◌==◌, if◌then◌else◌, All, [], Some, None, true, false, length, replicate, IfErr, IfOk, OnErr, OnOk};
-ghost use Rattle.rcu_seq.specs.Seq.{is_done, snapshot_of};
+ghost use Rattle.rcu_seq.specs.Seq.{is_done, number_of, snapshot_of};
 ghost use Rattle.rcu_seq.specs.Numbers.{is_last};
 ghost use Rattle.rcu_node.specs.CpuSet.{is_in};
 ghost use Rattle.rcu_hotplug.specs.Hotplug.{Arrive, Depart, cpus_of, refusal};
@@ -8,7 +8,7 @@ ghost use Rattle.rcu_hotplug.specs.Hotplug as hotplug;
 ghost use Rattle.rcu_cblist.specs.SegList.{behind, callbacks, front, is_empty, take_answer};
 ghost use Rattle.rcu_barrier.specs.Lists.{list_of, most_queued, barrier_test_answer, visit_answer};
 ghost use Rattle.rcu_seq.specs.Numbers.{snapshot};
-ghost use Rattle.rcu_core.specs.GpState.{report_answer_in, at_first, awaited_in, after_barrier_begin, after_barrier_test, begin_refusal, after_begin, end_refusal, after_end, after_migrate, number_in, after_queue, after_report, after_run, after_start_poll, after_tend, turn_answer, turn_refusal, after_turn, after_visit, with_call};
+ghost use Rattle.rcu_core.specs.GpState.{report_answer_in, at_first, awaited_in, after_barrier_begin, after_barrier_test, begin_refusal, after_begin, end_refusal, after_end, after_migrate, after_queue, after_report, after_run, after_start_poll, after_tend, turn_answer, turn_refusal, after_turn, after_visit, with_call};
 
 use crate::turned::Turned;
 use rcu_barrier::barrier_state::BarrierState;
@@ -85,7 +85,7 @@ impl<A: Awaited, T: Drop> GpState<A, T> {
 
     /// The grace-period number.
     pub fn value(&self) -> u64
-        ensures { result ≡ number_in self.now }
+        ensures { result ≡ number_of self.now.seq }
     {
         self.seq.value()
     }
@@ -111,7 +111,7 @@ impl<A: Awaited, T: Drop> GpState<A, T> {
     ///
     /// Faults: 8 where one runs; 11 where the number is the last one.
     pub fn begin(&mut self) -> Result<(u64, u32), Fault>
-        ensures ok { IfOk result (λ began. (began.0 ≡ number_in self.new) × (began.1 ≡ awaited_in self.new)) }
+        ensures ok { IfOk result (λ began. (began.0 ≡ number_of self.new.seq) × (began.1 ≡ awaited_in self.new)) }
         ensures accepted { OnOk result ((begin_refusal self.old ≡ None) × (self.new ≡ after_begin self.old)) }
         ensures refused { IfErr result (λ fault. (begin_refusal self.old ≡ Some fault) × (self.new ≡ self.old)) }
     {
@@ -124,7 +124,7 @@ impl<A: Awaited, T: Drop> GpState<A, T> {
     ///
     /// Faults: 9 where none runs; 10 where a processor is awaited.
     pub fn end(&mut self) -> Result<u64, Fault>
-        ensures ok { IfOk result (λ number. number ≡ number_in self.new) }
+        ensures ok { IfOk result (λ number. number ≡ number_of self.new.seq) }
         ensures accepted { OnOk result ((end_refusal self.old ≡ None) × (self.new ≡ after_end self.old)) }
         ensures refused { IfErr result (λ fault. (end_refusal self.old ≡ Some fault) × (self.new ≡ self.old)) }
     {
@@ -246,7 +246,7 @@ impl<A: Awaited, T: Drop> GpState<A, T> {
     pub fn run(&mut self, cpu: u32, max: u64) -> Result<Vec<Queued<T>>, Fault>
         requires { cpu < cpus_of self.old.processors }
         ensures ok { IfOk result (λ calls. (calls.items ≡ take_answer (list_of self.old.lists cpu) max) × (self.new ≡ after_run self.old cpu max)) }
-        ensures waited { IfOk result (λ calls. All (λ call. snapshot call.at ≤ number_in self.old) calls.items) }
+        ensures waited { IfOk result (λ calls. All (λ call. snapshot call.at ≤ number_of self.old.seq) calls.items) }
         ensures err { IfErr result (λ fault. (fault ≡ Fault.NoMemory) × (take_answer (list_of self.old.lists cpu) max ≢ []) × (self.new ≡ self.old)) }
     {
         self.lists.run(cpu, max)

@@ -1,6 +1,7 @@
 use Rattle.std.proofs.lemmas.Result.{IfOk-weaker}
 use Rattle.rcu_barrier.specs.Lists.{list_of}
-use Rattle.rcu_core.specs.GpState.{Grace, number_in}
+use Rattle.rcu_seq.specs.Seq.{number_of}
+use Rattle.rcu_core.specs.GpState.{Grace}
 use Rattle.rcu_core.proofs.Changes.{on_either, run_kept, same_kept}
 use Rattle.rcu_core.proofs.Timely.{taken_waited, timely_get}
 use Rattle.rcu_core.proofs.gp_state.GpState.run.Goals as goal
@@ -17,7 +18,7 @@ pub returns-clause-waited : goal.returns-clause-waited
 returns-clause-waited g c =
     let i = c.self.inside in
     let old : Grace g.row.T.Denot = record { seq = i.seq; needed = i.needed; processors = i.hotplug; lists = i.lists } in
-    let n = number_in old in
+    let n = number_of old.seq in
     let xs = list_of i.lists c.args.cpu in
     let timely = timely_get n i.lists.lists c.args.cpu c.self.invariant.timely in
     rw (← c.self.view_is)

@@ -1,0 +1,69 @@
+-- What the events so far say, in three parts: of grace periods, of the processors and of callbacks.
+use Rattle.std.specs.Prelude.{ℕ, ◌&&◌, Bool, not, nat_lt, List, count_by}
+use Rattle.rcu_seq.specs.Numbers.{Number, number_at}
+use Rattle.rcu_report.specs.declared.report.Report.{Report}
+use Rattle.rcu_cblist.specs.SegList.{Item}
+use Rattle.rcu_core.specs.Callbacks.{barrier_runs, is_owed, list, needed, queued}
+use Rattle.rcu_core.specs.History.{History, awaits, depth, ends, noted, online, reports_made, running}
+
+-- what the events so far say of grace periods: how many ended, whether one runs, and which number is needed
+pub record PeriodSituation : Type 0 where
+  pub ends : ℕ
+  pub running : Bool
+  pub needed : Number
+
+-- their number
+abbrev pub number_in : PeriodSituation → Number
+number_in p = number_at p.ends p.running
+
+-- a grace period is wanted: the needed number is above the number, and none runs
+abbrev pub wants_begin : PeriodSituation → Bool
+wants_begin p = not p.running && nat_lt (number_in p) p.needed
+
+-- what they say of the processors: which are online, which are awaited, how deep the sections of each nest, which number
+-- it noted last; and all reports
+pub record CpuSituation : Type 0 where
+  pub online : ℕ → Bool
+  pub awaits : ℕ → Bool
+  pub depth : ℕ → ℕ
+  pub noted : ℕ → Number
+  pub made : List Report
+
+-- what they say of callbacks: how many were queued, each processor's list, whether a barrier runs, and which processors
+-- it owes a visit
+pub record CallbackSituation : Type 0 where
+  pub queued : ℕ
+  pub list : ℕ → List (Item ℕ)
+  pub barrier : Bool
+  pub owed : ℕ → Bool
+
+-- what the events so far say
+pub record Situation : Type 0 where
+  pub periods : PeriodSituation
+  pub cpus : CpuSituation
+  pub calls : CallbackSituation
+
+-- the three parts of what a history says
+abbrev pub periods_in : History → PeriodSituation
+periods_in h = record { ends = count_by ends h; running = running h; needed = needed h }
+
+abbrev pub cpus_in : History → CpuSituation
+cpus_in h = record {
+  online = λ cpu. online cpu h;
+  awaits = λ cpu. awaits cpu h;
+  depth = λ cpu. depth cpu h;
+  noted = λ cpu. noted cpu h;
+  made = reports_made h;
+}
+
+abbrev pub calls_in : History → CallbackSituation
+calls_in h = record {
+  queued = queued h;
+  list = λ cpu. list cpu h;
+  barrier = barrier_runs h;
+  owed = λ cpu. is_owed cpu h;
+}
+
+-- the situation of a history
+abbrev pub situation : History → Situation
+situation h = record { periods = periods_in h; cpus = cpus_in h; calls = calls_in h }
