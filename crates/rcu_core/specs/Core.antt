@@ -2,6 +2,7 @@
 use Rattle.std.specs.Prelude.{ℕ, ◌<◌, ◌≡◌, Bool, false, List, [], ◌∷◌, ◌++◌, length, slice_index_or, slice_set, All}
 use Rattle.std.specs.Prelude.{Option, Some, None}
 use Rattle.rcu_seq.specs.Seq.{number_of}
+use Rattle.rcu_seq.specs.declared.fault.Fault.{Fault}
 use Rattle.rcu_node.specs.CpuSet.{is_in}
 use Rattle.rcu_report.specs.declared.report.Report.{Report}
 use Rattle.rcu_hotplug.specs.Hotplug.{Processors, Arrive as Arrives, Depart as Departs, cpus_of}
@@ -117,6 +118,10 @@ after_reply v e _ = after_event v e
 pub record StepsLegally (v : State ℕ) (e : Event) (r : Reply) (w : State ℕ) : Type 0 where
   pub legal : IsLegalReply (size_at v) (says v) e r
   pub left : w ≡ after_reply v e r
+
+-- the event is refused by a fault, and nothing changes
+abbrev pub Refuses : State ℕ → Event → Fault → State ℕ → Type 0
+Refuses v e fault w = StepsLegally v e (reply.Fault fault) w
 
 -- the counter and the needed number are as a situation says
 pub record RepresentsPeriods (p u : PeriodSituation) : Type 0 where

@@ -1,12 +1,13 @@
 //! The machine over events.
-ghost use Rattle.std.specs.Prelude.{◌≡◌, ◌<◌, ℕ, true, false, [], Some, None, length, replicate, IfErr, IfNone, IfOk, IfSome, OnErr};
+ghost use Rattle.std.specs.Prelude.{◌≡◌, ◌<◌, ◌≤◌, ℕ, true, false, [], Some, None, length};
+ghost use Rattle.std.specs.Prelude.{replicate, IfErr, IfOk, OnErr, OnOk};
 ghost use Rattle.rcu_seq.specs.Numbers.{is_last};
 ghost use Rattle.rcu_node.specs.CpuSet.{is_in, size_of};
-ghost use Rattle.rcu_cpu.specs.CpuData.{at_first};
+ghost use Rattle.rcu_hotplug.specs.Hotplug.{cpus_of};
 ghost use Rattle.rcu_core.specs.History.{History, report_at};
 ghost use Rattle.rcu_core.specs.Replies.{fault_in, which};
 ghost use Rattle.rcu_core.specs.Runs.{RunsLegally};
-ghost use Rattle.rcu_core.specs.Core.{StepsLegally, Follows, Represents, says, size_at};
+ghost use Rattle.rcu_core.specs.Core.{Follows, Refuses, Represents, StepsLegally, says, size_at};
 
 use crate::cpu_list::CpuList;
 use crate::event::Event;
@@ -23,8 +24,8 @@ use rcu_seq::fault::Fault;
 use std::alloc::{AllocError, Global};
 use std::marker::Model;
 
-/// The machine over events: the state of the grace periods and the callbacks, what each processor keeps, and all
-/// reports ever made.
+/// The machine over events: the state of the grace periods and the callbacks, what each processor
+/// keeps, and all reports ever made.
 ///
 /// Contracts see these three.
 #[derive(Drop)]
@@ -64,7 +65,8 @@ fn report_of(reports: &[Report], place: u64) -> Option<Report>
 
 /// The awaited processors, ascending.
 fn list_awaited<A: Awaited>(alloc: Global, awaited: &A) -> Result<CpuList, AllocError>
-    ensures ok { IfOk result (λ list. list ≡ which (length (A.awaited awaited.now)) (is_in (A.awaited awaited.now))) }
+    ensures ok { IfOk result (λ list.
+        list ≡ which (length (A.awaited awaited.now)) (is_in (A.awaited awaited.now))) }
     ensures err { OnErr result (0 < size_of (A.awaited awaited.now)) }
 {
     let mut list = CpuList::new(alloc);
@@ -77,14 +79,17 @@ fn list_awaited<A: Awaited>(alloc: Global, awaited: &A) -> Result<CpuList, Alloc
 }
 
 impl<A: Awaited> Core<A, u64> {
-    /// A machine in the situation of the empty history: processor 0 is online, nothing runs, and the lists are empty. The awaited set is as
-    /// it was made, and no grace period begins at the number `last`.
+    /// A machine in the situation of the empty history: processor 0 is online, nothing runs, and
+    /// the lists are empty. The awaited set is as it was made, and no grace period begins at the
+    /// number `last`.
     ///
     /// Faults: 19 where `last` is not a multiple of 4 in 4..=2^62; 16.
     pub fn new(alloc: Global, inner: A, last: u64) -> Result<Self, Fault>
         requires tag { A.tag inner ≡ 0 }
         requires empty { A.start_set inner ≡ replicate (length (A.awaited inner)) false }
-        ensures ok { IfOk result (λ made. Represents made [] × (size_at made ≡ record { cpus = length (A.awaited inner); last = last })) }
+        ensures ok { IfOk result (λ made. Represents made []) }
+        ensures size { IfOk result (λ made.
+            size_at made ≡ record { cpus = length (A.awaited inner); last = last }) }
         ensures err { IfErr result (λ fault. is_last last ≡ false → fault ≡ Fault.BadLast) }
         ensures memory { IfErr result (λ fault. is_last last ≡ true → fault ≡ Fault.NoMemory) }
     {
@@ -105,21 +110,28 @@ impl<A: Awaited> Core<A, u64> {
         })
     }
 
-    /// Takes an event: the reply is legal, and the machine is left in the situation of the history, with the event
-    /// where it was accepted. A refused event changes nothing.
+    /// Takes an event: the reply is legal, and the machine is left in the situation of the history,
+    /// with the event where it was accepted. A refused event changes nothing.
     pub fn step(&mut self, event: Event) -> Reply
         ensures { (h : History) → Represents self.old h → Follows self.old h event result self.new }
     {
+        // A look at a field shows the prover what the type keeps.
         let _ = &self.gp;
-        self.apply(event)
+        match self.apply(event) {
+            Ok(reply) => reply,
+            Err(fault) => Reply::Fault(fault),
+        }
     }
 
-    /// Takes these events, one after another, once there is room for all replies: they are those that [`Core::step`] gives.
+    /// Takes these events, one after another, once there is room for all replies: they are those
+    /// that [`Core::step`] gives.
     ///
     /// Fault 16: no event was taken.
     pub fn run(&mut self, events: &[Event]) -> Result<Vec<Reply>, Fault>
-        ensures ok { IfOk result (λ replies. (h : History) → Represents self.old h → RunsLegally self.old h events.now replies.items self.new) }
-        ensures err { IfErr result (λ fault. (fault ≡ Fault.NoMemory) × (self.new ≡ self.old)) }
+        ensures ok { IfOk result (λ replies. (h : History) → Represents self.old h →
+            RunsLegally self.old h events.now replies.items self.new) }
+        ensures err { IfErr result (λ fault. fault ≡ Fault.NoMemory) }
+        ensures unchanged { OnErr result (self.new ≡ self.old) }
     {
         let Ok(mut replies) = Vec::with_capacity(self.alloc, events.len()) else {
             return Err(Fault::NoMemory);
@@ -131,8 +143,9 @@ impl<A: Awaited> Core<A, u64> {
         Ok(replies)
     }
 
-    fn apply(&mut self, event: Event) -> Reply
-        ensures { StepsLegally self.old event result self.new }
+    fn apply(&mut self, event: Event) -> Result<Reply, Fault>
+        ensures ok { IfOk result (λ reply. StepsLegally self.old event reply self.new) }
+        ensures err { IfErr result (λ fault. Refuses self.old event fault self.new) }
     {
         match event {
             Event::Enter(cpu) => self.enter(cpu),
@@ -158,237 +171,227 @@ impl<A: Awaited> Core<A, u64> {
         }
     }
 
-    fn enter(&mut self, cpu: u32) -> Reply
-        ensures { StepsLegally self.old (Event.Enter cpu) result self.new }
+    /// The processor's place. Fault 1: there is none.
+    fn place_of(&self, cpu: u32) -> Result<usize, Fault>
+        ensures place { IfOk result (λ place. place ≡ cpu) }
+        ensures there { OnOk result (cpu < cpus_of self.now.grace.processors) }
+        ensures fault { IfErr result (λ fault. fault ≡ Fault.BadCpu) }
+        ensures none { OnErr result (cpus_of self.now.grace.processors ≤ cpu) }
     {
         if cpu >= self.gp.cpus() {
-            return Reply::Fault(Fault::BadCpu);
+            return Err(Fault::BadCpu);
         }
-        match self.cpus[cpu as usize].enter() {
-            Ok(depth) => Reply::Depth(depth),
-            Err(fault) => Reply::Fault(fault),
-        }
+        Ok(cpu as usize)
     }
 
-    fn exit(&mut self, cpu: u32) -> Reply
-        ensures { StepsLegally self.old (Event.Exit cpu) result self.new }
+    fn enter(&mut self, cpu: u32) -> Result<Reply, Fault>
+        ensures ok { IfOk result (λ reply. StepsLegally self.old (Event.Enter cpu) reply self.new) }
+        ensures err { IfErr result (λ fault. Refuses self.old (Event.Enter cpu) fault self.new) }
     {
-        if cpu >= self.gp.cpus() {
-            return Reply::Fault(Fault::BadCpu);
-        }
-        match self.cpus[cpu as usize].exit() {
-            Ok(depth) => Reply::Depth(depth),
-            Err(fault) => Reply::Fault(fault),
-        }
+        let place = self.place_of(cpu)?;
+        Ok(Reply::Depth(self.cpus[place].enter()?))
     }
 
-    fn note(&mut self, cpu: u32) -> Reply
-        ensures { StepsLegally self.old (Event.Note cpu) result self.new }
+    fn exit(&mut self, cpu: u32) -> Result<Reply, Fault>
+        ensures ok { IfOk result (λ reply. StepsLegally self.old (Event.Exit cpu) reply self.new) }
+        ensures err { IfErr result (λ fault. Refuses self.old (Event.Exit cpu) fault self.new) }
     {
-        if cpu >= self.gp.cpus() {
-            return Reply::Fault(Fault::BadCpu);
-        }
+        let place = self.place_of(cpu)?;
+        Ok(Reply::Depth(self.cpus[place].exit()?))
+    }
+
+    fn note(&mut self, cpu: u32) -> Result<Reply, Fault>
+        ensures ok { IfOk result (λ reply. StepsLegally self.old (Event.Note cpu) reply self.new) }
+        ensures err { IfErr result (λ fault. Refuses self.old (Event.Note cpu) fault self.new) }
+    {
+        let place = self.place_of(cpu)?;
         let number = self.gp.value();
-        match self.cpus[cpu as usize].note(number) {
-            Ok(()) => Reply::Noted(number, self.gp.awaited().awaits(cpu)),
-            Err(fault) => Reply::Fault(fault),
-        }
+        self.cpus[place].note(number)?;
+        Ok(Reply::Noted(number, self.gp.awaited().awaits(cpu)))
     }
 
-    fn quiesce(&mut self, cpu: u32) -> Reply
-        ensures { StepsLegally self.old (Event.Quiesce cpu) result self.new }
+    fn quiesce(&mut self, cpu: u32) -> Result<Reply, Fault>
+        ensures ok { IfOk result (λ reply.
+            StepsLegally self.old (Event.Quiesce cpu) reply self.new) }
+        ensures err { IfErr result (λ fault. Refuses self.old (Event.Quiesce cpu) fault self.new) }
     {
-        if cpu >= self.gp.cpus() {
-            return Reply::Fault(Fault::BadCpu);
-        }
-        let report = match self.cpus[cpu as usize].quiesce() {
-            Ok(report) => report,
-            Err(fault) => return Reply::Fault(fault),
-        };
-        match self.reports.push(report) {
-            Ok(()) => Reply::Made(self.reports.len() as u64, report),
-            Err(_) => Reply::Fault(Fault::NoMemory),
-        }
+        let place = self.place_of(cpu)?;
+        let report = self.cpus[place].quiesce()?;
+        self.reports.push(report).map_err(|_| Fault::NoMemory)?;
+        Ok(Reply::Made(self.reports.len() as u64, report))
     }
 
-    fn deliver(&mut self, place: u64) -> Reply
-        ensures { StepsLegally self.old (Event.Deliver place) result self.new }
+    fn deliver(&mut self, place: u64) -> Result<Reply, Fault>
+        ensures ok { IfOk result (λ reply.
+            StepsLegally self.old (Event.Deliver place) reply self.new) }
+        ensures err { IfErr result (λ fault.
+            Refuses self.old (Event.Deliver place) fault self.new) }
     {
-        match report_of(self.reports.as_slice(), place) {
-            Some(report) => Reply::Answer(self.gp.report(report)),
-            None => Reply::Fault(Fault::NoReport),
-        }
+        let report = report_of(self.reports.as_slice(), place).ok_or(Fault::NoReport)?;
+        Ok(Reply::Answer(self.gp.report(report)))
     }
 
-    fn arrive(&mut self, cpu: u32) -> Reply
-        ensures { StepsLegally self.old (Event.Online cpu) result self.new }
+    fn arrive(&mut self, cpu: u32) -> Result<Reply, Fault>
+        ensures ok { IfOk result (λ reply.
+            StepsLegally self.old (Event.Online cpu) reply self.new) }
+        ensures err { IfErr result (λ fault. Refuses self.old (Event.Online cpu) fault self.new) }
     {
-        if let Err(fault) = self.gp.arrive(cpu) {
-            return Reply::Fault(fault);
-        }
+        self.gp.arrive(cpu)?;
         let number = self.gp.value();
         match self.cpus[cpu as usize].arrive(number) {
-            Ok(()) => Reply::Online,
+            Ok(()) => Ok(Reply::Online),
             Err(_) => unreachable!(),
         }
     }
 
-    /// Why a departure is refused, in the order of its faults.
-    fn departure_fault(&self, cpu: u32) -> Option<Fault>
-        ensures { result ≡ fault_in (size_at self.now) (says self.now) (Event.Offline cpu) }
+    /// The place of a processor that departs, where nothing speaks against it.
+    fn departing(&self, cpu: u32) -> Result<usize, Fault>
+        ensures place { IfOk result (λ place. place ≡ cpu) }
+        ensures ok { OnOk result
+            (fault_in (size_at self.now) (says self.now) (Event.Offline cpu) ≡ None) }
+        ensures err { IfErr result (λ fault.
+            fault_in (size_at self.now) (says self.now) (Event.Offline cpu) ≡ Some fault) }
     {
-        if cpu >= self.gp.cpus() {
-            return Some(Fault::BadCpu);
-        }
+        let place = self.place_of(cpu)?;
         if cpu == 0 {
-            return Some(Fault::BootStays);
+            return Err(Fault::BootStays);
         }
         if !self.gp.online(cpu) {
-            return Some(Fault::Offline);
+            return Err(Fault::Offline);
         }
-        if self.cpus[cpu as usize].depth() > 0 {
-            return Some(Fault::InSection);
+        if self.cpus[place].depth() > 0 {
+            return Err(Fault::InSection);
         }
-        None
+        Ok(place)
     }
 
-    fn depart(&mut self, cpu: u32) -> Reply
-        ensures { StepsLegally self.old (Event.Offline cpu) result self.new }
+    fn depart(&mut self, cpu: u32) -> Result<Reply, Fault>
+        ensures ok { IfOk result (λ reply.
+            StepsLegally self.old (Event.Offline cpu) reply self.new) }
+        ensures err { IfErr result (λ fault. Refuses self.old (Event.Offline cpu) fault self.new) }
     {
-        if let Some(fault) = self.departure_fault(cpu) {
-            return Reply::Fault(fault);
-        }
-        let Ok(moved) = self.gp.migrate(cpu) else {
-            return Reply::Fault(Fault::NoMemory);
-        };
-        let (Ok(()), Ok(())) = (self.cpus[cpu as usize].depart(), self.gp.depart(cpu)) else {
+        let place = self.departing(cpu)?;
+        let moved = self.gp.migrate(cpu)?;
+        let (Ok(()), Ok(())) = (self.cpus[place].depart(), self.gp.depart(cpu)) else {
             unreachable!()
         };
-        Reply::Moved(moved)
+        Ok(Reply::Moved(moved))
     }
 
-    fn begin(&mut self) -> Reply
-        ensures { StepsLegally self.old Event.Begin result self.new }
+    fn begin(&mut self) -> Result<Reply, Fault>
+        ensures ok { IfOk result (λ reply. StepsLegally self.old Event.Begin reply self.new) }
+        ensures err { IfErr result (λ fault. Refuses self.old Event.Begin fault self.new) }
     {
-        match self.gp.begin() {
-            Ok((number, awaited)) => Reply::Begun(number, awaited),
-            Err(fault) => Reply::Fault(fault),
-        }
+        let (number, awaited) = self.gp.begin()?;
+        Ok(Reply::Begun(number, awaited))
     }
 
-    fn end(&mut self) -> Reply
-        ensures { StepsLegally self.old Event.End result self.new }
+    fn end(&mut self) -> Result<Reply, Fault>
+        ensures ok { IfOk result (λ reply. StepsLegally self.old Event.End reply self.new) }
+        ensures err { IfErr result (λ fault. Refuses self.old Event.End fault self.new) }
     {
-        match self.gp.end() {
-            Ok(number) => Reply::Ended(number),
-            Err(fault) => Reply::Fault(fault),
-        }
+        Ok(Reply::Ended(self.gp.end()?))
     }
 
-    fn turn(&mut self) -> Reply
-        ensures { StepsLegally self.old Event.Turn result self.new }
+    fn turn(&mut self) -> Result<Reply, Fault>
+        ensures ok { IfOk result (λ reply. StepsLegally self.old Event.Turn reply self.new) }
+        ensures err { IfErr result (λ fault. Refuses self.old Event.Turn fault self.new) }
     {
-        match self.gp.turn() {
-            Ok(Turned::Begun(number, awaited)) => Reply::Begun(number, awaited),
-            Ok(Turned::Ended(number)) => Reply::Ended(number),
-            Ok(Turned::Waiting(awaited)) => Reply::Waiting(awaited),
-            Ok(Turned::Nothing) => Reply::Nothing,
-            Err(fault) => Reply::Fault(fault),
-        }
+        Ok(match self.gp.turn()? {
+            Turned::Begun(number, awaited) => Reply::Begun(number, awaited),
+            Turned::Ended(number) => Reply::Ended(number),
+            Turned::Waiting(awaited) => Reply::Waiting(awaited),
+            Turned::Nothing => Reply::Nothing,
+        })
     }
 
-    fn awaits(&self) -> Reply
-        ensures { StepsLegally self.now Event.Awaits result self.now }
+    fn awaits(&self) -> Result<Reply, Fault>
+        ensures ok { IfOk result (λ reply. StepsLegally self.now Event.Awaits reply self.now) }
+        ensures err { IfErr result (λ fault. Refuses self.now Event.Awaits fault self.now) }
     {
-        match list_awaited(self.alloc, self.gp.awaited()) {
-            Ok(list) => Reply::Awaits(list),
-            Err(_) => Reply::Fault(Fault::NoMemory),
-        }
+        let list = list_awaited(self.alloc, self.gp.awaited()).map_err(|_| Fault::NoMemory)?;
+        Ok(Reply::Awaits(list))
     }
 
-    fn take(&self) -> Reply
-        ensures { StepsLegally self.now Event.Take result self.now }
+    fn take(&self) -> Result<Reply, Fault>
+        ensures ok { IfOk result (λ reply. StepsLegally self.now Event.Take reply self.now) }
+        ensures err { IfErr result (λ fault. Refuses self.now Event.Take fault self.now) }
     {
-        Reply::Cookie(self.gp.take())
+        Ok(Reply::Cookie(self.gp.take()))
     }
 
-    fn start_poll(&mut self) -> Reply
-        ensures { StepsLegally self.old Event.StartPoll result self.new }
+    fn start_poll(&mut self) -> Result<Reply, Fault>
+        ensures ok { IfOk result (λ reply. StepsLegally self.old Event.StartPoll reply self.new) }
+        ensures err { IfErr result (λ fault. Refuses self.old Event.StartPoll fault self.new) }
     {
-        Reply::Cookie(self.gp.start_poll())
+        Ok(Reply::Cookie(self.gp.start_poll()))
     }
 
-    fn poll(&self, cookie: u64) -> Reply
-        ensures { StepsLegally self.now (Event.Poll cookie) result self.now }
+    fn poll(&self, cookie: u64) -> Result<Reply, Fault>
+        ensures ok { IfOk result (λ reply.
+            StepsLegally self.now (Event.Poll cookie) reply self.now) }
+        ensures err { IfErr result (λ fault. Refuses self.now (Event.Poll cookie) fault self.now) }
     {
-        Reply::Polled(self.gp.done(Cookie(cookie)))
+        Ok(Reply::Polled(self.gp.done(Cookie(cookie))))
     }
 
-    fn queue(&mut self, cpu: u32, value: u64) -> Reply
-        ensures { StepsLegally self.old (Event.Queue cpu value) result self.new }
+    fn queue(&mut self, cpu: u32, value: u64) -> Result<Reply, Fault>
+        ensures ok { IfOk result (λ reply.
+            StepsLegally self.old (Event.Queue cpu value) reply self.new) }
+        ensures err { IfErr result (λ fault.
+            Refuses self.old (Event.Queue cpu value) fault self.new) }
     {
-        if cpu >= self.gp.cpus() {
-            return Reply::Fault(Fault::BadCpu);
-        }
+        self.place_of(cpu)?;
         if !self.gp.online(cpu) {
-            return Reply::Fault(Fault::Offline);
+            return Err(Fault::Offline);
         }
         match self.gp.queue(cpu, value) {
-            Ok(queued) => Reply::Queued(queued),
-            Err(refused) => Reply::Fault(refused.fault),
+            Ok(queued) => Ok(Reply::Queued(queued)),
+            Err(refused) => Err(refused.fault),
         }
     }
 
-    fn tend(&mut self, cpu: u32) -> Reply
-        ensures { StepsLegally self.old (Event.Tend cpu) result self.new }
+    fn tend(&mut self, cpu: u32) -> Result<Reply, Fault>
+        ensures ok { IfOk result (λ reply. StepsLegally self.old (Event.Tend cpu) reply self.new) }
+        ensures err { IfErr result (λ fault. Refuses self.old (Event.Tend cpu) fault self.new) }
     {
-        if cpu >= self.gp.cpus() {
-            return Reply::Fault(Fault::BadCpu);
-        }
+        self.place_of(cpu)?;
         let (done, waiting) = self.gp.tend(cpu);
-        Reply::Tended(done, waiting)
+        Ok(Reply::Tended(done, waiting))
     }
 
-    fn run_callbacks(&mut self, cpu: u32, most: u64) -> Reply
-        ensures { StepsLegally self.old (Event.Run cpu most) result self.new }
+    fn run_callbacks(&mut self, cpu: u32, most: u64) -> Result<Reply, Fault>
+        ensures ok { IfOk result (λ reply.
+            StepsLegally self.old (Event.Run cpu most) reply self.new) }
+        ensures err { IfErr result (λ fault. Refuses self.old (Event.Run cpu most) fault self.new) }
     {
-        if cpu >= self.gp.cpus() {
-            return Reply::Fault(Fault::BadCpu);
-        }
-        match self.gp.run(cpu, most) {
-            Ok(calls) => Reply::Ran(ValueList::new(calls)),
-            Err(fault) => Reply::Fault(fault),
-        }
+        self.place_of(cpu)?;
+        Ok(Reply::Ran(ValueList::new(self.gp.run(cpu, most)?)))
     }
 
-    fn begin_barrier(&mut self) -> Reply
-        ensures { StepsLegally self.old Event.BarBegin result self.new }
+    fn begin_barrier(&mut self) -> Result<Reply, Fault>
+        ensures ok { IfOk result (λ reply. StepsLegally self.old Event.BarBegin reply self.new) }
+        ensures err { IfErr result (λ fault. Refuses self.old Event.BarBegin fault self.new) }
     {
-        match self.gp.barrier_begin() {
-            Ok(()) => Reply::BarBegun,
-            Err(fault) => Reply::Fault(fault),
-        }
+        self.gp.barrier_begin()?;
+        Ok(Reply::BarBegun)
     }
 
-    fn visit(&mut self, cpu: u32) -> Reply
-        ensures { StepsLegally self.old (Event.Visit cpu) result self.new }
+    fn visit(&mut self, cpu: u32) -> Result<Reply, Fault>
+        ensures ok { IfOk result (λ reply. StepsLegally self.old (Event.Visit cpu) reply self.new) }
+        ensures err { IfErr result (λ fault. Refuses self.old (Event.Visit cpu) fault self.new) }
     {
-        if cpu >= self.gp.cpus() {
-            return Reply::Fault(Fault::BadCpu);
-        }
-        match self.gp.visit(cpu) {
-            Ok(visit) => Reply::Visited(visit),
-            Err(fault) => Reply::Fault(fault),
-        }
+        self.place_of(cpu)?;
+        Ok(Reply::Visited(self.gp.visit(cpu)?))
     }
 
-    fn test_barrier(&mut self) -> Reply
-        ensures { StepsLegally self.old Event.BarTest result self.new }
+    fn test_barrier(&mut self) -> Result<Reply, Fault>
+        ensures ok { IfOk result (λ reply. StepsLegally self.old Event.BarTest reply self.new) }
+        ensures err { IfErr result (λ fault. Refuses self.old Event.BarTest fault self.new) }
     {
-        match self.gp.barrier_test() {
-            Ok(BarrierState::Done) => Reply::BarDone,
-            Ok(BarrierState::Waits(left)) => Reply::BarWaits(left),
-            Err(fault) => Reply::Fault(fault),
-        }
+        Ok(match self.gp.barrier_test()? {
+            BarrierState::Done => Reply::BarDone,
+            BarrierState::Waits(left) => Reply::BarWaits(left),
+        })
     }
 }

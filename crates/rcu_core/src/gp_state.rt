@@ -1,14 +1,14 @@
 //! The state of the grace periods and the callbacks.
-ghost use Rattle.std.specs.Prelude.{◌≡◌, ◌≢◌, ◌<◌, ◌≤◌, ◌==◌, if◌then◌else◌, All, [], Some, None, true, false, length, replicate, IfErr, IfOk, OnErr, OnOk};
+ghost use Rattle.std.specs.Prelude.{◌≡◌, ◌≢◌, ◌<◌, ◌≤◌, ◌==◌, if◌then◌else◌, All, [], Some, None};
+ghost use Rattle.std.specs.Prelude.{true, false, length, replicate, IfErr, IfOk, OnErr, OnOk};
+ghost use Rattle.rcu_seq.specs.Numbers.{is_last, snapshot};
 ghost use Rattle.rcu_seq.specs.Seq.{is_done, number_of, snapshot_of};
-ghost use Rattle.rcu_seq.specs.Numbers.{is_last};
 ghost use Rattle.rcu_node.specs.CpuSet.{is_in};
-ghost use Rattle.rcu_hotplug.specs.Hotplug.{Arrive, Depart, cpus_of, refusal};
 ghost use Rattle.rcu_hotplug.specs.Hotplug as hotplug;
+ghost use Rattle.rcu_hotplug.specs.Hotplug.{Arrive, Depart, cpus_of};
 ghost use Rattle.rcu_cblist.specs.SegList.{behind, callbacks, front, is_empty, take_answer};
-ghost use Rattle.rcu_barrier.specs.Lists.{list_of, most_queued, barrier_test_answer, visit_answer};
-ghost use Rattle.rcu_seq.specs.Numbers.{snapshot};
-ghost use Rattle.rcu_core.specs.GpState.{report_answer_in, at_first, awaited_in, after_barrier_begin, after_barrier_test, begin_refusal, after_begin, end_refusal, after_end, after_migrate, after_queue, after_report, after_run, after_start_poll, after_tend, turn_answer, turn_refusal, after_turn, after_visit, with_call};
+ghost use Rattle.rcu_barrier.specs.Lists.{barrier_test_answer, list_of, most_queued, visit_answer};
+ghost use Rattle.rcu_core.specs.GpState as grace;
 
 use crate::turned::Turned;
 use rcu_barrier::barrier_state::BarrierState;
@@ -26,15 +26,17 @@ use rcu_seq::seq::Seq;
 use std::alloc::Global;
 use std::marker::Model;
 
-/// The state of the grace periods (Linux's `rcu_state`): the number, the needed number, the processors that are online
-/// and awaited, and each processor's list of callbacks.
+/// The state of the grace periods (Linux's `rcu_state`): the number, the needed number, the
+/// processors that are online and awaited, and each processor's list of callbacks.
 ///
-/// Only `new`, `queue`, `run`, `migrate` and `visit` need memory. A refused call leaves all as it was.
+/// Only `new`, `queue`, `run`, `migrate` and `visit` need memory. A refused call leaves all as it
+/// was.
 #[derive(Drop)]
 pub struct GpState<A: Awaited, T: Drop> {
     /// The number, and whether a grace period runs.
     seq: Seq,
-    /// The greatest number that was asked for, 0 before any (Linux's `gp_seq_needed`). It never falls.
+    /// The greatest number that was asked for, 0 before any (Linux's `gp_seq_needed`). It never
+    /// falls.
     needed: u64,
     /// The processors.
     hotplug: Hotplug<A>,
@@ -47,20 +49,28 @@ impl<A: Awaited, T: Drop> Model for GpState<A, T> {
 
     ghost Value = { Grace T };
 
-    ghost view = { λ g. record { seq = g.seq; needed = g.needed; processors = g.hotplug; lists = g.lists } };
+    ghost view = {
+        λ g. record { seq = g.seq; needed = g.needed; processors = g.hotplug; lists = g.lists }
+    };
 
-    ghost invariant = { λ g. IsSound (record { seq = g.seq; needed = g.needed; processors = g.hotplug; lists = g.lists }) };
+    ghost invariant = { λ g. IsSound (record {
+        seq = g.seq;
+        needed = g.needed;
+        processors = g.hotplug;
+        lists = g.lists;
+    }) };
 }
 
 impl<A: Awaited, T: Drop> GpState<A, T> {
-    /// No grace period ran yet, none is needed, processor 0 alone is online, and the lists are empty. The awaited set is
-    /// as it was made.
+    /// No grace period ran yet, none is needed, processor 0 alone is online, and the lists are
+    /// empty. The awaited set is as it was made.
     ///
     /// Faults: 19 where `last` is no last number; 16.
     pub fn new(alloc: Global, inner: A, last: u64) -> Result<Self, Fault>
         requires tag { A.tag inner ≡ 0 }
         requires empty { A.start_set inner ≡ replicate (length (A.awaited inner)) false }
-        ensures ok { IfOk result (λ made. made ≡ at_first (length (A.awaited inner)) last) }
+        ensures ok { IfOk result (λ made. made
+            ≡ grace.at_first (length (A.awaited inner)) last) }
         ensures err { IfErr result (λ fault. is_last last ≡ false → fault ≡ Fault.BadLast) }
         ensures memory { IfErr result (λ fault. is_last last ≡ true → fault ≡ Fault.NoMemory) }
     {
@@ -106,14 +116,17 @@ impl<A: Awaited, T: Drop> GpState<A, T> {
         self.hotplug.awaited()
     }
 
-    /// A grace period begins, and awaits the online processors (Linux's `rcu_gp_init`). Answers its number, and how
-    /// many it awaits.
+    /// A grace period begins, and awaits the online processors (Linux's `rcu_gp_init`). Answers its
+    /// number, and how many it awaits.
     ///
     /// Faults: 8 where one runs; 11 where the number is the last one.
     pub fn begin(&mut self) -> Result<(u64, u32), Fault>
-        ensures ok { IfOk result (λ began. (began.0 ≡ number_of self.new.seq) × (began.1 ≡ awaited_in self.new)) }
-        ensures accepted { OnOk result ((begin_refusal self.old ≡ None) × (self.new ≡ after_begin self.old)) }
-        ensures refused { IfErr result (λ fault. (begin_refusal self.old ≡ Some fault) × (self.new ≡ self.old)) }
+        ensures number { IfOk result (λ began. began.0 ≡ number_of self.new.seq) }
+        ensures awaited { IfOk result (λ began. began.1 ≡ grace.awaited_in self.new) }
+        ensures accepted { OnOk result (grace.begin_refusal self.old ≡ None) }
+        ensures state { OnOk result (self.new ≡ grace.after_begin self.old) }
+        ensures refused { IfErr result (λ fault. grace.begin_refusal self.old ≡ Some fault) }
+        ensures unchanged { OnErr result (self.new ≡ self.old) }
     {
         let number = self.seq.start()?;
         self.hotplug.begin(number);
@@ -124,9 +137,11 @@ impl<A: Awaited, T: Drop> GpState<A, T> {
     ///
     /// Faults: 9 where none runs; 10 where a processor is awaited.
     pub fn end(&mut self) -> Result<u64, Fault>
-        ensures ok { IfOk result (λ number. number ≡ number_of self.new.seq) }
-        ensures accepted { OnOk result ((end_refusal self.old ≡ None) × (self.new ≡ after_end self.old)) }
-        ensures refused { IfErr result (λ fault. (end_refusal self.old ≡ Some fault) × (self.new ≡ self.old)) }
+        ensures number { IfOk result (λ number. number ≡ number_of self.new.seq) }
+        ensures accepted { OnOk result (grace.end_refusal self.old ≡ None) }
+        ensures state { OnOk result (self.new ≡ grace.after_end self.old) }
+        ensures refused { IfErr result (λ fault. grace.end_refusal self.old ≡ Some fault) }
+        ensures unchanged { OnErr result (self.new ≡ self.old) }
     {
         if self.seq.is_running() && !self.hotplug.awaited().is_empty() {
             return Err(Fault::Waiting);
@@ -138,24 +153,26 @@ impl<A: Awaited, T: Drop> GpState<A, T> {
     /// [`Awaited::report`]. The report is of a processor.
     pub fn report(&mut self, report: Report) -> Answer
         requires { report.cpu < cpus_of self.old.processors }
-        ensures answer { result ≡ report_answer_in self.old report }
-        ensures state { self.new ≡ after_report self.old report }
+        ensures answer { result ≡ grace.report_answer_in self.old report }
+        ensures state { self.new ≡ grace.after_report self.old report }
     {
-        // The awaited set keeps its tag when its grace period has ended, so idleness is tested here.
+        // The awaited set keeps its tag when its grace period has ended: idleness is tested here.
         if !self.seq.is_running() {
             return Answer::Stale;
         }
         self.hotplug.report(report.cpu, report.tag)
     }
 
-    /// The running grace period ends where nobody is awaited. Where none runs, one begins if the needed number is above
-    /// the number.
+    /// The running grace period ends where nobody is awaited. Where none runs, one begins if the
+    /// needed number is above the number.
     ///
     /// Fault 11: one would begin, and the number is the last one.
     pub fn turn(&mut self) -> Result<Turned, Fault>
-        ensures ok { IfOk result (λ turned. turned ≡ turn_answer self.old) }
-        ensures accepted { OnOk result ((turn_refusal self.old ≡ None) × (self.new ≡ after_turn self.old)) }
-        ensures refused { IfErr result (λ fault. (turn_refusal self.old ≡ Some fault) × (self.new ≡ self.old)) }
+        ensures answer { IfOk result (λ turned. turned ≡ grace.turn_answer self.old) }
+        ensures accepted { OnOk result (grace.turn_refusal self.old ≡ None) }
+        ensures state { OnOk result (self.new ≡ grace.after_turn self.old) }
+        ensures refused { IfErr result (λ fault. grace.turn_refusal self.old ≡ Some fault) }
+        ensures unchanged { OnErr result (self.new ≡ self.old) }
     {
         if self.seq.is_running() {
             let awaited = self.hotplug.awaited().count();
@@ -173,16 +190,22 @@ impl<A: Awaited, T: Drop> GpState<A, T> {
 
     /// A processor arrives, as [`Hotplug::arrive`]. Faults: 1, 3.
     pub fn arrive(&mut self, cpu: u32) -> Result<(), Fault>
-        ensures accepted { OnOk result ((refusal self.old.processors (Arrive cpu) ≡ None) × (self.new ≡ with_call self.old (Arrive cpu))) }
-        ensures refused { IfErr result (λ fault. (refusal self.old.processors (Arrive cpu) ≡ Some fault) × (self.new ≡ self.old)) }
+        ensures accepted { OnOk result (hotplug.refusal self.old.processors (Arrive cpu) ≡ None) }
+        ensures state { OnOk result (self.new ≡ grace.with_call self.old (Arrive cpu)) }
+        ensures refused { IfErr result (λ fault.
+            hotplug.refusal self.old.processors (Arrive cpu) ≡ Some fault) }
+        ensures unchanged { OnErr result (self.new ≡ self.old) }
     {
         self.hotplug.arrive(cpu)
     }
 
     /// A processor departs, and is awaited no more, as [`Hotplug::depart`]. Faults: 1, 12, 2.
     pub fn depart(&mut self, cpu: u32) -> Result<(), Fault>
-        ensures accepted { OnOk result ((refusal self.old.processors (Depart cpu) ≡ None) × (self.new ≡ with_call self.old (Depart cpu))) }
-        ensures refused { IfErr result (λ fault. (refusal self.old.processors (Depart cpu) ≡ Some fault) × (self.new ≡ self.old)) }
+        ensures accepted { OnOk result (hotplug.refusal self.old.processors (Depart cpu) ≡ None) }
+        ensures state { OnOk result (self.new ≡ grace.with_call self.old (Depart cpu)) }
+        ensures refused { IfErr result (λ fault.
+            hotplug.refusal self.old.processors (Depart cpu) ≡ Some fault) }
+        ensures unchanged { OnErr result (self.new ≡ self.old) }
     {
         self.hotplug.depart(cpu)
     }
@@ -194,10 +217,11 @@ impl<A: Awaited, T: Drop> GpState<A, T> {
         self.seq.snap()
     }
 
-    /// The cookie of a taking now, whose number is needed from now on (Linux's `start_poll_synchronize_rcu`).
+    /// The cookie of a taking now, whose number is needed from now on (Linux's
+    /// `start_poll_synchronize_rcu`).
     pub fn start_poll(&mut self) -> Cookie
         ensures cookie { result.0 ≡ snapshot_of self.old.seq }
-        ensures state { self.new ≡ after_start_poll self.old }
+        ensures state { self.new ≡ grace.after_start_poll self.old }
     {
         let cookie = self.seq.snap();
         self.needed = self.needed.max(cookie.0);
@@ -211,24 +235,31 @@ impl<A: Awaited, T: Drop> GpState<A, T> {
         self.seq.done(cookie)
     }
 
-    /// Queues a callback on a processor, at the number (Linux's `call_rcu`). Answers how many were queued, which is its
-    /// place among them.
+    /// Queues a callback on a processor, at the number (Linux's `call_rcu`). Answers how many were
+    /// queued, which is its place among them.
     ///
     /// Faults, which hand the value back: 15 where 1,000,000 were queued, 16.
     pub fn queue(&mut self, cpu: u32, value: T) -> Result<u64, Refused<T>>
         requires { cpu < cpus_of self.old.processors }
-        ensures ok { IfOk result (λ count. (count ≡ self.new.lists.queued) × (self.old.lists.queued < most_queued) × (self.new ≡ after_queue self.old cpu value)) }
-        ensures err { IfErr result (λ refused. (refused.fault ≡ (if self.old.lists.queued == most_queued then Fault.CallbacksFull else Fault.NoMemory)) × (refused.value ≡ value) × (self.new ≡ self.old)) }
+        ensures count { IfOk result (λ count. count ≡ self.new.lists.queued) }
+        ensures room { OnOk result (self.old.lists.queued < most_queued) }
+        ensures state { OnOk result (self.new ≡ grace.after_queue self.old cpu value) }
+        ensures fault { IfErr result (λ refused. refused.fault ≡
+            (if self.old.lists.queued == most_queued then Fault.CallbacksFull
+            else Fault.NoMemory)) }
+        ensures value { IfErr result (λ refused. refused.value ≡ value) }
+        ensures unchanged { OnErr result (self.new ≡ self.old) }
     {
         let number = self.seq.value();
         self.lists.queue(cpu, number, value)
     }
 
-    /// Brings the marks of a processor's callbacks up to the number, whose greatest is needed from now on (Linux's
-    /// `rcu_advance_cbs`). Answers how many callbacks of the list are done and how many wait then.
+    /// Brings the marks of a processor's callbacks up to the number, whose greatest is needed from
+    /// now on (Linux's `rcu_advance_cbs`). Answers how many callbacks of the list are done and how
+    /// many wait then.
     pub fn tend(&mut self, cpu: u32) -> (u64, u64)
         requires { cpu < cpus_of self.old.processors }
-        ensures state { self.new ≡ after_tend self.old cpu }
+        ensures state { self.new ≡ grace.after_tend self.old cpu }
         ensures done { result.0 ≡ length (callbacks (front (list_of self.new.lists cpu))) }
         ensures waiting { result.1 ≡ length (callbacks (behind (list_of self.new.lists cpu))) }
     {
@@ -239,55 +270,77 @@ impl<A: Awaited, T: Drop> GpState<A, T> {
         tended
     }
 
-    /// Hands out the first callbacks of a processor's done part, at most so many (Linux's `rcu_do_batch`): only such that
-    /// a full grace period has passed since their queueing.
+    /// Hands out the first callbacks of a processor's done part, at most so many (Linux's
+    /// `rcu_do_batch`): only such that a full grace period has passed since their queueing.
     ///
     /// Fault 16, only where it has a callback to hand out.
     pub fn run(&mut self, cpu: u32, max: u64) -> Result<Vec<Queued<T>>, Fault>
         requires { cpu < cpus_of self.old.processors }
-        ensures ok { IfOk result (λ calls. (calls.items ≡ take_answer (list_of self.old.lists cpu) max) × (self.new ≡ after_run self.old cpu max)) }
-        ensures waited { IfOk result (λ calls. All (λ call. snapshot call.at ≤ number_of self.old.seq) calls.items) }
-        ensures err { IfErr result (λ fault. (fault ≡ Fault.NoMemory) × (take_answer (list_of self.old.lists cpu) max ≢ []) × (self.new ≡ self.old)) }
+        ensures ok { IfOk result (λ calls.
+            calls.items ≡ take_answer (list_of self.old.lists cpu) max) }
+        ensures state { OnOk result (self.new ≡ grace.after_run self.old cpu max) }
+        ensures waited { IfOk result (λ calls.
+            All (λ call. snapshot call.at ≤ number_of self.old.seq) calls.items) }
+        ensures fault { IfErr result (λ fault. fault ≡ Fault.NoMemory) }
+        ensures some { OnErr result (take_answer (list_of self.old.lists cpu) max ≢ []) }
+        ensures unchanged { OnErr result (self.new ≡ self.old) }
     {
         self.lists.run(cpu, max)
     }
 
-    /// Moves the list of another processor than 0 to processor 0's (Linux's `rcutree_migrate_callbacks`); a barrier that
-    /// did not visit it does so first. Answers how many callbacks moved.
+    /// Moves the list of another processor than 0 to processor 0's (Linux's
+    /// `rcutree_migrate_callbacks`); a barrier that did not visit it does so first. Answers how
+    /// many callbacks moved.
     ///
     /// Fault 16, only where the list is not empty.
     pub fn migrate(&mut self, cpu: u32) -> Result<u64, Fault>
         requires other { 0 < cpu }
         requires cpu { cpu < cpus_of self.old.processors }
-        ensures ok { IfOk result (λ moved. (moved ≡ length (callbacks (list_of self.old.lists cpu))) × (self.new ≡ after_migrate self.old cpu)) }
-        ensures err { IfErr result (λ fault. (fault ≡ Fault.NoMemory) × (is_empty (list_of self.old.lists cpu) ≡ false) × (self.new ≡ self.old)) }
+        ensures moved { IfOk result (λ moved.
+            moved ≡ length (callbacks (list_of self.old.lists cpu))) }
+        ensures state { OnOk result (self.new ≡ grace.after_migrate self.old cpu) }
+        ensures fault { IfErr result (λ fault. fault ≡ Fault.NoMemory) }
+        ensures some { OnErr result (is_empty (list_of self.old.lists cpu) ≡ false) }
+        ensures unchanged { OnErr result (self.new ≡ self.old) }
     {
         self.lists.migrate(cpu)
     }
 
     /// Begins a barrier (Linux's `rcu_barrier`). Fault 13: one runs.
     pub fn barrier_begin(&mut self) -> Result<(), Fault>
-        ensures ok { OnOk result ((self.old.lists.running ≡ false) × (self.new ≡ after_barrier_begin self.old)) }
-        ensures err { IfErr result (λ fault. (fault ≡ Fault.BarrierBusy) × (self.old.lists.running ≡ true) × (self.new ≡ self.old)) }
+        ensures idle { OnOk result (self.old.lists.running ≡ false) }
+        ensures state { OnOk result (self.new ≡ grace.after_barrier_begin self.old) }
+        ensures fault { IfErr result (λ fault. fault ≡ Fault.BarrierBusy) }
+        ensures running { OnErr result (self.old.lists.running ≡ true) }
+        ensures unchanged { OnErr result (self.new ≡ self.old) }
     {
         self.lists.barrier_begin()
     }
 
-    /// The barrier visits a processor, as [`Lists::visit`]. Faults: 14 where none runs; 16, only where it would put a
-    /// marker.
+    /// The barrier visits a processor, as [`Lists::visit`]. Faults: 14 where none runs; 16, only
+    /// where it would put a marker.
     pub fn visit(&mut self, cpu: u32) -> Result<Visit, Fault>
         requires { cpu < cpus_of self.old.processors }
-        ensures ok { IfOk result (λ visit. (self.old.lists.running ≡ true) × (visit ≡ visit_answer self.old.lists cpu) × (self.new ≡ after_visit self.old cpu)) }
-        ensures err { IfErr result (λ fault. (fault ≡ (if self.old.lists.running then Fault.NoMemory else Fault.NoBarrier)) × (self.new ≡ self.old)) }
-        ensures memory { IfErr result (λ fault. self.old.lists.running ≡ true → visit_answer self.old.lists cpu ≡ Visit.Marked) }
+        ensures ok { IfOk result (λ visit. visit ≡ visit_answer self.old.lists cpu) }
+        ensures running { OnOk result (self.old.lists.running ≡ true) }
+        ensures state { OnOk result (self.new ≡ grace.after_visit self.old cpu) }
+        ensures fault { IfErr result (λ fault.
+            fault ≡ (if self.old.lists.running then Fault.NoMemory else Fault.NoBarrier)) }
+        ensures memory { OnErr result
+            (self.old.lists.running ≡ true → visit_answer self.old.lists cpu ≡ Visit.Marked) }
+        ensures unchanged { OnErr result (self.new ≡ self.old) }
     {
         self.lists.visit(cpu)
     }
 
     /// Whether the barrier is over, as [`Lists::barrier_test`]. Fault 14: none runs.
     pub fn barrier_test(&mut self) -> Result<BarrierState, Fault>
-        ensures ok { IfOk result (λ state. (self.old.lists.running ≡ true) × (state ≡ barrier_test_answer self.old.lists) × (self.new ≡ after_barrier_test self.old)) }
-        ensures err { IfErr result (λ fault. (fault ≡ Fault.NoBarrier) × (self.old.lists.running ≡ false) × (self.new ≡ self.old)) }
+        ensures ok { IfOk result (λ found. found ≡ barrier_test_answer self.old.lists) }
+        ensures running { OnOk result (self.old.lists.running ≡ true) }
+        ensures state { OnOk result (self.new ≡ grace.after_barrier_test self.old) }
+        ensures fault { IfErr result (λ fault. fault ≡ Fault.NoBarrier) }
+        ensures idle { OnErr result (self.old.lists.running ≡ false) }
+        ensures unchanged { OnErr result (self.new ≡ self.old) }
     {
         self.lists.barrier_test()
     }

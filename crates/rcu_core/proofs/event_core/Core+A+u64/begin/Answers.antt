@@ -1,15 +1,12 @@
 use Rattle.std.proofs.Common.{ℕ, ◌∙◌, ap, refl}
 use Rattle.rcu_seq.specs.Seq.{number_of}
 use Rattle.rcu_core.specs.GpState.{Grace, awaited_in}
-use Rattle.rcu_core.proofs.Steps.{along, does_begin, does_refuse}
+use Rattle.rcu_core.proofs.Steps.{along, does_begin}
 use Rattle.rcu_core.proofs.event_core.Core+A+u64.begin.Goals as goal
-use Rattle.rcu_core.proofs.event_core.Core+A+u64.begin.Goals.{in-Ok, in-Err}
 
-pub returns : goal.returns
-returns g c = elim c.match-begin.branch [
-  | in-Ok w ↦
-      let done = w.in-Ok.ensures in
-      along _ _ _ _ _ c.self.view_is (rw w.result-is (does_begin _ _ _ _ c.self.invariant.sound done.accepted.0
-      (done.ok.0 ∙ ap (λ (s : Grace ℕ). number_of s.seq) done.accepted.1) (done.ok.1 ∙ ap (λ (s : Grace ℕ). awaited_in s) done.accepted.1) (rw done.accepted.1 refl)))
-  | in-Err w ↦ along _ _ _ _ _ c.self.view_is (rw w.result-is (does_refuse _ _ _ _ w.in-Err.ensures.refused.0 (rw w.in-Err.ensures.refused.1 refl)))
-]
+pub returns-clause-ok : goal.returns-clause-ok
+returns-clause-ok g c =
+    let done = c.in_ok-number.ensures in
+    along _ _ _ _ _ c.self.view_is (does_begin _ _ _ _ c.self.invariant.sound done.accepted
+    (done.number ∙ ap (λ (s : Grace ℕ). number_of s.seq) done.state)
+    (done.awaited ∙ ap (λ (s : Grace ℕ). awaited_in s) done.state) (rw done.state refl))

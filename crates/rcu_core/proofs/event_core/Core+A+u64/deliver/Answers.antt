@@ -4,7 +4,10 @@ use Rattle.rcu_core.proofs.Steps.{along, does_hear}
 use Rattle.rcu_core.proofs.event_core.Core+A+u64.deliver.Goals as goal
 
 pub invariant_of-self : goal.invariant_of-self
-invariant_of-self g c = record { sound = sound_reported _ _ c.in-Some.report c.report.ensures.state c.self.invariant.sound }
+invariant_of-self g c =
+    record { sound = sound_reported _ _ c.in_ok-report.report c.report.ensures.state c.self.invariant.sound }
 
-pub returns-in-Some : goal.returns-in-Some
-returns-in-Some g c = along _ _ _ _ _ c.self.view_is (does_hear _ _ c.args.place c.in-Some.report _ (search rules) c.report.ensures.answer (rw c.report.ensures.state refl))
+pub returns-clause-ok : goal.returns-clause-ok
+returns-clause-ok g c =
+    along _ _ _ _ _ c.self.view_is (does_hear _ _ c.args.place c.in_ok-report.report _ (search rules)
+    c.report.ensures.answer (rw c.report.ensures.state refl))

@@ -21,4 +21,10 @@ returns-clause-ok g c =
     let grace : c.in_ok-gp.gp ≡ at_first n c.args.last = search rules in
     let all : c.loop-cpu.cpu ≡ n = omega (arith, c.cpus-cpu-end.ensures.value, c.loop-cpu-test.false, c.loop-cpu.auto.cpu-end, first_count n c.args.last c.in_ok-gp.gp grace) in
     let cpus : c.loop-cpu.cpus.items ≡ first_cpus n = c.loop-cpu.invariant ∙ ap (λ k. first_cpus k) all in
-    (has_first n c.args.last _ (g.met.A.Awaited.some c.args.inner) grace cpus c.new-2.ensures.items, first_size n c.args.last (record { grace = c.in_ok-gp.gp; cpus = c.loop-cpu.cpus.items; made = c.new-2.result.items }) grace)
+    has_first n c.args.last _ (g.met.A.Awaited.some c.args.inner) grace cpus c.new-2.ensures.items
+
+pub returns-clause-size : goal.returns-clause-size
+returns-clause-size g c =
+    let n = length (g.A.Awaited.awaited c.args.inner) in
+    let grace : c.in_ok-gp.gp ≡ at_first n c.args.last = search rules in
+    first_size n c.args.last (record { grace = c.in_ok-gp.gp; cpus = c.loop-cpu.cpus.items; made = c.new-2.result.items }) grace
