@@ -8,17 +8,36 @@ use Rattle.rcu_cblist.specs.declared.queued.Queued.{Queued}
 use Rattle.rcu_cblist.specs.SegList.{Item, Mark, Of, Marker, Unmarked, Until, Done, IsAtMost, behind, callbacks, after_entrain, from_callback, front, greatest, mark_given, after_migrate, numbers, take_answer, without_mark, after_take}
 use Rattle.rcu_barrier.specs.Lists.{as_it_leaves}
 use Rattle.rcu_seq.specs.Numbers.{snapshot}
-use Rattle.rcu_barrier.specs.Tending.{after_tend}
+use Rattle.rcu_barrier.specs.Tending.{after_tend, mark_after_tend}
 use Rattle.rcu_core.specs.Callbacks.{greatest_from}
 use Rattle.rcu_core.specs.GpState.{AreTimely, IsTimely}
 
 pub snapshot_rises : (n m : Number) → n ≤ m → snapshot n ≤ snapshot m
 snapshot_rises n m le = omega arith
 
-mark_later : (n m at : Number) (mark : Mark) → n ≤ m → IsTimely n at mark → IsTimely m at mark
+-- one mark, as the number rises
+pub mark_later : (n m at : Number) (mark : Mark) → n ≤ m → IsTimely n at mark → IsTimely m at mark
 mark_later n m at Unmarked le timely = omega arith
 mark_later n m at (Until k) le timely = (omega arith, timely.1, omega arith)
 mark_later n m at Done le timely = (omega arith, omega arith)
+
+reached_mark : (number at n : Number) (reached : Bool) → nat_le n number ≡ reached → IsTimely number at (Until n) →
+    IsTimely number at (mark_given (snapshot number) (if reached then Done else Until n))
+reached_mark number at n true is timely = let le = leb-true n number is in (timely.0, omega arith)
+reached_mark number at n false is timely = timely
+
+-- as it is tended
+pub mark_tended : (number at : Number) (mark : Mark) → IsTimely number at mark →
+    IsTimely number at (mark_after_tend number mark)
+mark_tended number at Unmarked timely = (timely, snapshot_rises at number timely, omega arith)
+mark_tended number at (Until n) timely = reached_mark number at n (nat_le n number) refl timely
+mark_tended number at Done timely = timely
+
+-- and as it is dropped
+pub mark_dropped : (number at : Number) (mark : Mark) → IsTimely number at mark → at ≤ number
+mark_dropped number at Unmarked timely = timely
+mark_dropped number at (Until n) timely = timely.0
+mark_dropped number at Done timely = timely.0
 
 -- what is timely at a number is so at each later one
 pub timely_later : {X : Type 0} (n m : Number) (xs : List (Item X)) → n ≤ m → AreTimely n xs → AreTimely m xs
@@ -79,9 +98,7 @@ timely_behind n (Of call (Until k) ∷ xs) timely = timely
 timely_unmarked : {X : Type 0} (n : Number) (xs : List (Item X)) → AreTimely n xs → AreTimely n (map without_mark xs)
 timely_unmarked n [] timely = tt
 timely_unmarked n (Marker ∷ xs) timely = timely_unmarked n xs timely
-timely_unmarked n (Of call Unmarked ∷ xs) timely = (timely.0, timely_unmarked n xs timely.1)
-timely_unmarked n (Of call (Until k) ∷ xs) timely = (timely.0.0, timely_unmarked n xs timely.1)
-timely_unmarked n (Of call Done ∷ xs) timely = (timely.0.0, timely_unmarked n xs timely.1)
+timely_unmarked n (Of call mark ∷ xs) timely = (mark_dropped n call.at mark timely.0, timely_unmarked n xs timely.1)
 
 -- a migration
 pub timely_moved : {X : Type 0} (n : Number) (xs ys : List (Item X)) → AreTimely n xs → AreTimely n ys → AreTimely n (after_migrate ys xs)
@@ -89,21 +106,13 @@ timely_moved n xs ys timely others =
     timely_append n (front xs ++ ys) (map without_mark (behind xs)) (timely_append n (front xs) ys (timely_front n xs timely) others)
     (timely_unmarked n (behind xs) (timely_behind n xs timely))
 
--- a mark whose number may be reached
-reached_mark : (number at n : Number) (reached : Bool) → nat_le n number ≡ reached → IsTimely number at (Until n) →
-    IsTimely number at (mark_given (snapshot number) (if reached then Done else Until n))
-reached_mark number at n true is timely = let le = leb-true n number is in (timely.0, omega arith)
-reached_mark number at n false is timely = timely
-
 -- a tend at the number
-pub timely_tended : {X : Type 0} (number : Number) (xs : List (Item X)) → AreTimely number xs → AreTimely number (after_tend xs number)
+pub timely_tended : {X : Type 0} (number : Number) (xs : List (Item X)) → AreTimely number xs →
+    AreTimely number (after_tend xs number)
 timely_tended number [] timely = tt
 timely_tended number (Marker ∷ xs) timely = timely_tended number xs timely
-timely_tended number (Of call Unmarked ∷ xs) timely =
-    ((timely.0, snapshot_rises call.at number timely.0, omega arith), timely_tended number xs timely.1)
-timely_tended number (Of call (Until n) ∷ xs) timely =
-    (reached_mark number call.at n (nat_le n number) refl timely.0, timely_tended number xs timely.1)
-timely_tended number (Of call Done ∷ xs) timely = (timely.0, timely_tended number xs timely.1)
+timely_tended number (Of call mark ∷ xs) timely =
+    (mark_tended number call.at mark timely.0, timely_tended number xs timely.1)
 
 -- no callback waits for more than the number's snapshot
 pub timely_at_most : {X : Type 0} (number : Number) (xs : List (Item X)) → AreTimely number xs → IsAtMost (snapshot number) xs

@@ -26,6 +26,7 @@ use Rattle.rcu_core.specs.declared.reply.Reply.TheVariants as reply
 use Rattle.rcu_core.proofs.Facts.{number_step}
 use Rattle.rcu_core.proofs.Kept.{Turns, begin_counts, end_counts, queue_counts, turns}
 use Rattle.rcu_core.proofs.Readers.{possible}
+use Rattle.rcu_core.proofs.Timely.{mark_dropped, mark_later, mark_tended}
 
 -- the number at the queueing of the callback of this place, 0 before it
 abbrev pub number_at_queueing : ℕ → History → Number
@@ -72,30 +73,11 @@ abbrev pub KeptItem : History → Item ℕ → Type 0
 KeptItem h (Of call mark) = Kept call mark h
 KeptItem h Marker = Unit {0}
 
-timely_later : (v w at : Number) (m : Mark) → v ≤ w → IsTimely v at m → IsTimely w at m
-timely_later v w at Unmarked l t = omega (arith, t)
-timely_later v w at (Until n) l t = let a = t.0 in let b = t.2 in (omega (arith, a, l), t.1, omega (arith, b, l))
-timely_later v w at Done l t = let a = t.0 in let b = t.1 in (omega (arith, a, l), omega (arith, b, l))
-
-reached : (v at n : Number) (b : Bool) → leb n v ≡ b → IsTimely v at (Until n) → IsTimely v at (mark_given (snapshot v) (cond b Done (Until n)))
-reached v at n true e t = let l = leb-true n v e in let u = t.1 in (t.0, omega (arith, l, u))
-reached v at n false e t = t
-
-timely_tended : (v at : Number) (m : Mark) → IsTimely v at m → IsTimely v at (mark_after_tend v m)
-timely_tended v at Unmarked t = (t, omega (arith, t), omega arith)
-timely_tended v at (Until n) t = reached v at n (leb n v) refl t
-timely_tended v at Done t = t
-
-timely_unmarked : (v at : Number) (m : Mark) → IsTimely v at m → at ≤ v
-timely_unmarked v at Unmarked t = t
-timely_unmarked v at (Until n) t = t.0
-timely_unmarked v at Done t = t.0
-
 -- another event leaves the callback what it was
 keeps_call : (s : Size) (e : Event) (h : History) → fault_in s (situation h) e ≡ None → Turns h → (call : Queued ℕ) (mark : Mark) → Kept call mark h → Kept call mark (e ∷ h)
 keeps_call s (Queue c y) h p t call mark k = let n = queue_counts c y h in let w = k.was in let a = k.at in record { was = grind (arith, nat_tests); at = grind (arith, nat_tests); timely = k.timely }
-keeps_call s Begin h p t call mark k = record { was = k.was; at = k.at; timely = timely_later (number h) (number (Begin ∷ h)) call.at mark (number_step s Begin h p t) k.timely }
-keeps_call s End h p t call mark k = record { was = k.was; at = k.at; timely = timely_later (number h) (number (End ∷ h)) call.at mark (number_step s End h p t) k.timely }
+keeps_call s Begin h p t call mark k = record { was = k.was; at = k.at; timely = mark_later (number h) (number (Begin ∷ h)) call.at mark (number_step s Begin h p t) k.timely }
+keeps_call s End h p t call mark k = record { was = k.was; at = k.at; timely = mark_later (number h) (number (End ∷ h)) call.at mark (number_step s End h p t) k.timely }
 keeps_call s _ h p t call mark k = record { was = k.was; at = k.at; timely = k.timely }
 
 keeps : (s : Size) (e : Event) (h : History) → fault_in s (situation h) e ≡ None → Turns h → (x : Item ℕ) → KeptItem h x → KeptItem (e ∷ h) x
@@ -103,11 +85,11 @@ keeps s e h p t (Of call mark) k = keeps_call s e h p t call mark k
 keeps s e h p t Marker k = tt
 
 tends : (c : ℕ) (h : History) (x : Item ℕ) → KeptItem h x → KeptItem (Tend c ∷ h) (remarked (mark_after_tend (number h)) x)
-tends c h (Of call mark) k = record { was = k.was; at = k.at; timely = timely_tended (number h) call.at mark k.timely }
+tends c h (Of call mark) k = record { was = k.was; at = k.at; timely = mark_tended (number h) call.at mark k.timely }
 tends c h Marker k = tt
 
 unmarks : (h : History) (x : Item ℕ) → KeptItem h x → KeptItem h (without_mark x)
-unmarks h (Of call mark) k = record { was = k.was; at = k.at; timely = timely_unmarked (number h) call.at mark k.timely }
+unmarks h (Of call mark) k = record { was = k.was; at = k.at; timely = mark_dropped (number h) call.at mark k.timely }
 unmarks h Marker k = tt
 
 queued_now : (c y : ℕ) (h : History) → Kept (record { ord = queued h + 1; at = number h; value = y }) Unmarked (Queue c y ∷ h)

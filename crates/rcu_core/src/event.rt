@@ -15,15 +15,15 @@ pub enum Event {
     Deliver(u64),
     /// The processor arrives, and takes down the number. Faults: 1, 3.
     Online(u32),
-    /// The processor departs, and is awaited no more. Its list moves to processor 0; a barrier visits it first.
-    /// Faults: 1, 12, 2, 4, 16.
+    /// The processor departs, and is awaited no more. Its list moves to processor 0; a barrier
+    /// visits it first. Faults: 1, 12, 2, 4, 16.
     Offline(u32),
     /// A grace period begins, and awaits the processors that are online. Faults: 8, 11.
     Begin,
     /// The grace period ends. Faults: 9, 10.
     End,
-    /// The grace period ends where nobody is awaited; where none runs, one begins if a later number is needed.
-    /// Fault: 11, where it would begin.
+    /// The grace period ends where nobody is awaited; where none runs, one begins if a later number
+    /// is needed. Fault: 11, where it would begin.
     Turn,
     /// The awaited processors are listed. Fault: 16, where one is listed.
     Awaits,
@@ -37,7 +37,8 @@ pub enum Event {
     Queue(u32, u64),
     /// The marks of the processor's callbacks are brought up to the number. Fault: 1.
     Tend(u32),
-    /// The first callbacks of the processor's done part are handed out, at most so many. Faults: 1, 16.
+    /// The first callbacks of the processor's done part are handed out, at most so many. Faults: 1,
+    /// 16.
     Run(u32, u64),
     /// A barrier begins. Fault: 13.
     BarBegin,

@@ -1,51 +1,66 @@
 //! What the definitions say of every run: of any events, in any order, with legal replies.
 ghost use Rattle.std.specs.Prelude.{◌≡◌, ◌≢◌, ◌<◌, ◌≤◌, ◌∷◌, ◌++◌, ℕ, List, Some, true, slice_get};
-ghost use Rattle.rcu_cblist.specs.declared.queued.Queued.{Queued};
-ghost use Rattle.rcu_core.specs.Callbacks.{handed_out, has_full_period, queued_before_barrier, since, times_handed_out};
-ghost use Rattle.rcu_core.specs.History.{History, awaits, begins, is_heard, is_old, number, online, running, section};
 ghost use Rattle.rcu_seq.specs.Histories.{latest};
+ghost use Rattle.rcu_cblist.specs.declared.queued.Queued.{Queued};
+ghost use Rattle.rcu_core.specs.Callbacks.{handed_out, has_full_period, queued_before_barrier};
+ghost use Rattle.rcu_core.specs.Callbacks.{since, times_handed_out};
+ghost use Rattle.rcu_core.specs.History.{History, awaits, begins, is_heard, is_old, number};
+ghost use Rattle.rcu_core.specs.History.{online, running, section};
 ghost use Rattle.rcu_core.specs.Replies.{Size};
 ghost use Rattle.rcu_core.specs.Runs.{IsLegalRun, Run, history, takes};
 
 use crate::event::Event;
 use crate::reply::Reply;
 
-/// Old readers are awaited: each processor with an open section that began before the running grace period.
+/// Old readers are awaited: each processor with an open section that began before the running grace
+/// period.
 pub fn old_readers_are_awaited()
-    ensures { (size : Size) (run : Run) (cpu : ℕ) → IsLegalRun size run → is_old cpu (history run) ≡ true → awaits cpu (history run) ≡ true }
+    ensures { (size : Size) (run : Run) (cpu : ℕ) → IsLegalRun size run
+        → is_old cpu (history run) ≡ true → awaits cpu (history run) ≡ true }
 {}
 
-/// Readers finish before done: when a cookie tests done, each read section that was open at its taking has ended.
+/// Readers finish before done: when a cookie tests done, each read section that was open at its
+/// taking has ended.
 pub fn readers_finish_before_done()
-    ensures { (size : Size) (later earlier : Run) (taking : Event) (cookie cpu : ℕ) (opened : History) → takes taking ≡ true
-        → IsLegalRun size ((Event.Poll cookie, Reply.Polled true) ∷ later ++ (taking, Reply.Cookie (record { 0 = cookie })) ∷ earlier)
+    ensures { (size : Size) (later earlier : Run) (taking : Event) (cookie cpu : ℕ)
+        (opened : History) → takes taking ≡ true
+        → IsLegalRun size ((Event.Poll cookie, Reply.Polled true)
+            ∷ later ++ (taking, Reply.Cookie (record { 0 = cookie })) ∷ earlier)
         → section cpu (history earlier) ≡ Some opened
-        → section cpu (history (later ++ (taking, Reply.Cookie (record { 0 = cookie })) ∷ earlier)) ≢ Some opened }
+        → section cpu (history (later ++ (taking, Reply.Cookie (record { 0 = cookie })) ∷ earlier))
+            ≢ Some opened }
 {}
 
-/// Two histories in which grace periods of one number began alike, and in which the same processors were heard since, in
-/// any order, await the same processors: so do two engines, whatever trees they use.
+/// Two histories in which grace periods of one number began alike, and in which the same processors
+/// were heard since, in any order, await the same processors: so do two engines, whatever trees
+/// they use.
 pub fn equally_heard_await_the_same()
-    ensures { (h g : History) (cpu : ℕ) → running h ≡ running g → online cpu (latest begins h) ≡ online cpu (latest begins g)
+    ensures { (h g : History) (cpu : ℕ) → running h ≡ running g
+        → online cpu (latest begins h) ≡ online cpu (latest begins g)
         → is_heard cpu (number h) h ≡ is_heard cpu (number g) g → awaits cpu h ≡ awaits cpu g }
 {}
 
-/// No callback runs early: between the queueing of a callback and its handing out, a full grace period lies. The callback
-/// at each place of what a run hands out has the value that the reply tells there.
+/// No callback runs early: between the queueing of a callback and its handing out, a full grace
+/// period lies. The callback at each place of what a run hands out has the value that the reply
+/// tells there.
 pub fn no_callback_runs_early()
     ensures { (size : Size) (run : Run) (cpu most place : ℕ) (values : List ℕ) (call : Queued ℕ)
-        → IsLegalRun size ((Event.Run cpu most, Reply.Ran values) ∷ run) → slice_get (handed_out cpu most (history run)) place ≡ Some call
-        → (slice_get values place ≡ Some call.value) × (has_full_period (since call.ord (history run)) ≡ true) }
+        → IsLegalRun size ((Event.Run cpu most, Reply.Ran values) ∷ run)
+        → slice_get (handed_out cpu most (history run)) place ≡ Some call
+        → (slice_get values place ≡ Some call.value)
+            × (has_full_period (since call.ord (history run)) ≡ true) }
 {}
 
 /// No callback runs twice: each is handed out at most once.
 pub fn no_callback_runs_twice()
-    ensures { (size : Size) (run : Run) (ord : ℕ) → IsLegalRun size run → times_handed_out ord (history run) ≤ 1 }
+    ensures { (size : Size) (run : Run) (ord : ℕ) → IsLegalRun size run
+        → times_handed_out ord (history run) ≤ 1 }
 {}
 
-/// A barrier covers earlier callbacks: when its test answers done, each callback that was queued before it began has been
-/// handed out.
+/// A barrier covers earlier callbacks: when its test answers done, each callback that was queued
+/// before it began has been handed out.
 pub fn barrier_covers_earlier_callbacks()
-    ensures { (size : Size) (run : Run) (ord : ℕ) → IsLegalRun size ((Event.BarTest, Reply.BarDone) ∷ run)
-        → 0 < ord → ord ≤ queued_before_barrier (history run) → times_handed_out ord (history run) ≡ 1 }
+    ensures { (size : Size) (run : Run) (ord : ℕ)
+        → IsLegalRun size ((Event.BarTest, Reply.BarDone) ∷ run) → 0 < ord
+        → ord ≤ queued_before_barrier (history run) → times_handed_out ord (history run) ≡ 1 }
 {}

@@ -1,4 +1,5 @@
-//! The events of the engine, its replies, what a history of events says, and the machine that takes them.
+//! The events of the engine, its replies, what a history of events says, and the machine that takes
+//! them.
 #![tactic(auto)]
 
 pub mod cpu_list;
@@ -11,3 +12,11 @@ pub mod reply;
 mod tests;
 pub mod turned;
 pub mod value_list;
+
+pub use cpu_list::CpuList;
+pub use event::Event;
+pub use event_core::Core;
+pub use gp_state::GpState;
+pub use reply::Reply;
+pub use turned::Turned;
+pub use value_list::ValueList;

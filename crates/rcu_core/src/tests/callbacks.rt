@@ -38,7 +38,8 @@ fn lacks_memory(replies: &[Reply]) -> bool {
     false
 }
 
-/// The replies of a new machine to these events as one list, by a second machine where an event is refused its growth.
+/// The replies of a new machine to these events as one list, by a second machine where an event is
+/// refused its growth.
 fn ran<R: Abort + Print>(rt: &R, alloc: Global, events: &[Event]) -> Vec<Reply> {
     let mut first = core(rt, alloc, 8);
     let replies = run(rt, &mut first, events);
@@ -106,7 +107,8 @@ fn lives<R: Abort>(rt: &R, replies: &[Reply]) {
     assert!(rt; hands_out(&replies[10], [].as_slice()));
 }
 
-/// What a tended callback waits for is needed: turns end the running grace period and begin the next.
+/// What a tended callback waits for is needed: turns end the running grace period and begin the
+/// next.
 #[test]
 fn turn_drives_two_periods(rt: HostRuntime) {
     let events = [

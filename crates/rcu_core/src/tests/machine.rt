@@ -32,7 +32,8 @@ pub fn flat<R: Abort + Print>(rt: &R, alloc: Global) -> Flat
     }
 }
 
-/// A machine of two processors with this last number, made by a second call where the first is refused a growth.
+/// A machine of two processors with this last number, made by a second call where the first is
+/// refused a growth.
 pub fn core<R: Abort + Print>(rt: &R, alloc: Global, last: u64) -> Core<Flat, u64> {
     match Core::new(alloc, flat(rt, alloc), last) {
         Ok(core) => core,

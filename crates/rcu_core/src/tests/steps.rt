@@ -76,7 +76,8 @@ fn turns_drive_a_grace_period(rt: HostRuntime) {
     );
 }
 
-/// A list of events gets the replies that single steps get. (Of two growths in one list the second is not made again.)
+/// A list of events gets the replies that single steps get. (Of two growths in one list the second
+/// is not made again.)
 #[test]
 fn a_run_replies_as_its_steps(rt: HostRuntime) {
     let mut core = core(&rt, rt.alloc(), 8);
