@@ -4,7 +4,8 @@ use Rattle.std.proofs.Common.{refl, sym, ap, ap₂, ◌∙◌, arith, eqb, get_o
 use Rattle.std.proofs.lemmas.Bool.Decides.{nat_tests}
 use Rattle.std.proofs.lemmas.List.{length-set}
 use Rattle.rcu_cblist.specs.SegList.{Item, after_entrain, after_migrate, after_take}
-use Rattle.rcu_barrier.specs.Lists.{AllLists, owes_visit, is_visited, as_it_leaves, list_of, with_list}
+use Rattle.rcu_barrier.specs.Lists.{AllLists, owes_visit, is_visited, list_of, with_list}
+use Rattle.rcu_cblist.specs.SegList.{as_it_leaves}
 use Rattle.rcu_barrier.specs.Lists.{lists_after_barrier_begin, lists_after_migrate, lists_after_queue, lists_after_run}
 use Rattle.rcu_barrier.specs.Lists.{lists_after_tend, lists_after_visit}
 use Rattle.rcu_barrier.specs.Tending.{after_tend}
