@@ -1,6 +1,7 @@
 -- Merging is a join: for all who prove something of replicas that are merged.
 use Rattle.std.proofs.Common.{◌≡◌, ℕ, ◌==◌, ◌&&◌, Bool, true, false, List, length, refl, sym, ap, ◌∙◌}
 use Rattle.std.specs.Bool.{Decides}
+use Rattle.std.proofs.Math.Bool.{and_assoc, and_comm, and_self}
 use Rattle.std.proofs.lemmas.Bool.{and_parts}
 use Rattle.std.proofs.lemmas.Bool.Decides.{Decides-eqb}
 use Rattle.rcu_seq.specs.Numbers.{same_number}
@@ -8,52 +9,33 @@ use Rattle.rcu_node.specs.CpuSet.{intersection, is_in}
 use Rattle.rcu_node.specs.Merging.{IsAtLeast, Standing, are_alike, merged, same_set}
 use Rattle.rcu_node.proofs.CpuSetLemmas.{is_in-intersection, length-intersection, same_from_flags, same_set-Decides}
 
--- tests of one, two and three sets
-and_commutes : (a b : Bool) → (a && b) ≡ (b && a)
-and_commutes true true = refl
-and_commutes true false = refl
-and_commutes false true = refl
-and_commutes false false = refl
-
-and_associates : (a b c : Bool) → ((a && b) && c) ≡ (a && (b && c))
-and_associates true b c = refl
-and_associates false b c = refl
-
-and_itself : (a : Bool) → (a && a) ≡ a
-and_itself true = refl
-and_itself false = refl
-
-and_again : (a b : Bool) → ((a && b) && b) ≡ (a && b)
-and_again true true = refl
-and_again true false = refl
-and_again false b = refl
-
 intersection-commutes : (a b : List Bool) → length a ≡ length b → intersection a b ≡ intersection b a
 intersection-commutes a b e =
     same_from_flags (intersection a b) (intersection b a) (length-intersection a b ∙ e ∙ sym (length-intersection b a))
     (λ cpu.
-    is_in-intersection a b cpu ∙ and_commutes (is_in a cpu) (is_in b cpu) ∙ sym (is_in-intersection b a cpu))
+    is_in-intersection a b cpu ∙ and_comm (is_in a cpu) (is_in b cpu) ∙ sym (is_in-intersection b a cpu))
 
 intersection-associates : (a b c : List Bool) → intersection (intersection a b) c ≡ intersection a (intersection b c)
 intersection-associates a b c =
     same_from_flags (intersection (intersection a b) c) (intersection a (intersection b c))
     (length-intersection (intersection a b) c ∙ length-intersection a b ∙ sym (length-intersection a (intersection b c))) (λ cpu.
     is_in-intersection (intersection a b) c cpu ∙ ap (λ there. there && is_in c cpu) (is_in-intersection a b cpu)
-    ∙ and_associates (is_in a cpu) (is_in b cpu) (is_in c cpu)
+    ∙ and_assoc (is_in a cpu) (is_in b cpu) (is_in c cpu)
     ∙ ap (λ there. is_in a cpu && there) (sym (is_in-intersection b c cpu))
     ∙ sym (is_in-intersection a (intersection b c) cpu))
 
 intersection-itself : (a : List Bool) → intersection a a ≡ a
 intersection-itself a =
     same_from_flags (intersection a a) a (length-intersection a a)
-    (λ cpu. is_in-intersection a a cpu ∙ and_itself (is_in a cpu))
+    (λ cpu. is_in-intersection a a cpu ∙ and_self (is_in a cpu))
 
 intersection-again : (a b : List Bool) → intersection (intersection a b) b ≡ intersection a b
 intersection-again a b =
     same_from_flags (intersection (intersection a b) b) (intersection a b) (length-intersection (intersection a b) b)
     (λ cpu.
     is_in-intersection (intersection a b) b cpu ∙ ap (λ there. there && is_in b cpu) (is_in-intersection a b cpu)
-    ∙ and_again (is_in a cpu) (is_in b cpu) ∙ sym (is_in-intersection a b cpu))
+    ∙ and_assoc (is_in a cpu) (is_in b cpu) (is_in b cpu)
+    ∙ ap (λ there. is_in a cpu && there) (and_self (is_in b cpu)) ∙ sym (is_in-intersection a b cpu))
 
 -- the test of two that began alike says whether number of processors, tag and start set are equal
 abbrev pub Equals : Standing → Standing → Type 0
