@@ -1,4 +1,4 @@
--- Sets that nobody is in.
+-- Who is awaited where an end is refused, and once a merge was tried.
 use Rattle.std.proofs.Common.{◌≡◌, ◌⊎◌, ℕ, ◌==◌, ◌&&◌, Bool, false, List, length, Some, refl, sym, ap, ◌∙◌, inl, inr}
 use Rattle.std.proofs.lemmas.Bool.{cases_Bool, true≢false}
 use Rattle.rcu_seq.specs.declared.fault.Fault.TheVariants.{Waiting}

@@ -1,7 +1,7 @@
 -- What batches leave.
 use Rattle.std.proofs.Common.{◌≡◌, ℕ, suc, ◌+◌, ◌<◌, ◌≤◌, ◌==◌, ◌&&◌, ◌||◌, Bool, true, false, cond, not, nat_lt, List, [], ◌∷◌, length, All, refl, sym, ap, ◌∙◌, arith, inl, inr}
 use Rattle.std.proofs.Math.Bool.{and-true, and-false}
-use Rattle.std.proofs.lemmas.Bool.{cases_Bool}
+use Rattle.std.proofs.lemmas.Bool.{and_parts, cases_Bool}
 use Rattle.std.proofs.lemmas.Bool.Decides.{nat_tests}
 use Rattle.std.proofs.lemmas.List.{ext_get_or}
 use Rattle.std.proofs.lemmas.List.Sums.{sum_by-cons}
@@ -111,16 +111,11 @@ left_by_all counter batch number awaited now e all h =
     let below : nat_lt cpu counter ≡ true = grind (arith, nat_tests, l, all) in
     h cpu ∙ rw below)
 
--- what a batch leaves is a part of what was awaited
-part_of : (there gone : Bool) → (there && not gone) ≡ true → there ≡ true
-part_of true gone h = refl
-part_of false gone h = h
-
--- so the others were cleared
+-- what a batch leaves is a part of what was awaited, and the others were cleared
 pub counted_all : (counter : ℕ) (batch : Gathered) (number : Number) (awaited now : List Bool)
     → length now ≡ length awaited
     → IsClearedBelow counter batch number awaited now → size_of awaited ≡ size_of now + size_of (difference awaited now)
 counted_all counter batch number awaited now e h =
     size_of-difference awaited now e (λ cpu there.
-    part_of (is_in awaited cpu) ((nat_lt cpu counter && is_in batch.set cpu) && same_number batch.tag number)
-    (sym (h cpu) ∙ there))
+    let gone = (nat_lt cpu counter && is_in batch.set cpu) && same_number batch.tag number in
+    (and_parts (is_in awaited cpu) (not gone) (sym (h cpu) ∙ there)).0)

@@ -1,6 +1,6 @@
 -- What the calls of replicas keep.
 use Rattle.std.proofs.Common.{◌≡◌, ℕ, ◌==◌, ◌&&◌, Bool, true, false, not, if◌then◌else◌, List, length, slice_set, replicate, None, refl, sym, ap, ◌∙◌, arith, inl, inr}
-use Rattle.std.proofs.lemmas.Bool.{cases_Bool, true≢false}
+use Rattle.std.proofs.lemmas.Bool.{and_parts, cases_Bool, true≢false}
 use Rattle.std.proofs.lemmas.Bool.Decides.{nat_tests}
 use Rattle.std.proofs.lemmas.List.{length-set, length-replicate}
 use Rattle.rcu_seq.specs.Numbers.{Number, same_number}
@@ -11,11 +11,6 @@ use Rattle.rcu_node.proofs.CpuSetLemmas.{in_none, is_in-intersection, is_in-remo
 use Rattle.rcu_node.proofs.MergingLemmas.{Equals, are_alike-Decides}
 use Rattle.rcu_node.proofs.ReportLemmas.{is_in-awaited_after_report, length-awaited_after_report}
 use Rattle.rcu_report.specs.Replica.{Replicated, Call, Begin, Report, Depart, End, Merge, IsSound, CanBeMade, at_first, cpus_of, after_call, refusal, standing_of}
-
--- who is in what both tests leave, passes the first
-first_of : (there gone : Bool) → (there && gone) ≡ true → there ≡ true
-first_of true gone e = refl
-first_of false gone e = e
 
 -- an accepted merging is of an alike replica
 pub merging_alike : (r other : Replicated) → refusal r (Merge other) ≡ None
@@ -91,12 +86,16 @@ kept_next r (Begin set) made accepted kept = record {
 }
 kept_next r (Report cpu number) made accepted kept =
     by_running IsSound r (record r { awaited = awaited_after_report r.tag r.awaited cpu number })
-    (λ runs. kept_cut r (awaited_after_report r.tag r.awaited cpu number) (length-awaited_after_report r.tag r.awaited cpu number)
-    (λ k there. first_of (is_in r.awaited k) (not (cpu == k && same_number number r.tag)) (sym (is_in-awaited_after_report r.tag r.awaited cpu number k) ∙ there)) kept)
+    (λ runs.
+    kept_cut r (awaited_after_report r.tag r.awaited cpu number)
+    (length-awaited_after_report r.tag r.awaited cpu number)
+    (λ k there.
+    let left = sym (is_in-awaited_after_report r.tag r.awaited cpu number k) ∙ there in
+    (and_parts (is_in r.awaited k) (not (cpu == k && same_number number r.tag)) left).0) kept)
     (λ rests. kept)
 kept_next r (Depart cpu) made accepted kept =
     kept_cut r (slice_set r.awaited cpu false) (length-set r.awaited cpu false)
-    (λ k there. first_of (is_in r.awaited k) (not (cpu == k)) (sym (is_in-remove r.awaited cpu k) ∙ there)) kept
+    (λ k there. (and_parts (is_in r.awaited k) (not (cpu == k)) (sym (is_in-remove r.awaited cpu k) ∙ there)).0) kept
 kept_next r End made accepted kept = record {
   started = kept.started;
   within = kept.within;
@@ -106,4 +105,6 @@ kept_next r End made accepted kept = record {
 }
 kept_next r (Merge other) made accepted kept =
     kept_cut r (intersection r.awaited other.awaited) (length-intersection r.awaited other.awaited)
-    (λ k there. first_of (is_in r.awaited k) (is_in other.awaited k) (sym (is_in-intersection r.awaited other.awaited k) ∙ there)) kept
+    (λ k there.
+    let both = sym (is_in-intersection r.awaited other.awaited k) ∙ there in
+    (and_parts (is_in r.awaited k) (is_in other.awaited k) both).0) kept
