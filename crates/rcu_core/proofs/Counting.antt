@@ -3,44 +3,23 @@ use Rattle.std.proofs.Common.{◌≡◌, ℕ, zero, suc, ◌+◌, ◌<◌, ◌�
 use Rattle.std.specs.Prelude.{filter, count_by, sum_by}
 use Rattle.std.specs.List.{range_with_len}
 use Rattle.std.proofs.lemmas.List.FromFn.{fill_by_all, length-range_with_len, get_or-range_with_len}
-use Rattle.std.proofs.lemmas.List.Elements.{filter-append}
-use Rattle.std.proofs.lemmas.List.Recursion.{is_sum_by}
-use Rattle.std.proofs.lemmas.List.Sums.{get_or-le-sum_by, sum_by-cons}
-use Rattle.rcu_node.specs.CpuSet.{is_in, size_of}
+use Rattle.std.proofs.lemmas.List.Sums.{get_or-le-sum_by}
+use Rattle.rcu_node.specs.CpuSet.{is_in}
+use Rattle.rcu_node.proofs.RangeLemmas.{filter-range_more, sum_by-map}
 use Rattle.rcu_cblist.specs.SegList.{Item, markers}
 use Rattle.rcu_barrier.specs.Lists.{markers_in, unvisited}
-
-sum_by-map : {X Y : Type 0} (g : Y → ℕ) (f : X → Y) (xs : List X) → sum_by g (map f xs) ≡ sum_by (λ x. g (f x)) xs
-sum_by-map g f [] = refl
-sum_by-map g f (x ∷ xs) =
-    sum_by-cons g (f x) (map f xs)
-    ∙ ap (λ n. g (f x) + n) (sum_by-map g f xs)
-    ∙ sym (sum_by-cons (λ z. g (f z)) x xs)
-
--- a set has as many processors as pass its test
-pub passing_is_size : (xs : List Bool) (n : ℕ) → n ≡ length xs → count_by (is_in xs) (range_with_len 0 n) ≡ size_of xs
-passing_is_size xs n e =
-    sym (sum_by-map (λ flag. cond flag 1 0) (is_in xs) (range_with_len 0 n))
-    ∙ ap (λ (flags : List Bool). size_of flags) (sym (fill_by_all (is_in xs) xs n false (sym e) (λ k lt. refl)))
 
 -- the lists have as many markers as the lists of the processors together
 pub markers_of_each : (lists : List (List (Item ℕ))) (n : ℕ) → n ≡ length lists → sum_by (λ c. markers (get_or lists c [])) (range_with_len 0 n) ≡ markers_in lists
 markers_of_each lists n e =
     sym (sum_by-map (λ (xs : List (Item ℕ)). markers xs) (λ c. get_or lists c []) (range_with_len 0 n))
     ∙ ap (λ (ls : List (List (Item ℕ))). sum_by (λ (xs : List (Item ℕ)). markers xs) ls) (sym (fill_by_all (λ c. get_or lists c []) lists n [] (sym e) (λ k lt. refl)))
-    ∙ sym (is_sum_by (λ (ls : List (List (Item ℕ))). markers_in ls) (λ (xs : List (Item ℕ)). markers xs) refl (λ _ _. refl) lists)
-
-unset : (flags : List Bool) → count_by (λ flag. not flag) flags ≡ unvisited flags
-unset [] = refl
-unset (true ∷ flags) = sum_by-cons (λ flag. cond (not flag) 1 0) true flags ∙ (let rest = unset flags in omega arith)
-unset (false ∷ flags) = sum_by-cons (λ flag. cond (not flag) 1 0) false flags ∙ (let rest = unset flags in omega arith)
 
 -- as many processors are unvisited as fail the test of a visit
 pub unvisited_of_each : (flags : List Bool) (n : ℕ) → n ≡ length flags → count_by (λ c. not (is_in flags c)) (range_with_len 0 n) ≡ unvisited flags
 unvisited_of_each flags n e =
     sym (sum_by-map (λ flag. cond (not flag) 1 0) (is_in flags) (range_with_len 0 n))
     ∙ ap (λ (fs : List Bool). count_by (λ flag. not flag) fs) (sym (fill_by_all (is_in flags) flags n false (sym e) (λ k lt. refl)))
-    ∙ unset flags
 
 at_most_none : (b : Bool) (n : ℕ) → cond b 1 0 ≤ n → n ≡ 0 → b ≡ false
 at_most_none true n le e = absurd (omega arith)
@@ -54,29 +33,10 @@ none_passes n p e c lt =
     let at : get_or (range_with_len 0 n) c 0 ≡ c = get_or-range_with_len 0 n c 0 lt ∙ omega arith in
     at_most_none (p c) _ (rw at at le) e
 
-range_last : (a n j : ℕ) → a + n ≡ j → range_with_len a (suc n) ≡ range_with_len a n ++ j ∷ []
-range_last a zero j e = let same : a ≡ j = omega arith in ap (λ k. k ∷ []) same
-range_last a (suc n) j e = ap (λ l. a ∷ l) (range_last (a + 1) n j (omega arith))
-
--- one processor more
-which_more : (p : ℕ → Bool) (n : ℕ) → filter p (range_with_len 0 (n + 1)) ≡ filter p (range_with_len 0 n) ++ cond (p n) (n ∷ []) []
-which_more p n =
-    let on : n + 1 ≡ suc n = omega arith in
-    ap (λ (k : ℕ). filter p (range_with_len 0 k)) on
-    ∙ ap (λ (l : List ℕ). filter p l) (range_last 0 n n (omega arith))
-    ∙ filter-append p (range_with_len 0 n) (n ∷ [])
-
 -- one processor more, which passes
 pub which_yes : (p : ℕ → Bool) (n : ℕ) (old new : List ℕ) → p n ≡ true → old ≡ filter p (range_with_len 0 n) → new ≡ old ++ n ∷ [] → new ≡ filter p (range_with_len 0 (n + 1))
-which_yes p n old new passes so_far grown = grown ∙ ap (λ (l : List ℕ). l ++ n ∷ []) so_far ∙ sym (which_more p n ∙ rw passes refl)
+which_yes p n old new passes so_far grown = grown ∙ ap (λ (l : List ℕ). l ++ n ∷ []) so_far ∙ sym (filter-range_more p n ∙ rw passes refl)
 
 -- one processor more, which fails
 pub which_no : (p : ℕ → Bool) (n : ℕ) (old new : List ℕ) → p n ≡ false → old ≡ filter p (range_with_len 0 n) → new ≡ old → new ≡ filter p (range_with_len 0 (n + 1))
-which_no p n old new fails so_far same = same ∙ so_far ∙ sym (which_more p n ∙ rw fails (append-nil (filter p (range_with_len 0 n))))
-
--- a set with a processor in it is not empty
-pub some_in : (xs : List Bool) (c : ℕ) → c < length xs → is_in xs c ≡ true → 0 < size_of xs
-some_in xs c lt e =
-    let le : cond (is_in xs c) 1 0 ≤ size_of xs = get_or-le-sum_by (λ flag. cond flag 1 0) xs c false lt in
-    let one : 1 ≤ size_of xs = rw e at le in
-    omega arith
+which_no p n old new fails so_far same = same ∙ so_far ∙ sym (filter-range_more p n ∙ rw fails (append-nil (filter p (range_with_len 0 n))))

@@ -31,7 +31,8 @@ use Rattle.rcu_core.proofs.FollowsPeriods.{awaits_delivered, awaits_departed, fo
 use Rattle.rcu_core.proofs.FollowsPeriods.{length-awaited_by}
 use Rattle.rcu_core.proofs.Kept.{enter_counts, exit_counts, exits_le}
 use Rattle.rcu_core.proofs.Situations.{number_same, longer, one_changed, same, within, within_all}
-use Rattle.rcu_core.proofs.Sound.{first_cpus, first_at, no_item, nobody, boot_alone}
+use Rattle.rcu_core.proofs.Sound.{first_cpus, first_at, no_item, boot_alone}
+use Rattle.rcu_node.proofs.CpuSetLemmas.{in_none}
 use Rattle.rcu_core.proofs.Steps.{waits_said}
 use Rattle.rcu_core.proofs.Writes.{eqb_self, one_written}
 
@@ -274,7 +275,7 @@ has_first n last v l e f m =
     (record {
       accepted = tt;
       periods = record { ends = refl; running = refl; needed = refl };
-      cpus = record { online = λ c. boot_alone n c l; awaits = nobody n; each = λ c. first_at n c l; made = refl };
+      cpus = record { online = λ c. boot_alone n c l; awaits = in_none n; each = λ c. first_at n c l; made = refl };
       calls = record { queued = refl; list = no_item n; barrier = refl; owed = λ c. refl };
     })
 

@@ -15,7 +15,7 @@ use Rattle.rcu_core.specs.History.{History, number}
 use Rattle.rcu_core.specs.Situation.{calls_in}
 use Rattle.rcu_core.specs.declared.event.Event.TheVariants.{Offline, Queue, Tend, Run, BarBegin, Visit, BarTest}
 use Rattle.rcu_core.proofs.Kept.{queue_counts}
-use Rattle.rcu_core.proofs.Sound.{nobody}
+use Rattle.rcu_node.proofs.CpuSetLemmas.{in_none}
 use Rattle.rcu_core.proofs.Writes.{eqb_self, marked, one_written}
 
 -- the lists and the barrier are as a history says
@@ -62,7 +62,7 @@ calls_begun all h x = record {
   queued = x.queued;
   list = x.list;
   barrier = refl;
-  owed = λ k. ap (λ b. not b) (nobody (length all.lists) k);
+  owed = λ k. ap (λ b. not b) (in_none (length all.lists) k);
 }
 
 -- by a visit a processor is owed none, and the others as before

@@ -98,10 +98,6 @@ get_same zero x k = refl
 get_same (suc n) x zero = refl
 get_same (suc n) x (suc k) = get_same n x k
 
--- nobody is in the empty set
-pub nobody : (n cpu : ℕ) → is_in (replicate n false) cpu ≡ false
-nobody n cpu = get_same n false cpu
-
 -- each list is empty at the start
 pub no_item : (n cpu : ℕ) → get_or {A = List (Item ℕ)} (replicate n []) cpu [] ≡ []
 no_item n cpu = get_same n [] cpu

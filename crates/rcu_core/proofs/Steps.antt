@@ -29,7 +29,8 @@ use Rattle.rcu_core.specs.declared.reply.Reply.{Reply}
 use Rattle.rcu_core.specs.declared.reply.Reply.TheVariants as reply
 use Rattle.rcu_core.specs.declared.turned.Turned.{Turned}
 use Rattle.rcu_core.specs.declared.turned.Turned.TheVariants as turned
-use Rattle.rcu_core.proofs.Counting.{markers_of_each, passing_is_size, unvisited_of_each}
+use Rattle.rcu_core.proofs.Counting.{markers_of_each, unvisited_of_each}
+use Rattle.rcu_node.proofs.CpuSetLemmas.{count_by-is_in}
 
 -- a step of a state is one of any state that equals it
 pub along : (u v w : State ℕ) (e : Event) (r : Reply) → v ≡ u → StepsLegally v e r w → StepsLegally u e r w
@@ -49,11 +50,11 @@ says_so v e r none same = same ∙ sym (ap (λ (o : Option Fault). or_fault o (a
 
 -- as many processors are awaited as there are flags
 pub awaited_size : (v : State ℕ) → how_many (size_at v) (is_in v.grace.processors.awaited) ≡ awaited_in v.grace
-awaited_size v = passing_is_size v.grace.processors.awaited (length v.grace.processors.awaited) refl
+awaited_size v = count_by-is_in v.grace.processors.awaited (length v.grace.processors.awaited) refl
 
 -- as many are online as would be awaited
 online_size : (v : State ℕ) → IsSound v → how_many (size_at v) (is_in v.grace.processors.online) ≡ size_of v.grace.processors.online
-online_size v s = passing_is_size v.grace.processors.online (length v.grace.processors.awaited) (sym s.flags)
+online_size v s = count_by-is_in v.grace.processors.online (length v.grace.processors.awaited) (sym s.flags)
 
 -- a grace period begins
 pub does_begin : (v w : State ℕ) (n count : ℕ) → IsSound v → begin_refusal v.grace ≡ None → n ≡ number_of (after_begin v.grace).seq → count ≡ awaited_in (after_begin v.grace)

@@ -10,9 +10,9 @@ pub invariant_of-self : goal.invariant_of-self
 invariant_of-self g c =
     let i = c.self.inside in
     let old : Grace g.row.T.Denot = record { seq = i.seq; needed = i.needed; processors = i.hotplug; lists = i.lists } in
-    on_either c.run.result _ _ c.run.ensures.ok c.run.ensures.err
-    (λ _ h. run_kept old c.args.cpu c.args.max c.run.new.self c.self.invariant h.1)
-    (λ _ h. same_kept old c.run.new.self c.self.invariant h.2)
+    on_either c.run.result _ _ c.run.ensures.ok c.run.ensures.unchanged
+    (λ _ h. run_kept old c.args.cpu c.args.max c.run.new.self c.self.invariant h)
+    (λ _ h. same_kept old c.run.new.self c.self.invariant h)
 
 pub returns-clause-waited : goal.returns-clause-waited
 returns-clause-waited g c =
@@ -22,4 +22,4 @@ returns-clause-waited g c =
     let xs = list_of i.lists c.args.cpu in
     let timely = timely_get n i.lists.lists c.args.cpu c.self.invariant.timely in
     rw (← c.self.view_is)
-    (IfOk-weaker c.run.result _ _ (λ calls h. taken_waited n c.args.max xs calls.items timely h.0) c.run.ensures.ok)
+    (IfOk-weaker c.run.result _ _ (λ calls h. taken_waited n c.args.max xs calls.items timely h) c.run.ensures.calls)
