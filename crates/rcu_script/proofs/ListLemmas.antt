@@ -1,21 +1,20 @@
 -- The texts of lists, empty and not.
 use Rattle.std.proofs.Common.{◌≡◌, ◌<◌, ◌++◌, ℕ, List, [], ◌∷◌, length, codes, refl, arith}
 use Rattle.std.specs.Prelude.{flat_map}
+use Rattle.rcu_text.specs.Outputs.{Out, Stops}
 use Rattle.rcu_text.specs.Texts.{spaced}
-use Rattle.rcu_script.specs.ScriptTexts.{awaits_text, ran_text}
+use Rattle.rcu_text.proofs.CallerLemmas.{Stops-before}
+use Rattle.rcu_script.specs.ScriptTexts.{listed_text}
 
-pub none_awaited : (cpus : List ℕ) → length cpus ≡ 0 → awaits_text cpus ≡ codes "awaits none\n"
-none_awaited [] e = refl
-none_awaited (x ∷ l) e = absurd (omega (arith, e))
+pub none_listed : (word items : List ℕ) → length items ≡ 0 → listed_text word items ≡ word ++ codes " none\n"
+none_listed word [] e = refl
+none_listed word (x ∷ l) e = absurd (omega (arith, e))
 
-pub some_awaited : (cpus : List ℕ) → 0 < length cpus → awaits_text cpus ≡ codes "awaits" ++ (flat_map spaced cpus ++ codes "\n")
-some_awaited [] e = absurd (omega (arith, e))
-some_awaited (x ∷ l) e = refl
+pub some_listed : (word items : List ℕ) → 0 < length items → listed_text word items ≡ word ++ (flat_map spaced items ++ codes "\n")
+some_listed word [] e = absurd (omega (arith, e))
+some_listed word (x ∷ l) e = refl
 
-pub none_ran : (values : List ℕ) → length values ≡ 0 → ran_text values ≡ codes "ran none\n"
-none_ran [] e = refl
-none_ran (x ∷ l) e = absurd (omega (arith, e))
-
-pub some_ran : (values : List ℕ) → 0 < length values → ran_text values ≡ codes "ran" ++ (flat_map spaced values ++ codes "\n")
-some_ran [] e = absurd (omega (arith, e))
-some_ran (x ∷ l) e = refl
+-- the writer failed in the word
+pub word_stops : (a b : Out) (word items : List ℕ) → Stops a b word → Stops a b (listed_text word items)
+word_stops a b word [] s = Stops-before a b word (codes " none\n") s
+word_stops a b word (x ∷ l) s = Stops-before a b word (flat_map spaced (x ∷ l) ++ codes "\n") s

@@ -14,14 +14,14 @@ use Rattle.rcu_text.specs.declared.line_shape.Line.{Line}
 use Rattle.rcu_text.specs.declared.line_shape.Line.TheVariants.{Blank, Malformed, Ask}
 use Rattle.rcu_script.specs.PairLines.{pair_asked_by}
 use Rattle.rcu_script.specs.PairHistory.{Calls, call_of, calls_after, calls_after_line, calls_of, calls_with}
-use Rattle.rcu_script.specs.PairState.{Pair, left_by, pair_at, refusal_of, set_of}
+use Rattle.rcu_script.specs.PairState.{Pair, after_event, pair_at, event_refusal, set_of}
 use Rattle.rcu_script.specs.PairTexts.{compared_text, pair_after, pair_after_line, replica_after}
 use Rattle.rcu_script.specs.declared.pair.event.Side.TheVariants.{A, B}
 use Rattle.rcu_script.specs.declared.pair.event.PairEvent.{PairEvent}
 use Rattle.rcu_script.specs.declared.pair.event.PairEvent.TheVariants.{Begin, Report, Depart, End, Awaits, Merge}
 use Rattle.rcu_script.specs.declared.pair.event.PairAsk.{PairAsk}
 use Rattle.rcu_script.specs.declared.pair.event.PairAsk.TheVariants.{Same, Of}
-use Rattle.rcu_script.proofs.PairSets.{length-listed, same_when_all_agree}
+use Rattle.rcu_node.proofs.CpuSetLemmas.{length-listed, same_when_all_agree}
 
 -- a replica is what its calls make it, and each of them was accepted
 pub record IsMade (cpus : ℕ) (last : Number) (r : Replicated) (h : History) : Type 0 where
@@ -42,7 +42,7 @@ begin_allowed true o e = e
 begin_allowed false o e = cc
 
 one_event : (cpus : ℕ) (last : Number) (mine its : Replicated) (event : PairEvent) (h : History) → IsMade cpus last mine h
-    → IsMade cpus last (replica_after (refusal_of mine its event) mine (left_by mine its event)) (calls_with (refusal_of mine its event) (call_of mine its event) h)
+    → IsMade cpus last (replica_after (event_refusal mine its event) mine (after_event mine its event)) (calls_with (event_refusal mine its event) (call_of mine its event) h)
 one_event cpus last mine its (Begin listed) h m =
     one_more cpus last mine _ (call.Begin (set_of (cpus_of mine) listed)) _ h m refl (length-listed (cpus_of mine) _) (begin_allowed (list_all (λ c. nat_lt c (cpus_of mine)) listed) _)
 one_event cpus last mine its (Report cpu tag) h m = one_more cpus last mine _ (call.Report cpu tag) _ h m refl tt (λ e. e)

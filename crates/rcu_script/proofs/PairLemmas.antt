@@ -1,31 +1,28 @@
 -- Lines of a pair, one more answered.
-use Rattle.std.proofs.Common.{◌≡◌, ℕ, ◌+◌, ◌-◌, ◌<◌, ◌==◌, Bool, true, false, List, [], ◌∷◌, ◌++◌, length, refl, sym, ap, ◌∙◌, subst, append_assoc, append-nil, arith, codes, cond}
+use Rattle.std.proofs.Common.{◌≡◌, ℕ, ◌+◌, ◌-◌, ◌<◌, Bool, true, false, List, [], ◌∷◌, ◌++◌, length, refl, sym, ap, ◌∙◌, subst, append_assoc, append-nil, arith, cond}
 use Rattle.std.specs.Prelude.{filter, flat_map}
 use Rattle.std.specs.List.{range_with_len}
-use Rattle.std.proofs.lemmas.Bool.Decides.{nat_tests}
 use Rattle.std.proofs.lemmas.List.{length-set}
 use Rattle.rcu_seq.specs.Numbers.{same_number}
-use Rattle.rcu_node.specs.CpuSet.{size_of}
 use Rattle.rcu_node.specs.Merging.{same_set}
 use Rattle.rcu_report.specs.Replica.{Replicated, cpus_of}
 use Rattle.rcu_text.specs.Outputs.{Out, Sends, Stops}
 use Rattle.rcu_text.specs.Texts.{spaced}
-use Rattle.rcu_text.specs.Underway.{Replied}
+use Rattle.rcu_text.specs.Underway.{LineIsAnswered}
 use Rattle.rcu_text.specs.declared.line_shape.Line.{Line}
 use Rattle.rcu_text.specs.declared.line_shape.Line.TheVariants.{Ask}
 use Rattle.rcu_text.proofs.CallerLemmas.{Sends-Stops, Sends-trans, Stops-before, line_alike}
 use Rattle.rcu_script.specs.PairLines.{pair_ask_of, pair_asked_by}
-use Rattle.rcu_script.specs.PairState.{Pair, left_by, refusal_of, reply_of}
-use Rattle.rcu_script.specs.PairTexts.{answer_to_line, compared_text, members_of, outcome_text, pair_after, pair_after_line, pair_replies, replica_after}
-use Rattle.rcu_script.specs.ScriptTexts.{awaits_text}
+use Rattle.rcu_script.specs.PairState.{Pair, after_event, event_refusal, event_reply}
+use Rattle.rcu_script.specs.PairTexts.{answer_to_line, compared_text, outcome_text, pair_after, pair_after_line, pair_replies, replica_after}
 use Rattle.rcu_script.specs.declared.pair.event.Side.{Side}
 use Rattle.rcu_script.specs.declared.pair.event.Side.TheVariants.{A, B}
 use Rattle.rcu_script.specs.declared.pair.event.PairEvent.{PairEvent}
 use Rattle.rcu_script.specs.declared.pair.event.PairEvent.TheVariants.{Begin, Report, Depart, End, Awaits, Merge}
 use Rattle.rcu_script.specs.declared.pair.event.PairAsk.{PairAsk}
 use Rattle.rcu_script.specs.declared.pair.event.PairAsk.TheVariants.{Same, Of}
-use Rattle.rcu_script.proofs.ListLemmas.{none_awaited, some_awaited}
-use Rattle.rcu_script.proofs.PairSets.{length-listed, members_are_size, texts_front, texts_no, texts_yes}
+use Rattle.rcu_node.proofs.CpuSetLemmas.{length-listed}
+use Rattle.rcu_script.proofs.PairSets.{texts_front, texts_no, texts_yes}
 
 -- ---- the awaited processors as text
 
@@ -53,14 +50,6 @@ member_stops p n all a b c below passes s t =
 pub members_all : (p : ℕ → Bool) (n all : ℕ) (a b : Out) → n ≡ all → Sends a b (texts p n) → Sends a b (texts p all)
 members_all p n all a b e s = subst (λ (k : ℕ). Sends a b (texts p k)) e s
 
--- nobody is awaited
-pub awaits_none : (set : List Bool) → (size_of set == 0) ≡ true → awaits_text (members_of set) ≡ codes "awaits none\n"
-awaits_none set e = none_awaited (members_of set) (grind (arith, nat_tests, members_are_size set))
-
--- somebody is
-pub awaits_some : (set : List Bool) → (size_of set == 0) ≡ false → awaits_text (members_of set) ≡ codes "awaits" ++ (flat_map spaced (members_of set) ++ codes "\n")
-awaits_some set e = some_awaited (members_of set) (grind (arith, nat_tests, members_are_size set))
-
 -- ---- a replica keeps its number of processors
 
 same_length : (b : Bool) (x y : List Bool) → length x ≡ length y → length (cond b x y) ≡ length y
@@ -71,7 +60,7 @@ after_report_length : (running told : Bool) (r : Replicated) (cpu : ℕ) → len
 after_report_length true told r cpu = same_length told _ r.awaited (length-set r.awaited cpu false)
 after_report_length false told r cpu = refl
 
-pub cpus_kept : (mine its : Replicated) (event : PairEvent) → cpus_of (left_by mine its event) ≡ cpus_of mine
+pub cpus_kept : (mine its : Replicated) (event : PairEvent) → cpus_of (after_event mine its event) ≡ cpus_of mine
 cpus_kept mine its (Begin cpus) = length-listed (cpus_of mine) _
 cpus_kept mine its (Report cpu tag) = after_report_length mine.periods.running (same_number tag mine.tag) mine cpu
 cpus_kept mine its (Depart cpu) = length-set mine.awaited cpu false
@@ -98,7 +87,7 @@ Past opened now lines text = (now ≡ pair_after opened lines) × (text ≡ pair
 -- a line is answered behind the others
 pub line_answered : (line : List ℕ) (asked : Line PairAsk) (old new : Pair) (went : List ℕ → Type 0) → asked ≡ pair_asked_by line
     → new ≡ pair_after_line old asked → went (answer_to_line old asked)
-    → Replied (λ (opened : Pair). Past opened old) (λ (opened : Pair). Past opened new) line went
+    → LineIsAnswered (λ (opened : Pair). Past opened old) (λ (opened : Pair). Past opened new) line went
 line_answered line asked old new went is left out = record {
   reply = answer_to_line old asked;
   out = out;
@@ -116,7 +105,7 @@ line_answered line asked old new went is left out = record {
 pub same_answered : (line : List ℕ) (ask : PairAsk) (a b : Replicated) (first second : List Bool) (old : Pair) (are_same : Bool) (went : List ℕ → Type 0)
     → ask ≡ Same → Ask ask ≡ pair_asked_by line → record { a = a; b = b } ≡ old
     → first ≡ a.awaited → second ≡ b.awaited → are_same ≡ same_set first second → went (compared_text are_same)
-    → Replied (λ (opened : Pair). Past opened old) (λ (opened : Pair). Past opened old) line went
+    → LineIsAnswered (λ (opened : Pair). Past opened old) (λ (opened : Pair). Past opened old) line went
 same_answered line ask a b first second old are_same went asked is view is_a is_b e out =
     line_answered line (Ask Same) old old went (ap (λ (k : PairAsk). Ask k) (sym asked) ∙ is) refl
     (subst (λ (p : Pair). went (answer_to_line p (Ask Same))) view
@@ -125,9 +114,9 @@ same_answered line ask a b first second old are_same went asked is view is_a is_
 -- `a` was asked
 pub a_answered : (line : List ℕ) (ask : PairAsk) (side : Side) (event : PairEvent) (a b mine : Replicated) (old : Pair) (went : List ℕ → Type 0)
     → ask ≡ Of side event → side ≡ A → Ask ask ≡ pair_asked_by line → record { a = a; b = b } ≡ old
-    → mine ≡ replica_after (refusal_of a b event) a (left_by a b event)
-    → went (outcome_text (refusal_of a b event) (left_by a b event).awaited (reply_of a b event))
-    → Replied (λ (opened : Pair). Past opened old) (λ (opened : Pair). Past opened (record { a = mine; b = b })) line went
+    → mine ≡ replica_after (event_refusal a b event) a (after_event a b event)
+    → went (outcome_text (event_refusal a b event) (after_event a b event).awaited (event_reply a b event))
+    → LineIsAnswered (λ (opened : Pair). Past opened old) (λ (opened : Pair). Past opened (record { a = mine; b = b })) line went
 a_answered line ask side event a b mine old went asked named is view e out =
     line_answered line (Ask (Of A event)) old (record { a = mine; b = b }) went (ap (λ (s : Side). Ask (Of s event)) (sym named) ∙ ap (λ (k : PairAsk). Ask k) (sym asked) ∙ is)
     (subst (λ (p : Pair). record { a = mine; b = b } ≡ pair_after_line p (Ask (Of A event))) view (ap (λ (r : Replicated). record { a = r; b = b }) e))
@@ -136,9 +125,9 @@ a_answered line ask side event a b mine old went asked named is view e out =
 -- `b` was asked
 pub b_answered : (line : List ℕ) (ask : PairAsk) (side : Side) (event : PairEvent) (a b mine : Replicated) (old : Pair) (went : List ℕ → Type 0)
     → ask ≡ Of side event → side ≡ B → Ask ask ≡ pair_asked_by line → record { a = a; b = b } ≡ old
-    → mine ≡ replica_after (refusal_of b a event) b (left_by b a event)
-    → went (outcome_text (refusal_of b a event) (left_by b a event).awaited (reply_of b a event))
-    → Replied (λ (opened : Pair). Past opened old) (λ (opened : Pair). Past opened (record { a = a; b = mine })) line went
+    → mine ≡ replica_after (event_refusal b a event) b (after_event b a event)
+    → went (outcome_text (event_refusal b a event) (after_event b a event).awaited (event_reply b a event))
+    → LineIsAnswered (λ (opened : Pair). Past opened old) (λ (opened : Pair). Past opened (record { a = a; b = mine })) line went
 b_answered line ask side event a b mine old went asked named is view e out =
     line_answered line (Ask (Of B event)) old (record { a = a; b = mine }) went (ap (λ (s : Side). Ask (Of s event)) (sym named) ∙ ap (λ (k : PairAsk). Ask k) (sym asked) ∙ is)
     (subst (λ (p : Pair). record { a = a; b = mine } ≡ pair_after_line p (Ask (Of B event))) view (ap (λ (r : Replicated). record { a = a; b = r }) e))

@@ -6,7 +6,7 @@ use Rattle.std.specs.Prelude.{codes, nat_le}
 use Rattle.std.proofs.lemmas.Bool.Decides.{nat_tests}
 use Rattle.rcu_core.specs.declared.event.Event.{Event}
 use Rattle.rcu_text.specs.Lines.{is_well_formed}
-use Rattle.rcu_text.specs.Words.{number_of, words_of}
+use Rattle.rcu_text.specs.Words.{number_in_word, words_of}
 use Rattle.rcu_text.specs.declared.line_shape.Line.TheVariants.{Blank, Ask}
 use Rattle.rcu_text.proofs.CallerLemmas.{is_word, named, number_printable, words_printable}
 use Rattle.rcu_script.specs.ScriptLines.{asked_by, cpu_of, event_alone, event_of, event_with_cpu, event_with_number, event_with_numbers}
@@ -50,28 +50,28 @@ name_with_numbers name cpu n e found =
 both : (a b : Bool) → a ≡ true → b ≡ true → (a && b) ≡ true
 both a b p q = rw (p, q) refl
 
-with_word : (name word : List ℕ) (e : Event) (o : Option ℕ) → number_of word ≡ o → option_map_or (event_with_number name) o None ≡ Some e
+with_word : (name word : List ℕ) (e : Event) (o : Option ℕ) → number_in_word word ≡ o → option_map_or (event_with_number name) o None ≡ Some e
     → list_all is_word (name ∷ word ∷ []) ≡ true
 with_word name word e None is found = cc
 with_word name word e (Some n) is found =
     both (is_word name) _ (name_with_number name n e found) (both (is_word word) true (number_printable word n is) refl)
 
-with_next : (name word next : List ℕ) (cpu : ℕ) (e : Event) (o : Option ℕ) → number_of word ≡ Some cpu → number_of next ≡ o
+with_next : (name word next : List ℕ) (cpu : ℕ) (e : Event) (o : Option ℕ) → number_in_word word ≡ Some cpu → number_in_word next ≡ o
     → option_map_or (event_with_numbers name cpu) o None ≡ Some e → list_all is_word (name ∷ word ∷ next ∷ []) ≡ true
 with_next name word next cpu e None is later found = cc
 with_next name word next cpu e (Some n) is later found =
     both (is_word name) _ (name_with_numbers name cpu n e found)
     (both (is_word word) _ (number_printable word cpu is) (both (is_word next) true (number_printable next n later) refl))
 
-with_words : (name word next : List ℕ) (e : Event) (o : Option ℕ) → number_of word ≡ o
-    → option_map_or (λ cpu. option_map_or (event_with_numbers name cpu) (number_of next) None) o None ≡ Some e → list_all is_word (name ∷ word ∷ next ∷ []) ≡ true
+with_words : (name word next : List ℕ) (e : Event) (o : Option ℕ) → number_in_word word ≡ o
+    → option_map_or (λ cpu. option_map_or (event_with_numbers name cpu) (number_in_word next) None) o None ≡ Some e → list_all is_word (name ∷ word ∷ next ∷ []) ≡ true
 with_words name word next e None is found = cc
-with_words name word next e (Some cpu) is found = with_next name word next cpu e (number_of next) is refl found
+with_words name word next e (Some cpu) is found = with_next name word next cpu e (number_in_word next) is refl found
 
 event_words : (name : List ℕ) (words : List (List ℕ)) (e : Event) → event_of name words ≡ Some e → list_all is_word (name ∷ words) ≡ true
 event_words name [] e found = both (is_word name) true (name_alone name e found) refl
-event_words name (word ∷ []) e found = with_word name word e (number_of word) refl found
-event_words name (word ∷ next ∷ []) e found = with_words name word next e (number_of word) refl found
+event_words name (word ∷ []) e found = with_word name word e (number_in_word word) refl found
+event_words name (word ∷ next ∷ []) e found = with_words name word next e (number_in_word word) refl found
 event_words name (word ∷ next ∷ more ∷ words) e found = cc
 
 -- ---- lines

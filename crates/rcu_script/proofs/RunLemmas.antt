@@ -2,10 +2,10 @@
 use Rattle.std.proofs.Common.{◌≡◌, ◌++◌, ℕ, List, Option, Some, None, Ok, Err, IfSome}
 use Rattle.rcu_seq.specs.declared.fault.Fault.{Fault}
 use Rattle.rcu_text.specs.Lines.{cut_of, lines_of}
-use Rattle.rcu_text.specs.Runs.{Answered, BrokenOff, Ends, Finished, Ran}
+use Rattle.rcu_text.specs.Runs.{Answered, BrokenOff, Ends, Finished, RunsThrough}
 use Rattle.rcu_text.specs.declared.line_loop.StreamFault.{StreamFault}
 use Rattle.rcu_text.specs.declared.line_loop.StreamFault.TheVariants as stream
-use Rattle.rcu_script.specs.RunEnds.{RanFrom, fault_of}
+use Rattle.rcu_script.specs.RunEnds.{RunsFromOpening, fault_of}
 use Rattle.rcu_script.specs.declared.runs.RunFault.{RunFault}
 
 -- what holds of lines and a text
@@ -28,7 +28,7 @@ if_some_by (Some bytes) P Q is p = is bytes p
 
 module _ (P IsText : Past) (is : (l : List (List ℕ)) (t : List ℕ) → P l t → IsText l t) (old new : Ends) where
   -- a run that is open and ends well
-  pub finished_from : (first : Option Fault) → first ≡ None → Finished P old new → RanFrom (Ok tt) first IsText old new
+  pub finished_from : (first : Option Fault) → first ≡ None → Finished P old new → RunsFromOpening (Ok tt) first IsText old new
   finished_from first none ran = (
     none,
     record {
@@ -40,7 +40,7 @@ module _ (P IsText : Past) (is : (l : List (List ℕ)) (t : List ℕ) → P l t 
   )
 
   -- a run that is open and stops
-  pub stopped_from : (first : Option Fault) (f : StreamFault) (g : RunFault) → g ≡ fault_of f → first ≡ None → Ran (Err f) P old new → RanFrom (Err g) first IsText old new
+  pub stopped_from : (first : Option Fault) (f : StreamFault) (g : RunFault) → g ≡ fault_of f → first ≡ None → RunsThrough (Err f) P old new → RunsFromOpening (Err g) first IsText old new
   stopped_from first stream.Read g same none ran = rw same (
     none,
     record {

@@ -8,7 +8,7 @@ use Rattle.rcu_core.specs.Replies.{Size}
 use Rattle.rcu_text.specs.declared.line_shape.Line.{Line}
 use Rattle.rcu_text.specs.declared.line_shape.Line.TheVariants.{Ask}
 use Rattle.rcu_script.specs.PairLines.{pair_asked_by}
-use Rattle.rcu_script.specs.PairState.{Pair, pair_at, refusal_of, set_of}
+use Rattle.rcu_script.specs.PairState.{Pair, pair_at, event_refusal, set_of}
 use Rattle.rcu_script.specs.PairTexts.{pair_after_line}
 use Rattle.rcu_script.specs.declared.pair.event.Side.TheVariants.{A, B}
 use Rattle.rcu_script.specs.declared.pair.event.PairEvent.{PairEvent}
@@ -38,8 +38,8 @@ pub record Calls : Type 0 where
 
 -- the calls after a line
 abbrev pub calls_after_line : Pair → Line PairAsk → Calls → Calls
-calls_after_line p (Ask (Of A event)) c = record c { a = calls_with (refusal_of p.a p.b event) (call_of p.a p.b event) c.a }
-calls_after_line p (Ask (Of B event)) c = record c { b = calls_with (refusal_of p.b p.a event) (call_of p.b p.a event) c.b }
+calls_after_line p (Ask (Of A event)) c = record c { a = calls_with (event_refusal p.a p.b event) (call_of p.a p.b event) c.a }
+calls_after_line p (Ask (Of B event)) c = record c { b = calls_with (event_refusal p.b p.a event) (call_of p.b p.a event) c.b }
 calls_after_line p _ c = c
 
 -- the calls after lines

@@ -3,7 +3,7 @@ use Rattle.std.specs.Prelude.{ℕ, List, [], ◌∷◌, codes, if◌then◌else�
 use Rattle.std.specs.Str.{bytes_eq}
 use Rattle.std.specs.Option.{option_map_or}
 use Rattle.rcu_text.specs.Lines.{line_by}
-use Rattle.rcu_text.specs.Words.{number_of}
+use Rattle.rcu_text.specs.Words.{number_in_word}
 use Rattle.rcu_text.specs.declared.line_shape.Line.{Line}
 use Rattle.rcu_script.specs.ScriptLines.{cpu_of}
 use Rattle.rcu_script.specs.declared.pair.event.Side.{Side}
@@ -23,25 +23,25 @@ before cpu None = None
 before cpu (Some cpus) = Some (cpu ∷ cpus)
 
 -- the processors that words list, where each word is a number
-abbrev pub cpus_in : List (List ℕ) → Option (List ℕ)
-cpus_in [] = Some []
-cpus_in (word ∷ words) = option_map_or (λ n. before (cpu_of n) (cpus_in words)) (number_of word) None
+abbrev pub named_cpus : List (List ℕ) → Option (List ℕ)
+named_cpus [] = Some []
+named_cpus (word ∷ words) = option_map_or (λ n. before (cpu_of n) (named_cpus words)) (number_in_word word) None
 
 -- `begin` stands before one processor or more
-abbrev pub begin_of : List (List ℕ) → Option PairEvent
-begin_of words = option_map_or (λ cpus. Some (Begin cpus)) (cpus_in words) None
+abbrev pub begin_in_words : List (List ℕ) → Option PairEvent
+begin_in_words words = option_map_or (λ cpus. Some (Begin cpus)) (named_cpus words) None
 
 -- `depart` stands before a processor alone
-abbrev pub depart_of : List ℕ → List (List ℕ) → Option PairEvent
-depart_of word [] = option_map_or (λ n. Some (Depart (cpu_of n))) (number_of word) None
-depart_of word (more ∷ words) = None
+abbrev pub depart_in_words : List ℕ → List (List ℕ) → Option PairEvent
+depart_in_words word [] = option_map_or (λ n. Some (Depart (cpu_of n))) (number_in_word word) None
+depart_in_words word (more ∷ words) = None
 
 -- `report` stands before a processor and a number
-abbrev pub report_of : List ℕ → List (List ℕ) → Option PairEvent
-report_of word [] = None
-report_of word (tag ∷ []) =
-    option_map_or (λ n. option_map_or (λ v. Some (Report (cpu_of n) v)) (number_of tag) None) (number_of word) None
-report_of word (tag ∷ more ∷ words) = None
+abbrev pub report_in_words : List ℕ → List (List ℕ) → Option PairEvent
+report_in_words word [] = None
+report_in_words word (tag ∷ []) =
+    option_map_or (λ n. option_map_or (λ v. Some (Report (cpu_of n) v)) (number_in_word tag) None) (number_in_word word) None
+report_in_words word (tag ∷ more ∷ words) = None
 
 -- the event of a name that stands alone
 abbrev pub pair_event_alone : List ℕ → Option PairEvent
@@ -55,9 +55,9 @@ pair_event_alone name =
 abbrev pub pair_event_of : List ℕ → List (List ℕ) → Option PairEvent
 pair_event_of name [] = pair_event_alone name
 pair_event_of name (word ∷ words) =
-    if bytes_eq name (codes "begin") then begin_of (word ∷ words)
-    else (if bytes_eq name (codes "depart") then depart_of word words
-    else (if bytes_eq name (codes "report") then report_of word words
+    if bytes_eq name (codes "begin") then begin_in_words (word ∷ words)
+    else (if bytes_eq name (codes "depart") then depart_in_words word words
+    else (if bytes_eq name (codes "report") then report_in_words word words
     else None))
 
 -- what a first word and the words behind it ask for: `same` alone, or a replica's name before an event's words

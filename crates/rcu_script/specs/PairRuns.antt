@@ -1,27 +1,27 @@
 -- What a run of a pair answers and leaves, and what is tested when it opens.
-use Rattle.std.specs.Prelude.{ℕ, ◌&&◌, not, Option, Some, None, Result, if◌then◌else◌}
-use Rattle.rcu_seq.specs.Numbers.{Number, is_last}
+use Rattle.std.specs.Prelude.{ℕ, not, Option, Some, None, Result, if◌then◌else◌}
+use Rattle.rcu_seq.specs.Numbers.{Number}
 use Rattle.rcu_seq.specs.declared.fault.Fault.{Fault}
-use Rattle.rcu_seq.specs.declared.fault.Fault.TheVariants.{BadFanout, TooManyCpus, BadLast}
-use Rattle.rcu_geometry.specs.Geometry.{shape, is_fanout, is_held}
-use Rattle.rcu_script.specs.Opening.{is_offered, size_at}
+use Rattle.rcu_seq.specs.declared.fault.Fault.TheVariants.{BadFanout}
+use Rattle.rcu_geometry.specs.Geometry.{refusal, shape}
+use Rattle.rcu_script.specs.Opening.{is_offered, or_last_fault, size_of_setup}
 use Rattle.rcu_script.specs.PairTexts.{IsPairText}
 use Rattle.rcu_text.specs.Runs.{Ends}
-use Rattle.rcu_script.specs.RunEnds.{RanFrom}
+use Rattle.rcu_script.specs.RunEnds.{RunsFromOpening}
 use Rattle.rcu_script.specs.declared.runs.Setup.{Setup}
 use Rattle.rcu_script.specs.declared.runs.RunFault.{RunFault}
 
--- the first fault of two trees of these fanouts: each cause is tested of both before the next one
+-- the first fault of two trees, by that of each: fanouts are tested of both before the number of processors is
+abbrev pub first_of_both : Option Fault → Option Fault → Option Fault
+first_of_both None second = second
+first_of_both first None = first
+first_of_both (Some BadFanout) second = Some BadFanout
+first_of_both first second = second
+
+-- the first fault of two trees of these fanouts
 abbrev pub shapes_fault : ℕ → ℕ → ℕ → ℕ → ℕ → Option Fault
 shapes_fault leaf inner leaf2 inner2 cpus =
-    if not ((is_fanout leaf && is_fanout inner) && (is_fanout leaf2 && is_fanout inner2)) then Some BadFanout
-    else (if not (is_held (shape leaf inner cpus) && is_held (shape leaf2 inner2 cpus)) then Some TooManyCpus
-    else None)
-
--- the first fault, or else whether the last number can be one
-abbrev pub or_last_fault : Option Fault → Number → Option Fault
-or_last_fault (Some fault) last = Some fault
-or_last_fault None last = if not (is_last last) then Some BadLast else None
+    first_of_both (refusal (shape leaf inner cpus)) (refusal (shape leaf2 inner2 cpus))
 
 -- the first fault of a pair over the trees of these fanouts
 abbrev pub trees_fault : ℕ → ℕ → ℕ → ℕ → ℕ → Number → Option Fault
@@ -38,5 +38,5 @@ pair_fault setup = if not (is_offered setup.leaf setup.inner) then Some BadFanou
     else fault_beside setup.leaf setup.inner setup
 
 -- how a run of a setup ends: what is written is the one right text
-abbrev pub RanPair : Result (Unit {0}) RunFault → Setup → Ends → Ends → Type 0
-RanPair result setup old new = RanFrom result (pair_fault setup) (IsPairText (size_at setup)) old new
+abbrev pub RunsPair : Result (Unit {0}) RunFault → Setup → Ends → Ends → Type 0
+RunsPair result setup old new = RunsFromOpening result (pair_fault setup) (IsPairText (size_of_setup setup)) old new

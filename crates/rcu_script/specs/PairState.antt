@@ -44,35 +44,35 @@ abbrev pub set_of : ℕ → List ℕ → List Bool
 set_of n cpus = listed n (λ cpu. list_any (λ c. c == cpu) cpus)
 
 -- why a begin of the listed processors is refused, if it is: one of them is none, or else as the replica's begin
-abbrev pub begin_refusal : Replicated → List ℕ → Option Fault
-begin_refusal mine cpus =
+abbrev pub pair_begin_refusal : Replicated → List ℕ → Option Fault
+pair_begin_refusal mine cpus =
     if not (list_all (λ c. nat_lt c (cpus_of mine)) cpus) then Some BadCpu
     else refusal mine (call.Begin (set_of (cpus_of mine) cpus))
 
 -- why an event is refused, if it is
-abbrev pub refusal_of : Replicated → Replicated → PairEvent → Option Fault
-refusal_of mine its (Begin cpus) = begin_refusal mine cpus
-refusal_of mine its (Report cpu tag) = refusal mine (call.Report cpu tag)
-refusal_of mine its (Depart cpu) = refusal mine (call.Depart cpu)
-refusal_of mine its End = refusal mine call.End
-refusal_of mine its Awaits = None
-refusal_of mine its Merge = refusal mine (call.Merge its)
+abbrev pub event_refusal : Replicated → Replicated → PairEvent → Option Fault
+event_refusal mine its (Begin cpus) = pair_begin_refusal mine cpus
+event_refusal mine its (Report cpu tag) = refusal mine (call.Report cpu tag)
+event_refusal mine its (Depart cpu) = refusal mine (call.Depart cpu)
+event_refusal mine its End = refusal mine call.End
+event_refusal mine its Awaits = None
+event_refusal mine its Merge = refusal mine (call.Merge its)
 
 -- what an accepted event leaves: what the replica's call does; listing changes nothing
-abbrev pub left_by : Replicated → Replicated → PairEvent → Replicated
-left_by mine its (Begin cpus) = after_call mine (call.Begin (set_of (cpus_of mine) cpus))
-left_by mine its (Report cpu tag) = after_call mine (call.Report cpu tag)
-left_by mine its (Depart cpu) = after_call mine (call.Depart cpu)
-left_by mine its End = after_call mine call.End
-left_by mine its Awaits = mine
-left_by mine its Merge = after_call mine (call.Merge its)
+abbrev pub after_event : Replicated → Replicated → PairEvent → Replicated
+after_event mine its (Begin cpus) = after_call mine (call.Begin (set_of (cpus_of mine) cpus))
+after_event mine its (Report cpu tag) = after_call mine (call.Report cpu tag)
+after_event mine its (Depart cpu) = after_call mine (call.Depart cpu)
+after_event mine its End = after_call mine call.End
+after_event mine its Awaits = mine
+after_event mine its Merge = after_call mine (call.Merge its)
 
 -- the reply to an accepted event, by what it leaves
-abbrev pub reply_of : Replicated → Replicated → PairEvent → PairReply
-reply_of mine its (Begin cpus) =
-    let left = left_by mine its (Begin cpus) in reply.Begun (number_of left.periods) (size_of left.awaited)
-reply_of mine its (Report cpu tag) = reply.Answer (answer_of mine cpu tag)
-reply_of mine its (Depart cpu) = reply.Departed
-reply_of mine its End = reply.Ended (number_of (left_by mine its End).periods)
-reply_of mine its Awaits = reply.Awaits
-reply_of mine its Merge = reply.Merged (size_of (left_by mine its Merge).awaited)
+abbrev pub event_reply : Replicated → Replicated → PairEvent → PairReply
+event_reply mine its (Begin cpus) =
+    let left = after_event mine its (Begin cpus) in reply.Begun (number_of left.periods) (size_of left.awaited)
+event_reply mine its (Report cpu tag) = reply.Answer (answer_of mine cpu tag)
+event_reply mine its (Depart cpu) = reply.Departed
+event_reply mine its End = reply.Ended (number_of (after_event mine its End).periods)
+event_reply mine its Awaits = reply.Awaits
+event_reply mine its Merge = reply.Merged (size_of (after_event mine its Merge).awaited)

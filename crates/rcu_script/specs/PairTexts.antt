@@ -11,7 +11,7 @@ use Rattle.rcu_text.specs.Texts.{numbered_text}
 use Rattle.rcu_text.specs.declared.line_shape.Line.{Line}
 use Rattle.rcu_text.specs.declared.line_shape.Line.TheVariants.{Blank, Malformed, Ask}
 use Rattle.rcu_script.specs.PairLines.{pair_asked_by}
-use Rattle.rcu_script.specs.PairState.{Pair, left_by, other, own, pair_at, refusal_of, reply_of, with_own}
+use Rattle.rcu_script.specs.PairState.{Pair, after_event, other, own, pair_at, event_refusal, event_reply, with_own}
 use Rattle.rcu_script.specs.ScriptTexts.{text_of}
 use Rattle.rcu_script.specs.declared.pair.event.PairAsk.{PairAsk}
 use Rattle.rcu_script.specs.declared.pair.event.PairAsk.TheVariants.{Same, Of}
@@ -52,7 +52,7 @@ answer_to_line p Malformed = text_of (say.Fault BadLine)
 answer_to_line p (Ask Same) = same_text p
 answer_to_line p (Ask (Of side event)) =
     let mine = own side p in let its = other side p in
-    outcome_text (refusal_of mine its event) (left_by mine its event).awaited (reply_of mine its event)
+    outcome_text (event_refusal mine its event) (after_event mine its event).awaited (event_reply mine its event)
 
 -- the replica after an event: a refused one changes nothing
 abbrev pub replica_after : Option Fault → Replicated → Replicated → Replicated
@@ -63,7 +63,7 @@ replica_after (Some fault) mine left = mine
 abbrev pub pair_after_line : Pair → Line PairAsk → Pair
 pair_after_line p (Ask (Of side event)) =
     let mine = own side p in let its = other side p in
-    with_own side p (replica_after (refusal_of mine its event) mine (left_by mine its event))
+    with_own side p (replica_after (event_refusal mine its event) mine (after_event mine its event))
 pair_after_line p _ = p
 
 -- the pair after lines

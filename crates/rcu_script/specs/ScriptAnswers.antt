@@ -4,7 +4,8 @@ use Rattle.std.specs.Str.{bytes_eq}
 use Rattle.std.specs.List.{list_any}
 use Rattle.rcu_seq.specs.declared.fault.Fault.TheVariants as fault
 use Rattle.rcu_core.specs.History.{History}
-use Rattle.rcu_core.specs.Replies.{Size, IsLegalReply, with_event, answer, situation}
+use Rattle.rcu_core.specs.Replies.{Size, IsLegalReply, with_event, answer}
+use Rattle.rcu_core.specs.Situation.{situation}
 use Rattle.rcu_core.specs.declared.event.Event.{Event}
 use Rattle.rcu_core.specs.declared.reply.Reply.{Reply}
 use Rattle.rcu_core.specs.declared.reply.Reply.TheVariants as reply
@@ -12,8 +13,8 @@ use Rattle.rcu_text.specs.Lines.{lines_of}
 use Rattle.rcu_text.specs.Runs.{Ends}
 use Rattle.rcu_text.specs.declared.line_shape.Line.{Line}
 use Rattle.rcu_text.specs.declared.line_shape.Line.TheVariants.{Blank, Malformed, Ask}
-use Rattle.rcu_script.specs.Opening.{opening_fault, size_at}
-use Rattle.rcu_script.specs.RunEnds.{RanFrom}
+use Rattle.rcu_script.specs.Opening.{opening_fault, size_of_setup}
+use Rattle.rcu_script.specs.RunEnds.{RunsFromOpening}
 use Rattle.rcu_script.specs.ScriptLines.{asked_by}
 use Rattle.rcu_script.specs.ScriptTexts.{text_of}
 use Rattle.rcu_script.specs.declared.runs.RunFault.{RunFault}
@@ -62,5 +63,5 @@ pub record IsAnswer (size : Size) (lines : List (List ℕ)) (text : List ℕ) : 
   pub exact : wants_memory text ≡ false → text ≡ replies size [] lines
 
 -- how a run of a setup ends: what is written is an answer to the lines
-abbrev pub RanScript : Result (Unit {0}) RunFault → Setup → Ends → Ends → Type 0
-RanScript result setup old new = RanFrom result (opening_fault setup) (IsAnswer (size_at setup)) old new
+abbrev pub RunsScript : Result (Unit {0}) RunFault → Setup → Ends → Ends → Type 0
+RunsScript result setup old new = RunsFromOpening result (opening_fault setup) (IsAnswer (size_of_setup setup)) old new

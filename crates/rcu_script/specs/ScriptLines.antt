@@ -5,7 +5,7 @@ use Rattle.std.specs.Option.{option_map_or}
 use Rattle.rcu_core.specs.declared.event.Event.{Event}
 use Rattle.rcu_core.specs.declared.event.Event.TheVariants.{Enter, Exit, Note, Quiesce, Deliver, Online, Offline, Begin, End, Turn, Awaits, Take, StartPoll, Poll, Queue, Tend, Run, BarBegin, Visit, BarTest}
 use Rattle.rcu_text.specs.Lines.{line_by}
-use Rattle.rcu_text.specs.Words.{number_of}
+use Rattle.rcu_text.specs.Words.{number_in_word}
 use Rattle.rcu_text.specs.declared.line_shape.Line.{Line}
 
 -- the processor of a number: one that does not fit 32 bits is as little a processor as the greatest that does
@@ -47,7 +47,7 @@ event_with_number name n =
 
 -- the event of a name and a word, which has to be a number
 abbrev pub event_with_word : List ℕ → List ℕ → Option Event
-event_with_word name word = option_map_or (event_with_number name) (number_of word) None
+event_with_word name word = option_map_or (event_with_number name) (number_in_word word) None
 
 -- the event of a name that stands before a processor and a number: of a callback's value, or of how many run at most
 abbrev pub event_with_numbers : List ℕ → ℕ → ℕ → Option Event
@@ -59,7 +59,7 @@ event_with_numbers name cpu n =
 -- the event of a name and two words, which have to be numbers
 abbrev pub event_with_words : List ℕ → List ℕ → List ℕ → Option Event
 event_with_words name word next =
-    option_map_or (λ cpu. option_map_or (event_with_numbers name cpu) (number_of next) None) (number_of word) None
+    option_map_or (λ cpu. option_map_or (event_with_numbers name cpu) (number_in_word next) None) (number_in_word word) None
 
 -- the event of a name and the words behind it: the name decides how many they are
 abbrev pub event_of : List ℕ → List (List ℕ) → Option Event

@@ -32,10 +32,10 @@ answer_text Stale = codes "stale\n"
 abbrev pub begun_text : ℕ → ℕ → List ℕ
 begun_text n cpus = codes "begun " ++ (decimal n ++ (codes " awaits " ++ (decimal cpus ++ codes "\n")))
 
--- the awaited processors, or `none`
-abbrev pub awaits_text : List ℕ → List ℕ
-awaits_text [] = codes "awaits none\n"
-awaits_text (cpu ∷ cpus) = codes "awaits" ++ (flat_map spaced (cpu ∷ cpus) ++ codes "\n")
+-- a word and the numbers that are listed behind it, or `none`
+abbrev pub listed_text : List ℕ → List ℕ → List ℕ
+listed_text word [] = word ++ codes " none\n"
+listed_text word (item ∷ items) = word ++ (flat_map spaced (item ∷ items) ++ codes "\n")
 
 -- whether a cookie is done
 abbrev pub polled_text : Bool → List ℕ
@@ -45,11 +45,6 @@ polled_text false = codes "not yet\n"
 -- how many callbacks of a list are done, and how many wait
 abbrev pub tended_text : ℕ → ℕ → List ℕ
 tended_text done waiting = codes "tended " ++ (decimal done ++ (codes " " ++ (decimal waiting ++ codes "\n")))
-
--- the values of the callbacks that are handed out, or `none`
-abbrev pub ran_text : List ℕ → List ℕ
-ran_text [] = codes "ran none\n"
-ran_text (value ∷ values) = codes "ran" ++ (flat_map spaced (value ∷ values) ++ codes "\n")
 
 -- the word for what a visit did
 abbrev pub visited_text : Visit → List ℕ
@@ -69,14 +64,46 @@ text_of (Begun n cpus) = begun_text n cpus
 text_of (Ended n) = numbered_text (codes "ended ") n
 text_of (Waiting cpus) = numbered_text (codes "waiting ") cpus
 text_of Nothing = codes "nothing\n"
-text_of (Awaits cpus) = awaits_text cpus
+text_of (Awaits cpus) = listed_text (codes "awaits") cpus
 text_of (Cookie cookie) = numbered_text (codes "cookie ") cookie.0
 text_of (Polled done) = polled_text done
 text_of (Queued n) = numbered_text (codes "queued ") n
 text_of (Tended done waiting) = tended_text done waiting
-text_of (Ran values) = ran_text values
+text_of (Ran values) = listed_text (codes "ran") values
 text_of BarBegun = codes "barrier begun\n"
 text_of (Visited visit) = visited_text visit
 text_of BarDone = codes "barrier done\n"
 text_of (BarWaits n) = numbered_text (codes "barrier waits ") n
 text_of (Fault fault) = numbered_text (codes "fault ") (fault_number fault)
+
+-- what a processor's events and a report are answered
+abbrev pub is_of_processor : Reply → Bool
+is_of_processor (Depth depth) = true
+is_of_processor (Noted n needed) = true
+is_of_processor (Made place report) = true
+is_of_processor (Answered answer) = true
+is_of_processor Online = true
+is_of_processor (Moved calls) = true
+is_of_processor reply = false
+
+-- what is answered of grace periods and cookies
+abbrev pub is_of_period : Reply → Bool
+is_of_period (Begun n cpus) = true
+is_of_period (Ended n) = true
+is_of_period (Waiting cpus) = true
+is_of_period Nothing = true
+is_of_period (Awaits cpus) = true
+is_of_period (Cookie cookie) = true
+is_of_period (Polled done) = true
+is_of_period reply = false
+
+-- what is answered of callbacks and barriers
+abbrev pub is_of_callbacks : Reply → Bool
+is_of_callbacks (Queued n) = true
+is_of_callbacks (Tended done waiting) = true
+is_of_callbacks (Ran values) = true
+is_of_callbacks BarBegun = true
+is_of_callbacks (Visited visit) = true
+is_of_callbacks BarDone = true
+is_of_callbacks (BarWaits n) = true
+is_of_callbacks reply = false

@@ -1,6 +1,7 @@
 //! Scripts and pairs of replicas, from bytes to bytes.
 #![tactic(auto)]
 
+pub mod listed;
 pub mod offered;
 pub mod pair;
 pub mod runs;

@@ -9,7 +9,7 @@ use Rattle.std.proofs.lemmas.Fmt.{decimal_by_steps}
 use Rattle.std.proofs.lemmas.List.{length-replicate}
 use Rattle.std.proofs.lemmas.List.Folds.{list_all-append}
 use Rattle.std.proofs.lemmas.List.Sums.{fold_push}
-use Rattle.rcu_text.specs.Words.{is_digit, is_number, number_of, value_of}
+use Rattle.rcu_text.specs.Words.{is_digit, is_number, number_in_word, value_of}
 
 -- digits that spell a number
 record Spells (n : ℕ) (digits : List ℕ) : Type 0 where
@@ -51,7 +51,7 @@ zeros_value : (zeros : ℕ) (digits : List ℕ) → value_of (replicate zeros 48
 zeros_value zero digits = refl
 zeros_value (suc zeros) digits = zeros_value zeros digits
 
-pub reads_back : (zeros n : ℕ) → n < 2 ^ 64 → zeros + length (decimal n) ≤ 20 → number_of (replicate zeros 48 ++ decimal n) ≡ Some n
+pub reads_back : (zeros n : ℕ) → n < 2 ^ 64 → zeros + length (decimal n) ≤ 20 → number_in_word (replicate zeros 48 ++ decimal n) ≡ Some n
 reads_back zeros n fits short =
     let s = spells n fits in
     let word = replicate zeros 48 ++ decimal n in
@@ -61,7 +61,7 @@ reads_back zeros n fits short =
     let some = s.some in
     spelled word n only value (omega arith) (omega arith) fits
   where
-    spelled : (word : List ℕ) (n : ℕ) → list_all is_digit word ≡ true → value_of word ≡ n → 0 < length word → length word ≤ 20 → n < 2 ^ 64 → number_of word ≡ Some n
+    spelled : (word : List ℕ) (n : ℕ) → list_all is_digit word ≡ true → value_of word ≡ n → 0 < length word → length word ≤ 20 → n < 2 ^ 64 → number_in_word word ≡ Some n
     spelled word n only value some short fits =
         let a : nat_lt 0 (length word) ≡ true = grind (arith, nat_tests) in
         let b : nat_le (length word) 20 ≡ true = grind (arith, nat_tests) in
@@ -115,7 +115,7 @@ found_digits ds n found = go (list_all is_digit ds) refl found
 pub long_read : {E : Type 0} (word front last : List ℕ) (a b c d : ℕ) (t : Result ℕ E) → length word ≡ 20 → front ≡ take 19 word → last ≡ drop 19 word
     → Some a ≡ (if list_all is_digit front then Some (value_of front) else None)
     → Some b ≡ (if list_all is_digit last then Some (value_of last) else None)
-    → c ≡ a → d ≡ b → OkIff t (10 * c + d < 2 ^ 64) (10 * c + d) → result_ok t ≡ number_of word
+    → c ≡ a → d ≡ b → OkIff t (10 * c + d < 2 ^ 64) (10 * c + d) → result_ok t ≡ number_in_word word
 long_read word front last a b c d t n of_front of_last first later wide wide2 h =
     let f = found_digits front a first in
     let l = found_digits last b later in
@@ -142,7 +142,7 @@ long_read word front last a b c d t n of_front of_last first later wide wide2 h 
 
 -- a number of at most 19 digits fits
 pub short_number : (word : List ℕ) (r : Option ℕ) → 0 < length word → length word ≤ 20
-    → r ≡ (if list_all is_digit word then Some (value_of word) else None) → IfSome r (λ n. n < 2 ^ 64) → r ≡ number_of word
+    → r ≡ (if list_all is_digit word then Some (value_of word) else None) → IfSome r (λ n. n < 2 ^ 64) → r ≡ number_in_word word
 short_number word r some short is fits =
     let a : nat_lt 0 (length word) ≡ true = grind (arith, nat_tests) in
     let b : nat_le (length word) 20 ≡ true = grind (arith, nat_tests) in

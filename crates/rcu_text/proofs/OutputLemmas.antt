@@ -5,7 +5,7 @@ use Rattle.std.specs.Io.KnownBytes.{Appends}
 use Rattle.std.proofs.KnownBytes.{Appends-nil, Appends-trans}
 use Rattle.std.proofs.lemmas.Grind.{flat_map-append}
 use Rattle.std.proofs.lemmas.List.{take_more}
-use Rattle.rcu_text.specs.Outputs.{Out, Puts, Sends, Stops, behind}
+use Rattle.rcu_text.specs.Outputs.{Out, Puts, Sends, Stops, after_put_text}
 
 -- nothing is sent by doing nothing
 pub Sends-nil : (o : Out) → Sends o o []
@@ -63,18 +63,18 @@ puts_two (Err e) a b c first second s p = Sends-Stops a b c first second s p
 -- ---- texts that wait
 
 -- a text waits
-pub waits : (o : Out) (text : List ℕ) → Sends o (behind o text) text
+pub waits : (o : Out) (text : List ℕ) → Sends o (after_put_text o text) text
 waits o text = record { front = []; out = Appends-nil o.writer.taken; whole = refl; sound = refl; same = refl }
 
 -- two texts wait, one behind the other
-pub behind_twice : (o : Out) (first second : List ℕ) → behind (behind o first) second ≡ behind o (first ++ second)
-behind_twice o first second =
+pub put_twice : (o : Out) (first second : List ℕ) → after_put_text (after_put_text o first) second ≡ after_put_text o (first ++ second)
+put_twice o first second =
     let l = length-append first second in
     ap₂ (λ (w : List ℕ) (r : ℕ). record o { waiting = w; room = r }) (append_assoc o.waiting first second) (omega arith)
 
 -- once room was made, a text was put
-pub sends_behind : (a b c : Out) (text : List ℕ) → Sends a b [] → c ≡ behind b text → Sends a c text
-sends_behind a b c text s e = subst (λ (o : Out). Sends a o text) (sym e) (Sends-trans a b (behind b text) [] text s (waits b text))
+pub sends_behind : (a b c : Out) (text : List ℕ) → Sends a b [] → c ≡ after_put_text b text → Sends a c text
+sends_behind a b c text s e = subst (λ (o : Out). Sends a o text) (sym e) (Sends-trans a b (after_put_text b text) [] text s (waits b text))
 
 -- ---- texts of items
 

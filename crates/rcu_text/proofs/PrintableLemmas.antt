@@ -1,20 +1,17 @@
 -- A line is printable where its words are, so who knows all words has no need to look at each byte.
 use Rattle.std.proofs.Common.{◌≡◌, ◌==◌, ◌&&◌, ◌∙◌, ℕ, Bool, true, false, cond, List, [], ◌∷◌, Option, Some, None, refl, sym, ap, arith, if◌then◌else◌}
+use Rattle.std.proofs.Math.Bool.{and_assoc}
 use Rattle.std.specs.List.{list_all, onto_first, slice_split}
 use Rattle.std.specs.Prelude.{filter}
 use Rattle.std.specs.Str.{bytes_eq}
 use Rattle.std.proofs.lemmas.Bool.Decides.{nat_tests}
 use Rattle.std.proofs.lemmas.Slice.Eq.{bytes_eq-Decides}
 use Rattle.rcu_text.specs.Lines.{is_printable}
-use Rattle.rcu_text.specs.Words.{has_byte, is_digit, is_number, number_of, value_of, words_of}
+use Rattle.rcu_text.specs.Words.{has_byte, is_digit, is_number, number_in_word, value_of, words_of}
 
 -- each byte of a word is printable
 abbrev pub is_word : List ℕ → Bool
 is_word word = list_all is_printable word
-
-and_assoc : (a b c : Bool) → ((a && b) && c) ≡ (a && (b && c))
-and_assoc true b c = refl
-and_assoc false b c = refl
 
 onto_word : (b : ℕ) (parts : List (List ℕ)) → list_all is_word (onto_first b parts) ≡ (is_printable b && list_all is_word parts)
 onto_word b [] = and_assoc (is_printable b) true true
@@ -56,7 +53,7 @@ digits_printable (b ∷ bs) e = go (is_digit b) refl e (digits_printable bs)
     go false d e later = cc
 
 -- a number is printable
-pub number_printable : (word : List ℕ) (n : ℕ) → number_of word ≡ Some n → is_word word ≡ true
+pub number_printable : (word : List ℕ) (n : ℕ) → number_in_word word ≡ Some n → is_word word ≡ true
 number_printable word n found = go (is_number word) refl found
   where
     all_three : (a b c d : Bool) → (a && (b && (c && d))) ≡ true → c ≡ true

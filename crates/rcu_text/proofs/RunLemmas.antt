@@ -7,7 +7,7 @@ use Rattle.rcu_text.specs.Lines.{cut_of, lines_of}
 use Rattle.rcu_text.specs.Outputs.{Out, Sends, Stops}
 use Rattle.rcu_text.specs.Runs.{Answered, BrokenOff, Finished, StoppedReading, StoppedWriting, ends_of}
 use Rattle.rcu_text.specs.Streams.{Incoming}
-use Rattle.rcu_text.specs.Underway.{Stands, StoppedAmong, Underway}
+use Rattle.rcu_text.specs.Underway.{LinesAreAnswered, StoppedAmong, Underway}
 use Rattle.rcu_text.proofs.CutLemmas.{ended_grows}
 use Rattle.rcu_text.proofs.OutputLemmas.{Sends-nil, Sends-taken, Stops-taken}
 
@@ -59,11 +59,11 @@ whole_input s0 s1 s2 bytes block n P r none q end p =
 -- ---- what was written
 
 pub answered : (past : Past) (lines : List (List ℕ)) (a b : Out) → a.waiting ≡ [] → b.waiting ≡ []
-    → Stands past lines (Sends a b) → Answered past lines a.writer.taken b.writer.taken
+    → LinesAreAnswered past lines (Sends a b) → Answered past lines a.writer.taken b.writer.taken
 answered past lines a b before after s = record { text = s.text; answer = s.told; out = Sends-taken a b s.text before after s.out }
 
 pub broken_off : (past : Past) (front later all : List (List ℕ)) (a b : Out) → all ≡ front ++ later → a.waiting ≡ []
-    → Stands past front (Stops a b) → BrokenOff past all a.writer.taken b.writer.taken
+    → LinesAreAnswered past front (Stops a b) → BrokenOff past all a.writer.taken b.writer.taken
 broken_off past front later all a b split before s = record {
   front = front;
   later = later;
@@ -114,7 +114,7 @@ reads_over past r0 r1 a b line turns m before after most = record {
 -- the input is over, and all is answered
 pub finished : (past later : Past) (r0 r1 r2 : Incoming) (a b c : Out) (line block : List ℕ) (turns n : ℕ)
     → (m : Midway past r0.remaining r1.remaining a b line turns) → n ≡ 0 → Consumes r1.remaining r2.remaining (take n block) → IsAtEnd r2.remaining
-    → Stands later (lines_of m.bytes) (Sends a c) → a.waiting ≡ [] → c.waiting ≡ [] → r2.failed ≡ r0.failed
+    → LinesAreAnswered later (lines_of m.bytes) (Sends a c) → a.waiting ≡ [] → c.waiting ≡ [] → r2.failed ≡ r0.failed
     → Finished later (ends_of r0 a.writer) (ends_of r2 c.writer)
 finished past later r0 r1 r2 a b c line block turns n m zero q end s before after e = record {
   answered = whole_input r0.remaining r1.remaining r2.remaining m.bytes block n (λ bytes. Answered later (lines_of bytes) a.writer.taken c.writer.taken) m.read zero q end
@@ -126,7 +126,7 @@ finished past later r0 r1 r2 a b c line block turns n m zero q end s before afte
 -- the input is over, and the writer failed
 pub finish_failed : (past later : Past) (r0 r1 r2 : Incoming) (a b c : Out) (line block : List ℕ) (turns n : ℕ)
     → (m : Midway past r0.remaining r1.remaining a b line turns) → n ≡ 0 → Consumes r1.remaining r2.remaining (take n block) → IsAtEnd r2.remaining
-    → Stands later (lines_of m.bytes) (Stops a c) → a.waiting ≡ [] → r2.failed ≡ r0.failed
+    → LinesAreAnswered later (lines_of m.bytes) (Stops a c) → a.waiting ≡ [] → r2.failed ≡ r0.failed
     → StoppedWriting later (ends_of r0 a.writer) (ends_of r2 c.writer)
 finish_failed past later r0 r1 r2 a b c line block turns n m zero q end s before e = record {
   broken = whole_input r0.remaining r1.remaining r2.remaining m.bytes block n (λ bytes. BrokenOff later (lines_of bytes) a.writer.taken c.writer.taken) m.read zero q end

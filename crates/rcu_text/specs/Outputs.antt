@@ -17,8 +17,8 @@ abbrev pub waiting_for : Outgoing → GName → ℕ → Out
 waiting_for writer name room = record { writer = writer; waiting = []; room = room; name = name }
 
 -- with the text behind what waits
-abbrev pub behind : Out → List ℕ → Out
-behind out text = record out { waiting = out.waiting ++ text; room = out.room - length text }
+abbrev pub after_put_text : Out → List ℕ → Out
+after_put_text out text = record out { waiting = out.waiting ++ text; room = out.room - length text }
 
 -- the text went behind what waited: the writer took a front of these bytes, and the others wait
 pub record Sends (old new : Out) (text : List ℕ) : Type 0 where

@@ -54,7 +54,7 @@ pub record StoppedWriting (IsText : List (List ℕ) → List ℕ → Type 0) (ol
   pub read_sound : new.reader.failed ≡ old.reader.failed
 
 -- how a run over the lines of a reader ends
-abbrev pub Ran : Result (Unit {0}) StreamFault → (List (List ℕ) → List ℕ → Type 0) → Ends → Ends → Type 0
-Ran (Ok x) IsText old new = Finished IsText old new
-Ran (Err Read) IsText old new = StoppedReading IsText old new
-Ran (Err Write) IsText old new = StoppedWriting IsText old new
+abbrev pub RunsThrough : Result (Unit {0}) StreamFault → (List (List ℕ) → List ℕ → Type 0) → Ends → Ends → Type 0
+RunsThrough (Ok x) IsText old new = Finished IsText old new
+RunsThrough (Err Read) IsText old new = StoppedReading IsText old new
+RunsThrough (Err Write) IsText old new = StoppedWriting IsText old new

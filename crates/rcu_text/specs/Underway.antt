@@ -6,7 +6,7 @@ use Rattle.rcu_text.specs.Outputs.{Out, Sends, Stops}
 
 -- the line is answered by a reply that went out in this way: whatever held of the lines and the text before, for whoever was
 -- opened, holds now with the line and the reply behind them. Of the line only what is kept of it makes a difference
-pub record Replied {S : Type 0} (before after : S → List (List ℕ) → List ℕ → Type 0) (line : List ℕ)
+pub record LineIsAnswered {S : Type 0} (before after : S → List (List ℕ) → List ℕ → Type 0) (line : List ℕ)
     (went : List ℕ → Type 0) : Type 0 where
   pub reply : List ℕ
   pub out : went reply
@@ -14,13 +14,13 @@ pub record Replied {S : Type 0} (before after : S → List (List ℕ) → List �
       → after opened (lines ++ whole ∷ []) (text ++ reply)
 
 -- these lines were answered by a text that went out in this way
-pub record Stands (past : List (List ℕ) → List ℕ → Type 0) (lines : List (List ℕ)) (went : List ℕ → Type 0) : Type 0 where
+pub record LinesAreAnswered (past : List (List ℕ) → List ℕ → Type 0) (lines : List (List ℕ)) (went : List ℕ → Type 0) : Type 0 where
   pub text : List ℕ
   pub told : past lines text
   pub out : went text
 
 -- behind these lines and their text one line more was answered, by a reply that went out in this way
-pub record OneMore (past : List (List ℕ) → List ℕ → Type 0) (lines : List (List ℕ)) (text line : List ℕ)
+pub record OneMoreIsAnswered (past : List (List ℕ) → List ℕ → Type 0) (lines : List (List ℕ)) (text line : List ℕ)
     (went : List ℕ → Type 0) : Type 0 where
   pub reply : List ℕ
   pub told : past (lines ++ line ∷ []) (text ++ reply)
@@ -28,7 +28,7 @@ pub record OneMore (past : List (List ℕ) → List ℕ → Type 0) (lines : Lis
 
 -- of the bytes so far, the ended lines are answered, and of the rest what is kept is in hand
 pub record Underway (past : List (List ℕ) → List ℕ → Type 0) (old new : Out) (line bytes : List ℕ) : Type 0 where
-  pub stands : Stands past (cut_of bytes).ended (Sends old new)
+  pub stands : LinesAreAnswered past (cut_of bytes).ended (Sends old new)
   pub holds : line ≡ kept_of (cut_of bytes).rest
 
 -- the writer failed in an answer to a front of these lines
@@ -36,7 +36,7 @@ pub record StoppedAmong (past : List (List ℕ) → List ℕ → Type 0) (lines 
   pub front : List (List ℕ)
   pub later : List (List ℕ)
   pub split : lines ≡ front ++ later
-  pub stands : Stands past front went
+  pub stands : LinesAreAnswered past front went
 
 -- the lines that these bytes end are answered, or the writer failed in an answer to a front of them
 abbrev pub GoesOn : {X E : Type 0} → Result X E → (List (List ℕ) → List ℕ → Type 0) → Out → Out → List ℕ → List ℕ → Type 0

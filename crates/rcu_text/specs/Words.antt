@@ -25,5 +25,5 @@ is_number word =
     nat_lt 0 (length word) && (nat_le (length word) 20 && (list_all is_digit word && nat_lt (value_of word) (2 ^ 64)))
 
 -- the number that a word spells
-abbrev pub number_of : List ℕ → Option ℕ
-number_of word = if is_number word then Some (value_of word) else None
+abbrev pub number_in_word : List ℕ → Option ℕ
+number_in_word word = if is_number word then Some (value_of word) else None

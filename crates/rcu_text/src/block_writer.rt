@@ -1,6 +1,6 @@
 //! The bytes that wait for a writer.
 ghost use Rattle.std.specs.Prelude.{◌≡◌, ◌≤◌, ◌∷◌, [], length, OnOk};
-ghost use Rattle.rcu_text.specs.Outputs.{Out, Puts, behind, waiting_for};
+ghost use Rattle.rcu_text.specs.Outputs.{Out, Puts, after_put_text, waiting_for};
 ghost use Rattle.rcu_text.specs.Streams.{Writes};
 
 use crate::streams::{Failed, Sink};
@@ -26,12 +26,12 @@ pub trait Output {
     /// Puts a text behind what waits.
     fn put_text(&mut self, text: &[u8])
         requires { length text.now ≤ (out self.old).room }
-        ensures { out self.new ≡ behind (out self.old) text.now };
+        ensures { out self.new ≡ after_put_text (out self.old) text.now };
 
     /// Puts a byte behind what waits.
     fn put_byte(&mut self, byte: u8)
         requires { 1 ≤ (out self.old).room }
-        ensures { out self.new ≡ behind (out self.old) (byte ∷ []) };
+        ensures { out self.new ≡ after_put_text (out self.old) (byte ∷ []) };
 
     /// Writes what waits. At `Ok` nothing waits.
     ///

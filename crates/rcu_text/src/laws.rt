@@ -1,8 +1,9 @@
 //! What follows from the definitions alone.
-ghost use Rattle.std.specs.Prelude.{◌≡◌, ◌<◌, ◌≤◌, ◌==◌, ◌∷◌, ◌+◌, ◌++◌, ◌^◌, ℕ, List, [], Some, decimal, length, replicate};
+ghost use Rattle.std.specs.Prelude.{◌≡◌, ◌<◌, ◌≤◌, ◌==◌, ◌∷◌, ◌+◌, ◌++◌, ◌^◌, ℕ, List, [], Some};
+ghost use Rattle.std.specs.Prelude.{decimal, length, replicate};
 ghost use Rattle.std.specs.List.{slice_split};
 ghost use Rattle.rcu_text.specs.Lines.{cut_of};
-ghost use Rattle.rcu_text.specs.Words.{number_of};
+ghost use Rattle.rcu_text.specs.Words.{number_in_word};
 
 /// The ended lines and the rest are the pieces between line ends.
 pub fn lines_are_pieces()
@@ -14,5 +15,5 @@ pub fn lines_are_pieces()
 /// digits.
 pub fn numbers_read_back()
     ensures { (zeros n : ℕ) → n < 2 ^ 64 → zeros + length (decimal n) ≤ 20
-        → number_of (replicate zeros 48 ++ decimal n) ≡ Some n }
+        → number_in_word (replicate zeros 48 ++ decimal n) ≡ Some n }
 {}

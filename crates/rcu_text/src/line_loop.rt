@@ -2,8 +2,9 @@
 ghost use Rattle.std.specs.Prelude.{◌≡◌, ◌≢◌, ◌++◌, ◌∷◌, ℕ, List, [], All, IfNone, IfSome, OnOk};
 ghost use Rattle.rcu_text.specs.Lines.{kept_of, lines_of};
 ghost use Rattle.rcu_text.specs.Outputs.{Out, Puts};
-ghost use Rattle.rcu_text.specs.Runs.{Ran, ends_of};
-ghost use Rattle.rcu_text.specs.Underway.{GoesOn, OneMore, Replied, Stands, Underway};
+ghost use Rattle.rcu_text.specs.Runs.{RunsThrough, ends_of};
+ghost use Rattle.rcu_text.specs.Underway.{GoesOn, LineIsAnswered, LinesAreAnswered};
+ghost use Rattle.rcu_text.specs.Underway.{OneMoreIsAnswered, Underway};
 
 use crate::block_writer::{BlockWriter, Output};
 use crate::line_buffer::LineBuffer;
@@ -22,7 +23,8 @@ pub trait Responder {
     ///
     /// Where the writer fails, it took a beginning of what waited and the reply.
     fn reply_to<O: Output>(&mut self, line: &[u8], out: &mut O) -> Result<(), Failed>
-        ensures { Replied (λ opened. past opened self.old) (λ opened. past opened self.new) line.now
+        ensures { LineIsAnswered (λ opened. past opened self.old)
+            (λ opened. past opened self.new) line.now
             (Puts result (O.out out.old) (O.out out.new)) };
 }
 
@@ -46,7 +48,7 @@ pub fn run<A: Responder, R: Source, W: Sink>(
     writer: &mut W,
 ) -> Result<(), StreamFault>
     ensures { A.past responder.old responder.old [] []
-        → Ran result (A.past responder.old responder.new)
+        → RunsThrough result (A.past responder.old responder.new)
         (ends_of (R.incoming reader.old) (W.outgoing writer.old))
         (ends_of (R.incoming reader.new) (W.outgoing writer.new)) }
 {
@@ -62,7 +64,7 @@ fn run_through<A: Responder, R: Source, O: Output>(
 ) -> Result<(), StreamFault>
     requires { (O.out out.old).waiting ≡ [] }
     ensures ran { A.past responder.old responder.old [] []
-        → Ran result (A.past responder.old responder.new)
+        → RunsThrough result (A.past responder.old responder.new)
         (ends_of (R.incoming reader.old) (O.out out.old).writer)
         (ends_of (R.incoming reader.new) (O.out out.new).writer) }
     ensures same { (O.out out.new).name ≡ (O.out out.old).name }
@@ -98,7 +100,7 @@ fn finish<A: Responder, O: Output>(
 ) -> Result<(), Failed>
     ensures goes { (opened : A) (start : Out) (bytes : List ℕ)
         → Underway (A.past opened responder.old) start (O.out out.old) line.now bytes
-        → Stands (A.past opened responder.new) (lines_of bytes)
+        → LinesAreAnswered (A.past opened responder.new) (lines_of bytes)
         (Puts result start (O.out out.new)) }
     ensures empty { OnOk result ((O.out out.new).waiting ≡ []) }
     ensures same { (O.out out.new).name ≡ (O.out out.old).name }
@@ -170,7 +172,7 @@ fn end_line<A: Responder, O: Output>(
 ) -> Result<(), Failed>
     ensures goes { (opened : A) (lines : List (List ℕ)) (text begun : List ℕ)
         → A.past opened responder.old lines text → line.old ≡ kept_of begun
-        → OneMore (A.past opened responder.new) lines text (begun ++ front.now)
+        → OneMoreIsAnswered (A.past opened responder.new) lines text (begun ++ front.now)
         (Puts result (O.out out.old) (O.out out.new)) }
     ensures empty { OnOk result (line.new ≡ []) }
     ensures same { (O.out out.new).name ≡ (O.out out.old).name }

@@ -1,6 +1,6 @@
 //! The parts of a reply.
 ghost use Rattle.std.specs.Prelude.{◌≡◌, ◌+◌, ◌≤◌, decimal, length};
-ghost use Rattle.rcu_text.specs.Outputs.{Puts, behind};
+ghost use Rattle.rcu_text.specs.Outputs.{Puts, after_put_text};
 ghost use Rattle.rcu_text.specs.Texts.{counts_text, numbered, numbered_text, spaced};
 
 use crate::block_writer::Output;
@@ -64,7 +64,7 @@ pub fn put_counts<O: Output>(
 #[inline(always)]
 pub fn push_numbered<O: Output>(out: &mut O, text: &[u8], n: u64)
     requires { length text.now + 20 ≤ (O.out out.old).room }
-    ensures puts { O.out out.new ≡ behind (O.out out.old) (numbered text.now n) }
+    ensures puts { O.out out.new ≡ after_put_text (O.out out.old) (numbered text.now n) }
     ensures short { length (numbered text.now n) ≤ length text.now + 20 }
 {
     out.put_text(text);
@@ -85,7 +85,7 @@ pub fn put_spaced<O: Output>(out: &mut O, n: u64) -> Result<(), Failed>
 #[inline(always)]
 pub fn push_number<O: Output>(out: &mut O, n: u64)
     requires { 20 ≤ (O.out out.old).room }
-    ensures puts { O.out out.new ≡ behind (O.out out.old) (decimal n) }
+    ensures puts { O.out out.new ≡ after_put_text (O.out out.old) (decimal n) }
     ensures short { length (decimal n) ≤ 20 }
 {
     if n < 10 {
@@ -99,7 +99,7 @@ pub fn push_number<O: Output>(out: &mut O, n: u64)
 #[inline(never)]
 fn push_digits<O: Output>(out: &mut O, n: u64)
     requires { 20 ≤ (O.out out.old).room }
-    ensures puts { O.out out.new ≡ behind (O.out out.old) (decimal n) }
+    ensures puts { O.out out.new ≡ after_put_text (O.out out.old) (decimal n) }
     ensures short { length (decimal n) ≤ 20 }
 {
     let mut digits = [0; MOST_DIGITS];

@@ -1,7 +1,8 @@
 //! The words of a line, and the numbers among them.
-ghost use Rattle.std.specs.Prelude.{◌≡◌, ◌==◌, ◌<◌, ◌≤◌, ◌^◌, ◌∷◌, [], IfNone, IfSome, length, position, Some, None, if◌then◌else◌};
+ghost use Rattle.std.specs.Prelude.{◌≡◌, ◌==◌, ◌<◌, ◌≤◌, ◌^◌, ◌∷◌, [], IfNone, IfSome, length};
+ghost use Rattle.std.specs.Prelude.{position, Some, None, if◌then◌else◌};
 ghost use Rattle.std.specs.List.{list_all};
-ghost use Rattle.rcu_text.specs.Words.{is_digit, number_of, value_of, words_of};
+ghost use Rattle.rcu_text.specs.Words.{is_digit, number_in_word, value_of, words_of};
 
 /// How many digits a number has at most, leading zeros included.
 const MOST_DIGITS: usize = 20;
@@ -35,7 +36,7 @@ fn first_space(line: &[u8]) -> Option<usize>
 
 /// The number that a word spells: 1 to 20 decimal digits, of a value that fits 64 bits.
 pub fn number(word: &[u8]) -> Option<u64>
-    ensures { result ≡ number_of word.now }
+    ensures { result ≡ number_in_word word.now }
 {
     if word.is_empty() || word.len() > MOST_DIGITS {
         return None;
@@ -50,7 +51,7 @@ pub fn number(word: &[u8]) -> Option<u64>
 #[cold]
 fn long_number(word: &[u8]) -> Option<u64>
     requires { length word.now ≡ 20 }
-    ensures { result ≡ number_of word.now }
+    ensures { result ≡ number_in_word word.now }
 {
     let (front, last) = word.split_at(SAFE_DIGITS);
     let value = 10 * u128::from(digits(front)?) + u128::from(digits(last)?);

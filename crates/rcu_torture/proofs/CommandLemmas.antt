@@ -11,8 +11,7 @@ use Rattle.clap.specs.declared.parser.matches.ArgMatches.{ArgMatches}
 use Rattle.rcu_torture.specs.CommandLine.{HasNoOrder, HasNoSetup, IsOrderOf, rcu}
 use Rattle.rcu_torture.specs.declared.command.Order.{Order}
 use Rattle.rcu_torture.specs.declared.command.Order.TheVariants.{Script, Pair}
-use Rattle.rcu_torture.proofs.PairCommandLemmas.{HasPairNumbers, built_pair, pair_numbers}
-use Rattle.rcu_torture.proofs.ScriptCommandLemmas.{HasNumbers, built_script, script_numbers}
+use Rattle.rcu_torture.proofs.SubcommandLemmas.{HasNumbers, built_pair, built_script, pair_numbers, script_numbers}
 use Rattle.rcu_torture.proofs.WalkLemmas.{first_none, next_none}
 
 -- matches of `script` that make no setup say no order
@@ -28,6 +27,9 @@ no_pair name rows is none (Script setup) p =
     let other : codes "pair" ≡ codes "script" = sym is ∙ p.0 in
     cc
 no_pair name rows is none (Pair setup) p = none setup p.1
+
+-- matches that make no setup say no order
+pub ruleset no_order = (no_script, no_pair)
 
 -- ---- a parse of `rcu`
 
@@ -58,17 +60,8 @@ some_value None e = absurd (bad e)
     bad e = cc
 
 -- numbers make a setup
-numbers_make : (rows : List Row) → HasNumbers rows → HasNoSetup (codes "leaf") (codes "inner") rows → ⊥
-numbers_make rows has none =
-    let leaf = some_value _ has.leaf in
-    let inner = some_value _ has.inner in
-    let cpus = some_value _ has.cpus in
-    let last = some_value _ has.last in
-    none (record { leaf = leaf.0; inner = inner.0; leaf2 = leaf.0; inner2 = inner.0; cpus = cpus.0; last = last.0 })
-    (record { leaf = leaf.1; inner = inner.1; leaf2 = leaf.1; inner2 = inner.1; cpus = cpus.1; last = last.1 })
-
-pair_numbers_make : (rows : List Row) → HasPairNumbers rows → HasNoSetup (codes "leaf2") (codes "inner2") rows → ⊥
-pair_numbers_make rows has none =
+numbers_make : (second_leaf second_inner : Text) (rows : List Row) → HasNumbers second_leaf second_inner rows → HasNoSetup second_leaf second_inner rows → ⊥
+numbers_make second_leaf second_inner rows has none =
     let leaf = some_value _ has.leaf in
     let inner = some_value _ has.inner in
     let leaf2 = some_value _ has.leaf2 in
@@ -80,11 +73,11 @@ pair_numbers_make rows has none =
 
 -- words of `script` that have no fault order something
 script_orders : (words : List Text) → level_fault built_script [] nothing_held words false [] ≡ [] → HasNoOrder (Some (codes "script", rows_after built_script.rules [] words)) → ⊥
-script_orders words e none = numbers_make (rows_after built_script.rules [] words) (script_numbers words e) (λ setup is. none (Script setup) (refl, is))
+script_orders words e none = numbers_make (codes "leaf") (codes "inner") (rows_after built_script.rules [] words) (script_numbers words e) (λ setup is. none (Script setup) (refl, is))
 
 -- words of `pair` that have no fault order something
 pair_orders : (words : List Text) → level_fault built_pair [] nothing_held words false [] ≡ [] → HasNoOrder (Some (codes "pair", rows_after built_pair.rules [] words)) → ⊥
-pair_orders words e none = pair_numbers_make (rows_after built_pair.rules [] words) (pair_numbers words e) (λ setup is. none (Pair setup) (refl, is))
+pair_orders words e none = numbers_make (codes "leaf2") (codes "inner2") (rows_after built_pair.rules [] words) (pair_numbers words e) (λ setup is. none (Pair setup) (refl, is))
 
 -- the same by the subcommand at which the walk over all the words stopped
 stop_orders : (rows : List Row) (stop : Option (Text × List Text)) → entered_fault (built rcu) stop ≡ [] → check_fault (built rcu).top rows (is_some (entered (built rcu) stop)) ≡ []

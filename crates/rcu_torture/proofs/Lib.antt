@@ -1,7 +1,6 @@
 pub mod CommandLemmas
 pub mod GetterLemmas
 pub mod LevelLemmas
-pub mod PairCommandLemmas
 pub mod RowLemmas
-pub mod ScriptCommandLemmas
+pub mod SubcommandLemmas
 pub mod WalkLemmas

@@ -19,7 +19,7 @@ use Rattle.clap.specs.declared.builder.value_parser.Reading.{Reading}
 use Rattle.clap.specs.declared.builder.value_parser.ValueParser.{ValueParser}
 use Rattle.clap.specs.declared.parser.matches.ValueSource.{ValueSource}
 use Rattle.clap.specs.declared.parser.matches.ValueSource.TheVariants.{CommandLine, DefaultValue}
-use Rattle.rcu_torture.specs.CommandLine.{number_in}
+use Rattle.rcu_torture.specs.CommandLine.{number_up_to}
 use Rattle.rcu_torture.proofs.GetterLemmas.{number_at_most}
 use Rattle.rcu_torture.proofs.WalkLemmas.{first_none, next_none}
 
@@ -140,7 +140,7 @@ module _ (most_of : Text → Option ℕ) where
 
   -- an option with a row has a number
   pub number_there : (most : ℕ) (id : Text) (rows : List Row) → most_of id ≡ Some most → AllRead rows → is_some (find (λ r. bytes_eq r.id id) rows) ≡ true
-      → is_some (number_in most rows id) ≡ true
+      → is_some (number_up_to most rows id) ≡ true
   number_there most id [] is h there = absurd (true≢false (sym there))
   number_there most id (r ∷ rs) is h there = go (bytes_eq r.id id) refl (number_there most id rs is h.1) there
     where
@@ -150,7 +150,7 @@ module _ (most_of : Text → Option ℕ) where
           subst (λ (m : Option ℕ). IsNumber m r.reading r.values) (ap most_of e ∙ is) h.0
 
       go : (b : Bool) → bytes_eq r.id id ≡ b
-          → (is_some (find (λ x. bytes_eq x.id id) rs) ≡ true → is_some (number_in most rs id) ≡ true)
+          → (is_some (find (λ x. bytes_eq x.id id) rs) ≡ true → is_some (number_up_to most rs id) ≡ true)
           → is_some (if b then Some r else find (λ x. bytes_eq x.id id) rs) ≡ true
           → is_some (option_and_then (number_at_most most) (option_and_then row_text (if b then Some r else find (λ x. bytes_eq x.id id) rs))) ≡ true
       go true same later t = here same

@@ -83,18 +83,18 @@ rcu = with_subcommand rcu_with_script pair.top
 -- ---- what the matches say
 
 -- the number that an option has among the matches, where it has a numeral of at most `most`
-abbrev pub number_in : ℕ → List Row → Text → Option ℕ
-number_in most rows name = option_and_then (λ text.
+abbrev pub number_up_to : ℕ → List Row → Text → Option ℕ
+number_up_to most rows name = option_and_then (λ text.
     if is_unsigned_in 0 most text then Some (digits_value 10 (without_leading_plus text)) else None) (one_of name rows)
 
 -- the setup has the numbers of the options; those of the second replica's tree have these names
 pub record IsSetupOf (second_leaf second_inner : Text) (rows : List Row) (setup : Setup) : Type 0 where
-  pub leaf : number_in u32_max rows (codes "leaf") ≡ Some setup.leaf
-  pub inner : number_in u32_max rows (codes "inner") ≡ Some setup.inner
-  pub leaf2 : number_in u32_max rows second_leaf ≡ Some setup.leaf2
-  pub inner2 : number_in u32_max rows second_inner ≡ Some setup.inner2
-  pub cpus : number_in u32_max rows (codes "cpus") ≡ Some setup.cpus
-  pub last : number_in u64_max rows (codes "last") ≡ Some setup.last
+  pub leaf : number_up_to u32_max rows (codes "leaf") ≡ Some setup.leaf
+  pub inner : number_up_to u32_max rows (codes "inner") ≡ Some setup.inner
+  pub leaf2 : number_up_to u32_max rows second_leaf ≡ Some setup.leaf2
+  pub inner2 : number_up_to u32_max rows second_inner ≡ Some setup.inner2
+  pub cpus : number_up_to u32_max rows (codes "cpus") ≡ Some setup.cpus
+  pub last : number_up_to u64_max rows (codes "last") ≡ Some setup.last
 
 -- the order is what the subcommand of this name says with its matches: the second replica of a script is as the first
 abbrev pub IsOrder : Text → List Row → Order → Type 0

@@ -1,8 +1,12 @@
 //! The command line.
 ghost use Rattle.std.specs.Prelude.{◌≡◌, false, Some, IfOk, map, MatchOption};
-ghost use Rattle.clap.specs.Words.{FailsBy, app_of, fault_of, found_of, rows_of, rule_of, subcommand_of, subcommand_rows_of};
+ghost use Rattle.clap.specs.Words.{FailsBy, app_of, fault_of, found_of, rows_of, rule_of};
+ghost use Rattle.clap.specs.Words.{subcommand_of, subcommand_rows_of};
 ghost use Rattle.clap.specs.declared.builder.command.Command.TheViews.{out-Command as fields_of};
-ghost use Rattle.rcu_torture.specs.CommandLine.{IsOrderOf, IsSetupOf, HasNoOrder, HasNoSetup, number_in, last_rule, pair, rcu, rcu_with_script, required, script, shapes, u32_max, u32_rule, u64_max};
+ghost use Rattle.rcu_torture.specs.CommandLine.{HasNoOrder, HasNoSetup, IsOrderOf, IsSetupOf};
+ghost use Rattle.rcu_torture.specs.CommandLine.{last_rule, number_up_to, pair, rcu};
+ghost use Rattle.rcu_torture.specs.CommandLine.{rcu_with_script, required, script, shapes};
+ghost use Rattle.rcu_torture.specs.CommandLine.{u32_max, u32_rule, u64_max};
 
 use clap::{Arg, ArgMatches, Command, Error, value_parser};
 use rcu_script::Setup;
@@ -119,7 +123,7 @@ fn order_of(matches: &ArgMatches<'_>) -> Option<Order>
 }
 
 /// What the subcommand of this name orders by its matches.
-#[tactic(auto, using(crate::proofs::CommandLemmas::no_script, crate::proofs::CommandLemmas::no_pair))]
+#[tactic(auto, using(crate::proofs::CommandLemmas::no_order))]
 fn order_named(name: &str, matches: &ArgMatches<'_>) -> Option<Order>
     ensures { let met = Some (name.now, rows_of (found_of matches.now)) in
         MatchOption result (HasNoOrder met) (IsOrderOf met) }
@@ -149,14 +153,14 @@ fn setup_of(matches: &ArgMatches<'_>, leaf2: &str, inner2: &str) -> Option<Setup
 
 /// The option's number, where its text is read as one.
 fn u32_of(matches: &ArgMatches<'_>, id: &str) -> Option<u32>
-    ensures { result ≡ number_in u32_max (rows_of (found_of matches.now)) id.now }
+    ensures { result ≡ number_up_to u32_max (rows_of (found_of matches.now)) id.now }
 {
     matches.get_one(id)
 }
 
 /// The same of a number of 64 bits.
 fn u64_of(matches: &ArgMatches<'_>, id: &str) -> Option<u64>
-    ensures { result ≡ number_in u64_max (rows_of (found_of matches.now)) id.now }
+    ensures { result ≡ number_up_to u64_max (rows_of (found_of matches.now)) id.now }
 {
     matches.get_one(id)
 }

@@ -3,7 +3,7 @@ ghost use Rattle.std.specs.Prelude.{◌≡◌, length};
 ghost use Rattle.rcu_node.specs.Merging.{same_set};
 ghost use Rattle.rcu_report.specs.Replica.{cpus_of};
 ghost use Rattle.rcu_text.specs.Outputs.{Puts};
-ghost use Rattle.rcu_script.specs.PairState.{left_by, refusal_of, reply_of};
+ghost use Rattle.rcu_script.specs.PairState.{after_event, event_refusal, event_reply};
 ghost use Rattle.rcu_script.specs.PairTexts.{outcome_text, pair_after, pair_replies};
 ghost use Rattle.rcu_script.specs.PairTexts.{replica_after};
 
@@ -87,12 +87,12 @@ fn answer<A: Awaited, B: Awaited, O: Output>(
     out: &mut O,
 ) -> Result<(), Failed>
     requires { length set.old ≡ cpus_of mine.old }
-    ensures state { mine.new ≡ replica_after (refusal_of mine.old other.now event.now)
-        mine.old (left_by mine.old other.now event.now) }
+    ensures state { mine.new ≡ replica_after (event_refusal mine.old other.now event.now)
+        mine.old (after_event mine.old other.now event.now) }
     ensures text { Puts result (O.out out.old) (O.out out.new)
-        (outcome_text (refusal_of mine.old other.now event.now)
-        (left_by mine.old other.now event.now).awaited
-        (reply_of mine.old other.now event.now)) }
+        (outcome_text (event_refusal mine.old other.now event.now)
+        (after_event mine.old other.now event.now).awaited
+        (event_reply mine.old other.now event.now)) }
     ensures set { length set.new ≡ length set.old }
     ensures cpus { cpus_of mine.new ≡ cpus_of mine.old }
 {

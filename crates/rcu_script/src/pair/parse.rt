@@ -2,8 +2,9 @@
 ghost use Rattle.std.specs.Prelude.{◌≡◌, ◌≤◌, length};
 ghost use Rattle.rcu_text.specs.Lines.{line_by};
 ghost use Rattle.rcu_text.specs.Words.{words_of};
-ghost use Rattle.rcu_script.specs.PairLines.{cpus_in, depart_of, pair_ask_of, pair_event_alone};
-ghost use Rattle.rcu_script.specs.PairLines.{pair_event_of, report_of, side_of};
+ghost use Rattle.rcu_script.specs.PairLines.{named_cpus, depart_in_words, pair_ask_of};
+ghost use Rattle.rcu_script.specs.PairLines.{pair_event_alone, pair_event_of, report_in_words};
+ghost use Rattle.rcu_script.specs.PairLines.{side_of};
 
 use crate::pair::event::{LineCpus, PairAsk, PairEvent, Side};
 use crate::script::parse::cpu_of_number;
@@ -89,7 +90,7 @@ fn parse_event_alone(name: &[u8]) -> Option<PairEvent>
 /// The processors that the words list, where each is a number.
 fn parse_cpus(words: &[u8]) -> Option<LineCpus>
     requires { length words.now ≤ 80 }
-    ensures { result ≡ cpus_in (words_of words.now) }
+    ensures { result ≡ named_cpus (words_of words.now) }
 {
     let mut cpus = LineCpus::new();
     let mut rest = words;
@@ -102,7 +103,7 @@ fn parse_cpus(words: &[u8]) -> Option<LineCpus>
 
 /// The departure of a word, behind which no other may stand.
 fn parse_depart(word: &[u8], rest: &[u8]) -> Option<PairEvent>
-    ensures { result ≡ depart_of word.now (words_of rest.now) }
+    ensures { result ≡ depart_in_words word.now (words_of rest.now) }
 {
     match next_word(rest) {
         None => Some(PairEvent::Depart(cpu_of_number(number(word)?))),
@@ -112,7 +113,7 @@ fn parse_depart(word: &[u8], rest: &[u8]) -> Option<PairEvent>
 
 /// The report of a word and the one word behind it.
 fn parse_report(word: &[u8], rest: &[u8]) -> Option<PairEvent>
-    ensures { result ≡ report_of word.now (words_of rest.now) }
+    ensures { result ≡ report_in_words word.now (words_of rest.now) }
 {
     let (tag, rest) = next_word(rest)?;
     match next_word(rest) {

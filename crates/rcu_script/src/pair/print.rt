@@ -3,8 +3,8 @@ ghost use Rattle.std.specs.Prelude.{◌≡◌, flat_map};
 ghost use Rattle.rcu_text.specs.Outputs.{Puts};
 ghost use Rattle.rcu_text.specs.Texts.{spaced};
 ghost use Rattle.rcu_script.specs.PairTexts.{compared_text, members_of, pair_text};
-ghost use Rattle.rcu_script.specs.ScriptTexts.{awaits_text};
 
+use crate::listed::{Listed, put_listed};
 use crate::pair::event::PairReply;
 use crate::script::print::put_reply;
 use rcu_core::reply::Reply;
@@ -27,7 +27,7 @@ pub fn put_pair_reply<A: Awaited, O: Output>(
         PairReply::Answer(answer) => put_reply(out, &Reply::Answer(answer)),
         PairReply::Departed => put_line(out, b"departed\n"),
         PairReply::Ended(n) => put_reply(out, &Reply::Ended(n)),
-        PairReply::Awaits => put_awaited(out, awaited),
+        PairReply::Awaits => put_listed(out, b"awaits", &Members { awaited }),
         PairReply::Merged(cpus) => put_numbered(out, b"merged ", u64::from(cpus)),
     }
 }
@@ -43,17 +43,23 @@ pub fn put_compared<O: Output>(out: &mut O, are_same: bool) -> Result<(), Failed
     }
 }
 
-/// Prints the line of the awaited processors, without a list of them.
-fn put_awaited<A: Awaited, O: Output>(out: &mut O, awaited: &A) -> Result<(), Failed>
-    ensures { Puts result (O.out out.old) (O.out out.new)
-        (awaits_text (members_of (A.awaited awaited.now))) }
-{
-    if awaited.is_empty() {
-        return put_line(out, b"awaits none\n");
+/// The processors that are awaited, as a reply lists them, without a list of their own.
+#[derive(Drop)]
+struct Members<'a, A: Awaited> {
+    awaited: &'a A,
+}
+
+impl<'a, A: Awaited> Listed for Members<'a, A> {
+    ghost items = { λ m. members_of (A.awaited m.awaited.now) };
+
+    #[tactic(auto, using(crate::proofs::PairSets::members_are_size))]
+    fn is_empty(&self) -> bool {
+        self.awaited.is_empty()
     }
-    put_line(out, b"awaits")?;
-    put_members(out, awaited)?;
-    put_line(out, b"\n")
+
+    fn put_items<O: Output>(&self, out: &mut O) -> Result<(), Failed> {
+        put_members(out, self.awaited)
+    }
 }
 
 /// Prints the awaited processors, ascending, each behind a space.

@@ -1,10 +1,10 @@
 //! The lines of two replicas, from bytes to bytes.
 ghost use Rattle.std.specs.Prelude.{◌≡◌, false};
 ghost use Rattle.rcu_text.specs.Runs.{ends_of};
-ghost use Rattle.rcu_script.specs.Opening.{size_at};
-ghost use Rattle.rcu_script.specs.PairRuns.{RanPair, fault_beside, trees_fault};
+ghost use Rattle.rcu_script.specs.Opening.{size_of_setup};
+ghost use Rattle.rcu_script.specs.PairRuns.{RunsPair, fault_beside, trees_fault};
 ghost use Rattle.rcu_script.specs.PairTexts.{IsPairText};
-ghost use Rattle.rcu_script.specs.RunEnds.{RanFrom};
+ghost use Rattle.rcu_script.specs.RunEnds.{RunsFromOpening};
 
 use crate::offered::over_offered_tree;
 use crate::pair::open::open_pair;
@@ -27,7 +27,7 @@ pub fn run_pair<R: Source, W: Sink>(
 ) -> Result<(), RunFault>
     requires reader { (R.incoming reader.old).failed ≡ false }
     requires writer { (W.outgoing writer.old).failed ≡ false }
-    ensures { RanPair result setup.now
+    ensures { RunsPair result setup.now
         (ends_of (R.incoming reader.old) (W.outgoing writer.old))
         (ends_of (R.incoming reader.new) (W.outgoing writer.new)) }
 {
@@ -45,7 +45,8 @@ fn run_beside<const LEAF: u32, const INNER: u32, R: Source, W: Sink>(
     reader: &mut R,
     writer: &mut W,
 ) -> Result<(), RunFault>
-    ensures { RanFrom result (fault_beside LEAF INNER setup.now) (IsPairText (size_at setup.now))
+    ensures { RunsFromOpening result (fault_beside LEAF INNER setup.now)
+        (IsPairText (size_of_setup setup.now))
         (ends_of (R.incoming reader.old) (W.outgoing writer.old))
         (ends_of (R.incoming reader.new) (W.outgoing writer.new)) }
 {
@@ -65,9 +66,9 @@ fn run_over<
     R: Source,
     W: Sink,
 >(alloc: Global, setup: &Setup, reader: &mut R, writer: &mut W) -> Result<(), RunFault>
-    ensures { RanFrom result
+    ensures { RunsFromOpening result
         (trees_fault LEAF INNER LEAF2 INNER2 setup.now.cpus setup.now.last)
-        (IsPairText (size_at setup.now))
+        (IsPairText (size_of_setup setup.now))
         (ends_of (R.incoming reader.old) (W.outgoing writer.old))
         (ends_of (R.incoming reader.new) (W.outgoing writer.new)) }
 {

@@ -4,7 +4,8 @@ ghost use Rattle.std.specs.List.{list_all};
 ghost use Rattle.rcu_node.specs.CpuSet.{size_of};
 ghost use Rattle.rcu_seq.specs.Seq.{number_of};
 ghost use Rattle.rcu_report.specs.Replica.{Begin, cpus_of, after_call};
-ghost use Rattle.rcu_script.specs.PairState.{begin_refusal, left_by, refusal_of, reply_of, set_of};
+ghost use Rattle.rcu_script.specs.PairState.{after_event, event_refusal, event_reply};
+ghost use Rattle.rcu_script.specs.PairState.{pair_begin_refusal, set_of};
 
 use crate::pair::event::{PairEvent, PairReply};
 use rcu_node::awaited::Awaited;
@@ -23,10 +24,10 @@ pub fn step<A: Awaited, B: Awaited>(
     event: &PairEvent,
 ) -> Result<PairReply, Fault>
     requires { length set.old ≡ cpus_of mine.old }
-    ensures reply { IfOk result (λ reply. reply ≡ reply_of mine.old other.now event.now) }
-    ensures ok { OnOk result (mine.new ≡ left_by mine.old other.now event.now) }
-    ensures accepted { OnOk result (refusal_of mine.old other.now event.now ≡ None) }
-    ensures err { IfErr result (λ fault. refusal_of mine.old other.now event.now ≡ Some fault) }
+    ensures reply { IfOk result (λ reply. reply ≡ event_reply mine.old other.now event.now) }
+    ensures ok { OnOk result (mine.new ≡ after_event mine.old other.now event.now) }
+    ensures accepted { OnOk result (event_refusal mine.old other.now event.now ≡ None) }
+    ensures err { IfErr result (λ fault. event_refusal mine.old other.now event.now ≡ Some fault) }
     ensures refused { IfErr result (λ _. mine.new ≡ mine.old) }
     ensures sized { length set.new ≡ length set.old }
 {
@@ -57,8 +58,8 @@ fn begin<A: Awaited>(
         ≡ PairReply.Begun (number_of mine.new.periods) (size_of mine.new.awaited)) }
     ensures ok { OnOk result (mine.new
         ≡ after_call mine.old (Begin (set_of (cpus_of mine.old) cpus.now))) }
-    ensures accepted { OnOk result (begin_refusal mine.old cpus.now ≡ None) }
-    ensures err { IfErr result (λ fault. begin_refusal mine.old cpus.now ≡ Some fault) }
+    ensures accepted { OnOk result (pair_begin_refusal mine.old cpus.now ≡ None) }
+    ensures err { IfErr result (λ fault. pair_begin_refusal mine.old cpus.now ≡ Some fault) }
     ensures refused { IfErr result (λ _. mine.new ≡ mine.old) }
     ensures sized { length set.new ≡ length set.old }
 {

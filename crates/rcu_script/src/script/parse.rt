@@ -1,7 +1,9 @@
 //! What a line of a script asks for.
 ghost use Rattle.std.specs.Prelude.{◌≡◌};
 ghost use Rattle.rcu_text.specs.Words.{words_of};
-ghost use Rattle.rcu_script.specs.ScriptLines.{asked_by, cpu_of, event_alone, event_of, event_with_cpu, event_with_number, event_with_numbers};
+ghost use Rattle.rcu_script.specs.ScriptLines.{asked_by, cpu_of, event_alone, event_of};
+ghost use Rattle.rcu_script.specs.ScriptLines.{event_with_cpu, event_with_number};
+ghost use Rattle.rcu_script.specs.ScriptLines.{event_with_numbers};
 
 use rcu_core::event::Event;
 use rcu_text::line_shape::LONGEST;

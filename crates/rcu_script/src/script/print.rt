@@ -1,21 +1,53 @@
 //! Replies as text.
-ghost use Rattle.std.specs.Prelude.{◌≡◌, ◌≤◌, flat_map, length};
+ghost use Rattle.std.specs.Prelude.{◌≡◌, ◌≤◌, true, length};
 ghost use Rattle.rcu_text.specs.Outputs.{Puts};
-ghost use Rattle.rcu_text.specs.Texts.{spaced};
-ghost use Rattle.rcu_script.specs.ScriptTexts.{answer_text, awaits_text, made_text, noted_text, polled_text, ran_text, text_of, visited_text};
+ghost use Rattle.rcu_script.specs.ScriptTexts.{answer_text, is_of_callbacks, is_of_period};
+ghost use Rattle.rcu_script.specs.ScriptTexts.{is_of_processor, made_text, noted_text};
+ghost use Rattle.rcu_script.specs.ScriptTexts.{polled_text, text_of, visited_text};
 
+use crate::listed::put_listed;
 use rcu_barrier::visit::Visit;
 use rcu_core::reply::Reply;
-use rcu_core::value_list::ValueList;
 use rcu_node::answer::Answer;
 use rcu_report::report::Report;
 use rcu_text::printing::{LONGEST_REPLY, push_numbered};
-use rcu_text::{Failed, Output, put_counts, put_line, put_numbered, put_spaced};
+use rcu_text::{Failed, Output, put_counts, put_line, put_numbered};
 
 /// Prints a reply as a line.
 ///
 /// Where the writer fails, it took a beginning of what waited and the line.
 pub fn put_reply<O: Output>(out: &mut O, reply: &Reply) -> Result<(), Failed>
+    ensures { Puts result (O.out out.old) (O.out out.new) (text_of reply.now) }
+{
+    match reply {
+        Reply::Depth(_)
+        | Reply::Noted(_, _)
+        | Reply::Made(_, _)
+        | Reply::Answer(_)
+        | Reply::Online
+        | Reply::Moved(_) => put_processor_reply(out, reply),
+        Reply::Begun(_, _)
+        | Reply::Ended(_)
+        | Reply::Waiting(_)
+        | Reply::Nothing
+        | Reply::Awaits(_)
+        | Reply::Cookie(_)
+        | Reply::Polled(_) => put_period_reply(out, reply),
+        Reply::Queued(_)
+        | Reply::Tended(_, _)
+        | Reply::Ran(_)
+        | Reply::BarBegun
+        | Reply::Visited(_)
+        | Reply::BarDone
+        | Reply::BarWaits(_) => put_callback_reply(out, reply),
+        Reply::Fault(fault) => put_numbered(out, b"fault ", u64::from(fault.number())),
+    }
+}
+
+/// Prints what a processor's events and a report are answered.
+#[inline(always)]
+fn put_processor_reply<O: Output>(out: &mut O, reply: &Reply) -> Result<(), Failed>
+    requires { is_of_processor reply.now ≡ true }
     ensures { Puts result (O.out out.old) (O.out out.new) (text_of reply.now) }
 {
     match reply {
@@ -25,21 +57,43 @@ pub fn put_reply<O: Output>(out: &mut O, reply: &Reply) -> Result<(), Failed>
         Reply::Answer(answer) => put_line(out, answer_line(*answer)),
         Reply::Online => put_line(out, b"online\n"),
         Reply::Moved(calls) => put_numbered(out, b"offline moved ", *calls),
+        _ => unreachable!(),
+    }
+}
+
+/// Prints what is answered of grace periods and cookies.
+#[inline(always)]
+fn put_period_reply<O: Output>(out: &mut O, reply: &Reply) -> Result<(), Failed>
+    requires { is_of_period reply.now ≡ true }
+    ensures { Puts result (O.out out.old) (O.out out.new) (text_of reply.now) }
+{
+    match reply {
         Reply::Begun(n, cpus) => put_counts(out, b"begun ", *n, b" awaits ", u64::from(*cpus)),
         Reply::Ended(n) => put_numbered(out, b"ended ", *n),
         Reply::Waiting(cpus) => put_numbered(out, b"waiting ", u64::from(*cpus)),
         Reply::Nothing => put_line(out, b"nothing\n"),
-        Reply::Awaits(cpus) => put_awaits(out, cpus.as_slice()),
+        Reply::Awaits(cpus) => put_listed(out, b"awaits", cpus),
         Reply::Cookie(cookie) => put_numbered(out, b"cookie ", cookie.0),
         Reply::Polled(done) => put_line(out, polled_line(*done)),
+        _ => unreachable!(),
+    }
+}
+
+/// Prints what is answered of callbacks and barriers.
+#[inline(always)]
+fn put_callback_reply<O: Output>(out: &mut O, reply: &Reply) -> Result<(), Failed>
+    requires { is_of_callbacks reply.now ≡ true }
+    ensures { Puts result (O.out out.old) (O.out out.new) (text_of reply.now) }
+{
+    match reply {
         Reply::Queued(n) => put_numbered(out, b"queued ", *n),
         Reply::Tended(done, waiting) => put_counts(out, b"tended ", *done, b" ", *waiting),
-        Reply::Ran(values) => put_ran(out, values),
+        Reply::Ran(values) => put_listed(out, b"ran", values),
         Reply::BarBegun => put_line(out, b"barrier begun\n"),
         Reply::Visited(visit) => put_line(out, visited_line(*visit)),
         Reply::BarDone => put_line(out, b"barrier done\n"),
         Reply::BarWaits(n) => put_numbered(out, b"barrier waits ", *n),
-        Reply::Fault(fault) => put_numbered(out, b"fault ", u64::from(fault.number())),
+        _ => unreachable!(),
     }
 }
 
@@ -64,48 +118,6 @@ fn put_made<O: Output>(out: &mut O, place: u64, report: Report) -> Result<(), Fa
     push_numbered(out, b" cpu ", u64::from(report.cpu));
     push_numbered(out, b" tag ", report.tag);
     out.put_byte(b'\n');
-    Ok(())
-}
-
-fn put_awaits<O: Output>(out: &mut O, cpus: &[u32]) -> Result<(), Failed>
-    ensures { Puts result (O.out out.old) (O.out out.new) (awaits_text cpus.now) }
-{
-    if cpus.is_empty() {
-        return put_line(out, b"awaits none\n");
-    }
-    put_line(out, b"awaits")?;
-    put_cpus(out, cpus)?;
-    put_line(out, b"\n")
-}
-
-/// Prints processors, each behind a space.
-fn put_cpus<O: Output>(out: &mut O, cpus: &[u32]) -> Result<(), Failed>
-    ensures { Puts result (O.out out.old) (O.out out.new) (flat_map spaced cpus.now) }
-{
-    for cpu in cpus {
-        put_spaced(out, u64::from(*cpu))?;
-    }
-    Ok(())
-}
-
-fn put_ran<O: Output>(out: &mut O, values: &ValueList) -> Result<(), Failed>
-    ensures { Puts result (O.out out.old) (O.out out.new) (ran_text values.now) }
-{
-    if values.is_empty() {
-        return put_line(out, b"ran none\n");
-    }
-    put_line(out, b"ran")?;
-    put_values(out, values)?;
-    put_line(out, b"\n")
-}
-
-/// Prints values, each behind a space.
-fn put_values<O: Output>(out: &mut O, values: &ValueList) -> Result<(), Failed>
-    ensures { Puts result (O.out out.old) (O.out out.new) (flat_map spaced values.now) }
-{
-    for place in 0..values.len() {
-        put_spaced(out, values.value(place))?;
-    }
     Ok(())
 }
 

@@ -1,9 +1,9 @@
 //! A script from bytes to bytes.
 ghost use Rattle.std.specs.Prelude.{◌≡◌, false};
 ghost use Rattle.rcu_text.specs.Runs.{ends_of};
-ghost use Rattle.rcu_script.specs.Opening.{machine_fault, size_at};
-ghost use Rattle.rcu_script.specs.RunEnds.{RanFrom};
-ghost use Rattle.rcu_script.specs.ScriptAnswers.{IsAnswer, RanScript};
+ghost use Rattle.rcu_script.specs.Opening.{machine_fault, size_of_setup};
+ghost use Rattle.rcu_script.specs.RunEnds.{RunsFromOpening};
+ghost use Rattle.rcu_script.specs.ScriptAnswers.{IsAnswer, RunsScript};
 
 use crate::offered::over_offered_tree;
 use crate::runs::{RunFault, Setup, stopped};
@@ -26,7 +26,7 @@ pub fn run_script<R: Source, W: Sink>(
 ) -> Result<(), RunFault>
     requires reader { (R.incoming reader.old).failed ≡ false }
     requires writer { (W.outgoing writer.old).failed ≡ false }
-    ensures { RanScript result setup.now
+    ensures { RunsScript result setup.now
         (ends_of (R.incoming reader.old) (W.outgoing writer.old))
         (ends_of (R.incoming reader.new) (W.outgoing writer.new)) }
 {
@@ -44,8 +44,8 @@ fn run_over<const LEAF: u32, const INNER: u32, R: Source, W: Sink>(
     reader: &mut R,
     writer: &mut W,
 ) -> Result<(), RunFault>
-    ensures { RanFrom result (machine_fault LEAF INNER setup.now.cpus setup.now.last)
-        (IsAnswer (size_at setup.now))
+    ensures { RunsFromOpening result (machine_fault LEAF INNER setup.now.cpus setup.now.last)
+        (IsAnswer (size_of_setup setup.now))
         (ends_of (R.incoming reader.old) (W.outgoing writer.old))
         (ends_of (R.incoming reader.new) (W.outgoing writer.new)) }
 {

@@ -1,5 +1,5 @@
 use Rattle.std.proofs.Common.{◌≤◌, sym, arith, length}
-use Rattle.rcu_script.proofs.PairSets.{same_when_all_agree, other_where_one_differs}
+use Rattle.rcu_node.proofs.CpuSetLemmas.{same_when_all_agree, other_where_one_differs}
 use Rattle.rcu_script.proofs.pair.machine.await_the_same.Goals as goal
 
 pub returns-then-awaits : goal.returns-then-awaits

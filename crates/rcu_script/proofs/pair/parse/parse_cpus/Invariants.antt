@@ -1,5 +1,5 @@
 use Rattle.std.proofs.Common.{◌≡◌, ◌≤◌, ◌+◌, length}
-use Rattle.rcu_script.specs.PairLines.{cpus_in}
+use Rattle.rcu_script.specs.PairLines.{named_cpus}
 use Rattle.rcu_text.specs.Words.{words_of}
 use Rattle.rcu_script.proofs.PairLineLemmas.{with_front}
 use Rattle.rcu_script.proofs.pair.parse.parse_cpus.Given as goal
@@ -7,7 +7,7 @@ use Rattle.rcu_script.proofs.pair.parse.parse_cpus.Given as goal
 -- the processors so far stand before those of the rest, and each took a byte
 abbrev pub invariant-loop-word : goal.invariant-loop-word
 invariant-loop-word l = record {
-  listed : cpus_in (words_of l.words) ≡ with_front l.cpus (cpus_in (words_of l.rest));
+  listed : named_cpus (words_of l.words) ≡ with_front l.cpus (named_cpus (words_of l.rest));
   room : length l.cpus + length l.rest ≤ length l.words;
 }
 

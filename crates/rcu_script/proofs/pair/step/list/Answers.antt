@@ -1,7 +1,8 @@
 use Rattle.std.proofs.Common.{◌≡◌, ◌<◌, ◌∙◌, ap, arith, length, get_or}
 use Rattle.std.proofs.lemmas.List.{take_all}
 use Rattle.rcu_script.specs.PairState.{set_of}
-use Rattle.rcu_script.proofs.PairSets.{length-listed, set_more}
+use Rattle.rcu_node.proofs.CpuSetLemmas.{length-listed}
+use Rattle.rcu_script.proofs.PairSets.{set_more}
 use Rattle.rcu_script.proofs.pair.step.list.Goals as goal
 
 pub insert-requires : goal.insert-requires

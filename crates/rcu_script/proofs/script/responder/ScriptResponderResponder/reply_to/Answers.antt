@@ -1,6 +1,7 @@
 use Rattle.std.proofs.Common.{refl, [], ◌∙◌, subst}
 use Rattle.rcu_seq.specs.declared.fault.Fault.TheVariants as fault
-use Rattle.rcu_core.specs.Replies.{IsLegalReply, Size, with_event, situation}
+use Rattle.rcu_core.specs.Replies.{IsLegalReply, Size, with_event}
+use Rattle.rcu_core.specs.Situation.{situation}
 use Rattle.rcu_core.specs.Core.{size_at}
 use Rattle.rcu_core.specs.declared.reply.Reply.TheVariants as reply
 use Rattle.rcu_script.specs.ScriptAnswers.{AnswersLine}

@@ -2,7 +2,7 @@ use Rattle.std.proofs.Common.{◌<◌, length, arith}
 use Rattle.std.proofs.lemmas.Result.{err_from_is_err_and}
 use Rattle.rcu_text.specs.Texts.{spaced}
 use Rattle.rcu_text.proofs.CallerLemmas.{item_sent, item_stops}
-use Rattle.rcu_script.proofs.script.print.put_values.Goals as goal
+use Rattle.rcu_script.proofs.listed.put_values.Goals as goal
 
 pub returns-in_err-put_spaced : goal.returns-in_err-put_spaced
 returns-in_err-put_spaced g c =

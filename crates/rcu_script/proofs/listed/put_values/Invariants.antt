@@ -2,7 +2,7 @@ use Rattle.std.proofs.Common.{take}
 use Rattle.std.specs.Prelude.{flat_map}
 use Rattle.rcu_text.specs.Outputs.{Sends}
 use Rattle.rcu_text.specs.Texts.{spaced}
-use Rattle.rcu_script.proofs.script.print.put_values.Given as goal
+use Rattle.rcu_script.proofs.listed.put_values.Given as goal
 
 -- the values so far are sent
 abbrev pub invariant-loop-place : goal.invariant-loop-place

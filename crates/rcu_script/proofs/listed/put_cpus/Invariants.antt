@@ -2,7 +2,7 @@ use Rattle.std.proofs.Common.{take}
 use Rattle.std.specs.Prelude.{flat_map}
 use Rattle.rcu_text.specs.Outputs.{Sends}
 use Rattle.rcu_text.specs.Texts.{spaced}
-use Rattle.rcu_script.proofs.script.print.put_cpus.Given as goal
+use Rattle.rcu_script.proofs.listed.put_cpus.Given as goal
 
 -- the processors so far are sent
 abbrev pub invariant-loop-cpu : goal.invariant-loop-cpu

@@ -1,0 +1,81 @@
+//! What a reply lists.
+ghost use Rattle.std.specs.Prelude.{◌≡◌, ◌==◌, ◌≤◌, ℕ, List, flat_map, length};
+ghost use Rattle.rcu_text.specs.Outputs.{Puts};
+ghost use Rattle.rcu_text.specs.Texts.{spaced};
+ghost use Rattle.rcu_script.specs.ScriptTexts.{listed_text};
+
+use rcu_core::cpu_list::CpuList;
+use rcu_core::value_list::ValueList;
+use rcu_text::{Failed, Output, put_line, put_spaced};
+
+/// Numbers that stand behind the word of a reply.
+pub trait Listed {
+    /// The numbers, in order.
+    ghost items: { Self → List ℕ };
+
+    /// Whether there is none.
+    fn is_empty(&self) -> bool
+        ensures { result ≡ (length (items self.now) == 0) };
+
+    /// Prints the numbers, each behind a space.
+    fn put_items<O: Output>(&self, out: &mut O) -> Result<(), Failed>
+        ensures { Puts result (O.out out.old) (O.out out.new) (flat_map spaced (items self.now)) };
+}
+
+/// Prints a word and what is listed behind it, or `none`.
+pub fn put_listed<L: Listed, O: Output>(out: &mut O, word: &[u8], listed: &L) -> Result<(), Failed>
+    requires { length word.now ≤ 128 }
+    ensures { Puts result (O.out out.old) (O.out out.new)
+        (listed_text word.now (L.items listed.now)) }
+{
+    put_line(out, word)?;
+    if listed.is_empty() {
+        return put_line(out, b" none\n");
+    }
+    listed.put_items(out)?;
+    put_line(out, b"\n")
+}
+
+impl Listed for CpuList {
+    ghost items = { λ list. list };
+
+    fn is_empty(&self) -> bool {
+        self.as_slice().is_empty()
+    }
+
+    fn put_items<O: Output>(&self, out: &mut O) -> Result<(), Failed> {
+        put_cpus(out, self.as_slice())
+    }
+}
+
+impl Listed for ValueList {
+    ghost items = { λ list. list };
+
+    fn is_empty(&self) -> bool {
+        self.len() == 0
+    }
+
+    fn put_items<O: Output>(&self, out: &mut O) -> Result<(), Failed> {
+        put_values(out, self)
+    }
+}
+
+/// Prints processors, each behind a space.
+fn put_cpus<O: Output>(out: &mut O, cpus: &[u32]) -> Result<(), Failed>
+    ensures { Puts result (O.out out.old) (O.out out.new) (flat_map spaced cpus.now) }
+{
+    for cpu in cpus {
+        put_spaced(out, u64::from(*cpu))?;
+    }
+    Ok(())
+}
+
+/// Prints values, each behind a space.
+fn put_values<O: Output>(out: &mut O, values: &ValueList) -> Result<(), Failed>
+    ensures { Puts result (O.out out.old) (O.out out.new) (flat_map spaced values.now) }
+{
+    for place in 0..values.len() {
+        put_spaced(out, values.value(place))?;
+    }
+    Ok(())
+}
