@@ -1,9 +1,9 @@
 -- Numbers stay multiples of 4, and an advance leaves at most one of them below the snapshot.
-use Rattle.std.proofs.Common.{◌≡◌, ℕ, zero, suc, ◌+◌, ◌-◌, ◌%◌, ◌<◌, ◌≤◌, Bool, true, false, nat_le, nat_lt, ◌==◌, ◌||◌, inl, inr, List, [], ◌∷◌, ◌++◌, map, set, get_or, refl, ap, sym, subst, ◌∙◌, arith}
+use Rattle.std.proofs.Common.{◌≡◌, ℕ, zero, suc, ◌+◌, ◌-◌, ◌%◌, ◌<◌, ◌≤◌, Bool, true, false, nat_le, nat_lt, ◌||◌, inl, inr, List, [], ◌∷◌, ◌++◌, map, set, get_or, refl, ap, sym, subst, ◌∙◌, arith}
 use Rattle.std.specs.Prelude.{if◌then◌else◌, All, filter, replicate}
 use Rattle.std.proofs.lemmas.Bool.{cases_Bool, cases_eq}
 use Rattle.std.proofs.lemmas.List.Elements.{All-nil, All-head, All-tail, All-append, All-filter, All-replicate, All-set, filter_passes}
-use borrow.Author.Tests.{leb-false, ltb-true}
+use borrow.Author.Tests.{ltb-true}
 use Rattle.rcu_seq.specs.Numbers.{Number, snapshot}
 use Rattle.rcu_cblist.specs.declared.queued.Queued.{Queued}
 use Rattle.rcu_cblist.specs.SegList.{Item, Of, Marker, Unmarked, Until, Done, IsAtMost, after_accelerate, after_advance, after_migrate, after_take, as_it_leaves, has_other, has_two, mark_given, numbers, remarked}
@@ -16,7 +16,8 @@ abbrev IsFour : Number → Type 0
 IsFour n = n % 4 ≡ 0
 
 -- a multiple of 4 above the number and below its snapshot is the one before the snapshot
-before_snapshot : (number n : ℕ) → number % 4 ≤ 1 → n % 4 ≡ 0 → number < n → n < snapshot number → n + 4 ≡ snapshot number
+before_snapshot : (number n : ℕ) → number % 4 ≤ 1 → n % 4 ≡ 0 → number < n → n < snapshot number →
+    n + 4 ≡ snapshot number
 before_snapshot number n state four over below = omega arith
 
 -- of multiples of 4 above the number, no other one than that before the snapshot is below it
@@ -25,7 +26,8 @@ other_none : (number : ℕ) (ns : List Number) → number % 4 ≤ 1 → All IsFo
 other_none number [] state fours above = refl
 other_none number (n ∷ ns) state fours above =
     let s = snapshot number in
-    let rest = other_none number ns state (All-tail IsFour n ns fours) (All-tail (λ k. nat_lt number k ≡ true) n ns above) in
+    let rest = other_none number ns state (All-tail IsFour n ns fours)
+    (All-tail (λ k. nat_lt number k ≡ true) n ns above) in
     elim (cases_eq n (s - 4)) [
       | inl same ↦
           subst (λ k. has_other s k (n ∷ ns) ≡ false) same
@@ -50,7 +52,8 @@ two_none number xs state fours =
     let left = filter (nat_lt number) (numbers xs) in
     let none = other_none number left state (All-filter (nat_lt number) IsFour (numbers xs) fours)
     (filter_passes (nat_lt number) (numbers xs)) in
-    ap (has_two (snapshot number)) (numbers_advanced number xs) ∙ no_two (snapshot number) (snapshot number - 4) left none
+    ap (has_two (snapshot number)) (numbers_advanced number xs) ∙
+    no_two (snapshot number) (snapshot number - 4) left none
 
 -- the marks of an advance and of an acceleration, one after the other
 given_all : {X : Type 0} (number : ℕ) (xs : List (Item X)) →
@@ -67,17 +70,20 @@ tend_is number xs state fours = rw (two_none number xs state fours) (given_all n
 -- an advance keeps what is so of each number
 advanced : {X : Type 0} (P : Number → Type 0) (number : ℕ) (xs : List (Item X)) → All P (numbers xs) →
     All P (numbers (after_advance xs number))
-advanced P number xs each = subst (All P) (sym (numbers_advanced number xs)) (All-filter (nat_lt number) P (numbers xs) each)
+advanced P number xs each =
+    subst (All P) (sym (numbers_advanced number xs)) (All-filter (nat_lt number) P (numbers xs) each)
 
 -- an advance leaves numbers within a bound
-pub most_advanced : {X : Type 0} (number snap : ℕ) (xs : List (Item X)) → IsAtMost snap xs → IsAtMost snap (after_advance xs number)
+pub most_advanced : {X : Type 0} (number snap : ℕ) (xs : List (Item X)) → IsAtMost snap xs →
+    IsAtMost snap (after_advance xs number)
 most_advanced number snap xs within = advanced (λ n. n ≤ snap) number xs within
 
 -- an advance leaves numbers that a callback may wait for
 pub left_may_wait : {X : Type 0} (number : ℕ) (xs : List (Item X)) → AreFours xs → IsAtMost (snapshot number) xs →
     All (MayWait number) (numbers (after_advance xs number))
 left_may_wait number xs fours within =
-    let above = subst (All (λ n. nat_lt number n ≡ true)) (sym (numbers_advanced number xs)) (filter_passes (nat_lt number) (numbers xs)) in
+    let above = subst (All (λ n. nat_lt number n ≡ true)) (sym (numbers_advanced number xs))
+    (filter_passes (nat_lt number) (numbers xs)) in
     let most = most_advanced number (snapshot number) xs within in
     let state = advanced IsFour number xs fours in
     λ k default inside. record {
@@ -95,7 +101,8 @@ marked_at call snap n false rest none = none
 pub all_marked : {X : Type 0} (number : ℕ) (xs : List (Item X)) → has_unmarked (after_tend xs number) ≡ false
 all_marked number [] = refl
 all_marked number (Of call Unmarked ∷ xs) = all_marked number xs
-all_marked number (Of call (Until n) ∷ xs) = marked_at call (snapshot number) n (nat_le n number) _ (all_marked number xs)
+all_marked number (Of call (Until n) ∷ xs) =
+    marked_at call (snapshot number) n (nat_le n number) _ (all_marked number xs)
 all_marked number (Of call Done ∷ xs) = all_marked number xs
 all_marked number (Marker ∷ xs) = all_marked number xs
 
@@ -130,8 +137,8 @@ fours_get (xs ∷ lists) zero fours = All-head (λ l. AreFours l) xs lists fours
 fours_get (xs ∷ lists) (suc cpu) fours = fours_get lists cpu (All-tail (λ l. AreFours l) xs lists fours)
 
 -- and another in its place too
-pub fours_set : {X : Type 0} (lists : List (List (Item X))) (cpu : ℕ) (xs : List (Item X)) → AllFours lists → AreFours xs →
-    AllFours (set lists cpu xs)
+pub fours_set : {X : Type 0} (lists : List (List (Item X))) (cpu : ℕ) (xs : List (Item X)) → AllFours lists →
+    AreFours xs → AllFours (set lists cpu xs)
 fours_set lists cpu xs fours new = All-set (λ l. AreFours l) lists cpu xs new fours
 
 -- empty lists have no number

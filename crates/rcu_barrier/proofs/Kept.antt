@@ -45,7 +45,8 @@ kept_first X cpus lists flags some few empty all =
 -- one list changes, and perhaps visits and the count of queued callbacks
 pub relisted : {X : Type 0} (all : AllLists X) (m n queued cpu : ℕ) (old xs : List (Item X)) (flags : List Bool) →
     m ≡ markers_in all.lists → IsSound all → cpu < length all.lists → old ≡ get_or all.lists cpu old →
-    length flags ≡ length all.visited → n + markers old ≡ m + markers xs → n + unvisited flags ≤ m + unvisited all.visited →
+    length flags ≡ length all.visited → n + markers old ≡ m + markers xs →
+    n + unvisited flags ≤ m + unvisited all.visited →
     queued ≤ most_queued → (AreFours old → AreFours xs) →
     (n ≡ markers_in (set all.lists cpu xs))
     × IsSound (record { lists = set all.lists cpu xs; visited = flags; running = all.running; queued = queued })
@@ -115,7 +116,8 @@ moved_kept all m n cpu owed flags count kept other inside sized now fewer =
     let some = kept.some in
     let most = kept.few in
     let within = kept.within in
-    let fours_first = fours_set all.lists 0 (after_migrate there xs) kept.fours (fours_moved xs there (fours_get all.lists 0 kept.fours)) in (
+    let fours_first = fours_set all.lists 0 (after_migrate there xs) kept.fours
+    (fours_moved xs there (fours_get all.lists 0 kept.fours)) in (
       omega arith,
       record {
         some = omega arith;

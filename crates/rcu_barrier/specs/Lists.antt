@@ -11,7 +11,7 @@ use Rattle.rcu_barrier.specs.declared.visit.Visit.TheVariants as visit
 use Rattle.rcu_barrier.specs.declared.barrier_state.BarrierState.{BarrierState}
 use Rattle.rcu_barrier.specs.declared.barrier_state.BarrierState.TheVariants as state
 
--- each processor's list, whether the barrier visited it, whether a barrier runs, and how many callbacks were queued so far
+-- each processor's list, whether the barrier visited it, whether a barrier runs, and how many callbacks were queued
 pub record AllLists (X : Type 0) : Type 0 where
   pub lists : List (List (Item X))
   pub visited : List Bool

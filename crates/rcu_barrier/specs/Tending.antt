@@ -1,10 +1,10 @@
 -- What a tend leaves of one processor's list, and which numbers a callback may wait for.
-use Rattle.std.specs.Prelude.{◌≡◌, ◌<◌, ◌≤◌, ◌+◌, ◌*◌, ◌/◌, ◌%◌, ◌==◌, ◌||◌, Bool, true, false, List, [], map, All}
+use Rattle.std.specs.Prelude.{◌≡◌, ◌<◌, ◌≤◌, ◌+◌, ◌%◌, ◌==◌, ◌||◌, Bool, true, false, List, map, All}
 use Rattle.std.specs.List.{list_any}
 use Rattle.rcu_seq.specs.Numbers.{Number, snapshot}
 use Rattle.rcu_cblist.specs.SegList.{Item, Mark, Of, Marker, Unmarked, Until, Done, mark_advanced, mark_given, numbers, remarked}
 
--- the mark after a tend: a number at most the given one becomes done, and where nothing was said it becomes the snapshot
+-- the mark after a tend: a number at most the given one becomes done, and where there was none it is the snapshot
 abbrev pub mark_after_tend : Number → Mark → Mark
 mark_after_tend number mark = mark_given (snapshot number) (mark_advanced number mark)
 

@@ -130,12 +130,10 @@ impl<T: Drop> Lists<T> {
         requires bounded { number ≤ 2 ^ 62 }
         requires within { IsAtMost (snapshot number) (list_of self.old cpu) }
         ensures state { self.new ≡ lists_after_tend self.old cpu number }
-        ensures done {
-            result.0 ≡ length (callbacks (front (after_tend (list_of self.old cpu) number)))
-        }
-        ensures waiting {
-            result.1 ≡ length (callbacks (behind (after_tend (list_of self.old cpu) number)))
-        }
+        ensures done { result.0
+            ≡ length (callbacks (front (after_tend (list_of self.old cpu) number))) }
+        ensures waiting { result.1
+            ≡ length (callbacks (behind (after_tend (list_of self.old cpu) number))) }
     {
         let list = &mut self.lists[cpu as usize];
         list.advance(number);
@@ -149,9 +147,8 @@ impl<T: Drop> Lists<T> {
     /// Fault 16, only where it has a callback to hand out.
     pub fn run(&mut self, cpu: u32, max: u64) -> Result<Vec<Queued<T>>, Fault>
         requires { cpu < cpus_of self.old }
-        ensures calls {
-            IfOk result (λ calls. calls.items ≡ take_answer (list_of self.old cpu) max)
-        }
+        ensures calls { IfOk result (λ calls. calls.items
+            ≡ take_answer (list_of self.old cpu) max) }
         ensures ok { OnOk result (self.new ≡ lists_after_run self.old cpu max) }
         ensures err { IfErr result (λ fault. fault ≡ Fault.NoMemory) }
         ensures memory { OnErr result (take_answer (list_of self.old cpu) max ≢ []) }
@@ -222,9 +219,8 @@ impl<T: Drop> Lists<T> {
         ensures answer { IfOk result (λ visit. visit ≡ visit_answer self.old cpu) }
         ensures ok { OnOk result (self.new ≡ lists_after_visit self.old cpu) }
         ensures err { IfErr result (λ fault. fault ≡ visit_fault self.old) }
-        ensures memory {
-            OnErr result (self.old.running ≡ true → visit_answer self.old cpu ≡ Visit.Marked)
-        }
+        ensures memory { OnErr result (self.old.running ≡ true
+            → visit_answer self.old cpu ≡ Visit.Marked) }
         ensures unchanged { OnErr result (self.new ≡ self.old) }
     {
         if !self.running {

@@ -368,8 +368,20 @@ leaving_first (x ∷ xs) true = refl
 
 -- what the calls leave of the counts, and what they show
 pub ruleset queue_steps = (front_push, callbacks_push, first_queued, view_push)
+
 pub ruleset given_steps = (front_given, callbacks_remarked)
+
 pub ruleset take_steps = (
-  first_from, taken_least, untaken_least, front_from, callbacks_from, length_taken, callbacks_parts, taken_none)
+  first_from,
+  taken_least,
+  untaken_least,
+  front_from,
+  callbacks_from,
+  length_taken,
+  callbacks_parts,
+  taken_none,
+)
+
 pub ruleset move_steps = (front_moved, callbacks_moved, callbacks_of_kept, front_of_kept, first_moved)
+
 pub ruleset entrain_steps = (front_marker, callbacks_marker, first_push, view_push)

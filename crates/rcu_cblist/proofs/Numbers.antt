@@ -1,9 +1,8 @@
 -- The numbers that callbacks carry, walked in order.
-use Rattle.std.proofs.Common.{◌≡◌, ℕ, ◌≤◌, max, Some, None, Bool, true, false, not, nat_lt, inl, inr, subst, ◌==◌, ◌&&◌, ◌||◌, List, [], ◌∷◌, refl, ap, sym, ◌∙◌, arith}
+use Rattle.std.proofs.Common.{◌≡◌, ◌≤◌, max, Some, None, Bool, true, false, not, nat_lt, inl, inr, subst, ◌==◌, ◌&&◌, ◌||◌, List, [], ◌∷◌, refl, ap, sym, ◌∙◌, arith}
 use Rattle.std.specs.Prelude.{if◌then◌else◌, All, fold}
 use Rattle.std.proofs.lemmas.List.Elements.{All-nil, All-cons}
-use Rattle.std.proofs.lemmas.Bool.{cases_Bool, cases_eq}
-use Rattle.std.proofs.lemmas.Bool.Decides.{nat_tests}
+use Rattle.std.proofs.lemmas.Bool.{cases_Bool}
 use Rattle.std.specs.List.{list_any}
 use Rattle.rcu_seq.specs.Numbers.{Number}
 use Rattle.rcu_cblist.proofs.SegListLemmas.{none_other, other_same}

@@ -2,7 +2,7 @@
 use Rattle.std.proofs.Common.{◌≡◌, ℕ, zero, suc, ◌+◌, ◌≤◌, Bool, true, false, not, ◌&&◌, ◌||◌, ◌==◌, nat_le, nat_lt, inl, inr, List, [], ◌∷◌, ◌++◌, length, map, refl, ap, sym, subst, ◌∙◌, arith}
 use Rattle.std.specs.Prelude.{if◌then◌else◌, All, filter}
 use Rattle.std.specs.List.{list_any}
-use Rattle.std.proofs.lemmas.Bool.{cases_Bool, cases_eq}
+use Rattle.std.proofs.lemmas.Bool.{cases_eq}
 use Rattle.std.proofs.lemmas.Bool.Decides.{nat_tests}
 use Rattle.std.proofs.lemmas.List.{append-nil}
 use Rattle.std.proofs.lemmas.List.Elements.{All-nil, All-cons, All-head, All-tail, All-append, All-push, All-map, All-weaker, filter_map-append}
@@ -125,8 +125,8 @@ numbers_advanced number (Marker ∷ xs) = numbers_advanced number xs
 numbers_advanced number (Of call Unmarked ∷ xs) = numbers_advanced number xs
 numbers_advanced number (Of call Done ∷ xs) = numbers_advanced number xs
 numbers_advanced number (Of call (Until n) ∷ xs) =
-    advanced_at call n (after_advance xs number) (nat_le n number) (nat_lt number n) (filter (nat_lt number) (numbers xs)) later
-    (numbers_advanced number xs)
+    advanced_at call n (after_advance xs number) (nat_le n number) (nat_lt number n)
+    (filter (nat_lt number) (numbers xs)) later (numbers_advanced number xs)
   where
     later : nat_lt number n ≡ not (nat_le n number)
     later = grind (arith, nat_tests)
@@ -139,9 +139,9 @@ numbers_advanced number (Of call (Until n) ∷ xs) =
     advanced_at call n xs false true rest is same = ap (λ l. n ∷ l) same
     advanced_at call n xs false false rest is same = cc
 
--- where each number has a property, and so has the snapshot, each has it once the unmarked callbacks are given the snapshot
-pub numbers_given : {X : Type 0} (P : Number → Type 0) (snap : Number) (xs : List (Item X)) → P snap → All P (numbers xs) →
-    All P (numbers (map (remarked (mark_given snap)) xs))
+-- a property of each number and of the snapshot stays one of each once the unmarked callbacks are given the snapshot
+pub numbers_given : {X : Type 0} (P : Number → Type 0) (snap : Number) (xs : List (Item X)) → P snap →
+    All P (numbers xs) → All P (numbers (map (remarked (mark_given snap)) xs))
 numbers_given P snap [] new each = each
 numbers_given P snap (Marker ∷ xs) new each = numbers_given P snap xs new each
 numbers_given P snap (Of call Done ∷ xs) new each = numbers_given P snap xs new each
@@ -179,8 +179,8 @@ pub other_above : (snap n k : Number) (ns : List Number) → nat_lt k snap ≡ f
 other_above snap n k ns over = ap (λ below. (below && not (k == n)) || has_other snap n ns) over
 
 -- where no number but n is below the snapshot, none below it has another one
-pub none_other : (snap n : Number) (all some : List Number) → has_other snap n all ≡ false → has_other snap n some ≡ false →
-    list_any (λ k. nat_lt k snap && has_other snap k all) some ≡ false
+pub none_other : (snap n : Number) (all some : List Number) → has_other snap n all ≡ false →
+    has_other snap n some ≡ false → list_any (λ k. nat_lt k snap && has_other snap k all) some ≡ false
 none_other snap n all [] no_other none = refl
 none_other snap n all (k ∷ some) no_other none =
     let rest = none_other snap n all some no_other (last_of _ _ none) in
@@ -247,5 +247,7 @@ module _ {X : Type 0} (P : Item X → Type 0) where
   pub each_moved : (xs ys : List (Item X)) → ((x : Item X) → P x → P (without_mark x)) → All P xs → All P ys →
       All P (after_migrate ys xs)
   each_moved xs ys keeps each others =
-      All-append P (front xs ++ ys) (map without_mark (behind xs)) (All-append P (front xs) ys (each_front xs each) others)
-      (All-map P without_mark (behind xs) (All-weaker P (λ x. P (without_mark x)) keeps (behind xs) (each_behind xs each)))
+      All-append P (front xs ++ ys) (map without_mark (behind xs))
+      (All-append P (front xs) ys (each_front xs each) others)
+      (All-map P without_mark (behind xs)
+      (All-weaker P (λ x. P (without_mark x)) keeps (behind xs) (each_behind xs each)))

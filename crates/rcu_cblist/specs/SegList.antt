@@ -112,7 +112,8 @@ module _ {X : Type 0} where
   abbrev pub IsAtMost : Number → List (Item X) → Type 0
   IsAtMost snap xs = All (λ n. n ≤ snap) (numbers xs)
 
-  -- the list once each unmarked callback is given the snapshot, which changes nothing where two different numbers below it are carried
+  -- the list once each unmarked callback is given the snapshot, which changes nothing where callbacks carry two
+  -- different numbers below it
   abbrev pub after_accelerate : List (Item X) → Number → List (Item X)
   after_accelerate xs snap = if has_two snap (numbers xs) then xs else map (remarked (mark_given snap)) xs
 
@@ -145,6 +146,7 @@ module _ {X : Type 0} where
   abbrev pub markers_passed : List (Item X) → ℕ → ℕ
   markers_passed xs most = markers xs - markers (after_take xs most)
 
-  -- what a target that had ys has once xs moved there: the done part in front of ys, and the rest behind it without its marks
+  -- what a target that had ys has once xs moved there: the done part in front of ys, and the rest behind it without
+  -- its marks
   abbrev pub after_migrate : List (Item X) → List (Item X) → List (Item X)
   after_migrate ys xs = (front xs ++ ys) ++ map without_mark (behind xs)

@@ -189,9 +189,8 @@ impl<T: Drop> SegList<T> {
     /// Fault 16, only where there is something to move.
     #[tactic(auto, using(crate::proofs::Lists::move_steps))]
     fn move_into(&mut self, target: &mut SegList<T>, marked: bool) -> Result<(), Fault>
-        ensures ok {
-            OnOk result (target.new ≡ after_migrate target.old (as_it_leaves self.old marked))
-        }
+        ensures ok { OnOk result (target.new
+            ≡ after_migrate target.old (as_it_leaves self.old marked)) }
         ensures emptied { OnOk result (self.new ≡ []) }
         ensures err { IfErr result (λ fault. fault ≡ Fault.NoMemory) }
         ensures memory { OnErr result (self.old ≢ []) }

@@ -29,9 +29,8 @@ fn advance_each<T: Drop>(items: &mut [Kept<T>], number: u64)
 
 /// Gives the number to each unmarked callback.
 pub(crate) fn accelerate_all<T: Drop>(items: &mut VecDeque<Kept<T>>, snap: u64)
-    ensures {
-        items_of items.new.items ≡ map (remarked (mark_given snap)) (items_of items.old.items)
-    }
+    ensures { items_of items.new.items
+        ≡ map (remarked (mark_given snap)) (items_of items.old.items) }
 {
     accelerate_each(items.make_contiguous(), snap);
 }
@@ -97,13 +96,11 @@ pub(crate) fn take_first<T: Drop>(
 ) -> u64
     requires room { vec_len calls.old + most ≤ vec_capacity calls.old }
     requires few { length items.old.items < 2 ^ 63 }
-    ensures calls {
-        calls.new.items ≡ calls.old.items ++ take most (callbacks (items_of items.old.items))
-    }
+    ensures calls { calls.new.items
+        ≡ calls.old.items ++ take most (callbacks (items_of items.old.items)) }
     ensures items { items_of items.new.items ≡ from_callback most (items_of items.old.items) }
-    ensures markers {
-        result + markers (items_of items.new.items) ≡ markers (items_of items.old.items)
-    }
+    ensures markers { result + markers (items_of items.new.items)
+        ≡ markers (items_of items.old.items) }
 {
     let mut markers = 0;
     let mut left = most;
@@ -130,10 +127,8 @@ pub(crate) fn take_first<T: Drop>(
 /// without its marks.
 pub(crate) fn carry<T: Drop>(items: &mut VecDeque<Kept<T>>, target: &mut VecDeque<Kept<T>>)
     requires room { deque_len target.old + deque_len items.old ≤ deque_capacity target.old }
-    ensures target {
-        items_of target.new.items
-        ≡ after_migrate (items_of target.old.items) (items_of items.old.items)
-    }
+    ensures target { items_of target.new.items
+        ≡ after_migrate (items_of target.old.items) (items_of items.old.items) }
     ensures items { items.new.items ≡ [] }
 {
     let ahead = count_front(items).0;
@@ -145,11 +140,9 @@ pub(crate) fn carry<T: Drop>(items: &mut VecDeque<Kept<T>>, target: &mut VecDequ
 #[tactic(auto, using(crate::proofs::Lists::split_view))]
 fn unmark_behind<T: Drop>(items: &mut VecDeque<Kept<T>>, ahead: usize)
     requires { ahead ≤ length items.old.items }
-    ensures view {
-        items_of items.new.items
+    ensures view { items_of items.new.items
         ≡ take ahead (items_of items.old.items)
-        ++ map without_mark (drop ahead (items_of items.old.items))
-    }
+        ++ map without_mark (drop ahead (items_of items.old.items)) }
     ensures len { deque_len items.new ≡ deque_len items.old }
 {
     let (_, rest) = items.make_contiguous().split_at_mut(ahead);
@@ -170,10 +163,8 @@ fn unmark_each<T: Drop>(items: &mut [Kept<T>])
 fn join_around<T: Drop>(target: &mut VecDeque<T>, items: &mut VecDeque<T>, ahead: usize)
     requires ahead { ahead ≤ length items.old.items }
     requires room { deque_len target.old + deque_len items.old ≤ deque_capacity target.old }
-    ensures target {
-        target.new.items
-        ≡ take ahead items.old.items ++ (target.old.items ++ drop ahead items.old.items)
-    }
+    ensures target { target.new.items
+        ≡ take ahead items.old.items ++ (target.old.items ++ drop ahead items.old.items) }
     ensures items { items.new.items ≡ [] }
 {
     items.rotate_left(ahead);

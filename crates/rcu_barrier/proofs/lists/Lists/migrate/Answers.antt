@@ -26,7 +26,8 @@ invariant_of-self-2 g c =
     let old : AllLists g.row.T.Denot = record { lists = i.lists.items; visited = i.visits; running = i.running; queued = i.queued } in
     let inside : cpu < length i.lists.items = subst (λ v. cpu < length v.lists) (sym c.self.view_is) c.requires.cpu in
     let owed = c.owes_visit-owed.result in
-    let owes : owes_visit old cpu ≡ owed = subst (λ v. owes_visit v cpu ≡ owed) (sym c.self.view_is) (sym c.owes_visit-owed.ensures) in
+    let owes : owes_visit old cpu ≡ owed =
+    subst (λ v. owes_visit v cpu ≡ owed) (sym c.self.view_is) (sym c.owes_visit-owed.ensures) in
     let moved : c.move_to_first.new.lists ≡ lists_after_move i.lists.items cpu owed =
     c.in_ok-moved.ensures.ok ∙ ap (λ l. lists_after_move l cpu owed) c.as_mut_slice.ensures.value in
     let first = after_migrate (list_at i.lists.items 0) (as_it_leaves (list_at i.lists.items cpu) owed) in
@@ -50,11 +51,12 @@ invariant_of-self-2 g c =
           let one : one_if owed ≡ 1 = ap one_if w.if-owed.true in
           subst Sound (sym w.self-inside-is)
           (subst (Kept w.insert.new.self) (sym back)
-          (moved_kept old i.markers (i.markers + c.from.result) cpu owed w.insert.new.self k.0 k.1 c.requires.other inside
-          (ap length w.insert.ensures ∙ length-set i.visits cpu true) more (omega arith)))
+          (moved_kept old i.markers (i.markers + c.from.result) cpu owed w.insert.new.self k.0 k.1 c.requires.other
+          inside (ap length w.insert.ensures ∙ length-set i.visits cpu true) more (omega arith)))
       | else-owed w ↦
           let none : one_if owed ≡ 0 = ap one_if w.if-owed.false in
           subst Sound (sym w.self-inside-is)
           (subst (Kept i.visits) (sym back)
-          (moved_kept old i.markers (i.markers + c.from.result) cpu owed i.visits k.0 k.1 c.requires.other inside refl more (omega arith)))
+          (moved_kept old i.markers (i.markers + c.from.result) cpu owed i.visits k.0 k.1 c.requires.other inside
+          refl more (omega arith)))
     ]

@@ -1,4 +1,4 @@
-use Rattle.std.proofs.Common.{◌≡◌, ◌+◌, ◌*◌, ◌/◌, ◌<◌, [], length, set, get_or, refl, ap, sym, subst, ◌∙◌, arith}
+use Rattle.std.proofs.Common.{◌≡◌, ◌<◌, [], length, set, get_or, refl, ap, sym, subst, ◌∙◌, arith}
 use Rattle.rcu_cblist.specs.SegList.{IsAtMost, behind, callbacks, front, markers}
 use Rattle.rcu_barrier.specs.Tending.{AreFours, after_tend}
 use Rattle.rcu_seq.specs.Numbers.{snapshot}

@@ -1,4 +1,4 @@
-use Rattle.std.proofs.Common.{◌≡◌, ◌<◌, length, get_or, true, false, subst, sym, arith}
+use Rattle.std.proofs.Common.{◌≡◌, ◌<◌, length, get_or, false, subst, sym, arith}
 use Rattle.rcu_barrier.proofs.Markers.{unvisited_set}
 use Rattle.rcu_barrier.proofs.visits.Visits.insert.Goals as goal
 
