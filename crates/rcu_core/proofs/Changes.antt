@@ -6,9 +6,8 @@ use Rattle.std.proofs.lemmas.List.Elements.{All-set}
 use Rattle.rcu_seq.specs.Numbers.{Number, number_at}
 use Rattle.rcu_seq.specs.Seq.{Periods, number_of}
 use Rattle.rcu_hotplug.specs.Hotplug.{Processors, Begin, cpus_of, after_call}
-use Rattle.rcu_cblist.specs.SegList.{Item, after_entrain, greatest, after_migrate, numbers}
+use Rattle.rcu_cblist.specs.SegList.{Item, after_entrain, greatest, after_migrate, numbers, as_it_leaves}
 use Rattle.rcu_barrier.specs.Lists.{AllLists, cpus_of as cpus_of_lists, owes_visit, is_visited, list_of, lists_after_migrate, lists_after_queue, lists_after_run, lists_after_tend, lists_after_visit, with_list}
-use Rattle.rcu_cblist.specs.SegList.{as_it_leaves}
 use Rattle.rcu_barrier.specs.Tending.{after_tend as list_after_tend}
 use Rattle.rcu_core.specs.Callbacks.{greatest_from}
 use Rattle.rcu_core.specs.GpState.{AreTimely, Grace, IsSound, after_end, after_tend}

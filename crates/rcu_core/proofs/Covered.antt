@@ -7,8 +7,7 @@ use Rattle.std.proofs.lemmas.Bool.Decides.{nat_tests}
 use Rattle.std.proofs.lemmas.List.FromFn.{length-range_with_len, get_or-range_with_len}
 use Rattle.std.proofs.lemmas.List.Sums.{get_or-le-sum_by, sum_by-cons}
 use Rattle.rcu_seq.specs.declared.fault.Fault.TheVariants as fault
-use Rattle.rcu_cblist.specs.SegList.{Item, Of, Marker, Mark, Unmarked, Until, Done, behind, after_entrain, from_callback, front, is_marker, markers, after_migrate, remarked, take_answer, without_mark, after_take}
-use Rattle.rcu_cblist.specs.SegList.{as_it_leaves}
+use Rattle.rcu_cblist.specs.SegList.{Item, Of, Marker, Mark, Unmarked, Until, Done, behind, after_entrain, from_callback, front, is_marker, markers, after_migrate, remarked, take_answer, without_mark, after_take, as_it_leaves}
 use Rattle.rcu_barrier.specs.Tending.{mark_after_tend, after_tend}
 use Rattle.rcu_core.specs.Callbacks.{barrier_runs, is_owed, list, queued, queued_before_barrier, times_handed_out, was_visited}
 use Rattle.rcu_core.specs.History.{History, number}

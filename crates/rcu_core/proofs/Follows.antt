@@ -7,6 +7,7 @@ use Rattle.std.proofs.lemmas.List.{length-set, take_more}
 use Rattle.rcu_seq.specs.Numbers.{snapshot}
 use Rattle.rcu_seq.specs.Seq.{number_of}
 use Rattle.rcu_seq.specs.declared.fault.Fault.{Fault}
+use Rattle.rcu_node.proofs.CpuSetLemmas.{in_none}
 use Rattle.rcu_cpu.specs.CpuData as cpu_data
 use Rattle.rcu_cpu.specs.CpuData.{Processor}
 use Rattle.rcu_cblist.specs.SegList.{Item, numbers}
@@ -32,7 +33,6 @@ use Rattle.rcu_core.proofs.FollowsPeriods.{length-awaited_by}
 use Rattle.rcu_core.proofs.Kept.{enter_counts, exit_counts, exits_le}
 use Rattle.rcu_core.proofs.Situations.{number_same, longer, one_changed, same, within, within_all}
 use Rattle.rcu_core.proofs.Sound.{first_cpus, first_at, no_item, boot_alone}
-use Rattle.rcu_node.proofs.CpuSetLemmas.{in_none}
 use Rattle.rcu_core.proofs.Steps.{waits_said}
 use Rattle.rcu_core.proofs.Writes.{eqb_self, one_written}
 

@@ -3,9 +3,9 @@ use Rattle.std.proofs.Common.{◌≡◌, ℕ, ◌+◌, ◌<◌, Bool, true, fals
 use Rattle.std.proofs.Common.{refl, sym, ap, ap₂, ◌∙◌, arith, eqb, get_or, slice_set}
 use Rattle.std.proofs.lemmas.Bool.Decides.{nat_tests}
 use Rattle.std.proofs.lemmas.List.{length-set}
-use Rattle.rcu_cblist.specs.SegList.{Item, after_entrain, after_migrate, after_take}
+use Rattle.rcu_node.proofs.CpuSetLemmas.{in_none}
+use Rattle.rcu_cblist.specs.SegList.{Item, after_entrain, after_migrate, after_take, as_it_leaves}
 use Rattle.rcu_barrier.specs.Lists.{AllLists, owes_visit, is_visited, list_of, with_list}
-use Rattle.rcu_cblist.specs.SegList.{as_it_leaves}
 use Rattle.rcu_barrier.specs.Lists.{lists_after_barrier_begin, lists_after_migrate, lists_after_queue, lists_after_run}
 use Rattle.rcu_barrier.specs.Lists.{lists_after_tend, lists_after_visit}
 use Rattle.rcu_barrier.specs.Tending.{after_tend}
@@ -15,7 +15,6 @@ use Rattle.rcu_core.specs.History.{History, number}
 use Rattle.rcu_core.specs.Situation.{calls_in}
 use Rattle.rcu_core.specs.declared.event.Event.TheVariants.{Offline, Queue, Tend, Run, BarBegin, Visit, BarTest}
 use Rattle.rcu_core.proofs.Kept.{queue_counts}
-use Rattle.rcu_node.proofs.CpuSetLemmas.{in_none}
 use Rattle.rcu_core.proofs.Writes.{eqb_self, marked, one_written}
 
 -- the lists and the barrier are as a history says

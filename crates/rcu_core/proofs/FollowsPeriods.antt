@@ -6,6 +6,7 @@ use Rattle.std.proofs.lemmas.Bool.{cases_lt, and_right}
 use Rattle.std.proofs.lemmas.List.{get_or_past}
 use Rattle.rcu_seq.specs.Numbers.{number_at, same_number}
 use Rattle.rcu_node.specs.CpuSet.{is_in}
+use Rattle.rcu_node.proofs.CpuSetLemmas.{is_in-remove}
 use Rattle.rcu_report.specs.declared.report.Report.{Report}
 use Rattle.rcu_hotplug.specs.Hotplug.{cpus_of}
 use Rattle.rcu_seq.specs.Seq.{number_of}
@@ -22,7 +23,6 @@ use Rattle.rcu_core.proofs.Kept.{begin_counts, end_counts, turns, none_awaited}
 use Rattle.rcu_core.proofs.Situations.{longer, number_same, same}
 use Rattle.rcu_core.proofs.Sound.{length-awaited_after}
 use Rattle.rcu_core.proofs.Steps.{awaited_size}
-use Rattle.rcu_core.proofs.Writes.{cleared}
 
 and_yes : (b : Bool) → b ≡ (b && true)
 and_yes true = refl
@@ -30,7 +30,7 @@ and_yes false = refl
 
 -- what is awaited after a report
 reported_awaited : (a b : Bool) (set : List Bool) (cpu c : ℕ) → is_in (cond a (cond b (slice_set set cpu false) set) set) c ≡ (is_in set c && not (a && (b && eqb cpu c)))
-reported_awaited true true set cpu c = cleared set cpu c
+reported_awaited true true set cpu c = is_in-remove set cpu c
 reported_awaited true false set cpu c = and_yes (is_in set c)
 reported_awaited false b set cpu c = and_yes (is_in set c)
 
@@ -73,7 +73,7 @@ awaits_delivered v h k x c =
 pub awaits_departed : (v : State ℕ) (h : History) (c : ℕ) → Represents v h →
     (k : ℕ) → is_in (slice_set v.grace.processors.awaited c false) k ≡ awaits k (Offline c ∷ h)
 awaits_departed v h c x k =
-    cleared v.grace.processors.awaited c k
+    is_in-remove v.grace.processors.awaited c k
     ∙ ap (λ (b : Bool). b && not (eqb c k)) (x.cpus.awaits k)
     ∙ sym (unless_heard (running h) (online k (latest begins h)) (eqb c k) (is_heard k (number h) h))
 

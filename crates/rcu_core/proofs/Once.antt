@@ -4,8 +4,7 @@ use Rattle.std.proofs.lemmas.Bool.{cases_eq}
 use Rattle.std.proofs.lemmas.Bool.Decides.{nat_tests}
 use Rattle.std.proofs.lemmas.List.Sums.{sum_by-cons}
 use Rattle.rcu_cblist.specs.declared.queued.Queued.{Queued}
-use Rattle.rcu_cblist.specs.SegList.{Item, Of, Marker, Mark, Unmarked, Until, Done, behind, front, after_migrate, remarked, take_answer, without_mark, after_take}
-use Rattle.rcu_cblist.specs.SegList.{as_it_leaves}
+use Rattle.rcu_cblist.specs.SegList.{Item, Of, Marker, Mark, Unmarked, Until, Done, behind, front, after_migrate, remarked, take_answer, without_mark, after_take, as_it_leaves}
 use Rattle.rcu_barrier.specs.Tending.{mark_after_tend, after_tend}
 use Rattle.rcu_core.specs.Callbacks.{copies, is_owed, list, queued, times_handed_out}
 use Rattle.rcu_core.specs.History.{History, number}

@@ -8,6 +8,7 @@ use Rattle.std.proofs.lemmas.List.Elements.{All-append}
 use Rattle.std.proofs.lemmas.List.FromFn.{get_or-map-range_with_len, length-map-range_with_len, map-range_with_len_more}
 use Rattle.rcu_seq.specs.Numbers.{same_number}
 use Rattle.rcu_node.specs.CpuSet.{is_in}
+use Rattle.rcu_node.proofs.CpuSetLemmas.{length-remove_where}
 use Rattle.rcu_report.specs.declared.report.Report.{Report}
 use Rattle.rcu_hotplug.specs.Hotplug.{cpus_of}
 use Rattle.rcu_cpu.specs.CpuData.{Processor, at_first as made_processor, report_of}
@@ -30,16 +31,12 @@ stays_sound v g online sized lists s = record {
   made = rw sized s.made;
 }
 
-length-without : (same : Bool) (set : List Bool) (cpu : ℕ) → length (cond same (slice_set set cpu false) set) ≡ length set
-length-without true set cpu = length-set set cpu false
-length-without false set cpu = refl
-
 -- a report leaves as many flags
 pub length-awaited_after : (g : Grace ℕ) (report : Report) → length (awaited_after g report) ≡ length g.processors.awaited
 length-awaited_after g report = go g.seq.running
   where
     go : (b : Bool) → length (cond b (cond (same_number report.tag (number_of g.seq)) (slice_set g.processors.awaited report.cpu false) g.processors.awaited) g.processors.awaited) ≡ length g.processors.awaited
-    go true = length-without (same_number report.tag (number_of g.seq)) g.processors.awaited report.cpu
+    go true = length-remove_where (same_number report.tag (number_of g.seq)) g.processors.awaited report.cpu
     go false = refl
 
 -- after a report

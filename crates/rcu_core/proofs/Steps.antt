@@ -7,6 +7,7 @@ use Rattle.rcu_seq.specs.Numbers.{same_number}
 use Rattle.rcu_seq.specs.declared.fault.Fault.{Fault}
 use Rattle.rcu_seq.specs.declared.fault.Fault.TheVariants as fault
 use Rattle.rcu_node.specs.CpuSet.{is_in, size_of}
+use Rattle.rcu_node.proofs.CpuSetLemmas.{count_by-is_in}
 use Rattle.rcu_node.specs.declared.answer.Answer.{Answer}
 use Rattle.rcu_node.specs.declared.answer.Answer.TheVariants.{Taken, Last, Repeat, Stale}
 use Rattle.rcu_report.specs.declared.report.Report.{Report}
@@ -30,7 +31,6 @@ use Rattle.rcu_core.specs.declared.reply.Reply.TheVariants as reply
 use Rattle.rcu_core.specs.declared.turned.Turned.{Turned}
 use Rattle.rcu_core.specs.declared.turned.Turned.TheVariants as turned
 use Rattle.rcu_core.proofs.Counting.{markers_of_each, unvisited_of_each}
-use Rattle.rcu_node.proofs.CpuSetLemmas.{count_by-is_in}
 
 -- a step of a state is one of any state that equals it
 pub along : (u v w : State ℕ) (e : Event) (r : Reply) → v ≡ u → StepsLegally v e r w → StepsLegally u e r w

@@ -5,8 +5,7 @@ use Rattle.std.proofs.lemmas.List.Elements.{All-nil, All-cons, All-head, All-tai
 use borrow.Author.Tests.{leb-true}
 use Rattle.rcu_seq.specs.Numbers.{Number}
 use Rattle.rcu_cblist.specs.declared.queued.Queued.{Queued}
-use Rattle.rcu_cblist.specs.SegList.{Item, Mark, Of, Marker, Unmarked, Until, Done, IsAtMost, behind, callbacks, after_entrain, from_callback, front, greatest, mark_given, after_migrate, numbers, take_answer, without_mark, after_take}
-use Rattle.rcu_cblist.specs.SegList.{as_it_leaves}
+use Rattle.rcu_cblist.specs.SegList.{Item, Mark, Of, Marker, Unmarked, Until, Done, IsAtMost, behind, callbacks, after_entrain, from_callback, front, greatest, mark_given, after_migrate, numbers, take_answer, without_mark, after_take, as_it_leaves}
 use Rattle.rcu_seq.specs.Numbers.{snapshot}
 use Rattle.rcu_barrier.specs.Tending.{after_tend, mark_after_tend}
 use Rattle.rcu_core.specs.Callbacks.{greatest_from}

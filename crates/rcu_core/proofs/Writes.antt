@@ -15,17 +15,6 @@ one_written {X} d xs c x f g l h at other k = elim (cases_eq k c) [
   | inr n ↦ get_or-set_other xs c k x d n ∙ h k ∙ sym (other k (ne_eqb c k (λ i. n (sym i))))
 ]
 
-eqb_suc : (k c : ℕ) → eqb (suc k) (suc c) ≡ eqb k c
-eqb_suc k c = grind (arith, nat_tests)
-
--- a flag is cleared, wherever it stands
-pub cleared : (xs : List Bool) (c k : ℕ) → get_or (slice_set xs c false) k false ≡ (get_or xs k false && not (eqb c k))
-cleared [] c k = refl
-cleared (x ∷ xs) zero zero = sym (and_right x false refl)
-cleared (x ∷ xs) zero (suc k) = grind (arith, nat_tests)
-cleared (x ∷ xs) (suc c) zero = grind (arith, nat_tests)
-cleared (x ∷ xs) (suc c) (suc k) = cleared xs c k ∙ ap (λ b. get_or xs k false && not b) (sym (eqb_suc c k))
-
 -- a flag is set, where it is not set already
 pub marked : (set : Bool) (xs : List Bool) (c k : ℕ) → c < length xs → get_or xs c false ≡ set
     → get_or (cond set xs (slice_set xs c true)) k false ≡ (eqb c k || get_or xs k false)

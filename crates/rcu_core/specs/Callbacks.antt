@@ -4,8 +4,7 @@ use Rattle.std.specs.Prelude.{List, [], ◌∷◌, ◌++◌, count_by}
 use Rattle.rcu_seq.specs.Histories.{has_full, is_on, latest, some_since}
 use Rattle.rcu_seq.specs.Numbers.{Number, snapshot}
 use Rattle.rcu_cblist.specs.declared.queued.Queued.{Queued}
-use Rattle.rcu_cblist.specs.SegList.{Item, Of, Unmarked, after_migrate, numbers, take_answer, after_take}
-use Rattle.rcu_cblist.specs.SegList.{as_it_leaves}
+use Rattle.rcu_cblist.specs.SegList.{Item, Of, Unmarked, after_migrate, numbers, take_answer, after_take, as_it_leaves}
 use Rattle.rcu_barrier.specs.Tending.{after_tend}
 use Rattle.rcu_core.specs.History.{History, begins, ends, number}
 use Rattle.rcu_core.specs.declared.event.Event.{Event}
