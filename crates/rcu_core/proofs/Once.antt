@@ -200,3 +200,8 @@ no_second_run s run j l = at_most_once s j (history run) (possible s run l)
 pub then_once : (s : Size) (j : ℕ) (h : History) → AreAccepted s h → 0 < j → j ≤ queued h → lies_below s.cpus j h ≡ 0 → times_handed_out j h ≡ 1
 unfolding total
 then_once s j h p z b e = let o = (once_each s j h p).there z b in omega (arith, o, e)
+
+-- one that was queued was handed out or lies in a list, once
+pub queued_once : (s : Size) (j : ℕ) (h : History) → AreAccepted s h → 0 < j → j ≤ queued h → times_handed_out j h + lies_below s.cpus j h ≡ 1
+unfolding total
+queued_once s j h p z b = (once_each s j h p).there z b

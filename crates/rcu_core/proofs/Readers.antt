@@ -59,7 +59,7 @@ pub old_is_awaited : (s : Size) (run : Run) (c : ℕ) → IsLegalRun s run → i
 old_is_awaited s run c l i = awaited_from s c (history run) (facts s c (history run) (possible s run l)) i
 
 -- the earlier part of a legal run is one
-legal_before : (s : Size) (later earlier : Run) → IsLegalRun s (later ++ earlier) → IsLegalRun s earlier
+pub legal_before : (s : Size) (later earlier : Run) → IsLegalRun s (later ++ earlier) → IsLegalRun s earlier
 legal_before s [] earlier l = l
 legal_before s (x ∷ later) earlier l = legal_before s later earlier l.1
 
@@ -78,7 +78,7 @@ polled_is : (s : Size) (h : History) (k : ℕ) → IsLegalReply s (situation h) 
 polled_is s h k (inl i) = cc
 polled_is s h k (inr i) = absurd (cc)
 
-record Open (c : ℕ) (h x : History) : Type 0 where
+pub record Open (c : ℕ) (h x : History) : Type 0 where
   pub deep : 0 < depth c h
   pub at : opening c h ≡ x
 
@@ -86,7 +86,7 @@ open_if : (b : Bool) (x y : History) → cond b (Some x) None ≡ Some y → (b 
 open_if true x y e = (refl, cc)
 open_if false x y e = absurd (cc)
 
-open_from : (c : ℕ) (h x : History) → section c h ≡ Some x → Open c h x
+pub open_from : (c : ℕ) (h x : History) → section c h ≡ Some x → Open c h x
 open_from c h x e = let q = open_if (ltb 0 (depth c h)) (opening c h) x e in record { deep = ltb-true _ _ q.0; at = q.1 }
 
 snap_above : (a b n k : ℕ) → a ≤ b → k ≡ snapshot b → n < snapshot a → is_done_at k n ≡ true → ⊥

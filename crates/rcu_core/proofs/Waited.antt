@@ -94,17 +94,17 @@ unmarks h Marker k = tt
 queued_now : (c y : ℕ) (h : History) → Kept (record { ord = queued h + 1; at = number h; value = y }) Unmarked (Queue c y ∷ h)
 queued_now c y h = let n = queue_counts c y h in record { was = omega arith; at = grind (arith, nat_tests); timely = omega arith }
 
-each_cond : (P : Item ℕ → Type 0) (b : Bool) (xs ys : List (Item ℕ)) → All P xs → All P ys → All P (cond b xs ys)
+pub each_cond : (P : Item ℕ → Type 0) (b : Bool) (xs ys : List (Item ℕ)) → All P xs → All P ys → All P (cond b xs ys)
 each_cond P true xs ys a b = a
 each_cond P false xs ys a b = b
 
-each_from : (P : Item ℕ → Type 0) (n : ℕ) (xs : List (Item ℕ)) → All P xs → All P (from_callback n xs)
+pub each_from : (P : Item ℕ → Type 0) (n : ℕ) (xs : List (Item ℕ)) → All P xs → All P (from_callback n xs)
 each_from P n [] a = a
 each_from P n (Marker ∷ xs) a = each_from P n xs (All-tail P Marker xs a)
 each_from P zero (Of call mark ∷ xs) a = a
 each_from P (suc n) (Of call mark ∷ xs) a = each_from P n xs (All-tail P (Of call mark) xs a)
 
-each_front : (P : Item ℕ → Type 0) (xs : List (Item ℕ)) → All P xs → All P (front xs)
+pub each_front : (P : Item ℕ → Type 0) (xs : List (Item ℕ)) → All P xs → All P (front xs)
 each_front P [] a = a
 each_front P (Marker ∷ xs) a = All-cons P Marker (front xs) (All-head P Marker xs a) (each_front P xs (All-tail P Marker xs a))
 each_front P (Of call Unmarked ∷ xs) a = All-nil P
@@ -118,12 +118,12 @@ each_behind P (Of call Unmarked ∷ xs) a = a
 each_behind P (Of call (Until n) ∷ xs) a = a
 each_behind P (Of call Done ∷ xs) a = each_behind P xs (All-tail P (Of call Done) xs a)
 
-each_leaving : (P : Item ℕ → Type 0) (b : Bool) (xs : List (Item ℕ)) → P Marker → All P xs → All P (as_it_leaves xs b)
+pub each_leaving : (P : Item ℕ → Type 0) (b : Bool) (xs : List (Item ℕ)) → P Marker → All P xs → All P (as_it_leaves xs b)
 each_leaving P false xs m a = a
 each_leaving P true [] m a = a
 each_leaving P true (x ∷ xs) m a = All-push P (x ∷ xs) Marker a m
 
-each_moved : (P : Item ℕ → Type 0) (xs ys : List (Item ℕ)) → ((x : Item ℕ) → P x → P (without_mark x)) → All P xs → All P ys → All P (after_migrate ys xs)
+pub each_moved : (P : Item ℕ → Type 0) (xs ys : List (Item ℕ)) → ((x : Item ℕ) → P x → P (without_mark x)) → All P xs → All P ys → All P (after_migrate ys xs)
 each_moved P xs ys u a b =
     All-append P (front xs ++ ys) (map without_mark (behind xs)) (All-append P (front xs) ys (each_front P xs a) b)
     (All-map P without_mark (behind xs) (All-weaker P (λ x. P (without_mark x)) u (behind xs) (each_behind P xs a)))
@@ -154,16 +154,16 @@ lists_step s (Offline d) h p t a c =
     (each_cond K (eqb c 0) (after_migrate (list c h) xs) (list c h) (each_moved K xs (list c h) (unmarks (e ∷ h)) (each_leaving K (is_owed d h) (list d h) tt (w d)) (w c)) (w c))
 lists_step s e h p t a c = All-weaker (KeptItem h) (KeptItem (e ∷ h)) (keeps s e h p t) (list c h) (a c)
 
-lists_kept : (s : Size) (h : History) → AreAccepted s h → (c : ℕ) → All (KeptItem h) (list c h)
+pub lists_kept : (s : Size) (h : History) → AreAccepted s h → (c : ℕ) → All (KeptItem h) (list c h)
 lists_kept s [] p c = All-nil (KeptItem [])
 lists_kept s (e ∷ h) p c = lists_step s e h p.0 (turns s h p.1) (lists_kept s h p.1) c
 
 -- the number reached the snapshot of the callback's queueing
-record Waited (h : History) (call : Queued ℕ) : Type 0 where
+pub record Waited (h : History) (call : Queued ℕ) : Type 0 where
   pub at : call.at ≡ number_at_queueing call.ord h
   pub reached : snapshot call.at ≤ number h
 
-front_waited : (h : History) (xs : List (Item ℕ)) → All (KeptItem h) xs → All (Waited h) (callbacks (front xs))
+pub front_waited : (h : History) (xs : List (Item ℕ)) → All (KeptItem h) xs → All (Waited h) (callbacks (front xs))
 front_waited h [] a = All-nil (Waited h)
 front_waited h (Marker ∷ xs) a = front_waited h xs (All-tail (KeptItem h) Marker xs a)
 front_waited h (Of call Unmarked ∷ xs) a = All-nil (Waited h)
@@ -172,7 +172,7 @@ front_waited h (Of call Done ∷ xs) a =
     let k = All-head (KeptItem h) (Of call Done) xs a in
     All-cons (Waited h) call (callbacks (front xs)) (record { at = k.at; reached = k.timely.1 }) (front_waited h xs (All-tail (KeptItem h) (Of call Done) xs a))
 
-all_at : {X : Type 0} (P : X → Type 0) (xs : List X) (k : ℕ) (x : X) → All P xs → slice_get xs k ≡ Some x → P x
+pub all_at : {X : Type 0} (P : X → Type 0) (xs : List X) (k : ℕ) (x : X) → All P xs → slice_get xs k ≡ Some x → P x
 all_at P xs k x a e = subst P (get_or_from_slice_get xs k x x e) (a k x (slice_get_within xs k x e))
 
 period_passed : (s : Size) (h : History) (call : Queued ℕ) → AreAccepted s h → Waited h call → has_full_period (since call.ord h) ≡ true
@@ -196,7 +196,7 @@ ran_from : (b : Bool) (f : Fault) (xs values : List ℕ) → reply.Ran values �
 ran_from true f xs values e = absurd (cc)
 ran_from false f xs values e = ap values_in e
 
-ran_values : (s : Size) (h : History) (c m : ℕ) (values : List ℕ) → IsLegalReply s (situation h) (Run c m) (reply.Ran values) → values ≡ map (λ (call : Queued ℕ). call.value) (handed_out c m h)
+pub ran_values : (s : Size) (h : History) (c m : ℕ) (values : List ℕ) → IsLegalReply s (situation h) (Run c m) (reply.Ran values) → values ≡ map (λ (call : Queued ℕ). call.value) (handed_out c m h)
 ran_values s h c m values (inl i) = ran_from (leb s.cpus c) fault.BadCpu (map (λ (call : Queued ℕ). call.value) (handed_out c m h)) values i
 ran_values s h c m values (inr i) = absurd (cc)
 

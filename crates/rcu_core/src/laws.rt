@@ -1,11 +1,9 @@
 //! What the definitions say of every run: of any events, in any order, with legal replies.
 ghost use Rattle.std.specs.Prelude.{◌≡◌, ◌≢◌, ◌<◌, ◌≤◌, ◌∷◌, ◌++◌, ℕ, List, Some, true, slice_get};
-ghost use Rattle.rcu_seq.specs.Histories.{latest};
 ghost use Rattle.rcu_cblist.specs.declared.queued.Queued.{Queued};
 ghost use Rattle.rcu_core.specs.Callbacks.{handed_out, has_full_period, queued_before_barrier};
 ghost use Rattle.rcu_core.specs.Callbacks.{since, times_handed_out};
-ghost use Rattle.rcu_core.specs.History.{History, awaits, begins, is_heard, is_old, number};
-ghost use Rattle.rcu_core.specs.History.{online, running, section};
+ghost use Rattle.rcu_core.specs.History.{History, awaits, is_old, section};
 ghost use Rattle.rcu_core.specs.Replies.{Size};
 ghost use Rattle.rcu_core.specs.Runs.{IsLegalRun, Run, history, takes};
 
@@ -29,15 +27,6 @@ pub fn readers_finish_before_done()
         → section cpu (history earlier) ≡ Some opened
         → section cpu (history (later ++ (taking, Reply.Cookie (record { 0 = cookie })) ∷ earlier))
             ≢ Some opened }
-{}
-
-/// Two histories in which grace periods of one number began alike, and in which the same processors
-/// were heard since, in any order, await the same processors: so do two engines, whatever trees
-/// they use.
-pub fn equally_heard_await_the_same()
-    ensures { (h g : History) (cpu : ℕ) → running h ≡ running g
-        → online cpu (latest begins h) ≡ online cpu (latest begins g)
-        → is_heard cpu (number h) h ≡ is_heard cpu (number g) g → awaits cpu h ≡ awaits cpu g }
 {}
 
 /// No callback runs early: between the queueing of a callback and its handing out, a full grace

@@ -3,11 +3,13 @@
 #![tactic(auto)]
 
 pub mod cpu_list;
+pub mod definition_laws;
 pub mod event;
 pub mod event_core;
 pub mod gp_state;
 pub mod laws;
 pub mod reply;
+pub mod run_laws;
 #[cfg(test)]
 mod tests;
 pub mod turned;

@@ -1,0 +1,195 @@
+-- A callback stays what it was at its queueing, and who reads when it is handed out began after that.
+use Rattle.std.proofs.Common.{◌≡◌, ℕ, ◌+◌, ◌<◌, ◌≤◌, Bool, true, false, ◌&&◌, List, [], ◌∷◌, ◌++◌, length}
+use Rattle.std.proofs.Common.{Some, refl, subst, arith, cond, eqb, ne_eqb, slice_get, map, inl, inr}
+use Rattle.std.specs.Prelude.{All}
+use Rattle.std.proofs.lemmas.Bool.{cases_eq}
+use Rattle.std.proofs.lemmas.Bool.Decides.{nat_tests}
+use Rattle.std.proofs.lemmas.List.{length-map}
+use Rattle.std.proofs.lemmas.List.Elements.{All-nil, All-cons, All-head, All-tail, All-push, All-weaker}
+use Rattle.std.proofs.lemmas.List.Elements.{All-take, All-map}
+use Rattle.rcu_seq.specs.Numbers.{Number, snapshot}
+use Rattle.rcu_cblist.specs.declared.queued.Queued.{Queued}
+use Rattle.rcu_cblist.specs.SegList.{Item, Of, Marker, Mark, Unmarked, callbacks, front, after_migrate, remarked}
+use Rattle.rcu_cblist.specs.SegList.{take_answer, after_take}
+use Rattle.rcu_cblist.specs.SegList.{as_it_leaves}
+use Rattle.rcu_barrier.specs.Tending.{mark_after_tend, after_tend}
+use Rattle.rcu_core.specs.Callbacks.{handed_out, is_owed, list, queued}
+use Rattle.rcu_core.specs.History.{History, depth, enters, number, opening, section}
+use Rattle.rcu_core.specs.Links.{queued_as}
+use Rattle.rcu_core.specs.Replies.{Size, AreAccepted}
+use Rattle.rcu_core.specs.Runs.{IsLegalRun, history, Run as Trace}
+use Rattle.rcu_core.specs.declared.event.Event.{Event}
+use Rattle.rcu_core.specs.declared.event.Event.TheVariants.{Enter, Offline, Queue, Tend, Run, Visit}
+use Rattle.rcu_core.specs.declared.reply.Reply.TheVariants as reply
+use Rattle.rcu_core.proofs.Facts.{Facts, facts}
+use Rattle.rcu_core.proofs.Kept.{queue_counts}
+use Rattle.rcu_core.proofs.Readers.{Open, open_from, possible}
+use Rattle.rcu_core.proofs.Waited.{Waited, all_at, each_cond, each_from, each_front, each_leaving, each_moved}
+use Rattle.rcu_core.proofs.Waited.{front_waited, lists_kept, number_at_queueing, ran_values}
+use Rattle.rcu_core.proofs.Writes.{eqb_self}
+
+-- the callback was queued, and is what it was then
+record AsQueued (h : History) (call : Queued ℕ) : Type 0 where
+  pub was : call.ord ≤ queued h
+  pub found : queued_as call.ord h ≡ Some call
+
+-- the same of an item
+abbrev IsAsQueued : History → Item ℕ → Type 0
+IsAsQueued h (Of call mark) = AsQueued h call
+IsAsQueued h Marker = Unit {0}
+
+call_stays : (e : Event) (h : History) (call : Queued ℕ) → AsQueued h call → AsQueued (e ∷ h) call
+call_stays (Queue c y) h call k =
+    let n = queue_counts c y h in let w = k.was in
+    let other = ne_eqb (queued h + 1) call.ord (λ i. absurd (omega (arith, i, w))) in
+    record { was = omega (arith, n, w); found = rw other k.found }
+call_stays _ h call k = record { was = k.was; found = k.found }
+
+stays : (e : Event) (h : History) (x : Item ℕ) → IsAsQueued h x → IsAsQueued (e ∷ h) x
+stays e h (Of call mark) k = call_stays e h call k
+stays e h Marker k = tt
+
+remarked_stays : (h : History) (f : Mark → Mark) (x : Item ℕ) → IsAsQueued h x → IsAsQueued h (remarked f x)
+remarked_stays h f (Of call mark) k = k
+remarked_stays h f Marker k = tt
+
+queued_now : (c y : ℕ) (h : History)
+    → AsQueued (Queue c y ∷ h) (record { ord = queued h + 1; at = number h; value = y })
+queued_now c y h =
+    let n = queue_counts c y h in record { was = omega (arith, n); found = rw (eqb_self (queued h + 1)) refl }
+
+lists_step : (e : Event) (h : History) → ((c : ℕ) → All (IsAsQueued h) (list c h)) → (c : ℕ)
+    → All (IsAsQueued (e ∷ h)) (list c (e ∷ h))
+lists_step (Queue d y) h a c =
+    let P = IsAsQueued (Queue d y ∷ h) in let b = All-weaker (IsAsQueued h) P (stays (Queue d y) h) (list c h) (a c) in
+    each_cond P (eqb d c) (list c h ++ Of (record { ord = queued h + 1; at = number h; value = y }) Unmarked ∷ [])
+    (list c h)
+    (All-push P (list c h) _ b (queued_now d y h)) b
+lists_step (Tend d) h a c =
+    let P = IsAsQueued (Tend d ∷ h) in let b = All-weaker (IsAsQueued h) P (stays (Tend d) h) (list c h) (a c) in
+    let change = remarked (mark_after_tend (number h)) in
+    let same = remarked_stays (Tend d ∷ h) (mark_after_tend (number h)) in
+    each_cond P (eqb d c) (after_tend (list c h) (number h)) (list c h)
+    (All-map P change (list c h) (All-weaker P (λ x. P (change x)) same (list c h) b)) b
+lists_step (Run d m) h a c =
+    let P = IsAsQueued (Run d m ∷ h) in let b = All-weaker (IsAsQueued h) P (stays (Run d m) h) (list c h) (a c) in
+    each_cond P (eqb d c) (after_take (list c h) m) (list c h)
+    (each_from P (length (take_answer (list c h) m)) (list c h) b) b
+lists_step (Visit d) h a c =
+    let P = IsAsQueued (Visit d ∷ h) in let b = All-weaker (IsAsQueued h) P (stays (Visit d) h) (list c h) (a c) in
+    each_cond P (eqb d c) (as_it_leaves (list c h) (is_owed d h)) (list c h)
+    (each_leaving P (is_owed d h) (list c h) tt b) b
+lists_step (Offline d) h a c =
+    let P = IsAsQueued (Offline d ∷ h) in
+    let b = λ (c : ℕ). All-weaker (IsAsQueued h) P (stays (Offline d) h) (list c h) (a c) in
+    let xs = as_it_leaves (list d h) (is_owed d h) in
+    each_cond P (eqb d c) [] (cond (eqb c 0) (after_migrate (list c h) xs) (list c h)) (All-nil P)
+    (each_cond P (eqb c 0) (after_migrate (list c h) xs) (list c h)
+    (each_moved P xs (list c h) (remarked_stays (Offline d ∷ h) (λ _. Unmarked))
+    (each_leaving P (is_owed d h) (list d h) tt (b d)) (b c)) (b c))
+lists_step e h a c = All-weaker (IsAsQueued h) (IsAsQueued (e ∷ h)) (stays e h) (list c h) (a c)
+
+all_as_queued : (h : History) (c : ℕ) → All (IsAsQueued h) (list c h)
+all_as_queued [] c = All-nil (IsAsQueued [])
+all_as_queued (e ∷ h) c = lists_step e h (all_as_queued h) c
+
+callbacks_as_queued : (h : History) (xs : List (Item ℕ)) → All (IsAsQueued h) xs → All (AsQueued h) (callbacks xs)
+callbacks_as_queued h [] a = All-nil (AsQueued h)
+callbacks_as_queued h (Marker ∷ xs) a = callbacks_as_queued h xs (All-tail (IsAsQueued h) Marker xs a)
+callbacks_as_queued h (Of call mark ∷ xs) a =
+    All-cons (AsQueued h) call (callbacks xs) (All-head (IsAsQueued h) (Of call mark) xs a)
+    (callbacks_as_queued h xs (All-tail (IsAsQueued h) (Of call mark) xs a))
+
+handed_as_queued : (h : History) (c m k : ℕ) (call : Queued ℕ) → slice_get (handed_out c m h) k ≡ Some call
+    → AsQueued h call
+handed_as_queued h c m k call e =
+    let done = front (list c h) in
+    let as_queued = each_front (IsAsQueued h) (list c h) (all_as_queued h c) in
+    all_at (AsQueued h) (handed_out c m h) k call
+    (All-take (AsQueued h) m (callbacks done) (callbacks_as_queued h done as_queued)) e
+
+-- each callback that a run hands out is one that was queued
+pub handed_was_queued : (s : Size) (run : Trace) (c m k : ℕ) (call : Queued ℕ) → IsLegalRun s run
+    → slice_get (handed_out c m (history run)) k ≡ Some call → queued_as call.ord (history run) ≡ Some call
+handed_was_queued s run c m k call l e = (handed_as_queued (history run) c m k call e).found
+
+same_length : (values : List ℕ) (calls : List (Queued ℕ)) → values ≡ map (λ (call : Queued ℕ). call.value) calls
+    → length values ≡ length calls
+same_length values calls i = rw i (length-map calls (λ (call : Queued ℕ). call.value))
+
+pub as_many_values : (s : Size) (run : Trace) (c m : ℕ) (values : List ℕ)
+    → IsLegalRun s ((Run c m, reply.Ran values) ∷ run)
+    → length values ≡ length (handed_out c m (history run))
+as_many_values s run c m values l =
+    same_length values (handed_out c m (history run)) (ran_values s (history run) c m values l.0)
+
+waited_when_handed : (s : Size) (h : History) (c m k : ℕ) (call : Queued ℕ) → AreAccepted s h
+    → slice_get (handed_out c m h) k ≡ Some call → Waited h call
+waited_when_handed s h c m k call p e =
+    all_at (Waited h) (handed_out c m h) k call
+    (All-take (Waited h) m (callbacks (front (list c h))) (front_waited h (list c h) (lists_kept s h p c))) e
+
+later_number : (at opened now : Number) → snapshot at ≤ now → now < snapshot opened → at < opened
+later_number at opened now l b = omega arith
+
+opened_later : (s : Size) (h x : History) (reader : ℕ) (call : Queued ℕ) → Facts s reader h → Waited h call
+    → Open reader h x → call.at < number x
+opened_later s h x reader call f w o =
+    let b : number h < snapshot (number x) = rw o.at at (f.below_snap o.deep) in
+    later_number call.at (number x) (number h) w.reached b
+
+-- a section that is open when a callback is handed out was opened at a later number than that of the queueing
+pub readers_are_later : (s : Size) (run : Trace) (c m k reader : ℕ) (call : Queued ℕ) (opened : History)
+    → IsLegalRun s run
+    → slice_get (handed_out c m (history run)) k ≡ Some call → section reader
+    (history run) ≡ Some opened → call.at < number opened
+readers_are_later s run c m k reader call opened l e o =
+    let p = possible s run l in
+    opened_later s (history run) opened reader call (facts s reader (history run) p)
+    (waited_when_handed s (history run) c m k call p e)
+    (open_from reader (history run) opened o)
+
+pick : (b : Bool) (x y : History) (j n : ℕ) → j ≤ queued x → (n < number y → j ≤ queued y) → n < number (cond b x y)
+    → j ≤ queued (cond b x y)
+pick true x y j n p q l = p
+pick false x y j n p q l = q l
+
+-- a section that was opened at a later number than that of a queueing was opened after it
+queued_before : (s : Size) (c j : ℕ) (h : History) → AreAccepted s h → j ≤ queued h
+    → number_at_queueing j h < number (opening c h) → j ≤ queued (opening c h)
+queued_before s c j [] p q l = q
+queued_before s c j (Enter d ∷ h) p q l =
+    pick (enters c (Enter d) && eqb (depth c h) 0) (Enter d ∷ h) (opening c h) j (number_at_queueing j h) q
+    (queued_before s c j h p.1 q) l
+queued_before s c j (Queue d y ∷ h) p q l =
+    let n = queue_counts d y h in
+    let f = (facts s c h p.1).opening_le in
+    let at = λ (b : Bool). cond b (number h) (number_at_queueing j h) in
+    elim (cases_eq (queued h + 1) j) [
+      | inl i ↦
+          let u : number h < number (opening c h) = subst (λ b. at b < number (opening c h)) (same i) l in
+          absurd (omega (arith, u, f))
+      | inr i ↦
+          let before = subst (λ b. at b < number (opening c h)) (ne_eqb (queued h + 1) j i) l in
+          queued_before s c j h p.1 (omega (arith, n, q, i)) before
+    ]
+  where
+    same : {a b : ℕ} → a ≡ b → eqb a b ≡ true
+    same {a} {b} i = grind (arith, nat_tests)
+queued_before s c j (_ ∷ h) p q l = queued_before s c j h p.1 q l
+
+opened_after : (s : Size) (h x : History) (reader : ℕ) (call : Queued ℕ) → AreAccepted s h → AsQueued h call
+    → Waited h call → Open reader h x → call.at < number x
+    → call.ord ≤ queued x
+opened_after s h x reader call p a w o l =
+    subst (λ g. call.ord ≤ queued g) o.at (queued_before s reader call.ord h p a.was (rw (← w.at, o.at) l))
+
+pub readers_are_after : (s : Size) (run : Trace) (c m k reader : ℕ) (call : Queued ℕ) (opened : History)
+    → IsLegalRun s run
+    → slice_get (handed_out c m (history run)) k ≡ Some call → section reader
+    (history run) ≡ Some opened → call.ord ≤ queued opened
+readers_are_after s run c m k reader call opened l e o =
+    let p = possible s run l in
+    opened_after s (history run) opened reader call p (handed_as_queued (history run) c m k call e)
+    (waited_when_handed s (history run) c m k call p e)
+    (open_from reader (history run) opened o) (readers_are_later s run c m k reader call opened l e o)

@@ -1,0 +1,71 @@
+-- What ties runs and histories to the laws: a run made longer, the latest grace period whether it runs or has ended,
+-- who was heard in it, and callbacks as they were queued.
+use Rattle.std.specs.Prelude.{ℕ, ◌+◌, ◌≡◌, ◌==◌, ◌&&◌, Bool, true, false, nat_lt, if◌then◌else◌, List, [], ◌∷◌, ◌++◌}
+use Rattle.std.specs.Prelude.{length, Option, Some, None, sum_by}
+use Rattle.std.specs.List.{list_any, range_with_len}
+use Rattle.rcu_seq.specs.Histories.{latest}
+use Rattle.rcu_seq.specs.Numbers.{Number}
+use Rattle.rcu_cblist.specs.SegList.{callbacks}
+use Rattle.rcu_cblist.specs.declared.queued.Queued.{Queued}
+use Rattle.rcu_barrier.specs.declared.visit.Visit.TheVariants.{Marked}
+use Rattle.rcu_core.specs.Callbacks.{copies, list, queued, since}
+use Rattle.rcu_core.specs.History.{History, begins, hears, number, online}
+use Rattle.rcu_core.specs.Runs.{Run}
+use Rattle.rcu_core.specs.declared.event.Event.{Event}
+use Rattle.rcu_core.specs.declared.event.Event.TheVariants.{Queue}
+use Rattle.rcu_core.specs.declared.reply.Reply.{Reply}
+use Rattle.rcu_core.specs.declared.reply.Reply.TheVariants as reply
+
+-- the run made longer by these events and their replies, the first one first
+abbrev pub onto : List Event → List Reply → Run → Run
+onto (e ∷ events) (r ∷ replies) run = onto events replies ((e, r) ∷ run)
+onto [] replies run = run
+onto (e ∷ events) [] run = run
+
+-- the tag of the latest grace period, whether it runs or has ended: the number at its begin; 0 before any
+abbrev pub tag : History → Number
+tag h = number (latest begins h)
+
+-- the processor is in the start set of the latest grace period: one began, and the processor was online then
+abbrev pub starts : ℕ → History → Bool
+starts cpu h = list_any begins h && online cpu (latest begins h)
+
+-- an event since the latest begin tells that the processor was heard in the grace period of this tag
+pub record ToldSince (cpu : ℕ) (tag : Number) (h : History) : Type 0 where
+  pub later : History
+  pub event : Event
+  pub earlier : History
+  pub is : h ≡ later ++ event ∷ earlier
+  pub no_begin_later : list_any begins later ≡ false
+  pub is_no_begin : begins event ≡ false
+  pub tells : hears cpu tag event earlier ≡ true
+
+-- the callback of this place among all that were queued, as it was queued: its place, the number then, and its value
+abbrev pub queued_as : ℕ → History → Option (Queued ℕ)
+queued_as ord [] = None
+queued_as ord (Queue cpu value ∷ h) =
+    if queued h + 1 == ord then Some (record { ord = queued h + 1; at = number h; value = value }) else queued_as ord h
+queued_as ord (_ ∷ h) = queued_as ord h
+
+-- the callback of this place was queued just before what came since: on which processor, its value, and what was before
+pub record QueuedAt (ord : ℕ) (h : History) : Type 0 where
+  pub cpu : ℕ
+  pub value : ℕ
+  pub earlier : History
+  pub is : h ≡ since ord h ++ Queue cpu value ∷ earlier
+  pub place : queued earlier + 1 ≡ ord
+
+-- the reply tells of something that is kept, or that goes out in a list of its own: a report, a listed processor, a
+-- callback that moved, was queued or was handed out, or a marker
+abbrev pub holds : Reply → Bool
+holds (reply.Made place report) = true
+holds (reply.Awaits cpus) = nat_lt 0 (length cpus)
+holds (reply.Moved calls) = nat_lt 0 calls
+holds (reply.Queued place) = true
+holds (reply.Ran values) = nat_lt 0 (length values)
+holds (reply.Visited Marked) = true
+holds _ = false
+
+-- how often the callback of this place lies in the lists of this many processors
+abbrev pub times_listed : ℕ → ℕ → History → ℕ
+times_listed cpus ord h = sum_by (λ cpu. copies ord (callbacks (list cpu h))) (range_with_len 0 cpus)

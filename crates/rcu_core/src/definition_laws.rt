@@ -1,0 +1,61 @@
+//! What the words of a history say, case by case.
+ghost use Rattle.std.specs.Prelude.{◌≡◌, ◌≢◌, ◌⊎◌, ◌<◌, ◌≤◌, ◌∷◌, ℕ, None, Some, true};
+ghost use Rattle.rcu_core.specs.Callbacks.{queued, queued_before_barrier};
+ghost use Rattle.rcu_core.specs.History.{History, depth, is_old, section};
+ghost use Rattle.rcu_core.specs.Links.{QueuedAt, holds};
+ghost use Rattle.rcu_core.specs.Replies.{AreAccepted, IsLegalReply, Size, answer};
+ghost use Rattle.rcu_core.specs.Situation.{situation};
+ghost use Rattle.rcu_core.specs.Runs.{takes};
+
+use crate::event::Event;
+use crate::reply::Reply;
+use rcu_seq::fault::Fault;
+
+/// A cookie is taken by a taking and by the start of a poll, and by no other event.
+pub fn a_cookie_is_taken_by_two_events()
+    ensures taking { takes Event.Take ≡ true }
+    ensures start { takes Event.StartPoll ≡ true }
+    ensures no_other { (event : Event) → takes event ≡ true
+        → (event ≡ Event.Take) ⊎ (event ≡ Event.StartPoll) }
+{}
+
+/// A read section goes from an enter at depth 0, which names it, to the exit that leaves no depth:
+/// nested enters and inner exits keep it, and so does every other event.
+pub fn a_section_goes_from_its_enter_to_its_exit()
+    ensures opened { (size : Size) (h : History) (cpu : ℕ) → AreAccepted size h → depth cpu h ≡ 0
+        → section cpu (Event.Enter cpu ∷ h) ≡ Some (Event.Enter cpu ∷ h) }
+    ensures nested { (size : Size) (h : History) (cpu : ℕ) → AreAccepted size h → 0 < depth cpu h
+        → section cpu (Event.Enter cpu ∷ h) ≡ section cpu h }
+    ensures left { (h : History) (cpu : ℕ) → 1 < depth cpu h
+        → section cpu (Event.Exit cpu ∷ h) ≡ section cpu h }
+    ensures ended { (h : History) (cpu : ℕ) → depth cpu h ≡ 1
+        → section cpu (Event.Exit cpu ∷ h) ≡ None }
+    ensures kept { (h : History) (cpu : ℕ) (event : Event) → event ≢ Event.Enter cpu
+        → event ≢ Event.Exit cpu → section cpu (event ∷ h) ≡ section cpu h }
+{}
+
+/// A section that is open where a grace period begins is old after that begin.
+pub fn a_section_open_at_a_begin_is_old()
+    ensures { (size : Size) (h opened : History) (cpu : ℕ) → AreAccepted size (Event.Begin ∷ h)
+        → section cpu h ≡ Some opened → is_old cpu (Event.Begin ∷ h) ≡ true }
+{}
+
+/// What came since a callback's queueing is all that stands in the history after that queueing.
+pub fn what_came_since_a_queueing_follows_it()
+    ensures { (ord : ℕ) (h : History) → 0 < ord → ord ≤ queued h → QueuedAt ord h }
+{}
+
+/// How many callbacks were queued before the latest barrier is told at its begin, and stays so.
+pub fn a_barrier_counts_what_was_queued_before_it()
+    ensures begun { (h : History) → queued_before_barrier (Event.BarBegin ∷ h) ≡ queued h }
+    ensures kept { (h : History) (event : Event) → event ≢ Event.BarBegin
+        → queued_before_barrier (event ∷ h) ≡ queued_before_barrier h }
+{}
+
+/// Memory is wanted only for what is stored: where its want is a legal reply, the answer that
+/// memory would have given tells of a report, a listed processor, a callback or a marker.
+pub fn memory_is_wanted_only_for_what_is_stored()
+    ensures { (size : Size) (h : History) (event : Event)
+        → IsLegalReply size (situation h) event (Reply.Fault Fault.NoMemory)
+        → holds (answer size (situation h) event) ≡ true }
+{}

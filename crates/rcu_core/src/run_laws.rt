@@ -1,0 +1,115 @@
+//! What ties a run to the laws.
+ghost use Rattle.std.specs.Prelude.{◌≡◌, ◌+◌, ◌<◌, ◌≤◌, ◌&&◌, not, true, [], ◌∷◌, ℕ, List, Some};
+ghost use Rattle.std.specs.Prelude.{length, slice_get};
+ghost use Rattle.rcu_cblist.specs.declared.queued.Queued.{Queued};
+ghost use Rattle.rcu_core.specs.Callbacks.{handed_out, queued, times_handed_out};
+ghost use Rattle.rcu_core.specs.Core.{Represents, State, size_at};
+ghost use Rattle.rcu_core.specs.History.{History, awaits, is_heard, number, section};
+ghost use Rattle.rcu_core.specs.Links.{ToldSince, onto, queued_as, starts, tag, times_listed};
+ghost use Rattle.rcu_core.specs.Replies.{AreAccepted, IsLegalReply, Size};
+ghost use Rattle.rcu_core.specs.Situation.{situation};
+ghost use Rattle.rcu_core.specs.Runs.{IsLegalRun, Leads, Run, RunsLegally, history};
+
+use crate::event::Event;
+use crate::reply::Reply;
+
+/// A run of no event is legal.
+pub fn no_event_is_a_legal_run()
+    ensures { (size : Size) → IsLegalRun size [] }
+{}
+
+/// A legal run and a legal reply to one more event make a legal run.
+pub fn a_legal_reply_makes_a_legal_run()
+    ensures { (size : Size) (run : Run) (event : Event) (reply : Reply) → IsLegalRun size run
+        → IsLegalReply size (situation (history run)) event reply
+        → IsLegalRun size ((event, reply) ∷ run) }
+{}
+
+/// In a legal run each reply is legal: the last one, and those of the run before it.
+pub fn a_legal_run_has_legal_replies()
+    ensures reply { (size : Size) (run : Run) (event : Event) (reply : Reply)
+        → IsLegalRun size ((event, reply) ∷ run)
+        → IsLegalReply size (situation (history run)) event reply }
+    ensures before { (size : Size) (run : Run) (event : Event) (reply : Reply)
+        → IsLegalRun size ((event, reply) ∷ run) → IsLegalRun size run }
+{}
+
+/// Legal replies to a list of events make a legal run longer by them, and its history is the one
+/// that they lead to.
+pub fn a_run_of_events_is_legal()
+    ensures legal { (size : Size) (run : Run) (events : List Event) (replies : List Reply)
+        (reached : History) → IsLegalRun size run → Leads size (history run) events replies reached
+        → IsLegalRun size (onto events replies run) }
+    ensures history { (size : Size) (run : Run) (events : List Event) (replies : List Reply)
+        (reached : History) → Leads size (history run) events replies reached
+        → history (onto events replies run) ≡ reached }
+{}
+
+/// What a core answered to a list of events is a legal run, put on any legal run that led to its
+/// state; and the core stands in the situation of that run's history. So each law of runs is one of
+/// cores.
+pub fn what_a_core_ran_is_a_legal_run()
+    ensures legal { (v w : State ℕ) (h : History) (run : Run) (events : List Event)
+        (replies : List Reply) → RunsLegally v h events replies w → IsLegalRun (size_at v) run
+        → history run ≡ h → IsLegalRun (size_at v) (onto events replies run) }
+    ensures has { (v w : State ℕ) (h : History) (run : Run) (events : List Event)
+        (replies : List Reply) → RunsLegally v h events replies w → history run ≡ h
+        → Represents w (history (onto events replies run)) }
+    ensures size { (v w : State ℕ) (h : History) (events : List Event) (replies : List Reply)
+        → RunsLegally v h events replies w → size_at w ≡ size_at v }
+{}
+
+/// The callbacks that a run hands out were queued: there are as many as the reply has values, and
+/// each one has the place, the number and the value of its queueing.
+pub fn handed_callbacks_were_queued()
+    ensures length { (size : Size) (run : Run) (cpu most : ℕ) (values : List ℕ)
+        → IsLegalRun size ((Event.Run cpu most, Reply.Ran values) ∷ run)
+        → length values ≡ length (handed_out cpu most (history run)) }
+    ensures queued { (size : Size) (run : Run) (cpu most place : ℕ) (call : Queued ℕ)
+        → IsLegalRun size run → slice_get (handed_out cpu most (history run)) place ≡ Some call
+        → queued_as call.ord (history run) ≡ Some call }
+{}
+
+/// Readers finish before callbacks: when a callback is handed out, each section that is open then
+/// was opened after the callback was queued, and at a later number.
+pub fn readers_finish_before_callbacks()
+    ensures later { (size : Size) (run : Run) (cpu most place reader : ℕ) (call : Queued ℕ)
+        (opened : History) → IsLegalRun size run
+        → slice_get (handed_out cpu most (history run)) place ≡ Some call
+        → section reader (history run) ≡ Some opened → call.at < number opened }
+    ensures after { (size : Size) (run : Run) (cpu most place reader : ℕ) (call : Queued ℕ)
+        (opened : History) → IsLegalRun size run
+        → slice_get (handed_out cpu most (history run)) place ≡ Some call
+        → section reader (history run) ≡ Some opened → call.ord ≤ queued opened }
+{}
+
+/// Whom a history awaits, whether its latest grace period runs or has ended: those of the start
+/// set that were not heard since.
+pub fn the_awaited_are_those_not_heard()
+    ensures { (size : Size) (h : History) (cpu : ℕ) → AreAccepted size h → cpu < size.cpus
+        → awaits cpu h ≡ (starts cpu h && not (is_heard cpu (tag h) h)) }
+{}
+
+/// Two engines of one size, of any kinds of awaited set, whose latest grace periods had one tag and
+/// one start set, and in which the same processors of it were heard since, in any order, await the
+/// same processors, whether either grace period runs or has ended.
+pub fn equally_heard_cores_await_the_same()
+    ensures { (size : Size) (h g : History) → AreAccepted size h → AreAccepted size g
+        → tag h ≡ tag g → ((cpu : ℕ) → starts cpu h ≡ starts cpu g)
+        → ((cpu : ℕ) → starts cpu h ≡ true → is_heard cpu (tag h) h ≡ is_heard cpu (tag g) g)
+        → (cpu : ℕ) → cpu < size.cpus → awaits cpu h ≡ awaits cpu g }
+{}
+
+/// A processor is heard exactly where some event since the latest begin tells it: which one, how
+/// many, and what else came makes no difference.
+pub fn heard_means_told()
+    ensures told { (cpu tag : ℕ) (h : History) → is_heard cpu tag h ≡ true → ToldSince cpu tag h }
+    ensures heard { (cpu tag : ℕ) (h : History) → ToldSince cpu tag h → is_heard cpu tag h ≡ true }
+{}
+
+/// No callback is lost: each one that was queued was handed out or lies in one list, once.
+pub fn no_callback_is_lost()
+    ensures { (size : Size) (run : Run) (ord : ℕ) → IsLegalRun size run → 0 < ord
+        → ord ≤ queued (history run)
+        → times_handed_out ord (history run) + times_listed size.cpus ord (history run) ≡ 1 }
+{}
