@@ -23,10 +23,10 @@ pub fn readers_finish_before_done()
     ensures { (size : Size) (later earlier : Run) (taking : Event) (cookie cpu : ℕ)
         (opened : History) → takes taking ≡ true
         → IsLegalRun size ((Event.Poll cookie, Reply.Polled true)
-            ∷ later ++ (taking, Reply.Cookie (record { 0 = cookie })) ∷ earlier)
+        ∷ later ++ (taking, Reply.Cookie (record { 0 = cookie })) ∷ earlier)
         → section cpu (history earlier) ≡ Some opened
         → section cpu (history (later ++ (taking, Reply.Cookie (record { 0 = cookie })) ∷ earlier))
-            ≢ Some opened }
+        ≢ Some opened }
 {}
 
 /// No callback runs early: between the queueing of a callback and its handing out, a full grace
@@ -37,7 +37,7 @@ pub fn no_callback_runs_early()
         → IsLegalRun size ((Event.Run cpu most, Reply.Ran values) ∷ run)
         → slice_get (handed_out cpu most (history run)) place ≡ Some call
         → (slice_get values place ≡ Some call.value)
-            × (has_full_period (since call.ord (history run)) ≡ true) }
+        × (has_full_period (since call.ord (history run)) ≡ true) }
 {}
 
 /// No callback runs twice: each is handed out at most once.
