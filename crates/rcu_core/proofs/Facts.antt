@@ -1,9 +1,9 @@
 -- What holds of one processor after every history of accepted events.
-use Rattle.std.proofs.Common.{◌≡◌, ℕ, zero, suc, ◌+◌, ◌-◌, ◌*◌, ◌/◌, ◌<◌, ◌≤◌, ◌||◌, Bool, true, false, List, [], ◌∷◌, ◌++◌, Option, Some, None, refl, ap, ◌∙◌, arith, cond, eqb, slice_get, ◌⊎◌, inl, inr}
+use Rattle.std.proofs.Common.{◌≡◌, ℕ, zero, suc, ◌-◌, ◌<◌, ◌≤◌, ◌||◌, Bool, true, false, List, [], ◌∷◌, ◌++◌, Option, Some, None, refl, ap, ◌∙◌, arith, cond, eqb, slice_get, ◌⊎◌, inl, inr}
 use Rattle.std.proofs.lemmas.Bool.Decides.{nat_tests}
 use Rattle.rcu_seq.specs.Numbers.{snapshot}
 use Rattle.rcu_report.specs.declared.report.Report.{Report}
-use Rattle.rcu_core.specs.History.{History, begins, ends, running, number, online, noted, entered, exited, depth, opening, reports_made, report_at, is_of, is_heard}
+use Rattle.rcu_core.specs.History.{History, begins, running, number, online, noted, entered, exited, depth, opening, reports_made, report_at, is_of, is_heard}
 use Rattle.rcu_seq.specs.Histories.{latest}
 use Rattle.rcu_core.specs.Replies.{Size, fault_in, AreAccepted}
 use Rattle.rcu_core.specs.Situation.{situation}
