@@ -49,7 +49,12 @@ impl<A: Awaited, T: Drop> Model for GpState<A, T> {
 
     ghost Value = { Grace T };
 
-    ghost view = { λ g. record { seq = g.seq; needed = g.needed; processors = g.hotplug; lists = g.lists } };
+    ghost view = { λ g. record {
+      seq = g.seq;
+      needed = g.needed;
+      processors = g.hotplug;
+      lists = g.lists;
+    } };
 
     ghost invariant = { λ g. IsSound (record {
       seq = g.seq;

@@ -1,0 +1,37 @@
+-- Facts on numbers and own words.
+use Rattle.std.proofs.Common.{◌≡◌, ◌≢◌, ℕ, ◌+◌, ◌<◌, ◌≤◌, Bool, true, false, nat_le, arith}
+use Rattle.std.proofs.lemmas.Bool.Decides.{nat_tests}
+use Rattle.rcu_seq.specs.Numbers.{Number, snapshot}
+use Rattle.rcu_live.specs.Numbers.{is_own_word, is_past, is_open_at, may_open}
+use Rattle.rcu_live.specs.Words.{place}
+
+-- an own word is at most one more than the number seen
+pub own_bound : (seen : Number) (word : ℕ) → is_own_word seen word ≡ true → word ≤ seen + 1
+own_bound seen word own = grind (arith, nat_tests)
+
+-- who saw a later number may store the same words
+pub own_later : (seen n : Number) (word : ℕ) → seen ≤ n → is_own_word seen word ≡ true → is_own_word n word ≡ true
+own_later seen n word up own = grind (arith, nat_tests)
+
+-- an own word at the start
+pub own_small : (word : ℕ) → word ≤ 1 → is_own_word 0 word ≡ true
+own_small word small = grind (arith, nat_tests)
+
+-- no grace period that began after a number ended at it
+pub not_past : (n : Number) → is_past n n ≡ false
+not_past n = grind (arith, nat_tests)
+
+-- a section that is not past may be open
+pub open_at : (n at : Number) → at ≤ n → is_past at n ≡ false → is_open_at n at ≡ true
+open_at n at up current = grind (arith, nat_tests)
+
+-- a number that is not past is below the snapshot
+pub below_snapshot : (n at : Number) → is_past at n ≡ false → n < snapshot at
+below_snapshot n at current = grind (arith, nat_tests)
+
+-- processors have places of their own, and the number's is none of them
+pub places_apart : (a b : ℕ) → a ≢ b → place a ≢ place b
+places_apart a b apart same = apart (omega arith)
+
+pub number_apart : (cpu : ℕ) → place cpu ≢ 0
+number_apart cpu same = absurd (omega arith)

@@ -1,0 +1,82 @@
+-- The rule at the opening: one seat, the engine's, which has all parts.
+use Rattle.std.proofs.Common.{◌≡◌, ◌≢◌, ℕ, zero, suc, ◌+◌, ◌<◌, ◌≤◌, List, [], ◌∷◌, ◌++◌, Some, None, length, get_or, set, map, drop, replicate, true, refl, sym, ap, ◌∙◌, subst, arith, length-append, length-set}
+use Rattle.std.proofs.lemmas.Bool.Decides.{nat_tests}
+use Rattle.std.proofs.lemmas.List.{get_or-replicate, get_or-set_other, get_or-set_same, length-replicate}
+use mathlib.Core.Option.{some, some-injective, some-ne-none}
+use lib.ListN.{get_elem?}
+use Rattle.atomic_table.specs.Table.{opening}
+use Rattle.rcu_live.specs.Client.{Homes, Picture}
+use Rattle.rcu_live.specs.Numbers.{is_number_word}
+use Rattle.rcu_live.specs.Rule.{Fits, IsKept}
+use Rattle.rcu_live.specs.View.{engine_seat}
+use Rattle.rcu_live.specs.Words.{base_of, first_word, first_words, place}
+use Rattle.rcu_live.specs.declared.view.View.{View}
+
+-- what stands behind a list of so many
+drop_front : {A : Type 0} (n : ℕ) (xs ys : List A) → length xs ≡ n → drop n (xs ++ ys) ≡ ys
+drop_front zero [] ys e = refl
+drop_front zero (x ∷ xs) ys e = absurd (omega arith)
+drop_front (suc n) [] ys e = absurd (omega arith)
+drop_front (suc n) (x ∷ xs) ys e = drop_front n xs ys (omega arith)
+
+at_front : (xs ys : List ℕ) (i : ℕ) → i < length xs → get_or (xs ++ ys) i 0 ≡ get_or xs i 0
+at_front [] ys i h = absurd (omega arith)
+at_front (x ∷ xs) ys zero h = refl
+at_front (x ∷ xs) ys (suc i) h = at_front xs ys i (omega arith)
+
+pub length-first_words : (cpus : ℕ) → length (first_words cpus) ≡ base_of cpus
+length-first_words cpus = length-set (replicate (base_of cpus) 0) 16 1 ∙ length-replicate (base_of cpus) 0
+
+-- there is room for the engine's words
+pub room_at_first : (cpus : ℕ) (behind words : List ℕ) → words ≡ first_words cpus ++ behind → base_of cpus ≤ length words
+room_at_first cpus behind words is =
+    let long = length-first_words cpus in
+    let both = ap length is ∙ length-append (first_words cpus) behind in omega arith
+
+number_at_first : (cpus : ℕ) → get_or (first_words cpus) 0 0 ≡ 0
+number_at_first cpus = get_or-set_other (replicate (base_of cpus) 0) 16 0 1 0 (λ e. absurd (omega arith)) ∙ get_or-replicate (base_of cpus) 0 0 0 (omega arith)
+
+word_at_first : (cpus c : ℕ) → c < cpus → get_or (first_words cpus) (place c) 0 ≡ first_word c
+word_at_first cpus zero low = get_or-set_same (replicate (base_of cpus) 0) 16 1 0 (let z : ℕ = 0 in let l = length-replicate (base_of cpus) z in omega arith)
+word_at_first cpus (suc c) low =
+    get_or-set_other (replicate (base_of cpus) 0) 16 (place (suc c)) 1 0 (λ e. absurd (omega arith)) ∙ get_or-replicate (base_of cpus) (place (suc c)) 0 0 (omega arith)
+
+zero_is_number : (n : ℕ) → n ≡ 0 → is_number_word n ≡ true
+zero_is_number n e = rw e refl
+
+module _ {S C : Type 0} (holds : List ℕ → Homes S → Picture C → Type 0) where
+  -- the rule at the start, with the client's words behind
+  pub starts : (cpus : ℕ) (behind : List ℕ) (slots : List S) (c : C) → 0 < cpus → holds behind (map some slots) ((None, None, c) ∷ [])
+      → IsKept holds cpus (opening (first_words cpus ++ behind) slots (engine_seat cpus 0 c))
+  starts cpus behind slots c any client =
+      let words : List ℕ = first_words cpus ++ behind in
+      let long : length (first_words cpus) ≡ base_of cpus = length-first_words cpus in
+      let both : length words ≡ length (first_words cpus) + length behind = length-append (first_words cpus) behind in
+      let number : get_or words 0 0 ≡ 0 = at_front (first_words cpus) behind 0 (omega arith) ∙ number_at_first cpus in
+      let word : (d : ℕ) → d < cpus → get_or words (place d) 0 ≡ first_word d =
+      λ d low. at_front (first_words cpus) behind (place d) (omega arith) ∙ word_at_first cpus d low in
+      let first : Fits cpus words (λ _. 0) 0 [] 0 (engine_seat cpus 0 c) = record {
+        seen = omega arith;
+        base = refl;
+        inside = λ r. absurd (cc);
+        own = λ r. absurd (cc);
+        sound = λ r. absurd (cc);
+        lone = λ r. refl;
+        number = λ r. sym number;
+        found = λ r. refl;
+        undealt = λ r d low high. (refl, word d high);
+      } in record {
+        room = omega arith;
+        number = zero_is_number _ number;
+        boot = let one : get_or words (place 0) 0 ≡ 1 = word 0 any in omega arith;
+        owner = λ _. 0;
+        engine = 0;
+        finds = [];
+        fits = λ id v at. alone words id v at first;
+        client = subst (λ (l : List ℕ). holds l (map some slots) ((None, None, c) ∷ [])) (sym (drop_front (base_of cpus) (first_words cpus) behind long)) client;
+      }
+    where
+      alone : (words : List ℕ) (id : ℕ) (v : View C) → get_elem? (engine_seat cpus 0 c ∷ []) id ≡ some v
+          → Fits cpus words (λ _. 0) 0 [] 0 (engine_seat cpus 0 c) → Fits cpus words (λ _. 0) 0 [] id v
+      alone words zero v at f = subst (Fits cpus words (λ _. 0) 0 [] 0) (some-injective _ _ at) f
+      alone words (suc id) v at f = absurd (some-ne-none v (sym at))

@@ -1,0 +1,7 @@
+use Rattle.std.proofs.Common.{rules}
+use Rattle.rcu_live.proofs.Stores.{stores}
+use Rattle.rcu_live.proofs.board.Board.store.Goals as goal
+
+pub store-requires : goal.store-requires
+store-requires g c =
+    let r = c.requires in (search rules, search rules, stores g.P.Client.holds _ _ _ _ _ _ _ r.cpu r.own c.place.ensures r.shut r.bounded r.boot)

@@ -1,0 +1,66 @@
+-- A processor's seat: its calls, where each is accepted, and what it leaves.
+use Rattle.std.specs.Prelude.{ℕ, ◌+◌, ◌-◌, ◌==◌, nat_lt, if◌then◌else◌, List, [], ◌∷◌, Option}
+use Rattle.atomic_table.specs.Seated.{TableId}
+use Rattle.rcu_seq.specs.Fault.{first_fault}
+use Rattle.rcu_seq.specs.Numbers.{Number}
+use Rattle.rcu_seq.specs.declared.fault.Fault.{Fault}
+use Rattle.rcu_seq.specs.declared.fault.Fault.TheVariants.{AlreadyOnline, BootStays, InSection, NestFull, NotOpen, Offline}
+use Rattle.rcu_cpu.specs.CpuData.{Processor, deepest}
+use Rattle.rcu_live.specs.View.{after_close, after_load, after_open, after_store, cpu_seat}
+use Rattle.rcu_live.specs.declared.view.View.{View}
+
+-- a processor's seat: of which object, of which processor, how deep its sections nest, and what it has seen
+pub record Seated (C : Type 0) : Type 0 where
+  pub table : TableId
+  pub cpu : ℕ
+  pub depth : ℕ
+  pub view : View C
+
+-- the own word of a processor: 0 where it is offline, else one more than the number that it noted
+abbrev pub own_word : Processor → ℕ
+own_word p = if p.online then p.noted + 1 else 0
+
+module _ {C : Type 0} where
+  -- the seat of a processor as it is opened: no section is open
+  abbrev pub at_first : TableId → ℕ → C → ℕ → Seated C
+  at_first table base c cpu = record { table = table; cpu = cpu; depth = 0; view = cpu_seat base cpu c }
+
+  -- why an enter is refused
+  abbrev pub enter_refusal : Seated C → Option Fault
+  enter_refusal s = first_fault ((s.view.stamp == 0, Offline) ∷ (s.depth == deepest, NestFull) ∷ [])
+
+  -- after an enter: the outermost one is a section-opening load, which saw n, and an inner one leaves the view
+  abbrev pub after_enter : Seated C → Number → Seated C
+  after_enter s n = record s { depth = s.depth + 1; view = if s.depth == 0 then after_open s.view n else s.view }
+
+  -- why an exit is refused
+  abbrev pub exit_refusal : Seated C → Option Fault
+  exit_refusal s = first_fault ((s.depth == 0, NotOpen) ∷ [])
+
+  -- after an exit: the outermost one is a section-closing load, which saw n, and an inner one leaves the view
+  abbrev pub after_exit : (C → C) → Seated C → Number → Seated C
+  after_exit closed s n = record s { depth = s.depth - 1; view = if s.depth == 1 then after_close closed s.view n else s.view }
+
+  -- why a quiescent state is refused
+  abbrev pub quiesce_refusal : Seated C → Option Fault
+  quiesce_refusal s = first_fault ((s.view.stamp == 0, Offline) ∷ (nat_lt 0 s.depth, InSection) ∷ [])
+
+  -- after a quiescent state or an arrival: one load more, which saw n, and then the own word is n + 1
+  abbrev pub after_quiesce : Seated C → Number → Seated C
+  after_quiesce s n = record s { view = after_store (after_load s.view n) (n + 1) }
+
+  -- a number load more, which saw n
+  abbrev pub after_look : Seated C → Number → Seated C
+  after_look s n = record s { view = after_load s.view n }
+
+  -- why an arrival is refused
+  abbrev pub arrive_refusal : Seated C → Option Fault
+  arrive_refusal s = first_fault ((nat_lt 0 s.view.stamp, AlreadyOnline) ∷ [])
+
+  -- why a departure is refused
+  abbrev pub depart_refusal : Seated C → Option Fault
+  depart_refusal s = first_fault ((s.cpu == 0, BootStays) ∷ (s.view.stamp == 0, Offline) ∷ (nat_lt 0 s.depth, InSection) ∷ [])
+
+  -- after a departure: the own word is 0
+  abbrev pub after_depart : Seated C → Seated C
+  after_depart s = record s { view = after_store s.view 0 }

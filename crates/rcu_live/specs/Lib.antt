@@ -1,0 +1,10 @@
+pub mod Board
+pub mod Client
+pub mod CpuSeat
+pub mod Met
+pub mod Numbers
+pub mod Opening
+pub mod Rule
+pub mod View
+pub mod Watcher
+pub mod Words

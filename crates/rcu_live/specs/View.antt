@@ -1,0 +1,85 @@
+-- The views of seats: at the start, as they are dealt, and after each kind of step.
+use Rattle.std.specs.Prelude.{◌≡◌, ℕ, ◌+◌, ◌≤◌, [], Option, Some, None, true, false}
+use Rattle.rcu_seq.specs.Numbers.{Number}
+use Rattle.rcu_live.specs.Client.{Shown}
+use Rattle.rcu_live.specs.Numbers.{is_number_word, is_past}
+use Rattle.rcu_live.specs.Words.{base_of, first_word}
+use Rattle.rcu_live.specs.declared.view.Role.{Role}
+use Rattle.rcu_live.specs.declared.view.Role.TheVariants.{Cpu, Watcher, Engine}
+use Rattle.rcu_live.specs.declared.view.View.{View}
+
+-- of a processor's seat this, of another none
+abbrev pub if_cpu : Role → Option ℕ → Option ℕ
+if_cpu Cpu o = o
+if_cpu Watcher o = None
+if_cpu Engine o = None
+
+module _ {C : Type 0} where
+  -- what a client is shown of a seat
+  abbrev pub shown : View C → Shown C
+  shown v = (if_cpu v.role (Some v.cpu), if_cpu v.role v.section, v.client)
+
+  -- a seat that has seen nothing
+  abbrev pub fresh : Role → ℕ → ℕ → ℕ → C → View C
+  fresh role cpu stamp base c = record { role = role; cpu = cpu; seen = 0; loads = 0; stamp = stamp; section = None; finds = []; base = base; client = c }
+
+  -- the engine's seat once these processors have theirs, from 0 up to n; the first seat of all has n = 0
+  abbrev pub engine_seat : ℕ → ℕ → C → View C
+  engine_seat cpus n c = fresh Engine n 0 (base_of cpus) c
+
+  -- it is the engine's seat
+  abbrev pub IsOfEngine : View C → Type 0
+  IsOfEngine v = v.role ≡ Engine
+
+  -- a processor's seat as it is dealt: its own word is as at the start
+  abbrev pub cpu_seat : ℕ → ℕ → C → View C
+  cpu_seat base cpu c = fresh Cpu cpu (first_word cpu) base c
+
+  -- a watcher's seat as it is dealt
+  abbrev pub watcher_seat : ℕ → C → View C
+  watcher_seat base c = fresh Watcher 0 0 base c
+
+  -- seat split: what is left of the engine's seat where the next processor's is dealt
+  abbrev pub after_deal : View C → View C
+  after_deal v = record v { cpu = v.cpu + 1 }
+
+  -- and the seat that is dealt
+  abbrev pub next_cpu_seat : C → View C → View C
+  next_cpu_seat c v = cpu_seat v.base v.cpu c
+
+  -- after a number load that saw n
+  abbrev pub after_load : View C → Number → View C
+  after_load v n = record v { seen = n; loads = v.loads + 1 }
+
+  -- after a section-opening load that saw n
+  abbrev pub after_open : View C → Number → View C
+  after_open v n = record v { seen = n; loads = v.loads + 1; section = Some n }
+
+  -- after a section-closing load that saw n; the client keeps what is left of what it knew
+  abbrev pub after_close : (C → C) → View C → Number → View C
+  after_close closed v n = record v { seen = n; loads = v.loads + 1; section = None; client = closed v.client }
+
+  -- after a store of the own word
+  abbrev pub after_store : View C → ℕ → View C
+  after_store v word = record v { stamp = word }
+
+  -- what a number load tells: one load more, which saw n, a number that is at least all that the seat saw before; where a
+  -- section is open at it, the section began no later than what the seat saw, and no full grace period lies since
+  pub record Loaded (v : View C) (n : Number) (w : View C) : Type 0 where
+    pub view : w ≡ after_load v n
+    pub later : v.seen ≤ n
+    pub number : is_number_word n ≡ true
+    pub began : v.role ≡ Cpu → (at : Number) → v.section ≡ Some at → at ≤ v.seen
+    pub current : v.role ≡ Cpu → (at : Number) → v.section ≡ Some at → is_past at n ≡ false
+
+  -- what a section-opening load tells
+  pub record Opened (v : View C) (n : Number) (w : View C) : Type 0 where
+    pub view : w ≡ after_open v n
+    pub later : v.seen ≤ n
+    pub number : is_number_word n ≡ true
+
+  -- what a section-closing load tells
+  pub record Closed (closed : C → C) (v : View C) (n : Number) (w : View C) : Type 0 where
+    pub view : w ≡ after_close closed v n
+    pub later : v.seen ≤ n
+    pub number : is_number_word n ≡ true

@@ -1,0 +1,142 @@
+//! The shared words, and each kind of step on them in plain words.
+ghost use Rattle.std.specs.Prelude.{◌≡◌, ◌<◌, ◌≤◌, ◌∷◌, [], IfOk, None, map, true};
+ghost use mathlib.Core.Option.{some};
+ghost use Rattle.rcu_live.specs.Numbers.{is_own_word, may_open};
+ghost use Rattle.rcu_live.specs.View.{Closed, Loaded, Opened, after_deal, after_store};
+ghost use Rattle.rcu_live.specs.View.{engine_seat, next_cpu_seat, watcher_seat};
+ghost use Rattle.rcu_live.specs.Words.{place};
+ghost use Rattle.rcu_live.specs.declared.view.Role.TheVariants.{Cpu, Engine};
+
+use crate::client::Client;
+use crate::rule::{Close, DealCpu, DealWatcher, Load, Open, Store, Words};
+use crate::view::View;
+use crate::words::{NUMBER, first_words, place};
+use atomic_table::{Seat, Table};
+use std::alloc::{AllocError, Global};
+use std::marker::Model;
+
+/// The shared words: the number, a word a processor, and a client's words behind them.
+#[derive(Drop)]
+pub struct Board<S: Drop, C, P: Client<S, C>> {
+    table: Table<S, View<C>, u32, Words<P>, Global>,
+    cpus: u32,
+}
+
+impl<S: Drop, C, P: Client<S, C>> Model for Board<S, C, P> {
+    ghost use Rattle.std.specs.Prelude.{◌≡◌, ◌<◌, ◌≤◌};
+    ghost use Rattle.rcu_live.specs.Board.{Object};
+    ghost use Rattle.rcu_live.specs.Words.{base_of};
+
+    ghost Value = { Object };
+
+    ghost view = { λ b. record { table = b.table.shared.table_id; cpus = b.cpus } };
+
+    ghost invariant = { λ b. record {
+      key : b.table.shared.key ≡ b.cpus;
+      room : base_of b.cpus ≤ b.table.shared.table_id.words;
+      some : 0 < b.cpus;
+      few : b.cpus ≤ 4096;
+    } };
+}
+
+/// A seat at the shared words.
+pub type Place<S, C> = Seat<S, View<C>>;
+
+impl<S: Drop, C, P: Client<S, C>> Board<S, C, P> {
+    /// The words with their first seat, which is the engine's and has all parts.
+    pub fn open(
+        alloc: Global,
+        cpus: u32,
+        behind: &[u64],
+        slots: Vec<S>,
+    ) -> Result<(Board<S, C, P>, Place<S, C>), AllocError>
+        requires some { 0 < cpus }
+        requires few { cpus ≤ 4096 }
+        requires client { P.holds behind.now (map some slots.items) ((None, None, P.first) ∷ []) }
+        ensures cpus { IfOk result (λ r. r.0.cpus ≡ cpus) }
+        ensures table { IfOk result (λ r. r.1.table_id ≡ r.0.table) }
+        ensures view { IfOk result (λ r. r.1.me.0 ≡ engine_seat cpus 0 P.first) }
+        ensures hand { IfOk result (λ r. r.1.me.1 ≡ []) }
+    {
+        let mut words = first_words(alloc, cpus)?;
+        words.extend_from_slice(behind)?;
+        let Ok((table, seat)) = Table::new(alloc, words.as_slice(), slots, &cpus) else {
+            return Err(AllocError);
+        };
+        Ok((Board { table, cpus }, seat))
+    }
+
+    /// Seat split: the next processor's seat.
+    pub fn deal_cpu(&self, seat: &mut Place<S, C>) -> Place<S, C>
+        requires table { seat.old.table_id ≡ self.now.table }
+        requires engine { seat.old.me.0.role ≡ Engine }
+        requires left { seat.old.me.0.cpu < self.now.cpus }
+        ensures table { seat.new.table_id ≡ seat.old.table_id }
+        ensures left { seat.new.me.0 ≡ after_deal seat.old.me.0 }
+        ensures inside { place seat.old.me.0.cpu < seat.old.table_id.words }
+        ensures view { result.me.0 ≡ next_cpu_seat P.idle seat.old.me.0 }
+        ensures place { result.table_id ≡ seat.old.table_id }
+    {
+        self.table.shared.split_seat::<DealCpu<S, P>>(seat)
+    }
+
+    /// Seat split: a watcher's seat.
+    pub fn deal_watcher(&self, seat: &mut Place<S, C>) -> Place<S, C>
+        requires table { seat.old.table_id ≡ self.now.table }
+        ensures table { seat.new.table_id ≡ seat.old.table_id }
+        ensures left { seat.new.me.0 ≡ seat.old.me.0 }
+        ensures view { result.me.0 ≡ watcher_seat seat.old.me.0.base P.idle }
+        ensures place { result.table_id ≡ seat.old.table_id }
+    {
+        self.table.shared.split_seat::<DealWatcher<S, P>>(seat)
+    }
+
+    /// Number load: answers the number.
+    pub fn load(&self, seat: &mut Place<S, C>) -> u64
+        requires { seat.old.table_id ≡ self.now.table }
+        ensures table { seat.new.table_id ≡ seat.old.table_id }
+        ensures told { Loaded seat.old.me.0 result seat.new.me.0 }
+        ensures hand { seat.new.me.1 ≡ seat.old.me.1 }
+    {
+        self.table.shared.load::<Load>(seat, NUMBER)
+    }
+
+    /// Section-opening load: answers the number at which the section began.
+    pub fn open_section(&self, seat: &mut Place<S, C>) -> u64
+        requires table { seat.old.table_id ≡ self.now.table }
+        requires cpu { seat.old.me.0.role ≡ Cpu }
+        requires online { may_open seat.old.me.0.stamp ≡ true }
+        requires shut { seat.old.me.0.section ≡ None }
+        ensures table { seat.new.table_id ≡ seat.old.table_id }
+        ensures told { Opened seat.old.me.0 result seat.new.me.0 }
+        ensures hand { seat.new.me.1 ≡ seat.old.me.1 }
+    {
+        self.table.shared.load::<Open>(seat, NUMBER)
+    }
+
+    /// Section-closing load: answers the number.
+    pub fn close_section(&self, seat: &mut Place<S, C>) -> u64
+        requires { seat.old.table_id ≡ self.now.table }
+        ensures table { seat.new.table_id ≡ seat.old.table_id }
+        ensures told { Closed P.closed seat.old.me.0 result seat.new.me.0 }
+        ensures hand { seat.new.me.1 ≡ seat.old.me.1 }
+    {
+        self.table.shared.load::<Close<P>>(seat, NUMBER)
+    }
+
+    /// Own-word store.
+    pub fn store(&self, seat: &mut Place<S, C>, cpu: u32, word: u64)
+        requires table { seat.old.table_id ≡ self.now.table }
+        requires cpu { seat.old.me.0.role ≡ Cpu }
+        requires own { seat.old.me.0.cpu ≡ cpu }
+        requires inside { place cpu < seat.old.table_id.words }
+        requires shut { seat.old.me.0.section ≡ None }
+        requires bounded { is_own_word seat.old.me.0.seen word ≡ true }
+        requires boot { cpu ≡ 0 → 0 < word }
+        ensures table { seat.new.table_id ≡ seat.old.table_id }
+        ensures told { seat.new.me.0 ≡ after_store seat.old.me.0 word }
+        ensures hand { seat.new.me.1 ≡ seat.old.me.1 }
+    {
+        self.table.shared.store::<Store>(seat, place(cpu), word)
+    }
+}

@@ -1,0 +1,43 @@
+//! Room for a client of the engine: words, slots and views of its own, under a rule of its own.
+ghost use Rattle.std.specs.Prelude.{List, ℕ};
+ghost use Rattle.rcu_live.specs.Client.{Homes, IsStable, Picture};
+
+/// A client of the engine. Its words stand behind the engine's, its slots beside them, and each
+/// seat's view has a part of the client's.
+///
+/// One law ties it to the engine: opening and closing a section and dealing a seat keep its rule.
+pub trait Client<S, C> {
+    // The rule, of the client's words, of the slots, and of what is shown of each seat.
+    ghost holds: { List ℕ → Homes S → Picture C → Type 0 };
+
+    // What the first seat knows of the client, what a dealt seat knows, and what is left of what a
+    // seat knew when its section closes.
+    ghost first: { C };
+
+    ghost idle: { C };
+
+    ghost closed: { C → C };
+
+    fn mark() {}
+
+    ghost stable: { IsStable holds idle closed };
+}
+
+/// No client: no words, no slots, nothing to know.
+pub struct Alone;
+
+impl Client<(), ()> for Alone {
+    ghost use Rattle.rcu_live.specs.Client.{alone_is_stable};
+
+    ghost holds = { λ _ _ _. Unit {0} };
+
+    ghost first = { tt };
+
+    ghost idle = { tt };
+
+    ghost closed = { λ c. c };
+
+    fn mark() {}
+
+    ghost stable = { alone_is_stable };
+}

@@ -1,0 +1,49 @@
+//! A watcher that meets an open section, with no handle: nothing here waits or takes memory.
+ghost use Rattle.std.specs.Prelude.{◌≡◌, ◌≢◌, IfOk, IsSome, false};
+
+use crate::client::Client;
+use crate::cpu_seat::CpuSeat;
+use crate::live::Live;
+use crate::watcher::Watcher;
+use rcu_seq::fault::Fault;
+
+/// A watcher meets an open section, takes a cookie, polls it, and meets the section again. Whether
+/// the cookie tested done: it never does.
+pub fn is_done_beside<const LEAF: u32, const FAN: u32, T: Drop, S: Drop, C, P: Client<S, C>>(
+    live: &Live<LEAF, FAN, T, S, C, P>,
+    seat: &mut CpuSeat<S, C>,
+    watcher: &mut Watcher<S, C>,
+) -> bool
+    requires seat { seat.old.table ≡ live.now.table }
+    requires watcher { watcher.old.table ≡ live.now.table }
+    requires open { IsSome seat.old.view.section }
+    ensures seat { seat.new.table ≡ seat.old.table }
+    ensures watcher { watcher.new.table ≡ watcher.old.table }
+    ensures never { result ≡ false }
+{
+    let first = live.meet(seat, watcher).is_some();
+    let cookie = watcher.take(live);
+    let is_done = watcher.poll(live, cookie);
+    let again = live.meet(seat, watcher).is_some();
+    first & again & is_done
+}
+
+/// The processor passes a quiescent state, reads beside the watcher, and passes another one.
+///
+/// Faults: 2 where the processor is offline; 4 where a section is open.
+pub fn read_beside<const LEAF: u32, const FAN: u32, T: Drop, S: Drop, C, P: Client<S, C>>(
+    live: &Live<LEAF, FAN, T, S, C, P>,
+    seat: &mut CpuSeat<S, C>,
+    watcher: &mut Watcher<S, C>,
+) -> Result<bool, Fault>
+    requires seat { seat.old.table ≡ live.now.table }
+    requires watcher { watcher.old.table ≡ live.now.table }
+    ensures never { IfOk result (λ is_done. is_done ≡ false) }
+{
+    seat.quiesce(live)?;
+    seat.enter(live)?;
+    let is_done = is_done_beside(live, seat, watcher);
+    seat.exit(live)?;
+    seat.quiesce(live)?;
+    Ok(is_done)
+}

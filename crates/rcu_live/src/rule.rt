@@ -1,0 +1,85 @@
+//! The rule of the shared words as the table takes it, and what each kind of step on them tells.
+ghost use Rattle.std.specs.Prelude.{◌≡◌};
+
+use crate::client::Client;
+use crate::view::View;
+use atomic_table::{Play, Split, TableRule};
+use std::marker::PhantomData;
+
+/// The rule, over a client's part. The table's key is the number of processors.
+pub struct Words<P> {
+    client: PhantomData<P>,
+}
+
+impl<S, C, P: Client<S, C>> TableRule<S, View<C>, u32> for Words<P> {
+    ghost use Rattle.rcu_live.specs.Rule.{IsKept};
+    ghost use Rattle.rcu_live.specs.View.{engine_seat};
+
+    ghost holds = { λ cpus. IsKept P.holds cpus };
+
+    ghost first = { λ cpus. engine_seat cpus 0 P.first };
+}
+
+/// Number load.
+pub struct Load;
+
+impl<S, C> Play<S, View<C>> for Load {
+    ghost use Rattle.rcu_live.specs.View.{Loaded};
+
+    ghost then = { λ _ me n now. Loaded me.0 n now.0 × (now.1 ≡ me.1) };
+}
+
+/// Section-opening load.
+pub struct Open;
+
+impl<S, C> Play<S, View<C>> for Open {
+    ghost use Rattle.rcu_live.specs.View.{Opened};
+
+    ghost then = { λ _ me n now. Opened me.0 n now.0 × (now.1 ≡ me.1) };
+}
+
+/// Section-closing load.
+pub struct Close<P> {
+    client: PhantomData<P>,
+}
+
+impl<S, C, P: Client<S, C>> Play<S, View<C>> for Close<P> {
+    ghost use Rattle.rcu_live.specs.View.{Closed};
+
+    ghost then = { λ _ me n now. Closed P.closed me.0 n now.0 × (now.1 ≡ me.1) };
+}
+
+/// Own-word store.
+pub struct Store;
+
+impl<S, C> Play<S, View<C>> for Store {
+    ghost use Rattle.rcu_live.specs.View.{after_store};
+
+    ghost then = { λ step me _ now. (now.0 ≡ after_store me.0 step.first) × (now.1 ≡ me.1) };
+}
+
+/// Seat split: the next processor's seat.
+pub struct DealCpu<S, P> {
+    client: PhantomData<(S, P)>,
+}
+
+impl<S, C, P: Client<S, C>> Split<View<C>> for DealCpu<S, P> {
+    ghost use Rattle.rcu_live.specs.View.{after_deal, next_cpu_seat};
+
+    ghost left = { after_deal };
+
+    ghost right = { next_cpu_seat P.idle };
+}
+
+/// Seat split: a watcher's seat.
+pub struct DealWatcher<S, P> {
+    client: PhantomData<(S, P)>,
+}
+
+impl<S, C, P: Client<S, C>> Split<View<C>> for DealWatcher<S, P> {
+    ghost use Rattle.rcu_live.specs.View.{watcher_seat};
+
+    ghost left = { λ v. v };
+
+    ghost right = { λ v. watcher_seat v.base P.idle };
+}

@@ -1,0 +1,163 @@
+//! A reader beside a watcher on two threads, meetings, arrivals and departures, and the opening.
+ghost use Rattle.std.specs.Prelude.{◌≡◌, All, length};
+
+use crate::cpu_seat::CpuSeat;
+use crate::live::Live;
+use crate::met::Met;
+use crate::watcher::Watcher;
+use rcu_seq::cookie::Cookie;
+use rcu_seq::fault::Fault;
+use std::alloc::Global;
+use std::io::Print;
+use std::process::Abort;
+use std::thread;
+use std::thread::Threads;
+
+type Four = Live<4, 4, u64>;
+
+/// An object of two processors, opened by a second call where the first is refused a growth.
+fn opened<R: Abort + Print>(rt: &R, alloc: Global) -> (Four, Vec<CpuSeat>, Vec<Watcher>)
+    ensures counts { (length result.1.items ≡ 2) × (length result.2.items ≡ 2) }
+    ensures seats { All (λ seat. seat.table ≡ result.0.table) result.1.items }
+    ensures watchers { All (λ watcher. watcher.table ≡ result.0.table) result.2.items }
+{
+    match Four::open(alloc, 2, 8) {
+        Ok(opened) => opened,
+        Err(fault) => {
+            assert_eq!(rt; fault, Fault::NoMemory);
+            let _ = println!(rt; "a growth was refused");
+            Four::open(alloc, 2, 8).expect(rt, "the second call has memory")
+        }
+    }
+}
+
+/// An object of two processors, with the seats and the watchers of processors 0 and 1.
+struct Pair {
+    live: Four,
+    first: CpuSeat,
+    second: CpuSeat,
+    watcher: Watcher,
+    other: Watcher,
+}
+
+/// Opens such an object.
+fn make_pair<R: Abort + Print>(rt: &R, alloc: Global) -> Pair
+    ensures first { result.first.table ≡ result.live.table }
+    ensures second { result.second.table ≡ result.live.table }
+    ensures watcher { result.watcher.table ≡ result.live.table }
+    ensures other { result.other.table ≡ result.live.table }
+{
+    let (live, mut seats, mut watchers) = opened(rt, alloc);
+    let second = seats.pop().unwrap();
+    let first = seats.pop().unwrap();
+    let other = watchers.pop().unwrap();
+    let watcher = watchers.pop().unwrap();
+    Pair {
+        live,
+        first,
+        second,
+        watcher,
+        other,
+    }
+}
+
+/// What a watcher tells: its cookie, whether that one is done, and whether the cookie 1 is.
+fn watch(live: &Four, mut watcher: Watcher) -> (Cookie, bool, bool)
+    requires { watcher.table ≡ live.now.table }
+{
+    let cookie = watcher.take(live);
+    let early = watcher.poll(live, cookie);
+    (cookie, early, watcher.poll(live, Cookie(1)))
+}
+
+/// The reader's section is open while the watcher runs on another thread.
+fn beside<R: Threads + Sync>(
+    rt: &R,
+    live: &Four,
+    reader: &mut CpuSeat,
+    watcher: Watcher,
+) -> (Result<u32, Fault>, (Cookie, bool, bool))
+    requires reader { reader.old.table ≡ live.now.table }
+    requires watcher { watcher.table ≡ live.now.table }
+    ensures { reader.new.table ≡ reader.old.table }
+{
+    let entered = reader.enter(live);
+    let (told, ()) = thread::join(
+        rt,
+        move || -> (Cookie, bool, bool)
+            requires { watcher.table ≡ live.now.table }
+        { watch(live, watcher) },
+        || {},
+    );
+    (entered, told)
+}
+
+#[test]
+fn reader_beside_a_watcher(rt: HostRuntime) {
+    let Pair {
+        live,
+        mut first,
+        mut second,
+        watcher,
+        mut other,
+    } = make_pair(&rt, rt.alloc());
+    let told = beside(&rt, &live, &mut first, watcher);
+    assert_eq!(rt; told, (Ok(1), (Cookie(4), false, true)));
+    let met = live.meet(&mut first, &mut other);
+    assert_eq!(rt;
+        met,
+        Some(Met {
+            opened: Some(0),
+            seen: 0
+        })
+    );
+    assert_eq!(rt; first.quiesce(&live), Err(Fault::InSection));
+    assert_eq!(rt; first.exit(&live), Ok(0));
+    assert_eq!(rt; first.quiesce(&live), Ok(0));
+    assert_eq!(rt; second.enter(&live), Err(Fault::Offline));
+    let met = live.meet(&mut first, &mut other);
+    assert_eq!(rt;
+        met,
+        Some(Met {
+            opened: None,
+            seen: 0
+        })
+    );
+}
+
+#[test]
+fn arrival_and_departure(rt: HostRuntime) {
+    let Pair {
+        live,
+        mut first,
+        mut second,
+        watcher: _,
+        other: _,
+    } = make_pair(&rt, rt.alloc());
+    assert_eq!(rt; second.depart(&live), Err(Fault::Offline));
+    assert_eq!(rt; second.arrive(&live), Ok(()));
+    assert_eq!(rt; second.arrive(&live), Err(Fault::AlreadyOnline));
+    assert_eq!(rt; second.enter(&live), Ok(1));
+    assert_eq!(rt; second.enter(&live), Ok(2));
+    assert_eq!(rt; second.depart(&live), Err(Fault::InSection));
+    assert_eq!(rt; (second.exit(&live), second.exit(&live)), (Ok(1), Ok(0)));
+    assert_eq!(rt; second.exit(&live), Err(Fault::NotOpen));
+    assert_eq!(rt; second.depart(&live), Ok(()));
+    assert_eq!(rt; second.quiesce(&live), Err(Fault::Offline));
+    assert_eq!(rt; first.depart(&live), Err(Fault::BootStays));
+}
+
+#[test]
+fn refused_openings(rt: HostRuntime) {
+    for (cpus, last, fault) in [
+        (0, 8, Fault::TooManyCpus),
+        (257, 6, Fault::TooManyCpus),
+        (256, 6, Fault::BadLast),
+        (256, 0, Fault::BadLast),
+    ] {
+        match Four::open(rt.alloc(), cpus, last) {
+            Ok(_) => assert!(rt; false, "{cpus} {last} opened"),
+            Err(found) => assert_eq!(rt; found, fault),
+        }
+    }
+}

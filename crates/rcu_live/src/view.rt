@@ -1,0 +1,30 @@
+//! What a seat at the shared words has seen.
+use std::collections::LinkedList;
+
+/// Whose a seat is.
+pub enum Role {
+    Cpu,
+    Watcher,
+    Engine,
+}
+
+/// What a seat has seen. It exists in proofs alone: no value of it is made.
+pub struct View<C> {
+    pub role: Role,
+    /// Of a processor's seat its processor; of the engine's the first processor with no seat yet.
+    pub cpu: u32,
+    /// The greatest number seen; of the engine's seat the number.
+    pub seen: u64,
+    /// How many loads the seat made.
+    pub loads: u64,
+    /// The processor's own word.
+    pub stamp: u64,
+    /// The number at which the open section began.
+    pub section: Option<u64>,
+    /// The engine's loads of own words since the latest begin, the newest first: place and word.
+    pub finds: LinkedList<(u64, u64)>,
+    /// The place where the client's words begin.
+    pub base: u64,
+    /// What the client has seen.
+    pub client: C,
+}
