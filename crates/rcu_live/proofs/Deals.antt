@@ -1,5 +1,5 @@
 -- Dealing a seat keeps the rule.
-use Rattle.std.proofs.Common.{◌≡◌, ◌≢◌, ◌⊎◌, ℕ, zero, suc, ◌+◌, ◌<◌, ◌≤◌, ◌==◌, if◌then◌else◌, List, [], ◌∷◌, ◌++◌, Option, Some, None, length, get_or, set, map, drop, true, inl, inr, refl, sym, ap, ◌∙◌, subst, ⊎_elim, arith, eq-eqb, ne_eqb}
+use Rattle.std.proofs.Common.{◌≡◌, ◌≢◌, ◌⊎◌, ℕ, zero, suc, ◌+◌, ◌<◌, ◌≤◌, ◌==◌, if◌then◌else◌, List, [], ◌∷◌, ◌++◌, Option, Some, None, length, set, map, drop, inl, inr, refl, sym, ap, ◌∙◌, subst, ⊎_elim, arith, eq-eqb, ne_eqb}
 use Rattle.std.specs.List.{All, range_with_len}
 use Rattle.std.proofs.lemmas.List.FromFn.{get_or-map-range_with_len, length-map-range_with_len, map-range_with_len_more}
 use mathlib.Core.List.{map-append}
@@ -8,11 +8,11 @@ use lib.ListN.{get_elem?}
 use Rattle.atomic_table.specs.Table.{State, Splits}
 use Rattle.atomic_table.proofs.Lists.{at_set, set_again}
 use Rattle.rcu_live.specs.Client.{Homes, IsStable, Picture, Shown}
-use Rattle.rcu_live.specs.Rule.{Fits, IsKept, IsSound}
+use Rattle.rcu_live.specs.Rule.{Fits, IsKept}
 use Rattle.rcu_live.specs.View.{after_deal, if_cpu, next_cpu_seat, shown, watcher_seat}
-use Rattle.rcu_live.specs.Words.{base_of, first_word, place}
+use Rattle.rcu_live.specs.Words.{base_of, first_word}
 use Rattle.rcu_live.specs.declared.view.Role.{Role}
-use Rattle.rcu_live.specs.declared.view.Role.TheVariants.{Cpu, Engine}
+use Rattle.rcu_live.specs.declared.view.Role.TheVariants.{Engine}
 use Rattle.rcu_live.specs.declared.view.View.{View}
 use Rattle.rcu_live.proofs.Frames.{unseen}
 use Rattle.rcu_live.proofs.Numbers.{own_small}

@@ -1,12 +1,11 @@
 -- Each load of the number keeps the rule.
 use Rattle.std.proofs.Common.{◌≡◌, ℕ, ◌+◌, ◌<◌, ◌≤◌, List, Option, Some, None, get_or, set, map, drop, true, refl, sym, ap, ◌∙◌, subst, arith}
 use mathlib.Core.Option.{some}
-use lib.ListN.{get_elem?}
 use lib.Seq.{map-set}
-use Rattle.atomic_table.specs.Table.{State, Me, keeps, Allows}
+use Rattle.atomic_table.specs.Table.{Me, keeps, Allows}
 use Rattle.atomic_table.proofs.Lists.{at_map}
 use Rattle.rcu_live.specs.Client.{Homes, IsStable, Picture, Shown}
-use Rattle.rcu_live.specs.Numbers.{is_own_word, may_open}
+use Rattle.rcu_live.specs.Numbers.{may_open}
 use Rattle.rcu_live.specs.Rule.{Fits, IsKept, IsSound}
 use Rattle.rcu_live.specs.View.{Closed, Loaded, Opened, after_close, after_load, after_open, if_cpu, shown}
 use Rattle.rcu_live.specs.Words.{base_of, place}

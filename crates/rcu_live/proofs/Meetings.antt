@@ -1,10 +1,8 @@
 -- Cookies and the sections that a watcher meets.
-use Rattle.std.proofs.Common.{◌≡◌, ℕ, ◌<◌, ◌≤◌, Bool, true, false, nat_le, arith}
+use Rattle.std.proofs.Common.{◌≡◌, ◌≤◌, true, false, arith}
 use Rattle.std.proofs.lemmas.Bool.Decides.{nat_tests}
 use Rattle.rcu_seq.specs.Numbers.{Number, is_done_at, snapshot}
 use Rattle.rcu_live.specs.Numbers.{is_open_at}
-use Rattle.rcu_live.specs.Met.{MeetsSection}
-use Rattle.rcu_live.specs.declared.met.Met.{Met}
 
 -- where a section that began at a number may be open, no cookie of a taking at it or later is done
 pub not_done : (at seen taken polled : Number) → is_open_at seen at ≡ true → at ≤ taken → polled ≤ seen → is_done_at (snapshot taken) polled ≡ false

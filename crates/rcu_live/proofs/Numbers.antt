@@ -1,8 +1,8 @@
 -- Facts on numbers and own words.
-use Rattle.std.proofs.Common.{◌≡◌, ◌≢◌, ℕ, ◌+◌, ◌<◌, ◌≤◌, Bool, true, false, nat_le, arith}
+use Rattle.std.proofs.Common.{◌≡◌, ◌≢◌, ℕ, ◌+◌, ◌<◌, ◌≤◌, true, false, arith}
 use Rattle.std.proofs.lemmas.Bool.Decides.{nat_tests}
 use Rattle.rcu_seq.specs.Numbers.{Number, snapshot}
-use Rattle.rcu_live.specs.Numbers.{is_own_word, is_past, is_open_at, may_open}
+use Rattle.rcu_live.specs.Numbers.{is_own_word, is_past, is_open_at}
 use Rattle.rcu_live.specs.Words.{place}
 
 -- an own word is at most one more than the number seen

@@ -1,5 +1,5 @@
 -- A store of the own word keeps the rule.
-use Rattle.std.proofs.Common.{◌≡◌, ◌≢◌, ℕ, ◌+◌, ◌<◌, ◌≤◌, List, Some, None, length, get_or, set, true, refl, sym, ap, ◌∙◌, subst, arith, length-set}
+use Rattle.std.proofs.Common.{◌≡◌, ◌≢◌, ℕ, ◌<◌, ◌≤◌, List, Some, None, length, get_or, set, true, refl, sym, ap, ◌∙◌, subst, arith, length-set}
 use Rattle.std.proofs.lemmas.List.{drop-set-lt, get_or-set_other, get_or-set_same}
 use mathlib.Core.Logic.{dite}
 use native.Mathlib.Decide.{ℕ_discrete}
@@ -9,7 +9,7 @@ use Rattle.rcu_live.specs.Numbers.{is_own_word}
 use Rattle.rcu_live.specs.Rule.{Fits, IsKept, IsSound}
 use Rattle.rcu_live.specs.View.{after_store}
 use Rattle.rcu_live.specs.Words.{base_of, place}
-use Rattle.rcu_live.specs.declared.view.Role.TheVariants.{Cpu, Engine}
+use Rattle.rcu_live.specs.declared.view.Role.TheVariants.{Cpu}
 use Rattle.rcu_live.specs.declared.view.View.{View}
 use Rattle.rcu_live.proofs.Frames.{changed, unseen}
 use Rattle.rcu_live.proofs.Numbers.{number_apart, places_apart}

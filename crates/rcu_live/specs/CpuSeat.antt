@@ -1,5 +1,5 @@
 -- A processor's seat: its calls, where each is accepted, and what it leaves.
-use Rattle.std.specs.Prelude.{ℕ, ◌+◌, ◌-◌, ◌==◌, nat_lt, if◌then◌else◌, List, [], ◌∷◌, Option}
+use Rattle.std.specs.Prelude.{ℕ, ◌+◌, ◌-◌, ◌==◌, nat_lt, if◌then◌else◌, [], ◌∷◌, Option}
 use Rattle.atomic_table.specs.Seated.{TableId}
 use Rattle.rcu_seq.specs.Fault.{first_fault}
 use Rattle.rcu_seq.specs.Numbers.{Number}

@@ -1,5 +1,5 @@
 -- Why an object is not opened.
-use Rattle.std.specs.Prelude.{ℕ, not, if◌then◌else◌, Option, Some, None}
+use Rattle.std.specs.Prelude.{ℕ, not, Option}
 use Rattle.rcu_seq.specs.Fault.{first_fault}
 use Rattle.rcu_seq.specs.Numbers.{Number, is_last}
 use Rattle.rcu_seq.specs.declared.fault.Fault.{Fault}

@@ -1,4 +1,4 @@
-use Rattle.std.proofs.Common.{◌≡◌, ℕ, map}
+use Rattle.std.proofs.Common.{◌≡◌, map}
 use Rattle.std.specs.List.{range_with_len}
 use Rattle.rcu_live.specs.CpuSeat.{at_first}
 use Rattle.rcu_live.specs.View.{engine_seat}

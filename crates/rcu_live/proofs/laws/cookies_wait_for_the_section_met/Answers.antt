@@ -1,4 +1,4 @@
-use Rattle.std.proofs.Common.{◌≤◌, arith}
+use Rattle.std.proofs.Common.{arith}
 use Rattle.rcu_live.proofs.Meetings.{began_by, not_done}
 use Rattle.rcu_live.proofs.laws.cookies_wait_for_the_section_met.Goals as goal
 
