@@ -7,3 +7,4 @@ pub mod PairLineLemmas
 pub mod PairSets
 pub mod ParseLemmas
 pub mod RunLemmas
+pub mod ScriptRunLemmas

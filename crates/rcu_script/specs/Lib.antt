@@ -7,4 +7,5 @@ pub mod PairTexts
 pub mod RunEnds
 pub mod ScriptAnswers
 pub mod ScriptLines
+pub mod ScriptRuns
 pub mod ScriptTexts

@@ -1,5 +1,6 @@
 //! Scripts: events in, replies out.
 
+pub mod laws;
 pub mod open;
 pub mod parse;
 pub mod print;
