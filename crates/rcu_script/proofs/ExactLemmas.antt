@@ -31,7 +31,7 @@ closes_number word rest n c = closes_behind word (decimal n ++ rest) (closes_beh
 closes_numbered : (text : List ℕ) (n : ℕ) → Closes (numbered_text text n)
 closes_numbered text n = closes_number text (codes "\n") n ([], refl)
 
-closes_reply : (r : Reply) → Closes (text_of r)
+pub closes_reply : (r : Reply) → Closes (text_of r)
 closes_reply (reply.Depth n) = closes_numbered (codes "depth ") n
 closes_reply (reply.Noted n true) = closes_number (codes "noted ") (codes " needed\n") n (codes " needed", refl)
 closes_reply (reply.Noted n false) = closes_number (codes "noted ") (codes " clear\n") n (codes " clear", refl)
@@ -91,13 +91,13 @@ one_line size h (Ask event) text next a = elim a.1 [
 ]
 
 -- an ended line of the text is `fault 16`
-abbrev ended_wants : List ℕ → Bool
+abbrev pub ended_wants : List ℕ → Bool
 ended_wants text = list_any (bytes_eq (codes "fault 16")) (cut_of text).ended
 
-wants_append : (a b : List ℕ) → (cut_of a).rest ≡ [] → ended_wants (a ++ b) ≡ (ended_wants a || ended_wants b)
+pub wants_append : (a b : List ℕ) → (cut_of a).rest ≡ [] → ended_wants (a ++ b) ≡ (ended_wants a || ended_wants b)
 wants_append a b none = ap (list_any (bytes_eq (codes "fault 16"))) (cut_append a b none) ∙ list_any-append (bytes_eq (codes "fault 16")) (cut_of a).ended (cut_of b).ended
 
-exact_text : (size : Size) (h : History) (lines : List (List ℕ)) (text : List ℕ) (end : History)
+pub exact_text : (size : Size) (h : History) (lines : List (List ℕ)) (text : List ℕ) (end : History)
     → Answers size h lines text end → ended_wants text ≡ false → text ≡ replies size h lines
 exact_text size h [] text end a none = a.0
 exact_text size h (line ∷ lines) text end a none =
@@ -112,7 +112,7 @@ exact_text size h (line ∷ lines) text end a none =
           cc
     ]
 
-ended_of_all : (text : List ℕ) → wants_memory text ≡ false → ended_wants text ≡ false
+pub ended_of_all : (text : List ℕ) → wants_memory text ≡ false → ended_wants text ≡ false
 ended_of_all text h = go (length (cut_of text).rest == 0) refl h
   where
     go : (t : Bool) → (length (cut_of text).rest == 0) ≡ t → wants_memory text ≡ false → ended_wants text ≡ false

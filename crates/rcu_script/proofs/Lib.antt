@@ -1,10 +1,12 @@
 pub mod AnswerLemmas
 pub mod ExactLemmas
 pub mod ListLemmas
+pub mod OneLineTexts
 pub mod PairCalls
 pub mod PairLemmas
 pub mod PairLineLemmas
 pub mod PairSets
 pub mod ParseLemmas
+pub mod RightTextLemmas
 pub mod RunLemmas
 pub mod ScriptRunLemmas
