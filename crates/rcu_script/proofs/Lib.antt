@@ -7,6 +7,7 @@ pub mod PairLemmas
 pub mod PairLineLemmas
 pub mod PairSets
 pub mod ParseLemmas
+pub mod PolledLemmas
 pub mod RightTextLemmas
 pub mod RunLemmas
 pub mod ScriptRunLemmas

@@ -1,11 +1,17 @@
 //! What the definitions say of the lines of a script.
-ghost use Rattle.std.specs.Prelude.{◌≡◌, false, ℕ, List, []};
-ghost use Rattle.rcu_core.specs.History.{History};
+ghost use Rattle.std.specs.Prelude.{◌≡◌, ◌≢◌, ◌∷◌, ◌++◌, false, true, ℕ, List, [], Some};
+ghost use Rattle.rcu_core.specs.History.{History, section};
 ghost use Rattle.rcu_core.specs.Replies.{Size};
-ghost use Rattle.rcu_core.specs.Runs.{IsLegalRun, Run, history};
+ghost use Rattle.rcu_core.specs.Runs.{IsLegalRun, Run, history, takes};
 ghost use Rattle.rcu_script.specs.ScriptAnswers.{Answers, IsAnswer, replies, wants_memory};
 ghost use Rattle.rcu_script.specs.ScriptRuns.{LegalRunFrom, LegalRunTo};
+ghost use Rattle.rcu_script.specs.ScriptLines.{asked_by};
+ghost use Rattle.rcu_script.specs.ScriptTexts.{text_of};
 
+use rcu_core::event::Event;
+use rcu_core::laws::readers_finish_before_done;
+use rcu_core::reply::Reply;
+use rcu_text::Line;
 use rcu_text::laws::lines_are_pieces;
 
 /// What a script answered is a legal run: one leads to the history that the answers end at, and
@@ -35,3 +41,20 @@ pub fn the_right_text_is_the_only_one()
         → Answers size [] lines text end → wants_memory text ≡ false
         → text ≡ replies size [] lines }
 {}
+
+/// Readers finish before `done` is printed: where a line was answered by a cookie and a later line
+/// that polls this cookie is answered `done`, each read section that was open at the first line has
+/// ended at the later one.
+pub fn readers_finish_before_done_is_printed()
+    ensures { (size : Size) (before between : List (List ℕ)) (taking polling told more : List ℕ)
+        (event : Event) (cookie cpu : ℕ) (at_taking at_poll end opened : History)
+        → Answers size [] before told at_taking
+        → asked_by taking ≡ Line.Ask event → takes event ≡ true
+        → Answers size at_taking (taking ∷ between)
+        (text_of (Reply.Cookie (record { 0 = cookie })) ++ more) at_poll
+        → asked_by polling ≡ Line.Ask (Event.Poll cookie)
+        → Answers size at_poll (polling ∷ []) (text_of (Reply.Polled true)) end
+        → section cpu at_taking ≡ Some opened → section cpu at_poll ≢ Some opened }
+{
+    readers_finish_before_done();
+}
