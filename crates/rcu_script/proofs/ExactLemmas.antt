@@ -72,7 +72,7 @@ closed_line size h (Ask event) text next a = ap (λ (l : List ℕ). (cut_of l).r
 
 -- ---- the one text
 
-both_false : (a b : Bool) → (a || b) ≡ false → (a ≡ false) × (b ≡ false)
+pub both_false : (a b : Bool) → (a || b) ≡ false → (a ≡ false) × (b ≡ false)
 both_false true b h = cc
 both_false false b h = (refl, h)
 

@@ -24,7 +24,7 @@ use Rattle.rcu_text.proofs.CallerLemmas.{Closes, closed, closes_behind}
 use Rattle.rcu_script.specs.ScriptAnswers.{Answers, AnswersLine, IsAnswer, next_after, replies, reply_to, wants_memory}
 use Rattle.rcu_script.specs.ScriptLines.{asked_by}
 use Rattle.rcu_script.specs.ScriptTexts.{text_of}
-use Rattle.rcu_script.proofs.ExactLemmas.{closes_reply, ended_of_all, ended_wants, exact_text, is_answer, wants_append}
+use Rattle.rcu_script.proofs.ExactLemmas.{both_false, closes_reply, ended_of_all, ended_wants, exact_text, is_answer, wants_append}
 use Rattle.rcu_script.proofs.OneLineTexts.{OneLine, first_piece, is_end, line_alone, line_listed, line_numbered, line_of_number}
 
 -- ---- the right text is an answer
@@ -66,16 +66,8 @@ no_memory_cause s v _ = refl
 first_is_other : (causes : List (Bool × Fault)) → list_any (λ (cause : Bool × Fault). is_memory cause.1) causes ≡ false
     → (r : Reply) → says_memory r ≡ false → says_memory (or_fault (first_fault causes) r) ≡ false
 first_is_other [] none r other = other
-first_is_other ((true, f) ∷ causes) none r other = now (is_memory f) _ none
-  where
-    now : (a b : Bool) → (a || b) ≡ false → a ≡ false
-    now true b none = cc
-    now false b none = refl
-first_is_other ((false, f) ∷ causes) none r other = first_is_other causes (later (is_memory f) _ none) r other
-  where
-    later : (a b : Bool) → (a || b) ≡ false → b ≡ false
-    later true b none = cc
-    later false b none = none
+first_is_other ((true, f) ∷ causes) none r other = (both_false (is_memory f) _ none).0
+first_is_other ((false, f) ∷ causes) none r other = first_is_other causes (both_false (is_memory f) _ none).1 r other
 
 turn_is_other : (a b d : Bool) (k l m n : ℕ)
     → says_memory (if a then (if b then reply.Ended k else reply.Waiting l) else (if d then reply.Begun m n else reply.Nothing)) ≡ false

@@ -1,4 +1,4 @@
--- What a script answers is a legal run.
+-- What a script answers is a legal run, and is answered in turn.
 use Rattle.std.proofs.Common.{◌≡◌, ℕ, List, [], ◌∷◌, ◌++◌, refl, sym, ap, ◌∙◌, append_assoc, subst}
 use Rattle.rcu_core.specs.History.{History}
 use Rattle.rcu_core.specs.Replies.{IsLegalReply, Size, with_event}
@@ -9,7 +9,7 @@ use Rattle.rcu_text.specs.declared.line_shape.Line.{Line}
 use Rattle.rcu_text.specs.declared.line_shape.Line.TheVariants.{Ask, Blank, Malformed}
 use Rattle.rcu_script.specs.ScriptAnswers.{Answers, AnswersLine}
 use Rattle.rcu_script.specs.ScriptLines.{asked_by}
-use Rattle.rcu_script.specs.ScriptRuns.{LegalRunFrom, LegalRunTo}
+use Rattle.rcu_script.specs.ScriptRuns.{AnswersInTurn, LegalRunFrom, LegalRunTo}
 
 -- ---- answers go on from a legal run
 
@@ -50,3 +50,40 @@ pub lines_from_first : (size : Size) (lines : List (List ℕ)) (text : List ℕ)
 lines_from_first size lines text end a =
     let from = lines_further size [] [] end lines text tt refl a in
     record { run = from.later ++ []; legal = from.legal; reached = from.reached }
+
+-- ---- answers in turn
+
+pub answered_in_turn : (size : Size) (h : History) (lines later : List (List ℕ)) (text : List ℕ) (end : History)
+    → Answers size h (lines ++ later) text end → AnswersInTurn size h lines later text end
+answered_in_turn size h [] later text end a = record {
+  first = [];
+  between = h;
+  second = text;
+  is = refl;
+  answers_first = (refl, refl);
+  answers_second = a;
+}
+answered_in_turn size h (line ∷ lines) later text end a =
+    let rest = answered_in_turn size a.1 lines later a.2 end a.5 in
+    record {
+      first = a.0 ++ rest.first;
+      between = rest.between;
+      second = rest.second;
+      is = a.4 ∙ ap (λ (l : List ℕ). a.0 ++ l) rest.is ∙ sym (append_assoc a.0 rest.first rest.second);
+      answers_first = (a.0, a.1, rest.first, a.3, refl, rest.answers_first);
+      answers_second = rest.answers_second;
+    }
+
+both_answered : (size : Size) (h : History) (lines later : List (List ℕ)) (first second : List ℕ) (between end : History)
+    → Answers size h lines first between → Answers size between later second end
+    → Answers size h (lines ++ later) (first ++ second) end
+both_answered size h [] later first second between end a b = rw (a.0, ← a.1) b
+both_answered size h (line ∷ lines) later first second between end a b =
+    (a.0, a.1, a.2 ++ second, a.3, ap (λ (l : List ℕ). l ++ second) a.4 ∙ append_assoc a.0 a.2 second,
+    both_answered size a.1 lines later a.2 second between end a.5 b)
+
+pub answered_together : (size : Size) (h : History) (lines later : List (List ℕ)) (text : List ℕ) (end : History)
+    → AnswersInTurn size h lines later text end → Answers size h (lines ++ later) text end
+answered_together size h lines later text end a =
+    subst (λ (l : List ℕ). Answers size h (lines ++ later) l end) (sym a.is)
+    (both_answered size h lines later a.first a.second a.between end a.answers_first a.answers_second)

@@ -4,7 +4,7 @@ ghost use Rattle.rcu_core.specs.History.{History, section};
 ghost use Rattle.rcu_core.specs.Replies.{Size};
 ghost use Rattle.rcu_core.specs.Runs.{IsLegalRun, Run, history, takes};
 ghost use Rattle.rcu_script.specs.ScriptAnswers.{Answers, IsAnswer, replies, wants_memory};
-ghost use Rattle.rcu_script.specs.ScriptRuns.{LegalRunFrom, LegalRunTo};
+ghost use Rattle.rcu_script.specs.ScriptRuns.{AnswersInTurn, LegalRunFrom, LegalRunTo};
 ghost use Rattle.rcu_script.specs.ScriptLines.{asked_by};
 ghost use Rattle.rcu_script.specs.ScriptTexts.{text_of};
 
@@ -40,6 +40,15 @@ pub fn the_right_text_is_the_only_one()
     ensures { (size : Size) (lines : List (List ℕ)) (text : List ℕ) (end : History)
         → Answers size [] lines text end → wants_memory text ≡ false
         → text ≡ replies size [] lines }
+{}
+
+/// A text answers lines and later ones just where it answers them in turn: wherever the lines are
+/// cut, the text is cut too, at the history between them.
+pub fn lines_are_answered_in_turn()
+    ensures cut { (size : Size) (h end : History) (lines later : List (List ℕ)) (text : List ℕ)
+        → Answers size h (lines ++ later) text end → AnswersInTurn size h lines later text end }
+    ensures joined { (size : Size) (h end : History) (lines later : List (List ℕ)) (text : List ℕ)
+        → AnswersInTurn size h lines later text end → Answers size h (lines ++ later) text end }
 {}
 
 /// Readers finish before `done` is printed: where a line was answered by a cookie and a later line
