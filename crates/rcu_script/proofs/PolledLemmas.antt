@@ -1,5 +1,5 @@
 -- A script that takes a cookie and later finds it done ran as the law of cookies asks.
-use Rattle.std.proofs.Common.{◌≡◌, ◌≢◌, ◌⊎◌, ◌==◌, ◌∙◌, ◌&&◌, ◌+◌, ◌*◌, ◌^◌, ◌/◌, ◌%◌, ◌≤◌, ◌<◌, ℕ, zero, suc, Bool, true, false, List, [], ◌∷◌, ◌++◌, length, Option, Some, None, refl, sym, ap, subst, inl, inr, codes, arith, append-nil, if◌then◌else◌}
+use Rattle.std.proofs.Common.{◌≡◌, ◌==◌, ◌∙◌, ◌&&◌, ◌+◌, ◌^◌, ◌/◌, ◌%◌, ◌≤◌, ◌<◌, ℕ, zero, suc, Bool, true, false, List, [], ◌∷◌, ◌++◌, length, Option, Some, None, refl, sym, ap, subst, inl, inr, codes, arith, if◌then◌else◌}
 use Rattle.std.specs.Prelude.{nat_le, nat_lt}
 use Rattle.std.specs.Fmt.{decimal, digit_glyph, digits, digits_onto}
 use Rattle.std.specs.Str.Parse.{digits_value}
@@ -16,17 +16,17 @@ use Rattle.rcu_core.specs.Replies.{IsLegalReply, Size, with_event}
 use Rattle.rcu_core.specs.Runs.{IsLegalRun, Run, history, takes}
 use Rattle.rcu_core.specs.Situation.{situation}
 use Rattle.rcu_core.specs.declared.event.Event.{Event}
-use Rattle.rcu_core.specs.declared.event.Event.TheVariants.{Enter, Exit, Note, Quiesce, Deliver, Online, Offline, Begin, End, Turn, Awaits, Take, StartPoll, Poll, Queue, Tend, Run as RunCalls, BarBegin, Visit, BarTest}
+use Rattle.rcu_core.specs.declared.event.Event.TheVariants.{Take, StartPoll, Poll}
 use Rattle.rcu_core.specs.declared.reply.Reply.{Reply}
 use Rattle.rcu_core.specs.declared.reply.Reply.TheVariants as reply
 use Rattle.rcu_text.specs.Lines.{is_well_formed, line_of_words}
 use Rattle.rcu_text.specs.Words.{is_digit, is_number, number_in_word, value_of, words_of}
 use Rattle.rcu_text.specs.declared.line_shape.Line.{Line}
-use Rattle.rcu_text.specs.declared.line_shape.Line.TheVariants.{Ask, Blank, Malformed}
+use Rattle.rcu_text.specs.declared.line_shape.Line.TheVariants.{Ask, Malformed}
 use Rattle.rcu_script.specs.ScriptAnswers.{Answers, AnswersLine}
-use Rattle.rcu_script.specs.ScriptLines.{asked_by, cpu_of, event_alone, event_of, event_with_cpu, event_with_number, event_with_numbers, event_with_word, event_with_words}
+use Rattle.rcu_script.specs.ScriptLines.{asked_by, cpu_of, event_alone, event_of, event_with_cpu, event_with_number, event_with_numbers}
 use Rattle.rcu_script.specs.ScriptTexts.{text_of}
-use Rattle.rcu_script.proofs.OneLineTexts.{OneLine, first_piece, is_end, line_numbered}
+use Rattle.rcu_script.proofs.OneLineTexts.{first_piece, is_end, line_numbered}
 use Rattle.rcu_script.proofs.ScriptRunLemmas.{lines_from_first, lines_further}
 
 -- ---- a polled cookie fits 64 bits

@@ -1,16 +1,16 @@
 -- The right text is an answer, and no line of it is `fault 16`.
-use Rattle.std.proofs.Common.{◌≡◌, ◌⊎◌, ◌==◌, ◌∙◌, ◌||◌, ℕ, Bool, true, false, List, [], ◌∷◌, ◌++◌, length, Option, Some, None, refl, sym, ap, inl, inr, codes, append-nil, if◌then◌else◌}
+use Rattle.std.proofs.Common.{◌≡◌, ◌⊎◌, ◌==◌, ◌∙◌, ℕ, Bool, true, false, List, [], ◌∷◌, ◌++◌, refl, sym, ap, inl, inr, codes, append-nil, if◌then◌else◌}
 use Rattle.std.specs.Fmt.{decimal, digits}
 use Rattle.std.specs.List.{list_any, slice_split}
 use Rattle.std.specs.Str.{bytes_eq}
 use Rattle.std.proofs.lemmas.List.{append_cancel_right}
-use Rattle.rcu_seq.specs.Fault.{fault_number, first_fault}
+use Rattle.rcu_seq.specs.Fault.{first_fault}
 use Rattle.rcu_seq.specs.declared.fault.Fault.{Fault}
 use Rattle.rcu_seq.specs.declared.fault.Fault.TheVariants as fault
 use Rattle.rcu_node.specs.declared.answer.Answer.TheVariants as answer
 use Rattle.rcu_barrier.specs.declared.visit.Visit.TheVariants as visit
 use Rattle.rcu_core.specs.History.{History}
-use Rattle.rcu_core.specs.Replies.{Size, accepted_reply, answer, causes, fault_in, how_many, or_fault, waits_for, with_event}
+use Rattle.rcu_core.specs.Replies.{Size, accepted_reply, answer, causes, how_many, or_fault, waits_for}
 use Rattle.rcu_core.specs.Situation.{Situation, situation, wants_begin}
 use Rattle.rcu_core.specs.declared.event.Event.{Event}
 use Rattle.rcu_core.specs.declared.event.Event.TheVariants as event

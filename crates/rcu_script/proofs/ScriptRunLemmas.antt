@@ -78,9 +78,14 @@ both_answered : (size : Size) (h : History) (lines later : List (List ℕ)) (fir
     → Answers size h lines first between → Answers size between later second end
     → Answers size h (lines ++ later) (first ++ second) end
 both_answered size h [] later first second between end a b = rw (a.0, ← a.1) b
-both_answered size h (line ∷ lines) later first second between end a b =
-    (a.0, a.1, a.2 ++ second, a.3, ap (λ (l : List ℕ). l ++ second) a.4 ∙ append_assoc a.0 a.2 second,
-    both_answered size a.1 lines later a.2 second between end a.5 b)
+both_answered size h (line ∷ lines) later first second between end a b = (
+  a.0,
+  a.1,
+  a.2 ++ second,
+  a.3,
+  ap (λ (l : List ℕ). l ++ second) a.4 ∙ append_assoc a.0 a.2 second,
+  both_answered size a.1 lines later a.2 second between end a.5 b,
+)
 
 pub answered_together : (size : Size) (h : History) (lines later : List (List ℕ)) (text : List ℕ) (end : History)
     → AnswersInTurn size h lines later text end → Answers size h (lines ++ later) text end

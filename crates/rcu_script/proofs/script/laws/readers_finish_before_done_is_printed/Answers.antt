@@ -1,5 +1,5 @@
-use Rattle.std.proofs.Common.{◌≡◌, ◌∙◌, Some, ap, sym}
-use Rattle.rcu_core.specs.History.{History, section}
+use Rattle.std.proofs.Common.{◌∙◌, ap}
+use Rattle.rcu_core.specs.History.{section}
 use Rattle.rcu_script.proofs.PolledLemmas.{done_run}
 use Rattle.rcu_script.proofs.script.laws.readers_finish_before_done_is_printed.Goals as goal
 
