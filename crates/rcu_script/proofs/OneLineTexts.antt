@@ -1,5 +1,6 @@
 -- Texts of one line: of numbers, and of all replies.
-use Rattle.std.proofs.Common.{◌≡◌, ◌==◌, ◌∙◌, ◌%◌, ◌/◌, ◌<◌, ℕ, zero, suc, Bool, true, false, List, [], ◌∷◌, ◌++◌, length, refl, sym, ap, codes, arith, append_assoc, if◌then◌else◌}
+use Rattle.std.proofs.Common.{◌≡◌, ◌==◌, ◌∙◌, ◌%◌, ◌/◌, ◌<◌, ℕ, zero, suc, Bool, true, false, List, [], ◌∷◌, ◌++◌}
+use Rattle.std.proofs.Common.{length, refl, sym, ap, codes, arith, append_assoc, if◌then◌else◌}
 use Rattle.std.specs.Prelude.{flat_map, slice_index_or}
 use Rattle.std.specs.Fmt.{decimal, digit_glyph, digits, digits_onto}
 use Rattle.std.specs.List.{list_any, slice_split}
@@ -18,12 +19,14 @@ is_end b = b == 10
 glyph_no_end : (d : ℕ) → d < 10 → is_end (digit_glyph false d) ≡ false
 glyph_no_end d low = grind (arith, nat_tests)
 
-onto_no_end : (k n : ℕ) (acc : List ℕ) → list_any is_end acc ≡ false → list_any is_end (digits_onto k 10 false n acc) ≡ false
+onto_no_end : (k n : ℕ) (acc : List ℕ) → list_any is_end acc ≡ false
+    → list_any is_end (digits_onto k 10 false n acc) ≡ false
 onto_no_end zero n acc none = none
 onto_no_end (suc k) n acc none =
     let glyph = digit_glyph false (n % 10) in
     let one : list_any is_end (glyph ∷ acc) ≡ false = rw (glyph_no_end (n % 10) (omega arith)) none in
-    elim (n / 10 == 0) as (λ t. list_any is_end (if t then glyph ∷ acc else digits_onto k 10 false (n / 10) (glyph ∷ acc)) ≡ false) [
+    let more = digits_onto k 10 false (n / 10) (glyph ∷ acc) in
+    elim (n / 10 == 0) as (λ t. list_any is_end (if t then glyph ∷ acc else more) ≡ false) [
       | true ↦ one
       | false ↦ onto_no_end k (n / 10) (glyph ∷ acc) one
     ]
@@ -37,7 +40,8 @@ no_end_in a b p q = list_any-append is_end a b ∙ rw (p, q) refl
 
 listed_no_end : (items : List ℕ) → list_any is_end (flat_map spaced items) ≡ false
 listed_no_end [] = refl
-listed_no_end (item ∷ items) = no_end_in (spaced item) (flat_map spaced items) (decimal_no_end item) (listed_no_end items)
+listed_no_end (item ∷ items) =
+    no_end_in (spaced item) (flat_map spaced items) (decimal_no_end item) (listed_no_end items)
 
 -- ---- texts of one line
 
@@ -49,7 +53,8 @@ pub record OneLine (line text : List ℕ) : Type 0 where
 pub line_alone : (line : List ℕ) → list_any is_end line ≡ false → OneLine line (line ++ codes "\n")
 line_alone line none = record { no_end = none; ended = refl }
 
-pub line_behind : (word line text : List ℕ) → list_any is_end word ≡ false → OneLine line text → OneLine (word ++ line) (word ++ text)
+pub line_behind : (word line text : List ℕ) → list_any is_end word ≡ false → OneLine line text
+    → OneLine (word ++ line) (word ++ text)
 line_behind word line text none one = record {
   no_end = no_end_in word line none one.no_end;
   ended = ap (λ (l : List ℕ). word ++ l) one.ended ∙ sym (append_assoc word line (10 ∷ []));
@@ -58,27 +63,33 @@ line_behind word line text none one = record {
 pub line_of_number : (word line text : List ℕ) (n : ℕ) → list_any is_end word ≡ false → OneLine line text
     → OneLine (word ++ (decimal n ++ line)) (word ++ (decimal n ++ text))
 line_of_number word line text n none one =
-    line_behind word (decimal n ++ line) (decimal n ++ text) none (line_behind (decimal n) line text (decimal_no_end n) one)
+    line_behind word (decimal n ++ line) (decimal n ++ text) none
+    (line_behind (decimal n) line text (decimal_no_end n) one)
 
-pub line_numbered : (word : List ℕ) (n : ℕ) → list_any is_end word ≡ false → OneLine (word ++ (decimal n ++ [])) (numbered_text word n)
+pub line_numbered : (word : List ℕ) (n : ℕ) → list_any is_end word ≡ false
+    → OneLine (word ++ (decimal n ++ [])) (numbered_text word n)
 line_numbered word n none = line_of_number word [] (codes "\n") n none (line_alone [] refl)
 
 pub line_listed : (word : List ℕ) (item : ℕ) (items : List ℕ) → list_any is_end word ≡ false
     → OneLine (word ++ flat_map spaced (item ∷ items)) (word ++ (flat_map spaced (item ∷ items) ++ codes "\n"))
 line_listed word item items none =
-    line_behind word (flat_map spaced (item ∷ items)) _ none (line_alone (flat_map spaced (item ∷ items)) (listed_no_end (item ∷ items)))
+    line_behind word (flat_map spaced (item ∷ items)) _ none
+    (line_alone (flat_map spaced (item ∷ items)) (listed_no_end (item ∷ items)))
 
 all_no_end : (line : List ℕ) → list_any is_end line ≡ false → All (λ b. is_end b ≡ false) line
 all_no_end line none = λ k d within. go k d within _ refl
   where
-    go : (k d : ℕ) → k < length line → (t : Bool) → is_end (slice_index_or line k d) ≡ t → is_end (slice_index_or line k d) ≡ false
+    go : (k d : ℕ) → k < length line → (t : Bool) → is_end (slice_index_or line k d) ≡ t
+        → is_end (slice_index_or line k d) ≡ false
     go k d within false e = e
     go k d within true e =
         let some : list_any is_end line ≡ true = list_any_at is_end line k d within e in
         absurd (cc)
 
 -- the line is the first piece of what begins with the text
-pub first_piece : (line text more : List ℕ) → OneLine line text → slice_split is_end (text ++ more) ≡ line ∷ slice_split is_end more
+pub first_piece : (line text more : List ℕ) → OneLine line text
+    → slice_split is_end (text ++ more) ≡ line ∷ slice_split is_end more
 first_piece line text more one =
-    ap (λ (l : List ℕ). slice_split is_end (l ++ more)) one.ended ∙ ap (slice_split is_end) (append_assoc line (10 ∷ []) more)
+    ap (λ (l : List ℕ). slice_split is_end (l ++ more)) one.ended
+    ∙ ap (slice_split is_end) (append_assoc line (10 ∷ []) more)
     ∙ slice_split_at is_end line 10 more (all_no_end line one.no_end) refl

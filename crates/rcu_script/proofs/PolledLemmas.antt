@@ -1,5 +1,7 @@
 -- A script that takes a cookie and later finds it done ran as the law of cookies asks.
-use Rattle.std.proofs.Common.{◌≡◌, ◌==◌, ◌∙◌, ◌&&◌, ◌+◌, ◌^◌, ◌/◌, ◌%◌, ◌≤◌, ◌<◌, ℕ, zero, suc, Bool, true, false, List, [], ◌∷◌, ◌++◌, length, Option, Some, None, refl, sym, ap, subst, inl, inr, codes, arith, if◌then◌else◌}
+use Rattle.std.proofs.Common.{◌≡◌, ◌==◌, ◌∙◌, ◌&&◌, ◌+◌, ◌^◌, ◌/◌, ◌%◌, ◌≤◌, ◌<◌, ℕ, zero, suc, Bool, true, false, List}
+use Rattle.std.proofs.Common.{[], ◌∷◌, ◌++◌, length, Option, Some, None, refl, sym, ap, subst, inl, inr, codes, arith}
+use Rattle.std.proofs.Common.{if◌then◌else◌}
 use Rattle.std.specs.Prelude.{nat_le, nat_lt}
 use Rattle.std.specs.Fmt.{decimal, digit_glyph, digits, digits_onto}
 use Rattle.std.specs.Str.Parse.{digits_value}
@@ -24,7 +26,8 @@ use Rattle.rcu_text.specs.Words.{is_digit, is_number, number_in_word, value_of, 
 use Rattle.rcu_text.specs.declared.line_shape.Line.{Line}
 use Rattle.rcu_text.specs.declared.line_shape.Line.TheVariants.{Ask, Malformed}
 use Rattle.rcu_script.specs.ScriptAnswers.{Answers, AnswersLine}
-use Rattle.rcu_script.specs.ScriptLines.{asked_by, cpu_of, event_alone, event_of, event_with_cpu, event_with_number, event_with_numbers}
+use Rattle.rcu_script.specs.ScriptLines.{asked_by, cpu_of, event_alone, event_of, event_with_cpu, event_with_number}
+use Rattle.rcu_script.specs.ScriptLines.{event_with_numbers}
 use Rattle.rcu_script.specs.ScriptTexts.{text_of}
 use Rattle.rcu_script.proofs.OneLineTexts.{first_piece, is_end, line_numbered}
 use Rattle.rcu_script.proofs.ScriptRunLemmas.{lines_from_first, lines_further}
@@ -35,7 +38,8 @@ abbrev Fits : Event → Type 0
 Fits (Poll cookie) = cookie < 2 ^ 64
 Fits _ = Unit {0}
 
-named_fits : (found : Event) (text name : List ℕ) (e : Event) (rest : Option Event) → Fits e → (rest ≡ Some found → Fits found)
+named_fits : (found : Event) (text name : List ℕ) (e : Event) (rest : Option Event) → Fits e
+    → (rest ≡ Some found → Fits found)
     → (if bytes_eq name text then Some e else rest) ≡ Some found → Fits found
 named_fits found text name e rest fits later is = go (bytes_eq name text) is
   where
@@ -94,7 +98,9 @@ number_fits word n found = go (is_number word) refl found
 
     go : (t : Bool) → is_number word ≡ t → (if t then Some (value_of word) else None) ≡ Some n → n < 2 ^ 64
     go true e found =
-        let fits : value_of word < 2 ^ 64 = ltb-true _ _ (last_of (nat_lt 0 (length word)) (nat_le (length word) 20) (list_all is_digit word) (nat_lt (value_of word) (2 ^ 64)) e) in
+        let low : nat_lt (value_of word) (2 ^ 64) ≡ true =
+        last_of (nat_lt 0 (length word)) (nat_le (length word) 20) (list_all is_digit word) _ e in
+        let fits : value_of word < 2 ^ 64 = ltb-true _ _ low in
         subst (λ (m : ℕ). m < 2 ^ 64) (ap value_in found) fits
     go false e found = cc
 
@@ -103,12 +109,14 @@ fits_word : (name word : List ℕ) (e : Event) (o : Option ℕ) → number_in_wo
 fits_word name word e None is found = cc
 fits_word name word e (Some n) is found = fits_with_number name n e (number_fits word n is) found
 
-fits_next : (name : List ℕ) (cpu : ℕ) (e : Event) (o : Option ℕ) → option_map_or (event_with_numbers name cpu) o None ≡ Some e → Fits e
+fits_next : (name : List ℕ) (cpu : ℕ) (e : Event) (o : Option ℕ)
+    → option_map_or (event_with_numbers name cpu) o None ≡ Some e → Fits e
 fits_next name cpu e None found = cc
 fits_next name cpu e (Some n) found = fits_with_numbers name cpu n e found
 
 fits_words : (name next : List ℕ) (e : Event) (o : Option ℕ)
-    → option_map_or (λ cpu. option_map_or (event_with_numbers name cpu) (number_in_word next) None) o None ≡ Some e → Fits e
+    → option_map_or (λ cpu. option_map_or (event_with_numbers name cpu) (number_in_word next) None) o None ≡ Some e
+    → Fits e
 fits_words name next e None found = cc
 fits_words name next e (Some cpu) found = fits_next name cpu e (number_in_word next) found
 
@@ -121,7 +129,8 @@ fits_of name (word ∷ next ∷ more ∷ words) e found = cc
 fits_ask : (name : List ℕ) (words : List (List ℕ)) (e : Event) (o : Option Event) → event_of name words ≡ o
     → option_map_or (λ (event : Event). Ask event) o Malformed ≡ Ask e → Fits e
 fits_ask name words e None is asks = cc
-fits_ask name words e (Some event) is asks = fits_of name words e (is ∙ ap (λ (event : Event). Some event) (ap (in_line event) asks))
+fits_ask name words e (Some event) is asks =
+    fits_of name words e (is ∙ ap (λ (event : Event). Some event) (ap (in_line event) asks))
   where
     in_line : Event → Line Event → Event
     in_line d (Ask event) = event
@@ -134,7 +143,8 @@ fits_line (name ∷ words) e asks = fits_ask name words e (event_of name words) 
 polled_fits : (line : List ℕ) (cookie : ℕ) → asked_by line ≡ Ask (Poll cookie) → cookie < 2 ^ 64
 polled_fits line cookie asks = go (is_well_formed line) asks
   where
-    go : (t : Bool) → (if t then line_of_words event_of (words_of line) else Malformed) ≡ Ask (Poll cookie) → cookie < 2 ^ 64
+    go : (t : Bool) → (if t then line_of_words event_of (words_of line) else Malformed) ≡ Ask (Poll cookie)
+        → cookie < 2 ^ 64
     go true asks = fits_line (words_of line) (Poll cookie) asks
     go false asks = cc
 
@@ -195,7 +205,8 @@ cookie_told size h StartPoll r t (inl is) = (_, is)
 cookie_told size h StartPoll r t (inr want) = absurd (cc)
 cookie_told size h _ r t l = absurd (cc)
 
-done_told : (size : Size) (h : History) (cookie : ℕ) (r : Reply) (x : List ℕ) → x ≡ [] → IsLegalReply size (situation h) (Poll cookie) r
+done_told : (size : Size) (h : History) (cookie : ℕ) (r : Reply) (x : List ℕ) → x ≡ []
+    → IsLegalReply size (situation h) (Poll cookie) r
     → text_of (reply.Polled true) ≡ text_of r ++ x → r ≡ reply.Polled true
 done_told size h cookie r x none (inl is) text = is ∙ go (is_done_at cookie (number h)) (text ∙ rw (is, none) refl)
   where
@@ -208,27 +219,33 @@ done_told size h cookie r x none (inr want) text = absurd (cc)
 pub record DoneRun (size : Size) (event : Event) (cookie : ℕ) (at_taking at_poll : History) : Type 0 where
   pub earlier : Run
   pub later : Run
-  pub legal : IsLegalRun size ((Poll cookie, reply.Polled true) ∷ later ++ (event, reply.Cookie (record { 0 = cookie })) ∷ earlier)
+  pub legal : IsLegalRun size
+      ((Poll cookie, reply.Polled true) ∷ later ++ (event, reply.Cookie (record { 0 = cookie })) ∷ earlier)
   pub taken : history earlier ≡ at_taking
   pub polled : history (later ++ (event, reply.Cookie (record { 0 = cookie })) ∷ earlier) ≡ at_poll
 
-asked_line : (size : Size) (h : History) (line : List ℕ) (event : Event) (text : List ℕ) (next : History) → asked_by line ≡ Ask event
+asked_line : (size : Size) (h : History) (line : List ℕ) (event : Event) (text : List ℕ) (next : History)
+    → asked_by line ≡ Ask event
     → AnswersLine size h (asked_by line) text next → AnswersLine size h (Ask event) text next
 asked_line size h line event text next asks a = subst (λ (l : Line Event). AnswersLine size h l text next) asks a
 
-pub done_run : (size : Size) (before between : List (List ℕ)) (taking polling told more : List ℕ) (event : Event) (cookie : ℕ)
-    (at_taking at_poll end : History) → Answers size [] before told at_taking → asked_by taking ≡ Ask event → takes event ≡ true
+pub done_run : (size : Size) (before between : List (List ℕ)) (taking polling told more : List ℕ) (event : Event)
+    (cookie : ℕ) (at_taking at_poll end : History) → Answers size [] before told at_taking
+    → asked_by taking ≡ Ask event → takes event ≡ true
     → Answers size at_taking (taking ∷ between) (text_of (reply.Cookie (record { 0 = cookie })) ++ more) at_poll
     → asked_by polling ≡ Ask (Poll cookie) → Answers size at_poll (polling ∷ []) (text_of (reply.Polled true)) end
     → DoneRun size event cookie at_taking at_poll
-done_run size before between taking polling told more event cookie at_taking at_poll end first asks t second polls third =
+done_run size before between taking polling told more event cookie at_taking at_poll end first asks t second
+    polls third =
     let start = lines_from_first size before told at_taking first in
     let took = asked_line size at_taking taking event second.0 second.1 asks second.3 in
     let said = cookie_told size at_taking event took.0 t took.1 in
     let number : said.0 ≡ cookie =
     cookie_alike said.0 cookie second.2 more (polled_fits polling cookie polls)
-    (ap (λ (r : Reply). text_of r ++ second.2) (sym said.1) ∙ ap (λ (l : List ℕ). l ++ second.2) (sym took.2) ∙ sym second.4) in
-    let is : took.0 ≡ reply.Cookie (record { 0 = cookie }) = said.1 ∙ ap (λ (n : ℕ). reply.Cookie (record { 0 = n })) number in
+    (ap (λ (r : Reply). text_of r ++ second.2) (sym said.1)
+    ∙ ap (λ (l : List ℕ). l ++ second.2) (sym took.2) ∙ sym second.4) in
+    let is : took.0 ≡ reply.Cookie (record { 0 = cookie }) =
+    said.1 ∙ ap (λ (n : ℕ). reply.Cookie (record { 0 = n })) number in
     let taken : Run = (event, reply.Cookie (record { 0 = cookie })) ∷ start.run in
     let legal : IsLegalRun size taken = (rw (start.reached, ← is) took.1, start.legal) in
     let reached : history taken ≡ second.1 =
@@ -236,7 +253,9 @@ done_run size before between taking polling told more event cookie at_taking at_
     ∙ ap (with_event at_taking event) (sym is) ∙ sym took.3 in
     let on = lines_further size taken second.1 at_poll between second.2 legal reached second.5 in
     let poll = asked_line size at_poll polling (Poll cookie) third.0 third.1 polls third.3 in
-    let done = done_told size at_poll cookie poll.0 third.2 third.5.0 poll.1 (third.4 ∙ ap (λ (l : List ℕ). l ++ third.2) poll.2) in
+    let done =
+    done_told size at_poll cookie poll.0 third.2 third.5.0 poll.1
+    (third.4 ∙ ap (λ (l : List ℕ). l ++ third.2) poll.2) in
     record {
       earlier = start.run;
       later = on.later;

@@ -1,5 +1,6 @@
 -- The right text is an answer, and no line of it is `fault 16`.
-use Rattle.std.proofs.Common.{◌≡◌, ◌⊎◌, ◌==◌, ◌∙◌, ℕ, Bool, true, false, List, [], ◌∷◌, ◌++◌, refl, sym, ap, inl, inr, codes, append-nil, if◌then◌else◌}
+use Rattle.std.proofs.Common.{◌≡◌, ◌⊎◌, ◌==◌, ◌∙◌, ℕ, Bool, true, false, List, [], ◌∷◌, ◌++◌, refl, sym, ap, inl, inr}
+use Rattle.std.proofs.Common.{codes, append-nil, if◌then◌else◌}
 use Rattle.std.specs.Fmt.{decimal, digits}
 use Rattle.std.specs.List.{list_any, slice_split}
 use Rattle.std.specs.Str.{bytes_eq}
@@ -24,25 +25,32 @@ use Rattle.rcu_text.proofs.CallerLemmas.{Closes, closed, closes_behind}
 use Rattle.rcu_script.specs.ScriptAnswers.{Answers, AnswersLine, IsAnswer, next_after, replies, reply_to, wants_memory}
 use Rattle.rcu_script.specs.ScriptLines.{asked_by}
 use Rattle.rcu_script.specs.ScriptTexts.{text_of}
-use Rattle.rcu_script.proofs.ExactLemmas.{both_false, closes_reply, ended_of_all, ended_wants, exact_text, is_answer, wants_append}
-use Rattle.rcu_script.proofs.OneLineTexts.{OneLine, first_piece, is_end, line_alone, line_listed, line_numbered, line_of_number}
+use Rattle.rcu_script.proofs.ExactLemmas.{both_false, closes_reply, ended_of_all, ended_wants, exact_text, is_answer}
+use Rattle.rcu_script.proofs.ExactLemmas.{wants_append}
+use Rattle.rcu_script.proofs.OneLineTexts.{OneLine, first_piece, is_end, line_alone, line_listed, line_numbered}
+use Rattle.rcu_script.proofs.OneLineTexts.{line_of_number}
 
 -- ---- the right text is an answer
 
-right_line : (size : Size) (h : History) (line : Line Event) → AnswersLine size h line (reply_to size h line) (next_after size h line)
+right_line : (size : Size) (h : History) (line : Line Event)
+    → AnswersLine size h line (reply_to size h line) (next_after size h line)
 right_line size h Blank = (refl, refl)
 right_line size h Malformed = (refl, refl)
 right_line size h (Ask event) = (answer size (situation h) event, inl refl, refl, refl)
 
-right_lines : (size : Size) (h : History) (lines : List (List ℕ)) → (end : History) × Answers size h lines (replies size h lines) end
+right_lines : (size : Size) (h : History) (lines : List (List ℕ))
+    → (end : History) × Answers size h lines (replies size h lines) end
 right_lines size h [] = (h, (refl, refl))
 right_lines size h (line ∷ lines) =
     let next = next_after size h (asked_by line) in
     let rest = right_lines size next lines in
-    (rest.0, (reply_to size h (asked_by line), next, replies size next lines, right_line size h (asked_by line), refl, rest.1))
+    let first = reply_to size h (asked_by line) in
+    (rest.0, (first, next, replies size next lines, right_line size h (asked_by line), refl, rest.1))
 
 pub right_is_answer : (size : Size) (lines : List (List ℕ)) → IsAnswer size lines (replies size [] lines)
-right_is_answer size lines = let right = right_lines size [] lines in is_answer size lines (replies size [] lines) right.0 right.1
+right_is_answer size lines =
+    let right = right_lines size [] lines in
+    is_answer size lines (replies size [] lines) right.0 right.1
 
 pub only_right : (size : Size) (lines : List (List ℕ)) (text : List ℕ) (end : History)
     → Answers size [] lines text end → wants_memory text ≡ false → text ≡ replies size [] lines
@@ -59,7 +67,8 @@ says_memory (reply.Fault f) = is_memory f
 says_memory _ = false
 
 -- no cause stands for want of memory
-no_memory_cause : (s : Size) (v : Situation) (e : Event) → list_any (λ (cause : Bool × Fault). is_memory cause.1) (causes s v e) ≡ false
+no_memory_cause : (s : Size) (v : Situation) (e : Event)
+    → list_any (λ (cause : Bool × Fault). is_memory cause.1) (causes s v e) ≡ false
 no_memory_cause s v event.Turn = refl
 no_memory_cause s v _ = refl
 
@@ -70,7 +79,8 @@ first_is_other ((true, f) ∷ causes) none r other = (both_false (is_memory f) _
 first_is_other ((false, f) ∷ causes) none r other = first_is_other causes (both_false (is_memory f) _ none).1 r other
 
 turn_is_other : (a b d : Bool) (k l m n : ℕ)
-    → says_memory (if a then (if b then reply.Ended k else reply.Waiting l) else (if d then reply.Begun m n else reply.Nothing)) ≡ false
+    → says_memory (if a then (if b then reply.Ended k else reply.Waiting l)
+    else (if d then reply.Begun m n else reply.Nothing)) ≡ false
 turn_is_other true true d k l m n = refl
 turn_is_other true false d k l m n = refl
 turn_is_other false b true k l m n = refl
@@ -81,12 +91,14 @@ test_is_other true n = refl
 test_is_other false n = refl
 
 accepted_is_other : (s : Size) (v : Situation) (e : Event) → says_memory (accepted_reply s v e) ≡ false
-accepted_is_other s v event.Turn = turn_is_other v.periods.running (how_many s v.cpus.awaits == 0) (wants_begin v.periods) _ _ _ _
+accepted_is_other s v event.Turn =
+    turn_is_other v.periods.running (how_many s v.cpus.awaits == 0) (wants_begin v.periods) _ _ _ _
 accepted_is_other s v event.BarTest = test_is_other (waits_for s v == 0) _
 accepted_is_other s v _ = refl
 
 answer_is_other : (s : Size) (v : Situation) (e : Event) → says_memory (answer s v e) ≡ false
-answer_is_other s v e = first_is_other (causes s v e) (no_memory_cause s v e) (accepted_reply s v e) (accepted_is_other s v e)
+answer_is_other s v e =
+    first_is_other (causes s v e) (no_memory_cause s v e) (accepted_reply s v e) (accepted_is_other s v e)
 
 -- the ended lines of bytes are the pieces between their line ends
 abbrev pub EndedArePieces : Type 0
@@ -94,7 +106,8 @@ EndedArePieces = (bytes : List ℕ) → slice_split (λ b. b == 10) bytes ≡ (c
 
 module _ (pieces : EndedArePieces) where
   -- a text of one line that is not `fault 16`
-  other_line : (line text : List ℕ) → OneLine line text → bytes_eq (codes "fault 16") line ≡ false → ended_wants text ≡ false
+  other_line : (line text : List ℕ) → OneLine line text → bytes_eq (codes "fault 16") line ≡ false
+      → ended_wants text ≡ false
   other_line line text one other =
       let rest : (cut_of text).rest ≡ [] = closed text (line, one.ended) in
       let cut : (cut_of text).ended ++ [] ∷ [] ≡ line ∷ [] ++ [] ∷ [] =
@@ -108,17 +121,20 @@ module _ (pieces : EndedArePieces) where
   other_fault fault.NoMemory e = cc
   other_fault _ e = refl
 
-  numbered : (word : List ℕ) (n : ℕ) → list_any is_end word ≡ false → bytes_eq (codes "fault 16") (word ++ (decimal n ++ [])) ≡ false
+  numbered : (word : List ℕ) (n : ℕ) → list_any is_end word ≡ false
+      → bytes_eq (codes "fault 16") (word ++ (decimal n ++ [])) ≡ false
       → ended_wants (numbered_text word n) ≡ false
   numbered word n none other = other_line _ _ (line_numbered word n none) other
 
   other_reply : (r : Reply) → says_memory r ≡ false → ended_wants (text_of r) ≡ false
   other_reply (reply.Depth n) e = numbered (codes "depth ") n refl refl
-  other_reply (reply.Noted n true) e = other_line _ _ (line_of_number (codes "noted ") _ _ n refl (line_alone (codes " needed") refl)) refl
-  other_reply (reply.Noted n false) e = other_line _ _ (line_of_number (codes "noted ") _ _ n refl (line_alone (codes " clear") refl)) refl
+  other_reply (reply.Noted n true) e =
+      other_line _ _ (line_of_number (codes "noted ") _ _ n refl (line_alone (codes " needed") refl)) refl
+  other_reply (reply.Noted n false) e =
+      other_line _ _ (line_of_number (codes "noted ") _ _ n refl (line_alone (codes " clear") refl)) refl
   other_reply (reply.Made place report) e =
-      other_line _ _ (line_of_number (codes "report ") _ _ place refl (line_of_number (codes " cpu ") _ _ report.cpu refl
-      (line_numbered (codes " tag ") report.tag refl))) refl
+      other_line _ _ (line_of_number (codes "report ") _ _ place refl
+      (line_of_number (codes " cpu ") _ _ report.cpu refl (line_numbered (codes " tag ") report.tag refl))) refl
   other_reply (reply.Answer answer.Taken) e = other_line _ _ (line_alone (codes "taken") refl) refl
   other_reply (reply.Answer answer.Last) e = other_line _ _ (line_alone (codes "last") refl) refl
   other_reply (reply.Answer answer.Repeat) e = other_line _ _ (line_alone (codes "repeat") refl) refl
@@ -168,7 +184,8 @@ module _ (pieces : EndedArePieces) where
   whole_line : (size : Size) (h : History) (line : Line Event) → Whole (reply_to size h line)
   whole_line size h Blank = whole_nothing
   whole_line size h Malformed = whole_reply (reply.Fault fault.BadLine) refl
-  whole_line size h (Ask event) = whole_reply (answer size (situation h) event) (answer_is_other size (situation h) event)
+  whole_line size h (Ask event) =
+      whole_reply (answer size (situation h) event) (answer_is_other size (situation h) event)
 
   closes_both : (a b : List ℕ) → (a ≡ []) ⊎ Closes a → (b ≡ []) ⊎ Closes b → (a ++ b ≡ []) ⊎ Closes (a ++ b)
   closes_both a b p (inr closes) = inr (closes_behind a b closes)
@@ -185,7 +202,8 @@ module _ (pieces : EndedArePieces) where
   whole_lines size h [] = whole_nothing
   whole_lines size h (line ∷ lines) =
       let next = next_after size h (asked_by line) in
-      whole_both (reply_to size h (asked_by line)) (replies size next lines) (whole_line size h (asked_by line)) (whole_lines size next lines)
+      whole_both (reply_to size h (asked_by line)) (replies size next lines)
+      (whole_line size h (asked_by line)) (whole_lines size next lines)
 
   pub right_wants_none : (size : Size) (lines : List (List ℕ)) → wants_memory (replies size [] lines) ≡ false
   right_wants_none size lines =

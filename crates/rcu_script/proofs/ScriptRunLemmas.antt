@@ -14,11 +14,13 @@ use Rattle.rcu_script.specs.ScriptRuns.{AnswersInTurn, LegalRunFrom, LegalRunTo}
 -- ---- answers go on from a legal run
 
 -- a run goes on by nothing
-no_further : (size : Size) (earlier : Run) (h : History) → IsLegalRun size earlier → history earlier ≡ h → LegalRunFrom size earlier h
+no_further : (size : Size) (earlier : Run) (h : History) → IsLegalRun size earlier → history earlier ≡ h
+    → LegalRunFrom size earlier h
 no_further size earlier h legal reached = record { later = []; legal = legal; reached = reached }
 
 -- what goes on from a run that goes on
-further_still : (size : Size) (earlier more : Run) (end : History) → LegalRunFrom size (more ++ earlier) end → LegalRunFrom size earlier end
+further_still : (size : Size) (earlier more : Run) (end : History) → LegalRunFrom size (more ++ earlier) end
+    → LegalRunFrom size earlier end
 further_still size earlier more end from =
     let same = append_assoc from.later more earlier in
     record {
@@ -44,9 +46,11 @@ pub lines_further : (size : Size) (earlier : Run) (h end : History) (lines : Lis
 lines_further size earlier h end [] text legal reached a = no_further size earlier end legal (reached ∙ sym a.1)
 lines_further size earlier h end (line ∷ lines) text legal reached a =
     let one = line_further size earlier h (asked_by line) a.0 a.1 legal reached a.3 in
-    further_still size earlier one.later end (lines_further size (one.later ++ earlier) a.1 end lines a.2 one.legal one.reached a.5)
+    further_still size earlier one.later end
+    (lines_further size (one.later ++ earlier) a.1 end lines a.2 one.legal one.reached a.5)
 
-pub lines_from_first : (size : Size) (lines : List (List ℕ)) (text : List ℕ) (end : History) → Answers size [] lines text end → LegalRunTo size end
+pub lines_from_first : (size : Size) (lines : List (List ℕ)) (text : List ℕ) (end : History)
+    → Answers size [] lines text end → LegalRunTo size end
 lines_from_first size lines text end a =
     let from = lines_further size [] [] end lines text tt refl a in
     record { run = from.later ++ []; legal = from.legal; reached = from.reached }
@@ -74,8 +78,8 @@ answered_in_turn size h (line ∷ lines) later text end a =
       answers_second = rest.answers_second;
     }
 
-both_answered : (size : Size) (h : History) (lines later : List (List ℕ)) (first second : List ℕ) (between end : History)
-    → Answers size h lines first between → Answers size between later second end
+both_answered : (size : Size) (h : History) (lines later : List (List ℕ)) (first second : List ℕ)
+    (between end : History) → Answers size h lines first between → Answers size between later second end
     → Answers size h (lines ++ later) (first ++ second) end
 both_answered size h [] later first second between end a b = rw (a.0, ← a.1) b
 both_answered size h (line ∷ lines) later first second between end a b = (
