@@ -1,4 +1,4 @@
--- Texts of one line: of numbers, and of all replies.
+-- Texts of one line, and the numbers in them.
 use Rattle.std.proofs.Common.{◌≡◌, ◌==◌, ◌∙◌, ◌%◌, ◌/◌, ◌<◌, ℕ, zero, suc, Bool, true, false, List, [], ◌∷◌, ◌++◌}
 use Rattle.std.proofs.Common.{length, refl, sym, ap, codes, arith, append_assoc, if◌then◌else◌}
 use Rattle.std.specs.Prelude.{flat_map, slice_index_or}
