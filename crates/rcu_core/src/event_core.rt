@@ -90,6 +90,7 @@ impl<A: Awaited> Core<A, u64> {
         ensures ok { IfOk result (λ made. Represents made []) }
         ensures size { IfOk result (λ made.
             size_at made ≡ record { cpus = length (A.awaited inner); last = last }) }
+        ensures accepted { OnOk result (is_last last ≡ true) }
         ensures err { IfErr result (λ fault. is_last last ≡ false → fault ≡ Fault.BadLast) }
         ensures memory { IfErr result (λ fault. is_last last ≡ true → fault ≡ Fault.NoMemory) }
     {

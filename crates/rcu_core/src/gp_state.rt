@@ -74,6 +74,7 @@ impl<A: Awaited, T: Drop> GpState<A, T> {
         requires empty { A.start_set inner ≡ replicate (length (A.awaited inner)) false }
         ensures ok { IfOk result (λ made. made
             ≡ grace.at_first (length (A.awaited inner)) last) }
+        ensures accepted { OnOk result (is_last last ≡ true) }
         ensures err { IfErr result (λ fault. is_last last ≡ false → fault ≡ Fault.BadLast) }
         ensures memory { IfErr result (λ fault. is_last last ≡ true → fault ≡ Fault.NoMemory) }
     {
@@ -92,6 +93,7 @@ impl<A: Awaited, T: Drop> GpState<A, T> {
     pub fn cpus(&self) -> u32
         ensures value { result ≡ cpus_of self.now.processors }
         ensures kept { hotplug.IsSound self.now.processors }
+        ensures timely { grace.IsSound self.now }
     {
         self.hotplug.awaited().cpus()
     }
@@ -114,6 +116,8 @@ impl<A: Awaited, T: Drop> GpState<A, T> {
     /// The awaited set.
     pub fn awaited(&self) -> &A
         ensures value { A.awaited result.now ≡ self.now.processors.awaited }
+        ensures tag { A.tag result.now ≡ self.now.processors.tag }
+        ensures start_set { A.start_set result.now ≡ self.now.processors.start_set }
         ensures kept { hotplug.IsSound self.now.processors }
     {
         self.hotplug.awaited()
