@@ -94,6 +94,18 @@ module _ {X : Type 0} where
   abbrev pub after_report : Grace X → Report → Grace X
   after_report g report = with_awaited g (awaited_after g report)
 
+  -- the report of a processor that has the number as its tag
+  abbrev pub own_report : Grace X → ℕ → Report
+  own_report g cpu = record { cpu = cpu; tag = number_of g.seq }
+
+  -- the answer to that report
+  abbrev pub hear_answer : Grace X → ℕ → Answer
+  hear_answer g cpu = report_answer_in g (own_report g cpu)
+
+  -- after that report
+  abbrev pub after_hear : Grace X → ℕ → Grace X
+  after_hear g cpu = after_report g (own_report g cpu)
+
   -- what its counter and its needed number say
   abbrev pub periods_of : Grace X → PeriodSituation
   periods_of g = record { ends = g.seq.ends; running = g.seq.running; needed = g.needed }

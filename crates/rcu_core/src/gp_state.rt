@@ -1,5 +1,6 @@
 //! The state of the grace periods and the callbacks.
-ghost use Rattle.std.specs.Prelude.{◌≡◌, ◌≢◌, ◌<◌, ◌≤◌, ◌==◌, if◌then◌else◌, All, [], Some, None};
+ghost use Rattle.std.specs.Prelude.{◌≡◌, ◌≢◌, ◌<◌, ◌≤◌, ◌==◌, ◌^◌, if◌then◌else◌, All, []};
+ghost use Rattle.std.specs.Prelude.{Some, None};
 ghost use Rattle.std.specs.Prelude.{true, false, length, replicate, IfErr, IfOk, OnErr, OnOk};
 ghost use Rattle.rcu_seq.specs.Numbers.{is_last, snapshot};
 ghost use Rattle.rcu_seq.specs.Seq.{is_done, number_of, snapshot_of};
@@ -9,6 +10,7 @@ ghost use Rattle.rcu_hotplug.specs.Hotplug.{Arrive, Depart, cpus_of};
 ghost use Rattle.rcu_cblist.specs.SegList.{behind, callbacks, front, is_empty, take_answer};
 ghost use Rattle.rcu_barrier.specs.Lists.{barrier_test_answer, list_of, most_queued, visit_answer};
 ghost use Rattle.rcu_core.specs.GpState as grace;
+ghost use Rattle.rcu_core.specs.Situation.{wants_begin};
 
 use crate::turned::Turned;
 use rcu_barrier::barrier_state::BarrierState;
@@ -98,11 +100,45 @@ impl<A: Awaited, T: Drop> GpState<A, T> {
         self.hotplug.awaited().cpus()
     }
 
-    /// The grace-period number.
+    /// The grace-period number. It is at most 2^62.
     pub fn value(&self) -> u64
-        ensures { result ≡ number_of self.now.seq }
+        ensures value { result ≡ number_of self.now.seq }
+        ensures bounded { result ≤ 2 ^ 62 }
     {
         self.seq.value()
+    }
+
+    /// Whether a grace period runs.
+    pub fn is_running(&self) -> bool
+        ensures { result ≡ self.now.seq.running }
+    {
+        self.seq.is_running()
+    }
+
+    /// Whether none runs, and the needed number is above the number.
+    pub fn wants_begin(&self) -> bool
+        ensures { result ≡ wants_begin (grace.periods_of self.now) }
+    {
+        !self.seq.is_running() && self.needed > self.seq.value()
+    }
+
+    /// The number that a grace period would take which began now. It is below 2^62.
+    ///
+    /// Faults: 8 where one runs; 11 where the number is the last one.
+    pub fn next_number(&self) -> Result<u64, Fault>
+        ensures number { IfOk result (λ number.
+            number ≡ number_of (grace.after_begin self.now).seq) }
+        ensures bounded { IfOk result (λ number. number < 2 ^ 62) }
+        ensures accepted { OnOk result (grace.begin_refusal self.now ≡ None) }
+        ensures refused { IfErr result (λ fault. grace.begin_refusal self.now ≡ Some fault) }
+    {
+        if self.is_running() {
+            return Err(Fault::Running);
+        }
+        if self.seq.value() == self.seq.last() {
+            return Err(Fault::Exhausted);
+        }
+        Ok(self.seq.value() + 1)
     }
 
     /// Whether the processor is online.
@@ -150,7 +186,7 @@ impl<A: Awaited, T: Drop> GpState<A, T> {
         ensures refused { IfErr result (λ fault. grace.end_refusal self.old ≡ Some fault) }
         ensures unchanged { OnErr result (self.new ≡ self.old) }
     {
-        if self.seq.is_running() && !self.hotplug.awaited().is_empty() {
+        if self.is_running() && !self.hotplug.awaited().is_empty() {
             return Err(Fault::Waiting);
         }
         self.seq.end()
@@ -164,10 +200,20 @@ impl<A: Awaited, T: Drop> GpState<A, T> {
         ensures state { self.new ≡ grace.after_report self.old report }
     {
         // The awaited set keeps its tag when its grace period has ended: idleness is tested here.
-        if !self.seq.is_running() {
+        if !self.is_running() {
             return Answer::Stale;
         }
         self.hotplug.report(report.cpu, report.tag)
+    }
+
+    /// A report of the processor with the number as its tag: stale where no grace period runs.
+    pub fn hear(&mut self, cpu: u32) -> Answer
+        requires { cpu < cpus_of self.old.processors }
+        ensures answer { result ≡ grace.hear_answer self.old cpu }
+        ensures state { self.new ≡ grace.after_hear self.old cpu }
+    {
+        let tag = self.value();
+        self.report(Report { cpu, tag })
     }
 
     /// The running grace period ends where nobody is awaited. Where none runs, one begins if the
@@ -181,14 +227,14 @@ impl<A: Awaited, T: Drop> GpState<A, T> {
         ensures refused { IfErr result (λ fault. grace.turn_refusal self.old ≡ Some fault) }
         ensures unchanged { OnErr result (self.new ≡ self.old) }
     {
-        if self.seq.is_running() {
+        if self.is_running() {
             let awaited = self.hotplug.awaited().count();
             if awaited > 0 {
                 return Ok(Turned::Waiting(awaited));
             }
             return Ok(Turned::Ended(self.end()?));
         }
-        if self.needed <= self.seq.value() {
+        if !self.wants_begin() {
             return Ok(Turned::Nothing);
         }
         let (number, awaited) = self.begin()?;
@@ -259,6 +305,14 @@ impl<A: Awaited, T: Drop> GpState<A, T> {
     {
         let number = self.seq.value();
         self.lists.queue(cpu, number, value)
+    }
+
+    /// Whether the processor's list is empty.
+    pub fn is_list_empty(&self, cpu: u32) -> bool
+        requires { cpu < cpus_of self.now.processors }
+        ensures { result ≡ is_empty (list_of self.now.lists cpu) }
+    {
+        self.lists.is_empty(cpu)
     }
 
     /// Brings the marks of a processor's callbacks up to the number, whose greatest is needed from
