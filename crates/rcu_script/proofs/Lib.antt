@@ -1,5 +1,6 @@
 pub mod AnswerLemmas
 pub mod ExactLemmas
+pub mod FrontLemmas
 pub mod ListLemmas
 pub mod OneLineTexts
 pub mod PairCalls

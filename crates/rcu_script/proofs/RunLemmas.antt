@@ -1,7 +1,7 @@
 -- What a run over the lines leaves, as what the whole run leaves.
 use Rattle.std.proofs.Common.{◌≡◌, ◌++◌, ℕ, List, Option, Some, None, Ok, Err, IfSome}
 use Rattle.rcu_seq.specs.declared.fault.Fault.{Fault}
-use Rattle.rcu_text.specs.Lines.{cut_of, lines_of}
+use Rattle.rcu_text.specs.Lines.{cut_of, lines_of, lines_read}
 use Rattle.rcu_text.specs.Runs.{Answered, BrokenOff, Ends, Finished, RunsThrough}
 use Rattle.rcu_text.specs.declared.line_loop.StreamFault.{StreamFault}
 use Rattle.rcu_text.specs.declared.line_loop.StreamFault.TheVariants as stream
@@ -54,8 +54,9 @@ module _ (P IsText : Past) (is : (l : List (List ℕ)) (t : List ℕ) → P l t 
   stopped_from first stream.Write g same none ran = rw same (
     none,
     record {
-      broken = if_some_by old.reader.remaining (λ bytes. BrokenOff P (lines_of bytes) old.writer.taken new.writer.taken) (λ bytes. BrokenOff IsText (lines_of bytes) old.writer.taken new.writer.taken)
-          (λ bytes. broken_by P IsText is (lines_of bytes) old.writer.taken new.writer.taken) ran.broken;
+      bytes = ran.bytes;
+      read = ran.read;
+      broken = broken_by P IsText is (lines_read ran.bytes new.reader.remaining) old.writer.taken new.writer.taken ran.broken;
       failed = ran.failed;
       read_sound = ran.read_sound;
     },

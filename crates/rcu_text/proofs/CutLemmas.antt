@@ -1,9 +1,9 @@
 -- The lines of bytes that are read piece by piece.
-use Rattle.std.proofs.Common.{◌≡◌, ◌≢◌, ◌==◌, ℕ, suc, true, false, List, [], ◌∷◌, ◌++◌, refl, sym, ap, ap₂, ◌∙◌, arith, append_assoc, append-nil, cond}
+use Rattle.std.proofs.Common.{◌≡◌, ◌≢◌, ◌==◌, ℕ, suc, true, false, List, [], ◌∷◌, ◌++◌, refl, sym, ap, ap₂, ◌∙◌, arith, append_assoc, append-nil, cond, Bool, length}
 use Rattle.std.specs.Prelude.{All, fold}
 use Rattle.std.proofs.lemmas.Bool.{ne_eqb}
 use Rattle.std.proofs.lemmas.List.Sums.{fold-append}
-use Rattle.rcu_text.specs.Lines.{Cut, cut_of, nothing_cut, with_byte}
+use Rattle.rcu_text.specs.Lines.{Cut, cut_of, lines_of, nothing_cut, with_byte}
 
 open_head : (b : ℕ) (bs : List ℕ) → All (λ x. x ≢ 10) (b ∷ bs) → b ≢ 10
 open_head b bs h = h 0 0 (omega arith)
@@ -84,3 +84,11 @@ closes_behind a b c = (a ++ c.0, ap (λ (l : List ℕ). a ++ l) c.1 ∙ sym (app
 
 pub closed : (text : List ℕ) → Closes text → (cut_of text).rest ≡ []
 closed text c = ap (λ (l : List ℕ). (cut_of l).rest) c.1 ∙ ap (λ (k : Cut). k.rest) (cut_end c.0)
+
+-- the ended lines come first among all
+pub ended_among_lines : (bytes : List ℕ) → (later : List (List ℕ)) × (lines_of bytes ≡ (cut_of bytes).ended ++ later)
+ended_among_lines bytes = go (length (cut_of bytes).rest == 0) refl
+  where
+    go : (t : Bool) → (length (cut_of bytes).rest == 0) ≡ t → (later : List (List ℕ)) × (lines_of bytes ≡ (cut_of bytes).ended ++ later)
+    go true e = ([], rw e (sym (append-nil (cut_of bytes).ended)))
+    go false e = ((cut_of bytes).rest ∷ [], rw e refl)

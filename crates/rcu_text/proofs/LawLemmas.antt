@@ -1,9 +1,10 @@
 -- The lines are the pieces between line ends.
-use Rattle.std.proofs.Common.{◌≡◌, ◌==◌, ◌∙◌, ℕ, Bool, true, false, List, [], ◌∷◌, ◌++◌, refl, sym, ap, append_assoc, append-nil}
+use Rattle.std.proofs.Common.{◌≡◌, ◌==◌, ◌∙◌, ℕ, Bool, true, false, Option, Some, None, List, [], ◌∷◌, ◌++◌, refl, sym, ap, append_assoc, append-nil}
 use Rattle.std.specs.Prelude.{fold, cond}
 use Rattle.std.specs.List.{slice_split, onto_first}
-use Rattle.rcu_text.specs.Lines.{Cut, cut_of, nothing_cut, with_byte}
-use Rattle.rcu_text.proofs.CutLemmas.{cut_behind}
+use Rattle.std.specs.Io.KnownBytes.{Consumes}
+use Rattle.rcu_text.specs.Lines.{Cut, cut_of, lines_of, lines_read, nothing_cut, with_byte}
+use Rattle.rcu_text.proofs.CutLemmas.{cut_behind, ended_among_lines, ended_grows}
 
 abbrev is_end : ℕ → Bool
 is_end b = b == 10
@@ -46,3 +47,22 @@ pieces_from r (b ∷ bs) =
 pub pieces : (bytes : List ℕ) → slice_split (λ b. b == 10) bytes ≡ (cut_of bytes).ended ++ (cut_of bytes).rest ∷ []
 unfolding cut_of
 pieces bytes = sym (pieces_from [] bytes ∙ front_nothing bytes)
+
+-- ---- what was read comes first
+
+pub ended_come_first : (all bytes : List ℕ) (left : Option (List ℕ)) → Consumes (Some all) left bytes
+    → (later : List (List ℕ)) × (lines_of all ≡ (cut_of bytes).ended ++ later)
+ended_come_first all bytes None r = absurd r
+ended_come_first all bytes (Some left) r =
+    let g = ended_grows bytes left in
+    let k = ended_among_lines (bytes ++ left) in (
+      g.0 ++ k.0,
+      ap lines_of r ∙ k.1 ∙ ap (λ (l : List (List ℕ)). l ++ k.0) g.1 ∙ append_assoc (cut_of bytes).ended g.0 k.0,
+    )
+
+pub read_come_first : (all bytes : List ℕ) (left : Option (List ℕ)) → Consumes (Some all) left bytes
+    → (later : List (List ℕ)) × (lines_of all ≡ lines_read bytes left ++ later)
+read_come_first all bytes None r = absurd r
+read_come_first all bytes (Some []) r =
+    ([], ap lines_of (r ∙ append-nil bytes) ∙ sym (append-nil (lines_of bytes)))
+read_come_first all bytes (Some (b ∷ left)) r = ended_come_first all bytes (Some (b ∷ left)) r

@@ -1,14 +1,14 @@
 -- A run between two reads, and at its end.
-use Rattle.std.proofs.Common.{◌≡◌, ◌==◌, ◌<◌, ◌≤◌, ◌+◌, ◌-◌, ◌^◌, ℕ, Bool, true, false, List, [], ◌∷◌, ◌++◌, length, take, Option, Some, None, refl, sym, ap, ◌∙◌, subst, arith, append-nil, append_assoc, length-append, IfSome}
+use Rattle.std.proofs.Common.{◌≡◌, ◌<◌, ◌≤◌, ◌+◌, ◌-◌, ◌^◌, ℕ, true, List, [], ◌∷◌, ◌++◌, length, take, Option, Some, None, refl, sym, ap, ◌∙◌, subst, arith, append-nil, append_assoc, length-append, IfSome}
 use Rattle.std.proofs.KnownBytes.{Consumes-nil, Consumes-trans, Consumes-kept, Consumes-whole}
 use Rattle.std.proofs.lemmas.List.{length-take-le}
 use Rattle.std.specs.Io.KnownBytes.{Consumes, Keeps, IsAtEnd}
-use Rattle.rcu_text.specs.Lines.{cut_of, lines_of}
+use Rattle.rcu_text.specs.Lines.{cut_of, lines_of, lines_read}
 use Rattle.rcu_text.specs.Outputs.{Out, Sends, Stops}
 use Rattle.rcu_text.specs.Runs.{Answered, BrokenOff, Finished, StoppedReading, StoppedWriting, ends_of}
 use Rattle.rcu_text.specs.Streams.{Incoming}
 use Rattle.rcu_text.specs.Underway.{LinesAreAnswered, StoppedAmong, Underway}
-use Rattle.rcu_text.proofs.CutLemmas.{ended_grows}
+use Rattle.rcu_text.proofs.CutLemmas.{ended_among_lines}
 use Rattle.rcu_text.proofs.OutputLemmas.{Sends-nil, Sends-taken, Stops-taken}
 
 -- what holds of lines and a text
@@ -48,13 +48,18 @@ midway_next past later s0 s1 s2 a b c line next turns n block piece m r some fit
       count = omega (arith, m.count);
     }
 
+-- a read of nothing reads no byte more
+nothing_more : (s0 s1 s2 : Option (List ℕ)) (bytes block : List ℕ) (n : ℕ)
+    → Consumes s0 s1 bytes → n ≡ 0 → Consumes s1 s2 (take n block) → Consumes s0 s2 bytes
+nothing_more s0 s1 s2 bytes block n r none q =
+    let q0 : Consumes s1 s2 [] = subst (λ (k : ℕ). Consumes s1 s2 (take k block)) none q in
+    subst (Consumes s0 s2) (append-nil bytes) (Consumes-trans s0 s1 s2 bytes [] r q0)
+
 -- a read of nothing is the end of the input
 pub whole_input : (s0 s1 s2 : Option (List ℕ)) (bytes block : List ℕ) (n : ℕ) (P : List ℕ → Type 0)
     → Consumes s0 s1 bytes → n ≡ 0 → Consumes s1 s2 (take n block) → IsAtEnd s2 → P bytes → IfSome s0 P
 whole_input s0 s1 s2 bytes block n P r none q end p =
-    let q0 : Consumes s1 s2 [] = subst (λ (k : ℕ). Consumes s1 s2 (take k block)) none q in
-    let all : Consumes s0 s2 bytes = subst (Consumes s0 s2) (append-nil bytes) (Consumes-trans s0 s1 s2 bytes [] r q0) in
-    Consumes-whole s0 s2 bytes P all end p
+    Consumes-whole s0 s2 bytes P (nothing_more s0 s1 s2 bytes block n r none q) end p
 
 -- ---- what was written
 
@@ -123,37 +128,39 @@ finished past later r0 r1 r2 a b c line block turns n m zero q end s before afte
   write_sound = s.out.sound;
 }
 
+-- at the end of the input all lines were read whole
+read_to_end : (bytes : List ℕ) (left : Option (List ℕ)) → IsAtEnd left → lines_read bytes left ≡ lines_of bytes
+read_to_end bytes None end = refl
+read_to_end bytes (Some []) end = refl
+read_to_end bytes (Some (b ∷ left)) end = absurd (omega (arith, ap length end))
+
 -- the input is over, and the writer failed
 pub finish_failed : (past later : Past) (r0 r1 r2 : Incoming) (a b c : Out) (line block : List ℕ) (turns n : ℕ)
     → (m : Midway past r0.remaining r1.remaining a b line turns) → n ≡ 0 → Consumes r1.remaining r2.remaining (take n block) → IsAtEnd r2.remaining
     → LinesAreAnswered later (lines_of m.bytes) (Stops a c) → a.waiting ≡ [] → r2.failed ≡ r0.failed
     → StoppedWriting later (ends_of r0 a.writer) (ends_of r2 c.writer)
 finish_failed past later r0 r1 r2 a b c line block turns n m zero q end s before e = record {
-  broken = whole_input r0.remaining r1.remaining r2.remaining m.bytes block n (λ bytes. BrokenOff later (lines_of bytes) a.writer.taken c.writer.taken) m.read zero q end
-      (broken_off later (lines_of m.bytes) [] (lines_of m.bytes) a c (sym (append-nil (lines_of m.bytes))) before s);
+  bytes = m.bytes;
+  read = nothing_more r0.remaining r1.remaining r2.remaining m.bytes block n m.read zero q;
+  broken = broken_off later (lines_of m.bytes) [] (lines_read m.bytes r2.remaining) a c (read_to_end m.bytes r2.remaining end ∙ sym (append-nil (lines_of m.bytes))) before s;
   failed = s.out.failed;
   read_sound = e;
 }
 
-ended_among_lines : (bytes : List ℕ) → (later : List (List ℕ)) × (lines_of bytes ≡ (cut_of bytes).ended ++ later)
-ended_among_lines bytes = go (length (cut_of bytes).rest == 0) refl
-  where
-    go : (t : Bool) → (length (cut_of bytes).rest == 0) ≡ t → (later : List (List ℕ)) × (lines_of bytes ≡ (cut_of bytes).ended ++ later)
-    go true e = ([], rw e (sym (append-nil (cut_of bytes).ended)))
-    go false e = ((cut_of bytes).rest ∷ [], rw e refl)
+-- the ended lines were read whole
+ended_were_read : (bytes : List ℕ) (left : Option (List ℕ)) → (later : List (List ℕ)) × (lines_read bytes left ≡ (cut_of bytes).ended ++ later)
+ended_were_read bytes None = ended_among_lines bytes
+ended_were_read bytes (Some []) = ended_among_lines bytes
+ended_were_read bytes (Some (b ∷ left)) = ([], sym (append-nil (cut_of bytes).ended))
 
--- what breaks off among the ended lines breaks off among all lines
-broken_among : (past : Past) (s0 s2 : Option (List ℕ)) (a c : Out) (bytes : List ℕ) → a.waiting ≡ [] → Consumes s0 s2 bytes
-    → StoppedAmong past (cut_of bytes).ended (Stops a c) → IfSome s0 (λ all. BrokenOff past (lines_of all) a.writer.taken c.writer.taken)
-broken_among past None s2 a c bytes before r s = tt
-broken_among past (Some all) None a c bytes before r s = absurd r
-broken_among past (Some all) (Some more) a c bytes before r s =
-    let g = ended_grows bytes more in
-    let k = ended_among_lines (bytes ++ more) in
-    let split : lines_of (bytes ++ more) ≡ s.front ++ (s.later ++ (g.0 ++ k.0)) =
-    k.1 ∙ ap (λ (l : List (List ℕ)). l ++ k.0) (g.1 ∙ ap (λ (l : List (List ℕ)). l ++ g.0) s.split)
-    ∙ append_assoc (s.front ++ s.later) g.0 k.0 ∙ append_assoc s.front s.later (g.0 ++ k.0) in
-    broken_off past s.front (s.later ++ (g.0 ++ k.0)) (lines_of all) a c (ap lines_of r ∙ split) before s.stands
+-- what breaks off among the ended lines breaks off among those that were read whole
+broken_among : (past : Past) (left : Option (List ℕ)) (a c : Out) (bytes : List ℕ) → a.waiting ≡ []
+    → StoppedAmong past (cut_of bytes).ended (Stops a c) → BrokenOff past (lines_read bytes left) a.writer.taken c.writer.taken
+broken_among past left a c bytes before s =
+    let k = ended_were_read bytes left in
+    let split : lines_read bytes left ≡ s.front ++ (s.later ++ k.0) =
+    k.1 ∙ ap (λ (l : List (List ℕ)). l ++ k.0) s.split ∙ append_assoc s.front s.later k.0 in
+    broken_off past s.front (s.later ++ k.0) (lines_read bytes left) a c split before s.stands
 
 -- the writer failed in the answers to a piece
 pub piece_failed : (past later : Past) (r0 r1 r2 : Incoming) (a b c : Out) (line block piece : List ℕ) (turns n : ℕ)
@@ -161,7 +168,9 @@ pub piece_failed : (past later : Past) (r0 r1 r2 : Incoming) (a b c : Out) (line
     → StoppedAmong later (cut_of (m.bytes ++ piece)).ended (Stops a c) → a.waiting ≡ [] → r2.failed ≡ r0.failed
     → StoppedWriting later (ends_of r0 a.writer) (ends_of r2 c.writer)
 piece_failed past later r0 r1 r2 a b c line block piece turns n m q e s before same = record {
-  broken = broken_among later r0.remaining r2.remaining a c (m.bytes ++ piece) before (Consumes-trans r0.remaining r1.remaining r2.remaining m.bytes piece m.read (subst (Consumes r1.remaining r2.remaining) (sym e) q)) s;
+  bytes = m.bytes ++ piece;
+  read = Consumes-trans r0.remaining r1.remaining r2.remaining m.bytes piece m.read (subst (Consumes r1.remaining r2.remaining) (sym e) q);
+  broken = broken_among later r2.remaining a c (m.bytes ++ piece) before s;
   failed = s.stands.out.failed;
   read_sound = same;
 }

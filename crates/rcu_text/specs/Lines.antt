@@ -1,5 +1,5 @@
 -- The lines of a byte string.
-use Rattle.std.specs.Prelude.{ℕ, Bool, List, [], ◌∷◌, ◌++◌, ◌==◌, ◌&&◌, length, take, fold, nat_le, if◌then◌else◌, Option}
+use Rattle.std.specs.Prelude.{ℕ, Bool, List, [], ◌∷◌, ◌++◌, ◌==◌, ◌&&◌, length, take, fold, nat_le, if◌then◌else◌, Option, Some, None}
 use Rattle.std.specs.List.{list_all}
 use Rattle.std.specs.Option.{option_map_or}
 use Rattle.rcu_text.specs.Words.{words_of}
@@ -34,6 +34,13 @@ lines_of_cut cut = if length cut.rest == 0 then cut.ended else cut.ended ++ cut.
 -- the lines of a byte string
 abbrev pub lines_of : List ℕ → List (List ℕ)
 lines_of bytes = lines_of_cut (cut_of bytes)
+
+-- the lines that were read whole with these bytes, of a reader that has this left: those that the bytes end, and a last one
+-- without its end where no byte is known to follow
+abbrev pub lines_read : List ℕ → Option (List ℕ) → List (List ℕ)
+lines_read bytes None = lines_of bytes
+lines_read bytes (Some []) = lines_of bytes
+lines_read bytes (Some (b ∷ left)) = (cut_of bytes).ended
 
 -- ---- the shape of a line
 

@@ -2,7 +2,7 @@
 -- throughout.
 use Rattle.std.specs.Prelude.{◌≡◌, ◌<◌, ◌^◌, ◌-◌, ◌++◌, ℕ, true, List, length, Option, Result, Ok, Err, IfSome}
 use Rattle.std.specs.Io.KnownBytes.{Appends, Consumes}
-use Rattle.rcu_text.specs.Lines.{cut_of, lines_of}
+use Rattle.rcu_text.specs.Lines.{cut_of, lines_of, lines_read}
 use Rattle.rcu_text.specs.Streams.{Incoming, Outgoing}
 use Rattle.rcu_text.specs.declared.line_loop.StreamFault.{StreamFault}
 use Rattle.rcu_text.specs.declared.line_loop.StreamFault.TheVariants.{Read, Write}
@@ -47,9 +47,11 @@ pub record StoppedReading (IsText : List (List ℕ) → List ℕ → Type 0) (ol
   pub failed : IfSome old.reader.remaining (λ all. length all < 2 ^ 64 - 1 → new.reader.failed ≡ true)
   pub write_sound : new.writer.failed ≡ old.writer.failed
 
--- a write failed, in an answer to a front of the lines that were there to read
+-- a write failed, in an answer to a front of the lines that were read whole
 pub record StoppedWriting (IsText : List (List ℕ) → List ℕ → Type 0) (old new : Ends) : Type 0 where
-  pub broken : IfSome old.reader.remaining (λ bytes. BrokenOff IsText (lines_of bytes) old.writer.taken new.writer.taken)
+  pub bytes : List ℕ
+  pub read : Consumes old.reader.remaining new.reader.remaining bytes
+  pub broken : BrokenOff IsText (lines_read bytes new.reader.remaining) old.writer.taken new.writer.taken
   pub failed : new.writer.failed ≡ true
   pub read_sound : new.reader.failed ≡ old.reader.failed
 

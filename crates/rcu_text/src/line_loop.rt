@@ -41,7 +41,7 @@ pub enum StreamFault {
 ///
 /// Every reply of the lines that were read is written before the next read, so a run that a failed
 /// read stops has answered the lines that were read whole. Where a write failed, a beginning of the
-/// replies was written.
+/// replies to such lines was written: no line is answered before its end, or the input's, was read.
 pub fn run<A: Responder, R: Source, W: Sink>(
     responder: &mut A,
     reader: &mut R,

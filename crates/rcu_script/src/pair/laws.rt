@@ -1,10 +1,10 @@
 //! What the definitions say of the lines of a pair.
-ghost use Rattle.std.specs.Prelude.{◌≡◌, ℕ, List, codes};
+ghost use Rattle.std.specs.Prelude.{◌≡◌, ◌++◌, ℕ, List, codes};
 ghost use Rattle.rcu_report.specs.History.{AreAlike, Represents};
 ghost use Rattle.rcu_core.specs.Replies.{Size};
 ghost use Rattle.rcu_script.specs.PairHistory.{calls_of};
 ghost use Rattle.rcu_script.specs.PairState.{pair_at};
-ghost use Rattle.rcu_script.specs.PairTexts.{pair_after, same_text};
+ghost use Rattle.rcu_script.specs.PairTexts.{IsPairText, pair_after, same_text};
 
 use rcu_report::laws::{equally_heard_replicas_await_the_same, replica_is_as_its_history_says};
 
@@ -28,3 +28,11 @@ pub fn equally_heard_replicas_are_the_same()
 {
     equally_heard_replicas_await_the_same();
 }
+
+/// The right text of lines begins the right text of those and any later ones. So what was written
+/// at a failed read or write begins the right text of the whole input.
+pub fn the_right_text_of_earlier_lines_comes_first()
+    ensures { (size : Size) (lines later : List (List ℕ)) (text : List ℕ)
+        → IsPairText size lines text
+        → (rest : List ℕ) × IsPairText size (lines ++ later) (text ++ rest) }
+{}

@@ -42,6 +42,15 @@ pub fn the_right_text_is_the_only_one()
         → text ≡ replies size [] lines }
 {}
 
+/// The right text of lines begins the right text of those and any later ones. So what was written
+/// at a failed read or write begins the right text of the whole input, where no line of the answer
+/// says that memory was wanted.
+pub fn the_right_text_of_earlier_lines_comes_first()
+    ensures { (size : Size) (lines later : List (List ℕ)) (text : List ℕ)
+        → IsAnswer size lines text → wants_memory text ≡ false
+        → (rest : List ℕ) × (replies size [] (lines ++ later) ≡ text ++ rest) }
+{}
+
 /// A text answers lines and later ones just where it answers them in turn: wherever the lines are
 /// cut, the text is cut too, at the history between them.
 pub fn lines_are_answered_in_turn()
