@@ -268,6 +268,10 @@ goes v w h e r s x d =
     let l = subst (λ (u : Situation). IsLegalReply (size_at v) u e r) (same v h x) d.legal in
     record { legal = l; has = went v w h e r s x l d.left; size = ap (λ (u : State ℕ). size_at u) d.left ∙ left_size v e r s }
 
+-- a refused event leaves the machine as it was
+pub refused_stays : (v w : State ℕ) (e : Event) (r : Reply) (f : Fault) → StepsLegally v e r w → r ≡ reply.Fault f → w ≡ v
+refused_stays v w e r f d p = d.left ∙ ap (λ (x : Reply). after_reply v e x) p
+
 -- a new machine is in the situation of the empty history
 pub has_first : (n last : ℕ) (v : State ℕ) → 0 < n → v.grace ≡ at_first n last → v.cpus ≡ first_cpus n → v.made ≡ [] → Represents v []
 has_first n last v l e f m =

@@ -36,7 +36,7 @@ pub struct Core<A: Awaited, T: Drop> {
     cpus: Vec<CpuData>,
     /// All reports, the first one first.
     reports: Vec<Report>,
-    /// The allocator for later growths.
+    /// The allocator that everything grows from.
     alloc: Global,
 }
 
@@ -81,9 +81,9 @@ fn list_awaited<A: Awaited>(alloc: Global, awaited: &A) -> Result<CpuList, Alloc
 impl<A: Awaited> Core<A, u64> {
     /// A machine in the situation of the empty history: processor 0 is online, nothing runs, and
     /// the lists are empty. The awaited set is as it was made, and no grace period begins at the
-    /// number `last`.
+    /// number `last`. It costs a step a processor.
     ///
-    /// Faults: 19 where `last` is not a multiple of 4 in 4..=2^62; 16.
+    /// Faults: `BadLast` (19) where `last` is not a multiple of 4 in 4..=2^62; `NoMemory` (16).
     pub fn new(alloc: Global, inner: A, last: u64) -> Result<Self, Fault>
         requires tag { A.tag inner ≡ 0 }
         requires empty { A.start_set inner ≡ replicate (length (A.awaited inner)) false }
@@ -113,8 +113,13 @@ impl<A: Awaited> Core<A, u64> {
 
     /// Takes an event: the reply is legal, and the machine is left in the situation of the history,
     /// with the event where it was accepted. A refused event changes nothing.
+    ///
+    /// An event costs what its calls of [`GpState`] cost, a list of the awaited a step a processor,
+    /// and any other one step.
     pub fn step(&mut self, event: Event) -> Reply
-        ensures { (h : History) → Represents self.old h → Follows self.old h event result self.new }
+        ensures follows { (h : History) → Represents self.old h →
+            Follows self.old h event result self.new }
+        ensures refused { (fault : Fault) → result ≡ Reply.Fault fault → self.new ≡ self.old }
     {
         // A look at a field shows the prover what the type keeps.
         let _ = &self.gp;
@@ -125,9 +130,9 @@ impl<A: Awaited> Core<A, u64> {
     }
 
     /// Takes these events, one after another, once there is room for all replies: they are those
-    /// that [`Core::step`] gives.
+    /// that [`Core::step`] gives. It costs what these steps cost.
     ///
-    /// Fault 16: no event was taken.
+    /// Fault `NoMemory` (16): no event was taken.
     pub fn run(&mut self, events: &[Event]) -> Result<Vec<Reply>, Fault>
         ensures ok { IfOk result (λ replies. (h : History) → Represents self.old h →
             RunsLegally self.old h events.now replies.items self.new) }
@@ -172,7 +177,7 @@ impl<A: Awaited> Core<A, u64> {
         }
     }
 
-    /// The processor's place. Fault 1: there is none.
+    /// The processor's place. Fault `BadCpu` (1): there is none.
     fn place_of(&self, cpu: u32) -> Result<usize, Fault>
         ensures place { IfOk result (λ place. place ≡ cpu) }
         ensures there { OnOk result (cpu < cpus_of self.now.grace.processors) }

@@ -10,7 +10,7 @@ pub loop-event-preserved : goal.loop-event-preserved
 loop-event-preserved g c = record {
   room = omega arith;
   count = omega arith;
-  ran = λ h x. ran_more c.args.self.now c.loop-event.self c.step-reply.new.self h c.args.events.now c.loop-event.event-index (Enter 0) c.loop-event.replies.items c.push_reserved.new.self.items c.step-reply.result c.loop-event-test.true c.push_reserved.ensures.items (c.loop-event.invariant.ran h x) c.step-reply.ensures;
+  ran = λ h x. ran_more c.args.self.now c.loop-event.self c.step-reply.new.self h c.args.events.now c.loop-event.event-index (Enter 0) c.loop-event.replies.items c.push_reserved.new.self.items c.step-reply.result c.loop-event-test.true c.push_reserved.ensures.items (c.loop-event.invariant.ran h x) c.step-reply.ensures.follows;
 }
 
 pub returns-clause-ok : goal.returns-clause-ok
