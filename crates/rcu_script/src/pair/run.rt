@@ -14,11 +14,12 @@ use rcu_text::{Sink, Source, run};
 use std::alloc::Global;
 
 /// Runs the lines of a pair on two replicas of a setup: answers all lines that the reader gives, in
-/// order.
+/// order. It costs as much as [`crate::run_script`] does.
 ///
 /// Every reply of the lines that were read is written before the next read, so a run that a failed
 /// read stops has answered the lines that were read whole. Where a write failed, a beginning of the
-/// replies was written. No line takes memory, so just one text is right.
+/// replies was written. No line takes memory, so just one text is right. The contract speaks of
+/// readers and writers whose bytes are known, as that of [`crate::run_script`].
 pub fn run_pair<R: Source, W: Sink>(
     alloc: Global,
     setup: &Setup,

@@ -13,11 +13,13 @@ use rcu_seq::fault::Fault;
 use rcu_text::{Sink, Source, run};
 use std::alloc::Global;
 
-/// Runs a script on the machine of a setup: answers all lines that the reader gives, in order.
+/// Runs a script on the machine of a setup: answers all lines that the reader gives, in order. It
+/// costs a step a byte that is read or written, and what opening and the events cost.
 ///
 /// Every reply of the lines that were read is written before the next read, so a run that a failed
 /// read stops has answered the lines that were read whole. Where a write failed, a beginning of the
-/// replies was written.
+/// replies was written. The contract speaks of readers and writers whose bytes are known, as a
+/// slice's or a vector's; std tells none of standard input and output.
 pub fn run_script<R: Source, W: Sink>(
     alloc: Global,
     setup: &Setup,
