@@ -1,8 +1,13 @@
+pub mod Begins
 pub mod ClientLemmas
 pub mod Deals
+pub mod Finds
+pub mod FoundWords
 pub mod Frames
+pub mod Hearing
 pub mod Loads
 pub mod Meetings
 pub mod Numbers
 pub mod Openings
 pub mod Stores
+pub mod Turns

@@ -1,6 +1,7 @@
 pub mod Board
 pub mod Client
 pub mod CpuSeat
+pub mod Engine
 pub mod Met
 pub mod Numbers
 pub mod Opening

@@ -16,6 +16,10 @@ abbrev pub is_cleared : Number → ℕ → List (ℕ × ℕ) → Bool
 is_cleared t cpu [] = false
 is_cleared t cpu (find ∷ earlier) = (find.0 == place cpu && tells t find.1) || is_cleared t cpu earlier
 
+-- each of so many processors is cleared in grace period t
+abbrev pub AreCleared : ℕ → Number → List (ℕ × ℕ) → Type 0
+AreCleared cpus t finds = (cpu : ℕ) → cpu < cpus → is_cleared t cpu finds ≡ true
+
 module _ {C : Type 0} where
   -- what holds of a processor's seat, at the number n, the processor's own word, and what the engine found
   pub record IsSound (n : Number) (word : ℕ) (finds : List (ℕ × ℕ)) (v : View C) : Type 0 where

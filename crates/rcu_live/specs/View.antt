@@ -1,9 +1,9 @@
 -- The views of seats: at the start, as they are dealt, and after each kind of step.
-use Rattle.std.specs.Prelude.{◌≡◌, ℕ, ◌+◌, ◌≤◌, [], Option, Some, None, true, false}
+use Rattle.std.specs.Prelude.{◌≡◌, ℕ, ◌+◌, ◌<◌, ◌≤◌, [], ◌∷◌, Option, Some, None, true, false}
 use Rattle.rcu_seq.specs.Numbers.{Number}
 use Rattle.rcu_live.specs.Client.{Shown}
 use Rattle.rcu_live.specs.Numbers.{is_number_word, is_past}
-use Rattle.rcu_live.specs.Words.{base_of, first_word}
+use Rattle.rcu_live.specs.Words.{base_of, first_word, place}
 use Rattle.rcu_live.specs.declared.view.Role.{Role}
 use Rattle.rcu_live.specs.declared.view.Role.TheVariants.{Cpu, Watcher, Engine}
 use Rattle.rcu_live.specs.declared.view.View.{View}
@@ -83,3 +83,20 @@ module _ {C : Type 0} where
     pub view : w ≡ after_close closed v n
     pub later : v.seen ≤ n
     pub number : is_number_word n ≡ true
+
+  -- after a processor-word load: one load more, which found a word at a place
+  abbrev pub after_find : View C → ℕ → ℕ → View C
+  after_find v at word = record v { loads = v.loads + 1; finds = (at, word) ∷ v.finds }
+
+  -- after a begin store of the number n: what was found before it falls
+  abbrev pub after_begin_store : View C → Number → View C
+  after_begin_store v n = record v { seen = n; finds = [] }
+
+  -- after an end store of the number n
+  abbrev pub after_end_store : View C → Number → View C
+  after_end_store v n = record v { seen = n }
+
+  -- what a processor-word load tells: one load more, which found the word; that of processor 0 is never 0
+  pub record Found (at : ℕ) (v : View C) (word : ℕ) (w : View C) : Type 0 where
+    pub view : w ≡ after_find v at word
+    pub boot : at ≡ place 0 → 0 < word

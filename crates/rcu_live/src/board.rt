@@ -1,14 +1,17 @@
 //! The shared words, and each kind of step on them in plain words.
-ghost use Rattle.std.specs.Prelude.{◌≡◌, ◌<◌, ◌≤◌, ◌∷◌, [], IfOk, None, map, true};
+ghost use Rattle.std.specs.Prelude.{◌≡◌, ◌+◌, ◌^◌, ◌<◌, ◌≤◌, ◌∷◌, [], IfOk, None, map, true, false};
 ghost use mathlib.Core.Option.{some};
+ghost use Rattle.rcu_seq.specs.Numbers.{is_running};
 ghost use Rattle.rcu_live.specs.Numbers.{is_own_word, may_open};
-ghost use Rattle.rcu_live.specs.View.{Closed, Loaded, Opened, after_deal, after_store};
+ghost use Rattle.rcu_live.specs.Rule.{AreCleared};
+ghost use Rattle.rcu_live.specs.View.{Closed, Found, Loaded, Opened, after_begin_store, after_deal};
+ghost use Rattle.rcu_live.specs.View.{after_end_store, after_store};
 ghost use Rattle.rcu_live.specs.View.{engine_seat, next_cpu_seat, watcher_seat};
 ghost use Rattle.rcu_live.specs.Words.{place};
 ghost use Rattle.rcu_live.specs.declared.view.Role.TheVariants.{Cpu, Engine};
 
 use crate::client::Client;
-use crate::rule::{Close, DealCpu, DealWatcher, Load, Open, Store, Words};
+use crate::rule::{Begin, Close, DealCpu, DealWatcher, End, Load, LoadOwn, Open, Store, Words};
 use crate::view::View;
 use crate::words::{NUMBER, first_words, place};
 use atomic_table::{Seat, Table};
@@ -64,6 +67,13 @@ impl<S: Drop, C, P: Client<S, C>> Board<S, C, P> {
             return Err(AllocError);
         };
         Ok((Board { table, cpus }, seat))
+    }
+
+    /// The number of processors.
+    pub fn cpus(&self) -> u32
+        ensures { result ≡ self.now.cpus }
+    {
+        self.cpus
     }
 
     /// Seat split: the next processor's seat.
@@ -138,5 +148,45 @@ impl<S: Drop, C, P: Client<S, C>> Board<S, C, P> {
         ensures hand { seat.new.me.1 ≡ seat.old.me.1 }
     {
         self.table.shared.store::<Store>(seat, place(cpu), word)
+    }
+
+    /// Processor-word load: answers the processor's own word.
+    pub fn load_own(&self, seat: &mut Place<S, C>, cpu: u32) -> u64
+        requires table { seat.old.table_id ≡ self.now.table }
+        requires engine { seat.old.me.0.role ≡ Engine }
+        requires inside { cpu < self.now.cpus }
+        ensures table { seat.new.table_id ≡ seat.old.table_id }
+        ensures told { Found (place cpu) seat.old.me.0 result seat.new.me.0 }
+        ensures hand { seat.new.me.1 ≡ seat.old.me.1 }
+    {
+        self.table.shared.load::<LoadOwn>(seat, place(cpu))
+    }
+
+    /// Begin store: the number becomes the next one, at which a grace period runs.
+    pub fn begin(&self, seat: &mut Place<S, C>, number: u64)
+        requires table { seat.old.table_id ≡ self.now.table }
+        requires engine { seat.old.me.0.role ≡ Engine }
+        requires idle { is_running seat.old.me.0.seen ≡ false }
+        requires next { number ≡ seat.old.me.0.seen + 1 }
+        requires bounded { number ≤ 2 ^ 62 }
+        ensures table { seat.new.table_id ≡ seat.old.table_id }
+        ensures told { seat.new.me.0 ≡ after_begin_store seat.old.me.0 number }
+        ensures hand { seat.new.me.1 ≡ seat.old.me.1 }
+    {
+        self.table.shared.store::<Begin>(seat, NUMBER, number)
+    }
+
+    /// End store: the number becomes the next one, at which none runs.
+    pub fn end(&self, seat: &mut Place<S, C>, number: u64)
+        requires table { seat.old.table_id ≡ self.now.table }
+        requires engine { seat.old.me.0.role ≡ Engine }
+        requires running { is_running seat.old.me.0.seen ≡ true }
+        requires cleared { AreCleared self.now.cpus seat.old.me.0.seen seat.old.me.0.finds }
+        requires next { number ≡ seat.old.me.0.seen + 3 }
+        ensures table { seat.new.table_id ≡ seat.old.table_id }
+        ensures told { seat.new.me.0 ≡ after_end_store seat.old.me.0 number }
+        ensures hand { seat.new.me.1 ≡ seat.old.me.1 }
+    {
+        self.table.shared.store::<End>(seat, NUMBER, number)
     }
 }

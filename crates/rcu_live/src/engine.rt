@@ -1,22 +1,91 @@
 //! What lies under the lock of an object.
+ghost use Rattle.std.specs.Prelude.{◌≡◌, false, length};
+ghost use Rattle.std.specs.Arc.{arc_value};
+ghost use Rattle.rcu_seq.specs.Seq.{number_of};
+ghost use Rattle.rcu_hotplug.specs.Hotplug.{cpus_of};
 ghost use Rattle.rcu_live.specs.View.{IsOfEngine};
 
-use crate::board::Place;
+use crate::board::{Board, Place};
+use crate::client::{Alone, Client};
+use rcu_core::gp_state::GpState;
+use rcu_node::awaited::Awaited;
 use rcu_node::cpu_set::CpuSet;
+use std::alloc::Global;
+use std::marker::Model;
+use std::sync::Arc;
 
-/// The engine: its seat, by which alone the number changes, and room for a set of processors.
+/// The engine: the seat by which alone the number changes, and the state of the grace periods and
+/// the callbacks.
+///
+/// Between its calls a running grace period awaits each processor that is not cleared: that no load
+/// since the begin found offline, or past a quiescent state.
 #[derive(Drop)]
-pub struct Engine<S: Drop, C> {
-    seat: Place<S, C>,
-    late: CpuSet,
-    ghost role: { IsOfEngine seat.me.0 },
+pub struct Engine<A: Awaited, T: Drop, S: Drop = (), C = (), P: Client<S, C> = Alone> {
+    pub(crate) board: Arc<Board<S, C, P>, Global>,
+    pub(crate) seat: Place<S, C>,
+    pub(crate) gp: GpState<A, T>,
+    /// Room for the processors that a begin finds past it.
+    pub(crate) late: CpuSet,
 }
 
-impl<S: Drop, C> Engine<S, C> {
-    /// The engine of this seat.
-    pub(crate) fn new(seat: Place<S, C>, late: CpuSet) -> Engine<S, C>
-        requires { IsOfEngine seat.me.0 }
+impl<A: Awaited, T: Drop, S: Drop, C, P: Client<S, C>> Model for Engine<A, T, S, C, P> {
+    ghost use Rattle.std.specs.Prelude.{◌≡◌, length};
+    ghost use Rattle.std.specs.Arc.{arc_value};
+    ghost use Rattle.rcu_seq.specs.Seq.{number_of};
+    ghost use Rattle.rcu_hotplug.specs.Hotplug.{cpus_of};
+    ghost use Rattle.rcu_live.specs.Engine.{AwaitsTheOthers, Locked};
+    ghost use Rattle.rcu_live.specs.View.{IsOfEngine};
+
+    ghost Value = { Locked C T };
+
+    ghost view = { λ e. record {
+      table = (arc_value e.board).table;
+      cpus = (arc_value e.board).cpus;
+      view = e.seat.me.0;
+      grace = e.gp;
+    } };
+
+    ghost invariant = { λ e. record {
+      fits : e.seat.table_id ≡ (arc_value e.board).table;
+      role : IsOfEngine e.seat.me.0;
+      number : e.seat.me.0.seen ≡ number_of e.gp.seq;
+      cpus : cpus_of e.gp.processors ≡ (arc_value e.board).cpus;
+      late : length e.late ≡ (arc_value e.board).cpus;
+      awaited : AwaitsTheOthers (arc_value e.board).cpus e.seat.me.0.finds e.gp;
+    } };
+}
+
+impl<A: Awaited, T: Drop, S: Drop, C, P: Client<S, C>> Engine<A, T, S, C, P> {
+    /// The engine of this seat and state.
+    pub(crate) fn new(
+        board: Arc<Board<S, C, P>, Global>,
+        seat: Place<S, C>,
+        gp: GpState<A, T>,
+        late: CpuSet,
+    ) -> Self
+        requires fits { seat.table_id ≡ (arc_value board).table }
+        requires role { IsOfEngine seat.me.0 }
+        requires number { seat.me.0.seen ≡ number_of gp.seq }
+        requires idle { gp.seq.running ≡ false }
+        requires cpus { cpus_of gp.processors ≡ (arc_value board).cpus }
+        requires late { length late ≡ (arc_value board).cpus }
+        ensures table { result.table ≡ (arc_value board).table }
+        ensures cpus { result.cpus ≡ (arc_value board).cpus }
+        ensures view { result.view ≡ seat.me.0 }
+        ensures grace { result.grace ≡ gp }
     {
-        Engine { seat, late }
+        Engine {
+            board,
+            seat,
+            gp,
+            late,
+        }
+    }
+
+    /// The number of processors.
+    pub fn cpus(&self) -> u32
+        ensures { result ≡ self.now.cpus }
+    {
+        self.board.cpus()
     }
 }

@@ -11,8 +11,9 @@ use crate::cpu_seat::CpuSeat;
 use crate::engine::Engine;
 use crate::met::Met;
 use crate::watcher::Watcher;
+use rcu_node::tree::Tree;
 use std::alloc::Global;
-use std::marker::{Model, PhantomData};
+use std::marker::Model;
 use std::sync::{Arc, Mutex};
 
 /// The running engine, which threads share: the number and the own words of the processors, which
@@ -30,8 +31,7 @@ pub struct Live<
     P: Client<S, C> = Alone,
 > {
     board: Arc<Board<S, C, P>, Global>,
-    engine: Mutex<Engine<S, C>>,
-    callbacks: PhantomData<T>,
+    pub(crate) engine: Mutex<Engine<Tree<LEAF, FAN>, T, S, C, P>>,
 }
 
 impl<const LEAF: u32, const FAN: u32, T: Drop, S: Drop, C, P: Client<S, C>> Model
@@ -53,13 +53,15 @@ impl<const LEAF: u32, const FAN: u32, T: Drop, S: Drop, C, P: Client<S, C>> Live
     P,
 > {
     /// An object with these words, and this engine under its lock.
-    pub(crate) fn new(board: Arc<Board<S, C, P>, Global>, engine: Engine<S, C>) -> Self
+    pub(crate) fn new(
+        board: Arc<Board<S, C, P>, Global>,
+        engine: Engine<Tree<LEAF, FAN>, T, S, C, P>,
+    ) -> Self
         ensures { result ≡ arc_value board }
     {
         Live {
             board,
             engine: Mutex::new(engine),
-            callbacks: PhantomData,
         }
     }
 

@@ -2,6 +2,7 @@
 ghost use Rattle.std.specs.Prelude.{◌≡◌, ◌≢◌, ◌<◌, ◌≤◌, All, IfErr, IfOk, None, OnOk, Some, length};
 ghost use Rattle.std.specs.Prelude.{map};
 ghost use Rattle.std.specs.List.{range_with_len};
+ghost use Rattle.rcu_core.specs.GpState as grace;
 ghost use Rattle.rcu_live.specs.CpuSeat.{at_first};
 ghost use Rattle.rcu_live.specs.Opening.{opening_refusal};
 ghost use Rattle.rcu_live.specs.Watcher.{watcher_at_first};
@@ -13,8 +14,10 @@ use crate::dealing::deal;
 use crate::engine::Engine;
 use crate::live::Live;
 use crate::watcher::Watcher;
+use rcu_core::gp_state::GpState;
 use rcu_geometry::geometry::Geometry;
 use rcu_node::cpu_set::CpuSet;
+use rcu_node::tree::Tree;
 use rcu_seq::fault::Fault;
 use rcu_seq::seq::Seq;
 use std::alloc::{AllocError, Global};
@@ -51,7 +54,7 @@ impl<const LEAF: u32, const FAN: u32, T: Drop> Live<LEAF, FAN, T> {
             opening_refusal LEAF FAN cpus last ≡ None) }
     {
         check_size::<LEAF, FAN>(cpus, last)?;
-        let Ok((live, seats, watchers)) = open_tested(alloc, cpus) else {
+        let Ok((live, seats, watchers)) = open_tested(alloc, cpus, last) else {
             return Err(Fault::NoMemory);
         };
         Ok((live, seats, watchers))
@@ -73,10 +76,29 @@ fn check_size<const LEAF: u32, const FAN: u32>(cpus: u32, last: u64) -> Result<(
     Ok(())
 }
 
+/// The state of the grace periods at first, and a set of the processors, empty.
+fn make_parts<const LEAF: u32, const FAN: u32, T: Drop>(
+    alloc: Global,
+    cpus: u32,
+    last: u64,
+) -> Result<(GpState<Tree<LEAF, FAN>, T>, CpuSet), AllocError>
+    ensures state { IfOk result (λ made. made.0 ≡ grace.at_first cpus last) }
+    ensures late { IfOk result (λ made. length made.1 ≡ cpus) }
+{
+    let (Ok(tree), Ok(late)) = (Tree::new(alloc, cpus), CpuSet::new(alloc, cpus)) else {
+        return Err(AllocError);
+    };
+    let Ok(gp) = GpState::new(alloc, tree, last) else {
+        return Err(AllocError);
+    };
+    Ok((gp, late))
+}
+
 /// Opens an object whose size was tested.
 fn open_tested<const LEAF: u32, const FAN: u32, T: Drop>(
     alloc: Global,
     cpus: u32,
+    last: u64,
 ) -> Result<(Live<LEAF, FAN, T>, Vec<CpuSeat>, Vec<Watcher>), AllocError>
     requires some { 0 < cpus }
     requires few { cpus ≤ 4096 }
@@ -92,12 +114,11 @@ fn open_tested<const LEAF: u32, const FAN: u32, T: Drop>(
     ensures each_watcher { IfOk result (λ opened.
         All (λ watcher. watcher.table ≡ opened.0.table) opened.2.items) }
 {
-    let (board, mut engine) = Board::open(alloc, cpus, &[], Vec::new(alloc))?;
-    let (seats, watchers) = deal(alloc, &board, &mut engine, cpus)?;
+    let (board, mut seat) = Board::open(alloc, cpus, &[], Vec::new(alloc))?;
+    let (seats, watchers) = deal(alloc, &board, &mut seat, cpus)?;
     let board = Arc::new(alloc, board)?;
-    let Ok(late) = CpuSet::new(alloc, cpus) else {
-        return Err(AllocError);
-    };
-    let live = Live::new(board, Engine::new(engine, late));
+    let (gp, late) = make_parts(alloc, cpus, last)?;
+    let engine = Engine::new(Arc::try_clone(&board)?, seat, gp, late);
+    let live = Live::new(board, engine);
     Ok((live, seats, watchers))
 }

@@ -58,6 +58,33 @@ impl<S, C> Play<S, View<C>> for Store {
     ghost then = { λ step me _ now. (now.0 ≡ after_store me.0 step.first) × (now.1 ≡ me.1) };
 }
 
+/// Processor-word load.
+pub struct LoadOwn;
+
+impl<S, C> Play<S, View<C>> for LoadOwn {
+    ghost use Rattle.rcu_live.specs.View.{Found};
+
+    ghost then = { λ step me word now. Found step.word me.0 word now.0 × (now.1 ≡ me.1) };
+}
+
+/// Begin store.
+pub struct Begin;
+
+impl<S, C> Play<S, View<C>> for Begin {
+    ghost use Rattle.rcu_live.specs.View.{after_begin_store};
+
+    ghost then = { λ step me _ now. (now.0 ≡ after_begin_store me.0 step.first) × (now.1 ≡ me.1) };
+}
+
+/// End store.
+pub struct End;
+
+impl<S, C> Play<S, View<C>> for End {
+    ghost use Rattle.rcu_live.specs.View.{after_end_store};
+
+    ghost then = { λ step me _ now. (now.0 ≡ after_end_store me.0 step.first) × (now.1 ≡ me.1) };
+}
+
 /// Seat split: the next processor's seat.
 pub struct DealCpu<S, P> {
     client: PhantomData<(S, P)>,

@@ -1,0 +1,12 @@
+use Rattle.std.proofs.Common.{rules, subst, sym}
+use Rattle.rcu_live.specs.Board.{Object}
+use Rattle.rcu_live.specs.Rule.{AreCleared}
+use Rattle.rcu_live.proofs.Turns.{ends_at}
+use Rattle.rcu_live.proofs.board.Board.end.Goals as goal
+
+pub store-requires : goal.store-requires
+store-requires g c =
+    let r = c.requires in
+    let v = c.args.seat.now.me.0 in
+    let cleared = subst (λ (o : Object). AreCleared o.cpus v.seen v.finds) (sym c.self.view_is) r.cleared in
+    (search rules, search rules, ends_at g.P.Client.holds _ _ _ _ _ _ r.engine r.running c.self.invariant.key cleared r.next)

@@ -1,0 +1,125 @@
+-- The engine, which lies under the lock of an object: what it keeps, and what each call leaves and answers.
+use Rattle.std.specs.Prelude.{◌≡◌, ℕ, zero, suc, ◌+◌, ◌<◌, ◌==◌, true, false, not, if◌then◌else◌, List, [], ◌∷◌}
+use Rattle.atomic_table.specs.Seated.{TableId}
+use Rattle.rcu_seq.specs.Numbers.{Number}
+use Rattle.rcu_seq.specs.Seq.{number_of}
+use Rattle.rcu_node.specs.CpuSet.{is_in, listed}
+use Rattle.rcu_node.specs.declared.answer.Answer.{Answer}
+use Rattle.rcu_node.specs.declared.answer.Answer.TheVariants as answer
+use Rattle.rcu_core.specs.GpState as grace
+use Rattle.rcu_core.specs.GpState.{Grace, awaited_in, hear_answer, after_hear, periods_of}
+use Rattle.rcu_core.specs.Situation.{wants_begin}
+use Rattle.rcu_core.specs.declared.turned.Turned.{Turned}
+use Rattle.rcu_core.specs.declared.turned.Turned.TheVariants as turned
+use Rattle.rcu_live.specs.Numbers.{tells}
+use Rattle.rcu_live.specs.Rule.{is_cleared}
+use Rattle.rcu_live.specs.View.{after_begin_store, after_end_store, after_find}
+use Rattle.rcu_live.specs.Words.{place}
+use Rattle.rcu_live.specs.declared.collected.Collected.{Collected}
+use Rattle.rcu_live.specs.declared.collected.Collected.TheVariants as collected
+use Rattle.rcu_live.specs.declared.view.View.{View}
+
+-- the engine: of which object, of how many processors, what its seat has seen, and the state of grace periods and callbacks
+pub record Locked (C X : Type 0) : Type 0 where
+  pub table : TableId
+  pub cpus : ℕ
+  pub view : View C
+  pub grace : Grace X
+
+-- the word that the latest of these loads of a processor's own word found, 0 where there is none
+abbrev pub found_in : List (ℕ × ℕ) → ℕ → ℕ
+found_in [] cpu = 0
+found_in (find ∷ earlier) cpu = if find.0 == place cpu then find.1 else found_in earlier cpu
+
+-- the word that the latest load found
+abbrev pub latest_found : List (ℕ × ℕ) → ℕ
+latest_found [] = 0
+latest_found (find ∷ earlier) = find.1
+
+-- one load of the own word of each of the first processors, in turn, which found these words
+abbrev pub finds_in_turn : (ℕ → ℕ) → ℕ → List (ℕ × ℕ)
+finds_in_turn word zero = []
+finds_in_turn word (suc n) = (place n, word n) ∷ finds_in_turn word n
+
+-- the answer of a collection, by that of the report
+abbrev pub collected_by : Answer → Collected
+collected_by answer.Taken = collected.Taken
+collected_by answer.Last = collected.Last
+collected_by answer.Repeat = collected.Repeat
+collected_by answer.Stale = collected.Repeat
+
+-- while a grace period runs, each processor that is not awaited is cleared
+abbrev pub AwaitsTheOthers : {X : Type 0} → ℕ → List (ℕ × ℕ) → Grace X → Type 0
+AwaitsTheOthers cpus finds g = g.seq.running ≡ true → (cpu : ℕ) → cpu < cpus → is_in g.processors.awaited cpu ≡ false
+    → is_cleared (number_of g.seq) cpu finds ≡ true
+
+module _ {C : Type 0} where
+  -- after loads of the own words of the first n processors, in turn, which found these words; none was found before
+  abbrev pub after_finds : View C → (ℕ → ℕ) → ℕ → View C
+  after_finds v word n = record v { loads = v.loads + n; finds = finds_in_turn word n }
+
+module _ {X : Type 0} where
+  -- the number of the grace period that begins next
+  abbrev pub next_number : Grace X → Number
+  next_number g = number_of (record g.seq { running = true })
+
+  -- a grace period began which found these words: online and of its start set are the processors whose word is not 0, and
+  -- it awaits those of which their word does not tell
+  abbrev pub begun_from : ℕ → (ℕ → ℕ) → Grace X → Grace X
+  begun_from cpus word g = record g {
+    seq = record g.seq { running = true };
+    processors = record {
+      tag = next_number g;
+      start_set = listed cpus (λ cpu. not (word cpu == 0));
+      awaited = listed cpus (λ cpu. not (tells (next_number g) (word cpu)));
+      online = listed cpus (λ cpu. not (word cpu == 0));
+    };
+  }
+
+module _ {C X : Type 0} where
+  -- a grace period begins: its number is stored, and then each own word is loaded once, which found these words
+  abbrev pub after_begin : Locked C X → (ℕ → ℕ) → Locked C X
+  after_begin e word = record e {
+    view = after_finds (after_begin_store e.view (next_number e.grace)) word e.cpus;
+    grace = begun_from e.cpus word e.grace;
+  }
+
+  -- the grace period ends: the number that it leaves is stored
+  abbrev pub after_end : Locked C X → Locked C X
+  after_end e = record e {
+    view = after_end_store e.view (number_of (grace.after_end e.grace).seq);
+    grace = grace.after_end e.grace;
+  }
+
+  -- what a turn does, where a begin would find these words: a running grace period ends where nobody is awaited; where none
+  -- runs, one begins if it is needed
+  abbrev pub turn_answer : Locked C X → (ℕ → ℕ) → Turned
+  turn_answer e word =
+      if e.grace.seq.running
+      then (if awaited_in e.grace == 0 then turned.Ended (number_of (grace.after_end e.grace).seq) else turned.Waiting (awaited_in e.grace))
+      else (if wants_begin (periods_of e.grace)
+      then turned.Begun (next_number e.grace) (awaited_in (begun_from e.cpus word e.grace))
+      else turned.Nothing)
+
+  -- what a turn leaves
+  abbrev pub after_turn : Locked C X → (ℕ → ℕ) → Locked C X
+  after_turn e word =
+      if e.grace.seq.running then (if awaited_in e.grace == 0 then after_end e else e)
+      else (if wants_begin (periods_of e.grace) then after_begin e word else e)
+
+  -- what a collection answers, where it finds this word
+  abbrev pub collect_answer : Locked C X → ℕ → ℕ → Collected
+  collect_answer e cpu word =
+      if e.grace.seq.running
+      then (if tells (number_of e.grace.seq) word then collected_by (hear_answer e.grace cpu) else collected.NotYet)
+      else collected.Idle
+
+  -- what a collection leaves: while a grace period runs one load more, and a report where the word tells of the processor
+  abbrev pub after_collect : Locked C X → ℕ → ℕ → Locked C X
+  after_collect e cpu word =
+      if e.grace.seq.running
+      then record e {
+        view = after_find e.view (place cpu) word;
+        grace = if tells (number_of e.grace.seq) word then after_hear e.grace cpu else e.grace;
+      }
+      else e
