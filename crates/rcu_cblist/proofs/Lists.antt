@@ -1,7 +1,9 @@
 -- Lists with one callback more, walks over a list, and its parts.
 use Rattle.std.proofs.Common.{◌≡◌, ◌==◌, ℕ, Bool, true, false, not, ◌&&◌, zero, suc, ◌+◌, ◌-◌, ◌<◌, ◌≤◌, min, List, [], ◌∷◌, ◌++◌, length, map, take, drop, set, get_or, refl, ap, sym, subst, ◌∙◌, add-one, drop-cons, append_assoc, length-append, length-take, length-drop, arith}
 use Rattle.std.proofs.Math.Seq.{take-append_seam, drop-append_seam}
-use Rattle.std.proofs.lemmas.List.{map-set, map-append, take-map, drop-map, take-append-le, take_min, get_or-map, get_or_default, length-map, map_push}
+use Rattle.std.proofs.lemmas.List.{map-set, map-append, take-map, drop-map, take-append-le, take_min, get_or-map, get_or_default, length-map, map_push, drop-drop, drop_all, take-append-drop}
+use Rattle.std.proofs.lemmas.List.Sums.{sum_by-append}
+use Rattle.std.specs.Prelude.{count_by, if◌then◌else◌}
 use Rattle.std.proofs.lemmas.Bool.Decides.{nat_tests}
 use Rattle.std.proofs.lemmas.List.Edits.{map_over_more}
 use Rattle.std.proofs.lemmas.List.Elements.{filter_map-append}
@@ -39,6 +41,12 @@ view_push f xs x = map_push f xs x
 -- the first item and the others, as they are seen
 pub map_split : {X Y : Type 0} (f : X → Y) (xs ys : List X) (x : X) → xs ≡ x ∷ ys → map f xs ≡ f x ∷ map f ys
 map_split f xs ys x whole = ap (map f) whole
+
+-- what is left of a list once one item more is gone
+pub gone_more : {X : Type 0} (start xs ys : List X) (j k : ℕ) → ys ≡ drop 1 xs → xs ≡ drop k start → j ≡ k + 1 →
+    ys ≡ drop j start
+gone_more start xs ys j k next so_far more =
+    next ∙ (ap (drop 1) so_far ∙ (drop-drop 1 k start ∙ ap (λ n. drop n start) (sym more)))
 
 -- two parts, as they are seen
 pub split_view : {X Y : Type 0} (f : X → Y) (xs ys whole : List X) (k : ℕ) → xs ≡ take k whole →
@@ -211,6 +219,43 @@ taken_least most k xs least =
 pub untaken_least : {X : Type 0} (most k : ℕ) (xs : List (Item X)) → k ≡ min (length (callbacks (front xs))) most →
     from_callback k xs ≡ after_take xs most
 untaken_least most k xs least = ap (λ n. from_callback n xs) (least ∙ sym (length_taken most xs))
+
+-- a take of as many as it may hand out hands out as much
+pub taken_fewer : {X : Type 0} (most k : ℕ) (xs : List (Item X)) → k ≡ min (length (callbacks (front xs))) most →
+    take_answer xs k ≡ take_answer xs most
+taken_fewer most k xs least =
+    let done = callbacks (front xs) in
+    let least_too : k ≡ min most (length done) = omega arith in
+    ap (λ n. take n done) least_too ∙ take_min most done
+
+-- the callbacks from one of them on
+callbacks_left : {X : Type 0} (n : ℕ) (xs : List (Item X)) → callbacks (from_callback n xs) ≡ drop n (callbacks xs)
+callbacks_left n [] = sym (drop_all n [] (omega arith))
+callbacks_left n (Marker ∷ xs) = callbacks_left n xs
+callbacks_left zero (Of call mark ∷ xs) = refl
+callbacks_left (suc n) (Of call mark ∷ xs) = callbacks_left n xs
+
+-- what a take hands out, and what it leaves
+pub taken_and_left : {X : Type 0} (most : ℕ) (xs : List (Item X)) →
+    take_answer xs most ++ callbacks (after_take xs most) ≡ callbacks xs
+taken_and_left most xs =
+    let k = length (take_answer xs most) in
+    ap (λ l. l ++ callbacks (from_callback k xs)) (sym (taken_least most k xs (length_taken most xs))) ∙
+    (ap (λ l. take k (callbacks xs) ++ l) (callbacks_left k xs) ∙ take-append-drop k (callbacks xs))
+
+-- after a migration, as many callbacks pass a test
+pub tested_moved : {X : Type 0} (test : Queued X → Bool) (xs ys : List (Item X)) →
+    count_by test (callbacks (after_migrate ys xs)) ≡ count_by test (callbacks xs) + count_by test (callbacks ys)
+tested_moved {X = X} test xs ys =
+    let all = ap (count_by test) (filter_map-append callback_of (front xs ++ ys) (map without_mark (behind xs))) ∙
+    tested_append (callbacks (front xs ++ ys)) (callbacks (map without_mark (behind xs))) in
+    let first = ap (count_by test) (filter_map-append callback_of (front xs) ys) ∙ tested_append (callbacks (front xs)) (callbacks ys) in
+    let rest = ap (count_by test) (callbacks_remarked (λ _. Unmarked) (behind xs)) in
+    let parts = ap (count_by test) (callbacks_split xs) ∙ tested_append (callbacks (front xs)) (callbacks (behind xs)) in
+    omega arith
+  where
+    tested_append : (cs ds : List (Queued X)) → count_by test (cs ++ ds) ≡ count_by test cs + count_by test ds
+    tested_append cs ds = sum_by-append (λ call. if test call then 1 else 0) cs ds
 
 -- a take that hands out nothing may hand out none, or there is none
 pub taken_none : {X : Type 0} (most : ℕ) (xs : List (Item X)) → take_answer xs most ≡ [] →

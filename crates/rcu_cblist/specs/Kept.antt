@@ -1,23 +1,30 @@
 -- What the kept items mean.
-use Rattle.std.specs.Prelude.{List, map}
-use Rattle.rcu_cblist.specs.SegList.{Item, Mark, Of, Marker, Unmarked, Until, Done}
-use Rattle.rcu_cblist.specs.declared.kept.Wait.{Wait}
-use Rattle.rcu_cblist.specs.declared.kept.Wait.TheVariants as wait
+use Rattle.std.specs.Prelude.{ℕ, Bool, ◌&&◌, nat_lt, if◌then◌else◌, List, [], ◌∷◌, ◌++◌, length, map, take, drop}
+use Rattle.rcu_cblist.specs.SegList.{Item, Mark, Of, Marker, Unmarked}
 use Rattle.rcu_cblist.specs.declared.kept.Kept.{Kept}
 use Rattle.rcu_cblist.specs.declared.kept.Kept.TheVariants as kept
 
--- the mark that is kept
-abbrev pub mark_of : Wait → Mark
-mark_of wait.Unmarked = Unmarked
-mark_of (wait.Until n) = Until n
-mark_of wait.Done = Done
-
 module _ {X : Type 0} where
-  -- the item that is kept
-  abbrev pub item_of : Kept X → Item X
-  item_of (kept.Call call mark) = Of call (mark_of mark)
-  item_of kept.Marker = Marker
+  -- the item that is kept, under this mark
+  abbrev pub item_of : Mark → Kept X → Item X
+  item_of mark (kept.Call call) = Of call mark
+  item_of mark kept.Marker = Marker
 
-  -- the list that is kept
-  abbrev pub items_of : List (Kept X) → List (Item X)
-  items_of xs = map item_of xs
+  -- the list that is kept, each callback under this mark
+  abbrev pub marked : Mark → List (Kept X) → List (Item X)
+  marked mark xs = map (item_of mark) xs
+
+  -- the list that is kept, without marks
+  abbrev pub unmarked : List (Kept X) → List (Item X)
+  unmarked xs = marked Unmarked xs
+
+  -- what goes in front of a target where so many items move in front of it and the others behind it, with a marker
+  -- behind the last one where that is wanted
+  abbrev pub moved_in_front : List (Kept X) → ℕ → Bool → List (Kept X)
+  moved_in_front xs ahead wanted =
+      take ahead xs ++ (if wanted then (if nat_lt ahead (length xs) then [] else kept.Marker ∷ []) else [])
+
+  -- and what goes behind it
+  abbrev pub moved_behind : List (Kept X) → ℕ → Bool → List (Kept X)
+  moved_behind xs ahead wanted =
+      drop ahead xs ++ (if wanted then (if nat_lt ahead (length xs) then kept.Marker ∷ [] else []) else [])

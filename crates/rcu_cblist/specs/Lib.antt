@@ -1,2 +1,3 @@
 pub mod SegList
 pub mod Kept
+pub mod Segments

@@ -1,5 +1,5 @@
 -- One processor's list, in order: callbacks, each with its mark, and markers.
-use Rattle.std.specs.Prelude.{ℕ, zero, suc, ◌-◌, ◌==◌, ◌≤◌, ◌&&◌, nat_le, nat_lt, max, fold, if◌then◌else◌, Bool, true, false, not, Option, Some, None, List, [], ◌∷◌, ◌++◌, length, map, take, filter_map, count_by, All}
+use Rattle.std.specs.Prelude.{ℕ, zero, suc, ◌-◌, ◌==◌, ◌≤◌, ◌&&◌, nat_le, nat_lt, max, fold, if◌then◌else◌, Bool, true, false, not, Option, Some, None, List, [], ◌∷◌, ◌++◌, length, map, take, drop, filter_map, count_by, All}
 use Rattle.std.specs.List.{list_any}
 use Rattle.rcu_seq.specs.Numbers.{Number}
 use Rattle.rcu_cblist.specs.declared.queued.Queued.{Queued}
@@ -150,3 +150,34 @@ module _ {X : Type 0} where
   -- its marks
   abbrev pub after_migrate : List (Item X) → List (Item X) → List (Item X)
   after_migrate ys xs = (front xs ++ ys) ++ map without_mark (behind xs)
+
+  -- the item is a marker, or a callback with this number
+  abbrev pub is_with : Number → Item X → Bool
+  is_with n (Of call (Until k)) = k == n
+  is_with n (Of call Unmarked) = false
+  is_with n (Of call Done) = false
+  is_with n Marker = true
+
+  -- the longest front of markers and of callbacks with this number
+  abbrev pub front_with : Number → List (Item X) → List (Item X)
+  front_with n [] = []
+  front_with n (x ∷ xs) = if is_with n x then x ∷ front_with n xs else []
+
+  -- the longest front of markers and of callbacks with one number, that of its first item; empty where that has none
+  abbrev pub numbered : List (Item X) → List (Item X)
+  numbered [] = []
+  numbered (Of call (Until n) ∷ xs) = Of call (Until n) ∷ front_with n xs
+  numbered (Of call Unmarked ∷ xs) = []
+  numbered (Of call Done ∷ xs) = []
+  numbered (Marker ∷ xs) = []
+
+  -- what is behind it
+  abbrev pub past_numbered : List (Item X) → List (Item X)
+  past_numbered xs = drop (length (numbered xs)) xs
+
+  -- how many items each segment has, where the list is cut where its marks change, and a marker belongs to what stands
+  -- before it: the done part, what waits for the first number, what waits for the next one, and the rest
+  abbrev pub segments : List (Item X) → List ℕ
+  segments xs =
+      length (front xs) ∷ length (numbered (behind xs)) ∷ length (numbered (past_numbered (behind xs)))
+      ∷ length (past_numbered (past_numbered (behind xs))) ∷ []

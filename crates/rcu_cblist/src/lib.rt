@@ -6,6 +6,8 @@ pub mod laws;
 pub mod queued;
 pub mod refused;
 pub mod seg_list;
+mod segments;
+mod tail;
 pub mod taken;
 #[cfg(test)]
 mod tests;

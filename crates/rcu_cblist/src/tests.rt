@@ -1,4 +1,7 @@
-//! Each public call once, and the values of three marks in a list.
+//! Each public call once, the values of three marks in a list, and calls drawn at random.
+
+mod plain;
+mod random;
 
 use crate::queued::Queued;
 use crate::seg_list::SegList;
@@ -112,6 +115,34 @@ fn three_marks_in_a_list(rt: HostRuntime) {
     take(&rt, &mut list, 1, &[11], 0);
     take(&rt, &mut list, 1, &[12], 0);
     take(&rt, &mut list, 1, &[], 0);
+}
+
+#[test]
+fn segment_sizes(rt: HostRuntime) {
+    let mut list = SegList::new(rt.alloc());
+    queue(&rt, &mut list, 1, 0, 10);
+    accelerate(&rt, &mut list, 4);
+    assert_eq!(rt; list.segments(), [0, 1, 0, 0]);
+    queue(&rt, &mut list, 2, 1, 11);
+    accelerate(&rt, &mut list, 8);
+    assert_eq!(rt; list.segments(), [0, 1, 1, 0]);
+    queue(&rt, &mut list, 3, 5, 12);
+    accelerate(&rt, &mut list, 12);
+    assert_eq!(rt; list.segments(), [0, 1, 1, 1]);
+
+    list.advance(4);
+    assert_eq!(rt; list.segments(), [1, 1, 0, 1]);
+    accelerate(&rt, &mut list, 12);
+    assert_eq!(rt; list.segments(), [1, 1, 1, 0]);
+    take(&rt, &mut list, 1, &[10], 0);
+    assert_eq!(rt; list.segments(), [0, 1, 1, 0]);
+    entrain(&rt, &mut list, true);
+    assert_eq!(rt; list.segments(), [0, 1, 2, 0]);
+    list.advance(12);
+    assert_eq!(rt; list.segments(), [3, 0, 0, 0]);
+    take(&rt, &mut list, 1, &[11], 0);
+    take(&rt, &mut list, 1, &[12], 1);
+    entrain(&rt, &mut list, false);
 }
 
 #[test]

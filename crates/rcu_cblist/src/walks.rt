@@ -1,94 +1,18 @@
-//! Walks over the items of a list.
-ghost use Rattle.std.specs.Prelude.{◌≡◌, ◌+◌, ◌<◌, ◌≤◌, ◌^◌, ◌++◌, [], map, take, drop, length};
+//! Items that leave a sequence, one at a time or all together.
+ghost use Rattle.std.specs.Prelude.{◌≡◌, ◌+◌, ◌<◌, ◌≤◌, ◌^◌, ◌++◌, [], take, drop, length};
+ghost use Rattle.std.specs.Prelude.{if◌then◌else◌};
 ghost use Rattle.std.specs.Vec.{vec_len, vec_capacity};
 ghost use Rattle.std.specs.VecDeque.{deque_len, deque_capacity};
-ghost use Rattle.rcu_cblist.specs.SegList.{after_advance, after_migrate, callbacks, from_callback};
-ghost use Rattle.rcu_cblist.specs.SegList.{front, has_two, mark_given, markers, numbers, remarked};
-ghost use Rattle.rcu_cblist.specs.SegList.{without_mark};
-ghost use Rattle.rcu_cblist.specs.Kept.{items_of};
+ghost use Rattle.rcu_cblist.specs.SegList.{callbacks, from_callback, markers};
+ghost use Rattle.rcu_cblist.specs.Kept.{moved_behind, moved_in_front, unmarked};
 
-use crate::kept::{Kept, Wait};
+use crate::kept::Kept;
 use crate::queued::Queued;
 use std::collections::VecDeque;
 
-/// Makes each callback done whose number is at most this one.
-pub(crate) fn advance_all<T: Drop>(items: &mut VecDeque<Kept<T>>, number: u64)
-    ensures { items_of items.new.items ≡ after_advance (items_of items.old.items) number }
-{
-    advance_each(items.make_contiguous(), number);
-}
-
-/// Makes each callback of a slice done whose number is at most this one.
-fn advance_each<T: Drop>(items: &mut [Kept<T>], number: u64)
-    ensures { items_of items.new ≡ after_advance (items_of items.old) number }
-{
-    for item in items.iter_mut() {
-        item.advance(number);
-    }
-}
-
-/// Gives the number to each unmarked callback.
-pub(crate) fn accelerate_all<T: Drop>(items: &mut VecDeque<Kept<T>>, snap: u64)
-    ensures { items_of items.new.items
-        ≡ map (remarked (mark_given snap)) (items_of items.old.items) }
-{
-    accelerate_each(items.make_contiguous(), snap);
-}
-
-/// Gives the number to each unmarked callback of a slice.
-fn accelerate_each<T: Drop>(items: &mut [Kept<T>], snap: u64)
-    ensures { items_of items.new ≡ map (remarked (mark_given snap)) (items_of items.old) }
-{
-    for item in items.iter_mut() {
-        item.accelerate(snap);
-    }
-}
-
-/// Whether two callbacks carry different numbers below this one.
-#[tactic(auto, using(crate::proofs::Lists::rest_more, crate::proofs::Numbers::has_two_walked))]
-pub(crate) fn has_two_below<T: Drop>(items: &VecDeque<Kept<T>>, snap: u64) -> bool
-    ensures { result ≡ has_two snap (numbers (items_of items.now.items)) }
-{
-    let mut found = None;
-    for i in 0..items.len() {
-        if let Kept::Call(_, Wait::Until(n)) = &items[i] {
-            if *n < snap {
-                match found {
-                    None => found = Some(*n),
-                    Some(k) => {
-                        if k != *n {
-                            return true;
-                        }
-                    }
-                }
-            }
-        }
-    }
-    false
-}
-
-/// How many items the done part has, and how many callbacks.
-#[tactic(auto, using(crate::proofs::Lists::rest_more))]
-pub(crate) fn count_front<T: Drop>(items: &VecDeque<Kept<T>>) -> (usize, u64)
-    ensures ahead { result.0 ≡ length (front (items_of items.now.items)) }
-    ensures done { result.1 ≡ length (callbacks (front (items_of items.now.items))) }
-{
-    let mut ahead = 0;
-    let mut done = 0;
-    for i in 0..items.len() {
-        match &items[i] {
-            Kept::Marker => {}
-            Kept::Call(_, Wait::Done) => done += 1,
-            Kept::Call(..) => return (ahead, done),
-        }
-        ahead += 1;
-    }
-    (ahead, done)
-}
-
-/// Takes the first callbacks, at most so many, and each marker before the first callback that is
-/// left. Answers how many markers.
-#[tactic(auto, using(crate::proofs::Lists::map_split))]
+/// Takes the first callbacks, so many, and each marker before the first callback that is left.
+/// Answers how many markers.
+#[tactic(auto, using(crate::proofs::Lists::map_split, crate::proofs::Lists::gone_more))]
 pub(crate) fn take_first<T: Drop>(
     items: &mut VecDeque<Kept<T>>,
     calls: &mut Vec<Queued<T>>,
@@ -96,24 +20,27 @@ pub(crate) fn take_first<T: Drop>(
 ) -> u64
     requires room { vec_len calls.old + most ≤ vec_capacity calls.old }
     requires few { length items.old.items < 2 ^ 63 }
+    requires there { most ≤ length (callbacks (unmarked items.old.items)) }
     ensures calls { calls.new.items
-        ≡ calls.old.items ++ take most (callbacks (items_of items.old.items)) }
-    ensures items { items_of items.new.items ≡ from_callback most (items_of items.old.items) }
-    ensures markers { result + markers (items_of items.new.items)
-        ≡ markers (items_of items.old.items) }
+        ≡ calls.old.items ++ take most (callbacks (unmarked items.old.items)) }
+    ensures items { unmarked items.new.items ≡ from_callback most (unmarked items.old.items) }
+    ensures gone { items.new.items ≡ drop (most + result) items.old.items }
+    ensures left { most + result + length items.new.items ≡ length items.old.items }
+    ensures markers { result + markers (unmarked items.new.items)
+        ≡ markers (unmarked items.old.items) }
 {
     let mut markers = 0;
     let mut left = most;
     loop {
         match items.front() {
             Some(Kept::Marker) => {}
-            Some(Kept::Call(..)) if left > 0 => {}
+            Some(Kept::Call(_)) if left > 0 => {}
             _ => return markers,
         }
         match items.pop_front() {
             None => unreachable!(),
             Some(Kept::Marker) => markers += 1,
-            Some(Kept::Call(call, _)) => {
+            Some(Kept::Call(call)) => {
                 left -= 1;
                 let Ok(()) = calls.push(call) else {
                     unreachable!()
@@ -123,39 +50,34 @@ pub(crate) fn take_first<T: Drop>(
     }
 }
 
-/// Moves a list to a target: the done part goes before what is there, and the rest behind it
-/// without its marks.
-pub(crate) fn carry<T: Drop>(items: &mut VecDeque<Kept<T>>, target: &mut VecDeque<Kept<T>>)
-    requires room { deque_len target.old + deque_len items.old ≤ deque_capacity target.old }
-    ensures target { items_of target.new.items
-        ≡ after_migrate (items_of target.old.items) (items_of items.old.items) }
+/// Puts the first items before a target's, and the rest behind them. Where that is wanted, a marker
+/// stands behind the last of them. Answers how many went in front.
+pub(crate) fn join_marked<T: Drop>(
+    target: &mut VecDeque<Kept<T>>,
+    items: &mut VecDeque<Kept<T>>,
+    ahead: usize,
+    marked: bool,
+) -> usize
+    requires ahead { ahead ≤ length items.old.items }
+    requires room { deque_len target.old + deque_len items.old + (if marked then 1 else 0)
+        ≤ deque_capacity target.old }
+    ensures front { result ≡ length (moved_in_front items.old.items ahead marked) }
+    ensures target { target.new.items ≡ moved_in_front items.old.items ahead marked
+        ++ (target.old.items ++ moved_behind items.old.items ahead marked) }
     ensures items { items.new.items ≡ [] }
 {
-    let ahead = count_front(items).0;
-    unmark_behind(items, ahead);
-    join_around(target, items, ahead);
-}
-
-/// Takes the marks from the items behind the first ones.
-#[tactic(auto, using(crate::proofs::Lists::split_view))]
-fn unmark_behind<T: Drop>(items: &mut VecDeque<Kept<T>>, ahead: usize)
-    requires { ahead ≤ length items.old.items }
-    ensures view { items_of items.new.items
-        ≡ take ahead (items_of items.old.items)
-        ++ map without_mark (drop ahead (items_of items.old.items)) }
-    ensures len { deque_len items.new ≡ deque_len items.old }
-{
-    let (_, rest) = items.make_contiguous().split_at_mut(ahead);
-    unmark_each(rest);
-}
-
-/// Takes the mark from each item of a slice.
-fn unmark_each<T: Drop>(items: &mut [Kept<T>])
-    ensures { items_of items.new ≡ map without_mark (items_of items.old) }
-{
-    for item in items.iter_mut() {
-        item.unmark();
+    if !marked {
+        join_around(target, items, ahead);
+        return ahead;
     }
+    if ahead < items.len() {
+        join_around(target, items, ahead);
+        target.push_back_reserved(Kept::Marker);
+        return ahead;
+    }
+    target.push_front_reserved(Kept::Marker);
+    join_around(target, items, ahead);
+    ahead + 1
 }
 
 /// Puts the first items before a target's, and the rest behind them.
@@ -166,6 +88,8 @@ fn join_around<T: Drop>(target: &mut VecDeque<T>, items: &mut VecDeque<T>, ahead
     ensures target { target.new.items
         ≡ take ahead items.old.items ++ (target.old.items ++ drop ahead items.old.items) }
     ensures items { items.new.items ≡ [] }
+    ensures len { deque_len target.new ≡ deque_len target.old + deque_len items.old }
+    ensures capacity { deque_capacity target.old ≤ deque_capacity target.new }
 {
     items.rotate_left(ahead);
     let Ok(()) = target.append(items) else {

@@ -1,0 +1,17 @@
+use Rattle.std.proofs.Common.{arith}
+use Rattle.rcu_cblist.proofs.Cuts.{calls_within, pushed}
+use Rattle.rcu_cblist.proofs.segments.Segments.push.Goals as goal
+
+pub overflow_add-self : goal.overflow_add-self
+overflow_add-self g c =
+    let s = c.args.self.now in
+    let few = calls_within s.items.items in
+    let ok = s.items.ok in
+    let small = s.items.small in
+    let counted = c.requires.kept.counted in
+    omega arith
+
+pub returns-clause-kept : goal.returns-clause-kept
+returns-clause-kept g c =
+    let s = c.args.self.now in
+    rw c.push_back_reserved.ensures.items (pushed s.items.items c.args.call s.done s.wait s.ready s.calls s.wait_number s.ready_number c.requires.kept)

@@ -1,0 +1,262 @@
+//! A sequence of items in four segments.
+ghost use Rattle.std.specs.Prelude.{◌≡◌, ◌+◌, ◌<◌, ◌≤◌, ◌++◌, ◌∷◌, ◌&&◌, [], true, false};
+ghost use Rattle.std.specs.Prelude.{if◌then◌else◌, map, nat_le, nat_lt};
+ghost use Rattle.std.specs.Vec.{vec_len, vec_capacity};
+ghost use Rattle.std.specs.VecDeque.{deque_len, deque_capacity};
+ghost use Rattle.rcu_cblist.specs.SegList.{IsAtMost, Of, Unmarked, after_accelerate, after_advance};
+ghost use Rattle.rcu_cblist.specs.SegList.{after_entrain, after_migrate, after_take};
+ghost use Rattle.rcu_cblist.specs.SegList.{as_it_leaves, behind, front, greatest, is_empty};
+ghost use Rattle.rcu_cblist.specs.SegList.{markers_passed, numbers};
+ghost use Rattle.rcu_cblist.specs.SegList.{segments, take_answer, without_mark};
+ghost use Rattle.rcu_cblist.specs.Segments.{IsCut, seen};
+
+use crate::kept::Kept;
+use crate::queued::Queued;
+use crate::tail::Tail;
+use crate::walks::{join_marked, take_first};
+use std::alloc::Global;
+use std::collections::VecDeque;
+
+/// Items in order, cut by three tail places into four segments (Linux's `rcu_segcblist`):
+///
+/// ```text
+/// [ DONE | WAIT | NEXT_READY | NEXT ]
+///        done  wait        ready
+/// ```
+///
+/// What is in DONE waits for nothing more, WAIT and NEXT_READY wait for a number each, and NEXT has
+/// none yet. NEXT_READY has items only where WAIT has, and WAIT's number is the lower
+/// one then. A marker belongs to the segment of the callback before it.
+#[derive(Drop)]
+pub(crate) struct Segments<T: Drop> {
+    /// The items.
+    pub(crate) items: VecDeque<Kept<T>>,
+    /// Where DONE ends.
+    pub(crate) done: Tail,
+    /// Where WAIT ends.
+    pub(crate) wait: Tail,
+    /// Where NEXT_READY ends.
+    pub(crate) ready: Tail,
+    /// How many callbacks there are.
+    pub(crate) calls: u64,
+    /// WAIT's number; it means nothing where WAIT is empty.
+    pub(crate) wait_number: u64,
+    /// NEXT_READY's number; it means nothing where NEXT_READY is empty.
+    pub(crate) ready_number: u64,
+}
+
+impl<T: Drop> Segments<T> {
+    /// No item.
+    pub(crate) fn new(alloc: Global) -> Segments<T>
+        ensures kept { IsCut result }
+        ensures items { seen result ≡ [] }
+    {
+        Segments {
+            items: VecDeque::new(alloc),
+            done: Tail::START,
+            wait: Tail::START,
+            ready: Tail::START,
+            calls: 0,
+            wait_number: 0,
+            ready_number: 0,
+        }
+    }
+
+    /// Whether WAIT has items, and a number at most this one.
+    fn wait_is_reached(&self, number: u64) -> bool
+        ensures { result ≡ (nat_lt self.now.done.items self.now.wait.items
+            && nat_le self.now.wait_number number) }
+    {
+        self.done.items < self.wait.items && self.wait_number <= number
+    }
+
+    /// Whether NEXT_READY has items, and a number at most this one.
+    fn ready_is_reached(&self, number: u64) -> bool
+        ensures { result ≡ (nat_lt self.now.wait.items self.now.ready.items
+            && nat_le self.now.ready_number number) }
+    {
+        self.wait.items < self.ready.items && self.ready_number <= number
+    }
+
+    /// Whether WAIT has items, and a number below this one.
+    fn wait_is_below(&self, snap: u64) -> bool
+        ensures { result ≡ (nat_lt self.now.done.items self.now.wait.items
+            && nat_lt self.now.wait_number snap) }
+    {
+        self.done.items < self.wait.items && self.wait_number < snap
+    }
+
+    /// Whether NEXT_READY has items, and a number below this one.
+    fn ready_is_below(&self, snap: u64) -> bool
+        ensures { result ≡ (nat_lt self.now.wait.items self.now.ready.items
+            && nat_lt self.now.ready_number snap) }
+    {
+        self.wait.items < self.ready.items && self.ready_number < snap
+    }
+
+    /// Puts a callback at the end of NEXT.
+    pub(crate) fn push(&mut self, call: Queued<T>)
+        requires kept { IsCut self.old }
+        requires room { deque_len self.old.items < deque_capacity self.old.items }
+        ensures kept { IsCut self.new }
+        ensures items { seen self.new ≡ seen self.old ++ Of call Unmarked ∷ [] }
+    {
+        self.items.push_back_reserved(Kept::Call(call));
+        self.calls += 1;
+    }
+
+    /// Puts a marker at the end of the last segment that has items.
+    pub(crate) fn push_marker(&mut self)
+        requires kept { IsCut self.old }
+        requires some { is_empty (seen self.old) ≡ false }
+        requires room { deque_len self.old.items < deque_capacity self.old.items }
+        ensures kept { IsCut self.new }
+        ensures items { seen self.new ≡ after_entrain (seen self.old) }
+    {
+        let end = self.items.len();
+        self.items.push_back_reserved(Kept::Marker);
+        self.done.pass_marker(end);
+        self.wait.pass_marker(end);
+        self.ready.pass_marker(end);
+    }
+
+    /// Each front segment of WAIT and NEXT_READY whose number is at most this one joins DONE, and
+    /// the other one moves forward.
+    pub(crate) fn advance(&mut self, number: u64)
+        requires kept { IsCut self.old }
+        ensures kept { IsCut self.new }
+        ensures items { seen self.new ≡ after_advance (seen self.old) number }
+    {
+        if !self.wait_is_reached(number) {
+            return;
+        }
+        if self.ready_is_reached(number) {
+            self.done = self.ready;
+            self.wait = self.ready;
+        } else {
+            self.done = self.wait;
+            self.wait = self.ready;
+            self.wait_number = self.ready_number;
+        }
+    }
+
+    /// Gives a number to what is in NEXT: it joins NEXT_READY, or WAIT where that changes no
+    /// number. Nothing changes where NEXT_READY has items and a number below this one.
+    pub(crate) fn accelerate(&mut self, snap: u64)
+        requires kept { IsCut self.old }
+        requires most { IsAtMost snap (seen self.old) }
+        ensures kept { IsCut self.new }
+        ensures items { seen self.new ≡ after_accelerate (seen self.old) snap }
+    {
+        if self.ready_is_below(snap) {
+            return;
+        }
+        let end = Tail {
+            items: self.items.len(),
+            calls: self.calls,
+        };
+        if self.wait_is_below(snap) {
+            self.ready = end;
+            self.ready_number = snap;
+        } else {
+            self.wait = end;
+            self.ready = end;
+            self.wait_number = snap;
+        }
+    }
+
+    /// Takes the first callbacks of DONE, so many, and each marker before the first callback that
+    /// is left. Answers how many markers.
+    pub(crate) fn take(&mut self, calls: &mut Vec<Queued<T>>, most: u64) -> u64
+        requires kept { IsCut self.old }
+        requires room { vec_len calls.old + most ≤ vec_capacity calls.old }
+        requires done { most ≤ self.old.done.calls }
+        ensures kept { IsCut self.new }
+        ensures calls { calls.new.items ≡ calls.old.items ++ take_answer (seen self.old) most }
+        ensures markers { result ≡ markers_passed (seen self.old) most }
+        ensures items { seen self.new ≡ after_take (seen self.old) most }
+    {
+        let markers = take_first(&mut self.items, calls, most);
+        let gone = Tail {
+            items: (most + markers) as usize,
+            calls: most,
+        };
+        self.done.fall(gone);
+        self.wait.fall(gone);
+        self.ready.fall(gone);
+        self.calls -= most;
+        markers
+    }
+
+    /// Loses the numbers of what waits: all behind DONE becomes NEXT.
+    fn lose_numbers(&mut self)
+        requires kept { IsCut self.old }
+        ensures items { self.new.items ≡ self.old.items }
+        ensures next { self.new.ready ≡ self.old.done }
+        ensures calls { self.new.calls ≡ self.old.calls }
+        ensures kept { IsCut self.new }
+        ensures lost { seen self.new
+            ≡ front (seen self.old) ++ map without_mark (behind (seen self.old)) }
+    {
+        self.wait = self.done;
+        self.ready = self.done;
+    }
+
+    /// Moves all to a target: DONE goes in front of the target's DONE, and the rest without its
+    /// numbers to the end of its NEXT. Where that is wanted, a marker stands behind what moves.
+    pub(crate) fn carry_into(&mut self, target: &mut Segments<T>, marked: bool)
+        requires kept { IsCut self.old }
+        requires there { IsCut target.old }
+        requires some { marked ≡ true → is_empty (seen self.old) ≡ false }
+        requires room { deque_len target.old.items + deque_len self.old.items
+            + (if marked then 1 else 0) ≤ deque_capacity target.old.items }
+        ensures kept { IsCut self.new }
+        ensures emptied { seen self.new ≡ [] }
+        ensures there { IsCut target.new }
+        ensures target { seen target.new
+            ≡ after_migrate (seen target.old) (as_it_leaves (seen self.old) marked) }
+    {
+        self.lose_numbers();
+        // NEXT begins where DONE ends now.
+        let Tail { items, calls } = self.ready;
+        let front = Tail {
+            items: join_marked(&mut target.items, &mut self.items, items, marked),
+            calls,
+        };
+        target.done.rise(front);
+        target.wait.rise(front);
+        target.ready.rise(front);
+        target.calls += self.calls;
+        self.done = Tail::START;
+        self.wait = Tail::START;
+        self.ready = Tail::START;
+        self.calls = 0;
+    }
+
+    /// The greatest number that a segment with items waits for, none where none does.
+    pub(crate) fn greatest_waiting(&self) -> Option<u64>
+        requires kept { IsCut self.now }
+        ensures { result ≡ greatest (numbers (seen self.now)) }
+    {
+        if self.wait.items < self.ready.items {
+            Some(self.ready_number)
+        } else if self.done.items < self.wait.items {
+            Some(self.wait_number)
+        } else {
+            None
+        }
+    }
+
+    /// How many items each segment has.
+    pub(crate) fn lengths(&self) -> [u64; 4]
+        requires kept { IsCut self.now }
+        ensures { result ≡ segments (seen self.now) }
+    {
+        [
+            self.done.items as u64,
+            (self.wait.items - self.done.items) as u64,
+            (self.ready.items - self.wait.items) as u64,
+            (self.items.len() - self.ready.items) as u64,
+        ]
+    }
+}
