@@ -1,7 +1,10 @@
-//! What the definitions say of the numbers that callbacks carry.
-ghost use Rattle.std.specs.Prelude.{◌≡◌, ◌≤◌, All, List, None, Some};
+//! What the definitions say of the numbers that callbacks carry, of a migration, and of a take.
+ghost use Rattle.std.specs.Prelude.{◌≡◌, ◌≤◌, ◌+◌, ◌++◌, All, Bool, List, None, Some, ℕ, count_by};
 ghost use Rattle.rcu_seq.specs.Numbers.{Number};
-ghost use Rattle.rcu_cblist.specs.SegList.{greatest};
+ghost use Rattle.rcu_cblist.specs.SegList.{Item, after_migrate, after_take, callbacks, greatest};
+ghost use Rattle.rcu_cblist.specs.SegList.{markers, markers_passed, take_answer};
+
+use crate::queued::Queued;
 
 /// Where the greatest number is at most a bound, or there is none, each number is at most it.
 pub fn greatest_bounds_each()
@@ -9,4 +12,22 @@ pub fn greatest_bounds_each()
         → All (λ n. n ≤ bound) numbers }
     ensures some { (bound most : Number) (numbers : List Number) → greatest numbers ≡ Some most
         → most ≤ bound → All (λ n. n ≤ bound) numbers }
+{}
+
+/// A migration loses and makes no callback, and no marker: of both lists, as many callbacks as
+/// before pass any test, and there are as many markers.
+pub fn migration_keeps_each_item<T: Drop>()
+    ensures callbacks { (test : Queued T → Bool) (xs ys : List (Item T))
+        → count_by test (callbacks (after_migrate ys xs))
+        ≡ count_by test (callbacks xs) + count_by test (callbacks ys) }
+    ensures markers { (xs ys : List (Item T))
+        → markers (after_migrate ys xs) ≡ markers xs + markers ys }
+{}
+
+/// What a take hands out and what it leaves are the list: its callbacks in order, and its markers.
+pub fn take_and_rest_are_the_list<T: Drop>()
+    ensures callbacks { (most : ℕ) (xs : List (Item T))
+        → take_answer xs most ++ callbacks (after_take xs most) ≡ callbacks xs }
+    ensures markers { (most : ℕ) (xs : List (Item T))
+        → markers_passed xs most + markers (after_take xs most) ≡ markers xs }
 {}
