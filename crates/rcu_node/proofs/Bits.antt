@@ -43,7 +43,7 @@ unfolding has_bit
 no_bit word i h = let below = bit_at-lt word i in grind (arith, nat_tests, h, below)
 
 -- a bit that is not set is not set in a part of the word either
-has_bit_and_none : (word other i : ℕ) → has_bit word i ≡ false → has_bit (bit_and word other) i ≡ false
+pub has_bit_and_none : (word other i : ℕ) → has_bit word i ≡ false → has_bit (bit_and word other) i ≡ false
 unfolding has_bit
 has_bit_and_none word other i h =
     let none = no_bit word i h in
@@ -60,6 +60,13 @@ has_bit_clear_rest word k i l n beyond = elim (cases_lt i 64) [
 -- a word without a bit is zero
 pub no_bits : (word : ℕ) → ((i : ℕ) → has_bit word i ≡ false) → word ≡ 0
 no_bits word h = same_from_bits word 0 (λ i. no_bit word i (h i) ∙ sym (bit_at-zero i))
+
+-- words with the same bits are the same
+pub same_word : (a b : ℕ) → ((i : ℕ) → has_bit a i ≡ has_bit b i) → a ≡ b
+unfolding has_bit
+same_word a b same =
+    same_from_bits a b
+    (λ i. let alike = same i in let first = bit_at-lt a i in let second = bit_at-lt b i in grind (arith, nat_tests, alike, first, second))
 
 -- a bit of two words together is one of either
 pub has_bit_or : (a b i : ℕ) → has_bit (bit_or a b) i ≡ (has_bit a i || has_bit b i)

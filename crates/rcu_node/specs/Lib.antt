@@ -3,3 +3,4 @@ pub mod Masks
 pub mod Words
 pub mod Reports
 pub mod Merging
+pub mod Steps

@@ -1,20 +1,72 @@
--- Sets of processors in the masks of a tree's leaves, below one root.
-use Rattle.std.specs.Prelude.{ℕ, ◌+◌, ◌*◌, ◌/◌, ◌%◌, ◌<◌, ◌≡◌, ◌==◌, ◌&&◌, nat_lt, Bool, not, List, length, slice_index}
-use Rattle.rcu_geometry.specs.Geometry.{Shape, ceil}
+-- The masks of a tree's nodes: which bits are set where a set of processors is awaited.
+use Rattle.std.specs.Prelude.{ℕ, ◌<◌, ◌≤◌, ◌≡◌, ◌==◌, ◌^◌, Bool, true, not, if◌then◌else◌, List, map, length, slice_index}
+use Rattle.rcu_geometry.specs.Geometry.{Shape, nodes, parent, bit_in_parent, first_leaf, leaf_of, bit_of}
 use Rattle.rcu_node.specs.CpuSet.{is_in, listed}
 use Rattle.rcu_node.specs.Words.{has_bit}
+use Rattle.rcu_node.specs.declared.node.Node.{Node}
 
--- the processors whose bits are set: a processor's bit lies in the leaf at a leaf-th of its number
+-- of each node, the children that are awaited now
+abbrev pub now_masks : List Node → List ℕ
+now_masks nodes = map (λ node. node.qsmask) nodes
+
+-- of each node, the children that were awaited at the start
+abbrev pub start_masks : List Node → List ℕ
+start_masks nodes = map (λ node. node.qsmaskinit) nodes
+
+-- of each node, its bit in its parent
+abbrev pub group_masks : List Node → List ℕ
+group_masks nodes = map (λ node. node.grpmask) nodes
+
+-- a bit of a leaf is that of a processor
+pub record IsCpuOf (s : Shape) (node place cpu : ℕ) : Type 0 where
+  pub here : cpu < s.cpus
+  pub leaf : leaf_of s cpu ≡ node
+  pub bit : bit_of s cpu ≡ place
+
+-- a bit of an inner node is that of a child
+pub record IsChildOf (s : Shape) (node place child : ℕ) : Type 0 where
+  pub some : 0 < child
+  pub here : child < nodes s
+  pub parent : parent s child ≡ node
+  pub bit : bit_in_parent s child ≡ place
+
+-- each node has a mask, and no bit is set but those of its processors or children
+pub record AreOwned (s : Shape) (masks : List ℕ) : Type 0 where
+  pub sized : length masks ≡ nodes s
+  pub inner : (node bit : ℕ) → node < first_leaf s → has_bit (slice_index masks node) bit ≡ true
+      → ∥ ((child : ℕ) × IsChildOf s node bit child) ∥₁
+  pub leaf : (node bit : ℕ) → first_leaf s ≤ node → has_bit (slice_index masks node) bit ≡ true
+      → ∥ ((cpu : ℕ) × IsCpuOf s node bit cpu) ∥₁
+
+-- the bit of a child is set exactly where its own mask is not empty
+abbrev pub IsLinked : Shape → List ℕ → ℕ → Type 0
+IsLinked s masks child =
+    has_bit (slice_index masks (parent s child)) (bit_in_parent s child) ≡ not (slice_index masks child == 0)
+
+-- no other bit is set, and that of each child is
+pub record AreLinked (s : Shape) (masks : List ℕ) : Type 0 where
+  pub owned : AreOwned s masks
+  pub inner : (child : ℕ) → 0 < child → child < nodes s → IsLinked s masks child
+
+-- the masks of a set: a leaf bit is set exactly where its processor is in the set, an inner bit exactly where that child's
+-- mask is not empty, and no other bit is set
+pub record AreMasks (s : Shape) (set : List Bool) (masks : List ℕ) : Type 0 where
+  pub linked : AreLinked s masks
+  pub leaf : (cpu : ℕ) → cpu < s.cpus → has_bit (slice_index masks (leaf_of s cpu)) (bit_of s cpu) ≡ is_in set cpu
+
+-- a node's mask among the masks of a set
+abbrev pub IsMaskOf : Shape → List Bool → ℕ → ℕ → Type 0
+IsMaskOf s set node mask = (masks : List ℕ) × AreMasks s set masks × (mask ≡ slice_index masks node)
+
+-- the processors whose bits are set
 abbrev pub members : Shape → List ℕ → List Bool
-members s masks = listed s.cpus (λ cpu. has_bit (slice_index masks (cpu / s.leaf)) (cpu % s.leaf))
+members s masks = listed s.cpus (λ cpu. has_bit (slice_index masks (leaf_of s cpu)) (bit_of s cpu))
 
--- there are just as many masks as hold a set, and each has a bit for each of its processors in the set, and no other bit
-pub record AreMasks (leaf : ℕ) (masks : List ℕ) (set : List Bool) : Type 0 where
-  pub sized : length masks ≡ ceil (length set) leaf
-  pub bit : (place bit : ℕ) → place < length masks
-      → has_bit (slice_index masks place) bit ≡ (nat_lt bit leaf && is_in set (place * leaf + bit))
+-- the mask of a node's bit in its parent, none at the root
+abbrev pub group_of : Shape → ℕ → ℕ
+group_of s node = if node == 0 then 0 else 2 ^ bit_in_parent s node
 
--- the root has a flag for each mask, which is set exactly where the mask is not empty
-pub record IsRoot (masks : List ℕ) (root : List Bool) : Type 0 where
-  pub sized : length root ≡ length masks
-  pub flag : (place : ℕ) → place < length masks → is_in root place ≡ not (slice_index masks place == 0)
+-- each node has that mask
+pub record AreGroups (s : Shape) (masks : List ℕ) : Type 0 where
+  pub sized : length masks ≡ nodes s
+  pub bit : (node : ℕ) → node < nodes s → slice_index masks node ≡ group_of s node

@@ -3,26 +3,15 @@ ghost use Rattle.std.specs.Prelude.{◌≡◌, ◌<◌, ◌≤◌, true, false, 
 ghost use Rattle.std.specs.Prelude.{OnOk};
 ghost use Rattle.rcu_node.specs.CpuSet.{IsSetFault, is_in};
 
-use crate::answer::Answer;
 use crate::awaited::Awaited;
 use crate::cpu_set::CpuSet;
+use crate::sets::Sets;
+use crate::tagged::Tagged;
 use rcu_seq::fault::Fault;
 use std::alloc::Global;
 
 /// The awaited processors as one set, and the start set beside it. A report costs one step.
-#[derive(Drop)]
-pub struct Flat {
-    /// The number of the latest grace period.
-    tag: u64,
-    /// The processors that it awaited at its start.
-    start: CpuSet,
-    /// The processors that it awaits now.
-    awaited: CpuSet,
-    ghost some: { 0 < length awaited },
-    ghost few: { length awaited ≤ 4096 },
-    ghost alike: { length start ≡ length awaited },
-    ghost within: { (cpu : ℕ) → is_in awaited cpu ≡ true → is_in start cpu ≡ true },
-}
+pub type Flat = Tagged<FlatSets>;
 
 impl Flat {
     /// Nobody is awaited, at tag 0.
@@ -38,35 +27,44 @@ impl Flat {
             ⟦<Flat as Awaited>⟧.awaited flat ≡ replicate cpus false) }
         ensures err { IfErr result (λ fault. IsSetFault cpus fault) }
     {
-        Ok(Flat {
+        Ok(Tagged {
             tag: 0,
-            start: CpuSet::new(alloc, cpus)?,
-            awaited: CpuSet::new(alloc, cpus)?,
+            sets: FlatSets {
+                start: CpuSet::new(alloc, cpus)?,
+                awaited: CpuSet::new(alloc, cpus)?,
+            },
         })
     }
 }
 
-impl Awaited for Flat {
-    ghost tag = { λ flat. flat.tag };
+/// Both sets as sets of their own.
+#[derive(Drop)]
+pub struct FlatSets {
+    /// The processors that were awaited at the start.
+    start: CpuSet,
+    /// The processors that are awaited now.
+    awaited: CpuSet,
+    ghost some: { 0 < length awaited },
+    ghost few: { length awaited ≤ 4096 },
+    ghost alike: { length start ≡ length awaited },
+    ghost within: { (cpu : ℕ) → is_in awaited cpu ≡ true → is_in start cpu ≡ true },
+}
 
-    ghost start_set = { λ flat. flat.start };
+impl Sets for FlatSets {
+    ghost start_set = { λ sets. sets.start };
 
-    ghost awaited = { λ flat. flat.awaited };
+    ghost awaited = { λ sets. sets.awaited };
 
-    ghost some = { λ flat. flat.some };
+    ghost some = { λ sets. sets.some };
 
-    ghost few = { λ flat. flat.few };
+    ghost few = { λ sets. sets.few };
 
-    ghost alike = { λ flat. flat.alike };
+    ghost alike = { λ sets. sets.alike };
 
-    ghost within = { λ flat. flat.within };
+    ghost within = { λ sets. sets.within };
 
     fn cpus(&self) -> u32 {
         self.awaited.cpus()
-    }
-
-    fn tag(&self) -> u64 {
-        self.tag
     }
 
     fn starts(&self, cpu: u32) -> bool {
@@ -85,23 +83,12 @@ impl Awaited for Flat {
         self.count() == 0
     }
 
-    fn begin(&mut self, number: u64, set: &CpuSet) {
-        self.tag = number;
+    fn begin(&mut self, set: &CpuSet) {
         self.start.copy_from(set);
         self.awaited.copy_from(set);
     }
 
-    fn report(&mut self, cpu: u32, number: u64) -> Answer {
-        if number != self.tag {
-            return Answer::Stale;
-        }
-        if !self.awaited.remove(cpu) {
-            return Answer::Repeat;
-        }
-        if self.is_empty() {
-            Answer::Last
-        } else {
-            Answer::Taken
-        }
+    fn remove(&mut self, cpu: u32) -> bool {
+        self.awaited.remove(cpu)
     }
 }

@@ -1,9 +1,11 @@
-//! What the definitions say of sets, of reports and of merging.
+//! What the definitions say of sets, of reports, of merging and of masks.
 ghost use Rattle.std.specs.Bool.{Decides};
 ghost use Rattle.std.specs.Prelude.{◌≡◌, ◌==◌, ◌&&◌, ◌||◌, ◌++◌, ℕ, Bool, List, true, false};
-ghost use Rattle.std.specs.Prelude.{length, nat_lt, not, slice_set};
+ghost use Rattle.std.specs.Prelude.{length, nat_lt, not, slice_index, slice_set};
 ghost use Rattle.rcu_seq.specs.Numbers.{Number};
-ghost use Rattle.rcu_node.specs.CpuSet.{intersection, is_in, listed, unheard};
+ghost use Rattle.rcu_geometry.specs.Geometry.{IsLegalShape, Shape};
+ghost use Rattle.rcu_node.specs.CpuSet.{intersection, is_in, listed, size_of, unheard};
+ghost use Rattle.rcu_node.specs.Masks.{AreMasks};
 ghost use Rattle.rcu_node.specs.Merging.{IsAtLeast, Standing, are_alike, merged};
 ghost use Rattle.rcu_node.specs.Reports.{awaited_after_reports, was_reported};
 
@@ -103,4 +105,17 @@ pub fn merging_hears_what_the_other_heard()
         → intersection (awaited_after_reports number set reports)
         (awaited_after_reports number set others)
         ≡ awaited_after_reports number set (others ++ reports) }
+{}
+
+/// A set of processors has one list of masks at most, so each node has one mask.
+pub fn a_set_has_one_list_of_masks()
+    ensures { (s : Shape) (set : List Bool) (masks others : List ℕ) → IsLegalShape s
+        → AreMasks s set masks → AreMasks s set others → masks ≡ others }
+{}
+
+/// The root's mask is empty exactly where nobody is awaited.
+pub fn root_is_empty_where_nobody_is_awaited()
+    ensures { (s : Shape) (set : List Bool) (masks : List ℕ) → IsLegalShape s
+        → length set ≡ s.cpus → AreMasks s set masks
+        → (slice_index masks 0 == 0) ≡ (size_of set == 0) }
 {}

@@ -4,13 +4,19 @@
 pub mod answer;
 pub mod awaited;
 pub mod cpu_set;
+mod fill;
 pub mod flat;
 pub mod laws;
-mod leaves;
+mod making;
 pub mod merging;
+mod node;
+mod nodes;
+mod sets;
+mod tagged;
 #[cfg(test)]
 mod tests;
 pub mod tree;
+mod walk;
 
 pub use answer::Answer;
 pub use awaited::Awaited;

@@ -1,34 +1,23 @@
 //! The awaited processors in a combining tree.
-ghost use Rattle.std.specs.Prelude.{◌≡◌, ◌<◌, ◌≤◌, None, true, false, ℕ, length, replicate, IfOk};
-ghost use Rattle.std.specs.Prelude.{IfErr, OnOk};
+ghost use Rattle.std.specs.Prelude.{◌≡◌, ◌<◌, None, false, length, replicate};
+ghost use Rattle.std.specs.Prelude.{IfOk, IfErr, OnOk};
 ghost use Rattle.rcu_geometry.specs.Geometry.{IsTreeFault, refusal, shape};
-ghost use Rattle.rcu_node.specs.CpuSet.{is_in};
+ghost use Rattle.rcu_geometry.specs.Geometry.{nodes as nodes_of};
+ghost use Rattle.rcu_node.specs.Masks.{IsMaskOf, group_of};
 
-use crate::answer::Answer;
 use crate::awaited::Awaited;
-use crate::cpu_set::CpuSet;
-use crate::leaves::Leaves;
+use crate::nodes::Nodes;
+use crate::tagged::Tagged;
 use rcu_seq::fault::Fault;
 use std::alloc::Global;
 
 /// The awaited processors in a tree of up to `LEAF` processors a leaf and `FAN` children an inner
-/// node (Linux's `rcu_node`, and the Data-Structures document), and the start set beside it.
+/// node (Linux's `rcu_node`, and the Data-Structures document).
 ///
-/// It has the leaves of that tree, and in place of its inner nodes one root with a flag for each
-/// leaf. A report costs one step in its leaf and one in the root; a begin costs a step a leaf.
-#[derive(Drop)]
-pub struct Tree<const LEAF: u32, const FAN: u32> {
-    /// The number of the latest grace period.
-    tag: u64,
-    /// The processors that it awaited at its start.
-    start: CpuSet,
-    /// The processors that it awaits now.
-    awaited: Leaves<LEAF, FAN>,
-    ghost some: { 0 < length awaited },
-    ghost few: { length awaited ≤ 4096 },
-    ghost alike: { length start ≡ length awaited },
-    ghost within: { (cpu : ℕ) → is_in awaited cpu ≡ true → is_in start cpu ≡ true },
-}
+/// Each node has a mask of the children that are awaited, which are processors at a leaf. A report
+/// clears a bit in a leaf, and goes on in the parent where the mask is empty then: it costs at most
+/// a step a level. A begin costs a step a node.
+pub type Tree<const LEAF: u32, const FAN: u32> = Tagged<Nodes<LEAF, FAN>>;
 
 impl<const LEAF: u32, const FAN: u32> Tree<LEAF, FAN> {
     /// Nobody is awaited, at tag 0.
@@ -44,72 +33,51 @@ impl<const LEAF: u32, const FAN: u32> Tree<LEAF, FAN> {
             ⟦<Tree<LEAF, FAN> as Awaited>⟧.awaited tree ≡ replicate cpus false) }
         ensures err { IfErr result (λ fault. IsTreeFault (shape LEAF FAN cpus) fault) }
     {
-        let awaited = Leaves::new(alloc, cpus)?;
-        let start = CpuSet::new(alloc, cpus)?;
-        Ok(Tree {
+        Ok(Tagged {
             tag: 0,
-            start,
-            awaited,
+            sets: Nodes::new(alloc, cpus)?,
         })
     }
-}
 
-impl<const LEAF: u32, const FAN: u32> Awaited for Tree<LEAF, FAN> {
-    ghost tag = { λ tree. tree.tag };
-
-    ghost start_set = { λ tree. tree.start };
-
-    ghost awaited = { λ tree. tree.awaited };
-
-    ghost some = { λ tree. tree.some };
-
-    ghost few = { λ tree. tree.few };
-
-    ghost alike = { λ tree. tree.alike };
-
-    ghost within = { λ tree. tree.within };
-
-    fn cpus(&self) -> u32 {
-        self.awaited.cpus()
+    /// The number of nodes.
+    pub fn nodes(&self) -> u32
+        ensures { result ≡ nodes_of
+            (shape LEAF FAN (length (⟦<Tree<LEAF, FAN> as Awaited>⟧.awaited self.now))) }
+    {
+        self.sets.nodes()
     }
 
-    fn tag(&self) -> u64 {
-        self.tag
+    /// The children of a node that are awaited now, a bit for each (Linux's `qsmask`). The node is
+    /// below `nodes()`.
+    pub fn qsmask(&self, node: u32) -> u64
+        requires { node < nodes_of
+            (shape LEAF FAN (length (⟦<Tree<LEAF, FAN> as Awaited>⟧.awaited self.now))) }
+        ensures { IsMaskOf
+            (shape LEAF FAN (length (⟦<Tree<LEAF, FAN> as Awaited>⟧.awaited self.now)))
+            (⟦<Tree<LEAF, FAN> as Awaited>⟧.awaited self.now) node result }
+    {
+        self.sets.qsmask(node)
     }
 
-    fn starts(&self, cpu: u32) -> bool {
-        self.start.contains(cpu)
+    /// The children of a node that were awaited at the start of the grace period (Linux's
+    /// `qsmaskinit`). The node is below `nodes()`.
+    pub fn qsmaskinit(&self, node: u32) -> u64
+        requires { node < nodes_of
+            (shape LEAF FAN (length (⟦<Tree<LEAF, FAN> as Awaited>⟧.awaited self.now))) }
+        ensures { IsMaskOf
+            (shape LEAF FAN (length (⟦<Tree<LEAF, FAN> as Awaited>⟧.awaited self.now)))
+            (⟦<Tree<LEAF, FAN> as Awaited>⟧.start_set self.now) node result }
+    {
+        self.sets.qsmaskinit(node)
     }
 
-    fn awaits(&self, cpu: u32) -> bool {
-        self.awaited.contains(cpu)
-    }
-
-    fn count(&self) -> u32 {
-        self.awaited.count()
-    }
-
-    fn is_empty(&self) -> bool {
-        self.awaited.is_empty()
-    }
-
-    fn begin(&mut self, number: u64, set: &CpuSet) {
-        self.tag = number;
-        self.start.copy_from(set);
-        self.awaited.copy_from(set);
-    }
-
-    fn report(&mut self, cpu: u32, number: u64) -> Answer {
-        if number != self.tag {
-            return Answer::Stale;
-        }
-        if !self.awaited.remove(cpu) {
-            return Answer::Repeat;
-        }
-        if self.is_empty() {
-            Answer::Last
-        } else {
-            Answer::Taken
-        }
+    /// A node's bit in its parent, 0 at the root (Linux's `grpmask`). The node is below `nodes()`.
+    pub fn grpmask(&self, node: u32) -> u64
+        requires { node < nodes_of
+            (shape LEAF FAN (length (⟦<Tree<LEAF, FAN> as Awaited>⟧.awaited self.now))) }
+        ensures { result ≡ group_of
+            (shape LEAF FAN (length (⟦<Tree<LEAF, FAN> as Awaited>⟧.awaited self.now))) node }
+    {
+        self.sets.grpmask(node)
     }
 }
