@@ -1,6 +1,7 @@
 //! Each public call once, two grace periods of each kind of awaited processors, and their merging.
 ghost use Rattle.std.specs.Prelude.{◌≡◌, false, replicate};
 
+mod masks;
 mod merging;
 
 use crate::answer::Answer;
