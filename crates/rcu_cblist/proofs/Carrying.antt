@@ -1,11 +1,11 @@
 -- Segments: what a migration makes of them.
-use Rattle.std.proofs.Common.{◌≡◌, ◌==◌, ℕ, zero, suc, Bool, true, false, ◌+◌, ◌-◌, ◌<◌, ◌≤◌, nat_lt, if◌then◌else◌, List, [], ◌∷◌, ◌++◌, length, map, take, drop, refl, ap, sym, subst, ◌∙◌, append_assoc, length-append, arith}
-use Rattle.std.proofs.lemmas.List.{append-nil, drop-append-le, drop_all, map-append, take-append-le, take_all, take-append-drop}
+use Rattle.std.proofs.Common.{◌≡◌, ◌==◌, ℕ, zero, suc, Bool, true, false, ◌+◌, ◌<◌, ◌≤◌, nat_lt, if◌then◌else◌, List, [], ◌∷◌, ◌++◌, length, map, take, drop, refl, ap, sym, subst, ◌∙◌, append_assoc, length-append, arith}
+use Rattle.std.proofs.lemmas.List.{append-nil, drop-append-le, drop_all, map-append, take-append-le, take_all}
 use Rattle.std.proofs.lemmas.Bool.Decides.{nat_tests}
 use Rattle.rcu_cblist.specs.declared.kept.Kept.{Kept}
 use Rattle.rcu_cblist.specs.declared.kept.Kept.TheVariants as kept
 use Rattle.rcu_cblist.specs.declared.tail.Tail.{Tail}
-use Rattle.rcu_cblist.specs.SegList.{Item, Marker, Unmarked, Until, Done, after_migrate, as_it_leaves, begins_with_marker, behind, callbacks, front, is_empty, without_mark}
+use Rattle.rcu_cblist.specs.SegList.{Item, Unmarked, Until, Done, after_migrate, as_it_leaves, begins_with_marker, behind, callbacks, front, is_empty, without_mark}
 use Rattle.rcu_cblist.specs.Kept.{item_of, marked, moved_behind, moved_in_front, unmarked}
 use Rattle.rcu_cblist.specs.Segments.{AreSegments, AreTails, IsTail, between, joined}
 use Rattle.rcu_cblist.proofs.Cuts.{Cuts, calls_joined, calls_marked, calls_within, first_joined, rest_of, seen_at, segments_at}

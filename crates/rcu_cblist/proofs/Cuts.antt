@@ -1,6 +1,6 @@
 -- Segments: how tail places cut a list.
-use Rattle.std.proofs.Common.{◌≡◌, ◌==◌, ℕ, Bool, true, false, zero, suc, ◌+◌, ◌-◌, ◌<◌, ◌≤◌, nat_lt, nat_le, ◌&&◌, if◌then◌else◌, inl, inr, List, [], ◌∷◌, ◌++◌, length, map, take, drop, refl, ap, sym, subst, ◌∙◌, append_assoc, length-append, length-take, length-drop, arith}
-use Rattle.std.proofs.lemmas.List.{append-nil, append_cancel_left, map-append, map_push, take-take, take-append-drop, take_at, drop_at, take-append-le, drop-append-le, take_all, drop_all, drop-drop, drop-take, length-map, drop-map, take-map}
+use Rattle.std.proofs.Common.{◌≡◌, ◌==◌, ℕ, false, ◌+◌, ◌-◌, ◌<◌, ◌≤◌, if◌then◌else◌, inl, inr, List, [], ◌∷◌, ◌++◌, length, take, drop, refl, ap, sym, ◌∙◌, append_assoc, length-append, length-take, length-drop, arith}
+use Rattle.std.proofs.lemmas.List.{append_cancel_left, map-append, take-take, take-append-drop, take-append-le, drop-append-le, take_all, drop_all}
 use Rattle.std.proofs.lemmas.List.Elements.{filter_map-append}
 use Rattle.std.proofs.lemmas.Bool.Decides.{nat_tests}
 use Rattle.std.proofs.lemmas.Bool.{cases_eq}
@@ -8,8 +8,8 @@ use Rattle.rcu_cblist.specs.declared.queued.Queued.{Queued}
 use Rattle.rcu_cblist.specs.declared.kept.Kept.{Kept}
 use Rattle.rcu_cblist.specs.declared.kept.Kept.TheVariants as kept
 use Rattle.rcu_cblist.specs.declared.tail.Tail.{Tail}
-use Rattle.rcu_cblist.specs.SegList.{Item, Mark, Of, Marker, Unmarked, Until, Done, begins_with_marker, callback_of, callbacks, remarked, without_mark}
-use Rattle.rcu_cblist.specs.Kept.{item_of, marked, unmarked}
+use Rattle.rcu_cblist.specs.SegList.{Unmarked, begins_with_marker, callback_of, callbacks}
+use Rattle.rcu_cblist.specs.Kept.{item_of, unmarked}
 use Rattle.rcu_cblist.specs.Segments.{AreSegments, AreTails, IsTail, between, joined}
 
 module _ {X : Type 0} where
@@ -46,23 +46,6 @@ module _ {X : Type 0} where
   whole d w r xs first second =
       ap (λ l. take d xs ++ (between d w xs ++ l)) (rest_of w r xs second) ∙
       (ap (λ l. take d xs ++ l) (rest_of d w xs first) ∙ take-append-drop d xs)
-
-  -- lists one behind another are cut by places behind them
-  pub cut_by : (xs D W R N : List (Kept X)) (d w r : ℕ) → xs ≡ D ++ (W ++ (R ++ N)) → d ≡ length D →
-      w ≡ length D + length W → r ≡ length D + length W + length R → Cuts xs D W R N d w r
-  cut_by xs D W R N d w r all first second third =
-      let two = length-append D W in
-      let three = length-append (D ++ W) R in
-      let to_wait : take w xs ≡ D ++ W = ap (take w) (all ∙ sym (append_assoc D W (R ++ N))) ∙
-      take_at (D ++ W) (R ++ N) w (omega arith) in
-      let from_ready : xs ≡ ((D ++ W) ++ R) ++ N = all ∙ (sym (append_assoc D W (R ++ N)) ∙ sym (append_assoc (D ++ W) R N)) in
-      let to_ready : take r xs ≡ (D ++ W) ++ R = ap (take r) from_ready ∙ take_at ((D ++ W) ++ R) N r (omega arith) in
-      record {
-        is_done = ap (take d) all ∙ take_at D (W ++ (R ++ N)) d (sym first);
-        is_wait = ap (drop d) to_wait ∙ drop_at D W d (sym first);
-        is_ready = ap (drop w) to_ready ∙ drop_at (D ++ W) R w (omega arith);
-        is_next = ap (drop r) from_ready ∙ drop_at ((D ++ W) ++ R) N r (omega arith);
-      }
 
   -- what holds of four lists holds of what is cut
   pub segments_at : (a b : ℕ) (xs D W R N : List (Kept X)) (d w r : ℕ) → Cuts xs D W R N d w r → AreSegments a b D W R N →

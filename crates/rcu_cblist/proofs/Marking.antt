@@ -1,6 +1,6 @@
 -- Segments: a marker at the end of the last one that has items.
-use Rattle.std.proofs.Common.{◌≡◌, ◌==◌, ℕ, Bool, true, false, ◌+◌, ◌-◌, ◌<◌, ◌≤◌, if◌then◌else◌, inl, inr, List, [], ◌∷◌, ◌++◌, length, map, take, drop, refl, ap, sym, subst, ◌∙◌, append_assoc, length-append, length-take, length-drop, arith}
-use Rattle.std.proofs.lemmas.List.{append-nil, length-map, map_push, take_all, drop_all, take-append-le, drop-append-le}
+use Rattle.std.proofs.Common.{◌≡◌, ◌==◌, ℕ, false, ◌+◌, ◌<◌, ◌≤◌, if◌then◌else◌, inl, inr, List, [], ◌∷◌, ◌++◌, length, take, drop, refl, ap, sym, ◌∙◌, append_assoc, length-append, length-take, length-drop, arith}
+use Rattle.std.proofs.lemmas.List.{append-nil, length-map, map_push, take_all, drop_all, take-append-le}
 use Rattle.std.proofs.lemmas.Bool.Decides.{nat_tests}
 use Rattle.std.proofs.lemmas.Bool.{cases_eq}
 use Rattle.rcu_cblist.specs.declared.kept.Kept.{Kept}
@@ -8,8 +8,8 @@ use Rattle.rcu_cblist.specs.declared.kept.Kept.TheVariants as kept
 use Rattle.rcu_cblist.specs.declared.tail.Tail.{Tail}
 use Rattle.rcu_cblist.specs.SegList.{Item, Marker, Unmarked, Until, Done, after_entrain, is_empty, without_mark}
 use Rattle.rcu_cblist.specs.Kept.{item_of, marked, unmarked}
-use Rattle.rcu_cblist.specs.Segments.{AreSegments, AreTails, IsTail, between, joined}
-use Rattle.rcu_cblist.proofs.Cuts.{Cuts, calls_marked, cut_more, first_pushed, from_pushed, length_between, nothing, seen_at, segments_at, tail_passed, to_pushed, whole}
+use Rattle.rcu_cblist.specs.Segments.{AreSegments, AreTails, between, joined}
+use Rattle.rcu_cblist.proofs.Cuts.{Cuts, calls_marked, cut_more, first_pushed, from_pushed, length_between, seen_at, segments_at, tail_passed, to_pushed, whole}
 use Rattle.rcu_cblist.proofs.Views.{stripped}
 
 -- where a place goes once a marker is put at the end

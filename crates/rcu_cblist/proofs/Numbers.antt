@@ -1,37 +1,9 @@
 -- The numbers that callbacks carry, walked in order.
-use Rattle.std.proofs.Common.{◌≡◌, ◌≤◌, max, Some, None, Bool, true, false, not, nat_lt, inl, inr, subst, ◌==◌, ◌&&◌, ◌||◌, List, [], ◌∷◌, refl, ap, sym, ◌∙◌, arith}
-use Rattle.std.specs.Prelude.{if◌then◌else◌, All, fold}
+use Rattle.std.proofs.Common.{◌≡◌, ◌≤◌, max, Some, None, List, [], ◌∷◌, arith}
+use Rattle.std.specs.Prelude.{All, fold}
 use Rattle.std.proofs.lemmas.List.Elements.{All-nil, All-cons}
-use Rattle.std.proofs.lemmas.Bool.{cases_Bool}
-use Rattle.std.specs.List.{list_any}
 use Rattle.rcu_seq.specs.Numbers.{Number}
-use Rattle.rcu_cblist.proofs.SegListLemmas.{none_other, other_same}
-use Rattle.rcu_cblist.specs.SegList.{greatest, has_other, has_two}
-
--- two numbers below the snapshot differ, found in order: the first one below it, and another behind it
-abbrev pub has_two_ahead : Number → List Number → Bool
-has_two_ahead snap [] = false
-has_two_ahead snap (n ∷ numbers) = if nat_lt n snap then has_other snap n numbers else has_two_ahead snap numbers
-
--- where the first number is below, two differ where another one differs from it
-first_below : (below itself other others ahead : Bool) → below ≡ true → itself ≡ other → (other ≡ false → others ≡ false) →
-    ((below && itself) || others) ≡ (if below then other else ahead)
-first_below true itself true others ahead is same alone = ap (λ t. t || others) same
-first_below true itself false others ahead is same alone = ap (λ t. t || others) same ∙ alone refl
-first_below false itself other others ahead is same alone = cc
-
--- found in order, they are found
-pub has_two_walked : (snap : Number) (numbers : List Number) → has_two snap numbers ≡ has_two_ahead snap numbers
-has_two_walked snap [] = refl
-has_two_walked snap (n ∷ numbers) =
-    let Found : Bool → Type 0 = λ below. ((below && ((below && not (n == n)) || has_other snap n numbers)) ||
-    list_any (λ k. nat_lt k snap && ((below && not (n == k)) || has_other snap k numbers)) numbers) ≡
-    (if below then has_other snap n numbers else has_two_ahead snap numbers) in
-    elim (cases_Bool (nat_lt n snap)) [
-      | inl below ↦ first_below (nat_lt n snap) _ _ _ _ below (other_same snap n numbers)
-          (λ none. none_other snap n (n ∷ numbers) numbers (other_same snap n numbers ∙ none) none)
-      | inr above ↦ subst Found (sym above) (has_two_walked snap numbers)
-    ]
+use Rattle.rcu_cblist.specs.SegList.{greatest}
 
 -- the greatest of some numbers, from one on, is at least that one and each of them
 fold_max_bounds : (n : Number) (numbers : List Number) → (n ≤ fold max n numbers) × All (λ k. k ≤ fold max n numbers) numbers

@@ -1,16 +1,15 @@
 -- Segments: what a take leaves of them.
-use Rattle.std.proofs.Common.{◌≡◌, ℕ, zero, suc, ◌+◌, ◌-◌, ◌<◌, ◌≤◌, min, Bool, true, false, ◌==◌, inl, inr, ◌⊎◌, List, [], ◌∷◌, ◌++◌, length, map, take, drop, refl, ap, sym, subst, ◌∙◌, length-append, length-take, length-drop, arith}
-use Rattle.std.proofs.lemmas.List.{drop-append-le, drop-drop, drop-map, drop-take, length-map, take-append-drop, take-take, take_min}
+use Rattle.std.proofs.Common.{◌≡◌, ℕ, zero, suc, ◌+◌, ◌-◌, ◌<◌, ◌≤◌, true, false, ◌==◌, inl, inr, ◌⊎◌, List, [], ◌∷◌, ◌++◌, length, map, take, drop, refl, ap, sym, subst, ◌∙◌, length-take, length-drop, arith}
+use Rattle.std.proofs.lemmas.List.{drop-append-le, drop-drop, drop-map, drop-take, length-map, take-append-drop, take-take}
 use Rattle.std.proofs.lemmas.Bool.Decides.{nat_tests}
-use Rattle.rcu_cblist.specs.declared.queued.Queued.{Queued}
 use Rattle.rcu_cblist.specs.declared.kept.Kept.{Kept}
 use Rattle.rcu_cblist.specs.declared.tail.Tail.{Tail}
-use Rattle.rcu_cblist.specs.SegList.{Item, Mark, Of, Marker, Unmarked, Until, Done, after_take, begins_with_marker, callbacks, from_callback, front, is_empty, markers, markers_passed, remarked, take_answer, without_mark}
+use Rattle.rcu_cblist.specs.SegList.{Item, Mark, Of, Marker, Unmarked, Until, Done, after_take, begins_with_marker, callbacks, from_callback, front, is_empty, markers, remarked, without_mark}
 use Rattle.rcu_cblist.specs.Kept.{item_of, marked, unmarked}
 use Rattle.rcu_cblist.specs.declared.segments.Segments.{Segments}
 use Rattle.rcu_cblist.specs.Segments.{AreSegments, AreTails, IsCut, IsTail, between, joined, seen}
 use Rattle.rcu_cblist.proofs.Cuts.{Cuts, calls_joined, calls_some, first_joined, joins, rest_of, seen_at, segments_at, whole}
-use Rattle.rcu_cblist.proofs.Lists.{callbacks_from, callbacks_remarked, first_from, taken_least, untaken_least}
+use Rattle.rcu_cblist.proofs.Lists.{callbacks_from, callbacks_remarked, first_from, untaken_least}
 use Rattle.rcu_cblist.proofs.SegListLemmas.{markers_remarked}
 use Rattle.rcu_cblist.proofs.Views.{front_joined, marked_remarked, stripped}
 

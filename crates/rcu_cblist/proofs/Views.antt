@@ -1,16 +1,14 @@
 -- Segments: the list of their items, and what the calls make of it.
-use Rattle.std.proofs.Common.{◌≡◌, ◌==◌, ℕ, Bool, true, false, not, zero, suc, ◌+◌, ◌-◌, ◌<◌, ◌≤◌, max, min, nat_lt, nat_le, ◌&&◌, ◌||◌, if◌then◌else◌, inl, inr, Some, None, List, [], ◌∷◌, ◌++◌, length, map, take, drop, refl, ap, sym, subst, ◌∙◌, append_assoc, length-append, arith}
+use Rattle.std.proofs.Common.{◌≡◌, ◌==◌, ℕ, Bool, true, false, not, ◌<◌, ◌≤◌, max, nat_lt, nat_le, ◌&&◌, ◌||◌, if◌then◌else◌, inl, inr, Some, None, List, [], ◌∷◌, ◌++◌, length, map, drop, refl, ap, sym, subst, ◌∙◌, append_assoc, arith}
 use Rattle.std.specs.Prelude.{All, fold}
-use Rattle.std.specs.List.{list_any}
-use Rattle.std.proofs.lemmas.List.{append-nil, drop_at, length-map, map-append, map_push}
-use Rattle.std.proofs.lemmas.List.Elements.{All-nil, All-cons, All-head, All-tail, All-append, filter_map-append}
+use Rattle.std.proofs.lemmas.List.{append-nil, drop_at, length-map, map-append}
+use Rattle.std.proofs.lemmas.List.Elements.{All-nil, All-cons, All-head, All-tail, All-append}
 use Rattle.std.proofs.lemmas.Bool.Decides.{nat_tests}
 use Rattle.std.proofs.lemmas.Bool.{cases_Bool}
 use Rattle.rcu_seq.specs.Numbers.{Number}
-use Rattle.rcu_cblist.specs.declared.queued.Queued.{Queued}
 use Rattle.rcu_cblist.specs.declared.kept.Kept.{Kept}
 use Rattle.rcu_cblist.specs.declared.kept.Kept.TheVariants as kept
-use Rattle.rcu_cblist.specs.SegList.{Item, Mark, Of, Marker, Unmarked, Until, Done, IsAtMost, after_accelerate, after_advance, behind, begins_with_marker, callbacks, front, front_with, greatest, has_other, has_two, mark_advanced, mark_given, number_carried, numbered, numbers, past_numbered, remarked, segments, without_mark}
+use Rattle.rcu_cblist.specs.SegList.{Item, Mark, Of, Marker, Unmarked, Until, Done, IsAtMost, after_accelerate, after_advance, behind, begins_with_marker, front, front_with, greatest, has_other, has_two, mark_advanced, mark_given, numbered, numbers, past_numbered, remarked, segments, without_mark}
 use Rattle.rcu_cblist.specs.Kept.{item_of, marked, unmarked}
 use Rattle.rcu_cblist.specs.Segments.{AreSegments, joined}
 use Rattle.rcu_cblist.proofs.SegListLemmas.{no_two, numbers_append}

@@ -1,7 +1,7 @@
 -- What four segments of one sequence mean, and what is kept of them.
 use Rattle.std.specs.Prelude.{ℕ, ◌<◌, ◌≤◌, ◌≡◌, false, List, ◌++◌, length, take, drop}
 use Rattle.rcu_seq.specs.Numbers.{Number}
-use Rattle.rcu_cblist.specs.SegList.{Item, Unmarked, Until, Done, begins_with_marker, callbacks}
+use Rattle.rcu_cblist.specs.SegList.{Item, Until, Done, begins_with_marker, callbacks}
 use Rattle.rcu_cblist.specs.Kept.{marked, unmarked}
 use Rattle.rcu_cblist.specs.declared.kept.Kept.{Kept}
 use Rattle.rcu_cblist.specs.declared.tail.Tail.{Tail}
