@@ -59,7 +59,7 @@ module _ {C : Type 0} where
 
   -- why a departure is refused
   abbrev pub depart_refusal : Seated C → Option Fault
-  depart_refusal s = first_fault ((s.cpu == 0, BootStays) ∷ (s.view.stamp == 0, Offline) ∷ (nat_lt 0 s.depth, InSection) ∷ [])
+  depart_refusal s = first_fault ((s.cpu == 0, BootStays) ∷ (nat_lt 0 s.depth, InSection) ∷ [])
 
   -- after a departure: the own word is 0
   abbrev pub after_depart : Seated C → Seated C

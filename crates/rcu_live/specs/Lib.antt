@@ -2,6 +2,7 @@ pub mod Board
 pub mod Client
 pub mod CpuSeat
 pub mod Engine
+pub mod EngineLists
 pub mod Met
 pub mod Numbers
 pub mod Opening

@@ -1,5 +1,6 @@
 //! A processor's seat: its read sections and its quiescent states.
-ghost use Rattle.std.specs.Prelude.{◌≡◌, ◌<◌, ◌≤◌, ℕ, IfErr, IfOk, None, OnErr, OnOk, Some, false};
+ghost use Rattle.std.specs.Prelude.{◌≡◌, ◌<◌, ◌≤◌, ◌==◌, ℕ, IfErr, IfOk, None, OnErr, OnOk};
+ghost use Rattle.std.specs.Prelude.{Some, false};
 ghost use Rattle.rcu_live.specs.CpuSeat.{after_depart, after_enter, after_exit, after_look};
 ghost use Rattle.rcu_live.specs.CpuSeat.{after_quiesce, arrive_refusal, at_first, depart_refusal};
 ghost use Rattle.rcu_live.specs.CpuSeat.{enter_refusal, exit_refusal, quiesce_refusal};
@@ -186,15 +187,17 @@ impl<S: Drop, C> CpuSeat<S, C> {
         Ok(())
     }
 
-    /// The processor is offline from now on: its own word becomes 0.
+    /// The processor is offline from now on: its own word becomes 0. Answers whether it was offline
+    /// before.
     ///
-    /// Faults: 12 for processor 0; 2 where the processor is offline; 4 where a section is open.
+    /// Faults: 12 for processor 0; 4 where a section is open.
     pub(crate) fn depart<const LEAF: u32, const FAN: u32, T: Drop, P: Client<S, C>>(
         &mut self,
         live: &Live<LEAF, FAN, T, S, C, P>,
-    ) -> Result<(), Fault>
+    ) -> Result<bool, Fault>
         requires { self.old.table ≡ live.now.table }
         ensures table { self.new.table ≡ self.old.table }
+        ensures again { IfOk result (λ again. again ≡ (self.old.view.stamp == 0)) }
         ensures accepted { OnOk result (depart_refusal self.old ≡ None) }
         ensures departed { OnOk result (self.new ≡ after_depart self.old) }
         ensures refused { IfErr result (λ fault. depart_refusal self.old ≡ Some fault) }
@@ -203,8 +206,18 @@ impl<S: Drop, C> CpuSeat<S, C> {
         if self.data.cpu() == 0 {
             return Err(Fault::BootStays);
         }
-        self.data.depart()?;
+        let again = !self.data.online();
+        if !again {
+            self.data.depart()?;
+        }
         live.board().store(&mut self.seat, self.data.cpu(), 0);
-        Ok(())
+        Ok(again)
+    }
+
+    /// The processor.
+    pub(crate) fn cpu(&self) -> u32
+        ensures { result ≡ self.now.cpu }
+    {
+        self.data.cpu()
     }
 }

@@ -7,13 +7,19 @@ pub mod collected;
 pub mod cpu_seat;
 mod dealing;
 pub mod engine;
+pub mod engine_cpus;
+pub mod engine_lists;
 mod finding;
 pub mod laws;
 pub mod live;
 mod locked;
+mod locked_lists;
+#[cfg(test)]
+mod locked_tests;
 pub mod met;
 mod opening;
 pub mod periods;
+pub mod ran;
 pub mod reading;
 pub mod rule;
 #[cfg(test)]

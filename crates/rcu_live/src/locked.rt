@@ -1,9 +1,14 @@
 //! The calls that take the lock of an object. What each does to the engine is said where it is lent
 //! the engine: no clause here can name what a lock was found to keep.
-ghost use Rattle.std.specs.Prelude.{◌≡◌, IfErr};
+ghost use Rattle.std.specs.Prelude.{◌≡◌, ◌≤◌, Err, IfErr, None, OnErr, OnOk, Some, true};
+ghost use Rattle.rcu_seq.specs.declared.fault.Fault.{Fault};
+ghost use Rattle.rcu_live.specs.CpuSeat.{after_depart, after_quiesce, arrive_refusal};
+ghost use Rattle.rcu_live.specs.CpuSeat.{depart_refusal};
+ghost use Rattle.rcu_live.specs.EngineLists.{is_leave_fault};
 
 use crate::client::Client;
 use crate::collected::Collected;
+use crate::cpu_seat::CpuSeat;
 use crate::live::Live;
 use rcu_core::turned::Turned;
 use rcu_seq::fault::Fault;
@@ -33,5 +38,57 @@ impl<const LEAF: u32, const FAN: u32, T: Drop, S: Drop, C, P: Client<S, C>> Live
         ensures { IfErr result (λ fault. fault ≡ Fault.Exhausted) }
     {
         self.engine.lock(rt).turn()
+    }
+
+    /// Brings the processor online: one load of the number, and one more than it in the own word;
+    /// then, under the lock, as [`Engine::join`](crate::engine::Engine).
+    ///
+    /// Fault 3: the processor is online.
+    pub fn online(&self, rt: &impl Wait, seat: &mut CpuSeat<S, C>) -> Result<(), Fault>
+        requires { seat.old.table ≡ self.now.table }
+        ensures table { seat.new.table ≡ seat.old.table }
+        ensures accepted { OnOk result (arrive_refusal seat.old ≡ None) }
+        ensures arrived { OnOk result (seat.new ≡ after_quiesce seat.old seat.new.view.seen) }
+        ensures later { OnOk result (seat.old.view.seen ≤ seat.new.view.seen) }
+        ensures refused { IfErr result (λ fault. arrive_refusal seat.old ≡ Some fault) }
+        ensures unchanged { OnErr result (seat.new ≡ seat.old) }
+    {
+        seat.arrive(self)?;
+        let cpu = seat.cpu();
+        let mut engine = self.engine.lock(rt);
+        // A seat's processor is one of the engine's, which no clause can say across the lock.
+        if cpu < engine.cpus() {
+            engine.join(cpu);
+        }
+        Ok(())
+    }
+
+    /// Takes the processor offline: its own word becomes 0, also where it is; then, under the lock,
+    /// as [`Engine::leave`](crate::engine::Engine). Answers how many callbacks moved to processor
+    /// 0's list. Refused memory, the same call again finishes that.
+    ///
+    /// Faults: 12 for processor 0; 4 where a section is open; 2 where it was offline and its list
+    /// is empty; 16, where it is offline from now on. Under the lock it passes on 3, which it never
+    /// meets.
+    pub fn offline(&self, rt: &impl Wait, seat: &mut CpuSeat<S, C>) -> Result<u64, Fault>
+        requires { seat.old.table ≡ self.now.table }
+        ensures table { seat.new.table ≡ seat.old.table }
+        ensures refused { (fault : Fault) → depart_refusal seat.old ≡ Some fault →
+            result ≡ Err fault }
+        ensures unchanged { (fault : Fault) → depart_refusal seat.old ≡ Some fault →
+            seat.new ≡ seat.old }
+        ensures stored { depart_refusal seat.old ≡ None → seat.new ≡ after_depart seat.old }
+        ensures fault { IfErr result (λ fault. depart_refusal seat.old ≡ None →
+            is_leave_fault fault ≡ true) }
+        ensures again { IfErr result (λ fault. depart_refusal seat.old ≡ None →
+            fault ≡ Fault.Offline → seat.old.view.stamp ≡ 0) }
+    {
+        let again = seat.depart(self)?;
+        let cpu = seat.cpu();
+        let mut engine = self.engine.lock(rt);
+        if cpu < engine.cpus() {
+            return engine.leave(cpu, again);
+        }
+        Ok(0)
     }
 }

@@ -15,39 +15,45 @@ use std::thread::Threads;
 
 type Four = Live<4, 4, u64>;
 
-/// An object of two processors, opened by a second call where the first is refused a growth.
-fn opened<R: Abort + Print>(rt: &R, alloc: Global) -> (Four, Vec<CpuSeat>, Vec<Watcher>)
-    ensures counts { (length result.1.items ≡ 2) × (length result.2.items ≡ 2) }
+/// An object of so many processors, opened by a second call where the first is refused a growth.
+pub(crate) fn opened<R: Abort + Print>(
+    rt: &R,
+    alloc: Global,
+    cpus: u32,
+    last: u64,
+) -> (Four, Vec<CpuSeat>, Vec<Watcher>)
+    ensures seat_count { length result.1.items ≡ cpus }
+    ensures watcher_count { length result.2.items ≡ cpus }
     ensures seats { All (λ seat. seat.table ≡ result.0.table) result.1.items }
     ensures watchers { All (λ watcher. watcher.table ≡ result.0.table) result.2.items }
 {
-    match Four::open(alloc, 2, 8) {
+    match Four::open(alloc, cpus, last) {
         Ok(opened) => opened,
         Err(fault) => {
             assert_eq!(rt; fault, Fault::NoMemory);
             let _ = println!(rt; "a growth was refused");
-            Four::open(alloc, 2, 8).expect(rt, "the second call has memory")
+            Four::open(alloc, cpus, last).expect(rt, "the second call has memory")
         }
     }
 }
 
 /// An object of two processors, with the seats and the watchers of processors 0 and 1.
-struct Pair {
-    live: Four,
-    first: CpuSeat,
-    second: CpuSeat,
-    watcher: Watcher,
-    other: Watcher,
+pub(crate) struct Pair {
+    pub(crate) live: Four,
+    pub(crate) first: CpuSeat,
+    pub(crate) second: CpuSeat,
+    pub(crate) watcher: Watcher,
+    pub(crate) other: Watcher,
 }
 
 /// Opens such an object.
-fn make_pair<R: Abort + Print>(rt: &R, alloc: Global) -> Pair
+pub(crate) fn make_pair<R: Abort + Print>(rt: &R, alloc: Global) -> Pair
     ensures first { result.first.table ≡ result.live.table }
     ensures second { result.second.table ≡ result.live.table }
     ensures watcher { result.watcher.table ≡ result.live.table }
     ensures other { result.other.table ≡ result.live.table }
 {
-    let (live, mut seats, mut watchers) = opened(rt, alloc);
+    let (live, mut seats, mut watchers) = opened(rt, alloc, 2, 8);
     let second = seats.pop().unwrap();
     let first = seats.pop().unwrap();
     let other = watchers.pop().unwrap();
@@ -134,17 +140,17 @@ fn arrival_and_departure(rt: HostRuntime) {
         watcher: _,
         other: _,
     } = make_pair(&rt, rt.alloc());
-    assert_eq!(rt; second.depart(&live), Err(Fault::Offline));
-    assert_eq!(rt; second.arrive(&live), Ok(()));
-    assert_eq!(rt; second.arrive(&live), Err(Fault::AlreadyOnline));
+    assert_eq!(rt; live.offline(&rt, &mut second), Err(Fault::Offline));
+    assert_eq!(rt; live.online(&rt, &mut second), Ok(()));
+    assert_eq!(rt; live.online(&rt, &mut second), Err(Fault::AlreadyOnline));
     assert_eq!(rt; second.enter(&live), Ok(1));
     assert_eq!(rt; second.enter(&live), Ok(2));
-    assert_eq!(rt; second.depart(&live), Err(Fault::InSection));
+    assert_eq!(rt; live.offline(&rt, &mut second), Err(Fault::InSection));
     assert_eq!(rt; (second.exit(&live), second.exit(&live)), (Ok(1), Ok(0)));
     assert_eq!(rt; second.exit(&live), Err(Fault::NotOpen));
-    assert_eq!(rt; second.depart(&live), Ok(()));
+    assert_eq!(rt; live.offline(&rt, &mut second), Ok(0));
     assert_eq!(rt; second.quiesce(&live), Err(Fault::Offline));
-    assert_eq!(rt; first.depart(&live), Err(Fault::BootStays));
+    assert_eq!(rt; live.offline(&rt, &mut first), Err(Fault::BootStays));
 }
 
 #[test]

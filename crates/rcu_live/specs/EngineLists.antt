@@ -1,0 +1,74 @@
+-- The engine's processors that come and go, and its callbacks: what each call leaves, and why it is refused.
+use Rattle.std.specs.Prelude.{ℕ, ◌&&◌, Bool, true, false, nat_lt, if◌then◌else◌, [], ◌∷◌, Option}
+use Rattle.rcu_seq.specs.Fault.{first_fault}
+use Rattle.rcu_seq.specs.declared.fault.Fault.{Fault}
+use Rattle.rcu_seq.specs.declared.fault.Fault.TheVariants as fault
+use Rattle.rcu_node.specs.CpuSet.{is_in}
+use Rattle.rcu_hotplug.specs.Hotplug.{Arrive, Depart}
+use Rattle.rcu_cblist.specs.SegList.{is_empty}
+use Rattle.rcu_barrier.specs.Lists.{list_of, queue_fault}
+use Rattle.rcu_core.specs.GpState.{Grace, after_migrate, with_call}
+use Rattle.rcu_live.specs.Engine.{Locked}
+use Rattle.rcu_live.specs.View.{after_find}
+use Rattle.rcu_live.specs.Words.{place}
+
+module _ {X : Type 0} where
+  -- the processor is online: it arrived, where no begin had found it
+  abbrev pub joined : Grace X → ℕ → Grace X
+  joined g cpu = if is_in g.processors.online cpu then g else with_call g (Arrive cpu)
+
+  -- the processor is offline: it departed, where no begin had found it gone
+  abbrev pub departed : Grace X → ℕ → Grace X
+  departed g cpu = if is_in g.processors.online cpu then with_call g (Depart cpu) else g
+
+module _ {C X : Type 0} where
+  -- with the state of grace periods and callbacks changed
+  abbrev pub on_grace : (Grace X → Grace X) → Locked C X → Locked C X
+  on_grace change e = record e { grace = change e.grace }
+
+  -- after one load of the processor's own word, which found this word
+  abbrev pub after_look : Locked C X → ℕ → ℕ → Locked C X
+  after_look e cpu word = record e { view = after_find e.view (place cpu) word }
+
+  -- why a leave is refused that found this word: the processor is online; or it was offline already, and its list is empty
+  abbrev pub leave_refusal : Locked C X → ℕ → Bool → ℕ → Option Fault
+  leave_refusal e cpu again word =
+      first_fault ((nat_lt 0 word, fault.AlreadyOnline) ∷ (again && is_empty (list_of e.grace.lists cpu), fault.Offline) ∷ [])
+
+  -- after a leave whose migration was refused memory: the processor departed, and its list stays
+  abbrev pub after_departure : Locked C X → ℕ → ℕ → Locked C X
+  after_departure e cpu word = on_grace (λ g. departed g cpu) (after_look e cpu word)
+
+  -- after a leave: the processor departed, and its list moved to processor 0
+  abbrev pub after_leave : Locked C X → ℕ → ℕ → Locked C X
+  after_leave e cpu word = on_grace (λ g. after_migrate (departed g cpu) cpu) (after_look e cpu word)
+
+  -- why a callback is not queued: the processor is not online in the engine, there are too many, or memory was refused
+  abbrev pub queue_refusal : Locked C X → ℕ → Fault
+  queue_refusal e cpu = if is_in e.grace.processors.online cpu then queue_fault e.grace.lists else fault.Offline
+
+-- the faults that a departure may meet under the lock
+abbrev pub is_leave_fault : Fault → Bool
+is_leave_fault fault.AlreadyOnline = true
+is_leave_fault fault.Offline = true
+is_leave_fault fault.NoMemory = true
+is_leave_fault _ = false
+
+-- the faults that a queueing may meet under the lock
+abbrev pub is_queue_fault : Fault → Bool
+is_queue_fault fault.Offline = true
+is_queue_fault fault.CallbacksFull = true
+is_queue_fault fault.NoMemory = true
+is_queue_fault _ = false
+
+-- the faults of a run, and of a visit
+abbrev pub is_run_fault : Fault → Bool
+is_run_fault fault.BadCpu = true
+is_run_fault fault.NoMemory = true
+is_run_fault _ = false
+
+abbrev pub is_visit_fault : Fault → Bool
+is_visit_fault fault.BadCpu = true
+is_visit_fault fault.NoBarrier = true
+is_visit_fault fault.NoMemory = true
+is_visit_fault _ = false

@@ -1,0 +1,58 @@
+//! The processors of an engine that come and go.
+ghost use Rattle.std.specs.Prelude.{◌≡◌, ◌≢◌, ◌<◌, IfErr, IfOk, None, OnOk, Some, false, length};
+ghost use Rattle.rcu_cblist.specs.SegList.{callbacks, is_empty};
+ghost use Rattle.rcu_barrier.specs.Lists.{list_of};
+ghost use Rattle.rcu_live.specs.Engine.{latest_found};
+ghost use Rattle.rcu_live.specs.EngineLists.{after_departure, after_leave, after_look, joined};
+ghost use Rattle.rcu_live.specs.EngineLists.{leave_refusal, on_grace};
+
+use crate::client::Client;
+use crate::engine::Engine;
+use rcu_node::awaited::Awaited;
+use rcu_seq::fault::Fault;
+
+impl<A: Awaited, T: Drop, S: Drop, C, P: Client<S, C>> Engine<A, T, S, C, P> {
+    /// The processor is online here too, where no begin has found it. It is awaited from the next
+    /// begin on.
+    pub fn join(&mut self, cpu: u32)
+        requires { cpu < self.old.cpus }
+        ensures { self.new ≡ on_grace (λ g. joined g cpu) self.old }
+    {
+        let _ = self.gp.arrive(cpu);
+    }
+
+    /// The processor is offline here too: loads its own word, and where that is 0 the processor
+    /// departs, unless a begin has found it gone, and its list moves to processor 0's. Answers how
+    /// many callbacks moved. `again` tells that it was offline before.
+    ///
+    /// Faults: 3 where its word is not 0; 2 where it was offline before and its list is empty; 16,
+    /// only where its list is not empty: then it has departed, and its list stays.
+    pub fn leave(&mut self, cpu: u32, again: bool) -> Result<u64, Fault>
+        requires { cpu < self.old.cpus }
+        ensures moved { IfOk result (λ moved.
+            moved ≡ length (callbacks (list_of self.old.grace.lists cpu))) }
+        ensures accepted { OnOk result
+            (leave_refusal self.old cpu again (latest_found self.new.view.finds) ≡ None) }
+        ensures state { OnOk result
+            (self.new ≡ after_leave self.old cpu (latest_found self.new.view.finds)) }
+        ensures refused { IfErr result (λ fault. fault ≢ Fault.NoMemory →
+            leave_refusal self.old cpu again (latest_found self.new.view.finds) ≡ Some fault) }
+        ensures looked { IfErr result (λ fault. fault ≢ Fault.NoMemory →
+            self.new ≡ after_look self.old cpu (latest_found self.new.view.finds)) }
+        ensures memory { IfErr result (λ fault. fault ≡ Fault.NoMemory →
+            leave_refusal self.old cpu again (latest_found self.new.view.finds) ≡ None) }
+        ensures some { IfErr result (λ fault. fault ≡ Fault.NoMemory →
+            is_empty (list_of self.old.grace.lists cpu) ≡ false) }
+        ensures departed { IfErr result (λ fault. fault ≡ Fault.NoMemory →
+            self.new ≡ after_departure self.old cpu (latest_found self.new.view.finds)) }
+    {
+        if self.board.load_own(&mut self.seat, cpu) != 0 {
+            return Err(Fault::AlreadyOnline);
+        }
+        if again && self.gp.is_list_empty(cpu) {
+            return Err(Fault::Offline);
+        }
+        let _ = self.gp.depart(cpu);
+        self.gp.migrate(cpu)
+    }
+}

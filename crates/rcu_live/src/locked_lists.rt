@@ -1,0 +1,98 @@
+//! The calls that take the lock of an object for its callbacks.
+ghost use Rattle.std.specs.Prelude.{◌≡◌, ◌≤◌, All, IfErr, IfOk, true};
+ghost use Rattle.rcu_seq.specs.Numbers.{snapshot};
+ghost use Rattle.rcu_live.specs.EngineLists.{is_queue_fault, is_run_fault, is_visit_fault};
+
+use crate::client::Client;
+use crate::cpu_seat::CpuSeat;
+use crate::live::Live;
+use crate::ran::Ran;
+use rcu_barrier::barrier_state::BarrierState;
+use rcu_barrier::visit::Visit;
+use rcu_cblist::refused::Refused;
+use rcu_seq::fault::Fault;
+use std::sync::Wait;
+
+impl<const LEAF: u32, const FAN: u32, T: Drop, S: Drop, C, P: Client<S, C>> Live<
+    LEAF,
+    FAN,
+    T,
+    S,
+    C,
+    P,
+> {
+    /// Queues a callback on the processor, as [`Engine::queue`](crate::engine::Engine). Over the
+    /// object's life at most 1,000,000 are queued.
+    ///
+    /// Faults, which hand the value back: 2 where the processor is not online under the lock; 15;
+    /// 16.
+    pub fn queue(
+        &self,
+        rt: &impl Wait,
+        seat: &mut CpuSeat<S, C>,
+        value: T,
+    ) -> Result<u64, Refused<T>>
+        requires { seat.old.table ≡ self.now.table }
+        ensures seat { seat.new ≡ seat.old }
+        ensures fault { IfErr result (λ refused. is_queue_fault refused.fault ≡ true) }
+        ensures value { IfErr result (λ refused. refused.value ≡ value) }
+    {
+        let cpu = seat.cpu();
+        let mut engine = self.engine.lock(rt);
+        // A seat's processor is one of the engine's, which no clause can say across the lock.
+        if cpu < engine.cpus() {
+            return engine.queue(cpu, value);
+        }
+        Err(Refused {
+            fault: Fault::Offline,
+            value,
+        })
+    }
+
+    /// Brings the marks of a processor's callbacks up to the number, as
+    /// [`Engine::tend`](crate::engine::Engine).
+    ///
+    /// Fault 1: there is no such processor.
+    pub fn tend(&self, rt: &impl Wait, cpu: u32) -> Result<(u64, u64), Fault>
+        ensures { IfErr result (λ fault. fault ≡ Fault.BadCpu) }
+    {
+        self.engine.lock(rt).tend(cpu)
+    }
+
+    /// Hands out done callbacks of a processor, at most so many, as
+    /// [`Engine::run`](crate::engine::Engine): only such that a full grace period has passed since
+    /// their queueing.
+    ///
+    /// Faults: 1; 16.
+    pub fn run(&self, rt: &impl Wait, cpu: u32, max: u64) -> Result<Ran<T>, Fault>
+        ensures waited { IfOk result (λ ran.
+            All (λ call. snapshot call.at ≤ ran.number) ran.calls.items) }
+        ensures fault { IfErr result (λ fault. is_run_fault fault ≡ true) }
+    {
+        self.engine.lock(rt).run(cpu, max)
+    }
+
+    /// Begins a barrier, as [`Engine::barrier_begin`](crate::engine::Engine). Fault 13: one runs.
+    pub fn barrier_begin(&self, rt: &impl Wait) -> Result<(), Fault>
+        ensures { IfErr result (λ fault. fault ≡ Fault.BarrierBusy) }
+    {
+        self.engine.lock(rt).barrier_begin()
+    }
+
+    /// The barrier visits a processor, as [`Engine::visit`](crate::engine::Engine).
+    ///
+    /// Faults: 1; 14 where no barrier runs; 16.
+    pub fn visit(&self, rt: &impl Wait, cpu: u32) -> Result<Visit, Fault>
+        ensures { IfErr result (λ fault. is_visit_fault fault ≡ true) }
+    {
+        self.engine.lock(rt).visit(cpu)
+    }
+
+    /// Whether the barrier is over, as [`Engine::barrier_test`](crate::engine::Engine). Fault 14:
+    /// none runs.
+    pub fn barrier_test(&self, rt: &impl Wait) -> Result<BarrierState, Fault>
+        ensures { IfErr result (λ fault. fault ≡ Fault.NoBarrier) }
+    {
+        self.engine.lock(rt).barrier_test()
+    }
+}
