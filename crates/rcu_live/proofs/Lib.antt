@@ -8,6 +8,7 @@ pub mod Hearing
 pub mod Loads
 pub mod Meetings
 pub mod Numbers
+pub mod OldSections
 pub mod Openings
 pub mod Stores
 pub mod Turns

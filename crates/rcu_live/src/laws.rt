@@ -1,8 +1,21 @@
-//! What meetings say of cookies, over the definitions alone.
-ghost use Rattle.std.specs.Prelude.{◌≡◌, ◌≤◌, ℕ, false};
+//! What meetings say of cookies, and the rule of sections, over the definitions alone.
+ghost use Rattle.std.specs.Prelude.{◌≡◌, ◌<◌, ◌≤◌, ℕ, Some, true, false};
+ghost use mathlib.Core.Option.{some};
+ghost use lib.ListN.{get_elem?};
+ghost use Rattle.atomic_table.specs.Table.{State};
 ghost use Rattle.rcu_seq.specs.Numbers.{is_done_at, snapshot};
+ghost use Rattle.rcu_seq.specs.Seq.{number_of};
+ghost use Rattle.rcu_node.specs.CpuSet.{is_in};
+ghost use Rattle.rcu_core.specs.GpState.{Grace};
+ghost use Rattle.rcu_live.specs.Engine.{AwaitsTheOthers};
 ghost use Rattle.rcu_live.specs.Met.{MeetsSection};
+ghost use Rattle.rcu_live.specs.Rule.{IsKept};
+ghost use Rattle.rcu_live.specs.View.{IsOfEngine};
 ghost use Rattle.rcu_live.specs.declared.met.Met.{Met};
+ghost use Rattle.rcu_live.specs.declared.view.Role.TheVariants.{Cpu};
+ghost use Rattle.rcu_live.specs.declared.view.View.{View};
+
+use crate::client::Client;
 
 /// A watcher meets an open section, and takes a cookie. While it meets the same section again, the
 /// cookie is not done at any number that it saw up to then.
@@ -17,4 +30,16 @@ pub fn cookies_wait_for_the_section_met()
 pub fn done_cookies_are_older_than_the_section_met()
     ensures { (met : Met) (at taken polled : ℕ) → MeetsSection met at → at ≤ taken →
         polled ≤ met.seen → is_done_at (snapshot taken) polled ≡ false }
+{}
+
+/// The rule holds of the words and all views, and the engine, whose seat has one of these, awaits
+/// every processor that is not cleared. Then, while a grace period runs, it awaits the processor of
+/// each section that is open and began before that.
+pub fn old_sections_are_awaited<T: Drop, S: Drop, C, P: Client<S, C>>()
+    ensures { (cpus : ℕ) (s : State S (View C)) (i j : ℕ) (engine seat : View C) (g : Grace T)
+        (at : ℕ) → IsKept P.holds cpus s → get_elem? s.views i ≡ some engine →
+        IsOfEngine engine → engine.seen ≡ number_of g.seq →
+        AwaitsTheOthers cpus engine.finds g → g.seq.running ≡ true →
+        get_elem? s.views j ≡ some seat → seat.role ≡ Cpu → seat.section ≡ Some at →
+        at < engine.seen → is_in g.processors.awaited seat.cpu ≡ true }
 {}
