@@ -1,0 +1,39 @@
+"""The toolchain's command as a module, for the tools of this folder."""
+import importlib.machinery
+import importlib.util
+import os
+import subprocess
+import sys
+
+sys.dont_write_bytecode = True
+TOOLS = os.path.dirname(os.path.realpath(__file__))
+ROOT = os.path.dirname(TOOLS)
+
+
+def kit():
+    """The folder of the toolchain."""
+    page = subprocess.run(["rt", "doc"], stdout=subprocess.PIPE, text=True, check=True).stdout
+    return os.path.dirname(page)
+
+
+KIT = kit()
+
+
+def command():
+    """`rt`: it knows the crates, reads edits, and checks copies as for must-fail/."""
+    loader = importlib.machinery.SourceFileLoader("rt", f"{KIT}/bin/rt")
+    module = importlib.util.module_from_spec(importlib.util.spec_from_loader("rt", loader))
+    loader.exec_module(module)
+    return module
+
+
+rt = command()
+rtlib = rt.rtlib
+
+
+def is_newer(made, crate):
+    """Whether the file is there, and is no older than the files of the crate and those below."""
+    if not os.path.isfile(made):
+        return False
+    files = [file for it in [crate, *crate.below()] for file in rtlib.files_of(it.folder)]
+    return all(os.path.getmtime(it) < os.path.getmtime(made) for it in files)
