@@ -9,7 +9,7 @@ use Rattle.std.proofs.lemmas.List.Sums.{get_or-le-sum_by, sum_by-cons}
 use Rattle.rcu_seq.specs.declared.fault.Fault.TheVariants as fault
 use Rattle.rcu_cblist.specs.SegList.{Item, Of, Marker, Mark, Unmarked, Until, Done, behind, after_entrain, from_callback, front, is_marker, markers, after_migrate, remarked, take_answer, without_mark, after_take, as_it_leaves}
 use Rattle.rcu_barrier.specs.Tending.{mark_after_tend, after_tend}
-use Rattle.rcu_core.specs.Callbacks.{barrier_runs, is_owed, list, queued, queued_before_barrier, times_handed_out, was_visited}
+use Rattle.rcu_core.specs.Callbacks.{barrier_runs, is_owed, list, queue_count, queued_before_barrier, times_handed_out, was_visited}
 use Rattle.rcu_core.specs.History.{History, number}
 use Rattle.rcu_core.specs.Replies.{Size, fault_in, how_many, or_fault, waits_for, AreAccepted, IsLegalReply}
 use Rattle.rcu_core.specs.Situation.{situation}
@@ -112,10 +112,10 @@ or_rest false b e v = v
 -- while a barrier runs, the list of each processor that it visited is covered
 record Barrier (h : History) : Type 0 where
   pub covered : barrier_runs h ≡ true → (c : ℕ) → was_visited c h ≡ true → Covered (queued_before_barrier h) (list c h)
-  pub before_le : queued_before_barrier h ≤ queued h
+  pub before_le : queued_before_barrier h ≤ queue_count h
 
 abbrev new_item : ℕ → History → Item ℕ
-new_item y h = Of (record { ord = queued h + 1; at = number h; value = y }) Unmarked
+new_item y h = Of (record { ord = queue_count h + 1; at = number h; value = y }) Unmarked
 
 barrier_step : (s : Size) (e : Event) (h : History) → fault_in s (situation h) e ≡ None → Barrier h → Barrier (e ∷ h)
 barrier_step s BarBegin h p f = record { covered = λ r c v. absurd (cc); before_le = omega arith }

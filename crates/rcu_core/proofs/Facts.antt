@@ -3,7 +3,7 @@ use Rattle.std.proofs.Common.{◌≡◌, ℕ, zero, suc, ◌-◌, ◌<◌, ◌�
 use Rattle.std.proofs.lemmas.Bool.Decides.{nat_tests}
 use Rattle.rcu_seq.specs.Numbers.{snapshot}
 use Rattle.rcu_report.specs.declared.report.Report.{Report}
-use Rattle.rcu_core.specs.History.{History, begins, running, number, online, noted, entered, exited, depth, opening, reports_made, report_at, is_of, is_heard}
+use Rattle.rcu_core.specs.History.{History, begins, running, number, online, noted, enter_count, exit_count, depth, opening, reports_made, report_at, is_of, is_heard}
 use Rattle.rcu_seq.specs.Histories.{latest}
 use Rattle.rcu_core.specs.Replies.{Size, fault_in, AreAccepted}
 use Rattle.rcu_core.specs.Situation.{situation}
@@ -42,7 +42,7 @@ noted_step s c _ h p t g = g
 -- online at the begin and was not heard since
 pub record Facts (s : Size) (c : ℕ) (h : History) : Type 0 where
   pub in_range : 0 < depth c h → c < s.cpus
-  pub exits_le : exited c h ≤ entered c h
+  pub exits_le : exit_count c h ≤ enter_count c h
   pub at_open : 0 < depth c h → online c h ≡ true
   pub noted_le : noted c h ≤ number h
   pub opening_le : number (opening c h) ≤ number h

@@ -14,7 +14,7 @@ use Rattle.rcu_cblist.specs.SegList.{Item, numbers}
 use Rattle.rcu_barrier.specs.Lists.{barrier_left}
 use Rattle.rcu_core.specs.Callbacks.{barrier_runs, greatest_from}
 use Rattle.rcu_core.specs.GpState.{after_begin, after_end, at_first, awaited_in, periods_of}
-use Rattle.rcu_core.specs.History.{History, online, noted, depth, entered, exited, report_at}
+use Rattle.rcu_core.specs.History.{History, online, noted, depth, enter_count, exit_count, report_at}
 use Rattle.rcu_core.specs.Replies.{Size, AreAccepted, IsLegalReply, accepted_reply, barrier_test_reply, fault_in, or_fault}
 use Rattle.rcu_core.specs.Replies.{waits_for, with_event}
 use Rattle.rcu_core.specs.Runs.{Leads, RunsLegally}
@@ -74,12 +74,12 @@ follows_test v h s x p =
 deeper : (s : Size) (c : ℕ) (h : History) → AreAccepted s h → depth c h + 1 ≡ depth c (Enter c ∷ h)
 deeper s c h p =
     let le = exits_le s c h p in
-    let n : entered c (Enter c ∷ h) ≡ 1 + entered c h = enter_counts c c h ∙ ap (λ b. cond b 1 0 + entered c h) (eqb_self c) in
+    let n : enter_count c (Enter c ∷ h) ≡ 1 + enter_count c h = enter_counts c c h ∙ ap (λ b. cond b 1 0 + enter_count c h) (eqb_self c) in
     omega (arith, le, n)
 
 shallower : (c : ℕ) (h : History) → depth c h - 1 ≡ depth c (Exit c ∷ h)
 shallower c h =
-    let n : exited c (Exit c ∷ h) ≡ 1 + exited c h = exit_counts c c h ∙ ap (λ b. cond b 1 0 + exited c h) (eqb_self c) in
+    let n : exit_count c (Exit c ∷ h) ≡ 1 + exit_count c h = exit_counts c c h ∙ ap (λ b. cond b 1 0 + exit_count c h) (eqb_self c) in
     omega (arith, n)
 
 -- with its sections nested so deep

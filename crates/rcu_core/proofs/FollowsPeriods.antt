@@ -13,7 +13,7 @@ use Rattle.rcu_seq.specs.Seq.{number_of}
 use Rattle.rcu_core.specs.GpState.{Grace, after_begin, after_end, awaited_in, periods_of}
 use Rattle.rcu_core.specs.History.{History, begins, running, number, online, reports_made, report_at, is_of, is_heard, awaits}
 use Rattle.rcu_seq.specs.Histories.{latest}
-use Rattle.rcu_core.specs.Replies.{fault_in, accepted_reply, turn_reply, begin_reply as begun_said, end_reply as ended_said, how_many, recorded, with_event}
+use Rattle.rcu_core.specs.Replies.{fault_in, accepted_reply, turn_reply, begin_reply as begun_said, end_reply as ended_said, how_many, history_event, with_event}
 use Rattle.rcu_core.specs.Situation.{Situation, situation, wants_begin}
 use Rattle.rcu_core.specs.Core.{State, IsSound, Represents, size_at, says, awaited_by, after_event, after_reply}
 use Rattle.rcu_core.specs.declared.event.Event.TheVariants.{Begin, Deliver, End, Offline, Turn}
@@ -126,18 +126,18 @@ unturned v h x p = record { accepted = (p, x.accepted); periods = x.periods; cpu
 turn_kept : (v : State ℕ) (h : History) (a b d : Bool) (n m : ℕ) → IsSound v → Represents v h → v.grace.seq.running ≡ a → (awaited_in v.grace == 0) ≡ b → wants_begin (periods_of v.grace) ≡ d
     → fault_in (size_at v) (says v) Turn ≡ None
     → Represents (record v { grace = cond a (cond b (after_end v.grace) v.grace) (cond d (after_begin v.grace) v.grace) })
-    (recorded Turn (cond a (cond b (ended_said (says v)) (reply.Waiting n)) (cond d (reply.Begun (number_at v.grace.seq.ends true) m) reply.Nothing)) ∷ h)
+    (history_event Turn (cond a (cond b (ended_said (says v)) (reply.Waiting n)) (cond d (reply.Begun (number_at v.grace.seq.ends true) m) reply.Nothing)) ∷ h)
 turn_kept v h true true d n m s x i j k p = follows_end v h x (subst (λ (u : Situation). fault_in (size_at v) u End ≡ None) (same v h x) (let size = awaited_size v in grind (arith, nat_tests)))
 turn_kept v h true false d n m s x i j k p = unturned v h x (subst (λ (u : Situation). fault_in (size_at v) u Turn ≡ None) (same v h x) p)
 turn_kept v h false b true n m s x i j k p = follows_begin v h s x (subst (λ (u : Situation). fault_in (size_at v) u Begin ≡ None) (same v h x) (grind (arith, nat_tests)))
 turn_kept v h false b false n m s x i j k p = unturned v h x (subst (λ (u : Situation). fault_in (size_at v) u Turn ≡ None) (same v h x) p)
 
-turned_so : (v : State ℕ) (h : History) → IsSound v → Represents v h → fault_in (size_at v) (situation h) Turn ≡ None → Represents (after_event v Turn) (recorded Turn (accepted_reply (size_at v) (situation h) Turn) ∷ h)
+turned_so : (v : State ℕ) (h : History) → IsSound v → Represents v h → fault_in (size_at v) (situation h) Turn ≡ None → Represents (after_event v Turn) (history_event Turn (accepted_reply (size_at v) (situation h) Turn) ∷ h)
 turned_so v h s x p =
     let q = subst (λ (u : Situation). fault_in (size_at v) u Turn ≡ None) (sym (same v h x)) p in
     let g = v.grace in
-    subst (λ (u : Situation). Represents (after_event v Turn) (recorded Turn (turn_reply (size_at v) u) ∷ h)) (same v h x)
-    (subst (λ (n : ℕ). Represents (after_event v Turn) (recorded Turn (cond g.seq.running (cond (n == 0) (ended_said (says v)) (reply.Waiting n)) (cond (wants_begin (periods_of g)) (begun_said (size_at v) (says v)) reply.Nothing)) ∷ h))
+    subst (λ (u : Situation). Represents (after_event v Turn) (history_event Turn (turn_reply (size_at v) u) ∷ h)) (same v h x)
+    (subst (λ (n : ℕ). Represents (after_event v Turn) (history_event Turn (cond g.seq.running (cond (n == 0) (ended_said (says v)) (reply.Waiting n)) (cond (wants_begin (periods_of g)) (begun_said (size_at v) (says v)) reply.Nothing)) ∷ h))
     (sym (awaited_size v))
     (turn_kept v h g.seq.running (awaited_in g == 0) (wants_begin (periods_of g)) (awaited_in g) (how_many (size_at v) (is_in g.processors.online)) s x refl refl refl q))
 

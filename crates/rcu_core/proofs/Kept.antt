@@ -2,9 +2,9 @@
 use Rattle.std.proofs.Common.{◌≡◌, ℕ, ◌+◌, ◌<◌, ◌≤◌, Bool, false, cond, eqb, [], ◌∷◌, None, subst, arith}
 use Rattle.std.proofs.lemmas.Bool.Decides.{nat_tests}
 use Rattle.std.proofs.lemmas.List.Sums.{sum_by-cons}
-use Rattle.rcu_core.specs.History.{History, begins, ends, enters, exits, entered, exited, depth, awaits}
+use Rattle.rcu_core.specs.History.{History, begins, ends, enters, exits, enter_count, exit_count, depth, awaits}
 use Rattle.std.specs.Prelude.{count_by}
-use Rattle.rcu_core.specs.Callbacks.{queued, queues}
+use Rattle.rcu_core.specs.Callbacks.{queue_count, queues}
 use Rattle.rcu_core.specs.Replies.{Size, fault_in, AreAccepted}
 use Rattle.rcu_core.specs.Situation.{situation}
 use Rattle.rcu_core.specs.declared.event.Event.{Event}
@@ -22,13 +22,13 @@ begin_counts h = counted begins Begin h
 pub end_counts : (h : History) → count_by ends (End ∷ h) ≡ 1 + count_by ends h
 end_counts h = counted ends End h
 
-pub enter_counts : (c d : ℕ) (h : History) → entered c (Enter d ∷ h) ≡ cond (eqb d c) 1 0 + entered c h
+pub enter_counts : (c d : ℕ) (h : History) → enter_count c (Enter d ∷ h) ≡ cond (eqb d c) 1 0 + enter_count c h
 enter_counts c d h = counted (enters c) (Enter d) h
 
-pub exit_counts : (c d : ℕ) (h : History) → exited c (Exit d ∷ h) ≡ cond (eqb d c) 1 0 + exited c h
+pub exit_counts : (c d : ℕ) (h : History) → exit_count c (Exit d ∷ h) ≡ cond (eqb d c) 1 0 + exit_count c h
 exit_counts c d h = counted (exits c) (Exit d) h
 
-pub queue_counts : (c value : ℕ) (h : History) → queued (Queue c value ∷ h) ≡ 1 + queued h
+pub queue_counts : (c value : ℕ) (h : History) → queue_count (Queue c value ∷ h) ≡ 1 + queue_count h
 queue_counts c value h = counted queues (Queue c value) h
 
 -- grace periods begin and end in turn
@@ -61,11 +61,11 @@ pub quiet_where_departed : (s : Size) (c d : ℕ) (h : History) → fault_in s (
 quiet_where_departed s c d h p e = subst (λ k. depth k h ≡ 0) e (grind (arith, nat_tests))
 
 -- a processor exits at most as often as it entered
-pub exits_step : (s : Size) (c : ℕ) (e : Event) (h : History) → fault_in s (situation h) e ≡ None → exited c h ≤ entered c h → exited c (e ∷ h) ≤ entered c (e ∷ h)
+pub exits_step : (s : Size) (c : ℕ) (e : Event) (h : History) → fault_in s (situation h) e ≡ None → exit_count c h ≤ enter_count c h → exit_count c (e ∷ h) ≤ enter_count c (e ∷ h)
 exits_step s c (Enter d) h p le = let n = enter_counts c d h in grind (arith, nat_tests)
 exits_step s c (Exit d) h p le = let n = exit_counts c d h in let q = is_inside s c d h p in grind (arith, nat_tests)
 exits_step s c _ h p le = omega arith
 
-pub exits_le : (s : Size) (c : ℕ) (h : History) → AreAccepted s h → exited c h ≤ entered c h
+pub exits_le : (s : Size) (c : ℕ) (h : History) → AreAccepted s h → exit_count c h ≤ enter_count c h
 exits_le s c [] p = omega arith
 exits_le s c (e ∷ h) p = exits_step s c e h p.0 (exits_le s c h p.1)

@@ -6,7 +6,7 @@ use Rattle.std.specs.List.{range_with_len}
 use Rattle.std.proofs.lemmas.List.Sums.{sum_by-cons, sum_by_push}
 use Rattle.rcu_cblist.specs.declared.queued.Queued.{Queued}
 use Rattle.rcu_cblist.specs.SegList.{Item, Of, Marker, callbacks}
-use Rattle.rcu_core.specs.Callbacks.{copies, list, queued, times_handed_out}
+use Rattle.rcu_core.specs.Callbacks.{copies, list, queue_count, times_handed_out}
 use Rattle.rcu_core.specs.History.{History}
 use Rattle.rcu_core.specs.Links.{times_listed}
 use Rattle.rcu_core.specs.Replies.{Size}
@@ -34,7 +34,7 @@ listed_are : (n j : ℕ) (h : History) → times_listed n j h ≡ lies_below n j
 listed_are n j h =
     sums_are n (λ c. copies j (callbacks (list c h))) (λ c. lies j (list c h)) (λ c. copies_are j (list c h))
 
-pub no_loss : (s : Size) (run : Trace) (j : ℕ) → IsLegalRun s run → 0 < j → j ≤ queued (history run)
+pub no_loss : (s : Size) (run : Trace) (j : ℕ) → IsLegalRun s run → 0 < j → j ≤ queue_count (history run)
     → times_handed_out j (history run) + times_listed s.cpus j (history run) ≡ 1
 no_loss s run j l z b =
     ap (λ n. times_handed_out j (history run) + n) (listed_are s.cpus j (history run)) ∙ queued_once s j (history run)

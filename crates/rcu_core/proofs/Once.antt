@@ -6,7 +6,7 @@ use Rattle.std.proofs.lemmas.List.Sums.{sum_by-cons}
 use Rattle.rcu_cblist.specs.declared.queued.Queued.{Queued}
 use Rattle.rcu_cblist.specs.SegList.{Item, Of, Marker, Mark, Unmarked, Until, Done, behind, front, after_migrate, remarked, take_answer, without_mark, after_take, as_it_leaves}
 use Rattle.rcu_barrier.specs.Tending.{mark_after_tend, after_tend}
-use Rattle.rcu_core.specs.Callbacks.{copies, is_owed, list, queued, times_handed_out}
+use Rattle.rcu_core.specs.Callbacks.{copies, is_owed, list, queue_count, times_handed_out}
 use Rattle.rcu_core.specs.History.{History, number}
 use Rattle.rcu_core.specs.Replies.{Size, fault_in, AreAccepted}
 use Rattle.rcu_core.specs.Situation.{situation}
@@ -93,8 +93,8 @@ total n j h = times_handed_out j h + lies_below n j h
 
 record Once (s : Size) (j : ℕ) (h : History) : Type 0 where
   pub once : total s.cpus j h ≤ 1
-  pub there : 0 < j → j ≤ queued h → total s.cpus j h ≡ 1
-  pub later : queued h < j → total s.cpus j h ≡ 0
+  pub there : 0 < j → j ≤ queue_count h → total s.cpus j h ≡ 1
+  pub later : queue_count h < j → total s.cpus j h ≡ 0
 
 cond_same : {X : Type 0} (d : ℕ) (x y : X) → cond (eqb d d) x y ≡ x
 cond_same d x y = rw (eq-eqb d d refl) refl
@@ -112,7 +112,7 @@ one s j d h e xs l i o =
 queue_step : (s : Size) (j d y : ℕ) (h : History) → fault_in s (situation h) (Queue d y) ≡ None → Once s j h → Once s j (Queue d y ∷ h)
 unfolding total
 queue_step s j d y h p o =
-    let new : Item ℕ = Of (record { ord = queued h + 1; at = number h; value = y }) Unmarked in
+    let new : Item ℕ = Of (record { ord = queue_count h + 1; at = number h; value = y }) Unmarked in
     let l : d < s.cpus = grind (arith, nat_tests) in
     let k = one s j d h (Queue d y) (list d h ++ new ∷ []) l (cond_same d (list d h ++ new ∷ []) (list d h)) (λ c n. cond_other c d (list c h ++ new ∷ []) (list c h) n) in
     let a = lies-append j (list d h) (new ∷ []) in
@@ -172,7 +172,7 @@ offline_step s j d h p =
     let r = lies-leaving j (is_owed d h) (list d h) in
     omega (arith, k, m, a, b, e, q, r)
 
-same_once : (s : Size) (j : ℕ) (h : History) (e : Event) → total s.cpus j (e ∷ h) ≡ total s.cpus j h → queued (e ∷ h) ≡ queued h → Once s j h → Once s j (e ∷ h)
+same_once : (s : Size) (j : ℕ) (h : History) (e : Event) → total s.cpus j (e ∷ h) ≡ total s.cpus j h → queue_count (e ∷ h) ≡ queue_count h → Once s j h → Once s j (e ∷ h)
 same_once s j h e i q o = record { once = rw i o.once; there = λ z b. i ∙ o.there z (rw q at b); later = λ l. i ∙ o.later (rw q at l) }
 
 once_step : (s : Size) (j : ℕ) (e : Event) (h : History) → fault_in s (situation h) e ≡ None → Once s j h → Once s j (e ∷ h)
@@ -197,11 +197,11 @@ pub no_second_run : (s : Size) (run : Trace) (j : ℕ) → IsLegalRun s run → 
 no_second_run s run j l = at_most_once s j (history run) (possible s run l)
 
 -- one that was queued and is in no list was handed out
-pub then_once : (s : Size) (j : ℕ) (h : History) → AreAccepted s h → 0 < j → j ≤ queued h → lies_below s.cpus j h ≡ 0 → times_handed_out j h ≡ 1
+pub then_once : (s : Size) (j : ℕ) (h : History) → AreAccepted s h → 0 < j → j ≤ queue_count h → lies_below s.cpus j h ≡ 0 → times_handed_out j h ≡ 1
 unfolding total
 then_once s j h p z b e = let o = (once_each s j h p).there z b in omega (arith, o, e)
 
 -- one that was queued was handed out or lies in a list, once
-pub queued_once : (s : Size) (j : ℕ) (h : History) → AreAccepted s h → 0 < j → j ≤ queued h → times_handed_out j h + lies_below s.cpus j h ≡ 1
+pub queued_once : (s : Size) (j : ℕ) (h : History) → AreAccepted s h → 0 < j → j ≤ queue_count h → times_handed_out j h + lies_below s.cpus j h ≡ 1
 unfolding total
 queued_once s j h p z b = (once_each s j h p).there z b

@@ -13,7 +13,7 @@ use Rattle.rcu_cblist.specs.SegList.{Item, Of, Marker, Mark, Unmarked, callbacks
 use Rattle.rcu_cblist.specs.SegList.{take_answer, after_take}
 use Rattle.rcu_cblist.specs.SegList.{as_it_leaves}
 use Rattle.rcu_barrier.specs.Tending.{mark_after_tend, after_tend}
-use Rattle.rcu_core.specs.Callbacks.{handed_out, is_owed, list, queued}
+use Rattle.rcu_core.specs.Callbacks.{handed_out, is_owed, list, queue_count}
 use Rattle.rcu_core.specs.History.{History, depth, enters, number, opening, section}
 use Rattle.rcu_core.specs.Links.{queued_as}
 use Rattle.rcu_core.specs.Replies.{Size, AreAccepted}
@@ -30,7 +30,7 @@ use Rattle.rcu_core.proofs.Writes.{eqb_self}
 
 -- the callback was queued, and is what it was then
 record AsQueued (h : History) (call : Queued ℕ) : Type 0 where
-  pub was : call.ord ≤ queued h
+  pub was : call.ord ≤ queue_count h
   pub found : queued_as call.ord h ≡ Some call
 
 -- the same of an item
@@ -41,7 +41,7 @@ IsAsQueued h Marker = Unit {0}
 call_stays : (e : Event) (h : History) (call : Queued ℕ) → AsQueued h call → AsQueued (e ∷ h) call
 call_stays (Queue c y) h call k =
     let n = queue_counts c y h in let w = k.was in
-    let other = ne_eqb (queued h + 1) call.ord (λ i. absurd (omega (arith, i, w))) in
+    let other = ne_eqb (queue_count h + 1) call.ord (λ i. absurd (omega (arith, i, w))) in
     record { was = omega (arith, n, w); found = rw other k.found }
 call_stays _ h call k = record { was = k.was; found = k.found }
 
@@ -54,15 +54,15 @@ remarked_stays h f (Of call mark) k = k
 remarked_stays h f Marker k = tt
 
 queued_now : (c y : ℕ) (h : History)
-    → AsQueued (Queue c y ∷ h) (record { ord = queued h + 1; at = number h; value = y })
+    → AsQueued (Queue c y ∷ h) (record { ord = queue_count h + 1; at = number h; value = y })
 queued_now c y h =
-    let n = queue_counts c y h in record { was = omega (arith, n); found = rw (eqb_self (queued h + 1)) refl }
+    let n = queue_counts c y h in record { was = omega (arith, n); found = rw (eqb_self (queue_count h + 1)) refl }
 
 lists_step : (e : Event) (h : History) → ((c : ℕ) → All (IsAsQueued h) (list c h)) → (c : ℕ)
     → All (IsAsQueued (e ∷ h)) (list c (e ∷ h))
 lists_step (Queue d y) h a c =
     let P = IsAsQueued (Queue d y ∷ h) in let b = All-weaker (IsAsQueued h) P (stays (Queue d y) h) (list c h) (a c) in
-    each_cond P (eqb d c) (list c h ++ Of (record { ord = queued h + 1; at = number h; value = y }) Unmarked ∷ [])
+    each_cond P (eqb d c) (list c h ++ Of (record { ord = queue_count h + 1; at = number h; value = y }) Unmarked ∷ [])
     (list c h)
     (All-push P (list c h) _ b (queued_now d y h)) b
 lists_step (Tend d) h a c =
@@ -149,14 +149,14 @@ readers_are_later s run c m k reader call opened l e o =
     (waited_when_handed s (history run) c m k call p e)
     (open_from reader (history run) opened o)
 
-pick : (b : Bool) (x y : History) (j n : ℕ) → j ≤ queued x → (n < number y → j ≤ queued y) → n < number (cond b x y)
-    → j ≤ queued (cond b x y)
+pick : (b : Bool) (x y : History) (j n : ℕ) → j ≤ queue_count x → (n < number y → j ≤ queue_count y) → n < number (cond b x y)
+    → j ≤ queue_count (cond b x y)
 pick true x y j n p q l = p
 pick false x y j n p q l = q l
 
 -- a section that was opened at a later number than that of a queueing was opened after it
-queued_before : (s : Size) (c j : ℕ) (h : History) → AreAccepted s h → j ≤ queued h
-    → number_at_queueing j h < number (opening c h) → j ≤ queued (opening c h)
+queued_before : (s : Size) (c j : ℕ) (h : History) → AreAccepted s h → j ≤ queue_count h
+    → number_at_queueing j h < number (opening c h) → j ≤ queue_count (opening c h)
 queued_before s c j [] p q l = q
 queued_before s c j (Enter d ∷ h) p q l =
     pick (enters c (Enter d) && eqb (depth c h) 0) (Enter d ∷ h) (opening c h) j (number_at_queueing j h) q
@@ -165,12 +165,12 @@ queued_before s c j (Queue d y ∷ h) p q l =
     let n = queue_counts d y h in
     let f = (facts s c h p.1).opening_le in
     let at = λ (b : Bool). cond b (number h) (number_at_queueing j h) in
-    elim (cases_eq (queued h + 1) j) [
+    elim (cases_eq (queue_count h + 1) j) [
       | inl i ↦
           let u : number h < number (opening c h) = subst (λ b. at b < number (opening c h)) (same i) l in
           absurd (omega (arith, u, f))
       | inr i ↦
-          let before = subst (λ b. at b < number (opening c h)) (ne_eqb (queued h + 1) j i) l in
+          let before = subst (λ b. at b < number (opening c h)) (ne_eqb (queue_count h + 1) j i) l in
           queued_before s c j h p.1 (omega (arith, n, q, i)) before
     ]
   where
@@ -180,14 +180,14 @@ queued_before s c j (_ ∷ h) p q l = queued_before s c j h p.1 q l
 
 opened_after : (s : Size) (h x : History) (reader : ℕ) (call : Queued ℕ) → AreAccepted s h → AsQueued h call
     → Waited h call → Open reader h x → call.at < number x
-    → call.ord ≤ queued x
+    → call.ord ≤ queue_count x
 opened_after s h x reader call p a w o l =
-    subst (λ g. call.ord ≤ queued g) o.at (queued_before s reader call.ord h p a.was (rw (← w.at, o.at) l))
+    subst (λ g. call.ord ≤ queue_count g) o.at (queued_before s reader call.ord h p a.was (rw (← w.at, o.at) l))
 
 pub readers_are_after : (s : Size) (run : Trace) (c m k reader : ℕ) (call : Queued ℕ) (opened : History)
     → IsLegalRun s run
     → slice_get (handed_out c m (history run)) k ≡ Some call → section reader
-    (history run) ≡ Some opened → call.ord ≤ queued opened
+    (history run) ≡ Some opened → call.ord ≤ queue_count opened
 readers_are_after s run c m k reader call opened l e o =
     let p = possible s run l in
     opened_after s (history run) opened reader call p (handed_as_queued (history run) c m k call e)

@@ -6,7 +6,7 @@ use Rattle.std.proofs.lemmas.Bool.{ltb-true}
 use Rattle.rcu_seq.specs.Numbers.{is_done_at, number_at, snapshot}
 use Rattle.rcu_seq.specs.declared.fault.Fault.{Fault}
 use Rattle.rcu_core.specs.History.{History, depth, number, opening, section, is_old, awaits}
-use Rattle.rcu_core.specs.Replies.{Size, fault_in, how_many, accepted_reply, or_fault, waits_for, recorded, with_event, AreAccepted, IsLegalReply}
+use Rattle.rcu_core.specs.Replies.{Size, fault_in, how_many, accepted_reply, or_fault, waits_for, history_event, with_event, AreAccepted, IsLegalReply}
 use Rattle.rcu_core.specs.Situation.{Situation, situation, wants_begin}
 use Rattle.rcu_core.specs.Runs.{Run, IsLegalRun, history, takes}
 use Rattle.rcu_core.specs.declared.event.Event.{Event}
@@ -18,13 +18,13 @@ use Rattle.rcu_core.proofs.Recorded.{after_said, after_test, is_test}
 
 -- a turn that begins or ends does so where a begin or an end is accepted
 turn_accepted : (s : Size) (u : Situation) (a b d : Bool) (k l m n : ℕ) → u.periods.running ≡ a → (how_many s u.cpus.awaits == 0) ≡ b → wants_begin u.periods ≡ d → fault_in s u Turn ≡ None
-    → fault_in s u (recorded Turn (cond a (cond b (reply.Ended k) (reply.Waiting l)) (cond d (reply.Begun m n) reply.Nothing))) ≡ None
+    → fault_in s u (history_event Turn (cond a (cond b (reply.Ended k) (reply.Waiting l)) (cond d (reply.Begun m n) reply.Nothing))) ≡ None
 turn_accepted s u true true d k l m n e f g p = grind (arith, nat_tests)
 turn_accepted s u true false d k l m n e f g p = p
 turn_accepted s u false b true k l m n e f g p = grind (arith, nat_tests)
 turn_accepted s u false b false k l m n e f g p = p
 
-accepted_as : (s : Size) (u : Situation) (e : Event) → fault_in s u e ≡ None → fault_in s u (recorded e (accepted_reply s u e)) ≡ None
+accepted_as : (s : Size) (u : Situation) (e : Event) → fault_in s u e ≡ None → fault_in s u (history_event e (accepted_reply s u e)) ≡ None
 accepted_as s u Turn p = turn_accepted s u u.periods.running (how_many s u.cpus.awaits == 0) (wants_begin u.periods) (number_at (u.periods.ends + 1) false) (how_many s u.cpus.awaits) (number_at u.periods.ends true) (how_many s u.cpus.online) refl refl refl p
 accepted_as s u _ p = p
 

@@ -3,7 +3,7 @@ use Rattle.std.proofs.Common.{◌≡◌, ℕ, ◌+◌, Bool, true, false, cond, 
 use Rattle.std.specs.Prelude.{◌==◌}
 use Rattle.rcu_seq.specs.Numbers.{number_at}
 use Rattle.rcu_core.specs.History.{History}
-use Rattle.rcu_core.specs.Replies.{Size, accepted_reply, turn_reply, waits_for, how_many, recorded, with_event}
+use Rattle.rcu_core.specs.Replies.{Size, accepted_reply, turn_reply, waits_for, how_many, history_event, with_event}
 use Rattle.rcu_core.specs.Situation.{Situation, wants_begin}
 use Rattle.rcu_core.specs.declared.event.Event.{Event}
 use Rattle.rcu_core.specs.declared.event.Event.TheVariants.{Enter, Exit, Note, Quiesce, Deliver, Online, Offline, Turn, Poll, Queue, Tend, Run, Visit, BarTest}
@@ -11,7 +11,7 @@ use Rattle.rcu_core.specs.declared.reply.Reply.{Reply}
 use Rattle.rcu_core.specs.declared.reply.Reply.TheVariants as reply
 
 -- what a turn did stands in the history as it is recorded
-pub turned_after : (h : History) (a b d : Bool) (k l m n : ℕ) (r : Reply) → r ≡ cond a (cond b (reply.Ended k) (reply.Waiting l)) (cond d (reply.Begun m n) reply.Nothing) → with_event h Turn r ≡ recorded Turn r ∷ h
+pub turned_after : (h : History) (a b d : Bool) (k l m n : ℕ) (r : Reply) → r ≡ cond a (cond b (reply.Ended k) (reply.Waiting l)) (cond d (reply.Begun m n) reply.Nothing) → with_event h Turn r ≡ history_event Turn r ∷ h
 turned_after h true true d k l m n r e = rw e refl
 turned_after h true false d k l m n r e = rw e refl
 turned_after h false b true k l m n r e = rw e refl
@@ -31,7 +31,7 @@ is_test BarTest = true
 is_test _ = false
 
 -- any other event stands in it as it is recorded
-pub after_said : (s : Size) (u : Situation) (h : History) (e : Event) → is_test e ≡ false → with_event h e (accepted_reply s u e) ≡ recorded e (accepted_reply s u e) ∷ h
+pub after_said : (s : Size) (u : Situation) (h : History) (e : Event) → is_test e ≡ false → with_event h e (accepted_reply s u e) ≡ history_event e (accepted_reply s u e) ∷ h
 after_said s u h (Enter c) n = refl
 after_said s u h (Exit c) n = refl
 after_said s u h (Note c) n = refl

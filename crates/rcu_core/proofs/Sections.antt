@@ -2,7 +2,7 @@
 use Rattle.std.proofs.Common.{◌≡◌, ◌≢◌, ℕ, ◌+◌, ◌<◌, ◌≤◌, Bool, true, false, ◌&&◌, ◌∷◌, Some, None, refl}
 use Rattle.std.proofs.Common.{sym, ap, ap₂, ◌∙◌, arith, cond, eqb, ltb, ne_eqb}
 use Rattle.std.proofs.lemmas.Bool.Decides.{nat_tests}
-use Rattle.rcu_core.specs.History.{History, depth, entered, exited, is_old, number, opening, section}
+use Rattle.rcu_core.specs.History.{History, depth, enter_count, exit_count, is_old, number, opening, section}
 use Rattle.rcu_core.specs.Replies.{Size, fault_in, AreAccepted}
 use Rattle.rcu_core.specs.Situation.{situation}
 use Rattle.rcu_core.specs.declared.event.Event.{Event}
@@ -27,7 +27,7 @@ no_section c h d = ap (λ (b : Bool). cond b (Some (opening c h)) None) (none (d
 same_section : (c : ℕ) (g h : History) → depth c g ≡ depth c h → opening c g ≡ opening c h → section c g ≡ section c h
 same_section c g h d o = ap₂ (λ (n : ℕ) (y : History). cond (ltb 0 n) (Some y) None) d o
 
-one_deeper : (c : ℕ) (h : History) → exited c h ≤ entered c h → depth c (Enter c ∷ h) ≡ depth c h + 1
+one_deeper : (c : ℕ) (h : History) → exit_count c h ≤ enter_count c h → depth c (Enter c ∷ h) ≡ depth c h + 1
 one_deeper c h le = let n = enter_counts c c h in let i = eqb_self c in grind (arith, nat_tests)
 
 one_less : (c : ℕ) (h : History) → 0 < depth c h → depth c h ≡ depth c (Exit c ∷ h) + 1

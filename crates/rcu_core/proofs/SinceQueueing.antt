@@ -3,7 +3,7 @@ use Rattle.std.proofs.Common.{◌≡◌, ◌≢◌, ℕ, ◌+◌, ◌<◌, ◌�
 use Rattle.std.proofs.Common.{eqb, ne_eqb, inl, inr}
 use Rattle.std.proofs.lemmas.Bool.{cases_eq}
 use Rattle.std.proofs.lemmas.Bool.Decides.{nat_tests}
-use Rattle.rcu_core.specs.Callbacks.{queued, queued_before_barrier, since}
+use Rattle.rcu_core.specs.Callbacks.{queue_count, queued_before_barrier, since}
 use Rattle.rcu_core.specs.History.{History}
 use Rattle.rcu_core.specs.Links.{QueuedAt}
 use Rattle.rcu_core.specs.declared.event.Event.{Event}
@@ -14,17 +14,17 @@ same_place : (a b : ℕ) → a ≡ b → eqb a b ≡ true
 same_place a b i = grind (arith, nat_tests)
 
 -- what came since a callback's queueing ends with it
-pub queued_at : (j : ℕ) (h : History) → 0 < j → j ≤ queued h → QueuedAt j h
+pub queued_at : (j : ℕ) (h : History) → 0 < j → j ≤ queue_count h → QueuedAt j h
 queued_at j [] z b = absurd (omega (arith, z, b))
 queued_at j (Queue d y ∷ h) z b =
     let n = queue_counts d y h in
     let cut = λ (t : Bool) (xs : History). cond t [] (Queue d y ∷ since j h) ++ xs in
-    elim (cases_eq (queued h + 1) j) [
+    elim (cases_eq (queue_count h + 1) j) [
       | inl i ↦ record {
         cpu = d;
         value = y;
         earlier = h;
-        is = ap (λ t. cut t (Queue d y ∷ h)) (sym (same_place (queued h + 1) j i));
+        is = ap (λ t. cut t (Queue d y ∷ h)) (sym (same_place (queue_count h + 1) j i));
         place = i;
       }
       | inr i ↦ let o = queued_at j h z (omega (arith, n, b, i)) in record {
@@ -32,7 +32,7 @@ queued_at j (Queue d y ∷ h) z b =
         value = o.value;
         earlier = o.earlier;
         is = ap (λ (xs : History). Queue d y ∷ xs) o.is
-            ∙ ap (λ t. cut t (Queue o.cpu o.value ∷ o.earlier)) (sym (ne_eqb (queued h + 1) j i));
+            ∙ ap (λ t. cut t (Queue o.cpu o.value ∷ o.earlier)) (sym (ne_eqb (queue_count h + 1) j i));
         place = o.place;
       }
     ]

@@ -12,7 +12,7 @@ use Rattle.rcu_seq.specs.declared.fault.Fault.TheVariants as fault
 use Rattle.rcu_cblist.specs.declared.queued.Queued.{Queued}
 use Rattle.rcu_cblist.specs.SegList.{Item, Of, Marker, Mark, Unmarked, Until, Done, behind, callbacks, from_callback, front, after_migrate, remarked, take_answer, without_mark, after_take, as_it_leaves}
 use Rattle.rcu_barrier.specs.Tending.{mark_after_tend, after_tend}
-use Rattle.rcu_core.specs.Callbacks.{handed_out, has_full_period, is_owed, list, queued, since}
+use Rattle.rcu_core.specs.Callbacks.{handed_out, has_full_period, is_owed, list, queue_count, since}
 use Rattle.rcu_core.specs.GpState.{IsTimely}
 use Rattle.rcu_core.specs.History.{History, begins, running, number}
 use Rattle.rcu_core.specs.Replies.{Size, fault_in, AreAccepted, IsLegalReply, or_fault}
@@ -30,7 +30,7 @@ use Rattle.rcu_core.proofs.Timely.{mark_dropped, mark_later, mark_tended}
 -- the number at the queueing of the callback of this place, 0 before it
 abbrev pub number_at_queueing : ℕ → History → Number
 number_at_queueing ord [] = 0
-number_at_queueing ord (Queue cpu value ∷ h) = cond (eqb (queued h + 1) ord) (number h) (number_at_queueing ord h)
+number_at_queueing ord (Queue cpu value ∷ h) = cond (eqb (queue_count h + 1) ord) (number h) (number_at_queueing ord h)
 number_at_queueing ord (_ ∷ h) = number_at_queueing ord h
 
 -- where no full grace period lies after the queueing, the number is below the snapshot there
@@ -63,7 +63,7 @@ since_each s j (e ∷ h) p = since_step s j e h p.0 (turns s h p.1) (since_each 
 
 -- a callback of a list was queued, at the number that it says, and its mark is no sooner than that
 pub record Kept (call : Queued ℕ) (mark : Mark) (h : History) : Type 0 where
-  pub was : call.ord ≤ queued h
+  pub was : call.ord ≤ queue_count h
   pub at : call.at ≡ number_at_queueing call.ord h
   pub timely : IsTimely (number h) call.at mark
 
@@ -91,7 +91,7 @@ unmarks : (h : History) (x : Item ℕ) → KeptItem h x → KeptItem h (without_
 unmarks h (Of call mark) k = record { was = k.was; at = k.at; timely = mark_dropped (number h) call.at mark k.timely }
 unmarks h Marker k = tt
 
-queued_now : (c y : ℕ) (h : History) → Kept (record { ord = queued h + 1; at = number h; value = y }) Unmarked (Queue c y ∷ h)
+queued_now : (c y : ℕ) (h : History) → Kept (record { ord = queue_count h + 1; at = number h; value = y }) Unmarked (Queue c y ∷ h)
 queued_now c y h = let n = queue_counts c y h in record { was = omega arith; at = grind (arith, nat_tests); timely = omega arith }
 
 pub each_cond : (P : Item ℕ → Type 0) (b : Bool) (xs ys : List (Item ℕ)) → All P xs → All P ys → All P (cond b xs ys)
@@ -132,7 +132,7 @@ lists_step : (s : Size) (e : Event) (h : History) → fault_in s (situation h) e
 lists_step s (Queue d y) h p t a c =
     let e = Queue d y in let K = KeptItem (e ∷ h) in
     let b = All-weaker (KeptItem h) K (keeps s e h p t) (list c h) (a c) in
-    each_cond K (eqb d c) (list c h ++ Of (record { ord = queued h + 1; at = number h; value = y }) Unmarked ∷ []) (list c h) (All-push K (list c h) _ b (queued_now d y h)) b
+    each_cond K (eqb d c) (list c h ++ Of (record { ord = queue_count h + 1; at = number h; value = y }) Unmarked ∷ []) (list c h) (All-push K (list c h) _ b (queued_now d y h)) b
 lists_step s (Tend d) h p t a c =
     let e = Tend d in let K = KeptItem (e ∷ h) in let change = remarked (mark_after_tend (number h)) in
     each_cond K (eqb d c) (after_tend (list c h) (number h)) (list c h)

@@ -16,7 +16,7 @@ use Rattle.rcu_cblist.proofs.Lists.{first_from, first_moved, first_queued, first
 use Rattle.rcu_cblist.specs.SegList.{as_it_leaves}
 use Rattle.rcu_barrier.specs.Tending.{mark_after_tend, after_tend}
 use Rattle.rcu_barrier.specs.declared.visit.Visit.TheVariants.{Marked, Empty, Already}
-use Rattle.rcu_core.specs.Callbacks.{is_owed, list, queued}
+use Rattle.rcu_core.specs.Callbacks.{is_owed, list, queue_count}
 use Rattle.rcu_core.specs.History.{History, awaits, number}
 use Rattle.rcu_core.specs.Links.{holds}
 use Rattle.rcu_core.specs.Replies.{Size, accepted_reply, answer, causes, or_fault}
@@ -90,9 +90,9 @@ unled_leaving true (x ∷ xs) i = i
 unled : (h : History) (c : ℕ) → begins_with_marker (list c h) ≡ false
 unled [] c = refl
 unled (Queue d y ∷ h) c =
-    unled_if (eqb d c) (list c h ++ Of (record { ord = queued h + 1; at = number h; value = y }) Unmarked ∷ [])
+    unled_if (eqb d c) (list c h ++ Of (record { ord = queue_count h + 1; at = number h; value = y }) Unmarked ∷ [])
     (list c h)
-    (first_queued (list c h) (record { ord = queued h + 1; at = number h; value = y }) Unmarked (unled h c)) (unled h c)
+    (first_queued (list c h) (record { ord = queue_count h + 1; at = number h; value = y }) Unmarked (unled h c)) (unled h c)
 unled (Tend d ∷ h) c =
     unled_if (eqb d c) (after_tend (list c h) (number h)) (list c h)
     (first_remarked (mark_after_tend (number h)) (list c h) ∙ unled h c) (unled h c)

@@ -44,8 +44,8 @@ abbrev pub is_owed : ℕ → History → Bool
 is_owed cpu h = barrier_runs h && not (was_visited cpu h)
 
 -- how many callbacks were queued
-abbrev pub queued : History → ℕ
-queued h = count_by queues h
+abbrev pub queue_count : History → ℕ
+queue_count h = count_by queues h
 
 -- the processor's list, in order. A queued callback goes to its end. A tend at the number gives marks. A run takes away the
 -- first callbacks of the done part. A visit puts a marker behind it. The list of a processor that departs moves to
@@ -53,7 +53,7 @@ queued h = count_by queues h
 abbrev pub list : ℕ → History → List (Item ℕ)
 list cpu [] = []
 list cpu (Queue c value ∷ h) =
-    if c == cpu then list cpu h ++ Of (record { ord = queued h + 1; at = number h; value = value }) Unmarked ∷ []
+    if c == cpu then list cpu h ++ Of (record { ord = queue_count h + 1; at = number h; value = value }) Unmarked ∷ []
     else list cpu h
 list cpu (Tend c ∷ h) = if c == cpu then after_tend (list cpu h) (number h) else list cpu h
 list cpu (Run c most ∷ h) = if c == cpu then after_take (list cpu h) most else list cpu h
@@ -92,7 +92,7 @@ times_handed_out ord (_ ∷ h) = times_handed_out ord h
 -- the events since the callback of this place was queued
 abbrev pub since : ℕ → History → History
 since ord [] = []
-since ord (e ∷ h) = if queues e && (queued h + 1 == ord) then [] else e ∷ since ord h
+since ord (e ∷ h) = if queues e && (queue_count h + 1 == ord) then [] else e ∷ since ord h
 
 -- a full grace period lies among these events: it begins and ends there
 abbrev pub has_full_period : History → Bool
@@ -100,4 +100,4 @@ has_full_period h = has_full begins ends h
 
 -- how many callbacks were queued before the latest barrier began
 abbrev pub queued_before_barrier : History → ℕ
-queued_before_barrier h = queued (latest begins_barrier h)
+queued_before_barrier h = queue_count (latest begins_barrier h)

@@ -67,16 +67,16 @@ noted cpu [] = 0
 noted cpu (e ∷ h) = if notes cpu e then number (e ∷ h) else noted cpu h
 
 -- how often the processor entered
-abbrev pub entered : ℕ → History → ℕ
-entered cpu h = count_by (enters cpu) h
+abbrev pub enter_count : ℕ → History → ℕ
+enter_count cpu h = count_by (enters cpu) h
 
 -- how often the processor exited
-abbrev pub exited : ℕ → History → ℕ
-exited cpu h = count_by (exits cpu) h
+abbrev pub exit_count : ℕ → History → ℕ
+exit_count cpu h = count_by (exits cpu) h
 
 -- how deep its read sections nest: the enters less the exits
 abbrev pub depth : ℕ → History → ℕ
-depth cpu h = entered cpu h - exited cpu h
+depth cpu h = enter_count cpu h - exit_count cpu h
 
 -- the history as it was when its latest section was opened, by an enter at depth 0, that enter included
 abbrev pub opening : ℕ → History → History

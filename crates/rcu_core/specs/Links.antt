@@ -8,7 +8,7 @@ use Rattle.rcu_seq.specs.Numbers.{Number}
 use Rattle.rcu_cblist.specs.SegList.{callbacks}
 use Rattle.rcu_cblist.specs.declared.queued.Queued.{Queued}
 use Rattle.rcu_barrier.specs.declared.visit.Visit.TheVariants.{Marked}
-use Rattle.rcu_core.specs.Callbacks.{copies, list, queued, since}
+use Rattle.rcu_core.specs.Callbacks.{copies, list, queue_count, since}
 use Rattle.rcu_core.specs.History.{History, begins, hears, number, online}
 use Rattle.rcu_core.specs.Runs.{Run}
 use Rattle.rcu_core.specs.declared.event.Event.{Event}
@@ -44,7 +44,7 @@ pub record ToldSince (cpu : ℕ) (tag : Number) (h : History) : Type 0 where
 abbrev pub queued_as : ℕ → History → Option (Queued ℕ)
 queued_as ord [] = None
 queued_as ord (Queue cpu value ∷ h) =
-    if queued h + 1 == ord then Some (record { ord = queued h + 1; at = number h; value = value }) else queued_as ord h
+    if queue_count h + 1 == ord then Some (record { ord = queue_count h + 1; at = number h; value = value }) else queued_as ord h
 queued_as ord (_ ∷ h) = queued_as ord h
 
 -- the callback of this place was queued just before what came since: on which processor, its value, and what was before
@@ -53,7 +53,7 @@ pub record QueuedAt (ord : ℕ) (h : History) : Type 0 where
   pub value : ℕ
   pub earlier : History
   pub is : h ≡ since ord h ++ Queue cpu value ∷ earlier
-  pub place : queued earlier + 1 ≡ ord
+  pub place : queue_count earlier + 1 ≡ ord
 
 -- the reply tells of something that is kept, or that goes out in a list of its own: a report, a listed processor, a
 -- callback that moved, was queued or was handed out, or a marker

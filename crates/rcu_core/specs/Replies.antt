@@ -176,15 +176,15 @@ turn_as (reply.Ended number) = End
 turn_as _ = Turn
 
 -- an event as it stands in the history
-abbrev pub recorded : Event → Reply → Event
-recorded Turn r = turn_as r
-recorded e r = e
+abbrev pub history_event : Event → Reply → Event
+history_event Turn r = turn_as r
+history_event e r = e
 
 -- the history after an event and its reply: a refused event is not in it, nor is a test that found the barrier waiting
 abbrev pub with_event : History → Event → Reply → History
 with_event h e (reply.Fault f) = h
 with_event h e (reply.BarWaits left) = h
-with_event h e r = recorded e r ∷ h
+with_event h e r = history_event e r ∷ h
 
 -- each event of the history was accepted
 abbrev pub AreAccepted : Size → History → Type 0

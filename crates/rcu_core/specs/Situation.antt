@@ -3,7 +3,7 @@ use Rattle.std.specs.Prelude.{ℕ, ◌&&◌, Bool, not, nat_lt, List, count_by}
 use Rattle.rcu_seq.specs.Numbers.{Number, number_at}
 use Rattle.rcu_report.specs.declared.report.Report.{Report}
 use Rattle.rcu_cblist.specs.SegList.{Item}
-use Rattle.rcu_core.specs.Callbacks.{barrier_runs, is_owed, list, needed, queued}
+use Rattle.rcu_core.specs.Callbacks.{barrier_runs, is_owed, list, needed, queue_count}
 use Rattle.rcu_core.specs.History.{History, awaits, depth, ends, noted, online, reports_made, running}
 
 -- what the events so far say of grace periods: how many ended, whether one runs, and which number is needed
@@ -58,7 +58,7 @@ cpus_in h = record {
 
 abbrev pub calls_in : History → CallbackSituation
 calls_in h = record {
-  queued = queued h;
+  queued = queue_count h;
   list = λ cpu. list cpu h;
   barrier = barrier_runs h;
   owed = λ cpu. is_owed cpu h;

@@ -1,6 +1,6 @@
 //! What the words of a history say, case by case.
 ghost use Rattle.std.specs.Prelude.{◌≡◌, ◌≢◌, ◌⊎◌, ◌<◌, ◌≤◌, ◌∷◌, ℕ, None, Some, true};
-ghost use Rattle.rcu_core.specs.Callbacks.{queued, queued_before_barrier};
+ghost use Rattle.rcu_core.specs.Callbacks.{queue_count, queued_before_barrier};
 ghost use Rattle.rcu_core.specs.History.{History, depth, is_old, section};
 ghost use Rattle.rcu_core.specs.Links.{QueuedAt, holds};
 ghost use Rattle.rcu_core.specs.Replies.{AreAccepted, IsLegalReply, Size, answer};
@@ -42,12 +42,12 @@ pub fn a_section_open_at_a_begin_is_old()
 
 /// What came since a callback's queueing is all that stands in the history after that queueing.
 pub fn what_came_since_a_queueing_follows_it()
-    ensures { (ord : ℕ) (h : History) → 0 < ord → ord ≤ queued h → QueuedAt ord h }
+    ensures { (ord : ℕ) (h : History) → 0 < ord → ord ≤ queue_count h → QueuedAt ord h }
 {}
 
 /// How many callbacks were queued before the latest barrier is told at its begin, and stays so.
 pub fn a_barrier_counts_what_was_queued_before_it()
-    ensures begun { (h : History) → queued_before_barrier (Event.BarBegin ∷ h) ≡ queued h }
+    ensures begun { (h : History) → queued_before_barrier (Event.BarBegin ∷ h) ≡ queue_count h }
     ensures kept { (h : History) (event : Event) → event ≢ Event.BarBegin
         → queued_before_barrier (event ∷ h) ≡ queued_before_barrier h }
 {}

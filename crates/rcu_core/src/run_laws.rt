@@ -2,7 +2,7 @@
 ghost use Rattle.std.specs.Prelude.{◌≡◌, ◌+◌, ◌<◌, ◌≤◌, ◌&&◌, not, true, [], ◌∷◌, ℕ, List, Some};
 ghost use Rattle.std.specs.Prelude.{length, slice_get};
 ghost use Rattle.rcu_cblist.specs.declared.queued.Queued.{Queued};
-ghost use Rattle.rcu_core.specs.Callbacks.{handed_out, queued, times_handed_out};
+ghost use Rattle.rcu_core.specs.Callbacks.{handed_out, queue_count, times_handed_out};
 ghost use Rattle.rcu_core.specs.Core.{Represents, State, size_at};
 ghost use Rattle.rcu_core.specs.History.{History, awaits, is_heard, number, section};
 ghost use Rattle.rcu_core.specs.Links.{ToldSince, onto, queued_as, starts, tag, times_listed};
@@ -80,7 +80,7 @@ pub fn readers_finish_before_callbacks()
     ensures after { (size : Size) (run : Run) (cpu most place reader : ℕ) (call : Queued ℕ)
         (opened : History) → IsLegalRun size run
         → slice_get (handed_out cpu most (history run)) place ≡ Some call
-        → section reader (history run) ≡ Some opened → call.ord ≤ queued opened }
+        → section reader (history run) ≡ Some opened → call.ord ≤ queue_count opened }
 {}
 
 /// Whom a history awaits, whether its latest grace period runs or has ended: those of the start
@@ -110,6 +110,6 @@ pub fn heard_means_told()
 /// No callback is lost: each one that was queued was handed out or lies in one list, once.
 pub fn no_callback_is_lost()
     ensures { (size : Size) (run : Run) (ord : ℕ) → IsLegalRun size run → 0 < ord
-        → ord ≤ queued (history run)
+        → ord ≤ queue_count (history run)
         → times_handed_out ord (history run) + times_listed size.cpus ord (history run) ≡ 1 }
 {}

@@ -6,7 +6,7 @@ use Rattle.std.proofs.lemmas.Bool.{and_parts}
 use Rattle.std.proofs.lemmas.Bool.Decides.{Decides-eqb}
 use Rattle.rcu_seq.specs.Numbers.{same_number}
 use Rattle.rcu_node.specs.CpuSet.{intersection, is_in}
-use Rattle.rcu_node.specs.Merging.{IsAtLeast, Standing, are_alike, merged, same_set}
+use Rattle.rcu_node.specs.Merging.{IsAtLeast, Standing, are_alike, after_merge, same_set}
 use Rattle.rcu_node.proofs.CpuSetLemmas.{is_in-intersection, length-intersection, same_from_flags, same_set-Decides}
 
 intersection-commutes : (a b : List Bool) → length a ≡ length b → intersection a b ≡ intersection b a
@@ -59,29 +59,29 @@ pub are_alike-Decides : (x y : Standing) → Decides (are_alike x y) (Equals x y
 are_alike-Decides x y = (are_alike-equals x y, equals-alike x y)
 
 -- who awaits a part of its own stays alike to the same
-pub merged-alike_first : (x y z : Standing) → are_alike (merged x y) z ≡ are_alike x z
+pub merged-alike_first : (x y z : Standing) → are_alike (after_merge x y) z ≡ are_alike x z
 merged-alike_first x y z = rw (length-intersection x.awaited y.awaited)
 
-pub merged-alike_second : (x y z : Standing) → are_alike x (merged y z) ≡ are_alike x y
+pub merged-alike_second : (x y z : Standing) → are_alike x (after_merge y z) ≡ are_alike x y
 merged-alike_second x y z = rw (length-intersection y.awaited z.awaited)
 
 -- equal parts make equal standings
 pub same_standing : (x y : Standing) → x.tag ≡ y.tag → x.start_set ≡ y.start_set → x.awaited ≡ y.awaited → x ≡ y
 same_standing x y e f h = rw (e, f, h)
 
-pub merged-commutes : (x y : Standing) → are_alike x y ≡ true → merged x y ≡ merged y x
+pub merged-commutes : (x y : Standing) → are_alike x y ≡ true → after_merge x y ≡ after_merge y x
 merged-commutes x y e =
     let equal = are_alike-equals x y e in
-    same_standing (merged x y) (merged y x) equal.1 equal.2 (intersection-commutes x.awaited y.awaited equal.0)
+    same_standing (after_merge x y) (after_merge y x) equal.1 equal.2 (intersection-commutes x.awaited y.awaited equal.0)
 
-pub merged-associates : (x y z : Standing) → merged (merged x y) z ≡ merged x (merged y z)
+pub merged-associates : (x y z : Standing) → after_merge (after_merge x y) z ≡ after_merge x (after_merge y z)
 merged-associates x y z =
     ap (λ (set : List Bool). record x { awaited = set }) (intersection-associates x.awaited y.awaited z.awaited)
 
-pub merged-itself : (x : Standing) → merged x x ≡ x
+pub merged-itself : (x : Standing) → after_merge x x ≡ x
 merged-itself x = ap (λ (set : List Bool). record x { awaited = set }) (intersection-itself x.awaited)
 
-pub merged-again : (x y : Standing) → merged (merged x y) y ≡ merged x y
+pub merged-again : (x y : Standing) → after_merge (after_merge x y) y ≡ after_merge x y
 merged-again x y = ap (λ (set : List Bool). record x { awaited = set }) (intersection-again x.awaited y.awaited)
 
 -- being alike is an equivalence
@@ -119,24 +119,24 @@ at_least-both x y one two =
     same_test (is_in x.awaited cpu) (is_in y.awaited cpu) (one.part cpu) (two.part cpu)))
 
 -- the merged one awaits a part of what each awaits
-part_of_both : (x y : Standing) (cpu : ℕ) → is_in (merged x y).awaited cpu ≡ true
+part_of_both : (x y : Standing) (cpu : ℕ) → is_in (after_merge x y).awaited cpu ≡ true
     → (is_in x.awaited cpu ≡ true) × (is_in y.awaited cpu ≡ true)
 part_of_both x y cpu there =
     and_parts (is_in x.awaited cpu) (is_in y.awaited cpu) (sym (is_in-intersection x.awaited y.awaited cpu) ∙ there)
 
-pub merged-at_least_first : (x y : Standing) → are_alike x y ≡ true → IsAtLeast (merged x y) x
+pub merged-at_least_first : (x y : Standing) → are_alike x y ≡ true → IsAtLeast (after_merge x y) x
 merged-at_least_first x y e = record {
   alike = merged-alike_first x y x ∙ are_alike-itself x;
   part = λ cpu there. (part_of_both x y cpu there).0;
 }
 
-pub merged-at_least_second : (x y : Standing) → are_alike x y ≡ true → IsAtLeast (merged x y) y
+pub merged-at_least_second : (x y : Standing) → are_alike x y ≡ true → IsAtLeast (after_merge x y) y
 merged-at_least_second x y e = record {
   alike = merged-alike_first x y y ∙ e;
   part = λ cpu there. (part_of_both x y cpu there).1;
 }
 
-pub merged-least : (x y z : Standing) → IsAtLeast z x → IsAtLeast z y → IsAtLeast z (merged x y)
+pub merged-least : (x y z : Standing) → IsAtLeast z x → IsAtLeast z y → IsAtLeast z (after_merge x y)
 merged-least x y z one two = record {
   alike = merged-alike_second z x y ∙ one.alike;
   part = λ cpu there. is_in-intersection x.awaited y.awaited cpu ∙ rw (one.part cpu there, two.part cpu there) refl;

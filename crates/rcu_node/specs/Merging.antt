@@ -24,8 +24,8 @@ abbrev pub are_alike : Standing → Standing → Bool
 are_alike x y = length x.awaited == length y.awaited && (same_number x.tag y.tag && same_set x.start_set y.start_set)
 
 -- the first once the second is merged into it: it awaits those that both await
-abbrev pub merged : Standing → Standing → Standing
-merged x y = record x { awaited = intersection x.awaited y.awaited }
+abbrev pub after_merge : Standing → Standing → Standing
+after_merge x y = record x { awaited = intersection x.awaited y.awaited }
 
 -- the first is at least the second: they began alike, and it awaits a part of what the second awaits
 pub record IsAtLeast (x y : Standing) : Type 0 where

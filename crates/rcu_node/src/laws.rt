@@ -6,7 +6,7 @@ ghost use Rattle.rcu_seq.specs.Numbers.{Number};
 ghost use Rattle.rcu_geometry.specs.Geometry.{IsLegalShape, Shape};
 ghost use Rattle.rcu_node.specs.CpuSet.{intersection, is_in, listed, size_of, unheard};
 ghost use Rattle.rcu_node.specs.Masks.{AreMasks};
-ghost use Rattle.rcu_node.specs.Merging.{IsAtLeast, Standing, are_alike, merged};
+ghost use Rattle.rcu_node.specs.Merging.{IsAtLeast, Standing, are_alike, after_merge};
 ghost use Rattle.rcu_node.specs.Reports.{awaited_after_reports, was_reported};
 
 /// A listed set has a flag for each processor below the number that it was listed for.
@@ -59,24 +59,25 @@ pub fn alike_where_nothing_differs()
 
 /// What is merged stays alike to whatever it was alike to.
 pub fn merged_stays_alike()
-    ensures first { (x y z : Standing) → are_alike (merged x y) z ≡ are_alike x z }
-    ensures second { (x y z : Standing) → are_alike x (merged y z) ≡ are_alike x y }
+    ensures first { (x y z : Standing) → are_alike (after_merge x y) z ≡ are_alike x z }
+    ensures second { (x y z : Standing) → are_alike x (after_merge y z) ≡ are_alike x y }
 {}
 
 /// Merging either of two alike ones into the other gives the same.
 pub fn merging_commutes()
-    ensures { (x y : Standing) → are_alike x y ≡ true → merged x y ≡ merged y x }
+    ensures { (x y : Standing) → are_alike x y ≡ true → after_merge x y ≡ after_merge y x }
 {}
 
 /// Of three it makes no difference which two are merged first.
 pub fn merging_associates()
-    ensures { (x y z : Standing) → merged (merged x y) z ≡ merged x (merged y z) }
+    ensures { (x y z : Standing) → after_merge (after_merge x y) z
+        ≡ after_merge x (after_merge y z) }
 {}
 
 /// Merging one into itself, or a second time, changes nothing.
 pub fn merging_again_changes_nothing()
-    ensures itself { (x : Standing) → merged x x ≡ x }
-    ensures again { (x y : Standing) → merged (merged x y) y ≡ merged x y }
+    ensures itself { (x : Standing) → after_merge x x ≡ x }
+    ensures again { (x y : Standing) → after_merge (after_merge x y) y ≡ after_merge x y }
 {}
 
 /// Being at least another one is an order.
@@ -89,10 +90,10 @@ pub fn at_least_is_an_order()
 /// Of two alike ones the merged one is at least both, and whatever is at least both is at least the
 /// merged one.
 pub fn merged_is_the_least_of_both()
-    ensures first { (x y : Standing) → are_alike x y ≡ true → IsAtLeast (merged x y) x }
-    ensures second { (x y : Standing) → are_alike x y ≡ true → IsAtLeast (merged x y) y }
+    ensures first { (x y : Standing) → are_alike x y ≡ true → IsAtLeast (after_merge x y) x }
+    ensures second { (x y : Standing) → are_alike x y ≡ true → IsAtLeast (after_merge x y) y }
     ensures least { (x y z : Standing) → IsAtLeast z x → IsAtLeast z y
-        → IsAtLeast z (merged x y) }
+        → IsAtLeast z (after_merge x y) }
 {}
 
 /// Merging takes in what the other one has heard: the start set less those that either heard is

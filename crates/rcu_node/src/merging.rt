@@ -2,7 +2,7 @@
 ghost use Rattle.std.specs.Prelude.{◌≡◌, ◌<◌, ◌&&◌, true, false, not, if◌then◌else◌};
 ghost use Rattle.std.specs.Prelude.{length, slice_set, IfErr, OnErr, OnOk};
 ghost use Rattle.rcu_node.specs.CpuSet.{intersection, is_in};
-ghost use Rattle.rcu_node.specs.Merging.{are_alike, merged, same_set, standing};
+ghost use Rattle.rcu_node.specs.Merging.{are_alike, after_merge, same_set, standing};
 
 use crate::awaited::Awaited;
 use rcu_seq::fault::Fault;
@@ -14,7 +14,7 @@ use rcu_seq::fault::Fault;
 /// Fault: 20 where number of processors, tag or start set differ.
 pub fn merge<A: Awaited, B: Awaited>(to: &mut A, from: &B) -> Result<(), Fault>
     ensures ok { OnOk result (standing (A.tag to.new) (A.start_set to.new) (A.awaited to.new)
-        ≡ merged (standing (A.tag to.old) (A.start_set to.old) (A.awaited to.old))
+        ≡ after_merge (standing (A.tag to.old) (A.start_set to.old) (A.awaited to.old))
         (standing (B.tag from.now) (B.start_set from.now) (B.awaited from.now))) }
     ensures alike { OnOk result (are_alike
         (standing (A.tag to.old) (A.start_set to.old) (A.awaited to.old))

@@ -1,7 +1,7 @@
 -- Replicas that take in one another.
 use Rattle.std.proofs.Common.{◌≡◌, true, None, refl, sym, ap, ◌∙◌}
 use Rattle.rcu_node.specs.CpuSet.{intersection}
-use Rattle.rcu_node.specs.Merging.{Standing, are_alike, merged}
+use Rattle.rcu_node.specs.Merging.{Standing, are_alike, after_merge}
 use Rattle.rcu_node.proofs.MergingLemmas.{are_alike-back, merged-again, merged-alike_second, merged-commutes}
 use Rattle.rcu_report.specs.Replica.{Replicated, Merge, after_call, refusal, standing_of}
 use Rattle.rcu_report.proofs.Replicas.{merging_alike}
@@ -12,7 +12,7 @@ other_alike x y e = are_alike-back (standing_of x) (standing_of y) (merging_alik
 
 -- also once it was taken in
 other_still_alike : (x y : Replicated) → refusal x (Merge y) ≡ None
-    → are_alike (standing_of y) (merged (standing_of x) (standing_of y)) ≡ true
+    → are_alike (standing_of y) (after_merge (standing_of x) (standing_of y)) ≡ true
 other_still_alike x y e = merged-alike_second (standing_of y) (standing_of x) (standing_of y) ∙ other_alike x y e
 
 -- so it may take in this one, as it was
@@ -36,4 +36,4 @@ same_in_turn x y e =
     let one = standing_of x in
     let two = standing_of y in
     ap (λ (s : Standing). s.awaited)
-    (sym (merged-again one two) ∙ sym (merged-commutes two (merged one two) (other_still_alike x y e)))
+    (sym (merged-again one two) ∙ sym (merged-commutes two (after_merge one two) (other_still_alike x y e)))

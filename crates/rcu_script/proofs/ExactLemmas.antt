@@ -15,7 +15,7 @@ use Rattle.rcu_core.specs.declared.event.Event.{Event}
 use Rattle.rcu_core.specs.declared.reply.Reply.{Reply}
 use Rattle.rcu_core.specs.declared.reply.Reply.TheVariants as reply
 use Rattle.rcu_text.specs.Lines.{cut_of}
-use Rattle.rcu_text.specs.Texts.{numbered_text, spaced}
+use Rattle.rcu_text.specs.Texts.{numbered_text, space_and_number}
 use Rattle.rcu_text.specs.declared.line_shape.Line.{Line}
 use Rattle.rcu_text.specs.declared.line_shape.Line.TheVariants.{Blank, Malformed, Ask}
 use Rattle.rcu_text.proofs.CallerLemmas.{cut_append, Closes, closes_behind, closed}
@@ -48,14 +48,14 @@ closes_reply (reply.Ended n) = closes_numbered (codes "ended ") n
 closes_reply (reply.Waiting n) = closes_numbered (codes "waiting ") n
 closes_reply reply.Nothing = (codes "nothing", refl)
 closes_reply (reply.Awaits []) = (codes "awaits none", refl)
-closes_reply (reply.Awaits (cpu ∷ cpus)) = closes_behind (codes "awaits") _ (closes_behind (flat_map spaced (cpu ∷ cpus)) (codes "\n") ([], refl))
+closes_reply (reply.Awaits (cpu ∷ cpus)) = closes_behind (codes "awaits") _ (closes_behind (flat_map space_and_number (cpu ∷ cpus)) (codes "\n") ([], refl))
 closes_reply (reply.Cookie c) = closes_numbered (codes "cookie ") c.0
 closes_reply (reply.Polled true) = (codes "done", refl)
 closes_reply (reply.Polled false) = (codes "not yet", refl)
 closes_reply (reply.Queued n) = closes_numbered (codes "queued ") n
 closes_reply (reply.Tended done waiting) = closes_number (codes "tended ") _ done (closes_number (codes " ") (codes "\n") waiting ([], refl))
 closes_reply (reply.Ran []) = (codes "ran none", refl)
-closes_reply (reply.Ran (value ∷ values)) = closes_behind (codes "ran") _ (closes_behind (flat_map spaced (value ∷ values)) (codes "\n") ([], refl))
+closes_reply (reply.Ran (value ∷ values)) = closes_behind (codes "ran") _ (closes_behind (flat_map space_and_number (value ∷ values)) (codes "\n") ([], refl))
 closes_reply reply.BarBegun = (codes "barrier begun", refl)
 closes_reply (reply.Visited visit.Marked) = (codes "marked", refl)
 closes_reply (reply.Visited visit.Empty) = (codes "empty", refl)

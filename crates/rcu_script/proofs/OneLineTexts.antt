@@ -8,7 +8,7 @@ use Rattle.std.proofs.lemmas.Bool.Decides.{nat_tests}
 use Rattle.std.proofs.lemmas.List.Folds.{list_any-append, list_any_at}
 use Rattle.std.proofs.lemmas.List.Splits.{slice_split_at}
 use Rattle.std.specs.Prelude.{All}
-use Rattle.rcu_text.specs.Texts.{numbered_text, spaced}
+use Rattle.rcu_text.specs.Texts.{numbered_text, space_and_number}
 
 -- the byte ends a line
 abbrev pub is_end : ℕ → Bool
@@ -38,10 +38,10 @@ decimal_no_end n = onto_no_end 64 n [] refl
 no_end_in : (a b : List ℕ) → list_any is_end a ≡ false → list_any is_end b ≡ false → list_any is_end (a ++ b) ≡ false
 no_end_in a b p q = list_any-append is_end a b ∙ rw (p, q) refl
 
-listed_no_end : (items : List ℕ) → list_any is_end (flat_map spaced items) ≡ false
+listed_no_end : (items : List ℕ) → list_any is_end (flat_map space_and_number items) ≡ false
 listed_no_end [] = refl
 listed_no_end (item ∷ items) =
-    no_end_in (spaced item) (flat_map spaced items) (decimal_no_end item) (listed_no_end items)
+    no_end_in (space_and_number item) (flat_map space_and_number items) (decimal_no_end item) (listed_no_end items)
 
 -- ---- texts of one line
 
@@ -71,10 +71,10 @@ pub line_numbered : (word : List ℕ) (n : ℕ) → list_any is_end word ≡ fal
 line_numbered word n none = line_of_number word [] (codes "\n") n none (line_alone [] refl)
 
 pub line_listed : (word : List ℕ) (item : ℕ) (items : List ℕ) → list_any is_end word ≡ false
-    → OneLine (word ++ flat_map spaced (item ∷ items)) (word ++ (flat_map spaced (item ∷ items) ++ codes "\n"))
+    → OneLine (word ++ flat_map space_and_number (item ∷ items)) (word ++ (flat_map space_and_number (item ∷ items) ++ codes "\n"))
 line_listed word item items none =
-    line_behind word (flat_map spaced (item ∷ items)) _ none
-    (line_alone (flat_map spaced (item ∷ items)) (listed_no_end (item ∷ items)))
+    line_behind word (flat_map space_and_number (item ∷ items)) _ none
+    (line_alone (flat_map space_and_number (item ∷ items)) (listed_no_end (item ∷ items)))
 
 all_no_end : (line : List ℕ) → list_any is_end line ≡ false → All (λ b. is_end b ≡ false) line
 all_no_end line none = λ k d within. go k d within _ refl

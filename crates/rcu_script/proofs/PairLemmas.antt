@@ -7,7 +7,7 @@ use Rattle.rcu_seq.specs.Numbers.{same_number}
 use Rattle.rcu_node.specs.Merging.{same_set}
 use Rattle.rcu_report.specs.Replica.{Replicated, cpus_of}
 use Rattle.rcu_text.specs.Outputs.{Out, Sends, Stops}
-use Rattle.rcu_text.specs.Texts.{spaced}
+use Rattle.rcu_text.specs.Texts.{space_and_number}
 use Rattle.rcu_text.specs.Underway.{LineIsAnswered}
 use Rattle.rcu_text.specs.declared.line_shape.Line.{Line}
 use Rattle.rcu_text.specs.declared.line_shape.Line.TheVariants.{Ask}
@@ -28,22 +28,22 @@ use Rattle.rcu_script.proofs.PairSets.{texts_front, texts_no, texts_yes}
 
 -- the texts of the processors below a number that pass a test
 abbrev texts : (ℕ → Bool) → ℕ → List ℕ
-texts p n = flat_map spaced (filter p (range_with_len 0 n))
+texts p n = flat_map space_and_number (filter p (range_with_len 0 n))
 
 -- one processor more, which is awaited
-pub member_sent : (p : ℕ → Bool) (n : ℕ) (a b c : Out) → p n ≡ true → Sends a b (texts p n) → Sends b c (spaced n) → Sends a c (texts p (n + 1))
-member_sent p n a b c passes s t = subst (Sends a c) (sym (texts_yes spaced p n passes)) (Sends-trans a b c _ _ s t)
+pub member_sent : (p : ℕ → Bool) (n : ℕ) (a b c : Out) → p n ≡ true → Sends a b (texts p n) → Sends b c (space_and_number n) → Sends a c (texts p (n + 1))
+member_sent p n a b c passes s t = subst (Sends a c) (sym (texts_yes space_and_number p n passes)) (Sends-trans a b c _ _ s t)
 
 -- one processor more, which is not
 pub member_none : (p : ℕ → Bool) (n : ℕ) (a b : Out) → p n ≡ false → Sends a b (texts p n) → Sends a b (texts p (n + 1))
-member_none p n a b fails s = subst (Sends a b) (sym (texts_no spaced p n fails)) s
+member_none p n a b fails s = subst (Sends a b) (sym (texts_no space_and_number p n fails)) s
 
 -- the writer failed in one of them
-pub member_stops : (p : ℕ → Bool) (n all : ℕ) (a b c : Out) → n < all → p n ≡ true → Sends a b (texts p n) → Stops b c (spaced n) → Stops a c (texts p all)
+pub member_stops : (p : ℕ → Bool) (n all : ℕ) (a b c : Out) → n < all → p n ≡ true → Sends a b (texts p n) → Stops b c (space_and_number n) → Stops a c (texts p all)
 member_stops p n all a b c below passes s t =
-    let front = texts_front spaced p (n + 1) (all - (n + 1)) in
+    let front = texts_front space_and_number p (n + 1) (all - (n + 1)) in
     let whole : (n + 1) + (all - (n + 1)) ≡ all = omega arith in
-    let stops : Stops a c (texts p (n + 1)) = subst (Stops a c) (sym (texts_yes spaced p n passes)) (Sends-Stops a b c _ _ s t) in
+    let stops : Stops a c (texts p (n + 1)) = subst (Stops a c) (sym (texts_yes space_and_number p n passes)) (Sends-Stops a b c _ _ s t) in
     subst (λ (k : ℕ). Stops a c (texts p k)) whole (subst (Stops a c) (sym front.1) (Stops-before a c (texts p (n + 1)) front.0 stops))
 
 -- once all processors are passed

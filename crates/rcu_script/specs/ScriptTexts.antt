@@ -8,7 +8,7 @@ use Rattle.rcu_barrier.specs.declared.visit.Visit.{Visit}
 use Rattle.rcu_barrier.specs.declared.visit.Visit.TheVariants.{Marked, Empty, Already}
 use Rattle.rcu_core.specs.declared.reply.Reply.{Reply}
 use Rattle.rcu_core.specs.declared.reply.Reply.TheVariants.{Depth, Noted, Made, Answer as Answered, Online, Moved, Begun, Ended, Waiting, Nothing, Awaits, Cookie, Polled, Queued, Tended, Ran, BarBegun, Visited, BarDone, BarWaits, Fault}
-use Rattle.rcu_text.specs.Texts.{numbered_text, spaced}
+use Rattle.rcu_text.specs.Texts.{numbered_text, space_and_number}
 
 -- what a processor noted: it is needed where the processor is awaited
 abbrev pub noted_text : ℕ → Bool → List ℕ
@@ -35,7 +35,7 @@ begun_text n cpus = codes "begun " ++ (decimal n ++ (codes " awaits " ++ (decima
 -- a word and the numbers that are listed behind it, or `none`
 abbrev pub listed_text : List ℕ → List ℕ → List ℕ
 listed_text word [] = word ++ codes " none\n"
-listed_text word (item ∷ items) = word ++ (flat_map spaced (item ∷ items) ++ codes "\n")
+listed_text word (item ∷ items) = word ++ (flat_map space_and_number (item ∷ items) ++ codes "\n")
 
 -- whether a cookie is done
 abbrev pub polled_text : Bool → List ℕ

@@ -1,7 +1,7 @@
 //! What a reply lists.
 ghost use Rattle.std.specs.Prelude.{◌≡◌, ◌==◌, ◌≤◌, ℕ, List, flat_map, length};
 ghost use Rattle.rcu_text.specs.Outputs.{Puts};
-ghost use Rattle.rcu_text.specs.Texts.{spaced};
+ghost use Rattle.rcu_text.specs.Texts.{space_and_number};
 ghost use Rattle.rcu_script.specs.ScriptTexts.{listed_text};
 
 use rcu_core::cpu_list::CpuList;
@@ -19,7 +19,8 @@ pub trait Listed {
 
     /// Prints the numbers, each behind a space.
     fn put_items<O: Output>(&self, out: &mut O) -> Result<(), Failed>
-        ensures { Puts result (O.out out.old) (O.out out.new) (flat_map spaced (items self.now)) };
+        ensures { Puts result (O.out out.old) (O.out out.new)
+            (flat_map space_and_number (items self.now)) };
 }
 
 /// Prints a word and what is listed behind it, or `none`.
@@ -62,7 +63,7 @@ impl Listed for ValueList {
 
 /// Prints processors, each behind a space.
 fn put_cpus<O: Output>(out: &mut O, cpus: &[u32]) -> Result<(), Failed>
-    ensures { Puts result (O.out out.old) (O.out out.new) (flat_map spaced cpus.now) }
+    ensures { Puts result (O.out out.old) (O.out out.new) (flat_map space_and_number cpus.now) }
 {
     for cpu in cpus {
         put_spaced(out, u64::from(*cpu))?;
@@ -72,7 +73,7 @@ fn put_cpus<O: Output>(out: &mut O, cpus: &[u32]) -> Result<(), Failed>
 
 /// Prints values, each behind a space.
 fn put_values<O: Output>(out: &mut O, values: &ValueList) -> Result<(), Failed>
-    ensures { Puts result (O.out out.old) (O.out out.new) (flat_map spaced values.now) }
+    ensures { Puts result (O.out out.old) (O.out out.new) (flat_map space_and_number values.now) }
 {
     for place in 0..values.len() {
         put_spaced(out, values.value(place))?;

@@ -2,12 +2,12 @@
 use Rattle.std.specs.Prelude.{ℕ, List, ◌∷◌, ◌++◌, codes, decimal}
 
 -- a space and the number
-abbrev pub spaced : ℕ → List ℕ
-spaced n = 32 ∷ decimal n
+abbrev pub space_and_number : ℕ → List ℕ
+space_and_number n = 32 ∷ decimal n
 
 -- a text with a number behind it
-abbrev pub numbered : List ℕ → ℕ → List ℕ
-numbered text n = text ++ decimal n
+abbrev pub text_and_number : List ℕ → ℕ → List ℕ
+text_and_number text n = text ++ decimal n
 
 -- a text with a number behind it, as a line
 abbrev pub numbered_text : List ℕ → ℕ → List ℕ

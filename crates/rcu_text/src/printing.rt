@@ -1,7 +1,8 @@
 //! The parts of a reply.
 ghost use Rattle.std.specs.Prelude.{◌≡◌, ◌+◌, ◌≤◌, decimal, length};
 ghost use Rattle.rcu_text.specs.Outputs.{Puts, after_put_text};
-ghost use Rattle.rcu_text.specs.Texts.{counts_text, numbered, numbered_text, spaced};
+ghost use Rattle.rcu_text.specs.Texts.{counts_text, numbered_text, space_and_number};
+ghost use Rattle.rcu_text.specs.Texts.{text_and_number};
 
 use crate::block_writer::Output;
 use crate::streams::Failed;
@@ -64,8 +65,8 @@ pub fn put_counts<O: Output>(
 #[inline(always)]
 pub fn push_numbered<O: Output>(out: &mut O, text: &[u8], n: u64)
     requires { length text.now + 20 ≤ (O.out out.old).room }
-    ensures puts { O.out out.new ≡ after_put_text (O.out out.old) (numbered text.now n) }
-    ensures short { length (numbered text.now n) ≤ length text.now + 20 }
+    ensures puts { O.out out.new ≡ after_put_text (O.out out.old) (text_and_number text.now n) }
+    ensures short { length (text_and_number text.now n) ≤ length text.now + 20 }
 {
     out.put_text(text);
     push_number(out, n);
@@ -73,7 +74,7 @@ pub fn push_numbered<O: Output>(out: &mut O, text: &[u8], n: u64)
 
 /// Prints a space and a number.
 pub fn put_spaced<O: Output>(out: &mut O, n: u64) -> Result<(), Failed>
-    ensures { Puts result (O.out out.old) (O.out out.new) (spaced n) }
+    ensures { Puts result (O.out out.old) (O.out out.new) (space_and_number n) }
 {
     out.make_room(LONGEST_NUMBER)?;
     out.put_byte(b' ');

@@ -34,8 +34,8 @@ u64_rule name = record (new_rule name) {
 }
 
 -- an option that must be there
-abbrev pub required : Rule → Rule
-required rule = record rule { required = true }
+abbrev pub required_rule : Rule → Rule
+required_rule rule = record rule { required = true }
 
 -- the option `--last`, which may be left out
 abbrev pub last_rule : Rule
@@ -46,22 +46,22 @@ last_rule = record (u64_rule (codes "last")) { defaults = codes "461168601842738
 -- `script`: the shape of the tree, the number of processors and the last number
 abbrev pub script : App
 script = with_rule (with_rule (with_rule (with_rule (new_app (codes "script"))
-    (required (u32_rule (codes "leaf"))))
-    (required (u32_rule (codes "inner"))))
-    (required (u32_rule (codes "cpus"))))
+    (required_rule (u32_rule (codes "leaf"))))
+    (required_rule (u32_rule (codes "inner"))))
+    (required_rule (u32_rule (codes "cpus"))))
     last_rule
 
 -- `pair` before its other options: the shapes of both trees
 abbrev pub shapes : App
 shapes = with_rule (with_rule (with_rule (with_rule (new_app (codes "pair"))
-    (required (u32_rule (codes "leaf"))))
-    (required (u32_rule (codes "inner"))))
-    (required (u32_rule (codes "leaf2"))))
-    (required (u32_rule (codes "inner2")))
+    (required_rule (u32_rule (codes "leaf"))))
+    (required_rule (u32_rule (codes "inner"))))
+    (required_rule (u32_rule (codes "leaf2"))))
+    (required_rule (u32_rule (codes "inner2")))
 
 -- `pair`: the shapes of both trees, the number of processors and the last number
 abbrev pub pair : App
-pair = with_rule (with_rule shapes (required (u32_rule (codes "cpus")))) last_rule
+pair = with_rule (with_rule shapes (required_rule (u32_rule (codes "cpus")))) last_rule
 
 -- `rcu` before it has subcommands: its words come without the program's name, one of them has to name a subcommand,
 -- and `help` is no subcommand

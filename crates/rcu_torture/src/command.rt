@@ -5,8 +5,8 @@ ghost use Rattle.clap.specs.Words.{subcommand_of, subcommand_rows_of};
 ghost use Rattle.clap.specs.declared.builder.command.Command.TheViews.{out-Command as fields_of};
 ghost use Rattle.rcu_torture.specs.CommandLine.{HasNoOrder, HasNoSetup, IsOrderOf, IsSetupOf};
 ghost use Rattle.rcu_torture.specs.CommandLine.{last_rule, number_up_to, pair, rcu};
-ghost use Rattle.rcu_torture.specs.CommandLine.{rcu_with_script, required, script, shapes};
-ghost use Rattle.rcu_torture.specs.CommandLine.{u32_max, u32_rule, u64_max};
+ghost use Rattle.rcu_torture.specs.CommandLine.{rcu_with_script, required_rule, script};
+ghost use Rattle.rcu_torture.specs.CommandLine.{shapes, u32_max, u32_rule, u64_max};
 
 use clap::{Arg, ArgMatches, Command, Error, value_parser};
 use rcu_script::Setup;
@@ -91,7 +91,7 @@ fn shapes_command<'a>(alloc: Global) -> Result<Command<'a>, AllocError>
 
 /// A required option whose value is a u32.
 fn u32_option<'a>(alloc: Global, name: &'a str, help: &'a str) -> Arg<'a>
-    ensures rule { rule_of result ≡ required (u32_rule name.entry.now) }
+    ensures rule { rule_of result ≡ required_rule (u32_rule name.entry.now) }
     ensures local { result.global ≡ false }
 {
     Arg::new(alloc, name)

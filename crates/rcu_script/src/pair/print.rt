@@ -1,7 +1,7 @@
 //! Replies of a pair as text.
 ghost use Rattle.std.specs.Prelude.{◌≡◌, flat_map};
 ghost use Rattle.rcu_text.specs.Outputs.{Puts};
-ghost use Rattle.rcu_text.specs.Texts.{spaced};
+ghost use Rattle.rcu_text.specs.Texts.{space_and_number};
 ghost use Rattle.rcu_script.specs.PairTexts.{compared_text, members_of, pair_text};
 
 use crate::listed::{Listed, put_listed};
@@ -65,7 +65,7 @@ impl<'a, A: Awaited> Listed for Members<'a, A> {
 /// Prints the awaited processors, ascending, each behind a space.
 fn put_members<A: Awaited, O: Output>(out: &mut O, awaited: &A) -> Result<(), Failed>
     ensures { Puts result (O.out out.old) (O.out out.new)
-        (flat_map spaced (members_of (A.awaited awaited.now))) }
+        (flat_map space_and_number (members_of (A.awaited awaited.now))) }
 {
     for cpu in 0..awaited.cpus() {
         if awaited.awaits(cpu) {

@@ -1,7 +1,7 @@
 use Rattle.std.proofs.Common.{◌≤◌, arith, length}
 use Rattle.rcu_node.proofs.MergingLemmas.{same_standing}
 use Rattle.rcu_node.proofs.Merges.{cut_all}
-use Rattle.rcu_node.specs.Merging.{merged, standing}
+use Rattle.rcu_node.specs.Merging.{after_merge, standing}
 use Rattle.rcu_node.proofs.merging.merge.Goals as goal
 
 pub returns-clause-awaited : goal.returns-clause-awaited
@@ -22,5 +22,5 @@ returns-clause-ok g c =
     let after =
     standing (g.A.Awaited.tag c.loop-cpu.to) (g.A.Awaited.start_set c.loop-cpu.to)
     (g.A.Awaited.awaited c.loop-cpu.to) in
-    same_standing after (merged before other) c.loop-cpu.invariant.tag c.loop-cpu.invariant.start_set
+    same_standing after (after_merge before other) c.loop-cpu.invariant.tag c.loop-cpu.invariant.start_set
     (returns-clause-awaited g c)

@@ -3,7 +3,7 @@ use Rattle.std.specs.Prelude.{flat_map}
 use Rattle.std.proofs.lemmas.Bool.Decides.{nat_tests}
 use Rattle.std.proofs.lemmas.Result.{err_from_is_err_and}
 use Rattle.rcu_text.specs.Outputs.{Puts, Stops}
-use Rattle.rcu_text.specs.Texts.{spaced}
+use Rattle.rcu_text.specs.Texts.{space_and_number}
 use Rattle.rcu_text.proofs.CallerLemmas.{list_put, list_stops, puts_two}
 use Rattle.rcu_script.proofs.ListLemmas.{none_listed, some_listed, word_stops}
 use Rattle.rcu_script.proofs.listed.put_listed.Goals as goal
@@ -26,11 +26,11 @@ returns-in_err-put_items g c =
     let items = g.L.Listed.items c.args.listed.now in
     let some : 0 < length items = grind (arith, nat_tests) in
     rw (p.1) (subst (Stops _ _) (sym (some_listed c.args.word.now items some))
-    (list_stops _ _ _ c.args.word.now (flat_map spaced items) (codes "\n") c.in_ok-put_line.ensures c.in_err-put_items.ensures))
+    (list_stops _ _ _ c.args.word.now (flat_map space_and_number items) (codes "\n") c.in_ok-put_line.ensures c.in_err-put_items.ensures))
 
 pub returns : goal.returns
 returns g c =
     let items = g.L.Listed.items c.args.listed.now in
     let some : 0 < length items = grind (arith, nat_tests) in
     subst (Puts c.put_line-2.result _ _) (sym (some_listed c.args.word.now items some))
-    (list_put c.put_line-2.result _ _ _ _ c.args.word.now (flat_map spaced items) (codes "\n") c.in_ok-put_line.ensures c.in_ok-put_items.ensures c.put_line-2.ensures)
+    (list_put c.put_line-2.result _ _ _ _ c.args.word.now (flat_map space_and_number items) (codes "\n") c.in_ok-put_line.ensures c.in_ok-put_items.ensures c.put_line-2.ensures)

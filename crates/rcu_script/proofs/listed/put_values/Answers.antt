@@ -1,6 +1,6 @@
 use Rattle.std.proofs.Common.{◌<◌, length, arith}
 use Rattle.std.proofs.lemmas.Result.{err_from_is_err_and}
-use Rattle.rcu_text.specs.Texts.{spaced}
+use Rattle.rcu_text.specs.Texts.{space_and_number}
 use Rattle.rcu_text.proofs.CallerLemmas.{item_sent, item_stops}
 use Rattle.rcu_script.proofs.listed.put_values.Goals as goal
 
@@ -8,9 +8,9 @@ pub returns-in_err-put_spaced : goal.returns-in_err-put_spaced
 returns-in_err-put_spaced g c =
     let p = err_from_is_err_and c.from_residual.result c.from_residual.ensures.1 in
     let inside : c.loop-place.place < length c.args.values.now = omega (arith, c.loop-place-test.true, c.len-place-end.ensures) in
-    rw (p.1) (item_stops spaced _ _ _ c.args.values.now c.loop-place.place 0 inside c.loop-place.invariant (rw c.value.ensures at c.in_err-put_spaced.ensures))
+    rw (p.1) (item_stops space_and_number _ _ _ c.args.values.now c.loop-place.place 0 inside c.loop-place.invariant (rw c.value.ensures at c.in_err-put_spaced.ensures))
 
 pub loop-place-preserved : goal.loop-place-preserved
 loop-place-preserved g c =
     let inside : c.loop-place.place < length c.args.values.now = omega (arith, c.loop-place-test.true, c.len-place-end.ensures) in
-    item_sent spaced _ _ _ c.args.values.now c.loop-place.place 0 inside c.loop-place.invariant (rw c.value.ensures at c.in_ok-put_spaced.ensures)
+    item_sent space_and_number _ _ _ c.args.values.now c.loop-place.place 0 inside c.loop-place.invariant (rw c.value.ensures at c.in_ok-put_spaced.ensures)

@@ -1,9 +1,9 @@
 use Rattle.std.proofs.Common.{take}
 use Rattle.std.specs.Prelude.{flat_map}
 use Rattle.rcu_text.specs.Outputs.{Sends}
-use Rattle.rcu_text.specs.Texts.{spaced}
+use Rattle.rcu_text.specs.Texts.{space_and_number}
 use Rattle.rcu_script.proofs.listed.put_values.Given as goal
 
 -- the values so far are sent
 abbrev pub invariant-loop-place : goal.invariant-loop-place
-invariant-loop-place g l = Sends (g.O.Output.out l.fn.out) (g.O.Output.out l.out) (flat_map spaced (take l.place l.values))
+invariant-loop-place g l = Sends (g.O.Output.out l.fn.out) (g.O.Output.out l.out) (flat_map space_and_number (take l.place l.values))
