@@ -3,29 +3,33 @@
 /// An event: one atomic step of one actor.
 #[derive(Clone, Copy, Debug, PartialEq, Eq)]
 pub enum Event {
-    /// The processor opens a read section, or nests one deeper. Faults: 1, 2, 6.
+    /// The processor opens a read section, or nests one deeper. Faults: `BadCpu` (1), `Offline`
+    /// (2), `NestFull` (6).
     Enter(u32),
-    /// The processor leaves its innermost read section. Faults: 1, 5.
+    /// The processor leaves its innermost read section. Faults: `BadCpu` (1), `NotOpen` (5).
     Exit(u32),
-    /// The processor takes down the number. Faults: 1, 2.
+    /// The processor takes down the number. Faults: `BadCpu` (1), `Offline` (2).
     Note(u32),
-    /// The processor makes a report of its noted number. Faults: 1, 2, 4, 16.
+    /// The processor makes a report of its noted number. Faults: `BadCpu` (1), `Offline` (2),
+    /// `InSection` (4), `NoMemory` (16).
     Quiesce(u32),
-    /// The report of this number, counted from 1, is delivered. Fault: 7.
+    /// The report of this number, counted from 1, is delivered. Fault: `NoReport` (7).
     Deliver(u64),
-    /// The processor arrives, and takes down the number. Faults: 1, 3.
+    /// The processor arrives, and takes down the number. Faults: `BadCpu` (1), `AlreadyOnline` (3).
     Online(u32),
     /// The processor departs, and is awaited no more. Its list moves to processor 0; a barrier
-    /// visits it first. Faults: 1, 12, 2, 4, 16.
+    /// visits it first. Faults: `BadCpu` (1), `BootStays` (12), `Offline` (2), `InSection` (4),
+    /// `NoMemory` (16).
     Offline(u32),
-    /// A grace period begins, and awaits the processors that are online. Faults: 8, 11.
+    /// A grace period begins, and awaits the processors that are online. Faults: `Running` (8),
+    /// `Exhausted` (11).
     Begin,
-    /// The grace period ends. Faults: 9, 10.
+    /// The grace period ends. Faults: `Idle` (9), `Waiting` (10).
     End,
     /// The grace period ends where nobody is awaited; where none runs, one begins if a later number
-    /// is needed. Fault: 11, where it would begin.
+    /// is needed. Fault: `Exhausted` (11), where it would begin.
     Turn,
-    /// The awaited processors are listed. Fault: 16, where one is listed.
+    /// The awaited processors are listed. Fault: `NoMemory` (16), where one is listed.
     Awaits,
     /// A cookie is taken, to be polled.
     Take,
@@ -33,17 +37,18 @@ pub enum Event {
     StartPoll,
     /// The cookie of this number is tested.
     Poll(u64),
-    /// A callback of this value is queued on the processor. Faults: 1, 2, 15, 16.
+    /// A callback of this value is queued on the processor. Faults: `BadCpu` (1), `Offline` (2),
+    /// `CallbacksFull` (15), `NoMemory` (16).
     Queue(u32, u64),
-    /// The marks of the processor's callbacks are brought up to the number. Fault: 1.
+    /// The marks of the processor's callbacks are brought up to the number. Fault: `BadCpu` (1).
     Tend(u32),
-    /// The first callbacks of the processor's done part are handed out, at most so many. Faults: 1,
-    /// 16.
+    /// The first callbacks of the processor's done part are handed out, at most so many. Faults:
+    /// `BadCpu` (1), `NoMemory` (16).
     Run(u32, u64),
-    /// A barrier begins. Fault: 13.
+    /// A barrier begins. Fault: `BarrierBusy` (13).
     BarBegin,
-    /// The barrier visits the processor. Faults: 1, 14, 16.
+    /// The barrier visits the processor. Faults: `BadCpu` (1), `NoBarrier` (14), `NoMemory` (16).
     Visit(u32),
-    /// The barrier is tested. Fault: 14.
+    /// The barrier is tested. Fault: `NoBarrier` (14).
     BarTest,
 }

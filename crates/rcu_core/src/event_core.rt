@@ -30,7 +30,6 @@ use std::marker::Model;
 /// Contracts see these three.
 #[derive(Drop)]
 pub struct Core<A: Awaited, T: Drop> {
-    /// The state of the grace periods and the callbacks.
     gp: GpState<A, T>,
     /// Each processor, at its place.
     cpus: Vec<CpuData>,

@@ -20,7 +20,7 @@ impl Model for ValueList {
 }
 
 impl ValueList {
-    /// The values of these callbacks. Takes no memory.
+    /// The values of these callbacks, which are not copied.
     pub fn new(calls: Vec<Queued<u64>>) -> ValueList
         ensures { result ≡ map (λ call. call.value) calls.items }
     {

@@ -89,7 +89,8 @@ impl CpuData {
     /// Opens a read section, or nests one deeper in the open one, and answers the new depth, 1 to
     /// 65,535 (Linux's `__rcu_read_lock`).
     ///
-    /// Faults: 2 where the processor is offline; 6 where the depth is 65,535.
+    /// Faults: `Offline` (2) where the processor is offline; `NestFull` (6) where the depth is
+    /// 65,535.
     pub fn enter(&mut self) -> Result<u32, Fault>
         ensures depth { IfOk result (λ depth. depth ≡ self.new.depth) }
         ensures ok { OnOk result (self.new ≡ after_call self.old Enter) }
@@ -110,7 +111,7 @@ impl CpuData {
     /// Leaves the innermost read section, and answers the new depth, 0 to 65,534: at 0 no section
     /// is open any more (Linux's `__rcu_read_unlock`).
     ///
-    /// Fault 5: no section is open.
+    /// Fault `NotOpen` (5): no section is open.
     pub fn exit(&mut self) -> Result<u32, Fault>
         ensures depth { IfOk result (λ depth. depth ≡ self.new.depth) }
         ensures ok { OnOk result (self.new ≡ after_call self.old Exit) }
@@ -125,7 +126,7 @@ impl CpuData {
 
     /// Notes the grace-period number (Linux's `__note_gp_changes`).
     ///
-    /// Fault 2: the processor is offline.
+    /// Fault `Offline` (2): the processor is offline.
     pub fn note(&mut self, number: u64) -> Result<(), Fault>
         ensures ok { OnOk result (self.new ≡ after_call self.old (Note number)) }
         ensures accepted { OnOk result (IsAccepted self.old (Note number)) }
@@ -141,7 +142,8 @@ impl CpuData {
     /// The report of a quiescent state: of the processor and its noted number (Linux's
     /// `rcu_report_qs_rdp`).
     ///
-    /// Faults: 2 where the processor is offline; 4 where a section is open.
+    /// Faults: `Offline` (2) where the processor is offline; `InSection` (4) where a section is
+    /// open.
     pub fn quiesce(&self) -> Result<Report, Fault>
         ensures ok { IfOk result (λ report. report ≡ report_of self.now) }
         ensures accepted { OnOk result (IsAccepted self.now Quiesce) }
@@ -164,7 +166,7 @@ impl CpuData {
     /// The processor is online from now on, and notes the grace-period number (Linux's
     /// `rcutree_report_cpu_starting`).
     ///
-    /// Fault 3: the processor is online.
+    /// Fault `AlreadyOnline` (3): the processor is online.
     pub fn arrive(&mut self, number: u64) -> Result<(), Fault>
         ensures ok { OnOk result (self.new ≡ after_call self.old (Arrive number)) }
         ensures accepted { OnOk result (IsAccepted self.old (Arrive number)) }
@@ -181,7 +183,8 @@ impl CpuData {
 
     /// The processor is offline from now on (Linux's `rcutree_report_cpu_dead`).
     ///
-    /// Faults: 2 where the processor is offline; 4 where a section is open.
+    /// Faults: `Offline` (2) where the processor is offline; `InSection` (4) where a section is
+    /// open.
     pub fn depart(&mut self) -> Result<(), Fault>
         ensures ok { OnOk result (self.new ≡ after_call self.old Depart) }
         ensures accepted { OnOk result (IsAccepted self.old Depart) }
@@ -199,7 +202,7 @@ impl CpuData {
         Ok(())
     }
 
-    /// Refuses where the processor is offline, by fault 2.
+    /// Refuses where the processor is offline, by fault `Offline` (2).
     fn check_online(&self) -> Result<(), Fault>
         ensures ok { OnOk result (self.now.online ≡ true) }
         ensures err { IfErr result (λ fault. fault ≡ Fault.Offline) }

@@ -31,12 +31,11 @@ type Starts = ArrayVec<u32, 5>;
 ///
 /// It has the fewest levels that hold all processors, at most four. Nodes are numbered level by
 /// level from the root, 0. Contracts see the two fanouts and the number of processors, and
-/// everything else follows by formula.
+/// everything else follows by formula. A call costs at most some steps a level.
 #[derive(Drop)]
 pub struct Geometry<const LEAF: u32, const FAN: u32> {
-    /// The number of processors.
     cpus: u32,
-    /// The number of levels, 1 to 4.
+    /// 1 to 4.
     levels: u32,
     /// The first node of each level, and behind them the number of nodes.
     starts: Starts,
@@ -64,8 +63,8 @@ impl<const LEAF: u32, const FAN: u32> Model for Geometry<LEAF, FAN> {
 impl<const LEAF: u32, const FAN: u32> Geometry<LEAF, FAN> {
     /// The shape of a tree for this number of processors.
     ///
-    /// Faults: 18 where a fanout is outside 2..=64; 17 for no processor, more than 4,096, or more
-    /// than four levels hold.
+    /// Faults: `BadFanout` (18) where a fanout is outside 2..=64; `TooManyCpus` (17) for no
+    /// processor, more than 4,096, or more than four levels hold.
     pub fn new(cpus: u32) -> Result<Self, Fault>
         ensures ok { IfOk result (λ g. g ≡ shape LEAF FAN cpus) }
         ensures accepted { OnOk result (refusal (shape LEAF FAN cpus) ≡ None) }
@@ -193,7 +192,6 @@ impl<const LEAF: u32, const FAN: u32> Geometry<LEAF, FAN> {
         self.starts[i as usize]
     }
 
-    /// The level of a node.
     fn level_of(&self, node: u32) -> u32
         requires { node < nodes_of self.now }
         ensures value { result ≡ level_of_node self.now node }
@@ -210,7 +208,6 @@ impl<const LEAF: u32, const FAN: u32> Geometry<LEAF, FAN> {
     }
 }
 
-/// Whether a fanout is within 2..=64.
 fn is_fanout(fanout: u32) -> bool
     ensures { result ≡ is_a_fanout fanout }
 {
@@ -228,7 +225,6 @@ fn capacity(leaf: u32, fan: u32, height: u32) -> u32
     leaf * fan.pow(height)
 }
 
-/// The least number of levels whose capacity holds all processors.
 fn least_levels(leaf: u32, fan: u32, cpus: u32) -> u32
     requires { IsLegalShape (shape leaf fan cpus) }
     ensures { result ≡ levels_of (shape leaf fan cpus) }

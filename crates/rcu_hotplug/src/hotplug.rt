@@ -19,10 +19,10 @@ use std::marker::Model;
 /// Contracts see the awaited set's tag, start set and awaited set, and the online set. A beginning
 /// grace period awaits the online processors. One that arrives is awaited from the next begin on;
 /// one that departs is awaited no more. Processor 0 is always online. No call but `new` needs
-/// memory; each costs what one call of the awaited set costs.
+/// memory, and a step for every 64 processors; each other costs what one call of the awaited set
+/// costs.
 #[derive(Drop)]
 pub struct Hotplug<A: Awaited> {
-    /// The processors that are online.
     online: CpuSet,
     /// The processors that the latest grace period awaits.
     inner: A,
@@ -52,7 +52,7 @@ impl<A: Awaited> Model for Hotplug<A> {
 impl<A: Awaited> Hotplug<A> {
     /// Processor 0 is online, and nobody is awaited. The awaited set is as it was made.
     ///
-    /// Fault: 16.
+    /// Fault: `NoMemory` (16).
     pub fn new(alloc: Global, inner: A) -> Result<Self, Fault>
         requires tag { A.tag inner ≡ 0 }
         requires empty { A.start_set inner ≡ replicate (length (A.awaited inner)) false }
@@ -66,7 +66,7 @@ impl<A: Awaited> Hotplug<A> {
 
     /// A processor arrives (Linux's `rcutree_report_cpu_starting`).
     ///
-    /// Faults: 1, 3.
+    /// Faults: `BadCpu` (1), `AlreadyOnline` (3).
     pub fn arrive(&mut self, cpu: u32) -> Result<(), Fault>
         ensures ok { OnOk result (self.new ≡ after_call self.old (Arrive cpu)) }
         ensures accepted { OnOk result (refusal self.old (Arrive cpu) ≡ None) }
@@ -84,7 +84,7 @@ impl<A: Awaited> Hotplug<A> {
 
     /// A processor departs, and is awaited no more (Linux's `rcutree_report_cpu_dead`).
     ///
-    /// Faults: 1; 12 for processor 0; 2.
+    /// Faults: `BadCpu` (1); `BootStays` (12) for processor 0; `Offline` (2).
     pub fn depart(&mut self, cpu: u32) -> Result<(), Fault>
         ensures ok { OnOk result (self.new ≡ after_call self.old (Depart cpu)) }
         ensures accepted { OnOk result (refusal self.old (Depart cpu) ≡ None) }

@@ -20,7 +20,7 @@ const WORD_BITS: u32 = 64;
 /// A set of processors below a fixed number, 1 to 4,096. Contracts see a flag for each processor.
 ///
 /// A bit for each processor in words of 64 (Linux's `cpumask`), and their count beside them: each
-/// call but `new`, `insert_all`, `clear` and `copy_from` costs one step.
+/// call but `new`, `insert_all`, `clear` and `copy_from` costs one step, and these one a word.
 #[derive(Drop)]
 pub struct CpuSet {
     /// How many processors the set was made for.
@@ -53,7 +53,7 @@ impl Model for CpuSet {
 impl CpuSet {
     /// The empty set.
     ///
-    /// Faults: 17 for no processor or more than 4,096; 16.
+    /// Faults: `TooManyCpus` (17) for no processor or more than 4,096; `NoMemory` (16).
     pub fn new(alloc: Global, cpus: u32) -> Result<Self, Fault>
         ensures ok { IfOk result (λ set. set ≡ replicate cpus false) }
         ensures some { OnOk result (0 < cpus) }

@@ -9,9 +9,9 @@ use rcu_seq::fault::Fault;
 
 /// Takes in what another replica of the same grace period has heard: it awaits then whom both
 /// await, and tag and start set stay. Neither has to be of the other's kind or fanouts, nor has a
-/// grace period to run.
+/// grace period to run. It costs a step a processor, and a report of each that is heard.
 ///
-/// Fault: 20 where number of processors, tag or start set differ.
+/// Fault: `NotAlike` (20) where number of processors, tag or start set differ.
 pub fn merge<A: Awaited, B: Awaited>(to: &mut A, from: &B) -> Result<(), Fault>
     ensures ok { OnOk result (standing (A.tag to.new) (A.start_set to.new) (A.awaited to.new)
         ≡ after_merge (standing (A.tag to.old) (A.start_set to.old) (A.awaited to.old))

@@ -18,11 +18,11 @@ use std::marker::Model;
 /// each processor.
 ///
 /// A batch gathers reports before they are delivered. A report that is added twice stands once.
+/// `new` and `join` cost a step a word of the set, and `apply` one a processor, and its
+/// reports.
 #[derive(Drop)]
 pub struct Batch {
-    /// The tag of the reports.
     tag: u64,
-    /// The processors of the reports.
     set: CpuSet,
 }
 
@@ -40,7 +40,7 @@ impl Model for Batch {
 impl Batch {
     /// No report.
     ///
-    /// Faults: 17 for no processor or more than 4,096; 16.
+    /// Faults: `TooManyCpus` (17) for no processor or more than 4,096; `NoMemory` (16).
     pub fn new(alloc: Global, cpus: u32, tag: u64) -> Result<Self, Fault>
         ensures ok { IfOk result (λ batch.
             batch ≡ record { tag = tag; set = replicate cpus false }) }
@@ -80,7 +80,7 @@ impl Batch {
 
     /// Adds a report.
     ///
-    /// Fault: 20 for another tag.
+    /// Fault: `NotAlike` (20) for another tag.
     pub fn add(&mut self, report: Report) -> Result<(), Fault>
         requires { report.cpu < length self.old.set }
         ensures ok { OnOk result (
@@ -99,7 +99,7 @@ impl Batch {
 
     /// Adds the reports of another batch.
     ///
-    /// Fault: 20 for another tag or another number of processors.
+    /// Fault: `NotAlike` (20) for another tag or another number of processors.
     pub fn join(&mut self, other: &Batch) -> Result<(), Fault>
         ensures ok { OnOk result (
             self.new ≡ record self.old { set = union self.old.set other.now.set }) }

@@ -23,7 +23,6 @@ use std::marker::Model;
 /// No call needs memory; each but `merge_from` costs what one call of the awaited set costs.
 #[derive(Drop)]
 pub struct Replica<A: Awaited> {
-    /// The counter of grace periods.
     seq: Seq,
     /// The processors that the latest grace period awaits.
     inner: A,
@@ -54,7 +53,7 @@ impl<A: Awaited> Model for Replica<A> {
 impl<A: Awaited> Replica<A> {
     /// No grace period began, and nobody is awaited. The awaited set is as it was made.
     ///
-    /// Fault 19: `last` is not a multiple of 4 in 4..=2^62.
+    /// Fault `BadLast` (19): `last` is not a multiple of 4 in 4..=2^62.
     pub fn new(inner: A, last: u64) -> Result<Self, Fault>
         requires tag { A.tag inner ≡ 0 }
         requires empty { A.start_set inner ≡ replicate (length (A.awaited inner)) false }
@@ -72,7 +71,7 @@ impl<A: Awaited> Replica<A> {
     /// A grace period begins, awaits the set and answers its number, `4k + 1`. The set is one of as
     /// many processors.
     ///
-    /// Faults: 8 where one runs; 11 where the number is the last one.
+    /// Faults: `Running` (8) where one runs; `Exhausted` (11) where the number is the last one.
     pub fn begin(&mut self, set: &CpuSet) -> Result<u64, Fault>
         requires { length set.now ≡ cpus_of self.old }
         ensures number { IfOk result (λ number. number ≡ number_of self.new.periods) }
@@ -89,7 +88,7 @@ impl<A: Awaited> Replica<A> {
     /// A processor reports a quiescent state with the number that it had noted. While no grace
     /// period runs each report is stale, else it is answered as by [`Awaited::report`].
     ///
-    /// Fault 1: there is no such processor.
+    /// Fault `BadCpu` (1): there is no such processor.
     pub fn report(&mut self, cpu: u32, tag: u64) -> Result<Answer, Fault>
         ensures answer { IfOk result (λ answer. answer ≡ answer_of self.old cpu tag) }
         ensures ok { OnOk result (self.new ≡ after_call self.old (Report cpu tag)) }
@@ -108,7 +107,7 @@ impl<A: Awaited> Replica<A> {
 
     /// A processor departs, and is awaited no more.
     ///
-    /// Faults: 1; 12 for processor 0.
+    /// Faults: `BadCpu` (1); `BootStays` (12) for processor 0.
     pub fn depart(&mut self, cpu: u32) -> Result<(), Fault>
         ensures ok { OnOk result (self.new ≡ after_call self.old (Depart cpu)) }
         ensures accepted { OnOk result (refusal self.old (Depart cpu) ≡ None) }
@@ -129,7 +128,7 @@ impl<A: Awaited> Replica<A> {
     /// The grace period ends, and the new number is answered. The awaited set keeps its tag and
     /// start set.
     ///
-    /// Faults: 9 where none runs; 10 where a processor is awaited.
+    /// Faults: `Idle` (9) where none runs; `Waiting` (10) where a processor is awaited.
     #[tactic(auto, using(crate::proofs::Awaiting::refused_while_awaited))]
     pub fn end(&mut self) -> Result<u64, Fault>
         ensures number { IfOk result (λ number. number ≡ number_of self.new.periods) }
@@ -149,7 +148,7 @@ impl<A: Awaited> Replica<A> {
     /// await, whether the grace period still runs here or there or not. It costs a step a
     /// processor.
     ///
-    /// Fault 20: number of processors, tag or start set differ.
+    /// Fault `NotAlike` (20): number of processors, tag or start set differ.
     pub fn merge_from<B: Awaited>(&mut self, other: &Replica<B>) -> Result<(), Fault>
         ensures ok { OnOk result (self.new ≡ after_call self.old (Merge other.now)) }
         ensures accepted { OnOk result (refusal self.old (Merge other.now) ≡ None) }

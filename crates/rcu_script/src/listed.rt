@@ -23,7 +23,7 @@ pub trait Listed {
             (flat_map space_and_number (items self.now)) };
 }
 
-/// Prints a word and what is listed behind it, or `none`.
+/// Prints a word and what is listed behind it, or `none`, a step a byte.
 pub fn put_listed<L: Listed, O: Output>(out: &mut O, word: &[u8], listed: &L) -> Result<(), Failed>
     requires { length word.now ≤ 128 }
     ensures { Puts result (O.out out.old) (O.out out.new)
@@ -61,7 +61,6 @@ impl Listed for ValueList {
     }
 }
 
-/// Prints processors, each behind a space.
 fn put_cpus<O: Output>(out: &mut O, cpus: &[u32]) -> Result<(), Failed>
     ensures { Puts result (O.out out.old) (O.out out.new) (flat_map space_and_number cpus.now) }
 {
@@ -71,7 +70,6 @@ fn put_cpus<O: Output>(out: &mut O, cpus: &[u32]) -> Result<(), Failed>
     Ok(())
 }
 
-/// Prints values, each behind a space.
 fn put_values<O: Output>(out: &mut O, values: &ValueList) -> Result<(), Failed>
     ensures { Puts result (O.out out.old) (O.out out.new) (flat_map space_and_number values.now) }
 {

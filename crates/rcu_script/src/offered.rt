@@ -1,7 +1,7 @@
 //! The pairs of fanouts that the program offers: the one place where numbers choose a type.
 
 /// Calls a function over the tree of two fanouts, which stand behind the arguments that its type
-/// has before them. Fanouts that are not offered are refused by fault 18.
+/// has before them. Fanouts that are not offered are refused by fault `BadFanout` (18).
 macro_rules! over_offered_tree {
     ($leaf:expr, $inner:expr, $run:ident::<$($before:ident),*> $arguments:tt) => {
         match ($leaf, $inner) {

@@ -51,7 +51,7 @@ pub enum Fault {
     /// 1,000,000 callbacks were queued since opening.
     #[error("1,000,000 callbacks were queued already")]
     CallbacksFull = 15,
-    /// A growth was refused.
+    /// Out of memory: an allocation was refused.
     #[error("no memory is left")]
     NoMemory = 16,
     /// No processor, more than 4,096, or more than four levels hold.

@@ -48,7 +48,7 @@ impl Model for Seq {
 impl Seq {
     /// A counter that is idle at 0, and idle for good once its number is `last`.
     ///
-    /// Fault 19: `last` is not a multiple of 4 in 4..=2^62.
+    /// Fault `BadLast` (19): `last` is not a multiple of 4 in 4..=2^62.
     pub fn new(last: u64) -> Result<Seq, Fault>
         ensures ok { IfOk result (λ seq. seq ≡ record { ends = 0; running = false; last = last }) }
         ensures last { OnOk result (is_last last ≡ true) }
@@ -102,7 +102,7 @@ impl Seq {
 
     /// Begins a grace period, and answers its number (Linux's `rcu_seq_start`).
     ///
-    /// Faults: 8 where one runs; 11 where the number is `last`.
+    /// Faults: `Running` (8) where one runs; `Exhausted` (11) where the number is `last`.
     pub fn start(&mut self) -> Result<u64, Fault>
         ensures ok { IfOk result (λ number. number ≡ number_of self.new) }
         ensures idle { OnOk result (self.old.running ≡ false) }
@@ -127,7 +127,7 @@ impl Seq {
 
     /// Ends the grace period that runs, and answers the new number (Linux's `rcu_seq_end`).
     ///
-    /// Fault 9: none runs.
+    /// Fault `Idle` (9): none runs.
     pub fn end(&mut self) -> Result<u64, Fault>
         ensures ok { IfOk result (λ number. number ≡ number_of self.new) }
         ensures ran { OnOk result (self.old.running ≡ true) }

@@ -23,7 +23,7 @@ pub trait Output {
         ensures bytes { Puts result (out self.old) (out self.new) [] }
         ensures room { OnOk result (most ≤ (out self.new).room) };
 
-    /// Puts a text behind what waits.
+    /// Puts a text behind what waits, a step a byte.
     fn put_text(&mut self, text: &[u8])
         requires { length text.now ≤ (out self.old).room }
         ensures { out self.new ≡ after_put_text (out self.old) text.now };

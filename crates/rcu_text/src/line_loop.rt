@@ -37,7 +37,8 @@ pub enum StreamFault {
     Write,
 }
 
-/// Answers all lines that the reader gives, in order.
+/// Answers all lines that the reader gives, in order. It costs a step a byte that is read, and what
+/// the replies cost.
 ///
 /// Every reply of the lines that were read is written before the next read, so a run that a failed
 /// read stops has answered the lines that were read whole. Where a write failed, a beginning of the

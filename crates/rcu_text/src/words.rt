@@ -10,7 +10,8 @@ const MOST_DIGITS: usize = 20;
 /// How many digits of a number fit 64 bits, whatever they are.
 const SAFE_DIGITS: usize = 19;
 
-/// The first word, and what stands behind it; none where there is no word.
+/// The first word, and what stands behind it; none where there is no word. It costs a step a byte
+/// up to the word's end.
 pub fn next_word(line: &[u8]) -> Option<(&[u8], &[u8])>
     ensures none { IfNone result (words_of line.now ≡ []) }
     ensures some { IfSome result (λ w. words_of line.now ≡ w.0.now ∷ words_of w.1.now) }

@@ -27,8 +27,8 @@ pub enum Order {
 /// Reads the program's arguments, which are the words without its name.
 ///
 /// An error is `clap`'s: its text says what is wrong with the words, or is the help that they ask
-/// for. The kind `OutOfMemory` stands for a growth that was refused, and tests show that it comes
-/// only then.
+/// for. The kind `OutOfMemory` stands for an allocation that was refused, and tests show that it
+/// comes only then. The cost is `clap`'s, for each word.
 pub fn read_command<'a>(alloc: Global, words: &'a [&'a str]) -> Result<Order, Error>
     ensures order { IfOk result (IsOrderOf (subcommand_of rcu (map (λ word. word.now) words.now))) }
     ensures fails { FailsBy (fault_of rcu (map (λ word. word.now) words.now)) result }

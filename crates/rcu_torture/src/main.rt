@@ -46,7 +46,6 @@ fn obey<R: AllocGlobal + Input + Print + Eprint>(rt: &R, words: &[String]) -> Ex
     }
 }
 
-/// Reads the words as texts.
 fn read_order(alloc: Global, words: &[String]) -> Result<Order, clap::Error> {
     let texts: Vec<&str> = words.iter().map(String::as_str).collect(alloc)?;
     read_command(alloc, &texts)

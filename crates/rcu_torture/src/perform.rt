@@ -8,7 +8,7 @@ use rcu_script::{RunFault, run_pair, run_script};
 use rcu_text::{Sink, Source};
 use std::alloc::Global;
 
-/// Answers the lines that the reader gives, as the order says.
+/// Answers the lines that the reader gives, as the order says, and costs what that run costs.
 pub fn perform<R: Source, W: Sink>(
     alloc: Global,
     order: &Order,

@@ -102,7 +102,6 @@ fn answer<A: Awaited, B: Awaited, O: Output>(
     }
 }
 
-/// Whether two of as many processors await the same.
 fn await_the_same<A: Awaited, B: Awaited>(first: &A, second: &B) -> bool
     requires { length (A.awaited first.now) ≡ length (B.awaited second.now) }
     ensures { result ≡ same_set (A.awaited first.now) (B.awaited second.now) }

@@ -13,10 +13,11 @@ use rcu_seq::fault::Fault;
 use rcu_seq::seq::Seq;
 use std::alloc::Global;
 
-/// Two fresh replicas over the trees of two fanouts each.
+/// Two fresh replicas over the trees of two fanouts each. It costs at most a step a processor.
 ///
-/// Faults: 18 and 17 as [`Geometry::new`] has them, each tested of both trees before the next one,
-/// 19 as [`Seq::new`] has it, then 16. What takes no memory is tested first.
+/// Faults: `BadFanout` (18) and `TooManyCpus` (17) as [`Geometry::new`] has them, each tested of
+/// both trees before the next one, `BadLast` (19) as [`Seq::new`] has it, then `NoMemory` (16).
+/// What takes no memory is tested first.
 pub fn open_pair<const LEAF: u32, const INNER: u32, const LEAF2: u32, const INNER2: u32>(
     alloc: Global,
     cpus: u32,

@@ -11,7 +11,8 @@ use rcu_core::reply::Reply;
 use rcu_node::awaited::Awaited;
 use rcu_text::{Failed, Output, put_line, put_numbered, put_spaced};
 
-/// Prints a reply of a replica as a line. The awaited processors are read off its awaited set.
+/// Prints a reply of a replica as a line. The awaited processors are read off its awaited set, a
+/// step a processor.
 ///
 /// Where the writer fails, it took a beginning of what waited and the line.
 pub fn put_pair_reply<A: Awaited, O: Output>(

@@ -14,7 +14,8 @@ use rcu_report::replica::Replica;
 use rcu_seq::fault::Fault;
 
 /// Does what a line asks of a replica that stands beside another one. A begin lists its processors
-/// in the set, which is one of as many processors, so that no event takes memory.
+/// in the set, which is one of as many processors, so that no event takes memory. It costs a step a
+/// listed processor, and what its call of the replica costs.
 ///
 /// Faults: those of the event.
 pub fn step<A: Awaited, B: Awaited>(
@@ -71,7 +72,6 @@ fn begin<A: Awaited>(
     Ok(PairReply::Begun(number, mine.awaited().count()))
 }
 
-/// Whether all are processors below a number.
 fn are_cpus(cpus: &[u32], below: u32) -> bool
     ensures { result ≡ list_all (λ cpu. nat_lt cpu below) cpus.now }
 {

@@ -11,10 +11,11 @@ use rcu_seq::fault::Fault;
 use rcu_seq::seq::Seq;
 use std::alloc::Global;
 
-/// A core over the tree of two fanouts, in the situation of the empty history.
+/// A core over the tree of two fanouts, in the situation of the empty history. It costs a step a
+/// processor.
 ///
-/// Faults: 18 and 17 as [`Geometry::new`] has them, 19 as [`Seq::new`] has it, then 16. What takes
-/// no memory is tested first.
+/// Faults: `BadFanout` (18) and `TooManyCpus` (17) as [`Geometry::new`] has them, `BadLast` (19) as
+/// [`Seq::new`] has it, then `NoMemory` (16). What takes no memory is tested first.
 pub fn open<const LEAF: u32, const INNER: u32>(
     alloc: Global,
     cpus: u32,

@@ -13,7 +13,7 @@ use rcu_report::report::Report;
 use rcu_text::printing::{LONGEST_REPLY, push_numbered};
 use rcu_text::{Failed, Output, put_counts, put_line, put_numbered};
 
-/// Prints a reply as a line.
+/// Prints a reply as a line, a step a byte.
 ///
 /// Where the writer fails, it took a beginning of what waited and the line.
 pub fn put_reply<O: Output>(out: &mut O, reply: &Reply) -> Result<(), Failed>
