@@ -12,7 +12,7 @@ use std::alloc::Global;
 use std::marker::Model;
 
 /// The most processors that a set is made for.
-pub const MOST_CPUS: u32 = 4096;
+const MOST_CPUS: u32 = 4096;
 
 /// How many processors a word holds.
 const WORD_BITS: u32 = 64;
