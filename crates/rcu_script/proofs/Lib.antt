@@ -1,4 +1,5 @@
 pub mod AnswerLemmas
+pub mod CallbackLines
 pub mod ExactLemmas
 pub mod FrontLemmas
 pub mod ListLemmas

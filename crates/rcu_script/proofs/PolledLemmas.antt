@@ -224,7 +224,7 @@ pub record DoneRun (size : Size) (event : Event) (cookie : ℕ) (at_taking at_po
   pub taken : history earlier ≡ at_taking
   pub polled : history (later ++ (event, reply.Cookie (record { 0 = cookie })) ∷ earlier) ≡ at_poll
 
-asked_line : (size : Size) (h : History) (line : List ℕ) (event : Event) (text : List ℕ) (next : History)
+pub asked_line : (size : Size) (h : History) (line : List ℕ) (event : Event) (text : List ℕ) (next : History)
     → asked_by line ≡ Ask event
     → AnswersLine size h (asked_by line) text next → AnswersLine size h (Ask event) text next
 asked_line size h line event text next asks a = subst (λ (l : Line Event). AnswersLine size h l text next) asks a

@@ -1,5 +1,8 @@
 //! What the definitions say of the lines of a script.
-ghost use Rattle.std.specs.Prelude.{◌≡◌, ◌≢◌, ◌∷◌, ◌++◌, false, true, ℕ, List, [], Some};
+ghost use Rattle.std.specs.Prelude.{◌≡◌, ◌≢◌, ◌<◌, ◌≤◌, ◌∷◌, ◌++◌, false, true, ℕ, List, [], Some};
+ghost use Rattle.std.specs.Prelude.{All, codes, map};
+ghost use Rattle.rcu_core.specs.Callbacks.{handed_out, has_full_period, queued_before_barrier};
+ghost use Rattle.rcu_core.specs.Callbacks.{since, times_handed_out};
 ghost use Rattle.rcu_core.specs.History.{History, section};
 ghost use Rattle.rcu_core.specs.Replies.{Size};
 ghost use Rattle.rcu_core.specs.Runs.{IsLegalRun, Run, history, takes};
@@ -9,7 +12,10 @@ ghost use Rattle.rcu_script.specs.ScriptLines.{asked_by};
 ghost use Rattle.rcu_script.specs.ScriptTexts.{text_of};
 
 use rcu_core::event::Event;
-use rcu_core::laws::readers_finish_before_done;
+use rcu_core::laws::{
+    barrier_covers_earlier_callbacks, no_callback_runs_early, no_callback_runs_twice,
+    readers_finish_before_done,
+};
 use rcu_core::reply::Reply;
 use rcu_text::Line;
 use rcu_text::laws::lines_are_pieces;
@@ -75,4 +81,44 @@ pub fn readers_finish_before_done_is_printed()
         → section cpu at_taking ≡ Some opened → section cpu at_poll ≢ Some opened }
 {
     readers_finish_before_done();
+}
+
+/// No callback runs early in print: where a line that runs callbacks is answered `ran`, the answer
+/// tells the values of those that are handed out, and between the queueing of each of them and this
+/// line a full grace period lies.
+pub fn no_callback_is_printed_early()
+    ensures values { (size : Size) (before : List (List ℕ)) (running told text more : List ℕ)
+        (cpu most : ℕ) (at_run end : History) → Answers size [] before told at_run
+        → asked_by running ≡ Line.Ask (Event.Run cpu most)
+        → Answers size at_run (running ∷ []) text end → text ≡ codes "ran" ++ more
+        → text ≡ text_of (Reply.Ran (map (λ call. call.value) (handed_out cpu most at_run))) }
+    ensures late { (size : Size) (before : List (List ℕ)) (running told text more : List ℕ)
+        (cpu most : ℕ) (at_run end : History) → Answers size [] before told at_run
+        → asked_by running ≡ Line.Ask (Event.Run cpu most)
+        → Answers size at_run (running ∷ []) text end → text ≡ codes "ran" ++ more
+        → All (λ call. has_full_period (since call.ord at_run) ≡ true)
+        (handed_out cpu most at_run) }
+{
+    no_callback_runs_early();
+}
+
+/// No callback runs twice in print: whatever lines were answered, each callback was handed out at
+/// most once.
+pub fn no_callback_is_printed_twice()
+    ensures { (size : Size) (lines : List (List ℕ)) (text : List ℕ) (end : History) (ord : ℕ)
+        → Answers size [] lines text end → times_handed_out ord end ≤ 1 }
+{
+    no_callback_runs_twice();
+}
+
+/// A barrier that is printed done covers earlier callbacks: each one that was queued before it
+/// began has been handed out, once.
+pub fn a_barrier_printed_done_covers_earlier_callbacks()
+    ensures { (size : Size) (before : List (List ℕ)) (testing told : List ℕ) (ord : ℕ)
+        (at_test end : History) → Answers size [] before told at_test
+        → asked_by testing ≡ Line.Ask Event.BarTest
+        → Answers size at_test (testing ∷ []) (text_of Reply.BarDone) end
+        → 0 < ord → ord ≤ queued_before_barrier at_test → times_handed_out ord at_test ≡ 1 }
+{
+    barrier_covers_earlier_callbacks();
 }
