@@ -1,5 +1,6 @@
 -- Counts and lists of the processors that pass a test.
-use Rattle.std.proofs.Common.{◌≡◌, ℕ, ◌+◌, ◌<◌, ◌≤◌, Bool, true, false, not, cond, List, [], ◌∷◌, ◌++◌, length, get_or, refl, sym, ap, ◌∙◌, append-nil, arith}
+use Rattle.std.proofs.Common.{◌≡◌, ℕ, ◌+◌, ◌<◌, ◌≤◌, Bool, true, false, not, cond, List, [], ◌∷◌, ◌++◌, length, get_or}
+use Rattle.std.proofs.Common.{refl, sym, ap, ◌∙◌, append-nil, arith}
 use Rattle.std.specs.Prelude.{filter, count_by, sum_by}
 use Rattle.std.specs.List.{range_with_len}
 use Rattle.std.proofs.lemmas.List.FromFn.{fill_by_all, length-range_with_len, get_or-range_with_len}
@@ -10,16 +11,20 @@ use Rattle.rcu_cblist.specs.SegList.{Item, markers}
 use Rattle.rcu_barrier.specs.Lists.{markers_in, unvisited}
 
 -- the lists have as many markers as the lists of the processors together
-pub markers_of_each : (lists : List (List (Item ℕ))) (n : ℕ) → n ≡ length lists → sum_by (λ c. markers (get_or lists c [])) (range_with_len 0 n) ≡ markers_in lists
+pub markers_of_each : (lists : List (List (Item ℕ))) (n : ℕ) → n ≡ length lists
+    → sum_by (λ c. markers (get_or lists c [])) (range_with_len 0 n) ≡ markers_in lists
 markers_of_each lists n e =
     sym (sum_by-map (λ (xs : List (Item ℕ)). markers xs) (λ c. get_or lists c []) (range_with_len 0 n))
-    ∙ ap (λ (ls : List (List (Item ℕ))). sum_by (λ (xs : List (Item ℕ)). markers xs) ls) (sym (fill_by_all (λ c. get_or lists c []) lists n [] (sym e) (λ k lt. refl)))
+    ∙ ap (λ (ls : List (List (Item ℕ))). sum_by (λ (xs : List (Item ℕ)). markers xs) ls)
+    (sym (fill_by_all (λ c. get_or lists c []) lists n [] (sym e) (λ k lt. refl)))
 
 -- as many processors are unvisited as fail the test of a visit
-pub unvisited_of_each : (flags : List Bool) (n : ℕ) → n ≡ length flags → count_by (λ c. not (is_in flags c)) (range_with_len 0 n) ≡ unvisited flags
+pub unvisited_of_each : (flags : List Bool) (n : ℕ) → n ≡ length flags
+    → count_by (λ c. not (is_in flags c)) (range_with_len 0 n) ≡ unvisited flags
 unvisited_of_each flags n e =
     sym (sum_by-map (λ flag. cond (not flag) 1 0) (is_in flags) (range_with_len 0 n))
-    ∙ ap (λ (fs : List Bool). count_by (λ flag. not flag) fs) (sym (fill_by_all (is_in flags) flags n false (sym e) (λ k lt. refl)))
+    ∙ ap (λ (fs : List Bool). count_by (λ flag. not flag) fs)
+    (sym (fill_by_all (is_in flags) flags n false (sym e) (λ k lt. refl)))
 
 at_most_none : (b : Bool) (n : ℕ) → cond b 1 0 ≤ n → n ≡ 0 → b ≡ false
 at_most_none true n le e = absurd (omega arith)
@@ -29,14 +34,19 @@ at_most_none false n le e = refl
 pub none_passes : (n : ℕ) (p : ℕ → Bool) → count_by p (range_with_len 0 n) ≡ 0 → (c : ℕ) → c < n → p c ≡ false
 none_passes n p e c lt =
     let here : c < length (range_with_len 0 n) = omega (arith, length-range_with_len 0 n) in
-    let le : cond (p (get_or (range_with_len 0 n) c 0)) 1 0 ≤ count_by p (range_with_len 0 n) = get_or-le-sum_by (λ k. cond (p k) 1 0) (range_with_len 0 n) c 0 here in
+    let le : cond (p (get_or (range_with_len 0 n) c 0)) 1 0 ≤ count_by p (range_with_len 0 n) = get_or-le-sum_by
+    (λ k. cond (p k) 1 0) (range_with_len 0 n) c 0 here in
     let at : get_or (range_with_len 0 n) c 0 ≡ c = get_or-range_with_len 0 n c 0 lt ∙ omega arith in
     at_most_none (p c) _ (rw at at le) e
 
 -- one processor more, which passes
-pub which_yes : (p : ℕ → Bool) (n : ℕ) (old new : List ℕ) → p n ≡ true → old ≡ filter p (range_with_len 0 n) → new ≡ old ++ n ∷ [] → new ≡ filter p (range_with_len 0 (n + 1))
-which_yes p n old new passes so_far grown = grown ∙ ap (λ (l : List ℕ). l ++ n ∷ []) so_far ∙ sym (filter-range_more p n ∙ rw passes refl)
+pub which_yes : (p : ℕ → Bool) (n : ℕ) (old new : List ℕ) → p n ≡ true → old ≡ filter p (range_with_len 0 n)
+    → new ≡ old ++ n ∷ [] → new ≡ filter p (range_with_len 0 (n + 1))
+which_yes p n old new passes so_far grown = grown ∙ ap (λ (l : List ℕ). l ++ n ∷ []) so_far
+    ∙ sym (filter-range_more p n ∙ rw passes refl)
 
 -- one processor more, which fails
-pub which_no : (p : ℕ → Bool) (n : ℕ) (old new : List ℕ) → p n ≡ false → old ≡ filter p (range_with_len 0 n) → new ≡ old → new ≡ filter p (range_with_len 0 (n + 1))
-which_no p n old new fails so_far same = same ∙ so_far ∙ sym (filter-range_more p n ∙ rw fails (append-nil (filter p (range_with_len 0 n))))
+pub which_no : (p : ℕ → Bool) (n : ℕ) (old new : List ℕ) → p n ≡ false → old ≡ filter p (range_with_len 0 n)
+    → new ≡ old → new ≡ filter p (range_with_len 0 (n + 1))
+which_no p n old new fails so_far same = same ∙ so_far
+    ∙ sym (filter-range_more p n ∙ rw fails (append-nil (filter p (range_with_len 0 n))))

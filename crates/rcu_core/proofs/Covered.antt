@@ -1,5 +1,6 @@
 -- While a barrier runs, each callback from before its begin has a marker behind it where its list was visited.
-use Rattle.std.proofs.Common.{◌≡◌, ℕ, zero, suc, ◌+◌, ◌<◌, ◌≤◌, Bool, true, false, not, ◌&&◌, ◌||◌, List, [], ◌∷◌, ◌++◌, length, None, Some, refl, sym, ap, ◌∙◌, arith, cond, eqb, map, get_or, inl, inr}
+use Rattle.std.proofs.Common.{◌≡◌, ℕ, zero, suc, ◌+◌, ◌<◌, ◌≤◌, Bool, true, false, not, ◌&&◌, ◌||◌, List, [], ◌∷◌, ◌++◌}
+use Rattle.std.proofs.Common.{length, None, Some, refl, sym, ap, ◌∙◌, arith, cond, eqb, map, get_or, inl, inr}
 use Rattle.std.specs.Prelude.{sum_by}
 use Rattle.std.specs.List.{range_with_len}
 use Rattle.std.proofs.lemmas.Bool.{eqb-true}
@@ -7,9 +8,12 @@ use Rattle.std.proofs.lemmas.Bool.Decides.{nat_tests}
 use Rattle.std.proofs.lemmas.List.FromFn.{length-range_with_len, get_or-range_with_len}
 use Rattle.std.proofs.lemmas.List.Sums.{get_or-le-sum_by, sum_by-cons}
 use Rattle.rcu_seq.specs.declared.fault.Fault.TheVariants as fault
-use Rattle.rcu_cblist.specs.SegList.{Item, Of, Marker, Mark, Unmarked, Until, Done, behind, after_entrain, from_callback, front, is_marker, markers, after_migrate, remarked, take_answer, without_mark, after_take, as_it_leaves}
+use Rattle.rcu_cblist.specs.SegList.{Item, Of, Marker, Mark, Unmarked, Until, Done, behind, after_entrain}
+use Rattle.rcu_cblist.specs.SegList.{from_callback, front, is_marker, markers, after_migrate, remarked, take_answer}
+use Rattle.rcu_cblist.specs.SegList.{without_mark, after_take, as_it_leaves}
 use Rattle.rcu_barrier.specs.Tending.{mark_after_tend, after_tend}
-use Rattle.rcu_core.specs.Callbacks.{barrier_runs, is_owed, list, queue_count, queued_before_barrier, times_handed_out, was_visited}
+use Rattle.rcu_core.specs.Callbacks.{barrier_runs, is_owed, list, queue_count, queued_before_barrier, times_handed_out}
+use Rattle.rcu_core.specs.Callbacks.{was_visited}
 use Rattle.rcu_core.specs.History.{History, number}
 use Rattle.rcu_core.specs.Replies.{Size, fault_in, how_many, or_fault, waits_for, AreAccepted, IsLegalReply}
 use Rattle.rcu_core.specs.Situation.{situation}
@@ -30,8 +34,10 @@ marks (Of call mark ∷ xs) = marks xs
 
 markers_are : (xs : List (Item ℕ)) → markers xs ≡ marks xs
 markers_are [] = refl
-markers_are (Marker ∷ xs) = let i = markers_are xs in let c = sum_by-cons (λ (x : Item ℕ). cond (is_marker x) 1 0) Marker xs in omega (arith, i, c)
-markers_are (Of call mark ∷ xs) = let i = markers_are xs in let c = sum_by-cons (λ (x : Item ℕ). cond (is_marker x) 1 0) (Of call mark) xs in omega (arith, i, c)
+markers_are (Marker ∷ xs) = let i = markers_are xs in
+    let c = sum_by-cons (λ (x : Item ℕ). cond (is_marker x) 1 0) Marker xs in omega (arith, i, c)
+markers_are (Of call mark ∷ xs) = let i = markers_are xs in
+    let c = sum_by-cons (λ (x : Item ℕ). cond (is_marker x) 1 0) (Of call mark) xs in omega (arith, i, c)
 
 -- each callback up to this place has a marker behind it
 abbrev Covered : ℕ → List (Item ℕ) → Type 0
@@ -52,12 +58,14 @@ marks-remarked f (Marker ∷ xs) = ap (λ n. n + 1) (marks-remarked f xs)
 covered-append : (b : ℕ) (xs ys : List (Item ℕ)) → Covered b xs → Covered b ys → Covered b (xs ++ ys)
 covered-append b [] ys p q = q
 covered-append b (Marker ∷ xs) ys p q = covered-append b xs ys p q
-covered-append b (Of call mark ∷ xs) ys p q = ((λ l. let i = marks-append xs ys in let k = p.0 l in omega (arith, i, k)), covered-append b xs ys p.1 q)
+covered-append b (Of call mark ∷ xs) ys p q =
+    ((λ l. let i = marks-append xs ys in let k = p.0 l in omega (arith, i, k)), covered-append b xs ys p.1 q)
 
 covered-marked : (b : ℕ) (xs : List (Item ℕ)) → Covered b (xs ++ Marker ∷ [])
 covered-marked b [] = tt
 covered-marked b (Marker ∷ xs) = covered-marked b xs
-covered-marked b (Of call mark ∷ xs) = ((λ l. let i = marks-append xs (Marker ∷ []) in omega (arith, i)), covered-marked b xs)
+covered-marked b (Of call mark ∷ xs) =
+    ((λ l. let i = marks-append xs (Marker ∷ []) in omega (arith, i)), covered-marked b xs)
 
 covered-entrained : (b : ℕ) (xs : List (Item ℕ)) → Covered b (after_entrain xs)
 covered-entrained b [] = tt
@@ -66,7 +74,8 @@ covered-entrained b (x ∷ xs) = covered-marked b (x ∷ xs)
 covered-remarked : (b : ℕ) (f : Mark → Mark) (xs : List (Item ℕ)) → Covered b xs → Covered b (map (remarked f) xs)
 covered-remarked b f [] p = tt
 covered-remarked b f (Marker ∷ xs) p = covered-remarked b f xs p
-covered-remarked b f (Of call mark ∷ xs) p = ((λ l. let i = marks-remarked f xs in let k = p.0 l in omega (arith, i, k)), covered-remarked b f xs p.1)
+covered-remarked b f (Of call mark ∷ xs) p =
+    ((λ l. let i = marks-remarked f xs in let k = p.0 l in omega (arith, i, k)), covered-remarked b f xs p.1)
 
 covered-from : (b n : ℕ) (xs : List (Item ℕ)) → Covered b xs → Covered b (from_callback n xs)
 covered-from b n [] p = p
@@ -91,16 +100,23 @@ marks-moved xs ys =
 covered-moved : (b : ℕ) (xs ys : List (Item ℕ)) → Covered b xs → Covered b ys → Covered b (after_migrate ys xs)
 covered-moved b [] ys p q = covered-append b ys [] q tt
 covered-moved b (Marker ∷ xs) ys p q = covered-moved b xs ys p q
-covered-moved b (Of call Unmarked ∷ xs) ys p q = covered-append b ys (map without_mark (Of call Unmarked ∷ xs)) q (covered-remarked b (λ _. Unmarked) (Of call Unmarked ∷ xs) p)
-covered-moved b (Of call (Until n) ∷ xs) ys p q = covered-append b ys (map without_mark (Of call (Until n) ∷ xs)) q (covered-remarked b (λ _. Unmarked) (Of call (Until n) ∷ xs) p)
-covered-moved b (Of call Done ∷ xs) ys p q = ((λ l. let i = marks-moved xs ys in let k = p.0 l in omega (arith, i, k)), covered-moved b xs ys p.1 q)
+covered-moved b (Of call Unmarked ∷ xs) ys p q =
+    covered-append b ys (map without_mark (Of call Unmarked ∷ xs)) q
+    (covered-remarked b (λ _. Unmarked) (Of call Unmarked ∷ xs) p)
+covered-moved b (Of call (Until n) ∷ xs) ys p q =
+    covered-append b ys (map without_mark (Of call (Until n) ∷ xs)) q
+    (covered-remarked b (λ _. Unmarked) (Of call (Until n) ∷ xs) p)
+covered-moved b (Of call Done ∷ xs) ys p q =
+    ((λ l. let i = marks-moved xs ys in let k = p.0 l in omega (arith, i, k)), covered-moved b xs ys p.1 q)
 
-covered-cond : (b : ℕ) (t : Bool) (xs ys : List (Item ℕ)) → (t ≡ true → Covered b xs) → (t ≡ false → Covered b ys) → Covered b (cond t xs ys)
+covered-cond : (b : ℕ) (t : Bool) (xs ys : List (Item ℕ)) → (t ≡ true → Covered b xs) → (t ≡ false → Covered b ys)
+    → Covered b (cond t xs ys)
 covered-cond b true xs ys f g = f refl
 covered-cond b false xs ys f g = g refl
 
 -- a list that is visited now, or was already
-covered-leaving : (b : ℕ) (r v : Bool) (xs : List (Item ℕ)) → r ≡ true → (v ≡ true → Covered b xs) → Covered b (as_it_leaves xs (r && not v))
+covered-leaving : (b : ℕ) (r v : Bool) (xs : List (Item ℕ)) → r ≡ true → (v ≡ true → Covered b xs)
+    → Covered b (as_it_leaves xs (r && not v))
 covered-leaving b true true xs e f = f refl
 covered-leaving b true false xs e f = covered-entrained b xs
 covered-leaving b false v xs e f = absurd (cc)
@@ -120,33 +136,41 @@ new_item y h = Of (record { ord = queue_count h + 1; at = number h; value = y })
 barrier_step : (s : Size) (e : Event) (h : History) → fault_in s (situation h) e ≡ None → Barrier h → Barrier (e ∷ h)
 barrier_step s BarBegin h p f = record { covered = λ r c v. absurd (cc); before_le = omega arith }
 barrier_step s BarTest h p f = record { covered = λ r c v. absurd (cc); before_le = f.before_le }
-barrier_step s (Queue d y) h p f = let n = queue_counts d y h in let b = queued_before_barrier h in let k = f.before_le in record {
-  covered = λ r c v. covered-cond b (eqb d c) (list c h ++ new_item y h ∷ []) (list c h)
-      (λ e. covered-append b (list c h) (new_item y h ∷ []) (f.covered r c v) ((λ l. absurd (omega (arith, k, l))), tt))
-      (λ e. f.covered r c v);
-  before_le = omega (arith, k, n);
-}
+barrier_step s (Queue d y) h p f = let n = queue_counts d y h in let b = queued_before_barrier h in
+    let k = f.before_le in record {
+      covered = λ r c v. covered-cond b (eqb d c) (list c h ++ new_item y h ∷ []) (list c h)
+          (λ e. covered-append b (list c h) (new_item y h ∷ []) (f.covered r c v)
+          ((λ l. absurd (omega (arith, k, l))), tt))
+          (λ e. f.covered r c v);
+      before_le = omega (arith, k, n);
+    }
 barrier_step s (Tend d) h p f = let b = queued_before_barrier h in record {
-  covered = λ r c v. covered-cond b (eqb d c) (after_tend (list c h) (number h)) (list c h) (λ e. covered-remarked b (mark_after_tend (number h)) (list c h) (f.covered r c v)) (λ e. f.covered r c v);
+  covered = λ r c v. covered-cond b (eqb d c) (after_tend (list c h) (number h)) (list c h)
+      (λ e. covered-remarked b (mark_after_tend (number h)) (list c h) (f.covered r c v)) (λ e. f.covered r c v);
   before_le = f.before_le;
 }
 barrier_step s (Run d m) h p f = let b = queued_before_barrier h in record {
-  covered = λ r c v. covered-cond b (eqb d c) (after_take (list c h) m) (list c h) (λ e. covered-from b (length (take_answer (list c h) m)) (list c h) (f.covered r c v)) (λ e. f.covered r c v);
+  covered = λ r c v. covered-cond b (eqb d c) (after_take (list c h) m) (list c h)
+      (λ e. covered-from b (length (take_answer (list c h) m)) (list c h) (f.covered r c v)) (λ e. f.covered r c v);
   before_le = f.before_le;
 }
 barrier_step s (Visit d) h p f = let b = queued_before_barrier h in record {
   covered = λ r c v. covered-cond b (eqb d c) (as_it_leaves (list c h) (is_owed d h)) (list c h)
-      (λ e. covered-leaving b (barrier_runs h) (was_visited d h) (list c h) r (λ w. f.covered r c (rw (← eqb-true d c e) w)))
+      (λ e. covered-leaving b (barrier_runs h) (was_visited d h) (list c h) r
+      (λ w. f.covered r c (rw (← eqb-true d c e) w)))
       (λ e. f.covered r c (or_rest (eqb d c) (was_visited c h) e v));
   before_le = f.before_le;
 }
-barrier_step s (Offline d) h p f = let b = queued_before_barrier h in let xs = as_it_leaves (list d h) (is_owed d h) in record {
-  covered = λ r c v. covered-cond b (eqb d c) [] (cond (eqb c 0) (after_migrate (list c h) xs) (list c h)) (λ e. tt)
-      (λ e. let old = f.covered r c (or_rest (eqb d c) (was_visited c h) e v) in covered-cond b (eqb c 0) (after_migrate (list c h) xs) (list c h)
-      (λ z. covered-moved b xs (list c h) (covered-leaving b (barrier_runs h) (was_visited d h) (list d h) r (λ w. f.covered r d w)) old)
-      (λ z. old));
-  before_le = f.before_le;
-}
+barrier_step s (Offline d) h p f = let b = queued_before_barrier h in
+    let xs = as_it_leaves (list d h) (is_owed d h) in record {
+      covered = λ r c v. covered-cond b (eqb d c) [] (cond (eqb c 0) (after_migrate (list c h) xs) (list c h)) (λ e. tt)
+          (λ e. let old = f.covered r c (or_rest (eqb d c) (was_visited c h) e v) in
+          covered-cond b (eqb c 0) (after_migrate (list c h) xs) (list c h)
+          (λ z. covered-moved b xs (list c h) (covered-leaving b (barrier_runs h) (was_visited d h) (list d h) r
+          (λ w. f.covered r d w)) old)
+          (λ z. old));
+      before_le = f.before_le;
+    }
 barrier_step s _ h p f = record { covered = f.covered; before_le = f.before_le }
 
 barrier_each : (s : Size) (h : History) → AreAccepted s h → Barrier h
@@ -163,19 +187,22 @@ none_left b j (Of call mark ∷ xs) p e l =
 
 sum_zero : (n : ℕ) (f : ℕ → ℕ) → ((c : ℕ) → c < n → f c ≡ 0) → sum_below n f ≡ 0
 sum_zero zero f h = refl
-sum_zero (suc n) f h = let a = h n (omega arith) in let b = sum_zero n f (λ c l. h c (omega arith)) in omega (arith, a, b)
+sum_zero (suc n) f h = let a = h n (omega arith) in let b = sum_zero n f (λ c l. h c (omega arith)) in
+    omega (arith, a, b)
 
 -- where a sum over the processors is 0, each part is
 zero_each : (n : ℕ) (f : ℕ → ℕ) → sum_by f (range_with_len 0 n) ≡ 0 → (c : ℕ) → c < n → f c ≡ 0
 zero_each n f e c l =
     let here : c < length (range_with_len 0 n) = omega (arith, length-range_with_len 0 n) in
-    let le : f (get_or (range_with_len 0 n) c 0) ≤ sum_by f (range_with_len 0 n) = get_or-le-sum_by f (range_with_len 0 n) c 0 here in
+    let le : f (get_or (range_with_len 0 n) c 0) ≤ sum_by f (range_with_len 0 n) = get_or-le-sum_by f
+    (range_with_len 0 n) c 0 here in
     let at : get_or (range_with_len 0 n) c 0 ≡ c = get_or-range_with_len 0 n c 0 l ∙ omega arith in
     let m : f c ≤ sum_by f (range_with_len 0 n) = rw at at le in
     omega (arith, m, e)
 
 -- where the test of a running barrier finds nothing, every callback from before its begin was handed out
-covered_once : (s : Size) (h : History) (j : ℕ) → AreAccepted s h → barrier_runs h ≡ true → waits_for s (situation h) ≡ 0 → 0 < j → j ≤ queued_before_barrier h → times_handed_out j h ≡ 1
+covered_once : (s : Size) (h : History) (j : ℕ) → AreAccepted s h → barrier_runs h ≡ true
+    → waits_for s (situation h) ≡ 0 → 0 < j → j ≤ queued_before_barrier h → times_handed_out j h ≡ 1
 covered_once s h j p r u z b =
     let f = barrier_each s h p in
     let k = f.before_le in
@@ -195,15 +222,19 @@ told_done : (b : Bool) (n : ℕ) → eqb n 0 ≡ b → reply.BarDone ≡ cond b 
 told_done true n i e = eqb-true n 0 i
 told_done false n i e = absurd (cc)
 
-done_parts : (r : Bool) (n : ℕ) → reply.BarDone ≡ or_fault (cond (not r) (Some fault.NoBarrier) None) (cond (eqb n 0) reply.BarDone (reply.BarWaits n)) → (r ≡ true) × (n ≡ 0)
+done_parts : (r : Bool) (n : ℕ) → reply.BarDone
+    ≡ or_fault (cond (not r) (Some fault.NoBarrier) None) (cond (eqb n 0) reply.BarDone (reply.BarWaits n))
+    → (r ≡ true) × (n ≡ 0)
 done_parts true n e = (refl, told_done (eqb n 0) n refl e)
 done_parts false n e = absurd (cc)
 
-test_done : (s : Size) (h : History) → IsLegalReply s (situation h) BarTest reply.BarDone → (barrier_runs h ≡ true) × (waits_for s (situation h) ≡ 0)
+test_done : (s : Size) (h : History) → IsLegalReply s (situation h) BarTest reply.BarDone → (barrier_runs h ≡ true)
+    × (waits_for s (situation h) ≡ 0)
 test_done s h (inl i) = done_parts (barrier_runs h) (waits_for s (situation h)) i
 test_done s h (inr i) = absurd (cc)
 
-pub earlier_are_handed : (s : Size) (run : Trace) (j : ℕ) → IsLegalRun s ((BarTest, reply.BarDone) ∷ run) → 0 < j → j ≤ queued_before_barrier (history run) → times_handed_out j (history run) ≡ 1
+pub earlier_are_handed : (s : Size) (run : Trace) (j : ℕ) → IsLegalRun s ((BarTest, reply.BarDone) ∷ run) → 0 < j
+    → j ≤ queued_before_barrier (history run) → times_handed_out j (history run) ≡ 1
 earlier_are_handed s run j l z b =
     let h = history run in
     let q = test_done s h l.0 in

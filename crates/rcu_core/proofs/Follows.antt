@@ -1,5 +1,6 @@
 -- A step on states follows the step on histories.
-use Rattle.std.proofs.Common.{◌≡◌, ℕ, ◌+◌, ◌-◌, ◌<◌, Bool, true, false, cond, List, [], ◌∷◌, ◌++◌, length, Option, Some, None}
+use Rattle.std.proofs.Common.{◌≡◌, ℕ, ◌+◌, ◌-◌, ◌<◌, Bool, true, false, cond, List, [], ◌∷◌, ◌++◌, length, Option, Some}
+use Rattle.std.proofs.Common.{None}
 use Rattle.std.proofs.Common.{refl, sym, ap, ap₂, subst, ◌∙◌, arith, get_or, take, inl, inr}
 use Rattle.std.specs.Prelude.{◌==◌, max}
 use Rattle.std.proofs.lemmas.Bool.Decides.{nat_tests}
@@ -15,14 +16,17 @@ use Rattle.rcu_barrier.specs.Lists.{barrier_left}
 use Rattle.rcu_core.specs.Callbacks.{barrier_runs, greatest_from}
 use Rattle.rcu_core.specs.GpState.{after_begin, after_end, at_first, awaited_in, periods_of}
 use Rattle.rcu_core.specs.History.{History, online, noted, depth, enter_count, exit_count, report_at}
-use Rattle.rcu_core.specs.Replies.{Size, AreAccepted, IsLegalReply, accepted_reply, barrier_test_reply, fault_in, or_fault}
+use Rattle.rcu_core.specs.Replies.{Size, AreAccepted, IsLegalReply, accepted_reply, barrier_test_reply, fault_in}
+use Rattle.rcu_core.specs.Replies.{or_fault}
 use Rattle.rcu_core.specs.Replies.{waits_for, with_event}
 use Rattle.rcu_core.specs.Runs.{Leads, RunsLegally}
 use Rattle.rcu_core.specs.Situation.{Situation, cpus_in, situation, wants_begin}
 use Rattle.rcu_core.specs.Core.{State, IsSound, StepsLegally, Represents, Follows, size_at, after_event, after_reply}
 use Rattle.rcu_core.specs.declared.event.Event.{Event}
-use Rattle.rcu_core.specs.declared.event.Event.TheVariants.{Enter, Exit, Note, Quiesce, Deliver, Online, Offline, Begin, End}
-use Rattle.rcu_core.specs.declared.event.Event.TheVariants.{Turn, Awaits, Take, StartPoll, Poll, Queue, Tend, Run, BarBegin}
+use Rattle.rcu_core.specs.declared.event.Event.TheVariants.{Enter, Exit, Note, Quiesce, Deliver, Online, Offline, Begin}
+use Rattle.rcu_core.specs.declared.event.Event.TheVariants.{End}
+use Rattle.rcu_core.specs.declared.event.Event.TheVariants.{Turn, Awaits, Take, StartPoll, Poll, Queue, Tend, Run}
+use Rattle.rcu_core.specs.declared.event.Event.TheVariants.{BarBegin}
 use Rattle.rcu_core.specs.declared.event.Event.TheVariants.{Visit, BarTest}
 use Rattle.rcu_core.specs.declared.reply.Reply.{Reply}
 use Rattle.rcu_core.specs.declared.reply.Reply.TheVariants as reply
@@ -44,7 +48,12 @@ left_tested v false n = refl
 
 test_kept : (v : State ℕ) (h : History) (b : Bool) (n : ℕ) → Represents v h →
     fault_in (size_at v) (situation h) BarTest ≡ None →
-    Represents (record v { grace = record v.grace { lists = cond b (record v.grace.lists { running = false }) v.grace.lists } })
+    Represents (record v {
+      grace = record v.grace {
+        lists = cond b
+            (record v.grace.lists { running = false }) v.grace.lists;
+      };
+    })
     (with_event h BarTest (cond b reply.BarDone (reply.BarWaits n)))
 test_kept v h true n x p = record {
   accepted = (p, x.accepted);
@@ -74,12 +83,14 @@ follows_test v h s x p =
 deeper : (s : Size) (c : ℕ) (h : History) → AreAccepted s h → depth c h + 1 ≡ depth c (Enter c ∷ h)
 deeper s c h p =
     let le = exits_le s c h p in
-    let n : enter_count c (Enter c ∷ h) ≡ 1 + enter_count c h = enter_counts c c h ∙ ap (λ b. cond b 1 0 + enter_count c h) (eqb_self c) in
+    let n : enter_count c (Enter c ∷ h) ≡ 1 + enter_count c h = enter_counts c c h
+    ∙ ap (λ b. cond b 1 0 + enter_count c h) (eqb_self c) in
     omega (arith, le, n)
 
 shallower : (c : ℕ) (h : History) → depth c h - 1 ≡ depth c (Exit c ∷ h)
 shallower c h =
-    let n : exit_count c (Exit c ∷ h) ≡ 1 + exit_count c h = exit_counts c c h ∙ ap (λ b. cond b 1 0 + exit_count c h) (eqb_self c) in
+    let n : exit_count c (Exit c ∷ h) ≡ 1 + exit_count c h = exit_counts c c h
+    ∙ ap (λ b. cond b 1 0 + exit_count c h) (eqb_self c) in
     omega (arith, n)
 
 -- with its sections nested so deep
@@ -96,7 +107,8 @@ follows v h (Enter c) s x p = record {
   cpus = record {
     online = x.cpus.online;
     awaits = x.cpus.awaits;
-    each = one_changed v.cpus (cpus_in h) (cpus_in (Enter c ∷ h)) c cpu_data.Enter (within v c s (grind (arith, nat_tests)))
+    each = one_changed v.cpus (cpus_in h) (cpus_in (Enter c ∷ h)) c cpu_data.Enter
+        (within v c s (grind (arith, nat_tests)))
         x.cpus.each (ap (λ n. so_deep c h n) (deeper (size_at v) c h x.accepted)) (λ k n. rw n refl);
     made = x.cpus.made;
   };
@@ -108,7 +120,8 @@ follows v h (Exit c) s x p = record {
   cpus = record {
     online = x.cpus.online;
     awaits = x.cpus.awaits;
-    each = one_changed v.cpus (cpus_in h) (cpus_in (Exit c ∷ h)) c cpu_data.Exit (within v c s (grind (arith, nat_tests)))
+    each = one_changed v.cpus (cpus_in h) (cpus_in (Exit c ∷ h)) c cpu_data.Exit
+        (within v c s (grind (arith, nat_tests)))
         x.cpus.each (ap (λ n. so_deep c h n) (shallower c h)) (λ k n. rw n refl);
     made = x.cpus.made;
   };
@@ -121,7 +134,8 @@ follows v h (Note c) s x p = record {
     online = x.cpus.online;
     awaits = x.cpus.awaits;
     each = one_changed v.cpus (cpus_in h) (cpus_in (Note c ∷ h)) c (cpu_data.Note (number_of v.grace.seq))
-        (within v c s (grind (arith, nat_tests))) x.cpus.each (rw (eqb_self c, number_same v h x) refl) (λ k n. rw n refl);
+        (within v c s (grind (arith, nat_tests))) x.cpus.each (rw (eqb_self c, number_same v h x) refl)
+        (λ k n. rw n refl);
     made = x.cpus.made;
   };
   calls = x.calls;
@@ -138,7 +152,8 @@ follows v h (Quiesce c) s x p = record {
   calls = x.calls;
 }
 follows v h (Deliver k) s x p = record {
-  accepted = longer v (after_event v (Deliver k)) h (Deliver k) x p (length-awaited_by v.grace (report_at k v.made)) refl;
+  accepted = longer v (after_event v (Deliver k)) h (Deliver k) x p
+      (length-awaited_by v.grace (report_at k v.made)) refl;
   periods = x.periods;
   cpus = record {
     online = x.cpus.online;
@@ -156,19 +171,23 @@ follows v h (Online c) s x p = record {
         (within_all v c s (grind (arith, nat_tests))).0 x.cpus.online (rw (eqb_self c) refl) (λ k n. rw n refl);
     awaits = x.cpus.awaits;
     each = one_changed v.cpus (cpus_in h) (cpus_in (Online c ∷ h)) c (cpu_data.Arrive (number_of v.grace.seq))
-        (within v c s (grind (arith, nat_tests))) x.cpus.each (rw (eqb_self c, number_same v h x) refl) (λ k n. rw n refl);
+        (within v c s (grind (arith, nat_tests))) x.cpus.each (rw (eqb_self c, number_same v h x) refl)
+        (λ k n. rw n refl);
     made = x.cpus.made;
   };
   calls = x.calls;
 }
 follows v h (Offline c) s x p = let here = within_all v c s (grind (arith, nat_tests)) in record {
-  accepted = longer v (after_event v (Offline c)) h (Offline c) x p (length-set v.grace.processors.awaited c false) refl;
+  accepted = longer v (after_event v (Offline c)) h (Offline c) x p
+      (length-set v.grace.processors.awaited c false) refl;
   periods = x.periods;
   cpus = record {
-    online = one_written false v.grace.processors.online c false (λ k. online k h) (λ k. online k (Offline c ∷ h)) here.0
+    online = one_written false v.grace.processors.online c false (λ k. online k h)
+        (λ k. online k (Offline c ∷ h)) here.0
         x.cpus.online (rw (eqb_self c) refl) (λ k n. rw n refl);
     awaits = awaits_departed v h c x;
-    each = one_changed v.cpus (cpus_in h) (cpus_in (Offline c ∷ h)) c cpu_data.Depart (within v c s (grind (arith, nat_tests)))
+    each = one_changed v.cpus (cpus_in h) (cpus_in (Offline c ∷ h)) c cpu_data.Depart
+        (within v c s (grind (arith, nat_tests)))
         x.cpus.each (rw (eqb_self c) refl) (λ k n. rw n refl);
     made = x.cpus.made;
   };
@@ -233,19 +252,26 @@ follows v h (Visit c) s x p =
     }
 follows v h BarTest s x p = follows_test v h s x p
 
-went_answer : (v w : State ℕ) (h : History) (e : Event) (o : Option Fault) → IsSound v → Represents v h → fault_in (size_at v) (situation h) e ≡ o
-    → w ≡ after_reply v e (or_fault o (accepted_reply (size_at v) (situation h) e)) → Represents w (with_event h e (or_fault o (accepted_reply (size_at v) (situation h) e)))
+went_answer : (v w : State ℕ) (h : History) (e : Event) (o : Option Fault) → IsSound v → Represents v h
+    → fault_in (size_at v) (situation h) e ≡ o
+    → w ≡ after_reply v e (or_fault o (accepted_reply (size_at v) (situation h) e))
+    → Represents w (with_event h e (or_fault o (accepted_reply (size_at v) (situation h) e)))
 went_answer v w h e (Some f) s x p i = rw i x
 went_answer v w h e None s x p i = rw i (follows v h e s x p)
 
-went : (v w : State ℕ) (h : History) (e : Event) (r : Reply) → IsSound v → Represents v h → IsLegalReply (size_at v) (situation h) e r → w ≡ after_reply v e r → Represents w (with_event h e r)
+went : (v w : State ℕ) (h : History) (e : Event) (r : Reply) → IsSound v → Represents v h
+    → IsLegalReply (size_at v) (situation h) e r → w ≡ after_reply v e r → Represents w (with_event h e r)
 went v w h e r s x (inl l) i = rw l (went_answer v w h e (fault_in (size_at v) (situation h) e) s x refl (rw l at i))
 went v w h e r s x (inr l) i = rw l.2 (subst (λ (u : State ℕ). Represents u h) (sym (rw l.2 at i)) x)
 
 abbrev the_size : ℕ → ℕ → Size
 the_size cpus last = record { cpus = cpus; last = last }
 
-turn_size : (v : State ℕ) (a b d : Bool) → IsSound v → size_at (record v { grace = cond a (cond b (after_end v.grace) v.grace) (cond d (after_begin v.grace) v.grace) }) ≡ size_at v
+turn_size : (v : State ℕ) (a b d : Bool) → IsSound v
+    → size_at (record v {
+      grace = cond a (cond b (after_end v.grace) v.grace)
+          (cond d (after_begin v.grace) v.grace);
+    }) ≡ size_at v
 turn_size v true true d s = refl
 turn_size v true false d s = refl
 turn_size v false b true s = ap (λ n. the_size n v.grace.seq.last) s.flags
@@ -263,17 +289,25 @@ left_size v e (reply.Fault f) s = refl
 left_size v e _ s = next_size v e s
 
 -- a legal step on states is a legal step on histories
-pub goes : (v w : State ℕ) (h : History) (e : Event) (r : Reply) → IsSound v → Represents v h → StepsLegally v e r w → Follows v h e r w
+pub goes : (v w : State ℕ) (h : History) (e : Event) (r : Reply) → IsSound v → Represents v h → StepsLegally v e r w
+    → Follows v h e r w
 goes v w h e r s x d =
     let l = subst (λ (u : Situation). IsLegalReply (size_at v) u e r) (same v h x) d.legal in
-    record { legal = l; has = went v w h e r s x l d.left; size = ap (λ (u : State ℕ). size_at u) d.left ∙ left_size v e r s }
+    record {
+      legal = l;
+      has = went v w h e r s x l d.left;
+      size = ap (λ (u : State ℕ). size_at u) d.left
+          ∙ left_size v e r s;
+    }
 
 -- a refused event leaves the machine as it was
-pub refused_stays : (v w : State ℕ) (e : Event) (r : Reply) (f : Fault) → StepsLegally v e r w → r ≡ reply.Fault f → w ≡ v
+pub refused_stays : (v w : State ℕ) (e : Event) (r : Reply) (f : Fault) → StepsLegally v e r w → r ≡ reply.Fault f
+    → w ≡ v
 refused_stays v w e r f d p = d.left ∙ ap (λ (x : Reply). after_reply v e x) p
 
 -- a new machine is in the situation of the empty history
-pub has_first : (n last : ℕ) (v : State ℕ) → 0 < n → v.grace ≡ at_first n last → v.cpus ≡ first_cpus n → v.made ≡ [] → Represents v []
+pub has_first : (n last : ℕ) (v : State ℕ) → 0 < n → v.grace ≡ at_first n last → v.cpus ≡ first_cpus n → v.made ≡ []
+    → Represents v []
 has_first n last v l e f m =
     subst (λ (x : State ℕ). Represents x []) (λ i. record { grace = sym e i; cpus = sym f i; made = sym m i })
     (record {
@@ -283,21 +317,29 @@ has_first n last v l e f m =
       calls = record { queued = refl; list = no_item n; barrier = refl; owed = λ c. refl };
     })
 
-leads_on : (s : Size) (h g : History) (es : List Event) (rs : List Reply) (e : Event) (r : Reply) → Leads s h es rs g → IsLegalReply s (situation g) e r → Leads s h (es ++ e ∷ []) (rs ++ r ∷ []) (with_event g e r)
-leads_on s h g [] [] e r l k = (subst (λ (x : History). IsLegalReply s (situation x) e r) l k, ap (λ (x : History). with_event x e r) l)
+leads_on : (s : Size) (h g : History) (es : List Event) (rs : List Reply) (e : Event) (r : Reply) → Leads s h es rs g
+    → IsLegalReply s (situation g) e r → Leads s h (es ++ e ∷ []) (rs ++ r ∷ []) (with_event g e r)
+leads_on s h g [] [] e r l k =
+    (subst (λ (x : History). IsLegalReply s (situation x) e r) l k, ap (λ (x : History). with_event x e r) l)
 leads_on s h g (f ∷ es) (q ∷ rs) e r l k = (l.0, leads_on s (with_event h f q) g es rs e r l.1 k)
 leads_on s h g [] (q ∷ rs) e r l k = absurd l
 leads_on s h g (f ∷ es) [] e r l k = absurd l
 
 -- one step more
-ran_on : (v w u : State ℕ) (h : History) (es : List Event) (rs : List Reply) (e : Event) (r : Reply) → RunsLegally v h es rs w → ((g : History) → Represents w g → Follows w g e r u) → RunsLegally v h (es ++ e ∷ []) (rs ++ r ∷ []) u
+ran_on : (v w u : State ℕ) (h : History) (es : List Event) (rs : List Reply) (e : Event) (r : Reply)
+    → RunsLegally v h es rs w → ((g : History) → Represents w g → Follows w g e r u)
+    → RunsLegally v h (es ++ e ∷ []) (rs ++ r ∷ []) u
 ran_on v w u h es rs e r a k = let b = k a.reached a.has in record {
   reached = with_event a.reached e r;
-  leads = leads_on (size_at v) h a.reached es rs e r a.leads (subst (λ (s : Size). IsLegalReply s (situation a.reached) e r) a.size b.legal);
+  leads = leads_on (size_at v) h a.reached es rs e r a.leads
+      (subst (λ (s : Size). IsLegalReply s (situation a.reached) e r) a.size b.legal);
   has = b.has;
   size = b.size ∙ a.size;
 }
 
 -- the same, over what was read so far of a list of events
-pub ran_more : (v w u : State ℕ) (h : History) (es : List Event) (i : ℕ) (d : Event) (rs qs : List Reply) (r : Reply) → i < length es → qs ≡ rs ++ r ∷ [] → RunsLegally v h (take i es) rs w → ((g : History) → Represents w g → Follows w g (get_or es i d) r u) → RunsLegally v h (take (i + 1) es) qs u
-ran_more v w u h es i d rs qs r l q a k = rw (q, take_more es i d l) (ran_on v w u h (take i es) rs (get_or es i d) r a k)
+pub ran_more : (v w u : State ℕ) (h : History) (es : List Event) (i : ℕ) (d : Event) (rs qs : List Reply) (r : Reply)
+    → i < length es → qs ≡ rs ++ r ∷ [] → RunsLegally v h (take i es) rs w
+    → ((g : History) → Represents w g → Follows w g (get_or es i d) r u) → RunsLegally v h (take (i + 1) es) qs u
+ran_more v w u h es i d rs qs r l q a k =
+    rw (q, take_more es i d l) (ran_on v w u h (take i es) rs (get_or es i d) r a k)

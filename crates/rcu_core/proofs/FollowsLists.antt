@@ -79,7 +79,8 @@ visit_owed : (all : AllLists ℕ) (h : History) (c k : ℕ) (seen : Bool) → Ho
     ≡ (barrier_runs h && not (eqb c k || was_visited k h))
 visit_owed all h c k seen x l e =
     ap (λ b. all.running && not b) (marked seen all.visited c k l e)
-    ∙ owed_after all.running (barrier_runs h) (eqb c k) (get_or all.visited k false) (was_visited k h) x.barrier (x.owed k)
+    ∙ owed_after all.running (barrier_runs h) (eqb c k) (get_or all.visited k false) (was_visited k h) x.barrier
+    (x.owed k)
 
 either : {X : Type 0} (b : Bool) (x : X) → x ≡ cond b x x
 either true x = refl
@@ -129,7 +130,8 @@ moved_lists all h c l x =
     let boot = after_migrate (list_of all 0) (as_it_leaves (list_of all c) (owes_visit all c)) in
     let own : as_it_leaves (list_of all c) (owes_visit all c) ≡ as_it_leaves (list c h) (is_owed c h) =
     ap₂ (λ (o : Bool) (xs : List (Item ℕ)). as_it_leaves xs o) (x.owed c) (x.list c) in
-    let between = λ (k : ℕ). cond (eqb k 0) (after_migrate (list k h) (as_it_leaves (list c h) (is_owed c h))) (list k h) in
+    let between = λ (k : ℕ). cond (eqb k 0) (after_migrate (list k h) (as_it_leaves (list c h) (is_owed c h)))
+    (list k h) in
     one_written [] (slice_set all.lists 0 boot) c [] between (λ k. list k (Offline c ∷ h)) (rw length-set l)
     (one_written [] all.lists 0 boot (λ k. list k h) between (omega arith) x.list
     (ap₂ (λ (xs ys : List (Item ℕ)). after_migrate ys xs) (sym own) (sym (x.list 0)))
@@ -146,8 +148,9 @@ move_owed all h c k false seen x l runs e =
     no_barrier all.running (barrier_runs h) (eqb c k) (get_or all.visited k false) (was_visited k h) runs x.barrier
 
 -- and a barrier has visited it
-pub calls_moved : (all : AllLists ℕ) (h : History) (c : ℕ) → c < length all.lists → c < length all.visited → Hold all h →
-    Hold (lists_after_migrate all c) (Offline c ∷ h)
+pub calls_moved : (all : AllLists ℕ) (h : History) (c : ℕ) → c < length all.lists → c < length all.visited
+    → Hold all h
+    → Hold (lists_after_migrate all c) (Offline c ∷ h)
 calls_moved all h c l m x = record {
   queued = x.queued;
   list = moved_lists all h c l x;

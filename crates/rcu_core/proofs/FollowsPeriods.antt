@@ -1,5 +1,6 @@
 -- A begin, an end, a turn and a delivery on states follow those on histories.
-use Rattle.std.proofs.Common.{◌≡◌, ℕ, ◌+◌, Bool, true, false, not, cond, ◌&&◌, ◌||◌, List, ◌∷◌, length, Option, Some, None, refl, sym, ap, ap₂, subst, ◌∙◌, arith, eqb, slice_set, inl, inr}
+use Rattle.std.proofs.Common.{◌≡◌, ℕ, ◌+◌, Bool, true, false, not, cond, ◌&&◌, ◌||◌, List, ◌∷◌, length, Option, Some}
+use Rattle.std.proofs.Common.{None, refl, sym, ap, ap₂, subst, ◌∙◌, arith, eqb, slice_set, inl, inr}
 use Rattle.std.specs.Prelude.{◌==◌}
 use Rattle.std.proofs.lemmas.Bool.Decides.{nat_tests}
 use Rattle.std.proofs.lemmas.Bool.{cases_lt, and_right}
@@ -11,9 +12,11 @@ use Rattle.rcu_report.specs.declared.report.Report.{Report}
 use Rattle.rcu_hotplug.specs.Hotplug.{cpus_of}
 use Rattle.rcu_seq.specs.Seq.{number_of}
 use Rattle.rcu_core.specs.GpState.{Grace, after_begin, after_end, awaited_in, periods_of}
-use Rattle.rcu_core.specs.History.{History, begins, running, number, online, reports_made, report_at, is_of, is_heard, awaits}
+use Rattle.rcu_core.specs.History.{History, begins, running, number, online, reports_made, report_at, is_of, is_heard}
+use Rattle.rcu_core.specs.History.{awaits}
 use Rattle.rcu_seq.specs.Histories.{latest}
-use Rattle.rcu_core.specs.Replies.{fault_in, accepted_reply, turn_reply, begin_reply as begun_said, end_reply as ended_said, how_many, history_event, with_event}
+use Rattle.rcu_core.specs.Replies.{fault_in, accepted_reply, turn_reply, begin_reply as begun_said}
+use Rattle.rcu_core.specs.Replies.{end_reply as ended_said, how_many, history_event, with_event}
 use Rattle.rcu_core.specs.Situation.{Situation, situation, wants_begin}
 use Rattle.rcu_core.specs.Core.{State, IsSound, Represents, size_at, says, awaited_by, after_event, after_reply}
 use Rattle.rcu_core.specs.declared.event.Event.TheVariants.{Begin, Deliver, End, Offline, Turn}
@@ -29,7 +32,8 @@ and_yes true = refl
 and_yes false = refl
 
 -- what is awaited after a report
-reported_awaited : (a b : Bool) (set : List Bool) (cpu c : ℕ) → is_in (cond a (cond b (slice_set set cpu false) set) set) c ≡ (is_in set c && not (a && (b && eqb cpu c)))
+reported_awaited : (a b : Bool) (set : List Bool) (cpu c : ℕ)
+    → is_in (cond a (cond b (slice_set set cpu false) set) set) c ≡ (is_in set c && not (a && (b && eqb cpu c)))
 reported_awaited true true set cpu c = is_in-remove set cpu c
 reported_awaited true false set cpu c = and_yes (is_in set c)
 reported_awaited false b set cpu c = and_yes (is_in set c)
@@ -42,14 +46,17 @@ hears true o false true = refl
 hears true o false false = refl
 
 -- what is awaited after a delivery
-pub heard_of : (g : Grace ℕ) (h : History) (o : Option Report) → g.seq.running ≡ running h → number_of g.seq ≡ number h → ((c : ℕ) → is_in g.processors.awaited c ≡ awaits c h)
+pub heard_of : (g : Grace ℕ) (h : History) (o : Option Report) → g.seq.running ≡ running h
+    → number_of g.seq ≡ number h → ((c : ℕ) → is_in g.processors.awaited c ≡ awaits c h)
     → (c : ℕ) → is_in (awaited_by g o) c ≡ (awaits c h && not (is_of c (number h) o))
 heard_of g h None r m w c = w c ∙ and_yes (awaits c h)
 heard_of g h (Some report) r m w c =
     reported_awaited g.seq.running (same_number report.tag (number_of g.seq)) g.processors.awaited report.cpu c
-    ∙ ap₂ (λ (a s : Bool). a && not (g.seq.running && (s && eqb report.cpu c))) (w c) (ap (λ n. same_number report.tag n) m)
+    ∙ ap₂ (λ (a s : Bool). a && not (g.seq.running && (s && eqb report.cpu c))) (w c)
+    (ap (λ n. same_number report.tag n) m)
     ∙ ap (λ (b : Bool). awaits c h && not (b && (same_number report.tag (number h) && eqb report.cpu c))) r
-    ∙ hears (running h) (online c (latest begins h) && not (is_heard c (number h) h)) (same_number report.tag (number h)) (eqb report.cpu c)
+    ∙ hears (running h) (online c (latest begins h) && not (is_heard c (number h) h))
+    (same_number report.tag (number h)) (eqb report.cpu c)
 
 pub length-awaited_by : (g : Grace ℕ) (o : Option Report) → length (awaited_by g o) ≡ length g.processors.awaited
 length-awaited_by g None = refl
@@ -77,7 +84,8 @@ awaits_departed v h c x k =
     ∙ ap (λ (b : Bool). b && not (eqb c k)) (x.cpus.awaits k)
     ∙ sym (unless_heard (running h) (online k (latest begins h)) (eqb c k) (is_heard k (number h) h))
 
-none_there : (v : State ℕ) (h : History) → Represents v h → fault_in (size_at v) (situation h) End ≡ None → (c : ℕ) → is_in v.grace.processors.awaited c ≡ false
+none_there : (v : State ℕ) (h : History) → Represents v h → fault_in (size_at v) (situation h) End ≡ None → (c : ℕ)
+    → is_in v.grace.processors.awaited c ≡ false
 none_there v h x p c = elim (cases_lt c (cpus_of v.grace.processors)) [
   | inl l ↦ x.cpus.awaits c ∙ none_awaited (size_at v) h p c l
   | inr l ↦ get_or_past v.grace.processors.awaited c false l
@@ -123,39 +131,61 @@ unturned : (v : State ℕ) (h : History) → Represents v h → fault_in (size_a
 unturned v h x p = record { accepted = (p, x.accepted); periods = x.periods; cpus = x.cpus; calls = x.calls }
 
 -- a turn is a begin, an end, or neither
-turn_kept : (v : State ℕ) (h : History) (a b d : Bool) (n m : ℕ) → IsSound v → Represents v h → v.grace.seq.running ≡ a → (awaited_in v.grace == 0) ≡ b → wants_begin (periods_of v.grace) ≡ d
+turn_kept : (v : State ℕ) (h : History) (a b d : Bool) (n m : ℕ) → IsSound v → Represents v h
+    → v.grace.seq.running ≡ a → (awaited_in v.grace == 0) ≡ b → wants_begin (periods_of v.grace) ≡ d
     → fault_in (size_at v) (says v) Turn ≡ None
-    → Represents (record v { grace = cond a (cond b (after_end v.grace) v.grace) (cond d (after_begin v.grace) v.grace) })
-    (history_event Turn (cond a (cond b (ended_said (says v)) (reply.Waiting n)) (cond d (reply.Begun (number_at v.grace.seq.ends true) m) reply.Nothing)) ∷ h)
-turn_kept v h true true d n m s x i j k p = follows_end v h x (subst (λ (u : Situation). fault_in (size_at v) u End ≡ None) (same v h x) (let size = awaited_size v in grind (arith, nat_tests)))
-turn_kept v h true false d n m s x i j k p = unturned v h x (subst (λ (u : Situation). fault_in (size_at v) u Turn ≡ None) (same v h x) p)
-turn_kept v h false b true n m s x i j k p = follows_begin v h s x (subst (λ (u : Situation). fault_in (size_at v) u Begin ≡ None) (same v h x) (grind (arith, nat_tests)))
-turn_kept v h false b false n m s x i j k p = unturned v h x (subst (λ (u : Situation). fault_in (size_at v) u Turn ≡ None) (same v h x) p)
+    → Represents (record v {
+      grace = cond a (cond b (after_end v.grace) v.grace)
+          (cond d (after_begin v.grace) v.grace);
+    })
+    (history_event Turn (cond a (cond b (ended_said (says v)) (reply.Waiting n))
+    (cond d (reply.Begun (number_at v.grace.seq.ends true) m) reply.Nothing)) ∷ h)
+turn_kept v h true true d n m s x i j k p =
+    follows_end v h x (subst (λ (u : Situation). fault_in (size_at v) u End ≡ None) (same v h x)
+    (let size = awaited_size v in grind (arith, nat_tests)))
+turn_kept v h true false d n m s x i j k p =
+    unturned v h x (subst (λ (u : Situation). fault_in (size_at v) u Turn ≡ None) (same v h x) p)
+turn_kept v h false b true n m s x i j k p =
+    follows_begin v h s x (subst (λ (u : Situation). fault_in (size_at v) u Begin ≡ None) (same v h x)
+    (grind (arith, nat_tests)))
+turn_kept v h false b false n m s x i j k p =
+    unturned v h x (subst (λ (u : Situation). fault_in (size_at v) u Turn ≡ None) (same v h x) p)
 
-turned_so : (v : State ℕ) (h : History) → IsSound v → Represents v h → fault_in (size_at v) (situation h) Turn ≡ None → Represents (after_event v Turn) (history_event Turn (accepted_reply (size_at v) (situation h) Turn) ∷ h)
+turned_so : (v : State ℕ) (h : History) → IsSound v → Represents v h → fault_in (size_at v) (situation h) Turn ≡ None
+    → Represents (after_event v Turn) (history_event Turn (accepted_reply (size_at v) (situation h) Turn) ∷ h)
 turned_so v h s x p =
     let q = subst (λ (u : Situation). fault_in (size_at v) u Turn ≡ None) (sym (same v h x)) p in
     let g = v.grace in
-    subst (λ (u : Situation). Represents (after_event v Turn) (history_event Turn (turn_reply (size_at v) u) ∷ h)) (same v h x)
-    (subst (λ (n : ℕ). Represents (after_event v Turn) (history_event Turn (cond g.seq.running (cond (n == 0) (ended_said (says v)) (reply.Waiting n)) (cond (wants_begin (periods_of g)) (begun_said (size_at v) (says v)) reply.Nothing)) ∷ h))
+    subst (λ (u : Situation). Represents (after_event v Turn) (history_event Turn (turn_reply (size_at v) u) ∷ h))
+    (same v h x)
+    (subst (λ (n : ℕ). Represents (after_event v Turn)
+    (history_event Turn (cond g.seq.running (cond (n == 0) (ended_said (says v)) (reply.Waiting n))
+    (cond (wants_begin (periods_of g)) (begun_said (size_at v) (says v)) reply.Nothing)) ∷ h))
     (sym (awaited_size v))
-    (turn_kept v h g.seq.running (awaited_in g == 0) (wants_begin (periods_of g)) (awaited_in g) (how_many (size_at v) (is_in g.processors.online)) s x refl refl refl q))
+    (turn_kept v h g.seq.running (awaited_in g == 0) (wants_begin (periods_of g)) (awaited_in g)
+    (how_many (size_at v) (is_in g.processors.online)) s x refl refl refl q))
 
-turned_left : (v : State ℕ) (a b d : Bool) (k l m n : ℕ) → after_reply v Turn (cond a (cond b (reply.Ended k) (reply.Waiting l)) (cond d (reply.Begun m n) reply.Nothing)) ≡ after_event v Turn
+turned_left : (v : State ℕ) (a b d : Bool) (k l m n : ℕ)
+    → after_reply v Turn (cond a (cond b (reply.Ended k) (reply.Waiting l)) (cond d (reply.Begun m n) reply.Nothing))
+    ≡ after_event v Turn
 turned_left v true true d k l m n = refl
 turned_left v true false d k l m n = refl
 turned_left v false b true k l m n = refl
 turned_left v false b false k l m n = refl
 
 -- a turn
-pub follows_turn : (v : State ℕ) (h : History) → IsSound v → Represents v h → fault_in (size_at v) (situation h) Turn ≡ None
-    → Represents (after_reply v Turn (turn_reply (size_at v) (situation h))) (with_event h Turn (turn_reply (size_at v) (situation h)))
+pub follows_turn : (v : State ℕ) (h : History) → IsSound v → Represents v h
+    → fault_in (size_at v) (situation h) Turn ≡ None
+    → Represents (after_reply v Turn (turn_reply (size_at v) (situation h)))
+    (with_event h Turn (turn_reply (size_at v) (situation h)))
 follows_turn v h s x p =
     let u = situation h in
     let n = how_many (size_at v) u.cpus.awaits in
     let m = how_many (size_at v) u.cpus.online in
     rw (
-      turned_left v u.periods.running (n == 0) (wants_begin u.periods) (number_at (u.periods.ends + 1) false) n (number_at u.periods.ends true) m,
-      turned_after h u.periods.running (n == 0) (wants_begin u.periods) (number_at (u.periods.ends + 1) false) n (number_at u.periods.ends true) m (turn_reply (size_at v) u) refl,
+      turned_left v u.periods.running (n == 0) (wants_begin u.periods) (number_at (u.periods.ends + 1) false) n
+          (number_at u.periods.ends true) m,
+      turned_after h u.periods.running (n == 0) (wants_begin u.periods) (number_at (u.periods.ends + 1) false) n
+          (number_at u.periods.ends true) m (turn_reply (size_at v) u) refl,
     )
     (turned_so v h s x p)

@@ -37,8 +37,10 @@ pub record Turns (h : History) : Type 0 where
   pub begins_le : count_by begins h ≤ count_by ends h + 1
 
 pub turns_step : (s : Size) (e : Event) (h : History) → fault_in s (situation h) e ≡ None → Turns h → Turns (e ∷ h)
-turns_step s Begin h p t = let n = begin_counts h in record { ends_le = grind (arith, nat_tests); begins_le = grind (arith, nat_tests) }
-turns_step s End h p t = let n = end_counts h in record { ends_le = grind (arith, nat_tests); begins_le = grind (arith, nat_tests) }
+turns_step s Begin h p t = let n = begin_counts h in
+    record { ends_le = grind (arith, nat_tests); begins_le = grind (arith, nat_tests) }
+turns_step s End h p t = let n = end_counts h in
+    record { ends_le = grind (arith, nat_tests); begins_le = grind (arith, nat_tests) }
 turns_step s _ h p t = record { ends_le = omega arith; begins_le = omega arith }
 
 pub turns : (s : Size) (h : History) → AreAccepted s h → Turns h
@@ -46,7 +48,8 @@ turns s [] p = record { ends_le = omega arith; begins_le = omega arith }
 turns s (e ∷ h) p = turns_step s e h p.0 (turns s h p.1)
 
 -- where a grace period may end, nobody is awaited
-pub none_awaited : (s : Size) (h : History) → fault_in s (situation h) End ≡ None → (c : ℕ) → c < s.cpus → awaits c h ≡ false
+pub none_awaited : (s : Size) (h : History) → fault_in s (situation h) End ≡ None → (c : ℕ) → c < s.cpus
+    → awaits c h ≡ false
 none_awaited s h p c l = none_passes s.cpus (λ d. awaits d h) (grind (arith, nat_tests)) c l
 
 -- a section is open where one is left
@@ -54,14 +57,17 @@ is_inside : (s : Size) (c d : ℕ) (h : History) → fault_in s (situation h) (E
 is_inside s c d h p e = subst (λ k. 0 < depth k h) e (grind (arith, nat_tests))
 
 -- none is open where a report is made, or where the processor departs
-pub quiet_where_reported : (s : Size) (c d : ℕ) (h : History) → fault_in s (situation h) (Quiesce d) ≡ None → d ≡ c → depth c h ≡ 0
+pub quiet_where_reported : (s : Size) (c d : ℕ) (h : History) → fault_in s (situation h) (Quiesce d) ≡ None → d ≡ c
+    → depth c h ≡ 0
 quiet_where_reported s c d h p e = subst (λ k. depth k h ≡ 0) e (grind (arith, nat_tests))
 
-pub quiet_where_departed : (s : Size) (c d : ℕ) (h : History) → fault_in s (situation h) (Offline d) ≡ None → d ≡ c → depth c h ≡ 0
+pub quiet_where_departed : (s : Size) (c d : ℕ) (h : History) → fault_in s (situation h) (Offline d) ≡ None → d ≡ c
+    → depth c h ≡ 0
 quiet_where_departed s c d h p e = subst (λ k. depth k h ≡ 0) e (grind (arith, nat_tests))
 
 -- a processor exits at most as often as it entered
-pub exits_step : (s : Size) (c : ℕ) (e : Event) (h : History) → fault_in s (situation h) e ≡ None → exit_count c h ≤ enter_count c h → exit_count c (e ∷ h) ≤ enter_count c (e ∷ h)
+pub exits_step : (s : Size) (c : ℕ) (e : Event) (h : History) → fault_in s (situation h) e ≡ None
+    → exit_count c h ≤ enter_count c h → exit_count c (e ∷ h) ≤ enter_count c (e ∷ h)
 exits_step s c (Enter d) h p le = let n = enter_counts c d h in grind (arith, nat_tests)
 exits_step s c (Exit d) h p le = let n = exit_counts c d h in let q = is_inside s c d h p in grind (arith, nat_tests)
 exits_step s c _ h p le = omega arith

@@ -149,7 +149,8 @@ readers_are_later s run c m k reader call opened l e o =
     (waited_when_handed s (history run) c m k call p e)
     (open_from reader (history run) opened o)
 
-pick : (b : Bool) (x y : History) (j n : ℕ) → j ≤ queue_count x → (n < number y → j ≤ queue_count y) → n < number (cond b x y)
+pick : (b : Bool) (x y : History) (j n : ℕ) → j ≤ queue_count x → (n < number y → j ≤ queue_count y)
+    → n < number (cond b x y)
     → j ≤ queue_count (cond b x y)
 pick true x y j n p q l = p
 pick false x y j n p q l = q l

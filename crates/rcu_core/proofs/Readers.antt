@@ -1,12 +1,14 @@
 -- Read sections over whole runs.
-use Rattle.std.proofs.Common.{◌≡◌, ℕ, ◌+◌, ◌<◌, ◌≤◌, Bool, true, false, [], ◌∷◌, ◌++◌, Option, Some, None, refl, ap, arith, cond, ltb, inl, inr, ◌≢◌}
+use Rattle.std.proofs.Common.{◌≡◌, ℕ, ◌+◌, ◌<◌, ◌≤◌, Bool, true, false, [], ◌∷◌, ◌++◌, Option, Some, None, refl, ap}
+use Rattle.std.proofs.Common.{arith, cond, ltb, inl, inr, ◌≢◌}
 use Rattle.std.specs.Prelude.{◌==◌}
 use Rattle.std.proofs.lemmas.Bool.Decides.{nat_tests}
 use Rattle.std.proofs.lemmas.Bool.{ltb-true}
 use Rattle.rcu_seq.specs.Numbers.{is_done_at, number_at, snapshot}
 use Rattle.rcu_seq.specs.declared.fault.Fault.{Fault}
 use Rattle.rcu_core.specs.History.{History, depth, number, opening, section, is_old, awaits}
-use Rattle.rcu_core.specs.Replies.{Size, fault_in, how_many, accepted_reply, or_fault, waits_for, history_event, with_event, AreAccepted, IsLegalReply}
+use Rattle.rcu_core.specs.Replies.{Size, fault_in, how_many, accepted_reply, or_fault, waits_for, history_event}
+use Rattle.rcu_core.specs.Replies.{with_event, AreAccepted, IsLegalReply}
 use Rattle.rcu_core.specs.Situation.{Situation, situation, wants_begin}
 use Rattle.rcu_core.specs.Runs.{Run, IsLegalRun, history, takes}
 use Rattle.rcu_core.specs.declared.event.Event.{Event}
@@ -17,33 +19,45 @@ use Rattle.rcu_core.proofs.Facts.{Facts, facts}
 use Rattle.rcu_core.proofs.Recorded.{after_said, after_test, is_test}
 
 -- a turn that begins or ends does so where a begin or an end is accepted
-turn_accepted : (s : Size) (u : Situation) (a b d : Bool) (k l m n : ℕ) → u.periods.running ≡ a → (how_many s u.cpus.awaits == 0) ≡ b → wants_begin u.periods ≡ d → fault_in s u Turn ≡ None
-    → fault_in s u (history_event Turn (cond a (cond b (reply.Ended k) (reply.Waiting l)) (cond d (reply.Begun m n) reply.Nothing))) ≡ None
+turn_accepted : (s : Size) (u : Situation) (a b d : Bool) (k l m n : ℕ) → u.periods.running ≡ a
+    → (how_many s u.cpus.awaits == 0) ≡ b → wants_begin u.periods ≡ d → fault_in s u Turn ≡ None
+    → fault_in s u (history_event Turn (cond a (cond b (reply.Ended k) (reply.Waiting l))
+    (cond d (reply.Begun m n) reply.Nothing))) ≡ None
 turn_accepted s u true true d k l m n e f g p = grind (arith, nat_tests)
 turn_accepted s u true false d k l m n e f g p = p
 turn_accepted s u false b true k l m n e f g p = grind (arith, nat_tests)
 turn_accepted s u false b false k l m n e f g p = p
 
-accepted_as : (s : Size) (u : Situation) (e : Event) → fault_in s u e ≡ None → fault_in s u (history_event e (accepted_reply s u e)) ≡ None
-accepted_as s u Turn p = turn_accepted s u u.periods.running (how_many s u.cpus.awaits == 0) (wants_begin u.periods) (number_at (u.periods.ends + 1) false) (how_many s u.cpus.awaits) (number_at u.periods.ends true) (how_many s u.cpus.online) refl refl refl p
+accepted_as : (s : Size) (u : Situation) (e : Event) → fault_in s u e ≡ None
+    → fault_in s u (history_event e (accepted_reply s u e)) ≡ None
+accepted_as s u Turn p =
+    turn_accepted s u u.periods.running (how_many s u.cpus.awaits == 0) (wants_begin u.periods)
+    (number_at (u.periods.ends + 1) false) (how_many s u.cpus.awaits) (number_at u.periods.ends true)
+    (how_many s u.cpus.online) refl refl refl p
 accepted_as s u _ p = p
 
-test_accepted : (s : Size) (h : History) (b : Bool) → fault_in s (situation h) BarTest ≡ None → AreAccepted s h → AreAccepted s (cond b (BarTest ∷ h) h)
+test_accepted : (s : Size) (h : History) (b : Bool) → fault_in s (situation h) BarTest ≡ None → AreAccepted s h
+    → AreAccepted s (cond b (BarTest ∷ h) h)
 test_accepted s h true i p = (i, p)
 test_accepted s h false i p = p
 
-after_other : (s : Size) (h : History) (e : Event) → is_test e ≡ false → fault_in s (situation h) e ≡ None → AreAccepted s h → AreAccepted s (with_event h e (accepted_reply s (situation h) e))
+after_other : (s : Size) (h : History) (e : Event) → is_test e ≡ false → fault_in s (situation h) e ≡ None
+    → AreAccepted s h → AreAccepted s (with_event h e (accepted_reply s (situation h) e))
 after_other s h e n i p = rw (after_said s (situation h) h e n) (accepted_as s (situation h) e i, p)
 
-after_accepted : (s : Size) (h : History) (e : Event) → fault_in s (situation h) e ≡ None → AreAccepted s h → AreAccepted s (with_event h e (accepted_reply s (situation h) e))
-after_accepted s h BarTest i p = rw (after_test s (situation h) h) (test_accepted s h (waits_for s (situation h) == 0) i p)
+after_accepted : (s : Size) (h : History) (e : Event) → fault_in s (situation h) e ≡ None → AreAccepted s h
+    → AreAccepted s (with_event h e (accepted_reply s (situation h) e))
+after_accepted s h BarTest i p =
+    rw (after_test s (situation h) h) (test_accepted s h (waits_for s (situation h) == 0) i p)
 after_accepted s h e i p = after_other s h e refl i p
 
-after_answer : (s : Size) (h : History) (e : Event) (o : Option Fault) → fault_in s (situation h) e ≡ o → AreAccepted s h → AreAccepted s (with_event h e (or_fault o (accepted_reply s (situation h) e)))
+after_answer : (s : Size) (h : History) (e : Event) (o : Option Fault) → fault_in s (situation h) e ≡ o
+    → AreAccepted s h → AreAccepted s (with_event h e (or_fault o (accepted_reply s (situation h) e)))
 after_answer s h e (Some f) i p = p
 after_answer s h e None i p = after_accepted s h e i p
 
-after_legal : (s : Size) (h : History) (e : Event) (r : Reply) → IsLegalReply s (situation h) e r → AreAccepted s h → AreAccepted s (with_event h e r)
+after_legal : (s : Size) (h : History) (e : Event) (r : Reply) → IsLegalReply s (situation h) e r → AreAccepted s h
+    → AreAccepted s (with_event h e r)
 after_legal s h e r (inl i) p = rw i (after_answer s h e (fault_in s (situation h) e) refl p)
 after_legal s h e r (inr i) p = rw i.2 p
 
@@ -55,7 +69,8 @@ possible s (x ∷ run) l = after_legal s (history run) x.0 x.1 l.0 (possible s r
 awaited_from : (s : Size) (c : ℕ) (h : History) → Facts s c h → is_old c h ≡ true → awaits c h ≡ true
 awaited_from s c h f i = let a = f.at_begin in let b = f.unheard in grind (arith, nat_tests)
 
-pub old_is_awaited : (s : Size) (run : Run) (c : ℕ) → IsLegalRun s run → is_old c (history run) ≡ true → awaits c (history run) ≡ true
+pub old_is_awaited : (s : Size) (run : Run) (c : ℕ) → IsLegalRun s run → is_old c (history run) ≡ true
+    → awaits c (history run) ≡ true
 old_is_awaited s run c l i = awaited_from s c (history run) (facts s c (history run) (possible s run l)) i
 
 -- the earlier part of a legal run is one
@@ -67,14 +82,16 @@ abbrev cookie_in : Reply → ℕ
 cookie_in (reply.Cookie cookie) = cookie.0
 cookie_in _ = 0
 
-cookie_is : (s : Size) (h : History) (e : Event) (k : ℕ) → takes e ≡ true → IsLegalReply s (situation h) e (reply.Cookie (record { 0 = k })) → k ≡ snapshot (number h)
+cookie_is : (s : Size) (h : History) (e : Event) (k : ℕ) → takes e ≡ true
+    → IsLegalReply s (situation h) e (reply.Cookie (record { 0 = k })) → k ≡ snapshot (number h)
 cookie_is s h Take k t (inl i) = ap (λ r. cookie_in r) i
 cookie_is s h Take k t (inr i) = absurd (cc)
 cookie_is s h StartPoll k t (inl i) = ap (λ r. cookie_in r) i
 cookie_is s h StartPoll k t (inr i) = absurd (cc)
 cookie_is s h _ k t l = absurd (cc)
 
-polled_is : (s : Size) (h : History) (k : ℕ) → IsLegalReply s (situation h) (Poll k) (reply.Polled true) → is_done_at k (number h) ≡ true
+polled_is : (s : Size) (h : History) (k : ℕ) → IsLegalReply s (situation h) (Poll k) (reply.Polled true)
+    → is_done_at k (number h) ≡ true
 polled_is s h k (inl i) = cc
 polled_is s h k (inr i) = absurd (cc)
 
@@ -87,22 +104,27 @@ open_if true x y e = (refl, cc)
 open_if false x y e = absurd (cc)
 
 pub open_from : (c : ℕ) (h x : History) → section c h ≡ Some x → Open c h x
-open_from c h x e = let q = open_if (ltb 0 (depth c h)) (opening c h) x e in record { deep = ltb-true _ _ q.0; at = q.1 }
+open_from c h x e = let q = open_if (ltb 0 (depth c h)) (opening c h) x e in
+    record { deep = ltb-true _ _ q.0; at = q.1 }
 
 snap_above : (a b n k : ℕ) → a ≤ b → k ≡ snapshot b → n < snapshot a → is_done_at k n ≡ true → ⊥
 snap_above a b n k l e m i = grind (arith, nat_tests)
 
-ended_from : (s : Size) (c k : ℕ) (g h x : History) → Facts s c g → Facts s c h → k ≡ snapshot (number g) → is_done_at k (number h) ≡ true → Open c g x → Open c h x → ⊥
+ended_from : (s : Size) (c k : ℕ) (g h x : History) → Facts s c g → Facts s c h → k ≡ snapshot (number g)
+    → is_done_at k (number h) ≡ true → Open c g x → Open c h x → ⊥
 ended_from s c k g h x fg fh e i a b =
     snap_above (number x) (number g) (number h) k (rw a.at at fg.opening_le) e (rw b.at at (fh.below_snap b.deep)) i
 
 pub done_is_ended : (s : Size) (later earlier : Run) (e : Event) (k c : ℕ) (opened : History) → takes e ≡ true
-    → IsLegalRun s ((Poll k, reply.Polled true) ∷ later ++ (e, reply.Cookie (record { 0 = k })) ∷ earlier) → section c (history earlier) ≡ Some opened
+    → IsLegalRun s ((Poll k, reply.Polled true) ∷ later ++ (e, reply.Cookie (record { 0 = k })) ∷ earlier)
+    → section c (history earlier) ≡ Some opened
     → section c (history (later ++ (e, reply.Cookie (record { 0 = k })) ∷ earlier)) ≢ Some opened
 done_is_ended s later earlier e k c opened t l a b =
     let taken = (e, reply.Cookie (record { 0 = k })) ∷ earlier in
     let m = legal_before s later taken l.1 in
     ended_from s c k (history earlier) (history (later ++ taken)) opened
-    (facts s c (history earlier) (possible s earlier m.1)) (facts s c (history (later ++ taken)) (possible s (later ++ taken) l.1))
-    (cookie_is s (history earlier) e k t m.0) (polled_is s (history (later ++ taken)) k l.0) (open_from c (history earlier) opened a)
+    (facts s c (history earlier) (possible s earlier m.1))
+    (facts s c (history (later ++ taken)) (possible s (later ++ taken) l.1))
+    (cookie_is s (history earlier) e k t m.0) (polled_is s (history (later ++ taken)) k l.0)
+    (open_from c (history earlier) opened a)
     (open_from c (history (later ++ taken)) opened b)

@@ -1,5 +1,6 @@
 -- Steps on states, over plain variables.
-use Rattle.std.proofs.Common.{◌≡◌, ◌&&◌, ℕ, ◌+◌, ◌<◌, ◌++◌, ◌∷◌, [], List, Bool, true, false, not, cond, length, Option, Some, None, refl, sym, ap, ap₂, ◌∙◌, arith, inl, inr, subst}
+use Rattle.std.proofs.Common.{◌≡◌, ◌&&◌, ℕ, ◌+◌, ◌<◌, ◌++◌, ◌∷◌, [], List, Bool, true, false, not, cond, length, Option}
+use Rattle.std.proofs.Common.{Some, None, refl, sym, ap, ap₂, ◌∙◌, arith, inl, inr, subst}
 use Rattle.std.specs.Prelude.{nat_lt, ◌==◌, if◌then◌else◌}
 use Rattle.std.proofs.lemmas.Bool.Decides.{nat_tests}
 use Rattle.std.proofs.lemmas.List.{get_or-set_same}
@@ -19,13 +20,15 @@ use Rattle.rcu_barrier.specs.Tending.{after_tend}
 use Rattle.rcu_barrier.specs.declared.barrier_state.BarrierState.{BarrierState}
 use Rattle.rcu_barrier.specs.declared.barrier_state.BarrierState.TheVariants as barrier
 use Rattle.rcu_seq.specs.Seq.{number_of}
-use Rattle.rcu_core.specs.GpState.{after_begin, after_end, after_report, awaited_in, begin_refusal, end_refusal, periods_of, report_answer_in, turn_answer, turn_refusal}
+use Rattle.rcu_core.specs.GpState.{after_begin, after_end, after_report, awaited_in, begin_refusal, end_refusal}
+use Rattle.rcu_core.specs.GpState.{periods_of, report_answer_in, turn_answer, turn_refusal}
 use Rattle.rcu_core.specs.Situation.{wants_begin}
 use Rattle.rcu_core.specs.History.{report_at}
 use Rattle.rcu_core.specs.Replies.{fault_in, accepted_reply, or_fault, how_many, answer_to_report, waits_for}
 use Rattle.rcu_core.specs.Core.{State, IsSound, StepsLegally, says, after_event, after_reply, processor, size_at}
 use Rattle.rcu_core.specs.declared.event.Event.{Event}
-use Rattle.rcu_core.specs.declared.event.Event.TheVariants.{Enter, Quiesce, Deliver, Begin, End, Turn, Awaits, Tend, BarTest}
+use Rattle.rcu_core.specs.declared.event.Event.TheVariants.{Enter, Quiesce, Deliver, Begin, End, Turn, Awaits, Tend}
+use Rattle.rcu_core.specs.declared.event.Event.TheVariants.{BarTest}
 use Rattle.rcu_core.specs.declared.reply.Reply.{Reply}
 use Rattle.rcu_core.specs.declared.reply.Reply.TheVariants as reply
 use Rattle.rcu_core.specs.declared.turned.Turned.{Turned}
@@ -37,45 +40,60 @@ pub along : (u v w : State ℕ) (e : Event) (r : Reply) → v ≡ u → StepsLeg
 along u v w e r same d = subst (λ (s : State ℕ). StepsLegally s e r w) same d
 
 -- a refused step of a state is one of any state that equals it
-pub refused_along : (u v : State ℕ) (e : Event) (f : Fault) → v ≡ u → StepsLegally v e (reply.Fault f) v → StepsLegally u e (reply.Fault f) u
+pub refused_along : (u v : State ℕ) (e : Event) (f : Fault) → v ≡ u → StepsLegally v e (reply.Fault f) v
+    → StepsLegally u e (reply.Fault f) u
 refused_along u v e f same d = subst (λ (s : State ℕ). StepsLegally s e (reply.Fault f) s) same d
 
 -- an event is refused by its first fault
-pub does_refuse : (v w : State ℕ) (e : Event) (f : Fault) → fault_in (size_at v) (says v) e ≡ Some f → w ≡ v → StepsLegally v e (reply.Fault f) w
-does_refuse v w e f found kept = record { legal = inl (sym (ap (λ (o : Option Fault). or_fault o (accepted_reply (size_at v) (says v) e)) found)); left = kept }
+pub does_refuse : (v w : State ℕ) (e : Event) (f : Fault) → fault_in (size_at v) (says v) e ≡ Some f → w ≡ v
+    → StepsLegally v e (reply.Fault f) w
+does_refuse v w e f found kept =
+    record {
+      legal = inl (sym (ap (λ (o : Option Fault). or_fault o (accepted_reply (size_at v) (says v) e)) found));
+      left = kept;
+    }
 
 -- an event of which no cause holds is answered by what is said
-says_so : (v : State ℕ) (e : Event) (r : Reply) → fault_in (size_at v) (says v) e ≡ None → r ≡ accepted_reply (size_at v) (says v) e → r ≡ or_fault (fault_in (size_at v) (says v) e) (accepted_reply (size_at v) (says v) e)
-says_so v e r none same = same ∙ sym (ap (λ (o : Option Fault). or_fault o (accepted_reply (size_at v) (says v) e)) none)
+says_so : (v : State ℕ) (e : Event) (r : Reply) → fault_in (size_at v) (says v) e ≡ None
+    → r ≡ accepted_reply (size_at v) (says v) e
+    → r ≡ or_fault (fault_in (size_at v) (says v) e) (accepted_reply (size_at v) (says v) e)
+says_so v e r none same = same
+    ∙ sym (ap (λ (o : Option Fault). or_fault o (accepted_reply (size_at v) (says v) e)) none)
 
 -- as many processors are awaited as there are flags
 pub awaited_size : (v : State ℕ) → how_many (size_at v) (is_in v.grace.processors.awaited) ≡ awaited_in v.grace
 awaited_size v = count_by-is_in v.grace.processors.awaited (length v.grace.processors.awaited) refl
 
 -- as many are online as would be awaited
-online_size : (v : State ℕ) → IsSound v → how_many (size_at v) (is_in v.grace.processors.online) ≡ size_of v.grace.processors.online
+online_size : (v : State ℕ) → IsSound v → how_many (size_at v) (is_in v.grace.processors.online)
+    ≡ size_of v.grace.processors.online
 online_size v s = count_by-is_in v.grace.processors.online (length v.grace.processors.awaited) (sym s.flags)
 
 -- a grace period begins
-pub does_begin : (v w : State ℕ) (n count : ℕ) → IsSound v → begin_refusal v.grace ≡ None → n ≡ number_of (after_begin v.grace).seq → count ≡ awaited_in (after_begin v.grace)
+pub does_begin : (v w : State ℕ) (n count : ℕ) → IsSound v → begin_refusal v.grace ≡ None
+    → n ≡ number_of (after_begin v.grace).seq → count ≡ awaited_in (after_begin v.grace)
     → w ≡ after_event v Begin → StepsLegally v Begin (reply.Begun n count) w
 does_begin v w n count s none number counted kept = record {
-  legal = inl (says_so v Begin (reply.Begun n count) none (ap₂ (λ x y. reply.Begun x y) number (counted ∙ sym (online_size v s))));
+  legal = inl (says_so v Begin (reply.Begun n count) none
+      (ap₂ (λ x y. reply.Begun x y) number (counted ∙ sym (online_size v s))));
   left = kept;
 }
 
 end_fault : (v : State ℕ) → fault_in (size_at v) (says v) End ≡ end_refusal v.grace
-end_fault v = ap (λ n. if not v.grace.seq.running then Some fault.Idle else (if nat_lt 0 n then Some fault.Waiting else None)) (awaited_size v)
+end_fault v = ap (λ n. if not v.grace.seq.running then Some fault.Idle else
+    (if nat_lt 0 n then Some fault.Waiting else None)) (awaited_size v)
 
 -- a grace period ends
-pub does_end : (v w : State ℕ) (n : ℕ) → end_refusal v.grace ≡ None → n ≡ number_of (after_end v.grace).seq → w ≡ after_event v End → StepsLegally v End (reply.Ended n) w
+pub does_end : (v w : State ℕ) (n : ℕ) → end_refusal v.grace ≡ None → n ≡ number_of (after_end v.grace).seq
+    → w ≡ after_event v End → StepsLegally v End (reply.Ended n) w
 does_end v w n none number kept = record {
   legal = inl (says_so v End (reply.Ended n) (end_fault v ∙ none) (ap (λ x. reply.Ended x) number));
   left = kept;
 }
 
 -- a grace period does not end
-pub refuses_end : (v w : State ℕ) (f : Fault) → end_refusal v.grace ≡ Some f → w ≡ v → StepsLegally v End (reply.Fault f) w
+pub refuses_end : (v w : State ℕ) (f : Fault) → end_refusal v.grace ≡ Some f → w ≡ v
+    → StepsLegally v End (reply.Fault f) w
 refuses_end v w f found kept = does_refuse v w End f (end_fault v ∙ found) kept
 
 -- the reply that says what a turn did
@@ -91,7 +109,9 @@ left_turn v (turned.Ended n) = refl
 left_turn v (turned.Waiting count) = refl
 left_turn v turned.Nothing = refl
 
-reply_cond : (a b d : Bool) (p q r t : Turned) → reply_of (cond a (cond b p q) (cond d r t)) ≡ cond a (cond b (reply_of p) (reply_of q)) (cond d (reply_of r) (reply_of t))
+reply_cond : (a b d : Bool) (p q r t : Turned)
+    → reply_of (cond a (cond b p q) (cond d r t))
+    ≡ cond a (cond b (reply_of p) (reply_of q)) (cond d (reply_of r) (reply_of t))
 reply_cond true true d p q r t = refl
 reply_cond true false d p q r t = refl
 reply_cond false b true p q r t = refl
@@ -100,31 +120,39 @@ reply_cond false b false p q r t = refl
 turn_said : (v : State ℕ) → IsSound v → reply_of (turn_answer v.grace) ≡ accepted_reply (size_at v) (says v) Turn
 turn_said v s =
     let g = v.grace in
-    reply_cond g.seq.running (awaited_in g == 0) (wants_begin (periods_of g)) (turned.Ended (number_of (after_end g).seq)) (turned.Waiting (awaited_in g)) (turned.Begun (number_of (after_begin g).seq) (awaited_in (after_begin g))) turned.Nothing
+    reply_cond g.seq.running (awaited_in g == 0) (wants_begin (periods_of g))
+    (turned.Ended (number_of (after_end g).seq)) (turned.Waiting (awaited_in g))
+    (turned.Begun (number_of (after_begin g).seq) (awaited_in (after_begin g))) turned.Nothing
     ∙ ap₂ (λ n m. if g.seq.running then (if n == 0 then reply.Ended (number_of (after_end g).seq) else reply.Waiting n)
     else (if wants_begin (periods_of g) then reply.Begun (number_of (after_begin g).seq) m else reply.Nothing))
     (sym (awaited_size v)) (sym (online_size v s))
 
 -- a turn
-pub does_turn : (v w : State ℕ) (t : Turned) → IsSound v → turn_refusal v.grace ≡ None → t ≡ turn_answer v.grace → w ≡ after_event v Turn → StepsLegally v Turn (reply_of t) w
+pub does_turn : (v w : State ℕ) (t : Turned) → IsSound v → turn_refusal v.grace ≡ None → t ≡ turn_answer v.grace
+    → w ≡ after_event v Turn → StepsLegally v Turn (reply_of t) w
 does_turn v w t s none same kept = record {
   legal = inl (says_so v Turn (reply_of t) none (ap (λ x. reply_of x) same ∙ turn_said v s));
   left = kept ∙ sym (left_turn v t);
 }
 
 -- what a report is answered, and what it leaves, is what its delivery is
-heard_so : (running same : Bool) (a : Answer) → cond running (cond (not same) Stale a) Stale ≡ cond (not (running && same)) Stale a
+heard_so : (running same : Bool) (a : Answer)
+    → cond running (cond (not same) Stale a) Stale ≡ cond (not (running && same)) Stale a
 heard_so true same a = refl
 heard_so false same a = refl
 
-answer_said : (v : State ℕ) (report : Report) → report_answer_in v.grace report ≡ answer_to_report (size_at v) (says v) (Some report)
+answer_said : (v : State ℕ) (report : Report)
+    → report_answer_in v.grace report ≡ answer_to_report (size_at v) (says v) (Some report)
 answer_said v report =
     let g = v.grace in
     let same = same_number report.tag (number_of g.seq) in
-    heard_so g.seq.running same (cond (not (is_in g.processors.awaited report.cpu)) Repeat (cond (awaited_in g == 1) Last Taken))
-    ∙ ap (λ n. cond (not (g.seq.running && same)) Stale (cond (not (is_in g.processors.awaited report.cpu)) Repeat (cond (n == 1) Last Taken))) (sym (awaited_size v))
+    heard_so g.seq.running same (cond (not (is_in g.processors.awaited report.cpu)) Repeat
+    (cond (awaited_in g == 1) Last Taken))
+    ∙ ap (λ n. cond (not (g.seq.running && same)) Stale
+    (cond (not (is_in g.processors.awaited report.cpu)) Repeat (cond (n == 1) Last Taken))) (sym (awaited_size v))
 
-pub does_hear : (v w : State ℕ) (place : ℕ) (report : Report) (a : Answer) → report_at place v.made ≡ Some report → a ≡ report_answer_in v.grace report
+pub does_hear : (v w : State ℕ) (place : ℕ) (report : Report) (a : Answer) → report_at place v.made ≡ Some report
+    → a ≡ report_answer_in v.grace report
     → w ≡ record v { grace = after_report v.grace report } → StepsLegally v (Deliver place) (reply.Answer a) w
 does_hear v w place report a found answer kept = record {
   legal = inl (rw found (ap (λ x. reply.Answer x) (answer ∙ answer_said v report)));
@@ -134,15 +162,22 @@ does_hear v w place report a found answer kept = record {
 -- the list of the awaited is refused only where one is awaited
 pub does_want : (v : State ℕ) → 0 < awaited_in v.grace → StepsLegally v Awaits (reply.Fault fault.NoMemory) v
 does_want v some =
-    let one : nat_lt 0 (how_many (size_at v) (is_in v.grace.processors.awaited)) ≡ true = rw (awaited_size v) (grind (arith, nat_tests)) in
+    let one : nat_lt 0 (how_many (size_at v) (is_in v.grace.processors.awaited)) ≡ true =
+    rw (awaited_size v) (grind (arith, nat_tests)) in
     record { legal = inr (one, refl, refl); left = refl }
 
 -- a section is opened, or nests one deeper
-pub does_enter : (v w : State ℕ) (cpu depth : ℕ) → IsSound v → cpu < cpus_of v.grace.processors → (processor v.cpus cpu).online ≡ true
-    → (processor v.cpus cpu).depth < deepest → depth ≡ (processor v.cpus cpu).depth + 1 → w ≡ after_event v (Enter cpu) → StepsLegally v (Enter cpu) (reply.Depth depth) w
+pub does_enter : (v w : State ℕ) (cpu depth : ℕ) → IsSound v → cpu < cpus_of v.grace.processors
+    → (processor v.cpus cpu).online ≡ true
+    → (processor v.cpus cpu).depth < deepest → depth ≡ (processor v.cpus cpu).depth + 1
+    → w ≡ after_event v (Enter cpu) → StepsLegally v (Enter cpu) (reply.Depth depth) w
 does_enter v w cpu depth s within on room deeper kept =
     let present = sym (s.present cpu) ∙ on in
-    record { legal = inl (says_so v (Enter cpu) (reply.Depth depth) (grind (arith, nat_tests, present, room)) (ap (λ n. reply.Depth n) deeper)); left = kept }
+    record {
+      legal = inl (says_so v (Enter cpu) (reply.Depth depth) (grind (arith, nat_tests, present, room))
+          (ap (λ n. reply.Depth n) deeper));
+      left = kept;
+    }
 
 -- an enter is refused where the processor is offline, and else where its sections nest as deep as they may
 pub refuses_enter : (v w : State ℕ) (cpu : ℕ) (f : Fault) → IsSound v → cpu < cpus_of v.grace.processors
@@ -152,28 +187,35 @@ pub refuses_enter : (v w : State ℕ) (cpu : ℕ) (f : Fault) → IsSound v → 
 refuses_enter v w cpu f s within off full kept = go (is_in v.grace.processors.online cpu) refl
   where
     go : (on : Bool) → is_in v.grace.processors.online cpu ≡ on → StepsLegally v (Enter cpu) (reply.Fault f) w
-    go false e = let same = off (s.present cpu ∙ e) in does_refuse v w (Enter cpu) f (rw same (grind (arith, nat_tests, e))) kept
-    go true e = let same = full (s.present cpu ∙ e) in does_refuse v w (Enter cpu) f (rw same.0 (grind (arith, nat_tests, e, same.1))) kept
+    go false e = let same = off (s.present cpu ∙ e) in
+        does_refuse v w (Enter cpu) f (rw same (grind (arith, nat_tests, e))) kept
+    go true e = let same = full (s.present cpu ∙ e) in
+        does_refuse v w (Enter cpu) f (rw same.0 (grind (arith, nat_tests, e, same.1))) kept
 
-quiet_fault : (v : State ℕ) (cpu : ℕ) → IsSound v → cpu < cpus_of v.grace.processors → (processor v.cpus cpu).online ≡ true → (processor v.cpus cpu).depth ≡ 0
+quiet_fault : (v : State ℕ) (cpu : ℕ) → IsSound v → cpu < cpus_of v.grace.processors
+    → (processor v.cpus cpu).online ≡ true → (processor v.cpus cpu).depth ≡ 0
     → fault_in (size_at v) (says v) (Quiesce cpu) ≡ None
 quiet_fault v cpu s within on none = let present = sym (s.present cpu) ∙ on in grind (arith, nat_tests, present, none)
 
 -- a quiescent state makes a report
-pub does_make : (v w : State ℕ) (cpu place : ℕ) (report : Report) → IsSound v → cpu < cpus_of v.grace.processors → (processor v.cpus cpu).online ≡ true
+pub does_make : (v w : State ℕ) (cpu place : ℕ) (report : Report) → IsSound v → cpu < cpus_of v.grace.processors
+    → (processor v.cpus cpu).online ≡ true
     → (processor v.cpus cpu).depth ≡ 0 → report ≡ report_of (processor v.cpus cpu) → place ≡ length v.made + 1
     → w ≡ record v { made = v.made ++ report ∷ [] } → StepsLegally v (Quiesce cpu) (reply.Made place report) w
 does_make v w cpu place report s within on none made count kept =
     let own : report ≡ record { cpu = cpu; tag = (processor v.cpus cpu).noted } = made ∙ rw (s.placed cpu) refl in
     record {
-      legal = inl (says_so v (Quiesce cpu) (reply.Made place report) (quiet_fault v cpu s within on none) (ap₂ (λ n r. reply.Made n r) count own));
+      legal = inl (says_so v (Quiesce cpu) (reply.Made place report) (quiet_fault v cpu s within on none)
+          (ap₂ (λ n r. reply.Made n r) count own));
       left = kept ∙ rw made refl;
     }
 
 -- its report is refused where there is no room for it
-pub wants_room : (v w : State ℕ) (cpu : ℕ) → IsSound v → cpu < cpus_of v.grace.processors → (processor v.cpus cpu).online ≡ true
+pub wants_room : (v w : State ℕ) (cpu : ℕ) → IsSound v → cpu < cpus_of v.grace.processors
+    → (processor v.cpus cpu).online ≡ true
     → (processor v.cpus cpu).depth ≡ 0 → w ≡ v → StepsLegally v (Quiesce cpu) (reply.Fault fault.NoMemory) w
-wants_room v w cpu s within on none kept = record { legal = inr (refl, quiet_fault v cpu s within on none, refl); left = kept }
+wants_room v w cpu s within on none kept =
+    record { legal = inr (refl, quiet_fault v cpu s within on none, refl); left = kept }
 
 -- no report is made where the processor is offline, and else where a section is open
 pub refuses_quiet : (v w : State ℕ) (cpu : ℕ) (f : Fault) → IsSound v → cpu < cpus_of v.grace.processors
@@ -183,27 +225,36 @@ pub refuses_quiet : (v w : State ℕ) (cpu : ℕ) (f : Fault) → IsSound v → 
 refuses_quiet v w cpu f s within off inside kept = go (is_in v.grace.processors.online cpu) refl
   where
     go : (on : Bool) → is_in v.grace.processors.online cpu ≡ on → StepsLegally v (Quiesce cpu) (reply.Fault f) w
-    go false e = let same = off (s.present cpu ∙ e) in does_refuse v w (Quiesce cpu) f (rw same (grind (arith, nat_tests, e))) kept
-    go true e = let same = inside (s.present cpu ∙ e) in does_refuse v w (Quiesce cpu) f (rw same.0 (grind (arith, nat_tests, e, same.1))) kept
+    go false e = let same = off (s.present cpu ∙ e) in
+        does_refuse v w (Quiesce cpu) f (rw same (grind (arith, nat_tests, e))) kept
+    go true e = let same = inside (s.present cpu ∙ e) in
+        does_refuse v w (Quiesce cpu) f (rw same.0 (grind (arith, nat_tests, e, same.1))) kept
 
 -- a list is tended
-pub does_tend : (v w : State ℕ) (cpu done waiting : ℕ) → IsSound v → cpu < cpus_of v.grace.processors → w ≡ after_event v (Tend cpu)
-    → done ≡ length (callbacks (front (list_of w.grace.lists cpu))) → waiting ≡ length (callbacks (behind (list_of w.grace.lists cpu)))
+pub does_tend : (v w : State ℕ) (cpu done waiting : ℕ) → IsSound v → cpu < cpus_of v.grace.processors
+    → w ≡ after_event v (Tend cpu)
+    → done ≡ length (callbacks (front (list_of w.grace.lists cpu)))
+    → waiting ≡ length (callbacks (behind (list_of w.grace.lists cpu)))
     → StepsLegally v (Tend cpu) (reply.Tended done waiting) w
 does_tend v w cpu done waiting s within kept are_done wait =
     let here : list_of w.grace.lists cpu ≡ after_tend (list_of v.grace.lists cpu) (number_of v.grace.seq) =
     ap (λ (x : State ℕ). list_of x.grace.lists cpu) kept
-    ∙ get_or-set_same v.grace.lists.lists cpu (after_tend (list_of v.grace.lists cpu) (number_of v.grace.seq)) [] (rw s.listed within) in
+    ∙ get_or-set_same v.grace.lists.lists cpu (after_tend (list_of v.grace.lists cpu) (number_of v.grace.seq)) []
+    (rw s.listed within) in
     record {
       legal = inl (says_so v (Tend cpu) (reply.Tended done waiting) (grind (arith, nat_tests, within))
-          (ap₂ (λ n m. reply.Tended n m) (are_done ∙ ap (λ (xs : List (Item ℕ)). length (callbacks (front xs))) here) (wait ∙ ap (λ (xs : List (Item ℕ)). length (callbacks (behind xs))) here)));
+          (ap₂ (λ n m. reply.Tended n m) (are_done ∙ ap (λ (xs : List (Item ℕ)). length (callbacks (front xs))) here)
+          (wait ∙ ap (λ (xs : List (Item ℕ)). length (callbacks (behind xs))) here)));
       left = kept;
     }
 
 -- a running barrier waits for the markers of the lists and for its unvisited processors
-pub waits_said : (v : State ℕ) → IsSound v → v.grace.lists.running ≡ true → waits_for (size_at v) (says v) ≡ barrier_left v.grace.lists
-waits_said v s runs = ap₂ (λ (n m : ℕ). n + m) (markers_of_each v.grace.lists.lists (cpus_of v.grace.processors) (sym s.listed))
-    (ap (λ b. how_many (size_at v) (λ cpu. b && not (is_in v.grace.lists.visited cpu))) runs ∙ unvisited_of_each v.grace.lists.visited (cpus_of v.grace.processors) (sym s.visits))
+pub waits_said : (v : State ℕ) → IsSound v → v.grace.lists.running ≡ true
+    → waits_for (size_at v) (says v) ≡ barrier_left v.grace.lists
+waits_said v s runs =
+    ap₂ (λ (n m : ℕ). n + m) (markers_of_each v.grace.lists.lists (cpus_of v.grace.processors) (sym s.listed))
+    (ap (λ b. how_many (size_at v) (λ cpu. b && not (is_in v.grace.lists.visited cpu))) runs
+    ∙ unvisited_of_each v.grace.lists.visited (cpus_of v.grace.processors) (sym s.visits))
 
 -- the reply that says what a test of the barrier found
 abbrev pub reply_to_test : BarrierState → Reply
@@ -214,17 +265,20 @@ left_test : (v : State ℕ) (found : BarrierState) → after_reply v BarTest (re
 left_test v barrier.Done = refl
 left_test v (barrier.Waits n) = refl
 
-test_reply : (b : Bool) (n : ℕ) → reply_to_test (cond b barrier.Done (barrier.Waits n)) ≡ cond b reply.BarDone (reply.BarWaits n)
+test_reply : (b : Bool) (n : ℕ) → reply_to_test (cond b barrier.Done (barrier.Waits n))
+    ≡ cond b reply.BarDone (reply.BarWaits n)
 test_reply true n = refl
 test_reply false n = refl
 
 -- the barrier is tested
-pub does_test : (v w : State ℕ) (found : BarrierState) → IsSound v → v.grace.lists.running ≡ true → found ≡ barrier_test_answer v.grace.lists → w ≡ after_event v BarTest
+pub does_test : (v w : State ℕ) (found : BarrierState) → IsSound v → v.grace.lists.running ≡ true
+    → found ≡ barrier_test_answer v.grace.lists → w ≡ after_event v BarTest
     → StepsLegally v BarTest (reply_to_test found) w
 does_test v w found s runs same kept =
     let n = barrier_left v.grace.lists in
     record {
       legal = inl (says_so v BarTest (reply_to_test found) (rw runs refl)
-          (ap (λ x. reply_to_test x) same ∙ test_reply (n == 0) n ∙ ap (λ m. cond (m == 0) reply.BarDone (reply.BarWaits m)) (sym (waits_said v s runs))));
+          (ap (λ x. reply_to_test x) same ∙ test_reply (n == 0) n
+          ∙ ap (λ m. cond (m == 0) reply.BarDone (reply.BarWaits m)) (sym (waits_said v s runs))));
       left = kept ∙ sym (left_test v found);
     }

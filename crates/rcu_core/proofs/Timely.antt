@@ -1,11 +1,14 @@
 -- Callbacks stay timely: as the number rises, and in each list that a call leaves.
-use Rattle.std.proofs.Common.{◌≡◌, ℕ, zero, suc, ◌≤◌, Bool, true, false, nat_le, List, [], ◌∷◌, ◌++◌, length, map, get_or, refl, sym, ap, ◌∙◌, arith}
+use Rattle.std.proofs.Common.{◌≡◌, ℕ, zero, suc, ◌≤◌, Bool, true, false, nat_le, List, [], ◌∷◌, ◌++◌, length, map}
+use Rattle.std.proofs.Common.{get_or, refl, sym, ap, ◌∙◌, arith}
 use Rattle.std.specs.Prelude.{if◌then◌else◌, All, Some, max, fold}
 use Rattle.std.proofs.lemmas.List.Elements.{All-nil, All-cons, All-head, All-tail, All-take, All-weaker}
 use borrow.Author.Tests.{leb-true}
 use Rattle.rcu_seq.specs.Numbers.{Number}
 use Rattle.rcu_cblist.specs.declared.queued.Queued.{Queued}
-use Rattle.rcu_cblist.specs.SegList.{Item, Mark, Of, Marker, Unmarked, Until, Done, IsAtMost, behind, callbacks, after_entrain, from_callback, front, greatest, mark_given, after_migrate, numbers, take_answer, without_mark, after_take, as_it_leaves}
+use Rattle.rcu_cblist.specs.SegList.{Item, Mark, Of, Marker, Unmarked, Until, Done, IsAtMost, behind, callbacks}
+use Rattle.rcu_cblist.specs.SegList.{after_entrain, from_callback, front, greatest, mark_given, after_migrate, numbers}
+use Rattle.rcu_cblist.specs.SegList.{take_answer, without_mark, after_take, as_it_leaves}
 use Rattle.rcu_seq.specs.Numbers.{snapshot}
 use Rattle.rcu_barrier.specs.Tending.{after_tend, mark_after_tend}
 use Rattle.rcu_core.specs.Callbacks.{greatest_from}
@@ -41,21 +44,25 @@ mark_dropped number at Done timely = timely.0
 -- what is timely at a number is so at each later one
 pub timely_later : {X : Type 0} (n m : Number) (xs : List (Item X)) → n ≤ m → AreTimely n xs → AreTimely m xs
 timely_later n m [] le timely = tt
-timely_later n m (Of call mark ∷ xs) le timely = (mark_later n m call.at mark le timely.0, timely_later n m xs le timely.1)
+timely_later n m (Of call mark ∷ xs) le timely =
+    (mark_later n m call.at mark le timely.0, timely_later n m xs le timely.1)
 timely_later n m (Marker ∷ xs) le timely = timely_later n m xs le timely
 
 -- and so are all lists
-pub all_later : {X : Type 0} (n m : Number) (lists : List (List (Item X))) → n ≤ m → All (AreTimely n) lists → All (AreTimely m) lists
+pub all_later : {X : Type 0} (n m : Number) (lists : List (List (Item X))) → n ≤ m → All (AreTimely n) lists
+    → All (AreTimely m) lists
 all_later n m lists le timely = All-weaker (AreTimely n) (AreTimely m) (λ xs. timely_later n m xs le) lists timely
 
 -- one of the lists
-pub timely_get : {X : Type 0} (n : Number) (lists : List (List (Item X))) (cpu : ℕ) → All (AreTimely n) lists → AreTimely n (get_or lists cpu [])
+pub timely_get : {X : Type 0} (n : Number) (lists : List (List (Item X))) (cpu : ℕ) → All (AreTimely n) lists
+    → AreTimely n (get_or lists cpu [])
 timely_get n [] cpu timely = tt
 timely_get n (xs ∷ lists) zero timely = All-head (AreTimely n) xs lists timely
 timely_get n (xs ∷ lists) (suc cpu) timely = timely_get n lists cpu (All-tail (AreTimely n) xs lists timely)
 
 -- a list behind another
-pub timely_append : {X : Type 0} (n : Number) (xs ys : List (Item X)) → AreTimely n xs → AreTimely n ys → AreTimely n (xs ++ ys)
+pub timely_append : {X : Type 0} (n : Number) (xs ys : List (Item X)) → AreTimely n xs → AreTimely n ys
+    → AreTimely n (xs ++ ys)
 timely_append n [] ys timely others = others
 timely_append n (Of call mark ∷ xs) ys timely others = (timely.0, timely_append n xs ys timely.1 others)
 timely_append n (Marker ∷ xs) ys timely others = timely_append n xs ys timely others
@@ -67,7 +74,8 @@ timely_from n zero (Of call mark ∷ xs) timely = timely
 timely_from n (suc k) (Of call mark ∷ xs) timely = timely_from n k xs timely.1
 
 -- what a take leaves
-pub timely_untaken : {X : Type 0} (n : Number) (most : ℕ) (xs : List (Item X)) → AreTimely n xs → AreTimely n (after_take xs most)
+pub timely_untaken : {X : Type 0} (n : Number) (most : ℕ) (xs : List (Item X)) → AreTimely n xs
+    → AreTimely n (after_take xs most)
 timely_untaken n most xs timely = timely_from n (length (take_answer xs most)) xs timely
 
 -- a marker behind a list
@@ -76,7 +84,8 @@ timely_entrained n [] timely = tt
 timely_entrained n (x ∷ xs) timely = timely_append n (x ∷ xs) (Marker ∷ []) timely tt
 
 -- a marker, if one is owed
-pub timely_leaving : {X : Type 0} (n : Number) (owed : Bool) (xs : List (Item X)) → AreTimely n xs → AreTimely n (as_it_leaves xs owed)
+pub timely_leaving : {X : Type 0} (n : Number) (owed : Bool) (xs : List (Item X)) → AreTimely n xs
+    → AreTimely n (as_it_leaves xs owed)
 timely_leaving n true xs timely = timely_entrained n xs timely
 timely_leaving n false xs timely = timely
 
@@ -100,9 +109,11 @@ timely_unmarked n (Marker ∷ xs) timely = timely_unmarked n xs timely
 timely_unmarked n (Of call mark ∷ xs) timely = (mark_dropped n call.at mark timely.0, timely_unmarked n xs timely.1)
 
 -- a migration
-pub timely_moved : {X : Type 0} (n : Number) (xs ys : List (Item X)) → AreTimely n xs → AreTimely n ys → AreTimely n (after_migrate ys xs)
+pub timely_moved : {X : Type 0} (n : Number) (xs ys : List (Item X)) → AreTimely n xs → AreTimely n ys
+    → AreTimely n (after_migrate ys xs)
 timely_moved n xs ys timely others =
-    timely_append n (front xs ++ ys) (map without_mark (behind xs)) (timely_append n (front xs) ys (timely_front n xs timely) others)
+    timely_append n (front xs ++ ys) (map without_mark (behind xs))
+    (timely_append n (front xs) ys (timely_front n xs timely) others)
     (timely_unmarked n (behind xs) (timely_behind n xs timely))
 
 -- a tend at the number
@@ -114,7 +125,8 @@ timely_tended number (Of call mark ∷ xs) timely =
     (mark_tended number call.at mark timely.0, timely_tended number xs timely.1)
 
 -- no callback waits for more than the number's snapshot
-pub timely_at_most : {X : Type 0} (number : Number) (xs : List (Item X)) → AreTimely number xs → IsAtMost (snapshot number) xs
+pub timely_at_most : {X : Type 0} (number : Number) (xs : List (Item X)) → AreTimely number xs
+    → IsAtMost (snapshot number) xs
 timely_at_most number [] timely = All-nil (λ n. n ≤ snapshot number)
 timely_at_most number (Marker ∷ xs) timely = timely_at_most number xs timely
 timely_at_most number (Of call Unmarked ∷ xs) timely = timely_at_most number xs timely.1
@@ -129,11 +141,13 @@ front_waited number (Marker ∷ xs) timely = front_waited number xs timely
 front_waited number (Of call Unmarked ∷ xs) timely = All-nil (λ call. snapshot call.at ≤ number)
 front_waited number (Of call (Until n) ∷ xs) timely = All-nil (λ call. snapshot call.at ≤ number)
 front_waited number (Of call Done ∷ xs) timely =
-    All-cons (λ call. snapshot call.at ≤ number) call (callbacks (front xs)) timely.0.1 (front_waited number xs timely.1)
+    All-cons (λ call. snapshot call.at ≤ number) call (callbacks (front xs)) timely.0.1
+    (front_waited number xs timely.1)
 
 -- a take hands out only callbacks whose snapshot the number has reached
-pub taken_waited : {X : Type 0} (number : Number) (most : ℕ) (xs : List (Item X)) (calls : List (Queued X)) → AreTimely number xs →
-    calls ≡ take_answer xs most → All (λ call. snapshot call.at ≤ number) calls
+pub taken_waited : {X : Type 0} (number : Number) (most : ℕ) (xs : List (Item X)) (calls : List (Queued X))
+    → AreTimely number xs
+    → calls ≡ take_answer xs most → All (λ call. snapshot call.at ≤ number) calls
 taken_waited number most xs calls timely is =
     rw is (All-take (λ call. snapshot call.at ≤ number) most (callbacks (front xs)) (front_waited number xs timely))
 

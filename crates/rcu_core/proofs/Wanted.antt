@@ -92,7 +92,8 @@ unled [] c = refl
 unled (Queue d y ∷ h) c =
     unled_if (eqb d c) (list c h ++ Of (record { ord = queue_count h + 1; at = number h; value = y }) Unmarked ∷ [])
     (list c h)
-    (first_queued (list c h) (record { ord = queue_count h + 1; at = number h; value = y }) Unmarked (unled h c)) (unled h c)
+    (first_queued (list c h) (record { ord = queue_count h + 1; at = number h; value = y }) Unmarked (unled h c))
+    (unled h c)
 unled (Tend d ∷ h) c =
     unled_if (eqb d c) (after_tend (list c h) (number h)) (list c h)
     (first_remarked (mark_after_tend (number h)) (list c h) ∙ unled h c) (unled h c)

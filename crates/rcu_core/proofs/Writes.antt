@@ -1,5 +1,6 @@
 -- What a write of one place leaves of what is read.
-use Rattle.std.proofs.Common.{◌≡◌, ℕ, ◌<◌, Bool, true, false, cond, ◌||◌, List, length, refl, sym, subst, ◌∙◌, arith, eqb, get_or, slice_set, ne_eqb, inl, inr}
+use Rattle.std.proofs.Common.{◌≡◌, ℕ, ◌<◌, Bool, true, false, cond, ◌||◌, List, length, refl, sym, subst, ◌∙◌, arith}
+use Rattle.std.proofs.Common.{eqb, get_or, slice_set, ne_eqb, inl, inr}
 use Rattle.std.proofs.lemmas.Bool.Decides.{nat_tests}
 use Rattle.std.proofs.lemmas.Bool.{cases_eq}
 use Rattle.std.proofs.lemmas.List.{get_or-set_same, get_or-set_other}
@@ -8,7 +9,8 @@ pub eqb_self : (c : ℕ) → eqb c c ≡ true
 eqb_self c = grind (arith, nat_tests)
 
 -- one place is written, and the others stay
-pub one_written : {X : Type 0} (d : X) (xs : List X) (c : ℕ) (x : X) (f g : ℕ → X) → c < length xs → ((k : ℕ) → get_or xs k d ≡ f k) → g c ≡ x
+pub one_written : {X : Type 0} (d : X) (xs : List X) (c : ℕ) (x : X) (f g : ℕ → X) → c < length xs
+    → ((k : ℕ) → get_or xs k d ≡ f k) → g c ≡ x
     → ((k : ℕ) → eqb c k ≡ false → g k ≡ f k) → (k : ℕ) → get_or (slice_set xs c x) k d ≡ g k
 one_written {X} d xs c x f g l h at other k = elim (cases_eq k c) [
   | inl i ↦ subst (λ (j : ℕ). get_or (slice_set xs c x) j d ≡ g j) (sym i) (get_or-set_same xs c x d l ∙ sym at)

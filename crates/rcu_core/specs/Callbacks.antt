@@ -8,7 +8,8 @@ use Rattle.rcu_cblist.specs.SegList.{Item, Of, Unmarked, after_migrate, numbers,
 use Rattle.rcu_barrier.specs.Tending.{after_tend}
 use Rattle.rcu_core.specs.History.{History, begins, ends, number}
 use Rattle.rcu_core.specs.declared.event.Event.{Event}
-use Rattle.rcu_core.specs.declared.event.Event.TheVariants.{Offline, StartPoll, Queue, Tend, Run, BarBegin, Visit, BarTest}
+use Rattle.rcu_core.specs.declared.event.Event.TheVariants.{Offline, StartPoll, Queue, Tend, Run, BarBegin, Visit}
+use Rattle.rcu_core.specs.declared.event.Event.TheVariants.{BarTest}
 
 -- a callback is queued
 abbrev pub queues : Event → Bool
@@ -47,8 +48,8 @@ is_owed cpu h = barrier_runs h && not (was_visited cpu h)
 abbrev pub queue_count : History → ℕ
 queue_count h = count_by queues h
 
--- the processor's list, in order. A queued callback goes to its end. A tend at the number gives marks. A run takes away the
--- first callbacks of the done part. A visit puts a marker behind it. The list of a processor that departs moves to
+-- the processor's list, in order. A queued callback goes to its end. A tend at the number gives marks. A run takes away
+-- the first callbacks of the done part. A visit puts a marker behind it. The list of a processor that departs moves to
 -- processor 0: its done part in front of that list, the rest behind it without marks
 abbrev pub list : ℕ → History → List (Item ℕ)
 list cpu [] = []

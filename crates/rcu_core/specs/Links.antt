@@ -44,7 +44,9 @@ pub record ToldSince (cpu : ℕ) (tag : Number) (h : History) : Type 0 where
 abbrev pub queued_as : ℕ → History → Option (Queued ℕ)
 queued_as ord [] = None
 queued_as ord (Queue cpu value ∷ h) =
-    if queue_count h + 1 == ord then Some (record { ord = queue_count h + 1; at = number h; value = value }) else queued_as ord h
+    if queue_count h + 1 == ord
+    then Some (record { ord = queue_count h + 1; at = number h; value = value })
+    else queued_as ord h
 queued_as ord (_ ∷ h) = queued_as ord h
 
 -- the callback of this place was queued just before what came since: on which processor, its value, and what was before

@@ -109,7 +109,8 @@ end_reply v = reply.Ended (number_at (v.periods.ends + 1) false)
 -- a turn: a running grace period ends where nobody is awaited; where none runs, one begins if a later number is needed
 abbrev pub turn_reply : Size → Situation → Reply
 turn_reply s v =
-    if v.periods.running then (if how_many s v.cpus.awaits == 0 then end_reply v else reply.Waiting (how_many s v.cpus.awaits))
+    if v.periods.running
+    then (if how_many s v.cpus.awaits == 0 then end_reply v else reply.Waiting (how_many s v.cpus.awaits))
     else (if wants_begin v.periods then begin_reply s v else reply.Nothing)
 
 -- a visit: where the processor is owed one, a marker goes behind its list, if that is not empty

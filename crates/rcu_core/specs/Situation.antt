@@ -20,8 +20,8 @@ number_in p = number_at p.ends p.running
 abbrev pub wants_begin : PeriodSituation → Bool
 wants_begin p = not p.running && nat_lt (number_in p) p.needed
 
--- what they say of the processors: which are online, which are awaited, how deep the sections of each nest, which number
--- it noted last; and all reports
+-- what they say of the processors: which are online, which are awaited, how deep the sections of each nest, which
+-- number it noted last; and all reports
 pub record CpuSituation : Type 0 where
   pub online : ℕ → Bool
   pub awaits : ℕ → Bool

@@ -1,9 +1,11 @@
 -- What accepted calls leave of a processor.
-use Rattle.std.proofs.Common.{◌≡◌, ℕ, ◌+◌, ◌-◌, ◌<◌, ◌≤◌, ◌==◌, ◌↔◌, Bool, true, false, not, cond, ◌&&◌, ◌||◌, List, [], ◌∷◌, count_by, refl, sym, ap, ◌∙◌, arith}
+use Rattle.std.proofs.Common.{◌≡◌, ℕ, ◌+◌, ◌-◌, ◌<◌, ◌≤◌, ◌==◌, ◌↔◌, Bool, true, false, not, cond, ◌&&◌, ◌||◌, List, []}
+use Rattle.std.proofs.Common.{◌∷◌, count_by, refl, sym, ap, ◌∙◌, arith}
 use Rattle.std.proofs.Math.Bool.{and-true}
 use Rattle.std.proofs.lemmas.Bool.Decides.{nat_tests}
 use Rattle.std.proofs.lemmas.List.Sums.{sum_by-cons}
-use Rattle.rcu_cpu.specs.CpuData.{Call, Enter, Exit, Note, Quiesce, Arrive, Depart, IsAccepted, AreAccepted, after_calls}
+use Rattle.rcu_cpu.specs.CpuData.{Call, Enter, Exit, Note, Quiesce, Arrive, Depart, IsAccepted, AreAccepted}
+use Rattle.rcu_cpu.specs.CpuData.{after_calls}
 use Rattle.rcu_cpu.specs.CpuData.{report_of}
 use Rattle.rcu_cpu.specs.Sections.{enters, exits, nesting, is_open, is_online, last_noted}
 

@@ -1,11 +1,13 @@
 -- The children of a node and the processors of a leaf: how many there are, and that there is one.
-use Rattle.std.proofs.Common.{◌≡◌, ℕ, ◌+◌, ◌-◌, ◌*◌, ◌<◌, ◌≤◌, ◌==◌, true, count_by, refl, sym, ap, subst, ◌∙◌, arith, inl, inr}
+use Rattle.std.proofs.Common.{◌≡◌, ℕ, ◌+◌, ◌-◌, ◌*◌, ◌<◌, ◌≤◌, ◌==◌, true, count_by, refl, sym, ap, subst, ◌∙◌, arith}
+use Rattle.std.proofs.Common.{inl, inr}
 use Rattle.std.specs.List.{range_with_len}
 use Rattle.std.proofs.lemmas.Bool.{cases_lt}
 use Rattle.std.proofs.lemmas.Bool.Decides.{nat_tests}
 use Rattle.std.proofs.lemmas.Nat.{mod_below}
 use Rattle.std.proofs.Math.Nat.{mul-div_cancel, mul-mod_left, mul_assoc, mul-one, pow-zero}
-use Rattle.rcu_geometry.specs.Geometry.{Shape, IsLegalShape, capacity, levels, level_start, nodes, level_of, place_of, parent, bit_in_parent, first_leaf, leaf_of, bit_of}
+use Rattle.rcu_geometry.specs.Geometry.{Shape, IsLegalShape, capacity, levels, level_start, nodes, level_of, place_of}
+use Rattle.rcu_geometry.specs.Geometry.{parent, bit_in_parent, first_leaf, leaf_of, bit_of}
 use Rattle.rcu_geometry.proofs.Counts.{count-within}
 use Rattle.rcu_geometry.proofs.Capacities.{capacity_up, levels_range}
 use Rattle.rcu_geometry.proofs.Levels.{start_next, start_zero, in_level, to_level, level_some, start_rises, level_at}

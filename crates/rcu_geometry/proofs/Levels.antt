@@ -1,12 +1,15 @@
 -- The levels of a tree: how many nodes each has, where it begins, and which level a node is in.
-use Rattle.std.proofs.Common.{◌≡◌, ℕ, zero, suc, ◌+◌, ◌-◌, ◌*◌, ◌/◌, ◌^◌, ◌<◌, ◌≤◌, List, [], ◌∷◌, ◌++◌, length, slice_index, refl, sym, ap, subst, ◌∙◌, arith, inl, inr, add-one}
+use Rattle.std.proofs.Common.{◌≡◌, ℕ, zero, suc, ◌+◌, ◌-◌, ◌*◌, ◌/◌, ◌^◌, ◌<◌, ◌≤◌, List, [], ◌∷◌, ◌++◌, length}
+use Rattle.std.proofs.Common.{slice_index, refl, sym, ap, subst, ◌∙◌, arith, inl, inr, add-one}
 use Rattle.std.proofs.lemmas.Bool.{cases_lt}
 use Rattle.std.proofs.lemmas.Bool.Decides.{nat_tests}
 use Rattle.std.proofs.lemmas.List.{length_push, get_or_push, get_or_append_left}
 use Rattle.std.proofs.lemmas.Nat.{mul-le}
 use Rattle.std.proofs.Math.Nat.{div-mul-le_self, mul-one, pow-zero, mul_assoc}
-use Rattle.rcu_geometry.specs.Geometry.{Shape, IsLegalShape, capacity, levels, ceil, level_nodes, level_start, level_of, nodes, first_leaf}
-use Rattle.rcu_geometry.proofs.Capacities.{levels_range, begins_below, below_ceil, capacity_up, capacity_some, levels_hold}
+use Rattle.rcu_geometry.specs.Geometry.{Shape, IsLegalShape, capacity, levels, ceil, level_nodes, level_start, level_of}
+use Rattle.rcu_geometry.specs.Geometry.{nodes, first_leaf}
+use Rattle.rcu_geometry.proofs.Capacities.{levels_range, begins_below, below_ceil, capacity_up, capacity_some}
+use Rattle.rcu_geometry.proofs.Capacities.{levels_hold}
 
 -- the next level begins behind the nodes of this one
 pub start_next : (s : Shape) (i : ℕ) → level_start s (i + 1) ≡ level_start s i + level_nodes s i
@@ -184,8 +187,10 @@ starts_more s starts more next count i k legal before counted pushed e =
       begins = begins;
       few = (let is = before.few in let within = level_within s i legal in omega arith);
       started = λ j below. elim (cases_lt j (i + 1)) [
-        | inl earlier ↦ get_or_append_left starts ((next + count) ∷ []) 0 j (omega arith) ∙ before.started j (omega arith)
-        | inr latest ↦ (let same : j ≡ i + 1 = omega arith in rw same (get_or_push starts (next + count) 0 (i + 1) sized ∙ begins))
+        | inl earlier ↦ get_or_append_left starts ((next + count) ∷ []) 0 j (omega arith)
+            ∙ before.started j (omega arith)
+        | inr latest ↦ (let same : j ≡ i + 1 = omega arith in
+            rw same (get_or_push starts (next + count) 0 (i + 1) sized ∙ begins))
       ];
     })
 

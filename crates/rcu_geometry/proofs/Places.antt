@@ -1,10 +1,13 @@
 -- Where nodes lie, and where their parents do.
-use Rattle.std.proofs.Common.{◌≡◌, ℕ, zero, suc, ◌+◌, ◌-◌, ◌*◌, ◌/◌, ◌%◌, ◌<◌, ◌≤◌, refl, sym, ap, subst, ◌∙◌, arith, inl, inr, add-one}
+use Rattle.std.proofs.Common.{◌≡◌, ℕ, zero, suc, ◌+◌, ◌-◌, ◌*◌, ◌/◌, ◌%◌, ◌<◌, ◌≤◌, refl, sym, ap, subst, ◌∙◌, arith}
+use Rattle.std.proofs.Common.{inl, inr, add-one}
 use Rattle.std.proofs.lemmas.Bool.{cases_lt}
 use Rattle.std.proofs.lemmas.Nat.{mod_below, div-add-mod'}
-use Rattle.rcu_geometry.specs.Geometry.{Shape, IsLegalShape, levels, level_nodes, level_start, nodes, level_of, place_of, parent, bit_in_parent, first_leaf, leaf_of, bit_of}
+use Rattle.rcu_geometry.specs.Geometry.{Shape, IsLegalShape, levels, level_nodes, level_start, nodes, level_of}
+use Rattle.rcu_geometry.specs.Geometry.{place_of, parent, bit_in_parent, first_leaf, leaf_of, bit_of}
 use Rattle.rcu_geometry.proofs.Capacities.{levels_range}
-use Rattle.rcu_geometry.proofs.Levels.{start_next, start_zero, one_root, start_rises, level_at, parent_place, leaf_place}
+use Rattle.rcu_geometry.proofs.Levels.{start_next, start_zero, one_root, start_rises, level_at, parent_place}
+use Rattle.rcu_geometry.proofs.Levels.{leaf_place}
 
 -- the node lies in this level at this place
 pub record Lies (s : Shape) (node level place : ℕ) : Type 0 where
@@ -87,7 +90,11 @@ pub parent_lies : (s : Shape) (node above place : ℕ) → IsLegalShape s → Li
     → Lies s (parent s node) above (place / s.fan)
 parent_lies s node above place legal lies =
     let inner = lies.inner in
-    record { is = parent_is s node above place lies; inner = omega arith; below = parent_place s above place legal inner lies.below }
+    record {
+      is = parent_is s node above place lies;
+      inner = omega arith;
+      below = parent_place s above place legal inner lies.below;
+    }
 
 -- a processor's leaf lies in the last level
 pub leaf_lies : (s : Shape) (cpu : ℕ) → IsLegalShape s → cpu < s.cpus

@@ -1,10 +1,12 @@
 -- The levels and nodes of a combining tree, by formula. The root is level 0 and node 0; the last level has the leaves.
-use Rattle.std.specs.Prelude.{ℕ, zero, suc, ◌+◌, ◌-◌, ◌*◌, ◌/◌, ◌%◌, ◌^◌, ◌<◌, ◌≤◌, ◌≡◌, ◌⊎◌, ◌&&◌, Bool, not, nat_lt, nat_le, min, List, [], ◌∷◌, Option, Some, None, count_by}
+use Rattle.std.specs.Prelude.{ℕ, zero, suc, ◌+◌, ◌-◌, ◌*◌, ◌/◌, ◌%◌, ◌^◌, ◌<◌, ◌≤◌, ◌≡◌, ◌⊎◌, ◌&&◌, Bool, not, nat_lt}
+use Rattle.std.specs.Prelude.{nat_le, min, List, [], ◌∷◌, Option, Some, None, count_by}
 use Rattle.rcu_seq.specs.Fault.{first_fault}
 use Rattle.rcu_seq.specs.declared.fault.Fault.{Fault}
 use Rattle.rcu_seq.specs.declared.fault.Fault.TheVariants.{BadFanout, NoMemory, TooManyCpus}
 
--- how many processors a leaf has at most, how many children an inner node has at most, and how many processors there are
+-- how many processors a leaf has at most, how many children an inner node has at most, and how many processors there
+-- are
 pub record Shape : Type 0 where
   pub leaf : ℕ
   pub fan : ℕ

@@ -1,5 +1,6 @@
 -- What histories of calls say of the processors after them.
-use Rattle.std.proofs.Common.{◌≡◌, ℕ, ◌<◌, ◌==◌, ◌&&◌, ◌||◌, Bool, true, false, not, if◌then◌else◌, [], ◌∷◌, length, replicate, None, refl, sym, ap, ◌∙◌, arith, inl, inr}
+use Rattle.std.proofs.Common.{◌≡◌, ℕ, ◌<◌, ◌==◌, ◌&&◌, ◌||◌, Bool, true, false, not, if◌then◌else◌, [], ◌∷◌, length}
+use Rattle.std.proofs.Common.{replicate, None, refl, sym, ap, ◌∙◌, arith, inl, inr}
 use Rattle.std.proofs.Math.Bool.{and-true, or-false}
 use Rattle.std.proofs.lemmas.Bool.{cases_lt}
 use Rattle.std.proofs.lemmas.Bool.Decides.{nat_tests}
@@ -113,7 +114,8 @@ told_report cpus p h other number told = record {
         ∙ ap (λ (n : Number). is_in p.awaited cpu && not (other == cpu && same_number number n)) told.says.tag
         ∙ ap (λ b. b && not (other == cpu && same_number number (tag h))) (told.says.awaited cpu l)
         ∙ neither (starts cpu h) (is_heard cpu (tag h) h) (other == cpu && same_number number (tag h))
-        ∙ ap (λ b. starts cpu h && not (b || is_heard cpu (tag h) h)) (sym (or-false (other == cpu && same_number number (tag h))));
+        ∙ ap (λ b. starts cpu h && not (b || is_heard cpu (tag h) h))
+        (sym (or-false (other == cpu && same_number number (tag h))));
     online = told.says.online;
   };
 }

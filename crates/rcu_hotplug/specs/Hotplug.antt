@@ -1,5 +1,6 @@
 -- Processors that come and go: what each call of an awaited set leaves, and when it is refused.
-use Rattle.std.specs.Prelude.{ℕ, ◌≡◌, ◌==◌, Bool, true, false, not, nat_lt, List, [], ◌∷◌, length, slice_set, replicate, Option}
+use Rattle.std.specs.Prelude.{ℕ, ◌≡◌, ◌==◌, Bool, true, false, not, nat_lt, List, [], ◌∷◌, length, slice_set, replicate}
+use Rattle.std.specs.Prelude.{Option}
 use Rattle.rcu_seq.specs.Fault.{first_fault}
 use Rattle.rcu_seq.specs.Numbers.{Number}
 use Rattle.rcu_seq.specs.declared.fault.Fault.{Fault}

@@ -1,9 +1,11 @@
 -- Bits that are read across two words.
-use Rattle.std.proofs.Common.{◌≡◌, ℕ, ◌+◌, ◌-◌, ◌*◌, ◌/◌, ◌%◌, ◌^◌, ◌<◌, ◌≤◌, ◌==◌, ◌&&◌, if◌then◌else◌, Bool, nat_lt, List, length, slice_index, bit_and, sym, ap, ◌∙◌, arith, inl, inr}
+use Rattle.std.proofs.Common.{◌≡◌, ℕ, ◌+◌, ◌-◌, ◌*◌, ◌/◌, ◌%◌, ◌^◌, ◌<◌, ◌≤◌, ◌==◌, ◌&&◌, if◌then◌else◌, Bool, nat_lt}
+use Rattle.std.proofs.Common.{List, length, slice_index, bit_and, sym, ap, ◌∙◌, arith, inl, inr}
 use Rattle.std.proofs.lemmas.Bool.{cases_lt}
 use Rattle.std.proofs.lemmas.Bool.Decides.{nat_tests}
 use Rattle.std.proofs.lemmas.Nat.{shr-shr}
-use Rattle.std.proofs.lemmas.Nat.Bits.{bit_at-lt, bit_at_and, bit_at_ones, bit_at_ones_above, bit_at_cat_low, bit_at_cat_high}
+use Rattle.std.proofs.lemmas.Nat.Bits.{bit_at-lt, bit_at_and, bit_at_ones, bit_at_ones_above, bit_at_cat_low}
+use Rattle.std.proofs.lemmas.Nat.Bits.{bit_at_cat_high}
 use Rattle.rcu_node.specs.CpuSet.{is_in}
 use Rattle.rcu_node.specs.Words.{has_bit, flags_in, HasNoneFrom}
 use Rattle.rcu_node.proofs.CpuSetLemmas.{is_in-listed, length-listed, is_in-beyond}
@@ -37,10 +39,12 @@ has_bit_both word next bit w = elim (cases_lt bit 64) [
 pub cut-is : (word next place width bit : ℕ) → word < 2 ^ 64
     → has_bit (bit_and ((next * 2 ^ 64 + word) / 2 ^ place) (2 ^ width - 1)) bit
     ≡
-    (nat_lt bit width && (if nat_lt (place + bit) 64 then has_bit word (place + bit) else has_bit next (place + bit - 64)))
+    (nat_lt bit width
+    && (if nat_lt (place + bit) 64 then has_bit word (place + bit) else has_bit next (place + bit - 64)))
 cut-is word next place width bit w =
     has_bit_low ((next * 2 ^ 64 + word) / 2 ^ place) width bit
-    ∙ ap (λ b. nat_lt bit width && b) (has_bit_shift (next * 2 ^ 64 + word) place bit ∙ has_bit_both word next (place + bit) w)
+    ∙ ap (λ b. nat_lt bit width && b) (has_bit_shift (next * 2 ^ 64 + word) place bit
+    ∙ has_bit_both word next (place + bit) w)
 
 -- from a place of a word on, into the next one, lie the flags of the processors from there on
 flag_in-next : (words : List ℕ) (from bit word next : ℕ) → bit < 64 → word ≡ slice_index words (from / 64)
@@ -49,7 +53,8 @@ flag_in-next : (words : List ℕ) (from bit word next : ℕ) → bit < 64 → wo
     ≡ flag_in words (from + bit)
 flag_in-next words from bit word next b e f = elim (cases_lt (from % 64 + bit) 64) [
   | inl l ↦ (let same : (from + bit) / 64 ≡ from / 64 = omega arith in
-      let place : (from + bit) % 64 ≡ from % 64 + bit = omega arith in rw (same, place, e) (grind (arith, nat_tests, l)))
+      let place : (from + bit) % 64 ≡ from % 64 + bit = omega arith in
+      rw (same, place, e) (grind (arith, nat_tests, l)))
   | inr l ↦ (let more : (from + bit) / 64 ≡ from / 64 + 1 = omega arith in
       let place : (from + bit) % 64 ≡ from % 64 + bit - 64 = omega arith in
       rw (more, place, f) (grind (arith, nat_tests, l)))
@@ -59,8 +64,9 @@ flag_in-next words from bit word next b e f = elim (cases_lt (from % 64 + bit) 6
 pub bits_from-is : (cpus : ℕ) (words : List ℕ) (set : List Bool) (from width bit word next : ℕ)
     → flags_in cpus words ≡ set → HasNoneFrom cpus words → width ≤ 64
     → word ≡ slice_index words (from / 64) → next ≡ slice_index words (from / 64 + 1)
-    →
-    (nat_lt bit width && (if nat_lt (from % 64 + bit) 64 then has_bit word (from % 64 + bit) else has_bit next (from % 64 + bit - 64)))
+    → (nat_lt bit width
+    && (if nat_lt (from % 64 + bit) 64 then has_bit word (from % 64 + bit) else has_bit next
+    (from % 64 + bit - 64)))
     ≡ (nat_lt bit width && is_in set (from + bit))
 bits_from-is cpus words set from width bit word next e none k f g = elim (cases_lt bit width) [
   | inl b ↦ ap (λ flag. nat_lt bit width && flag)
@@ -74,5 +80,6 @@ bits_from-is cpus words set from width bit word next e none k f g = elim (cases_
       | inl l ↦ sym (is_in-listed cpus (flag_in words) cpu l) ∙ ap (λ (s : List Bool). is_in s cpu) e
       | inr l ↦ none cpu l
           ∙ sym
-          (is_in-beyond set cpu (omega (arith, l, ap (λ (s : List Bool). length s) e, length-listed cpus (flag_in words))))
+          (is_in-beyond set cpu
+          (omega (arith, l, ap (λ (s : List Bool). length s) e, length-listed cpus (flag_in words))))
     ]

@@ -4,7 +4,8 @@ use Rattle.std.proofs.Math.Bool.{or-false}
 use Rattle.rcu_seq.specs.Numbers.{Number, same_number}
 use Rattle.rcu_node.specs.CpuSet.{intersection, is_in, unheard}
 use Rattle.rcu_node.specs.Reports.{awaited_after_reports, was_reported}
-use Rattle.rcu_node.proofs.CpuSetLemmas.{is_in-intersection, is_in-unheard, length-intersection, length-unheard, same_from_flags}
+use Rattle.rcu_node.proofs.CpuSetLemmas.{is_in-intersection, is_in-unheard, length-intersection, length-unheard}
+use Rattle.rcu_node.proofs.CpuSetLemmas.{same_from_flags}
 use Rattle.rcu_node.proofs.ReportLemmas.{length-awaited_after_reports, unreported}
 
 -- after reports the unheard are awaited
@@ -44,7 +45,8 @@ pub unheard-merged : (set : List Bool) (heard other : ℕ → Bool)
 unheard-merged set heard other =
     let either = λ (cpu : ℕ). heard cpu || other cpu in
     same_from_flags (intersection (unheard set heard) (unheard set other)) (unheard set either)
-    (length-intersection (unheard set heard) (unheard set other) ∙ length-unheard set heard ∙ sym (length-unheard set either)) (λ cpu.
+    (length-intersection (unheard set heard) (unheard set other) ∙ length-unheard set heard
+    ∙ sym (length-unheard set either)) (λ cpu.
     is_in-intersection (unheard set heard) (unheard set other) cpu
     ∙ ap (λ there. there && is_in (unheard set other) cpu) (is_in-unheard set heard cpu)
     ∙ ap (λ there. (is_in set cpu && not (heard cpu)) && there) (is_in-unheard set other cpu)

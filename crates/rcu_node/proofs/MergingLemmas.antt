@@ -18,7 +18,8 @@ intersection-commutes a b e =
 intersection-associates : (a b c : List Bool) → intersection (intersection a b) c ≡ intersection a (intersection b c)
 intersection-associates a b c =
     same_from_flags (intersection (intersection a b) c) (intersection a (intersection b c))
-    (length-intersection (intersection a b) c ∙ length-intersection a b ∙ sym (length-intersection a (intersection b c))) (λ cpu.
+    (length-intersection (intersection a b) c ∙ length-intersection a b
+    ∙ sym (length-intersection a (intersection b c))) (λ cpu.
     is_in-intersection (intersection a b) c cpu ∙ ap (λ there. there && is_in c cpu) (is_in-intersection a b cpu)
     ∙ and_assoc (is_in a cpu) (is_in b cpu) (is_in c cpu)
     ∙ ap (λ there. is_in a cpu && there) (sym (is_in-intersection b c cpu))
@@ -45,8 +46,11 @@ are_alike-equals : (x y : Standing) → are_alike x y ≡ true → Equals x y
 are_alike-equals x y e =
     let one =
     and_parts (length x.awaited == length y.awaited) (same_number x.tag y.tag && same_set x.start_set y.start_set) e in
-    let two = and_parts (same_number x.tag y.tag) (same_set x.start_set y.start_set) one.1 in
-    ((Decides-eqb (length x.awaited) (length y.awaited)).0 one.0, (Decides-eqb x.tag y.tag).0 two.0, (same_set-Decides x.start_set y.start_set).0 two.1)
+    let two = and_parts (same_number x.tag y.tag) (same_set x.start_set y.start_set) one.1 in (
+      (Decides-eqb (length x.awaited) (length y.awaited)).0 one.0,
+      (Decides-eqb x.tag y.tag).0 two.0,
+      (same_set-Decides x.start_set y.start_set).0 two.1,
+    )
 
 equals-alike : (x y : Standing) → Equals x y → are_alike x y ≡ true
 equals-alike x y h =
@@ -72,7 +76,8 @@ same_standing x y e f h = rw (e, f, h)
 pub merged-commutes : (x y : Standing) → are_alike x y ≡ true → after_merge x y ≡ after_merge y x
 merged-commutes x y e =
     let equal = are_alike-equals x y e in
-    same_standing (after_merge x y) (after_merge y x) equal.1 equal.2 (intersection-commutes x.awaited y.awaited equal.0)
+    same_standing (after_merge x y) (after_merge y x) equal.1 equal.2
+    (intersection-commutes x.awaited y.awaited equal.0)
 
 pub merged-associates : (x y z : Standing) → after_merge (after_merge x y) z ≡ after_merge x (after_merge y z)
 merged-associates x y z =

@@ -1,5 +1,6 @@
 -- Sets of processors put together by words.
-use Rattle.std.proofs.Common.{◌≡◌, ℕ, ◌*◌, ◌/◌, ◌%◌, ◌<◌, ◌≤◌, ◌||◌, Bool, List, ◌++◌, length, take, drop, slice_index, bit_or, sym, ap, ◌∙◌, arith, inl, inr}
+use Rattle.std.proofs.Common.{◌≡◌, ℕ, ◌*◌, ◌/◌, ◌%◌, ◌<◌, ◌≤◌, ◌||◌, Bool, List, ◌++◌, length, take, drop, slice_index}
+use Rattle.std.proofs.Common.{bit_or, sym, ap, ◌∙◌, arith, inl, inr}
 use Rattle.std.proofs.lemmas.Bool.{cases_lt}
 use Rattle.std.proofs.lemmas.List.{take-append-le, take_all}
 use Rattle.rcu_node.specs.CpuSet.{is_in, size_of, union}
@@ -57,8 +58,8 @@ count-is cpus words l none = size_of-listed_rest cpus (64 * length words) (flag_
 -- merged words that are written back into a vector of as many
 pub written_merged : (n : ℕ) (words others new items stored : List ℕ) → length others ≡ length words
     → length new ≡ length words → length words ≡ n
-    →
-    ((place : ℕ) → place < length words → slice_index new place ≡ bit_or (slice_index words place) (slice_index others place))
+    → ((place : ℕ) → place < length words → slice_index new place
+    ≡ bit_or (slice_index words place) (slice_index others place))
     → stored ≡ take n (new ++ drop (length new) items) → AreMerged words others stored
 written_merged n words others new items stored alike sized long merged e =
     let all : stored ≡ new =

@@ -11,7 +11,8 @@ pub refused_while_awaited : (r : Replicated) → (r.periods.running ≡ false �
     → (size_of r.awaited == 0) ≡ false → refusal r End ≡ Some Waiting
 refused_while_awaited r idle e = elim (cases_Bool r.periods.running) [
   | inl runs ↦ rw runs (rw e refl)
-  | inr rests ↦ absurd (true≢false (sym (ap (λ (n : ℕ). n == 0) (size_of-empty r.awaited (λ cpu l. idle rests cpu))) ∙ e))
+  | inr rests ↦ absurd (true≢false (sym (ap (λ (n : ℕ). n == 0) (size_of-empty r.awaited (λ cpu l. idle rests cpu)))
+      ∙ e))
 ]
 
 -- a merged set is the processors in both, or was refused and is the same

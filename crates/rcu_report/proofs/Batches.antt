@@ -1,5 +1,6 @@
 -- What batches leave.
-use Rattle.std.proofs.Common.{◌≡◌, ℕ, suc, ◌+◌, ◌<◌, ◌≤◌, ◌==◌, ◌&&◌, ◌||◌, Bool, true, false, cond, not, nat_lt, List, [], ◌∷◌, length, All, refl, sym, ap, ◌∙◌, arith, inl, inr}
+use Rattle.std.proofs.Common.{◌≡◌, ℕ, suc, ◌+◌, ◌<◌, ◌≤◌, ◌==◌, ◌&&◌, ◌||◌, Bool, true, false, cond, not, nat_lt, List}
+use Rattle.std.proofs.Common.{[], ◌∷◌, length, All, refl, sym, ap, ◌∙◌, arith, inl, inr}
 use Rattle.std.proofs.Math.Bool.{and-true, and-false}
 use Rattle.std.proofs.lemmas.Bool.{and_parts, cases_Bool}
 use Rattle.std.proofs.lemmas.Bool.Decides.{nat_tests}
@@ -20,7 +21,8 @@ is_in-left_by batch number awaited cpu l = elim (cases_Bool (same_number batch.t
   | inl e ↦ rw e (is_in-listed (length awaited) (λ k. is_in awaited k && not (is_in batch.set k)) cpu l
       ∙ ap (λ b. is_in awaited cpu && not b) (sym (and-true (is_in batch.set cpu))))
   | inr e ↦ rw e
-      (sym (and-true (is_in awaited cpu)) ∙ ap (λ b. is_in awaited cpu && not b) (sym (and-false (is_in batch.set cpu))))
+      (sym (and-true (is_in awaited cpu))
+      ∙ ap (λ b. is_in awaited cpu && not b) (sym (and-false (is_in batch.set cpu))))
 ]
 
 -- and it has a flag for each processor
@@ -33,12 +35,13 @@ length-left_by batch number awaited = elim (cases_Bool (same_number batch.tag nu
 
 -- the list with those flags is what the batch leaves
 pub left_by-is : (batch : Gathered) (number : Number) (awaited later : List Bool) → length later ≡ length awaited
-    →
-    ((cpu : ℕ) → cpu < length awaited → is_in later cpu ≡ (is_in awaited cpu && not (is_in batch.set cpu && same_number batch.tag number)))
+    → ((cpu : ℕ) → cpu < length awaited → is_in later cpu
+    ≡ (is_in awaited cpu && not (is_in batch.set cpu && same_number batch.tag number)))
     → later ≡ awaited_after_batch number awaited batch
 left_by-is batch number awaited later e h =
     ext_get_or false later (awaited_after_batch number awaited batch) (e ∙ sym (length-left_by batch number awaited))
-    (λ cpu l. let m : cpu < length awaited = omega (arith, l, e) in h cpu m ∙ sym (is_in-left_by batch number awaited cpu m))
+    (λ cpu l. let m : cpu < length awaited = omega (arith, l, e) in h cpu m
+    ∙ sym (is_in-left_by batch number awaited cpu m))
 
 -- a test of a report and one of the others, both under a third
 either_where : (a b c : Bool) → ((a && c) || (b && c)) ≡ ((a || b) && c)
@@ -52,11 +55,13 @@ was_reported-is : (tag number : Number) (cpu : ℕ) (reports : List (ℕ × Numb
     → was_reported number cpu reports ≡ (was_reported tag cpu reports && same_number tag number)
 was_reported-is tag number cpu [] all = refl
 was_reported-is tag number cpu (report ∷ earlier) all =
-    let latest : (report.0 == cpu && same_number report.1 number) ≡ ((report.0 == cpu && same_number report.1 tag) && same_number tag number) =
+    let latest : (report.0 == cpu && same_number report.1 number)
+    ≡ ((report.0 == cpu && same_number report.1 tag) && same_number tag number) =
     rw (all 0 report (omega arith)) (grind (arith, nat_tests)) in
     let others = λ (k : ℕ) (d : ℕ × Number) (l : k < length earlier). all (suc k) d (omega (arith, l)) in
     ap (λ b. b || was_reported number cpu earlier) latest
-    ∙ ap (λ b. ((report.0 == cpu && same_number report.1 tag) && same_number tag number) || b) (was_reported-is tag number cpu earlier others)
+    ∙ ap (λ b. ((report.0 == cpu && same_number report.1 tag) && same_number tag number) || b)
+    (was_reported-is tag number cpu earlier others)
     ∙ either_where (report.0 == cpu && same_number report.1 tag) (was_reported tag cpu earlier) (same_number tag number)
 
 -- a batch leaves what its reports leave
@@ -65,9 +70,11 @@ pub batch_leaves-reports : (batch : Gathered) (number : Number) (awaited : List 
     → awaited_after_batch number awaited batch ≡ awaited_after_reports number awaited reports
 batch_leaves-reports batch number awaited reports of =
     sym
-    (left_by-is batch number awaited (awaited_after_reports number awaited reports) (length-awaited_after_reports number awaited reports) (λ cpu l.
+    (left_by-is batch number awaited (awaited_after_reports number awaited reports)
+    (length-awaited_after_reports number awaited reports) (λ cpu l.
     unreported number awaited reports cpu ∙ ap (λ b. is_in awaited cpu && not b)
-    (was_reported-is batch.tag number cpu reports of.tags ∙ ap (λ b. b && same_number batch.tag number) (sym (of.cpus cpu)))))
+    (was_reported-is batch.tag number cpu reports of.tags
+    ∙ ap (λ b. b && same_number batch.tag number) (sym (of.cpus cpu)))))
 
 -- one flag more in both sets
 difference-cons : (x y : Bool) (xs ys : List Bool) → difference (x ∷ xs) (y ∷ ys) ≡ (x && not y) ∷ difference xs ys
@@ -100,7 +107,8 @@ size_of-difference (x ∷ xs) (y ∷ ys) e h =
 -- what is awaited once the reports of a batch on processors below a counter are made
 abbrev pub IsClearedBelow : ℕ → Gathered → Number → List Bool → List Bool → Type 0
 IsClearedBelow counter batch number awaited now =
-    (cpu : ℕ) → is_in now cpu ≡ (is_in awaited cpu && not ((nat_lt cpu counter && is_in batch.set cpu) && same_number batch.tag number))
+    (cpu : ℕ) → is_in now cpu ≡ (is_in awaited cpu
+    && not ((nat_lt cpu counter && is_in batch.set cpu) && same_number batch.tag number))
 
 -- once those on all processors are made, it is what the batch leaves
 pub left_by_all : (counter : ℕ) (batch : Gathered) (number : Number) (awaited now : List Bool)

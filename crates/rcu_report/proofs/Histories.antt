@@ -1,5 +1,6 @@
 -- What histories of calls say of the replica after them.
-use Rattle.std.proofs.Common.{◌≡◌, ℕ, ◌+◌, ◌==◌, ◌&&◌, ◌||◌, Bool, true, false, cond, not, count_by, List, [], ◌∷◌, None, refl, sym, ap, ◌∙◌, arith, inl, inr}
+use Rattle.std.proofs.Common.{◌≡◌, ℕ, ◌+◌, ◌==◌, ◌&&◌, ◌||◌, Bool, true, false, cond, not, count_by, List, [], ◌∷◌}
+use Rattle.std.proofs.Common.{None, refl, sym, ap, ◌∙◌, arith, inl, inr}
 use Rattle.std.proofs.Math.Bool.{and-true}
 use Rattle.std.proofs.lemmas.Bool.{cases_Bool}
 use Rattle.std.proofs.lemmas.Bool.Decides.{nat_tests}
@@ -10,8 +11,10 @@ use Rattle.rcu_node.specs.CpuSet.{is_in}
 use Rattle.rcu_node.specs.Reports.{awaited_after_report}
 use Rattle.rcu_node.proofs.CpuSetLemmas.{in_none, is_in-intersection, is_in-remove, length-intersection}
 use Rattle.rcu_node.proofs.ReportLemmas.{is_in-awaited_after_report, length-awaited_after_report, neither}
-use Rattle.rcu_report.specs.Replica.{Replicated, Call, Begin, Report, Depart, End, Merge, IsSound, CanBeMade, cpus_of, after_call, refusal}
-use Rattle.rcu_report.specs.History.{History, AreAccepted, Represents, AreAlike, after_calls, awaits, ends, hears, is_heard, starts, tag}
+use Rattle.rcu_report.specs.Replica.{Replicated, Call, Begin, Report, Depart, End, Merge, IsSound, CanBeMade, cpus_of}
+use Rattle.rcu_report.specs.Replica.{after_call, refusal}
+use Rattle.rcu_report.specs.History.{History, AreAccepted, Represents, AreAlike, after_calls, awaits, ends, hears}
+use Rattle.rcu_report.specs.History.{is_heard, starts, tag}
 use Rattle.rcu_report.proofs.Replicas.{by_running, kept_at_first, kept_next, merging_agrees}
 
 -- who is awaited no more stays so
@@ -84,7 +87,8 @@ says_idle_report r h other number none says = record {
   start_set = says.start_set;
   awaited = λ cpu.
       none cpu
-      ∙ sym (no_more (starts cpu h) (is_heard cpu (tag h) h) (other == cpu && same_number number (tag h)) (sym (says.awaited cpu) ∙ none cpu));
+      ∙ sym (no_more (starts cpu h) (is_heard cpu (tag h) h) (other == cpu && same_number number (tag h))
+      (sym (says.awaited cpu) ∙ none cpu));
 }
 
 -- after an accepted call the replica is as the history with it says

@@ -1,5 +1,6 @@
 -- What the calls of replicas keep.
-use Rattle.std.proofs.Common.{◌≡◌, ℕ, ◌==◌, ◌&&◌, Bool, true, false, not, if◌then◌else◌, List, length, slice_set, replicate, None, refl, sym, ap, ◌∙◌, arith, inl, inr}
+use Rattle.std.proofs.Common.{◌≡◌, ℕ, ◌==◌, ◌&&◌, Bool, true, false, not, if◌then◌else◌, List, length, slice_set}
+use Rattle.std.proofs.Common.{replicate, None, refl, sym, ap, ◌∙◌, arith, inl, inr}
 use Rattle.std.proofs.lemmas.Bool.{and_parts, cases_Bool, true≢false}
 use Rattle.std.proofs.lemmas.Bool.Decides.{nat_tests}
 use Rattle.std.proofs.lemmas.List.{length-set, length-replicate}
@@ -10,7 +11,8 @@ use Rattle.rcu_node.specs.Reports.{awaited_after_report}
 use Rattle.rcu_node.proofs.CpuSetLemmas.{in_none, is_in-intersection, is_in-remove, length-intersection, nobody_in}
 use Rattle.rcu_node.proofs.MergingLemmas.{Equals, are_alike-Decides}
 use Rattle.rcu_node.proofs.ReportLemmas.{is_in-awaited_after_report, length-awaited_after_report}
-use Rattle.rcu_report.specs.Replica.{Replicated, Call, Begin, Report, Depart, End, Merge, IsSound, CanBeMade, at_first, cpus_of, after_call, refusal, standing_of}
+use Rattle.rcu_report.specs.Replica.{Replicated, Call, Begin, Report, Depart, End, Merge, IsSound, CanBeMade, at_first}
+use Rattle.rcu_report.specs.Replica.{cpus_of, after_call, refusal, standing_of}
 
 -- an accepted merging is of an alike replica
 pub merging_alike : (r other : Replicated) → refusal r (Merge other) ≡ None

@@ -3,7 +3,8 @@ use Rattle.std.specs.Prelude.{ℕ, ◌≡◌, ◌==◌, Bool, true, false, not, 
 use Rattle.rcu_seq.specs.Histories.{is_on, some_since}
 use Rattle.rcu_seq.specs.Numbers.{Number, number_at, same_number}
 use Rattle.rcu_node.specs.CpuSet.{is_in}
-use Rattle.rcu_report.specs.Replica.{Replicated, Call, Begin, Report, Depart, End, Merge, CanBeMade, at_first, refusal, after_call}
+use Rattle.rcu_report.specs.Replica.{Replicated, Call, Begin, Report, Depart, End, Merge, CanBeMade, at_first, refusal}
+use Rattle.rcu_report.specs.Replica.{after_call}
 
 abbrev pub History : Type 0
 History = List Call
@@ -45,8 +46,8 @@ starts cpu [] = false
 starts cpu (Begin set ∷ h) = is_in set cpu
 starts cpu (_ ∷ h) = starts cpu h
 
--- by this call the processor is heard in the grace period of this number: it reports the number, or departs, or
--- another replica is taken in that heard it in that grace period, so that it started with the processor and awaits it no more
+-- by this call the processor is heard in the grace period of this number: it reports the number, or departs, or another
+-- replica is taken in that heard it in that grace period, so that it started with the processor and awaits it no more
 abbrev pub hears : ℕ → Number → Call → Bool
 hears cpu number (Report c n) = c == cpu && same_number n number
 hears cpu number (Depart c) = c == cpu

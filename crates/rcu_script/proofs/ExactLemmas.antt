@@ -1,5 +1,6 @@
 -- A text without `fault 16` is the one right text.
-use Rattle.std.proofs.Common.{◌≡◌, ◌⊎◌, ◌==◌, ◌∙◌, ◌||◌, ℕ, Bool, true, false, List, [], ◌∷◌, ◌++◌, length, refl, sym, ap, ap₂, inl, inr, codes}
+use Rattle.std.proofs.Common.{◌≡◌, ◌⊎◌, ◌==◌, ◌∙◌, ◌||◌, ℕ, Bool, true, false, List, [], ◌∷◌, ◌++◌, length, refl, sym}
+use Rattle.std.proofs.Common.{ap, ap₂, inl, inr, codes}
 use Rattle.std.specs.Prelude.{flat_map}
 use Rattle.std.specs.Fmt.{decimal, digits}
 use Rattle.std.specs.List.{list_any}
@@ -36,26 +37,31 @@ closes_reply (reply.Depth n) = closes_numbered (codes "depth ") n
 closes_reply (reply.Noted n true) = closes_number (codes "noted ") (codes " needed\n") n (codes " needed", refl)
 closes_reply (reply.Noted n false) = closes_number (codes "noted ") (codes " clear\n") n (codes " clear", refl)
 closes_reply (reply.Made place report) =
-    closes_number (codes "report ") _ place (closes_number (codes " cpu ") _ report.cpu (closes_number (codes " tag ") (codes "\n") report.tag ([], refl)))
+    closes_number (codes "report ") _ place (closes_number (codes " cpu ") _ report.cpu
+    (closes_number (codes " tag ") (codes "\n") report.tag ([], refl)))
 closes_reply (reply.Answer answer.Taken) = (codes "taken", refl)
 closes_reply (reply.Answer answer.Last) = (codes "last", refl)
 closes_reply (reply.Answer answer.Repeat) = (codes "repeat", refl)
 closes_reply (reply.Answer answer.Stale) = (codes "stale", refl)
 closes_reply reply.Online = (codes "online", refl)
 closes_reply (reply.Moved n) = closes_numbered (codes "offline moved ") n
-closes_reply (reply.Begun n cpus) = closes_number (codes "begun ") _ n (closes_number (codes " awaits ") (codes "\n") cpus ([], refl))
+closes_reply (reply.Begun n cpus) =
+    closes_number (codes "begun ") _ n (closes_number (codes " awaits ") (codes "\n") cpus ([], refl))
 closes_reply (reply.Ended n) = closes_numbered (codes "ended ") n
 closes_reply (reply.Waiting n) = closes_numbered (codes "waiting ") n
 closes_reply reply.Nothing = (codes "nothing", refl)
 closes_reply (reply.Awaits []) = (codes "awaits none", refl)
-closes_reply (reply.Awaits (cpu ∷ cpus)) = closes_behind (codes "awaits") _ (closes_behind (flat_map space_and_number (cpu ∷ cpus)) (codes "\n") ([], refl))
+closes_reply (reply.Awaits (cpu ∷ cpus)) =
+    closes_behind (codes "awaits") _ (closes_behind (flat_map space_and_number (cpu ∷ cpus)) (codes "\n") ([], refl))
 closes_reply (reply.Cookie c) = closes_numbered (codes "cookie ") c.0
 closes_reply (reply.Polled true) = (codes "done", refl)
 closes_reply (reply.Polled false) = (codes "not yet", refl)
 closes_reply (reply.Queued n) = closes_numbered (codes "queued ") n
-closes_reply (reply.Tended done waiting) = closes_number (codes "tended ") _ done (closes_number (codes " ") (codes "\n") waiting ([], refl))
+closes_reply (reply.Tended done waiting) =
+    closes_number (codes "tended ") _ done (closes_number (codes " ") (codes "\n") waiting ([], refl))
 closes_reply (reply.Ran []) = (codes "ran none", refl)
-closes_reply (reply.Ran (value ∷ values)) = closes_behind (codes "ran") _ (closes_behind (flat_map space_and_number (value ∷ values)) (codes "\n") ([], refl))
+closes_reply (reply.Ran (value ∷ values)) =
+    closes_behind (codes "ran") _ (closes_behind (flat_map space_and_number (value ∷ values)) (codes "\n") ([], refl))
 closes_reply reply.BarBegun = (codes "barrier begun", refl)
 closes_reply (reply.Visited visit.Marked) = (codes "marked", refl)
 closes_reply (reply.Visited visit.Empty) = (codes "empty", refl)
@@ -64,11 +70,14 @@ closes_reply reply.BarDone = (codes "barrier done", refl)
 closes_reply (reply.BarWaits n) = closes_numbered (codes "barrier waits ") n
 closes_reply (reply.Fault f) = closes_numbered (codes "fault ") (fault_number f)
 
-closed_line : (size : Size) (h : History) (line : Line Event) (text : List ℕ) (next : History) → AnswersLine size h line text next → (cut_of text).rest ≡ []
+closed_line : (size : Size) (h : History) (line : Line Event) (text : List ℕ) (next : History)
+    → AnswersLine size h line text next → (cut_of text).rest ≡ []
 unfolding cut_of
 closed_line size h Blank text next a = ap (λ (l : List ℕ). (cut_of l).rest) a.0
-closed_line size h Malformed text next a = ap (λ (l : List ℕ). (cut_of l).rest) a.0 ∙ closed (text_of (reply.Fault fault.BadLine)) (closes_reply (reply.Fault fault.BadLine))
-closed_line size h (Ask event) text next a = ap (λ (l : List ℕ). (cut_of l).rest) a.2 ∙ closed (text_of a.0) (closes_reply a.0)
+closed_line size h Malformed text next a = ap (λ (l : List ℕ). (cut_of l).rest) a.0
+    ∙ closed (text_of (reply.Fault fault.BadLine)) (closes_reply (reply.Fault fault.BadLine))
+closed_line size h (Ask event) text next a = ap (λ (l : List ℕ). (cut_of l).rest) a.2
+    ∙ closed (text_of a.0) (closes_reply a.0)
 
 -- ---- the one text
 
@@ -81,7 +90,8 @@ unfolding cut_of digits
 fault_16 = refl
 
 -- a line is answered by the one reply, or by `fault 16`
-one_line : (size : Size) (h : History) (line : Line Event) (text : List ℕ) (next : History) → AnswersLine size h line text next
+one_line : (size : Size) (h : History) (line : Line Event) (text : List ℕ) (next : History)
+    → AnswersLine size h line text next
     → ((text ≡ reply_to size h line) × (next ≡ next_after size h line)) ⊎ (text ≡ text_of (reply.Fault fault.NoMemory))
 one_line size h Blank text next a = inl a
 one_line size h Malformed text next a = inl a
@@ -95,7 +105,8 @@ abbrev pub ended_wants : List ℕ → Bool
 ended_wants text = list_any (bytes_eq (codes "fault 16")) (cut_of text).ended
 
 pub wants_append : (a b : List ℕ) → (cut_of a).rest ≡ [] → ended_wants (a ++ b) ≡ (ended_wants a || ended_wants b)
-wants_append a b none = ap (list_any (bytes_eq (codes "fault 16"))) (cut_append a b none) ∙ list_any-append (bytes_eq (codes "fault 16")) (cut_of a).ended (cut_of b).ended
+wants_append a b none = ap (list_any (bytes_eq (codes "fault 16"))) (cut_append a b none)
+    ∙ list_any-append (bytes_eq (codes "fault 16")) (cut_of a).ended (cut_of b).ended
 
 pub exact_text : (size : Size) (h : History) (lines : List (List ℕ)) (text : List ℕ) (end : History)
     → Answers size h lines text end → ended_wants text ≡ false → text ≡ replies size h lines
@@ -103,7 +114,8 @@ exact_text size h [] text end a none = a.0
 exact_text size h (line ∷ lines) text end a none =
     let first = a.0 in
     let closes = closed_line size h (asked_by line) first a.1 a.3 in
-    let apart = both_false (ended_wants first) (ended_wants a.2) (sym (ap ended_wants a.4 ∙ wants_append first a.2 closes) ∙ none) in
+    let apart = both_false (ended_wants first) (ended_wants a.2)
+    (sym (ap ended_wants a.4 ∙ wants_append first a.2 closes) ∙ none) in
     let rest = exact_text size a.1 lines a.2 end a.5 apart.1 in
     elim (one_line size h (asked_by line) first a.1 a.3) [
       | inl e ↦ a.4 ∙ ap₂ (λ (x y : List ℕ). x ++ y) e.0 (rest ∙ ap (λ (m : History). replies size m lines) e.1)
@@ -118,9 +130,16 @@ ended_of_all text h = go (length (cut_of text).rest == 0) refl h
     go : (t : Bool) → (length (cut_of text).rest == 0) ≡ t → wants_memory text ≡ false → ended_wants text ≡ false
     go true e h = rw e at h
     go false e h =
-        let k : list_any (bytes_eq (codes "fault 16")) ((cut_of text).ended ++ (cut_of text).rest ∷ []) ≡ false = rw e at h in
-        (both_false _ _ (sym (list_any-append (bytes_eq (codes "fault 16")) (cut_of text).ended ((cut_of text).rest ∷ [])) ∙ k)).0
+        let k : list_any (bytes_eq (codes "fault 16")) ((cut_of text).ended ++ (cut_of text).rest ∷ [])
+        ≡ false = rw e at h in
+        (both_false _ _ (sym (list_any-append (bytes_eq (codes "fault 16")) (cut_of text).ended
+        ((cut_of text).rest ∷ [])) ∙ k)).0
 
 -- a text that answers the lines from the first event on is their answer
-pub is_answer : (size : Size) (lines : List (List ℕ)) (text : List ℕ) (end : History) → Answers size [] lines text end → IsAnswer size lines text
-is_answer size lines text end a = record { end = end; answers = a; exact = λ none. exact_text size [] lines text end a (ended_of_all text none) }
+pub is_answer : (size : Size) (lines : List (List ℕ)) (text : List ℕ) (end : History) → Answers size [] lines text end
+    → IsAnswer size lines text
+is_answer size lines text end a = record {
+  end = end;
+  answers = a;
+  exact = λ none. exact_text size [] lines text end a (ended_of_all text none);
+}

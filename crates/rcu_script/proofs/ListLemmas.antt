@@ -10,7 +10,8 @@ pub none_listed : (word items : List ℕ) → length items ≡ 0 → listed_text
 none_listed word [] e = refl
 none_listed word (x ∷ l) e = absurd (omega (arith, e))
 
-pub some_listed : (word items : List ℕ) → 0 < length items → listed_text word items ≡ word ++ (flat_map space_and_number items ++ codes "\n")
+pub some_listed : (word items : List ℕ) → 0 < length items
+    → listed_text word items ≡ word ++ (flat_map space_and_number items ++ codes "\n")
 some_listed word [] e = absurd (omega (arith, e))
 some_listed word (x ∷ l) e = refl
 

@@ -1,5 +1,6 @@
 -- A line that asks for an event is printable, so its bytes need no look of their own.
-use Rattle.std.proofs.Common.{◌≡◌, ◌≤◌, ◌&&◌, ◌∙◌, ℕ, Bool, true, List, [], ◌∷◌, length, Option, Some, None, refl, sym, ap, arith}
+use Rattle.std.proofs.Common.{◌≡◌, ◌≤◌, ◌&&◌, ◌∙◌, ℕ, Bool, true, List, [], ◌∷◌, length, Option, Some, None, refl, sym}
+use Rattle.std.proofs.Common.{ap, arith}
 use Rattle.std.specs.List.{list_all}
 use Rattle.std.specs.Option.{option_map_or}
 use Rattle.std.specs.Prelude.{codes, nat_le}
@@ -9,7 +10,8 @@ use Rattle.rcu_text.specs.Lines.{is_well_formed}
 use Rattle.rcu_text.specs.Words.{number_in_word, words_of}
 use Rattle.rcu_text.specs.declared.line_shape.Line.TheVariants.{Blank, Ask}
 use Rattle.rcu_text.proofs.CallerLemmas.{is_word, named, number_printable, words_printable}
-use Rattle.rcu_script.specs.ScriptLines.{asked_by, cpu_of, event_alone, event_of, event_with_cpu, event_with_number, event_with_numbers}
+use Rattle.rcu_script.specs.ScriptLines.{asked_by, cpu_of, event_alone, event_of, event_with_cpu, event_with_number}
+use Rattle.rcu_script.specs.ScriptLines.{event_with_numbers}
 
 -- ---- names
 
@@ -40,7 +42,8 @@ name_with_number name n e found =
     named e (codes "deliver") name _ _ refl
     (named e (codes "poll") name _ _ refl (λ later. name_with_cpu name (cpu_of n) e later)) found
 
-name_with_numbers : (name : List ℕ) (cpu n : ℕ) (e : Event) → event_with_numbers name cpu n ≡ Some e → is_word name ≡ true
+name_with_numbers : (name : List ℕ) (cpu n : ℕ) (e : Event) → event_with_numbers name cpu n ≡ Some e
+    → is_word name ≡ true
 name_with_numbers name cpu n e found =
     named e (codes "queue") name _ _ refl
     (named e (codes "run") name _ _ refl (λ none. cc)) found
@@ -50,25 +53,30 @@ name_with_numbers name cpu n e found =
 both : (a b : Bool) → a ≡ true → b ≡ true → (a && b) ≡ true
 both a b p q = rw (p, q) refl
 
-with_word : (name word : List ℕ) (e : Event) (o : Option ℕ) → number_in_word word ≡ o → option_map_or (event_with_number name) o None ≡ Some e
+with_word : (name word : List ℕ) (e : Event) (o : Option ℕ) → number_in_word word ≡ o
+    → option_map_or (event_with_number name) o None ≡ Some e
     → list_all is_word (name ∷ word ∷ []) ≡ true
 with_word name word e None is found = cc
 with_word name word e (Some n) is found =
     both (is_word name) _ (name_with_number name n e found) (both (is_word word) true (number_printable word n is) refl)
 
-with_next : (name word next : List ℕ) (cpu : ℕ) (e : Event) (o : Option ℕ) → number_in_word word ≡ Some cpu → number_in_word next ≡ o
+with_next : (name word next : List ℕ) (cpu : ℕ) (e : Event) (o : Option ℕ) → number_in_word word ≡ Some cpu
+    → number_in_word next ≡ o
     → option_map_or (event_with_numbers name cpu) o None ≡ Some e → list_all is_word (name ∷ word ∷ next ∷ []) ≡ true
 with_next name word next cpu e None is later found = cc
 with_next name word next cpu e (Some n) is later found =
     both (is_word name) _ (name_with_numbers name cpu n e found)
-    (both (is_word word) _ (number_printable word cpu is) (both (is_word next) true (number_printable next n later) refl))
+    (both (is_word word) _ (number_printable word cpu is)
+    (both (is_word next) true (number_printable next n later) refl))
 
 with_words : (name word next : List ℕ) (e : Event) (o : Option ℕ) → number_in_word word ≡ o
-    → option_map_or (λ cpu. option_map_or (event_with_numbers name cpu) (number_in_word next) None) o None ≡ Some e → list_all is_word (name ∷ word ∷ next ∷ []) ≡ true
+    → option_map_or (λ cpu. option_map_or (event_with_numbers name cpu) (number_in_word next) None) o None ≡ Some e
+    → list_all is_word (name ∷ word ∷ next ∷ []) ≡ true
 with_words name word next e None is found = cc
 with_words name word next e (Some cpu) is found = with_next name word next cpu e (number_in_word next) is refl found
 
-event_words : (name : List ℕ) (words : List (List ℕ)) (e : Event) → event_of name words ≡ Some e → list_all is_word (name ∷ words) ≡ true
+event_words : (name : List ℕ) (words : List (List ℕ)) (e : Event) → event_of name words ≡ Some e
+    → list_all is_word (name ∷ words) ≡ true
 event_words name [] e found = both (is_word name) true (name_alone name e found) refl
 event_words name (word ∷ []) e found = with_word name word e (number_in_word word) refl found
 event_words name (word ∷ next ∷ []) e found = with_words name word next e (number_in_word word) refl found
@@ -88,7 +96,8 @@ blank line short none =
     rw (w, none) refl
 
 -- a short line whose words are an event's asks for it
-pub asks : (line name : List ℕ) (words : List (List ℕ)) (e : Event) → length line ≤ 80 → words_of line ≡ name ∷ words → Some e ≡ event_of name words
+pub asks : (line name : List ℕ) (words : List (List ℕ)) (e : Event) → length line ≤ 80 → words_of line ≡ name ∷ words
+    → Some e ≡ event_of name words
     → Ask e ≡ asked_by line
 asks line name words e short split found =
     let w = well_formed line short (ap (list_all is_word) split ∙ event_words name words e (sym found)) in

@@ -38,8 +38,10 @@ pub record Calls : Type 0 where
 
 -- the calls after a line
 abbrev pub calls_after_line : Pair → Line PairAsk → Calls → Calls
-calls_after_line p (Ask (Of A event)) c = record c { a = calls_with (event_refusal p.a p.b event) (call_of p.a p.b event) c.a }
-calls_after_line p (Ask (Of B event)) c = record c { b = calls_with (event_refusal p.b p.a event) (call_of p.b p.a event) c.b }
+calls_after_line p (Ask (Of A event)) c =
+    record c { a = calls_with (event_refusal p.a p.b event) (call_of p.a p.b event) c.a }
+calls_after_line p (Ask (Of B event)) c =
+    record c { b = calls_with (event_refusal p.b p.a event) (call_of p.b p.a event) c.b }
 calls_after_line p _ c = c
 
 -- the calls after lines

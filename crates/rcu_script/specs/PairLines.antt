@@ -40,7 +40,8 @@ depart_in_words word (more ∷ words) = None
 abbrev pub report_in_words : List ℕ → List (List ℕ) → Option PairEvent
 report_in_words word [] = None
 report_in_words word (tag ∷ []) =
-    option_map_or (λ n. option_map_or (λ v. Some (Report (cpu_of n) v)) (number_in_word tag) None) (number_in_word word) None
+    option_map_or (λ n. option_map_or (λ v. Some (Report (cpu_of n) v)) (number_in_word tag) None)
+    (number_in_word word) None
 report_in_words word (tag ∷ more ∷ words) = None
 
 -- the event of a name that stands alone
@@ -64,7 +65,8 @@ pair_event_of name (word ∷ words) =
 abbrev pub pair_ask_of : List ℕ → List (List ℕ) → Option PairAsk
 pair_ask_of first [] = if bytes_eq first (codes "same") then Some Same else None
 pair_ask_of first (name ∷ words) =
-    option_map_or (λ side. option_map_or (λ event. Some (Of side event)) (pair_event_of name words) None) (side_of first) None
+    option_map_or (λ side. option_map_or (λ event. Some (Of side event)) (pair_event_of name words) None)
+    (side_of first) None
 
 -- what a line of a pair asks for
 abbrev pub pair_asked_by : List ℕ → Line PairAsk

@@ -18,7 +18,8 @@ abbrev pub IsRefusedBy : Option Fault → Fault → Type 0
 IsRefusedBy first fault = (first ≡ Some fault) ⊎ ((first ≡ None) × (fault ≡ NoMemory))
 
 -- how a run ends, where this is the first fault of its opening: where it is refused, nothing was read or written
-abbrev pub RunsFromOpening : Result (Unit {0}) RunFault → Option Fault → (List (List ℕ) → List ℕ → Type 0) → Ends → Ends → Type 0
+abbrev pub RunsFromOpening : Result (Unit {0}) RunFault → Option Fault → (List (List ℕ) → List ℕ → Type 0)
+    → Ends → Ends → Type 0
 RunsFromOpening (Ok x) first IsText old new = (first ≡ None) × Finished IsText old new
 RunsFromOpening (Err (Open fault)) first IsText old new = IsRefusedBy first fault × (new ≡ old)
 RunsFromOpening (Err Read) first IsText old new = (first ≡ None) × StoppedReading IsText old new

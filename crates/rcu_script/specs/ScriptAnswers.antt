@@ -50,7 +50,8 @@ next_after size h (Ask event) = with_event h event (answer size (situation h) ev
 -- the replies to the lines, where memory is never wanted
 abbrev pub replies : Size → History → List (List ℕ) → List ℕ
 replies size h [] = []
-replies size h (line ∷ lines) = reply_to size h (asked_by line) ++ replies size (next_after size h (asked_by line)) lines
+replies size h (line ∷ lines) =
+    reply_to size h (asked_by line) ++ replies size (next_after size h (asked_by line)) lines
 
 -- a line of the text is `fault 16`
 abbrev pub wants_memory : List ℕ → Bool

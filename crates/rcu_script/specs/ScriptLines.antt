@@ -3,7 +3,9 @@ use Rattle.std.specs.Prelude.{ℕ, ◌-◌, ◌^◌, List, [], ◌∷◌, min, c
 use Rattle.std.specs.Str.{bytes_eq}
 use Rattle.std.specs.Option.{option_map_or}
 use Rattle.rcu_core.specs.declared.event.Event.{Event}
-use Rattle.rcu_core.specs.declared.event.Event.TheVariants.{Enter, Exit, Note, Quiesce, Deliver, Online, Offline, Begin, End, Turn, Awaits, Take, StartPoll, Poll, Queue, Tend, Run, BarBegin, Visit, BarTest}
+use Rattle.rcu_core.specs.declared.event.Event.TheVariants.{Enter, Exit, Note, Quiesce, Deliver, Online, Offline, Begin}
+use Rattle.rcu_core.specs.declared.event.Event.TheVariants.{End, Turn, Awaits, Take, StartPoll, Poll, Queue, Tend, Run}
+use Rattle.rcu_core.specs.declared.event.Event.TheVariants.{BarBegin, Visit, BarTest}
 use Rattle.rcu_text.specs.Lines.{line_by}
 use Rattle.rcu_text.specs.Words.{number_in_word}
 use Rattle.rcu_text.specs.declared.line_shape.Line.{Line}
@@ -59,7 +61,8 @@ event_with_numbers name cpu n =
 -- the event of a name and two words, which have to be numbers
 abbrev pub event_with_words : List ℕ → List ℕ → List ℕ → Option Event
 event_with_words name word next =
-    option_map_or (λ cpu. option_map_or (event_with_numbers name cpu) (number_in_word next) None) (number_in_word word) None
+    option_map_or (λ cpu. option_map_or (event_with_numbers name cpu) (number_in_word next) None)
+    (number_in_word word) None
 
 -- the event of a name and the words behind it: the name decides how many they are
 abbrev pub event_of : List ℕ → List (List ℕ) → Option Event

@@ -7,7 +7,10 @@ use Rattle.rcu_report.specs.declared.report.Report.{Report}
 use Rattle.rcu_barrier.specs.declared.visit.Visit.{Visit}
 use Rattle.rcu_barrier.specs.declared.visit.Visit.TheVariants.{Marked, Empty, Already}
 use Rattle.rcu_core.specs.declared.reply.Reply.{Reply}
-use Rattle.rcu_core.specs.declared.reply.Reply.TheVariants.{Depth, Noted, Made, Answer as Answered, Online, Moved, Begun, Ended, Waiting, Nothing, Awaits, Cookie, Polled, Queued, Tended, Ran, BarBegun, Visited, BarDone, BarWaits, Fault}
+use Rattle.rcu_core.specs.declared.reply.Reply.TheVariants.{Depth, Noted, Made, Answer as Answered, Online, Moved}
+use Rattle.rcu_core.specs.declared.reply.Reply.TheVariants.{Begun, Ended, Waiting, Nothing, Awaits, Cookie, Polled}
+use Rattle.rcu_core.specs.declared.reply.Reply.TheVariants.{Queued, Tended, Ran, BarBegun, Visited, BarDone, BarWaits}
+use Rattle.rcu_core.specs.declared.reply.Reply.TheVariants.{Fault}
 use Rattle.rcu_text.specs.Texts.{numbered_text, space_and_number}
 
 -- what a processor noted: it is needed where the processor is awaited

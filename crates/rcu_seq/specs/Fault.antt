@@ -1,7 +1,10 @@
 -- Why a call is refused: the numbers of faults, and which fault is told.
 use Rattle.std.specs.Prelude.{ℕ, Bool, if◌then◌else◌, List, [], ◌∷◌, Option, Some, None}
 use Rattle.rcu_seq.specs.declared.fault.Fault.{Fault}
-use Rattle.rcu_seq.specs.declared.fault.Fault.TheVariants.{BadCpu, Offline, AlreadyOnline, InSection, NotOpen, NestFull, NoReport, Running, Idle, Waiting, Exhausted, BootStays, BarrierBusy, NoBarrier, CallbacksFull, NoMemory, TooManyCpus, BadFanout, BadLast, NotAlike, BadLine}
+use Rattle.rcu_seq.specs.declared.fault.Fault.TheVariants.{BadCpu, Offline, AlreadyOnline, InSection, NotOpen, NestFull}
+use Rattle.rcu_seq.specs.declared.fault.Fault.TheVariants.{NoReport, Running, Idle, Waiting, Exhausted, BootStays}
+use Rattle.rcu_seq.specs.declared.fault.Fault.TheVariants.{BarrierBusy, NoBarrier, CallbacksFull, NoMemory, TooManyCpus}
+use Rattle.rcu_seq.specs.declared.fault.Fault.TheVariants.{BadFanout, BadLast, NotAlike, BadLine}
 
 -- the number of a fault
 abbrev pub fault_number : Fault → ℕ

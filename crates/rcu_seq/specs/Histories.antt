@@ -1,5 +1,5 @@
--- Words over histories: lists of events of any type, the newest first. So the history as it was at an earlier event is the
--- part of the list from that event on.
+-- Words over histories: lists of events of any type, the newest first. So the history as it was at an earlier event is
+-- the part of the list from that event on.
 use Rattle.std.specs.Prelude.{Bool, true, false, not, ◌&&◌, ◌||◌, if◌then◌else◌, List, [], ◌∷◌}
 use Rattle.std.specs.List.{list_any}
 

@@ -1,4 +1,5 @@
--- Grace-period numbers. A tag, a noted number, a cookie and the number at which a grace period began are all such numbers.
+-- Grace-period numbers. A tag, a noted number, a cookie and the number at which a grace period began are all such
+-- numbers.
 use Rattle.std.specs.Prelude.{ℕ, ◌+◌, ◌*◌, ◌/◌, ◌%◌, ◌^◌, ◌==◌, ◌&&◌, ◌||◌, Bool, nat_le, if◌then◌else◌}
 
 abbrev pub Number : Type 0
@@ -20,8 +21,8 @@ is_running n = n % 4 == 1
 abbrev pub is_last : Number → Bool
 is_last n = n % 4 == 0 && (nat_le 4 n && nat_le n (2 ^ 62))
 
--- the snapshot of a number: the number that ends the first grace period to begin after it. A grace period that runs is not
--- that one, since a reader may have begun after its start
+-- the snapshot of a number: the number that ends the first grace period to begin after it. A grace period that runs is
+-- not that one, since a reader may have begun after its start
 abbrev pub snapshot : Number → Number
 snapshot number = 4 * ((number + 3) / 4) + 4
 

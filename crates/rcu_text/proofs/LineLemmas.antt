@@ -1,5 +1,6 @@
 -- What is kept of a line.
-use Rattle.std.proofs.Common.{◌≡◌, ◌⊎◌, inl, inr, ◌<◌, ◌≤◌, ◌+◌, ℕ, false, List, [], ◌∷◌, ◌++◌, length, take, refl, sym, ap, ◌∙◌, arith, append-nil, min}
+use Rattle.std.proofs.Common.{◌≡◌, ◌⊎◌, inl, inr, ◌<◌, ◌≤◌, ◌+◌, ℕ, false, List, [], ◌∷◌, ◌++◌, length, take, refl, sym}
+use Rattle.std.proofs.Common.{ap, ◌∙◌, arith, append-nil, min}
 use Rattle.std.proofs.lemmas.List.{take-append-le, length-take-le, take_all, take_min}
 use Rattle.std.proofs.lemmas.Bool.{cases_lt}
 use Rattle.std.proofs.lemmas.Bool.Decides.{nat_tests}
@@ -8,23 +9,28 @@ use Rattle.std.specs.Prelude.{nat_le, Option}
 use Rattle.rcu_text.specs.Lines.{is_well_formed, kept_of, line_by}
 
 -- as many bytes more as there is room for
-pub kept_more : (line more : List ℕ) (room n : ℕ) → room + length line ≡ 81 → n ≡ min (length more) room → line ++ take n more ≡ take 81 (line ++ more)
+pub kept_more : (line more : List ℕ) (room n : ℕ) → room + length line ≡ 81 → n ≡ min (length more) room
+    → line ++ take n more ≡ take 81 (line ++ more)
 kept_more line more room n full least =
     let count : 81 ≡ length line + room = omega arith in
-    let same : take n more ≡ take room more = ap (λ (k : ℕ). take k more) (least ∙ min_swap (length more) room) ∙ take_min room more in
-    ap (λ (l : List ℕ). line ++ l) same ∙ sym (take-append-add line more room) ∙ ap (λ (k : ℕ). take k (line ++ more)) (sym count)
+    let same : take n more ≡ take room more = ap (λ (k : ℕ). take k more) (least ∙ min_swap (length more) room)
+    ∙ take_min room more in
+    ap (λ (l : List ℕ). line ++ l) same ∙ sym (take-append-add line more room)
+    ∙ ap (λ (k : ℕ). take k (line ++ more)) (sym count)
   where
     min_swap : (a b : ℕ) → min a b ≡ min b a
     min_swap a b = omega arith
 
 -- what is kept of a line's front decides what is kept of the line
 pub kept_again : (line more : List ℕ) → kept_of (kept_of line ++ more) ≡ kept_of (line ++ more)
-kept_again line more = elim (cases_lt (length line) 81) as (λ _. kept_of (kept_of line ++ more) ≡ kept_of (line ++ more)) [
-  | inl short ↦ ap (λ (l : List ℕ). kept_of (l ++ more)) (take_all 81 line (omega arith))
-  | inr long ↦
-      let full : length (kept_of line) ≡ 81 = length-take-le 81 line long in
-      take-append-le 81 (kept_of line) more (omega arith) ∙ take_all 81 (kept_of line) (omega arith) ∙ sym (take-append-le 81 line more long)
-]
+kept_again line more =
+    elim (cases_lt (length line) 81) as (λ _. kept_of (kept_of line ++ more) ≡ kept_of (line ++ more)) [
+      | inl short ↦ ap (λ (l : List ℕ). kept_of (l ++ more)) (take_all 81 line (omega arith))
+      | inr long ↦
+          let full : length (kept_of line) ≡ 81 = length-take-le 81 line long in
+          take-append-le 81 (kept_of line) more (omega arith) ∙ take_all 81 (kept_of line) (omega arith)
+          ∙ sym (take-append-le 81 line more long)
+    ]
 
 -- a line of more than 80 bytes is not well formed
 pub too_long : (line : List ℕ) → 80 < length line → is_well_formed line ≡ false
@@ -33,7 +39,8 @@ too_long line long =
     rw e refl
 
 -- lines of which the same is kept are the same, or neither is well formed
-pub kept_alike : (line whole : List ℕ) → kept_of line ≡ kept_of whole → (line ≡ whole) ⊎ ((is_well_formed line ≡ false) × (is_well_formed whole ≡ false))
+pub kept_alike : (line whole : List ℕ) → kept_of line ≡ kept_of whole → (line ≡ whole)
+    ⊎ ((is_well_formed line ≡ false) × (is_well_formed whole ≡ false))
 kept_alike line whole e = elim (cases_lt (length line) 81) [
   | inl short ↦ elim (cases_lt (length whole) 81) [
     | inl small ↦ inl (sym (take_all 81 line (omega arith)) ∙ e ∙ take_all 81 whole (omega arith))
@@ -61,12 +68,15 @@ kept_twice : (line : List ℕ) → kept_of (kept_of line) ≡ kept_of line
 kept_twice line = ap kept_of (sym (append-nil (kept_of line))) ∙ kept_again line [] ∙ ap kept_of (append-nil line)
 
 -- of the line that these bytes end the same is kept
-pub kept_begun : (begun line longer front slice : List ℕ) → line ≡ kept_of begun → longer ≡ kept_of (line ++ front) → slice ≡ longer → kept_of slice ≡ kept_of (begun ++ front)
+pub kept_begun : (begun line longer front slice : List ℕ) → line ≡ kept_of begun → longer ≡ kept_of (line ++ front)
+    → slice ≡ longer → kept_of slice ≡ kept_of (begun ++ front)
 kept_begun begun line longer front slice k e s =
-    ap kept_of (s ∙ e) ∙ kept_twice (line ++ front) ∙ ap (λ (l : List ℕ). kept_of (l ++ front)) k ∙ kept_again begun front
+    ap kept_of (s ∙ e) ∙ kept_twice (line ++ front) ∙ ap (λ (l : List ℕ). kept_of (l ++ front)) k
+    ∙ kept_again begun front
 
 -- where nothing was in hand, these bytes are the line
-pub nothing_begun : (begun line front : List ℕ) → line ≡ kept_of begun → length line ≡ 0 → kept_of front ≡ kept_of (begun ++ front)
+pub nothing_begun : (begun line front : List ℕ) → line ≡ kept_of begun → length line ≡ 0
+    → kept_of front ≡ kept_of (begun ++ front)
 nothing_begun begun line front k none =
     ap (λ (l : List ℕ). kept_of (l ++ front)) (sym (nothing_kept begun (sym (ap length k) ∙ none)))
 
@@ -75,7 +85,8 @@ pub kept_whole : (begun line slice : List ℕ) → line ≡ kept_of begun → sl
 kept_whole begun line slice k s = ap kept_of (s ∙ k) ∙ kept_twice begun
 
 -- lines of which the same is kept are the same to whoever parses them
-pub line_alike : {E : Type 0} (parse : List ℕ → List (List ℕ) → Option E) (line whole : List ℕ) → kept_of line ≡ kept_of whole
+pub line_alike : {E : Type 0} (parse : List ℕ → List (List ℕ) → Option E) (line whole : List ℕ)
+    → kept_of line ≡ kept_of whole
     → line_by parse line ≡ line_by parse whole
 line_alike parse line whole e = elim (kept_alike line whole e) [
   | inl same ↦ ap (line_by parse) same

@@ -1,5 +1,7 @@
 -- Printed numbers read back.
-use Rattle.std.proofs.Common.{◌≡◌, ◌∙◌, ◌<◌, ◌≤◌, ◌+◌, ◌*◌, ◌-◌, ◌/◌, ◌%◌, ◌^◌, ◌&&◌, ℕ, zero, suc, Bool, true, false, List, [], ◌∷◌, ◌++◌, length, replicate, take, drop, Option, Some, None, Result, Ok, Err, refl, sym, ap, ap₂, arith, length-append, length-drop, take-append-drop, if◌then◌else◌}
+use Rattle.std.proofs.Common.{◌≡◌, ◌∙◌, ◌<◌, ◌≤◌, ◌+◌, ◌*◌, ◌-◌, ◌/◌, ◌%◌, ◌^◌, ◌&&◌, ℕ, zero, suc, Bool, true, false}
+use Rattle.std.proofs.Common.{List, [], ◌∷◌, ◌++◌, length, replicate, take, drop, Option, Some, None, Result, Ok, Err}
+use Rattle.std.proofs.Common.{refl, sym, ap, ap₂, arith, length-append, length-drop, take-append-drop, if◌then◌else◌}
 use Rattle.std.specs.Prelude.{IfSome, decimal, nat_le, nat_lt}
 use Rattle.std.specs.List.{list_all}
 use Rattle.std.specs.Result.{OkIff, result_ok}
@@ -31,7 +33,8 @@ spells_more : (n : ℕ) (digits : List ℕ) → 10 ≤ n → Spells (n / 10) dig
 spells_more n digits many s =
     let low : n % 10 < 10 = omega arith in
     let last = digit (n % 10) low in
-    let next : value_of (digits ++ (48 + n % 10) ∷ []) ≡ 10 * value_of digits + (48 + n % 10 - 48) = fold_push (λ m b. 10 * m + (b - 48)) 0 digits (48 + n % 10) in
+    let next : value_of (digits ++ (48 + n % 10) ∷ []) ≡ 10 * value_of digits
+    + (48 + n % 10 - 48) = fold_push (λ m b. 10 * m + (b - 48)) 0 digits (48 + n % 10) in
     let same = s.value in
     let long = length-append digits ((48 + n % 10) ∷ []) in
     record {
@@ -51,17 +54,20 @@ zeros_value : (zeros : ℕ) (digits : List ℕ) → value_of (replicate zeros 48
 zeros_value zero digits = refl
 zeros_value (suc zeros) digits = zeros_value zeros digits
 
-pub reads_back : (zeros n : ℕ) → n < 2 ^ 64 → zeros + length (decimal n) ≤ 20 → number_in_word (replicate zeros 48 ++ decimal n) ≡ Some n
+pub reads_back : (zeros n : ℕ) → n < 2 ^ 64 → zeros + length (decimal n) ≤ 20
+    → number_in_word (replicate zeros 48 ++ decimal n) ≡ Some n
 reads_back zeros n fits short =
     let s = spells n fits in
     let word = replicate zeros 48 ++ decimal n in
     let only : list_all is_digit word ≡ true = zeros_only zeros (decimal n) ∙ s.only in
     let value : value_of word ≡ n = zeros_value zeros (decimal n) ∙ s.value in
-    let count : length word ≡ zeros + length (decimal n) = length-append (replicate zeros 48) (decimal n) ∙ ap (λ (k : ℕ). k + length (decimal n)) (length-replicate zeros 48) in
+    let count : length word ≡ zeros + length (decimal n) = length-append (replicate zeros 48) (decimal n)
+    ∙ ap (λ (k : ℕ). k + length (decimal n)) (length-replicate zeros 48) in
     let some = s.some in
     spelled word n only value (omega arith) (omega arith) fits
   where
-    spelled : (word : List ℕ) (n : ℕ) → list_all is_digit word ≡ true → value_of word ≡ n → 0 < length word → length word ≤ 20 → n < 2 ^ 64 → number_in_word word ≡ Some n
+    spelled : (word : List ℕ) (n : ℕ) → list_all is_digit word ≡ true → value_of word ≡ n → 0 < length word
+        → length word ≤ 20 → n < 2 ^ 64 → number_in_word word ≡ Some n
     spelled word n only value some short fits =
         let a : nat_lt 0 (length word) ≡ true = grind (arith, nat_tests) in
         let b : nat_le (length word) 20 ≡ true = grind (arith, nat_tests) in
@@ -90,29 +96,37 @@ long_word word n =
     single (b ∷ c ∷ xs) n = absurd (omega arith)
 
 -- the value of 20 digits, of the values of the first 19 and the last one
-pub long_value : (word : List ℕ) → length word ≡ 20 → value_of word ≡ 10 * value_of (take 19 word) + value_of (drop 19 word)
+pub long_value : (word : List ℕ) → length word ≡ 20
+    → value_of word ≡ 10 * value_of (take 19 word) + value_of (drop 19 word)
 long_value word n =
     let last = long_word word n in
-    let whole : word ≡ take 19 word ++ last.0 ∷ [] = sym (take-append-drop 19 word) ∙ ap (λ (l : List ℕ). take 19 word ++ l) last.1 in
+    let whole : word ≡ take 19 word ++ last.0 ∷ [] = sym (take-append-drop 19 word)
+    ∙ ap (λ (l : List ℕ). take 19 word ++ l) last.1 in
     let one : value_of (drop 19 word) ≡ last.0 - 48 = ap value_of last.1 ∙ omega arith in
-    let next : value_of (take 19 word ++ last.0 ∷ []) ≡ 10 * value_of (take 19 word) + (last.0 - 48) = fold_push (λ m b. 10 * m + (b - 48)) 0 (take 19 word) last.0 in
+    let next : value_of (take 19 word ++ last.0 ∷ []) ≡ 10 * value_of (take 19 word)
+    + (last.0 - 48) = fold_push (λ m b. 10 * m + (b - 48)) 0 (take 19 word) last.0 in
     let same : value_of word ≡ value_of (take 19 word ++ last.0 ∷ []) = ap value_of whole in
     omega arith
 
 -- 20 digits are digits where their first 19 and the last one are
-pub long_digits : (word : List ℕ) → list_all is_digit word ≡ (list_all is_digit (take 19 word) && list_all is_digit (drop 19 word))
-long_digits word = ap (list_all is_digit) (sym (take-append-drop 19 word)) ∙ list_all-append is_digit (take 19 word) (drop 19 word)
+pub long_digits : (word : List ℕ) → list_all is_digit word
+    ≡ (list_all is_digit (take 19 word) && list_all is_digit (drop 19 word))
+long_digits word = ap (list_all is_digit) (sym (take-append-drop 19 word))
+    ∙ list_all-append is_digit (take 19 word) (drop 19 word)
 
 -- a value that was found is that of digits
-found_digits : (ds : List ℕ) (n : ℕ) → Some n ≡ (if list_all is_digit ds then Some (value_of ds) else None) → (list_all is_digit ds ≡ true) × (n ≡ value_of ds)
+found_digits : (ds : List ℕ) (n : ℕ) → Some n ≡ (if list_all is_digit ds then Some (value_of ds) else None)
+    → (list_all is_digit ds ≡ true) × (n ≡ value_of ds)
 found_digits ds n found = go (list_all is_digit ds) refl found
   where
-    go : (t : Bool) → list_all is_digit ds ≡ t → Some n ≡ (if t then Some (value_of ds) else None) → (list_all is_digit ds ≡ true) × (n ≡ value_of ds)
+    go : (t : Bool) → list_all is_digit ds ≡ t → Some n ≡ (if t then Some (value_of ds) else None)
+        → (list_all is_digit ds ≡ true) × (n ≡ value_of ds)
     go true e found = (e, cc)
     go false e found = cc
 
 -- the number of 20 digits, read as 19 and one more
-pub long_read : {E : Type 0} (word front last : List ℕ) (a b c d : ℕ) (t : Result ℕ E) → length word ≡ 20 → front ≡ take 19 word → last ≡ drop 19 word
+pub long_read : {E : Type 0} (word front last : List ℕ) (a b c d : ℕ) (t : Result ℕ E) → length word ≡ 20
+    → front ≡ take 19 word → last ≡ drop 19 word
     → Some a ≡ (if list_all is_digit front then Some (value_of front) else None)
     → Some b ≡ (if list_all is_digit last then Some (value_of last) else None)
     → c ≡ a → d ≡ b → OkIff t (10 * c + d < 2 ^ 64) (10 * c + d) → result_ok t ≡ number_in_word word
@@ -142,13 +156,16 @@ long_read word front last a b c d t n of_front of_last first later wide wide2 h 
 
 -- a number of at most 19 digits fits
 pub short_number : (word : List ℕ) (r : Option ℕ) → 0 < length word → length word ≤ 20
-    → r ≡ (if list_all is_digit word then Some (value_of word) else None) → IfSome r (λ n. n < 2 ^ 64) → r ≡ number_in_word word
+    → r ≡ (if list_all is_digit word then Some (value_of word) else None) → IfSome r (λ n. n < 2 ^ 64)
+    → r ≡ number_in_word word
 short_number word r some short is fits =
     let a : nat_lt 0 (length word) ≡ true = grind (arith, nat_tests) in
     let b : nat_le (length word) 20 ≡ true = grind (arith, nat_tests) in
     is ∙ sym (rw (a, b) (by_digits (list_all is_digit word) refl))
   where
-    by_digits : (t : Bool) → list_all is_digit word ≡ t → (if t && nat_lt (value_of word) (2 ^ 64) then Some (value_of word) else None) ≡ (if t then Some (value_of word) else None)
+    by_digits : (t : Bool) → list_all is_digit word ≡ t
+        → (if t && nat_lt (value_of word) (2 ^ 64) then Some (value_of word) else None)
+        ≡ (if t then Some (value_of word) else None)
     by_digits false e = refl
     by_digits true e =
         let found : r ≡ Some (value_of word) = rw e at is in

@@ -1,5 +1,6 @@
 -- What goes out, one text after another.
-use Rattle.std.proofs.Common.{◌≡◌, ◌+◌, ◌<◌, ℕ, List, [], ◌∷◌, ◌++◌, length, take, drop, refl, sym, ap, ap₂, ◌∙◌, append_assoc, append-nil, take-append-drop, subst, arith, get_or, length-append}
+use Rattle.std.proofs.Common.{◌≡◌, ◌+◌, ◌<◌, ℕ, List, [], ◌∷◌, ◌++◌, length, take, drop, refl, sym, ap, ap₂, ◌∙◌}
+use Rattle.std.proofs.Common.{append_assoc, append-nil, take-append-drop, subst, arith, get_or, length-append}
 use Rattle.std.specs.Prelude.{flat_map, Result, Ok, Err}
 use Rattle.std.specs.Io.KnownBytes.{Appends}
 use Rattle.std.proofs.KnownBytes.{Appends-nil, Appends-trans}
@@ -9,26 +10,36 @@ use Rattle.rcu_text.specs.Outputs.{Out, Puts, Sends, Stops, after_put_text}
 
 -- nothing is sent by doing nothing
 pub Sends-nil : (o : Out) → Sends o o []
-Sends-nil o = record { front = []; out = Appends-nil o.writer.taken; whole = append-nil o.waiting; sound = refl; same = refl }
+Sends-nil o = record {
+  front = [];
+  out = Appends-nil o.writer.taken;
+  whole = append-nil o.waiting;
+  sound = refl;
+  same = refl;
+}
 
 -- one text is sent behind another
-pub Sends-trans : (a b c : Out) (first second : List ℕ) → Sends a b first → Sends b c second → Sends a c (first ++ second)
+pub Sends-trans : (a b c : Out) (first second : List ℕ) → Sends a b first → Sends b c second
+    → Sends a c (first ++ second)
 Sends-trans a b c first second p q = record {
   front = p.front ++ q.front;
   out = Appends-trans a.writer.taken b.writer.taken c.writer.taken p.front q.front p.out q.out;
-  whole = sym (append_assoc a.waiting first second) ∙ ap (λ (l : List ℕ). l ++ second) p.whole ∙ append_assoc p.front b.waiting second
+  whole = sym (append_assoc a.waiting first second) ∙ ap (λ (l : List ℕ). l ++ second) p.whole
+      ∙ append_assoc p.front b.waiting second
       ∙ ap (λ (l : List ℕ). p.front ++ l) q.whole ∙ sym (append_assoc p.front q.front c.waiting);
   sound = q.sound ∙ p.sound;
   same = q.same ∙ p.same;
 }
 
 -- the writer failed in a text behind one that was sent
-pub Sends-Stops : (a b c : Out) (first second : List ℕ) → Sends a b first → Stops b c second → Stops a c (first ++ second)
+pub Sends-Stops : (a b c : Out) (first second : List ℕ) → Sends a b first → Stops b c second
+    → Stops a c (first ++ second)
 Sends-Stops a b c first second p q = record {
   front = p.front ++ q.front;
   left = q.left;
   out = Appends-trans a.writer.taken b.writer.taken c.writer.taken p.front q.front p.out q.out;
-  whole = sym (append_assoc a.waiting first second) ∙ ap (λ (l : List ℕ). l ++ second) p.whole ∙ append_assoc p.front b.waiting second
+  whole = sym (append_assoc a.waiting first second) ∙ ap (λ (l : List ℕ). l ++ second) p.whole
+      ∙ append_assoc p.front b.waiting second
       ∙ ap (λ (l : List ℕ). p.front ++ l) q.whole ∙ sym (append_assoc p.front q.front q.left);
   failed = q.failed;
   same = q.same ∙ p.same;
@@ -40,15 +51,18 @@ Stops-before a b text later p = record {
   front = p.front;
   left = p.left ++ later;
   out = p.out;
-  whole = sym (append_assoc a.waiting text later) ∙ ap (λ (l : List ℕ). l ++ later) p.whole ∙ append_assoc p.front p.left later;
+  whole = sym (append_assoc a.waiting text later) ∙ ap (λ (l : List ℕ). l ++ later) p.whole
+      ∙ append_assoc p.front p.left later;
   failed = p.failed;
   same = p.same;
 }
 
 -- where nothing waits before and after, what is sent is what the writer took
-pub Sends-taken : (a b : Out) (text : List ℕ) → a.waiting ≡ [] → b.waiting ≡ [] → Sends a b text → Appends a.writer.taken b.writer.taken text
+pub Sends-taken : (a b : Out) (text : List ℕ) → a.waiting ≡ [] → b.waiting ≡ [] → Sends a b text
+    → Appends a.writer.taken b.writer.taken text
 Sends-taken a b text before after p =
-    let all : text ≡ p.front = ap (λ (l : List ℕ). l ++ text) (sym before) ∙ p.whole ∙ ap (λ (l : List ℕ). p.front ++ l) after ∙ append-nil p.front in
+    let all : text ≡ p.front = ap (λ (l : List ℕ). l ++ text) (sym before) ∙ p.whole
+    ∙ ap (λ (l : List ℕ). p.front ++ l) after ∙ append-nil p.front in
     subst (Appends a.writer.taken b.writer.taken) (sym all) p.out
 
 -- where nothing waits before, what the writer took of a text that it stopped in is a front of it
@@ -56,7 +70,8 @@ pub Stops-taken : (a b : Out) (text : List ℕ) → a.waiting ≡ [] → (s : St
 Stops-taken a b text before s = ap (λ (l : List ℕ). l ++ text) (sym before) ∙ s.whole
 
 -- a text was put behind one that was sent
-pub puts_two : {X E : Type 0} (r : Result X E) (a b c : Out) (first second : List ℕ) → Sends a b first → Puts r b c second → Puts r a c (first ++ second)
+pub puts_two : {X E : Type 0} (r : Result X E) (a b c : Out) (first second : List ℕ) → Sends a b first
+    → Puts r b c second → Puts r a c (first ++ second)
 puts_two (Ok x) a b c first second s p = Sends-trans a b c first second s p
 puts_two (Err e) a b c first second s p = Sends-Stops a b c first second s p
 
@@ -67,19 +82,22 @@ pub waits : (o : Out) (text : List ℕ) → Sends o (after_put_text o text) text
 waits o text = record { front = []; out = Appends-nil o.writer.taken; whole = refl; sound = refl; same = refl }
 
 -- two texts wait, one behind the other
-pub put_twice : (o : Out) (first second : List ℕ) → after_put_text (after_put_text o first) second ≡ after_put_text o (first ++ second)
+pub put_twice : (o : Out) (first second : List ℕ)
+    → after_put_text (after_put_text o first) second ≡ after_put_text o (first ++ second)
 put_twice o first second =
     let l = length-append first second in
     ap₂ (λ (w : List ℕ) (r : ℕ). record o { waiting = w; room = r }) (append_assoc o.waiting first second) (omega arith)
 
 -- once room was made, a text was put
 pub sends_behind : (a b c : Out) (text : List ℕ) → Sends a b [] → c ≡ after_put_text b text → Sends a c text
-sends_behind a b c text s e = subst (λ (o : Out). Sends a o text) (sym e) (Sends-trans a b (after_put_text b text) [] text s (waits b text))
+sends_behind a b c text s e =
+    subst (λ (o : Out). Sends a o text) (sym e) (Sends-trans a b (after_put_text b text) [] text s (waits b text))
 
 -- ---- texts of items
 
 module _ {X : Type 0} (text : X → List ℕ) where
-  texts_next : (xs : List X) (i : ℕ) (d : X) → i < length xs → flat_map text (take (i + 1) xs) ≡ flat_map text (take i xs) ++ text (get_or xs i d)
+  texts_next : (xs : List X) (i : ℕ) (d : X) → i < length xs
+      → flat_map text (take (i + 1) xs) ≡ flat_map text (take i xs) ++ text (get_or xs i d)
   texts_next xs i d lt =
       ap (flat_map text) (take_more xs i d lt) ∙ flat_map-append text (take i xs) (get_or xs i d ∷ [])
       ∙ ap (λ (l : List ℕ). flat_map text (take i xs) ++ l) (append-nil (text (get_or xs i d)))
@@ -89,7 +107,8 @@ module _ {X : Type 0} (text : X → List ℕ) where
 
   -- the text of one item more is sent
   pub item_sent : (a b c : Out) (xs : List X) (i : ℕ) (d : X) → i < length xs
-      → Sends a b (flat_map text (take i xs)) → Sends b c (text (get_or xs i d)) → Sends a c (flat_map text (take (i + 1) xs))
+      → Sends a b (flat_map text (take i xs)) → Sends b c (text (get_or xs i d))
+      → Sends a c (flat_map text (take (i + 1) xs))
   item_sent a b c xs i d lt s t = subst (Sends a c) (sym (texts_next xs i d lt)) (Sends-trans a b c _ _ s t)
 
   -- the writer failed in the text of an item
@@ -107,9 +126,15 @@ stops_before_text a b text s = Stops-before a b [] text s
 -- ---- a list between its name and the end of the line
 
 -- the writer failed in the items
-pub list_stops : (a b c : Out) (name items later : List ℕ) → Sends a b name → Stops b c items → Stops a c (name ++ (items ++ later))
-list_stops a b c name items later s t = subst (Stops a c) (append_assoc name items later) (Stops-before a c (name ++ items) later (Sends-Stops a b c name items s t))
+pub list_stops : (a b c : Out) (name items later : List ℕ) → Sends a b name → Stops b c items
+    → Stops a c (name ++ (items ++ later))
+list_stops a b c name items later s t =
+    subst (Stops a c) (append_assoc name items later)
+    (Stops-before a c (name ++ items) later (Sends-Stops a b c name items s t))
 
 -- all was put
-pub list_put : {X E : Type 0} (r : Result X E) (a b c d : Out) (name items later : List ℕ) → Sends a b name → Sends b c items → Puts r c d later → Puts r a d (name ++ (items ++ later))
-list_put r a b c d name items later s t p = subst (Puts r a d) (append_assoc name items later) (puts_two r a c d (name ++ items) later (Sends-trans a b c name items s t) p)
+pub list_put : {X E : Type 0} (r : Result X E) (a b c d : Out) (name items later : List ℕ) → Sends a b name
+    → Sends b c items → Puts r c d later → Puts r a d (name ++ (items ++ later))
+list_put r a b c d name items later s t p =
+    subst (Puts r a d) (append_assoc name items later)
+    (puts_two r a c d (name ++ items) later (Sends-trans a b c name items s t) p)

@@ -1,5 +1,6 @@
 -- The first byte that passes a test.
-use Rattle.std.proofs.Common.{◌≡◌, ◌≢◌, ◌==◌, ◌<◌, ◌≤◌, ℕ, suc, Bool, true, false, not, List, [], ◌∷◌, ◌++◌, length, take, drop, Option, Some, None, refl, sym, ap, ◌∙◌, arith, take-append-drop}
+use Rattle.std.proofs.Common.{◌≡◌, ◌≢◌, ◌==◌, ◌<◌, ◌≤◌, ℕ, suc, Bool, true, false, not, List, [], ◌∷◌, ◌++◌, length}
+use Rattle.std.proofs.Common.{take, drop, Option, Some, None, refl, sym, ap, ◌∙◌, arith, take-append-drop}
 use Rattle.std.proofs.lemmas.Bool.Decides.{nat_tests}
 use Rattle.std.proofs.Common.{ap₂}
 use Rattle.std.proofs.lemmas.List.{take_all}
@@ -16,7 +17,8 @@ place_fits p xs = prefix_len-le-length (λ x. not (p x)) xs
 pub place_or_length : (p : ℕ → Bool) (xs : List ℕ) → unwrap_or (position p xs) (length xs) ≡ position_or_len p xs
 place_or_length p xs = go (nat_lt (position_or_len p xs) (length xs)) refl
   where
-    go : (t : Bool) → nat_lt (position_or_len p xs) (length xs) ≡ t → unwrap_or (position p xs) (length xs) ≡ position_or_len p xs
+    go : (t : Bool) → nat_lt (position_or_len p xs) (length xs) ≡ t
+        → unwrap_or (position p xs) (length xs) ≡ position_or_len p xs
     go true e = rw e refl
     go false e =
         let most = place_fits p xs in
@@ -24,26 +26,31 @@ place_or_length p xs = go (nat_lt (position_or_len p xs) (length xs)) refl
         rw e (omega arith)
 
 -- what stands for a place and its length
-pub place_there : (p : ℕ → Bool) (xs : List ℕ) (o : Option ℕ) (n : ℕ) → o ≡ position p xs → n ≡ unwrap_or o (length xs) → (n ≡ position_or_len p xs) × (n ≤ length xs)
+pub place_there : (p : ℕ → Bool) (xs : List ℕ) (o : Option ℕ) (n : ℕ) → o ≡ position p xs
+    → n ≡ unwrap_or o (length xs) → (n ≡ position_or_len p xs) × (n ≤ length xs)
 place_there p xs o n found is =
-    let same : n ≡ position_or_len p xs = is ∙ ap (λ (q : Option ℕ). unwrap_or q (length xs)) found ∙ place_or_length p xs in
+    let same : n ≡ position_or_len p xs = is ∙ ap (λ (q : Option ℕ). unwrap_or q (length xs)) found
+    ∙ place_or_length p xs in
     let most = place_fits p xs in
     (same, omega arith)
 
 pub place_none : (p : ℕ → Bool) (xs : List ℕ) → None ≡ position p xs → position_or_len p xs ≡ length xs
 place_none p xs none = go (nat_lt (position_or_len p xs) (length xs)) refl none
   where
-    go : (t : Bool) → nat_lt (position_or_len p xs) (length xs) ≡ t → None ≡ position p xs → position_or_len p xs ≡ length xs
+    go : (t : Bool) → nat_lt (position_or_len p xs) (length xs) ≡ t → None ≡ position p xs
+        → position_or_len p xs ≡ length xs
     go true e none = let bad : None ≡ Some (position_or_len p xs) = rw e at none in cc
     go false e none =
         let most = place_fits p xs in
         let least : length xs ≤ position_or_len p xs = grind (arith, nat_tests) in
         omega arith
 
-pub place_some : (p : ℕ → Bool) (xs : List ℕ) (i : ℕ) → Some i ≡ position p xs → (i ≡ position_or_len p xs) × (i < length xs)
+pub place_some : (p : ℕ → Bool) (xs : List ℕ) (i : ℕ) → Some i ≡ position p xs → (i ≡ position_or_len p xs)
+    × (i < length xs)
 place_some p xs i some = go (nat_lt (position_or_len p xs) (length xs)) refl some
   where
-    go : (t : Bool) → nat_lt (position_or_len p xs) (length xs) ≡ t → Some i ≡ position p xs → (i ≡ position_or_len p xs) × (i < length xs)
+    go : (t : Bool) → nat_lt (position_or_len p xs) (length xs) ≡ t → Some i ≡ position p xs
+        → (i ≡ position_or_len p xs) × (i < length xs)
     go true e some =
         let same : Some i ≡ Some (position_or_len p xs) = rw e at some in
         let k : i ≡ position_or_len p xs = cc in
@@ -76,9 +83,11 @@ front_open : (bs : List ℕ) → All (λ b. b ≢ 10) (take (end_place bs) bs)
 front_open [] = All-nil (λ b. b ≢ 10)
 front_open (b ∷ bs) = go (is_end b) refl (front_open bs)
   where
-    go : (t : Bool) → is_end b ≡ t → All (λ b. b ≢ 10) (take (end_place bs) bs) → All (λ b. b ≢ 10) (take (end_place (b ∷ bs)) (b ∷ bs))
+    go : (t : Bool) → is_end b ≡ t → All (λ b. b ≢ 10) (take (end_place bs) bs)
+        → All (λ b. b ≢ 10) (take (end_place (b ∷ bs)) (b ∷ bs))
     go true e ih = let n = place_here b bs e in rw n (All-nil (λ x. x ≢ 10))
-    go false e ih = let n = place_later b bs e in rw n (All-cons (λ x. x ≢ 10) b (take (end_place bs) bs) (no_end b e) ih)
+    go false e ih = let n = place_later b bs e in
+        rw n (All-cons (λ x. x ≢ 10) b (take (end_place bs) bs) (no_end b e) ih)
 
 end_stands : (bs : List ℕ) → end_place bs < length bs → drop (end_place bs) bs ≡ 10 ∷ drop 1 (drop (end_place bs) bs)
 end_stands [] lt = absurd (omega arith)
@@ -100,7 +109,8 @@ no_line_ends bs none =
     let all : take (end_place bs) bs ≡ bs = take_all (end_place bs) bs (omega (arith, place_none is_end bs none)) in
     rw all at (front_open bs)
 
-pub line_ends : (bs front back behind : List ℕ) (i : ℕ) → Some i ≡ position (λ b. b == 10) bs → front ≡ take i bs → back ≡ drop i bs → behind ≡ drop 1 back
+pub line_ends : (bs front back behind : List ℕ) (i : ℕ) → Some i ≡ position (λ b. b == 10) bs → front ≡ take i bs
+    → back ≡ drop i bs → behind ≡ drop 1 back
     → (bs ≡ front ++ 10 ∷ behind) × All (λ b. b ≢ 10) front
 line_ends bs front back behind i some f k b =
     let at = place_some is_end bs i some in

@@ -1,5 +1,6 @@
 -- A line is printable where its words are, so who knows all words has no need to look at each byte.
-use Rattle.std.proofs.Common.{◌≡◌, ◌==◌, ◌&&◌, ◌∙◌, ℕ, Bool, true, false, cond, List, [], ◌∷◌, Option, Some, None, refl, sym, ap, arith, if◌then◌else◌}
+use Rattle.std.proofs.Common.{◌≡◌, ◌==◌, ◌&&◌, ◌∙◌, ℕ, Bool, true, false, cond, List, [], ◌∷◌, Option, Some, None, refl}
+use Rattle.std.proofs.Common.{sym, ap, arith, if◌then◌else◌}
 use Rattle.std.proofs.Math.Bool.{and_assoc}
 use Rattle.std.specs.List.{list_all, onto_first, slice_split}
 use Rattle.std.specs.Prelude.{filter}
@@ -13,7 +14,8 @@ use Rattle.rcu_text.specs.Words.{has_byte, is_digit, is_number, number_in_word, 
 abbrev pub is_word : List ℕ → Bool
 is_word word = list_all is_printable word
 
-onto_word : (b : ℕ) (parts : List (List ℕ)) → list_all is_word (onto_first b parts) ≡ (is_printable b && list_all is_word parts)
+onto_word : (b : ℕ) (parts : List (List ℕ))
+    → list_all is_word (onto_first b parts) ≡ (is_printable b && list_all is_word parts)
 onto_word b [] = and_assoc (is_printable b) true true
 onto_word b (p ∷ ps) = and_assoc (is_printable b) (is_word p) (list_all is_word ps)
 
@@ -27,7 +29,8 @@ parts_printable [] = refl
 parts_printable (b ∷ bs) = go (b == 32) refl (parts_printable bs)
   where
     go : (t : Bool) → (b == 32) ≡ t → list_all is_word (slice_split (λ c. c == 32) bs) ≡ list_all is_printable bs
-        → list_all is_word (cond t ([] ∷ slice_split (λ c. c == 32) bs) (onto_first b (slice_split (λ c. c == 32) bs))) ≡ (is_printable b && list_all is_printable bs)
+        → list_all is_word (cond t ([] ∷ slice_split (λ c. c == 32) bs)
+        (onto_first b (slice_split (λ c. c == 32) bs))) ≡ (is_printable b && list_all is_printable bs)
     go true e ih = let p = space_printable b e in rw p ih
     go false e ih = onto_word b (slice_split (λ c. c == 32) bs) ∙ ap (λ (t : Bool). is_printable b && t) ih
 
@@ -47,7 +50,8 @@ digits_printable : (bs : List ℕ) → list_all is_digit bs ≡ true → is_word
 digits_printable [] e = refl
 digits_printable (b ∷ bs) e = go (is_digit b) refl e (digits_printable bs)
   where
-    go : (t : Bool) → is_digit b ≡ t → (t && list_all is_digit bs) ≡ true → (list_all is_digit bs ≡ true → is_word bs ≡ true)
+    go : (t : Bool) → is_digit b ≡ t → (t && list_all is_digit bs) ≡ true
+        → (list_all is_digit bs ≡ true → is_word bs ≡ true)
         → (is_printable b && list_all is_printable bs) ≡ true
     go true d e later = let p = digit_printable b d in rw p (later e)
     go false d e later = cc
@@ -68,7 +72,8 @@ number_printable word n found = go (is_number word) refl found
 
 -- a name that something is found by, among printable names, is printable
 pub named : {E : Type 0} (found : E) (text name : List ℕ) (x : E) (rest : Option E) → is_word text ≡ true
-    → (rest ≡ Some found → is_word name ≡ true) → (if bytes_eq name text then Some x else rest) ≡ Some found → is_word name ≡ true
+    → (rest ≡ Some found → is_word name ≡ true) → (if bytes_eq name text then Some x else rest) ≡ Some found
+    → is_word name ≡ true
 named found text name x rest printable later e = go (bytes_eq name text) refl e
   where
     go : (t : Bool) → bytes_eq name text ≡ t → (if t then Some x else rest) ≡ Some found → is_word name ≡ true

@@ -4,17 +4,20 @@ use Rattle.std.specs.Prelude.{◌≡◌, ℕ, List, [], ◌∷◌, ◌++◌, Res
 use Rattle.rcu_text.specs.Lines.{cut_of, kept_of}
 use Rattle.rcu_text.specs.Outputs.{Out, Sends, Stops}
 
--- the line is answered by a reply that went out in this way: whatever held of the lines and the text before, for whoever was
--- opened, holds now with the line and the reply behind them. Of the line only what is kept of it makes a difference
+-- the line is answered by a reply that went out in this way: whatever held of the lines and the text before, for
+-- whoever was opened, holds now with the line and the reply behind them. Of the line only what is kept of it makes a
+-- difference
 pub record LineIsAnswered {S : Type 0} (before after : S → List (List ℕ) → List ℕ → Type 0) (line : List ℕ)
     (went : List ℕ → Type 0) : Type 0 where
   pub reply : List ℕ
   pub out : went reply
-  pub told : (opened : S) (lines : List (List ℕ)) (text whole : List ℕ) → before opened lines text → kept_of line ≡ kept_of whole
+  pub told : (opened : S) (lines : List (List ℕ)) (text whole : List ℕ) → before opened lines text
+      → kept_of line ≡ kept_of whole
       → after opened (lines ++ whole ∷ []) (text ++ reply)
 
 -- these lines were answered by a text that went out in this way
-pub record LinesAreAnswered (past : List (List ℕ) → List ℕ → Type 0) (lines : List (List ℕ)) (went : List ℕ → Type 0) : Type 0 where
+pub record LinesAreAnswered (past : List (List ℕ) → List ℕ → Type 0) (lines : List (List ℕ))
+    (went : List ℕ → Type 0) : Type 0 where
   pub text : List ℕ
   pub told : past lines text
   pub out : went text
@@ -32,13 +35,15 @@ pub record Underway (past : List (List ℕ) → List ℕ → Type 0) (old new : 
   pub holds : line ≡ kept_of (cut_of bytes).rest
 
 -- the writer failed in an answer to a front of these lines
-pub record StoppedAmong (past : List (List ℕ) → List ℕ → Type 0) (lines : List (List ℕ)) (went : List ℕ → Type 0) : Type 0 where
+pub record StoppedAmong (past : List (List ℕ) → List ℕ → Type 0) (lines : List (List ℕ))
+    (went : List ℕ → Type 0) : Type 0 where
   pub front : List (List ℕ)
   pub later : List (List ℕ)
   pub split : lines ≡ front ++ later
   pub stands : LinesAreAnswered past front went
 
 -- the lines that these bytes end are answered, or the writer failed in an answer to a front of them
-abbrev pub GoesOn : {X E : Type 0} → Result X E → (List (List ℕ) → List ℕ → Type 0) → Out → Out → List ℕ → List ℕ → Type 0
+abbrev pub GoesOn : {X E : Type 0} → Result X E → (List (List ℕ) → List ℕ → Type 0) → Out → Out → List ℕ → List ℕ
+    → Type 0
 GoesOn r past old new line bytes =
     MatchResult r (λ _. Underway past old new line bytes) (λ _. StoppedAmong past (cut_of bytes).ended (Stops old new))

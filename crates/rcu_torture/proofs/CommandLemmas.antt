@@ -1,11 +1,13 @@
 -- What the command line orders.
-use Rattle.std.proofs.Common.{◌≡◌, Bool, true, false, List, [], ◌∷◌, Option, Some, None, IsSome, MatchOption, codes, is_some, refl, sym, ◌∙◌, subst, if◌then◌else◌}
+use Rattle.std.proofs.Common.{◌≡◌, Bool, true, false, List, [], ◌∷◌, Option, Some, None, IsSome, MatchOption, codes}
+use Rattle.std.proofs.Common.{is_some, refl, sym, ◌∙◌, subst, if◌then◌else◌}
 use Rattle.std.specs.Prelude.{ℕ, option_map}
 use Rattle.std.specs.Option.{option_map_or}
 use Rattle.clap.specs.Walk.{answers_to, nothing_held, rows_after, settled, walk, walk_from, finished}
 use Rattle.clap.specs.Simple.{built, entered, names_of, rows_at}
 use Rattle.clap.specs.Faults.{check_fault, defaults_fault, entered_fault, level_fault, settle_fault, walk_fault}
-use Rattle.clap.specs.Words.{App, HasMatchesOf, Row, Text, fault_of, is_simple, is_simple_and_free, subcommand_of, subcommand_rows_of}
+use Rattle.clap.specs.Words.{App, HasMatchesOf, Row, Text, fault_of, is_simple, is_simple_and_free, subcommand_of}
+use Rattle.clap.specs.Words.{subcommand_rows_of}
 use Rattle.clap.specs.declared.error.kind.ErrorKind.TheVariants.{MissingSubcommand}
 use Rattle.clap.specs.declared.parser.matches.ArgMatches.{ArgMatches}
 use Rattle.rcu_torture.specs.CommandLine.{HasNoOrder, HasNoSetup, IsOrderOf, rcu}
@@ -15,14 +17,16 @@ use Rattle.rcu_torture.proofs.SubcommandLemmas.{HasNumbers, built_pair, built_sc
 use Rattle.rcu_torture.proofs.WalkLemmas.{first_none, next_none}
 
 -- matches of `script` that make no setup say no order
-pub no_script : (name : Text) (rows : List Row) → name ≡ codes "script" → HasNoSetup (codes "leaf") (codes "inner") rows → HasNoOrder (Some (name, rows))
+pub no_script : (name : Text) (rows : List Row) → name ≡ codes "script"
+    → HasNoSetup (codes "leaf") (codes "inner") rows → HasNoOrder (Some (name, rows))
 no_script name rows is none (Script setup) p = none setup p.1
 no_script name rows is none (Pair setup) p =
     let other : codes "script" ≡ codes "pair" = sym is ∙ p.0 in
     cc
 
 -- matches of `pair` that make no setup say no order
-pub no_pair : (name : Text) (rows : List Row) → name ≡ codes "pair" → HasNoSetup (codes "leaf2") (codes "inner2") rows → HasNoOrder (Some (name, rows))
+pub no_pair : (name : Text) (rows : List Row) → name ≡ codes "pair" → HasNoSetup (codes "leaf2") (codes "inner2") rows
+    → HasNoOrder (Some (name, rows))
 no_pair name rows is none (Script setup) p =
     let other : codes "pair" ≡ codes "script" = sym is ∙ p.0 in
     cc
@@ -42,11 +46,13 @@ rcu_is_free : is_simple_and_free rcu ≡ true
 rcu_is_free = refl
 
 -- a parse of `rcu` that succeeds has no fault
-pub no_fault : (a : App) (words : List Text) → a ≡ rcu → (is_simple_and_free a ≡ true → fault_of a words ≡ []) → fault_of rcu words ≡ []
+pub no_fault : (a : App) (words : List Text) → a ≡ rcu → (is_simple_and_free a ≡ true → fault_of a words ≡ [])
+    → fault_of rcu words ≡ []
 no_fault a words is none = subst (λ (b : App). is_simple_and_free b ≡ true → fault_of b words ≡ []) is none rcu_is_free
 
 -- the subcommand and its matches are those that `clap` gives the words
-pub met_as : (a : App) (words : List Text) (m : ArgMatches) → a ≡ rcu → HasMatchesOf a words m → subcommand_rows_of m ≡ subcommand_of rcu words
+pub met_as : (a : App) (words : List Text) (m : ArgMatches) → a ≡ rcu → HasMatchesOf a words m
+    → subcommand_rows_of m ≡ subcommand_of rcu words
 met_as a words m is has = (subst (λ (b : App). HasMatchesOf b words m) is has rcu_is_simple).1
 
 -- ---- where `clap` has no fault there is an order
@@ -60,7 +66,8 @@ some_value None e = absurd (bad e)
     bad e = cc
 
 -- numbers make a setup
-numbers_make : (second_leaf second_inner : Text) (rows : List Row) → HasNumbers second_leaf second_inner rows → HasNoSetup second_leaf second_inner rows → ⊥
+numbers_make : (second_leaf second_inner : Text) (rows : List Row) → HasNumbers second_leaf second_inner rows
+    → HasNoSetup second_leaf second_inner rows → ⊥
 numbers_make second_leaf second_inner rows has none =
     let leaf = some_value _ has.leaf in
     let inner = some_value _ has.inner in
@@ -72,23 +79,36 @@ numbers_make second_leaf second_inner rows has none =
     (record { leaf = leaf.1; inner = inner.1; leaf2 = leaf2.1; inner2 = inner2.1; cpus = cpus.1; last = last.1 })
 
 -- words of `script` that have no fault order something
-script_orders : (words : List Text) → level_fault built_script [] nothing_held words false [] ≡ [] → HasNoOrder (Some (codes "script", rows_after built_script.rules [] words)) → ⊥
-script_orders words e none = numbers_make (codes "leaf") (codes "inner") (rows_after built_script.rules [] words) (script_numbers words e) (λ setup is. none (Script setup) (refl, is))
+script_orders : (words : List Text) → level_fault built_script [] nothing_held words false [] ≡ []
+    → HasNoOrder (Some (codes "script", rows_after built_script.rules [] words)) → ⊥
+script_orders words e none =
+    numbers_make (codes "leaf") (codes "inner") (rows_after built_script.rules [] words) (script_numbers words e)
+    (λ setup is. none (Script setup) (refl, is))
 
 -- words of `pair` that have no fault order something
-pair_orders : (words : List Text) → level_fault built_pair [] nothing_held words false [] ≡ [] → HasNoOrder (Some (codes "pair", rows_after built_pair.rules [] words)) → ⊥
-pair_orders words e none = numbers_make (codes "leaf2") (codes "inner2") (rows_after built_pair.rules [] words) (pair_numbers words e) (λ setup is. none (Pair setup) (refl, is))
+pair_orders : (words : List Text) → level_fault built_pair [] nothing_held words false [] ≡ []
+    → HasNoOrder (Some (codes "pair", rows_after built_pair.rules [] words)) → ⊥
+pair_orders words e none =
+    numbers_make (codes "leaf2") (codes "inner2") (rows_after built_pair.rules [] words) (pair_numbers words e)
+    (λ setup is. none (Pair setup) (refl, is))
 
 -- the same by the subcommand at which the walk over all the words stopped
-stop_orders : (rows : List Row) (stop : Option (Text × List Text)) → entered_fault (built rcu) stop ≡ [] → check_fault (built rcu).top rows (is_some (entered (built rcu) stop)) ≡ []
+stop_orders : (rows : List Row) (stop : Option (Text × List Text)) → entered_fault (built rcu) stop ≡ []
+    → check_fault (built rcu).top rows (is_some (entered (built rcu) stop)) ≡ []
     → HasNoOrder (entered (built rcu) stop) → ⊥
 stop_orders rows None below check none =
     let missing : MissingSubcommand ∷ [] ≡ [] = check in cc
-stop_orders rows (Some p) below check none = go (answers_to p.0 (codes "script", [])) (answers_to p.0 (codes "pair", [])) below check none
+stop_orders rows (Some p) below check none =
+    go (answers_to p.0 (codes "script", [])) (answers_to p.0 (codes "pair", [])) below check none
   where
-    go : (b d : Bool) → option_map_or (λ s. level_fault s [] nothing_held p.1 false []) (if b then Some built_script else (if d then Some built_pair else None)) [] ≡ []
-        → check_fault (built rcu).top rows (is_some (option_map (λ s. rows_at s p.1) (if b then Some built_script else (if d then Some built_pair else None)))) ≡ []
-        → HasNoOrder (option_map (λ s. rows_at s p.1) (if b then Some built_script else (if d then Some built_pair else None))) → ⊥
+    go : (b d : Bool)
+        → option_map_or (λ s. level_fault s [] nothing_held p.1 false [])
+        (if b then Some built_script else (if d then Some built_pair else None)) [] ≡ []
+        → check_fault (built rcu).top rows (is_some
+        (option_map (λ s. rows_at s p.1) (if b then Some built_script else
+        (if d then Some built_pair else None)))) ≡ []
+        → HasNoOrder (option_map (λ s. rows_at s p.1)
+        (if b then Some built_script else (if d then Some built_pair else None))) → ⊥
     go true d below check none = script_orders p.1 below none
     go false true below check none = pair_orders p.1 below none
     go false false below check none =
@@ -108,7 +128,8 @@ orders words e none =
     stop_orders (finished top.rules met.held) met.stopped below check none
 
 -- so the order is there
-pub order_there : (words : List Text) (met : Option (Text × List Row)) (o : Option Order) → met ≡ subcommand_of rcu words → fault_of rcu words ≡ []
+pub order_there : (words : List Text) (met : Option (Text × List Row)) (o : Option Order)
+    → met ≡ subcommand_of rcu words → fault_of rcu words ≡ []
     → MatchOption o (HasNoOrder met) (IsOrderOf met) → IsSome o
 order_there words met (Some order) is none h = refl
 order_there words met None is none h = absurd (orders words none (subst HasNoOrder is h))

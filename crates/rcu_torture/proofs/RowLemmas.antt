@@ -1,5 +1,6 @@
 -- The rows of options whose values are numbers.
-use Rattle.std.proofs.Common.{◌≡◌, ◌++◌, ◌||◌, ◌∙◌, ℕ, Bool, true, false, List, [], ◌∷◌, Option, Some, None, IfSome, is_some, length, fold, refl, sym, ap, subst, if◌then◌else◌, true≢false}
+use Rattle.std.proofs.Common.{◌≡◌, ◌++◌, ◌||◌, ◌∙◌, ℕ, Bool, true, false, List, [], ◌∷◌, Option, Some, None, IfSome}
+use Rattle.std.proofs.Common.{is_some, length, fold, refl, sym, ap, subst, if◌then◌else◌, true≢false}
 use Rattle.std.specs.Prelude.{option_and_then, option_map, slice_get}
 use Rattle.std.specs.List.{find, list_any}
 use Rattle.std.specs.Option.{option_map_or}
@@ -7,7 +8,8 @@ use Rattle.std.specs.Str.{bytes_eq}
 use Rattle.std.proofs.lemmas.Slice.Eq.{bytes_eq-Decides}
 use Rattle.clap.specs.Values.{read_as}
 use Rattle.clap.specs.ValueTests.{accepts}
-use Rattle.clap.specs.Walk.{Row, Rule, Text, default_rows, has_row, more_values, reading_by, row_text, stronger, used, with_default, with_values, without}
+use Rattle.clap.specs.Walk.{Row, Rule, Text, default_rows, has_row, more_values, reading_by, row_text, stronger, used}
+use Rattle.clap.specs.Walk.{with_default, with_values, without}
 use Rattle.clap.specs.Simple.{filled, help_rule, new_rule}
 use Rattle.clap.specs.Takes.{is_given}
 use Rattle.clap.specs.Kinds.{range_kinds, value_kinds}
@@ -36,7 +38,9 @@ option_rule name parser required defaults = filled (record (new_rule name) {
 module _ (most_of : Text → Option ℕ) where
   -- the first of the values is a number that the option may have
   abbrev pub IsNumber : Option ℕ → Reading → List Text → Type 0
-  IsNumber most how values = IfSome most (λ n. is_some (option_and_then (number_at_most n) (option_map (read_as how) (slice_get values 0))) ≡ true)
+  IsNumber most how values =
+      IfSome most (λ n. is_some (option_and_then (number_at_most n) (option_map (read_as how) (slice_get values 0)))
+      ≡ true)
 
   -- so of a row
   abbrev pub Reads : Row → Type 0
@@ -48,7 +52,8 @@ module _ (most_of : Text → Option ℕ) where
   AllRead (r ∷ rs) = Reads r × AllRead rs
 
   -- further values leave the first one
-  more_values_read : (most : Option ℕ) (how : Reading) (values more : List Text) → IsNumber most how values → IsNumber most how (values ++ more)
+  more_values_read : (most : Option ℕ) (how : Reading) (values more : List Text) → IsNumber most how values
+      → IsNumber most how (values ++ more)
   more_values_read None how values more h = tt
   more_values_read (Some n) how [] more h = absurd (true≢false (sym h))
   more_values_read (Some n) how (v ∷ vs) more h = h
@@ -68,20 +73,24 @@ module _ (most_of : Text → Option ℕ) where
   values_read id how source values [] new h = (new, tt)
   values_read id how source values (r ∷ rs) new h = go (values_read id how source values rs new h.1) (bytes_eq r.id id)
     where
-      go : AllRead (with_values id how source values rs) → (b : Bool) → AllRead (if b then more_values source values r ++ rs else r ∷ with_values id how source values rs)
+      go : AllRead (with_values id how source values rs) → (b : Bool)
+          → AllRead (if b then more_values source values r ++ rs else r ∷ with_values id how source values rs)
       go rest true = (more_values_read (most_of r.id) r.reading r.values values h.0, h.1)
       go rest false = (h.0, rest)
 
   -- a use of the rule that has no fault keeps that
   abbrev pub Keeps : Rule → Type 0
-  Keeps a = (again : Bool) (values : List Text) (rows : List Row) → use_fault again a values rows ≡ [] → AllRead rows → AllRead (used a values rows)
+  Keeps a = (again : Bool) (values : List Text) (rows : List Row) → use_fault again a values rows ≡ [] → AllRead rows
+      → AllRead (used a values rows)
 
   -- the parser takes only numbers that the option may have
   abbrev pub Takes : Text → ValueParser → Type 0
-  Takes name parser = (text : Text) → accepts false parser text ≡ true → IsNumber (most_of name) (reading_of parser) (text ∷ [])
+  Takes name parser = (text : Text) → accepts false parser text ≡ true
+      → IsNumber (most_of name) (reading_of parser) (text ∷ [])
 
   -- a value that has no fault passes its parser
-  accepted : (parser : ValueParser) (text : Text) → value_kinds false parser text ≡ [] → accepts false parser text ≡ true
+  accepted : (parser : ValueParser) (text : Text) → value_kinds false parser text ≡ []
+      → accepts false parser text ≡ true
   accepted parser text e = go (accepts false parser text) e
     where
       go : (b : Bool) → (if b then [] else refused_kind parser ∷ []) ≡ [] → b ≡ true
@@ -89,7 +98,8 @@ module _ (most_of : Text → Option ℕ) where
       go false e = cc
 
   -- an option whose parser takes only such numbers
-  pub option_keeps : (name : Text) (parser : ValueParser) (required : Bool) (defaults : List Text) → Takes name parser → Keeps (option_rule name parser required defaults)
+  pub option_keeps : (name : Text) (parser : ValueParser) (required : Bool) (defaults : List Text) → Takes name parser
+      → Keeps (option_rule name parser required defaults)
   option_keeps name parser required defaults takes again [] rows e h =
       let bad : InvalidValue ∷ [] ≡ [] = e in cc
   option_keeps name parser required defaults takes again (v ∷ vs) rows e h =
@@ -97,7 +107,8 @@ module _ (most_of : Text → Option ℕ) where
       let fits : set_fault again a (v ∷ vs) rows ≡ [] = next_none (range_kinds 1 1 (length (v ∷ vs))) _ e in
       let passed : values_fault a (v ∷ vs) ≡ [] = next_none (repeat_fault again name rows) _ fits in
       let first : value_kinds false parser v ≡ [] = first_none _ (values_fault a vs) passed in
-      let number : IsNumber (most_of name) (reading_of parser) (v ∷ vs) = more_values_read (most_of name) (reading_of parser) (v ∷ []) vs (takes v (accepted parser v first)) in
+      let number : IsNumber (most_of name) (reading_of parser) (v ∷ vs) = more_values_read (most_of name)
+      (reading_of parser) (v ∷ []) vs (takes v (accepted parser v first)) in
       values_read name (reading_of parser) CommandLine (v ∷ vs) (without name rows) number (without_reads name rows h)
 
   -- a use of `--help` is a fault
@@ -125,7 +136,9 @@ module _ (most_of : Text → Option ℕ) where
   -- ---- defaults
 
   -- an option that was not used gets its default
-  pub default_reads : (a : Rule) (rows : List Row) → ((v : Text) (vs : List Text) → a.defaults ≡ v ∷ vs → IsNumber (most_of a.id) (reading_by a) (v ∷ vs)) → AllRead rows → AllRead (with_default rows a)
+  pub default_reads : (a : Rule) (rows : List Row)
+      → ((v : Text) (vs : List Text) → a.defaults ≡ v ∷ vs → IsNumber (most_of a.id) (reading_by a) (v ∷ vs))
+      → AllRead rows → AllRead (with_default rows a)
   default_reads a rows new h = go (has_row a.id rows)
     where
       by_values : (values : List Text) → a.defaults ≡ values → AllRead (default_rows a.id (reading_by a) values rows)
@@ -139,7 +152,8 @@ module _ (most_of : Text → Option ℕ) where
   -- ---- the numbers
 
   -- an option with a row has a number
-  pub number_there : (most : ℕ) (id : Text) (rows : List Row) → most_of id ≡ Some most → AllRead rows → is_some (find (λ r. bytes_eq r.id id) rows) ≡ true
+  pub number_there : (most : ℕ) (id : Text) (rows : List Row) → most_of id ≡ Some most → AllRead rows
+      → is_some (find (λ r. bytes_eq r.id id) rows) ≡ true
       → is_some (number_up_to most rows id) ≡ true
   number_there most id [] is h there = absurd (true≢false (sym there))
   number_there most id (r ∷ rs) is h there = go (bytes_eq r.id id) refl (number_there most id rs is h.1) there
@@ -152,12 +166,14 @@ module _ (most_of : Text → Option ℕ) where
       go : (b : Bool) → bytes_eq r.id id ≡ b
           → (is_some (find (λ x. bytes_eq x.id id) rs) ≡ true → is_some (number_up_to most rs id) ≡ true)
           → is_some (if b then Some r else find (λ x. bytes_eq x.id id) rs) ≡ true
-          → is_some (option_and_then (number_at_most most) (option_and_then row_text (if b then Some r else find (λ x. bytes_eq x.id id) rs))) ≡ true
+          → is_some (option_and_then (number_at_most most)
+          (option_and_then row_text (if b then Some r else find (λ x. bytes_eq x.id id) rs))) ≡ true
       go true same later t = here same
       go false same later t = later t
 
 -- an argument that was given has a row
-pub given_there : (id : Text) (rows : List Row) → is_given id rows ≡ true → is_some (find (λ r. bytes_eq r.id id) rows) ≡ true
+pub given_there : (id : Text) (rows : List Row) → is_given id rows ≡ true
+    → is_some (find (λ r. bytes_eq r.id id) rows) ≡ true
 given_there id rows e = go (find (λ r. bytes_eq r.id id) rows) e
   where
     go : (o : Option Row) → option_map_or (λ r. explicit_source r.source) o false ≡ true → is_some o ≡ true
@@ -169,7 +185,8 @@ has_then_found : (p : Row → Bool) (rows : List Row) → list_any p rows ≡ tr
 has_then_found p [] e = absurd (true≢false (sym e))
 has_then_found p (r ∷ rs) e = go (has_then_found p rs) (p r) e
   where
-    go : (list_any p rs ≡ true → is_some (find p rs) ≡ true) → (b : Bool) → (b || list_any p rs) ≡ true → is_some (if b then Some r else find p rs) ≡ true
+    go : (list_any p rs ≡ true → is_some (find p rs) ≡ true) → (b : Bool) → (b || list_any p rs) ≡ true
+        → is_some (if b then Some r else find p rs) ≡ true
     go later true e = refl
     go later false e = later e
 
@@ -182,20 +199,28 @@ values_there id how source values [] =
     ap (λ (b : Bool). is_some {T = Row} (if b then Some new else None)) self
 values_there id how source values (r ∷ rs) = go (values_there id how source values rs) (bytes_eq r.id id) refl
   where
-    go : is_some (find (λ x. bytes_eq x.id id) (with_values id how source values rs)) ≡ true → (b : Bool) → bytes_eq r.id id ≡ b
-        → is_some (find (λ x. bytes_eq x.id id) (if b then more_values source values r ++ rs else r ∷ with_values id how source values rs)) ≡ true
+    go : is_some (find (λ x. bytes_eq x.id id) (with_values id how source values rs)) ≡ true → (b : Bool)
+        → bytes_eq r.id id ≡ b
+        → is_some (find (λ x. bytes_eq x.id id) (if b then more_values source values r
+        ++ rs else r ∷ with_values id how source values rs)) ≡ true
     go later true same =
         let changed : Row = record r { values = r.values ++ values; source = Some (stronger r.source source) } in
         ap (λ (b : Bool). is_some {T = Row} (if b then Some changed else find (λ x. bytes_eq x.id id) rs)) same
-    go later false same = ap (λ (b : Bool). is_some {T = Row} (if b then Some r else find (λ x. bytes_eq x.id id) (with_values id how source values rs))) same ∙ later
+    go later false same =
+        ap (λ (b : Bool). is_some {T = Row} (if b then Some r else find (λ x. bytes_eq x.id id)
+        (with_values id how source values rs))) same ∙ later
 
 -- and so has one with a default
-pub default_there : (a : Rule) (v : Text) (vs : List Text) (rows : List Row) → a.defaults ≡ v ∷ vs → is_some (find (λ r. bytes_eq r.id a.id) (with_default rows a)) ≡ true
+pub default_there : (a : Rule) (v : Text) (vs : List Text) (rows : List Row) → a.defaults ≡ v ∷ vs
+    → is_some (find (λ r. bytes_eq r.id a.id) (with_default rows a)) ≡ true
 default_there a v vs rows is = go (has_row a.id rows) refl
   where
-    go : (b : Bool) → has_row a.id rows ≡ b → is_some (find (λ r. bytes_eq r.id a.id) (if b then rows else default_rows a.id (reading_by a) a.defaults rows)) ≡ true
+    go : (b : Bool) → has_row a.id rows ≡ b
+        → is_some (find (λ r. bytes_eq r.id a.id)
+        (if b then rows else default_rows a.id (reading_by a) a.defaults rows)) ≡ true
     go true has = has_then_found (λ r. bytes_eq r.id a.id) rows has
-    go false has = subst (λ (values : List Text). is_some (find (λ r. bytes_eq r.id a.id) (default_rows a.id (reading_by a) values rows)) ≡ true) (sym is)
+    go false has = subst (λ (values : List Text). is_some
+        (find (λ r. bytes_eq r.id a.id) (default_rows a.id (reading_by a) values rows)) ≡ true) (sym is)
         (values_there a.id (reading_by a) DefaultValue (v ∷ vs) rows)
 
 -- ---- a row stays while other options get their defaults
@@ -205,19 +230,24 @@ abbrev pub IsThere : Text → List Row → Type 0
 IsThere id rows = is_some (find (λ r. bytes_eq r.id id) rows) ≡ true
 
 -- it stays where another one gets values
-there_with_values : (id other : Text) (how : Reading) (source : ValueSource) (values : List Text) (rows : List Row) → IsThere id rows → IsThere id (with_values other how source values rows)
+there_with_values : (id other : Text) (how : Reading) (source : ValueSource) (values : List Text) (rows : List Row)
+    → IsThere id rows → IsThere id (with_values other how source values rows)
 there_with_values id other how source values [] h = absurd (true≢false (sym h))
-there_with_values id other how source values (r ∷ rs) h = go (bytes_eq r.id other) (bytes_eq r.id id) (there_with_values id other how source values rs) h
+there_with_values id other how source values (r ∷ rs) h =
+    go (bytes_eq r.id other) (bytes_eq r.id id) (there_with_values id other how source values rs) h
   where
     changed : Row
     changed = record r { values = r.values ++ values; source = Some (stronger r.source source) }
 
-    in_place : (b : Bool) → is_some {T = Row} (if b then Some r else find (λ x. bytes_eq x.id id) rs) ≡ true → is_some {T = Row} (if b then Some changed else find (λ x. bytes_eq x.id id) rs) ≡ true
+    in_place : (b : Bool) → is_some {T = Row} (if b then Some r else find (λ x. bytes_eq x.id id) rs) ≡ true
+        → is_some {T = Row} (if b then Some changed else find (λ x. bytes_eq x.id id) rs) ≡ true
     in_place true e = refl
     in_place false e = e
 
-    behind : (b : Bool) → (IsThere id rs → IsThere id (with_values other how source values rs)) → is_some {T = Row} (if b then Some r else find (λ x. bytes_eq x.id id) rs) ≡ true
-        → is_some {T = Row} (if b then Some r else find (λ x. bytes_eq x.id id) (with_values other how source values rs)) ≡ true
+    behind : (b : Bool) → (IsThere id rs → IsThere id (with_values other how source values rs))
+        → is_some {T = Row} (if b then Some r else find (λ x. bytes_eq x.id id) rs) ≡ true
+        → is_some {T = Row} (if b then Some r else find (λ x. bytes_eq x.id id)
+        (with_values other how source values rs)) ≡ true
     behind true later e = refl
     behind false later e = later e
 
@@ -239,14 +269,16 @@ there_with_default id a rows h = go (has_row a.id rows)
     go false = by_values a.defaults
 
 -- or where all the others get their defaults
-there_after : (id : Text) (rules : List Rule) (rows : List Row) → IsThere id rows → IsThere id (fold with_default rows rules)
+there_after : (id : Text) (rules : List Rule) (rows : List Row) → IsThere id rows
+    → IsThere id (fold with_default rows rules)
 there_after id [] rows h = h
 there_after id (a ∷ rest) rows h = there_after id rest (with_default rows a) (there_with_default id a rows h)
 
 -- each argument with a default has a row
 abbrev pub AllDefaulted : List Row → List Rule → Type 0
 AllDefaulted rows [] = Unit {0}
-AllDefaulted rows (a ∷ rest) = ((v : Text) (vs : List Text) → a.defaults ≡ v ∷ vs → IsThere a.id rows) × AllDefaulted rows rest
+AllDefaulted rows (a ∷ rest) = ((v : Text) (vs : List Text) → a.defaults ≡ v ∷ vs → IsThere a.id rows)
+    × AllDefaulted rows rest
 
 -- so has each argument with a default at the end
 pub all_defaulted : (rules : List Rule) (rows : List Row) → AllDefaulted (fold with_default rows rules) rules

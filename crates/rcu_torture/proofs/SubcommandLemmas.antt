@@ -1,5 +1,6 @@
 -- The subcommands: where a parse of the words of one has no fault, each of its options has a number.
-use Rattle.std.proofs.Common.{◌≡◌, ℕ, true, false, List, [], ◌∷◌, Option, Some, None, is_some, codes, refl, sym, ap, subst, if◌then◌else◌}
+use Rattle.std.proofs.Common.{◌≡◌, ℕ, true, false, List, [], ◌∷◌, Option, Some, None, is_some, codes, refl, sym, ap}
+use Rattle.std.proofs.Common.{subst, if◌then◌else◌}
 use Rattle.std.specs.Prelude.{pos}
 use Rattle.std.specs.Str.{bytes_eq}
 use Rattle.clap.specs.Simple.{Shape, built_leaf, inherited, marked_built, on_top, with_leaf_noted}
@@ -13,7 +14,8 @@ use Rattle.clap.specs.declared.builder.value_parser.ValueParser.{ValueParser}
 use Rattle.clap.specs.declared.builder.value_parser.ValueParser.TheVariants as vp
 use Rattle.rcu_torture.specs.CommandLine.{number_up_to, pair, rcu, script, u32_max, u64_max}
 use Rattle.rcu_torture.proofs.GetterLemmas.{number_at_most}
-use Rattle.rcu_torture.proofs.RowLemmas.{AllKeep, AllRead, IsNumber, Keeps, all_defaulted, given_there, help_keeps, number_there, option_keeps, option_rule}
+use Rattle.rcu_torture.proofs.RowLemmas.{AllKeep, AllRead, IsNumber, Keeps, all_defaulted, given_there, help_keeps}
+use Rattle.rcu_torture.proofs.RowLemmas.{number_there, option_keeps, option_rule}
 use Rattle.rcu_torture.proofs.LevelLemmas.{AllDefault, all_given, rows_read, u32_takes, u64_takes}
 
 -- a subcommand as `rcu` builds it
@@ -28,7 +30,8 @@ built_pair = built_below pair
 
 -- the greatest number of an option
 abbrev pub greatest : Text → Option ℕ
-greatest name = if bytes_eq name (codes "help") then None else (if bytes_eq name (codes "last") then Some u64_max else Some u32_max)
+greatest name = if bytes_eq name (codes "help") then None else
+    (if bytes_eq name (codes "last") then Some u64_max else Some u32_max)
 
 -- ---- each use of an option leaves it a number
 
@@ -37,21 +40,33 @@ u32_parser = vp.Signed (pos 0) (pos u32_max)
 
 u32_keeps : (name : Text) → greatest name ≡ Some u32_max → Keeps greatest (option_rule name u32_parser true [])
 u32_keeps name is = option_keeps greatest name u32_parser true []
-    (subst (λ (most : Option ℕ). (text : Text) → accepts false u32_parser text ≡ true → IsNumber greatest most (reading_of u32_parser) (text ∷ []))
+    (subst (λ (most : Option ℕ). (text : Text) → accepts false u32_parser text ≡ true
+    → IsNumber greatest most (reading_of u32_parser) (text ∷ []))
     (sym is) u32_takes)
 
-last_keeps : Keeps greatest (option_rule (codes "last") (vp.Unsigned 0 u64_max) false (codes "4611686018427387904" ∷ []))
-last_keeps = option_keeps greatest (codes "last") (vp.Unsigned 0 u64_max) false (codes "4611686018427387904" ∷ []) u64_takes
+last_keeps : Keeps greatest (option_rule (codes "last") (vp.Unsigned 0 u64_max) false
+    (codes "4611686018427387904" ∷ []))
+last_keeps = option_keeps greatest (codes "last") (vp.Unsigned 0 u64_max) false
+    (codes "4611686018427387904" ∷ []) u64_takes
 
 script_keeps : AllKeep greatest built_script.rules
-script_keeps = (u32_keeps (codes "leaf") refl, (u32_keeps (codes "inner") refl, (u32_keeps (codes "cpus") refl, (last_keeps, (help_keeps greatest, tt)))))
+script_keeps = (
+  u32_keeps (codes "leaf") refl,
+  (u32_keeps (codes "inner") refl, (u32_keeps (codes "cpus") refl, (last_keeps, (help_keeps greatest, tt)))),
+)
 
 pair_keeps : AllKeep greatest built_pair.rules
 pair_keeps = (
   u32_keeps (codes "leaf") refl,
   (
     u32_keeps (codes "inner") refl,
-    (u32_keeps (codes "leaf2") refl, (u32_keeps (codes "inner2") refl, (u32_keeps (codes "cpus") refl, (last_keeps, (help_keeps greatest, tt))))),
+    (
+      u32_keeps (codes "leaf2") refl,
+      (
+        u32_keeps (codes "inner2") refl,
+        (u32_keeps (codes "cpus") refl, (last_keeps, (help_keeps greatest, tt))),
+      ),
+    ),
   ),
 )
 
@@ -60,13 +75,21 @@ pair_keeps = (
 no_default : {P : Type 0} (v : Text) (vs : List Text) → [] ≡ v ∷ vs → P
 no_default v vs e = absurd (let never : ⊥ = cc in never)
 
-last_default : (v : Text) (vs : List Text) → codes "4611686018427387904" ∷ [] ≡ v ∷ vs → is_some (number_at_most u64_max v) ≡ true
-last_default v vs e = let same : codes "4611686018427387904" ≡ v = cc in ap (λ (text : Text). is_some (number_at_most u64_max text)) (sym same)
+last_default : (v : Text) (vs : List Text) → codes "4611686018427387904" ∷ [] ≡ v ∷ vs
+    → is_some (number_at_most u64_max v) ≡ true
+last_default v vs e = let same : codes "4611686018427387904" ≡ v = cc in
+    ap (λ (text : Text). is_some (number_at_most u64_max text)) (sym same)
 
 script_defaults : AllDefault greatest built_script.rules
 script_defaults = (
   λ v vs e. no_default v vs e,
-  (λ v vs e. no_default v vs e, (λ v vs e. no_default v vs e, (λ v vs e. last_default v vs e, (λ v vs e. no_default v vs e, tt)))),
+  (
+    λ v vs e. no_default v vs e,
+    (
+      λ v vs e. no_default v vs e,
+      (λ v vs e. last_default v vs e, (λ v vs e. no_default v vs e, tt)),
+    ),
+  ),
 )
 
 pair_defaults : AllDefault greatest built_pair.rules
@@ -76,7 +99,13 @@ pair_defaults = (
     λ v vs e. no_default v vs e,
     (
       λ v vs e. no_default v vs e,
-      (λ v vs e. no_default v vs e, (λ v vs e. no_default v vs e, (λ v vs e. last_default v vs e, (λ v vs e. no_default v vs e, tt)))),
+      (
+        λ v vs e. no_default v vs e,
+        (
+          λ v vs e. no_default v vs e,
+          (λ v vs e. last_default v vs e, (λ v vs e. no_default v vs e, tt)),
+        ),
+      ),
     ),
   ),
 )
@@ -93,7 +122,8 @@ pub record HasNumbers (second_leaf second_inner : Text) (rows : List Row) : Type
   pub last : is_some (number_up_to u64_max rows (codes "last")) ≡ true
 
 -- an option that was given has one
-u32_there : (id : Text) (rows : List Row) → greatest id ≡ Some u32_max → AllRead greatest rows → is_given id rows ≡ true → is_some (number_up_to u32_max rows id) ≡ true
+u32_there : (id : Text) (rows : List Row) → greatest id ≡ Some u32_max → AllRead greatest rows
+    → is_given id rows ≡ true → is_some (number_up_to u32_max rows id) ≡ true
 u32_there id rows is read given = number_there greatest u32_max id rows is read (given_there id rows given)
 
 -- so it is after a parse of `script` that has no fault

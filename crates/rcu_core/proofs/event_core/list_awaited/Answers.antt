@@ -5,6 +5,8 @@ use Rattle.rcu_core.proofs.event_core.list_awaited.Goals.{then-awaits+in_ok-push
 
 pub loop-cpu-preserved : goal.loop-cpu-preserved
 loop-cpu-preserved g c = elim c.if-awaits.branch [
-  | then-awaits+in_ok-push w ↦ which_yes _ c.loop-cpu.cpu _ _ (sym c.awaits.ensures ∙ w.if-awaits.true) c.loop-cpu.invariant (w.list-is ∙ w.in_ok-push.ensures.ok)
-  | else-awaits w ↦ which_no _ c.loop-cpu.cpu _ _ (sym c.awaits.ensures ∙ w.if-awaits.false) c.loop-cpu.invariant w.list-is
+  | then-awaits+in_ok-push w ↦ which_yes _ c.loop-cpu.cpu _ _ (sym c.awaits.ensures
+      ∙ w.if-awaits.true) c.loop-cpu.invariant (w.list-is ∙ w.in_ok-push.ensures.ok)
+  | else-awaits w ↦ which_no _ c.loop-cpu.cpu _ _ (sym c.awaits.ensures
+      ∙ w.if-awaits.false) c.loop-cpu.invariant w.list-is
 ]

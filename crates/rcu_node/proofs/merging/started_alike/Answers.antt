@@ -19,5 +19,6 @@ returns g c =
     let all : length (g.A.Awaited.start_set first) ≤ c.loop-cpu.cpu =
     omega (arith, one, c.cpus-cpu-end.ensures, c.loop-cpu-test.false) in
     sym
-    (same_when_all_agree (g.A.Awaited.start_set first) (g.B.Awaited.start_set second) (omega (arith, one, two, c.requires))
+    (same_when_all_agree (g.A.Awaited.start_set first) (g.B.Awaited.start_set second)
+    (omega (arith, one, two, c.requires))
     (λ cpu l. c.loop-cpu.invariant cpu (omega (arith, l, all))))

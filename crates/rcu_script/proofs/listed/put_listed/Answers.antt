@@ -18,7 +18,8 @@ returns-then-is_empty g c =
     let items = g.L.Listed.items c.args.listed.now in
     let none : length items ≡ 0 = grind (arith, nat_tests) in
     subst (Puts c.put_line-then-is_empty.result _ _) (sym (none_listed c.args.word.now items none))
-    (puts_two c.put_line-then-is_empty.result _ _ _ c.args.word.now (codes " none\n") c.in_ok-put_line.ensures c.put_line-then-is_empty.ensures)
+    (puts_two c.put_line-then-is_empty.result _ _ _ c.args.word.now
+    (codes " none\n") c.in_ok-put_line.ensures c.put_line-then-is_empty.ensures)
 
 pub returns-in_err-put_items : goal.returns-in_err-put_items
 returns-in_err-put_items g c =
@@ -26,11 +27,13 @@ returns-in_err-put_items g c =
     let items = g.L.Listed.items c.args.listed.now in
     let some : 0 < length items = grind (arith, nat_tests) in
     rw (p.1) (subst (Stops _ _) (sym (some_listed c.args.word.now items some))
-    (list_stops _ _ _ c.args.word.now (flat_map space_and_number items) (codes "\n") c.in_ok-put_line.ensures c.in_err-put_items.ensures))
+    (list_stops _ _ _ c.args.word.now (flat_map space_and_number items)
+    (codes "\n") c.in_ok-put_line.ensures c.in_err-put_items.ensures))
 
 pub returns : goal.returns
 returns g c =
     let items = g.L.Listed.items c.args.listed.now in
     let some : 0 < length items = grind (arith, nat_tests) in
     subst (Puts c.put_line-2.result _ _) (sym (some_listed c.args.word.now items some))
-    (list_put c.put_line-2.result _ _ _ _ c.args.word.now (flat_map space_and_number items) (codes "\n") c.in_ok-put_line.ensures c.in_ok-put_items.ensures c.put_line-2.ensures)
+    (list_put c.put_line-2.result _ _ _ _ c.args.word.now (flat_map space_and_number items)
+    (codes "\n") c.in_ok-put_line.ensures c.in_ok-put_items.ensures c.put_line-2.ensures)

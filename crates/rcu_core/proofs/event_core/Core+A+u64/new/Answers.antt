@@ -11,7 +11,14 @@ pub invariant_of-result : goal.invariant_of-result
 invariant_of-result g c =
     let n = length (g.A.Awaited.awaited c.args.inner) in
     let grace : c.in_ok-gp.gp ≡ at_first n c.args.last = search rules in
-    let all : c.loop-cpu.cpu ≡ n = omega (arith, c.cpus-cpu-end.ensures.value, c.loop-cpu-test.false, c.loop-cpu.auto.cpu-end, first_count n c.args.last c.in_ok-gp.gp grace) in
+    let all : c.loop-cpu.cpu ≡ n =
+    omega (
+      arith,
+      c.cpus-cpu-end.ensures.value,
+      c.loop-cpu-test.false,
+      c.loop-cpu.auto.cpu-end,
+      first_count n c.args.last c.in_ok-gp.gp grace,
+    ) in
     let cpus : c.loop-cpu.cpus.items ≡ first_cpus n = c.loop-cpu.invariant ∙ ap (λ k. first_cpus k) all in
     record { sound = sound_first n c.args.last _ (g.met.A.Awaited.some c.args.inner) grace cpus c.new-2.ensures.items }
 
@@ -19,7 +26,14 @@ pub returns-clause-ok : goal.returns-clause-ok
 returns-clause-ok g c =
     let n = length (g.A.Awaited.awaited c.args.inner) in
     let grace : c.in_ok-gp.gp ≡ at_first n c.args.last = search rules in
-    let all : c.loop-cpu.cpu ≡ n = omega (arith, c.cpus-cpu-end.ensures.value, c.loop-cpu-test.false, c.loop-cpu.auto.cpu-end, first_count n c.args.last c.in_ok-gp.gp grace) in
+    let all : c.loop-cpu.cpu ≡ n =
+    omega (
+      arith,
+      c.cpus-cpu-end.ensures.value,
+      c.loop-cpu-test.false,
+      c.loop-cpu.auto.cpu-end,
+      first_count n c.args.last c.in_ok-gp.gp grace,
+    ) in
     let cpus : c.loop-cpu.cpus.items ≡ first_cpus n = c.loop-cpu.invariant ∙ ap (λ k. first_cpus k) all in
     has_first n c.args.last _ (g.met.A.Awaited.some c.args.inner) grace cpus c.new-2.ensures.items
 
@@ -27,4 +41,8 @@ pub returns-clause-size : goal.returns-clause-size
 returns-clause-size g c =
     let n = length (g.A.Awaited.awaited c.args.inner) in
     let grace : c.in_ok-gp.gp ≡ at_first n c.args.last = search rules in
-    first_size n c.args.last (record { grace = c.in_ok-gp.gp; cpus = c.loop-cpu.cpus.items; made = c.new-2.result.items }) grace
+    first_size n c.args.last (record {
+      grace = c.in_ok-gp.gp;
+      cpus = c.loop-cpu.cpus.items;
+      made = c.new-2.result.items;
+    }) grace

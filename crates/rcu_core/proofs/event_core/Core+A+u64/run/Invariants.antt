@@ -9,5 +9,6 @@ abbrev pub invariant-loop-event : goal.invariant-loop-event
 invariant-loop-event g l = record {
   room : length l.events ≤ vec_capacity l.replies;
   count : vec_len l.replies ≡ l.event-index;
-  ran : (h : History) → Represents l.fn.self h → RunsLegally l.fn.self h (take l.event-index l.events) l.replies.items l.self;
+  ran : (h : History) → Represents l.fn.self h
+      → RunsLegally l.fn.self h (take l.event-index l.events) l.replies.items l.self;
 }

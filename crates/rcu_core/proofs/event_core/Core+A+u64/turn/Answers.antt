@@ -11,12 +11,16 @@ pub returns-clause-ok : goal.returns-clause-ok
 returns-clause-ok g c =
     let done = c.in_ok-number.ensures in
     elim c.match-branch-2.branch [
-      | in-Begun w ↦ rw w.result-is (along _ _ _ _ _ c.self.view_is (does_turn _ _ _ c.self.invariant.sound done.accepted
+      | in-Begun w ↦ rw w.result-is (along _ _ _ _ _ c.self.view_is
+          (does_turn _ _ _ c.self.invariant.sound done.accepted
           (sym w.in-Begun.is ∙ done.answer) (rw done.state refl)))
-      | in-Ended w ↦ rw w.result-is (along _ _ _ _ _ c.self.view_is (does_turn _ _ _ c.self.invariant.sound done.accepted
+      | in-Ended w ↦ rw w.result-is (along _ _ _ _ _ c.self.view_is
+          (does_turn _ _ _ c.self.invariant.sound done.accepted
           (sym w.in-Ended.is ∙ done.answer) (rw done.state refl)))
-      | in-Waiting w ↦ rw w.result-is (along _ _ _ _ _ c.self.view_is (does_turn _ _ _ c.self.invariant.sound done.accepted
+      | in-Waiting w ↦ rw w.result-is (along _ _ _ _ _ c.self.view_is
+          (does_turn _ _ _ c.self.invariant.sound done.accepted
           (sym w.in-Waiting.is ∙ done.answer) (rw done.state refl)))
-      | in-Nothing w ↦ rw w.result-is (along _ _ _ _ _ c.self.view_is (does_turn _ _ _ c.self.invariant.sound done.accepted
+      | in-Nothing w ↦ rw w.result-is (along _ _ _ _ _ c.self.view_is
+          (does_turn _ _ _ c.self.invariant.sound done.accepted
           (sym w.in-Nothing.is ∙ done.answer) (rw done.state refl)))
     ]

@@ -7,7 +7,13 @@ use Rattle.rcu_core.proofs.gp_state.GpState.begin.Goals as goal
 pub invariant_of-self-2 : goal.invariant_of-self-2
 invariant_of-self-2 g c =
     let i = c.self.inside in
-    let old : Grace g.row.T.Denot = record { seq = i.seq; needed = i.needed; processors = i.hotplug; lists = i.lists } in
+    let old : Grace g.row.T.Denot = record {
+      seq = i.seq;
+      needed = i.needed;
+      processors = i.hotplug;
+      lists = i.lists;
+    } in
     let started = c.in_ok-number.ensures in
     begun_kept old c.start.new.self c.begin.new.self c.self.invariant started.idle started.begun
-    (subst (λ n. c.begin.new.self ≡ after_call i.hotplug (Begin n)) started.ok c.begin.ensures.state) c.begin.ensures.sized
+    (subst (λ n. c.begin.new.self ≡ after_call i.hotplug
+    (Begin n)) started.ok c.begin.ensures.state) c.begin.ensures.sized

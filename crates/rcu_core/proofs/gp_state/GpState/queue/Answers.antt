@@ -5,7 +5,12 @@ use Rattle.rcu_core.proofs.gp_state.GpState.queue.Goals as goal
 pub invariant_of-self : goal.invariant_of-self
 invariant_of-self g c =
     let i = c.self.inside in
-    let old : Grace g.row.T.Denot = record { seq = i.seq; needed = i.needed; processors = i.hotplug; lists = i.lists } in
+    let old : Grace g.row.T.Denot = record {
+      seq = i.seq;
+      needed = i.needed;
+      processors = i.hotplug;
+      lists = i.lists;
+    } in
     on_either c.queue.result _ _ c.queue.ensures.ok c.queue.ensures.unchanged
     (λ _ h. queued_kept old c.args.cpu c.value-number.result c.args.value c.queue.new.self c.self.invariant
     c.value-number.ensures.value h)

@@ -9,7 +9,12 @@ use Rattle.rcu_core.proofs.gp_state.GpState.run.Goals as goal
 pub invariant_of-self : goal.invariant_of-self
 invariant_of-self g c =
     let i = c.self.inside in
-    let old : Grace g.row.T.Denot = record { seq = i.seq; needed = i.needed; processors = i.hotplug; lists = i.lists } in
+    let old : Grace g.row.T.Denot = record {
+      seq = i.seq;
+      needed = i.needed;
+      processors = i.hotplug;
+      lists = i.lists;
+    } in
     on_either c.run.result _ _ c.run.ensures.ok c.run.ensures.unchanged
     (λ _ h. run_kept old c.args.cpu c.args.max c.run.new.self c.self.invariant h)
     (λ _ h. same_kept old c.run.new.self c.self.invariant h)
@@ -17,7 +22,12 @@ invariant_of-self g c =
 pub returns-clause-waited : goal.returns-clause-waited
 returns-clause-waited g c =
     let i = c.self.inside in
-    let old : Grace g.row.T.Denot = record { seq = i.seq; needed = i.needed; processors = i.hotplug; lists = i.lists } in
+    let old : Grace g.row.T.Denot = record {
+      seq = i.seq;
+      needed = i.needed;
+      processors = i.hotplug;
+      lists = i.lists;
+    } in
     let n = number_of old.seq in
     let xs = list_of i.lists c.args.cpu in
     let timely = timely_get n i.lists.lists c.args.cpu c.self.invariant.timely in

@@ -11,29 +11,51 @@ use Rattle.rcu_core.proofs.gp_state.GpState.tend.Goals as goal
 pub tend-tended-requires-clause-within : goal.tend-tended-requires-clause-within
 tend-tended-requires-clause-within g c =
     let i = c.self.inside in
-    let old : Grace g.row.T.Denot = record { seq = i.seq; needed = i.needed; processors = i.hotplug; lists = i.lists } in
+    let old : Grace g.row.T.Denot = record {
+      seq = i.seq;
+      needed = i.needed;
+      processors = i.hotplug;
+      lists = i.lists;
+    } in
     let xs = list_of i.lists c.args.cpu in
     subst (λ n. IsAtMost (snapshot n) xs) (sym c.value.ensures.value)
-    (timely_at_most (number_of old.seq) xs (timely_get (number_of old.seq) i.lists.lists c.args.cpu c.self.invariant.timely))
+    (timely_at_most (number_of old.seq) xs (timely_get
+    (number_of old.seq) i.lists.lists c.args.cpu c.self.invariant.timely))
 
 pub invariant_of-self : goal.invariant_of-self
 invariant_of-self g c =
     let i = c.self.inside in
-    let old : Grace g.row.T.Denot = record { seq = i.seq; needed = i.needed; processors = i.hotplug; lists = i.lists } in
+    let old : Grace g.row.T.Denot = record {
+      seq = i.seq;
+      needed = i.needed;
+      processors = i.hotplug;
+      lists = i.lists;
+    } in
     tended_kept old c.max-self-inside.result c.args.cpu c.value.result c.tend-tended.new.self c.self.invariant
     c.value.ensures.value c.tend-tended.ensures.state
 
 pub invariant_of-self-in_default : goal.invariant_of-self-in_default
 invariant_of-self-in_default g c =
     let i = c.self.inside in
-    let old : Grace g.row.T.Denot = record { seq = i.seq; needed = i.needed; processors = i.hotplug; lists = i.lists } in
+    let old : Grace g.row.T.Denot = record {
+      seq = i.seq;
+      needed = i.needed;
+      processors = i.hotplug;
+      lists = i.lists;
+    } in
     tended_kept old i.needed c.args.cpu c.value.result c.tend-tended.new.self c.self.invariant c.value.ensures.value
     c.tend-tended.ensures.state
 
 pub returns-in-Some-clause-state : goal.returns-in-Some-clause-state
 returns-in-Some-clause-state g c =
     let i = c.self.inside in
-    let old : Grace g.row.T.Denot = record { seq = i.seq; needed = i.needed; processors = i.hotplug; lists = i.lists } in
+    let old : Grace g.row.T.Denot = record {
+      seq = i.seq;
+      needed = i.needed;
+      processors = i.hotplug;
+      lists = i.lists;
+    } in
     rw (← c.self.view_is)
     (tended_is old c.max-self-inside.result c.args.cpu c.value.result c.in-Some.greatest c.tend-tended.new.self
-    c.value.ensures.value c.tend-tended.ensures.state (sym c.greatest_waiting.ensures ∙ c.in-Some.is) c.max-self-inside.ensures)
+    c.value.ensures.value c.tend-tended.ensures.state (sym c.greatest_waiting.ensures
+    ∙ c.in-Some.is) c.max-self-inside.ensures)

@@ -22,5 +22,6 @@ returns c =
     let word = get_or_read s.words.items (c.args.from / 64) c.index-word.result.now here c.index-word.ensures 0 in
     let next : c.unwrap_or-next.result ≡ slice_index s.words.items (c.args.from / 64 + 1) =
     let e = c.deref.ensures.value in let f = c.get.ensures in search (rules, common_steps) in
-    λ bit. c.cut.ensures bit ∙ bits_from-is s.cpus s.words.items c.args.self.now c.args.from c.args.width bit c.index-word.result.now c.unwrap_or-next.result
+    λ bit. c.cut.ensures bit
+    ∙ bits_from-is s.cpus s.words.items c.args.self.now c.args.from c.args.width bit c.index-word.result.now c.unwrap_or-next.result
     c.self.view_is c.self.invariant.none_beyond c.requires.width word next

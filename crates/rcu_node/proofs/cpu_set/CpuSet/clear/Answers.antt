@@ -9,7 +9,14 @@ invariant_of-self c =
     let empty =
     zeros s.cpus s.words.len c.fill.new.self.items (c.fill.ensures.items (λ y e. e)) (omega (arith, s.words.ok)) in
     let same = s.words.ok in
-    record { some = kept.some; few = kept.few; enough = omega (arith, empty.length); no_more = omega (arith, empty.length); none_beyond = empty.none_beyond; counted = sym empty.size }
+    record {
+      some = kept.some;
+      few = kept.few;
+      enough = omega (arith, empty.length);
+      no_more = omega (arith, empty.length);
+      none_beyond = empty.none_beyond;
+      counted = sym empty.size;
+    }
 
 pub returns : goal.returns
 returns c =

@@ -36,4 +36,11 @@ invariant_of-self c =
     let none_beyond = subst (λ (words : List ℕ). HasNoneFrom s.cpus words) (sym copied)
     (subst (λ (n : ℕ). HasNoneFrom n f.words.items) same c.from.invariant.none_beyond) in
     let counted = c.from.invariant.counted ∙ ap (λ (set : List Bool). size_of set) (c.from.view_is ∙ sym (returns c)) in
-    record { some = kept.some; few = kept.few; enough = omega (arith, words, c.from.invariant); no_more = omega (arith, words, c.from.invariant); none_beyond = none_beyond; counted = counted }
+    record {
+      some = kept.some;
+      few = kept.few;
+      enough = omega (arith, words, c.from.invariant);
+      no_more = omega (arith, words, c.from.invariant);
+      none_beyond = none_beyond;
+      counted = counted;
+    }

@@ -16,8 +16,13 @@ pub overflow_add-self : goal.overflow_add-self
 overflow_add-self c =
     let s = c.self.inside in
     let size = cpus-is s.cpus s.words.items c.args.self.now c.self.view_is in
-    omega
-    (arith, c.self.invariant, size_of-within (flags_in s.cpus s.words.items), ap (λ (set : List Bool). length set) c.self.view_is)
+    omega (
+      arith,
+      c.self.invariant,
+      size_of-within (flags_in s.cpus s.words.items),
+      ap
+          (λ (set : List Bool). length set) c.self.view_is,
+    )
 
 pub returns-clause-set : goal.returns-clause-set
 returns-clause-set c =
@@ -38,4 +43,11 @@ invariant_of-self c =
     let below : c.args.cpu < s.cpus = omega arith in
     let none_beyond = none_beyond-insert s.cpus s.words.items c.args.cpu c.index_mut.result.now
     below kept.enough c.index_mut.ensures.value kept.none_beyond in
-    record { some = kept.some; few = kept.few; enough = omega (arith, stays); no_more = omega (arith, stays); none_beyond = none_beyond; counted = omega (arith, before, after, more) }
+    record {
+      some = kept.some;
+      few = kept.few;
+      enough = omega (arith, stays);
+      no_more = omega (arith, stays);
+      none_beyond = none_beyond;
+      counted = omega (arith, before, after, more);
+    }

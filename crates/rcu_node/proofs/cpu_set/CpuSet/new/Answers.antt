@@ -8,7 +8,14 @@ invariant_of-result c =
     let made : c.in-Ok.words.items ≡ replicate c.div_ceil.result 0 = search rules in
     let bounds = div_ceil_times c.args.cpus 64 (omega arith) in
     let empty = zeros c.args.cpus c.div_ceil.result c.in-Ok.words.items made (omega (arith, bounds)) in
-    record { some = grind (arith, c.if-cpus-eq0.false); few = c.if-cpus-gt-MOST_CPUS.false; enough = omega (arith, bounds, empty.length); no_more = omega (arith, bounds, empty.length); none_beyond = empty.none_beyond; counted = sym empty.size }
+    record {
+      some = grind (arith, c.if-cpus-eq0.false);
+      few = c.if-cpus-gt-MOST_CPUS.false;
+      enough = omega (arith, bounds, empty.length);
+      no_more = omega (arith, bounds, empty.length);
+      none_beyond = empty.none_beyond;
+      counted = sym empty.size;
+    }
 
 pub returns-clause-ok : goal.returns-clause-ok
 returns-clause-ok c =

@@ -32,4 +32,11 @@ invariant_of-self c =
     let below : c.args.cpu < s.cpus = omega arith in
     let none_beyond = none_beyond-remove s.cpus s.words.items c.args.cpu c.index_mut.result.now
     below kept.enough c.index_mut.ensures.value kept.none_beyond in
-    record { some = kept.some; few = kept.few; enough = omega (arith, stays); no_more = omega (arith, stays); none_beyond = none_beyond; counted = omega (arith, before, after, less) }
+    record {
+      some = kept.some;
+      few = kept.few;
+      enough = omega (arith, stays);
+      no_more = omega (arith, stays);
+      none_beyond = none_beyond;
+      counted = omega (arith, before, after, less);
+    }

@@ -10,7 +10,8 @@ invariant_of-self g c =
     let now = g.A.Awaited.awaited c.merge.new.to in
     let either : IsMerged old other now =
     elim c.merge.result as
-    (λ r. OnOk r (now ≡ intersection old other) → IfErr r (λ _. c.merge.new.to ≡ c.self.inside.inner) → IsMerged old other now) [
+    (λ r. OnOk r (now ≡ intersection old other) → IfErr r (λ _. c.merge.new.to ≡ c.self.inside.inner)
+    → IsMerged old other now) [
       | Ok done ↦ λ ok err. inl ok
       | Err fault ↦ λ ok err. inr (ap (λ a. g.A.Awaited.awaited a) err)
     ] c.merge.ensures.awaited c.merge.ensures.refused in

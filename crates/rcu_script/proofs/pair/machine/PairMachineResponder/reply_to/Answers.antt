@@ -8,7 +8,8 @@ pub returns-in-Blank : goal.returns-in-Blank
 returns-in-Blank g c = line_answered c.args.line.now Blank c.args.self.now _ _ c.in-Blank.ensures refl (Sends-nil _)
 
 pub returns-in-Malformed : goal.returns-in-Malformed
-returns-in-Malformed g c = line_answered c.args.line.now Malformed c.args.self.now _ _ c.in-Malformed.ensures refl c.put_reply.ensures
+returns-in-Malformed g c =
+    line_answered c.args.line.now Malformed c.args.self.now _ _ c.in-Malformed.ensures refl c.put_reply.ensures
 
 pub returns-in-Ask-Same : goal.returns-in-Ask-Same
 returns-in-Ask-Same g c =
