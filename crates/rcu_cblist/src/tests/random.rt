@@ -209,7 +209,8 @@ fn tends_at_numbers_that_never_fall(rt: HostRuntime) {
             _ => {
                 let running = draw.below(2);
                 let number = periods.saturating_mul(4).saturating_add(running);
-                let snap = periods.saturating_add(1 + running).saturating_mul(4);
+                let next = periods.saturating_add(1).saturating_add(running);
+                let snap = next.saturating_mul(4);
                 list.advance(number);
                 plain.advance(number);
                 accelerate(&rt, &mut list, snap);
