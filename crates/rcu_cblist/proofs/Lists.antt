@@ -1,12 +1,12 @@
 -- Lists with one callback more, walks over a list, and its parts.
-use Rattle.std.proofs.Common.{◌≡◌, ℕ, Bool, false, zero, suc, ◌+◌, ◌-◌, ◌≤◌, min, List, [], ◌∷◌, ◌++◌, length, map, take, drop, refl, ap, sym, ◌∙◌, append_assoc, length-append, length-take, length-drop, arith}
+use Rattle.std.proofs.Common.{◌≡◌, ℕ, Bool, zero, suc, ◌+◌, ◌-◌, ◌≤◌, min, List, [], ◌∷◌, ◌++◌, length, map, take, drop, refl, ap, sym, ◌∙◌, append_assoc, length-append, length-take, length-drop, arith}
 use Rattle.std.proofs.Math.Seq.{take-append_seam, drop-append_seam}
 use Rattle.std.proofs.lemmas.List.{take-append-le, take_min, drop-drop, drop_all, take-append-drop}
 use Rattle.std.proofs.lemmas.List.Sums.{sum_by-append}
 use Rattle.std.specs.Prelude.{count_by, if◌then◌else◌}
 use Rattle.std.proofs.lemmas.List.Elements.{filter_map-append}
 use Rattle.rcu_cblist.specs.declared.queued.Queued.{Queued}
-use Rattle.rcu_cblist.specs.SegList.{Item, Mark, Of, Marker, Unmarked, Until, Done, callback_of, callbacks, remarked, without_mark, front, behind, take_answer, from_callback, after_take, after_migrate, begins_with_marker}
+use Rattle.rcu_cblist.specs.SegList.{Item, Mark, Of, Marker, Unmarked, Until, Done, callback_of, callbacks, remarked, without_mark, front, behind, take_answer, from_callback, after_take, after_migrate}
 
 -- the first item and the others, as they are seen
 pub map_split : {X Y : Type 0} (f : X → Y) (xs ys : List X) (x : X) → xs ≡ x ∷ ys → map f xs ≡ f x ∷ map f ys
@@ -17,13 +17,6 @@ pub gone_more : {X : Type 0} (start xs ys : List X) (j k : ℕ) → ys ≡ drop 
     ys ≡ drop j start
 gone_more start xs ys j k next so_far more =
     next ∙ (ap (drop 1) so_far ∙ (drop-drop 1 k start ∙ ap (λ n. drop n start) (sym more)))
-
--- a list from a callback on does not begin with a marker
-pub first_from : {X : Type 0} (n : ℕ) (xs : List (Item X)) → begins_with_marker (from_callback n xs) ≡ false
-first_from n [] = refl
-first_from n (Marker ∷ xs) = first_from n xs
-first_from zero (Of call mark ∷ xs) = refl
-first_from (suc n) (Of call mark ∷ xs) = first_from n xs
 
 -- the callbacks of the done part, and those behind it
 pub callbacks_split : {X : Type 0} (xs : List (Item X)) → callbacks xs ≡ callbacks (front xs) ++ callbacks (behind xs)

@@ -9,7 +9,7 @@ use Rattle.std.proofs.lemmas.List.Elements.{All-nil, All-cons, All-head, All-tai
 use Rattle.std.proofs.lemmas.List.Sums.{sum_by-append, sum_by-cons}
 use Rattle.rcu_seq.specs.Numbers.{Number}
 use Rattle.rcu_cblist.specs.declared.queued.Queued.{Queued}
-use Rattle.rcu_cblist.specs.SegList.{Item, Mark, Of, Marker, Unmarked, Until, Done, after_advance, after_entrain, after_migrate, after_take, behind, from_callback, front, has_other, has_two, is_empty, is_marker, mark_given, markers, markers_passed, number_carried, numbers, remarked, take_answer, without_mark}
+use Rattle.rcu_cblist.specs.SegList.{begins_with_marker, Item, Mark, Of, Marker, Unmarked, Until, Done, after_advance, after_entrain, after_migrate, after_take, behind, from_callback, front, has_other, has_two, is_empty, is_marker, mark_given, markers, markers_passed, number_carried, numbers, remarked, take_answer, without_mark}
 
 -- a marker in front is one more
 pub marker_more : {X : Type 0} (xs : List (Item X)) → markers (Marker ∷ xs) ≡ 1 + markers xs
@@ -251,3 +251,54 @@ module _ {X : Type 0} (P : Item X → Type 0) where
       (All-append P (front xs) ys (each_front xs each) others)
       (All-map P without_mark (behind xs)
       (All-weaker P (λ x. P (without_mark x)) keeps (behind xs) (each_behind xs each)))
+
+-- ---- no list begins with a marker
+
+-- a callback at the end of a list that does not begin with a marker
+pub first_queued : {X : Type 0} (xs : List (Item X)) (call : Queued X) (mark : Mark) → begins_with_marker xs ≡ false →
+    begins_with_marker (xs ++ Of call mark ∷ []) ≡ false
+first_queued [] call mark none = refl
+first_queued (first ∷ xs) call mark none = none
+
+-- a change of marks keeps what the first item is
+pub first_remarked : {X : Type 0} (change : Mark → Mark) (xs : List (Item X)) →
+    begins_with_marker (map (remarked change) xs) ≡ begins_with_marker xs
+first_remarked change [] = refl
+first_remarked change (Marker ∷ xs) = refl
+first_remarked change (Of call mark ∷ xs) = refl
+
+-- a list from a callback on does not begin with a marker
+pub first_from : {X : Type 0} (n : ℕ) (xs : List (Item X)) → begins_with_marker (from_callback n xs) ≡ false
+first_from n [] = refl
+first_from n (Marker ∷ xs) = first_from n xs
+first_from zero (Of call mark ∷ xs) = refl
+first_from (suc n) (Of call mark ∷ xs) = first_from n xs
+
+-- nor does what is behind a done part once its marks are gone
+first_behind : {X : Type 0} (xs : List (Item X)) → begins_with_marker (map without_mark (behind xs)) ≡ false
+first_behind [] = refl
+first_behind (Marker ∷ xs) = first_behind xs
+first_behind (Of call Done ∷ xs) = first_behind xs
+first_behind (Of call Unmarked ∷ xs) = refl
+first_behind (Of call (Until n) ∷ xs) = refl
+
+-- nor does a list behind another where neither does
+first_append : {X : Type 0} (xs ys : List (Item X)) → begins_with_marker xs ≡ false → begins_with_marker ys ≡ false →
+    begins_with_marker (xs ++ ys) ≡ false
+first_append [] ys none others = others
+first_append (first ∷ xs) ys none others = none
+
+-- nor does a done part
+first_front : {X : Type 0} (xs : List (Item X)) → begins_with_marker xs ≡ false → begins_with_marker (front xs) ≡ false
+first_front [] none = refl
+first_front (Marker ∷ xs) none = cc
+first_front (Of call Done ∷ xs) none = refl
+first_front (Of call Unmarked ∷ xs) none = refl
+first_front (Of call (Until n) ∷ xs) none = refl
+
+-- nor does a target to which a list moved
+pub first_moved : {X : Type 0} (xs ys : List (Item X)) → begins_with_marker xs ≡ false → begins_with_marker ys ≡ false →
+    begins_with_marker (after_migrate ys xs) ≡ false
+first_moved xs ys none others =
+    first_append (front xs ++ ys) (map without_mark (behind xs)) (first_append (front xs) ys (first_front xs none) others)
+    (first_behind xs)

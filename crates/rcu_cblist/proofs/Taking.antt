@@ -9,8 +9,8 @@ use Rattle.rcu_cblist.specs.Kept.{item_of, marked, unmarked}
 use Rattle.rcu_cblist.specs.declared.segments.Segments.{Segments}
 use Rattle.rcu_cblist.specs.Segments.{AreSegments, AreTails, IsCut, IsTail, between, joined, seen}
 use Rattle.rcu_cblist.proofs.Cuts.{Cuts, calls_joined, calls_some, first_joined, joins, rest_of, seen_at, segments_at, whole}
-use Rattle.rcu_cblist.proofs.Lists.{callbacks_from, callbacks_remarked, first_from, untaken_least}
-use Rattle.rcu_cblist.proofs.SegListLemmas.{markers_remarked}
+use Rattle.rcu_cblist.proofs.Lists.{callbacks_from, callbacks_remarked, untaken_least}
+use Rattle.rcu_cblist.proofs.SegListLemmas.{first_from, markers_remarked}
 use Rattle.rcu_cblist.proofs.Views.{front_joined, marked_remarked, stripped}
 
 module _ {X : Type 0} where

@@ -12,7 +12,7 @@ use Rattle.rcu_seq.specs.declared.fault.Fault.TheVariants as fault
 use Rattle.rcu_cblist.specs.declared.queued.Queued.{Queued}
 use Rattle.rcu_cblist.specs.SegList.{Item, Of, Marker, Unmarked, after_migrate, after_take, begins_with_marker}
 use Rattle.rcu_cblist.specs.SegList.{callbacks, is_empty, take_answer}
-use Rattle.rcu_cblist.proofs.Lists.{first_from, first_moved, first_queued, first_remarked}
+use Rattle.rcu_cblist.proofs.SegListLemmas.{first_from, first_moved, first_queued, first_remarked}
 use Rattle.rcu_cblist.specs.SegList.{as_it_leaves}
 use Rattle.rcu_barrier.specs.Tending.{mark_after_tend, after_tend}
 use Rattle.rcu_barrier.specs.declared.visit.Visit.TheVariants.{Marked, Empty, Already}
