@@ -1,6 +1,6 @@
 //! The masks at a grace period's start, level by level from below.
-ghost use Rattle.std.specs.Prelude.{◌≡◌, ◌<◌, ◌≤◌, ◌+◌, ℕ, length, slice_index};
-ghost use Rattle.rcu_geometry.specs.Geometry.{IsLegalShape, shape, nodes as nodes_of};
+ghost use Rattle.std.specs.Prelude.{◌≡◌, ◌<◌, ◌+◌, ℕ, length};
+ghost use Rattle.rcu_geometry.specs.Geometry.{IsLegalShape, nodes as nodes_of};
 ghost use Rattle.rcu_node.specs.Masks.{AreGroups, AreLinked};
 ghost use Rattle.rcu_node.specs.Masks.{group_masks, members, now_masks, start_masks};
 ghost use Rattle.rcu_node.specs.Steps.{AreLinkedFrom, leaf_bit};

@@ -1,5 +1,5 @@
 //! The nodes of a new tree.
-ghost use Rattle.std.specs.Prelude.{◌≡◌, ◌<◌, ◌+◌, ℕ, length, replicate, slice_index, IfOk};
+ghost use Rattle.std.specs.Prelude.{◌≡◌, ◌<◌, replicate, IfOk};
 ghost use Rattle.rcu_geometry.specs.Geometry.{IsLegalShape, nodes as nodes_of};
 ghost use Rattle.rcu_node.specs.Masks.{AreGroups, group_masks, group_of, now_masks};
 ghost use Rattle.rcu_node.specs.Masks.{start_masks};

@@ -1,6 +1,4 @@
 //! What a grace period awaits, whichever way its sets are kept.
-ghost use Rattle.std.specs.Prelude.{◌≡◌, ◌<◌, ◌≤◌, ◌==◌, ℕ, List, Bool, true, length};
-ghost use Rattle.rcu_node.specs.CpuSet.{is_in};
 
 use crate::answer::Answer;
 use crate::awaited::Awaited;

@@ -1,5 +1,5 @@
 //! A report's walk up the tree.
-ghost use Rattle.std.specs.Prelude.{◌≡◌, ◌<◌, ℕ, true, false, length, slice_index, slice_set};
+ghost use Rattle.std.specs.Prelude.{◌≡◌, ◌<◌, true, false, slice_set};
 ghost use Rattle.std.specs.Prelude.{IfSome, IfNone};
 ghost use Rattle.rcu_geometry.specs.Geometry.{IsLegalShape};
 ghost use Rattle.rcu_node.specs.CpuSet.{is_in};
