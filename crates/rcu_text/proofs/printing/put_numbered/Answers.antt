@@ -1,6 +1,6 @@
 use Rattle.std.proofs.Common.{◌∷◌, [], ◌∙◌, ap, append_assoc, decimal, subst}
 use Rattle.rcu_text.specs.Outputs.{Out, Sends, after_put_text}
-use Rattle.rcu_text.specs.Texts.{numbered}
+use Rattle.rcu_text.specs.Texts.{text_and_number}
 use Rattle.std.proofs.lemmas.Result.{err_from_is_err_and}
 use Rattle.rcu_text.proofs.OutputLemmas.{put_twice, sends_behind, stops_before_text}
 use Rattle.rcu_text.proofs.printing.put_numbered.Goals as goal
@@ -14,7 +14,7 @@ pub returns : goal.returns
 returns g c =
     let e = c.put_byte.ensures
     ∙ ap (λ (o : Out). after_put_text o (10 ∷ [])) c.push_numbered.ensures.puts
-    ∙ put_twice _ (numbered c.args.text.now c.args.n) (10 ∷ []) in
+    ∙ put_twice _ (text_and_number c.args.text.now c.args.n) (10 ∷ []) in
     subst (Sends (g.O.Output.out c.args.out.now) (g.O.Output.out c.put_byte.new.self))
     (append_assoc c.args.text.now (decimal c.args.n) (10 ∷ []))
     (sends_behind _ _ _ _ c.in_ok-make_room.ensures.bytes e)
