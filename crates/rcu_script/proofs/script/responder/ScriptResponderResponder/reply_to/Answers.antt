@@ -17,7 +17,8 @@ returns-in-Blank g c = record {
   out = Sends-nil _;
   told = λ opened lines text whole told alike.
       let size = size_at opened.core in
-      let a : AnswersLine size told.0 (asked_by whole) [] told.0 = said_to size told.0 c.args.line.now whole [] told.0 _ alike c.in-Blank.ensures (refl, refl) in
+      let a : AnswersLine size told.0 (asked_by whole) [] told.0 =
+      said_to size told.0 c.args.line.now whole [] told.0 _ alike c.in-Blank.ensures (refl, refl) in
       (told.0, answers_more size [] lines text told.0 whole [] told.0 told.1 a, told.2, told.3);
 }
 
@@ -29,7 +30,8 @@ returns-in-Malformed g c =
       out = c.put_reply.ensures;
       told = λ opened lines text whole told alike.
           let size = size_at opened.core in
-          let a : AnswersLine size told.0 (asked_by whole) reply told.0 = said_to size told.0 c.args.line.now whole reply told.0 _ alike c.in-Malformed.ensures (refl, refl) in
+          let a : AnswersLine size told.0 (asked_by whole) reply told.0 =
+          said_to size told.0 c.args.line.now whole reply told.0 _ alike c.in-Malformed.ensures (refl, refl) in
           (told.0, answers_more size [] lines text told.0 whole reply told.0 told.1 a, told.2, told.3);
     }
 
@@ -42,9 +44,11 @@ returns-in-Ask g c =
       told = λ opened lines text whole told alike.
           let size = size_at opened.core in
           let end = with_event told.0 c.in-Ask.event said in
-          let went = c.step-reply.ensures told.0 told.3 in
-          let legal : IsLegalReply size (situation told.0) c.in-Ask.event said = subst (λ (s : Size). IsLegalReply s (situation told.0) c.in-Ask.event said) told.2 went.legal in
+          let went = c.step-reply.ensures.follows told.0 told.3 in
+          let legal : IsLegalReply size (situation told.0) c.in-Ask.event said = subst
+          (λ (s : Size). IsLegalReply s (situation told.0) c.in-Ask.event said) told.2 went.legal in
           let a : AnswersLine size told.0 (asked_by whole) (text_of said) end =
-          said_to size told.0 c.args.line.now whole (text_of said) end _ alike c.in-Ask.ensures (said, legal, refl, refl) in
+          said_to size told.0 c.args.line.now whole (text_of said) end _ alike c.in-Ask.ensures
+          (said, legal, refl, refl) in
           (end, answers_more size [] lines text told.0 whole (text_of said) end told.1 a, went.size ∙ told.2, went.has);
     }
