@@ -1,6 +1,6 @@
 //! What the definitions say of sets, of reports, of merging and of masks.
 ghost use Rattle.std.specs.Bool.{Decides};
-ghost use Rattle.std.specs.Prelude.{◌≡◌, ◌==◌, ◌&&◌, ◌||◌, ◌++◌, ℕ, Bool, List, true, false};
+ghost use Rattle.std.specs.Prelude.{◌≡◌, ◌<◌, ◌==◌, ◌&&◌, ◌||◌, ◌++◌, ℕ, Bool, List, true, false};
 ghost use Rattle.std.specs.Prelude.{length, nat_lt, not, slice_index, slice_set};
 ghost use Rattle.rcu_seq.specs.Numbers.{Number};
 ghost use Rattle.rcu_geometry.specs.Geometry.{IsLegalShape, Shape};
@@ -24,6 +24,17 @@ pub fn listed_holds_what_passes()
 pub fn removal_leaves_the_others()
     ensures { (set : List Bool) (cpu other : ℕ)
         → is_in (slice_set set cpu false) other ≡ (is_in set other && not (cpu == other)) }
+{}
+
+/// Putting a processor into a set leaves the others.
+pub fn insertion_leaves_the_others()
+    ensures { (set : List Bool) (cpu other : ℕ) → cpu < length set
+        → is_in (slice_set set cpu true) other ≡ (cpu == other || is_in set other) }
+{}
+
+/// Nobody is in a set of size 0.
+pub fn nobody_is_in_a_set_of_size_0()
+    ensures { (set : List Bool) (cpu : ℕ) → size_of set ≡ 0 → is_in set cpu ≡ false }
 {}
 
 /// After any reports, in any order and of any tags, a processor is awaited exactly where it was in
