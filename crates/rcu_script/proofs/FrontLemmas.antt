@@ -14,8 +14,7 @@ replies_front size h [] later = (replies size h later, refl)
 replies_front size h (line ∷ lines) later =
     let next = next_after size h (asked_by line) in
     let first = reply_to size h (asked_by line) in
-    let more = replies_front size next lines later in
-    (
+    let more = replies_front size next lines later in (
       more.0,
       ap (λ (l : List ℕ). first ++ l) more.1 ∙ sym (append_assoc first (replies size next lines) more.0),
     )
@@ -32,8 +31,7 @@ pair_front p [] later = (pair_replies p later, refl)
 pair_front p (line ∷ lines) later =
     let next = pair_after_line p (pair_asked_by line) in
     let first = answer_to_line p (pair_asked_by line) in
-    let more = pair_front next lines later in
-    (
+    let more = pair_front next lines later in (
       more.0,
       ap (λ (l : List ℕ). first ++ l) more.1 ∙ sym (append_assoc first (pair_replies next lines) more.0),
     )
