@@ -5,6 +5,7 @@
 typedef unsigned long size_t;
 
 extern char *getenv(const char *);
+extern int *__errno_location(void);
 extern long write(int, const void *, size_t);
 extern void *__libc_malloc(size_t);
 extern void *__libc_calloc(size_t, size_t);
@@ -32,6 +33,7 @@ __attribute__((constructor)) static void begin(void) {
 static int is_refused(void) {
     if (__atomic_fetch_sub(&left, 1, __ATOMIC_SEQ_CST) != 1) return 0;
     write(told, "R", 1);
+    *__errno_location() = OUT_OF_MEMORY;
     return 1;
 }
 

@@ -10,7 +10,12 @@ const MANY: usize = 6_500;
 #[test]
 fn more_than_a_block(rt: HostRuntime) -> Result<(), Fail> {
     let mut wanted = ArrayVec::<u8, MANY>::new();
-    let mut sink = Marked::new(Vec::with_capacity(rt.alloc(), MANY)?);
+    // (A refused growth is followed by the same call.)
+    let taken = match Vec::with_capacity(rt.alloc(), MANY) {
+        Ok(taken) => taken,
+        Err(_) => Vec::with_capacity(rt.alloc(), MANY)?,
+    };
+    let mut sink = Marked::new(taken);
     let mut out = BlockWriter::new(&mut sink);
     for _ in 0..500 {
         wanted.try_extend_from_slice(b"grace 12\nrcu\n")?;
