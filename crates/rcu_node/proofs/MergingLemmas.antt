@@ -112,7 +112,7 @@ at_least-on x y z one two = record {
 }
 
 -- tests that follow from one another are the same
-same_test : (a b : Bool) → (a ≡ true → b ≡ true) → (b ≡ true → a ≡ true) → a ≡ b
+pub same_test : (a b : Bool) → (a ≡ true → b ≡ true) → (b ≡ true → a ≡ true) → a ≡ b
 same_test true b h k = sym (h refl)
 same_test false true h k = k refl
 same_test false false h k = refl

@@ -1,5 +1,5 @@
 -- A set has one list of masks.
-use Rattle.std.proofs.Common.{◌≡◌, ℕ, zero, suc, ◌+◌, ◌<◌, ◌≤◌, ◌==◌, Bool, true, false, not, List, slice_index, refl, sym, ap, ◌∙◌, arith, inl, inr}
+use Rattle.std.proofs.Common.{◌≡◌, ℕ, zero, suc, ◌+◌, ◌<◌, ◌≤◌, ◌==◌, Bool, true, not, List, slice_index, sym, ap, ◌∙◌, arith, inl, inr}
 use mathlib.Core.Bool.{Bool-set}
 use Rattle.std.proofs.Math.Logic.{∥∥₁_elim}
 use Rattle.std.proofs.lemmas.Bool.{cases_lt}
@@ -9,12 +9,7 @@ use Rattle.rcu_geometry.proofs.Places.{has_parent}
 use Rattle.rcu_node.specs.Masks.{AreMasks}
 use Rattle.rcu_node.specs.Words.{has_bit}
 use Rattle.rcu_node.proofs.Bits.{same_word}
-
--- tests that pass together are the same
-both_or_none : (x y : Bool) → (x ≡ true → y ≡ true) → (y ≡ true → x ≡ true) → x ≡ y
-both_or_none true y there back = sym (there refl)
-both_or_none false true there back = back refl
-both_or_none false false there back = refl
+use Rattle.rcu_node.proofs.MergingLemmas.{same_test}
 
 -- where the masks behind a node are the same, so are its bits
 carries : (s : Shape) (set : List Bool) (a b : List ℕ) → IsLegalShape s → AreMasks s set a → AreMasks s set b
@@ -44,7 +39,7 @@ same_mask s set a b legal first second (suc fuel) node enough here =
     let behind : (k : ℕ) → node < k → k < nodes s → slice_index a k ≡ slice_index b k =
     λ k later k_here. same_mask s set a b legal first second fuel k (omega (arith, enough, later)) k_here in
     same_word (slice_index a node) (slice_index b node)
-    (λ bit. both_or_none (has_bit (slice_index a node) bit) (has_bit (slice_index b node) bit)
+    (λ bit. same_test (has_bit (slice_index a node) bit) (has_bit (slice_index b node) bit)
     (carries s set a b legal first second node bit behind)
     (carries s set b a legal second first node bit (λ k later k_here. sym (behind k later k_here))))
 

@@ -172,21 +172,13 @@ fn calls_at_random(rt: HostRuntime) {
                 plain.accelerate(snap);
             }
             11..=13 => take(&rt, &mut list, &mut plain, draw.below(4)),
-            14 => migrate(
+            kind => migrate(
                 &rt,
                 &mut list,
                 &mut plain,
                 &mut other,
                 &mut other_plain,
-                false,
-            ),
-            _ => migrate(
-                &rt,
-                &mut list,
-                &mut plain,
-                &mut other,
-                &mut other_plain,
-                true,
+                kind == 15,
             ),
         }
         compare(&rt, &list, &plain);
