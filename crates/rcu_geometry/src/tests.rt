@@ -49,8 +49,13 @@ fn shape_limits(rt: HostRuntime) {
     refuses::<2, 2>(&rt, 17, Fault::TooManyCpus);
     has_levels::<2, 3>(&rt, 54, &[(0, 1), (1, 3), (4, 9), (13, 27)], 40);
     refuses::<2, 3>(&rt, 55, Fault::TooManyCpus);
+    has_levels::<64, 2>(&rt, 512, &[(0, 1), (1, 2), (3, 4), (7, 8)], 15);
+    refuses::<64, 2>(&rt, 513, Fault::TooManyCpus);
+    has_levels::<2, 64>(&rt, 4096, &[(0, 1), (1, 32), (33, 2048)], 2081);
     has_levels::<16, 64>(&rt, 16, &[(0, 1)], 1);
     has_levels::<16, 64>(&rt, 17, &[(0, 1), (1, 2)], 3);
+    has_levels::<2, 2>(&rt, 1, &[(0, 1)], 1);
+    has_levels::<64, 64>(&rt, 1, &[(0, 1)], 1);
     for cpus in [0, 1, 4096] {
         refuses::<1, 2>(&rt, cpus, Fault::BadFanout);
         refuses::<65, 2>(&rt, cpus, Fault::BadFanout);

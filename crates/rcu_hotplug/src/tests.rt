@@ -8,32 +8,30 @@ use rcu_node::flat::Flat;
 use rcu_node::tree::Tree;
 use rcu_seq::fault::Fault;
 use std::alloc::Global;
-use std::io::Print;
 use std::process::Abort;
 
-/// Compares the fault of a making whose growth was refused, and says so for who counts the growths.
-fn refused<R: Abort + Print>(rt: &R, fault: Fault) {
+/// Compares the fault of a making whose growth was refused.
+fn refused(rt: &impl Abort, fault: Fault) {
     assert_eq!(rt; fault, Fault::NoMemory);
-    let _ = println!(rt; "a growth was refused");
 }
 
-/// A flat set of five processors, made by a second call where the first is refused a growth.
-fn flat<R: Abort + Print>(rt: &R, alloc: Global) -> Flat
+/// A flat set of so many processors, made by a second call where the first is refused a growth.
+fn flat_of(rt: &impl Abort, alloc: Global, cpus: u32) -> Flat
     ensures tag { ⟦<Flat as Awaited>⟧.tag result ≡ 0 }
-    ensures start_set { ⟦<Flat as Awaited>⟧.start_set result ≡ replicate 5 false }
-    ensures awaited { ⟦<Flat as Awaited>⟧.awaited result ≡ replicate 5 false }
+    ensures start_set { ⟦<Flat as Awaited>⟧.start_set result ≡ replicate cpus false }
+    ensures awaited { ⟦<Flat as Awaited>⟧.awaited result ≡ replicate cpus false }
 {
-    match Flat::new(alloc, 5) {
+    match Flat::new(alloc, cpus) {
         Ok(flat) => flat,
         Err(fault) => {
             refused(rt, fault);
-            Flat::new(alloc, 5).expect(rt, "the second call has memory")
+            Flat::new(alloc, cpus).expect(rt, "the second call has memory")
         }
     }
 }
 
 /// A tree of five processors, made by a second call where the first is refused a growth.
-fn tree<R: Abort + Print>(rt: &R, alloc: Global) -> Tree<2, 2>
+fn tree(rt: &impl Abort, alloc: Global) -> Tree<2, 2>
     ensures tag { ⟦<Tree<2, 2> as Awaited>⟧.tag result ≡ 0 }
     ensures start_set { ⟦<Tree<2, 2> as Awaited>⟧.start_set result ≡ replicate 5 false }
     ensures awaited { ⟦<Tree<2, 2> as Awaited>⟧.awaited result ≡ replicate 5 false }
@@ -47,19 +45,19 @@ fn tree<R: Abort + Print>(rt: &R, alloc: Global) -> Tree<2, 2>
     }
 }
 
-/// The processors over a flat set, made by a second call where the first is refused a growth.
-fn over_flat<R: Abort + Print>(rt: &R, alloc: Global) -> Hotplug<Flat> {
-    match Hotplug::new(alloc, flat(rt, alloc)) {
+/// So many processors over a flat set, made by a second call where the first is refused a growth.
+fn over_flat(rt: &impl Abort, alloc: Global, cpus: u32) -> Hotplug<Flat> {
+    match Hotplug::new(alloc, flat_of(rt, alloc, cpus)) {
         Ok(hotplug) => hotplug,
         Err(fault) => {
             refused(rt, fault);
-            Hotplug::new(alloc, flat(rt, alloc)).expect(rt, "the second call has memory")
+            Hotplug::new(alloc, flat_of(rt, alloc, cpus)).expect(rt, "the second call has memory")
         }
     }
 }
 
 /// The processors over a tree, made by a second call where the first is refused a growth.
-fn over_tree<R: Abort + Print>(rt: &R, alloc: Global) -> Hotplug<Tree<2, 2>> {
+fn over_tree(rt: &impl Abort, alloc: Global) -> Hotplug<Tree<2, 2>> {
     match Hotplug::new(alloc, tree(rt, alloc)) {
         Ok(hotplug) => hotplug,
         Err(fault) => {
@@ -159,10 +157,19 @@ fn come_and_go<A: Awaited>(rt: &impl Abort, mut hotplug: Hotplug<A>) {
 
 #[test]
 fn come_and_go_over_flat(rt: HostRuntime) {
-    come_and_go(&rt, over_flat(&rt, rt.alloc()));
+    come_and_go(&rt, over_flat(&rt, rt.alloc(), 5));
 }
 
 #[test]
 fn come_and_go_over_tree(rt: HostRuntime) {
     come_and_go(&rt, over_tree(&rt, rt.alloc()));
+}
+
+#[test]
+fn sizes(rt: HostRuntime) {
+    for cpus in [1, 4096] {
+        let mut hotplug = over_flat(&rt, rt.alloc(), cpus);
+        assert_eq!(rt; hotplug.awaited().cpus(), cpus);
+        assert_eq!(rt; hotplug.arrive(cpus), Err(Fault::BadCpu));
+    }
 }

@@ -1,5 +1,7 @@
 -- The masks at a grace period's start: first the leaves' bits, then level by level from below.
-use Rattle.std.proofs.Common.{◌≡◌, ◌≢◌, ℕ, ◌+◌, ◌-◌, ◌*◌, ◌/◌, ◌%◌, ◌^◌, ◌<◌, ◌≤◌, ◌==◌, nat_lt, nat_le, Bool, true, false, not, List, length, slice_index, slice_set, bit_or, refl, sym, ap, ◌∙◌, arith, inl, inr, ne_eqb}
+use Rattle.std.proofs.Common.{◌≡◌, ◌≢◌, ℕ, ◌+◌, ◌-◌, ◌*◌, ◌/◌, ◌%◌, ◌^◌, ◌<◌, ◌≤◌, ◌==◌, nat_lt, nat_le, Bool, true}
+use Rattle.std.proofs.Common.{false, not, List, length, slice_index, slice_set, bit_or, refl, sym, ap, ◌∙◌, arith, inl}
+use Rattle.std.proofs.Common.{inr, ne_eqb}
 use Rattle.std.proofs.lemmas.Bool.{cases_eq, cases_lt, false≢true}
 use Rattle.std.proofs.lemmas.Bool.Decides.{nat_tests}
 use Rattle.std.proofs.lemmas.Nat.{mod_below, one_shl, div-add-mod', div-mul-add, mod-mul-add}
@@ -64,7 +66,8 @@ leaf_begins s node legal leaf here =
     let cpu = first.0 in
     let quotient : cpu / s.leaf ≡ node - first_leaf s = (let is = first.1.leaf in omega arith) in
     let whole : (node - first_leaf s) * s.leaf ≡ cpu =
-    ap (λ place. place * s.leaf) (sym quotient) ∙ (let split = div-add-mod' cpu s.leaf in let none = first.1.bit in omega (arith, split, none)) in
+    ap (λ place. place * s.leaf) (sym quotient)
+    ∙ (let split = div-add-mod' cpu s.leaf in let none = first.1.bit in omega (arith, split, none)) in
     let below = first.1.below in
     omega (arith, whole, below)
 
@@ -140,7 +143,9 @@ tells s masks node word legal before some here full on rest =
     let same : (k : ℕ) → k ≢ up → slice_index (slice_set masks up word) k ≡ slice_index masks k =
     λ k other. get_or-set_other masks up k word 0 other in
     let now : slice_index (slice_set masks up word) up ≡ word = get_or-set_same masks up word 0 there in
-    let bits : (child : ℕ) → 0 < child → child < nodes s → child ≢ node → has_bit (slice_index (slice_set masks up word) (parent s child)) (bit_in_parent s child) ≡ has_bit (slice_index masks (parent s child)) (bit_in_parent s child) =
+    let bits : (child : ℕ) → 0 < child → child < nodes s → child ≢ node
+    → has_bit (slice_index (slice_set masks up word) (parent s child)) (bit_in_parent s child)
+    ≡ has_bit (slice_index masks (parent s child)) (bit_in_parent s child) =
     λ child child_some child_here other. elim (cases_eq (parent s child) up) [
       | inl sibling ↦ rw (sibling, now)
           (rest (bit_in_parent s child) (λ same_bit. other (same_child s child node legal child_some child_here some here sibling same_bit)))
@@ -169,7 +174,8 @@ tells s masks node word legal before some here full on rest =
             ∙ ap (λ v. not (v == 0)) (sym (same child (grind (arith, up_before, from)))))
       ];
       apart = λ child child_some earlier child_here.
-          bits child child_some child_here (grind (arith, earlier)) ∙ before.apart child child_some (omega arith) child_here;
+          bits child child_some child_here (grind (arith, earlier))
+          ∙ before.apart child child_some (omega arith) child_here;
     }
 
 -- an empty node tells nothing
@@ -190,7 +196,26 @@ pub record IsTold (s : Shape) (masks new : List ℕ) (node : ℕ) : Type 0 where
   pub members : members s new ≡ members s masks
 
 -- a node sets its bit in its parent
-pub told : (s : Shape) (masks groups new : List ℕ) (node up mask : ℕ) → IsLegalShape s → AreLinkedFrom s masks (node + 1)
+pub told_bit : (s : Shape) (masks : List ℕ) (node : ℕ) → IsLegalShape s → AreLinkedFrom s masks (node + 1)
+    → 0 < node → node < nodes s → slice_index masks node ≢ 0
+    → IsTold s masks
+    (slice_set masks (parent s node) (bit_or (slice_index masks (parent s node)) (1 * 2 ^ bit_in_parent s node % 2 ^ 64)))
+    node
+told_bit s masks node legal before some here full =
+    let family = has_parent s node legal some here in
+    let few = legal.fan_high in let bit = family.bit in
+    let low : bit_in_parent s node < 64 = omega (arith, few, bit) in
+    let old = slice_index masks (parent s node) in
+    let word = bit_or old (1 * 2 ^ bit_in_parent s node % 2 ^ 64) in
+    record {
+      linked = tells s masks node word legal before some here full (has_bit_set_same old (bit_in_parent s node) low)
+          (λ i apart. has_bit_set_other old (bit_in_parent s node) i low apart);
+      members = members-inner s masks (parent s node) word family.inner;
+    }
+
+-- which is the mask that it has for that
+pub told : (s : Shape) (masks groups new : List ℕ) (node up mask : ℕ) → IsLegalShape s
+    → AreLinkedFrom s masks (node + 1)
     → AreGroups s groups → 0 < node → node < nodes s → slice_index masks node ≢ 0 → up ≡ parent s node
     → mask ≡ slice_index groups node → new ≡ slice_set masks up (bit_or (slice_index masks up) mask)
     → IsTold s masks new node
@@ -202,13 +227,7 @@ told s masks groups new node up mask legal before marked some here full is_up is
     let own : group_of s node ≡ 2 ^ bit_in_parent s node = rw (ne_eqb node 0 other) in
     let shifted : mask ≡ 1 * 2 ^ bit_in_parent s node % 2 ^ 64 =
     is_group ∙ marked.bit node here ∙ own ∙ sym (one_shl (bit_in_parent s node) 64 low) in
-    let old = slice_index masks (parent s node) in
-    let word = bit_or old (1 * 2 ^ bit_in_parent s node % 2 ^ 64) in
-    rw (written, is_up, shifted) (record {
-      linked = tells s masks node word legal before some here full (has_bit_set_same old (bit_in_parent s node) low)
-          (λ i apart. has_bit_set_other old (bit_in_parent s node) i low apart);
-      members = members-inner s masks (parent s node) word family.inner;
-    })
+    rw (written, is_up, shifted) (told_bit s masks node legal before some here full)
 
 -- in the end all have told
 pub linked_all : (s : Shape) (masks : List ℕ) (node : ℕ) → node ≤ 1 → AreLinkedFrom s masks node → AreLinked s masks

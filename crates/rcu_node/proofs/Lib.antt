@@ -1,6 +1,7 @@
 pub mod Bits
 pub mod CpuSetLemmas
 pub mod Cut
+pub mod EachSet
 pub mod Fills
 pub mod Heard
 pub mod Marks

@@ -1,8 +1,11 @@
 -- Each node's bit in its parent, and nodes without any other bit.
-use Rattle.std.proofs.Common.{◌≡◌, ℕ, zero, suc, ◌+◌, ◌*◌, ◌%◌, ◌^◌, ◌<◌, ◌≤◌, ◌==◌, false, not, List, ◌∷◌, map, length, slice_index, slice_set, replicate, refl, sym, ap, ◌∙◌, arith, inl, inr, ne_eqb, Option, Some, None, if◌then◌else◌}
+use Rattle.std.proofs.Common.{◌≡◌, ℕ, zero, suc, ◌+◌, ◌*◌, ◌%◌, ◌^◌, ◌<◌, ◌≤◌, ◌==◌, false, not, List, ◌∷◌, map, length}
+use Rattle.std.proofs.Common.{slice_index, slice_set, replicate, refl, sym, ap, ◌∙◌, arith, inl, inr, ne_eqb, Option}
+use Rattle.std.proofs.Common.{Some, None, if◌then◌else◌}
 use Rattle.std.proofs.lemmas.Bool.{cases_eq, cases_lt}
 use Rattle.std.proofs.lemmas.Nat.{one_shl}
-use Rattle.std.proofs.lemmas.List.{get_or_past, get_or-replicate, get_or-set_same, get_or-set_other, length-replicate, length-set}
+use Rattle.std.proofs.lemmas.List.{get_or_past, get_or-replicate, get_or-set_same, get_or-set_other, length-replicate}
+use Rattle.std.proofs.lemmas.List.{length-set}
 use Rattle.rcu_geometry.specs.Geometry.{Shape, IsLegalShape, nodes, parent, bit_in_parent, leaf_of, bit_of}
 use Rattle.rcu_geometry.proofs.Places.{has_parent}
 use Rattle.rcu_node.specs.Masks.{AreGroups, AreLinked, group_of, members}
@@ -51,7 +54,8 @@ zero_at n k = elim (cases_lt k n) [
 -- so they are linked
 pub zeros_linked : (s : Shape) (masks : List ℕ) → masks ≡ replicate (nodes s) 0 → AreLinked s masks
 zeros_linked s masks zeros =
-    let none : (k : ℕ) → slice_index masks k ≡ 0 = λ k. ap (λ (words : List ℕ). slice_index words k) zeros ∙ zero_at (nodes s) k in
+    let none : (k : ℕ) → slice_index masks k ≡ 0 =
+    λ k. ap (λ (words : List ℕ). slice_index words k) zeros ∙ zero_at (nodes s) k in
     record {
       owned = record {
         sized = ap length zeros ∙ length-replicate {A = ℕ} (nodes s) 0;

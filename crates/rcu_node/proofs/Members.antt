@@ -1,5 +1,6 @@
 -- The processors whose bits are set in the masks of a tree.
-use Rattle.std.proofs.Common.{◌≡◌, ◌≢◌, ℕ, ◌-◌, ◌/◌, ◌^◌, ◌<◌, ◌==◌, Bool, false, List, length, slice_index, slice_set, bit_and, sym, ap, subst, ◌∙◌, arith, inl, inr}
+use Rattle.std.proofs.Common.{◌≡◌, ◌≢◌, ℕ, ◌-◌, ◌/◌, ◌^◌, ◌<◌, ◌==◌, Bool, false, List, length, slice_index, slice_set}
+use Rattle.std.proofs.Common.{bit_and, sym, ap, subst, ◌∙◌, arith, inl, inr}
 use Rattle.std.proofs.lemmas.Bool.{cases_eq}
 use Rattle.std.proofs.lemmas.Nat.{mod_below}
 use Rattle.std.proofs.lemmas.List.{get_or-set_same, get_or-set_other}
@@ -21,7 +22,8 @@ pub length-members : (s : Shape) (masks : List ℕ) → length (members s masks)
 length-members s masks = length-listed s.cpus (cpu_bit s masks)
 
 -- a processor's flag is its bit
-pub is_in-members : (s : Shape) (masks : List ℕ) (cpu : ℕ) → cpu < s.cpus → is_in (members s masks) cpu ≡ cpu_bit s masks cpu
+pub is_in-members : (s : Shape) (masks : List ℕ) (cpu : ℕ) → cpu < s.cpus
+    → is_in (members s masks) cpu ≡ cpu_bit s masks cpu
 is_in-members s masks cpu below = is_in-listed s.cpus (cpu_bit s masks) cpu below
 
 -- linked masks are those of their members

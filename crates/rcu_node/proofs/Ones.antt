@@ -1,8 +1,11 @@
 -- How many bits of words are set.
-use Rattle.std.proofs.Common.{◌≡◌, ℕ, zero, suc, ◌+◌, ◌-◌, ◌*◌, ◌/◌, ◌%◌, ◌^◌, ◌<◌, ◌≤◌, ◌==◌, Bool, false, cond, List, [], ◌∷◌, ◌++◌, length, slice_index, replicate, sum_by, count_ones, refl, sym, ap, ◌∙◌, arith, inl, inr}
+use Rattle.std.proofs.Common.{◌≡◌, ℕ, zero, suc, ◌+◌, ◌-◌, ◌*◌, ◌/◌, ◌%◌, ◌^◌, ◌<◌, ◌≤◌, ◌==◌, Bool, false, cond, List}
+use Rattle.std.proofs.Common.{[], ◌∷◌, ◌++◌, length, slice_index, replicate, sum_by, count_ones, refl, sym, ap, ◌∙◌}
+use Rattle.std.proofs.Common.{arith, inl, inr}
 use Rattle.std.proofs.lemmas.Bool.{cases_lt}
 use Rattle.std.proofs.lemmas.Bool.Decides.{nat_tests}
-use Rattle.std.proofs.lemmas.List.{get_or_append_left, get_or-append_right, get_or-replicate, length-append, length-replicate}
+use Rattle.std.proofs.lemmas.List.{get_or_append_left, get_or-append_right, get_or-replicate, length-append}
+use Rattle.std.proofs.lemmas.List.{length-replicate}
 use Rattle.std.proofs.lemmas.List.Sums.{sum_by-append, sum_by-cons}
 use Rattle.std.proofs.lemmas.Nat.{ones_le_self}
 use Rattle.std.proofs.lemmas.Nat.Bits.{bit_at-suc, bit_at_lowest}
@@ -10,7 +13,8 @@ use Rattle.std.proofs.Math.Nat.{pow-suc}
 use lib.Count.{ones_step}
 use Rattle.rcu_node.specs.CpuSet.{listed, size_of}
 use Rattle.rcu_node.specs.Words.{flags_in, has_bit}
-use Rattle.rcu_node.proofs.CpuSetLemmas.{is_in-listed, length-listed, listed_first, listed_same, none_listed, size_of-none}
+use Rattle.rcu_node.proofs.CpuSetLemmas.{is_in-listed, length-listed, listed_first, listed_same, none_listed}
+use Rattle.rcu_node.proofs.CpuSetLemmas.{size_of-none}
 use Rattle.rcu_node.proofs.Words.{flag_in}
 
 -- two sets one after the other have as many as both
@@ -61,7 +65,9 @@ ones-is : (k word : ℕ) → word < 2 ^ k → count_ones word ≡ size_of (liste
 ones-is zero word l = omega (arith, ones_le_self word, none_listed (has_bit word))
 ones-is (suc k) word l =
     let half : word / 2 < 2 ^ k = omega (arith, pow-suc 2 k) in
-    let rest = listed_same k (λ i. has_bit word (suc i)) (listed k (has_bit (word / 2))) (length-listed k (has_bit (word / 2)))
+    let rest =
+    listed_same k (λ i. has_bit word (suc i)) (listed k (has_bit (word / 2)))
+    (length-listed k (has_bit (word / 2)))
     (λ i low. has_bit_half word i ∙ sym (is_in-listed k (has_bit (word / 2)) i low)) in
     let all = ap (λ (set : List Bool). size_of set) (listed_first k (has_bit word)) in
     let one = sum_by-cons (λ (flag : Bool). cond flag 1 0) (has_bit word 0) (listed k (λ i. has_bit word (suc i))) in

@@ -1,5 +1,6 @@
 -- A set has one list of masks.
-use Rattle.std.proofs.Common.{◌≡◌, ℕ, zero, suc, ◌+◌, ◌<◌, ◌≤◌, ◌==◌, Bool, true, not, List, slice_index, sym, ap, ◌∙◌, arith, inl, inr}
+use Rattle.std.proofs.Common.{◌≡◌, ℕ, zero, suc, ◌+◌, ◌<◌, ◌≤◌, ◌==◌, Bool, true, not, List, slice_index, sym, ap, ◌∙◌}
+use Rattle.std.proofs.Common.{arith, inl, inr}
 use mathlib.Core.Bool.{Bool-set}
 use Rattle.std.proofs.Math.Logic.{∥∥₁_elim}
 use Rattle.std.proofs.lemmas.Bool.{cases_lt}
@@ -20,15 +21,19 @@ carries s set a b legal first second node bit behind on = elim (cases_lt node (f
       let child = found.0 in let is = found.1 in
       let before = (has_parent s child legal is.some is.here).before in let up = is.parent in
       let same = behind child (omega arith) is.here in
-      sym (ap (λ k. has_bit (slice_index b k) bit) is.parent) ∙ sym (ap (λ i. has_bit (slice_index b (parent s child)) i) is.bit)
+      sym (ap (λ k. has_bit (slice_index b k) bit) is.parent)
+      ∙ sym (ap (λ i. has_bit (slice_index b (parent s child)) i) is.bit)
       ∙ second.linked.inner child is.some is.here ∙ ap (λ v. not (v == 0)) (sym same)
       ∙ sym (first.linked.inner child is.some is.here)
-      ∙ ap (λ i. has_bit (slice_index a (parent s child)) i) is.bit ∙ ap (λ k. has_bit (slice_index a k) bit) is.parent ∙ on)
+      ∙ ap (λ i. has_bit (slice_index a (parent s child)) i) is.bit ∙ ap (λ k. has_bit (slice_index a k) bit) is.parent
+      ∙ on)
   | inr leaf ↦ ∥∥₁_elim (first.linked.owned.leaf node bit leaf on) (Bool-set _ _) (λ found.
       let cpu = found.0 in let is = found.1 in
-      sym (ap (λ k. has_bit (slice_index b k) bit) is.leaf) ∙ sym (ap (λ i. has_bit (slice_index b (leaf_of s cpu)) i) is.bit)
+      sym (ap (λ k. has_bit (slice_index b k) bit) is.leaf)
+      ∙ sym (ap (λ i. has_bit (slice_index b (leaf_of s cpu)) i) is.bit)
       ∙ second.leaf cpu is.here ∙ sym (first.leaf cpu is.here)
-      ∙ ap (λ i. has_bit (slice_index a (leaf_of s cpu)) i) is.bit ∙ ap (λ k. has_bit (slice_index a k) bit) is.leaf ∙ on)
+      ∙ ap (λ i. has_bit (slice_index a (leaf_of s cpu)) i) is.bit ∙ ap (λ k. has_bit (slice_index a k) bit) is.leaf
+      ∙ on)
 ]
 
 -- so each mask is the same, from the last node on

@@ -1,5 +1,7 @@
 -- A report's walk up the tree.
-use Rattle.std.proofs.Common.{◌≡◌, ◌≢◌, ℕ, ◌*◌, ◌%◌, ◌^◌, ◌<◌, ◌≤◌, ◌==◌, Bool, true, false, not, List, length, slice_index, slice_set, bit_and, sym, ap, ◌∙◌, arith, inl, inr, ne_eqb, Option, Some, None, if◌then◌else◌}
+use Rattle.std.proofs.Common.{◌≡◌, ◌≢◌, ℕ, ◌*◌, ◌%◌, ◌^◌, ◌<◌, ◌≤◌, ◌==◌, Bool, true, false, not, List, length}
+use Rattle.std.proofs.Common.{slice_index, slice_set, bit_and, sym, ap, ◌∙◌, arith, inl, inr, ne_eqb, Option, Some}
+use Rattle.std.proofs.Common.{None, if◌then◌else◌}
 use Rattle.std.specs.Int.{bit_not, w64}
 use Rattle.std.proofs.lemmas.Bool.{cases_eq}
 use Rattle.std.proofs.lemmas.Nat.{one_shl}
@@ -8,7 +10,7 @@ use Rattle.rcu_geometry.specs.Geometry.{Shape, IsLegalShape, nodes, parent, bit_
 use Rattle.rcu_geometry.proofs.Places.{has_parent, same_child}
 use Rattle.rcu_node.specs.CpuSet.{is_in}
 use Rattle.rcu_node.specs.Masks.{AreGroups, AreLinked, AreOwned, group_of, members}
-use Rattle.rcu_node.specs.Steps.{AreCleared}
+use Rattle.rcu_node.specs.Steps.{AreLinkedBut}
 use Rattle.rcu_node.specs.Words.{has_bit}
 use Rattle.rcu_node.proofs.Members.{bit_low, is_in-members, leaf_here, members-clear, members-inner}
 use Rattle.rcu_node.proofs.OneBit.{Clears, clears, not_empty}
@@ -17,7 +19,8 @@ use Rattle.rcu_node.proofs.OneBit.{Clears, clears, not_empty}
 owned-clear : (s : Shape) (masks : List ℕ) (node word bit : ℕ) → Clears (slice_index masks node) word bit
     → node < length masks → AreOwned s masks → AreOwned s (slice_set masks node word)
 owned-clear s masks node word bit cleared here owned =
-    let less : (k i : ℕ) → has_bit (slice_index (slice_set masks node word) k) i ≡ true → has_bit (slice_index masks k) i ≡ true =
+    let less : (k i : ℕ) → has_bit (slice_index (slice_set masks node word) k) i ≡ true
+    → has_bit (slice_index masks k) i ≡ true =
     λ k i. elim (cases_eq k node) as (λ _. has_bit (slice_index (slice_set masks node word) k) i ≡ true → has_bit (slice_index masks k) i ≡ true) [
       | inl same ↦ (λ set. rw same (cleared.less i
           (sym (ap (λ v. has_bit v i) (ap (slice_index (slice_set masks node word)) same ∙ get_or-set_same masks node word 0 here)) ∙ set)))
@@ -32,7 +35,7 @@ owned-clear s masks node word bit cleared here owned =
 -- the first step: a bit of a leaf is cleared
 leaf-clear : (s : Shape) (masks : List ℕ) (node bit word : ℕ) → IsLegalShape s → AreLinked s masks
     → first_leaf s ≤ node → node < nodes s → has_bit (slice_index masks node) bit ≡ true
-    → Clears (slice_index masks node) word bit → AreCleared s (slice_set masks node word) node
+    → Clears (slice_index masks node) word bit → AreLinkedBut s (slice_set masks node word) node
 leaf-clear s masks node bit word legal linked leaf below set cleared =
     let here : node < length masks = omega (arith, linked.owned.sized, below) in
     let same : (k : ℕ) → k ≢ node → slice_index (slice_set masks node word) k ≡ slice_index masks k =
@@ -50,9 +53,9 @@ leaf-clear s masks node bit word legal linked leaf below set cleared =
     }
 
 -- a further step: the bit of a node that is empty is cleared in its parent
-parent-clear : (s : Shape) (masks : List ℕ) (node word : ℕ) → IsLegalShape s → AreCleared s masks node → 0 < node
+parent-clear : (s : Shape) (masks : List ℕ) (node word : ℕ) → IsLegalShape s → AreLinkedBut s masks node → 0 < node
     → slice_index masks node ≡ 0 → Clears (slice_index masks (parent s node)) word (bit_in_parent s node)
-    → AreCleared s (slice_set masks (parent s node) word) (parent s node)
+    → AreLinkedBut s (slice_set masks (parent s node) word) (parent s node)
 parent-clear s masks node word legal before some empty cleared =
     let family = has_parent s node legal some before.here in
     let up = parent s node in
@@ -74,7 +77,8 @@ parent-clear s masks node word legal before some empty cleared =
               (λ bits. another (same_child s child node legal child_some child_here some here sibling bits))
               ∙ ap (λ v. has_bit (slice_index masks v) (bit_in_parent s child)) (sym sibling)
               ∙ before.inner child child_some child_here another)
-          | inr apart ↦ rw (same (parent s child) apart, same child other) (before.inner child child_some child_here another)
+          | inr apart ↦ rw (same (parent s child) apart, same child other)
+              (before.inner child child_some child_here another)
         ]
       ];
       over = λ up_some.
@@ -85,7 +89,7 @@ parent-clear s masks node word legal before some empty cleared =
     }
 
 -- the walk ends where the mask is not empty
-pub end_here : (s : Shape) (masks : List ℕ) (node : ℕ) → AreCleared s masks node → slice_index masks node ≢ 0
+pub end_here : (s : Shape) (masks : List ℕ) (node : ℕ) → AreLinkedBut s masks node → slice_index masks node ≢ 0
     → AreLinked s masks
 end_here s masks node before some = record {
   owned = before.owned;
@@ -96,15 +100,16 @@ end_here s masks node before some = record {
 }
 
 -- or at the root
-pub end_root : (s : Shape) (masks : List ℕ) (node : ℕ) → AreCleared s masks node → node ≡ 0 → AreLinked s masks
+pub end_root : (s : Shape) (masks : List ℕ) (node : ℕ) → AreLinkedBut s masks node → node ≡ 0 → AreLinked s masks
 end_root s masks node before root = record {
   owned = before.owned;
-  inner = λ child some here. before.inner child some here (λ it. absurd (let no : ⊥ = omega (arith, it, root, some) in no));
+  inner =
+      λ child some here. before.inner child some here (λ it. absurd (let no : ⊥ = omega (arith, it, root, some) in no));
 }
 
 -- what a step leaves
 pub record IsStepped (s : Shape) (masks new : List ℕ) (node : ℕ) (set : List Bool) : Type 0 where
-  pub cleared : AreCleared s new node
+  pub cleared : AreLinkedBut s new node
   pub members : members s new ≡ set
 
 -- an awaited processor is cleared in its leaf
@@ -126,7 +131,7 @@ first_step s masks new cpu node bit legal linked below there is_leaf is_bit writ
     })
 
 -- and then, as long as masks get empty, each node in its parent
-pub next_step : (s : Shape) (masks groups new : List ℕ) (node up mask : ℕ) → IsLegalShape s → AreCleared s masks node
+pub next_step : (s : Shape) (masks groups new : List ℕ) (node up mask : ℕ) → IsLegalShape s → AreLinkedBut s masks node
     → AreGroups s groups → 0 < node → slice_index masks node ≡ 0 → up ≡ parent s node
     → mask ≡ slice_index groups node
     → new ≡ slice_set masks up (bit_and (slice_index masks up) (bit_not w64 mask))

@@ -1,12 +1,16 @@
 -- Sets of processors in words of 64 bits: what a read tells, and what a write makes.
-use Rattle.std.proofs.Common.{◌≡◌, ◌≢◌, ℕ, ◌*◌, ◌+◌, ◌/◌, ◌%◌, ◌^◌, ◌<◌, ◌≤◌, ◌==◌, Bool, true, false, List, length, get_or, slice_index, slice_set, replicate, bit_and, bit_or, sym, ap, ◌∙◌, arith, inl, inr, lit<}
+use Rattle.std.proofs.Common.{◌≡◌, ◌≢◌, ℕ, ◌*◌, ◌+◌, ◌/◌, ◌%◌, ◌^◌, ◌<◌, ◌≤◌, ◌==◌, Bool, true, false, List, length}
+use Rattle.std.proofs.Common.{get_or, slice_index, slice_set, replicate, bit_and, bit_or, sym, ap, ◌∙◌, arith, inl, inr}
+use Rattle.std.proofs.Common.{lit<}
 use Rattle.std.specs.Int.{bit_not, w64}
 use Rattle.std.proofs.lemmas.Bool.{cases_eq, cases_lt}
 use Rattle.std.proofs.lemmas.Nat.{mod_below, div-add-mod', div_below}
-use Rattle.std.proofs.lemmas.List.{get_or_past, get_or-set_same, get_or-set_other, get_or-replicate, get_or_read, length-replicate}
+use Rattle.std.proofs.lemmas.List.{get_or_past, get_or-set_same, get_or-set_other, get_or-replicate, get_or_read}
+use Rattle.std.proofs.lemmas.List.{length-replicate}
 use Rattle.rcu_node.specs.CpuSet.{is_in, size_of}
 use Rattle.rcu_node.specs.Words.{flags_in, has_bit, HasNoneFrom}
-use Rattle.rcu_node.proofs.Bits.{has_bit_shr, has_bit-zero, has_bit_set_same, has_bit_set_other, has_bit_clear_same, has_bit_clear_other}
+use Rattle.rcu_node.proofs.Bits.{has_bit_shr, has_bit-zero, has_bit_set_same, has_bit_set_other, has_bit_clear_same}
+use Rattle.rcu_node.proofs.Bits.{has_bit_clear_other}
 use Rattle.rcu_node.proofs.CpuSetLemmas.{length-listed, listed_set, listed_none, is_in-listed, size_of-none}
 
 -- a processor's flag in words

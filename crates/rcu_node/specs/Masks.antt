@@ -1,5 +1,6 @@
 -- The masks of a tree's nodes: which bits are set where a set of processors is awaited.
-use Rattle.std.specs.Prelude.{ℕ, ◌<◌, ◌≤◌, ◌≡◌, ◌==◌, ◌^◌, Bool, true, not, if◌then◌else◌, List, map, length, slice_index}
+use Rattle.std.specs.Prelude.{ℕ, ◌<◌, ◌≤◌, ◌≡◌, ◌==◌, ◌^◌, Bool, true, not, if◌then◌else◌, List, map, length}
+use Rattle.std.specs.Prelude.{slice_index}
 use Rattle.rcu_geometry.specs.Geometry.{Shape, nodes, parent, bit_in_parent, first_leaf, leaf_of, bit_of}
 use Rattle.rcu_node.specs.CpuSet.{is_in, listed}
 use Rattle.rcu_node.specs.Words.{has_bit}
@@ -48,8 +49,8 @@ pub record AreLinked (s : Shape) (masks : List ℕ) : Type 0 where
   pub owned : AreOwned s masks
   pub inner : (child : ℕ) → 0 < child → child < nodes s → IsLinked s masks child
 
--- the masks of a set: a leaf bit is set exactly where its processor is in the set, an inner bit exactly where that child's
--- mask is not empty, and no other bit is set
+-- the masks of a set: a leaf bit is set exactly where its processor is in the set, an inner bit exactly where that
+-- child's mask is not empty, and no other bit is set
 pub record AreMasks (s : Shape) (set : List Bool) (masks : List ℕ) : Type 0 where
   pub linked : AreLinked s masks
   pub leaf : (cpu : ℕ) → cpu < s.cpus → has_bit (slice_index masks (leaf_of s cpu)) (bit_of s cpu) ≡ is_in set cpu

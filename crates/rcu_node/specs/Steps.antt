@@ -1,12 +1,13 @@
 -- Masks between two steps of a walk or of a begin.
-use Rattle.std.specs.Prelude.{ℕ, ◌+◌, ◌-◌, ◌*◌, ◌<◌, ◌≤◌, ◌≡◌, ◌≢◌, ◌&&◌, Bool, true, false, nat_lt, nat_le, List, length, slice_index}
+use Rattle.std.specs.Prelude.{ℕ, ◌+◌, ◌-◌, ◌*◌, ◌<◌, ◌≤◌, ◌≡◌, ◌≢◌, ◌&&◌, Bool, true, false, nat_lt, nat_le, List}
+use Rattle.std.specs.Prelude.{length, slice_index}
 use Rattle.rcu_geometry.specs.Geometry.{Shape, nodes, parent, bit_in_parent, first_leaf}
 use Rattle.rcu_node.specs.CpuSet.{is_in}
 use Rattle.rcu_node.specs.Masks.{AreOwned, IsLinked, group_of}
 use Rattle.rcu_node.specs.Words.{has_bit}
 
 -- linked, but for one node, which lost a bit and whose bit above is still set
-pub record AreCleared (s : Shape) (masks : List ℕ) (node : ℕ) : Type 0 where
+pub record AreLinkedBut (s : Shape) (masks : List ℕ) (node : ℕ) : Type 0 where
   pub owned : AreOwned s masks
   pub here : node < nodes s
   pub inner : (child : ℕ) → 0 < child → child < nodes s → child ≢ node → IsLinked s masks child

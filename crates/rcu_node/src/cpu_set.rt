@@ -63,9 +63,7 @@ impl CpuSet {
         if cpus == 0 || MOST_CPUS < cpus {
             return Err(Fault::TooManyCpus);
         }
-        let Ok(words) = vec![in alloc; 0u64; cpus.div_ceil(WORD_BITS) as usize] else {
-            return Err(Fault::NoMemory);
-        };
+        let words = vec![in alloc; 0u64; cpus.div_ceil(WORD_BITS) as usize]?;
         Ok(CpuSet {
             cpus,
             words,

@@ -16,7 +16,7 @@ pub type Flat = Tagged<FlatSets>;
 impl Flat {
     /// Nobody is awaited, at tag 0.
     ///
-    /// Faults: 17 for no processor or more than 4,096; 16.
+    /// Faults: `TooManyCpus` (17) for no processor or more than 4,096; `NoMemory` (16).
     pub fn new(alloc: Global, cpus: u32) -> Result<Flat, Fault>
         ensures some { OnOk result (0 < cpus) }
         ensures few { OnOk result (cpus ≤ 4096) }

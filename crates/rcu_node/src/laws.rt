@@ -119,10 +119,16 @@ pub fn merging_hears_what_the_other_heard()
         ≡ awaited_after_reports number set (others ++ reports) }
 {}
 
-/// A set of processors has one list of masks at most, so each node has one mask.
+/// A set of processors has one list of masks at most.
 pub fn a_set_has_one_list_of_masks()
     ensures { (s : Shape) (set : List Bool) (masks others : List ℕ) → IsLegalShape s
         → AreMasks s set masks → AreMasks s set others → masks ≡ others }
+{}
+
+/// Each set of processors has a list of masks, so each node has just one mask.
+pub fn each_set_has_a_list_of_masks()
+    ensures { (s : Shape) (set : List Bool) → IsLegalShape s → length set ≡ s.cpus
+        → (masks : List ℕ) × AreMasks s set masks }
 {}
 
 /// The root's mask is empty exactly where nobody is awaited.

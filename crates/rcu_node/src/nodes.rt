@@ -43,7 +43,8 @@ pub struct Nodes<const LEAF: u32, const FAN: u32> {
 impl<const LEAF: u32, const FAN: u32> Nodes<LEAF, FAN> {
     /// Nobody is awaited.
     ///
-    /// Faults: 18 and 17 as [`Geometry::new`] has them; 16.
+    /// Faults: `BadFanout` (18) and `TooManyCpus` (17) as [`Geometry::new`] has them; `NoMemory`
+    /// (16).
     pub fn new(alloc: Global, cpus: u32) -> Result<Self, Fault>
         ensures accepted { OnOk result (refusal (shape LEAF FAN cpus) ≡ None) }
         ensures awaited { IfOk result (λ tree.
@@ -53,9 +54,7 @@ impl<const LEAF: u32, const FAN: u32> Nodes<LEAF, FAN> {
         ensures err { IfErr result (λ fault. IsTreeFault (shape LEAF FAN cpus) fault) }
     {
         let geometry = Geometry::<LEAF, FAN>::new(cpus)?;
-        let Ok(nodes) = new_nodes(alloc, &geometry) else {
-            return Err(Fault::NoMemory);
-        };
+        let nodes = new_nodes(alloc, &geometry)?;
         Ok(Nodes {
             geometry,
             nodes,

@@ -11,17 +11,15 @@ use crate::flat::Flat;
 use crate::tree::Tree;
 use rcu_seq::fault::Fault;
 use std::alloc::Global;
-use std::io::Print;
 use std::process::Abort;
 
-/// Compares the fault of a making whose growth was refused, and says so for who counts the growths.
-fn refused<R: Abort + Print>(rt: &R, fault: Fault) {
+/// Compares the fault of a making whose growth was refused.
+fn refused(rt: &impl Abort, fault: Fault) {
     assert_eq!(rt; fault, Fault::NoMemory);
-    let _ = println!(rt; "a growth was refused");
 }
 
 /// An empty set, made by a second call where the first is refused a growth.
-fn empty_set<R: Abort + Print>(rt: &R, alloc: Global, cpus: u32) -> CpuSet
+fn empty_set(rt: &impl Abort, alloc: Global, cpus: u32) -> CpuSet
     ensures { result ≡ replicate cpus false }
 {
     match CpuSet::new(alloc, cpus) {
@@ -34,7 +32,7 @@ fn empty_set<R: Abort + Print>(rt: &R, alloc: Global, cpus: u32) -> CpuSet
 }
 
 /// A flat set, made by a second call where the first is refused a growth.
-fn flat<R: Abort + Print>(rt: &R, alloc: Global, cpus: u32) -> Flat {
+fn flat(rt: &impl Abort, alloc: Global, cpus: u32) -> Flat {
     match Flat::new(alloc, cpus) {
         Ok(flat) => flat,
         Err(fault) => {
@@ -45,8 +43,8 @@ fn flat<R: Abort + Print>(rt: &R, alloc: Global, cpus: u32) -> Flat {
 }
 
 /// A tree, made by a second call where the first is refused a growth.
-fn tree<const LEAF: u32, const FAN: u32, R: Abort + Print>(
-    rt: &R,
+fn tree<const LEAF: u32, const FAN: u32>(
+    rt: &impl Abort,
     alloc: Global,
     cpus: u32,
 ) -> Tree<LEAF, FAN> {
@@ -159,7 +157,7 @@ fn second_grace_period<A: Awaited>(rt: &impl Abort, awaited: &mut A, set: &mut C
 }
 
 /// Two grace periods of five processors.
-fn two_grace_periods<A: Awaited, R: Abort + Print>(rt: &R, alloc: Global, mut awaited: A) {
+fn two_grace_periods<A: Awaited>(rt: &impl Abort, alloc: Global, mut awaited: A) {
     assert_eq!(rt; awaited.tag(), 0);
     assert!(rt; awaited.is_empty());
     let mut set = empty_set(rt, alloc, 5);
@@ -174,16 +172,16 @@ fn flat_awaits_two_grace_periods(rt: HostRuntime) {
 
 #[test]
 fn trees_await_two_grace_periods(rt: HostRuntime) {
-    two_grace_periods(&rt, rt.alloc(), tree::<2, 2, _>(&rt, rt.alloc(), 5));
-    two_grace_periods(&rt, rt.alloc(), tree::<2, 3, _>(&rt, rt.alloc(), 5));
-    two_grace_periods(&rt, rt.alloc(), tree::<4, 4, _>(&rt, rt.alloc(), 5));
-    two_grace_periods(&rt, rt.alloc(), tree::<16, 64, _>(&rt, rt.alloc(), 5));
-    two_grace_periods(&rt, rt.alloc(), tree::<64, 64, _>(&rt, rt.alloc(), 5));
+    two_grace_periods(&rt, rt.alloc(), tree::<2, 2>(&rt, rt.alloc(), 5));
+    two_grace_periods(&rt, rt.alloc(), tree::<2, 3>(&rt, rt.alloc(), 5));
+    two_grace_periods(&rt, rt.alloc(), tree::<4, 4>(&rt, rt.alloc(), 5));
+    two_grace_periods(&rt, rt.alloc(), tree::<16, 64>(&rt, rt.alloc(), 5));
+    two_grace_periods(&rt, rt.alloc(), tree::<64, 64>(&rt, rt.alloc(), 5));
 }
 
 #[test]
 fn tree_of_27_leaves(rt: HostRuntime) {
-    let mut tree = tree::<2, 3, _>(&rt, rt.alloc(), 54);
+    let mut tree = tree::<2, 3>(&rt, rt.alloc(), 54);
     let mut all = empty_set(&rt, rt.alloc(), 54);
     for cpu in 0..54 {
         assert!(rt; cpu < all.cpus());
@@ -258,24 +256,39 @@ fn union_of_three_words(rt: HostRuntime) {
     assert_eq!(rt; other.count(), 3);
 }
 
+/// No set of so many processors is made.
+fn no_set(rt: &impl Abort, alloc: Global, cpus: u32) {
+    assert!(rt; matches!(CpuSet::new(alloc, cpus), Err(Fault::TooManyCpus)));
+    assert!(rt; matches!(Flat::new(alloc, cpus), Err(Fault::TooManyCpus)));
+}
+
+/// No tree of so many processors is made.
+fn no_tree<const LEAF: u32, const FAN: u32>(
+    rt: &impl Abort,
+    alloc: Global,
+    cpus: u32,
+    wanted: Fault,
+) {
+    let made = Tree::<LEAF, FAN>::new(alloc, cpus);
+    assert!(rt; matches!(made, Err(fault) if fault == wanted));
+}
+
+/// Sets of so many processors are made.
+fn makes(rt: &impl Abort, alloc: Global, cpus: u32) {
+    assert!(rt; empty_set(rt, alloc, cpus).cpus() == cpus);
+    assert!(rt; flat(rt, alloc, cpus).cpus() == cpus);
+    assert!(rt; tree::<16, 64>(rt, alloc, cpus).cpus() == cpus);
+}
+
 #[test]
 fn sizes(rt: HostRuntime) {
     for cpus in [0, 4097] {
-        assert!(rt; matches!(CpuSet::new(rt.alloc(), cpus), Err(Fault::TooManyCpus)));
-        assert!(rt; matches!(Flat::new(rt.alloc(), cpus), Err(Fault::TooManyCpus)));
-        assert!(rt;
-            matches!(
-                Tree::<64, 64>::new(rt.alloc(), cpus),
-                Err(Fault::TooManyCpus)
-            )
-        );
-        assert!(rt; matches!(Tree::<1, 64>::new(rt.alloc(), cpus), Err(Fault::BadFanout)));
-        assert!(rt; matches!(Tree::<64, 65>::new(rt.alloc(), cpus), Err(Fault::BadFanout)));
+        no_set(&rt, rt.alloc(), cpus);
+        no_tree::<64, 64>(&rt, rt.alloc(), cpus, Fault::TooManyCpus);
+        no_tree::<1, 64>(&rt, rt.alloc(), cpus, Fault::BadFanout);
+        no_tree::<64, 65>(&rt, rt.alloc(), cpus, Fault::BadFanout);
     }
-    assert!(rt; matches!(Tree::<2, 2>::new(rt.alloc(), 17), Err(Fault::TooManyCpus)));
-    for cpus in [1, 4096] {
-        assert_eq!(rt; empty_set(&rt, rt.alloc(), cpus).cpus(), cpus);
-        assert_eq!(rt; flat(&rt, rt.alloc(), cpus).cpus(), cpus);
-        assert_eq!(rt; tree::<16, 64, _>(&rt, rt.alloc(), cpus).cpus(), cpus);
-    }
+    no_tree::<2, 2>(&rt, rt.alloc(), 17, Fault::TooManyCpus);
+    makes(&rt, rt.alloc(), 1);
+    makes(&rt, rt.alloc(), 4096);
 }

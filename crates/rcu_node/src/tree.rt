@@ -22,8 +22,8 @@ pub type Tree<const LEAF: u32, const FAN: u32> = Tagged<Nodes<LEAF, FAN>>;
 impl<const LEAF: u32, const FAN: u32> Tree<LEAF, FAN> {
     /// Nobody is awaited, at tag 0.
     ///
-    /// Faults: 18 where a fanout is outside 2..=64; 17 for no processor, more than 4,096, or more
-    /// than four levels hold; 16.
+    /// Faults: `BadFanout` (18) where a fanout is outside 2..=64; `TooManyCpus` (17) for no
+    /// processor, more than 4,096, or more than four levels hold; `NoMemory` (16).
     pub fn new(alloc: Global, cpus: u32) -> Result<Self, Fault>
         ensures accepted { OnOk result (refusal (shape LEAF FAN cpus) ≡ None) }
         ensures tag { IfOk result (λ tree. ⟦<Tree<LEAF, FAN> as Awaited>⟧.tag tree ≡ 0) }

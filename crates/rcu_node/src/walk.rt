@@ -5,7 +5,7 @@ ghost use Rattle.rcu_geometry.specs.Geometry.{IsLegalShape};
 ghost use Rattle.rcu_node.specs.CpuSet.{is_in};
 ghost use Rattle.rcu_node.specs.Masks.{AreGroups, AreLinked};
 ghost use Rattle.rcu_node.specs.Masks.{group_masks, members, now_masks, start_masks};
-ghost use Rattle.rcu_node.specs.Steps.{AreCleared};
+ghost use Rattle.rcu_node.specs.Steps.{AreLinkedBut};
 
 use crate::node::{Node, clear, group_mask, now_mask};
 use rcu_geometry::geometry::Geometry;
@@ -42,11 +42,11 @@ fn step<const LEAF: u32, const FAN: u32>(
     node: u32,
 ) -> Option<u32>
     requires legal { IsLegalShape geometry.now }
-    requires masks { AreCleared geometry.now (now_masks nodes.old.items) node }
+    requires masks { AreLinkedBut geometry.now (now_masks nodes.old.items) node }
     requires groups { AreGroups geometry.now (group_masks nodes.old.items) }
     ensures end { IfNone result (AreLinked geometry.now (now_masks nodes.new.items)) }
     ensures on { IfSome result (λ parent.
-        AreCleared geometry.now (now_masks nodes.new.items) parent) }
+        AreLinkedBut geometry.now (now_masks nodes.new.items) parent) }
     ensures up { IfSome result (λ parent. parent < node) }
     ensures members { members geometry.now (now_masks nodes.new.items)
         ≡ members geometry.now (now_masks nodes.old.items) }

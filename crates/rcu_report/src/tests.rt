@@ -9,17 +9,15 @@ use rcu_node::cpu_set::CpuSet;
 use rcu_node::tree::Tree;
 use rcu_seq::fault::Fault;
 use std::alloc::Global;
-use std::io::Print;
 use std::process::Abort;
 
-/// Compares the fault of a making whose growth was refused, and says so for who counts the growths.
-fn refused<R: Abort + Print>(rt: &R, fault: Fault) {
+/// Compares the fault of a making whose growth was refused.
+fn refused(rt: &impl Abort, fault: Fault) {
     assert_eq!(rt; fault, Fault::NoMemory);
-    let _ = println!(rt; "a growth was refused");
 }
 
 /// An empty batch, made by a second call where the first is refused a growth.
-fn batch<R: Abort + Print>(rt: &R, alloc: Global, cpus: u32, tag: u64) -> Batch {
+fn batch(rt: &impl Abort, alloc: Global, cpus: u32, tag: u64) -> Batch {
     match Batch::new(alloc, cpus, tag) {
         Ok(batch) => batch,
         Err(fault) => {
@@ -30,7 +28,7 @@ fn batch<R: Abort + Print>(rt: &R, alloc: Global, cpus: u32, tag: u64) -> Batch 
 }
 
 /// A set of all of five processors, made by a second call where the first is refused a growth.
-fn everyone<R: Abort + Print>(rt: &R, alloc: Global) -> CpuSet {
+fn everyone(rt: &impl Abort, alloc: Global) -> CpuSet {
     let mut set = match CpuSet::new(alloc, 5) {
         Ok(set) => set,
         Err(fault) => {
@@ -46,7 +44,7 @@ fn everyone<R: Abort + Print>(rt: &R, alloc: Global) -> CpuSet {
 }
 
 /// A tree of five processors, made by a second call where the first is refused a growth.
-fn tree<R: Abort + Print>(rt: &R, alloc: Global) -> Tree<2, 2> {
+fn tree(rt: &impl Abort, alloc: Global) -> Tree<2, 2> {
     match Tree::new(alloc, 5) {
         Ok(tree) => tree,
         Err(fault) => {

@@ -9,7 +9,6 @@ use crate::flat::Flat;
 use crate::tree::Tree;
 use rcu_geometry::geometry::Geometry;
 use std::alloc::Global;
-use std::io::Print;
 use std::process::Abort;
 
 /// The most nodes of a tree that is drawn here: 64 leaves and a root.
@@ -109,7 +108,7 @@ fn own_bit<const LEAF: u32, const FAN: u32>(geometry: &Geometry<LEAF, FAN>, node
 }
 
 /// A set of a drawn number of processors.
-fn drawn_set<R: Abort + Print>(rt: &R, alloc: Global, draw: &mut Draw, cpus: u32) -> CpuSet {
+fn drawn_set<R: Abort>(rt: &R, alloc: Global, draw: &mut Draw, cpus: u32) -> CpuSet {
     let mut set = empty_set(rt, alloc, cpus);
     for cpu in 0..cpus {
         assert!(rt; cpu < set.cpus());
@@ -120,54 +119,69 @@ fn drawn_set<R: Abort + Print>(rt: &R, alloc: Global, draw: &mut Draw, cpus: u32
     set
 }
 
-/// Compares all that is said of each processor with what the flat set says, and then the masks.
-fn compare<A: Awaited + Shown, R: Abort + Print>(rt: &R, alloc: Global, shown: &A, flat: &Flat) {
-    assert_eq!(rt; (shown.cpus(), shown.tag()), (flat.cpus(), flat.tag()));
-    assert_eq!(rt;
-        (shown.count(), shown.is_empty()),
-        (flat.count(), flat.is_empty())
-    );
+/// The first processor of which not both say the same, if there is one.
+fn wrong_cpu<A: Awaited>(shown: &A, flat: &Flat) -> Option<u32> {
+    for cpu in 0..flat.cpus() {
+        if cpu >= flat.cpus()
+            || cpu >= shown.cpus()
+            || shown.awaits(cpu) != flat.awaits(cpu)
+            || shown.starts(cpu) != flat.starts(cpu)
+        {
+            return Some(cpu);
+        }
+    }
+    None
+}
+
+/// Puts a processor in, where that is wanted.
+fn put(set: &mut CpuSet, cpu: u32, wanted: bool) {
+    if wanted && cpu < set.cpus() {
+        set.insert(cpu);
+    }
+}
+
+/// The processors that are awaited, and those that were at the start.
+fn sets_of<R: Abort>(rt: &R, alloc: Global, flat: &Flat) -> (CpuSet, CpuSet) {
     let mut awaited = empty_set(rt, alloc, flat.cpus());
     let mut start = empty_set(rt, alloc, flat.cpus());
     for cpu in 0..flat.cpus() {
-        assert!(rt; cpu < flat.cpus() && cpu < shown.cpus());
-        assert!(rt; cpu < awaited.cpus() && cpu < start.cpus());
-        if flat.awaits(cpu) {
-            awaited.insert(cpu);
+        if cpu < flat.cpus() {
+            put(&mut awaited, cpu, flat.awaits(cpu));
+            put(&mut start, cpu, flat.starts(cpu));
         }
-        if flat.starts(cpu) {
-            start.insert(cpu);
-        }
-        assert_eq!(rt; shown.awaits(cpu), flat.awaits(cpu), "processor {cpu}");
-        assert_eq!(rt; shown.starts(cpu), flat.starts(cpu), "processor {cpu}");
     }
+    (awaited, start)
+}
+
+/// Compares all that is said of each processor with what the flat set says, and then the masks.
+fn compare<A: Awaited + Shown, R: Abort>(rt: &R, alloc: Global, shown: &A, flat: &Flat) {
+    assert_eq!(rt;
+        (shown.cpus(), shown.tag(), shown.count(), shown.is_empty()),
+        (flat.cpus(), flat.tag(), flat.count(), flat.is_empty())
+    );
+    assert_eq!(rt; wrong_cpu(shown, flat), None);
+    let (awaited, start) = sets_of(rt, alloc, flat);
     assert_eq!(rt; shown.wrong_node(&awaited, &start), None);
 }
 
-/// Reports a processor to both, and compares the answers and what is left.
-fn report_to_both<A: Awaited + Shown, R: Abort + Print>(
-    rt: &R,
-    alloc: Global,
-    shown: &mut A,
-    flat: &mut Flat,
-    cpu: u32,
-    number: u64,
-) {
-    assert!(rt; cpu < flat.cpus() && cpu < shown.cpus());
-    let wanted = flat.report(cpu, number);
-    let answer = shown.report(cpu, number);
-    assert_eq!(rt; answer, wanted, "processor {cpu}, number {number}");
-    compare(rt, alloc, shown, flat);
+/// Begins a grace period in both, where the set and the number are fit for it.
+fn begin_both<A: Awaited>(shown: &mut A, flat: &mut Flat, number: u64, set: &CpuSet) -> bool {
+    if set.cpus() != shown.cpus() || set.cpus() != flat.cpus() || number % 4 != 1 {
+        return false;
+    }
+    shown.begin(number, set);
+    flat.begin(number, set);
+    true
+}
+
+/// Reports a processor to both. Whether there is one, and both answer the same.
+fn answer_alike<A: Awaited>(shown: &mut A, flat: &mut Flat, cpu: u32, number: u64) -> bool {
+    cpu < flat.cpus() && cpu < shown.cpus() && shown.report(cpu, number) == flat.report(cpu, number)
 }
 
 /// Grace periods of drawn sets, with drawn reports, repeats and stale ones, call by call beside a
 /// flat set; the last grace period is reported to its end.
-fn beside_flat<A: Awaited + Shown, R: Abort + Print>(
-    rt: &R,
-    alloc: Global,
-    mut shown: A,
-    reports: u32,
-) {
+fn beside_flat<A: Awaited + Shown, R: Abort>(rt: &R, alloc: Global, mut shown: A, reports: u32) {
     let cpus = shown.cpus();
     let mut flat = flat(rt, alloc, cpus);
     let mut draw = Draw(88_172_645_463_325_252);
@@ -175,22 +189,20 @@ fn beside_flat<A: Awaited + Shown, R: Abort + Print>(
     for round in 0..3u32 {
         let number = 4 * u64::from(round) + 1;
         let set = drawn_set(rt, alloc, &mut draw, cpus);
-        assert!(rt; set.cpus() == shown.cpus() && set.cpus() == flat.cpus() && number % 4 == 1);
-        shown.begin(number, &set);
-        flat.begin(number, &set);
+        assert!(rt; begin_both(&mut shown, &mut flat, number, &set));
         compare(rt, alloc, &shown, &flat);
         for _ in 0..reports {
             assert!(rt; cpus > 0);
             let cpu = draw.below(cpus);
-            let later = 4 * u64::from(draw.below(4) / 3);
-            report_to_both(rt, alloc, &mut shown, &mut flat, cpu, number + later);
+            let told = number + 4 * u64::from(draw.below(4) / 3);
+            let alike = answer_alike(&mut shown, &mut flat, cpu, told);
+            assert!(rt; alike, "processor {cpu}, number {told}");
+            compare(rt, alloc, &shown, &flat);
         }
     }
     for cpu in 0..cpus {
-        assert!(rt; cpu < flat.cpus() && cpu < shown.cpus());
-        assert_eq!(rt;
-            shown.report(cpu, 9),
-            flat.report(cpu, 9),
+        assert!(rt;
+            answer_alike(&mut shown, &mut flat, cpu, 9),
             "processor {cpu}"
         );
     }
@@ -200,7 +212,7 @@ fn beside_flat<A: Awaited + Shown, R: Abort + Print>(
 
 #[test]
 fn masks_level_by_level(rt: HostRuntime) {
-    let mut tree = tree::<2, 2, _>(&rt, rt.alloc(), 5);
+    let mut tree = tree::<2, 2>(&rt, rt.alloc(), 5);
     let mut all = empty_set(&rt, rt.alloc(), 5);
     insert(
         &rt,
@@ -227,32 +239,29 @@ fn masks<R: Abort>(rt: &R, tree: &Tree<2, 2>, wanted: [u64; 6]) {
     assert_eq!(rt; tree.nodes(), 6);
     for node in 0..6u32 {
         assert!(rt; node < tree.nodes());
-        assert_eq!(rt; tree.qsmask(node), wanted[node as usize], "node {node}");
-        assert!(rt; node < tree.nodes());
-        assert_eq!(rt; tree.qsmaskinit(node), start[node as usize], "node {node}");
-        assert!(rt; node < tree.nodes());
-        assert_eq!(rt; tree.grpmask(node), group[node as usize], "node {node}");
+        let found = (tree.qsmask(node), tree.qsmaskinit(node), tree.grpmask(node));
+        let place = node as usize;
+        assert_eq!(rt;
+            found,
+            (wanted[place], start[place], group[place]),
+            "node {node}"
+        );
     }
 }
 
 #[test]
 fn flat_and_trees_beside_flat(rt: HostRuntime) {
     beside_flat(&rt, rt.alloc(), flat(&rt, rt.alloc(), 5), 20);
-    beside_flat(&rt, rt.alloc(), tree::<64, 64, _>(&rt, rt.alloc(), 1), 5);
-    beside_flat(&rt, rt.alloc(), tree::<16, 64, _>(&rt, rt.alloc(), 16), 40);
-    beside_flat(&rt, rt.alloc(), tree::<2, 3, _>(&rt, rt.alloc(), 5), 20);
-    beside_flat(&rt, rt.alloc(), tree::<3, 2, _>(&rt, rt.alloc(), 7), 30);
-    beside_flat(&rt, rt.alloc(), tree::<2, 2, _>(&rt, rt.alloc(), 5), 20);
-    beside_flat(&rt, rt.alloc(), tree::<2, 2, _>(&rt, rt.alloc(), 16), 40);
-    beside_flat(&rt, rt.alloc(), tree::<2, 3, _>(&rt, rt.alloc(), 54), 60);
+    beside_flat(&rt, rt.alloc(), tree::<64, 64>(&rt, rt.alloc(), 1), 5);
+    beside_flat(&rt, rt.alloc(), tree::<16, 64>(&rt, rt.alloc(), 16), 40);
+    beside_flat(&rt, rt.alloc(), tree::<2, 3>(&rt, rt.alloc(), 5), 20);
+    beside_flat(&rt, rt.alloc(), tree::<3, 2>(&rt, rt.alloc(), 7), 30);
+    beside_flat(&rt, rt.alloc(), tree::<2, 2>(&rt, rt.alloc(), 5), 20);
+    beside_flat(&rt, rt.alloc(), tree::<2, 2>(&rt, rt.alloc(), 16), 40);
+    beside_flat(&rt, rt.alloc(), tree::<2, 3>(&rt, rt.alloc(), 54), 60);
 }
 
 #[test]
 fn full_tree_beside_flat(rt: HostRuntime) {
-    beside_flat(
-        &rt,
-        rt.alloc(),
-        tree::<64, 64, _>(&rt, rt.alloc(), 4096),
-        60,
-    );
+    beside_flat(&rt, rt.alloc(), tree::<64, 64>(&rt, rt.alloc(), 4096), 60);
 }

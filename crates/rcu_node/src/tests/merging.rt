@@ -6,11 +6,10 @@ use crate::cpu_set::CpuSet;
 use crate::merging::merge;
 use rcu_seq::fault::Fault;
 use std::alloc::Global;
-use std::io::Print;
 use std::process::Abort;
 
 /// The set of five processors.
-fn everyone<R: Abort + Print>(rt: &R, alloc: Global) -> CpuSet {
+fn everyone(rt: &impl Abort, alloc: Global) -> CpuSet {
     let mut set = empty_set(rt, alloc, 5);
     insert(
         rt,
@@ -20,9 +19,19 @@ fn everyone<R: Abort + Print>(rt: &R, alloc: Global) -> CpuSet {
     set
 }
 
+/// Merges the second into the first.
+fn merges<A: Awaited, B: Awaited>(
+    rt: &impl Abort,
+    first: &mut A,
+    second: &B,
+    wanted: Result<(), Fault>,
+) {
+    assert_eq!(rt; merge(first, second), wanted);
+}
+
 /// Each hears some of five processors; merged, they await whom neither heard.
-fn merge_two_replicas<A: Awaited, B: Awaited, R: Abort + Print>(
-    rt: &R,
+fn merge_two_replicas<A: Awaited, B: Awaited>(
+    rt: &impl Abort,
     alloc: Global,
     mut first: A,
     mut second: B,
@@ -40,10 +49,10 @@ fn merge_two_replicas<A: Awaited, B: Awaited, R: Abort + Print>(
         &mut second,
         &[(4, 1, Answer::Taken), (2, 1, Answer::Taken)],
     );
-    assert_eq!(rt; merge(&mut first, &second), Ok(()));
+    merges(rt, &mut first, &second, Ok(()));
     assert_eq!(rt; (first.count(), first.tag()), (2, 1));
     assert_eq!(rt; second.count(), 3);
-    assert_eq!(rt; merge(&mut second, &first), Ok(()));
+    merges(rt, &mut second, &first, Ok(()));
     assert_eq!(rt; (second.count(), second.tag()), (2, 1));
     let left = [
         (0, true, false),
@@ -54,38 +63,35 @@ fn merge_two_replicas<A: Awaited, B: Awaited, R: Abort + Print>(
     ];
     awaits(rt, &first, &left);
     awaits(rt, &second, &left);
-    assert_eq!(rt; merge(&mut first, &second), Ok(()));
+    merges(rt, &mut first, &second, Ok(()));
     assert_eq!(rt; first.count(), 2);
 }
 
 /// Nothing changes where the tag, the start set or the number of processors differ.
-fn merge_unlike<A: Awaited, B: Awaited, R: Abort + Print>(
-    rt: &R,
+fn merge_unlike<A: Awaited, B: Awaited>(
+    rt: &impl Abort,
     alloc: Global,
     mut first: A,
     mut second: B,
 ) {
-    assert_eq!(rt; merge(&mut first, &second), Ok(()));
-    assert_eq!(rt;
-        merge(&mut first, &flat(rt, alloc, 4)),
-        Err(Fault::NotAlike)
-    );
+    merges(rt, &mut first, &second, Ok(()));
+    merges(rt, &mut first, &flat(rt, alloc, 4), Err(Fault::NotAlike));
 
     let mut set = empty_set(rt, alloc, 3);
     insert(rt, &mut set, &[(0, true), (1, true)]);
     begin(rt, &mut first, 1, &set);
-    assert_eq!(rt; merge(&mut first, &second), Err(Fault::NotAlike));
+    merges(rt, &mut first, &second, Err(Fault::NotAlike));
 
     begin(rt, &mut second, 5, &set);
     report(rt, &mut second, &[(0, 5, Answer::Taken)]);
-    assert_eq!(rt; merge(&mut first, &second), Err(Fault::NotAlike));
+    merges(rt, &mut first, &second, Err(Fault::NotAlike));
 
     set.clear();
     insert(rt, &mut set, &[(0, true), (2, true)]);
     begin(rt, &mut second, 1, &set);
     report(rt, &mut second, &[(0, 1, Answer::Taken)]);
-    assert_eq!(rt; merge(&mut first, &second), Err(Fault::NotAlike));
-    assert_eq!(rt; merge(&mut second, &first), Err(Fault::NotAlike));
+    merges(rt, &mut first, &second, Err(Fault::NotAlike));
+    merges(rt, &mut second, &first, Err(Fault::NotAlike));
     awaits(
         rt,
         &first,
@@ -110,8 +116,8 @@ fn hear<A: Awaited>(rt: &impl Abort, awaited: &mut A, left: u32) {
 }
 
 /// Of every two sets of five processors left to await, those in both are left.
-fn merge_every_two<A: Awaited, B: Awaited, R: Abort + Print>(
-    rt: &R,
+fn merge_every_two<A: Awaited, B: Awaited>(
+    rt: &impl Abort,
     alloc: Global,
     mut first: A,
     mut second: B,
@@ -140,28 +146,23 @@ fn merge_every_two<A: Awaited, B: Awaited, R: Abort + Print>(
 fn merging_two_replicas(rt: HostRuntime) {
     let alloc = rt.alloc();
     merge_two_replicas(&rt, alloc, flat(&rt, alloc, 5), flat(&rt, alloc, 5));
+    merge_two_replicas(&rt, alloc, flat(&rt, alloc, 5), tree::<2, 3>(&rt, alloc, 5));
     merge_two_replicas(
         &rt,
         alloc,
-        flat(&rt, alloc, 5),
-        tree::<2, 3, _>(&rt, alloc, 5),
+        tree::<2, 2>(&rt, alloc, 5),
+        tree::<4, 4>(&rt, alloc, 5),
     );
     merge_two_replicas(
         &rt,
         alloc,
-        tree::<2, 2, _>(&rt, alloc, 5),
-        tree::<4, 4, _>(&rt, alloc, 5),
+        tree::<64, 64>(&rt, alloc, 5),
+        tree::<16, 64>(&rt, alloc, 5),
     );
     merge_two_replicas(
         &rt,
         alloc,
-        tree::<64, 64, _>(&rt, alloc, 5),
-        tree::<16, 64, _>(&rt, alloc, 5),
-    );
-    merge_two_replicas(
-        &rt,
-        alloc,
-        tree::<16, 64, _>(&rt, alloc, 5),
+        tree::<16, 64>(&rt, alloc, 5),
         flat(&rt, alloc, 5),
     );
 }
@@ -169,33 +170,23 @@ fn merging_two_replicas(rt: HostRuntime) {
 #[test]
 fn merge_of_unlike_sets(rt: HostRuntime) {
     let alloc = rt.alloc();
+    merge_unlike(&rt, alloc, flat(&rt, alloc, 3), tree::<2, 2>(&rt, alloc, 3));
     merge_unlike(
         &rt,
         alloc,
-        flat(&rt, alloc, 3),
-        tree::<2, 2, _>(&rt, alloc, 3),
-    );
-    merge_unlike(
-        &rt,
-        alloc,
-        tree::<2, 3, _>(&rt, alloc, 3),
-        tree::<64, 64, _>(&rt, alloc, 3),
+        tree::<2, 3>(&rt, alloc, 3),
+        tree::<64, 64>(&rt, alloc, 3),
     );
 }
 
 #[test]
 fn merging_leaves_those_in_both(rt: HostRuntime) {
     let alloc = rt.alloc();
+    merge_every_two(&rt, alloc, flat(&rt, alloc, 5), tree::<2, 2>(&rt, alloc, 5));
     merge_every_two(
         &rt,
         alloc,
-        flat(&rt, alloc, 5),
-        tree::<2, 2, _>(&rt, alloc, 5),
-    );
-    merge_every_two(
-        &rt,
-        alloc,
-        tree::<2, 3, _>(&rt, alloc, 5),
-        tree::<4, 4, _>(&rt, alloc, 5),
+        tree::<2, 3>(&rt, alloc, 5),
+        tree::<4, 4>(&rt, alloc, 5),
     );
 }

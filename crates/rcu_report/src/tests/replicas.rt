@@ -10,12 +10,11 @@ use rcu_node::flat::Flat;
 use rcu_node::tree::Tree;
 use rcu_seq::fault::Fault;
 use std::alloc::Global;
-use std::io::Print;
 use std::process::Abort;
 
 /// A tree, made by a second call where the first is refused a growth.
-fn tree<R: Abort + Print, const LEAF: u32, const FAN: u32>(
-    rt: &R,
+fn tree<const LEAF: u32, const FAN: u32>(
+    rt: &impl Abort,
     alloc: Global,
     cpus: u32,
 ) -> Tree<LEAF, FAN>
@@ -33,7 +32,7 @@ fn tree<R: Abort + Print, const LEAF: u32, const FAN: u32>(
 }
 
 /// A flat set, made by a second call where the first is refused a growth.
-fn flat<R: Abort + Print>(rt: &R, alloc: Global, cpus: u32) -> Flat
+fn flat(rt: &impl Abort, alloc: Global, cpus: u32) -> Flat
     ensures tag { ⟦<Flat as Awaited>⟧.tag result ≡ 0 }
     ensures start_set { ⟦<Flat as Awaited>⟧.start_set result ≡ replicate cpus false }
     ensures awaited { ⟦<Flat as Awaited>⟧.awaited result ≡ replicate cpus false }
@@ -56,7 +55,7 @@ fn replica<A: Awaited>(rt: &impl Abort, inner: A) -> Replica<A>
 }
 
 /// The set of these processors, made by a second call where the first is refused a growth.
-fn set<R: Abort + Print>(rt: &R, alloc: Global, cpus: u32, members: &[u32]) -> CpuSet {
+fn set(rt: &impl Abort, alloc: Global, cpus: u32, members: &[u32]) -> CpuSet {
     let mut set = match CpuSet::new(alloc, cpus) {
         Ok(set) => set,
         Err(fault) => {
@@ -123,18 +122,18 @@ fn merge_two<A: Awaited, B: Awaited>(
 #[test]
 fn merging_two_replicas(rt: HostRuntime) {
     let all = set(&rt, rt.alloc(), 5, &[0, 1, 2, 3, 4]);
-    let a = replica(&rt, tree::<_, 2, 2>(&rt, rt.alloc(), 5));
-    let b = replica(&rt, tree::<_, 4, 4>(&rt, rt.alloc(), 5));
+    let a = replica(&rt, tree::<2, 2>(&rt, rt.alloc(), 5));
+    let b = replica(&rt, tree::<4, 4>(&rt, rt.alloc(), 5));
     merge_two(&rt, a, b, &all);
     let a = replica(&rt, flat(&rt, rt.alloc(), 5));
-    let b = replica(&rt, tree::<_, 64, 64>(&rt, rt.alloc(), 5));
+    let b = replica(&rt, tree::<64, 64>(&rt, rt.alloc(), 5));
     merge_two(&rt, a, b, &all);
 }
 
 #[test]
 fn merge_of_unlike_sets(rt: HostRuntime) {
-    let mut a = replica(&rt, tree::<_, 2, 2>(&rt, rt.alloc(), 5));
-    let mut b = replica(&rt, tree::<_, 4, 4>(&rt, rt.alloc(), 5));
+    let mut a = replica(&rt, tree::<2, 2>(&rt, rt.alloc(), 5));
+    let mut b = replica(&rt, tree::<4, 4>(&rt, rt.alloc(), 5));
     assert_eq!(rt; a.merge_from(&b), Ok(()));
     begin(&rt, &mut a, &set(&rt, rt.alloc(), 5, &[0, 1]), Ok(1));
     assert_eq!(rt; a.merge_from(&b), Err(Fault::NotAlike));
@@ -170,8 +169,8 @@ fn depart_in_both<A: Awaited, B: Awaited>(
 
 #[test]
 fn replicas_with_departures(rt: HostRuntime) {
-    let mut a = replica(&rt, tree::<_, 2, 3>(&rt, rt.alloc(), 3));
-    let mut b = replica(&rt, tree::<_, 64, 64>(&rt, rt.alloc(), 3));
+    let mut a = replica(&rt, tree::<2, 3>(&rt, rt.alloc(), 3));
+    let mut b = replica(&rt, tree::<64, 64>(&rt, rt.alloc(), 3));
     let all = set(&rt, rt.alloc(), 3, &[0, 1, 2]);
     depart_in_both(&rt, &mut a, &mut b, &all);
     assert_eq!(rt; a.report(0, 1), Ok(Answer::Last));
@@ -219,4 +218,30 @@ fn faults_up_to_the_last_number(rt: HostRuntime) {
     begin(&rt, &mut one, &all, Err(Fault::Exhausted));
     let bad = Replica::new(flat(&rt, rt.alloc(), 2), 6);
     assert!(rt; matches!(bad, Err(Fault::BadLast)));
+}
+
+/// Replicas open with the least and the greatest last number, and with none beyond.
+#[test]
+fn last_numbers(rt: HostRuntime) {
+    let all = set(&rt, rt.alloc(), 2, &[0, 1]);
+    for last in [4, 1 << 62] {
+        let opened = Replica::new(flat(&rt, rt.alloc(), 2), last);
+        let mut one = opened.expect(&rt, "it is a last number");
+        begin(&rt, &mut one, &all, Ok(1));
+    }
+    for last in [0, 6, (1 << 62) + 4] {
+        let refused = Replica::new(flat(&rt, rt.alloc(), 2), last);
+        assert!(rt; matches!(refused, Err(Fault::BadLast)), "{last}");
+    }
+}
+
+#[test]
+fn sizes_of_replicas(rt: HostRuntime) {
+    for cpus in [1, 4096] {
+        let mut one = replica(&rt, flat(&rt, rt.alloc(), cpus));
+        let all = set(&rt, rt.alloc(), cpus, &[cpus - 1]);
+        begin(&rt, &mut one, &all, Ok(1));
+        assert_eq!(rt; one.report(cpus, 1), Err(Fault::BadCpu));
+        assert_eq!(rt; one.report(cpus - 1, 1), Ok(Answer::Last));
+    }
 }

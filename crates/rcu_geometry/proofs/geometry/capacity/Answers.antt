@@ -10,8 +10,12 @@ pow-requires c = omega (arith, power_within c.args.fan c.args.height c.requires.
 pub overflow_mul-result : goal.overflow_mul-result
 overflow_mul-result c =
     let product = ap (λ power. c.args.leaf * power) c.pow.ensures in
-    omega
-    (arith, product, capacity_within c.args.leaf c.args.fan c.args.height c.requires.leaf c.requires.fan c.requires.height)
+    omega (
+      arith,
+      product,
+      capacity_within c.args.leaf c.args.fan c.args.height c.requires.leaf c.requires.fan
+          c.requires.height,
+    )
 
 pub returns-clause-some : goal.returns-clause-some
 returns-clause-some c = λ leaf fan.

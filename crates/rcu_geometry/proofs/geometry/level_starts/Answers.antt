@@ -37,6 +37,7 @@ loop-height-preserved c =
     let range = levels_range s in
     let counted =
     level_nodes_by s i (c.loop-height.height - 1) c.nodes_at-next.result (omega arith) c.nodes_at-next.ensures in
-    starts_more s c.loop-height.starts.items c.push-in-loop-height.new.self.items c.loop-height.next c.nodes_at-next.result i
+    starts_more s c.loop-height.starts.items c.push-in-loop-height.new.self.items c.loop-height.next
+    c.nodes_at-next.result i
     (c.args.levels - (c.loop-height.height - 1))
     c.requires.legal c.loop-height.invariant counted c.push-in-loop-height.ensures.items (omega arith)

@@ -5,9 +5,9 @@ use Rattle.rcu_node.proofs.cpu_set.CpuSet.new.Goals as goal
 
 pub invariant_of-result : goal.invariant_of-result
 invariant_of-result c =
-    let made : c.in-Ok.words.items ≡ replicate c.div_ceil.result 0 = search rules in
+    let made : c.in_ok-words.words.items ≡ replicate c.div_ceil.result 0 = search rules in
     let bounds = div_ceil_times c.args.cpus 64 (omega arith) in
-    let empty = zeros c.args.cpus c.div_ceil.result c.in-Ok.words.items made (omega (arith, bounds)) in
+    let empty = zeros c.args.cpus c.div_ceil.result c.in_ok-words.words.items made (omega (arith, bounds)) in
     record {
       some = grind (arith, c.if-cpus-eq0.false);
       few = c.if-cpus-gt-MOST_CPUS.false;
@@ -19,7 +19,7 @@ invariant_of-result c =
 
 pub returns-clause-ok : goal.returns-clause-ok
 returns-clause-ok c =
-    let made : c.in-Ok.words.items ≡ replicate c.div_ceil.result 0 = search rules in
+    let made : c.in_ok-words.words.items ≡ replicate c.div_ceil.result 0 = search rules in
     let bounds = div_ceil_times c.args.cpus 64 (omega arith) in
-    let empty = zeros c.args.cpus c.div_ceil.result c.in-Ok.words.items made (omega (arith, bounds)) in
+    let empty = zeros c.args.cpus c.div_ceil.result c.in_ok-words.words.items made (omega (arith, bounds)) in
     empty.flags

@@ -17,5 +17,6 @@ returns g c =
     let tree = c.args.self.now.sets in
     let s = tree.geometry in
     let flags = shape_of_flags s g.row.LEAF g.row.FAN (now_masks tree.nodes.items) tree.shaped in
-    is_mask s (shape g.row.LEAF g.row.FAN (length (members s (now_masks tree.nodes.items)))) (now_masks tree.nodes.items) c.args.node c.qsmask.result
+    is_mask s (shape g.row.LEAF g.row.FAN (length (members s (now_masks tree.nodes.items))))
+    (now_masks tree.nodes.items) c.args.node c.qsmask.result
     flags tree.awaited c.qsmask.ensures

@@ -17,5 +17,6 @@ returns g c =
     let tree = c.args.self.now.sets in
     let s = tree.geometry in
     let flags = shape_of_flags s g.row.LEAF g.row.FAN (now_masks tree.nodes.items) tree.shaped in
-    is_mask s (shape g.row.LEAF g.row.FAN (length (members s (now_masks tree.nodes.items)))) (start_masks tree.nodes.items) c.args.node c.qsmaskinit.result
+    is_mask s (shape g.row.LEAF g.row.FAN (length (members s (now_masks tree.nodes.items))))
+    (start_masks tree.nodes.items) c.args.node c.qsmaskinit.result
     flags tree.started c.qsmaskinit.ensures
