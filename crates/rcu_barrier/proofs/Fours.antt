@@ -1,13 +1,18 @@
 -- Numbers stay multiples of 4, and an advance leaves at most one of them below the snapshot.
-use Rattle.std.proofs.Common.{◌≡◌, ℕ, zero, suc, ◌+◌, ◌-◌, ◌%◌, ◌<◌, ◌≤◌, Bool, true, false, nat_le, nat_lt, ◌||◌, inl, inr, List, [], ◌∷◌, ◌++◌, map, set, get_or, refl, ap, sym, subst, ◌∙◌, arith}
+use Rattle.std.proofs.Common.{◌≡◌, ℕ, zero, suc, ◌+◌, ◌-◌, ◌%◌, ◌<◌, ◌≤◌, Bool, true, false, nat_le, nat_lt, ◌||◌, inl}
+use Rattle.std.proofs.Common.{inr, List, [], ◌∷◌, ◌++◌, map, set, get_or, refl, ap, sym, subst, ◌∙◌, arith}
 use Rattle.std.specs.Prelude.{if◌then◌else◌, All, filter, replicate}
 use Rattle.std.proofs.lemmas.Bool.{cases_Bool, cases_eq}
-use Rattle.std.proofs.lemmas.List.Elements.{All-nil, All-head, All-tail, All-append, All-filter, All-replicate, All-set, filter_passes}
+use Rattle.std.proofs.lemmas.List.Elements.{All-nil, All-head, All-tail, All-append, All-filter, All-replicate, All-set}
+use Rattle.std.proofs.lemmas.List.Elements.{filter_passes}
 use borrow.Author.Tests.{ltb-true}
 use Rattle.rcu_seq.specs.Numbers.{Number, snapshot}
 use Rattle.rcu_cblist.specs.declared.queued.Queued.{Queued}
-use Rattle.rcu_cblist.specs.SegList.{Item, Of, Marker, Unmarked, Until, Done, IsAtMost, after_accelerate, after_advance, after_migrate, after_take, as_it_leaves, has_other, has_two, mark_given, numbers, remarked}
-use Rattle.rcu_cblist.proofs.SegListLemmas.{no_two, numbers_advanced, numbers_append, numbers_entrained, numbers_given, numbers_moved, numbers_untaken, other_above, other_same}
+use Rattle.rcu_cblist.specs.SegList.{Item, Of, Marker, Unmarked, Until, Done, IsAtMost, after_accelerate, after_advance}
+use Rattle.rcu_cblist.specs.SegList.{after_migrate, after_take, as_it_leaves, has_other, has_two, mark_given, numbers}
+use Rattle.rcu_cblist.specs.SegList.{remarked}
+use Rattle.rcu_cblist.proofs.SegListLemmas.{no_two, numbers_advanced, numbers_append, numbers_entrained, numbers_given}
+use Rattle.rcu_cblist.proofs.SegListLemmas.{numbers_moved, numbers_untaken, other_above, other_same}
 use Rattle.rcu_barrier.specs.Tending.{AreFours, MayWait, has_unmarked, is_unmarked, mark_after_tend, after_tend}
 use Rattle.rcu_barrier.specs.Lists.{AllFours}
 

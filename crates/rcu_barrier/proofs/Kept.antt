@@ -1,12 +1,14 @@
 -- What is kept where one list changes, and where one moves to the first.
-use Rattle.std.proofs.Common.{◌≡◌, ◌≢◌, get_or-set_other, ℕ, ◌+◌, ◌<◌, ◌≤◌, Bool, true, false, not, ◌&&◌, ◌∙◌, List, [], length, set, get_or, refl, ap, sym, subst, arith}
+use Rattle.std.proofs.Common.{◌≡◌, ◌≢◌, get_or-set_other, ℕ, ◌+◌, ◌<◌, ◌≤◌, Bool, true, false, not, ◌&&◌, ◌∙◌, List, []}
+use Rattle.std.proofs.Common.{length, set, get_or, refl, ap, sym, subst, arith}
 use Rattle.std.specs.Prelude.{◌%◌, ◌∷◌, if◌then◌else◌, replicate}
 use Rattle.std.proofs.lemmas.List.{length-replicate, length-set, get_or_default}
 use Rattle.rcu_cblist.specs.SegList.{Item, after_migrate, as_it_leaves, is_empty, markers}
 use Rattle.rcu_cblist.proofs.SegListLemmas.{markers_entrained, markers_moved}
 use Rattle.std.proofs.lemmas.List.Elements.{All-nil}
 use Rattle.rcu_barrier.specs.Tending.{AreFours}
-use Rattle.rcu_barrier.specs.Lists.{AllFours, AllLists, IsSound, list_of, lists_after_move, markers_in, most_queued, unvisited}
+use Rattle.rcu_barrier.specs.Lists.{AllFours, AllLists, IsSound, list_of, lists_after_move, markers_in, most_queued}
+use Rattle.rcu_barrier.specs.Lists.{unvisited}
 use Rattle.rcu_barrier.proofs.Fours.{fours_get, fours_none, fours_moved, fours_set}
 use Rattle.rcu_barrier.proofs.Markers.{markers_none, markers_set, unvisited_all}
 

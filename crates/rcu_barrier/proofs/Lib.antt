@@ -1,3 +1,4 @@
 pub mod Fours
 pub mod Kept
+pub mod Rooms
 pub mod Markers

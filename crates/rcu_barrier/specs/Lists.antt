@@ -1,10 +1,12 @@
 -- All processors' lists, and the barrier over them: what each call leaves, and what it answers.
-use Rattle.std.specs.Prelude.{ℕ, ◌≡◌, ◌≤◌, ◌+◌, ◌==◌, ◌&&◌, Bool, true, false, not, if◌then◌else◌, List, [], ◌∷◌, ◌++◌, All, count_by, length, replicate, slice_index_or, slice_set, sum_by}
+use Rattle.std.specs.Prelude.{ℕ, ◌≡◌, ◌≤◌, ◌+◌, ◌==◌, ◌&&◌, Bool, true, false, not, if◌then◌else◌, List, [], ◌∷◌, ◌++◌}
+use Rattle.std.specs.Prelude.{All, count_by, length, map, replicate, slice_index_or, slice_set, sum_by}
 use Rattle.rcu_seq.specs.Numbers.{Number}
 use Rattle.rcu_seq.specs.declared.fault.Fault.{Fault}
 use Rattle.rcu_seq.specs.declared.fault.Fault.TheVariants as fault
 use Rattle.rcu_cblist.specs.declared.queued.Queued.{Queued}
-use Rattle.rcu_cblist.specs.SegList.{Item, Of, Unmarked, after_entrain, after_migrate, after_take, as_it_leaves, is_empty, markers}
+use Rattle.rcu_cblist.specs.SegList.{Item, Segmented, Of, Unmarked, after_entrain, after_migrate, after_take}
+use Rattle.rcu_cblist.specs.SegList.{as_it_leaves, is_empty, markers}
 use Rattle.rcu_barrier.specs.Tending.{AreFours, after_tend}
 use Rattle.rcu_barrier.specs.declared.visit.Visit.{Visit}
 use Rattle.rcu_barrier.specs.declared.visit.Visit.TheVariants as visit
@@ -18,6 +20,11 @@ pub record AllLists (X : Type 0) : Type 0 where
   pub running : Bool
   pub queued : ℕ
 
+-- what contracts see of all lists: what they say, and for how many items each list has room before it grows
+pub record ListsWithRooms (X : Type 0) : Type 0 where
+  pub all : AllLists X
+  pub rooms : List ℕ
+
 -- how many callbacks may be queued
 abbrev pub most_queued : ℕ
 most_queued = 1000000
@@ -27,6 +34,14 @@ abbrev pub unvisited : List Bool → ℕ
 unvisited flags = count_by not flags
 
 module _ {X : Type 0} where
+  -- the items of each list
+  abbrev pub items_in : List (Segmented X) → List (List (Item X))
+  items_in lists = map (λ list. list.items) lists
+
+  -- the room of each list
+  abbrev pub rooms_in : List (Segmented X) → List ℕ
+  rooms_in lists = map (λ list. list.room) lists
+
   -- how many markers the lists have
   abbrev pub markers_in : List (List (Item X)) → ℕ
   markers_in lists = sum_by markers lists
@@ -39,6 +54,10 @@ module _ {X : Type 0} where
   abbrev pub list_at : List (List (Item X)) → ℕ → List (Item X)
   list_at lists place = slice_index_or lists place []
 
+  -- where the lists have these items and these rooms, there is room in the list at this place for so many items more
+  abbrev pub HasRoomAt : List (List (Item X)) → List ℕ → ℕ → ℕ → Type 0
+  HasRoomAt lists rooms place more = length (list_at lists place) + more ≤ slice_index_or rooms place 0
+
   -- at first the lists are empty, no barrier runs, and no processor is unvisited
   abbrev pub at_first : ℕ → AllLists X
   at_first cpus = record { lists = replicate cpus []; visited = replicate cpus true; running = false; queued = 0 }
@@ -50,6 +69,10 @@ module _ {X : Type 0} where
   -- the processor's list
   abbrev pub list_of : AllLists X → ℕ → List (Item X)
   list_of all cpu = list_at all.lists cpu
+
+  -- there is room in the processor's list for so many items more
+  abbrev pub HasRoomIn : ListsWithRooms X → ℕ → ℕ → Type 0
+  HasRoomIn lists cpu more = HasRoomAt lists.all.lists lists.rooms cpu more
 
   -- the barrier visited the processor
   abbrev pub is_visited : AllLists X → ℕ → Bool
@@ -80,6 +103,10 @@ module _ {X : Type 0} where
   -- a barrier runs that did not visit the processor
   abbrev pub owes_visit : AllLists X → ℕ → Bool
   owes_visit all cpu = all.running && not (is_visited all cpu)
+
+  -- the processor's list as it leaves, with a marker behind it where a visit is owed
+  abbrev pub leaving_list : AllLists X → ℕ → List (Item X)
+  leaving_list all cpu = as_it_leaves (list_of all cpu) (owes_visit all cpu)
 
   -- the lists once the one at a place moved to the first, with a marker behind it where a visit is owed
   abbrev pub lists_after_move : List (List (Item X)) → ℕ → Bool → List (List (Item X))

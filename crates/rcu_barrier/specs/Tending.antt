@@ -2,7 +2,8 @@
 use Rattle.std.specs.Prelude.{◌≡◌, ◌<◌, ◌≤◌, ◌+◌, ◌%◌, ◌==◌, ◌||◌, Bool, true, false, List, map, All}
 use Rattle.std.specs.List.{list_any}
 use Rattle.rcu_seq.specs.Numbers.{Number, snapshot}
-use Rattle.rcu_cblist.specs.SegList.{Item, Mark, Of, Marker, Unmarked, Until, Done, mark_advanced, mark_given, numbers, remarked}
+use Rattle.rcu_cblist.specs.SegList.{Item, Mark, Of, Marker, Unmarked, Until, Done, mark_advanced, mark_given, numbers}
+use Rattle.rcu_cblist.specs.SegList.{remarked}
 
 -- the mark after a tend: a number at most the given one becomes done, and where there was none it is the snapshot
 abbrev pub mark_after_tend : Number → Mark → Mark

@@ -1,13 +1,14 @@
 //! All processors' lists of callbacks, and the barrier over them.
 ghost use Rattle.std.specs.Prelude.{◌≡◌, ◌≢◌, ◌+◌, ◌<◌, ◌≤◌, ◌^◌, ◌%◌};
-ghost use Rattle.std.specs.Prelude.{[], true, false, IfOk, IfErr, OnOk, OnErr, length};
+ghost use Rattle.std.specs.Prelude.{[], true, false, IsOk, IfOk, IfErr, OnOk, OnErr, length};
 ghost use Rattle.rcu_cblist.specs.SegList.{IsAtMost, behind, callbacks, front, greatest, is_empty};
 ghost use Rattle.rcu_cblist.specs.SegList.{numbers, take_answer};
 ghost use Rattle.rcu_seq.specs.Numbers.{snapshot};
 ghost use Rattle.rcu_barrier.specs.Tending.{after_tend};
-ghost use Rattle.rcu_barrier.specs.Lists.{IsSound, at_first, barrier_test_answer, cpus_of};
-ghost use Rattle.rcu_barrier.specs.Lists.{is_visited, list_of, lists_after_barrier_begin};
-ghost use Rattle.rcu_barrier.specs.Lists.{lists_after_barrier_test, lists_after_migrate};
+ghost use Rattle.rcu_barrier.specs.Lists.{HasRoomIn, IsSound, at_first, barrier_test_answer};
+ghost use Rattle.rcu_barrier.specs.Lists.{cpus_of, is_visited, leaving_list, list_of};
+ghost use Rattle.rcu_barrier.specs.Lists.{lists_after_barrier_begin, lists_after_barrier_test};
+ghost use Rattle.rcu_barrier.specs.Lists.{lists_after_migrate};
 ghost use Rattle.rcu_barrier.specs.Lists.{lists_after_queue, lists_after_run, lists_after_tend};
 ghost use Rattle.rcu_barrier.specs.Lists.{lists_after_visit, most_queued, owes_visit, queue_fault};
 ghost use Rattle.rcu_barrier.specs.Lists.{visit_answer, visit_fault};
@@ -29,8 +30,9 @@ const MOST_QUEUED: u64 = 1_000_000;
 /// waiting).
 ///
 /// Contracts see the lists, which processors the barrier visited, whether one runs, and how many
-/// callbacks were queued. A refused call leaves all as it was. `cpu < cpus` is a condition of each
-/// call.
+/// callbacks were queued; and beside these, for how many items each list has room. A refused call
+/// leaves all as it was, and no growth is asked for where there is room. `cpu < cpus` is a
+/// condition of each call.
 #[derive(Drop)]
 pub struct Lists<T: Drop> {
     /// The list of each processor.
@@ -47,19 +49,23 @@ pub struct Lists<T: Drop> {
 
 impl<T: Drop> Model for Lists<T> {
     ghost use Rattle.std.specs.Prelude.{◌≡◌};
-    ghost use Rattle.rcu_barrier.specs.Lists.{AllLists, IsSound, markers_in};
+    ghost use Rattle.rcu_barrier.specs.Lists.{IsSound, ListsWithRooms, items_in, markers_in};
+    ghost use Rattle.rcu_barrier.specs.Lists.{rooms_in};
 
-    ghost Value = { AllLists T };
+    ghost Value = { ListsWithRooms T };
 
     ghost view = { λ s. record {
-      lists = s.lists.items;
-      visited = s.visits;
-      running = s.running;
-      queued = s.queued;
+      all = record {
+        lists = items_in s.lists.items;
+        visited = s.visits;
+        running = s.running;
+        queued = s.queued;
+      };
+      rooms = rooms_in s.lists.items;
     } };
 
-    ghost invariant = { λ s. (s.markers ≡ markers_in s.lists.items) × IsSound (record {
-      lists = s.lists.items;
+    ghost invariant = { λ s. (s.markers ≡ markers_in (items_in s.lists.items)) × IsSound (record {
+      lists = items_in s.lists.items;
       visited = s.visits;
       running = s.running;
       queued = s.queued;
@@ -67,13 +73,13 @@ impl<T: Drop> Model for Lists<T> {
 }
 
 impl<T: Drop> Lists<T> {
-    /// Empty lists, so many, from 1 to 4,096. No barrier runs.
+    /// Empty lists, so many, from 1 to 4,096. No barrier runs. Costs a step a processor.
     ///
-    /// Fault: 16.
+    /// Fault: `NoMemory` (16).
     pub fn new(alloc: Global, cpus: u32) -> Result<Self, Fault>
         requires some { 1 ≤ cpus }
         requires few { cpus ≤ 4096 }
-        ensures ok { IfOk result (λ lists. lists ≡ at_first cpus) }
+        ensures ok { IfOk result (λ lists. lists.all ≡ at_first cpus) }
         ensures err { IfErr result (λ fault. fault ≡ Fault.NoMemory) }
     {
         let lists = empty_lists(alloc, cpus)?;
@@ -88,17 +94,20 @@ impl<T: Drop> Lists<T> {
     }
 
     /// Queues a callback on a processor at a grace-period number, and answers how many were queued,
-    /// which is its place among them.
+    /// which is its place among them. Costs as [`SegList::queue`].
     ///
-    /// Faults, which hand the value back: 15 where 1,000,000 were queued, 16.
+    /// Faults, which hand the value back: `CallbacksFull` (15) where 1,000,000 were queued;
+    /// `NoMemory` (16), only where the list has no room for it.
     pub fn queue(&mut self, cpu: u32, at: u64, value: T) -> Result<u64, Refused<T>>
-        requires { cpu < cpus_of self.old }
-        ensures place { IfOk result (λ count. count ≡ self.old.queued + 1) }
+        requires { cpu < cpus_of self.old.all }
+        ensures place { IfOk result (λ count. count ≡ self.old.all.queued + 1) }
         ensures few { IfOk result (λ count. count ≤ most_queued) }
-        ensures ok { OnOk result (self.new ≡ lists_after_queue self.old cpu at value) }
-        ensures err { IfErr result (λ refused. refused.fault ≡ queue_fault self.old) }
+        ensures ok { OnOk result (self.new.all ≡ lists_after_queue self.old.all cpu at value) }
+        ensures err { IfErr result (λ refused. refused.fault ≡ queue_fault self.old.all) }
         ensures handed_back { IfErr result (λ refused. refused.value ≡ value) }
-        ensures unchanged { OnErr result (self.new ≡ self.old) }
+        ensures succeeds { HasRoomIn self.old cpu 1 → self.old.all.queued < most_queued
+            → IsOk result }
+        ensures unchanged { OnErr result (self.new.all ≡ self.old.all) }
     {
         if self.queued == MOST_QUEUED {
             return Err(Refused {
@@ -125,15 +134,15 @@ impl<T: Drop> Lists<T> {
     /// callbacks are done and how many wait then. The number is `4k` or `4k + 1` and at most 2^62;
     /// no callback carries one above its snapshot.
     pub fn tend(&mut self, cpu: u32, number: u64) -> (u64, u64)
-        requires cpu { cpu < cpus_of self.old }
+        requires cpu { cpu < cpus_of self.old.all }
         requires state { number % 4 ≤ 1 }
         requires bounded { number ≤ 2 ^ 62 }
-        requires within { IsAtMost (snapshot number) (list_of self.old cpu) }
-        ensures state { self.new ≡ lists_after_tend self.old cpu number }
+        requires within { IsAtMost (snapshot number) (list_of self.old.all cpu) }
+        ensures state { self.new.all ≡ lists_after_tend self.old.all cpu number }
         ensures done { result.0
-            ≡ length (callbacks (front (after_tend (list_of self.old cpu) number))) }
+            ≡ length (callbacks (front (after_tend (list_of self.old.all cpu) number))) }
         ensures waiting { result.1
-            ≡ length (callbacks (behind (after_tend (list_of self.old cpu) number))) }
+            ≡ length (callbacks (behind (after_tend (list_of self.old.all cpu) number))) }
     {
         let list = &mut self.lists[cpu as usize];
         list.advance(number);
@@ -142,17 +151,18 @@ impl<T: Drop> Lists<T> {
     }
 
     /// Takes the first callbacks of a processor's done part, at most so many (Linux's
-    /// `rcu_do_batch`). The markers before the first callback that is left are dropped.
+    /// `rcu_do_batch`). The markers before the first callback that is left are dropped. Costs a
+    /// step for each of both.
     ///
-    /// Fault 16, only where it has a callback to hand out.
+    /// Fault `NoMemory` (16), only where it has a callback to hand out.
     pub fn run(&mut self, cpu: u32, max: u64) -> Result<Vec<Queued<T>>, Fault>
-        requires { cpu < cpus_of self.old }
+        requires { cpu < cpus_of self.old.all }
         ensures calls { IfOk result (λ calls. calls.items
-            ≡ take_answer (list_of self.old cpu) max) }
-        ensures ok { OnOk result (self.new ≡ lists_after_run self.old cpu max) }
+            ≡ take_answer (list_of self.old.all cpu) max) }
+        ensures ok { OnOk result (self.new.all ≡ lists_after_run self.old.all cpu max) }
         ensures err { IfErr result (λ fault. fault ≡ Fault.NoMemory) }
-        ensures memory { OnErr result (take_answer (list_of self.old cpu) max ≢ []) }
-        ensures unchanged { OnErr result (self.new ≡ self.old) }
+        ensures memory { OnErr result (take_answer (list_of self.old.all cpu) max ≢ []) }
+        ensures unchanged { OnErr result (self.new.all ≡ self.old.all) }
     {
         let list = &mut self.lists[cpu as usize];
         let Taken { calls, markers } = list.take_done(max)?;
@@ -162,17 +172,21 @@ impl<T: Drop> Lists<T> {
 
     /// Moves the list of another processor than 0 to processor 0's (Linux's
     /// `rcutree_migrate_callbacks`), and answers how many callbacks moved. While a barrier runs, an
-    /// unvisited processor is visited first.
+    /// unvisited processor is visited first. Costs as [`SegList::migrate_into`].
     ///
-    /// Fault 16, only where the list is not empty.
+    /// Fault `NoMemory` (16), only where the list is not empty, and processor 0's has no room for
+    /// it.
     pub fn migrate(&mut self, cpu: u32) -> Result<u64, Fault>
         requires other { 0 < cpu }
-        requires cpu { cpu < cpus_of self.old }
-        ensures moved { IfOk result (λ moved. moved ≡ length (callbacks (list_of self.old cpu))) }
-        ensures ok { OnOk result (self.new ≡ lists_after_migrate self.old cpu) }
+        requires cpu { cpu < cpus_of self.old.all }
+        ensures moved { IfOk result (λ moved. moved
+            ≡ length (callbacks (list_of self.old.all cpu))) }
+        ensures ok { OnOk result (self.new.all ≡ lists_after_migrate self.old.all cpu) }
         ensures err { IfErr result (λ fault. fault ≡ Fault.NoMemory) }
-        ensures memory { OnErr result (list_of self.old cpu ≢ []) }
-        ensures unchanged { OnErr result (self.new ≡ self.old) }
+        ensures memory { OnErr result (list_of self.old.all cpu ≢ []) }
+        ensures succeeds { HasRoomIn self.old 0 (length (leaving_list self.old.all cpu))
+            → IsOk result }
+        ensures unchanged { OnErr result (self.new.all ≡ self.old.all) }
     {
         let owed = self.owes_visit(cpu);
         let (moved, marked) = move_to_first(self.lists.as_mut_slice(), cpu as usize, owed)?;
@@ -185,21 +199,22 @@ impl<T: Drop> Lists<T> {
 
     /// Whether a barrier runs that did not visit the processor.
     fn owes_visit(&self, cpu: u32) -> bool
-        requires { cpu < cpus_of self.now }
-        ensures { result ≡ owes_visit self.now cpu }
+        requires { cpu < cpus_of self.now.all }
+        ensures { result ≡ owes_visit self.now.all cpu }
     {
         self.running && !self.visits.contains(cpu)
     }
 
-    /// Begins a barrier: each processor is unvisited, whether online or not.
+    /// Begins a barrier: each processor is unvisited, whether online or not. Costs a step a
+    /// processor.
     ///
-    /// Fault 13: one runs.
+    /// Fault `BarrierBusy` (13): one runs.
     pub fn barrier_begin(&mut self) -> Result<(), Fault>
-        ensures idle { OnOk result (self.old.running ≡ false) }
-        ensures ok { OnOk result (self.new ≡ lists_after_barrier_begin self.old) }
+        ensures idle { OnOk result (self.old.all.running ≡ false) }
+        ensures ok { OnOk result (self.new.all ≡ lists_after_barrier_begin self.old.all) }
         ensures err { IfErr result (λ fault. fault ≡ Fault.BarrierBusy) }
-        ensures busy { OnErr result (self.old.running ≡ true) }
-        ensures unchanged { OnErr result (self.new ≡ self.old) }
+        ensures busy { OnErr result (self.old.all.running ≡ true) }
+        ensures unchanged { OnErr result (self.new.all ≡ self.old.all) }
     {
         if self.running {
             return Err(Fault::BarrierBusy);
@@ -210,18 +225,20 @@ impl<T: Drop> Lists<T> {
     }
 
     /// The barrier visits a processor: where it is unvisited, a marker goes behind its list, if
-    /// that is not empty.
+    /// that is not empty. Costs as [`SegList::entrain`].
     ///
-    /// Faults: 14 where none runs; 16, only where it would put a marker.
+    /// Faults: `NoBarrier` (14) where none runs; `NoMemory` (16), only where it would put a marker,
+    /// for which there is no room.
     pub fn visit(&mut self, cpu: u32) -> Result<Visit, Fault>
-        requires { cpu < cpus_of self.old }
-        ensures busy { OnOk result (self.old.running ≡ true) }
-        ensures answer { IfOk result (λ visit. visit ≡ visit_answer self.old cpu) }
-        ensures ok { OnOk result (self.new ≡ lists_after_visit self.old cpu) }
-        ensures err { IfErr result (λ fault. fault ≡ visit_fault self.old) }
-        ensures memory { OnErr result (self.old.running ≡ true
-            → visit_answer self.old cpu ≡ Visit.Marked) }
-        ensures unchanged { OnErr result (self.new ≡ self.old) }
+        requires { cpu < cpus_of self.old.all }
+        ensures busy { OnOk result (self.old.all.running ≡ true) }
+        ensures answer { IfOk result (λ visit. visit ≡ visit_answer self.old.all cpu) }
+        ensures ok { OnOk result (self.new.all ≡ lists_after_visit self.old.all cpu) }
+        ensures err { IfErr result (λ fault. fault ≡ visit_fault self.old.all) }
+        ensures memory { OnErr result (self.old.all.running ≡ true
+            → visit_answer self.old.all cpu ≡ Visit.Marked) }
+        ensures succeeds { HasRoomIn self.old cpu 1 → self.old.all.running ≡ true → IsOk result }
+        ensures unchanged { OnErr result (self.new.all ≡ self.old.all) }
     {
         if !self.running {
             return Err(Fault::NoBarrier);
@@ -242,14 +259,14 @@ impl<T: Drop> Lists<T> {
     /// Whether the barrier is over: no marker is left, and no processor is unvisited. Then none
     /// runs from now on. Costs no walk over the lists.
     ///
-    /// Fault 14: none runs.
+    /// Fault `NoBarrier` (14): none runs.
     pub fn barrier_test(&mut self) -> Result<BarrierState, Fault>
-        ensures busy { OnOk result (self.old.running ≡ true) }
-        ensures answer { IfOk result (λ state. state ≡ barrier_test_answer self.old) }
-        ensures ok { OnOk result (self.new ≡ lists_after_barrier_test self.old) }
+        ensures busy { OnOk result (self.old.all.running ≡ true) }
+        ensures answer { IfOk result (λ state. state ≡ barrier_test_answer self.old.all) }
+        ensures ok { OnOk result (self.new.all ≡ lists_after_barrier_test self.old.all) }
         ensures err { IfErr result (λ fault. fault ≡ Fault.NoBarrier) }
-        ensures idle { OnErr result (self.old.running ≡ false) }
-        ensures unchanged { OnErr result (self.new ≡ self.old) }
+        ensures idle { OnErr result (self.old.all.running ≡ false) }
+        ensures unchanged { OnErr result (self.new.all ≡ self.old.all) }
     {
         if !self.running {
             return Err(Fault::NoBarrier);
@@ -264,15 +281,15 @@ impl<T: Drop> Lists<T> {
 
     /// How many processors there are, from 1 to 4,096.
     pub fn cpus(&self) -> u32
-        ensures value { result ≡ cpus_of self.now }
-        ensures kept { IsSound self.now }
+        ensures value { result ≡ cpus_of self.now.all }
+        ensures kept { IsSound self.now.all }
     {
         self.lists.len() as u32
     }
 
     /// How many callbacks were queued, at most 1,000,000.
     pub fn queued(&self) -> u64
-        ensures value { result ≡ self.now.queued }
+        ensures value { result ≡ self.now.all.queued }
         ensures few { result ≤ most_queued }
     {
         self.queued
@@ -280,23 +297,23 @@ impl<T: Drop> Lists<T> {
 
     /// Whether a barrier runs.
     pub fn is_running(&self) -> bool
-        ensures { result ≡ self.now.running }
+        ensures { result ≡ self.now.all.running }
     {
         self.running
     }
 
     /// Whether the barrier visited the processor.
     pub fn is_visited(&self, cpu: u32) -> bool
-        requires { cpu < cpus_of self.now }
-        ensures { result ≡ is_visited self.now cpu }
+        requires { cpu < cpus_of self.now.all }
+        ensures { result ≡ is_visited self.now.all cpu }
     {
         self.visits.contains(cpu)
     }
 
     /// Whether the processor's list is empty.
     pub fn is_empty(&self, cpu: u32) -> bool
-        requires { cpu < cpus_of self.now }
-        ensures { result ≡ is_empty (list_of self.now cpu) }
+        requires { cpu < cpus_of self.now.all }
+        ensures { result ≡ is_empty (list_of self.now.all cpu) }
     {
         self.lists[cpu as usize].is_empty()
     }
@@ -304,8 +321,8 @@ impl<T: Drop> Lists<T> {
     /// The greatest number that a waiting callback of the processor carries, none where none
     /// carries one.
     pub fn greatest_waiting(&self, cpu: u32) -> Option<u64>
-        requires { cpu < cpus_of self.now }
-        ensures { result ≡ greatest (numbers (list_of self.now cpu)) }
+        requires { cpu < cpus_of self.now.all }
+        ensures { result ≡ greatest (numbers (list_of self.now.all cpu)) }
     {
         self.lists[cpu as usize].greatest_waiting()
     }

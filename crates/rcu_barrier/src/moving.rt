@@ -1,8 +1,9 @@
 //! Lists that are made, and one that moves to the first.
 ghost use Rattle.std.specs.Prelude.{◌≡◌, ◌<◌, ◌≢◌, ◌&&◌, [], not, length, replicate};
-ghost use Rattle.std.specs.Prelude.{IfOk, IfErr, OnOk, OnErr};
-ghost use Rattle.rcu_cblist.specs.SegList.{callbacks, is_empty};
-ghost use Rattle.rcu_barrier.specs.Lists.{list_at, lists_after_move};
+ghost use Rattle.std.specs.Prelude.{IsOk, IfOk, IfErr, OnOk, OnErr};
+ghost use Rattle.rcu_cblist.specs.SegList.{as_it_leaves, callbacks, is_empty};
+ghost use Rattle.rcu_barrier.specs.Lists.{HasRoomAt, items_in, list_at, lists_after_move};
+ghost use Rattle.rcu_barrier.specs.Lists.{rooms_in};
 
 use rcu_cblist::SegList;
 use rcu_seq::fault::Fault;
@@ -10,10 +11,10 @@ use std::alloc::Global;
 
 /// So many empty lists.
 ///
-/// Fault: 16.
+/// Fault: `NoMemory` (16).
 #[tactic(auto, using(std::proofs::lemmas::List::replicate_more))]
 pub(crate) fn empty_lists<T: Drop>(alloc: Global, cpus: u32) -> Result<Vec<SegList<T>>, Fault>
-    ensures ok { IfOk result (λ lists. lists.items ≡ replicate cpus []) }
+    ensures ok { IfOk result (λ lists. items_in lists.items ≡ replicate cpus []) }
     ensures err { IfErr result (λ fault. fault ≡ Fault.NoMemory) }
 {
     let Ok(mut lists) = Vec::with_capacity(alloc, cpus as usize) else {
@@ -30,7 +31,7 @@ pub(crate) fn empty_lists<T: Drop>(alloc: Global, cpus: u32) -> Result<Vec<SegLi
 /// Moves a list to the first one, with a marker behind it where a visit is owed. Answers how many
 /// callbacks moved, and whether a marker did.
 ///
-/// Fault 16, only where the list is not empty.
+/// Fault `NoMemory` (16), only where the list is not empty, and the first one has no room for it.
 pub(crate) fn move_to_first<T: Drop>(
     lists: &mut [SegList<T>],
     from: usize,
@@ -38,12 +39,17 @@ pub(crate) fn move_to_first<T: Drop>(
 ) -> Result<(u64, bool), Fault>
     requires other { 0 < from }
     requires there { from < length lists.old }
-    ensures moved { IfOk result (λ n. n.0 ≡ length (callbacks (list_at lists.old from))) }
-    ensures marked { IfOk result (λ n. n.1 ≡ (owed && not (is_empty (list_at lists.old from)))) }
-    ensures ok { OnOk result (lists.new ≡ lists_after_move lists.old from owed) }
+    ensures moved { IfOk result (λ n. n.0
+        ≡ length (callbacks (list_at (items_in lists.old) from))) }
+    ensures marked { IfOk result (λ n. n.1
+        ≡ (owed && not (is_empty (list_at (items_in lists.old) from)))) }
+    ensures ok { OnOk result (items_in lists.new
+        ≡ lists_after_move (items_in lists.old) from owed) }
     ensures err { IfErr result (λ fault. fault ≡ Fault.NoMemory) }
-    ensures memory { OnErr result (list_at lists.old from ≢ []) }
-    ensures unchanged { OnErr result (lists.new ≡ lists.old) }
+    ensures memory { OnErr result (list_at (items_in lists.old) from ≢ []) }
+    ensures succeeds { HasRoomAt (items_in lists.old) (rooms_in lists.old) 0
+        (length (as_it_leaves (list_at (items_in lists.old) from) owed)) → IsOk result }
+    ensures unchanged { OnErr result (items_in lists.new ≡ items_in lists.old) }
 {
     let (first, others) = lists.split_at_mut(1);
     let target = &mut first[0];

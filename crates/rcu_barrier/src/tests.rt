@@ -1,6 +1,8 @@
-//! The barrier over empty lists and during a departure, migrated callbacks, and a million
-//! callbacks.
+//! The barrier over empty lists and during a departure, migrated callbacks, what a refused growth
+//! leaves, and a million callbacks.
 ghost use Rattle.std.specs.Prelude.{◌≤◌, ◌%◌, ◌^◌};
+
+mod tends;
 
 use crate::barrier_state::BarrierState;
 use crate::lists::Lists;
@@ -8,34 +10,64 @@ use crate::visit::Visit;
 use rcu_cblist::laws::greatest_bounds_each;
 use rcu_seq::fault::Fault;
 use std::alloc::Global;
-use std::io::Print;
 use std::process::Abort;
 
-/// Compares the fault of a call whose growth was refused, and says so for who counts the growths.
-fn refused<R: Abort + Print>(rt: &R, fault: Fault) {
-    assert_eq!(rt; fault, Fault::NoMemory);
-    let _ = println!(rt; "a growth was refused");
+/// All that can be asked: how many processors there are, how many callbacks were queued, and
+/// whether a barrier runs; and of each processor whether it was visited, whether its list is empty,
+/// and its greatest number.
+type Asked = ((u32, u64, bool), [(bool, bool, Option<u64>); 2]);
+
+/// Asks all of a processor.
+fn asked_of(rt: &impl Abort, lists: &Lists<u64>, cpu: u32) -> (bool, bool, Option<u64>) {
+    assert!(rt; cpu < lists.cpus());
+    (
+        lists.is_visited(cpu),
+        lists.is_empty(cpu),
+        lists.greatest_waiting(cpu),
+    )
 }
 
-/// Lists for two processors, made by a second call where the first is refused a growth.
-fn lists<R: Abort + Print>(rt: &R, alloc: Global) -> Lists<u64> {
-    match Lists::new(alloc, 2) {
+/// Asks all of the lists of two processors.
+fn asked(rt: &impl Abort, lists: &Lists<u64>) -> Asked {
+    let all = (lists.cpus(), lists.queued(), lists.is_running());
+    (all, [asked_of(rt, lists, 0), asked_of(rt, lists, 1)])
+}
+
+/// Compares the fault of a call whose growth was refused, and what it left with what was there.
+fn refused(rt: &impl Abort, fault: Fault, lists: &Lists<u64>, before: Asked) {
+    assert_eq!(rt; fault, Fault::NoMemory);
+    assert_eq!(rt; asked(rt, lists), before);
+}
+
+/// Lists for so many processors, made by a second call where the first is refused a growth.
+fn lists_of(rt: &impl Abort, alloc: Global, cpus: u32) -> Lists<u64>
+    requires some { 1 ≤ cpus }
+    requires few { cpus ≤ 4096 }
+{
+    match Lists::new(alloc, cpus) {
         Ok(lists) => lists,
         Err(fault) => {
-            refused(rt, fault);
-            Lists::new(alloc, 2).expect(rt, "the second call has memory")
+            assert_eq!(rt; fault, Fault::NoMemory);
+            Lists::new(alloc, cpus).expect(rt, "the second call has memory")
         }
     }
 }
 
+/// Lists for two processors.
+fn lists(rt: &impl Abort, alloc: Global) -> Lists<u64> {
+    lists_of(rt, alloc, 2)
+}
+
 /// Queues a callback, by a second call where the first is refused a growth, and compares how many
 /// were queued.
-fn queue<R: Abort + Print>(rt: &R, lists: &mut Lists<u64>, cpu: u32, value: u64, wanted: u64) {
+fn queue(rt: &impl Abort, lists: &mut Lists<u64>, cpu: u32, value: u64, wanted: u64) {
+    let before = asked(rt, lists);
     assert!(rt; cpu < lists.cpus());
     match lists.queue(cpu, 0, value) {
         Ok(count) => assert_eq!(rt; count, wanted),
         Err(back) => {
-            refused(rt, back.fault);
+            refused(rt, back.fault, lists, before);
+            assert_eq!(rt; back.value, value);
             assert!(rt; cpu < lists.cpus());
             assert_eq!(rt; lists.queue(cpu, 0, back.value).ok(), Some(wanted));
         }
@@ -44,7 +76,7 @@ fn queue<R: Abort + Print>(rt: &R, lists: &mut Lists<u64>, cpu: u32, value: u64,
 }
 
 /// Tends a list, and compares how many callbacks are done and how many wait.
-fn tend<R: Abort + Print>(rt: &R, lists: &mut Lists<u64>, cpu: u32, number: u64, wanted: (u64, u64))
+fn tend(rt: &impl Abort, lists: &mut Lists<u64>, cpu: u32, number: u64, wanted: (u64, u64))
     requires state { number % 4 ≤ 1 }
     requires bounded { number ≤ 2 ^ 62 }
 {
@@ -62,12 +94,13 @@ fn tend<R: Abort + Print>(rt: &R, lists: &mut Lists<u64>, cpu: u32, number: u64,
 
 /// Takes callbacks, by a second call where the first is refused a growth, and compares their
 /// values.
-fn run<R: Abort + Print>(rt: &R, lists: &mut Lists<u64>, cpu: u32, max: u64, wanted: &[u64]) {
+fn run(rt: &impl Abort, lists: &mut Lists<u64>, cpu: u32, max: u64, wanted: &[u64]) {
+    let before = asked(rt, lists);
     assert!(rt; cpu < lists.cpus());
     let calls = match lists.run(cpu, max) {
         Ok(calls) => calls,
         Err(fault) => {
-            refused(rt, fault);
+            refused(rt, fault, lists, before);
             assert!(rt; cpu < lists.cpus());
             lists.run(cpu, max).expect(rt, "the second call has memory")
         }
@@ -80,12 +113,13 @@ fn run<R: Abort + Print>(rt: &R, lists: &mut Lists<u64>, cpu: u32, max: u64, wan
 
 /// Moves processor 1's list, by a second call where the first is refused a growth, and compares how
 /// many moved.
-fn migrate<R: Abort + Print>(rt: &R, lists: &mut Lists<u64>, wanted: u64) {
+fn migrate(rt: &impl Abort, lists: &mut Lists<u64>, wanted: u64) {
+    let before = asked(rt, lists);
     assert!(rt; 1 < lists.cpus());
     match lists.migrate(1) {
         Ok(moved) => assert_eq!(rt; moved, wanted),
         Err(fault) => {
-            refused(rt, fault);
+            refused(rt, fault, lists, before);
             assert!(rt; 1 < lists.cpus());
             assert_eq!(rt; lists.migrate(1), Ok(wanted));
         }
@@ -96,12 +130,13 @@ fn migrate<R: Abort + Print>(rt: &R, lists: &mut Lists<u64>, wanted: u64) {
 
 /// Visits a processor, by a second call where the first is refused a growth, and compares what it
 /// did.
-fn visit<R: Abort + Print>(rt: &R, lists: &mut Lists<u64>, cpu: u32, wanted: Visit) {
+fn visit(rt: &impl Abort, lists: &mut Lists<u64>, cpu: u32, wanted: Visit) {
+    let before = asked(rt, lists);
     assert!(rt; cpu < lists.cpus());
     match lists.visit(cpu) {
         Ok(visit) => assert_eq!(rt; visit, wanted),
         Err(fault) => {
-            refused(rt, fault);
+            refused(rt, fault, lists, before);
             assert!(rt; cpu < lists.cpus());
             assert_eq!(rt; lists.visit(cpu), Ok(wanted));
         }
@@ -187,9 +222,8 @@ fn full(rt: &impl Abort, lists: &mut Lists<u64>) {
     }
 }
 
-/// Queues a million callbacks on processor 0. Who counts the growths is not told of these, since
-/// each would take this long test once more.
-fn fill<R: Abort + Print>(rt: &R, lists: &mut Lists<u64>) {
+/// Queues a million callbacks on processor 0.
+fn fill(rt: &impl Abort, lists: &mut Lists<u64>) {
     for count in 0..1_000_000 {
         assert!(rt; 0 < lists.cpus());
         if let Err(back) = lists.queue(0, 0, 7) {
@@ -211,7 +245,33 @@ fn a_million_callbacks(rt: HostRuntime) {
     assert!(rt; 0 < lists.cpus());
     match lists.run(0, 1_000_000) {
         Ok(calls) => assert_eq!(rt; calls.len(), 1_000_000),
-        Err(fault) => refused(&rt, fault),
+        Err(fault) => assert_eq!(rt; fault, Fault::NoMemory),
     }
     full(&rt, &mut lists);
+}
+
+/// Callbacks are queued first; no growth of a later call is refused, for none asks for memory.
+#[test]
+fn calls_without_memory(rt: HostRuntime) {
+    let mut lists = lists(&rt, rt.alloc());
+    queue(&rt, &mut lists, 0, 5, 1);
+    tend(&rt, &mut lists, 0, 0, (0, 1));
+    assert!(rt; 1 < lists.cpus());
+    assert_eq!(rt; lists.run(0, 9).map(|calls| calls.len()), Ok(0));
+    assert!(rt; 1 < lists.cpus());
+    assert_eq!(rt; lists.migrate(1), Ok(0));
+    tend(&rt, &mut lists, 0, 4, (1, 0));
+    assert_eq!(rt; lists.barrier_begin(), Ok(()));
+    assert!(rt; 1 < lists.cpus());
+    assert_eq!(rt; lists.visit(1), Ok(Visit::Empty));
+    assert!(rt; 1 < lists.cpus());
+    assert_eq!(rt; lists.visit(1), Ok(Visit::Already));
+    assert_eq!(rt; lists.barrier_test(), Ok(BarrierState::Waits(1)));
+}
+
+#[test]
+fn sizes(rt: HostRuntime) {
+    for cpus in [1, 4096] {
+        assert_eq!(rt; lists_of(&rt, rt.alloc(), cpus).cpus(), cpus);
+    }
 }

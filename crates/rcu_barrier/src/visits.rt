@@ -30,7 +30,7 @@ impl Model for Visits {
 impl Visits {
     /// Each processor is visited.
     ///
-    /// Fault: 16.
+    /// Fault: `NoMemory` (16).
     #[tactic(auto, using(crate::proofs::Markers::unvisited_all))]
     pub(crate) fn new(alloc: Global, cpus: u32) -> Result<Visits, Fault>
         ensures ok { IfOk result (λ visits. visits ≡ replicate cpus true) }

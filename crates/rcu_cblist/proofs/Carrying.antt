@@ -1,14 +1,18 @@
 -- Segments: what a migration makes of them.
-use Rattle.std.proofs.Common.{◌≡◌, ◌==◌, ℕ, zero, suc, Bool, true, false, ◌+◌, ◌<◌, ◌≤◌, nat_lt, if◌then◌else◌, List, [], ◌∷◌, ◌++◌, length, map, take, drop, refl, ap, sym, subst, ◌∙◌, append_assoc, length-append, arith}
+use Rattle.std.proofs.Common.{◌≡◌, ◌==◌, ℕ, zero, suc, Bool, true, false, ◌+◌, ◌<◌, ◌≤◌, nat_lt, if◌then◌else◌, List}
+use Rattle.std.proofs.Common.{[], ◌∷◌, ◌++◌, length, map, take, drop, refl, ap, sym, subst, ◌∙◌, append_assoc}
+use Rattle.std.proofs.Common.{length-append, arith}
 use Rattle.std.proofs.lemmas.List.{append-nil, drop-append-le, drop_all, map-append, take-append-le, take_all}
 use Rattle.std.proofs.lemmas.Bool.Decides.{nat_tests}
 use Rattle.rcu_cblist.specs.declared.kept.Kept.{Kept}
 use Rattle.rcu_cblist.specs.declared.kept.Kept.TheVariants as kept
 use Rattle.rcu_cblist.specs.declared.tail.Tail.{Tail}
-use Rattle.rcu_cblist.specs.SegList.{Item, Unmarked, Until, Done, after_migrate, as_it_leaves, begins_with_marker, behind, callbacks, front, is_empty, without_mark}
+use Rattle.rcu_cblist.specs.SegList.{Item, Unmarked, Until, Done, after_migrate, as_it_leaves, begins_with_marker}
+use Rattle.rcu_cblist.specs.SegList.{behind, callbacks, front, is_empty, without_mark}
 use Rattle.rcu_cblist.specs.Kept.{item_of, marked, moved_behind, moved_in_front, unmarked}
 use Rattle.rcu_cblist.specs.Segments.{AreSegments, AreTails, IsTail, between, joined}
-use Rattle.rcu_cblist.proofs.Cuts.{Cuts, calls_joined, calls_marked, calls_within, first_joined, rest_of, seen_at, segments_at}
+use Rattle.rcu_cblist.proofs.Cuts.{Cuts, calls_joined, calls_marked, calls_within, first_joined, rest_of, seen_at}
+use Rattle.rcu_cblist.proofs.Cuts.{segments_at}
 use Rattle.rcu_cblist.proofs.Marking.{behind_four, entrained, marked_last, passed, some_kept, stays}
 use Rattle.rcu_cblist.proofs.Taking.{calls_all}
 use Rattle.rcu_cblist.proofs.Views.{behind_stripped, front_joined}
@@ -59,7 +63,8 @@ module _ {X : Type 0} where
 
       at : (d' : ℕ) → d' ≡ (if d == length xs then d + 1 else d) → (test : Bool) → nat_lt d (length xs) ≡ test →
           Leaves leaving (take d' (xs ++ kept.Marker ∷ [])) (drop d' (xs ++ kept.Marker ∷ [])) →
-          Leaves leaving (take d xs ++ (if test then [] else kept.Marker ∷ [])) (drop d xs ++ (if test then kept.Marker ∷ [] else []))
+          Leaves leaving (take d xs ++ (if test then [] else kept.Marker ∷ []))
+          (drop d xs ++ (if test then kept.Marker ∷ [] else []))
       at d' is true before h =
           let under : d < length xs = grind (arith, nat_tests) in
           let same = stays (length xs) d d' is under in
@@ -75,7 +80,8 @@ module _ {X : Type 0} where
           let more = passed (length xs) d d' is end in
           let long = length-append xs (kept.Marker ∷ []) in
           let in_front : take d' (xs ++ kept.Marker ∷ []) ≡ take d xs ++ kept.Marker ∷ [] =
-          take_all d' (xs ++ kept.Marker ∷ []) (omega arith) ∙ ap (λ l. l ++ kept.Marker ∷ []) (sym (take_all d xs (omega arith))) in
+          take_all d' (xs ++ kept.Marker ∷ []) (omega arith)
+          ∙ ap (λ l. l ++ kept.Marker ∷ []) (sym (take_all d xs (omega arith))) in
           let behind_it : drop d' (xs ++ kept.Marker ∷ []) ≡ drop d xs ++ [] =
           drop_all d' (xs ++ kept.Marker ∷ []) (omega arith) ∙
           (sym (drop_all d xs (omega arith)) ∙ sym (append-nil (drop d xs))) in
@@ -124,7 +130,8 @@ module _ {X : Type 0} where
   drop_over (x ∷ P) ys t zero is = absurd (omega arith)
   drop_over (x ∷ P) ys t (suc n) is = drop_over P ys t n (omega arith)
 
-  module _ (a b : ℕ) (P zs Q : List (Kept X)) (done wait ready ahead : Tail) (calls : ℕ) (k : AreTails zs done wait ready calls a b)
+  module _ (a b : ℕ) (P zs Q : List (Kept X)) (done wait ready ahead : Tail) (calls : ℕ)
+      (k : AreTails zs done wait ready calls a b)
       (first : begins_with_marker (unmarked P) ≡ false) (last : begins_with_marker (unmarked Q) ≡ false)
       (long : ahead.items ≡ length P) (counted : ahead.calls ≡ length (callbacks (unmarked P))) where
     -- the list around the target's
@@ -138,12 +145,14 @@ module _ {X : Type 0} where
         let all = length-append P (zs ++ Q) in
         let others = length-append zs Q in
         let before : take after.items around ≡ P ++ take tail.items zs =
-        take_over P (zs ++ Q) tail.items after.items (omega arith) ∙ ap (λ l. P ++ l) (take-append-le tail.items zs Q within) in
+        take_over P (zs ++ Q) tail.items after.items (omega arith)
+        ∙ ap (λ l. P ++ l) (take-append-le tail.items zs Q within) in
         let both = ap (λ l. length (callbacks (unmarked l))) before ∙ calls_joined P (take tail.items zs) in
         let own = h.calls in
         record { within = omega arith; calls = omega arith }
 
-    cut_around : (d w r : ℕ) → d ≡ done.items + ahead.items → w ≡ wait.items + ahead.items → r ≡ ready.items + ahead.items →
+    cut_around : (d w r : ℕ) → d ≡ done.items + ahead.items → w ≡ wait.items + ahead.items
+        → r ≡ ready.items + ahead.items →
         Cuts around (P ++ take done.items zs) (between done.items wait.items zs) (between wait.items ready.items zs)
         (drop ready.items zs ++ Q) d w r
     cut_around d w r is_d is_w is_r =
@@ -151,7 +160,9 @@ module _ {X : Type 0} where
         let in_wait = k.wait_tail.within in
         let in_ready = k.ready_tail.within in
         record {
-          is_done = take_over P (zs ++ Q) done.items d (omega arith) ∙ ap (λ l. P ++ l) (take-append-le done.items zs Q in_done);
+          is_done =
+              take_over P (zs ++ Q) done.items d (omega arith)
+              ∙ ap (λ l. P ++ l) (take-append-le done.items zs Q in_done);
           is_wait = ap (drop d) (take_over P (zs ++ Q) wait.items w (omega arith) ∙
               ap (λ l. P ++ l) (take-append-le wait.items zs Q in_wait)) ∙
               drop_over P (take wait.items zs) done.items d (omega arith);

@@ -1,6 +1,9 @@
 -- Segments: how tail places cut a list.
-use Rattle.std.proofs.Common.{◌≡◌, ◌==◌, ℕ, false, ◌+◌, ◌-◌, ◌<◌, ◌≤◌, if◌then◌else◌, inl, inr, List, [], ◌∷◌, ◌++◌, length, take, drop, refl, ap, sym, ◌∙◌, append_assoc, length-append, length-take, length-drop, arith}
-use Rattle.std.proofs.lemmas.List.{append_cancel_left, map-append, take-take, take-append-drop, take-append-le, drop-append-le, take_all, drop_all}
+use Rattle.std.proofs.Common.{◌≡◌, ◌==◌, ℕ, false, ◌+◌, ◌-◌, ◌<◌, ◌≤◌, if◌then◌else◌, inl, inr, List, [], ◌∷◌, ◌++◌}
+use Rattle.std.proofs.Common.{length, take, drop, refl, ap, sym, ◌∙◌, append_assoc, length-append, length-take}
+use Rattle.std.proofs.Common.{length-drop, arith}
+use Rattle.std.proofs.lemmas.List.{append_cancel_left, map-append, take-take, take-append-drop, take-append-le}
+use Rattle.std.proofs.lemmas.List.{drop-append-le, take_all, drop_all}
 use Rattle.std.proofs.lemmas.List.Elements.{filter_map-append}
 use Rattle.std.proofs.lemmas.Bool.Decides.{nat_tests}
 use Rattle.std.proofs.lemmas.Bool.{cases_eq}
@@ -48,7 +51,8 @@ module _ {X : Type 0} where
       (ap (λ l. take d xs ++ l) (rest_of d w xs first) ∙ take-append-drop d xs)
 
   -- what holds of four lists holds of what is cut
-  pub segments_at : (a b : ℕ) (xs D W R N : List (Kept X)) (d w r : ℕ) → Cuts xs D W R N d w r → AreSegments a b D W R N →
+  pub segments_at : (a b : ℕ) (xs D W R N : List (Kept X)) (d w r : ℕ) → Cuts xs D W R N d w r
+      → AreSegments a b D W R N →
       AreSegments a b (take d xs) (between d w xs) (between w r xs) (drop r xs)
   segments_at a b xs D W R N d w r c h = rw (c.is_done, c.is_wait, c.is_ready, c.is_next) h
 

@@ -1,12 +1,14 @@
 -- Lists with one callback more, walks over a list, and its parts.
-use Rattle.std.proofs.Common.{◌≡◌, ℕ, Bool, zero, suc, ◌+◌, ◌-◌, ◌≤◌, min, List, [], ◌∷◌, ◌++◌, length, map, take, drop, refl, ap, sym, ◌∙◌, append_assoc, length-append, length-take, length-drop, arith}
+use Rattle.std.proofs.Common.{◌≡◌, ℕ, Bool, zero, suc, ◌+◌, ◌-◌, ◌≤◌, min, List, [], ◌∷◌, ◌++◌, length, map, take, drop}
+use Rattle.std.proofs.Common.{refl, ap, sym, ◌∙◌, append_assoc, length-append, length-take, length-drop, arith}
 use Rattle.std.proofs.Math.Seq.{take-append_seam, drop-append_seam}
 use Rattle.std.proofs.lemmas.List.{take-append-le, take_min, drop-drop, drop_all, take-append-drop}
 use Rattle.std.proofs.lemmas.List.Sums.{sum_by-append}
 use Rattle.std.specs.Prelude.{count_by, if◌then◌else◌}
 use Rattle.std.proofs.lemmas.List.Elements.{filter_map-append}
 use Rattle.rcu_cblist.specs.declared.queued.Queued.{Queued}
-use Rattle.rcu_cblist.specs.SegList.{Item, Mark, Of, Marker, Unmarked, Until, Done, callback_of, callbacks, remarked, without_mark, front, behind, take_answer, from_callback, after_take, after_migrate}
+use Rattle.rcu_cblist.specs.SegList.{Item, Mark, Of, Marker, Unmarked, Until, Done, callback_of, callbacks, remarked}
+use Rattle.rcu_cblist.specs.SegList.{without_mark, front, behind, take_answer, from_callback, after_take, after_migrate}
 
 -- the first item and the others, as they are seen
 pub map_split : {X Y : Type 0} (f : X → Y) (xs ys : List X) (x : X) → xs ≡ x ∷ ys → map f xs ≡ f x ∷ map f ys
@@ -94,9 +96,12 @@ pub tested_moved : {X : Type 0} (test : Queued X → Bool) (xs ys : List (Item X
 tested_moved {X = X} test xs ys =
     let all = ap (count_by test) (filter_map-append callback_of (front xs ++ ys) (map without_mark (behind xs))) ∙
     tested_append (callbacks (front xs ++ ys)) (callbacks (map without_mark (behind xs))) in
-    let first = ap (count_by test) (filter_map-append callback_of (front xs) ys) ∙ tested_append (callbacks (front xs)) (callbacks ys) in
+    let first =
+    ap (count_by test) (filter_map-append callback_of (front xs) ys)
+    ∙ tested_append (callbacks (front xs)) (callbacks ys) in
     let rest = ap (count_by test) (callbacks_remarked (λ _. Unmarked) (behind xs)) in
-    let parts = ap (count_by test) (callbacks_split xs) ∙ tested_append (callbacks (front xs)) (callbacks (behind xs)) in
+    let parts =
+    ap (count_by test) (callbacks_split xs) ∙ tested_append (callbacks (front xs)) (callbacks (behind xs)) in
     omega arith
   where
     tested_append : (cs ds : List (Queued X)) → count_by test (cs ++ ds) ≡ count_by test cs + count_by test ds

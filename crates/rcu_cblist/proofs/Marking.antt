@@ -1,5 +1,7 @@
 -- Segments: a marker at the end of the last one that has items.
-use Rattle.std.proofs.Common.{◌≡◌, ◌==◌, ℕ, false, ◌+◌, ◌<◌, ◌≤◌, if◌then◌else◌, inl, inr, List, [], ◌∷◌, ◌++◌, length, take, drop, refl, ap, sym, ◌∙◌, append_assoc, length-append, length-take, length-drop, arith}
+use Rattle.std.proofs.Common.{◌≡◌, ◌==◌, ℕ, false, ◌+◌, ◌<◌, ◌≤◌, if◌then◌else◌, inl, inr, List, [], ◌∷◌, ◌++◌, length}
+use Rattle.std.proofs.Common.{take, drop, refl, ap, sym, ◌∙◌, append_assoc, length-append, length-take, length-drop}
+use Rattle.std.proofs.Common.{arith}
 use Rattle.std.proofs.lemmas.List.{append-nil, length-map, map_push, take_all, drop_all, take-append-le}
 use Rattle.std.proofs.lemmas.Bool.Decides.{nat_tests}
 use Rattle.std.proofs.lemmas.Bool.{cases_eq}
@@ -9,7 +11,8 @@ use Rattle.rcu_cblist.specs.declared.tail.Tail.{Tail}
 use Rattle.rcu_cblist.specs.SegList.{Item, Marker, Unmarked, Until, Done, after_entrain, is_empty, without_mark}
 use Rattle.rcu_cblist.specs.Kept.{item_of, marked, unmarked}
 use Rattle.rcu_cblist.specs.Segments.{AreSegments, AreTails, between, joined}
-use Rattle.rcu_cblist.proofs.Cuts.{Cuts, calls_marked, cut_more, first_pushed, from_pushed, length_between, seen_at, segments_at, tail_passed, to_pushed, whole}
+use Rattle.rcu_cblist.proofs.Cuts.{Cuts, calls_marked, cut_more, first_pushed, from_pushed, length_between, seen_at}
+use Rattle.rcu_cblist.proofs.Cuts.{segments_at, tail_passed, to_pushed, whole}
 use Rattle.rcu_cblist.proofs.Views.{stripped}
 
 -- where a place goes once a marker is put at the end
@@ -27,24 +30,29 @@ module _ {X : Type 0} where
       ap (λ l. P ++ l) (append_assoc Q (S ++ T) M ∙ ap (λ l. Q ++ l) (append_assoc S T M))
 
   -- a marker at the end of the last, the third, the second, and the first
-  pub end_next : (a b : ℕ) (D W R N : List (Kept X)) → joined a b D W R (N ++ kept.Marker ∷ []) ≡ joined a b D W R N ++ Marker ∷ []
+  pub end_next : (a b : ℕ) (D W R N : List (Kept X))
+      → joined a b D W R (N ++ kept.Marker ∷ []) ≡ joined a b D W R N ++ Marker ∷ []
   end_next a b D W R N =
       sym (behind_four (marked Done D) (marked (Until a) W) (marked (Until b) R) (unmarked N) (Marker ∷ []) ∙
-      ap (λ l. marked Done D ++ (marked (Until a) W ++ (marked (Until b) R ++ l))) (sym (map_push (item_of Unmarked) N kept.Marker)))
+      ap (λ l. marked Done D ++ (marked (Until a) W ++ (marked (Until b) R ++ l)))
+      (sym (map_push (item_of Unmarked) N kept.Marker)))
 
-  end_ready : (a b : ℕ) (D W R : List (Kept X)) → joined a b D W (R ++ kept.Marker ∷ []) [] ≡ joined a b D W R [] ++ Marker ∷ []
+  end_ready : (a b : ℕ) (D W R : List (Kept X)) → joined a b D W (R ++ kept.Marker ∷ []) [] ≡ joined a b D W R []
+      ++ Marker ∷ []
   end_ready a b D W R =
       sym (behind_four (marked Done D) (marked (Until a) W) (marked (Until b) R) [] (Marker ∷ []) ∙
       ap (λ l. marked Done D ++ (marked (Until a) W ++ l))
       (sym (map_push (item_of (Until b)) R kept.Marker) ∙ sym (append-nil (marked (Until b) (R ++ kept.Marker ∷ [])))))
 
-  end_wait : (a b : ℕ) (D W : List (Kept X)) → joined a b D (W ++ kept.Marker ∷ []) [] [] ≡ joined a b D W [] [] ++ Marker ∷ []
+  end_wait : (a b : ℕ) (D W : List (Kept X)) → joined a b D (W ++ kept.Marker ∷ []) [] [] ≡ joined a b D W [] []
+      ++ Marker ∷ []
   end_wait a b D W =
       sym (behind_four (marked Done D) (marked (Until a) W) [] [] (Marker ∷ []) ∙
       ap (λ l. marked Done D ++ l)
       (sym (map_push (item_of (Until a)) W kept.Marker) ∙ sym (append-nil (marked (Until a) (W ++ kept.Marker ∷ [])))))
 
-  end_done : (a b : ℕ) (D : List (Kept X)) → joined a b (D ++ kept.Marker ∷ []) [] [] [] ≡ joined a b D [] [] [] ++ Marker ∷ []
+  end_done : (a b : ℕ) (D : List (Kept X)) → joined a b (D ++ kept.Marker ∷ []) [] [] [] ≡ joined a b D [] [] []
+      ++ Marker ∷ []
   end_done a b D =
       sym (behind_four (marked Done D) [] [] [] (Marker ∷ []) ∙
       (sym (map_push (item_of Done) D kept.Marker) ∙ sym (append-nil (marked Done (D ++ kept.Marker ∷ [])))))
@@ -111,7 +119,9 @@ module _ {X : Type 0} where
         (record {
           is_done = ap (λ k. take k more) same_done ∙ take-append-le d xs (kept.Marker ∷ []) (omega arith);
           is_wait = ap (λ k. between k w' more) same_done ∙ to_pushed xs kept.Marker d w w' (omega arith) same_wait;
-          is_ready = ap (λ k. between k r' more) same_wait ∙ from_pushed xs kept.Marker w r r' second (omega arith) (omega arith);
+          is_ready =
+              ap (λ k. between k r' more) same_wait
+              ∙ from_pushed xs kept.Marker w r r' second (omega arith) (omega arith);
           is_next = drop_all r' more (omega arith);
         })
         (record {
@@ -131,7 +141,8 @@ module _ {X : Type 0} where
         let more_ready = passed n r r' ready (omega arith) in
         let long = length_between d w xs (omega arith) in
         let all = length-append xs (kept.Marker ∷ []) in
-        marked_from a b xs more (take d xs) (between d w xs) [] [] (take d xs) (between d w xs ++ kept.Marker ∷ []) [] [] d w r d' w' r'
+        marked_from a b xs more (take d xs) (between d w xs) [] [] (take d xs)
+        (between d w xs ++ kept.Marker ∷ []) [] [] d w r d' w' r'
         (record {
           is_done = refl;
           is_wait = refl;
@@ -140,7 +151,9 @@ module _ {X : Type 0} where
         })
         (record {
           is_done = ap (λ k. take k more) same_done ∙ take-append-le d xs (kept.Marker ∷ []) (omega arith);
-          is_wait = ap (λ k. between k w' more) same_done ∙ from_pushed xs kept.Marker d w w' first (omega arith) (omega arith);
+          is_wait =
+              ap (λ k. between k w' more) same_done
+              ∙ from_pushed xs kept.Marker d w w' first (omega arith) (omega arith);
           is_ready = drop_all w' (take r' more) (omega (arith, length-take r' more));
           is_next = drop_all r' more (omega arith);
         })
@@ -169,7 +182,8 @@ module _ {X : Type 0} where
           is_next = drop_all r xs (omega arith);
         })
         (record {
-          is_done = take_all d' more (omega arith) ∙ ap (λ l. l ++ kept.Marker ∷ []) (sym (take_all d xs (omega arith)));
+          is_done =
+              take_all d' more (omega arith) ∙ ap (λ l. l ++ kept.Marker ∷ []) (sym (take_all d xs (omega arith)));
           is_wait = drop_all d' (take w' more) (omega (arith, length-take w' more));
           is_ready = drop_all w' (take r' more) (omega (arith, length-take r' more));
           is_next = drop_all r' more (omega arith);
@@ -228,7 +242,8 @@ module _ {X : Type 0} where
   some_kept a b d w r xs first second some =
       let seen = joined a b (take d xs) (between d w xs) (between w r xs) (drop r xs) in
       let long : length seen ≡ length xs =
-      sym (length-map seen without_mark) ∙ (ap length (stripped a b (take d xs) (between d w xs) (between w r xs) (drop r xs)) ∙
+      sym (length-map seen without_mark)
+      ∙ (ap length (stripped a b (take d xs) (between d w xs) (between w r xs) (drop r xs)) ∙
       (length-map _ (item_of Unmarked) ∙ ap length (whole d w r xs first second))) in
       let more = not_empty seen some in
       omega arith

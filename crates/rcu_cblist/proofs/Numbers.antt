@@ -6,7 +6,8 @@ use Rattle.rcu_seq.specs.Numbers.{Number}
 use Rattle.rcu_cblist.specs.SegList.{greatest}
 
 -- the greatest of some numbers, from one on, is at least that one and each of them
-fold_max_bounds : (n : Number) (numbers : List Number) → (n ≤ fold max n numbers) × All (λ k. k ≤ fold max n numbers) numbers
+fold_max_bounds : (n : Number) (numbers : List Number)
+    → (n ≤ fold max n numbers) × All (λ k. k ≤ fold max n numbers) numbers
 fold_max_bounds n [] = (omega arith, All-nil (λ k. k ≤ n))
 fold_max_bounds n (m ∷ numbers) =
     let rest = fold_max_bounds (max n m) numbers in

@@ -1,15 +1,20 @@
 -- For callers: what the definitions of lists say of markers, of numbers, and of each item.
-use Rattle.std.proofs.Common.{◌≡◌, ℕ, zero, suc, ◌+◌, ◌≤◌, Bool, true, false, not, ◌&&◌, ◌||◌, ◌==◌, nat_le, nat_lt, inl, inr, List, [], ◌∷◌, ◌++◌, length, map, refl, ap, sym, subst, ◌∙◌, arith}
+use Rattle.std.proofs.Common.{◌≡◌, ℕ, zero, suc, ◌+◌, ◌≤◌, Bool, true, false, not, ◌&&◌, ◌||◌, ◌==◌, nat_le, nat_lt}
+use Rattle.std.proofs.Common.{inl, inr, List, [], ◌∷◌, ◌++◌, length, map, refl, ap, sym, subst, ◌∙◌, arith}
 use Rattle.std.specs.Prelude.{if◌then◌else◌, All, filter}
 use Rattle.std.specs.List.{list_any}
-use Rattle.std.proofs.lemmas.Bool.{cases_eq}
+use Rattle.std.proofs.lemmas.Bool.{cases_eq, or_parts}
 use Rattle.std.proofs.lemmas.Bool.Decides.{nat_tests}
 use Rattle.std.proofs.lemmas.List.{append-nil}
-use Rattle.std.proofs.lemmas.List.Elements.{All-nil, All-cons, All-head, All-tail, All-append, All-push, All-map, All-weaker, filter_map-append}
+use Rattle.std.proofs.lemmas.List.Elements.{All-nil, All-cons, All-head, All-tail, All-append, All-push, All-map}
+use Rattle.std.proofs.lemmas.List.Elements.{All-weaker, filter_map-append}
 use Rattle.std.proofs.lemmas.List.Sums.{sum_by-append, sum_by-cons}
 use Rattle.rcu_seq.specs.Numbers.{Number}
 use Rattle.rcu_cblist.specs.declared.queued.Queued.{Queued}
-use Rattle.rcu_cblist.specs.SegList.{begins_with_marker, Item, Mark, Of, Marker, Unmarked, Until, Done, after_advance, after_entrain, after_migrate, after_take, behind, from_callback, front, has_other, has_two, is_empty, is_marker, mark_given, markers, markers_passed, number_carried, numbers, remarked, take_answer, without_mark}
+use Rattle.rcu_cblist.specs.SegList.{begins_with_marker, Item, Mark, Of, Marker, Unmarked, Until, Done, after_advance}
+use Rattle.rcu_cblist.specs.SegList.{after_entrain, after_migrate, after_take, behind, from_callback, front, has_other}
+use Rattle.rcu_cblist.specs.SegList.{has_two, is_empty, is_marker, mark_given, markers, markers_passed, number_carried}
+use Rattle.rcu_cblist.specs.SegList.{numbers, remarked, take_answer, without_mark}
 
 -- a marker in front is one more
 pub marker_more : {X : Type 0} (xs : List (Item X)) → markers (Marker ∷ xs) ≡ 1 + markers xs
@@ -183,16 +188,12 @@ pub none_other : (snap n : Number) (all some : List Number) → has_other snap n
     has_other snap n some ≡ false → list_any (λ k. nat_lt k snap && has_other snap k all) some ≡ false
 none_other snap n all [] no_other none = refl
 none_other snap n all (k ∷ some) no_other none =
-    let rest = none_other snap n all some no_other (last_of _ _ none) in
+    let rest = none_other snap n all some no_other ((or_parts _ _ none).1) in
     elim (cases_eq k n) [
       | inl same ↦ second_fails _ _ _ (subst (λ m. has_other snap m all ≡ false) (sym same) no_other) rest
       | inr differ ↦ first_fails _ _ _ (not_below _ differ none) rest
     ]
   where
-    last_of : (a b : Bool) → (a || b) ≡ false → b ≡ false
-    last_of true b none = cc
-    last_of false b none = none
-
     second_fails : (a b c : Bool) → b ≡ false → c ≡ false → ((a && b) || c) ≡ false
     second_fails true b c second others = ap (λ t. t || c) second ∙ others
     second_fails false b c second others = others
@@ -300,5 +301,6 @@ first_front (Of call (Until n) ∷ xs) none = refl
 pub first_moved : {X : Type 0} (xs ys : List (Item X)) → begins_with_marker xs ≡ false → begins_with_marker ys ≡ false →
     begins_with_marker (after_migrate ys xs) ≡ false
 first_moved xs ys none others =
-    first_append (front xs ++ ys) (map without_mark (behind xs)) (first_append (front xs) ys (first_front xs none) others)
+    first_append (front xs ++ ys) (map without_mark (behind xs))
+    (first_append (front xs) ys (first_front xs none) others)
     (first_behind xs)

@@ -1,14 +1,21 @@
 -- Segments: what a take leaves of them.
-use Rattle.std.proofs.Common.{◌≡◌, ℕ, zero, suc, ◌+◌, ◌-◌, ◌<◌, ◌≤◌, true, false, ◌==◌, inl, inr, ◌⊎◌, List, [], ◌∷◌, ◌++◌, length, map, take, drop, refl, ap, sym, subst, ◌∙◌, length-take, length-drop, arith}
-use Rattle.std.proofs.lemmas.List.{drop-append-le, drop-drop, drop-map, drop-take, length-map, take-append-drop, take-take}
+use Rattle.std.proofs.Common.{◌≡◌, ℕ, zero, suc, ◌+◌, ◌-◌, ◌<◌, ◌≤◌, Bool, true, false, ◌==◌, inl, inr, ◌⊎◌, List, []}
+use Rattle.std.proofs.Common.{◌∷◌, ◌++◌, length, map, take, drop, refl, ap, sym, subst, ◌∙◌, length-append, length-take}
+use Rattle.std.proofs.Common.{length-drop, arith}
+use Rattle.std.proofs.lemmas.List.{drop-append-le, drop-drop, drop-map, drop-take, length-map, take-append-drop}
+use Rattle.std.proofs.lemmas.List.{take-take}
 use Rattle.std.proofs.lemmas.Bool.Decides.{nat_tests}
+use mir.Val.{bool_byte}
 use Rattle.rcu_cblist.specs.declared.kept.Kept.{Kept}
 use Rattle.rcu_cblist.specs.declared.tail.Tail.{Tail}
-use Rattle.rcu_cblist.specs.SegList.{Item, Mark, Of, Marker, Unmarked, Until, Done, after_take, begins_with_marker, callbacks, from_callback, front, is_empty, markers, remarked, without_mark}
+use Rattle.rcu_cblist.specs.SegList.{Item, Mark, Of, Marker, Unmarked, Until, Done, after_take, as_it_leaves}
+use Rattle.rcu_cblist.specs.SegList.{begins_with_marker, callbacks, from_callback, front, is_empty, markers, remarked}
+use Rattle.rcu_cblist.specs.SegList.{without_mark}
 use Rattle.rcu_cblist.specs.Kept.{item_of, marked, unmarked}
 use Rattle.rcu_cblist.specs.declared.segments.Segments.{Segments}
 use Rattle.rcu_cblist.specs.Segments.{AreSegments, AreTails, IsCut, IsTail, between, joined, seen}
-use Rattle.rcu_cblist.proofs.Cuts.{Cuts, calls_joined, calls_some, first_joined, joins, rest_of, seen_at, segments_at, whole}
+use Rattle.rcu_cblist.proofs.Cuts.{Cuts, calls_joined, calls_some, first_joined, joins, rest_of, seen_at, segments_at}
+use Rattle.rcu_cblist.proofs.Cuts.{whole}
 use Rattle.rcu_cblist.proofs.Lists.{callbacks_from, callbacks_remarked, untaken_least}
 use Rattle.rcu_cblist.proofs.SegListLemmas.{first_from, markers_remarked}
 use Rattle.rcu_cblist.proofs.Views.{front_joined, marked_remarked, stripped}
@@ -27,7 +34,8 @@ module _ {X : Type 0} where
   from_passed zero (Of call mark ∷ xs) = refl
   from_passed (suc n) (Of call mark ∷ xs) = from_passed n xs
 
-  passed_remarked : (change : Mark → Mark) (n : ℕ) (xs : List (Item X)) → passed n (map (remarked change) xs) ≡ passed n xs
+  passed_remarked : (change : Mark → Mark) (n : ℕ) (xs : List (Item X))
+      → passed n (map (remarked change) xs) ≡ passed n xs
   passed_remarked change n [] = refl
   passed_remarked change n (Marker ∷ xs) = ap suc (passed_remarked change n xs)
   passed_remarked change zero (Of call mark ∷ xs) = refl
@@ -40,7 +48,8 @@ module _ {X : Type 0} where
   passed_length (suc n) (Of call mark ∷ xs) = let rest = passed_length n xs in omega arith
 
   -- a place has no more callbacks before it than one behind it
-  pub calls_order : (xs : List (Kept X)) (tail behind : Tail) → IsTail xs tail → IsTail xs behind → tail.items ≤ behind.items →
+  pub calls_order : (xs : List (Kept X)) (tail behind : Tail) → IsTail xs tail → IsTail xs behind
+      → tail.items ≤ behind.items →
       tail.calls ≤ behind.calls
   calls_order xs tail behind k h order =
       let counted = k.calls in
@@ -70,7 +79,8 @@ module _ {X : Type 0} where
       ap (λ l. length (callbacks l)) (front_joined a b D W R N h) ∙
       ap length (sym (callbacks_remarked (λ _. Unmarked) (marked Done D)) ∙ ap callbacks (marked_remarked (λ _. Unmarked) Done D))
 
-  module _ (a b : ℕ) (xs : List (Kept X)) (done wait ready : Tail) (calls : ℕ) (k : AreTails xs done wait ready calls a b) where
+  module _ (a b : ℕ) (xs : List (Kept X)) (done wait ready : Tail) (calls : ℕ)
+      (k : AreTails xs done wait ready calls a b) where
     -- the list that is seen
     abbrev now : List (Item X)
     now =
@@ -80,7 +90,8 @@ module _ {X : Type 0} where
     -- without marks, it is what is kept
     pub now_stripped : map without_mark now ≡ unmarked xs
     now_stripped =
-        stripped a b (take done.items xs) (between done.items wait.items xs) (between wait.items ready.items xs) (drop ready.items xs)
+        stripped a b (take done.items xs) (between done.items wait.items xs) (between wait.items ready.items xs)
+        (drop ready.items xs)
         ∙ ap unmarked (whole done.items wait.items ready.items xs k.wait_behind k.ready_behind)
 
     pub now_callbacks : callbacks now ≡ callbacks (unmarked xs)
@@ -168,7 +179,8 @@ module _ {X : Type 0} where
           (drop-drop (i - gone) gone (take j xs) ∙ ap (λ n. drop n (take j xs)) (omega arith)))
 
       cut_taken : Cuts ys (drop gone (take done.items xs)) (between done.items wait.items xs)
-          (between wait.items ready.items xs) (drop ready.items xs) (done.items - gone) (wait.items - gone) (ready.items - gone)
+          (between wait.items ready.items xs) (drop ready.items xs) (done.items - gone) (wait.items - gone)
+          (ready.items - gone)
       cut_taken =
           let in_done = within_done in
           let first = k.wait_behind in
@@ -227,7 +239,8 @@ module _ {X : Type 0} where
       taken_seen d w r first second third =
           let in_done = within_done in
           let rest_seen =
-          marked (Until a) (between done.items wait.items xs) ++ (marked (Until b) (between wait.items ready.items xs) ++
+          marked (Until a) (between done.items wait.items xs)
+          ++ (marked (Until b) (between wait.items ready.items xs) ++
           unmarked (drop ready.items xs)) in
           let long : length (from_callback most (unmarked xs)) ≡ length ys =
           ap length (sym from) ∙ length-map ys (item_of Unmarked) in
@@ -309,3 +322,10 @@ module _ {X : Type 0} where
   -- and one that is not
   pub some_is : (xs : List (Item X)) → is_empty xs ≡ false → xs ≡ [] → ⊥
   some_is xs some none = let is : false ≡ true = sym some ∙ ap is_empty none in absurd cc
+
+  -- a list that leaves has a marker more where that is wanted and it is not empty
+  pub leaving_length : (xs : List (Item X)) (wanted : Bool) → is_empty xs ≡ false →
+      length (as_it_leaves xs wanted) ≡ length xs + bool_byte wanted
+  leaving_length xs false some = omega arith
+  leaving_length [] true some = absurd cc
+  leaving_length (x ∷ xs) true some = length-append (x ∷ xs) (Marker ∷ [])

@@ -1,5 +1,7 @@
 -- Segments: the list of their items, and what the calls make of it.
-use Rattle.std.proofs.Common.{◌≡◌, ◌==◌, ℕ, Bool, true, false, not, ◌<◌, ◌≤◌, max, nat_lt, nat_le, ◌&&◌, ◌||◌, if◌then◌else◌, inl, inr, Some, None, List, [], ◌∷◌, ◌++◌, length, map, drop, refl, ap, sym, subst, ◌∙◌, append_assoc, arith}
+use Rattle.std.proofs.Common.{◌≡◌, ◌==◌, ℕ, Bool, true, false, not, ◌<◌, ◌≤◌, max, nat_lt, nat_le, ◌&&◌, ◌||◌}
+use Rattle.std.proofs.Common.{if◌then◌else◌, inl, inr, Some, None, List, [], ◌∷◌, ◌++◌, length, map, drop, refl, ap}
+use Rattle.std.proofs.Common.{sym, subst, ◌∙◌, append_assoc, arith}
 use Rattle.std.specs.Prelude.{All, fold}
 use Rattle.std.proofs.lemmas.List.{append-nil, drop_at, length-map, map-append}
 use Rattle.std.proofs.lemmas.List.Elements.{All-nil, All-cons, All-head, All-tail, All-append}
@@ -8,7 +10,10 @@ use Rattle.std.proofs.lemmas.Bool.{cases_Bool}
 use Rattle.rcu_seq.specs.Numbers.{Number}
 use Rattle.rcu_cblist.specs.declared.kept.Kept.{Kept}
 use Rattle.rcu_cblist.specs.declared.kept.Kept.TheVariants as kept
-use Rattle.rcu_cblist.specs.SegList.{Item, Mark, Of, Marker, Unmarked, Until, Done, IsAtMost, after_accelerate, after_advance, behind, begins_with_marker, front, front_with, greatest, has_other, has_two, mark_advanced, mark_given, numbered, numbers, past_numbered, remarked, segments, without_mark}
+use Rattle.rcu_cblist.specs.SegList.{Item, Mark, Of, Marker, Unmarked, Until, Done, IsAtMost, after_accelerate}
+use Rattle.rcu_cblist.specs.SegList.{after_advance, behind, begins_with_marker, front, front_with, greatest, has_other}
+use Rattle.rcu_cblist.specs.SegList.{has_two, mark_advanced, mark_given, numbered, numbers, past_numbered, remarked}
+use Rattle.rcu_cblist.specs.SegList.{segments, without_mark}
 use Rattle.rcu_cblist.specs.Kept.{item_of, marked, unmarked}
 use Rattle.rcu_cblist.specs.Segments.{AreSegments, joined}
 use Rattle.rcu_cblist.proofs.SegListLemmas.{no_two, numbers_append}
@@ -50,7 +55,8 @@ no_other snap n (k ∷ ns) each =
       | inr over ↦ ap (λ t. (t && not (k == n)) || has_other snap n ns) over ∙ rest
     ]
   where
-    at : (k : Number) (test : Bool) → k ≡ n → has_other snap n ns ≡ false → ((test && not (k == n)) || has_other snap n ns) ≡ false
+    at : (k : Number) (test : Bool) → k ≡ n → has_other snap n ns ≡ false
+        → ((test && not (k == n)) || has_other snap n ns) ≡ false
     at k test same rest = grind (arith, nat_tests)
 
 -- a number below it that is not this one does
@@ -59,7 +65,9 @@ other_found snap n k [] ns under above = found (has_other snap n ns)
   where
     found : (rest : Bool) → ((nat_lt k snap && not (k == n)) || rest) ≡ true
     found rest = grind (arith, nat_tests)
-other_found snap n k (m ∷ ms) ns under above = ap (λ rest. (nat_lt m snap && not (m == n)) || rest) (other_found snap n k ms ns under above) ∙ last (nat_lt m snap && not (m == n))
+other_found snap n k (m ∷ ms) ns under above =
+    ap (λ rest. (nat_lt m snap && not (m == n)) || rest) (other_found snap n k ms ns under above)
+    ∙ last (nat_lt m snap && not (m == n))
   where
     last : (first : Bool) → (first || true) ≡ true
     last true = refl
@@ -72,7 +80,8 @@ fold_joined most (m ∷ ms) ns = fold_joined (max most m) ms ns
 
 module _ {X : Type 0} where
   -- four lists one behind another, each under its mark
-  abbrev pub each_under : Mark → Mark → Mark → Mark → List (Kept X) → List (Kept X) → List (Kept X) → List (Kept X) → List (Item X)
+  abbrev pub each_under : Mark → Mark → Mark → Mark → List (Kept X) → List (Kept X) → List (Kept X) → List (Kept X)
+      → List (Item X)
   each_under m n o p D W R N = marked m D ++ (marked n W ++ (marked o R ++ marked p N))
 
   -- a change of marks, list by list
@@ -83,7 +92,8 @@ module _ {X : Type 0} where
   marked_remarked change m (kept.Marker ∷ xs) = ap (λ l. Marker ∷ l) (marked_remarked change m xs)
 
   pub under_remarked : (change : Mark → Mark) (m n o p : Mark) (D W R N : List (Kept X)) →
-      map (remarked change) (each_under m n o p D W R N) ≡ each_under (change m) (change n) (change o) (change p) D W R N
+      map (remarked change) (each_under m n o p D W R N)
+      ≡ each_under (change m) (change n) (change o) (change p) D W R N
   under_remarked change m n o p D W R N =
       rw (
         map-append (remarked change) (marked m D) (marked n W ++ (marked o R ++ marked p N)),
@@ -234,7 +244,8 @@ module _ {X : Type 0} where
       All P (numbers (marked (Until a) W))
   numbers_same P a [] holds = All-nil P
   numbers_same P a (kept.Call call ∷ W) holds =
-      All-cons P a (numbers (marked (Until a) W)) (holds (omega arith)) (numbers_same P a W (λ some. holds (omega arith)))
+      All-cons P a (numbers (marked (Until a) W)) (holds (omega arith))
+      (numbers_same P a W (λ some. holds (omega arith)))
   numbers_same P a (kept.Marker ∷ W) holds = numbers_same P a W (λ some. holds (omega arith))
 
   -- where the numbers are at most the snapshot, those of segments with items are
@@ -291,7 +302,9 @@ module _ {X : Type 0} where
   accelerated_late snap a b D W R N h most above =
       let same : 0 < length R → b ≡ snap =
       λ some. (let least = above some in let least_too = most_ready snap a b D W R N h most some in omega arith) in
-      let alone = numbers_two snap a b D W R N (λ some under. refl) (λ some under. absurd (let is = same some in omega arith)) in
+      let alone =
+      numbers_two snap a b D W R N (λ some under. refl)
+      (λ some under. absurd (let is = same some in omega arith)) in
       let given = under_remarked (mark_given snap) Done (Until a) (Until b) Unmarked D W R N ∙
       (under_same (Until a) (Until b) (Until a) (Until snap) (Until snap) D W R N (λ some. refl) (λ some. ap Until (same some))
       ∙ ap (λ l. marked Done D ++ (marked (Until a) W ++ l))
@@ -318,7 +331,8 @@ module _ {X : Type 0} where
       rw alone (sym given)
 
   -- one that changes nothing
-  pub accelerated_none : (snap a b : Number) (D W R N : List (Kept X)) → AreSegments a b D W R N → 0 < length R → b < snap →
+  pub accelerated_none : (snap a b : Number) (D W R N : List (Kept X)) → AreSegments a b D W R N → 0 < length R
+      → b < snap →
       joined a b D W R N ≡ after_accelerate (joined a b D W R N) snap
   accelerated_none snap a b D W R N h some below =
       rw (two_found snap a b D W R N (numbers_led a W (h.filled some) h.wait_first) (numbers_led b R some h.ready_first)
@@ -393,13 +407,16 @@ module _ {X : Type 0} where
 
   -- a segment with a number is the front with that number
   numbered_is : (n : Number) (W : List (Kept X)) (ys : List (Item X)) → begins_with_marker (unmarked W) ≡ false →
-      front_with n ys ≡ [] → (length W ≡ 0 → numbered ys ≡ []) → numbered (marked (Until n) W ++ ys) ≡ marked (Until n) W
+      front_with n ys ≡ [] → (length W ≡ 0 → numbered ys ≡ [])
+      → numbered (marked (Until n) W ++ ys) ≡ marked (Until n) W
   numbered_is n [] ys first none nothing = nothing refl
-  numbered_is n (kept.Call call ∷ W) ys first none nothing = ap (λ l. Of call (Until n) ∷ l) (front_with_same n W ys none)
+  numbered_is n (kept.Call call ∷ W) ys first none nothing =
+      ap (λ l. Of call (Until n) ∷ l) (front_with_same n W ys none)
   numbered_is n (kept.Marker ∷ W) ys first none nothing = absurd cc
 
   -- and the others are behind it
-  past_is : (n : Number) (W : List (Kept X)) (ys : List (Item X)) → numbered (marked (Until n) W ++ ys) ≡ marked (Until n) W →
+  past_is : (n : Number) (W : List (Kept X)) (ys : List (Item X))
+      → numbered (marked (Until n) W ++ ys) ≡ marked (Until n) W →
       past_numbered (marked (Until n) W ++ ys) ≡ ys
   past_is n W ys is =
       ap (λ l. drop (length l) (marked (Until n) W ++ ys)) is ∙
@@ -421,7 +438,8 @@ module _ {X : Type 0} where
       let first = numbered_is a W others h.wait_first (front_with_none a b R N h.ascending h.ready_first h.next_first)
       (λ none. second ∙ empty R (no_ready none)) in
       let waiting = behind_joined a b D W R N h in
-      let past : past_numbered (behind (joined a b D W R N)) ≡ others = ap past_numbered waiting ∙ past_is a W others first in
+      let past : past_numbered (behind (joined a b D W R N)) ≡ others =
+      ap past_numbered waiting ∙ past_is a W others first in
       sym (rw (
         front_joined a b D W R N h,
         past,

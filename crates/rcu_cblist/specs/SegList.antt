@@ -1,5 +1,7 @@
 -- One processor's list, in order: callbacks, each with its mark, and markers.
-use Rattle.std.specs.Prelude.{ℕ, zero, suc, ◌-◌, ◌==◌, ◌≤◌, ◌&&◌, nat_le, nat_lt, max, fold, if◌then◌else◌, Bool, true, false, not, Option, Some, None, List, [], ◌∷◌, ◌++◌, length, map, take, drop, filter_map, count_by, All}
+use Rattle.std.specs.Prelude.{ℕ, zero, suc, ◌+◌, ◌-◌, ◌==◌, ◌≤◌, ◌&&◌, nat_le, nat_lt, max, fold, if◌then◌else◌, Bool}
+use Rattle.std.specs.Prelude.{true, false, not, Option, Some, None, List, [], ◌∷◌, ◌++◌, length, map, take, drop}
+use Rattle.std.specs.Prelude.{filter_map, count_by, All}
 use Rattle.std.specs.List.{list_any}
 use Rattle.rcu_seq.specs.Numbers.{Number}
 use Rattle.rcu_cblist.specs.declared.queued.Queued.{Queued}
@@ -14,6 +16,11 @@ pub data Mark : Type 0 where
 pub data Item (X : Type 0) : Type 0 where
   Of : Queued X → Mark → Item X
   Marker : Item X
+
+-- what contracts see of a list: its items, and how many of them it has room for before it grows
+pub record Segmented (X : Type 0) : Type 0 where
+  pub items : List (Item X)
+  pub room : ℕ
 
 -- the mark once the number is reached: a number at most that one becomes done
 abbrev pub mark_advanced : Number → Mark → Mark
@@ -81,6 +88,10 @@ module _ {X : Type 0} where
   abbrev pub remarked : (Mark → Mark) → Item X → Item X
   remarked change (Of call mark) = Of call (change mark)
   remarked change Marker = Marker
+
+  -- there is room for so many items more
+  abbrev pub HasRoom : Segmented X → ℕ → Type 0
+  HasRoom list more = length list.items + more ≤ list.room
 
   -- the list has no item
   abbrev pub is_empty : List (Item X) → Bool

@@ -1,11 +1,11 @@
 //! One processor's list of callbacks.
 ghost use Rattle.std.specs.Prelude.{◌≡◌, ◌≢◌, ◌+◌, ◌<◌, ◌^◌, ◌++◌, ◌∷◌, [], false, not, length};
-ghost use Rattle.std.specs.Prelude.{OnOk, OnErr, IfOk, IfErr};
-ghost use Rattle.rcu_cblist.specs.SegList.{IsAtMost, Of, Unmarked, after_accelerate, after_advance};
-ghost use Rattle.rcu_cblist.specs.SegList.{after_entrain, after_migrate, after_take, as_it_leaves};
-ghost use Rattle.rcu_cblist.specs.SegList.{begins_with_marker, behind, callbacks, front, greatest};
-ghost use Rattle.rcu_cblist.specs.SegList.{is_empty, markers_passed, numbers, segments};
-ghost use Rattle.rcu_cblist.specs.SegList.{take_answer};
+ghost use Rattle.std.specs.Prelude.{IsOk, OnOk, OnErr, IfOk, IfErr};
+ghost use Rattle.rcu_cblist.specs.SegList.{HasRoom, IsAtMost, Of, Unmarked, after_accelerate};
+ghost use Rattle.rcu_cblist.specs.SegList.{after_advance, after_entrain, after_migrate, after_take};
+ghost use Rattle.rcu_cblist.specs.SegList.{as_it_leaves, begins_with_marker, behind, callbacks};
+ghost use Rattle.rcu_cblist.specs.SegList.{front, greatest, is_empty, markers_passed, numbers};
+ghost use Rattle.rcu_cblist.specs.SegList.{segments, take_answer};
 
 use crate::queued::Queued;
 use crate::refused::Refused;
@@ -16,11 +16,11 @@ use std::alloc::Global;
 use std::marker::Model;
 
 /// One processor's callbacks, in order, each with its mark: none, a grace-period number, or done
-/// (Linux's `rcu_segcblist`). Contracts see the list of items.
+/// (Linux's `rcu_segcblist`). Contracts see the list of items, and for how many there is room.
 ///
 /// The done part is the longest front with no callback that is not done. No list begins with a
 /// marker, so each marker has a callback before it. A call is refused only where a growth was, and
-/// leaves its lists as they were.
+/// leaves its lists as they were; no growth is asked for where there is room.
 #[derive(Drop)]
 pub struct SegList<T: Drop> {
     /// The items, in four segments.
@@ -30,13 +30,16 @@ pub struct SegList<T: Drop> {
 }
 
 impl<T: Drop> Model for SegList<T> {
-    ghost use Rattle.std.specs.Prelude.{List};
-    ghost use Rattle.rcu_cblist.specs.SegList.{Item};
+    ghost use Rattle.std.specs.VecDeque.{deque_capacity};
+    ghost use Rattle.rcu_cblist.specs.SegList.{Segmented};
     ghost use Rattle.rcu_cblist.specs.Segments.{IsCut, seen};
 
-    ghost Value = { List (Item T) };
+    ghost Value = { Segmented T };
 
-    ghost view = { λ s. seen s.segments };
+    ghost view = { λ s. record {
+      items = seen s.segments;
+      room = deque_capacity s.segments.items;
+    } };
 
     ghost invariant = { λ s. IsCut s.segments };
 }
@@ -44,7 +47,7 @@ impl<T: Drop> Model for SegList<T> {
 impl<T: Drop> SegList<T> {
     /// An empty list, which has grown nothing yet.
     pub fn new(alloc: Global) -> SegList<T>
-        ensures { result ≡ [] }
+        ensures { result.items ≡ [] }
     {
         SegList {
             segments: Segments::new(alloc),
@@ -52,14 +55,17 @@ impl<T: Drop> SegList<T> {
         }
     }
 
-    /// Queues a callback at the end, without a mark.
+    /// Queues a callback at the end, without a mark. Costs a step, and one an item where the list
+    /// grows.
     ///
-    /// Fault 16, which hands the callback back.
+    /// Fault `NoMemory` (16) where there is no room for it and a growth was refused, which hands it
+    /// back.
     pub fn queue(&mut self, item: Queued<T>) -> Result<(), Refused<Queued<T>>>
-        ensures ok { OnOk result (self.new ≡ self.old ++ Of item Unmarked ∷ []) }
+        ensures ok { OnOk result (self.new.items ≡ self.old.items ++ Of item Unmarked ∷ []) }
         ensures err { IfErr result (λ refused. refused.fault ≡ Fault.NoMemory) }
         ensures handed_back { IfErr result (λ refused. refused.value ≡ item) }
-        ensures unchanged { OnErr result (self.new ≡ self.old) }
+        ensures succeeds { HasRoom self.old 1 → IsOk result }
+        ensures unchanged { OnErr result (self.new.items ≡ self.old.items) }
     {
         let Ok(()) = self.segments.items.reserve(1) else {
             return Err(Refused {
@@ -73,7 +79,7 @@ impl<T: Drop> SegList<T> {
 
     /// Makes each callback done whose number is at most this one (Linux's `rcu_segcblist_advance`).
     pub fn advance(&mut self, number: u64)
-        ensures { self.new ≡ after_advance self.old number }
+        ensures { self.new.items ≡ after_advance self.old.items number }
     {
         self.segments.advance(number);
     }
@@ -82,23 +88,23 @@ impl<T: Drop> SegList<T> {
     /// two different numbers below it (Linux's `rcu_segcblist_accelerate`). No callback carries a
     /// number above it.
     pub fn accelerate(&mut self, snap: u64)
-        requires { IsAtMost snap self.old }
-        ensures { self.new ≡ after_accelerate self.old snap }
+        requires { IsAtMost snap self.old.items }
+        ensures { self.new.items ≡ after_accelerate self.old.items snap }
     {
         self.segments.accelerate(snap);
     }
 
     /// Takes the first callbacks of the done part, at most so many, and each marker before the
-    /// first callback that is left. Costs constant time for each.
+    /// first callback that is left. Costs a step for each.
     ///
-    /// Fault 16, only where it has a callback to hand out.
+    /// Fault `NoMemory` (16), only where it has a callback to hand out.
     pub fn take_done(&mut self, max: u64) -> Result<Taken<T>, Fault>
-        ensures calls { IfOk result (λ some. some.calls.items ≡ take_answer self.old max) }
-        ensures markers { IfOk result (λ some. some.markers ≡ markers_passed self.old max) }
-        ensures left { OnOk result (self.new ≡ after_take self.old max) }
+        ensures calls { IfOk result (λ some. some.calls.items ≡ take_answer self.old.items max) }
+        ensures markers { IfOk result (λ some. some.markers ≡ markers_passed self.old.items max) }
+        ensures left { OnOk result (self.new.items ≡ after_take self.old.items max) }
         ensures err { IfErr result (λ fault. fault ≡ Fault.NoMemory) }
-        ensures memory { OnErr result (take_answer self.old max ≢ []) }
-        ensures unchanged { OnErr result (self.new ≡ self.old) }
+        ensures memory { OnErr result (take_answer self.old.items max ≢ []) }
+        ensures unchanged { OnErr result (self.new.items ≡ self.old.items) }
     {
         let most = self.done_count().min(max);
         let mut calls = Vec::new(self.alloc);
@@ -110,30 +116,37 @@ impl<T: Drop> SegList<T> {
     }
 
     /// Moves all to a target: the done part goes in front of what is there, and the rest behind it
-    /// without its marks, the order kept. Costs what it moves.
+    /// without its marks, the order kept. Costs a step an item that moves, and one an item of the
+    /// target where that grows.
     ///
-    /// Fault 16, only where there is something to move.
+    /// Fault `NoMemory` (16), only where there is something to move, for which the target has no
+    /// room.
     pub fn migrate_into(&mut self, target: &mut SegList<T>) -> Result<(), Fault>
-        ensures ok { OnOk result (target.new ≡ after_migrate target.old self.old) }
-        ensures emptied { OnOk result (self.new ≡ []) }
+        ensures ok { OnOk result
+            (target.new.items ≡ after_migrate target.old.items self.old.items) }
+        ensures emptied { OnOk result (self.new.items ≡ []) }
         ensures err { IfErr result (λ fault. fault ≡ Fault.NoMemory) }
-        ensures memory { OnErr result (self.old ≢ []) }
-        ensures unchanged { OnErr result (self.new ≡ self.old) }
-        ensures target { OnErr result (target.new ≡ target.old) }
+        ensures memory { OnErr result (self.old.items ≢ []) }
+        ensures succeeds { HasRoom target.old (length self.old.items) → IsOk result }
+        ensures unchanged { OnErr result (self.new.items ≡ self.old.items) }
+        ensures target { OnErr result (target.new.items ≡ target.old.items) }
     {
         self.move_into(target, false)
     }
 
     /// Puts a marker at the end of a list that is not empty (Linux's `rcu_segcblist_entrain`), and
-    /// answers whether it did. An empty list stays as it is, and takes no memory.
+    /// answers whether it did. An empty list stays as it is, and takes no memory. Costs as
+    /// [`SegList::queue`].
     ///
-    /// Fault 16, only where the list is not empty.
+    /// Fault `NoMemory` (16), only where the list is not empty and there is no room for the
+    /// marker.
     pub fn entrain(&mut self) -> Result<bool, Fault>
-        ensures marked { IfOk result (λ marked. marked ≡ not (is_empty self.old)) }
-        ensures ok { OnOk result (self.new ≡ after_entrain self.old) }
+        ensures marked { IfOk result (λ marked. marked ≡ not (is_empty self.old.items)) }
+        ensures ok { OnOk result (self.new.items ≡ after_entrain self.old.items) }
         ensures err { IfErr result (λ fault. fault ≡ Fault.NoMemory) }
-        ensures memory { OnErr result (self.old ≢ []) }
-        ensures unchanged { OnErr result (self.new ≡ self.old) }
+        ensures memory { OnErr result (self.old.items ≢ []) }
+        ensures succeeds { HasRoom self.old 1 → IsOk result }
+        ensures unchanged { OnErr result (self.new.items ≡ self.old.items) }
     {
         if self.is_empty() {
             return Ok(false);
@@ -146,16 +159,20 @@ impl<T: Drop> SegList<T> {
     }
 
     /// Moves all to a target, with a marker put behind it first where it is not empty: what
-    /// `entrain` and then `migrate_into` leave, all or nothing. Costs what it moves.
+    /// `entrain` and then `migrate_into` leave, all or nothing. Costs as [`SegList::migrate_into`].
     ///
-    /// Fault 16, only where there is something to move.
+    /// Fault `NoMemory` (16), only where there is something to move, for which the target has no
+    /// room.
     pub fn migrate_marked_into(&mut self, target: &mut SegList<T>) -> Result<(), Fault>
-        ensures ok { OnOk result (target.new ≡ after_migrate target.old (after_entrain self.old)) }
-        ensures emptied { OnOk result (self.new ≡ []) }
+        ensures ok { OnOk result (target.new.items
+            ≡ after_migrate target.old.items (after_entrain self.old.items)) }
+        ensures emptied { OnOk result (self.new.items ≡ []) }
         ensures err { IfErr result (λ fault. fault ≡ Fault.NoMemory) }
-        ensures memory { OnErr result (self.old ≢ []) }
-        ensures unchanged { OnErr result (self.new ≡ self.old) }
-        ensures target { OnErr result (target.new ≡ target.old) }
+        ensures memory { OnErr result (self.old.items ≢ []) }
+        ensures succeeds { HasRoom target.old (length (after_entrain self.old.items))
+            → IsOk result }
+        ensures unchanged { OnErr result (self.new.items ≡ self.old.items) }
+        ensures target { OnErr result (target.new.items ≡ target.old.items) }
     {
         self.move_into(target, true)
     }
@@ -163,15 +180,18 @@ impl<T: Drop> SegList<T> {
     /// Moves all to a target, with a marker put behind it first where that is wanted and it is not
     /// empty. Room for both is made before either.
     ///
-    /// Fault 16, only where there is something to move.
+    /// Fault `NoMemory` (16), only where there is something to move, for which the target has no
+    /// room.
     fn move_into(&mut self, target: &mut SegList<T>, marked: bool) -> Result<(), Fault>
-        ensures ok { OnOk result (target.new
-            ≡ after_migrate target.old (as_it_leaves self.old marked)) }
-        ensures emptied { OnOk result (self.new ≡ []) }
+        ensures ok { OnOk result (target.new.items
+            ≡ after_migrate target.old.items (as_it_leaves self.old.items marked)) }
+        ensures emptied { OnOk result (self.new.items ≡ []) }
         ensures err { IfErr result (λ fault. fault ≡ Fault.NoMemory) }
-        ensures memory { OnErr result (self.old ≢ []) }
-        ensures unchanged { OnErr result (self.new ≡ self.old) }
-        ensures target { OnErr result (target.new ≡ target.old) }
+        ensures memory { OnErr result (self.old.items ≢ []) }
+        ensures succeeds { HasRoom target.old (length (as_it_leaves self.old.items marked))
+            → IsOk result }
+        ensures unchanged { OnErr result (self.new.items ≡ self.old.items) }
+        ensures target { OnErr result (target.new.items ≡ target.old.items) }
     {
         if self.is_empty() {
             return Ok(());
@@ -186,36 +206,36 @@ impl<T: Drop> SegList<T> {
 
     /// Whether it has no item. It never begins with a marker.
     pub fn is_empty(&self) -> bool
-        ensures empty { result ≡ is_empty self.now }
-        ensures first { begins_with_marker self.now ≡ false }
+        ensures empty { result ≡ is_empty self.now.items }
+        ensures first { begins_with_marker self.now.items ≡ false }
     {
         self.segments.items.is_empty()
     }
 
     /// How many callbacks there are.
     pub fn count(&self) -> u64
-        ensures { result ≡ length (callbacks self.now) }
+        ensures { result ≡ length (callbacks self.now.items) }
     {
         self.segments.calls
     }
 
     /// How many callbacks the done part has.
     pub fn done_count(&self) -> u64
-        ensures { result ≡ length (callbacks (front self.now)) }
+        ensures { result ≡ length (callbacks (front self.now.items)) }
     {
         self.segments.done.calls
     }
 
     /// How many callbacks are behind the done part.
     pub fn waiting_count(&self) -> u64
-        ensures { result ≡ length (callbacks (behind self.now)) }
+        ensures { result ≡ length (callbacks (behind self.now.items)) }
     {
         self.segments.calls - self.segments.done.calls
     }
 
     /// The greatest number that a waiting callback carries, none where none carries one.
     pub fn greatest_waiting(&self) -> Option<u64>
-        ensures { result ≡ greatest (numbers self.now) }
+        ensures { result ≡ greatest (numbers self.now.items) }
     {
         self.segments.greatest_waiting()
     }
@@ -223,7 +243,7 @@ impl<T: Drop> SegList<T> {
     /// How many items, markers too, stand in each of Linux's four segments: DONE, WAIT, NEXT_READY
     /// and NEXT.
     pub fn segments(&self) -> [u64; 4]
-        ensures { result ≡ segments self.now }
+        ensures { result ≡ segments self.now.items }
     {
         self.segments.lengths()
     }

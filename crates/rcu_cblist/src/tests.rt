@@ -1,4 +1,5 @@
-//! Each public call once, the values of three marks in a list, and calls drawn at random.
+//! Each public call once, the values of three marks in a list, what a refused growth leaves, and
+//! calls drawn at random.
 
 mod plain;
 mod random;
@@ -6,20 +7,30 @@ mod random;
 use crate::queued::Queued;
 use crate::seg_list::SegList;
 use rcu_seq::fault::Fault;
-use std::io::Print;
 use std::process::Abort;
 
-/// Compares the fault of a call whose growth was refused, and says so for who counts the growths.
-fn refused<R: Abort + Print>(rt: &R, fault: Fault) {
+/// All that can be asked of a list: its counts, its greatest number, and its segments.
+type Asked = ((u64, u64, u64), Option<u64>, [u64; 4]);
+
+/// Asks all of a list.
+fn asked(list: &SegList<u64>) -> Asked {
+    let counts = (list.count(), list.done_count(), list.waiting_count());
+    (counts, list.greatest_waiting(), list.segments())
+}
+
+/// Compares the fault of a call whose growth was refused, and what it left of a list with what was
+/// there.
+fn refused(rt: &impl Abort, fault: Fault, now: Asked, before: Asked) {
     assert_eq!(rt; fault, Fault::NoMemory);
-    let _ = println!(rt; "a growth was refused");
+    assert_eq!(rt; now, before);
 }
 
 /// Queues a callback, by a second call where the first is refused a growth, and compares what that
 /// one hands back.
-fn queue<R: Abort + Print>(rt: &R, list: &mut SegList<u64>, ord: u64, at: u64, value: u64) {
+fn queue(rt: &impl Abort, list: &mut SegList<u64>, ord: u64, at: u64, value: u64) {
+    let before = asked(list);
     if let Err(back) = list.queue(Queued { ord, at, value }) {
-        refused(rt, back.fault);
+        refused(rt, back.fault, asked(list), before);
         let item = back.value;
         assert_eq!(rt; (item.ord, item.at, item.value), (ord, at, value));
         assert!(rt; list.queue(item).is_ok(), "the second call has memory");
@@ -40,11 +51,12 @@ fn accelerate(rt: &impl Abort, list: &mut SegList<u64>, snap: u64) {
 
 /// Takes callbacks, by a second call where the first is refused a growth, and compares their values
 /// and how many markers were passed.
-fn take<R: Abort + Print>(rt: &R, list: &mut SegList<u64>, max: u64, wanted: &[u64], markers: u64) {
+fn take(rt: &impl Abort, list: &mut SegList<u64>, max: u64, wanted: &[u64], markers: u64) {
+    let before = asked(list);
     let taken = match list.take_done(max) {
         Ok(taken) => taken,
         Err(fault) => {
-            refused(rt, fault);
+            refused(rt, fault, asked(list), before);
             list.take_done(max).expect(rt, "the second call has memory")
         }
     };
@@ -56,28 +68,33 @@ fn take<R: Abort + Print>(rt: &R, list: &mut SegList<u64>, max: u64, wanted: &[u
 }
 
 /// Moves a list, by a second call where the first is refused a growth.
-fn migrate<R: Abort + Print>(rt: &R, list: &mut SegList<u64>, target: &mut SegList<u64>) {
+fn migrate(rt: &impl Abort, list: &mut SegList<u64>, target: &mut SegList<u64>) {
+    let (before, there) = (asked(list), asked(target));
     if let Err(fault) = list.migrate_into(target) {
-        refused(rt, fault);
+        refused(rt, fault, asked(list), before);
+        refused(rt, fault, asked(target), there);
         assert_eq!(rt; list.migrate_into(target), Ok(()));
     }
 }
 
 /// Moves a list with a marker behind it, by a second call where the first is refused a growth.
-fn migrate_marked<R: Abort + Print>(rt: &R, list: &mut SegList<u64>, target: &mut SegList<u64>) {
+fn migrate_marked(rt: &impl Abort, list: &mut SegList<u64>, target: &mut SegList<u64>) {
+    let (before, there) = (asked(list), asked(target));
     if let Err(fault) = list.migrate_marked_into(target) {
-        refused(rt, fault);
+        refused(rt, fault, asked(list), before);
+        refused(rt, fault, asked(target), there);
         assert_eq!(rt; list.migrate_marked_into(target), Ok(()));
     }
 }
 
 /// Puts a marker behind a list, by a second call where the first is refused a growth, and compares
 /// whether it did.
-fn entrain<R: Abort + Print>(rt: &R, list: &mut SegList<u64>, wanted: bool) {
+fn entrain(rt: &impl Abort, list: &mut SegList<u64>, wanted: bool) {
+    let before = asked(list);
     match list.entrain() {
         Ok(marked) => assert_eq!(rt; marked, wanted),
         Err(fault) => {
-            refused(rt, fault);
+            refused(rt, fault, asked(list), before);
             assert_eq!(rt; list.entrain(), Ok(wanted));
         }
     }
@@ -228,4 +245,24 @@ fn migration_with_a_marker(rt: HostRuntime) {
     list.advance(12);
     migrate_marked(&rt, &mut list, &mut target);
     take(&rt, &mut target, 9, &[12], 1);
+}
+
+/// Two lists are made first; no growth of a later call is refused, for none asks for memory.
+#[test]
+fn calls_without_memory(rt: HostRuntime) {
+    let mut list = SegList::new(rt.alloc());
+    queue(&rt, &mut list, 1, 0, 10);
+    queue(&rt, &mut list, 2, 0, 11);
+    let mut empty = SegList::new(rt.alloc());
+
+    assert_eq!(rt; empty.entrain(), Ok(false));
+    assert_eq!(rt; empty.migrate_into(&mut list), Ok(()));
+    assert_eq!(rt; empty.migrate_marked_into(&mut list), Ok(()));
+    accelerate(&rt, &mut list, 4);
+    list.advance(0);
+    assert_eq!(rt; list.take_done(9).map(|taken| taken.markers), Ok(0));
+    list.advance(4);
+    assert_eq!(rt; list.take_done(0).map(|taken| taken.markers), Ok(0));
+    assert_eq!(rt; asked(&list), ((2, 2, 0), None, [2, 0, 0, 0]));
+    assert_eq!(rt; asked(&empty), ((0, 0, 0), None, [0, 0, 0, 0]));
 }

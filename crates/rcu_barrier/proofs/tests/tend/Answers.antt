@@ -6,5 +6,6 @@ use Rattle.rcu_barrier.proofs.tests.tend.Goals as goal
 
 pub tend-counts-requires-in-Some-clause-within : goal.tend-counts-requires-in-Some-clause-within
 tend-counts-requires-in-Some-clause-within g c =
-    c.greatest_bounds_each.ensures.some (snapshot c.args.number) c.in-Some.most (numbers (list_of c.args.lists.now c.args.cpu))
+    c.greatest_bounds_each.ensures.some (snapshot c.args.number) c.in-Some.most
+    (numbers (list_of c.args.lists.now.all c.args.cpu))
     (sym c.greatest_waiting.ensures ∙ c.in-Some.is) (omega arith)

@@ -5,4 +5,5 @@ use Rattle.rcu_cblist.proofs.tests.accelerate.Goals as goal
 
 pub accelerate-requires-in-Some : goal.accelerate-requires-in-Some
 accelerate-requires-in-Some g c =
-    at_most_some c.args.snap c.in-Some.most (numbers c.args.list.now) (sym c.greatest_waiting.ensures ∙ c.in-Some.is) (omega arith)
+    at_most_some c.args.snap c.in-Some.most (numbers c.args.list.now.items)
+    (sym c.greatest_waiting.ensures ∙ c.in-Some.is) (omega arith)

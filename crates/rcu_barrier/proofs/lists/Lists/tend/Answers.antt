@@ -3,7 +3,8 @@ use Rattle.rcu_cblist.specs.SegList.{IsAtMost, behind, callbacks, front, markers
 use Rattle.rcu_barrier.specs.Tending.{AreFours, after_tend}
 use Rattle.rcu_seq.specs.Numbers.{snapshot}
 use Rattle.rcu_barrier.proofs.Fours.{fours_get, fours_tended, most_advanced, tend_is}
-use Rattle.rcu_barrier.proofs.Kept.{list_is, relisted}
+use Rattle.rcu_barrier.proofs.Rooms.{read_items, relisted_in, set_items}
+use Rattle.rcu_barrier.specs.Lists.{items_in}
 use Rattle.rcu_cblist.proofs.SegListLemmas.{markers_remarked}
 use Rattle.rcu_barrier.proofs.lists.Lists.tend.Goals as goal
 
@@ -12,12 +13,13 @@ accelerate-requires g c =
     let i = c.self.inside in
     let number = c.args.number in
     let old = c.index_mut-list.result.now in
-    let inside : c.args.cpu < length i.lists.items = subst (λ v. c.args.cpu < length v.lists) (sym c.self.view_is) c.requires.cpu in
-    let within : IsAtMost (snapshot number) (get_or i.lists.items c.args.cpu []) =
-    subst (λ v. IsAtMost (snapshot number) (get_or v.lists c.args.cpu [])) (sym c.self.view_is) c.requires.within in
+    let inside : c.args.cpu < length (items_in i.lists.items) =
+    subst (λ v. c.args.cpu < length v.all.lists) (sym c.self.view_is) c.requires.cpu in
+    let within : IsAtMost (snapshot number) (get_or (items_in i.lists.items) c.args.cpu []) =
+    subst (λ v. IsAtMost (snapshot number) (get_or v.all.lists c.args.cpu [])) (sym c.self.view_is) c.requires.within in
     let snap = c.of.ensures in
-    let is = list_is i.lists.items c.args.cpu old inside c.index_mut-list.ensures.value in
-    rw (snap, c.advance.ensures) (most_advanced number (snapshot number) old (subst (IsAtMost (snapshot number)) (sym is) within))
+    let is = read_items i.lists.items c.args.cpu old inside c.index_mut-list.ensures.value in
+    rw (snap, c.advance.ensures) (most_advanced number (snapshot number) old.items (subst (IsAtMost (snapshot number)) (sym is) within))
 
 pub invariant_of-self : goal.invariant_of-self
 invariant_of-self g c =
@@ -25,16 +27,18 @@ invariant_of-self g c =
     let k = c.self.invariant in
     let number = c.args.number in
     let old = c.index_mut-list.result.now in
-    let inside : c.args.cpu < length i.lists.items = subst (λ v. c.args.cpu < length v.lists) (sym c.self.view_is) c.requires.cpu in
-    let is = list_is i.lists.items c.args.cpu old inside c.index_mut-list.ensures.value in
-    let fours : AreFours old = subst AreFours (sym is) (fours_get i.lists.items c.args.cpu k.1.fours) in
+    let inside : c.args.cpu < length (items_in i.lists.items) =
+    subst (λ v. c.args.cpu < length v.all.lists) (sym c.self.view_is) c.requires.cpu in
+    let is = read_items i.lists.items c.args.cpu old inside c.index_mut-list.ensures.value in
+    let fours : AreFours old.items =
+    subst AreFours (sym is) (fours_get (items_in i.lists.items) c.args.cpu k.1.fours) in
     let snap = c.of.ensures in
-    let after : c.accelerate.new.self ≡ after_tend old number =
-    c.accelerate.ensures ∙ (rw (snap, c.advance.ensures) (tend_is number old c.requires.state fours)) in
-    let same = ap markers after ∙ markers_remarked _ old in
-    relisted (record { lists = i.lists.items; visited = i.visits; running = i.running; queued = i.queued }) i.markers i.markers
-    i.queued c.args.cpu old c.accelerate.new.self i.visits k.0 k.1 inside c.index_mut-list.ensures.value refl (omega arith)
-    (omega arith) k.1.counted (λ _. subst AreFours (sym after) (fours_tended number old fours))
+    let after : c.accelerate.new.self.items ≡ after_tend old.items number =
+    c.accelerate.ensures ∙ (rw (snap, c.advance.ensures) (tend_is number old.items c.requires.state fours)) in
+    let same = ap markers after ∙ markers_remarked _ old.items in
+    relisted_in i.lists.items i.visits i.visits i.running i.queued i.markers i.markers
+    i.queued c.args.cpu old c.accelerate.new.self k.0 k.1 inside c.index_mut-list.ensures.value refl (omega arith)
+    (omega arith) k.1.counted (λ _. subst AreFours (sym after) (fours_tended number old.items fours))
 
 pub returns-clause-state : goal.returns-clause-state
 returns-clause-state g c =
@@ -42,14 +46,17 @@ returns-clause-state g c =
     let k = c.self.invariant in
     let number = c.args.number in
     let old = c.index_mut-list.result.now in
-    let inside : c.args.cpu < length i.lists.items = subst (λ v. c.args.cpu < length v.lists) (sym c.self.view_is) c.requires.cpu in
-    let is = list_is i.lists.items c.args.cpu old inside c.index_mut-list.ensures.value in
-    let fours : AreFours old = subst AreFours (sym is) (fours_get i.lists.items c.args.cpu k.1.fours) in
+    let inside : c.args.cpu < length (items_in i.lists.items) =
+    subst (λ v. c.args.cpu < length v.all.lists) (sym c.self.view_is) c.requires.cpu in
+    let is = read_items i.lists.items c.args.cpu old inside c.index_mut-list.ensures.value in
+    let fours : AreFours old.items =
+    subst AreFours (sym is) (fours_get (items_in i.lists.items) c.args.cpu k.1.fours) in
     let snap = c.of.ensures in
-    let after : c.accelerate.new.self ≡ after_tend (get_or i.lists.items c.args.cpu []) number =
-    c.accelerate.ensures ∙ (rw (snap, c.advance.ensures) (tend_is number old c.requires.state fours) ∙ ap (λ l. after_tend l number) is) in
+    let after : c.accelerate.new.self.items ≡ after_tend (get_or (items_in i.lists.items) c.args.cpu []) number =
+    c.accelerate.ensures ∙ (rw (snap, c.advance.ensures) (tend_is number old.items c.requires.state fours) ∙ ap (λ l. after_tend l number) is) in
     rw (← c.self.view_is)
-    (ap (λ l. record { lists = set i.lists.items c.args.cpu l; visited = i.visits; running = i.running; queued = i.queued }) after)
+    (ap (λ l. record { lists = l; visited = i.visits; running = i.running; queued = i.queued })
+    (set_items i.lists.items c.args.cpu c.accelerate.new.self ∙ ap (λ l. set (items_in i.lists.items) c.args.cpu l) after))
 
 pub returns-clause-done : goal.returns-clause-done
 returns-clause-done g c =
@@ -57,12 +64,14 @@ returns-clause-done g c =
     let k = c.self.invariant in
     let number = c.args.number in
     let old = c.index_mut-list.result.now in
-    let inside : c.args.cpu < length i.lists.items = subst (λ v. c.args.cpu < length v.lists) (sym c.self.view_is) c.requires.cpu in
-    let is = list_is i.lists.items c.args.cpu old inside c.index_mut-list.ensures.value in
-    let fours : AreFours old = subst AreFours (sym is) (fours_get i.lists.items c.args.cpu k.1.fours) in
+    let inside : c.args.cpu < length (items_in i.lists.items) =
+    subst (λ v. c.args.cpu < length v.all.lists) (sym c.self.view_is) c.requires.cpu in
+    let is = read_items i.lists.items c.args.cpu old inside c.index_mut-list.ensures.value in
+    let fours : AreFours old.items =
+    subst AreFours (sym is) (fours_get (items_in i.lists.items) c.args.cpu k.1.fours) in
     let snap = c.of.ensures in
-    let after : c.accelerate.new.self ≡ after_tend (get_or i.lists.items c.args.cpu []) number =
-    c.accelerate.ensures ∙ (rw (snap, c.advance.ensures) (tend_is number old c.requires.state fours) ∙ ap (λ l. after_tend l number) is) in
+    let after : c.accelerate.new.self.items ≡ after_tend (get_or (items_in i.lists.items) c.args.cpu []) number =
+    c.accelerate.ensures ∙ (rw (snap, c.advance.ensures) (tend_is number old.items c.requires.state fours) ∙ ap (λ l. after_tend l number) is) in
     rw (← c.self.view_is, c.done_count.ensures ∙ ap (λ l. length (callbacks (front l))) after) refl
 
 pub returns-clause-waiting : goal.returns-clause-waiting
@@ -71,10 +80,12 @@ returns-clause-waiting g c =
     let k = c.self.invariant in
     let number = c.args.number in
     let old = c.index_mut-list.result.now in
-    let inside : c.args.cpu < length i.lists.items = subst (λ v. c.args.cpu < length v.lists) (sym c.self.view_is) c.requires.cpu in
-    let is = list_is i.lists.items c.args.cpu old inside c.index_mut-list.ensures.value in
-    let fours : AreFours old = subst AreFours (sym is) (fours_get i.lists.items c.args.cpu k.1.fours) in
+    let inside : c.args.cpu < length (items_in i.lists.items) =
+    subst (λ v. c.args.cpu < length v.all.lists) (sym c.self.view_is) c.requires.cpu in
+    let is = read_items i.lists.items c.args.cpu old inside c.index_mut-list.ensures.value in
+    let fours : AreFours old.items =
+    subst AreFours (sym is) (fours_get (items_in i.lists.items) c.args.cpu k.1.fours) in
     let snap = c.of.ensures in
-    let after : c.accelerate.new.self ≡ after_tend (get_or i.lists.items c.args.cpu []) number =
-    c.accelerate.ensures ∙ (rw (snap, c.advance.ensures) (tend_is number old c.requires.state fours) ∙ ap (λ l. after_tend l number) is) in
+    let after : c.accelerate.new.self.items ≡ after_tend (get_or (items_in i.lists.items) c.args.cpu []) number =
+    c.accelerate.ensures ∙ (rw (snap, c.advance.ensures) (tend_is number old.items c.requires.state fours) ∙ ap (λ l. after_tend l number) is) in
     rw (← c.self.view_is, c.waiting_count.ensures ∙ ap (λ l. length (callbacks (behind l))) after) refl

@@ -10,7 +10,7 @@ take-markers-requires-clause-done g c =
     let most = c.min-most.ensures in
     let done = c.done_count.ensures in
     let counted = counted_done c.self.inside.segments c.self.invariant in
-    let same = ap (λ l. length (callbacks (front l))) c.self.view_is in
+    let same = ap (λ l. length (callbacks (front l.items))) c.self.view_is in
     omega arith
 
 -- as many as may be taken, or all that are done
@@ -19,7 +19,7 @@ fewer : (g : _) (c : goal.After-take-markers g) →
 fewer g c =
     let most = c.min-most.ensures in
     let done = c.done_count.ensures in
-    let same = ap (λ l. length (callbacks (front l))) c.self.view_is in
+    let same = ap (λ l. length (callbacks (front l.items))) c.self.view_is in
     taken_fewer c.args.max c.min-most.result (seen c.self.inside.segments) (omega arith)
 
 pub returns-clause-calls : goal.returns-clause-calls

@@ -1,5 +1,6 @@
 use Rattle.std.proofs.Common.{◌≡◌, length, ◌∙◌, arith}
-use Rattle.rcu_cblist.proofs.Cuts.{cut_early, cut_late, length_between, seen_at, segments_at, segments_early, segments_late, tail_end}
+use Rattle.rcu_cblist.proofs.Cuts.{cut_early, cut_late, length_between, seen_at, segments_at, segments_early}
+use Rattle.rcu_cblist.proofs.Cuts.{segments_late, tail_end}
 use Rattle.rcu_cblist.proofs.Views.{accelerated_early, accelerated_late, accelerated_none, below_false, below_true}
 use Rattle.rcu_cblist.proofs.segments.Segments.accelerate.Goals as goal
 

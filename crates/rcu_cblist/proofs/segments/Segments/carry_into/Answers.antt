@@ -94,7 +94,8 @@ ahead g c =
 -- with how many callbacks
 ahead_calls : (g : _) (c : goal.After-self-4-1 g) →
     let s = c.args.self.now in
-    c.lose_numbers.new.self.ready.calls ≡ length (callbacks (unmarked (moved_in_front s.items.items s.done.items c.args.marked)))
+    c.lose_numbers.new.self.ready.calls
+    ≡ length (callbacks (unmarked (moved_in_front s.items.items s.done.items c.args.marked)))
 ahead_calls g c =
     let s = c.args.self.now in
     ap (λ tail. tail.calls) c.lose_numbers.ensures.next ∙

@@ -1,0 +1,119 @@
+-- Lists and their items: what a change of one list with room changes in the list of the items.
+use Rattle.std.proofs.Common.{◌≡◌, ℕ, zero, suc, ◌+◌, ◌-◌, ◌<◌, ◌≤◌, Bool, List, [], ◌∷◌, ◌++◌, length, set, get_or}
+use Rattle.std.proofs.Common.{take, drop, ap, sym, subst, ◌∙◌, arith}
+use Rattle.std.proofs.lemmas.List.{get_or-map, get_or_default, length-map, map-set, set-get_or}
+use Rattle.std.proofs.Math.Seq.{map-set_same}
+use Rattle.rcu_cblist.specs.SegList.{Item, Segmented, after_migrate, as_it_leaves, markers}
+use Rattle.rcu_barrier.specs.Tending.{AreFours}
+use Rattle.rcu_barrier.specs.Lists.{IsSound, items_in, list_at, lists_after_move, markers_in, most_queued, unvisited}
+use Rattle.rcu_barrier.proofs.Kept.{relisted}
+
+module _ {X : Type 0} where
+  -- the items of a list
+  abbrev items_of : Segmented X → List (Item X)
+  items_of list = list.items
+
+  -- there are as many lists of items
+  pub long_in : (lists : List (Segmented X)) → length (items_in lists) ≡ length lists
+  long_in lists = length-map lists items_of
+
+  -- a list that was read has the items of its place
+  pub read_items : (lists : List (Segmented X)) (cpu : ℕ) (old : Segmented X) → cpu < length (items_in lists) →
+      old ≡ get_or lists cpu old → old.items ≡ list_at (items_in lists) cpu
+  read_items lists cpu old inside read =
+      let long = long_in lists in
+      ap items_of read ∙ sym (get_or-map items_of lists cpu old [] (omega arith))
+
+  -- one list is another
+  pub set_items : (lists : List (Segmented X)) (cpu : ℕ) (new : Segmented X) →
+      items_in (set lists cpu new) ≡ set (items_in lists) cpu new.items
+  set_items lists cpu new = map-set items_of lists cpu new
+
+  -- one list is another with the same items
+  pub same_items : (lists : List (Segmented X)) (cpu : ℕ) (old new : Segmented X) → old ≡ get_or lists cpu old →
+      new.items ≡ old.items → items_in (set lists cpu new) ≡ items_in lists
+  same_items lists cpu old new read same = map-set_same items_of lists cpu new old (same ∙ ap items_of read)
+
+  -- one list is what a change makes of it
+  pub changed_items : (change : List (Item X) → List (Item X)) (lists : List (Segmented X)) (cpu : ℕ)
+      (old new : Segmented X) →
+      cpu < length (items_in lists) → old ≡ get_or lists cpu old → new.items ≡ change old.items →
+      items_in (set lists cpu new) ≡ set (items_in lists) cpu (change (list_at (items_in lists) cpu))
+  changed_items change lists cpu old new inside read after =
+      set_items lists cpu new ∙
+      ap (λ l. set (items_in lists) cpu l) (after ∙ ap change (read_items lists cpu old inside read))
+
+  -- the first list, read off the front one
+  first_read : (lists front : List (Segmented X)) (d : Segmented X) → front ≡ take 1 lists → 0 < length lists →
+      (get_or front 0 d).items ≡ list_at (items_in lists) 0
+  first_read [] front d is some = absurd (omega arith)
+  first_read (x ∷ xs) front d is some = ap (λ l. (get_or l 0 d).items) is
+
+  -- another list, read off the lists behind the first
+  pub other_read : (lists back : List (Segmented X)) (from : ℕ) (d : Segmented X) → back ≡ drop 1 lists → 0 < from →
+      from < length lists → (get_or back (from - 1) d).items ≡ list_at (items_in lists) from
+  other_read [] back from d is above inside = absurd (omega arith)
+  other_read (x ∷ xs) back zero d is above inside = absurd (omega arith)
+  other_read (x ∷ xs) back (suc n) d is above inside =
+      let same : suc n - 1 ≡ n = omega arith in
+      rw same (ap (λ l. (get_or l n d).items) is ∙ sym (get_or-map items_of xs n d [] (omega arith)))
+
+  -- the first list and another one are others
+  two_items : (lists front back : List (Segmented X)) (from : ℕ) (first other : Segmented X) → front ≡ take 1 lists →
+      back ≡ drop 1 lists → 0 < from → from < length lists →
+      items_in (set front 0 first ++ set back (from - 1) other)
+      ≡ set (set (items_in lists) 0 first.items) from other.items
+  two_items [] front back from first other is_front is_back above inside = absurd (omega arith)
+  two_items (x ∷ xs) front back zero first other is_front is_back above inside = absurd (omega arith)
+  two_items (x ∷ xs) front back (suc n) first other is_front is_back above inside =
+      let same : suc n - 1 ≡ n = omega arith in
+      rw same (rw (is_front, is_back) (ap (λ l. first.items ∷ l) (set_items xs n other)))
+
+  -- they are others with the same items
+  pub two_same : (lists front back : List (Segmented X)) (from : ℕ) (first other d e : Segmented X)
+      → front ≡ take 1 lists →
+      back ≡ drop 1 lists → 0 < from → from < length lists → first.items ≡ (get_or front 0 d).items →
+      other.items ≡ (get_or back (from - 1) e).items →
+      items_in (set front 0 first ++ set back (from - 1) other) ≡ items_in lists
+  two_same lists front back from first other d e is_front is_back above inside same_first same_other =
+      let firsts = same_first ∙ first_read lists front d is_front (omega arith) in
+      let others = same_other ∙ other_read lists back from e is_back above inside in
+      two_items lists front back from first other is_front is_back above inside ∙
+      (ap (λ l. set (set (items_in lists) 0 l) from other.items) firsts ∙
+      (ap (λ l. set l from other.items) (set-get_or (items_in lists) 0 []) ∙
+      (ap (λ l. set (items_in lists) from l) others ∙ set-get_or (items_in lists) from [])))
+
+  -- one moved to the first
+  pub two_moved : (lists front back : List (Segmented X)) (from : ℕ) (owed : Bool) (first other d e : Segmented X) →
+      front ≡ take 1 lists → back ≡ drop 1 lists → 0 < from → from < length lists →
+      first.items ≡ after_migrate (get_or front 0 d).items (as_it_leaves (get_or back (from - 1) e).items owed) →
+      other.items ≡ [] → items_in (set front 0 first ++ set back (from - 1) other)
+      ≡ lists_after_move (items_in lists) from owed
+  two_moved lists front back from owed first other d e is_front is_back above inside moved left =
+      let firsts = first_read lists front d is_front (omega arith) in
+      let others = other_read lists back from e is_back above inside in
+      let now = moved ∙ (ap (λ l. after_migrate l (as_it_leaves (get_or back (from - 1) e).items owed)) firsts ∙
+      ap (λ l. after_migrate (list_at (items_in lists) 0) (as_it_leaves l owed)) others) in
+      two_items lists front back from first other is_front is_back above inside ∙
+      (ap (λ l. set (set (items_in lists) 0 l) from other.items) now ∙
+      ap (λ l. set (set (items_in lists) 0 (after_migrate (list_at (items_in lists) 0)
+      (as_it_leaves (list_at (items_in lists) from) owed))) from l) left)
+
+  -- what is kept where one list changes, and perhaps visits and the count of queued callbacks
+  pub relisted_in : (lists : List (Segmented X)) (visited flags : List Bool) (running : Bool)
+      (before m n queued cpu : ℕ)
+      (old new : Segmented X) → m ≡ markers_in (items_in lists) →
+      IsSound (record { lists = items_in lists; visited = visited; running = running; queued = before }) →
+      cpu < length (items_in lists) → old ≡ get_or lists cpu old →
+      length flags ≡ length visited → n + markers old.items ≡ m + markers new.items →
+      n + unvisited flags ≤ m + unvisited visited →
+      queued ≤ most_queued → (AreFours old.items → AreFours new.items) →
+      (n ≡ markers_in (items_in (set lists cpu new)))
+      × IsSound (record { lists = items_in (set lists cpu new); visited = flags; running = running; queued = queued })
+  relisted_in lists visited flags running before m n queued cpu old new count kept inside read sized now fewer few keeps =
+      let is = read_items lists cpu old inside read in
+      let default = get_or_default (items_in lists) cpu old.items [] inside in
+      subst (λ l. (n ≡ markers_in l) × IsSound (record { lists = l; visited = flags; running = running; queued = queued }))
+      (sym (set_items lists cpu new))
+      (relisted (record { lists = items_in lists; visited = visited; running = running; queued = before }) m n queued cpu
+      old.items new.items flags count kept inside (is ∙ sym default) sized now fewer few keeps)
