@@ -6,6 +6,7 @@ pub mod Follows
 pub mod FollowsLists
 pub mod FollowsPeriods
 pub mod Heard
+pub mod Held
 pub mod Kept
 pub mod Longer
 pub mod Lost

@@ -94,13 +94,9 @@ impl<A: Awaited> Core<A, u64> {
         ensures memory { IfErr result (λ fault. is_last last ≡ true → fault ≡ Fault.NoMemory) }
     {
         let gp = GpState::new(alloc, inner, last)?;
-        let Ok(mut cpus) = Vec::with_capacity(alloc, gp.cpus() as usize) else {
-            return Err(Fault::NoMemory);
-        };
+        let mut cpus = Vec::with_capacity(alloc, gp.cpus() as usize)?;
         for cpu in 0..gp.cpus() {
-            if cpus.push(CpuData::new(cpu, cpu == 0)).is_err() {
-                return Err(Fault::NoMemory);
-            }
+            cpus.push(CpuData::new(cpu, cpu == 0))?;
         }
         Ok(Core {
             gp,
@@ -138,9 +134,7 @@ impl<A: Awaited> Core<A, u64> {
         ensures err { IfErr result (λ fault. fault ≡ Fault.NoMemory) }
         ensures unchanged { OnErr result (self.new ≡ self.old) }
     {
-        let Ok(mut replies) = Vec::with_capacity(self.alloc, events.len()) else {
-            return Err(Fault::NoMemory);
-        };
+        let mut replies = Vec::with_capacity(self.alloc, events.len())?;
         for event in events {
             let reply = self.step(*event);
             replies.push_reserved(reply);
@@ -222,7 +216,7 @@ impl<A: Awaited> Core<A, u64> {
     {
         let place = self.place_of(cpu)?;
         let report = self.cpus[place].quiesce()?;
-        self.reports.push(report).map_err(|_| Fault::NoMemory)?;
+        self.reports.push(report)?;
         Ok(Reply::Made(self.reports.len() as u64, report))
     }
 
@@ -314,8 +308,7 @@ impl<A: Awaited> Core<A, u64> {
         ensures ok { IfOk result (λ reply. StepsLegally self.now Event.Awaits reply self.now) }
         ensures err { IfErr result (λ fault. Refuses self.now Event.Awaits fault self.now) }
     {
-        let list = list_awaited(self.alloc, self.gp.awaited()).map_err(|_| Fault::NoMemory)?;
-        Ok(Reply::Awaits(list))
+        Ok(Reply::Awaits(list_awaited(self.alloc, self.gp.awaited())?))
     }
 
     fn take(&self) -> Result<Reply, Fault>

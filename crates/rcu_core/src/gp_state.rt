@@ -55,22 +55,22 @@ impl<A: Awaited, T: Drop> Model for GpState<A, T> {
       seq = g.seq;
       needed = g.needed;
       processors = g.hotplug;
-      lists = g.lists;
+      lists = g.lists.all;
     } };
 
     ghost invariant = { λ g. IsSound (record {
       seq = g.seq;
       needed = g.needed;
       processors = g.hotplug;
-      lists = g.lists;
+      lists = g.lists.all;
     }) };
 }
 
 impl<A: Awaited, T: Drop> GpState<A, T> {
     /// No grace period ran yet, none is needed, processor 0 alone is online, and the lists are
-    /// empty. The awaited set is as it was made.
+    /// empty. The awaited set is as it was made. Costs a step a processor.
     ///
-    /// Faults: 19 where `last` is no last number; 16.
+    /// Faults: `BadLast` (19) where `last` is no last number; `NoMemory` (16).
     pub fn new(alloc: Global, inner: A, last: u64) -> Result<Self, Fault>
         requires tag { A.tag inner ≡ 0 }
         requires empty { A.start_set inner ≡ replicate (length (A.awaited inner)) false }
@@ -124,7 +124,7 @@ impl<A: Awaited, T: Drop> GpState<A, T> {
 
     /// The number that a grace period would take which began now. It is below 2^62.
     ///
-    /// Faults: 8 where one runs; 11 where the number is the last one.
+    /// Faults: `Running` (8) where one runs; `Exhausted` (11) where the number is the last one.
     pub fn next_number(&self) -> Result<u64, Fault>
         ensures number { IfOk result (λ number.
             number ≡ number_of (grace.after_begin self.now).seq) }
@@ -160,9 +160,10 @@ impl<A: Awaited, T: Drop> GpState<A, T> {
     }
 
     /// A grace period begins, and awaits the online processors (Linux's `rcu_gp_init`). Answers its
-    /// number, and how many it awaits.
+    /// number, and how many it awaits. Costs what a begin of the awaited set costs, in a
+    /// [`Tree`](rcu_node::tree::Tree) a step a node.
     ///
-    /// Faults: 8 where one runs; 11 where the number is the last one.
+    /// Faults: `Running` (8) where one runs; `Exhausted` (11) where the number is the last one.
     pub fn begin(&mut self) -> Result<(u64, u32), Fault>
         ensures number { IfOk result (λ began. began.0 ≡ number_of self.new.seq) }
         ensures awaited { IfOk result (λ began. began.1 ≡ grace.awaited_in self.new) }
@@ -178,7 +179,7 @@ impl<A: Awaited, T: Drop> GpState<A, T> {
 
     /// The grace period ends (Linux's `rcu_gp_cleanup`). Answers the new number.
     ///
-    /// Faults: 9 where none runs; 10 where a processor is awaited.
+    /// Faults: `Idle` (9) where none runs; `Waiting` (10) where a processor is awaited.
     pub fn end(&mut self) -> Result<u64, Fault>
         ensures number { IfOk result (λ number. number ≡ number_of self.new.seq) }
         ensures accepted { OnOk result (grace.end_refusal self.old ≡ None) }
@@ -193,7 +194,8 @@ impl<A: Awaited, T: Drop> GpState<A, T> {
     }
 
     /// A report arrives: stale where no grace period runs or its tag is not the number, else as
-    /// [`Awaited::report`]. The report is of a processor.
+    /// [`Awaited::report`]. The report is of a processor. Costs what a report to the awaited set
+    /// costs, in a [`Tree`](rcu_node::tree::Tree) at most a step a level.
     pub fn report(&mut self, report: Report) -> Answer
         requires { report.cpu < cpus_of self.old.processors }
         ensures answer { result ≡ grace.report_answer_in self.old report }
@@ -207,6 +209,7 @@ impl<A: Awaited, T: Drop> GpState<A, T> {
     }
 
     /// A report of the processor with the number as its tag: stale where no grace period runs.
+    /// Costs as [`GpState::report`].
     pub fn hear(&mut self, cpu: u32) -> Answer
         requires { cpu < cpus_of self.old.processors }
         ensures answer { result ≡ grace.hear_answer self.old cpu }
@@ -217,9 +220,10 @@ impl<A: Awaited, T: Drop> GpState<A, T> {
     }
 
     /// The running grace period ends where nobody is awaited. Where none runs, one begins if the
-    /// needed number is above the number.
+    /// needed number is above the number. A turn that begins one costs as [`GpState::begin`], any
+    /// other a step.
     ///
-    /// Fault 11: one would begin, and the number is the last one.
+    /// Fault `Exhausted` (11): one would begin, and the number is the last one.
     pub fn turn(&mut self) -> Result<Turned, Fault>
         ensures answer { IfOk result (λ turned. turned ≡ grace.turn_answer self.old) }
         ensures accepted { OnOk result (grace.turn_refusal self.old ≡ None) }
@@ -241,7 +245,9 @@ impl<A: Awaited, T: Drop> GpState<A, T> {
         Ok(Turned::Begun(number, awaited))
     }
 
-    /// A processor arrives, as [`Hotplug::arrive`]. Faults: 1, 3.
+    /// A processor arrives, as [`Hotplug::arrive`].
+    ///
+    /// Faults: `BadCpu` (1), `AlreadyOnline` (3).
     pub fn arrive(&mut self, cpu: u32) -> Result<(), Fault>
         ensures accepted { OnOk result (hotplug.refusal self.old.processors (Arrive cpu) ≡ None) }
         ensures state { OnOk result (self.new ≡ grace.with_call self.old (Arrive cpu)) }
@@ -252,7 +258,10 @@ impl<A: Awaited, T: Drop> GpState<A, T> {
         self.hotplug.arrive(cpu)
     }
 
-    /// A processor departs, and is awaited no more, as [`Hotplug::depart`]. Faults: 1, 12, 2.
+    /// A processor departs, and is awaited no more, as [`Hotplug::depart`]. Costs as
+    /// [`GpState::report`].
+    ///
+    /// Faults: `BadCpu` (1), `BootStays` (12), `Offline` (2).
     pub fn depart(&mut self, cpu: u32) -> Result<(), Fault>
         ensures accepted { OnOk result (hotplug.refusal self.old.processors (Depart cpu) ≡ None) }
         ensures state { OnOk result (self.new ≡ grace.with_call self.old (Depart cpu)) }
@@ -289,9 +298,10 @@ impl<A: Awaited, T: Drop> GpState<A, T> {
     }
 
     /// Queues a callback on a processor, at the number (Linux's `call_rcu`). Answers how many were
-    /// queued, which is its place among them.
+    /// queued, which is its place among them. Costs as [`Lists::queue`].
     ///
-    /// Faults, which hand the value back: 15 where 1,000,000 were queued, 16.
+    /// Faults, which hand the value back: `CallbacksFull` (15) where 1,000,000 were queued;
+    /// `NoMemory` (16).
     pub fn queue(&mut self, cpu: u32, value: T) -> Result<u64, Refused<T>>
         requires { cpu < cpus_of self.old.processors }
         ensures count { IfOk result (λ count. count ≡ self.new.lists.queued) }
@@ -332,9 +342,10 @@ impl<A: Awaited, T: Drop> GpState<A, T> {
     }
 
     /// Hands out the first callbacks of a processor's done part, at most so many (Linux's
-    /// `rcu_do_batch`): only such that a full grace period has passed since their queueing.
+    /// `rcu_do_batch`): only such that a full grace period has passed since their queueing. Costs
+    /// as [`Lists::run`].
     ///
-    /// Fault 16, only where it has a callback to hand out.
+    /// Fault `NoMemory` (16), only where it has a callback to hand out.
     pub fn run(&mut self, cpu: u32, max: u64) -> Result<Vec<Queued<T>>, Fault>
         requires { cpu < cpus_of self.old.processors }
         ensures ok { IfOk result (λ calls.
@@ -351,9 +362,9 @@ impl<A: Awaited, T: Drop> GpState<A, T> {
 
     /// Moves the list of another processor than 0 to processor 0's (Linux's
     /// `rcutree_migrate_callbacks`); a barrier that did not visit it does so first. Answers how
-    /// many callbacks moved.
+    /// many callbacks moved. Costs as [`Lists::migrate`].
     ///
-    /// Fault 16, only where the list is not empty.
+    /// Fault `NoMemory` (16), only where the list is not empty.
     pub fn migrate(&mut self, cpu: u32) -> Result<u64, Fault>
         requires other { 0 < cpu }
         requires cpu { cpu < cpus_of self.old.processors }
@@ -367,7 +378,9 @@ impl<A: Awaited, T: Drop> GpState<A, T> {
         self.lists.migrate(cpu)
     }
 
-    /// Begins a barrier (Linux's `rcu_barrier`). Fault 13: one runs.
+    /// Begins a barrier (Linux's `rcu_barrier`). Costs a step a processor.
+    ///
+    /// Fault `BarrierBusy` (13): one runs.
     pub fn barrier_begin(&mut self) -> Result<(), Fault>
         ensures idle { OnOk result (self.old.lists.running ≡ false) }
         ensures state { OnOk result (self.new ≡ grace.after_barrier_begin self.old) }
@@ -378,8 +391,9 @@ impl<A: Awaited, T: Drop> GpState<A, T> {
         self.lists.barrier_begin()
     }
 
-    /// The barrier visits a processor, as [`Lists::visit`]. Faults: 14 where none runs; 16, only
-    /// where it would put a marker.
+    /// The barrier visits a processor, as [`Lists::visit`], and costs as that.
+    ///
+    /// Faults: `NoBarrier` (14) where none runs; `NoMemory` (16), only where it would put a marker.
     pub fn visit(&mut self, cpu: u32) -> Result<Visit, Fault>
         requires { cpu < cpus_of self.old.processors }
         ensures ok { IfOk result (λ visit. visit ≡ visit_answer self.old.lists cpu) }
@@ -394,7 +408,9 @@ impl<A: Awaited, T: Drop> GpState<A, T> {
         self.lists.visit(cpu)
     }
 
-    /// Whether the barrier is over, as [`Lists::barrier_test`]. Fault 14: none runs.
+    /// Whether the barrier is over, as [`Lists::barrier_test`].
+    ///
+    /// Fault `NoBarrier` (14): none runs.
     pub fn barrier_test(&mut self) -> Result<BarrierState, Fault>
         ensures ok { IfOk result (λ found. found ≡ barrier_test_answer self.old.lists) }
         ensures running { OnOk result (self.old.lists.running ≡ true) }

@@ -14,6 +14,7 @@ pub mod run_laws;
 mod tests;
 pub mod turned;
 pub mod value_list;
+pub mod version_laws;
 
 pub use cpu_list::CpuList;
 pub use event::Event;

@@ -3,4 +3,5 @@
 mod callbacks;
 mod lists;
 mod machine;
+mod state;
 mod steps;

@@ -8,11 +8,10 @@ use rcu_node::answer::Answer;
 use rcu_report::report::Report;
 use rcu_seq::fault::Fault;
 use std::alloc::Global;
-use std::io::Print;
 use std::process::Abort;
 
 /// The replies of a new machine to these events, taken one at a time.
-fn stepped<R: Abort + Print>(rt: &R, alloc: Global, events: &[Event]) -> Vec<Reply> {
+fn stepped(rt: &impl Abort, alloc: Global, events: &[Event]) -> Vec<Reply> {
     let mut core = core(rt, alloc, 8);
     let mut replies = match Vec::with_capacity(alloc, events.len()) {
         Ok(replies) => replies,
@@ -40,7 +39,7 @@ fn lacks_memory(replies: &[Reply]) -> bool {
 
 /// The replies of a new machine to these events as one list, by a second machine where an event is
 /// refused its growth.
-fn ran<R: Abort + Print>(rt: &R, alloc: Global, events: &[Event]) -> Vec<Reply> {
+fn ran(rt: &impl Abort, alloc: Global, events: &[Event]) -> Vec<Reply> {
     let mut first = core(rt, alloc, 8);
     let replies = run(rt, &mut first, events);
     if !lacks_memory(replies.as_slice()) {

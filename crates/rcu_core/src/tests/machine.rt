@@ -8,47 +8,66 @@ use rcu_node::awaited::Awaited;
 use rcu_node::flat::Flat;
 use rcu_seq::fault::Fault;
 use std::alloc::Global;
-use std::io::Print;
 use std::process::Abort;
 
-/// Says that a growth was refused, for who counts them.
-pub fn refused<R: Abort + Print>(rt: &R, fault: Fault) {
+/// Compares the fault of a call whose growth was refused.
+pub fn refused(rt: &impl Abort, fault: Fault) {
     assert_eq!(rt; fault, Fault::NoMemory);
-    let _ = println!(rt; "a growth was refused");
 }
 
-/// A flat set of two processors, made by a second call where the first is refused a growth.
-pub fn flat<R: Abort + Print>(rt: &R, alloc: Global) -> Flat
+/// A flat set of so many processors, made by a second call where the first is refused a growth.
+pub fn flat(rt: &impl Abort, alloc: Global, cpus: u32) -> Flat
     ensures tag { ⟦<Flat as Awaited>⟧.tag result ≡ 0 }
-    ensures start_set { ⟦<Flat as Awaited>⟧.start_set result ≡ replicate 2 false }
-    ensures awaited { ⟦<Flat as Awaited>⟧.awaited result ≡ replicate 2 false }
+    ensures start_set { ⟦<Flat as Awaited>⟧.start_set result ≡ replicate cpus false }
+    ensures awaited { ⟦<Flat as Awaited>⟧.awaited result ≡ replicate cpus false }
 {
-    match Flat::new(alloc, 2) {
+    match Flat::new(alloc, cpus) {
         Ok(flat) => flat,
         Err(fault) => {
             refused(rt, fault);
-            Flat::new(alloc, 2).expect(rt, "the second call has memory")
+            Flat::new(alloc, cpus).expect(rt, "the second call has memory")
         }
     }
 }
 
-/// A machine of two processors with this last number, made by a second call where the first is
+/// A machine of so many processors with this last number, made by a second call where the first is
 /// refused a growth.
-pub fn core<R: Abort + Print>(rt: &R, alloc: Global, last: u64) -> Core<Flat, u64> {
-    match Core::new(alloc, flat(rt, alloc), last) {
+pub fn core_of(rt: &impl Abort, alloc: Global, cpus: u32, last: u64) -> Core<Flat, u64> {
+    match Core::new(alloc, flat(rt, alloc, cpus), last) {
         Ok(core) => core,
         Err(fault) => {
             refused(rt, fault);
-            Core::new(alloc, flat(rt, alloc), last).expect(rt, "the second call has memory")
+            Core::new(alloc, flat(rt, alloc, cpus), last).expect(rt, "the second call has memory")
         }
     }
 }
 
-/// The reply to an event, which is taken again where its growth is refused.
-pub fn step<R: Abort + Print>(rt: &R, core: &mut Core<Flat, u64>, event: Event) -> Reply {
+/// A machine of two processors with this last number.
+pub fn core(rt: &impl Abort, alloc: Global, last: u64) -> Core<Flat, u64> {
+    core_of(rt, alloc, 2, last)
+}
+
+/// What events tell that change nothing: the cookie of a taking, and whether two cookies are done.
+fn asked(core: &mut Core<Flat, u64>) -> (Option<u64>, bool, bool) {
+    let cookie = match core.step(Event::Take) {
+        Reply::Cookie(cookie) => Some(cookie.0),
+        _ => None,
+    };
+    let first = matches!(core.step(Event::Poll(4)), Reply::Polled(true));
+    (
+        cookie,
+        first,
+        matches!(core.step(Event::Poll(8)), Reply::Polled(true)),
+    )
+}
+
+/// The reply to an event. Where its growth is refused, all that can be asked is as before, and it
+/// is taken again.
+pub fn step(rt: &impl Abort, core: &mut Core<Flat, u64>, event: Event) -> Reply {
+    let before = asked(core);
     match core.step(event) {
         Reply::Fault(Fault::NoMemory) => {
-            refused(rt, Fault::NoMemory);
+            assert_eq!(rt; asked(core), before);
             core.step(event)
         }
         reply => reply,
@@ -56,7 +75,7 @@ pub fn step<R: Abort + Print>(rt: &R, core: &mut Core<Flat, u64>, event: Event) 
 }
 
 /// The replies to a list of events, which is taken again where its growth is refused.
-pub fn run<R: Abort + Print>(rt: &R, core: &mut Core<Flat, u64>, events: &[Event]) -> Vec<Reply> {
+pub fn run(rt: &impl Abort, core: &mut Core<Flat, u64>, events: &[Event]) -> Vec<Reply> {
     match core.run(events) {
         Ok(replies) => replies,
         Err(fault) => {

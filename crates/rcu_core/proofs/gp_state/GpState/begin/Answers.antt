@@ -11,7 +11,7 @@ invariant_of-self-2 g c =
       seq = i.seq;
       needed = i.needed;
       processors = i.hotplug;
-      lists = i.lists;
+      lists = i.lists.all;
     } in
     let started = c.in_ok-number.ensures in
     begun_kept old c.start.new.self c.begin.new.self c.self.invariant started.idle started.begun

@@ -9,7 +9,7 @@ invariant_of-self g c =
       seq = i.seq;
       needed = i.needed;
       processors = i.hotplug;
-      lists = i.lists;
+      lists = i.lists.all;
     } in
     on_either c.end.result _ _ c.end.ensures.ended c.end.ensures.unchanged
     (λ _ h. ended_kept old c.end.new.self c.self.invariant h)

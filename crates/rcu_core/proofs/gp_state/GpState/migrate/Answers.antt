@@ -9,8 +9,8 @@ invariant_of-self g c =
       seq = i.seq;
       needed = i.needed;
       processors = i.hotplug;
-      lists = i.lists;
+      lists = i.lists.all;
     } in
     on_either c.migrate.result _ _ c.migrate.ensures.ok c.migrate.ensures.unchanged
-    (λ _ h. migrated_kept old c.args.cpu c.migrate.new.self c.self.invariant h)
-    (λ _ h. same_kept old c.migrate.new.self c.self.invariant h)
+    (λ _ h. migrated_kept old c.args.cpu c.migrate.new.self.all c.self.invariant h)
+    (λ _ h. same_kept old c.migrate.new.self.all c.self.invariant h)

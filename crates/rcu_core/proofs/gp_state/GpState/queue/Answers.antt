@@ -9,9 +9,9 @@ invariant_of-self g c =
       seq = i.seq;
       needed = i.needed;
       processors = i.hotplug;
-      lists = i.lists;
+      lists = i.lists.all;
     } in
     on_either c.queue.result _ _ c.queue.ensures.ok c.queue.ensures.unchanged
-    (λ _ h. queued_kept old c.args.cpu c.value-number.result c.args.value c.queue.new.self c.self.invariant
+    (λ _ h. queued_kept old c.args.cpu c.value-number.result c.args.value c.queue.new.self.all c.self.invariant
     c.value-number.ensures.value h)
-    (λ _ h. same_kept old c.queue.new.self c.self.invariant h)
+    (λ _ h. same_kept old c.queue.new.self.all c.self.invariant h)

@@ -13,11 +13,11 @@ invariant_of-self g c =
       seq = i.seq;
       needed = i.needed;
       processors = i.hotplug;
-      lists = i.lists;
+      lists = i.lists.all;
     } in
     on_either c.run.result _ _ c.run.ensures.ok c.run.ensures.unchanged
-    (λ _ h. run_kept old c.args.cpu c.args.max c.run.new.self c.self.invariant h)
-    (λ _ h. same_kept old c.run.new.self c.self.invariant h)
+    (λ _ h. run_kept old c.args.cpu c.args.max c.run.new.self.all c.self.invariant h)
+    (λ _ h. same_kept old c.run.new.self.all c.self.invariant h)
 
 pub returns-clause-waited : goal.returns-clause-waited
 returns-clause-waited g c =
@@ -26,10 +26,10 @@ returns-clause-waited g c =
       seq = i.seq;
       needed = i.needed;
       processors = i.hotplug;
-      lists = i.lists;
+      lists = i.lists.all;
     } in
     let n = number_of old.seq in
-    let xs = list_of i.lists c.args.cpu in
-    let timely = timely_get n i.lists.lists c.args.cpu c.self.invariant.timely in
+    let xs = list_of i.lists.all c.args.cpu in
+    let timely = timely_get n i.lists.all.lists c.args.cpu c.self.invariant.timely in
     rw (← c.self.view_is)
     (IfOk-weaker c.run.result _ _ (λ calls h. taken_waited n c.args.max xs calls.items timely h) c.run.ensures.calls)

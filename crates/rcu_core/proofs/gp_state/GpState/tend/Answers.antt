@@ -15,12 +15,12 @@ tend-tended-requires-clause-within g c =
       seq = i.seq;
       needed = i.needed;
       processors = i.hotplug;
-      lists = i.lists;
+      lists = i.lists.all;
     } in
-    let xs = list_of i.lists c.args.cpu in
+    let xs = list_of i.lists.all c.args.cpu in
     subst (λ n. IsAtMost (snapshot n) xs) (sym c.value.ensures.value)
     (timely_at_most (number_of old.seq) xs (timely_get
-    (number_of old.seq) i.lists.lists c.args.cpu c.self.invariant.timely))
+    (number_of old.seq) i.lists.all.lists c.args.cpu c.self.invariant.timely))
 
 pub invariant_of-self : goal.invariant_of-self
 invariant_of-self g c =
@@ -29,9 +29,9 @@ invariant_of-self g c =
       seq = i.seq;
       needed = i.needed;
       processors = i.hotplug;
-      lists = i.lists;
+      lists = i.lists.all;
     } in
-    tended_kept old c.max-self-inside.result c.args.cpu c.value.result c.tend-tended.new.self c.self.invariant
+    tended_kept old c.max-self-inside.result c.args.cpu c.value.result c.tend-tended.new.self.all c.self.invariant
     c.value.ensures.value c.tend-tended.ensures.state
 
 pub invariant_of-self-in_default : goal.invariant_of-self-in_default
@@ -41,9 +41,9 @@ invariant_of-self-in_default g c =
       seq = i.seq;
       needed = i.needed;
       processors = i.hotplug;
-      lists = i.lists;
+      lists = i.lists.all;
     } in
-    tended_kept old i.needed c.args.cpu c.value.result c.tend-tended.new.self c.self.invariant c.value.ensures.value
+    tended_kept old i.needed c.args.cpu c.value.result c.tend-tended.new.self.all c.self.invariant c.value.ensures.value
     c.tend-tended.ensures.state
 
 pub returns-in-Some-clause-state : goal.returns-in-Some-clause-state
@@ -53,9 +53,9 @@ returns-in-Some-clause-state g c =
       seq = i.seq;
       needed = i.needed;
       processors = i.hotplug;
-      lists = i.lists;
+      lists = i.lists.all;
     } in
     rw (← c.self.view_is)
-    (tended_is old c.max-self-inside.result c.args.cpu c.value.result c.in-Some.greatest c.tend-tended.new.self
+    (tended_is old c.max-self-inside.result c.args.cpu c.value.result c.in-Some.greatest c.tend-tended.new.self.all
     c.value.ensures.value c.tend-tended.ensures.state (sym c.greatest_waiting.ensures
     ∙ c.in-Some.is) c.max-self-inside.ensures)

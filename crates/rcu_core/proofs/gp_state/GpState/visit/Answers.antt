@@ -9,8 +9,8 @@ invariant_of-self g c =
       seq = i.seq;
       needed = i.needed;
       processors = i.hotplug;
-      lists = i.lists;
+      lists = i.lists.all;
     } in
     on_either c.visit.result _ _ c.visit.ensures.ok c.visit.ensures.unchanged
-    (λ _ h. visited_kept old c.args.cpu c.visit.new.self c.self.invariant h)
-    (λ _ h. same_kept old c.visit.new.self c.self.invariant h)
+    (λ _ h. visited_kept old c.args.cpu c.visit.new.self.all c.self.invariant h)
+    (λ _ h. same_kept old c.visit.new.self.all c.self.invariant h)

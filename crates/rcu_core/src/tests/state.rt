@@ -1,0 +1,176 @@
+//! Calls of the state of the grace periods whose growth is refused: each leaves all as it was, and
+//! the same call again answers as if it had not been.
+
+use crate::gp_state::GpState;
+use crate::tests::machine::{flat, refused};
+use crate::turned::Turned;
+use rcu_barrier::barrier_state::BarrierState;
+use rcu_barrier::visit::Visit;
+use rcu_node::answer::Answer;
+use rcu_node::awaited::Awaited;
+use rcu_node::flat::Flat;
+use rcu_seq::fault::Fault;
+use std::alloc::Global;
+use std::process::Abort;
+
+type State = GpState<Flat, u64>;
+
+/// All that can be asked of a state: its number, whether a grace period runs, whether one is to
+/// begin, and its cookie; and of each processor whether it is online, whether its list is empty,
+/// and whether it is awaited.
+type Asked = ((u64, bool, bool, u64), [(bool, bool, bool); 2]);
+
+/// A state of two processors, made by a second call where the first is refused a growth.
+fn state(rt: &impl Abort, alloc: Global) -> State {
+    match GpState::new(alloc, flat(rt, alloc, 2), 8) {
+        Ok(state) => state,
+        Err(fault) => {
+            refused(rt, fault);
+            GpState::new(alloc, flat(rt, alloc, 2), 8).expect(rt, "the second call has memory")
+        }
+    }
+}
+
+/// Asks all of a processor.
+fn asked_of(rt: &impl Abort, state: &State, cpu: u32) -> (bool, bool, bool) {
+    assert!(rt; cpu < state.cpus());
+    let awaited = state.awaited();
+    assert!(rt; cpu < awaited.cpus());
+    let awaits = awaited.awaits(cpu);
+    (state.online(cpu), state.is_list_empty(cpu), awaits)
+}
+
+/// Asks all of a state of two processors.
+fn asked(rt: &impl Abort, state: &State) -> Asked {
+    let number = state.value();
+    let all = (
+        number,
+        state.is_running(),
+        state.wants_begin(),
+        state.take().0,
+    );
+    (all, [asked_of(rt, state, 0), asked_of(rt, state, 1)])
+}
+
+/// Compares the fault of a call whose growth was refused, and what it left with what was there.
+fn left(rt: &impl Abort, fault: Fault, state: &State, before: Asked) {
+    refused(rt, fault);
+    assert_eq!(rt; asked(rt, state), before);
+}
+
+/// Queues a callback, by a second call where the first is refused a growth.
+fn queue(rt: &impl Abort, state: &mut State, cpu: u32, value: u64, wanted: u64) {
+    let before = asked(rt, state);
+    assert!(rt; cpu < state.cpus());
+    match state.queue(cpu, value) {
+        Ok(count) => assert_eq!(rt; count, wanted),
+        Err(back) => {
+            left(rt, back.fault, state, before);
+            assert_eq!(rt; back.value, value);
+            assert!(rt; cpu < state.cpus());
+            assert_eq!(rt; state.queue(cpu, back.value).ok(), Some(wanted));
+        }
+    }
+}
+
+/// Visits a processor, by a second call where the first is refused a growth.
+fn visit(rt: &impl Abort, state: &mut State, cpu: u32) {
+    let before = asked(rt, state);
+    assert!(rt; cpu < state.cpus());
+    match state.visit(cpu) {
+        Ok(visit) => assert_eq!(rt; visit, Visit::Marked),
+        Err(fault) => {
+            left(rt, fault, state, before);
+            assert!(rt; cpu < state.cpus());
+            assert_eq!(rt; state.visit(cpu), Ok(Visit::Marked));
+        }
+    }
+}
+
+/// Moves processor 1's list, by a second call where the first is refused a growth.
+fn migrate(rt: &impl Abort, state: &mut State, wanted: u64) {
+    let before = asked(rt, state);
+    assert!(rt; 1 < state.cpus());
+    match state.migrate(1) {
+        Ok(moved) => assert_eq!(rt; moved, wanted),
+        Err(fault) => {
+            left(rt, fault, state, before);
+            assert!(rt; 1 < state.cpus());
+            assert_eq!(rt; state.migrate(1), Ok(wanted));
+        }
+    }
+}
+
+/// Runs processor 0's callbacks, by a second call where the first is refused a growth.
+fn run(rt: &impl Abort, state: &mut State, wanted: usize) {
+    let before = asked(rt, state);
+    assert!(rt; 0 < state.cpus());
+    match state.run(0, 9) {
+        Ok(calls) => assert_eq!(rt; calls.len(), wanted),
+        Err(fault) => {
+            left(rt, fault, state, before);
+            assert!(rt; 0 < state.cpus());
+            assert_eq!(rt; state.run(0, 9).map(|calls| calls.len()), Ok(wanted));
+        }
+    }
+}
+
+#[test]
+fn refused_calls_leave_all_as_it_was(rt: HostRuntime) {
+    let mut state = state(&rt, rt.alloc());
+    assert_eq!(rt; state.arrive(1), Ok(()));
+    queue(&rt, &mut state, 0, 5, 1);
+    queue(&rt, &mut state, 1, 6, 2);
+    queue(&rt, &mut state, 1, 7, 3);
+    assert_eq!(rt; state.barrier_begin(), Ok(()));
+    visit(&rt, &mut state, 0);
+    migrate(&rt, &mut state, 2);
+    assert_eq!(rt; state.barrier_test(), Ok(BarrierState::Waits(2)));
+    assert_eq!(rt; state.depart(1), Ok(()));
+    assert!(rt; 0 < state.cpus());
+    assert_eq!(rt; state.tend(0), (0, 3));
+    assert_eq!(rt; state.turn(), Ok(Turned::Begun(1, 1)));
+    assert!(rt; 0 < state.cpus());
+    assert_eq!(rt; state.hear(0), Answer::Last);
+    assert_eq!(rt; state.turn(), Ok(Turned::Ended(4)));
+    assert!(rt; 0 < state.cpus());
+    assert_eq!(rt; state.tend(0), (3, 0));
+    run(&rt, &mut state, 3);
+    assert_eq!(rt; state.barrier_test(), Ok(BarrierState::Done));
+}
+
+/// What the first begin says, or why no state opens with this last number.
+fn first_begin(rt: &impl Abort, alloc: Global, last: u64) -> Result<(u64, u32), Fault> {
+    GpState::<Flat, u64>::new(alloc, flat(rt, alloc, 2), last)?.begin()
+}
+
+/// States open with the least and the greatest last number, and with none beyond.
+#[test]
+fn last_numbers(rt: HostRuntime) {
+    for last in [4, 1 << 62] {
+        match first_begin(&rt, rt.alloc(), last) {
+            Ok(begun) => assert_eq!(rt; begun, (1, 1), "{last}"),
+            Err(fault) => refused(&rt, fault),
+        }
+    }
+    for last in [0, 6, (1 << 62) + 4] {
+        assert_eq!(rt;
+            first_begin(&rt, rt.alloc(), last),
+            Err(Fault::BadLast),
+            "{last}"
+        );
+    }
+}
+
+#[test]
+fn sizes(rt: HostRuntime) {
+    for cpus in [1, 4096] {
+        match GpState::<Flat, u64>::new(rt.alloc(), flat(&rt, rt.alloc(), cpus), 8) {
+            Ok(mut state) => {
+                assert_eq!(rt; state.cpus(), cpus);
+                assert_eq!(rt; state.arrive(cpus), Err(Fault::BadCpu));
+            }
+            Err(fault) => refused(&rt, fault),
+        }
+    }
+}
