@@ -1,5 +1,6 @@
 -- The state of grace periods after a begin, by the words that it found.
-use Rattle.std.proofs.Common.{◌≡◌, ℕ, ◌==◌, ◌&&◌, Bool, true, false, not, nat_lt, List, length, sym, ap, ◌∙◌, subst, arith}
+use Rattle.std.proofs.Common.{◌≡◌, ℕ, ◌==◌, ◌&&◌, Bool, true, false, not, nat_lt, List, length, sym, ap, ◌∙◌, subst}
+use Rattle.std.proofs.Common.{arith}
 use Rattle.std.proofs.lemmas.Bool.Decides.{nat_tests}
 use Rattle.rcu_seq.specs.Numbers.{Number}
 use Rattle.rcu_seq.specs.Seq.{Periods, number_of}
@@ -19,14 +20,18 @@ told_else : (t : Number) (word : ℕ) → not (tells t word) ≡ false → tells
 told_else t word e = grind (arith, nat_tests)
 
 -- the late ones of those that are here, taken out
-late_out : (cpus : ℕ) (word : ℕ → ℕ) (t : Number) (here late : List Bool) → here ≡ listed cpus (λ c. not (word c == 0)) → late ≡ listed cpus (λ c. nat_lt t (word c))
+late_out : (cpus : ℕ) (word : ℕ → ℕ) (t : Number) (here late : List Bool) → here ≡ listed cpus (λ c. not (word c == 0))
+    → late ≡ listed cpus (λ c. nat_lt t (word c))
     → unheard here (is_in late) ≡ listed cpus (λ c. not (tells t (word c)))
 late_out cpus word t here late is_here is_late =
-    let long : length here ≡ cpus = ap (λ (l : List Bool). length l) is_here ∙ length-listed cpus (λ c. not (word c == 0)) in
+    let long : length here ≡ cpus =
+    ap (λ (l : List Bool). length l) is_here ∙ length-listed cpus (λ c. not (word c == 0)) in
     sym (listed_same cpus (λ c. not (tells t (word c))) (unheard here (is_in late)) (length-listed (length here) (λ c. is_in here c && not (is_in late c)) ∙ long)
     (λ c low.
-    let on : is_in here c ≡ not (word c == 0) = ap (λ (l : List Bool). is_in l c) is_here ∙ is_in-listed cpus (λ k. not (word k == 0)) c low in
-    let after : is_in late c ≡ nat_lt t (word c) = ap (λ (l : List Bool). is_in l c) is_late ∙ is_in-listed cpus (λ k. nat_lt t (word k)) c low in
+    let on : is_in here c ≡ not (word c == 0) =
+    ap (λ (l : List Bool). is_in l c) is_here ∙ is_in-listed cpus (λ k. not (word k == 0)) c low in
+    let after : is_in late c ≡ nat_lt t (word c) =
+    ap (λ (l : List Bool). is_in l c) is_late ∙ is_in-listed cpus (λ k. nat_lt t (word k)) c low in
     not_told t (word c) ∙ (λ i. sym on i && not (sym after i))
     ∙ sym (is_in-listed (length here) (λ k. is_in here k && not (is_in late k)) c (omega (arith, low, long)))))
 
@@ -42,18 +47,22 @@ module _ {X : Type 0} where
 
   -- a begin, after the online set was settled, and before the late ones are heard
   pub begun_is : (g settled begun heard : Grace X) (cpus : ℕ) (word : ℕ → ℕ) (late : List Bool) (t : Number)
-      → settled.seq ≡ g.seq → settled.needed ≡ g.needed → settled.lists ≡ g.lists → settled.processors.online ≡ listed cpus (λ c. not (word c == 0))
+      → settled.seq ≡ g.seq → settled.needed ≡ g.needed → settled.lists ≡ g.lists
+      → settled.processors.online ≡ listed cpus (λ c. not (word c == 0))
       → late ≡ listed cpus (λ c. nat_lt t (word c)) → t ≡ next_number g → begun ≡ after_begin settled
       → heard ≡ with_awaited begun (unheard begun.processors.awaited (is_in late)) → heard ≡ begun_from cpus word g
   begun_is g settled begun heard cpus word late t seq needed lists online is_late is started out =
       let here : List Bool = listed cpus (λ c. not (word c == 0)) in
-      let awaited : unheard settled.processors.online (is_in late) ≡ listed cpus (λ c. not (tells (next_number g) (word c))) =
-      late_out cpus word t settled.processors.online late online is_late ∙ ap (λ (n : ℕ). listed cpus (λ c. not (tells n (word c)))) is in
+      let awaited : unheard settled.processors.online (is_in late)
+      ≡ listed cpus (λ c. not (tells (next_number g) (word c))) =
+      late_out cpus word t settled.processors.online late online is_late
+      ∙ ap (λ (n : ℕ). listed cpus (λ c. not (tells n (word c)))) is in
       out ∙ ap (λ (y : Grace X). with_awaited y (unheard y.processors.awaited (is_in late))) started
       ∙ (λ i. parts (seq i) (needed i) (lists i) (online i) (awaited i))
 
   -- the engine awaits those that were not told of
-  pub begun_awaits : (g heard : Grace X) (cpus : ℕ) (word : ℕ → ℕ) (finds : List (ℕ × ℕ)) → heard ≡ begun_from cpus word g → finds ≡ finds_in_turn word cpus
+  pub begun_awaits : (g heard : Grace X) (cpus : ℕ) (word : ℕ → ℕ) (finds : List (ℕ × ℕ))
+      → heard ≡ begun_from cpus word g → finds ≡ finds_in_turn word cpus
       → AwaitsTheOthers cpus finds heard
   begun_awaits g heard cpus word finds is in_turn =
       subst (λ (y : Grace X × List (ℕ × ℕ)). AwaitsTheOthers cpus y.1 y.0) (λ i. (sym is i, sym in_turn i))

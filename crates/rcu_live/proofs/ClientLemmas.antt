@@ -1,5 +1,6 @@
 -- What the rule gives a client: which sections may be open at the number, and that a processor has one seat.
-use Rattle.std.proofs.Common.{◌≡◌, ℕ, zero, suc, ◌≤◌, List, [], ◌∷◌, Option, Some, get_or, map, true, false, refl, sym, ap, ◌∙◌, arith}
+use Rattle.std.proofs.Common.{◌≡◌, ℕ, zero, suc, ◌≤◌, List, [], ◌∷◌, Option, Some, get_or, map, true, false, refl, sym}
+use Rattle.std.proofs.Common.{ap, ◌∙◌, arith}
 use Rattle.std.proofs.lemmas.Bool.Decides.{nat_tests}
 use mathlib.Core.Option.{some, some-injective, some-ne-none}
 use lib.ListN.{get_elem?}
@@ -24,7 +25,8 @@ is_of_cpu Cpu o a e = (refl, e)
 is_of_cpu Watcher o a e = absurd (cc)
 is_of_cpu Engine o a e = absurd (cc)
 
-at_map_back : {A B : Type 0} (f : A → B) (l : List A) (j : ℕ) (b : B) → get_elem? (map f l) j ≡ some b → (a : A) × (get_elem? l j ≡ some a) × (f a ≡ b)
+pub at_map_back : {A B : Type 0} (f : A → B) (l : List A) (j : ℕ) (b : B) → get_elem? (map f l) j ≡ some b
+    → (a : A) × (get_elem? l j ≡ some a) × (f a ≡ b)
 at_map_back f [] j b e = absurd (some-ne-none b (sym e))
 at_map_back f (x ∷ xs) zero b e = (x, refl, some-injective _ _ e)
 at_map_back f (x ∷ xs) (suc j) b e = at_map_back f xs j b e
@@ -34,7 +36,8 @@ the_same e = cc
 
 module _ {S C : Type 0} (holds : List ℕ → Homes S → Picture C → Type 0) where
   -- what is open now may be open at the number
-  pub are_open : (cpus : ℕ) (s : State S (View C)) → IsKept holds cpus s → AreOpen (get_or s.words 0 0) (map shown s.views)
+  pub are_open : (cpus : ℕ) (s : State S (View C)) → IsKept holds cpus s
+      → AreOpen (get_or s.words 0 0) (map shown s.views)
   are_open cpus s k id at cpu c e =
       let t = at_map_back shown s.views id (cpu, Some at, c) e in
       let v : View C = t.0 in

@@ -1,7 +1,7 @@
 -- Dealing a seat keeps the rule.
-use Rattle.std.proofs.Common.{◌≡◌, ◌≢◌, ◌⊎◌, ℕ, zero, suc, ◌+◌, ◌<◌, ◌≤◌, ◌==◌, if◌then◌else◌, List, [], ◌∷◌, ◌++◌, Option, Some, None, length, set, map, drop, inl, inr, refl, sym, ap, ◌∙◌, subst, ⊎_elim, arith, eq-eqb, ne_eqb}
-use Rattle.std.specs.List.{All, range_with_len}
-use Rattle.std.proofs.lemmas.List.FromFn.{get_or-map-range_with_len, length-map-range_with_len, map-range_with_len_more}
+use Rattle.std.proofs.Common.{◌≡◌, ◌≢◌, ◌⊎◌, ℕ, zero, suc, ◌+◌, ◌<◌, ◌≤◌, ◌==◌, if◌then◌else◌, List, [], ◌∷◌, ◌++◌}
+use Rattle.std.proofs.Common.{Option, Some, None, length, set, map, drop, inl, inr, refl, sym, ap, ◌∙◌, subst, ⊎_elim}
+use Rattle.std.proofs.Common.{arith, eq-eqb, ne_eqb}
 use mathlib.Core.List.{map-append}
 use mathlib.Core.Option.{some, some-injective, some-ne-none}
 use lib.ListN.{get_elem?}
@@ -18,22 +18,13 @@ use Rattle.rcu_live.proofs.Frames.{unseen}
 use Rattle.rcu_live.proofs.Numbers.{own_small}
 
 -- an element of a list with one more at its end
-at_end : {A : Type 0} (l : List A) (a b : A) (j : ℕ) → get_elem? (l ++ a ∷ []) j ≡ some b → (get_elem? l j ≡ some b) ⊎ ((j ≡ length l) × (a ≡ b))
+pub at_end : {A : Type 0} (l : List A) (a b : A) (j : ℕ) → get_elem? (l ++ a ∷ []) j ≡ some b
+    → (get_elem? l j ≡ some b) ⊎ ((j ≡ length l) × (a ≡ b))
 at_end [] a b zero e = inr (refl, some-injective _ _ e)
 at_end [] a b (suc j) e = absurd (some-ne-none b (sym e))
 at_end (x ∷ xs) a b zero e = inl e
-at_end (x ∷ xs) a b (suc j) e = ⊎_elim (λ h. inl h) (λ (h : (j ≡ length xs) × (a ≡ b)). inr (ap suc h.0, h.1)) (at_end xs a b j e)
-
--- a list made of the numbers below n, with one made of n behind it
-pub one_more : {A : Type 0} (f : ℕ → A) (n : ℕ) (old new : List A) (a : A) → old ≡ map f (range_with_len 0 n) → new ≡ old ++ a ∷ [] → a ≡ f n
-    → new ≡ map f (range_with_len 0 (n + 1))
-one_more f n old new a was is e =
-    is ∙ ap (λ l. l ++ a ∷ []) was ∙ ap (λ b. map f (range_with_len 0 n) ++ b ∷ []) e ∙ sym (map-range_with_len_more f 0 n n (omega arith))
-
--- what holds of what is made of each number, holds of each element
-pub each_made : {A : Type 0} (f : ℕ → A) (n : ℕ) (xs : List A) (P : A → Type 0) → xs ≡ map f (range_with_len 0 n) → ((i : ℕ) → P (f i)) → All P xs
-each_made f n xs P is each = subst (All P) (sym is)
-    (λ k d low. subst P (sym (get_or-map-range_with_len f 0 n k k d (subst (λ m. k < m) (length-map-range_with_len f 0 n) low) (omega arith))) (each k))
+at_end (x ∷ xs) a b (suc j) e =
+    ⊎_elim (λ h. inl h) (λ (h : (j ≡ length xs) × (a ≡ b)). inr (ap suc h.0, h.1)) (at_end xs a b j e)
 
 first_small : (c : ℕ) → first_word c ≤ 1
 first_small zero = omega arith
@@ -45,14 +36,33 @@ first_boot (suc c) e = absurd (omega arith)
 
 module _ {S C : Type 0} (holds : List ℕ → Homes S → Picture C → Type 0) where
   -- a dealt seat, as the client sees it
-  dealt : (cpus : ℕ) (s : State S (View C)) → IsKept holds cpus s → (idle : C) (close : C → C) → IsStable holds idle close
-      → (id : ℕ) (v w new : View C) (cpu : Option ℕ) → get_elem? s.views id ≡ some v → shown w ≡ shown v → shown new ≡ (cpu, None, idle)
+  dealt : (cpus : ℕ) (s : State S (View C)) → IsKept holds cpus s → (idle : C) (close : C → C)
+      → IsStable holds idle close
+      → (id : ℕ) (v w new : View C) (cpu : Option ℕ) → get_elem? s.views id ≡ some v → shown w ≡ shown v
+      → shown new ≡ (cpu, None, idle)
       → holds (drop (base_of cpus) s.words) s.homes (map shown (set s.views id w ++ new ∷ []))
   dealt cpus s k idle close stable id v w new cpu at same is =
       let after : map shown (set s.views id w ++ new ∷ []) ≡ map shown (set s.views id w) ++ (cpu, None, idle) ∷ [] =
-      map-append shown (set s.views id w) (new ∷ []) ∙ ap (λ (x : Shown C). map shown (set s.views id w) ++ x ∷ []) is in
+      map-append shown (set s.views id w) (new ∷ [])
+      ∙ ap (λ (x : Shown C). map shown (set s.views id w) ++ x ∷ []) is in
       subst (λ (xs : Picture C). holds (drop (base_of cpus) s.words) s.homes xs) (sym after)
       (stable.deals (drop (base_of cpus) s.words) s.homes (map shown (set s.views id w)) cpu (unseen holds cpus s k id v w s.words at same refl))
+
+  -- a watcher's seat fits, whatever it knows of the client
+  pub watcher_fits : (cpus : ℕ) (s : State S (View C)) (k : IsKept holds cpus s) (j base : ℕ) (c : C)
+      → base ≡ base_of cpus
+      → Fits cpus s.words k.owner k.engine k.finds j (watcher_seat base c)
+  watcher_fits cpus s k j base c is = record {
+    seen = omega arith;
+    base = is;
+    inside = λ r. absurd (cc);
+    own = λ r. absurd (cc);
+    sound = λ r. absurd (cc);
+    lone = λ r. absurd (cc);
+    number = λ r. absurd (cc);
+    found = λ r. absurd (cc);
+    undealt = λ r. absurd (cc);
+  }
 
   -- a watcher's seat
   pub deals_watcher : (idle : C) (close : C → C) → IsStable holds idle close → (cpus id : ℕ) (v : View C)
@@ -67,26 +77,14 @@ module _ {S C : Type 0} (holds : List ℕ → Homes S → Picture C → Type 0) 
         finds = k.finds;
         fits = λ j u e. ⊎_elim
             (λ (was : get_elem? (set s.views id v) j ≡ some u). k.fits j u (subst (λ (l : List (View C)). get_elem? l j ≡ some u) (set_again s.views id v at) was))
-            (λ (last : (j ≡ length (set s.views id v)) × (new ≡ u)). subst (Fits cpus s.words k.owner k.engine k.finds j) last.1 (fits_new s k j (k.fits id v at).base))
+            (λ (last : (j ≡ length (set s.views id v)) × (new ≡ u)). subst (Fits cpus s.words k.owner k.engine k.finds j) last.1 (watcher_fits cpus s k j v.base idle (k.fits id v at).base))
             (at_end (set s.views id v) new u j e);
         client = dealt cpus s k idle close stable id v v new None at refl refl;
       }
-    where
-      fits_new : (s : State S (View C)) (k : IsKept holds cpus s) (j : ℕ) → v.base ≡ base_of cpus → Fits cpus s.words k.owner k.engine k.finds j (watcher_seat v.base idle)
-      fits_new s k j is = record {
-        seen = omega arith;
-        base = is;
-        inside = λ r. absurd (cc);
-        own = λ r. absurd (cc);
-        sound = λ r. absurd (cc);
-        lone = λ r. absurd (cc);
-        number = λ r. absurd (cc);
-        found = λ r. absurd (cc);
-        undealt = λ r. absurd (cc);
-      }
 
   -- the next processor's seat
-  pub deals_cpu : (idle : C) (close : C → C) → IsStable holds idle close → (cpus id : ℕ) (v : View C) → v.role ≡ Engine → v.cpu < cpus
+  pub deals_cpu : (idle : C) (close : C → C) → IsStable holds idle close → (cpus id : ℕ) (v : View C) → v.role ≡ Engine
+      → v.cpu < cpus
       → Splits (IsKept holds cpus) id v (after_deal v) (next_cpu_seat idle v)
   deals_cpu idle close stable cpus id v engine low s k at =
       let c : ℕ = v.cpu in
@@ -129,7 +127,8 @@ module _ {S C : Type 0} (holds : List ℕ → Homes S → Picture C → Type 0) 
         found = λ r. absurd (cc);
         undealt = λ r. absurd (cc);
       } in
-      let others : (j : ℕ) (u : View C) → j ≢ id → Fits cpus s.words k.owner k.engine k.finds j u → Fits cpus s.words owner k.engine k.finds j u = λ j u apart h.
+      let others : (j : ℕ) (u : View C) → j ≢ id → Fits cpus s.words k.owner k.engine k.finds j u
+      → Fits cpus s.words owner k.engine k.finds j u = λ j u apart h.
       let no_engine : u.role ≡ Engine → ⊥ = λ r. apart (sym (h.lone r) ∙ f.lone engine) in record {
         seen = h.seen;
         base = h.base;
@@ -141,8 +140,10 @@ module _ {S C : Type 0} (holds : List ℕ → Homes S → Picture C → Type 0) 
         found = h.found;
         undealt = λ r. absurd (no_engine r);
       } in
-      let one : (role : Role) → role ≡ Engine → (if_cpu role (Some (c + 1))) ≡ if_cpu role (Some c) = λ role e. rw e refl in
-      let same : shown left ≡ shown v = ap (λ (o : Option ℕ). (o, if_cpu v.role v.section, v.client)) (one v.role engine) in record {
+      let one : (role : Role) → role ≡ Engine → (if_cpu role (Some (c + 1))) ≡ if_cpu role (Some c) =
+      λ role e. rw e refl in
+      let same : shown left ≡ shown v =
+      ap (λ (o : Option ℕ). (o, if_cpu v.role v.section, v.client)) (one v.role engine) in record {
         room = k.room;
         number = k.number;
         boot = k.boot;

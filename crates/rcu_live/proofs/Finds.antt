@@ -1,5 +1,6 @@
 -- The engine's load of a processor's own word keeps the rule.
-use Rattle.std.proofs.Common.{◌≡◌, ◌≢◌, ℕ, ◌+◌, ◌<◌, ◌≤◌, ◌==◌, ◌&&◌, List, ◌∷◌, get_or, set, true, refl, sym, ap, ◌∙◌, subst, arith, ⊎_elim}
+use Rattle.std.proofs.Common.{◌≡◌, ◌≢◌, ℕ, ◌+◌, ◌<◌, ◌≤◌, ◌==◌, ◌&&◌, List, ◌∷◌, get_or, set, true, refl, sym, ap, ◌∙◌}
+use Rattle.std.proofs.Common.{subst, arith, ⊎_elim}
 use Rattle.std.proofs.lemmas.Bool.{and_parts, or_cases}
 use Rattle.std.proofs.lemmas.Bool.Decides.{Decides-eqb, nat_tests}
 use Rattle.std.proofs.lemmas.List.{set-get_or}
@@ -21,7 +22,8 @@ online_some : (stamp : ℕ) → may_open stamp ≡ true → 0 < stamp
 online_some stamp online = grind (arith, nat_tests)
 
 -- a section of a cleared processor is no older than the grace period, whichever word was found last
-still_young : (n at word : ℕ) (finds : List (ℕ × ℕ)) (cpu stamp p own : ℕ) → (at ≡ place cpu → word ≡ own) → own ≡ stamp → 0 < stamp → stamp ≤ p + 1
+still_young : (n at word : ℕ) (finds : List (ℕ × ℕ)) (cpu stamp p own : ℕ) → (at ≡ place cpu → word ≡ own)
+    → own ≡ stamp → 0 < stamp → stamp ≤ p + 1
     → (is_cleared n cpu finds ≡ true → n ≤ p) → is_cleared n cpu ((at, word) ∷ finds) ≡ true → n ≤ p
 still_young n at word finds cpu stamp p own found is any from old cleared = ⊎_elim
     (λ (now : ((at == place cpu) && tells n word) ≡ true).
@@ -53,7 +55,8 @@ module _ {S C : Type 0} (holds : List ℕ → Homes S → Picture C → Type 0) 
         found = λ r. ap (λ (l : List (ℕ × ℕ)). (place cpu, word) ∷ l) (f.found r);
         undealt = f.undealt;
       } in
-      let others : (j : ℕ) (u : View C) → j ≢ id → Fits cpus s.words k.owner k.engine k.finds j u → Fits cpus s.words k.owner k.engine now j u =
+      let others : (j : ℕ) (u : View C) → j ≢ id → Fits cpus s.words k.owner k.engine k.finds j u
+      → Fits cpus s.words k.owner k.engine now j u =
       λ j u apart h. record {
         seen = h.seen;
         base = h.base;
@@ -68,7 +71,8 @@ module _ {S C : Type 0} (holds : List ℕ → Homes S → Picture C → Type 0) 
           to_seen = t.to_seen;
           current = t.current;
           cleared = λ p o runs told.
-              still_young n (place cpu) word k.finds u.cpu u.stamp p (get_or s.words (place u.cpu) 0) (λ e. ap (λ (i : ℕ). get_or s.words i 0) e)
+              still_young n (place cpu) word k.finds u.cpu u.stamp p (get_or s.words (place u.cpu) 0)
+              (λ e. ap (λ (i : ℕ). get_or s.words i 0) e)
               t.stamp (online_some u.stamp (t.online p o)) (t.from_stamp p o) (t.cleared p o runs) told;
         };
         lone = h.lone;
@@ -88,5 +92,6 @@ module _ {S C : Type 0} (holds : List ℕ → Homes S → Picture C → Type 0) 
   pub finds_at : (cpus slots id cpu at : ℕ) (me : Me S (View C)) → me.0.role ≡ Engine → at ≡ place cpu
       → Allows (IsKept holds cpus) slots id me at (λ n. n) (λ n m. Found at me.0 n m.0 × (m.1 ≡ me.1))
   finds_at cpus slots id cpu at me engine is =
-      subst (λ (i : ℕ). Allows (IsKept holds cpus) slots id me i (λ n. n) (λ n m. Found i me.0 n m.0 × (m.1 ≡ me.1))) (sym is)
+      subst (λ (i : ℕ). Allows (IsKept holds cpus) slots id me i (λ n. n) (λ n m. Found i me.0 n m.0 × (m.1 ≡ me.1)))
+      (sym is)
       (finds_own cpus slots id cpu me engine)

@@ -1,5 +1,6 @@
 -- The rule where one view changes: what the other seats, the words and the client keep.
-use Rattle.std.proofs.Common.{◌≡◌, ◌≢◌, ℕ, ◌<◌, ◌≤◌, List, length, get_or, set, map, drop, true, sym, ap, ◌∙◌, subst, ⊎_elim}
+use Rattle.std.proofs.Common.{◌≡◌, ◌≢◌, ℕ, ◌<◌, ◌≤◌, List, length, get_or, set, map, drop, true, sym, ap, ◌∙◌, subst}
+use Rattle.std.proofs.Common.{⊎_elim}
 use Rattle.std.specs.Prelude.{slice_index}
 use Rattle.std.proofs.lemmas.List.{set-get_or}
 use mathlib.Core.Option.{some}
@@ -16,7 +17,8 @@ use Rattle.rcu_live.specs.declared.view.View.{View}
 
 module _ {S C : Type 0} (holds : List ℕ → Homes S → Picture C → Type 0) where
   -- the client sees nothing of a step that leaves its words, and what is shown of the seat
-  pub unseen : (cpus : ℕ) (s : State S (View C)) → IsKept holds cpus s → (id : ℕ) (v w : View C) (words : List ℕ) → get_elem? s.views id ≡ some v
+  pub unseen : (cpus : ℕ) (s : State S (View C)) → IsKept holds cpus s → (id : ℕ) (v w : View C) (words : List ℕ)
+      → get_elem? s.views id ≡ some v
       → shown w ≡ shown v → drop (base_of cpus) words ≡ drop (base_of cpus) s.words
       → holds (drop (base_of cpus) words) s.homes (map shown (set s.views id w))
   unseen cpus s k id v w words at same rest =
@@ -24,9 +26,10 @@ module _ {S C : Type 0} (holds : List ℕ → Homes S → Picture C → Type 0) 
       map-set shown s.views id w ∙ (ap (λ (x : Shown C). set (map shown s.views) id x) same ∙ set_again (map shown s.views) id (shown v) (at_map shown s.views id v at)) in
       subst (λ (y : List ℕ × Picture C). holds y.0 s.homes y.1) (λ i. (sym rest i, sym back i)) k.client
 
-  -- one view changes, and words do: the rule is kept where the others fit as before, the changed one fits, and the client's
-  -- rule is kept
-  pub changed : (cpus : ℕ) (s : State S (View C)) (k : IsKept holds cpus s) (id : ℕ) (w : View C) (words : List ℕ) (homes : Homes S) (finds : List (ℕ × ℕ))
+  -- one view changes, and words do: the rule is kept where the others fit as before, the changed one fits, and the
+  -- client's rule is kept
+  pub changed : (cpus : ℕ) (s : State S (View C)) (k : IsKept holds cpus s) (id : ℕ) (w : View C) (words : List ℕ)
+      (homes : Homes S) (finds : List (ℕ × ℕ))
       → base_of cpus ≤ length words → is_number_word (slice_index words 0) ≡ true → 0 < slice_index words (place 0)
       → ((j : ℕ) (u : View C) → j ≢ id → Fits cpus s.words k.owner k.engine k.finds j u → Fits cpus words k.owner k.engine finds j u)
       → Fits cpus words k.owner k.engine finds id w
@@ -52,5 +55,6 @@ module _ {S C : Type 0} (holds : List ℕ → Homes S → Picture C → Type 0) 
       → holds (drop (base_of cpus) s.words) s.homes (map shown (set s.views id w))
       → IsKept holds cpus record { words = set s.words at (get_or s.words at 0); homes = s.homes; views = set s.views id w }
   unchanged cpus s k id at w mine client =
-      subst (λ (words : List ℕ). IsKept holds cpus record { words = words; homes = s.homes; views = set s.views id w }) (sym (set-get_or s.words at 0))
+      subst (λ (words : List ℕ). IsKept holds cpus record { words = words; homes = s.homes; views = set s.views id w })
+      (sym (set-get_or s.words at 0))
       (changed cpus s k id w s.words s.homes k.finds k.room k.number k.boot (λ j u apart f. f) mine client)

@@ -1,5 +1,6 @@
 pub mod Begins
 pub mod ClientLemmas
+pub mod ClientSteps
 pub mod Deals
 pub mod Finds
 pub mod FoundWords
@@ -10,5 +11,6 @@ pub mod Meetings
 pub mod Numbers
 pub mod OldSections
 pub mod Openings
+pub mod RowLemmas
 pub mod Stores
 pub mod Turns

@@ -1,8 +1,10 @@
 -- Each load of the number keeps the rule.
-use Rattle.std.proofs.Common.{◌≡◌, ℕ, ◌+◌, ◌<◌, ◌≤◌, List, Option, Some, None, get_or, set, map, drop, true, refl, sym, ap, ◌∙◌, subst, arith}
+use Rattle.std.proofs.Common.{◌≡◌, ℕ, ◌+◌, ◌<◌, ◌≤◌, List, Option, Some, None, get_or, set, map, drop, true, refl, sym}
+use Rattle.std.proofs.Common.{ap, ◌∙◌, subst, arith}
 use mathlib.Core.Option.{some}
+use lib.ListN.{get_elem?}
 use lib.Seq.{map-set}
-use Rattle.atomic_table.specs.Table.{Me, keeps, Allows}
+use Rattle.atomic_table.specs.Table.{State, Me, keeps, Allows}
 use Rattle.atomic_table.proofs.Lists.{at_map}
 use Rattle.rcu_live.specs.Client.{Homes, IsStable, Picture, Shown}
 use Rattle.rcu_live.specs.Numbers.{may_open}
@@ -43,15 +45,16 @@ module _ {S C : Type 0} (holds : List ℕ → Homes S → Picture C → Type 0) 
     undealt = λ r c low high. f.undealt (sym role ∙ r) c (subst (λ (d : ℕ). d ≤ c) cpu low) high;
   }
 
-  -- number load
-  pub loads : (cpus slots id : ℕ) (me : Me S (View C))
-      → Allows (IsKept holds cpus) slots id me 0 (λ n. n) (λ n m. Loaded me.0 n m.0 × (m.1 ≡ me.1))
-  loads cpus slots id me s k _ at _ =
+  -- a seat fits after a number load
+  pub load_fits : (cpus : ℕ) (s : State S (View C)) (k : IsKept holds cpus s) (id : ℕ) (v : View C)
+      → get_elem? s.views id ≡ some v
+      → Fits cpus s.words k.owner k.engine k.finds id (after_load v (get_or s.words 0 0))
+  load_fits cpus s k id v at =
       let n : ℕ = get_or s.words 0 0 in
-      let v : View C = me.0 in
       let f : Fits cpus s.words k.owner k.engine k.finds id v = k.fits id v at in
       let w : View C = after_load v n in
-      let sound : v.role ≡ Cpu → IsSound n (get_or s.words (place v.cpu) 0) k.finds w = λ r. let t = f.sound r in record {
+      let sound : v.role ≡ Cpu → IsSound n (get_or s.words (place v.cpu) 0) k.finds w =
+      λ r. let t = f.sound r in record {
         stamp = t.stamp;
         bounded = own_later v.seen n v.stamp f.seen t.bounded;
         boot = t.boot;
@@ -60,12 +63,21 @@ module _ {S C : Type 0} (holds : List ℕ → Homes S → Picture C → Type 0) 
         to_seen = λ p o. let a = t.to_seen p o in let b = f.seen in omega arith;
         current = t.current;
         cleared = t.cleared;
-      } in
-      let mine = seen_fits cpus s.words k.owner k.engine k.finds id v w f refl refl refl refl refl sound in (
+      } in seen_fits cpus s.words k.owner k.engine k.finds id v w f refl refl refl refl refl sound
+
+  -- number load
+  pub loads : (cpus slots id : ℕ) (me : Me S (View C))
+      → Allows (IsKept holds cpus) slots id me 0 (λ n. n) (λ n m. Loaded me.0 n m.0 × (m.1 ≡ me.1))
+  loads cpus slots id me s k _ at _ =
+      let n : ℕ = get_or s.words 0 0 in
+      let v : View C = me.0 in
+      let f : Fits cpus s.words k.owner k.engine k.finds id v = k.fits id v at in
+      let w : View C = after_load v n in (
         w,
         keeps,
         tt,
-        unchanged holds cpus s k id 0 w mine (unseen holds cpus s k id v w s.words at refl refl),
+        unchanged holds cpus s k id 0 w (load_fits cpus s k id v at)
+            (unseen holds cpus s k id v w s.words at refl refl),
         (record { view = refl; later = f.seen; number = k.number; began = λ r. (f.sound r).to_seen; current = λ r. (f.sound r).current }, refl),
       )
 
@@ -94,7 +106,8 @@ module _ {S C : Type 0} (holds : List ℕ → Homes S → Picture C → Type 0) 
       let mine = seen_fits cpus s.words k.owner k.engine k.finds id v w f refl refl refl refl refl sound in
       let one : Option ℕ = if_cpu v.role (Some v.cpu) in
       let now : shown w ≡ (one, Some n, v.client) = ap (λ (r : Role). (one, if_cpu r (Some n), v.client)) cpu in
-      let was : shown v ≡ (one, None, v.client) = ap (λ (y : Role × Option ℕ). (one, if_cpu y.0 y.1, v.client)) (λ i. (cpu i, shut i)) in
+      let was : shown v ≡ (one, None, v.client) =
+      ap (λ (y : Role × Option ℕ). (one, if_cpu y.0 y.1, v.client)) (λ i. (cpu i, shut i)) in
       let after : map shown (set s.views id w) ≡ set (map shown s.views) id (one, Some n, v.client) =
       map-set shown s.views id w ∙ ap (λ (x : Shown C). set (map shown s.views) id x) now in
       let client : holds (drop (base_of cpus) s.words) s.homes (map shown (set s.views id w)) =
@@ -111,7 +124,8 @@ module _ {S C : Type 0} (holds : List ℕ → Homes S → Picture C → Type 0) 
       let f : Fits cpus s.words k.owner k.engine k.finds id v = k.fits id v at in
       let w : View C = after_close close v n in
       let up : v.seen ≤ n = f.seen in
-      let sound : v.role ≡ Cpu → IsSound n (get_or s.words (place v.cpu) 0) k.finds w = λ r. let t = f.sound r in record {
+      let sound : v.role ≡ Cpu → IsSound n (get_or s.words (place v.cpu) 0) k.finds w =
+      λ r. let t = f.sound r in record {
         stamp = t.stamp;
         bounded = own_later v.seen n v.stamp up t.bounded;
         boot = t.boot;
@@ -123,7 +137,8 @@ module _ {S C : Type 0} (holds : List ℕ → Homes S → Picture C → Type 0) 
       } in
       let mine = seen_fits cpus s.words k.owner k.engine k.finds id v w f refl refl refl refl refl sound in
       let one : Option ℕ = if_cpu v.role (Some v.cpu) in
-      let now : shown w ≡ (one, None, close v.client) = ap (λ (o : Option ℕ). (one, o, close v.client)) (none_shown v.role) in
+      let now : shown w ≡ (one, None, close v.client) =
+      ap (λ (o : Option ℕ). (one, o, close v.client)) (none_shown v.role) in
       let after : map shown (set s.views id w) ≡ set (map shown s.views) id (one, None, close v.client) =
       map-set shown s.views id w ∙ ap (λ (x : Shown C). set (map shown s.views) id x) now in
       let client : holds (drop (base_of cpus) s.words) s.homes (map shown (set s.views id w)) =

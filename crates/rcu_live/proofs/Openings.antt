@@ -1,5 +1,6 @@
 -- The rule at the opening: one seat, the engine's, which has all parts.
-use Rattle.std.proofs.Common.{◌≡◌, ℕ, zero, suc, ◌+◌, ◌<◌, ◌≤◌, List, [], ◌∷◌, ◌++◌, None, length, get_or, map, drop, replicate, true, refl, sym, ap, ◌∙◌, subst, arith, length-append, length-set}
+use Rattle.std.proofs.Common.{◌≡◌, ℕ, zero, suc, ◌+◌, ◌<◌, ◌≤◌, List, [], ◌∷◌, ◌++◌, None, length, get_or, map, drop}
+use Rattle.std.proofs.Common.{replicate, true, refl, sym, ap, ◌∙◌, subst, arith, length-append, length-set}
 use Rattle.std.proofs.lemmas.List.{get_or-replicate, get_or-set_other, get_or-set_same, length-replicate}
 use mathlib.Core.Option.{some, some-injective, some-ne-none}
 use lib.ListN.{get_elem?}
@@ -27,25 +28,30 @@ pub length-first_words : (cpus : ℕ) → length (first_words cpus) ≡ base_of 
 length-first_words cpus = length-set (replicate (base_of cpus) 0) 16 1 ∙ length-replicate (base_of cpus) 0
 
 -- there is room for the engine's words
-pub room_at_first : (cpus : ℕ) (behind words : List ℕ) → words ≡ first_words cpus ++ behind → base_of cpus ≤ length words
+pub room_at_first : (cpus : ℕ) (behind words : List ℕ) → words ≡ first_words cpus ++ behind
+    → base_of cpus ≤ length words
 room_at_first cpus behind words is =
     let long = length-first_words cpus in
     let both = ap length is ∙ length-append (first_words cpus) behind in omega arith
 
 number_at_first : (cpus : ℕ) → get_or (first_words cpus) 0 0 ≡ 0
-number_at_first cpus = get_or-set_other (replicate (base_of cpus) 0) 16 0 1 0 (λ e. absurd (omega arith)) ∙ get_or-replicate (base_of cpus) 0 0 0 (omega arith)
+number_at_first cpus =
+    get_or-set_other (replicate (base_of cpus) 0) 16 0 1 0 (λ e. absurd (omega arith))
+    ∙ get_or-replicate (base_of cpus) 0 0 0 (omega arith)
 
 word_at_first : (cpus c : ℕ) → c < cpus → get_or (first_words cpus) (place c) 0 ≡ first_word c
 word_at_first cpus zero low = get_or-set_same (replicate (base_of cpus) 0) 16 1 0 (let z : ℕ = 0 in let l = length-replicate (base_of cpus) z in omega arith)
 word_at_first cpus (suc c) low =
-    get_or-set_other (replicate (base_of cpus) 0) 16 (place (suc c)) 1 0 (λ e. absurd (omega arith)) ∙ get_or-replicate (base_of cpus) (place (suc c)) 0 0 (omega arith)
+    get_or-set_other (replicate (base_of cpus) 0) 16 (place (suc c)) 1 0 (λ e. absurd (omega arith))
+    ∙ get_or-replicate (base_of cpus) (place (suc c)) 0 0 (omega arith)
 
 zero_is_number : (n : ℕ) → n ≡ 0 → is_number_word n ≡ true
 zero_is_number n e = rw e refl
 
 module _ {S C : Type 0} (holds : List ℕ → Homes S → Picture C → Type 0) where
   -- the rule at the start, with the client's words behind
-  pub starts : (cpus : ℕ) (behind : List ℕ) (slots : List S) (c : C) → 0 < cpus → holds behind (map some slots) ((None, None, c) ∷ [])
+  pub starts : (cpus : ℕ) (behind : List ℕ) (slots : List S) (c : C) → 0 < cpus
+      → holds behind (map some slots) ((None, None, c) ∷ [])
       → IsKept holds cpus (opening (first_words cpus ++ behind) slots (engine_seat cpus 0 c))
   starts cpus behind slots c any client =
       let words : List ℕ = first_words cpus ++ behind in
@@ -72,7 +78,9 @@ module _ {S C : Type 0} (holds : List ℕ → Homes S → Picture C → Type 0) 
         engine = 0;
         finds = [];
         fits = λ id v at. alone words id v at first;
-        client = subst (λ (l : List ℕ). holds l (map some slots) ((None, None, c) ∷ [])) (sym (drop_front (base_of cpus) (first_words cpus) behind long)) client;
+        client =
+            subst (λ (l : List ℕ). holds l (map some slots) ((None, None, c) ∷ []))
+            (sym (drop_front (base_of cpus) (first_words cpus) behind long)) client;
       }
     where
       alone : (words : List ℕ) (id : ℕ) (v : View C) → get_elem? (engine_seat cpus 0 c ∷ []) id ≡ some v

@@ -1,5 +1,6 @@
 -- A store of the own word keeps the rule.
-use Rattle.std.proofs.Common.{◌≡◌, ◌≢◌, ℕ, ◌<◌, ◌≤◌, List, Some, None, length, get_or, set, true, refl, sym, ap, ◌∙◌, subst, arith, length-set}
+use Rattle.std.proofs.Common.{◌≡◌, ◌≢◌, ℕ, ◌<◌, ◌≤◌, List, Some, None, length, get_or, set, true, refl, sym, ap, ◌∙◌}
+use Rattle.std.proofs.Common.{subst, arith, length-set}
 use Rattle.std.proofs.lemmas.List.{drop-set-lt, get_or-set_other, get_or-set_same}
 use mathlib.Core.Logic.{dite}
 use native.Mathlib.Decide.{ℕ_discrete}
@@ -16,11 +17,14 @@ use Rattle.rcu_live.proofs.Numbers.{number_apart, places_apart}
 
 module _ {S C : Type 0} (holds : List ℕ → Homes S → Picture C → Type 0) where
   -- another seat fits as before, since its processor is another
-  others_fit : (cpus : ℕ) (s : State S (View C)) (k : IsKept holds cpus s) (id c word : ℕ) → k.owner c ≡ id → (j : ℕ) (u : View C) → j ≢ id
-      → Fits cpus s.words k.owner k.engine k.finds j u → Fits cpus (set s.words (place c) word) k.owner k.engine k.finds j u
+  others_fit : (cpus : ℕ) (s : State S (View C)) (k : IsKept holds cpus s) (id c word : ℕ) → k.owner c ≡ id
+      → (j : ℕ) (u : View C) → j ≢ id
+      → Fits cpus s.words k.owner k.engine k.finds j u
+      → Fits cpus (set s.words (place c) word) k.owner k.engine k.finds j u
   others_fit cpus s k id c word mine j u other f =
       let words : List ℕ = set s.words (place c) word in
-      let number : get_or words 0 0 ≡ get_or s.words 0 0 = get_or-set_other s.words (place c) 0 word 0 (λ e. number_apart c (sym e)) in
+      let number : get_or words 0 0 ≡ get_or s.words 0 0 =
+      get_or-set_other s.words (place c) 0 word 0 (λ e. number_apart c (sym e)) in
       let same : (d : ℕ) → d ≢ c → get_or words (place d) 0 ≡ get_or s.words (place d) 0 =
       λ d apart. get_or-set_other s.words (place c) (place d) word 0 (places_apart d c apart) in
       record {
@@ -29,7 +33,8 @@ module _ {S C : Type 0} (holds : List ℕ → Homes S → Picture C → Type 0) 
         inside = f.inside;
         own = f.own;
         sound = λ r. let apart : u.cpu ≢ c = λ e. other (sym (f.own r) ∙ ap k.owner e ∙ mine) in
-            subst (λ (y : ℕ × ℕ). IsSound y.0 y.1 k.finds u) (λ i. (sym number i, sym (same u.cpu apart) i)) (f.sound r);
+            subst (λ (y : ℕ × ℕ). IsSound y.0 y.1 k.finds u) (λ i. (sym number i, sym (same u.cpu apart) i))
+            (f.sound r);
         lone = f.lone;
         number = λ r. f.number r ∙ sym number;
         found = f.found;
@@ -38,9 +43,11 @@ module _ {S C : Type 0} (holds : List ℕ → Homes S → Picture C → Type 0) 
       }
 
   -- own-word store
-  stores_own : (cpus slots id word : ℕ) (me : Me S (View C)) → me.0.role ≡ Cpu → me.0.section ≡ None → is_own_word me.0.seen word ≡ true
+  stores_own : (cpus slots id word : ℕ) (me : Me S (View C)) → me.0.role ≡ Cpu → me.0.section ≡ None
+      → is_own_word me.0.seen word ≡ true
       → (me.0.cpu ≡ 0 → 0 < word)
-      → Allows (IsKept holds cpus) slots id me (place me.0.cpu) (λ _. word) (λ _ m. (m.0 ≡ after_store me.0 word) × (m.1 ≡ me.1))
+      → Allows (IsKept holds cpus) slots id me (place me.0.cpu) (λ _. word)
+      (λ _ m. (m.0 ≡ after_store me.0 word) × (m.1 ≡ me.1))
   stores_own cpus slots id word me cpu shut own boot s k _ at _ =
       let v : View C = me.0 in
       let c : ℕ = v.cpu in
@@ -49,7 +56,8 @@ module _ {S C : Type 0} (holds : List ℕ → Homes S → Picture C → Type 0) 
       let inside : c < cpus = f.inside cpu in
       let room : base_of cpus ≤ length s.words = k.room in
       let words : List ℕ = set s.words (place c) word in
-      let number : get_or words 0 0 ≡ get_or s.words 0 0 = get_or-set_other s.words (place c) 0 word 0 (λ e. number_apart c (sym e)) in
+      let number : get_or words 0 0 ≡ get_or s.words 0 0 =
+      get_or-set_other s.words (place c) 0 word 0 (λ e. number_apart c (sym e)) in
       let here : get_or words (place c) 0 ≡ word = get_or-set_same s.words (place c) word 0 (omega arith) in
       let booted : 0 < get_or words (place 0) 0 = dite (ℕ_discrete c 0)
       (λ (e : c ≡ 0). let b = boot e in subst (λ (d : ℕ). 0 < get_or words (place d) 0) e (subst (λ (x : ℕ). 0 < x) (sym here) b))
@@ -78,14 +86,16 @@ module _ {S C : Type 0} (holds : List ℕ → Homes S → Picture C → Type 0) 
         w,
         keeps,
         tt,
-        changed holds cpus s k id w words s.homes k.finds (rw (length-set s.words (place c) word) room) (rw number k.number) booted
+        changed holds cpus s k id w words s.homes k.finds (rw (length-set s.words (place c) word) room)
+            (rw number k.number) booted
             (others_fit cpus s k id c word (f.own cpu)) mine
             (unseen holds cpus s k id v w words at refl (drop-set-lt (base_of cpus) s.words (place c) word (omega arith))),
         (refl, refl),
       )
 
   -- the same at a place that is the one of the seat's processor
-  pub stores : (cpus slots id word c at : ℕ) (me : Me S (View C)) → me.0.role ≡ Cpu → me.0.cpu ≡ c → at ≡ place c → me.0.section ≡ None
+  pub stores : (cpus slots id word c at : ℕ) (me : Me S (View C)) → me.0.role ≡ Cpu → me.0.cpu ≡ c → at ≡ place c
+      → me.0.section ≡ None
       → is_own_word me.0.seen word ≡ true → (c ≡ 0 → 0 < word)
       → Allows (IsKept holds cpus) slots id me at (λ _. word) (λ _ m. (m.0 ≡ after_store me.0 word) × (m.1 ≡ me.1))
   stores cpus slots id word c at me cpu is there shut own boot =

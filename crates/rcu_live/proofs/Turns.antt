@@ -1,5 +1,6 @@
 -- The begin store and the end store keep the rule.
-use Rattle.std.proofs.Common.{◌≡◌, ◌≢◌, ℕ, ◌+◌, ◌^◌, ◌<◌, ◌≤◌, List, [], length, get_or, set, true, false, refl, sym, ◌∙◌, subst, arith, length-set}
+use Rattle.std.proofs.Common.{◌≡◌, ◌≢◌, ℕ, ◌+◌, ◌^◌, ◌<◌, ◌≤◌, List, [], length, get_or, set, true, false, refl, sym}
+use Rattle.std.proofs.Common.{◌∙◌, subst, arith, length-set}
 use Rattle.std.proofs.lemmas.Bool.Decides.{nat_tests}
 use Rattle.std.proofs.lemmas.List.{drop-set-lt, get_or-set_other, get_or-set_same}
 use mathlib.Core.Option.{some}
@@ -24,7 +25,8 @@ ended_word : (n : Number) → is_number_word n ≡ true → is_running n ≡ tru
 ended_word n word runs = grind (arith, nat_tests)
 
 -- a begin ends no grace period
-begun_current : (n at : Number) → is_number_word n ≡ true → is_running n ≡ false → is_past at n ≡ false → is_past at (n + 1) ≡ false
+begun_current : (n at : Number) → is_number_word n ≡ true → is_running n ≡ false → is_past at n ≡ false
+    → is_past at (n + 1) ≡ false
 begun_current n at word idle current = grind (arith, nat_tests)
 
 -- an end ends none that began after a section at its own number
@@ -35,9 +37,10 @@ ended_rests : (n : Number) → is_running n ≡ true → is_running (n + 3) ≡ 
 ended_rests n runs = grind (arith, nat_tests)
 
 module _ {S C : Type 0} (holds : List ℕ → Homes S → Picture C → Type 0) where
-  -- the engine stores a number that is no lower, and what it found stays or falls: the rule is kept where each processor's
-  -- seat is sound at it
-  stored : (cpus id n : ℕ) (s : State S (View C)) (k : IsKept holds cpus s) (v : View C) (finds : List (ℕ × ℕ)) → get_elem? s.views id ≡ some v → v.role ≡ Engine
+  -- the engine stores a number that is no lower, and what it found stays or falls: the rule is kept where each
+  -- processor's seat is sound at it
+  stored : (cpus id n : ℕ) (s : State S (View C)) (k : IsKept holds cpus s) (v : View C) (finds : List (ℕ × ℕ))
+      → get_elem? s.views id ≡ some v → v.role ≡ Engine
       → get_or s.words 0 0 ≤ n → is_number_word n ≡ true
       → ((u : View C) → IsSound (get_or s.words 0 0) (get_or s.words (place u.cpu) 0) k.finds u → u.cpu < cpus → IsSound n (get_or s.words (place u.cpu) 0) finds u)
       → IsKept holds cpus record { words = set s.words 0 n; homes = s.homes; views = set s.views id (record v { seen = n; finds = finds }) }
@@ -47,7 +50,8 @@ module _ {S C : Type 0} (holds : List ℕ → Homes S → Picture C → Type 0) 
       let room : base_of cpus ≤ length s.words = k.room in
       let words : List ℕ = set s.words 0 n in
       let now : get_or words 0 0 ≡ n = get_or-set_same s.words 0 n 0 (omega arith) in
-      let same : (c : ℕ) → get_or words (place c) 0 ≡ get_or s.words (place c) 0 = λ c. get_or-set_other s.words 0 (place c) n 0 (number_apart c) in
+      let same : (c : ℕ) → get_or words (place c) 0 ≡ get_or s.words (place c) 0 =
+      λ c. get_or-set_other s.words 0 (place c) n 0 (number_apart c) in
       let mine : Fits cpus words k.owner k.engine finds id w = record {
         seen = omega (arith, now);
         base = f.base;
@@ -59,31 +63,38 @@ module _ {S C : Type 0} (holds : List ℕ → Homes S → Picture C → Type 0) 
         found = λ r. refl;
         undealt = λ r d low high. let t = f.undealt r d low high in (t.0, same d ∙ t.1);
       } in
-      let others : (j : ℕ) (u : View C) → j ≢ id → Fits cpus s.words k.owner k.engine k.finds j u → Fits cpus words k.owner k.engine finds j u =
+      let others : (j : ℕ) (u : View C) → j ≢ id → Fits cpus s.words k.owner k.engine k.finds j u
+      → Fits cpus words k.owner k.engine finds j u =
       λ j u apart h.
       let none : u.role ≡ Engine → ⊥ = λ r. apart (sym (h.lone r) ∙ f.lone engine) in record {
         seen = let b : u.seen ≤ get_or s.words 0 0 = h.seen in omega (arith, now);
         base = h.base;
         inside = h.inside;
         own = h.own;
-        sound = λ r. subst (λ (y : ℕ × ℕ). IsSound y.0 y.1 finds u) (λ i. (sym now i, sym (same u.cpu) i)) (sound u (h.sound r) (h.inside r));
+        sound =
+            λ r. subst (λ (y : ℕ × ℕ). IsSound y.0 y.1 finds u) (λ i. (sym now i, sym (same u.cpu) i))
+            (sound u (h.sound r) (h.inside r));
         lone = h.lone;
         number = λ r. absurd (none r);
         found = λ r. absurd (none r);
         undealt = λ r. absurd (none r);
       } in
-      changed holds cpus s k id w words s.homes finds (rw (length-set s.words 0 n) room) (rw now legal) (rw (same 0) k.boot) others mine
+      changed holds cpus s k id w words s.homes finds (rw (length-set s.words 0 n) room) (rw now legal)
+      (rw (same 0) k.boot) others mine
       (unseen holds cpus s k id v w words at refl (drop-set-lt (base_of cpus) s.words 0 n (omega arith)))
 
-  begins_next : (cpus slots id : ℕ) (me : Me S (View C)) → me.0.role ≡ Engine → is_running me.0.seen ≡ false → me.0.seen < 2 ^ 62
-      → Allows (IsKept holds cpus) slots id me 0 (λ _. me.0.seen + 1) (λ _ m. (m.0 ≡ after_begin_store me.0 (me.0.seen + 1)) × (m.1 ≡ me.1))
+  begins_next : (cpus slots id : ℕ) (me : Me S (View C)) → me.0.role ≡ Engine → is_running me.0.seen ≡ false
+      → me.0.seen < 2 ^ 62
+      → Allows (IsKept holds cpus) slots id me 0 (λ _. me.0.seen + 1)
+      (λ _ m. (m.0 ≡ after_begin_store me.0 (me.0.seen + 1)) × (m.1 ≡ me.1))
   begins_next cpus slots id me engine idle small s k _ at _ =
       let v : View C = me.0 in
       let n : ℕ = get_or s.words 0 0 in
       let f : Fits cpus s.words k.owner k.engine k.finds id v = k.fits id v at in
       let same : v.seen ≡ n = f.number engine in
       let word : is_number_word v.seen ≡ true = rw same k.number in
-      let sound : (u : View C) → IsSound n (get_or s.words (place u.cpu) 0) k.finds u → u.cpu < cpus → IsSound (v.seen + 1) (get_or s.words (place u.cpu) 0) [] u =
+      let sound : (u : View C) → IsSound n (get_or s.words (place u.cpu) 0) k.finds u → u.cpu < cpus
+      → IsSound (v.seen + 1) (get_or s.words (place u.cpu) 0) [] u =
       λ u t inside. record {
         stamp = t.stamp;
         bounded = t.bounded;
@@ -101,18 +112,22 @@ module _ {S C : Type 0} (holds : List ℕ → Homes S → Picture C → Type 0) 
         (refl, refl),
       )
 
-  ends_next : (cpus slots id : ℕ) (me : Me S (View C)) → me.0.role ≡ Engine → is_running me.0.seen ≡ true → AreCleared cpus me.0.seen me.0.finds
-      → Allows (IsKept holds cpus) slots id me 0 (λ _. me.0.seen + 3) (λ _ m. (m.0 ≡ after_end_store me.0 (me.0.seen + 3)) × (m.1 ≡ me.1))
+  ends_next : (cpus slots id : ℕ) (me : Me S (View C)) → me.0.role ≡ Engine → is_running me.0.seen ≡ true
+      → AreCleared cpus me.0.seen me.0.finds
+      → Allows (IsKept holds cpus) slots id me 0 (λ _. me.0.seen + 3)
+      (λ _ m. (m.0 ≡ after_end_store me.0 (me.0.seen + 3)) × (m.1 ≡ me.1))
   ends_next cpus slots id me engine runs all s k _ at _ =
       let v : View C = me.0 in
       let n : ℕ = get_or s.words 0 0 in
       let f : Fits cpus s.words k.owner k.engine k.finds id v = k.fits id v at in
       let same : v.seen ≡ n = f.number engine in
       let word : is_number_word v.seen ≡ true = rw same k.number in
-      let sound : (u : View C) → IsSound n (get_or s.words (place u.cpu) 0) k.finds u → u.cpu < cpus → IsSound (v.seen + 3) (get_or s.words (place u.cpu) 0) v.finds u =
+      let sound : (u : View C) → IsSound n (get_or s.words (place u.cpu) 0) k.finds u → u.cpu < cpus
+      → IsSound (v.seen + 3) (get_or s.words (place u.cpu) 0) v.finds u =
       λ u t inside.
       let cleared : is_cleared n u.cpu k.finds ≡ true =
-      subst (λ (y : ℕ × List (ℕ × ℕ)). is_cleared y.0 u.cpu y.1 ≡ true) (λ i. (same i, f.found engine i)) (all u.cpu inside) in
+      subst (λ (y : ℕ × List (ℕ × ℕ)). is_cleared y.0 u.cpu y.1 ≡ true) (λ i. (same i, f.found engine i))
+      (all u.cpu inside) in
       record {
         stamp = t.stamp;
         bounded = t.bounded;
@@ -131,14 +146,16 @@ module _ {S C : Type 0} (holds : List ℕ → Homes S → Picture C → Type 0) 
       )
 
   -- begin store, of a number that is the next one
-  pub begins_at : (cpus slots id n : ℕ) (me : Me S (View C)) → me.0.role ≡ Engine → is_running me.0.seen ≡ false → n ≡ me.0.seen + 1 → n ≤ 2 ^ 62
+  pub begins_at : (cpus slots id n : ℕ) (me : Me S (View C)) → me.0.role ≡ Engine → is_running me.0.seen ≡ false
+      → n ≡ me.0.seen + 1 → n ≤ 2 ^ 62
       → Allows (IsKept holds cpus) slots id me 0 (λ _. n) (λ _ m. (m.0 ≡ after_begin_store me.0 n) × (m.1 ≡ me.1))
   begins_at cpus slots id n me engine idle is small =
       subst (λ (x : ℕ). Allows (IsKept holds cpus) slots id me 0 (λ _. x) (λ _ m. (m.0 ≡ after_begin_store me.0 x) × (m.1 ≡ me.1))) (sym is)
       (begins_next cpus slots id me engine idle (omega (arith, is, small)))
 
   -- end store, of a number that is the next idle one
-  pub ends_at : (cpus slots id n key : ℕ) (me : Me S (View C)) → me.0.role ≡ Engine → is_running me.0.seen ≡ true → cpus ≡ key
+  pub ends_at : (cpus slots id n key : ℕ) (me : Me S (View C)) → me.0.role ≡ Engine → is_running me.0.seen ≡ true
+      → cpus ≡ key
       → AreCleared key me.0.seen me.0.finds → n ≡ me.0.seen + 3
       → Allows (IsKept holds cpus) slots id me 0 (λ _. n) (λ _ m. (m.0 ≡ after_end_store me.0 n) × (m.1 ≡ me.1))
   ends_at cpus slots id n key me engine runs is all next =

@@ -4,9 +4,10 @@ use Rattle.atomic_table.specs.Seated.{TableId}
 use Rattle.rcu_seq.specs.Fault.{first_fault}
 use Rattle.rcu_seq.specs.Numbers.{Number}
 use Rattle.rcu_seq.specs.declared.fault.Fault.{Fault}
-use Rattle.rcu_seq.specs.declared.fault.Fault.TheVariants.{AlreadyOnline, BootStays, InSection, NestFull, NotOpen, Offline}
+use Rattle.rcu_seq.specs.declared.fault.Fault.TheVariants.{AlreadyOnline, BootStays, InSection, NestFull, NotOpen}
+use Rattle.rcu_seq.specs.declared.fault.Fault.TheVariants.{Offline}
 use Rattle.rcu_cpu.specs.CpuData.{Processor, deepest}
-use Rattle.rcu_live.specs.View.{after_close, after_load, after_open, after_store, cpu_seat}
+use Rattle.rcu_live.specs.View.{after_close, after_load, after_open, after_store, cpu_seat, with_client}
 use Rattle.rcu_live.specs.declared.view.View.{View}
 
 -- a processor's seat: of which object, of which processor, how deep its sections nest, and what it has seen
@@ -39,7 +40,8 @@ module _ {C : Type 0} where
 
   -- after an exit: the outermost one is a section-closing load, which saw n, and an inner one leaves the view
   abbrev pub after_exit : (C → C) → Seated C → Number → Seated C
-  after_exit closed s n = record s { depth = s.depth - 1; view = if s.depth == 1 then after_close closed s.view n else s.view }
+  after_exit closed s n =
+      record s { depth = s.depth - 1; view = if s.depth == 1 then after_close closed s.view n else s.view }
 
   -- why a quiescent state is refused
   abbrev pub quiesce_refusal : Seated C → Option Fault
@@ -52,6 +54,10 @@ module _ {C : Type 0} where
   -- a number load more, which saw n
   abbrev pub after_look : Seated C → Number → Seated C
   after_look s n = record s { view = after_load s.view n }
+
+  -- after a client's step, by which it knows this
+  abbrev pub after_use : Seated C → C → Seated C
+  after_use s c = record s { view = with_client s.view c }
 
   -- why an arrival is refused
   abbrev pub arrive_refusal : Seated C → Option Fault

@@ -19,7 +19,8 @@ use Rattle.rcu_live.specs.declared.collected.Collected.{Collected}
 use Rattle.rcu_live.specs.declared.collected.Collected.TheVariants as collected
 use Rattle.rcu_live.specs.declared.view.View.{View}
 
--- the engine: of which object, of how many processors, what its seat has seen, and the state of grace periods and callbacks
+-- the engine: of which object, of how many processors, what its seat has seen, and the state of grace periods and
+-- callbacks
 pub record Locked (C X : Type 0) : Type 0 where
   pub table : TableId
   pub cpus : ℕ
@@ -63,8 +64,8 @@ module _ {X : Type 0} where
   abbrev pub next_number : Grace X → Number
   next_number g = number_of (record g.seq { running = true })
 
-  -- a grace period began which found these words: online and of its start set are the processors whose word is not 0, and
-  -- it awaits those of which their word does not tell
+  -- a grace period began which found these words: online and of its start set are the processors whose word is not 0,
+  -- and it awaits those of which their word does not tell
   abbrev pub begun_from : ℕ → (ℕ → ℕ) → Grace X → Grace X
   begun_from cpus word g = record g {
     seq = record g.seq { running = true };
@@ -91,8 +92,8 @@ module _ {C X : Type 0} where
     grace = grace.after_end e.grace;
   }
 
-  -- what a turn does, where a begin would find these words: a running grace period ends where nobody is awaited; where none
-  -- runs, one begins if it is needed
+  -- what a turn does, where a begin would find these words: a running grace period ends where nobody is awaited; where
+  -- none runs, one begins if it is needed
   abbrev pub turn_answer : Locked C X → (ℕ → ℕ) → Turned
   turn_answer e word =
       if e.grace.seq.running
@@ -114,7 +115,8 @@ module _ {C X : Type 0} where
       then (if tells (number_of e.grace.seq) word then collected_by (hear_answer e.grace cpu) else collected.NotYet)
       else collected.Idle
 
-  -- what a collection leaves: while a grace period runs one load more, and a report where the word tells of the processor
+  -- what a collection leaves: while a grace period runs one load more, and a report where the word tells of the
+  -- processor
   abbrev pub after_collect : Locked C X → ℕ → ℕ → Locked C X
   after_collect e cpu word =
       if e.grace.seq.running

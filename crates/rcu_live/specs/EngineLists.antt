@@ -14,12 +14,12 @@ use Rattle.rcu_live.specs.Words.{place}
 
 module _ {X : Type 0} where
   -- the processor is online: it arrived, where no begin had found it
-  abbrev pub joined : Grace X → ℕ → Grace X
-  joined g cpu = if is_in g.processors.online cpu then g else with_call g (Arrive cpu)
+  abbrev pub with_arrival : Grace X → ℕ → Grace X
+  with_arrival g cpu = if is_in g.processors.online cpu then g else with_call g (Arrive cpu)
 
   -- the processor is offline: it departed, where no begin had found it gone
-  abbrev pub departed : Grace X → ℕ → Grace X
-  departed g cpu = if is_in g.processors.online cpu then with_call g (Depart cpu) else g
+  abbrev pub with_departure : Grace X → ℕ → Grace X
+  with_departure g cpu = if is_in g.processors.online cpu then with_call g (Depart cpu) else g
 
 module _ {C X : Type 0} where
   -- with the state of grace periods and callbacks changed
@@ -27,21 +27,26 @@ module _ {C X : Type 0} where
   on_grace change e = record e { grace = change e.grace }
 
   -- after one load of the processor's own word, which found this word
-  abbrev pub after_look : Locked C X → ℕ → ℕ → Locked C X
-  after_look e cpu word = record e { view = after_find e.view (place cpu) word }
+  abbrev pub after_load_own : Locked C X → ℕ → ℕ → Locked C X
+  after_load_own e cpu word = record e { view = after_find e.view (place cpu) word }
 
-  -- why a leave is refused that found this word: the processor is online; or it was offline already, and its list is empty
+  -- why a leave is refused that found this word: the processor is online; or it was offline already, and its list is
+  -- empty
   abbrev pub leave_refusal : Locked C X → ℕ → Bool → ℕ → Option Fault
   leave_refusal e cpu again word =
       first_fault ((nat_lt 0 word, fault.AlreadyOnline) ∷ (again && is_empty (list_of e.grace.lists cpu), fault.Offline) ∷ [])
 
+  -- after a join: the processor arrived
+  abbrev pub after_join : Locked C X → ℕ → Locked C X
+  after_join e cpu = on_grace (λ g. with_arrival g cpu) e
+
   -- after a leave whose migration was refused memory: the processor departed, and its list stays
   abbrev pub after_departure : Locked C X → ℕ → ℕ → Locked C X
-  after_departure e cpu word = on_grace (λ g. departed g cpu) (after_look e cpu word)
+  after_departure e cpu word = on_grace (λ g. with_departure g cpu) (after_load_own e cpu word)
 
   -- after a leave: the processor departed, and its list moved to processor 0
   abbrev pub after_leave : Locked C X → ℕ → ℕ → Locked C X
-  after_leave e cpu word = on_grace (λ g. after_migrate (departed g cpu) cpu) (after_look e cpu word)
+  after_leave e cpu word = on_grace (λ g. after_migrate (with_departure g cpu) cpu) (after_load_own e cpu word)
 
   -- why a callback is not queued: the processor is not online in the engine, there are too many, or memory was refused
   abbrev pub queue_refusal : Locked C X → ℕ → Fault

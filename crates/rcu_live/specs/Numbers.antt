@@ -1,4 +1,5 @@
--- Words on the number, a processor's own word and the number at which a section began. The rule speaks of them by these alone.
+-- Words on the number, a processor's own word and the number at which a section began. The rule speaks of them by these
+-- alone.
 use Rattle.std.specs.Prelude.{ℕ, ◌+◌, ◌^◌, ◌%◌, ◌==◌, ◌&&◌, ◌||◌, Bool, not, nat_le, nat_lt}
 use Rattle.rcu_seq.specs.Numbers.{Number, snapshot}
 
@@ -22,6 +23,7 @@ tells t word = word == 0 || nat_lt t word
 abbrev pub is_past : Number → Number → Bool
 is_past at n = nat_le (snapshot at) n
 
--- a section that began at a number may be open at number n: it did not begin later, and no full grace period lies between
+-- a section that began at a number may be open at number n: it did not begin later, and no full grace period lies
+-- between
 abbrev pub is_open_at : Number → Number → Bool
 is_open_at n at = nat_le at n && not (is_past at n)

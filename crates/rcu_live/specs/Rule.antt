@@ -1,5 +1,6 @@
 -- The rule of the shared words: what holds of them and of all seats between any two atomic steps.
-use Rattle.std.specs.Prelude.{◌≡◌, ℕ, ◌+◌, ◌<◌, ◌≤◌, ◌==◌, ◌&&◌, ◌||◌, Bool, true, false, List, [], ◌∷◌, Some, drop, length, map, slice_index}
+use Rattle.std.specs.Prelude.{◌≡◌, ℕ, ◌+◌, ◌<◌, ◌≤◌, ◌==◌, ◌&&◌, ◌||◌, Bool, true, false, List, [], ◌∷◌, Some, drop}
+use Rattle.std.specs.Prelude.{length, map, slice_index}
 use mathlib.Core.Option.{some}
 use lib.ListN.{get_elem?}
 use Rattle.atomic_table.specs.Table.{State}
@@ -27,8 +28,8 @@ module _ {C : Type 0} where
     pub stamp : word ≡ v.stamp
     pub bounded : is_own_word v.seen v.stamp ≡ true
     pub boot : v.cpu ≡ 0 → 0 < v.stamp
-    -- where a section is open: the processor may have one, it began from the stamp less one to what the seat saw, and no
-    -- full grace period lies since
+    -- where a section is open: the processor may have one, it began from the stamp less one to what the seat saw, and
+    -- no full grace period lies since
     pub online : (at : Number) → v.section ≡ Some at → may_open v.stamp ≡ true
     pub from_stamp : (at : Number) → v.section ≡ Some at → v.stamp ≤ at + 1
     pub to_seen : (at : Number) → v.section ≡ Some at → at ≤ v.seen
@@ -38,10 +39,12 @@ module _ {C : Type 0} where
 
   -- of the engine's seat: the processors with no seat yet are its own, and their words as at the start
   abbrev pub AreUndealt : ℕ → List ℕ → (ℕ → ℕ) → ℕ → View C → Type 0
-  AreUndealt cpus words owner id v = (cpu : ℕ) → v.cpu ≤ cpu → cpu < cpus → (owner cpu ≡ id) × (slice_index words (place cpu) ≡ first_word cpu)
+  AreUndealt cpus words owner id v =
+      (cpu : ℕ) → v.cpu ≤ cpu → cpu < cpus → (owner cpu ≡ id) × (slice_index words (place cpu) ≡ first_word cpu)
 
   -- what holds of the seat id, given which seat each processor has, which is the engine's, and what the engine found
-  pub record Fits (cpus : ℕ) (words : List ℕ) (owner : ℕ → ℕ) (engine : ℕ) (finds : List (ℕ × ℕ)) (id : ℕ) (v : View C) : Type 0 where
+  pub record Fits (cpus : ℕ) (words : List ℕ) (owner : ℕ → ℕ) (engine : ℕ) (finds : List (ℕ × ℕ)) (id : ℕ)
+      (v : View C) : Type 0 where
     pub seen : v.seen ≤ slice_index words 0
     pub base : v.base ≡ base_of cpus
     pub inside : v.role ≡ Cpu → v.cpu < cpus
@@ -53,7 +56,8 @@ module _ {C : Type 0} where
     pub undealt : v.role ≡ Engine → AreUndealt cpus words owner id v
 
   -- the rule. There are at least the engine's words, and what stands behind them is the client's
-  pub record IsKept {S : Type 0} (holds : List ℕ → Homes S → Picture C → Type 0) (cpus : ℕ) (s : State S (View C)) : Type 0 where
+  pub record IsKept {S : Type 0} (holds : List ℕ → Homes S → Picture C → Type 0) (cpus : ℕ)
+      (s : State S (View C)) : Type 0 where
     pub room : base_of cpus ≤ length s.words
     pub number : is_number_word (slice_index s.words 0) ≡ true
     pub boot : 0 < slice_index s.words (place 0)

@@ -21,7 +21,18 @@ module _ {C : Type 0} where
 
   -- a seat that has seen nothing
   abbrev pub fresh : Role → ℕ → ℕ → ℕ → C → View C
-  fresh role cpu stamp base c = record { role = role; cpu = cpu; seen = 0; loads = 0; stamp = stamp; section = None; finds = []; base = base; client = c }
+  fresh role cpu stamp base c = record {
+    role = role;
+    cpu = cpu;
+    seen = 0;
+    loads = 0;
+    stores = 0;
+    stamp = stamp;
+    section = None;
+    finds = [];
+    base = base;
+    client = c;
+  }
 
   -- the engine's seat once these processors have theirs, from 0 up to n; the first seat of all has n = 0
   abbrev pub engine_seat : ℕ → ℕ → C → View C
@@ -30,6 +41,10 @@ module _ {C : Type 0} where
   -- it is the engine's seat
   abbrev pub IsOfEngine : View C → Type 0
   IsOfEngine v = v.role ≡ Engine
+
+  -- it is a watcher's seat
+  abbrev pub IsOfWatcher : View C → Type 0
+  IsOfWatcher v = v.role ≡ Watcher
 
   -- a processor's seat as it is dealt: its own word is as at the start
   abbrev pub cpu_seat : ℕ → ℕ → C → View C
@@ -47,6 +62,14 @@ module _ {C : Type 0} where
   abbrev pub next_cpu_seat : C → View C → View C
   next_cpu_seat c v = cpu_seat v.base v.cpu c
 
+  -- what the client knows is handed over to a watcher's seat: what is left
+  abbrev pub after_hand : C → View C → View C
+  after_hand idle v = record v { client = idle }
+
+  -- and the seat that has it
+  abbrev pub handed_seat : View C → View C
+  handed_seat v = watcher_seat v.base v.client
+
   -- after a number load that saw n
   abbrev pub after_load : View C → Number → View C
   after_load v n = record v { seen = n; loads = v.loads + 1 }
@@ -59,12 +82,12 @@ module _ {C : Type 0} where
   abbrev pub after_close : (C → C) → View C → Number → View C
   after_close closed v n = record v { seen = n; loads = v.loads + 1; section = None; client = closed v.client }
 
-  -- after a store of the own word
+  -- after a store of the own word: one store more
   abbrev pub after_store : View C → ℕ → View C
-  after_store v word = record v { stamp = word }
+  after_store v word = record v { stores = v.stores + 1; stamp = word }
 
-  -- what a number load tells: one load more, which saw n, a number that is at least all that the seat saw before; where a
-  -- section is open at it, the section began no later than what the seat saw, and no full grace period lies since
+  -- what a number load tells: one load more, which saw n, a number that is at least all that the seat saw before; where
+  -- a section is open at it, the section began no later than what the seat saw, and no full grace period lies since
   pub record Loaded (v : View C) (n : Number) (w : View C) : Type 0 where
     pub view : w ≡ after_load v n
     pub later : v.seen ≤ n
@@ -100,3 +123,17 @@ module _ {C : Type 0} where
   pub record Found (at : ℕ) (v : View C) (word : ℕ) (w : View C) : Type 0 where
     pub view : w ≡ after_find v at word
     pub boot : at ≡ place 0 → 0 < word
+
+  -- with this for what the client knows
+  abbrev pub with_client : View C → C → View C
+  with_client v c = record v { client = c }
+
+  -- what a client's step on the word at a place tells, which found or stored n: of that word among the client's
+  abbrev pub Used : (ℕ → C → ℕ → C → Type 0) → ℕ → View C → ℕ → View C → Type 0
+  Used tells at v n w =
+      (w ≡ with_client v w.client) × ((p : ℕ) → at ≡ v.base + p → tells p v.client n w.client)
+
+  -- what a client's look at the number tells
+  abbrev pub Learned : (C → Number → C → Type 0) → View C → Number → View C → Type 0
+  Learned tells v n w =
+      (w ≡ with_client (after_load v n) w.client) × (v.seen ≤ n) × (is_number_word n ≡ true) × tells v.client n w.client

@@ -1,5 +1,5 @@
--- Where the shared words stand, and what they are at the start. The number stands first, then a word a processor, then the
--- words of a client.
+-- Where the shared words stand, and what they are at the start. The number stands first, then a word a processor, then
+-- the words of a client.
 use Rattle.std.specs.Prelude.{ℕ, zero, suc, ◌+◌, ◌*◌, List, replicate, slice_set}
 
 -- the place of a processor's own word. The words stand 16 apart

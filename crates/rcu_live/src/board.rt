@@ -1,5 +1,6 @@
 //! The shared words, and each kind of step on them in plain words.
-ghost use Rattle.std.specs.Prelude.{◌≡◌, ◌+◌, ◌^◌, ◌<◌, ◌≤◌, ◌∷◌, [], IfOk, None, map, true, false};
+ghost use Rattle.std.specs.Prelude.{◌≡◌, ◌+◌, ◌^◌, ◌<◌, ◌≤◌, ◌∷◌, [], IfOk, None};
+ghost use Rattle.std.specs.Prelude.{length, map, true, false};
 ghost use mathlib.Core.Option.{some};
 ghost use Rattle.rcu_seq.specs.Numbers.{is_running};
 ghost use Rattle.rcu_live.specs.Numbers.{is_own_word, may_open};
@@ -7,7 +8,7 @@ ghost use Rattle.rcu_live.specs.Rule.{AreCleared};
 ghost use Rattle.rcu_live.specs.View.{Closed, Found, Loaded, Opened, after_begin_store, after_deal};
 ghost use Rattle.rcu_live.specs.View.{after_end_store, after_store};
 ghost use Rattle.rcu_live.specs.View.{engine_seat, next_cpu_seat, watcher_seat};
-ghost use Rattle.rcu_live.specs.Words.{place};
+ghost use Rattle.rcu_live.specs.Words.{base_of, place};
 ghost use Rattle.rcu_live.specs.declared.view.Role.TheVariants.{Cpu, Engine};
 
 use crate::client::Client;
@@ -21,12 +22,12 @@ use std::marker::Model;
 /// The shared words: the number, a word a processor, and a client's words behind them.
 #[derive(Drop)]
 pub struct Board<S: Drop, C, P: Client<S, C>> {
-    table: Table<S, View<C>, u32, Words<P>, Global>,
-    cpus: u32,
+    pub(crate) table: Table<S, View<C>, u32, Words<P>, Global>,
+    pub(crate) cpus: u32,
 }
 
 impl<S: Drop, C, P: Client<S, C>> Model for Board<S, C, P> {
-    ghost use Rattle.std.specs.Prelude.{◌≡◌, ◌<◌, ◌≤◌};
+    ghost use Rattle.std.specs.Prelude.{◌≡◌, ◌<◌, ◌≤◌, ◌^◌};
     ghost use Rattle.rcu_live.specs.Board.{Object};
     ghost use Rattle.rcu_live.specs.Words.{base_of};
 
@@ -37,6 +38,7 @@ impl<S: Drop, C, P: Client<S, C>> Model for Board<S, C, P> {
     ghost invariant = { λ b. record {
       key : b.table.shared.key ≡ b.cpus;
       room : base_of b.cpus ≤ b.table.shared.table_id.words;
+      long : b.table.shared.table_id.words < 2 ^ 64;
       some : 0 < b.cpus;
       few : b.cpus ≤ 4096;
     } };
@@ -57,6 +59,9 @@ impl<S: Drop, C, P: Client<S, C>> Board<S, C, P> {
         requires few { cpus ≤ 4096 }
         requires client { P.holds behind.now (map some slots.items) ((None, None, P.first) ∷ []) }
         ensures cpus { IfOk result (λ r. r.0.cpus ≡ cpus) }
+        ensures room { IfOk result (λ r.
+            r.0.table.words ≡ base_of cpus + length behind.now) }
+        ensures slots { IfOk result (λ r. r.0.table.slots ≡ length slots.items) }
         ensures table { IfOk result (λ r. r.1.table_id ≡ r.0.table) }
         ensures view { IfOk result (λ r. r.1.me.0 ≡ engine_seat cpus 0 P.first) }
         ensures hand { IfOk result (λ r. r.1.me.1 ≡ []) }

@@ -5,7 +5,8 @@ ghost use Rattle.rcu_live.specs.Client.{Homes, IsStable, Picture};
 /// A client of the engine. Its words stand behind the engine's, its slots beside them, and each
 /// seat's view has a part of the client's.
 ///
-/// One law ties it to the engine: opening and closing a section and dealing a seat keep its rule.
+/// One law ties it to the engine: opening and closing a section, dealing a seat and handing over
+/// what the first seat knows keep its rule.
 pub trait Client<S, C> {
     // The rule, of the client's words, of the slots, and of what is shown of each seat.
     ghost holds: { List ℕ → Homes S → Picture C → Type 0 };
@@ -21,6 +22,19 @@ pub trait Client<S, C> {
     fn mark() {}
 
     ghost stable: { IsStable holds idle closed };
+}
+
+/// What a client's step on one of its words tells.
+pub trait Outcome<C> {
+    // Of the word's place among the client's words, what the client knew, the word that was found
+    // or stored, and what the client knows then.
+    ghost then: { ℕ → C → ℕ → C → Type 0 };
+}
+
+/// What a client's look at the number tells.
+pub trait Lesson<C> {
+    // Of what the client knew, the number, and what the client knows then.
+    ghost then: { C → ℕ → C → Type 0 };
 }
 
 /// No client: no words, no slots, nothing to know.

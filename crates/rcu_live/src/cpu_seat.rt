@@ -1,15 +1,17 @@
 //! A processor's seat: its read sections and its quiescent states.
-ghost use Rattle.std.specs.Prelude.{◌≡◌, ◌<◌, ◌≤◌, ◌==◌, ℕ, IfErr, IfOk, None, OnErr, OnOk};
+ghost use Rattle.std.specs.Prelude.{◌≡◌, ◌+◌, ◌<◌, ◌≤◌, ◌==◌, ℕ, IfErr, IfOk, None, OnErr, OnOk};
 ghost use Rattle.std.specs.Prelude.{Some, false};
 ghost use Rattle.rcu_live.specs.CpuSeat.{after_depart, after_enter, after_exit, after_look};
-ghost use Rattle.rcu_live.specs.CpuSeat.{after_quiesce, arrive_refusal, at_first, depart_refusal};
+ghost use Rattle.rcu_live.specs.CpuSeat.{after_quiesce, after_use, arrive_refusal, at_first};
+ghost use Rattle.rcu_live.specs.CpuSeat.{depart_refusal};
+ghost use Rattle.rcu_live.specs.Client.{Uses};
 ghost use Rattle.rcu_live.specs.CpuSeat.{enter_refusal, exit_refusal, quiesce_refusal};
 ghost use Rattle.rcu_live.specs.Numbers.{is_past};
 ghost use Rattle.rcu_live.specs.View.{cpu_seat};
-ghost use Rattle.rcu_live.specs.Words.{place};
+ghost use Rattle.rcu_live.specs.Words.{base_of, place};
 
-use crate::board::Place;
-use crate::client::Client;
+use crate::board::{Board, Place};
+use crate::client::{Client, Outcome};
 use crate::live::Live;
 use rcu_cpu::cpu_data::CpuData;
 use rcu_seq::fault::Fault;
@@ -71,7 +73,8 @@ impl<S: Drop, C> CpuSeat<S, C> {
     /// Opens a read section by one load, or nests one deeper in the open one by none, and answers
     /// the depth. It waits for nobody.
     ///
-    /// Faults: 2 where the processor is offline; 6 where the depth is 65,535.
+    /// Faults: `Offline` (2) where the processor is offline; `NestFull` (6) where the depth is
+    /// 65,535.
     pub fn enter<const LEAF: u32, const FAN: u32, T: Drop, P: Client<S, C>>(
         &mut self,
         live: &Live<LEAF, FAN, T, S, C, P>,
@@ -85,16 +88,30 @@ impl<S: Drop, C> CpuSeat<S, C> {
         ensures refused { IfErr result (λ fault. enter_refusal self.old ≡ Some fault) }
         ensures unchanged { OnErr result (self.new ≡ self.old) }
     {
+        self.enter_on(live.board())
+    }
+
+    /// As [`enter`](Self::enter), over the shared words alone.
+    pub fn enter_on<P: Client<S, C>>(&mut self, board: &Board<S, C, P>) -> Result<u32, Fault>
+        requires { self.old.table ≡ board.now.table }
+        ensures table { self.new.table ≡ self.old.table }
+        ensures depth { IfOk result (λ depth. depth ≡ self.new.depth) }
+        ensures accepted { OnOk result (enter_refusal self.old ≡ None) }
+        ensures entered { OnOk result (self.new ≡ after_enter self.old self.new.view.seen) }
+        ensures later { OnOk result (self.old.view.seen ≤ self.new.view.seen) }
+        ensures refused { IfErr result (λ fault. enter_refusal self.old ≡ Some fault) }
+        ensures unchanged { OnErr result (self.new ≡ self.old) }
+    {
         let depth = self.data.enter()?;
         if depth == 1 {
-            self.opened = Some(live.board().open_section(&mut self.seat));
+            self.opened = Some(board.open_section(&mut self.seat));
         }
         Ok(depth)
     }
 
     /// Leaves the innermost section, and answers the depth: at 0 one load closed the section.
     ///
-    /// Fault 5: no section is open.
+    /// Fault `NotOpen` (5): no section is open.
     pub fn exit<const LEAF: u32, const FAN: u32, T: Drop, P: Client<S, C>>(
         &mut self,
         live: &Live<LEAF, FAN, T, S, C, P>,
@@ -108,9 +125,23 @@ impl<S: Drop, C> CpuSeat<S, C> {
         ensures refused { IfErr result (λ fault. exit_refusal self.old ≡ Some fault) }
         ensures unchanged { OnErr result (self.new ≡ self.old) }
     {
+        self.exit_on(live.board())
+    }
+
+    /// As [`exit`](Self::exit), over the shared words alone.
+    pub fn exit_on<P: Client<S, C>>(&mut self, board: &Board<S, C, P>) -> Result<u32, Fault>
+        requires { self.old.table ≡ board.now.table }
+        ensures table { self.new.table ≡ self.old.table }
+        ensures depth { IfOk result (λ depth. depth ≡ self.new.depth) }
+        ensures accepted { OnOk result (exit_refusal self.old ≡ None) }
+        ensures left { OnOk result (self.new ≡ after_exit P.closed self.old self.new.view.seen) }
+        ensures later { OnOk result (self.old.view.seen ≤ self.new.view.seen) }
+        ensures refused { IfErr result (λ fault. exit_refusal self.old ≡ Some fault) }
+        ensures unchanged { OnErr result (self.new ≡ self.old) }
+    {
         let depth = self.data.exit()?;
         if depth == 0 {
-            live.board().close_section(&mut self.seat);
+            board.close_section(&mut self.seat);
             self.opened = None;
         }
         Ok(depth)
@@ -119,7 +150,8 @@ impl<S: Drop, C> CpuSeat<S, C> {
     /// Passes a quiescent state: loads the number, which it answers, and stores it and one more in
     /// the processor's own word.
     ///
-    /// Faults: 2 where the processor is offline; 4 where a section is open.
+    /// Faults: `Offline` (2) where the processor is offline; `InSection` (4) where a section is
+    /// open.
     pub fn quiesce<const LEAF: u32, const FAN: u32, T: Drop, P: Client<S, C>>(
         &mut self,
         live: &Live<LEAF, FAN, T, S, C, P>,
@@ -132,12 +164,41 @@ impl<S: Drop, C> CpuSeat<S, C> {
         ensures refused { IfErr result (λ fault. quiesce_refusal self.old ≡ Some fault) }
         ensures unchanged { OnErr result (self.new ≡ self.old) }
     {
+        self.quiesce_on(live.board())
+    }
+
+    /// As [`quiesce`](Self::quiesce), over the shared words alone.
+    pub fn quiesce_on<P: Client<S, C>>(&mut self, board: &Board<S, C, P>) -> Result<u64, Fault>
+        requires { self.old.table ≡ board.now.table }
+        ensures table { self.new.table ≡ self.old.table }
+        ensures accepted { OnOk result (quiesce_refusal self.old ≡ None) }
+        ensures noted { IfOk result (λ number. self.new ≡ after_quiesce self.old number) }
+        ensures later { IfOk result (λ number. self.old.view.seen ≤ number) }
+        ensures refused { IfErr result (λ fault. quiesce_refusal self.old ≡ Some fault) }
+        ensures unchanged { OnErr result (self.new ≡ self.old) }
+    {
         self.data.quiesce()?;
-        let number = live.board().load(&mut self.seat);
+        let number = board.load(&mut self.seat);
         self.data.note(number)?;
-        live.board()
-            .store(&mut self.seat, self.data.cpu(), number + 1);
+        board.store(&mut self.seat, self.data.cpu(), number + 1);
         Ok(number)
+    }
+
+    /// Loads the client's word of this place. A client's rule may look at the open section.
+    pub fn load_word<const LEAF: u32, const FAN: u32, T: Drop, P: Client<S, C>, M: Outcome<C>>(
+        &mut self,
+        live: &Live<LEAF, FAN, T, S, C, P>,
+        word: usize,
+    ) -> u64
+        requires table { self.old.table ≡ live.now.table }
+        requires base { self.old.view.base ≡ base_of live.now.cpus }
+        requires inside { base_of live.now.cpus + word < live.now.table.words }
+        requires allowed { Uses P.holds (Some self.old.cpu) self.old.view.section
+            self.old.view.client word (λ n. n) (M.then word self.old.view.client) }
+        ensures same { self.new ≡ after_use self.old self.new.view.client }
+        ensures told { M.then word self.old.view.client result self.new.view.client }
+    {
+        live.board().load_word::<M>(&mut self.seat, word)
     }
 
     /// The number at which the open section began.
@@ -164,12 +225,9 @@ impl<S: Drop, C> CpuSeat<S, C> {
 
     /// The processor is online from now on: its own word becomes the number seen, and one more.
     ///
-    /// Fault 3: the processor is online.
-    pub(crate) fn arrive<const LEAF: u32, const FAN: u32, T: Drop, P: Client<S, C>>(
-        &mut self,
-        live: &Live<LEAF, FAN, T, S, C, P>,
-    ) -> Result<(), Fault>
-        requires { self.old.table ≡ live.now.table }
+    /// Fault `AlreadyOnline` (3): the processor is online.
+    pub fn arrive_on<P: Client<S, C>>(&mut self, board: &Board<S, C, P>) -> Result<(), Fault>
+        requires { self.old.table ≡ board.now.table }
         ensures table { self.new.table ≡ self.old.table }
         ensures accepted { OnOk result (arrive_refusal self.old ≡ None) }
         ensures arrived { OnOk result (self.new ≡ after_quiesce self.old self.new.view.seen) }
@@ -180,22 +238,18 @@ impl<S: Drop, C> CpuSeat<S, C> {
         if self.data.online() {
             return Err(Fault::AlreadyOnline);
         }
-        let number = live.board().load(&mut self.seat);
+        let number = board.load(&mut self.seat);
         self.data.arrive(number)?;
-        live.board()
-            .store(&mut self.seat, self.data.cpu(), number + 1);
+        board.store(&mut self.seat, self.data.cpu(), number + 1);
         Ok(())
     }
 
     /// The processor is offline from now on: its own word becomes 0. Answers whether it was offline
     /// before.
     ///
-    /// Faults: 12 for processor 0; 4 where a section is open.
-    pub(crate) fn depart<const LEAF: u32, const FAN: u32, T: Drop, P: Client<S, C>>(
-        &mut self,
-        live: &Live<LEAF, FAN, T, S, C, P>,
-    ) -> Result<bool, Fault>
-        requires { self.old.table ≡ live.now.table }
+    /// Faults: `BootStays` (12) for processor 0; `InSection` (4) where a section is open.
+    pub fn depart_on<P: Client<S, C>>(&mut self, board: &Board<S, C, P>) -> Result<bool, Fault>
+        requires { self.old.table ≡ board.now.table }
         ensures table { self.new.table ≡ self.old.table }
         ensures again { IfOk result (λ again. again ≡ (self.old.view.stamp == 0)) }
         ensures accepted { OnOk result (depart_refusal self.old ≡ None) }
@@ -210,12 +264,12 @@ impl<S: Drop, C> CpuSeat<S, C> {
         if !again {
             self.data.depart()?;
         }
-        live.board().store(&mut self.seat, self.data.cpu(), 0);
+        board.store(&mut self.seat, self.data.cpu(), 0);
         Ok(again)
     }
 
     /// The processor.
-    pub(crate) fn cpu(&self) -> u32
+    pub fn cpu(&self) -> u32
         ensures { result ≡ self.now.cpu }
     {
         self.data.cpu()

@@ -88,4 +88,12 @@ impl<A: Awaited, T: Drop, S: Drop, C, P: Client<S, C>> Engine<A, T, S, C, P> {
     {
         self.board.cpus()
     }
+
+    /// The state of the grace periods and the callbacks, to be read.
+    pub fn grace(&self) -> &GpState<A, T>
+        ensures value { result.now ≡ self.now.grace }
+        ensures cpus { cpus_of result.now.processors ≡ self.now.cpus }
+    {
+        &self.gp
+    }
 }

@@ -3,8 +3,8 @@ ghost use Rattle.std.specs.Prelude.{◌≡◌, ◌≢◌, ◌<◌, IfErr, IfOk, 
 ghost use Rattle.rcu_cblist.specs.SegList.{callbacks, is_empty};
 ghost use Rattle.rcu_barrier.specs.Lists.{list_of};
 ghost use Rattle.rcu_live.specs.Engine.{latest_found};
-ghost use Rattle.rcu_live.specs.EngineLists.{after_departure, after_leave, after_look, joined};
-ghost use Rattle.rcu_live.specs.EngineLists.{leave_refusal, on_grace};
+ghost use Rattle.rcu_live.specs.EngineLists.{after_departure, after_join, after_leave};
+ghost use Rattle.rcu_live.specs.EngineLists.{after_load_own, leave_refusal};
 
 use crate::client::Client;
 use crate::engine::Engine;
@@ -16,7 +16,7 @@ impl<A: Awaited, T: Drop, S: Drop, C, P: Client<S, C>> Engine<A, T, S, C, P> {
     /// begin on.
     pub fn join(&mut self, cpu: u32)
         requires { cpu < self.old.cpus }
-        ensures { self.new ≡ on_grace (λ g. joined g cpu) self.old }
+        ensures { self.new ≡ after_join self.old cpu }
     {
         let _ = self.gp.arrive(cpu);
     }
@@ -25,8 +25,9 @@ impl<A: Awaited, T: Drop, S: Drop, C, P: Client<S, C>> Engine<A, T, S, C, P> {
     /// departs, unless a begin has found it gone, and its list moves to processor 0's. Answers how
     /// many callbacks moved. `again` tells that it was offline before.
     ///
-    /// Faults: 3 where its word is not 0; 2 where it was offline before and its list is empty; 16,
-    /// only where its list is not empty: then it has departed, and its list stays.
+    /// Faults: `AlreadyOnline` (3) where its word is not 0; `Offline` (2) where it was offline
+    /// before and its list is empty; `NoMemory` (16), only where its list is not empty: then it has
+    /// departed, and its list stays.
     pub fn leave(&mut self, cpu: u32, again: bool) -> Result<u64, Fault>
         requires { cpu < self.old.cpus }
         ensures moved { IfOk result (λ moved.
@@ -38,7 +39,7 @@ impl<A: Awaited, T: Drop, S: Drop, C, P: Client<S, C>> Engine<A, T, S, C, P> {
         ensures refused { IfErr result (λ fault. fault ≢ Fault.NoMemory →
             leave_refusal self.old cpu again (latest_found self.new.view.finds) ≡ Some fault) }
         ensures looked { IfErr result (λ fault. fault ≢ Fault.NoMemory →
-            self.new ≡ after_look self.old cpu (latest_found self.new.view.finds)) }
+            self.new ≡ after_load_own self.old cpu (latest_found self.new.view.finds)) }
         ensures memory { IfErr result (λ fault. fault ≡ Fault.NoMemory →
             leave_refusal self.old cpu again (latest_found self.new.view.finds) ≡ None) }
         ensures some { IfErr result (λ fault. fault ≡ Fault.NoMemory →

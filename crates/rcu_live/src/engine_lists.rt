@@ -1,6 +1,6 @@
 //! The callbacks of an engine, and the barrier over them.
-ghost use Rattle.std.specs.Prelude.{◌≡◌, ◌≢◌, ◌<◌, ◌≤◌, All, IfErr, IfOk, OnErr, OnOk, [], length};
-ghost use Rattle.std.specs.Prelude.{true, false};
+ghost use Rattle.std.specs.Prelude.{◌≡◌, ◌≢◌, ◌<◌, ◌≤◌, ◌^◌, All, IfErr, IfOk, OnErr, OnOk, []};
+ghost use Rattle.std.specs.Prelude.{length, true, false};
 ghost use Rattle.rcu_seq.specs.Numbers.{snapshot};
 ghost use Rattle.rcu_seq.specs.Seq.{number_of};
 ghost use Rattle.rcu_node.specs.CpuSet.{is_in};
@@ -9,6 +9,7 @@ ghost use Rattle.rcu_barrier.specs.Lists.{barrier_test_answer, list_of, most_que
 ghost use Rattle.rcu_barrier.specs.Lists.{visit_answer, visit_fault};
 ghost use Rattle.rcu_core.specs.GpState as grace;
 ghost use Rattle.rcu_live.specs.EngineLists.{on_grace, queue_refusal};
+ghost use Rattle.rcu_live.specs.Numbers.{is_number_word};
 
 use crate::client::Client;
 use crate::engine::Engine;
@@ -23,8 +24,8 @@ impl<A: Awaited, T: Drop, S: Drop, C, P: Client<S, C>> Engine<A, T, S, C, P> {
     /// Queues a callback on a processor, at the number. Answers how many were queued, which is its
     /// place among them.
     ///
-    /// Faults, which hand the value back: 2 where the processor is not online here; 15 where
-    /// 1,000,000 were queued; 16.
+    /// Faults, which hand the value back: `Offline` (2) where the processor is not online here;
+    /// `CallbacksFull` (15) where 1,000,000 were queued; `NoMemory` (16).
     pub fn queue(&mut self, cpu: u32, value: T) -> Result<u64, Refused<T>>
         requires { cpu < self.old.cpus }
         ensures count { IfOk result (λ count. count ≡ self.new.grace.lists.queued) }
@@ -48,7 +49,7 @@ impl<A: Awaited, T: Drop, S: Drop, C, P: Client<S, C>> Engine<A, T, S, C, P> {
     /// Brings the marks of a processor's callbacks up to the number. Answers how many callbacks of
     /// the list are done and how many wait then.
     ///
-    /// Fault 1: there is no such processor.
+    /// Fault `BadCpu` (1): there is no such processor.
     pub fn tend(&mut self, cpu: u32) -> Result<(u64, u64), Fault>
         ensures accepted { OnOk result (cpu < self.old.cpus) }
         ensures state { OnOk result
@@ -70,7 +71,7 @@ impl<A: Awaited, T: Drop, S: Drop, C, P: Client<S, C>> Engine<A, T, S, C, P> {
     /// Hands out the first callbacks of a processor's done part, at most so many, with the number:
     /// only such that a full grace period has passed since their queueing.
     ///
-    /// Faults: 1; 16, only where it has a callback to hand out.
+    /// Faults: `BadCpu` (1); `NoMemory` (16), only where it has a callback to hand out.
     pub fn run(&mut self, cpu: u32, max: u64) -> Result<Ran<T>, Fault>
         ensures accepted { OnOk result (cpu < self.old.cpus) }
         ensures number { IfOk result (λ ran. ran.number ≡ number_of self.old.grace.seq) }
@@ -80,6 +81,9 @@ impl<A: Awaited, T: Drop, S: Drop, C, P: Client<S, C>> Engine<A, T, S, C, P> {
             (self.new ≡ on_grace (λ g. grace.after_run g cpu max) self.old) }
         ensures waited { IfOk result (λ ran.
             All (λ call. snapshot call.at ≤ ran.number) ran.calls.items) }
+        ensures bounded { IfOk result (λ ran. ran.number ≤ 2 ^ 62) }
+        ensures word { IfOk result (λ ran. is_number_word ran.number ≡ true) }
+        ensures most { IfOk result (λ ran. length ran.calls.items ≤ max) }
         ensures bad { IfErr result (λ fault. self.old.cpus ≤ cpu → fault ≡ Fault.BadCpu) }
         ensures memory { IfErr result (λ fault. cpu < self.old.cpus → fault ≡ Fault.NoMemory) }
         ensures some { OnErr result (cpu < self.old.cpus →
@@ -94,7 +98,9 @@ impl<A: Awaited, T: Drop, S: Drop, C, P: Client<S, C>> Engine<A, T, S, C, P> {
         Ok(Ran { number, calls })
     }
 
-    /// Begins a barrier. Fault 13: one runs.
+    /// Begins a barrier.
+    ///
+    /// Fault `BarrierBusy` (13): one runs.
     pub fn barrier_begin(&mut self) -> Result<(), Fault>
         ensures idle { OnOk result (self.old.grace.lists.running ≡ false) }
         ensures state { OnOk result
@@ -108,7 +114,8 @@ impl<A: Awaited, T: Drop, S: Drop, C, P: Client<S, C>> Engine<A, T, S, C, P> {
 
     /// The barrier visits a processor.
     ///
-    /// Faults: 1; 14 where none runs; 16, only where it would put a marker.
+    /// Faults: `BadCpu` (1); `NoBarrier` (14) where none runs; `NoMemory` (16), only where it would
+    /// put a marker.
     pub fn visit(&mut self, cpu: u32) -> Result<Visit, Fault>
         ensures accepted { OnOk result (cpu < self.old.cpus) }
         ensures running { OnOk result (self.old.grace.lists.running ≡ true) }
@@ -128,7 +135,9 @@ impl<A: Awaited, T: Drop, S: Drop, C, P: Client<S, C>> Engine<A, T, S, C, P> {
         self.gp.visit(cpu)
     }
 
-    /// Whether the barrier is over. Fault 14: none runs.
+    /// Whether the barrier is over.
+    ///
+    /// Fault `NoBarrier` (14): none runs.
     pub fn barrier_test(&mut self) -> Result<BarrierState, Fault>
         ensures answer { IfOk result (λ found.
             found ≡ barrier_test_answer self.old.grace.lists) }

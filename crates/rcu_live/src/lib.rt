@@ -1,8 +1,10 @@
 //! The running engine: the shared words, and the seats by which threads read them without a lock.
 #![tactic(auto)]
 
+pub mod apart;
 pub mod board;
 pub mod client;
+mod client_words;
 pub mod collected;
 pub mod cpu_seat;
 mod dealing;

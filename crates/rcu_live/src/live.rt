@@ -3,6 +3,7 @@ ghost use Rattle.std.specs.Prelude.{◌≡◌, ◌≤◌, ℕ, IfSome, Some};
 ghost use Rattle.std.specs.Arc.{arc_value};
 ghost use Rattle.rcu_live.specs.CpuSeat.{after_look};
 ghost use Rattle.rcu_live.specs.Met.{MeetsSection, meet_answer};
+ghost use Rattle.rcu_live.specs.Opening.{engine_at_first};
 ghost use Rattle.rcu_live.specs.Watcher.{after_watch};
 
 use crate::board::Board;
@@ -52,11 +53,13 @@ impl<const LEAF: u32, const FAN: u32, T: Drop, S: Drop, C, P: Client<S, C>> Live
     C,
     P,
 > {
-    /// An object with these words, and this engine under its lock.
+    /// An object with these words, and their engine under its lock, as it is opened.
     pub(crate) fn new(
         board: Arc<Board<S, C, P>, Global>,
         engine: Engine<Tree<LEAF, FAN>, T, S, C, P>,
     ) -> Self
+        requires { engine ≡ engine_at_first (arc_value board).table (arc_value board).cpus
+            engine.grace.seq.last P.idle }
         ensures { result ≡ arc_value board }
     {
         Live {

@@ -24,7 +24,7 @@ impl<const LEAF: u32, const FAN: u32, T: Drop, S: Drop, C, P: Client<S, C>> Live
 > {
     /// Looks for a quiescent state of the processor, as [`Engine::collect`](crate::engine::Engine).
     ///
-    /// Fault 1: there is no such processor.
+    /// Fault `BadCpu` (1): there is no such processor.
     pub fn collect(&self, rt: &impl Wait, cpu: u32) -> Result<Collected, Fault>
         ensures { IfErr result (λ fault. fault ≡ Fault.BadCpu) }
     {
@@ -33,7 +33,7 @@ impl<const LEAF: u32, const FAN: u32, T: Drop, S: Drop, C, P: Client<S, C>> Live
 
     /// Ends the running grace period or begins one, as [`Engine::turn`](crate::engine::Engine).
     ///
-    /// Fault 11: a grace period would begin, and the number is the last one.
+    /// Fault `Exhausted` (11): a grace period would begin, and the number is the last one.
     pub fn turn(&self, rt: &impl Wait) -> Result<Turned, Fault>
         ensures { IfErr result (λ fault. fault ≡ Fault.Exhausted) }
     {
@@ -43,7 +43,7 @@ impl<const LEAF: u32, const FAN: u32, T: Drop, S: Drop, C, P: Client<S, C>> Live
     /// Brings the processor online: one load of the number, and one more than it in the own word;
     /// then, under the lock, as [`Engine::join`](crate::engine::Engine).
     ///
-    /// Fault 3: the processor is online.
+    /// Fault `AlreadyOnline` (3): the processor is online.
     pub fn online(&self, rt: &impl Wait, seat: &mut CpuSeat<S, C>) -> Result<(), Fault>
         requires { seat.old.table ≡ self.now.table }
         ensures table { seat.new.table ≡ seat.old.table }
@@ -53,7 +53,7 @@ impl<const LEAF: u32, const FAN: u32, T: Drop, S: Drop, C, P: Client<S, C>> Live
         ensures refused { IfErr result (λ fault. arrive_refusal seat.old ≡ Some fault) }
         ensures unchanged { OnErr result (seat.new ≡ seat.old) }
     {
-        seat.arrive(self)?;
+        seat.arrive_on(self.board())?;
         let cpu = seat.cpu();
         let mut engine = self.engine.lock(rt);
         // A seat's processor is one of the engine's, which no clause can say across the lock.
@@ -67,9 +67,9 @@ impl<const LEAF: u32, const FAN: u32, T: Drop, S: Drop, C, P: Client<S, C>> Live
     /// as [`Engine::leave`](crate::engine::Engine). Answers how many callbacks moved to processor
     /// 0's list. Refused memory, the same call again finishes that.
     ///
-    /// Faults: 12 for processor 0; 4 where a section is open; 2 where it was offline and its list
-    /// is empty; 16, where it is offline from now on. Under the lock it passes on 3, which it never
-    /// meets.
+    /// Faults: `BootStays` (12) for processor 0; `InSection` (4) where a section is open; `Offline`
+    /// (2) where it was offline and its list is empty; `NoMemory` (16), where it is offline from
+    /// now on. Under the lock it passes on `AlreadyOnline` (3), which it never meets.
     pub fn offline(&self, rt: &impl Wait, seat: &mut CpuSeat<S, C>) -> Result<u64, Fault>
         requires { seat.old.table ≡ self.now.table }
         ensures table { seat.new.table ≡ seat.old.table }
@@ -83,7 +83,7 @@ impl<const LEAF: u32, const FAN: u32, T: Drop, S: Drop, C, P: Client<S, C>> Live
         ensures again { IfErr result (λ fault. depart_refusal seat.old ≡ None →
             fault ≡ Fault.Offline → seat.old.view.stamp ≡ 0) }
     {
-        let again = seat.depart(self)?;
+        let again = seat.depart_on(self.board())?;
         let cpu = seat.cpu();
         let mut engine = self.engine.lock(rt);
         if cpu < engine.cpus() {

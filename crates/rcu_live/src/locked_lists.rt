@@ -1,7 +1,9 @@
 //! The calls that take the lock of an object for its callbacks.
-ghost use Rattle.std.specs.Prelude.{◌≡◌, ◌≤◌, All, IfErr, IfOk, true};
+ghost use Rattle.std.specs.Prelude.{◌≡◌, ◌<◌, ◌≤◌, ◌^◌, All, IfErr, IfOk, length, true};
 ghost use Rattle.rcu_seq.specs.Numbers.{snapshot};
+ghost use Rattle.rcu_barrier.specs.Lists.{most_queued};
 ghost use Rattle.rcu_live.specs.EngineLists.{is_queue_fault, is_run_fault, is_visit_fault};
+ghost use Rattle.rcu_live.specs.Numbers.{is_number_word};
 
 use crate::client::Client;
 use crate::cpu_seat::CpuSeat;
@@ -24,8 +26,8 @@ impl<const LEAF: u32, const FAN: u32, T: Drop, S: Drop, C, P: Client<S, C>> Live
     /// Queues a callback on the processor, as [`Engine::queue`](crate::engine::Engine). Over the
     /// object's life at most 1,000,000 are queued.
     ///
-    /// Faults, which hand the value back: 2 where the processor is not online under the lock; 15;
-    /// 16.
+    /// Faults, which hand the value back: `Offline` (2) where the processor is not online under the
+    /// lock; `CallbacksFull` (15); `NoMemory` (16).
     pub fn queue(
         &self,
         rt: &impl Wait,
@@ -34,6 +36,8 @@ impl<const LEAF: u32, const FAN: u32, T: Drop, S: Drop, C, P: Client<S, C>> Live
     ) -> Result<u64, Refused<T>>
         requires { seat.old.table ≡ self.now.table }
         ensures seat { seat.new ≡ seat.old }
+        ensures any { IfOk result (λ count. 0 < count) }
+        ensures most { IfOk result (λ count. count ≤ most_queued) }
         ensures fault { IfErr result (λ refused. is_queue_fault refused.fault ≡ true) }
         ensures value { IfErr result (λ refused. refused.value ≡ value) }
     {
@@ -52,7 +56,7 @@ impl<const LEAF: u32, const FAN: u32, T: Drop, S: Drop, C, P: Client<S, C>> Live
     /// Brings the marks of a processor's callbacks up to the number, as
     /// [`Engine::tend`](crate::engine::Engine).
     ///
-    /// Fault 1: there is no such processor.
+    /// Fault `BadCpu` (1): there is no such processor.
     pub fn tend(&self, rt: &impl Wait, cpu: u32) -> Result<(u64, u64), Fault>
         ensures { IfErr result (λ fault. fault ≡ Fault.BadCpu) }
     {
@@ -63,16 +67,21 @@ impl<const LEAF: u32, const FAN: u32, T: Drop, S: Drop, C, P: Client<S, C>> Live
     /// [`Engine::run`](crate::engine::Engine): only such that a full grace period has passed since
     /// their queueing.
     ///
-    /// Faults: 1; 16.
+    /// Faults: `BadCpu` (1); `NoMemory` (16).
     pub fn run(&self, rt: &impl Wait, cpu: u32, max: u64) -> Result<Ran<T>, Fault>
         ensures waited { IfOk result (λ ran.
             All (λ call. snapshot call.at ≤ ran.number) ran.calls.items) }
+        ensures bounded { IfOk result (λ ran. ran.number ≤ 2 ^ 62) }
+        ensures word { IfOk result (λ ran. is_number_word ran.number ≡ true) }
+        ensures most { IfOk result (λ ran. length ran.calls.items ≤ max) }
         ensures fault { IfErr result (λ fault. is_run_fault fault ≡ true) }
     {
         self.engine.lock(rt).run(cpu, max)
     }
 
-    /// Begins a barrier, as [`Engine::barrier_begin`](crate::engine::Engine). Fault 13: one runs.
+    /// Begins a barrier, as [`Engine::barrier_begin`](crate::engine::Engine).
+    ///
+    /// Fault `BarrierBusy` (13): one runs.
     pub fn barrier_begin(&self, rt: &impl Wait) -> Result<(), Fault>
         ensures { IfErr result (λ fault. fault ≡ Fault.BarrierBusy) }
     {
@@ -81,15 +90,16 @@ impl<const LEAF: u32, const FAN: u32, T: Drop, S: Drop, C, P: Client<S, C>> Live
 
     /// The barrier visits a processor, as [`Engine::visit`](crate::engine::Engine).
     ///
-    /// Faults: 1; 14 where no barrier runs; 16.
+    /// Faults: `BadCpu` (1); `NoBarrier` (14) where no barrier runs; `NoMemory` (16).
     pub fn visit(&self, rt: &impl Wait, cpu: u32) -> Result<Visit, Fault>
         ensures { IfErr result (λ fault. is_visit_fault fault ≡ true) }
     {
         self.engine.lock(rt).visit(cpu)
     }
 
-    /// Whether the barrier is over, as [`Engine::barrier_test`](crate::engine::Engine). Fault 14:
-    /// none runs.
+    /// Whether the barrier is over, as [`Engine::barrier_test`](crate::engine::Engine).
+    ///
+    /// Fault `NoBarrier` (14): none runs.
     pub fn barrier_test(&self, rt: &impl Wait) -> Result<BarrierState, Fault>
         ensures { IfErr result (λ fault. fault ≡ Fault.NoBarrier) }
     {

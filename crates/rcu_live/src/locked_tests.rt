@@ -1,5 +1,5 @@
-//! Calls under the lock: one grace period with two seats, a barrier over a migration, and a turn
-//! that ends what the seats see.
+//! Calls under the lock: one grace period with two seats, a barrier over a migration, a turn that
+//! ends what the seats see, and what a refused growth leaves.
 ghost use Rattle.std.specs.Prelude.{◌≡◌};
 
 use crate::collected::Collected;
@@ -12,21 +12,19 @@ use rcu_core::turned::Turned;
 use rcu_seq::cookie::Cookie;
 use rcu_seq::fault::Fault;
 use std::alloc::Global;
-use std::io::Print;
 use std::process::Abort;
 use std::sync::Wait;
 
 type Four = Live<4, 4, u64>;
 
-/// Compares the fault of a call whose growth was refused, and says so for who counts the growths.
-fn refused<R: Abort + Print>(rt: &R, fault: Fault) {
+/// Compares the fault of a call whose growth was refused.
+fn refused(rt: &impl Abort, fault: Fault) {
     assert_eq!(rt; fault, Fault::NoMemory);
-    let _ = println!(rt; "a growth was refused");
 }
 
 /// Queues a callback, by a second call where the first is refused a growth, and compares how many
 /// were queued.
-fn queue<R: Abort + Print + Wait>(rt: &R, live: &Four, seat: &mut CpuSeat, value: u64, wanted: u64)
+fn queue<R: Abort + Wait>(rt: &R, live: &Four, seat: &mut CpuSeat, value: u64, wanted: u64)
     requires { seat.old.table ≡ live.now.table }
     ensures { seat.new.table ≡ seat.old.table }
 {
@@ -34,6 +32,7 @@ fn queue<R: Abort + Print + Wait>(rt: &R, live: &Four, seat: &mut CpuSeat, value
         Ok(count) => assert_eq!(rt; count, wanted),
         Err(back) => {
             refused(rt, back.fault);
+            assert_eq!(rt; back.value, value);
             assert_eq!(rt; live.queue(rt, seat, back.value).ok(), Some(wanted));
         }
     }
@@ -41,7 +40,7 @@ fn queue<R: Abort + Print + Wait>(rt: &R, live: &Four, seat: &mut CpuSeat, value
 
 /// Runs callbacks, by a second call where the first is refused a growth: the number, and the number
 /// and the value of each callback's queueing.
-fn run<R: Abort + Print + Wait>(
+fn run<R: Abort + Wait>(
     rt: &R,
     live: &Four,
     cpu: u32,
@@ -110,7 +109,7 @@ fn two_seats_one_period(rt: HostRuntime) {
 }
 
 /// The callback of a processor that went offline, once a grace period passed.
-fn barrier_over_a_migration<R: Abort + Print + Wait>(rt: &R, live: &Four, first: &mut CpuSeat)
+fn barrier_over_a_migration<R: Abort + Wait>(rt: &R, live: &Four, first: &mut CpuSeat)
     requires { first.old.table ≡ live.now.table }
     ensures { first.new.table ≡ first.old.table }
 {
@@ -126,8 +125,9 @@ fn barrier_over_a_migration<R: Abort + Print + Wait>(rt: &R, live: &Four, first:
     assert_eq!(rt; live.barrier_test(rt), Err(Fault::NoBarrier));
 }
 
-/// Takes the processor offline, by a second call where the first is refused a growth.
-fn leave<R: Abort + Print + Wait>(rt: &R, live: &Four, seat: &mut CpuSeat, wanted: u64)
+/// Takes the processor offline. Where its growth is refused it has departed, its list stays, and
+/// the same call again finishes it.
+fn leave<R: Abort + Wait>(rt: &R, live: &Four, seat: &mut CpuSeat, wanted: u64)
     requires { seat.old.table ≡ live.now.table }
     ensures { seat.new.table ≡ seat.old.table }
 {
@@ -136,9 +136,66 @@ fn leave<R: Abort + Print + Wait>(rt: &R, live: &Four, seat: &mut CpuSeat, wante
         Err(fault) => {
             refused(rt, fault);
             assert_eq!(rt; seat.enter(live), Err(Fault::Offline));
+            assert_eq!(rt;
+                live.queue(rt, seat, 9).map_err(|back| back.fault),
+                Err(Fault::Offline)
+            );
             assert_eq!(rt; live.offline(rt, seat), Ok(wanted));
         }
     }
+}
+
+/// A processor whose departure was refused its growth may come back instead, and then has its list.
+#[test]
+fn return_keeps_the_list(rt: HostRuntime) {
+    let Pair {
+        live,
+        mut first,
+        mut second,
+        watcher: _,
+        other: _,
+    } = make_pair(&rt, rt.alloc());
+    assert_eq!(rt; live.online(&rt, &mut second), Ok(()));
+    queue(&rt, &live, &mut second, 5, 1);
+    match live.offline(&rt, &mut second) {
+        Ok(moved) => assert_eq!(rt; moved, 1),
+        Err(fault) => {
+            refused(&rt, fault);
+            assert_eq!(rt; live.online(&rt, &mut second), Ok(()));
+            assert_eq!(rt; live.tend(&rt, 1), Ok((0, 1)));
+            assert_eq!(rt; live.turn(&rt), Ok(Turned::Begun(1, 2)));
+            pass(&rt, &live, &mut first, 0, 1, Collected::Taken);
+            pass(&rt, &live, &mut second, 1, 1, Collected::Last);
+        }
+    }
+}
+
+/// The object is opened first; no growth of a later call is refused, for none asks for memory.
+#[test]
+fn calls_without_memory(rt: HostRuntime) {
+    let Pair {
+        live,
+        mut first,
+        mut second,
+        mut watcher,
+        other: _,
+    } = make_pair(&rt, rt.alloc());
+    assert_eq!(rt; live.online(&rt, &mut second), Ok(()));
+    assert_eq!(rt; (first.enter(&live), first.exit(&live)), (Ok(1), Ok(0)));
+    assert_eq!(rt; first.quiesce(&live), Ok(0));
+    let cookie = watcher.take(&live);
+    assert!(rt; !watcher.poll(&live, cookie));
+    assert!(rt; live.meet(&mut first, &mut watcher).is_some());
+    assert_eq!(rt; live.collect(&rt, 0), Ok(Collected::Idle));
+    assert_eq!(rt; live.turn(&rt), Ok(Turned::Nothing));
+    assert_eq!(rt; live.tend(&rt, 1), Ok((0, 0)));
+    assert_eq!(rt; live.barrier_begin(&rt), Ok(()));
+    assert_eq!(rt; live.visit(&rt, 0), Ok(Visit::Empty));
+    assert_eq!(rt; live.visit(&rt, 0), Ok(Visit::Already));
+    assert_eq!(rt; live.barrier_test(&rt), Ok(BarrierState::Waits(1)));
+    assert_eq!(rt; live.run(&rt, 1, 9).map(|ran| ran.calls.len()), Ok(0));
+    assert_eq!(rt; live.offline(&rt, &mut second), Ok(0));
+    assert_eq!(rt; live.barrier_test(&rt), Ok(BarrierState::Done));
 }
 
 #[test]

@@ -31,7 +31,7 @@ impl<A: Awaited, T: Drop, S: Drop, C, P: Client<S, C>> Engine<A, T, S, C, P> {
     /// Online are the processors whose word is not 0, and awaited those of them whose word is at
     /// most the number. Answers the number, and how many it awaits.
     ///
-    /// Faults: 8 where one runs; 11 where the number is the last one.
+    /// Faults: `Running` (8) where one runs; `Exhausted` (11) where the number is the last one.
     pub fn begin(&mut self) -> Result<(u64, u32), Fault>
         ensures number { IfOk result (λ began. began.0 ≡ number_of self.new.grace.seq) }
         ensures awaited { IfOk result (λ began. began.1 ≡ grace.awaited_in self.new.grace) }
@@ -60,7 +60,7 @@ impl<A: Awaited, T: Drop, S: Drop, C, P: Client<S, C>> Engine<A, T, S, C, P> {
 
     /// The grace period ends: stores the number that it leaves, and answers it.
     ///
-    /// Faults: 9 where none runs; 10 where a processor is awaited.
+    /// Faults: `Idle` (9) where none runs; `Waiting` (10) where a processor is awaited.
     pub fn end(&mut self) -> Result<u64, Fault>
         ensures number { IfOk result (λ number. number ≡ number_of self.new.grace.seq) }
         ensures accepted { OnOk result (grace.end_refusal self.old.grace ≡ None) }
@@ -76,7 +76,7 @@ impl<A: Awaited, T: Drop, S: Drop, C, P: Client<S, C>> Engine<A, T, S, C, P> {
     /// The running grace period ends where nobody is awaited. Where none runs, one begins if the
     /// needed number is above the number.
     ///
-    /// Fault 11: one would begin, and the number is the last one.
+    /// Fault `Exhausted` (11): one would begin, and the number is the last one.
     pub fn turn(&mut self) -> Result<Turned, Fault>
         ensures answer { IfOk result (λ turned.
             turned ≡ turn_answer self.old (found_in self.new.view.finds)) }
@@ -104,7 +104,7 @@ impl<A: Awaited, T: Drop, S: Drop, C, P: Client<S, C>> Engine<A, T, S, C, P> {
     /// Loads the processor's own word, while a grace period runs, and reports the processor where
     /// its word is 0 or above the number.
     ///
-    /// Fault 1: there is no such processor.
+    /// Fault `BadCpu` (1): there is no such processor.
     pub fn collect(&mut self, cpu: u32) -> Result<Collected, Fault>
         ensures answer { IfOk result (λ collected.
             collected ≡ collect_answer self.old cpu (latest_found self.new.view.finds)) }

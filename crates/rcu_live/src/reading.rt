@@ -1,5 +1,6 @@
 //! A watcher that meets an open section, with no handle: nothing here waits or takes memory.
-ghost use Rattle.std.specs.Prelude.{◌≡◌, ◌≢◌, IfOk, IsSome, false};
+ghost use Rattle.std.specs.Prelude.{◌≡◌, ◌+◌, IfErr, IfOk, IsSome, None, OnErr, OnOk, Some, false};
+ghost use Rattle.rcu_live.specs.CpuSeat.{quiesce_refusal};
 
 use crate::client::Client;
 use crate::cpu_seat::CpuSeat;
@@ -19,6 +20,12 @@ pub fn is_done_beside<const LEAF: u32, const FAN: u32, T: Drop, S: Drop, C, P: C
     requires open { IsSome seat.old.view.section }
     ensures seat { seat.new.table ≡ seat.old.table }
     ensures watcher { watcher.new.table ≡ watcher.old.table }
+    ensures cpu { seat.new.cpu ≡ seat.old.cpu }
+    ensures depth { seat.new.depth ≡ seat.old.depth }
+    ensures stamp { seat.new.view.stamp ≡ seat.old.view.stamp }
+    ensures looked { seat.new.view.loads ≡ seat.old.view.loads + 2 }
+    ensures stored { seat.new.view.stores ≡ seat.old.view.stores }
+    ensures watched { watcher.new.view.loads ≡ watcher.old.view.loads + 4 }
     ensures never { result ≡ false }
 {
     let first = live.meet(seat, watcher).is_some();
@@ -30,7 +37,7 @@ pub fn is_done_beside<const LEAF: u32, const FAN: u32, T: Drop, S: Drop, C, P: C
 
 /// The processor passes a quiescent state, reads beside the watcher, and passes another one.
 ///
-/// Faults: 2 where the processor is offline; 4 where a section is open.
+/// Faults: `Offline` (2) where the processor is offline; `InSection` (4) where a section is open.
 pub fn read_beside<const LEAF: u32, const FAN: u32, T: Drop, S: Drop, C, P: Client<S, C>>(
     live: &Live<LEAF, FAN, T, S, C, P>,
     seat: &mut CpuSeat<S, C>,
@@ -38,6 +45,15 @@ pub fn read_beside<const LEAF: u32, const FAN: u32, T: Drop, S: Drop, C, P: Clie
 ) -> Result<bool, Fault>
     requires seat { seat.old.table ≡ live.now.table }
     requires watcher { watcher.old.table ≡ live.now.table }
+    ensures seat { seat.new.table ≡ seat.old.table }
+    ensures watcher { watcher.new.table ≡ watcher.old.table }
+    ensures looked { OnOk result (seat.new.view.loads ≡ seat.old.view.loads + 6) }
+    ensures stored { OnOk result (seat.new.view.stores ≡ seat.old.view.stores + 2) }
+    ensures watched { OnOk result (watcher.new.view.loads ≡ watcher.old.view.loads + 4) }
+    ensures accepted { OnOk result (quiesce_refusal seat.old ≡ None) }
+    ensures refused { IfErr result (λ fault. quiesce_refusal seat.old ≡ Some fault) }
+    ensures unchanged { OnErr result (seat.new ≡ seat.old) }
+    ensures unwatched { OnErr result (watcher.new ≡ watcher.old) }
     ensures never { IfOk result (λ is_done. is_done ≡ false) }
 {
     seat.quiesce(live)?;

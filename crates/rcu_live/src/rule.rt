@@ -1,7 +1,7 @@
 //! The rule of the shared words as the table takes it, and what each kind of step on them tells.
 ghost use Rattle.std.specs.Prelude.{◌≡◌};
 
-use crate::client::Client;
+use crate::client::{Client, Lesson, Outcome};
 use crate::view::View;
 use atomic_table::{Play, Split, TableRule};
 use std::marker::PhantomData;
@@ -85,6 +85,28 @@ impl<S, C> Play<S, View<C>> for End {
     ghost then = { λ step me _ now. (now.0 ≡ after_end_store me.0 step.first) × (now.1 ≡ me.1) };
 }
 
+/// A client's step on one of its words.
+pub struct Use<M> {
+    outcome: PhantomData<M>,
+}
+
+impl<S, C, M: Outcome<C>> Play<S, View<C>> for Use<M> {
+    ghost use Rattle.rcu_live.specs.View.{Used};
+
+    ghost then = { λ step me n now. Used M.then step.word me.0 n now.0 × (now.1 ≡ me.1) };
+}
+
+/// A client's look at the number.
+pub struct Learn<M> {
+    lesson: PhantomData<M>,
+}
+
+impl<S, C, M: Lesson<C>> Play<S, View<C>> for Learn<M> {
+    ghost use Rattle.rcu_live.specs.View.{Learned};
+
+    ghost then = { λ _ me n now. Learned M.then me.0 n now.0 × (now.1 ≡ me.1) };
+}
+
 /// Seat split: the next processor's seat.
 pub struct DealCpu<S, P> {
     client: PhantomData<(S, P)>,
@@ -109,4 +131,17 @@ impl<S, C, P: Client<S, C>> Split<View<C>> for DealWatcher<S, P> {
     ghost left = { λ v. v };
 
     ghost right = { λ v. watcher_seat v.base P.idle };
+}
+
+/// Seat split: a watcher's seat that has what the client knew here.
+pub struct HandOver<S, P> {
+    client: PhantomData<(S, P)>,
+}
+
+impl<S, C, P: Client<S, C>> Split<View<C>> for HandOver<S, P> {
+    ghost use Rattle.rcu_live.specs.View.{after_hand, handed_seat};
+
+    ghost left = { after_hand P.idle };
+
+    ghost right = { handed_seat };
 }

@@ -8,7 +8,6 @@ use crate::watcher::Watcher;
 use rcu_seq::cookie::Cookie;
 use rcu_seq::fault::Fault;
 use std::alloc::Global;
-use std::io::Print;
 use std::process::Abort;
 use std::thread;
 use std::thread::Threads;
@@ -16,7 +15,7 @@ use std::thread::Threads;
 type Four = Live<4, 4, u64>;
 
 /// An object of so many processors, opened by a second call where the first is refused a growth.
-pub(crate) fn opened<R: Abort + Print>(
+pub(crate) fn opened<R: Abort>(
     rt: &R,
     alloc: Global,
     cpus: u32,
@@ -31,7 +30,6 @@ pub(crate) fn opened<R: Abort + Print>(
         Ok(opened) => opened,
         Err(fault) => {
             assert_eq!(rt; fault, Fault::NoMemory);
-            let _ = println!(rt; "a growth was refused");
             Four::open(alloc, cpus, last).expect(rt, "the second call has memory")
         }
     }
@@ -47,7 +45,7 @@ pub(crate) struct Pair {
 }
 
 /// Opens such an object.
-pub(crate) fn make_pair<R: Abort + Print>(rt: &R, alloc: Global) -> Pair
+pub(crate) fn make_pair<R: Abort>(rt: &R, alloc: Global) -> Pair
     ensures first { result.first.table ≡ result.live.table }
     ensures second { result.second.table ≡ result.live.table }
     ensures watcher { result.watcher.table ≡ result.live.table }
@@ -166,4 +164,61 @@ fn refused_openings(rt: HostRuntime) {
             Err(found) => assert_eq!(rt; found, fault),
         }
     }
+}
+
+/// Opens an object of so many processors, by a second call where the first is refused a growth.
+fn opens(rt: &impl Abort, alloc: Global, cpus: u32, last: u64) -> Result<usize, Fault> {
+    let mut opened = Live::<64, 64, u64>::open(alloc, cpus, last);
+    if matches!(opened, Err(Fault::NoMemory)) {
+        opened = Live::open(alloc, cpus, last);
+    }
+    let (_, seats, watchers) = opened?;
+    assert_eq!(rt; seats.len(), watchers.len());
+    Ok(seats.len())
+}
+
+#[test]
+fn sizes(rt: HostRuntime) {
+    assert_eq!(rt; opens(&rt, rt.alloc(), 1, 4), Ok(1));
+    assert_eq!(rt; opens(&rt, rt.alloc(), 4096, 1 << 62), Ok(4096));
+    assert_eq!(rt; opens(&rt, rt.alloc(), 4097, 4), Err(Fault::TooManyCpus));
+    assert_eq!(rt;
+        opens(&rt, rt.alloc(), 4096, (1 << 62) + 4),
+        Err(Fault::BadLast)
+    );
+}
+
+/// A reader on a processor's seat.
+#[derive(Drop)]
+struct Reader {
+    live: Four,
+    seat: CpuSeat,
+    ghost seat_of: { seat.table ≡ live.table },
+}
+
+impl Reader {
+    fn enter(&mut self) -> Result<u32, Fault> {
+        self.seat.enter(&self.live)
+    }
+
+    fn exit(&mut self) -> Result<u32, Fault> {
+        self.seat.exit(&self.live)
+    }
+}
+
+#[test]
+fn sections_nest_up_to_a_depth(rt: HostRuntime) {
+    let Pair {
+        live,
+        first: seat,
+        second: _,
+        watcher: _,
+        other: _,
+    } = make_pair(&rt, rt.alloc());
+    let mut reader = Reader { live, seat };
+    for depth in 1..=65_535 {
+        assert_eq!(rt; reader.enter(), Ok(depth));
+    }
+    assert_eq!(rt; reader.enter(), Err(Fault::NestFull));
+    assert_eq!(rt; reader.exit(), Ok(65_534));
 }

@@ -17,6 +17,8 @@ pub struct View<C> {
     pub seen: u64,
     /// How many loads the seat made.
     pub loads: u64,
+    /// How many times the seat stored its processor's own word.
+    pub stores: u64,
     /// The processor's own word.
     pub stamp: u64,
     /// The number at which the open section began.

@@ -1,10 +1,14 @@
 //! A watcher: it takes cookies, and polls them.
-ghost use Rattle.std.specs.Prelude.{◌≡◌, ◌≤◌};
+ghost use Rattle.std.specs.Prelude.{◌≡◌, ◌+◌, ◌<◌, ◌≤◌, None, true};
 ghost use Rattle.rcu_seq.specs.Numbers.{is_done_at, snapshot};
-ghost use Rattle.rcu_live.specs.Watcher.{after_watch};
+ghost use Rattle.rcu_live.specs.Client.{Sees, Uses};
+ghost use Rattle.rcu_live.specs.Numbers.{is_number_word};
+ghost use Rattle.rcu_live.specs.View.{IsOfWatcher};
+ghost use Rattle.rcu_live.specs.Watcher.{after_learn, after_use, after_watch};
+ghost use Rattle.rcu_live.specs.Words.{base_of};
 
-use crate::board::Place;
-use crate::client::Client;
+use crate::board::{Board, Place};
+use crate::client::{Client, Lesson, Outcome};
 use crate::live::Live;
 use rcu_seq::cookie::Cookie;
 use std::marker::Model;
@@ -42,7 +46,18 @@ impl<S: Drop, C> Watcher<S, C> {
         ensures later { self.old.view.seen ≤ self.new.view.seen }
         ensures cookie { result.0 ≡ snapshot self.new.view.seen }
     {
-        Cookie::of(live.board().load(&mut self.seat))
+        self.take_on(live.board())
+    }
+
+    /// As [`take`](Self::take), over the shared words alone.
+    pub fn take_on<P: Client<S, C>>(&mut self, board: &Board<S, C, P>) -> Cookie
+        requires { self.old.table ≡ board.now.table }
+        ensures table { self.new.table ≡ self.old.table }
+        ensures look { self.new ≡ after_watch self.old self.new.view.seen }
+        ensures later { self.old.view.seen ≤ self.new.view.seen }
+        ensures cookie { result.0 ≡ snapshot self.new.view.seen }
+    {
+        Cookie::of(board.load(&mut self.seat))
     }
 
     /// Whether the cookie is done at the number that one load sees, at least all it saw before.
@@ -58,7 +73,18 @@ impl<S: Drop, C> Watcher<S, C> {
         ensures later { self.old.view.seen ≤ self.new.view.seen }
         ensures done { result ≡ is_done_at cookie.0 self.new.view.seen }
     {
-        cookie.is_done_at(live.board().load(&mut self.seat))
+        self.poll_on(live.board(), cookie)
+    }
+
+    /// As [`poll`](Self::poll), over the shared words alone.
+    pub fn poll_on<P: Client<S, C>>(&mut self, board: &Board<S, C, P>, cookie: Cookie) -> bool
+        requires { self.old.table ≡ board.now.table }
+        ensures table { self.new.table ≡ self.old.table }
+        ensures look { self.new ≡ after_watch self.old self.new.view.seen }
+        ensures later { self.old.view.seen ≤ self.new.view.seen }
+        ensures done { result ≡ is_done_at cookie.0 self.new.view.seen }
+    {
+        cookie.is_done_at(board.load(&mut self.seat))
     }
 
     /// One load of the number.
@@ -72,5 +98,59 @@ impl<S: Drop, C> Watcher<S, C> {
         ensures later { self.old.view.seen ≤ result }
     {
         live.board().load(&mut self.seat)
+    }
+
+    /// Loads the client's word of this place.
+    pub fn load_word<const LEAF: u32, const FAN: u32, T: Drop, P: Client<S, C>, M: Outcome<C>>(
+        &mut self,
+        live: &Live<LEAF, FAN, T, S, C, P>,
+        word: usize,
+    ) -> u64
+        requires table { self.old.table ≡ live.now.table }
+        requires role { IsOfWatcher self.old.view }
+        requires base { self.old.view.base ≡ base_of live.now.cpus }
+        requires inside { base_of live.now.cpus + word < live.now.table.words }
+        requires allowed { Uses P.holds None None self.old.view.client word (λ n. n)
+            (M.then word self.old.view.client) }
+        ensures same { self.new ≡ after_use self.old self.new.view.client }
+        ensures told { M.then word self.old.view.client result self.new.view.client }
+    {
+        live.board().load_word::<M>(&mut self.seat, word)
+    }
+
+    /// Stores to the client's word of this place.
+    pub fn store_word<const LEAF: u32, const FAN: u32, T: Drop, P: Client<S, C>, M: Outcome<C>>(
+        &mut self,
+        live: &Live<LEAF, FAN, T, S, C, P>,
+        word: usize,
+        value: u64,
+    )
+        requires table { self.old.table ≡ live.now.table }
+        requires role { IsOfWatcher self.old.view }
+        requires base { self.old.view.base ≡ base_of live.now.cpus }
+        requires inside { base_of live.now.cpus + word < live.now.table.words }
+        requires allowed { Uses P.holds None None self.old.view.client word (λ _. value)
+            (λ _. M.then word self.old.view.client value) }
+        ensures same { self.new ≡ after_use self.old self.new.view.client }
+        ensures told { M.then word self.old.view.client value self.new.view.client }
+    {
+        live.board().store_word::<M>(&mut self.seat, word, value);
+    }
+
+    /// Loads the number, by which the client learns.
+    pub fn learn<const LEAF: u32, const FAN: u32, T: Drop, P: Client<S, C>, M: Lesson<C>>(
+        &mut self,
+        live: &Live<LEAF, FAN, T, S, C, P>,
+    ) -> u64
+        requires table { self.old.table ≡ live.now.table }
+        requires role { IsOfWatcher self.old.view }
+        requires allowed { Sees P.holds None None self.old.view.client
+            (M.then self.old.view.client) }
+        ensures same { self.new ≡ after_learn self.old result self.new.view.client }
+        ensures later { self.old.view.seen ≤ result }
+        ensures number { is_number_word result ≡ true }
+        ensures told { M.then self.old.view.client result self.new.view.client }
+    {
+        live.board().learn::<M>(&mut self.seat)
     }
 }

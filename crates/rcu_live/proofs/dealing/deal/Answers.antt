@@ -3,7 +3,7 @@ use Rattle.rcu_live.specs.CpuSeat.{at_first}
 use Rattle.rcu_live.specs.View.{engine_seat}
 use Rattle.rcu_live.specs.Watcher.{watcher_at_first}
 use Rattle.rcu_live.specs.Words.{base_of}
-use Rattle.rcu_live.proofs.Deals.{one_more}
+use Rattle.rcu_live.proofs.RowLemmas.{one_more}
 use Rattle.rcu_live.proofs.dealing.deal.Goals as goal
 
 pub loop-cpu-preserved : goal.loop-cpu-preserved

@@ -1,4 +1,5 @@
-use Rattle.std.proofs.Common.{rules, ◌≡◌, ◌+◌, ◌<◌, ◌==◌, Bool, not, nat_lt, List, length, ℕ, ap, sym, ◌∙◌, subst, arith, length-set}
+use Rattle.std.proofs.Common.{rules, ◌≡◌, ◌+◌, ◌<◌, ◌==◌, Bool, not, nat_lt, List, length, ℕ, ap, sym, ◌∙◌, subst}
+use Rattle.std.proofs.Common.{arith, length-set}
 use Rattle.rcu_node.specs.CpuSet.{is_in}
 use Rattle.rcu_node.proofs.CpuSetLemmas.{listed_same}
 use Rattle.rcu_live.specs.Engine.{found_in}
@@ -15,7 +16,9 @@ loop-cpu-preserved g c =
     let w = c.load_own-word.new.seat.me.0 in
     let s = c.settle.ensures in
     let inside : n < c.args.board.now.cpus = omega (arith, c.loop-cpu-test.true, c.cpus-cpu-end.ensures.value, c.requires.cpus, c.loop-cpu.auto.cpu-end) in
-    let online = subst (λ (flags : List Bool). (d : ℕ) → d < n + 1 → is_in flags d ≡ not (found_in w.finds d == 0)) (sym s.online)
+    let online =
+    subst (λ (flags : List Bool). (d : ℕ) → d < n + 1 → is_in flags d ≡ not (found_in w.finds d == 0))
+    (sym s.online)
     (found_of (λ (x : ℕ). not (x == 0)) _ v w n word told.view (flags_more (λ (x : ℕ). not (x == 0)) c.loop-cpu.gp.processors.online v.finds n word _ (omega (arith, inside, i.2)) (search rules) i.3)) in
     let late = subst (λ (flags : List Bool). (d : ℕ) → d < n + 1 → is_in flags d ≡ nat_lt c.args.number (found_in w.finds d)) (sym c.mark.ensures)
     (found_of (nat_lt c.args.number) _ v w n word told.view (flags_more (nat_lt c.args.number) c.loop-cpu.late v.finds n word _ (omega (arith, inside, i.4)) (search rules) i.5)) in (

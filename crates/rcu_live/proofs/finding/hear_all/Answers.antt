@@ -21,7 +21,8 @@ loop-cpu-preserved g c =
     let state : c.if-contains.gp ≡ with_awaited gp (unheard set (below (n + 1) late)) = elim c.if-contains.branch [
       | then-contains w ↦ heard_more gp c.loop-cpu.gp c.if-contains.gp late n c.requires.running inside
           (sym c.contains.ensures ∙ w.if-contains.true) c.loop-cpu.invariant.0 (w.gp-is ∙ w.hear.ensures.state)
-      | else-contains w ↦ w.gp-is ∙ unheard_more gp c.loop-cpu.gp late n (sym c.contains.ensures ∙ w.if-contains.false) c.loop-cpu.invariant.0
+      | else-contains w ↦ w.gp-is
+          ∙ unheard_more gp c.loop-cpu.gp late n (sym c.contains.ensures ∙ w.if-contains.false) c.loop-cpu.invariant.0
     ] in
     (state, ap (λ (y : Grace g.row.T.Denot). length y.processors.awaited) state ∙ length-listed (length set) (λ cpu. is_in set cpu && not (below (n + 1) late cpu)) ∙ sym c.requires.late)
 

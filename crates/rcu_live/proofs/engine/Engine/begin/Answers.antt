@@ -26,17 +26,23 @@ invariant_of-self g c =
     let same : cpus ≡ (arc_value c.self.inside.board).cpus = ap (λ (o : Object). o.cpus) c.deref-2.ensures in
     let number = c.in_ok-number.ensures.number in
     let state : c.hear_all.new.gp ≡ begun_from cpus (found_in finds) old =
-    begun_is old c.find_all.new.gp c.begin-2.new.self c.hear_all.new.gp cpus (found_in finds) c.find_all.new.late c.in_ok-number.number
+    begun_is old c.find_all.new.gp c.begin-2.new.self c.hear_all.new.gp cpus
+    (found_in finds) c.find_all.new.late c.in_ok-number.number
     f.seq f.needed f.lists f.online f.late number c.in-Ok.ensures.state c.hear_all.ensures in
-    let view : c.find_all.new.seat.me.0 ≡ after_finds (after_begin_store c.self.inside.seat.me.0 c.in_ok-number.number) (found_in finds) cpus =
+    let view : c.find_all.new.seat.me.0
+    ≡ after_finds (after_begin_store c.self.inside.seat.me.0 c.in_ok-number.number) (found_in finds) cpus =
     f.view ∙ ap (λ (v : View g.row.C.Denot). after_finds v (found_in finds) cpus) c.begin.ensures.told in
     record {
       fits = f.table ∙ c.begin.ensures.table ∙ i.fits;
       role = ap (λ (v : View g.row.C.Denot). v.role) view ∙ i.role;
-      number = ap (λ (v : View g.row.C.Denot). v.seen) view ∙ number ∙ sym (ap (λ (y : Grace g.row.T.Denot). number_of y.seq) state);
+      number =
+          ap (λ (v : View g.row.C.Denot). v.seen) view ∙ number
+          ∙ sym (ap (λ (y : Grace g.row.T.Denot). number_of y.seq) state);
       cpus = ap (λ (y : Grace g.row.T.Denot). length y.processors.awaited) state ∙ length-listed _ _ ∙ same;
       late = ap (λ (l : List Bool). length l) f.late ∙ length-listed _ _ ∙ same;
-      awaited = λ runs d low none. begun_awaits old c.hear_all.new.gp cpus (found_in finds) finds state (ap (λ (v : View g.row.C.Denot). v.finds) view) runs d
+      awaited =
+          λ runs d low none. begun_awaits old c.hear_all.new.gp cpus (found_in finds) finds state
+          (ap (λ (v : View g.row.C.Denot). v.finds) view) runs d
           (subst (λ (n : ℕ). d < n) (sym same) low) none;
     }
 
@@ -50,10 +56,12 @@ returns-clause-state g c =
     let same : cpus ≡ (arc_value c.self.inside.board).cpus = ap (λ (o : Object). o.cpus) c.deref-2.ensures in
     let number = c.in_ok-number.ensures.number in
     let state : c.hear_all.new.gp ≡ begun_from cpus (found_in finds) old =
-    begun_is old c.find_all.new.gp c.begin-2.new.self c.hear_all.new.gp cpus (found_in finds) c.find_all.new.late c.in_ok-number.number
+    begun_is old c.find_all.new.gp c.begin-2.new.self c.hear_all.new.gp cpus
+    (found_in finds) c.find_all.new.late c.in_ok-number.number
     f.seq f.needed f.lists f.online f.late number c.in-Ok.ensures.state c.hear_all.ensures in
     let view : c.find_all.new.seat.me.0 ≡ after_finds (after_begin_store v (next_number old)) (found_in finds) cpus =
-    f.view ∙ ap (λ (u : View g.row.C.Denot). after_finds u (found_in finds) cpus) (c.begin.ensures.told ∙ ap (after_begin_store v) number) in
+    f.view ∙ ap (λ (u : View g.row.C.Denot). after_finds u (found_in finds) cpus)
+    (c.begin.ensures.told ∙ ap (after_begin_store v) number) in
     rw (← c.self.view_is) (λ i. record {
       table = (arc_value c.self.inside.board).table;
       cpus = (arc_value c.self.inside.board).cpus;
