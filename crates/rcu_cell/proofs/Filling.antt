@@ -1,0 +1,92 @@
+-- A free slot is filled word by word.
+use Rattle.std.proofs.Common.{◌≡◌, ◌≢◌, ℕ, ◌+◌, ◌<◌, List, length, get_or, set, refl, sym, ap, ◌∙◌, subst, arith}
+use Rattle.std.proofs.Common.{length-set}
+use Rattle.std.specs.Prelude.{slice_index}
+use Rattle.std.proofs.lemmas.List.{ext_get_or, get_or-set_other, get_or-set_same, set-get_or, set-set}
+use mathlib.Core.Logic.{dite}
+use native.Mathlib.Decide.{ℕ_discrete}
+use Rattle.rcu_live.specs.Board.{Object}
+use Rattle.rcu_live.specs.View.{IsOfWatcher}
+use Rattle.rcu_live.specs.Watcher.{Watching, after_use}
+use Rattle.rcu_cell.specs.Cell.{IsWatcherOf}
+use Rattle.rcu_cell.specs.Versions.{IsKeeping, filled, no_version, slot_in, slots_in, version_at, with_word}
+use Rattle.rcu_cell.specs.declared.known.Known.{Known}
+use Rattle.rcu_cell.specs.declared.known.Known.TheVariants.{Idle, Opens, Reads, Keeps}
+use Rattle.rcu_cell.specs.declared.known.Version.{Version}
+use Rattle.rcu_cell.specs.declared.slot_state.SlotState.{SlotState}
+use Rattle.rcu_cell.specs.declared.slot_state.SlotState.TheVariants.{Free}
+
+pub known_is : (known : Known) → IsKeeping known → Keeps (slot_in known) (slots_in known) ≡ known
+known_is Idle keeps = absurd keeps
+known_is Opens keeps = absurd keeps
+known_is (Reads i words) keeps = absurd keeps
+known_is (Keeps c s) keeps = refl
+
+-- a free slot has its own words
+filled_again : (s : List Version) (i : ℕ) → (version_at s i).state ≡ Free → filled s i (version_at s i).words ≡ s
+filled_again s i free =
+    ap (λ (st : SlotState). set s i record { state = st; words = (version_at s i).words }) (sym free)
+    ∙ set-get_or s i no_version
+
+pub filled_first : (seat : Watching Known) (i : ℕ) → IsKeeping seat.view.client
+    → (version_at (slots_in seat.view.client) i).state ≡ Free
+    → seat ≡ after_use seat (Keeps (slot_in seat.view.client) (filled (slots_in seat.view.client) i (version_at (slots_in seat.view.client) i).words))
+filled_first seat i keeps free =
+    sym (ap (λ (k : Known). after_use seat k)
+    (ap (λ (l : List Version). Keeps (slot_in seat.view.client) l) (filled_again (slots_in seat.view.client) i free) ∙ known_is seat.view.client keeps))
+
+-- one word more
+pub filled_more : (s : List Version) (i k x : ℕ) (words : List ℕ) → i < length s
+    → with_word (filled s i words) i k x ≡ filled s i (set words k x)
+filled_more s i k x words low =
+    let one : Version = record { state = Free; words = words } in
+    let here : version_at (set s i one) i ≡ one = get_or-set_same s i one no_version low in
+    let next : Version → Version = λ v. record { state = Free; words = set v.words k x } in
+    ap (λ (v : Version). set (set s i one) i (next v)) here ∙ set-set s i one (next one)
+
+pub filled_free : (s : List Version) (i : ℕ) (words : List ℕ) → i < length s
+    → version_at (filled s i words) i ≡ record { state = Free; words = words }
+filled_free s i words low = get_or-set_same s i record { state = Free; words = words } no_version low
+
+pub filled_long : (s : List Version) (i : ℕ) (words : List ℕ) → length (filled s i words) ≡ length s
+filled_long s i words = length-set s i record { state = Free; words = words }
+
+-- the words that are stored so far
+pub stored_more : (old words : List ℕ) (k x : ℕ) → k < length old → x ≡ slice_index words k
+    → ((j : ℕ) → j < k → slice_index old j ≡ slice_index words j)
+    → (j : ℕ) → j < k + 1 → slice_index (set old k x) j ≡ slice_index words j
+stored_more old words k x low is before j small = dite (ℕ_discrete j k)
+    (λ (e : j ≡ k). subst (λ (m : ℕ). get_or (set old k x) m 0 ≡ get_or words m 0) (sym e) (get_or-set_same old k x 0 low ∙ is))
+    (λ (apart : j ≢ k). get_or-set_other old k j x 0 apart ∙ before j (omega (arith, small, apart)))
+
+pub stored_all : (old words : List ℕ) (width : ℕ) → length old ≡ width → length words ≡ width
+    → ((j : ℕ) → j < width → slice_index old j ≡ slice_index words j) → old ≡ words
+stored_all old words width a b same = ext_get_or 0 old words (a ∙ sym b) (λ j low. same j (omega (arith, low, a)))
+
+-- a seat that is to store one more word of the slot
+pub record IsReady (o : Object) (seat : Watching Known) (i : ℕ) : Type 0 where
+  pub seat_of : IsWatcherOf o seat
+  pub role : IsOfWatcher seat.view
+  pub keeps : IsKeeping seat.view.client
+  pub inside : i < length (slots_in seat.view.client)
+  pub free : (version_at (slots_in seat.view.client) i).state ≡ Free
+
+pub ready : (o : Object) (old now : Watching Known) (c i : ℕ) (s : List Version) (words : List ℕ)
+    → now ≡ after_use old (Keeps c (filled s i words))
+    → IsWatcherOf o old → IsOfWatcher old.view → i < length s → IsReady o now i
+ready o old now c i s words is seat role low = subst (λ (w : Watching Known). IsReady o w i) (sym is) record {
+  seat_of = seat;
+  role = role;
+  keeps = tt;
+  inside = let long = filled_long s i words in omega (arith, long, low);
+  free = ap (λ (v : Version). v.state) (filled_free s i words low);
+}
+
+pub fill_more : (old now next : Watching Known) (c i k x : ℕ) (s : List Version) (words : List ℕ)
+    → now ≡ after_use old (Keeps c (filled s i words))
+    → next ≡ after_use now (Keeps (slot_in now.view.client) (with_word (slots_in now.view.client) i k x)) → i < length s
+    → next ≡ after_use old (Keeps c (filled s i (set words k x)))
+fill_more old now next c i k x s words is more low =
+    more
+    ∙ ap (λ (w : Watching Known). after_use w (Keeps (slot_in w.view.client) (with_word (slots_in w.view.client) i k x))) is
+    ∙ ap (λ (l : List Version). after_use old (Keeps c l)) (filled_more s i k x words low)

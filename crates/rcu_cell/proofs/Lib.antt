@@ -1,0 +1,7 @@
+pub mod Filling
+pub mod Rows
+pub mod Keeping
+pub mod Moves
+pub mod States
+pub mod Starts
+pub mod Loaded

@@ -1,0 +1,42 @@
+-- What the rule says of slots that open sections have loaded.
+use Rattle.std.proofs.Common.{◌≡◌, ◌≢◌, ℕ, ◌<◌, List, Option, sym, ap, ◌∙◌, subst}
+use Rattle.std.specs.Prelude.{slice_index}
+use mathlib.Core.Option.{some, some-injective}
+use lib.ListN.{get_elem?}
+use Rattle.rcu_seq.specs.Numbers.{Number}
+use Rattle.rcu_live.specs.Client.{Homes, Picture}
+use Rattle.rcu_cell.specs.Rule.{IsKept, Reading}
+use Rattle.rcu_cell.specs.Versions.{MayRead, word_of}
+use Rattle.rcu_cell.specs.declared.known.Known.{Known}
+use Rattle.rcu_cell.specs.declared.known.Known.TheVariants.{Reads, Keeps}
+use Rattle.rcu_cell.specs.declared.known.Version.{Version}
+use Rattle.rcu_cell.specs.declared.slot_state.SlotState.{SlotState}
+use Rattle.rcu_cell.specs.declared.slot_state.SlotState.TheVariants.{Free}
+
+may_not : (at : Number) (state : SlotState) → MayRead at state → state ≢ Free
+may_not at state may e = subst (λ (s : SlotState). MayRead at s) e may
+
+module _ (fits : List ℕ → Type 0) (width count : ℕ) where
+  pub words_kept : (before after : List ℕ) (old new : Homes (Unit {0})) (xs ys : Picture Known) (id i k : ℕ)
+      (cpu section here later : Option ℕ) (words : List ℕ)
+      → IsKept fits width count before old xs → IsKept fits width count after new ys
+      → get_elem? xs id ≡ some (cpu, section, Reads i words) → get_elem? ys id ≡ some (here, later, Reads i words)
+      → k < width
+      → slice_index after (word_of width i k) ≡ slice_index before (word_of width i k)
+  words_kept before after old new xs ys id i k cpu section here later words h h' at at' low =
+      let r : Reading h.slots section i words = h.seats id cpu section (Reads i words) at in
+      let r' : Reading h'.slots later i words = h'.seats id here later (Reads i words) at' in
+      h'.written i (record { state = r'.state; words = words }) r'.here k low
+      ∙ sym (h.written i (record { state = r.state; words = words }) r.here k low)
+
+  pub not_loaded : (table : List ℕ) (homes : Homes (Unit {0})) (xs : Picture Known) (keeper id i shown : ℕ)
+      (who own cpu section : Option ℕ) (slots : List Version)
+      (words : List ℕ) (v : Version) → IsKept fits width count table homes xs
+      → get_elem? xs keeper ≡ some (who, own, Keeps shown slots)
+      → get_elem? xs id ≡ some (cpu, section, Reads i words) → get_elem? slots i ≡ some v → v.state ≢ Free
+  not_loaded table homes xs keeper id i shown who own cpu section slots words v h kept at is free =
+      let k = h.seats keeper who own (Keeps shown slots) kept in
+      let r : Reading h.slots section i words = h.seats id cpu section (Reads i words) at in
+      let same : v ≡ record { state = r.state; words = words } =
+      some-injective _ _ (sym is ∙ (ap (λ (s : List Version). get_elem? s i) k.1 ∙ r.here)) in
+      may_not r.opened r.state r.may (sym (ap (λ (x : Version). x.state) same) ∙ free)

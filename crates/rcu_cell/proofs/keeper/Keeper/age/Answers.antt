@@ -1,0 +1,23 @@
+use Rattle.std.proofs.Common.{ap, length, ◌∙◌}
+use lib.ListN.{length-map}
+use Rattle.rcu_cell.specs.Versions.{aged_state}
+use Rattle.rcu_cell.proofs.Keeping.{IsKeptBeside, kept_aged}
+use Rattle.rcu_cell.proofs.keeper.Keeper.age.Goals as goal
+
+pub invariant_of-self : goal.invariant_of-self
+invariant_of-self g c =
+    let k = c.self.invariant in
+    let old = c.self.inside.seat in
+    let items = c.self.inside.states.items in
+    let n = c.look-number.result in
+    let was : IsKeptBeside _ old items c.self.inside.shown =
+    record { role = k.role; keeps = k.keeps; same = k.shown; states = k.states; sized = k.sized } in
+    let now = kept_aged _ old c.look-number.new.seat items c.age_all.new.states.items c.self.inside.shown n was c.look-number.ensures.same c.age_all.ensures in record {
+      role = now.role;
+      keeps = now.keeps;
+      shown = now.same;
+      inside = k.inside;
+      states = now.states;
+      count = ap (λ l. length l) c.age_all.ensures ∙ length-map items (aged_state n) ∙ k.count;
+      sized = now.sized;
+    }

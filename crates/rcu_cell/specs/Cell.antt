@@ -1,0 +1,19 @@
+-- A cell and the seats that belong to it.
+use Rattle.std.specs.Prelude.{◌≡◌, ℕ}
+use Rattle.rcu_live.specs.Board.{Object}
+use Rattle.rcu_live.specs.CpuSeat.{Seated}
+use Rattle.rcu_live.specs.Watcher.{Watching}
+use Rattle.rcu_live.specs.Words.{base_of}
+use Rattle.rcu_cell.specs.Versions.{IsReading, slot_in}
+use Rattle.rcu_cell.specs.declared.known.Known.{Known}
+
+-- a processor's seat of the cell's engine, and a watcher's
+abbrev pub IsSeatOf : Object → Seated Known → Type 0
+IsSeatOf cell seat = (seat.table ≡ cell.table) × (seat.view.base ≡ base_of cell.cpus)
+
+abbrev pub IsWatcherOf : Object → Watching Known → Type 0
+IsWatcherOf cell watcher = (watcher.table ≡ cell.table) × (watcher.view.base ≡ base_of cell.cpus)
+
+-- the seat reads the version of this slot
+abbrev pub Holds : Seated Known → ℕ → Type 0
+Holds seat slot = IsReading seat.view.client × (slot_in seat.view.client ≡ slot)

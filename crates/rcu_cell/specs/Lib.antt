@@ -1,0 +1,7 @@
+pub mod Cell
+pub mod Versions
+pub mod Keeper
+pub mod Rule
+pub mod Stability
+pub mod Steps
+pub mod Lent

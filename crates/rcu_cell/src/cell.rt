@@ -1,0 +1,91 @@
+//! A cell: what a section reads of it, without a lock, a wait or a store.
+ghost use Rattle.std.specs.Prelude.{◌≡◌, ◌+◌, ◌*◌, ◌<◌, IsSome, length, slice_index};
+ghost use Rattle.rcu_live.specs.CpuSeat.{after_use};
+ghost use Rattle.rcu_cell.specs.Cell.{Holds, IsSeatOf};
+ghost use Rattle.rcu_cell.specs.Steps.{IsLoaded};
+ghost use Rattle.rcu_cell.specs.Versions.{IsReading, words_in};
+
+use crate::known::Known;
+use crate::places::{SHOWN, word_of};
+use crate::slots::{Fits, Load, Read, Slots};
+use rcu_live::cpu_seat::CpuSeat;
+use rcu_live::live::Live;
+use std::marker::Model;
+
+/// A value of `W` words in one of `N` slots, beside a running engine. Each version that is
+/// published meets `F`.
+#[derive(Drop)]
+pub struct Cell<const LEAF: u32, const FAN: u32, T: Drop, F: Fits, const W: usize, const N: usize> {
+    pub(crate) live: Live<LEAF, FAN, T, (), Known, Slots<F, W, N>>,
+}
+
+impl<const LEAF: u32, const FAN: u32, T: Drop, F: Fits, const W: usize, const N: usize> Model
+    for Cell<LEAF, FAN, T, F, W, N> {
+    ghost use Rattle.std.specs.Prelude.{◌≡◌, ◌+◌, ◌*◌, ◌^◌, ◌<◌};
+    ghost use Rattle.rcu_live.specs.Board.{Object};
+    ghost use Rattle.rcu_live.specs.Words.{base_of};
+    ghost use Rattle.rcu_cell.specs.Versions.{first_place};
+
+    ghost Value = { Object };
+
+    ghost view = { λ cell. cell.live };
+
+    ghost invariant = { λ cell. record {
+      room : cell.live.table.words ≡ base_of cell.live.cpus + (first_place + W * N);
+      small : first_place + W * N < 2 ^ 64;
+    } };
+}
+
+impl<const LEAF: u32, const FAN: u32, T: Drop, F: Fits, const W: usize, const N: usize> Cell<
+    LEAF,
+    FAN,
+    T,
+    F,
+    W,
+    N,
+> {
+    /// The running engine.
+    pub fn live(&self) -> &Live<LEAF, FAN, T, (), Known, Slots<F, W, N>>
+        ensures { result.now ≡ self.now }
+    {
+        &self.live
+    }
+
+    /// Loads which slot is shown, and answers it: the open section reads its version from now on,
+    /// as it was published, until it closes or loads again (Linux's `rcu_dereference`).
+    pub fn load(&self, seat: &mut CpuSeat<(), Known>) -> u64
+        requires seat { IsSeatOf self.now seat.old }
+        requires open { IsSome seat.old.view.section }
+        ensures same { seat.new ≡ after_use seat.old seat.new.view.client }
+        ensures loaded { IsLoaded F.fits W N result seat.new.view.client }
+    {
+        seat.load_word::<LEAF, FAN, T, Slots<F, W, N>, Load<F, W, N>>(&self.live, SHOWN)
+    }
+
+    /// Loads a word of the version that the section reads: the one that it had when it was loaded.
+    pub fn read(&self, seat: &mut CpuSeat<(), Known>, slot: usize, word: usize) -> u64
+        requires seat { IsSeatOf self.now seat.old }
+        requires holds { Holds seat.old slot }
+        requires slot { slot < N }
+        requires word { word < W }
+        ensures same { seat.new ≡ seat.old }
+        ensures word { result ≡ slice_index (words_in seat.old.view.client) word }
+    {
+        let live = &self.live;
+        let place = word_of(W, N, slot, word);
+        seat.load_word::<LEAF, FAN, T, Slots<F, W, N>, Read<W>>(live, place)
+    }
+
+    /// All words of the version that is shown: one load, and one a word. They are of one version,
+    /// which the section reads from now on.
+    pub fn snapshot(&self, seat: &mut CpuSeat<(), Known>) -> [u64; W]
+        requires seat { IsSeatOf self.now seat.old }
+        requires open { IsSome seat.old.view.section }
+        ensures same { seat.new ≡ after_use seat.old seat.new.view.client }
+        ensures held { words_in seat.new.view.client ≡ result }
+        ensures reading { IsReading seat.new.view.client }
+        ensures whole { F.fits result }
+    {
+        self.loaded(seat).snapshot()
+    }
+}

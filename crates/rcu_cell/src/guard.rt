@@ -1,0 +1,31 @@
+//! A loaded version, and what it is of.
+ghost use Rattle.std.specs.Prelude.{◌≡◌, ◌<◌, length};
+ghost use Rattle.rcu_cell.specs.Cell.{IsSeatOf};
+ghost use Rattle.rcu_cell.specs.Versions.{words_in};
+ghost use Rattle.rcu_cell.specs.declared.known.Known.TheVariants.{Reads};
+
+use crate::cell::Cell;
+use crate::known::Known;
+use crate::slots::Fits;
+use rcu_live::cpu_seat::CpuSeat;
+
+/// The version that an open section has loaded. It borrows the processor's seat, so that the
+/// section can neither close nor load again while the version is in use.
+#[derive(Drop)]
+pub struct Loaded<
+    'a,
+    const LEAF: u32,
+    const FAN: u32,
+    T: Drop,
+    F: Fits,
+    const W: usize,
+    const N: usize,
+> {
+    pub(crate) cell: &'a Cell<LEAF, FAN, T, F, W, N>,
+    pub(crate) seat: &'a mut CpuSeat<(), Known>,
+    pub(crate) slot: usize,
+    ghost seat_of: { IsSeatOf cell.now seat.now },
+    ghost reads: { seat.now.view.client ≡ Reads slot (words_in seat.now.view.client) },
+    ghost inside: { slot < N },
+    ghost sized: { length (words_in seat.now.view.client) ≡ W },
+}

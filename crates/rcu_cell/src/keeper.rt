@@ -1,0 +1,152 @@
+//! The keeper of a cell: it publishes versions, and looks which slots are free.
+ghost use Rattle.std.specs.Prelude.{◌≡◌, ◌<◌, ◌≤◌, ◌^◌, IfOk, IfSome, None, OnErr, map};
+ghost use Rattle.rcu_live.specs.View.{IsOfWatcher};
+ghost use Rattle.rcu_cell.specs.Cell.{IsWatcherOf};
+ghost use Rattle.rcu_cell.specs.Keeper.{IsFirstFree, IsFull, after_age, after_update};
+ghost use Rattle.rcu_cell.specs.Versions.{aged_state, first_states, slot_in, slots_in};
+ghost use Rattle.rcu_cell.specs.declared.known.Known.TheVariants.{Opens};
+
+use crate::cell::Cell;
+use crate::known::Known;
+use crate::slot_state::SlotState;
+use crate::slots::Fits;
+use rcu_live::watcher::Watcher;
+use std::marker::Model;
+
+/// No slot is free.
+#[derive(Clone, Copy, Debug, PartialEq, Eq)]
+pub struct Full;
+
+/// A version was replaced.
+#[derive(Clone, Copy, Debug, PartialEq, Eq)]
+pub struct Retired {
+    /// The slot that it stays in.
+    pub slot: usize,
+    /// The slot that is shown in its place.
+    pub by: usize,
+}
+
+/// The keeper of a cell of `N` slots of `W` words, for one thread. A cell has one.
+#[derive(Drop)]
+pub struct Keeper<const W: usize, const N: usize> {
+    seat: Watcher<(), Known>,
+    states: Vec<SlotState>,
+    shown: usize,
+}
+
+impl<const W: usize, const N: usize> Model for Keeper<W, N> {
+    ghost use Rattle.std.specs.Prelude.{◌≡◌, ◌<◌, length, map};
+    ghost use Rattle.rcu_live.specs.View.{IsOfWatcher};
+    ghost use Rattle.rcu_live.specs.Watcher.{Watching};
+    ghost use Rattle.rcu_cell.specs.Versions.{AreSized, IsKeeping, slot_in, slots_in, state_of};
+    ghost use Rattle.rcu_cell.specs.declared.known.Known.{Known};
+
+    ghost Value = { Watching Known };
+
+    ghost view = { λ k. k.seat };
+
+    ghost invariant = { λ k. record {
+      role : IsOfWatcher k.seat.view;
+      keeps : IsKeeping k.seat.view.client;
+      shown : slot_in k.seat.view.client ≡ k.shown;
+      inside : k.shown < N;
+      states : map state_of (slots_in k.seat.view.client) ≡ k.states.items;
+      count : length k.states.items ≡ N;
+      sized : AreSized W (slots_in k.seat.view.client);
+    } };
+}
+
+/// Each state after a look that saw this number.
+fn age_all(states: &mut Vec<SlotState>, number: u64)
+    requires { number ≤ 2 ^ 62 }
+    ensures { states.new.items ≡ map (aged_state number) states.old.items }
+{
+    for slot in 0..states.len() {
+        states[slot] = states[slot].aged(number);
+    }
+}
+
+impl<const W: usize, const N: usize> Keeper<W, N> {
+    /// The keeper of a cell whose slots are as at first, in these states.
+    pub(crate) fn new<const LEAF: u32, const FAN: u32, T: Drop, F: Fits>(
+        cell: &Cell<LEAF, FAN, T, F, W, N>,
+        seat: Watcher<(), Known>,
+        states: Vec<SlotState>,
+    ) -> Self
+        requires cell { IsWatcherOf cell.now seat }
+        requires role { IsOfWatcher seat.view }
+        requires opens { seat.view.client ≡ Opens }
+        requires some { 0 < N }
+        requires states { states.items ≡ first_states N }
+        ensures { IsWatcherOf cell.now result }
+    {
+        let mut seat = seat;
+        cell.claim(&mut seat);
+        Keeper {
+            seat,
+            states,
+            shown: 0,
+        }
+    }
+
+    /// The first free slot.
+    fn free_slot(&self) -> Option<usize>
+        ensures first { IfSome result (λ slot.
+            IsFirstFree (slots_in self.now.view.client) slot) }
+        ensures full { result ≡ None → IsFull (slots_in self.now.view.client) }
+    {
+        for slot in 0..self.states.len() {
+            if self.states[slot].is_free() {
+                return Some(slot);
+            }
+        }
+        None
+    }
+
+    /// Publishes a version: stores its words in the first free slot, and shows that in place of the
+    /// shown one. It waits for nobody. `Full` tells that no slot is free, and nothing changed.
+    pub fn update<const LEAF: u32, const FAN: u32, T: Drop, F: Fits>(
+        &mut self,
+        cell: &Cell<LEAF, FAN, T, F, W, N>,
+        words: &[u64; W],
+    ) -> Result<Retired, Full>
+        requires cell { IsWatcherOf cell.now self.old }
+        requires whole { F.fits words.now }
+        ensures cell { IsWatcherOf cell.now self.new }
+        ensures slot { IfOk result (λ retired.
+            IsFirstFree (slots_in self.old.view.client) retired.by) }
+        ensures replaced { IfOk result (λ retired.
+            retired.slot ≡ slot_in self.old.view.client) }
+        ensures state { IfOk result (λ retired.
+            self.new ≡ after_update self.old retired.by words.now) }
+        ensures full { OnErr result (IsFull (slots_in self.old.view.client)) }
+        ensures unchanged { OnErr result (self.new ≡ self.old) }
+    {
+        let Some(by) = self.free_slot() else {
+            return Err(Full);
+        };
+        cell.fill(&mut self.seat, by, words);
+        cell.show(&mut self.seat, by);
+        let slot = self.shown;
+        self.states[slot] = SlotState::Replaced;
+        self.states[by] = SlotState::Shown;
+        self.shown = by;
+        Ok(Retired { slot, by })
+    }
+
+    /// Looks at the number, by one load, and answers it: what was replaced is so no later than now,
+    /// and what was replaced a full grace period ago is free.
+    pub fn age<const LEAF: u32, const FAN: u32, T: Drop, F: Fits>(
+        &mut self,
+        cell: &Cell<LEAF, FAN, T, F, W, N>,
+    ) -> u64
+        requires { IsWatcherOf cell.now self.old }
+        ensures cell { IsWatcherOf cell.now self.new }
+        ensures state { self.new ≡ after_age self.old result }
+        ensures later { self.old.view.seen ≤ result }
+    {
+        let number = cell.look(&mut self.seat);
+        age_all(&mut self.states, number);
+        number
+    }
+}

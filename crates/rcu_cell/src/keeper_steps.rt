@@ -1,0 +1,102 @@
+//! The steps of a keeper on a cell, by a watcher's seat.
+ghost use Rattle.std.specs.Prelude.{◌≡◌, ◌<◌, ◌≤◌, length, true};
+ghost use Rattle.rcu_live.specs.Numbers.{is_number_word};
+ghost use Rattle.rcu_live.specs.View.{IsOfWatcher};
+ghost use Rattle.rcu_live.specs.Watcher.{after_learn, after_use};
+ghost use Rattle.rcu_cell.specs.Cell.{IsWatcherOf};
+ghost use Rattle.rcu_cell.specs.Steps.{IsClaimed};
+ghost use Rattle.rcu_cell.specs.Versions.{IsKeeping, aged, filled, published, slot_in, slots_in};
+ghost use Rattle.rcu_cell.specs.Versions.{version_at, with_word};
+ghost use Rattle.rcu_cell.specs.declared.known.Known.TheVariants.{Keeps, Opens};
+ghost use Rattle.rcu_cell.specs.declared.slot_state.SlotState.TheVariants.{Free};
+
+use crate::cell::Cell;
+use crate::known::Known;
+use crate::places::{SHOWN, word_of};
+use crate::slots::{Age, Claim, Fits, Publish, Slots, Write};
+use rcu_live::watcher::Watcher;
+
+impl<const LEAF: u32, const FAN: u32, T: Drop, F: Fits, const W: usize, const N: usize> Cell<
+    LEAF,
+    FAN,
+    T,
+    F,
+    W,
+    N,
+> {
+    /// Loads which slot is shown: the seat keeps the slots from now on.
+    pub(crate) fn claim(&self, seat: &mut Watcher<(), Known>)
+        requires seat { IsWatcherOf self.now seat.old }
+        requires role { IsOfWatcher seat.old.view }
+        requires opens { seat.old.view.client ≡ Opens }
+        ensures same { seat.new ≡ after_use seat.old seat.new.view.client }
+        ensures claimed { IsClaimed F.fits W N seat.new.view.client }
+    {
+        seat.load_word::<LEAF, FAN, T, Slots<F, W, N>, Claim<F, W, N>>(&self.live, SHOWN);
+    }
+
+    /// Stores a word of a free slot.
+    pub(crate) fn store(&self, seat: &mut Watcher<(), Known>, slot: usize, word: usize, value: u64)
+        requires seat { IsWatcherOf self.now seat.old }
+        requires role { IsOfWatcher seat.old.view }
+        requires keeps { IsKeeping seat.old.view.client }
+        requires slot { slot < N }
+        requires inside { slot < length (slots_in seat.old.view.client) }
+        requires free { (version_at (slots_in seat.old.view.client) slot).state ≡ Free }
+        requires word { word < W }
+        ensures { seat.new ≡ after_use seat.old (Keeps (slot_in seat.old.view.client)
+            (with_word (slots_in seat.old.view.client) slot word value)) }
+    {
+        let live = &self.live;
+        let place = word_of(W, N, slot, word);
+        seat.store_word::<LEAF, FAN, T, Slots<F, W, N>, Write<W>>(live, place, value);
+    }
+
+    /// Shows a free slot, whose words meet the fact, in place of the shown one.
+    pub(crate) fn show(&self, seat: &mut Watcher<(), Known>, slot: usize)
+        requires seat { IsWatcherOf self.now seat.old }
+        requires role { IsOfWatcher seat.old.view }
+        requires keeps { IsKeeping seat.old.view.client }
+        requires inside { slot < length (slots_in seat.old.view.client) }
+        requires free { (version_at (slots_in seat.old.view.client) slot).state ≡ Free }
+        requires whole { F.fits (version_at (slots_in seat.old.view.client) slot).words }
+        ensures { seat.new ≡ after_use seat.old (Keeps slot
+            (published (slots_in seat.old.view.client) (slot_in seat.old.view.client) slot)) }
+    {
+        let value = slot as u64;
+        seat.store_word::<LEAF, FAN, T, Slots<F, W, N>, Publish>(&self.live, SHOWN, value);
+    }
+
+    /// Loads the number: what was replaced is so no later than now, and what was replaced a full
+    /// grace period ago is free.
+    pub(crate) fn look(&self, seat: &mut Watcher<(), Known>) -> u64
+        requires seat { IsWatcherOf self.now seat.old }
+        requires role { IsOfWatcher seat.old.view }
+        requires keeps { IsKeeping seat.old.view.client }
+        ensures same { seat.new ≡ after_learn seat.old result
+            (Keeps (slot_in seat.old.view.client)
+            (aged result (slots_in seat.old.view.client))) }
+        ensures later { seat.old.view.seen ≤ result }
+        ensures number { is_number_word result ≡ true }
+    {
+        seat.learn::<LEAF, FAN, T, Slots<F, W, N>, Age>(&self.live)
+    }
+
+    /// Stores all words of a free slot.
+    pub(crate) fn fill(&self, seat: &mut Watcher<(), Known>, slot: usize, words: &[u64])
+        requires seat { IsWatcherOf self.now seat.old }
+        requires role { IsOfWatcher seat.old.view }
+        requires keeps { IsKeeping seat.old.view.client }
+        requires slot { slot < N }
+        requires inside { slot < length (slots_in seat.old.view.client) }
+        requires free { (version_at (slots_in seat.old.view.client) slot).state ≡ Free }
+        requires sized { length (version_at (slots_in seat.old.view.client) slot).words ≡ W }
+        requires words { length words.now ≡ W }
+        ensures { seat.new ≡ after_use seat.old (Keeps (slot_in seat.old.view.client)
+            (filled (slots_in seat.old.view.client) slot words.now)) }
+    {
+        for word in 0..W {
+            self.store(seat, slot, word, words[word]);
+        }
+    }
+}

@@ -1,0 +1,127 @@
+//! The opening of a cell.
+ghost use Rattle.std.specs.Prelude.{◌≡◌, ◌≢◌, ◌+◌, ◌*◌, ◌<◌, ◌≤◌, ◌^◌, ℕ, All, IfErr, IfOk};
+ghost use Rattle.std.specs.Prelude.{None, OnOk, Some, length, slice_index};
+ghost use Rattle.rcu_live.specs.Opening.{opening_refusal};
+ghost use Rattle.rcu_cell.specs.Cell.{IsSeatOf, IsWatcherOf};
+ghost use Rattle.rcu_cell.specs.Versions.{first_place, first_states};
+
+use crate::cell::Cell;
+use crate::keeper::Keeper;
+use crate::known::Known;
+use crate::places::FIRST;
+use crate::slot_state::SlotState;
+use crate::slots::{Fits, Slots};
+use rcu_geometry::geometry::Geometry;
+use rcu_live::cpu_seat::CpuSeat;
+use rcu_live::live::Live;
+use rcu_live::watcher::Watcher;
+use rcu_seq::fault::Fault;
+use rcu_seq::seq::Seq;
+use std::alloc::{AllocError, Global};
+
+/// The words of a cell at first: the first slot is shown, with these words.
+fn first_words<const W: usize, const N: usize>(
+    alloc: Global,
+    words: &[u64; W],
+) -> Result<Vec<u64>, AllocError>
+    requires some { 0 < N }
+    requires small { W * N ≤ 2 ^ 32 }
+    ensures length { IfOk result (λ behind. length behind.items ≡ first_place + W * N) }
+    ensures shown { IfOk result (λ behind. slice_index behind.items 0 ≡ 0) }
+    ensures copied { IfOk result (λ behind. (k : ℕ) → k < W →
+        slice_index behind.items (first_place + k) ≡ slice_index words.now k) }
+    ensures rest { IfOk result (λ behind. (j : ℕ) → first_place + W ≤ j →
+        slice_index behind.items j ≡ 0) }
+{
+    let mut behind = vec![in alloc; 0u64; FIRST + W * N]?;
+    for word in 0..W {
+        behind[FIRST + word] = words[word];
+    }
+    Ok(behind)
+}
+
+/// The states of so many slots at first.
+fn first_states(alloc: Global, count: usize) -> Result<Vec<SlotState>, AllocError>
+    requires { 0 < count }
+    ensures { IfOk result (λ states. states.items ≡ first_states count) }
+{
+    let mut states = vec![in alloc; SlotState::Free; count]?;
+    states[0] = SlotState::Shown;
+    Ok(states)
+}
+
+/// Refuses a size that no object has, by 17 and then 19.
+fn check_size<const LEAF: u32, const FAN: u32>(cpus: u32, last: u64) -> Result<(), Fault>
+    requires leaf { (2 ≤ LEAF) × (LEAF ≤ 64) }
+    requires fan { (2 ≤ FAN) × (FAN ≤ 64) }
+    ensures accepted { OnOk result (opening_refusal LEAF FAN cpus last ≡ None) }
+    ensures refused { IfErr result (λ fault. opening_refusal LEAF FAN cpus last ≡ Some fault) }
+    ensures memory { IfErr result (λ fault. fault ≢ Fault.NoMemory) }
+{
+    Geometry::<LEAF, FAN>::new(cpus)?;
+    Seq::new(last)?;
+    Ok(())
+}
+
+/// A cell, a seat and a watcher a processor, and the keeper.
+pub type Opened<const LEAF: u32, const FAN: u32, T, F, const W: usize, const N: usize> = (
+    Cell<LEAF, FAN, T, F, W, N>,
+    Vec<CpuSeat<(), Known>>,
+    Vec<Watcher<(), Known>>,
+    Keeper<W, N>,
+);
+
+impl<const LEAF: u32, const FAN: u32, T: Drop, F: Fits, const W: usize, const N: usize> Cell<
+    LEAF,
+    FAN,
+    T,
+    F,
+    W,
+    N,
+> {
+    /// Opens a cell that shows these words, with its engine: of so many processors, idle at number
+    /// 0, processor 0 alone online.
+    ///
+    /// Faults: 17 for no processor, more than 4,096, or more than four levels hold; 19 where `last`
+    /// is no last number; 16.
+    pub fn open(
+        alloc: Global,
+        cpus: u32,
+        last: u64,
+        words: &[u64; W],
+    ) -> Result<Opened<LEAF, FAN, T, F, W, N>, Fault>
+        requires leaf { (2 ≤ LEAF) × (LEAF ≤ 64) }
+        requires fan { (2 ≤ FAN) × (FAN ≤ 64) }
+        requires some { 0 < N }
+        requires small { W * N ≤ 2 ^ 32 }
+        requires whole { F.fits words.now }
+        ensures accepted { OnOk result (opening_refusal LEAF FAN cpus last ≡ None) }
+        ensures cpus { IfOk result (λ opened. opened.0.cpus ≡ cpus) }
+        ensures seat_count { IfOk result (λ opened. length opened.1.items ≡ cpus) }
+        ensures seats { IfOk result (λ opened. All (IsSeatOf opened.0) opened.1.items) }
+        ensures outside { IfOk result (λ opened.
+            All (λ seat. seat.depth ≡ 0) opened.1.items) }
+        ensures keeper { IfOk result (λ opened. IsWatcherOf opened.0 opened.3) }
+        ensures refused { IfErr result (λ fault. fault ≢ Fault.NoMemory →
+            opening_refusal LEAF FAN cpus last ≡ Some fault) }
+        ensures memory { IfErr result (λ fault. fault ≡ Fault.NoMemory →
+            opening_refusal LEAF FAN cpus last ≡ None) }
+    {
+        check_size::<LEAF, FAN>(cpus, last)?;
+        let (Ok(behind), Ok(states)) = (first_words::<W, N>(alloc, words), first_states(alloc, N))
+        else {
+            return Err(Fault::NoMemory);
+        };
+        let (live, seats, watchers, own) = Live::<
+            LEAF,
+            FAN,
+            T,
+            (),
+            Known,
+            Slots<F, W, N>,
+        >::open_for(alloc, cpus, last, behind.as_slice(), Vec::new(alloc))?;
+        let cell = Cell { live };
+        let keeper = Keeper::new(&cell, own, states);
+        Ok((cell, seats, watchers, keeper))
+    }
+}
