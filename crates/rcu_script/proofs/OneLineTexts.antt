@@ -71,7 +71,8 @@ pub line_numbered : (word : List ℕ) (n : ℕ) → list_any is_end word ≡ fal
 line_numbered word n none = line_of_number word [] (codes "\n") n none (line_alone [] refl)
 
 pub line_listed : (word : List ℕ) (item : ℕ) (items : List ℕ) → list_any is_end word ≡ false
-    → OneLine (word ++ flat_map space_and_number (item ∷ items)) (word ++ (flat_map space_and_number (item ∷ items) ++ codes "\n"))
+    → OneLine (word ++ flat_map space_and_number (item ∷ items))
+    (word ++ (flat_map space_and_number (item ∷ items) ++ codes "\n"))
 line_listed word item items none =
     line_behind word (flat_map space_and_number (item ∷ items)) _ none
     (line_alone (flat_map space_and_number (item ∷ items)) (listed_no_end (item ∷ items)))

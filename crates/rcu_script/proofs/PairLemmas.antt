@@ -33,9 +33,11 @@ abbrev texts : (ℕ → Bool) → ℕ → List ℕ
 texts p n = flat_map space_and_number (filter p (range_with_len 0 n))
 
 -- one processor more, which is awaited
-pub member_sent : (p : ℕ → Bool) (n : ℕ) (a b c : Out) → p n ≡ true → Sends a b (texts p n) → Sends b c (space_and_number n)
+pub member_sent : (p : ℕ → Bool) (n : ℕ) (a b c : Out) → p n ≡ true → Sends a b (texts p n)
+    → Sends b c (space_and_number n)
     → Sends a c (texts p (n + 1))
-member_sent p n a b c passes s t = subst (Sends a c) (sym (texts_yes space_and_number p n passes)) (Sends-trans a b c _ _ s t)
+member_sent p n a b c passes s t =
+    subst (Sends a c) (sym (texts_yes space_and_number p n passes)) (Sends-trans a b c _ _ s t)
 
 -- one processor more, which is not
 pub member_none : (p : ℕ → Bool) (n : ℕ) (a b : Out) → p n ≡ false → Sends a b (texts p n) → Sends a b (texts p (n + 1))

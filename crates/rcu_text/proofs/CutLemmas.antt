@@ -1,5 +1,6 @@
 -- The lines of bytes that are read piece by piece.
-use Rattle.std.proofs.Common.{◌≡◌, ◌≢◌, ◌==◌, ℕ, suc, true, false, List, [], ◌∷◌, ◌++◌, refl, sym, ap, ap₂, ◌∙◌, arith, append_assoc, append-nil, cond, Bool, length}
+use Rattle.std.proofs.Common.{◌≡◌, ◌≢◌, ◌==◌, ℕ, suc, true, false, List, [], ◌∷◌, ◌++◌, refl, sym, ap, ap₂, ◌∙◌, arith}
+use Rattle.std.proofs.Common.{append_assoc, append-nil, cond, Bool, length}
 use Rattle.std.specs.Prelude.{All, fold}
 use Rattle.std.proofs.lemmas.Bool.{ne_eqb}
 use Rattle.std.proofs.lemmas.List.Sums.{fold-append}
@@ -11,7 +12,8 @@ open_head b bs h = h 0 0 (omega arith)
 open_tail : (b : ℕ) (bs : List ℕ) → All (λ x. x ≢ 10) (b ∷ bs) → All (λ x. x ≢ 10) bs
 open_tail b bs h = λ k d lt. h (suc k) d (omega arith)
 
-open_more : (c : Cut) (front : List ℕ) → All (λ x. x ≢ 10) front → fold with_byte c front ≡ record { ended = c.ended; rest = c.rest ++ front }
+open_more : (c : Cut) (front : List ℕ) → All (λ x. x ≢ 10) front
+    → fold with_byte c front ≡ record { ended = c.ended; rest = c.rest ++ front }
 open_more c [] h = ap (λ (r : List ℕ). record { ended = c.ended; rest = r }) (sym (append-nil c.rest))
 open_more c (b ∷ bs) h =
     let e : (b == 10) ≡ false = ne_eqb b 10 (open_head b bs h) in
@@ -19,17 +21,21 @@ open_more c (b ∷ bs) h =
     rw e (ih ∙ ap (λ (r : List ℕ). record { ended = c.ended; rest = r }) (append_assoc c.rest (b ∷ []) bs))
 
 -- bytes among which no line ends join the rest
-pub cut_open : (bytes front : List ℕ) → All (λ x. x ≢ 10) front → cut_of (bytes ++ front) ≡ record { ended = (cut_of bytes).ended; rest = (cut_of bytes).rest ++ front }
+pub cut_open : (bytes front : List ℕ) → All (λ x. x ≢ 10) front
+    → cut_of (bytes ++ front) ≡ record { ended = (cut_of bytes).ended; rest = (cut_of bytes).rest ++ front }
 unfolding cut_of
-cut_open bytes front h = fold-append with_byte nothing_cut bytes front ∙ open_more (fold with_byte nothing_cut bytes) front h
+cut_open bytes front h =
+    fold-append with_byte nothing_cut bytes front ∙ open_more (fold with_byte nothing_cut bytes) front h
 
-pub cut_end : (bytes : List ℕ) → cut_of (bytes ++ 10 ∷ []) ≡ record { ended = (cut_of bytes).ended ++ (cut_of bytes).rest ∷ []; rest = [] }
+pub cut_end : (bytes : List ℕ) → cut_of (bytes ++ 10 ∷ [])
+    ≡ record { ended = (cut_of bytes).ended ++ (cut_of bytes).rest ∷ []; rest = [] }
 unfolding cut_of
 cut_end bytes = fold-append with_byte nothing_cut bytes (10 ∷ [])
 
 -- a line end ends the rest
 pub cut_line : (bytes front : List ℕ) → All (λ x. x ≢ 10) front
-    → cut_of (bytes ++ (front ++ 10 ∷ [])) ≡ record { ended = (cut_of bytes).ended ++ ((cut_of bytes).rest ++ front) ∷ []; rest = [] }
+    → cut_of (bytes ++ (front ++ 10 ∷ []))
+    ≡ record { ended = (cut_of bytes).ended ++ ((cut_of bytes).rest ++ front) ∷ []; rest = [] }
 cut_line bytes front h =
     ap cut_of (sym (append_assoc bytes front (10 ∷ []))) ∙ cut_end (bytes ++ front)
     ∙ ap (λ (c : Cut). record { ended = c.ended ++ c.rest ∷ []; rest = [] }) (cut_open bytes front h)
@@ -64,15 +70,19 @@ step_behind lines c b =
       | false ↦ refl
     ]
 
-pub cut_behind : (lines : List (List ℕ)) (c : Cut) (bytes : List ℕ) → fold with_byte (behind lines c) bytes ≡ behind lines (fold with_byte c bytes)
+pub cut_behind : (lines : List (List ℕ)) (c : Cut) (bytes : List ℕ)
+    → fold with_byte (behind lines c) bytes ≡ behind lines (fold with_byte c bytes)
 cut_behind lines c [] = refl
-cut_behind lines c (b ∷ bs) = ap (λ (k : Cut). fold with_byte k bs) (step_behind lines c b) ∙ cut_behind lines (with_byte c b) bs
+cut_behind lines c (b ∷ bs) =
+    ap (λ (k : Cut). fold with_byte k bs) (step_behind lines c b) ∙ cut_behind lines (with_byte c b) bs
 
 pub cut_append : (a b : List ℕ) → (cut_of a).rest ≡ [] → (cut_of (a ++ b)).ended ≡ (cut_of a).ended ++ (cut_of b).ended
 unfolding cut_of
 cut_append a b closed =
     let c = fold with_byte nothing_cut a in
-    let e : c ≡ behind c.ended nothing_cut = ap₂ (λ (x : List (List ℕ)) (y : List ℕ). record { ended = x; rest = y }) (sym (append-nil c.ended)) closed in
+    let e : c ≡ behind c.ended nothing_cut =
+    ap₂ (λ (x : List (List ℕ)) (y : List ℕ). record { ended = x; rest = y })
+    (sym (append-nil c.ended)) closed in
     ap (λ (k : Cut). k.ended) (fold-append with_byte nothing_cut a b ∙ ap (λ (k : Cut). fold with_byte k b) e ∙ cut_behind c.ended nothing_cut b)
 
 -- the last byte is a line end
@@ -89,6 +99,7 @@ closed text c = ap (λ (l : List ℕ). (cut_of l).rest) c.1 ∙ ap (λ (k : Cut)
 pub ended_among_lines : (bytes : List ℕ) → (later : List (List ℕ)) × (lines_of bytes ≡ (cut_of bytes).ended ++ later)
 ended_among_lines bytes = go (length (cut_of bytes).rest == 0) refl
   where
-    go : (t : Bool) → (length (cut_of bytes).rest == 0) ≡ t → (later : List (List ℕ)) × (lines_of bytes ≡ (cut_of bytes).ended ++ later)
+    go : (t : Bool) → (length (cut_of bytes).rest == 0) ≡ t
+        → (later : List (List ℕ)) × (lines_of bytes ≡ (cut_of bytes).ended ++ later)
     go true e = ([], rw e (sym (append-nil (cut_of bytes).ended)))
     go false e = ((cut_of bytes).rest ∷ [], rw e refl)

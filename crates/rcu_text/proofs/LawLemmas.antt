@@ -1,5 +1,6 @@
 -- The lines are the pieces between line ends.
-use Rattle.std.proofs.Common.{◌≡◌, ◌==◌, ◌∙◌, ℕ, Bool, true, false, Option, Some, None, List, [], ◌∷◌, ◌++◌, refl, sym, ap, append_assoc, append-nil}
+use Rattle.std.proofs.Common.{◌≡◌, ◌==◌, ◌∙◌, ℕ, Bool, true, false, Option, Some, None, List, [], ◌∷◌, ◌++◌, refl, sym}
+use Rattle.std.proofs.Common.{ap, append_assoc, append-nil}
 use Rattle.std.specs.Prelude.{fold, cond}
 use Rattle.std.specs.List.{slice_split, onto_first}
 use Rattle.std.specs.Io.KnownBytes.{Consumes}
@@ -33,7 +34,8 @@ front_nothing (b ∷ bs) =
 abbrev whole : Cut → List (List ℕ)
 whole c = c.ended ++ c.rest ∷ []
 
-pieces_from : (r bytes : List ℕ) → whole (fold with_byte (record { ended = []; rest = r }) bytes) ≡ onto_front r (slice_split is_end bytes)
+pieces_from : (r bytes : List ℕ) → whole (fold with_byte (record { ended = []; rest = r }) bytes)
+    ≡ onto_front r (slice_split is_end bytes)
 pieces_from r [] = ap (λ (l : List ℕ). l ∷ []) (sym (append-nil r))
 pieces_from r (b ∷ bs) =
     elim (b == 10) as (λ t. whole (fold with_byte (cond t (record { ended = [] ++ r ∷ []; rest = [] }) (record { ended = []; rest = r ++ b ∷ [] })) bs)

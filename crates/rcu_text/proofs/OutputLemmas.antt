@@ -1,12 +1,13 @@
 -- What goes out, one text after another.
 use Rattle.std.proofs.Common.{◌≡◌, ◌+◌, ◌<◌, ℕ, List, [], ◌∷◌, ◌++◌, length, take, drop, refl, sym, ap, ap₂, ◌∙◌}
 use Rattle.std.proofs.Common.{append_assoc, append-nil, take-append-drop, subst, arith, get_or, length-append}
-use Rattle.std.specs.Prelude.{flat_map, Result, Ok, Err}
+use Rattle.std.specs.Prelude.{flat_map, OnOk, Result, Ok, Err}
 use Rattle.std.specs.Io.KnownBytes.{Appends}
 use Rattle.std.proofs.KnownBytes.{Appends-nil, Appends-trans}
 use Rattle.std.proofs.lemmas.Grind.{flat_map-append}
 use Rattle.std.proofs.lemmas.List.{take_more}
 use Rattle.rcu_text.specs.Outputs.{Out, Puts, Sends, Stops, after_put_text}
+use Rattle.rcu_text.specs.Streams.{BreaksOff, Takes, Writes}
 
 -- nothing is sent by doing nothing
 pub Sends-nil : (o : Out) → Sends o o []
@@ -68,6 +69,24 @@ Sends-taken a b text before after p =
 -- where nothing waits before, what the writer took of a text that it stopped in is a front of it
 pub Stops-taken : (a b : Out) (text : List ℕ) → a.waiting ≡ [] → (s : Stops a b text) → text ≡ s.front ++ s.left
 Stops-taken a b text before s = ap (λ (l : List ℕ). l ++ text) (sym before) ∙ s.whole
+
+-- so the writer took a text that was sent
+pub Sends-Takes : (a b : Out) (text : List ℕ) → a.waiting ≡ [] → b.waiting ≡ [] → Sends a b text
+    → Takes a.writer b.writer text
+Sends-Takes a b text before after p = record { out = Sends-taken a b text before after p; sound = p.sound }
+
+-- and broke off in a text that it stopped in
+pub Stops-BreaksOff : (a b : Out) (text : List ℕ) → a.waiting ≡ [] → Stops a b text → BreaksOff a.writer b.writer text
+Stops-BreaksOff a b text before s =
+    record { front = s.front; left = s.left; whole = Stops-taken a b text before s; out = s.out; failed = s.failed }
+
+-- a text that was sent through an output is written once all that waits is
+pub writes_flushed : {X E : Type 0} (r : Result X E) (a b c : Out) (text : List ℕ) → a.waiting ≡ [] → Sends a b text
+    → Puts r b c [] → OnOk r (c.waiting ≡ []) → Writes r a.writer c.writer text
+writes_flushed (Ok x) a b c text before s p after =
+    Sends-Takes a c text before after (subst (Sends a c) (append-nil text) (Sends-trans a b c text [] s p))
+writes_flushed (Err e) a b c text before s p after =
+    Stops-BreaksOff a c text before (subst (Stops a c) (append-nil text) (Sends-Stops a b c text [] s p))
 
 -- a text was put behind one that was sent
 pub puts_two : {X E : Type 0} (r : Result X E) (a b c : Out) (first second : List ℕ) → Sends a b first

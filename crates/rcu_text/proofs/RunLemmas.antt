@@ -1,5 +1,6 @@
 -- A run between two reads, and at its end.
-use Rattle.std.proofs.Common.{◌≡◌, ◌<◌, ◌≤◌, ◌+◌, ◌-◌, ◌^◌, ℕ, true, List, [], ◌∷◌, ◌++◌, length, take, Option, Some, None, refl, sym, ap, ◌∙◌, subst, arith, append-nil, append_assoc, length-append, IfSome}
+use Rattle.std.proofs.Common.{◌≡◌, ◌<◌, ◌≤◌, ◌+◌, ◌-◌, ◌^◌, ℕ, true, List, [], ◌∷◌, ◌++◌, length, take, Option, Some}
+use Rattle.std.proofs.Common.{None, refl, sym, ap, ◌∙◌, subst, arith, append-nil, append_assoc, length-append, IfSome}
 use Rattle.std.proofs.KnownBytes.{Consumes-nil, Consumes-trans, Consumes-kept, Consumes-whole}
 use Rattle.std.proofs.lemmas.List.{length-take-le}
 use Rattle.std.specs.Io.KnownBytes.{Consumes, Keeps, IsAtEnd}
@@ -16,13 +17,15 @@ abbrev Past : Type 1
 Past = List (List ℕ) → List ℕ → Type 0
 
 -- the reads so far gave these bytes, and their lines are answered
-pub record Midway (past : List (List ℕ) → List ℕ → Type 0) (source_old source_new : Option (List ℕ)) (old new : Out) (line : List ℕ) (turns : ℕ) : Type 0 where
+pub record Midway (past : List (List ℕ) → List ℕ → Type 0) (source_old source_new : Option (List ℕ)) (old new : Out)
+    (line : List ℕ) (turns : ℕ) : Type 0 where
   pub bytes : List ℕ
   pub read : Consumes source_old source_new bytes
   pub underway : Underway past old new line bytes
   pub count : turns ≤ length bytes
 
-pub midway_start : (past : Past) (s : Option (List ℕ)) (a : Out) (line : List ℕ) → past [] [] → line ≡ [] → Midway past s s a a line 0
+pub midway_start : (past : Past) (s : Option (List ℕ)) (a : Out) (line : List ℕ) → past [] [] → line ≡ []
+    → Midway past s s a a line 0
 unfolding cut_of
 midway_start past s a line told begun = record {
   bytes = [];
@@ -34,7 +37,8 @@ midway_start past s a line told begun = record {
   count = omega arith;
 }
 
-pub midway_next : (past later : Past) (s0 s1 s2 : Option (List ℕ)) (a b c : Out) (line next : List ℕ) (turns n : ℕ) (block piece : List ℕ)
+pub midway_next : (past later : Past) (s0 s1 s2 : Option (List ℕ)) (a b c : Out) (line next : List ℕ) (turns n : ℕ)
+    (block piece : List ℕ)
     → Midway past s0 s1 a b line turns → Consumes s1 s2 (take n block) → 0 < n → n ≤ length block → piece ≡ take n block
     → ((bytes : List ℕ) → Underway past a b line bytes → Underway later a c next (bytes ++ piece))
     → Midway later s0 s2 a c next (turns + 1)
@@ -65,7 +69,8 @@ whole_input s0 s1 s2 bytes block n P r none q end p =
 
 pub answered : (past : Past) (lines : List (List ℕ)) (a b : Out) → a.waiting ≡ [] → b.waiting ≡ []
     → LinesAreAnswered past lines (Sends a b) → Answered past lines a.writer.taken b.writer.taken
-answered past lines a b before after s = record { text = s.text; answer = s.told; out = Sends-taken a b s.text before after s.out }
+answered past lines a b before after s =
+    record { text = s.text; answer = s.told; out = Sends-taken a b s.text before after s.out }
 
 pub broken_off : (past : Past) (front later all : List (List ℕ)) (a b : Out) → all ≡ front ++ later → a.waiting ≡ []
     → LinesAreAnswered past front (Stops a b) → BrokenOff past all a.writer.taken b.writer.taken
@@ -83,27 +88,18 @@ broken_off past front later all a b split before s = record {
 
 -- a read failed
 pub read_failed : (past : Past) (r0 r1 r2 : Incoming) (a b : Out) (line : List ℕ) (turns : ℕ)
-    → Midway past r0.remaining r1.remaining a b line turns → a.waiting ≡ [] → b.waiting ≡ [] → Keeps r1.remaining r2.remaining → r2.failed ≡ true
+    → Midway past r0.remaining r1.remaining a b line turns → a.waiting ≡ [] → b.waiting ≡ []
+    → Keeps r1.remaining r2.remaining → r2.failed ≡ true
     → StoppedReading past (ends_of r0 a.writer) (ends_of r2 b.writer)
 read_failed past r0 r1 r2 a b line turns m before after k e = record {
   bytes = m.bytes;
   read = Consumes-kept r0.remaining r1.remaining r2.remaining m.bytes m.read k;
   answered = answered past (cut_of m.bytes).ended a b before after m.underway.stands;
-  failed = if_some r0.remaining;
+  failed = λ few. e;
   write_sound = m.underway.stands.out.sound;
 }
-  where
-    if_some : (s : Option (List ℕ)) → IfSome s (λ all. length all < 2 ^ 64 - 1 → r2.failed ≡ true)
-    if_some None = tt
-    if_some (Some all) = λ lt. e
 
 -- as many reads as there are gave too many bytes
-too_many : (s0 s1 : Option (List ℕ)) (bytes : List ℕ) (n : ℕ) (P : Type 0) → Consumes s0 s1 bytes → n ≤ length bytes → IfSome s0 (λ all. length all < n → P)
-too_many None s1 bytes n P r le = tt
-too_many (Some xs) None bytes n P r le = absurd r
-too_many (Some xs) (Some ys) bytes n P r le = λ lt.
-    let e : length xs ≡ length bytes + length ys = ap length r ∙ length-append bytes ys in
-    absurd (omega arith)
 
 pub reads_over : (past : Past) (r0 r1 : Incoming) (a b : Out) (line : List ℕ) (turns : ℕ)
     → Midway past r0.remaining r1.remaining a b line turns → a.waiting ≡ [] → b.waiting ≡ [] → 2 ^ 64 - 1 ≤ turns
@@ -112,17 +108,21 @@ reads_over past r0 r1 a b line turns m before after most = record {
   bytes = m.bytes;
   read = m.read;
   answered = answered past (cut_of m.bytes).ended a b before after m.underway.stands;
-  failed = too_many r0.remaining r1.remaining m.bytes (2 ^ 64 - 1) (r1.failed ≡ true) m.read (omega (arith, m.count));
+  failed = λ few. absurd (omega (arith, m.count));
   write_sound = m.underway.stands.out.sound;
 }
 
 -- the input is over, and all is answered
 pub finished : (past later : Past) (r0 r1 r2 : Incoming) (a b c : Out) (line block : List ℕ) (turns n : ℕ)
-    → (m : Midway past r0.remaining r1.remaining a b line turns) → n ≡ 0 → Consumes r1.remaining r2.remaining (take n block) → IsAtEnd r2.remaining
+    → (m : Midway past r0.remaining r1.remaining a b line turns) → n ≡ 0
+    → Consumes r1.remaining r2.remaining (take n block) → IsAtEnd r2.remaining
     → LinesAreAnswered later (lines_of m.bytes) (Sends a c) → a.waiting ≡ [] → c.waiting ≡ [] → r2.failed ≡ r0.failed
     → Finished later (ends_of r0 a.writer) (ends_of r2 c.writer)
 finished past later r0 r1 r2 a b c line block turns n m zero q end s before after e = record {
-  answered = whole_input r0.remaining r1.remaining r2.remaining m.bytes block n (λ bytes. Answered later (lines_of bytes) a.writer.taken c.writer.taken) m.read zero q end
+  read_whole = end;
+  answered =
+      whole_input r0.remaining r1.remaining r2.remaining m.bytes block n
+      (λ bytes. Answered later (lines_of bytes) a.writer.taken c.writer.taken) m.read zero q end
       (answered later (lines_of m.bytes) a c before after s);
   read_sound = e;
   write_sound = s.out.sound;
@@ -136,26 +136,31 @@ read_to_end bytes (Some (b ∷ left)) end = absurd (omega (arith, ap length end)
 
 -- the input is over, and the writer failed
 pub finish_failed : (past later : Past) (r0 r1 r2 : Incoming) (a b c : Out) (line block : List ℕ) (turns n : ℕ)
-    → (m : Midway past r0.remaining r1.remaining a b line turns) → n ≡ 0 → Consumes r1.remaining r2.remaining (take n block) → IsAtEnd r2.remaining
+    → (m : Midway past r0.remaining r1.remaining a b line turns) → n ≡ 0
+    → Consumes r1.remaining r2.remaining (take n block) → IsAtEnd r2.remaining
     → LinesAreAnswered later (lines_of m.bytes) (Stops a c) → a.waiting ≡ [] → r2.failed ≡ r0.failed
     → StoppedWriting later (ends_of r0 a.writer) (ends_of r2 c.writer)
 finish_failed past later r0 r1 r2 a b c line block turns n m zero q end s before e = record {
   bytes = m.bytes;
   read = nothing_more r0.remaining r1.remaining r2.remaining m.bytes block n m.read zero q;
-  broken = broken_off later (lines_of m.bytes) [] (lines_read m.bytes r2.remaining) a c (read_to_end m.bytes r2.remaining end ∙ sym (append-nil (lines_of m.bytes))) before s;
+  broken =
+      broken_off later (lines_of m.bytes) [] (lines_read m.bytes r2.remaining) a c
+      (read_to_end m.bytes r2.remaining end ∙ sym (append-nil (lines_of m.bytes))) before s;
   failed = s.out.failed;
   read_sound = e;
 }
 
 -- the ended lines were read whole
-ended_were_read : (bytes : List ℕ) (left : Option (List ℕ)) → (later : List (List ℕ)) × (lines_read bytes left ≡ (cut_of bytes).ended ++ later)
+ended_were_read : (bytes : List ℕ) (left : Option (List ℕ))
+    → (later : List (List ℕ)) × (lines_read bytes left ≡ (cut_of bytes).ended ++ later)
 ended_were_read bytes None = ended_among_lines bytes
 ended_were_read bytes (Some []) = ended_among_lines bytes
 ended_were_read bytes (Some (b ∷ left)) = ([], sym (append-nil (cut_of bytes).ended))
 
 -- what breaks off among the ended lines breaks off among those that were read whole
 broken_among : (past : Past) (left : Option (List ℕ)) (a c : Out) (bytes : List ℕ) → a.waiting ≡ []
-    → StoppedAmong past (cut_of bytes).ended (Stops a c) → BrokenOff past (lines_read bytes left) a.writer.taken c.writer.taken
+    → StoppedAmong past (cut_of bytes).ended (Stops a c)
+    → BrokenOff past (lines_read bytes left) a.writer.taken c.writer.taken
 broken_among past left a c bytes before s =
     let k = ended_were_read bytes left in
     let split : lines_read bytes left ≡ s.front ++ (s.later ++ k.0) =
@@ -164,12 +169,14 @@ broken_among past left a c bytes before s =
 
 -- the writer failed in the answers to a piece
 pub piece_failed : (past later : Past) (r0 r1 r2 : Incoming) (a b c : Out) (line block piece : List ℕ) (turns n : ℕ)
-    → (m : Midway past r0.remaining r1.remaining a b line turns) → Consumes r1.remaining r2.remaining (take n block) → piece ≡ take n block
+    → (m : Midway past r0.remaining r1.remaining a b line turns) → Consumes r1.remaining r2.remaining (take n block)
+    → piece ≡ take n block
     → StoppedAmong later (cut_of (m.bytes ++ piece)).ended (Stops a c) → a.waiting ≡ [] → r2.failed ≡ r0.failed
     → StoppedWriting later (ends_of r0 a.writer) (ends_of r2 c.writer)
 piece_failed past later r0 r1 r2 a b c line block piece turns n m q e s before same = record {
   bytes = m.bytes ++ piece;
-  read = Consumes-trans r0.remaining r1.remaining r2.remaining m.bytes piece m.read (subst (Consumes r1.remaining r2.remaining) (sym e) q);
+  read = Consumes-trans r0.remaining r1.remaining r2.remaining m.bytes piece m.read
+      (subst (Consumes r1.remaining r2.remaining) (sym e) q);
   broken = broken_among later r2.remaining a c (m.bytes ++ piece) before s;
   failed = s.stands.out.failed;
   read_sound = same;

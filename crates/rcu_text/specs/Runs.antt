@@ -1,7 +1,7 @@
 -- What a run over the lines of a reader answers and leaves. Which texts answer which lines is a relation `IsText`
 -- throughout.
 use Rattle.std.specs.Prelude.{◌≡◌, ◌<◌, ◌^◌, ◌-◌, ◌++◌, ℕ, true, List, length, Option, Result, Ok, Err, IfSome}
-use Rattle.std.specs.Io.KnownBytes.{Appends, Consumes}
+use Rattle.std.specs.Io.KnownBytes.{Appends, Consumes, IsAtEnd}
 use Rattle.rcu_text.specs.Lines.{cut_of, lines_of, lines_read}
 use Rattle.rcu_text.specs.Streams.{Incoming, Outgoing}
 use Rattle.rcu_text.specs.declared.line_loop.StreamFault.{StreamFault}
@@ -17,13 +17,15 @@ abbrev pub ends_of : Incoming → Outgoing → Ends
 ends_of reader writer = record { reader = reader; writer = writer }
 
 -- an answer to the lines was written
-pub record Answered (IsText : List (List ℕ) → List ℕ → Type 0) (lines : List (List ℕ)) (old new : Option (List ℕ)) : Type 0 where
+pub record Answered (IsText : List (List ℕ) → List ℕ → Type 0) (lines : List (List ℕ))
+    (old new : Option (List ℕ)) : Type 0 where
   pub text : List ℕ
   pub answer : IsText lines text
   pub out : Appends old new text
 
 -- a beginning of an answer to a front of the lines was written
-pub record BrokenOff (IsText : List (List ℕ) → List ℕ → Type 0) (lines : List (List ℕ)) (old new : Option (List ℕ)) : Type 0 where
+pub record BrokenOff (IsText : List (List ℕ) → List ℕ → Type 0) (lines : List (List ℕ))
+    (old new : Option (List ℕ)) : Type 0 where
   pub front : List (List ℕ)
   pub later : List (List ℕ)
   pub split : lines ≡ front ++ later
@@ -32,8 +34,16 @@ pub record BrokenOff (IsText : List (List ℕ) → List ℕ → Type 0) (lines :
   pub answer : IsText front (written ++ unwritten)
   pub out : Appends old new written
 
--- all lines that were there to read are answered
+-- a beginning of this text was written
+pub record BegunToWrite (text : List ℕ) (old new : Option (List ℕ)) : Type 0 where
+  pub written : List ℕ
+  pub unwritten : List ℕ
+  pub split : text ≡ written ++ unwritten
+  pub out : Appends old new written
+
+-- the input was read to its end, and all its lines are answered
 pub record Finished (IsText : List (List ℕ) → List ℕ → Type 0) (old new : Ends) : Type 0 where
+  pub read_whole : IsAtEnd new.reader.remaining
   pub answered : IfSome old.reader.remaining (λ bytes. Answered IsText (lines_of bytes) old.writer.taken new.writer.taken)
   pub read_sound : new.reader.failed ≡ old.reader.failed
   pub write_sound : new.writer.failed ≡ old.writer.failed
@@ -44,7 +54,7 @@ pub record StoppedReading (IsText : List (List ℕ) → List ℕ → Type 0) (ol
   pub bytes : List ℕ
   pub read : Consumes old.reader.remaining new.reader.remaining bytes
   pub answered : Answered IsText (cut_of bytes).ended old.writer.taken new.writer.taken
-  pub failed : IfSome old.reader.remaining (λ all. length all < 2 ^ 64 - 1 → new.reader.failed ≡ true)
+  pub failed : length bytes < 2 ^ 64 - 1 → new.reader.failed ≡ true
   pub write_sound : new.writer.failed ≡ old.writer.failed
 
 -- a write failed, in an answer to a front of the lines that were read whole

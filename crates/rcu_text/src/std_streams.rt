@@ -1,5 +1,5 @@
 //! Readers and writers of std, as sources and sinks.
-ghost use Rattle.std.specs.Prelude.{◌≡◌, false, true, IfOk, IsErr, OnErr};
+ghost use Rattle.std.specs.Prelude.{◌≡◌, ◌<◌, ◌≤◌, false, true, IfOk, IsErr, OnErr};
 
 use crate::streams::{Failed, Sink, Source};
 use std::io;
@@ -46,14 +46,17 @@ impl<S> Marked<S> {
         stream
     }
 
-    /// What the stream answered, an error as a failure that is kept in mind.
-    fn judge(&mut self, answer: io::Result<usize>) -> Result<usize, Failed>
-        ensures ok { IfOk answer (λ n. (result ≡ Ok n) × (self.new ≡ self.old)) }
+    /// What the stream answered to a call that has to move at least so many bytes: an error, and a
+    /// lesser count, as a failure that is kept in mind.
+    fn judge(&mut self, answer: io::Result<usize>, least: usize) -> Result<usize, Failed>
+        ensures moved { IfOk answer (λ n. least ≤ n → (result ≡ Ok n) × (self.new ≡ self.old)) }
+        ensures short { IfOk answer (λ n. n < least
+            → IsErr result × (self.new ≡ (self.old.0, true))) }
         ensures err { OnErr answer (IsErr result × (self.new ≡ (self.old.0, true))) }
     {
         match answer {
-            Ok(count) => Ok(count),
-            Err(_) => {
+            Ok(count) if count >= least => Ok(count),
+            _ => {
                 self.has_failed = true;
                 Err(Failed)
             }
@@ -70,7 +73,7 @@ impl<S: Read> Source for Marked<S> {
 
     fn read(&mut self, buf: &mut [u8]) -> Result<usize, Failed> {
         let answer = self.stream.read(buf);
-        self.judge(answer)
+        self.judge(answer, 0)
     }
 }
 
@@ -83,11 +86,7 @@ impl<S: Write> Sink for Marked<S> {
 
     fn write(&mut self, bytes: &[u8]) -> Result<usize, Failed> {
         let answer = self.stream.write(bytes);
-        if !bytes.is_empty() && matches!(&answer, Ok(0)) {
-            self.has_failed = true;
-            return Err(Failed);
-        }
-        self.judge(answer)
+        self.judge(answer, bytes.len().min(1))
     }
 }
 

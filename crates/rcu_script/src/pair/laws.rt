@@ -1,12 +1,15 @@
 //! What the definitions say of the lines of a pair.
-ghost use Rattle.std.specs.Prelude.{◌≡◌, ◌++◌, ℕ, List, codes};
+ghost use Rattle.std.specs.Prelude.{◌≡◌, ◌++◌, ℕ, List, Some, codes};
 ghost use Rattle.rcu_report.specs.History.{AreAlike, Represents};
 ghost use Rattle.rcu_core.specs.Replies.{Size};
+ghost use Rattle.rcu_text.specs.Lines.{lines_of};
+ghost use Rattle.rcu_text.specs.Runs.{BegunToWrite, Ends, StoppedReading, StoppedWriting};
 ghost use Rattle.rcu_script.specs.PairHistory.{calls_of};
 ghost use Rattle.rcu_script.specs.PairState.{pair_at};
-ghost use Rattle.rcu_script.specs.PairTexts.{IsPairText, pair_after, same_text};
+ghost use Rattle.rcu_script.specs.PairTexts.{IsPairText, pair_after, pair_replies, same_text};
 
 use rcu_report::laws::{equally_heard_replicas_await_the_same, replica_is_as_its_history_says};
+use rcu_text::laws::lines_read_whole_come_first;
 
 /// After any lines each replica is as the history of its accepted calls says: it awaits the start
 /// set less those heard since.
@@ -36,3 +39,18 @@ pub fn the_right_text_of_earlier_lines_comes_first()
         → IsPairText size lines text
         → (rest : List ℕ) × IsPairText size (lines ++ later) (text ++ rest) }
 {}
+
+/// What was written where a stream failed begins the right text of the whole input, wherever the
+/// reader would have gone on.
+pub fn what_was_written_begins_the_right_text()
+    ensures read { (size : Size) (all : List ℕ) (old new : Ends)
+        → StoppedReading (IsPairText size) old new → old.reader.remaining ≡ Some all
+        → BegunToWrite (pair_replies (pair_at size) (lines_of all))
+        old.writer.taken new.writer.taken }
+    ensures write { (size : Size) (all : List ℕ) (old new : Ends)
+        → StoppedWriting (IsPairText size) old new → old.reader.remaining ≡ Some all
+        → BegunToWrite (pair_replies (pair_at size) (lines_of all))
+        old.writer.taken new.writer.taken }
+{
+    lines_read_whole_come_first();
+}

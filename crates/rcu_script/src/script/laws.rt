@@ -6,6 +6,8 @@ ghost use Rattle.rcu_core.specs.Callbacks.{since, times_handed_out};
 ghost use Rattle.rcu_core.specs.History.{History, section};
 ghost use Rattle.rcu_core.specs.Replies.{Size};
 ghost use Rattle.rcu_core.specs.Runs.{IsLegalRun, Run, history, takes};
+ghost use Rattle.rcu_text.specs.Lines.{lines_of};
+ghost use Rattle.rcu_text.specs.Runs.{BegunToWrite, Ends, StoppedReading, StoppedWriting};
 ghost use Rattle.rcu_script.specs.ScriptAnswers.{Answers, IsAnswer, replies, wants_memory};
 ghost use Rattle.rcu_script.specs.ScriptRuns.{AnswersInTurn, LegalRunFrom, LegalRunTo};
 ghost use Rattle.rcu_script.specs.ScriptLines.{asked_by};
@@ -18,7 +20,7 @@ use rcu_core::laws::{
 };
 use rcu_core::reply::Reply;
 use rcu_text::Line;
-use rcu_text::laws::lines_are_pieces;
+use rcu_text::laws::{lines_are_pieces, lines_read_whole_come_first};
 
 /// What a script answered is a legal run: one leads to the history that the answers end at, and
 /// where another one led to the history that they began at, one that goes on from it. So each law
@@ -56,6 +58,21 @@ pub fn the_right_text_of_earlier_lines_comes_first()
         → IsAnswer size lines text → wants_memory text ≡ false
         → (rest : List ℕ) × (replies size [] (lines ++ later) ≡ text ++ rest) }
 {}
+
+/// What was written where a stream failed begins the right text of the whole input, wherever the
+/// reader would have gone on, where no line that the text answers was refused memory.
+pub fn what_was_written_begins_the_right_text()
+    ensures read { (size : Size) (all : List ℕ) (old new : Ends)
+        (stopped : StoppedReading (IsAnswer size) old new) → old.reader.remaining ≡ Some all
+        → wants_memory stopped.answered.text ≡ false
+        → BegunToWrite (replies size [] (lines_of all)) old.writer.taken new.writer.taken }
+    ensures write { (size : Size) (all : List ℕ) (old new : Ends)
+        (stopped : StoppedWriting (IsAnswer size) old new) → old.reader.remaining ≡ Some all
+        → wants_memory (stopped.broken.written ++ stopped.broken.unwritten) ≡ false
+        → BegunToWrite (replies size [] (lines_of all)) old.writer.taken new.writer.taken }
+{
+    lines_read_whole_come_first();
+}
 
 /// A text answers lines and later ones just where it answers them in turn: wherever the lines are
 /// cut, the text is cut too, at the history between them.

@@ -1,18 +1,16 @@
-//! A reader and a writer over memory that pass bytes in pieces, and fail after so many; and all
-//! rows through them.
+//! A reader and a writer over memory that pass bytes in pieces, and fail after so many.
 ghost use Rattle.std.specs.Prelude.{◌≡◌, Some, false, ◌<◌};
 
-use crate::RunFault;
-use crate::tests::pair::rows::PAIR_ROWS;
-use crate::tests::row::ALL;
-use crate::tests::script::rows::ROWS;
+use crate::tests::row::Owed;
 use arrayvec::ArrayVec;
 use rcu_text::{Failed, Sink, Source};
+use std::cell::Cell;
 
 /// How many bytes a writer has room for.
-const ROOM: usize = 16_384;
+pub const ROOM: usize = 16_384;
 
-/// Gives bytes in pieces, and fails once it gave so many.
+/// Gives bytes in pieces, and fails once it gave so many. It watches the writer: at each read this
+/// one has to have taken the replies to the lines that were given whole, and nothing else.
 #[derive(Drop)]
 pub struct Slow<'a> {
     /// What it will give from here on, if it doesn't fail.
@@ -22,12 +20,23 @@ pub struct Slow<'a> {
     /// How many bytes it gives before it fails.
     left: usize,
     has_failed: bool,
+    /// What is owed to the lines that it gave.
+    owed: Owed<'a>,
+    /// How many bytes the writer took.
+    taken: &'a Cell<usize>,
+    is_misread: bool,
     ghost some: { 0 < piece },
 }
 
 impl<'a> Slow<'a> {
     /// Gives these bytes in pieces, and fails after the first of them.
-    pub fn failing_after(bytes: &'a [u8], piece: usize, left: usize) -> Slow<'a>
+    pub fn failing_after(
+        bytes: &'a [u8],
+        piece: usize,
+        left: usize,
+        owed: Owed<'a>,
+        taken: &'a Cell<usize>,
+    ) -> Slow<'a>
         requires { 0 < piece }
         ensures { result.has_failed ≡ false }
     {
@@ -36,7 +45,16 @@ impl<'a> Slow<'a> {
             piece,
             left,
             has_failed: false,
+            owed,
+            taken,
+            is_misread: false,
         }
+    }
+
+    /// Whether it was read after it had failed, or while the writer had not taken just what was
+    /// owed.
+    pub fn is_misread(&self) -> bool {
+        self.is_misread
     }
 }
 
@@ -48,6 +66,9 @@ impl Source for Slow<'_> {
     }
 
     fn read(&mut self, buf: &mut [u8]) -> Result<usize, Failed> {
+        if self.has_failed || self.taken.get() != self.owed.length() {
+            self.is_misread = true;
+        }
         if self.left == 0 {
             self.has_failed = true;
             return Err(Failed);
@@ -58,6 +79,7 @@ impl Source for Slow<'_> {
             .min(self.rest.len())
             .min(buf.len());
         let (front, rest) = self.rest.split_at(n);
+        self.owed.pass(front);
         buf[..n].copy_from_slice(front);
         self.rest = rest;
         self.left -= n;
@@ -67,26 +89,22 @@ impl Source for Slow<'_> {
 
 /// Takes bytes in pieces, and fails once it took so many, or has no room for more.
 #[derive(Drop)]
-pub struct Narrow {
+pub struct Narrow<'a> {
     bytes: ArrayVec<u8, ROOM>,
     /// The most that it takes at once.
     piece: usize,
     /// How many bytes it takes before it fails.
     left: usize,
     has_failed: bool,
+    /// How many bytes it took, for who watches it.
+    taken: &'a Cell<usize>,
+    is_miswritten: bool,
     ghost some: { 0 < piece },
 }
 
-impl Narrow {
-    /// Takes bytes in pieces, and never fails.
-    pub fn new(piece: usize) -> Narrow
-        requires { 0 < piece }
-    {
-        Narrow::failing_after(piece, usize::MAX)
-    }
-
+impl<'a> Narrow<'a> {
     /// Takes so many bytes in pieces, and then fails.
-    pub fn failing_after(piece: usize, left: usize) -> Narrow
+    pub fn failing_after(piece: usize, left: usize, taken: &'a Cell<usize>) -> Narrow<'a>
         requires { 0 < piece }
         ensures { result.has_failed ≡ false }
     {
@@ -95,16 +113,23 @@ impl Narrow {
             piece,
             left,
             has_failed: false,
+            taken,
+            is_miswritten: false,
         }
     }
 
+    /// Whether it was written to after it had failed.
+    pub fn is_miswritten(&self) -> bool {
+        self.is_miswritten
+    }
+
     /// What it took.
-    pub fn as_slice(&self) -> &[u8] {
-        self.bytes.as_slice()
+    pub fn into_bytes(self) -> ArrayVec<u8, ROOM> {
+        self.bytes
     }
 }
 
-impl Sink for Narrow {
+impl Sink for Narrow<'_> {
     ghost outgoing = { λ s. record { taken = Some s.bytes.items; failed = s.has_failed } };
 
     fn has_failed(&self) -> bool {
@@ -112,6 +137,9 @@ impl Sink for Narrow {
     }
 
     fn write(&mut self, bytes: &[u8]) -> Result<usize, Failed> {
+        if self.has_failed {
+            self.is_miswritten = true;
+        }
         let n = self.piece.min(self.left).min(bytes.len());
         let is_stuck = self.left == 0;
         if is_stuck
@@ -124,49 +152,7 @@ impl Sink for Narrow {
             return Err(Failed);
         }
         self.left -= n;
+        self.taken.set(self.bytes.len());
         Ok(n)
-    }
-}
-
-#[test]
-fn rows_whole_and_byte_by_byte(rt: HostRuntime) {
-    for row in ROWS.iter().chain(&PAIR_ROWS) {
-        for piece in [ALL, 1] {
-            assert!(rt;
-                row.is_answered(rt.alloc(), piece),
-                "{}, {piece} at once",
-                row.name
-            );
-        }
-    }
-}
-
-/// Where a read fails, the lines that were read whole are answered, and nothing else.
-#[test]
-fn failed_reads(rt: HostRuntime) {
-    for row in ROWS.iter().chain(&PAIR_ROWS) {
-        for gives in 0..row.lines.len().saturating_add(1) {
-            let streams = (gives % 5 + 1, gives, ALL);
-            let holds = row.comes_to(
-                rt.alloc(),
-                streams,
-                &Err(RunFault::Read),
-                row.replies_within(gives),
-            );
-            assert!(rt; holds, "{}, read failed after {gives}", row.name);
-        }
-    }
-}
-
-/// Where a write fails, what was written is a beginning of the replies.
-#[test]
-fn failed_writes(rt: HostRuntime) {
-    for row in ROWS.iter().chain(&PAIR_ROWS) {
-        for takes in 0..row.replies.len() {
-            let streams = (takes % 5 + 1, ALL, takes);
-            let written = row.replies.split_at(takes).0;
-            let holds = row.comes_to(rt.alloc(), streams, &Err(RunFault::Write), written);
-            assert!(rt; holds, "{}, write failed after {takes}", row.name);
-        }
     }
 }

@@ -129,3 +129,31 @@ fn refused_openings(rt: HostRuntime) {
         );
     }
 }
+
+/// Two replicas open with one processor, and with as many as four levels of both their trees hold,
+/// at the least and at the greatest last number.
+#[test]
+fn full_openings(rt: HostRuntime) {
+    for (fanouts, second, cpus, last) in [
+        ((64, 64), (2, 2), 1, 4),
+        ((2, 2), (2, 3), 16, FAR),
+        ((2, 3), (4, 4), 54, 4),
+        ((4, 4), (64, 64), 256, FAR),
+        ((16, 64), (64, 64), 4096, 4),
+    ] {
+        let row = Row {
+            name: "full",
+            fanouts,
+            second: Some(second),
+            cpus,
+            last,
+            lines: b"b begin 0\nb report 0 1\nb end\nsame\n",
+            replies: b"begun 1 awaits 1\nlast\nended 4\nsame\n",
+        };
+        let holds = row.is_answered(rt.alloc(), ALL);
+        assert!(rt;
+            holds,
+            "{fanouts:?} and {second:?}, {cpus} processors, last {last}"
+        );
+    }
+}
