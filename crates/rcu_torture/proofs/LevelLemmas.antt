@@ -1,5 +1,6 @@
 -- A subcommand whose options have numbers: where a parse of its words has no fault, they do.
-use Rattle.std.proofs.Common.{◌≡◌, ◌&&◌, ◌||◌, not, ℕ, Bool, true, false, List, [], ◌∷◌, fold, Option, Some, None}
+use Rattle.std.proofs.Common.{◌≡◌, ◌≤◌, ◌<◌, ◌^◌, ◌&&◌, ◌||◌, arith, not, ℕ, Bool, true, false, List, [], ◌∷◌, fold}
+use Rattle.std.proofs.Common.{Option, Some, None}
 use Rattle.std.proofs.Common.{is_some, refl, sym, ap, lit<, if◌then◌else◌, true≢false}
 use Rattle.std.specs.Prelude.{pos}
 use Rattle.std.specs.List.{find, list_any}
@@ -17,39 +18,39 @@ use Rattle.clap.specs.declared.builder.value_parser.ValueParser.TheVariants as v
 use Rattle.clap.proofs.CallerReads.{signed_reads}
 use Rattle.clap.proofs.ValueTestLemmas.{accepts-Accepts}
 use Rattle.rcu_torture.specs.CommandLine.{u32_max, u64_max}
-use Rattle.rcu_torture.proofs.GetterLemmas.{number_at_most, reads_back, value}
-use Rattle.rcu_torture.proofs.RowLemmas.{AllKeep, AllRead, IsNumber, default_reads, found_keeps}
+use Rattle.rcu_torture.proofs.GetterLemmas.{narrowed, number_at_most, number_within, reads_back, value}
+use Rattle.rcu_torture.proofs.RowLemmas.{AllKeep, AllRead, IsNumber, Range, default_reads, found_keeps}
 use Rattle.rcu_torture.proofs.WalkLemmas.{first_none, next_none, settles, walks}
 
 -- ---- any subcommand whose options have numbers
 
-module _ (most_of : Text → Option ℕ) where
+module _ (range_of : Text → Option Range) where
   -- the defaults are numbers that their options may have
   abbrev pub AllDefault : List Rule → Type 0
   AllDefault [] = Unit {0}
   AllDefault (a ∷ rest) = ((v : Text) (vs : List Text) → a.defaults ≡ v ∷ vs
-      → IsNumber most_of (most_of a.id) (reading_by a) (v ∷ vs)) × AllDefault rest
+      → IsNumber range_of (range_of a.id) (reading_by a) (v ∷ vs)) × AllDefault rest
 
   -- rows stay numbers when defaults join them
-  defaults_read : (rules : List Rule) (rows : List Row) → AllDefault rules → AllRead most_of rows
-      → AllRead most_of (fold with_default rows rules)
+  defaults_read : (rules : List Rule) (rows : List Row) → AllDefault rules → AllRead range_of rows
+      → AllRead range_of (fold with_default rows rules)
   defaults_read [] rows d h = h
-  defaults_read (a ∷ rest) rows d h = defaults_read rest (with_default rows a) d.1 (default_reads most_of a rows d.0 h)
+  defaults_read (a ∷ rest) rows d h = defaults_read rest (with_default rows a) d.1 (default_reads range_of a rows d.0 h)
 
   -- a parse that has no fault gives each option a number that it may have
-  pub rows_read : (s : Shape) (words : List Text) → AllKeep most_of s.rules → AllDefault s.rules
+  pub rows_read : (s : Shape) (words : List Text) → AllKeep range_of s.rules → AllDefault s.rules
       → level_fault s [] nothing_held words false [] ≡ []
-      → AllRead most_of (rows_after s.rules [] words)
+      → AllRead range_of (rows_after s.rules [] words)
   rows_read s words keep defaults e =
       let end : Held = (walk s.rules [] nothing_held words).held in
       let later = next_none (walk_fault s [] (walk_from nothing_held) words) _ e in
       let kept : (p : Rule → Bool) (a : Rule) (values : List Text) (rows : List Row) → find p s.rules ≡ Some a
       → use_fault s.args_override_self a values rows ≡ []
-      → AllRead most_of rows → AllRead most_of (used a values rows) =
+      → AllRead range_of rows → AllRead range_of (used a values rows) =
       λ p a values rows is none good.
-      found_keeps most_of s.rules keep p a is s.args_override_self values rows none good in
-      let walked = walks s [] (AllRead most_of) kept words (walk_from nothing_held) (first_none _ _ e) tt in
-      let at_end = settles s [] (AllRead most_of) kept end
+      found_keeps range_of s.rules keep p a is s.args_override_self values rows none good in
+      let walked = walks s [] (AllRead range_of) kept words (walk_from nothing_held) (first_none _ _ e) tt in
+      let at_end = settles s [] (AllRead range_of) kept end
       (first_none (settle_fault s.rules s.args_override_self end) _ later) walked in
       defaults_read s.rules (settled s.rules end).rows defaults at_end
 
@@ -93,16 +94,18 @@ all_given s words e =
 
 -- ---- numbers of 32 and of 64 bits
 
--- what the parser of a u32 takes is read as a u32
-pub u32_takes : (text : Text) → accepts false (vp.Signed (pos 0) (pos u32_max)) text ≡ true
-    → is_some (number_at_most u32_max (without_minus text)) ≡ true
-u32_takes text e =
-    let passed : IsSignedIn (pos 0) (pos u32_max) text = accepts-Accepts false
-    (vp.Signed (pos 0) (pos u32_max)) text e in
-    let read = signed_reads ℕ (λ t r. ParsesUnsigned 32 10 t r) 32 0 u32_max text
+-- what the parser of a u32 in a range takes is read as one of that range
+pub within_takes : (least most : ℕ) → most ≤ u32_max → (text : Text)
+    → accepts false (vp.Signed (pos least) (pos most)) text ≡ true
+    → is_some (number_within least most (without_minus text)) ≡ true
+within_takes least most fits text e =
+    let passed : IsSignedIn (pos least) (pos most) text = accepts-Accepts false
+    (vp.Signed (pos least) (pos most)) text e in
+    let small : most < 2 ^ 32 = omega arith in
+    let read = signed_reads ℕ (λ t r. ParsesUnsigned 32 10 t r) 32 least most text
     (number_at_most u32_max (without_minus text)) (reads_back 32 u32_max refl (lit< tt) (without_minus text))
-    (λ t r h. h) (lit< tt) passed in
-    ap (λ (o : Option ℕ). is_some o) read.1
+    (λ t r h. h) small passed in
+    narrowed least most u32_max (without_minus text) read.0 read.1 read.2 read.3
 
 -- what the parser of a u64 takes is read as a u64
 pub u64_takes : (text : Text) → accepts false (vp.Unsigned 0 u64_max) text ≡ true

@@ -9,7 +9,7 @@ use Rattle.std.proofs.lemmas.Slice.Eq.{bytes_eq-Decides}
 use Rattle.clap.specs.Values.{read_as}
 use Rattle.clap.specs.ValueTests.{accepts}
 use Rattle.clap.specs.Walk.{Row, Rule, Text, default_rows, has_row, more_values, reading_by, row_text, stronger, used}
-use Rattle.clap.specs.Walk.{with_default, with_values, without}
+use Rattle.clap.specs.Walk.{one_of, with_default, with_values, without}
 use Rattle.clap.specs.Simple.{filled, help_rule, new_rule}
 use Rattle.clap.specs.Takes.{is_given}
 use Rattle.clap.specs.Kinds.{range_kinds, value_kinds}
@@ -21,8 +21,7 @@ use Rattle.clap.specs.declared.builder.value_parser.Reading.{Reading}
 use Rattle.clap.specs.declared.builder.value_parser.ValueParser.{ValueParser}
 use Rattle.clap.specs.declared.parser.matches.ValueSource.{ValueSource}
 use Rattle.clap.specs.declared.parser.matches.ValueSource.TheVariants.{CommandLine, DefaultValue}
-use Rattle.rcu_torture.specs.CommandLine.{number_up_to}
-use Rattle.rcu_torture.proofs.GetterLemmas.{number_at_most}
+use Rattle.rcu_torture.proofs.GetterLemmas.{number_within}
 use Rattle.rcu_torture.proofs.WalkLemmas.{first_none, next_none}
 
 -- an option `--name` after building
@@ -34,17 +33,20 @@ option_rule name parser required defaults = filled (record (new_rule name) {
   defaults = defaults;
 })
 
--- `most_of` gives the names of options the greatest number that each may have
-module _ (most_of : Text → Option ℕ) where
+-- the least and the greatest number that an option may have
+abbrev pub Range : Type 0
+Range = ℕ × ℕ
+
+-- `range_of` gives the names of options the range of each
+module _ (range_of : Text → Option Range) where
   -- the first of the values is a number that the option may have
-  abbrev pub IsNumber : Option ℕ → Reading → List Text → Type 0
-  IsNumber most how values =
-      IfSome most (λ n. is_some (option_and_then (number_at_most n) (option_map (read_as how) (slice_get values 0)))
-      ≡ true)
+  abbrev pub IsNumber : Option Range → Reading → List Text → Type 0
+  IsNumber range how values = IfSome range (λ r.
+      is_some (option_and_then (number_within r.0 r.1) (option_map (read_as how) (slice_get values 0))) ≡ true)
 
   -- so of a row
   abbrev pub Reads : Row → Type 0
-  Reads r = IsNumber (most_of r.id) r.reading r.values
+  Reads r = IsNumber (range_of r.id) r.reading r.values
 
   -- so of each row
   abbrev pub AllRead : List Row → Type 0
@@ -52,8 +54,8 @@ module _ (most_of : Text → Option ℕ) where
   AllRead (r ∷ rs) = Reads r × AllRead rs
 
   -- further values leave the first one
-  more_values_read : (most : Option ℕ) (how : Reading) (values more : List Text) → IsNumber most how values
-      → IsNumber most how (values ++ more)
+  more_values_read : (range : Option Range) (how : Reading) (values more : List Text) → IsNumber range how values
+      → IsNumber range how (values ++ more)
   more_values_read None how values more h = tt
   more_values_read (Some n) how [] more h = absurd (true≢false (sym h))
   more_values_read (Some n) how (v ∷ vs) more h = h
@@ -69,13 +71,13 @@ module _ (most_of : Text → Option ℕ) where
 
   -- also where a row gets values
   values_read : (id : Text) (how : Reading) (source : ValueSource) (values : List Text) (rows : List Row)
-      → IsNumber (most_of id) how values → AllRead rows → AllRead (with_values id how source values rows)
+      → IsNumber (range_of id) how values → AllRead rows → AllRead (with_values id how source values rows)
   values_read id how source values [] new h = (new, tt)
   values_read id how source values (r ∷ rs) new h = go (values_read id how source values rs new h.1) (bytes_eq r.id id)
     where
       go : AllRead (with_values id how source values rs) → (b : Bool)
           → AllRead (if b then more_values source values r ++ rs else r ∷ with_values id how source values rs)
-      go rest true = (more_values_read (most_of r.id) r.reading r.values values h.0, h.1)
+      go rest true = (more_values_read (range_of r.id) r.reading r.values values h.0, h.1)
       go rest false = (h.0, rest)
 
   -- a use of the rule that has no fault keeps that
@@ -86,7 +88,7 @@ module _ (most_of : Text → Option ℕ) where
   -- the parser takes only numbers that the option may have
   abbrev pub Takes : Text → ValueParser → Type 0
   Takes name parser = (text : Text) → accepts false parser text ≡ true
-      → IsNumber (most_of name) (reading_of parser) (text ∷ [])
+      → IsNumber (range_of name) (reading_of parser) (text ∷ [])
 
   -- a value that has no fault passes its parser
   accepted : (parser : ValueParser) (text : Text) → value_kinds false parser text ≡ []
@@ -107,7 +109,7 @@ module _ (most_of : Text → Option ℕ) where
       let fits : set_fault again a (v ∷ vs) rows ≡ [] = next_none (range_kinds 1 1 (length (v ∷ vs))) _ e in
       let passed : values_fault a (v ∷ vs) ≡ [] = next_none (repeat_fault again name rows) _ fits in
       let first : value_kinds false parser v ≡ [] = first_none _ (values_fault a vs) passed in
-      let number : IsNumber (most_of name) (reading_of parser) (v ∷ vs) = more_values_read (most_of name)
+      let number : IsNumber (range_of name) (reading_of parser) (v ∷ vs) = more_values_read (range_of name)
       (reading_of parser) (v ∷ []) vs (takes v (accepted parser v first)) in
       values_read name (reading_of parser) CommandLine (v ∷ vs) (without name rows) number (without_reads name rows h)
 
@@ -137,7 +139,7 @@ module _ (most_of : Text → Option ℕ) where
 
   -- an option that was not used gets its default
   pub default_reads : (a : Rule) (rows : List Row)
-      → ((v : Text) (vs : List Text) → a.defaults ≡ v ∷ vs → IsNumber (most_of a.id) (reading_by a) (v ∷ vs))
+      → ((v : Text) (vs : List Text) → a.defaults ≡ v ∷ vs → IsNumber (range_of a.id) (reading_by a) (v ∷ vs))
       → AllRead rows → AllRead (with_default rows a)
   default_reads a rows new h = go (has_row a.id rows)
     where
@@ -151,22 +153,24 @@ module _ (most_of : Text → Option ℕ) where
 
   -- ---- the numbers
 
-  -- an option with a row has a number
-  pub number_there : (most : ℕ) (id : Text) (rows : List Row) → most_of id ≡ Some most → AllRead rows
+  -- an option with a row has a number of its range
+  pub number_there : (range : Range) (id : Text) (rows : List Row) → range_of id ≡ Some range → AllRead rows
       → is_some (find (λ r. bytes_eq r.id id) rows) ≡ true
-      → is_some (number_up_to most rows id) ≡ true
-  number_there most id [] is h there = absurd (true≢false (sym there))
-  number_there most id (r ∷ rs) is h there = go (bytes_eq r.id id) refl (number_there most id rs is h.1) there
+      → is_some (option_and_then (number_within range.0 range.1) (one_of id rows)) ≡ true
+  number_there range id [] is h there = absurd (true≢false (sym there))
+  number_there range id (r ∷ rs) is h there = go (bytes_eq r.id id) refl (number_there range id rs is h.1) there
     where
-      here : bytes_eq r.id id ≡ true → is_some (option_and_then (number_at_most most) (row_text r)) ≡ true
+      here : bytes_eq r.id id ≡ true
+          → is_some (option_and_then (number_within range.0 range.1) (row_text r)) ≡ true
       here same =
           let e : r.id ≡ id = (bytes_eq-Decides r.id id).0 same in
-          subst (λ (m : Option ℕ). IsNumber m r.reading r.values) (ap most_of e ∙ is) h.0
+          subst (λ (m : Option Range). IsNumber m r.reading r.values) (ap range_of e ∙ is) h.0
 
       go : (b : Bool) → bytes_eq r.id id ≡ b
-          → (is_some (find (λ x. bytes_eq x.id id) rs) ≡ true → is_some (number_up_to most rs id) ≡ true)
+          → (is_some (find (λ x. bytes_eq x.id id) rs) ≡ true
+          → is_some (option_and_then (number_within range.0 range.1) (one_of id rs)) ≡ true)
           → is_some (if b then Some r else find (λ x. bytes_eq x.id id) rs) ≡ true
-          → is_some (option_and_then (number_at_most most)
+          → is_some (option_and_then (number_within range.0 range.1)
           (option_and_then row_text (if b then Some r else find (λ x. bytes_eq x.id id) rs))) ≡ true
       go true same later t = here same
       go false same later t = later t

@@ -1,19 +1,18 @@
 //! The command line.
-ghost use Rattle.std.specs.Prelude.{◌≡◌, false, Some, IfOk, map, MatchOption};
-ghost use Rattle.clap.specs.Words.{FailsBy, app_of, fault_of, found_of, rows_of, rule_of};
-ghost use Rattle.clap.specs.Words.{subcommand_of, subcommand_rows_of};
-ghost use Rattle.clap.specs.declared.builder.command.Command.TheViews.{out-Command as fields_of};
-ghost use Rattle.rcu_torture.specs.CommandLine.{HasNoOrder, HasNoSetup, IsOrderOf, IsSetupOf};
-ghost use Rattle.rcu_torture.specs.CommandLine.{last_rule, number_up_to, pair, rcu};
-ghost use Rattle.rcu_torture.specs.CommandLine.{rcu_with_script, required_rule, script};
-ghost use Rattle.rcu_torture.specs.CommandLine.{shapes, u32_max, u32_rule, u64_max};
+ghost use Rattle.std.specs.Prelude.{◌≡◌, Some, IfOk, map, MatchOption};
+ghost use Rattle.clap.specs.Words.{FailsBy, fault_of, found_of, rows_of, subcommand_of};
+ghost use Rattle.clap.specs.Words.{subcommand_rows_of};
+ghost use Rattle.rcu_torture.specs.CommandLine.{HasNoOrder, HasNoSetup, HasNoTorture, IsOrderOf};
+ghost use Rattle.rcu_torture.specs.CommandLine.{IsSetupOf, IsTortureOf, IsWithinLimits};
+ghost use Rattle.rcu_torture.specs.CommandLine.{number_up_to, rcu, u32_max, u64_max};
 
-use clap::{Arg, ArgMatches, Command, Error, value_parser};
+mod grammar;
+mod help;
+
+use clap::{ArgMatches, Error};
+use grammar::rcu_command;
 use rcu_script::Setup;
-use std::alloc::{AllocError, Global};
-
-/// The greatest last number, 2^62.
-const GREATEST_LAST: &str = "4611686018427387904";
+use std::alloc::Global;
 
 /// What the program is to do.
 #[derive(Clone, Copy, Debug, PartialEq, Eq)]
@@ -22,6 +21,9 @@ pub enum Order {
     Script(Setup),
     /// Answer the lines of two replicas.
     Pair(Setup),
+    /// Work the running engine: with so many workers (1..=64), for so many rounds (1..=10,000), by
+    /// this seed.
+    Torture(u32, u32, u64),
 }
 
 /// Reads the program's arguments, which are the words without its name.
@@ -31,86 +33,11 @@ pub enum Order {
 /// comes only then. The cost is `clap`'s, for each word.
 pub fn read_command<'a>(alloc: Global, words: &'a [&'a str]) -> Result<Order, Error>
     ensures order { IfOk result (IsOrderOf (subcommand_of rcu (map (λ word. word.now) words.now))) }
+    ensures limits { IfOk result IsWithinLimits }
     ensures fails { FailsBy (fault_of rcu (map (λ word. word.now) words.now)) result }
 {
     let matches = rcu_command(alloc)?.try_get_matches_from(words)?;
     Ok(order_of(&matches).unwrap())
-}
-
-fn rcu_command<'a>(alloc: Global) -> Result<Command<'a>, AllocError>
-    ensures { IfOk result (λ command. app_of command ≡ rcu) }
-{
-    rcu_with_script(alloc)?.subcommand(pair_command(alloc)?)
-}
-
-fn rcu_with_script<'a>(alloc: Global) -> Result<Command<'a>, AllocError>
-    ensures { IfOk result (λ command. app_of command ≡ rcu_with_script) }
-{
-    Command::new(alloc, "rcu")
-        .about("Drives a grace-period engine")
-        .bin_name("rcu")?
-        .no_binary_name(true)
-        .subcommand_required(true)
-        .disable_help_subcommand(true)
-        .subcommand(script_command(alloc)?)
-}
-
-fn script_command<'a>(alloc: Global) -> Result<Command<'a>, AllocError>
-    ensures app { IfOk result (λ command. app_of command ≡ script) }
-    ensures local { IfOk result (λ command. (fields_of command).has_globals ≡ false) }
-{
-    Command::new(alloc, "script")
-        .about("Answers the script on standard input")
-        .arg(u32_option(alloc, "leaf", "Processors that a leaf holds"))?
-        .arg(u32_option(alloc, "inner", "Children that an inner node holds"))?
-        .arg(u32_option(alloc, "cpus", "Number of processors"))?
-        .arg(last_option(alloc))
-}
-
-fn pair_command<'a>(alloc: Global) -> Result<Command<'a>, AllocError>
-    ensures app { IfOk result (λ command. app_of command ≡ pair) }
-    ensures local { IfOk result (λ command. (fields_of command).has_globals ≡ false) }
-{
-    shapes_command(alloc)?
-        .arg(u32_option(alloc, "cpus", "Number of processors of each replica"))?
-        .arg(last_option(alloc))
-}
-
-/// The subcommand `pair` with the options of both shapes.
-fn shapes_command<'a>(alloc: Global) -> Result<Command<'a>, AllocError>
-    ensures app { IfOk result (λ command. app_of command ≡ shapes) }
-    ensures local { IfOk result (λ command. (fields_of command).has_globals ≡ false) }
-{
-    Command::new(alloc, "pair")
-        .about("Answers the lines of two replicas on standard input")
-        .arg(u32_option(alloc, "leaf", "Processors that a leaf of a holds"))?
-        .arg(u32_option(alloc, "inner", "Children that an inner node of a holds"))?
-        .arg(u32_option(alloc, "leaf2", "Processors that a leaf of b holds"))?
-        .arg(u32_option(alloc, "inner2", "Children that an inner node of b holds"))
-}
-
-/// A required option whose value is a u32.
-fn u32_option<'a>(alloc: Global, name: &'a str, help: &'a str) -> Arg<'a>
-    ensures rule { rule_of result ≡ required_rule (u32_rule name.entry.now) }
-    ensures local { result.global ≡ false }
-{
-    Arg::new(alloc, name)
-        .long(name)
-        .help(help)
-        .required(true)
-        .value_parser(value_parser!(u32))
-}
-
-/// The option `--last`, which may be left out.
-fn last_option<'a>(alloc: Global) -> Arg<'a>
-    ensures rule { rule_of result ≡ last_rule }
-    ensures local { result.global ≡ false }
-{
-    Arg::new(alloc, "last")
-        .long("last")
-        .help("Number at which no further grace period begins")
-        .value_parser(value_parser!(u64))
-        .default_value(GREATEST_LAST)
 }
 
 /// What the subcommand that `clap` met orders.
@@ -131,6 +58,10 @@ fn order_named(name: &str, matches: &ArgMatches<'_>) -> Option<Order>
     match name {
         "script" => Some(Order::Script(setup_of(matches, "leaf", "inner")?)),
         "pair" => Some(Order::Pair(setup_of(matches, "leaf2", "inner2")?)),
+        "torture" => {
+            let (workers, rounds, seed) = torture_of(matches)?;
+            Some(Order::Torture(workers, rounds, seed))
+        }
         _ => None,
     }
 }
@@ -149,6 +80,16 @@ fn setup_of(matches: &ArgMatches<'_>, leaf2: &str, inner2: &str) -> Option<Setup
         cpus: u32_of(matches, "cpus")?,
         last: u64_of(matches, "last")?,
     })
+}
+
+/// The workers, the rounds and the seed that the options give.
+fn torture_of(matches: &ArgMatches<'_>) -> Option<(u32, u32, u64)>
+    ensures { let rows = rows_of (found_of matches.now) in
+        MatchOption result (HasNoTorture rows) (λ run. IsTortureOf rows run.0 run.1 run.2) }
+{
+    let workers = u32_of(matches, "workers")?;
+    let rounds = u32_of(matches, "rounds")?;
+    Some((workers, rounds, u64_of(matches, "seed")?))
 }
 
 /// The option's number, where its text is read as one.

@@ -74,6 +74,31 @@ fn a_pair_has_its_options_numbers(rt: HostRuntime) {
     assert_eq!(rt; read(rt.alloc(), &words), Ok(Order::Pair(setup)));
 }
 
+#[test]
+fn a_torture_has_its_options_numbers(rt: HostRuntime) {
+    let alloc = rt.alloc();
+    let words = [
+        "torture",
+        "--workers",
+        "4",
+        "--rounds",
+        "100",
+        "--seed",
+        "1",
+    ];
+    assert_eq!(rt; read(alloc, &words), Ok(Order::Torture(4, 100, 1)));
+    let words = [
+        "torture",
+        "--seed=18446744073709551615",
+        "--rounds=10000",
+        "--workers=64",
+    ];
+    assert_eq!(rt;
+        read(alloc, &words),
+        Ok(Order::Torture(64, 10_000, 18446744073709551615))
+    );
+}
+
 /// Compares why words are refused.
 fn are_refused(rt: &impl Abort, alloc: Global, lines: &[(&[&str], ErrorKind)]) {
     for (place, (words, kind)) in lines.iter().enumerate() {
@@ -89,6 +114,57 @@ fn other_commands_are_refused(rt: HostRuntime) {
         (&["help"], ErrorKind::InvalidSubcommand),
         (&["--help"], ErrorKind::DisplayHelp),
         (&["script", "--help"], ErrorKind::DisplayHelp),
+    ];
+    are_refused(&rt, rt.alloc(), &lines);
+}
+
+#[test]
+fn a_torture_out_of_range_is_refused(rt: HostRuntime) {
+    let lines: [(&[&str], ErrorKind); 5] = [
+        (
+            &["torture", "--workers=0", "--rounds=1", "--seed=1"],
+            ErrorKind::ValueValidation,
+        ),
+        (
+            &["torture", "--workers=65", "--rounds=1", "--seed=1"],
+            ErrorKind::ValueValidation,
+        ),
+        (
+            &["torture", "--workers=1", "--rounds=0", "--seed=1"],
+            ErrorKind::ValueValidation,
+        ),
+        (
+            &["torture", "--workers=1", "--rounds=10001", "--seed=1"],
+            ErrorKind::ValueValidation,
+        ),
+        (
+            &[
+                "torture",
+                "--workers=1",
+                "--rounds=1",
+                "--seed=18446744073709551616",
+            ],
+            ErrorKind::ValueValidation,
+        ),
+    ];
+    are_refused(&rt, rt.alloc(), &lines);
+}
+
+#[test]
+fn a_torture_wants_each_option(rt: HostRuntime) {
+    let lines: [(&[&str], ErrorKind); 3] = [
+        (
+            &["torture", "--workers=1", "--rounds=1"],
+            ErrorKind::MissingRequiredArgument,
+        ),
+        (
+            &["torture", "--workers=1", "--seed=1"],
+            ErrorKind::MissingRequiredArgument,
+        ),
+        (
+            &["torture", "--rounds=1", "--seed=1"],
+            ErrorKind::MissingRequiredArgument,
+        ),
     ];
     are_refused(&rt, rt.alloc(), &lines);
 }

@@ -1,0 +1,10 @@
+use Rattle.std.proofs.Common.{◌≡◌}
+use Rattle.rcu_torture.specs.Ledger.{IsOfRounds}
+use Rattle.rcu_torture.proofs.torture.job.Job.run_rounds.Given as goal
+
+abbrev pub invariant-loop-round : goal.invariant-loop-round
+invariant-loop-round g l = record {
+  share : IsOfRounds l.round l.share;
+  worker : l.self.worker ≡ l.initial.self.worker;
+  plan : l.self.plan ≡ l.initial.self.plan;
+}

@@ -1,0 +1,26 @@
+-- A worker of a torture run, and what its words say.
+use Rattle.std.specs.Prelude.{ℕ, ◌+◌, ◌*◌, ◌/◌, ◌%◌, ◌==◌, ◌&&◌, Bool, not}
+use Rattle.rand_pcg.specs.Lcg.{Lcg}
+use Rattle.rcu_live.specs.CpuSeat.{Seated}
+use Rattle.rcu_live.specs.Watcher.{Watching}
+use Rattle.rcu_torture.specs.declared.torture.job.Plan.{Plan}
+
+-- a worker: its number, the plan of its run, the generator of its words, the seat of its processor and its watcher
+pub record Worker : Type 0 where
+  pub worker : ℕ
+  pub plan : Plan
+  pub draws : Lcg
+  pub seat : Seated (Unit {0})
+  pub watcher : Watching (Unit {0})
+
+-- the id of the callback that a worker queues in a round of so many
+abbrev pub id_of : ℕ → ℕ → ℕ → ℕ
+id_of worker rounds round = worker * rounds + round
+
+-- the processor, of so many, at which a worker looks in a round, by its word
+abbrev pub other_by : ℕ → ℕ → ℕ
+other_by workers word = word / 8 % workers
+
+-- whether a worker goes offline and online again in a round, by its word: processor 0 never does
+abbrev pub leaves_by : ℕ → ℕ → Bool
+leaves_by worker word = not (worker == 0) && (word / 4 % 8 == 0)

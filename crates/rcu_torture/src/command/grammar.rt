@@ -1,0 +1,162 @@
+//! The command line, as `clap` is told of it.
+ghost use Rattle.std.specs.Prelude.{◌≡◌, false, IfOk, codes};
+ghost use Rattle.clap.specs.Words.{app_of, new_app, rule_of};
+ghost use Rattle.clap.specs.declared.builder.command.Command.TheViews.{out-Command as fields_of};
+ghost use Rattle.rcu_torture.specs.CommandLine.{any_u32, last_rule, number_rule, option_rule};
+ghost use Rattle.rcu_torture.specs.CommandLine.{pair, rcu, rcu_with_pair, rcu_with_script};
+ghost use Rattle.rcu_torture.specs.CommandLine.{required_rule, script, shapes, torture};
+ghost use Rattle.rcu_torture.specs.CommandLine.{u32_from_1_to};
+ghost use Rattle.rcu_torture.specs.Ledger.{most_rounds, most_workers};
+
+use crate::command::help;
+use clap::builder::ValueParser;
+use clap::{Arg, Command, value_parser};
+use std::alloc::{AllocError, Global};
+
+/// The greatest last number, 2^62.
+const GREATEST_LAST: &str = "4611686018427387904";
+
+/// The program with its subcommands.
+pub fn rcu_command<'a>(alloc: Global) -> Result<Command<'a>, AllocError>
+    ensures { IfOk result (λ command. app_of command ≡ rcu) }
+{
+    rcu_with_pair(alloc)?.subcommand(torture_command(alloc)?)
+}
+
+fn rcu_with_pair<'a>(alloc: Global) -> Result<Command<'a>, AllocError>
+    ensures { IfOk result (λ command. app_of command ≡ rcu_with_pair) }
+{
+    rcu_with_script(alloc)?.subcommand(pair_command(alloc)?)
+}
+
+fn rcu_with_script<'a>(alloc: Global) -> Result<Command<'a>, AllocError>
+    ensures { IfOk result (λ command. app_of command ≡ rcu_with_script) }
+{
+    let about = "Drives a grace-period engine of read-copy-update (RCU)";
+    described(alloc, "rcu", about, help::PROGRAM)
+        .bin_name("rcu")?
+        .no_binary_name(true)
+        .subcommand_required(true)
+        .disable_help_subcommand(true)
+        .subcommand(script_command(alloc)?)
+}
+
+fn script_command<'a>(alloc: Global) -> Result<Command<'a>, AllocError>
+    ensures app { IfOk result (λ command. app_of command ≡ script) }
+    ensures local { IfOk result (λ command. (fields_of command).has_globals ≡ false) }
+{
+    let about = "Answers a script on standard input, a line for each event";
+    described(alloc, "script", about, help::SCRIPT)
+        .arg(u32_option(alloc, "leaf", "Processors that a leaf of the tree holds"))?
+        .arg(u32_option(alloc, "inner", "Children that an inner node holds"))?
+        .arg(u32_option(alloc, "cpus", "Number of processors, from 1"))?
+        .arg(last_option(alloc))
+}
+
+fn pair_command<'a>(alloc: Global) -> Result<Command<'a>, AllocError>
+    ensures app { IfOk result (λ command. app_of command ≡ pair) }
+    ensures local { IfOk result (λ command. (fields_of command).has_globals ≡ false) }
+{
+    shapes_command(alloc)?
+        .arg(u32_option(
+            alloc,
+            "cpus",
+            "Number of processors of each replica, from 1",
+        ))?
+        .arg(last_option(alloc))
+}
+
+/// The subcommand `pair` with the options of both shapes.
+fn shapes_command<'a>(alloc: Global) -> Result<Command<'a>, AllocError>
+    ensures app { IfOk result (λ command. app_of command ≡ shapes) }
+    ensures local { IfOk result (λ command. (fields_of command).has_globals ≡ false) }
+{
+    let about = "Answers the lines of two replicas, a and b, on standard input";
+    described(alloc, "pair", about, help::PAIR)
+        .arg(u32_option(alloc, "leaf", "Processors that a leaf of a holds"))?
+        .arg(u32_option(alloc, "inner", "Children that an inner node of a holds"))?
+        .arg(u32_option(alloc, "leaf2", "Processors that a leaf of b holds"))?
+        .arg(u32_option(alloc, "inner2", "Children that an inner node of b holds"))
+}
+
+fn torture_command<'a>(alloc: Global) -> Result<Command<'a>, AllocError>
+    ensures app { IfOk result (λ command. app_of command ≡ torture) }
+    ensures local { IfOk result (λ command. (fields_of command).has_globals ≡ false) }
+{
+    let about = "Works the engine for threads hard, and prints what came of it";
+    let seed = "Seed of the workers' random words";
+    described(alloc, "torture", about, help::TORTURE)
+        .arg(workers_option(alloc))?
+        .arg(rounds_option(alloc))?
+        .arg(required_option(alloc, "seed", seed, value_parser!(u64)))
+}
+
+/// A command of this name, and what help says of it: before its options, and behind them.
+fn described<'a>(alloc: Global, name: &'a str, about: &'a str, more: &'a str) -> Command<'a>
+    ensures app { app_of result ≡ new_app name.entry.now }
+    ensures local { (fields_of result).has_globals ≡ false }
+{
+    Command::new(alloc, name).about(about).after_help(more)
+}
+
+/// The option `--workers`, whose range is that of a torture run.
+fn workers_option<'a>(alloc: Global) -> Arg<'a>
+    ensures rule { rule_of result
+        ≡ required_rule (number_rule (codes "workers") (u32_from_1_to most_workers)) }
+    ensures local { result.global ≡ false }
+{
+    let range = value_parser!(u32).range(1..=64);
+    required_option(alloc, "workers", "Number of workers, 1 to 64", range)
+}
+
+/// The same of `--rounds`.
+fn rounds_option<'a>(alloc: Global) -> Arg<'a>
+    ensures rule { rule_of result
+        ≡ required_rule (number_rule (codes "rounds") (u32_from_1_to most_rounds)) }
+    ensures local { result.global ≡ false }
+{
+    let range = value_parser!(u32).range(1..=10_000);
+    required_option(alloc, "rounds", "Rounds of each worker, 1 to 10000", range)
+}
+
+/// A required option whose value is a u32.
+fn u32_option<'a>(alloc: Global, name: &'a str, help: &'a str) -> Arg<'a>
+    ensures rule { rule_of result ≡ required_rule (number_rule name.entry.now any_u32) }
+    ensures local { result.global ≡ false }
+{
+    required_option(alloc, name, help, value_parser!(u32))
+}
+
+/// A required option whose value this parser takes.
+fn required_option<'a>(
+    alloc: Global,
+    name: &'a str,
+    help: &'a str,
+    parser: ValueParser<'a>,
+) -> Arg<'a>
+    ensures rule { rule_of result ≡ required_rule (number_rule name.entry.now parser.entry) }
+    ensures local { result.global ≡ false }
+{
+    option(alloc, name, help)
+        .required(true)
+        .value_parser(parser)
+}
+
+/// The option `--last`, which may be left out.
+fn last_option<'a>(alloc: Global) -> Arg<'a>
+    ensures rule { rule_of result ≡ last_rule }
+    ensures local { result.global ≡ false }
+{
+    let help = "Number at which no further grace period begins, a multiple of 4 in 4..=2^62";
+    option(alloc, "last", help)
+        .value_parser(value_parser!(u64))
+        .default_value(GREATEST_LAST)
+}
+
+/// The option `--name`, whose value is a number.
+fn option<'a>(alloc: Global, name: &'a str, help: &'a str) -> Arg<'a>
+    ensures rule { rule_of result ≡ option_rule name.entry.now }
+    ensures local { result.global ≡ false }
+{
+    Arg::new(alloc, name).long(name).help(help)
+}

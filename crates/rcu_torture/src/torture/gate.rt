@@ -1,0 +1,29 @@
+//! Gates, which a test sets before workers.
+ghost use Rattle.std.specs.Prelude.{◌≡◌, true};
+
+/// A place in a worker's round, inside its read section.
+#[derive(Clone, Copy, Debug, PartialEq, Eq)]
+pub enum Point {
+    /// The section is open, and no cookie is taken yet.
+    Entered,
+    /// The cookie was taken and polled.
+    Polled,
+}
+
+/// Whether workers go on, by which a test holds them up or ends them early.
+pub trait Gate: Sync {
+    /// Whether the worker goes on at this place of its round. Where it does not, it closes its
+    /// section and ends, which is no fault.
+    fn pass(&self, worker: u32, point: Point) -> bool;
+}
+
+/// The gate of the program, which answers true at once.
+pub struct Open;
+
+impl Gate for Open {
+    fn pass(&self, _worker: u32, _point: Point) -> bool
+        ensures { result ≡ true }
+    {
+        true
+    }
+}
