@@ -1,0 +1,20 @@
+use Rattle.std.proofs.Common.{Some, ap}
+use Rattle.rcu_live.proofs.RowLemmas.{one_more}
+use Rattle.rcu_c.proofs.Dealt.{one_came, others_left}
+use Rattle.rcu_c.proofs.opening.make_seats.Goals as goal
+
+pub make_seat-requires-clause-seat : goal.make_seat-requires-clause-seat
+make_seat-requires-clause-seat c =
+    one_came _ c.loop-cpu.cpu c.args.cpus _ _ _ c.loop-cpu-test.true c.loop-cpu.invariant.1 c.in-Some.ensures.items
+
+pub make_seat-requires-clause-watcher : goal.make_seat-requires-clause-watcher
+make_seat-requires-clause-watcher c =
+    one_came _ c.loop-cpu.cpu c.args.cpus _ _ _ c.loop-cpu-test.true c.loop-cpu.invariant.2 c.in-Some-next.ensures.items
+
+pub loop-cpu-preserved : goal.loop-cpu-preserved
+loop-cpu-preserved c = (
+  one_more _ c.loop-cpu.cpu _ _ _ c.loop-cpu.invariant.0 c.in_ok-push.ensures.items
+      (ap (λ s. Some s) c.in_ok-make_seat.ensures),
+  others_left _ c.loop-cpu.cpu c.args.cpus _ _ _ c.loop-cpu-test.true c.loop-cpu.invariant.1 c.in-Some.ensures.items,
+  others_left _ c.loop-cpu.cpu c.args.cpus _ _ _ c.loop-cpu-test.true c.loop-cpu.invariant.2 c.in-Some-next.ensures.items,
+)

@@ -1,0 +1,44 @@
+-- The numbers that C is told.
+use Rattle.std.specs.Prelude.{ℕ, Option, Some, None}
+use Rattle.rcu_seq.specs.Fault.{fault_number}
+use Rattle.rcu_seq.specs.declared.fault.Fault.{Fault}
+use Rattle.rcu_barrier.specs.declared.barrier_state.BarrierState.{BarrierState}
+use Rattle.rcu_barrier.specs.declared.barrier_state.BarrierState.TheVariants as state
+use Rattle.rcu_barrier.specs.declared.visit.Visit.{Visit}
+use Rattle.rcu_barrier.specs.declared.visit.Visit.TheVariants as visit
+use Rattle.rcu_core.specs.declared.turned.Turned.{Turned}
+use Rattle.rcu_core.specs.declared.turned.Turned.TheVariants as turned
+use Rattle.rcu_live.specs.declared.collected.Collected.{Collected}
+use Rattle.rcu_live.specs.declared.collected.Collected.TheVariants as collected
+use Rattle.rcu_c.specs.declared.periods.Turn.{Turn}
+
+-- the number of a refusal, 0 where there is none
+abbrev pub number_for : Option Fault → ℕ
+number_for None = 0
+number_for (Some fault) = fault_number fault
+
+-- what a turn did: 0 nothing, 1 begun, 2 ended, 3 waiting; how many are awaited; and a number
+abbrev pub turn_of : Turned → Turn
+turn_of turned.Nothing = record { what = 0; awaited = 0; number = 0 }
+turn_of (turned.Begun number awaited) = record { what = 1; awaited = awaited; number = number }
+turn_of (turned.Ended number) = record { what = 2; awaited = 0; number = number }
+turn_of (turned.Waiting awaited) = record { what = 3; awaited = awaited; number = 0 }
+
+-- what a collection found
+abbrev pub collected_number : Collected → ℕ
+collected_number collected.Idle = 0
+collected_number collected.NotYet = 1
+collected_number collected.Taken = 2
+collected_number collected.Last = 3
+collected_number collected.Repeat = 4
+
+-- what a barrier's visit did
+abbrev pub visit_number : Visit → ℕ
+visit_number visit.Marked = 0
+visit_number visit.Empty = 1
+visit_number visit.Already = 2
+
+-- how many markers and unvisited processors a barrier waits for
+abbrev pub left_of : BarrierState → ℕ
+left_of state.Done = 0
+left_of (state.Waits n) = n

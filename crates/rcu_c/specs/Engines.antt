@@ -1,0 +1,28 @@
+-- The engine of an open handle, as contracts see it.
+use Rattle.std.specs.Prelude.{ℕ, List, map, Option, Some, None, slice_index_or, slice_set}
+use Rattle.std.specs.List.{range_with_len}
+use Rattle.atomic_table.specs.Seated.{TableId}
+use Rattle.rcu_seq.specs.Numbers.{Number}
+use Rattle.rcu_live.specs.Engine.{Locked}
+use Rattle.rcu_live.specs.Opening.{engine_at_first}
+use Rattle.rcu_c.specs.Seats.{Seat, seat_at_first}
+
+-- the running engine, and the seat of each processor, none where it is dealt
+pub record EngineAndSeats : Type 0 where
+  pub engine : Locked (Unit {0}) ℕ
+  pub seats : List (Option Seat)
+
+-- the seat of a processor, where there is such a processor and its seat is not dealt yet
+abbrev pub seat_at : EngineAndSeats → ℕ → Option Seat
+seat_at o cpu = slice_index_or o.seats cpu None
+
+-- the seat of a processor is dealt
+abbrev pub without_seat : EngineAndSeats → ℕ → EngineAndSeats
+without_seat o cpu = record o { seats = slice_set o.seats cpu None }
+
+-- an engine of so many processors as it is opened, with a seat for each
+abbrev pub opened_at_first : TableId → ℕ → Number → EngineAndSeats
+opened_at_first table cpus last = record {
+  engine = engine_at_first table cpus last tt;
+  seats = map (λ cpu. Some (seat_at_first table cpus cpu)) (range_with_len 0 cpus);
+}

@@ -1,0 +1,6 @@
+pub mod Answers
+pub mod Engines
+pub mod Handle
+pub mod Holding
+pub mod Lending
+pub mod Seats

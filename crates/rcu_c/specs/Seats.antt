@@ -1,0 +1,21 @@
+-- The seat of an open handle, as contracts see it.
+use Rattle.std.specs.Prelude.{ℕ}
+use Rattle.atomic_table.specs.Seated.{TableId}
+use Rattle.rcu_live.specs.Board.{Object}
+use Rattle.rcu_live.specs.CpuSeat.{Seated, at_first}
+use Rattle.rcu_live.specs.Watcher.{Watching, watcher_at_first}
+use Rattle.rcu_live.specs.Words.{base_of}
+
+-- of which object it is, what its processor's seat is, and what its watcher has seen
+pub record Seat : Type 0 where
+  pub object : Object
+  pub cpu : Seated (Unit {0})
+  pub watcher : Watching (Unit {0})
+
+-- the seat of a processor as it is opened
+abbrev pub seat_at_first : TableId → ℕ → ℕ → Seat
+seat_at_first table cpus cpu = record {
+  object = record { table = table; cpus = cpus };
+  cpu = at_first table (base_of cpus) tt cpu;
+  watcher = watcher_at_first table (base_of cpus) tt;
+}

@@ -1,0 +1,129 @@
+//! Callbacks.
+ghost use Rattle.std.specs.Prelude.{◌≡◌, ◌≢◌, ◌<◌, ◌≤◌, All, [], drop, length, map};
+ghost use Rattle.std.specs.Prelude.{take, true};
+ghost use Rattle.rcu_seq.specs.Fault.{fault_number};
+ghost use Rattle.rcu_seq.specs.Numbers.{snapshot};
+ghost use Rattle.rcu_seq.specs.Seq.{number_of};
+ghost use Rattle.rcu_node.specs.CpuSet.{is_in};
+ghost use Rattle.rcu_cblist.specs.SegList.{behind, callbacks, front, take_answer};
+ghost use Rattle.rcu_barrier.specs.Lists.{list_of, most_queued};
+ghost use Rattle.rcu_core.specs.GpState as grace;
+ghost use Rattle.rcu_live.specs.EngineLists.{queue_refusal};
+ghost use Rattle.rcu_c.specs.Holding.{HoldsEngine, engine_of, grace_of, on_grace};
+
+use crate::codes::code;
+use crate::handle::Rcu;
+use rcu_cblist::queued::Queued;
+use rcu_seq::fault::Fault;
+
+/// Queues a value as a callback on a processor, as `Engine::queue`. Writes how many were queued,
+/// which is its place among them.
+///
+/// Faults: 1; 2 where the processor is not online; 15 where 1,000,000 were queued; 16.
+#[unsafe(no_mangle)]
+pub extern "C" fn rcu_queue(rcu: &mut Rcu, cpu: u32, value: u64, place: &mut u64) -> u32
+    requires open { HoldsEngine rcu.old.held }
+    ensures accepted { result ≡ 0 → cpu < (engine_of rcu.old.held).cpus }
+    ensures online { result ≡ 0 → is_in (grace_of rcu.old.held).processors.online cpu ≡ true }
+    ensures room { result ≡ 0 → (grace_of rcu.old.held).lists.queued < most_queued }
+    ensures state { result ≡ 0 → rcu.new.held ≡
+        on_grace (λ g. grace.after_queue g cpu value) rcu.old.held }
+    ensures place { result ≡ 0 → place.new ≡ (grace_of rcu.new.held).lists.queued }
+    ensures bad { (engine_of rcu.old.held).cpus ≤ cpu → result ≡ 1 }
+    ensures fault { cpu < (engine_of rcu.old.held).cpus → result ≢ 0 →
+        result ≡ fault_number (queue_refusal (engine_of rcu.old.held) cpu) }
+    ensures refused { result ≢ 0 → rcu.new.held ≡ rcu.old.held }
+    ensures refused_place { result ≢ 0 → place.new ≡ place.old }
+{
+    let engine = &mut rcu.engine().engine;
+    if cpu >= engine.cpus() {
+        return code(Fault::BadCpu);
+    }
+    match engine.queue(cpu, value) {
+        Ok(count) => {
+            *place = count;
+            0
+        }
+        Err(refused) => code(refused.fault),
+    }
+}
+
+/// Brings the marks of a processor's callbacks up to the number, as `Engine::tend`. Writes how many
+/// are done and how many wait then.
+///
+/// Fault 1: there is no such processor.
+#[unsafe(no_mangle)]
+pub extern "C" fn rcu_tend(rcu: &mut Rcu, cpu: u32, done: &mut u64, waiting: &mut u64) -> u32
+    requires open { HoldsEngine rcu.old.held }
+    ensures fault { result ≢ 0 → result ≡ 1 }
+    ensures accepted { result ≡ 0 → cpu < (engine_of rcu.old.held).cpus }
+    ensures bad { result ≢ 0 → (engine_of rcu.old.held).cpus ≤ cpu }
+    ensures state { result ≡ 0 → rcu.new.held ≡
+        on_grace (λ g. grace.after_tend g cpu) rcu.old.held }
+    ensures done { result ≡ 0 → done.new ≡
+        length (callbacks (front (list_of (grace_of rcu.new.held).lists cpu))) }
+    ensures waiting { result ≡ 0 → waiting.new ≡
+        length (callbacks (behind (list_of (grace_of rcu.new.held).lists cpu))) }
+    ensures refused { result ≢ 0 → rcu.new.held ≡ rcu.old.held }
+    ensures refused_done { result ≢ 0 → done.new ≡ done.old }
+    ensures refused_waiting { result ≢ 0 → waiting.new ≡ waiting.old }
+{
+    match rcu.engine().engine.tend(cpu) {
+        Ok((ready, waits)) => {
+            *done = ready;
+            *waiting = waits;
+            0
+        }
+        Err(fault) => code(fault),
+    }
+}
+
+/// Writes the values of callbacks to the head of a buffer that has room for them, and leaves its
+/// rest as it is.
+fn put_values(calls: &[Queued<u64>], values: &mut [u64])
+    requires { length calls.now ≤ length values.old }
+    ensures head { take (length calls.now) values.new ≡ map (λ call. call.value) calls.now }
+    ensures rest { drop (length calls.now) values.new ≡ drop (length calls.now) values.old }
+{
+    for i in 0..calls.len() {
+        values[i] = calls[i].value;
+    }
+}
+
+/// Hands out the first callbacks of a processor's done part, at most as many as the buffer has room
+/// for, as `Engine::run`: writes their values to its head, and how many there are. The rest of the
+/// buffer stays. A full grace period has passed since the queueing of each.
+///
+/// Faults: 1; 16, only where it has a callback to hand out.
+#[unsafe(no_mangle)]
+pub extern "C" fn rcu_run(rcu: &mut Rcu, cpu: u32, values: &mut [u64], count: &mut u64) -> u32
+    requires open { HoldsEngine rcu.old.held }
+    ensures accepted { result ≡ 0 → cpu < (engine_of rcu.old.held).cpus }
+    ensures state { result ≡ 0 → rcu.new.held ≡
+        on_grace (λ g. grace.after_run g cpu (length values.old)) rcu.old.held }
+    ensures count { result ≡ 0 → count.new ≡
+        length (take_answer (list_of (grace_of rcu.old.held).lists cpu) (length values.old)) }
+    ensures values { result ≡ 0 → take count.new values.new ≡ map (λ call. call.value)
+        (take_answer (list_of (grace_of rcu.old.held).lists cpu) (length values.old)) }
+    ensures rest { result ≡ 0 → drop count.new values.new ≡ drop count.new values.old }
+    ensures most { result ≡ 0 → count.new ≤ length values.old }
+    ensures waited { result ≡ 0 →
+        All (λ call. snapshot call.at ≤ number_of (grace_of rcu.old.held).seq)
+        (take_answer (list_of (grace_of rcu.old.held).lists cpu) (length values.old)) }
+    ensures bad { (engine_of rcu.old.held).cpus ≤ cpu → result ≡ 1 }
+    ensures fault { result ≢ 0 → cpu < (engine_of rcu.old.held).cpus → result ≡ 16 }
+    ensures memory { result ≡ 16 →
+        take_answer (list_of (grace_of rcu.old.held).lists cpu) (length values.old) ≢ [] }
+    ensures refused { result ≢ 0 → rcu.new.held ≡ rcu.old.held }
+    ensures refused_values { result ≢ 0 → values.new ≡ values.old }
+    ensures refused_count { result ≢ 0 → count.new ≡ count.old }
+{
+    match rcu.engine().engine.run(cpu, values.len() as u64) {
+        Ok(ran) => {
+            put_values(ran.calls.as_slice(), values);
+            *count = ran.calls.len() as u64;
+            0
+        }
+        Err(fault) => code(fault),
+    }
+}

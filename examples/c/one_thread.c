@@ -1,0 +1,100 @@
+/* One thread drives an engine with two processors: a grace period, callbacks and a barrier. */
+#include "rcu.h"
+#include <inttypes.h>
+#include <stdio.h>
+#include <stdlib.h>
+
+static rcu_t rcu;
+static rcu_seat_t seats[2];
+
+/* Ends the program where a call answers otherwise than it has to. */
+static void must(const char *call, uint32_t answer, uint32_t wanted) {
+    if (answer != wanted) {
+        printf("%s: %" PRIu32 " and not %" PRIu32 "\n", call, answer, wanted);
+        exit(1);
+    }
+}
+
+/* Both processors pass a quiescent state, and the engine hears of it. */
+static void all_quiet(void) {
+    uint64_t seen;
+    uint32_t found;
+    for (uint32_t cpu = 0; cpu < 2; cpu++) {
+        must("quiesce", rcu_seat_quiesce(&seats[cpu], &seen), 0);
+        must("collect", rcu_collect(&rcu, cpu, &found), 0);
+        printf("processor %" PRIu32 " is quiet: %s\n", cpu,
+               found == RCU_COLLECTED_LAST ? "the last one" : "taken");
+    }
+}
+
+static void open_all(void) {
+    uint64_t last = UINT64_C(1) << 62;
+    must("open for nobody", rcu_open(0, last, &rcu), RCU_TOO_MANY_CPUS);
+    must("open at 3", rcu_open(2, 3, &rcu), RCU_BAD_LAST);
+    must("open", rcu_open(2, last, &rcu), 0);
+    for (uint32_t cpu = 0; cpu < 2; cpu++)
+        must("seat", rcu_seat_open(&rcu, cpu, &seats[cpu]), 0);
+    rcu_seat_t third = {0};
+    must("a seat again", rcu_seat_open(&rcu, 1, &third), RCU_BAD_CPU);
+    must("arrive", rcu_arrive(&rcu, &seats[1]), 0);
+    must("arrive again", rcu_arrive(&rcu, &seats[1]), RCU_ALREADY_ONLINE);
+    printf("open: %" PRIu32 " processors, number %" PRIu64 "\n", rcu_cpus(&rcu), rcu_number(&rcu));
+}
+
+static void a_grace_period(void) {
+    uint64_t number, seen;
+    uint32_t awaited, depth, found;
+    must("enter", rcu_seat_enter(&seats[1], &depth), 0);
+    uint64_t cookie = rcu_seat_take(&seats[0]);
+    must("begin", rcu_begin(&rcu, &number, &awaited), 0);
+    printf("begun %" PRIu64 ", awaits %" PRIu32 "\n", number, awaited);
+    must("begin again", rcu_begin(&rcu, &number, &awaited), RCU_RUNNING);
+    must("quiet inside", rcu_seat_quiesce(&seats[1], &seen), RCU_IN_SECTION);
+    must("collect", rcu_collect(&rcu, 1, &found), 0);
+    printf("processor 1 reads: %s\n", found == RCU_COLLECTED_NOT_YET ? "not yet" : "?");
+    must("exit", rcu_seat_exit(&seats[1], &depth), 0);
+    all_quiet();
+    printf("cookie %" PRIu64 " is %s\n", cookie, rcu_seat_poll(&seats[0], cookie) ? "done" : "not done");
+    must("end", rcu_end(&rcu, &number), 0);
+    printf("ended %" PRIu64 "\n", number);
+    printf("cookie %" PRIu64 " is %s\n", cookie, rcu_seat_poll(&seats[0], cookie) ? "done" : "not done");
+}
+
+static void callbacks(void) {
+    uint64_t place, done, waiting, values[4], count, left, moved;
+    uint32_t did;
+    rcu_turn_t turn;
+    must("queue", rcu_queue(&rcu, 1, 77, &place), 0);
+    must("queue", rcu_queue(&rcu, 1, 78, &place), 0);
+    must("tend", rcu_tend(&rcu, 1, &done, &waiting), 0);
+    printf("queued %" PRIu64 ", waiting %" PRIu64 "\n", place, waiting);
+    must("barrier", rcu_barrier_begin(&rcu), 0);
+    for (uint32_t cpu = 0; cpu < 2; cpu++)
+        must("visit", rcu_barrier_visit(&rcu, cpu, &did), 0);
+    must("turn", rcu_turn(&rcu, &turn), 0);
+    printf("begun %" PRIu64 ", awaits %" PRIu32 "\n", turn.number, turn.awaited);
+    all_quiet();
+    must("turn", rcu_turn(&rcu, &turn), 0);
+    printf("ended %" PRIu64 "\n", turn.number);
+    must("tend", rcu_tend(&rcu, 1, &done, &waiting), 0);
+    must("run", rcu_run(&rcu, 1, values, 1, &count), 0);
+    printf("ran %" PRIu64 ": %" PRIu64 "\n", count, values[0]);
+    must("test", rcu_barrier_test(&rcu, &left), 0);
+    printf("the barrier waits for %" PRIu64 "\n", left);
+    must("depart", rcu_depart(&rcu, &seats[1], &moved), 0);
+    printf("moved %" PRIu64 "\n", moved);
+    must("run", rcu_run(&rcu, 0, values, 4, &count), 0);
+    printf("ran %" PRIu64 ": %" PRIu64 "\n", count, values[0]);
+    must("test", rcu_barrier_test(&rcu, &left), 0);
+    printf("the barrier waits for %" PRIu64 "\n", left);
+}
+
+int main(void) {
+    open_all();
+    a_grace_period();
+    callbacks();
+    rcu_close(rcu);
+    rcu_seat_close(seats[0]);
+    rcu_seat_close(seats[1]);
+    return 0;
+}
