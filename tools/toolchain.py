@@ -37,3 +37,16 @@ def is_newer(made, crate):
         return False
     files = [file for it in [crate, *crate.below()] for file in rtlib.files_of(it.folder)]
     return all(os.path.getmtime(it) < os.path.getmtime(made) for it in files)
+
+
+def is_up_to_date(crate):
+    """Whether the library is built of the files as they are. (`rt ci` leaves no stamp.)"""
+    made, stamp = f"{crate.rlib}/format", f"{os.path.dirname(crate.rlib)}/stamp"
+    if os.path.isfile(stamp) or not os.path.isfile(made):
+        return crate.is_built()
+    return is_newer(made, crate)
+
+
+def build_library(crate):
+    """Builds the library where it is not up to date. Returns whether it stands."""
+    return is_up_to_date(crate) or not crate.build_rlib(["--jobs", "1"], anew=False)
