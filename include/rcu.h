@@ -1,0 +1,225 @@
+/* The proved grace-period engine, for programs in C (C11) and C++ (C++17). docs/C.md says how to
+ * build and link with it, how a program publishes and unlinks its own data, and what is proved.
+ *
+ * What a caller owes, and nothing checks:
+ * - A handle is all zero bits before it is opened, as in `rcu_t rcu = {0};`. One that is open is
+ *   not opened, and never copied, nor read or written otherwise than by these calls. Once it is
+ *   closed it is not used again, unless it is set to zero, and then opened anew.
+ * - One call at a time on each handle, and whatever one thread did to it comes before what the
+ *   next one does: by a lock, by a sequentially consistent atomic, or by starting and joining
+ *   threads. Calls on different handles need no order among them.
+ * - No call is made in a signal handler, nor in the forked child of a process with threads.
+ * - Pointers are not null, even to room for no value; what they point to lies apart from the
+ *   handles and from one another, and is there for the call alone to read and write while it lasts.
+ * - malloc, realloc and free are of one allocator, and align a block to 16 where that divides its
+ *   size, else to the greatest power of two that does.
+ * - "Needs" names what else must hold.
+ *
+ * A call that answers a uint32_t without a note of its own answers 0, or the number of a fault. Of
+ * several faults that hold the first one that its note lists is answered. A refused call leaves its
+ * handles and what its pointers point to as they were; where a note says otherwise, it says what
+ * stays. No call waits for another thread, and only those that list fault 16 take memory.
+ */
+#ifndef RCU_H
+#define RCU_H
+
+#ifdef __cplusplus
+#include <cstddef>
+#include <cstdint>
+extern "C" {
+#else
+#include <stdbool.h>
+#include <stddef.h>
+#include <stdint.h>
+#endif
+
+/* Why a call is refused. */
+enum rcu_fault {
+    RCU_BAD_CPU = 1,         /* there is no such processor, or its seat is dealt */
+    RCU_OFFLINE = 2,         /* the processor is offline */
+    RCU_ALREADY_ONLINE = 3,  /* the processor is online */
+    RCU_IN_SECTION = 4,      /* a read section is open on the processor */
+    RCU_NOT_OPEN = 5,        /* no read section is open on the processor */
+    RCU_NEST_FULL = 6,       /* the read section nests 65,535 deep */
+    RCU_RUNNING = 8,         /* a grace period runs */
+    RCU_IDLE = 9,            /* no grace period runs */
+    RCU_WAITING = 10,        /* a processor is still awaited */
+    RCU_EXHAUSTED = 11,      /* the number is the last one */
+    RCU_BOOT_STAYS = 12,     /* processor 0 never departs */
+    RCU_BARRIER_BUSY = 13,   /* a barrier runs */
+    RCU_NO_BARRIER = 14,     /* no barrier runs */
+    RCU_CALLBACKS_FULL = 15, /* 1,000,000 callbacks were queued since opening */
+    RCU_NO_MEMORY = 16,      /* no memory is left */
+    RCU_TOO_MANY_CPUS = 17,  /* no processor, or more than 4,096 */
+    RCU_BAD_LAST = 19        /* the last number is no multiple of 4 from 4 to 2^62 */
+};
+
+/* The engine, which lies under a lock of the caller's. Handles may pass between threads. */
+typedef struct rcu {
+    unsigned char *at;
+} rcu_t;
+
+/* The seat of one processor, for one thread at a time, beside all other handles. */
+typedef struct rcu_seat {
+    unsigned char *at;
+} rcu_seat_t;
+
+/* What a turn did. */
+enum rcu_turned {
+    RCU_TURN_NOTHING = 0, /* no grace period runs, and none is needed */
+    RCU_TURN_BEGUN = 1,   /* a grace period began */
+    RCU_TURN_ENDED = 2,   /* the grace period ended */
+    RCU_TURN_WAITING = 3  /* it awaits a processor */
+};
+
+typedef struct rcu_turned_to {
+    uint32_t what;    /* an rcu_turned */
+    uint32_t awaited; /* how many processors are awaited, where it began one or waits; else 0 */
+    uint64_t number;  /* the number, where a grace period began or ended; else 0 */
+} rcu_turn_t;
+
+/* What a collection found. */
+enum rcu_collected {
+    RCU_COLLECTED_IDLE = 0,    /* no grace period runs */
+    RCU_COLLECTED_NOT_YET = 1, /* the processor passed no quiescent state in it yet */
+    RCU_COLLECTED_TAKEN = 2,   /* it was awaited, and others still are */
+    RCU_COLLECTED_LAST = 3,    /* it was the only one awaited */
+    RCU_COLLECTED_REPEAT = 4   /* it is not awaited */
+};
+
+/* What a barrier's visit did. */
+enum rcu_visited {
+    RCU_VISIT_MARKED = 0, /* a marker stands behind its callbacks */
+    RCU_VISIT_EMPTY = 1,  /* it has no callback */
+    RCU_VISIT_ALREADY = 2 /* it was visited before */
+};
+
+/* ---- opening and closing */
+
+/* Opens an engine of 1 to 4,096 processors at number 0, of which 0 alone is online. No grace period
+ * begins at `last`, a multiple of 4 from 4 to 2^62. Needs: `rcu` is closed. 17, 19, 16. */
+uint32_t rcu_open(uint32_t cpus, uint64_t last, rcu_t *rcu);
+
+/* Closes an engine, and frees all that it has; values that are still queued are not handed out.
+ * Seats that are open go on, and are closed in turn. Needs: `rcu` is open, under the caller's
+ * lock. */
+void rcu_close(rcu_t rcu);
+
+/* Deals the seat of a processor; each has one. Of processor 0 it is online, of any other offline.
+ * Needs: `rcu` is open, under the caller's lock, and `seat` is closed. 1, 16. */
+uint32_t rcu_seat_open(rcu_t *rcu, uint32_t cpu, rcu_seat_t *seat);
+
+/* Closes a seat, which its engine does not deal again. Its processor stays as it is: one that is
+ * online is awaited by each grace period that begins, for good; so depart first (processor 0
+ * cannot). Needs: `seat` is open. */
+void rcu_seat_close(rcu_seat_t seat);
+
+/* ---- grace periods: `rcu` is open, under the caller's lock */
+
+/* Begins a grace period: it awaits each online processor that has not passed a quiescent state in
+ * it. Writes its number, and how many it awaits. 8, 11. */
+uint32_t rcu_begin(rcu_t *rcu, uint64_t *number, uint32_t *awaited);
+
+/* Ends the grace period. Writes the new number. 9, 10. */
+uint32_t rcu_end(rcu_t *rcu, uint64_t *number);
+
+/* Ends the grace period where nobody is awaited; begins one where none runs and a tended callback
+ * waits for it. Writes what it did. 11. */
+uint32_t rcu_turn(rcu_t *rcu, rcu_turn_t *turn);
+
+/* Looks whether the processor passed a quiescent state in the grace period, or is offline, and then
+ * awaits it no more. Writes an rcu_collected. 1. */
+uint32_t rcu_collect(rcu_t *rcu, uint32_t cpu, uint32_t *found);
+
+/* ---- processors: `rcu` is open, under the caller's lock; `seat` is open, was dealt by it, and is
+ * in no other call */
+
+/* The seat's processor comes online. 3. */
+uint32_t rcu_arrive(rcu_t *rcu, rcu_seat_t *seat);
+
+/* The seat's processor goes offline, and its callbacks move to processor 0. Writes how many. 12, 4,
+ * 2 (where it was offline, and has no callback), 16. At 16 it is offline, and its callbacks stay:
+ * the same call again moves them. */
+uint32_t rcu_depart(rcu_t *rcu, rcu_seat_t *seat, uint64_t *moved);
+
+/* ---- what an engine says of itself: `rcu` is open, under the caller's lock */
+
+/* How many processors it has. */
+uint32_t rcu_cpus(rcu_t *rcu);
+
+/* The number: 4 for each grace period that ended, and 1 more while one runs. */
+uint64_t rcu_number(rcu_t *rcu);
+
+/* Whether a grace period runs. */
+bool rcu_running(rcu_t *rcu);
+
+/* Whether the engine has the processor as online. Needs: cpu < rcu_cpus(rcu). */
+bool rcu_online(rcu_t *rcu, uint32_t cpu);
+
+/* Whether the processor is awaited. Needs: cpu < rcu_cpus(rcu). */
+bool rcu_awaits(rcu_t *rcu, uint32_t cpu);
+
+/* How many processors are awaited. */
+uint32_t rcu_awaited(rcu_t *rcu);
+
+/* A cookie: the number at which a grace period that begins from now on has ended. It asks for none:
+ * somebody begins one (rcu_begin, or rcu_turn where a tended callback waits). */
+uint64_t rcu_take(rcu_t *rcu);
+
+/* Whether the number has reached the cookie's: then each section that was open at the taking has
+ * ended. Of a number that no taking gave nothing is said but that. */
+bool rcu_poll(rcu_t *rcu, uint64_t cookie);
+
+/* ---- callbacks, which are values of 64 bits: `rcu` is open, under the caller's lock */
+
+/* Queues a value on an online processor. Writes how many were queued since opening. 1, 2, 15,
+ * 16. */
+uint32_t rcu_queue(rcu_t *rcu, uint32_t cpu, uint64_t value, uint64_t *place);
+
+/* Sets what the processor's callbacks wait for, and which are done: to be called after queueing, so
+ * that a turn begins a grace period for them, and after its end. Writes how many are done and how
+ * many wait. 1. */
+uint32_t rcu_tend(rcu_t *rcu, uint32_t cpu, uint64_t *done, uint64_t *waiting);
+
+/* Hands out done callbacks of the processor, in order, `room` at most: writes their values from
+ * `values` on, and how many; what lies behind them stays. A full grace period has passed since each
+ * was queued, and none is handed out again. 1, 16 (only where there is one). */
+uint32_t rcu_run(rcu_t *rcu, uint32_t cpu, uint64_t *values, size_t room, uint64_t *count);
+
+/* ---- the barrier over callbacks: `rcu` is open, under the caller's lock */
+
+/* Begins a barrier. 13. */
+uint32_t rcu_barrier_begin(rcu_t *rcu);
+
+/* The barrier visits a processor, as it has to visit each, also those offline. Writes an
+ * rcu_visited. 1, 14, 16 (only where it would mark). */
+uint32_t rcu_barrier_visit(rcu_t *rcu, uint32_t cpu, uint32_t *did);
+
+/* Tests the barrier. Writes how many markers and unvisited processors are left; at 0 it is over,
+ * and each callback that was queued before it began was handed out. 14. */
+uint32_t rcu_barrier_test(rcu_t *rcu, uint64_t *left);
+
+/* ---- a thread by its seat, with no lock, beside all calls on other handles: `seat` is open */
+
+/* The seat's processor. */
+uint32_t rcu_seat_cpu(rcu_seat_t *seat);
+
+/* Opens a read section, or nests one deeper in the open one. Writes the depth. 2, 6. */
+uint32_t rcu_seat_enter(rcu_seat_t *seat, uint32_t *depth);
+
+/* Leaves the innermost section. Writes the depth, 0 where the section closed. 5. */
+uint32_t rcu_seat_exit(rcu_seat_t *seat, uint32_t *depth);
+
+/* Passes a quiescent state: what the thread read before, it uses no more. Writes the number that it
+ * saw. 2, 4. */
+uint32_t rcu_seat_quiesce(rcu_seat_t *seat, uint64_t *number);
+
+/* As rcu_take and rcu_poll, at the number that one load sees, which no later load is below. In a
+ * section or not, online or not. */
+uint64_t rcu_seat_take(rcu_seat_t *seat);
+bool rcu_seat_poll(rcu_seat_t *seat, uint64_t cookie);
+
+#ifdef __cplusplus
+}
+#endif
+#endif
