@@ -29,14 +29,33 @@ module _ (fits : List ℕ → Type 0) (width count : ℕ) where
       h'.written i (record { state = r'.state; words = words }) r'.here k low
       ∙ sym (h.written i (record { state = r.state; words = words }) r.here k low)
 
+  -- the version that a seat reads is the one that the keeper knows in that slot
+  version_of : (table : List ℕ) (homes : Homes (Unit {0})) (xs : Picture Known) (keeper id i shown : ℕ)
+      (who own cpu section : Option ℕ) (slots : List Version) (words : List ℕ) (v : Version)
+      → (h : IsKept fits width count table homes xs) → get_elem? xs keeper ≡ some (who, own, Keeps shown slots)
+      → get_elem? slots i ≡ some v → (r : Reading h.slots section i words)
+      → v ≡ record { state = r.state; words = words }
+  version_of table homes xs keeper id i shown who own cpu section slots words v h kept is r =
+      let k = h.seats keeper who own (Keeps shown slots) kept in
+      some-injective _ _ (sym is ∙ (ap (λ (s : List Version). get_elem? s i) k.1 ∙ r.here))
+
+  pub as_published : (table : List ℕ) (homes : Homes (Unit {0})) (xs : Picture Known) (keeper id i shown : ℕ)
+      (who own cpu section : Option ℕ) (slots : List Version)
+      (words : List ℕ) (v : Version) → IsKept fits width count table homes xs
+      → get_elem? xs keeper ≡ some (who, own, Keeps shown slots)
+      → get_elem? xs id ≡ some (cpu, section, Reads i words) → get_elem? slots i ≡ some v → v.words ≡ words
+  as_published table homes xs keeper id i shown who own cpu section slots words v h kept at is =
+      let r : Reading h.slots section i words = h.seats id cpu section (Reads i words) at in
+      ap (λ (x : Version). x.words)
+      (version_of table homes xs keeper id i shown who own cpu section slots words v h kept is r)
+
   pub not_loaded : (table : List ℕ) (homes : Homes (Unit {0})) (xs : Picture Known) (keeper id i shown : ℕ)
       (who own cpu section : Option ℕ) (slots : List Version)
       (words : List ℕ) (v : Version) → IsKept fits width count table homes xs
       → get_elem? xs keeper ≡ some (who, own, Keeps shown slots)
       → get_elem? xs id ≡ some (cpu, section, Reads i words) → get_elem? slots i ≡ some v → v.state ≢ Free
   not_loaded table homes xs keeper id i shown who own cpu section slots words v h kept at is free =
-      let k = h.seats keeper who own (Keeps shown slots) kept in
       let r : Reading h.slots section i words = h.seats id cpu section (Reads i words) at in
       let same : v ≡ record { state = r.state; words = words } =
-      some-injective _ _ (sym is ∙ (ap (λ (s : List Version). get_elem? s i) k.1 ∙ r.here)) in
+      version_of table homes xs keeper id i shown who own cpu section slots words v h kept is r in
       may_not r.opened r.state r.may (sym (ap (λ (x : Version). x.state) same) ∙ free)

@@ -1,8 +1,10 @@
 //! The keeper of a cell: it publishes versions, and looks which slots are free.
 ghost use Rattle.std.specs.Prelude.{◌≡◌, ◌<◌, ◌≤◌, ◌^◌, IfOk, IfSome, None, OnErr, map};
 ghost use Rattle.rcu_live.specs.View.{IsOfWatcher};
+ghost use Rattle.rcu_live.specs.Watcher.{after_use};
 ghost use Rattle.rcu_cell.specs.Cell.{IsWatcherOf};
 ghost use Rattle.rcu_cell.specs.Keeper.{IsFirstFree, IsFull, after_age, after_update};
+ghost use Rattle.rcu_cell.specs.Steps.{IsClaimed};
 ghost use Rattle.rcu_cell.specs.Versions.{aged_state, first_states, slot_in, slots_in};
 ghost use Rattle.rcu_cell.specs.declared.known.Known.TheVariants.{Opens};
 
@@ -78,7 +80,9 @@ impl<const W: usize, const N: usize> Keeper<W, N> {
         requires opens { seat.view.client ≡ Opens }
         requires some { 0 < N }
         requires states { states.items ≡ first_states N }
-        ensures { IsWatcherOf cell.now result }
+        ensures cell { IsWatcherOf cell.now result }
+        ensures same { result ≡ after_use seat result.view.client }
+        ensures claimed { IsClaimed F.fits W N result.view.client }
     {
         let mut seat = seat;
         cell.claim(&mut seat);

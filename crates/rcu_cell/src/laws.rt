@@ -33,3 +33,14 @@ pub fn free_slots_are_not_loaded<F: Fits, const W: usize, const N: usize>()
         get_elem? xs seat ≡ some (cpu, section, Reads slot words) →
         get_elem? slots slot ≡ some v → v.state ≢ Free }
 {}
+
+/// A section reads a slot as it was published: the words that it has of the slot are those that the
+/// keeper knows there.
+pub fn loaded_versions_are_as_published<F: Fits, const W: usize, const N: usize>()
+    ensures { (table : List ℕ) (homes : Homes (Unit {0})) (xs : Picture Known)
+        (keeper seat slot shown : ℕ) (who own cpu section : Option ℕ) (slots : List Version)
+        (words : List ℕ) (v : Version) → IsKept F.fits W N table homes xs →
+        get_elem? xs keeper ≡ some (who, own, Keeps shown slots) →
+        get_elem? xs seat ≡ some (cpu, section, Reads slot words) →
+        get_elem? slots slot ≡ some v → v.words ≡ words }
+{}

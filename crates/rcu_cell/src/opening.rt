@@ -1,9 +1,15 @@
 //! The opening of a cell.
 ghost use Rattle.std.specs.Prelude.{◌≡◌, ◌≢◌, ◌+◌, ◌*◌, ◌<◌, ◌≤◌, ◌^◌, ℕ, All, IfErr, IfOk};
-ghost use Rattle.std.specs.Prelude.{None, OnOk, Some, length, slice_index};
+ghost use Rattle.std.specs.Prelude.{None, OnOk, Some, length, map, slice_index};
+ghost use Rattle.std.specs.List.{range_with_len};
+ghost use Rattle.rcu_live.specs.CpuSeat.{at_first};
 ghost use Rattle.rcu_live.specs.Opening.{opening_refusal};
+ghost use Rattle.rcu_live.specs.Watcher.{after_use, watcher_at_first};
+ghost use Rattle.rcu_live.specs.Words.{base_of};
 ghost use Rattle.rcu_cell.specs.Cell.{IsSeatOf, IsWatcherOf};
+ghost use Rattle.rcu_cell.specs.Steps.{IsClaimed};
 ghost use Rattle.rcu_cell.specs.Versions.{first_place, first_states};
+ghost use Rattle.rcu_cell.specs.declared.known.Known.TheVariants.{Idle, Opens};
 
 use crate::cell::Cell;
 use crate::keeper::Keeper;
@@ -97,11 +103,21 @@ impl<const LEAF: u32, const FAN: u32, T: Drop, F: Fits, const W: usize, const N:
         requires whole { F.fits words.now }
         ensures accepted { OnOk result (opening_refusal LEAF FAN cpus last ≡ None) }
         ensures cpus { IfOk result (λ opened. opened.0.cpus ≡ cpus) }
+        ensures seats { IfOk result (λ opened. opened.1.items ≡
+            map (at_first opened.0.table (base_of cpus) Idle) (range_with_len 0 cpus)) }
+        ensures watchers { IfOk result (λ opened. opened.2.items ≡
+            map (λ _. watcher_at_first opened.0.table (base_of cpus) Idle)
+            (range_with_len 0 cpus)) }
         ensures seat_count { IfOk result (λ opened. length opened.1.items ≡ cpus) }
-        ensures seats { IfOk result (λ opened. All (IsSeatOf opened.0) opened.1.items) }
+        ensures watcher_count { IfOk result (λ opened. length opened.2.items ≡ cpus) }
+        ensures each_seat { IfOk result (λ opened. All (IsSeatOf opened.0) opened.1.items) }
+        ensures each_watcher { IfOk result (λ opened. All (IsWatcherOf opened.0) opened.2.items) }
         ensures outside { IfOk result (λ opened.
             All (λ seat. seat.depth ≡ 0) opened.1.items) }
         ensures keeper { IfOk result (λ opened. IsWatcherOf opened.0 opened.3) }
+        ensures own { IfOk result (λ opened. opened.3 ≡ after_use
+            (watcher_at_first opened.0.table (base_of cpus) Opens) opened.3.view.client) }
+        ensures claimed { IfOk result (λ opened. IsClaimed F.fits W N opened.3.view.client) }
         ensures refused { IfErr result (λ fault. fault ≢ Fault.NoMemory →
             opening_refusal LEAF FAN cpus last ≡ Some fault) }
         ensures memory { IfErr result (λ fault. fault ≡ Fault.NoMemory →

@@ -1,7 +1,7 @@
 //! A whole read section on a cell.
-ghost use Rattle.std.specs.Prelude.{◌≡◌, IfErr, IfOk, OnErr, Some};
+ghost use Rattle.std.specs.Prelude.{◌≡◌, ◌≤◌, IfErr, IfOk, None, OnErr, OnOk, Some};
 ghost use Rattle.rcu_live.specs.CpuSeat.{enter_refusal};
-ghost use Rattle.rcu_cell.specs.Cell.{IsSeatOf};
+ghost use Rattle.rcu_cell.specs.Cell.{IsSeatOf, after_section};
 
 use crate::cell::Cell;
 use crate::known::Known;
@@ -26,6 +26,9 @@ impl<const LEAF: u32, const FAN: u32, T: Drop, F: Fits, const W: usize, const N:
         requires outside { seat.old.depth ≡ 0 }
         ensures seat { IsSeatOf self.now seat.new }
         ensures outside { seat.new.depth ≡ 0 }
+        ensures accepted { OnOk result (enter_refusal seat.old ≡ None) }
+        ensures left { OnOk result (seat.new ≡ after_section seat.old seat.new.view.seen) }
+        ensures later { OnOk result (seat.old.view.seen ≤ seat.new.view.seen) }
         ensures whole { IfOk result (λ words. F.fits words) }
         ensures refused { IfErr result (λ fault. enter_refusal seat.old ≡ Some fault) }
         ensures unchanged { OnErr result (seat.new ≡ seat.old) }

@@ -1,7 +1,7 @@
 //! A value of the user's type in a cell.
-ghost use Rattle.std.specs.Prelude.{◌≡◌, IfErr, IfOk, IsSome, OnErr, Some};
+ghost use Rattle.std.specs.Prelude.{◌≡◌, ◌≤◌, IfErr, IfOk, IsSome, None, OnErr, OnOk, Some};
 ghost use Rattle.rcu_live.specs.CpuSeat.{after_use, enter_refusal};
-ghost use Rattle.rcu_cell.specs.Cell.{IsSeatOf, IsWatcherOf};
+ghost use Rattle.rcu_cell.specs.Cell.{IsSeatOf, IsWatcherOf, after_section};
 ghost use Rattle.rcu_cell.specs.Keeper.{IsFirstFree, IsFull, after_update};
 ghost use Rattle.rcu_cell.specs.Versions.{IsReading, slot_in, slots_in, words_in};
 
@@ -71,6 +71,9 @@ impl<const LEAF: u32, const FAN: u32, T: Drop, F: Value<W>, const W: usize, cons
         requires outside { seat.old.depth ≡ 0 }
         ensures seat { IsSeatOf self.now seat.new }
         ensures outside { seat.new.depth ≡ 0 }
+        ensures accepted { OnOk result (enter_refusal seat.old ≡ None) }
+        ensures left { OnOk result (seat.new ≡ after_section seat.old seat.new.view.seen) }
+        ensures later { OnOk result (seat.old.view.seen ≤ seat.new.view.seen) }
         ensures sound { IfOk result (λ value. F.holds value) }
         ensures refused { IfErr result (λ fault. enter_refusal seat.old ≡ Some fault) }
         ensures unchanged { OnErr result (seat.new ≡ seat.old) }

@@ -3,9 +3,10 @@ use Rattle.std.proofs.lemmas.List.FromFn.{length-map-range_with_len}
 use mathlib.Core.Option.{some}
 use Rattle.rcu_live.specs.Client.{Homes}
 use Rattle.rcu_live.specs.CpuSeat.{Seated}
+use Rattle.rcu_live.specs.Watcher.{Watching}
 use Rattle.rcu_live.specs.Words.{base_of}
 use Rattle.rcu_live.proofs.RowLemmas.{each_made}
-use Rattle.rcu_cell.specs.Cell.{IsSeatOf}
+use Rattle.rcu_cell.specs.Cell.{IsSeatOf, IsWatcherOf}
 use Rattle.rcu_cell.specs.Rule.{IsKept}
 use Rattle.rcu_cell.specs.declared.known.Known.{Known}
 use Rattle.rcu_cell.specs.declared.known.Known.TheVariants.{Opens}
@@ -24,8 +25,17 @@ pub returns-clause-seat_count : goal.returns-clause-seat_count
 returns-clause-seat_count g c =
     ap (λ (l : List (Seated Known)). length l) c.in_ok-live.ensures.seats ∙ length-map-range_with_len _ 0 c.args.cpus
 
-pub returns-clause-seats : goal.returns-clause-seats
-returns-clause-seats g c =
+pub returns-clause-watcher_count : goal.returns-clause-watcher_count
+returns-clause-watcher_count g c =
+    ap (λ (l : List (Watching Known)). length l) c.in_ok-live.ensures.watchers ∙ length-map-range_with_len _ 0 c.args.cpus
+
+pub returns-clause-each_watcher : goal.returns-clause-each_watcher
+returns-clause-each_watcher g c =
+    each_made _ _ _ (IsWatcherOf c.in_ok-live.live) c.in_ok-live.ensures.watchers
+    (λ cpu. (refl, ap base_of (sym c.in_ok-live.ensures.cpus)))
+
+pub returns-clause-each_seat : goal.returns-clause-each_seat
+returns-clause-each_seat g c =
     each_made _ _ _ (IsSeatOf c.in_ok-live.live) c.in_ok-live.ensures.seats
     (λ cpu. (refl, ap base_of (sym c.in_ok-live.ensures.cpus)))
 
