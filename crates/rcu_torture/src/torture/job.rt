@@ -5,6 +5,7 @@ ghost use Rattle.rand_pcg.specs.Pcg.{pcg32};
 ghost use Rattle.rcu_seq.specs.Numbers.{is_done_at};
 ghost use Rattle.rcu_live.specs.CpuSeat.{after_depart, after_quiesce};
 ghost use Rattle.rcu_live.specs.EngineLists.{is_run_fault};
+ghost use Rattle.rcu_live.specs.Watcher.{after_watch};
 ghost use Rattle.rcu_torture.specs.Draws.{generator_of};
 ghost use Rattle.rcu_torture.specs.Ledger.{IsOfRounds, after_poll, after_run, most_rounds};
 ghost use Rattle.rcu_torture.specs.Worker.{id_of, leaves_by, other_by};
@@ -259,6 +260,10 @@ impl<'a> Job<'a> {
         requires { share.old.early < most_rounds + length share.old.ids }
         ensures share { share.new ≡ record share.old { early = share.new.early } }
         ensures early { share.new.early ≤ share.old.early + 1 }
+        ensures open { IfOk result (λ passed. passed ≡ false →
+            self.new.seat.depth ≡ self.old.seat.depth + 1 + word % 3) }
+        ensures polled { IfOk result (λ passed. passed ≡ true →
+            self.new.watcher.view.loads ≡ self.old.watcher.view.loads + 2) }
         ensures closed { IfOk result (λ passed. passed ≡ true → self.new.seat.depth ≡ 0) }
         ensures rest { self.new ≡
             record self.old { seat = self.new.seat; watcher = self.new.watcher } }
@@ -282,6 +287,8 @@ impl<'a> Job<'a> {
         requires { share.old.early < most_rounds + length share.old.ids }
         ensures share { share.new ≡
             after_poll share.old (is_done_at cookie.0 self.new.watcher.view.seen) }
+        ensures looked { self.new.watcher ≡
+            after_watch self.old.watcher self.new.watcher.view.seen }
         ensures rest { self.new ≡ record self.old { watcher = self.new.watcher } }
     {
         if self.watcher.poll(self.live, cookie) {
