@@ -25,6 +25,8 @@ pub mod ran;
 pub mod reading;
 pub mod rule;
 #[cfg(test)]
+mod test_steps;
+#[cfg(test)]
 mod tests;
 pub mod view;
 pub mod watcher;

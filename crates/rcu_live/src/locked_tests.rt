@@ -4,8 +4,12 @@ ghost use Rattle.std.specs.Prelude.{◌≡◌};
 
 use crate::collected::Collected;
 use crate::cpu_seat::CpuSeat;
-use crate::live::Live;
-use crate::tests::{Pair, make_pair, opened};
+use crate::test_steps::{
+    Four, barrier_begin, barrier_test, collect, enter, exit, offline, online, poll, quiesce, tend,
+    turn, visit,
+};
+use crate::tests::{Pair, last_seat, last_watcher, make_pair, opened};
+use crate::watcher::Watcher;
 use rcu_barrier::barrier_state::BarrierState;
 use rcu_barrier::visit::Visit;
 use rcu_core::turned::Turned;
@@ -14,8 +18,6 @@ use rcu_seq::fault::Fault;
 use std::alloc::Global;
 use std::process::Abort;
 use std::sync::Wait;
-
-type Four = Live<4, 4, u64>;
 
 /// Compares the fault of a call whose growth was refused.
 fn refused(rt: &impl Abort, fault: Fault) {
@@ -36,6 +38,17 @@ fn queue<R: Abort + Wait>(rt: &R, live: &Four, seat: &mut CpuSeat, value: u64, w
             assert_eq!(rt; live.queue(rt, seat, back.value).ok(), Some(wanted));
         }
     }
+}
+
+/// Compares the fault of a queueing on a processor that is offline.
+fn queue_offline<R: Abort + Wait>(rt: &R, live: &Four, seat: &mut CpuSeat, value: u64)
+    requires { seat.old.table ≡ live.now.table }
+    ensures { seat.new.table ≡ seat.old.table }
+{
+    assert_eq!(rt;
+        live.queue(rt, seat, value).map_err(|back| back.fault),
+        Err(Fault::Offline)
+    );
 }
 
 /// Runs callbacks, by a second call where the first is refused a growth: the number, and the number
@@ -62,6 +75,16 @@ fn run<R: Abort + Wait>(
     }
 }
 
+/// How many callbacks of the processor are run, of at most nine.
+fn run_length(rt: &impl Wait, live: &Four, cpu: u32) -> Result<usize, Fault> {
+    Ok(live.run(rt, cpu, 9)?.calls.len())
+}
+
+/// Compares how many are.
+fn run_any<R: Abort + Wait>(rt: &R, live: &Four, cpu: u32, wanted: Result<usize, Fault>) {
+    assert_eq!(rt; run_length(rt, live, cpu), wanted);
+}
+
 /// A processor passes a quiescent state, and the engine hears of it.
 fn pass<R: Abort + Wait>(
     rt: &R,
@@ -74,8 +97,34 @@ fn pass<R: Abort + Wait>(
     requires { seat.old.table ≡ live.now.table }
     ensures { seat.new.table ≡ seat.old.table }
 {
-    assert_eq!(rt; seat.quiesce(live), Ok(number));
-    assert_eq!(rt; live.collect(rt, cpu), Ok(wanted));
+    quiesce(rt, live, seat, Ok(number));
+    collect(rt, live, cpu, Ok(wanted));
+}
+
+/// A grace period for a callback of the first seat, which waits for a section of the second one.
+fn one_period<R: Abort + Wait>(rt: &R, live: &Four, first: &mut CpuSeat, second: &mut CpuSeat)
+    requires first { first.old.table ≡ live.now.table }
+    requires second { second.old.table ≡ live.now.table }
+{
+    online(rt, live, second, Ok(()));
+    online(rt, live, second, Err(Fault::AlreadyOnline));
+    enter(rt, live, second, Ok(1));
+    queue(rt, live, first, 7, 1);
+    tend(rt, live, 0, Ok((0, 1)));
+    turn(rt, live, Ok(Turned::Begun(1, 2)));
+    pass(rt, live, first, 0, 1, Collected::Taken);
+    collect(rt, live, 1, Ok(Collected::NotYet));
+    turn(rt, live, Ok(Turned::Waiting(1)));
+    offline(rt, live, second, Err(Fault::InSection));
+    exit(rt, live, second, Ok(0));
+    pass(rt, live, second, 1, 1, Collected::Last);
+    collect(rt, live, 1, Ok(Collected::Repeat));
+    turn(rt, live, Ok(Turned::Ended(4)));
+    collect(rt, live, 1, Ok(Collected::Idle));
+    turn(rt, live, Ok(Turned::Nothing));
+    run(rt, live, 0, 9, 4, &[]);
+    tend(rt, live, 0, Ok((1, 0)));
+    run(rt, live, 0, 9, 4, &[(0, 7)]);
 }
 
 #[test]
@@ -87,25 +136,7 @@ fn two_seats_one_period(rt: HostRuntime) {
         watcher: _,
         other: _,
     } = make_pair(&rt, rt.alloc());
-    assert_eq!(rt; live.online(&rt, &mut second), Ok(()));
-    assert_eq!(rt; live.online(&rt, &mut second), Err(Fault::AlreadyOnline));
-    assert_eq!(rt; second.enter(&live), Ok(1));
-    queue(&rt, &live, &mut first, 7, 1);
-    assert_eq!(rt; live.tend(&rt, 0), Ok((0, 1)));
-    assert_eq!(rt; live.turn(&rt), Ok(Turned::Begun(1, 2)));
-    pass(&rt, &live, &mut first, 0, 1, Collected::Taken);
-    assert_eq!(rt; live.collect(&rt, 1), Ok(Collected::NotYet));
-    assert_eq!(rt; live.turn(&rt), Ok(Turned::Waiting(1)));
-    assert_eq!(rt; live.offline(&rt, &mut second), Err(Fault::InSection));
-    assert_eq!(rt; second.exit(&live), Ok(0));
-    pass(&rt, &live, &mut second, 1, 1, Collected::Last);
-    assert_eq!(rt; live.collect(&rt, 1), Ok(Collected::Repeat));
-    assert_eq!(rt; live.turn(&rt), Ok(Turned::Ended(4)));
-    assert_eq!(rt; live.collect(&rt, 1), Ok(Collected::Idle));
-    assert_eq!(rt; live.turn(&rt), Ok(Turned::Nothing));
-    run(&rt, &live, 0, 9, 4, &[]);
-    assert_eq!(rt; live.tend(&rt, 0), Ok((1, 0)));
-    run(&rt, &live, 0, 9, 4, &[(0, 7)]);
+    one_period(&rt, &live, &mut first, &mut second);
 }
 
 /// The callback of a processor that went offline, once a grace period passed.
@@ -113,16 +144,16 @@ fn barrier_over_a_migration<R: Abort + Wait>(rt: &R, live: &Four, first: &mut Cp
     requires { first.old.table ≡ live.now.table }
     ensures { first.new.table ≡ first.old.table }
 {
-    assert_eq!(rt; live.visit(rt, 1), Ok(Visit::Already));
-    assert_eq!(rt; live.barrier_test(rt), Ok(BarrierState::Waits(1)));
-    assert_eq!(rt; live.tend(rt, 0), Ok((0, 1)));
-    assert_eq!(rt; live.turn(rt), Ok(Turned::Begun(1, 1)));
+    visit(rt, live, 1, Ok(Visit::Already));
+    barrier_test(rt, live, Ok(BarrierState::Waits(1)));
+    tend(rt, live, 0, Ok((0, 1)));
+    turn(rt, live, Ok(Turned::Begun(1, 1)));
     pass(rt, live, first, 0, 1, Collected::Last);
-    assert_eq!(rt; live.turn(rt), Ok(Turned::Ended(4)));
-    assert_eq!(rt; live.tend(rt, 0), Ok((1, 0)));
+    turn(rt, live, Ok(Turned::Ended(4)));
+    tend(rt, live, 0, Ok((1, 0)));
     run(rt, live, 0, 1, 4, &[(0, 5)]);
-    assert_eq!(rt; live.barrier_test(rt), Ok(BarrierState::Done));
-    assert_eq!(rt; live.barrier_test(rt), Err(Fault::NoBarrier));
+    barrier_test(rt, live, Ok(BarrierState::Done));
+    barrier_test(rt, live, Err(Fault::NoBarrier));
 }
 
 /// Takes the processor offline. Where its growth is refused it has departed, its list stays, and
@@ -135,12 +166,28 @@ fn leave<R: Abort + Wait>(rt: &R, live: &Four, seat: &mut CpuSeat, wanted: u64)
         Ok(moved) => assert_eq!(rt; moved, wanted),
         Err(fault) => {
             refused(rt, fault);
-            assert_eq!(rt; seat.enter(live), Err(Fault::Offline));
-            assert_eq!(rt;
-                live.queue(rt, seat, 9).map_err(|back| back.fault),
-                Err(Fault::Offline)
-            );
-            assert_eq!(rt; live.offline(rt, seat), Ok(wanted));
+            enter(rt, live, seat, Err(Fault::Offline));
+            queue_offline(rt, live, seat, 9);
+            offline(rt, live, seat, Ok(wanted));
+        }
+    }
+}
+
+/// A processor with a callback departs. Where its growth is refused it comes back instead, and then
+/// has its list.
+fn depart_or_return<R: Abort + Wait>(rt: &R, live: &Four, first: &mut CpuSeat, second: &mut CpuSeat)
+    requires first { first.old.table ≡ live.now.table }
+    requires second { second.old.table ≡ live.now.table }
+{
+    match live.offline(rt, second) {
+        Ok(moved) => assert_eq!(rt; moved, 1),
+        Err(fault) => {
+            refused(rt, fault);
+            online(rt, live, second, Ok(()));
+            tend(rt, live, 1, Ok((0, 1)));
+            turn(rt, live, Ok(Turned::Begun(1, 2)));
+            pass(rt, live, first, 0, 1, Collected::Taken);
+            pass(rt, live, second, 1, 1, Collected::Last);
         }
     }
 }
@@ -155,19 +202,48 @@ fn return_keeps_the_list(rt: HostRuntime) {
         watcher: _,
         other: _,
     } = make_pair(&rt, rt.alloc());
-    assert_eq!(rt; live.online(&rt, &mut second), Ok(()));
+    online(&rt, &live, &mut second, Ok(()));
     queue(&rt, &live, &mut second, 5, 1);
-    match live.offline(&rt, &mut second) {
-        Ok(moved) => assert_eq!(rt; moved, 1),
-        Err(fault) => {
-            refused(&rt, fault);
-            assert_eq!(rt; live.online(&rt, &mut second), Ok(()));
-            assert_eq!(rt; live.tend(&rt, 1), Ok((0, 1)));
-            assert_eq!(rt; live.turn(&rt), Ok(Turned::Begun(1, 2)));
-            pass(&rt, &live, &mut first, 0, 1, Collected::Taken);
-            pass(&rt, &live, &mut second, 1, 1, Collected::Last);
-        }
-    }
+    depart_or_return(&rt, &live, &mut first, &mut second);
+}
+
+/// A cookie that a watcher takes is not done yet, and the watcher meets the seat.
+fn watch(rt: &impl Abort, live: &Four, seat: &mut CpuSeat, watcher: &mut Watcher)
+    requires seat { seat.old.table ≡ live.now.table }
+    requires watcher { watcher.old.table ≡ live.now.table }
+    ensures seat { seat.new.table ≡ seat.old.table }
+    ensures watcher { watcher.new.table ≡ watcher.old.table }
+{
+    let cookie = watcher.take(live);
+    poll(rt, live, watcher, cookie, false);
+    assert!(rt; live.meet(seat, watcher).is_some());
+}
+
+/// A section and a quiescent state of the seat, beside a watcher.
+fn read(rt: &impl Abort, live: &Four, seat: &mut CpuSeat, watcher: &mut Watcher)
+    requires seat { seat.old.table ≡ live.now.table }
+    requires watcher { watcher.old.table ≡ live.now.table }
+{
+    enter(rt, live, seat, Ok(1));
+    exit(rt, live, seat, Ok(0));
+    quiesce(rt, live, seat, Ok(0));
+    watch(rt, live, seat, watcher);
+}
+
+/// A barrier over empty lists, over which the seat's processor departs.
+fn barrier_over_none<R: Abort + Wait>(rt: &R, live: &Four, seat: &mut CpuSeat)
+    requires { seat.old.table ≡ live.now.table }
+{
+    collect(rt, live, 0, Ok(Collected::Idle));
+    turn(rt, live, Ok(Turned::Nothing));
+    tend(rt, live, 1, Ok((0, 0)));
+    barrier_begin(rt, live, Ok(()));
+    visit(rt, live, 0, Ok(Visit::Empty));
+    visit(rt, live, 0, Ok(Visit::Already));
+    barrier_test(rt, live, Ok(BarrierState::Waits(1)));
+    run_any(rt, live, 1, Ok(0));
+    offline(rt, live, seat, Ok(0));
+    barrier_test(rt, live, Ok(BarrierState::Done));
 }
 
 /// The object is opened first; no growth of a later call is refused, for none asks for memory.
@@ -180,22 +256,42 @@ fn calls_without_memory(rt: HostRuntime) {
         mut watcher,
         other: _,
     } = make_pair(&rt, rt.alloc());
-    assert_eq!(rt; live.online(&rt, &mut second), Ok(()));
-    assert_eq!(rt; (first.enter(&live), first.exit(&live)), (Ok(1), Ok(0)));
-    assert_eq!(rt; first.quiesce(&live), Ok(0));
-    let cookie = watcher.take(&live);
-    assert!(rt; !watcher.poll(&live, cookie));
-    assert!(rt; live.meet(&mut first, &mut watcher).is_some());
-    assert_eq!(rt; live.collect(&rt, 0), Ok(Collected::Idle));
-    assert_eq!(rt; live.turn(&rt), Ok(Turned::Nothing));
-    assert_eq!(rt; live.tend(&rt, 1), Ok((0, 0)));
-    assert_eq!(rt; live.barrier_begin(&rt), Ok(()));
-    assert_eq!(rt; live.visit(&rt, 0), Ok(Visit::Empty));
-    assert_eq!(rt; live.visit(&rt, 0), Ok(Visit::Already));
-    assert_eq!(rt; live.barrier_test(&rt), Ok(BarrierState::Waits(1)));
-    assert_eq!(rt; live.run(&rt, 1, 9).map(|ran| ran.calls.len()), Ok(0));
-    assert_eq!(rt; live.offline(&rt, &mut second), Ok(0));
-    assert_eq!(rt; live.barrier_test(&rt), Ok(BarrierState::Done));
+    online(&rt, &live, &mut second, Ok(()));
+    read(&rt, &live, &mut first, &mut watcher);
+    barrier_over_none(&rt, &live, &mut second);
+}
+
+/// A barrier visits a processor with a callback, by a second call where the first is refused a
+/// growth.
+fn mark<R: Abort + Wait>(rt: &R, live: &Four) {
+    match live.visit(rt, 0) {
+        Ok(visit) => assert_eq!(rt; visit, Visit::Marked),
+        Err(fault) => {
+            refused(rt, fault);
+            visit(rt, live, 0, Ok(Visit::Marked));
+        }
+    }
+}
+
+/// A barrier over the second seat's callback, which moves, and the begin of another one.
+fn two_barriers<R: Abort + Wait>(rt: &R, live: &Four, first: &mut CpuSeat, second: &mut CpuSeat)
+    requires first { first.old.table ≡ live.now.table }
+    requires second { second.old.table ≡ live.now.table }
+{
+    online(rt, live, second, Ok(()));
+    queue(rt, live, second, 5, 1);
+    visit(rt, live, 0, Err(Fault::NoBarrier));
+    barrier_begin(rt, live, Ok(()));
+    barrier_begin(rt, live, Err(Fault::BarrierBusy));
+    visit(rt, live, 0, Ok(Visit::Empty));
+    visit(rt, live, 0, Ok(Visit::Already));
+    leave(rt, live, second, 1);
+    offline(rt, live, second, Err(Fault::Offline));
+    queue_offline(rt, live, second, 8);
+    barrier_over_a_migration(rt, live, first);
+    queue(rt, live, first, 6, 2);
+    barrier_begin(rt, live, Ok(()));
+    mark(rt, live);
 }
 
 #[test]
@@ -207,48 +303,34 @@ fn locked_barrier_and_migration(rt: HostRuntime) {
         watcher: _,
         other: _,
     } = make_pair(&rt, rt.alloc());
-    assert_eq!(rt; live.online(&rt, &mut second), Ok(()));
-    queue(&rt, &live, &mut second, 5, 1);
-    assert_eq!(rt; live.visit(&rt, 0), Err(Fault::NoBarrier));
-    assert_eq!(rt; live.barrier_begin(&rt), Ok(()));
-    assert_eq!(rt; live.barrier_begin(&rt), Err(Fault::BarrierBusy));
-    assert_eq!(rt; live.visit(&rt, 0), Ok(Visit::Empty));
-    assert_eq!(rt; live.visit(&rt, 0), Ok(Visit::Already));
-    leave(&rt, &live, &mut second, 1);
-    assert_eq!(rt; live.offline(&rt, &mut second), Err(Fault::Offline));
-    assert_eq!(rt;
-        live.queue(&rt, &mut second, 8).map_err(|back| back.fault),
-        Err(Fault::Offline)
-    );
-    barrier_over_a_migration(&rt, &live, &mut first);
-    queue(&rt, &live, &mut first, 6, 2);
-    assert_eq!(rt; live.barrier_begin(&rt), Ok(()));
-    match live.visit(&rt, 0) {
-        Ok(visit) => assert_eq!(rt; visit, Visit::Marked),
-        Err(fault) => {
-            refused(&rt, fault);
-            assert_eq!(rt; live.visit(&rt, 0), Ok(Visit::Marked));
-        }
-    }
+    two_barriers(&rt, &live, &mut first, &mut second);
+}
+
+/// Turns over a callback of the seat, as a watcher sees them, up to the last number.
+fn turn_to_the_last<R: Abort + Wait>(rt: &R, live: &Four, seat: &mut CpuSeat, watcher: &mut Watcher)
+    requires seat { seat.old.table ≡ live.now.table }
+    requires watcher { watcher.old.table ≡ live.now.table }
+{
+    let cookie = watcher.take(live);
+    assert_eq!(rt; cookie, Cookie(4));
+    queue(rt, live, seat, 7, 1);
+    tend(rt, live, 0, Ok((0, 1)));
+    turn(rt, live, Ok(Turned::Begun(1, 1)));
+    poll(rt, live, watcher, cookie, false);
+    pass(rt, live, seat, 0, 1, Collected::Last);
+    turn(rt, live, Ok(Turned::Ended(4)));
+    poll(rt, live, watcher, cookie, true);
+    queue(rt, live, seat, 8, 2);
+    tend(rt, live, 0, Ok((1, 1)));
+    turn(rt, live, Err(Fault::Exhausted));
 }
 
 #[test]
 fn turn_ends_what_the_seats_see(rt: HostRuntime) {
     let (live, mut seats, mut watchers) = opened(&rt, rt.alloc(), 1, 4);
-    let mut seat = seats.pop().unwrap();
-    let mut watcher = watchers.pop().unwrap();
-    let cookie = watcher.take(&live);
-    assert_eq!(rt; cookie, Cookie(4));
-    queue(&rt, &live, &mut seat, 7, 1);
-    assert_eq!(rt; live.tend(&rt, 0), Ok((0, 1)));
-    assert_eq!(rt; live.turn(&rt), Ok(Turned::Begun(1, 1)));
-    assert!(rt; !watcher.poll(&live, cookie));
-    pass(&rt, &live, &mut seat, 0, 1, Collected::Last);
-    assert_eq!(rt; live.turn(&rt), Ok(Turned::Ended(4)));
-    assert!(rt; watcher.poll(&live, cookie));
-    queue(&rt, &live, &mut seat, 8, 2);
-    assert_eq!(rt; live.tend(&rt, 0), Ok((1, 1)));
-    assert_eq!(rt; live.turn(&rt), Err(Fault::Exhausted));
+    let mut seat = last_seat(&live, &mut seats);
+    let mut watcher = last_watcher(&live, &mut watchers);
+    turn_to_the_last(&rt, &live, &mut seat, &mut watcher);
 }
 
 #[test]
@@ -260,11 +342,8 @@ fn no_such_processor(rt: HostRuntime) {
         watcher: _,
         other: _,
     } = make_pair(&rt, rt.alloc());
-    assert_eq!(rt; live.collect(&rt, 2), Err(Fault::BadCpu));
-    assert_eq!(rt; live.tend(&rt, 2), Err(Fault::BadCpu));
-    assert_eq!(rt;
-        live.run(&rt, 2, 9).map(|ran| ran.number),
-        Err(Fault::BadCpu)
-    );
-    assert_eq!(rt; live.visit(&rt, 2), Err(Fault::BadCpu));
+    collect(&rt, &live, 2, Err(Fault::BadCpu));
+    tend(&rt, &live, 2, Err(Fault::BadCpu));
+    run_any(&rt, &live, 2, Err(Fault::BadCpu));
+    visit(&rt, &live, 2, Err(Fault::BadCpu));
 }

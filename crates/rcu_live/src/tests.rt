@@ -1,18 +1,18 @@
 //! A reader beside a watcher on two threads, meetings, arrivals and departures, and the opening.
-ghost use Rattle.std.specs.Prelude.{◌≡◌, All, length};
+ghost use Rattle.std.specs.Prelude.{◌≡◌, ◌+◌, ◌<◌, All, length};
 
 use crate::cpu_seat::CpuSeat;
 use crate::live::Live;
 use crate::met::Met;
+use crate::test_steps::{Four, enter, exit, offline, online, quiesce};
 use crate::watcher::Watcher;
 use rcu_seq::cookie::Cookie;
 use rcu_seq::fault::Fault;
 use std::alloc::Global;
 use std::process::Abort;
+use std::sync::Wait;
 use std::thread;
 use std::thread::Threads;
-
-type Four = Live<4, 4, u64>;
 
 /// An object of so many processors, opened by a second call where the first is refused a growth.
 pub(crate) fn opened<R: Abort>(
@@ -35,6 +35,28 @@ pub(crate) fn opened<R: Abort>(
     }
 }
 
+/// The last of an object's seats.
+pub(crate) fn last_seat(live: &Four, seats: &mut Vec<CpuSeat>) -> CpuSeat
+    requires some { 0 < length seats.old.items }
+    requires each { All (λ seat. seat.table ≡ live.now.table) seats.old.items }
+    ensures seat { result.table ≡ live.now.table }
+    ensures fewer { length seats.new.items + 1 ≡ length seats.old.items }
+    ensures each { All (λ seat. seat.table ≡ live.now.table) seats.new.items }
+{
+    seats.pop().unwrap()
+}
+
+/// The last of an object's watchers.
+pub(crate) fn last_watcher(live: &Four, watchers: &mut Vec<Watcher>) -> Watcher
+    requires some { 0 < length watchers.old.items }
+    requires each { All (λ watcher. watcher.table ≡ live.now.table) watchers.old.items }
+    ensures watcher { result.table ≡ live.now.table }
+    ensures fewer { length watchers.new.items + 1 ≡ length watchers.old.items }
+    ensures each { All (λ watcher. watcher.table ≡ live.now.table) watchers.new.items }
+{
+    watchers.pop().unwrap()
+}
+
 /// An object of two processors, with the seats and the watchers of processors 0 and 1.
 pub(crate) struct Pair {
     pub(crate) live: Four,
@@ -52,10 +74,10 @@ pub(crate) fn make_pair<R: Abort>(rt: &R, alloc: Global) -> Pair
     ensures other { result.other.table ≡ result.live.table }
 {
     let (live, mut seats, mut watchers) = opened(rt, alloc, 2, 8);
-    let second = seats.pop().unwrap();
-    let first = seats.pop().unwrap();
-    let other = watchers.pop().unwrap();
-    let watcher = watchers.pop().unwrap();
+    let second = last_seat(&live, &mut seats);
+    let first = last_seat(&live, &mut seats);
+    let other = last_watcher(&live, &mut watchers);
+    let watcher = last_watcher(&live, &mut watchers);
     Pair {
         live,
         first,
@@ -96,6 +118,23 @@ fn beside<R: Threads + Sync>(
     (entered, told)
 }
 
+/// Compares a meeting at number 0: the number at which the seat's section opened, where one is open.
+fn meet(
+    rt: &impl Abort,
+    live: &Four,
+    seat: &mut CpuSeat,
+    watcher: &mut Watcher,
+    opened: Option<u64>,
+)
+    requires seat { seat.old.table ≡ live.now.table }
+    requires watcher { watcher.old.table ≡ live.now.table }
+    ensures seat { seat.new.table ≡ seat.old.table }
+    ensures watcher { watcher.new.table ≡ watcher.old.table }
+{
+    let met = live.meet(seat, watcher);
+    assert_eq!(rt; met, Some(Met { opened, seen: 0 }));
+}
+
 #[test]
 fn reader_beside_a_watcher(rt: HostRuntime) {
     let Pair {
@@ -107,26 +146,29 @@ fn reader_beside_a_watcher(rt: HostRuntime) {
     } = make_pair(&rt, rt.alloc());
     let told = beside(&rt, &live, &mut first, watcher);
     assert_eq!(rt; told, (Ok(1), (Cookie(4), false, true)));
-    let met = live.meet(&mut first, &mut other);
-    assert_eq!(rt;
-        met,
-        Some(Met {
-            opened: Some(0),
-            seen: 0
-        })
-    );
-    assert_eq!(rt; first.quiesce(&live), Err(Fault::InSection));
-    assert_eq!(rt; first.exit(&live), Ok(0));
-    assert_eq!(rt; first.quiesce(&live), Ok(0));
-    assert_eq!(rt; second.enter(&live), Err(Fault::Offline));
-    let met = live.meet(&mut first, &mut other);
-    assert_eq!(rt;
-        met,
-        Some(Met {
-            opened: None,
-            seen: 0
-        })
-    );
+    meet(&rt, &live, &mut first, &mut other, Some(0));
+    quiesce(&rt, &live, &mut first, Err(Fault::InSection));
+    exit(&rt, &live, &mut first, Ok(0));
+    quiesce(&rt, &live, &mut first, Ok(0));
+    enter(&rt, &live, &mut second, Err(Fault::Offline));
+    meet(&rt, &live, &mut first, &mut other, None);
+}
+
+/// The second seat arrives, reads, and departs.
+fn come_and_go<R: Abort + Wait>(rt: &R, live: &Four, seat: &mut CpuSeat)
+    requires { seat.old.table ≡ live.now.table }
+{
+    offline(rt, live, seat, Err(Fault::Offline));
+    online(rt, live, seat, Ok(()));
+    online(rt, live, seat, Err(Fault::AlreadyOnline));
+    enter(rt, live, seat, Ok(1));
+    enter(rt, live, seat, Ok(2));
+    offline(rt, live, seat, Err(Fault::InSection));
+    exit(rt, live, seat, Ok(1));
+    exit(rt, live, seat, Ok(0));
+    exit(rt, live, seat, Err(Fault::NotOpen));
+    offline(rt, live, seat, Ok(0));
+    quiesce(rt, live, seat, Err(Fault::Offline));
 }
 
 #[test]
@@ -138,17 +180,8 @@ fn arrival_and_departure(rt: HostRuntime) {
         watcher: _,
         other: _,
     } = make_pair(&rt, rt.alloc());
-    assert_eq!(rt; live.offline(&rt, &mut second), Err(Fault::Offline));
-    assert_eq!(rt; live.online(&rt, &mut second), Ok(()));
-    assert_eq!(rt; live.online(&rt, &mut second), Err(Fault::AlreadyOnline));
-    assert_eq!(rt; second.enter(&live), Ok(1));
-    assert_eq!(rt; second.enter(&live), Ok(2));
-    assert_eq!(rt; live.offline(&rt, &mut second), Err(Fault::InSection));
-    assert_eq!(rt; (second.exit(&live), second.exit(&live)), (Ok(1), Ok(0)));
-    assert_eq!(rt; second.exit(&live), Err(Fault::NotOpen));
-    assert_eq!(rt; live.offline(&rt, &mut second), Ok(0));
-    assert_eq!(rt; second.quiesce(&live), Err(Fault::Offline));
-    assert_eq!(rt; live.offline(&rt, &mut first), Err(Fault::BootStays));
+    come_and_go(&rt, &live, &mut second);
+    offline(&rt, &live, &mut first, Err(Fault::BootStays));
 }
 
 #[test]
