@@ -80,7 +80,7 @@ fn run_length(rt: &impl Wait, live: &Four, cpu: u32) -> Result<usize, Fault> {
     Ok(live.run(rt, cpu, 9)?.calls.len())
 }
 
-/// Compares how many are.
+/// Compares how many callbacks of the processor are run.
 fn run_any<R: Abort + Wait>(rt: &R, live: &Four, cpu: u32, wanted: Result<usize, Fault>) {
     assert_eq!(rt; run_length(rt, live, cpu), wanted);
 }

@@ -118,7 +118,7 @@ fn beside<R: Threads + Sync>(
     (entered, told)
 }
 
-/// Compares a meeting at number 0: the number at which the seat's section opened, where one is open.
+/// Compares a meeting at number 0: the number at which the seat's section opened, if one is open.
 fn meet(
     rt: &impl Abort,
     live: &Four,
@@ -154,7 +154,7 @@ fn reader_beside_a_watcher(rt: HostRuntime) {
     meet(&rt, &live, &mut first, &mut other, None);
 }
 
-/// The second seat arrives, reads, and departs.
+/// A seat that is offline arrives, reads, and departs.
 fn come_and_go<R: Abort + Wait>(rt: &R, live: &Four, seat: &mut CpuSeat)
     requires { seat.old.table ≡ live.now.table }
 {
