@@ -115,28 +115,47 @@ fn run(rt: &impl Abort, state: &mut State, wanted: usize) {
     }
 }
 
-#[test]
-fn refused_calls_leave_all_as_it_was(rt: HostRuntime) {
-    let mut state = state(&rt, rt.alloc());
+/// Tends processor 0's list, and compares how many callbacks are done and how many wait.
+fn tend(rt: &impl Abort, state: &mut State, wanted: (u64, u64)) {
+    assert!(rt; 0 < state.cpus());
+    assert_eq!(rt; state.tend(0), wanted);
+}
+
+/// Queues callbacks on both processors; one departs during a barrier, which waits for its list.
+fn departs(rt: &impl Abort, state: &mut State) {
     assert_eq!(rt; state.arrive(1), Ok(()));
-    queue(&rt, &mut state, 0, 5, 1);
-    queue(&rt, &mut state, 1, 6, 2);
-    queue(&rt, &mut state, 1, 7, 3);
+    queue(rt, state, 0, 5, 1);
+    queue(rt, state, 1, 6, 2);
+    queue(rt, state, 1, 7, 3);
     assert_eq!(rt; state.barrier_begin(), Ok(()));
-    visit(&rt, &mut state, 0);
-    migrate(&rt, &mut state, 2);
+    visit(rt, state, 0);
+    migrate(rt, state, 2);
     assert_eq!(rt; state.barrier_test(), Ok(BarrierState::Waits(2)));
     assert_eq!(rt; state.depart(1), Ok(()));
-    assert!(rt; 0 < state.cpus());
-    assert_eq!(rt; state.tend(0), (0, 3));
+}
+
+/// A grace period, which the three callbacks wait for, begins, is reported and ends.
+fn passes(rt: &impl Abort, state: &mut State) {
+    tend(rt, state, (0, 3));
     assert_eq!(rt; state.turn(), Ok(Turned::Begun(1, 1)));
     assert!(rt; 0 < state.cpus());
     assert_eq!(rt; state.hear(0), Answer::Last);
     assert_eq!(rt; state.turn(), Ok(Turned::Ended(4)));
-    assert!(rt; 0 < state.cpus());
-    assert_eq!(rt; state.tend(0), (3, 0));
-    run(&rt, &mut state, 3);
+    tend(rt, state, (3, 0));
+}
+
+/// Hands out the callbacks, and the barrier is over.
+fn is_over(rt: &impl Abort, state: &mut State) {
+    run(rt, state, 3);
     assert_eq!(rt; state.barrier_test(), Ok(BarrierState::Done));
+}
+
+#[test]
+fn refused_calls_leave_all_as_it_was(rt: HostRuntime) {
+    let mut state = state(&rt, rt.alloc());
+    departs(&rt, &mut state);
+    passes(&rt, &mut state);
+    is_over(&rt, &mut state);
 }
 
 /// What the first begin says, or why no state opens with this last number.
@@ -162,14 +181,17 @@ fn last_numbers(rt: HostRuntime) {
     }
 }
 
+/// Compares the size of a state.
+fn has_size(rt: &impl Abort, state: &mut State, cpus: u32) {
+    assert_eq!(rt; state.cpus(), cpus);
+    assert_eq!(rt; state.arrive(cpus), Err(Fault::BadCpu));
+}
+
 #[test]
 fn sizes(rt: HostRuntime) {
     for cpus in [1, 4096] {
-        match GpState::<Flat, u64>::new(rt.alloc(), flat(&rt, rt.alloc(), cpus), 8) {
-            Ok(mut state) => {
-                assert_eq!(rt; state.cpus(), cpus);
-                assert_eq!(rt; state.arrive(cpus), Err(Fault::BadCpu));
-            }
+        match GpState::new(rt.alloc(), flat(&rt, rt.alloc(), cpus), 8) {
+            Ok(mut state) => has_size(&rt, &mut state, cpus),
             Err(fault) => refused(&rt, fault),
         }
     }
