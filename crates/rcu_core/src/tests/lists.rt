@@ -1,6 +1,10 @@
-//! A list of processors, filled and read.
+//! A list of processors, filled and read, and a list of values, read.
 
 use crate::cpu_list::CpuList;
+use crate::value_list::ValueList;
+use rcu_cblist::queued::Queued;
+use std::alloc::Global;
+use std::process::Abort;
 
 #[test]
 fn processors_stay_in_order(rt: HostRuntime) {
@@ -18,4 +22,39 @@ fn processors_stay_in_order(rt: HostRuntime) {
         }
     }
     assert!(rt; list.as_slice() == [3, 0, 4095].as_slice());
+}
+
+/// Callbacks of the values 1 and 5, in room made by a second call where the first is refused it.
+fn calls(rt: &impl Abort, alloc: Global) -> Vec<Queued<u64>> {
+    let mut calls = match Vec::with_capacity(alloc, 2) {
+        Ok(calls) => calls,
+        Err(_) => Vec::with_capacity(alloc, 2).expect(rt, "the second call has memory"),
+    };
+    for (ord, value) in [(1, 1), (2, 5)] {
+        calls
+            .push(Queued { ord, at: 0, value })
+            .expect(rt, "there is room");
+    }
+    calls
+}
+
+/// Whether the list has these values, in order.
+fn has_values(list: &ValueList, values: &[u64]) -> bool {
+    if list.len() != values.len() || list.is_empty() != values.is_empty() {
+        return false;
+    }
+    for place in 0..list.len() {
+        if list.value(place) != values[place] {
+            return false;
+        }
+    }
+    true
+}
+
+#[test]
+fn values_stay_in_order(rt: HostRuntime) {
+    let none = ValueList::new(Vec::new(rt.alloc()));
+    assert!(rt; has_values(&none, &[]));
+    let both = ValueList::new(calls(&rt, rt.alloc()));
+    assert!(rt; has_values(&both, &[1, 5]));
 }

@@ -84,3 +84,37 @@ pub fn run(rt: &impl Abort, core: &mut Core<Flat, u64>, events: &[Event]) -> Vec
         }
     }
 }
+
+/// Whether the growth of an event in a list was refused.
+pub fn lacks_memory(replies: &[Reply]) -> bool {
+    for reply in replies {
+        if matches!(reply, Reply::Fault(Fault::NoMemory)) {
+            return true;
+        }
+    }
+    false
+}
+
+/// Compares a reply with the text that it prints as.
+fn told(rt: &impl Abort, alloc: Global, reply: &Reply, wanted: &str) {
+    let text = match format!(in alloc; "{reply:?}") {
+        Ok(text) => text,
+        Err(_) => format!(in alloc; "{reply:?}").expect(rt, "the second call has memory"),
+    };
+    assert_eq!(rt; text.as_str(), wanted);
+}
+
+/// Compares replies with the texts that they print as.
+pub fn told_all(rt: &impl Abort, alloc: Global, replies: &[Reply], wanted: &[&str]) {
+    assert_eq!(rt; replies.len(), wanted.len());
+    for (reply, text) in replies.iter().zip(wanted) {
+        told(rt, alloc, reply, text);
+    }
+}
+
+/// Takes events one at a time, and compares each reply with the text that it prints as.
+pub fn takes(rt: &impl Abort, alloc: Global, core: &mut Core<Flat, u64>, rows: &[(Event, &str)]) {
+    for (event, wanted) in rows {
+        told(rt, alloc, &step(rt, core, *event), wanted);
+    }
+}

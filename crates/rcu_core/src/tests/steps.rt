@@ -1,13 +1,7 @@
 //! The machine over events: one after another, and all of a list.
-ghost use Rattle.std.specs.Prelude.{◌≡◌, length};
-
 use crate::event::Event;
 use crate::event_core::Core;
-use crate::reply::Reply;
-use crate::tests::machine::{core, core_of, flat, refused, run, step};
-use rcu_barrier::visit::Visit;
-use rcu_node::answer::Answer;
-use rcu_seq::cookie::Cookie;
+use crate::tests::machine::{core, core_of, flat, lacks_memory, run, takes, told_all};
 use rcu_seq::fault::Fault;
 use std::alloc::Global;
 use std::process::Abort;
@@ -15,69 +9,40 @@ use std::process::Abort;
 /// A reader holds up the grace period that began after it, and its cookie.
 #[test]
 fn open_section_blocks(rt: HostRuntime) {
+    let rows = [
+        (Event::Online(1), "Online"),
+        (Event::Enter(1), "Depth(1)"),
+        (Event::Take, "Cookie(Cookie(4))"),
+        (Event::Begin, "Begun(1, 2)"),
+        (Event::Quiesce(1), "Fault(InSection)"),
+        (Event::Offline(1), "Fault(InSection)"),
+        (Event::Exit(1), "Depth(0)"),
+        (Event::Poll(4), "Polled(false)"),
+        (Event::Offline(1), "Moved(0)"),
+        (Event::End, "Fault(Waiting)"),
+    ];
     let mut core = core(&rt, rt.alloc(), 8);
-    assert!(rt; matches!(step(&rt, &mut core, Event::Online(1)), Reply::Online));
-    assert!(rt; matches!(step(&rt, &mut core, Event::Enter(1)), Reply::Depth(1)));
-    assert!(rt; matches!(step(&rt, &mut core, Event::Take), Reply::Cookie(Cookie(4))));
-    assert!(rt; matches!(step(&rt, &mut core, Event::Begin), Reply::Begun(1, 2)));
-    assert!(rt;
-        matches!(
-            step(&rt, &mut core, Event::Quiesce(1)),
-            Reply::Fault(Fault::InSection)
-        )
-    );
-    assert!(rt;
-        matches!(
-            step(&rt, &mut core, Event::Offline(1)),
-            Reply::Fault(Fault::InSection)
-        )
-    );
-    assert!(rt; matches!(step(&rt, &mut core, Event::Exit(1)), Reply::Depth(0)));
-    assert!(rt; matches!(step(&rt, &mut core, Event::Poll(4)), Reply::Polled(false)));
-    assert!(rt; matches!(step(&rt, &mut core, Event::Offline(1)), Reply::Moved(0)));
-    assert!(rt;
-        matches!(
-            step(&rt, &mut core, Event::End),
-            Reply::Fault(Fault::Waiting)
-        )
-    );
+    takes(&rt, rt.alloc(), &mut core, rows.as_slice());
 }
 
 /// Turns begin what is needed, wait, and end.
 #[test]
 fn turns_drive_a_grace_period(rt: HostRuntime) {
+    let rows = [
+        (Event::Turn, "Nothing"),
+        (Event::StartPoll, "Cookie(Cookie(4))"),
+        (Event::Turn, "Begun(1, 1)"),
+        (Event::Turn, "Waiting(1)"),
+        (Event::Note(0), "Noted(1, true)"),
+        (Event::Quiesce(0), "Made(1, Report { cpu: 0, tag: 1 })"),
+        (Event::Deliver(1), "Answer(Last)"),
+        (Event::Turn, "Ended(4)"),
+        (Event::Poll(4), "Polled(true)"),
+        (Event::StartPoll, "Cookie(Cookie(8))"),
+        (Event::Turn, "Fault(Exhausted)"),
+    ];
     let mut core = core(&rt, rt.alloc(), 4);
-    assert!(rt; matches!(step(&rt, &mut core, Event::Turn), Reply::Nothing));
-    assert!(rt;
-        matches!(
-            step(&rt, &mut core, Event::StartPoll),
-            Reply::Cookie(Cookie(4))
-        )
-    );
-    assert!(rt; matches!(step(&rt, &mut core, Event::Turn), Reply::Begun(1, 1)));
-    assert!(rt; matches!(step(&rt, &mut core, Event::Turn), Reply::Waiting(1)));
-    assert!(rt; matches!(step(&rt, &mut core, Event::Note(0)), Reply::Noted(1, true)));
-    assert!(rt; matches!(step(&rt, &mut core, Event::Quiesce(0)), Reply::Made(1, _)));
-    assert!(rt;
-        matches!(
-            step(&rt, &mut core, Event::Deliver(1)),
-            Reply::Answer(Answer::Last)
-        )
-    );
-    assert!(rt; matches!(step(&rt, &mut core, Event::Turn), Reply::Ended(4)));
-    assert!(rt; matches!(step(&rt, &mut core, Event::Poll(4)), Reply::Polled(true)));
-    assert!(rt;
-        matches!(
-            step(&rt, &mut core, Event::StartPoll),
-            Reply::Cookie(Cookie(8))
-        )
-    );
-    assert!(rt;
-        matches!(
-            step(&rt, &mut core, Event::Turn),
-            Reply::Fault(Fault::Exhausted)
-        )
-    );
+    takes(&rt, rt.alloc(), &mut core, rows.as_slice());
 }
 
 /// A list of events gets the replies that single steps get. (Of two growths in one list the second
@@ -95,51 +60,49 @@ fn a_run_replies_as_its_steps(rt: HostRuntime) {
         Event::Exit(1),
     ];
     let replies = run(&rt, &mut core, events.as_slice());
-    assert!(rt; replies.len() == 7);
-    assert!(rt; matches!(replies[0], Reply::Begun(1, 1)));
-    assert!(rt; matches!(replies[1], Reply::Online));
-    assert!(rt; matches!(replies[2], Reply::Noted(1, true)));
-    if matches!(replies[3], Reply::Fault(Fault::NoMemory)) {
-        refused(&rt, Fault::NoMemory);
-        assert!(rt; matches!(replies[4], Reply::Fault(Fault::NoReport)));
-        assert!(rt; matches!(replies[5], Reply::Fault(Fault::Waiting)));
+    let wanted = if lacks_memory(replies.as_slice()) {
+        [
+            "Begun(1, 1)",
+            "Online",
+            "Noted(1, true)",
+            "Fault(NoMemory)",
+            "Fault(NoReport)",
+            "Fault(Waiting)",
+            "Fault(NotOpen)",
+        ]
     } else {
-        assert!(rt; matches!(replies[3], Reply::Made(1, _)));
-        assert!(rt; matches!(replies[4], Reply::Answer(Answer::Last)));
-        assert!(rt; matches!(replies[5], Reply::Ended(4)));
-    }
-    assert!(rt; matches!(replies[6], Reply::Fault(Fault::NotOpen)));
+        [
+            "Begun(1, 1)",
+            "Online",
+            "Noted(1, true)",
+            "Made(1, Report { cpu: 0, tag: 1 })",
+            "Answer(Last)",
+            "Ended(4)",
+            "Fault(NotOpen)",
+        ]
+    };
+    told_all(&rt, rt.alloc(), replies.as_slice(), wanted.as_slice());
 }
 
 /// Each event that stores something; what follows one that was refused its growth, itself first, is
 /// answered as if the first had not been.
 #[test]
 fn refused_events_change_nothing(rt: HostRuntime) {
+    let rows = [
+        (Event::Online(1), "Online"),
+        (Event::Queue(1, 7), "Queued(1)"),
+        (Event::Queue(1, 8), "Queued(2)"),
+        (Event::Begin, "Begun(1, 2)"),
+        (Event::Awaits, "Awaits(CpuList { cpus: [0, 1] })"),
+        (Event::Quiesce(1), "Made(1, Report { cpu: 1, tag: 0 })"),
+        (Event::BarBegin, "BarBegun"),
+        (Event::Visit(1), "Visited(Marked)"),
+        (Event::Offline(1), "Moved(2)"),
+        (Event::BarTest, "BarWaits(2)"),
+        (Event::Awaits, "Awaits(CpuList { cpus: [0] })"),
+    ];
     let mut core = core(&rt, rt.alloc(), 8);
-    assert!(rt; matches!(step(&rt, &mut core, Event::Online(1)), Reply::Online));
-    assert!(rt; matches!(step(&rt, &mut core, Event::Queue(1, 7)), Reply::Queued(1)));
-    assert!(rt; matches!(step(&rt, &mut core, Event::Queue(1, 8)), Reply::Queued(2)));
-    assert!(rt; matches!(step(&rt, &mut core, Event::Begin), Reply::Begun(1, 2)));
-    assert!(rt; lists(&step(&rt, &mut core, Event::Awaits), &[0, 1]));
-    assert!(rt; matches!(step(&rt, &mut core, Event::Quiesce(1)), Reply::Made(1, _)));
-    assert!(rt; matches!(step(&rt, &mut core, Event::BarBegin), Reply::BarBegun));
-    assert!(rt;
-        matches!(
-            step(&rt, &mut core, Event::Visit(1)),
-            Reply::Visited(Visit::Marked)
-        )
-    );
-    assert!(rt; matches!(step(&rt, &mut core, Event::Offline(1)), Reply::Moved(2)));
-    assert!(rt; matches!(step(&rt, &mut core, Event::BarTest), Reply::BarWaits(2)));
-    assert!(rt; lists(&step(&rt, &mut core, Event::Awaits), &[0]));
-}
-
-/// Whether the reply lists these processors as awaited.
-fn lists(reply: &Reply, wanted: &[u32]) -> bool {
-    match reply {
-        Reply::Awaits(list) => list.as_slice() == wanted,
-        _ => false,
-    }
+    takes(&rt, rt.alloc(), &mut core, rows.as_slice());
 }
 
 /// Whether no machine opens, since this is no last number.
@@ -154,8 +117,8 @@ fn is_refused(rt: &impl Abort, alloc: Global, last: u64) -> bool {
 #[test]
 fn last_numbers(rt: HostRuntime) {
     for last in [4, 1 << 62] {
-        let reply = step(&rt, &mut core(&rt, rt.alloc(), last), Event::Begin);
-        assert!(rt; matches!(reply, Reply::Begun(1, 1)));
+        let mut core = core(&rt, rt.alloc(), last);
+        takes(&rt, rt.alloc(), &mut core, &[(Event::Begin, "Begun(1, 1)")]);
     }
     for last in [0, 6, (1 << 62) + 4, u64::MAX] {
         assert!(rt; is_refused(&rt, rt.alloc(), last));
@@ -164,12 +127,13 @@ fn last_numbers(rt: HostRuntime) {
 
 #[test]
 fn sizes(rt: HostRuntime) {
-    for cpus in [1, 4096] {
+    for (cpus, reply_of_last) in [(1, "Noted(0, false)"), (4096, "Fault(Offline)")] {
         let mut core = core_of(&rt, rt.alloc(), cpus, 8);
-        let beyond = step(&rt, &mut core, Event::Note(cpus));
-        assert!(rt; matches!(beyond, Reply::Fault(Fault::BadCpu)));
-        let last = step(&rt, &mut core, Event::Note(cpus - 1));
-        assert!(rt; matches!(last, Reply::Noted(0, false) | Reply::Fault(Fault::Offline)));
+        let rows = [
+            (Event::Note(cpus), "Fault(BadCpu)"),
+            (Event::Note(cpus - 1), reply_of_last),
+        ];
+        takes(&rt, rt.alloc(), &mut core, rows.as_slice());
     }
 }
 
@@ -200,39 +164,29 @@ fn events_without_memory(rt: HostRuntime) {
         Event::Begin,
         Event::BarTest,
     ];
+    let wanted = [
+        "Online",
+        "Depth(1)",
+        "Depth(0)",
+        "Noted(0, false)",
+        "Cookie(Cookie(4))",
+        "Cookie(Cookie(4))",
+        "Polled(false)",
+        "Awaits(CpuList { cpus: [] })",
+        "Ran(ValueList { calls: [] })",
+        "Tended(0, 0)",
+        "BarBegun",
+        "Visited(Empty)",
+        "Visited(Already)",
+        "BarWaits(1)",
+        "Begun(1, 2)",
+        "Moved(0)",
+        "Fault(NoReport)",
+        "Waiting(1)",
+        "Fault(Waiting)",
+        "Fault(Running)",
+        "BarDone",
+    ];
     let replies = run(&rt, &mut core, events.as_slice());
-    assert!(rt; replies.len() == 21);
-    readers_need_none(&rt, replies.as_slice());
-    the_rest_needs_none(&rt, replies.as_slice());
-}
-
-fn readers_need_none(rt: &impl Abort, replies: &[Reply])
-    requires { length replies.now ≡ 21 }
-{
-    assert!(rt; matches!(replies[0], Reply::Online));
-    assert!(rt; matches!(replies[1], Reply::Depth(1)));
-    assert!(rt; matches!(replies[2], Reply::Depth(0)));
-    assert!(rt; matches!(replies[3], Reply::Noted(0, false)));
-    assert!(rt; matches!(replies[4], Reply::Cookie(Cookie(4))));
-    assert!(rt; matches!(replies[5], Reply::Cookie(Cookie(4))));
-    assert!(rt; matches!(replies[6], Reply::Polled(false)));
-    assert!(rt; matches!(&replies[7], Reply::Awaits(list) if list.as_slice().is_empty()));
-    assert!(rt; matches!(&replies[8], Reply::Ran(list) if list.is_empty()));
-    assert!(rt; matches!(replies[9], Reply::Tended(0, 0)));
-}
-
-fn the_rest_needs_none(rt: &impl Abort, replies: &[Reply])
-    requires { length replies.now ≡ 21 }
-{
-    assert!(rt; matches!(replies[10], Reply::BarBegun));
-    assert!(rt; matches!(replies[11], Reply::Visited(Visit::Empty)));
-    assert!(rt; matches!(replies[12], Reply::Visited(Visit::Already)));
-    assert!(rt; matches!(replies[13], Reply::BarWaits(1)));
-    assert!(rt; matches!(replies[14], Reply::Begun(1, 2)));
-    assert!(rt; matches!(replies[15], Reply::Moved(0)));
-    assert!(rt; matches!(replies[16], Reply::Fault(Fault::NoReport)));
-    assert!(rt; matches!(replies[17], Reply::Waiting(1)));
-    assert!(rt; matches!(replies[18], Reply::Fault(Fault::Waiting)));
-    assert!(rt; matches!(replies[19], Reply::Fault(Fault::Running)));
-    assert!(rt; matches!(replies[20], Reply::BarDone));
+    told_all(&rt, rt.alloc(), replies.as_slice(), wanted.as_slice());
 }
