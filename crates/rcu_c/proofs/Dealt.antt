@@ -1,5 +1,5 @@
 -- Lists that are made of the numbers in a row.
-use Rattle.std.proofs.Common.{◌≡◌, ℕ, suc, ◌+◌, ◌-◌, ◌<◌, List, [], ◌∷◌, length, map, sym, ap, ◌∙◌, arith}
+use Rattle.std.proofs.Common.{◌≡◌, ℕ, suc, ◌+◌, ◌-◌, ◌<◌, List, [], ◌∷◌, map, sym, ap, ◌∙◌, arith}
 use Rattle.std.specs.List.{range_with_len}
 
 -- the first of what is made of the numbers from i up to n, and the others
@@ -14,13 +14,6 @@ head_or x (y ∷ ys) = y
 abbrev tail_of : {A : Type 0} → List A → List A
 tail_of [] = []
 tail_of (y ∷ ys) = ys
-
--- a list made so is not empty
-pub not_over : {A : Type 0} (f : ℕ → A) (i n : ℕ) (l : List A) → i < n → l ≡ map f (range_with_len i (n - i)) → l ≡ []
-    → ⊥
-not_over f i n l low made over =
-    let e : [] ≡ f i ∷ map f (range_with_len (i + 1) (n - (i + 1))) = sym over ∙ made ∙ first f i n low in
-    omega (arith, ap (λ l. length l) e)
 
 -- what comes first of it
 pub one_came : {A : Type 0} (f : ℕ → A) (i n : ℕ) (l left : List A) (x : A) → i < n

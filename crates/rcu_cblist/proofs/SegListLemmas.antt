@@ -20,11 +20,6 @@ use Rattle.rcu_cblist.specs.SegList.{numbers, remarked, take_answer, without_mar
 pub marker_more : {X : Type 0} (xs : List (Item X)) → markers (Marker ∷ xs) ≡ 1 + markers xs
 marker_more xs = sum_by-cons (λ x. if is_marker x then 1 else 0) Marker xs
 
--- a callback in front is none
-pub callback_more : {X : Type 0} (call : Queued X) (mark : Mark) (xs : List (Item X)) →
-    markers (Of call mark ∷ xs) ≡ 0 + markers xs
-callback_more call mark xs = sum_by-cons (λ x. if is_marker x then 1 else 0) (Of call mark) xs
-
 -- the markers of two lists together
 pub markers_append : {X : Type 0} (xs ys : List (Item X)) → markers (xs ++ ys) ≡ markers xs + markers ys
 markers_append xs ys = sum_by-append (λ x. if is_marker x then 1 else 0) xs ys

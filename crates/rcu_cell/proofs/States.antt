@@ -1,6 +1,6 @@
 -- The states of the slots, as the keeper has them beside the versions.
-use Rattle.std.proofs.Common.{◌≡◌, ◌≢◌, ℕ, zero, suc, ◌+◌, ◌-◌, ◌<◌, true, false, List, [], ◌∷◌, length, map, get_or}
-use Rattle.std.proofs.Common.{replicate, set, refl, sym, ap, ◌∙◌, subst, arith, length-set}
+use Rattle.std.proofs.Common.{◌≡◌, ◌≢◌, ℕ, zero, suc, ◌-◌, ◌<◌, true, false, List, [], ◌∷◌, length, map, get_or}
+use Rattle.std.proofs.Common.{replicate, set, refl, sym, ap, ◌∙◌, arith, length-set}
 use Rattle.std.proofs.lemmas.List.{ext_get_or, get_or-replicate, get_or-set_other, get_or-set_same, length-replicate}
 use Rattle.std.proofs.lemmas.List.{set-get_or}
 use mathlib.Core.Logic.{dite}
@@ -110,15 +110,6 @@ pub sized_aged : (width : ℕ) (n : Number) (s : List Version) → AreSized widt
 sized_aged width n s sized = λ j low.
     ap (λ (v : Version). length v.words) (at_map_or (aged_version n) s j no_version)
     ∙ sized j (let long = length-map s (aged_version n) in omega (arith, long, low))
-
--- the states that were brought up to the number so far
-pub aged_more : (n : Number) (old items : List SlotState) (k : ℕ) (x : SlotState) → k < length items
-    → x ≡ aged_state n (get_or old k Free)
-    → ((j : ℕ) → j < k → get_or items j Free ≡ aged_state n (get_or old j Free)) → (j : ℕ) → j < k + 1
-    → get_or (set items k x) j Free ≡ aged_state n (get_or old j Free)
-aged_more n old items k x low is before j small = dite (ℕ_discrete j k)
-    (λ (e : j ≡ k). subst (λ (m : ℕ). get_or (set items k x) m Free ≡ aged_state n (get_or old m Free)) (sym e) (get_or-set_same items k x Free low ∙ is))
-    (λ (apart : j ≢ k). get_or-set_other items k j x Free apart ∙ before j (omega (arith, small, apart)))
 
 pub aged_all : (n : Number) (old items : List SlotState) → length items ≡ length old
     → ((j : ℕ) → j < length old → get_or items j Free ≡ aged_state n (get_or old j Free))

@@ -4,7 +4,7 @@ use Rattle.std.proofs.Common.{get_or, slice_set, replicate, refl, sym, ap, ap₂
 use Rattle.std.specs.Prelude.{◌==◌, All}
 use Rattle.std.specs.List.{range_with_len}
 use Rattle.std.proofs.lemmas.Bool.{cases_eq, cases_lt}
-use Rattle.std.proofs.lemmas.List.{get_or_read_under, set-get_or, get_or-set_same, get_or-set_other, get_or_past}
+use Rattle.std.proofs.lemmas.List.{get_or_read_under, get_or-set_same, get_or-set_other, get_or_past}
 use Rattle.std.proofs.lemmas.List.{length-replicate, length-set}
 use Rattle.std.proofs.lemmas.List.Elements.{All-append}
 use Rattle.std.proofs.lemmas.List.FromFn.{get_or-map-range_with_len, length-map-range_with_len, map-range_with_len_more}
@@ -150,13 +150,6 @@ pub at_place : (v : State ℕ) (cpu : ℕ) (p : Processor) → IsSound v → cpu
     → p ≡ get_or v.cpus cpu p → p ≡ processor v.cpus cpu
 at_place v cpu p s l e =
     get_or_read_under v.cpus cpu (cpus_of v.grace.processors) p (made_processor cpu false) e l (sym s.sized)
-
--- put back, it changes nothing
-pub put_back : (v : State ℕ) (cpu : ℕ) (p q : Processor) → q ≡ p → p ≡ processor v.cpus cpu
-    → record v { cpus = slice_set v.cpus cpu q } ≡ v
-put_back v cpu p q f e =
-    ap (λ (cpus : List Processor). record v { cpus = cpus }) (ap (λ (r : Processor). slice_set v.cpus cpu r) (f ∙ e)
-    ∙ set-get_or v.cpus cpu (made_processor cpu false))
 
 -- how many processors there are at the start
 pub first_count : (n last : ℕ) (g : Grace ℕ) → g ≡ at_first n last → cpus_of g.processors ≡ n

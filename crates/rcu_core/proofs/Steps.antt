@@ -1,5 +1,5 @@
 -- Steps on states, over plain variables.
-use Rattle.std.proofs.Common.{◌≡◌, ◌&&◌, ℕ, ◌+◌, ◌<◌, ◌++◌, ◌∷◌, [], List, Bool, true, false, not, cond, length, Option}
+use Rattle.std.proofs.Common.{◌≡◌, ◌&&◌, ℕ, ◌+◌, ◌<◌, [], List, Bool, true, false, not, cond, length, Option}
 use Rattle.std.proofs.Common.{Some, None, refl, sym, ap, ap₂, ◌∙◌, arith, inl, inr, subst}
 use Rattle.std.specs.Prelude.{nat_lt, ◌==◌, if◌then◌else◌}
 use Rattle.std.proofs.lemmas.Bool.Decides.{nat_tests}
@@ -13,7 +13,6 @@ use Rattle.rcu_node.specs.declared.answer.Answer.{Answer}
 use Rattle.rcu_node.specs.declared.answer.Answer.TheVariants.{Taken, Last, Repeat, Stale}
 use Rattle.rcu_report.specs.declared.report.Report.{Report}
 use Rattle.rcu_hotplug.specs.Hotplug.{cpus_of}
-use Rattle.rcu_cpu.specs.CpuData.{deepest, report_of}
 use Rattle.rcu_cblist.specs.SegList.{Item, behind, callbacks, front}
 use Rattle.rcu_barrier.specs.Lists.{barrier_left, list_of, barrier_test_answer}
 use Rattle.rcu_barrier.specs.Tending.{after_tend}
@@ -25,9 +24,9 @@ use Rattle.rcu_core.specs.GpState.{periods_of, report_answer_in, turn_answer, tu
 use Rattle.rcu_core.specs.Situation.{wants_begin}
 use Rattle.rcu_core.specs.History.{report_at}
 use Rattle.rcu_core.specs.Replies.{fault_in, accepted_reply, or_fault, how_many, answer_to_report, waits_for}
-use Rattle.rcu_core.specs.Core.{State, IsSound, StepsLegally, says, after_event, after_reply, processor, size_at}
+use Rattle.rcu_core.specs.Core.{State, IsSound, StepsLegally, says, after_event, after_reply, size_at}
 use Rattle.rcu_core.specs.declared.event.Event.{Event}
-use Rattle.rcu_core.specs.declared.event.Event.TheVariants.{Enter, Quiesce, Deliver, Begin, End, Turn, Awaits, Tend}
+use Rattle.rcu_core.specs.declared.event.Event.TheVariants.{Deliver, Begin, End, Turn, Awaits, Tend}
 use Rattle.rcu_core.specs.declared.event.Event.TheVariants.{BarTest}
 use Rattle.rcu_core.specs.declared.reply.Reply.{Reply}
 use Rattle.rcu_core.specs.declared.reply.Reply.TheVariants as reply
@@ -165,70 +164,6 @@ does_want v some =
     let one : nat_lt 0 (how_many (size_at v) (is_in v.grace.processors.awaited)) ≡ true =
     rw (awaited_size v) (grind (arith, nat_tests)) in
     record { legal = inr (one, refl, refl); left = refl }
-
--- a section is opened, or nests one deeper
-pub does_enter : (v w : State ℕ) (cpu depth : ℕ) → IsSound v → cpu < cpus_of v.grace.processors
-    → (processor v.cpus cpu).online ≡ true
-    → (processor v.cpus cpu).depth < deepest → depth ≡ (processor v.cpus cpu).depth + 1
-    → w ≡ after_event v (Enter cpu) → StepsLegally v (Enter cpu) (reply.Depth depth) w
-does_enter v w cpu depth s within on room deeper kept =
-    let present = sym (s.present cpu) ∙ on in
-    record {
-      legal = inl (says_so v (Enter cpu) (reply.Depth depth) (grind (arith, nat_tests, present, room))
-          (ap (λ n. reply.Depth n) deeper));
-      left = kept;
-    }
-
--- an enter is refused where the processor is offline, and else where its sections nest as deep as they may
-pub refuses_enter : (v w : State ℕ) (cpu : ℕ) (f : Fault) → IsSound v → cpu < cpus_of v.grace.processors
-    → ((processor v.cpus cpu).online ≡ false → f ≡ fault.Offline)
-    → ((processor v.cpus cpu).online ≡ true → (f ≡ fault.NestFull) × ((processor v.cpus cpu).depth ≡ deepest))
-    → w ≡ v → StepsLegally v (Enter cpu) (reply.Fault f) w
-refuses_enter v w cpu f s within off full kept = go (is_in v.grace.processors.online cpu) refl
-  where
-    go : (on : Bool) → is_in v.grace.processors.online cpu ≡ on → StepsLegally v (Enter cpu) (reply.Fault f) w
-    go false e = let same = off (s.present cpu ∙ e) in
-        does_refuse v w (Enter cpu) f (rw same (grind (arith, nat_tests, e))) kept
-    go true e = let same = full (s.present cpu ∙ e) in
-        does_refuse v w (Enter cpu) f (rw same.0 (grind (arith, nat_tests, e, same.1))) kept
-
-quiet_fault : (v : State ℕ) (cpu : ℕ) → IsSound v → cpu < cpus_of v.grace.processors
-    → (processor v.cpus cpu).online ≡ true → (processor v.cpus cpu).depth ≡ 0
-    → fault_in (size_at v) (says v) (Quiesce cpu) ≡ None
-quiet_fault v cpu s within on none = let present = sym (s.present cpu) ∙ on in grind (arith, nat_tests, present, none)
-
--- a quiescent state makes a report
-pub does_make : (v w : State ℕ) (cpu place : ℕ) (report : Report) → IsSound v → cpu < cpus_of v.grace.processors
-    → (processor v.cpus cpu).online ≡ true
-    → (processor v.cpus cpu).depth ≡ 0 → report ≡ report_of (processor v.cpus cpu) → place ≡ length v.made + 1
-    → w ≡ record v { made = v.made ++ report ∷ [] } → StepsLegally v (Quiesce cpu) (reply.Made place report) w
-does_make v w cpu place report s within on none made count kept =
-    let own : report ≡ record { cpu = cpu; tag = (processor v.cpus cpu).noted } = made ∙ rw (s.placed cpu) refl in
-    record {
-      legal = inl (says_so v (Quiesce cpu) (reply.Made place report) (quiet_fault v cpu s within on none)
-          (ap₂ (λ n r. reply.Made n r) count own));
-      left = kept ∙ rw made refl;
-    }
-
--- its report is refused where there is no room for it
-pub wants_room : (v w : State ℕ) (cpu : ℕ) → IsSound v → cpu < cpus_of v.grace.processors
-    → (processor v.cpus cpu).online ≡ true
-    → (processor v.cpus cpu).depth ≡ 0 → w ≡ v → StepsLegally v (Quiesce cpu) (reply.Fault fault.NoMemory) w
-wants_room v w cpu s within on none kept =
-    record { legal = inr (refl, quiet_fault v cpu s within on none, refl); left = kept }
-
--- no report is made where the processor is offline, and else where a section is open
-pub refuses_quiet : (v w : State ℕ) (cpu : ℕ) (f : Fault) → IsSound v → cpu < cpus_of v.grace.processors
-    → ((processor v.cpus cpu).online ≡ false → f ≡ fault.Offline)
-    → ((processor v.cpus cpu).online ≡ true → (f ≡ fault.InSection) × (0 < (processor v.cpus cpu).depth))
-    → w ≡ v → StepsLegally v (Quiesce cpu) (reply.Fault f) w
-refuses_quiet v w cpu f s within off inside kept = go (is_in v.grace.processors.online cpu) refl
-  where
-    go : (on : Bool) → is_in v.grace.processors.online cpu ≡ on → StepsLegally v (Quiesce cpu) (reply.Fault f) w
-    go false e = let same = off (s.present cpu ∙ e) in
-        does_refuse v w (Quiesce cpu) f (rw same (grind (arith, nat_tests, e))) kept
-    go true e = let same = inside (s.present cpu ∙ e) in
-        does_refuse v w (Quiesce cpu) f (rw same.0 (grind (arith, nat_tests, e, same.1))) kept
 
 -- a list is tended
 pub does_tend : (v w : State ℕ) (cpu done waiting : ℕ) → IsSound v → cpu < cpus_of v.grace.processors

@@ -1,7 +1,7 @@
 -- Facts on numbers and own words.
-use Rattle.std.proofs.Common.{◌≡◌, ◌≢◌, ℕ, ◌+◌, ◌<◌, ◌≤◌, true, false, arith}
+use Rattle.std.proofs.Common.{◌≡◌, ◌≢◌, ℕ, ◌+◌, ◌≤◌, true, false, arith}
 use Rattle.std.proofs.lemmas.Bool.Decides.{nat_tests}
-use Rattle.rcu_seq.specs.Numbers.{Number, snapshot}
+use Rattle.rcu_seq.specs.Numbers.{Number}
 use Rattle.rcu_live.specs.Numbers.{is_own_word, is_past, is_open_at}
 use Rattle.rcu_live.specs.Words.{place}
 
@@ -24,10 +24,6 @@ not_past n = grind (arith, nat_tests)
 -- a section that is not past may be open
 pub open_at : (n at : Number) → at ≤ n → is_past at n ≡ false → is_open_at n at ≡ true
 open_at n at up current = grind (arith, nat_tests)
-
--- a number that is not past is below the snapshot
-pub below_snapshot : (n at : Number) → is_past at n ≡ false → n < snapshot at
-below_snapshot n at current = grind (arith, nat_tests)
 
 -- processors have places of their own, and the number's is none of them
 pub places_apart : (a b : ℕ) → a ≢ b → place a ≢ place b

@@ -1,8 +1,7 @@
 -- One bit of a word: what a test tells, and what a write makes.
-use Rattle.std.proofs.Common.{◌≡◌, ◌≢◌, ℕ, ◌*◌, ◌/◌, ◌%◌, ◌^◌, ◌<◌, ◌≤◌, ◌==◌, ◌||◌, refl, sym, ◌∙◌, arith, inl, inr}
+use Rattle.std.proofs.Common.{◌≡◌, ◌≢◌, ℕ, ◌*◌, ◌/◌, ◌%◌, ◌^◌, ◌<◌, ◌==◌, ◌||◌, refl, sym, ◌∙◌, arith}
 use Rattle.std.proofs.Common.{true, false, bit_and, bit_or}
 use Rattle.std.specs.Int.{bit_at, bit_not, w64}
-use Rattle.std.proofs.lemmas.Bool.{cases_lt}
 use Rattle.std.proofs.lemmas.Bool.Decides.{nat_tests}
 use Rattle.std.proofs.lemmas.Nat.Bits.{shr_and_one, bit_at_set_same, bit_at_set_other, bit_at_clear_same}
 use Rattle.std.proofs.lemmas.Nat.Bits.{bit_at_clear_other, bit_at-zero, bit_at-lt, bit_at_and, bit_at_or}
@@ -51,14 +50,6 @@ unfolding has_bit
 has_bit_and_none word other i h =
     let none = no_bit word i h in
     let part : bit_at (bit_and word other) i ≡ 0 = omega (arith, bit_at_and word other i, none) in rw part refl
-
--- where a bit beyond a word is not set, it is not set once another is cleared
-pub has_bit_clear_rest : (word k i : ℕ) → k < 64 → i ≢ k → (64 ≤ i → has_bit word i ≡ false)
-    → has_bit (bit_and word (bit_not w64 (1 * 2 ^ k % 2 ^ 64))) i ≡ has_bit word i
-has_bit_clear_rest word k i l n beyond = elim (cases_lt i 64) [
-  | inl m ↦ has_bit_clear_other word k i l m n
-  | inr m ↦ has_bit_and_none word (bit_not w64 (1 * 2 ^ k % 2 ^ 64)) i (beyond m) ∙ sym (beyond m)
-]
 
 -- a word without a bit is zero
 pub no_bits : (word : ℕ) → ((i : ℕ) → has_bit word i ≡ false) → word ≡ 0

@@ -1,48 +1,19 @@
 -- Each node's bit in its parent, and nodes without any other bit.
-use Rattle.std.proofs.Common.{◌≡◌, ℕ, zero, suc, ◌+◌, ◌*◌, ◌%◌, ◌^◌, ◌<◌, ◌≤◌, ◌==◌, false, not, List, ◌∷◌, map, length}
-use Rattle.std.proofs.Common.{slice_index, slice_set, replicate, refl, sym, ap, ◌∙◌, arith, inl, inr, ne_eqb, Option}
+use Rattle.std.proofs.Common.{◌≡◌, ℕ, zero, suc, ◌*◌, ◌%◌, ◌^◌, ◌<◌, ◌==◌, false, not, List, ◌∷◌, map, length}
+use Rattle.std.proofs.Common.{slice_index, replicate, refl, sym, ap, ◌∙◌, arith, inl, inr, ne_eqb, Option}
 use Rattle.std.proofs.Common.{Some, None, if◌then◌else◌}
 use Rattle.std.proofs.lemmas.Bool.{cases_eq, cases_lt}
 use Rattle.std.proofs.lemmas.Nat.{one_shl}
-use Rattle.std.proofs.lemmas.List.{get_or_past, get_or-replicate, get_or-set_same, get_or-set_other, length-replicate}
-use Rattle.std.proofs.lemmas.List.{length-set}
+use Rattle.std.proofs.lemmas.List.{get_or_past, get_or-replicate, length-replicate}
 use Rattle.rcu_geometry.specs.Geometry.{Shape, IsLegalShape, nodes, parent, bit_in_parent, leaf_of, bit_of}
 use Rattle.rcu_geometry.proofs.Places.{has_parent}
-use Rattle.rcu_node.specs.Masks.{AreGroups, AreLinked, group_of, members}
-use Rattle.rcu_node.specs.Steps.{AreMarked}
+use Rattle.rcu_node.specs.Masks.{AreLinked, group_of, members}
 use Rattle.rcu_node.specs.Words.{has_bit}
 use Rattle.rcu_node.specs.declared.node.Node.{Node}
 use Rattle.rcu_node.proofs.Bits.{has_bit-zero}
 use Rattle.rcu_node.proofs.CpuSetLemmas.{listed_none}
 use Rattle.rcu_node.proofs.Members.{cpu_bit}
 use Rattle.rcu_node.proofs.OneBit.{not_empty}
-
--- at first none is marked
-pub marked_none : (s : Shape) (masks : List ℕ) → length masks ≡ nodes s → AreMarked s masks 0
-marked_none s masks sized = record {
-  sized = sized;
-  bit = λ k below here. absurd (let no : ⊥ = omega arith in no);
-}
-
--- one more is marked
-pub marked_more : (s : Shape) (masks new : List ℕ) (node mask : ℕ) → AreMarked s masks node → node < nodes s
-    → mask ≡ group_of s node → new ≡ slice_set masks node mask → AreMarked s new (node + 1)
-marked_more s masks new node mask before here is written =
-    let there : node < length masks = omega (arith, before.sized, here) in
-    rw written (record {
-      sized = length-set masks node mask ∙ before.sized;
-      bit = λ k below k_here. elim (cases_eq k node) [
-        | inl same ↦ rw (same, get_or-set_same masks node mask 0 there) is
-        | inr other ↦ get_or-set_other masks node k mask 0 other ∙ before.bit k (grind (arith, below, other)) k_here
-      ];
-    })
-
--- in the end all are
-pub marked_all : (s : Shape) (masks : List ℕ) (node : ℕ) → nodes s ≤ node → AreMarked s masks node → AreGroups s masks
-marked_all s masks node last marked = record {
-  sized = marked.sized;
-  bit = λ k here. marked.bit k (omega arith) here;
-}
 
 -- masks of zeros have no bit
 zero_at : (n k : ℕ) → slice_index (replicate n 0) k ≡ 0

@@ -99,14 +99,6 @@ end_here s masks node before some = record {
   ];
 }
 
--- or at the root
-pub end_root : (s : Shape) (masks : List ℕ) (node : ℕ) → AreLinkedBut s masks node → node ≡ 0 → AreLinked s masks
-end_root s masks node before root = record {
-  owned = before.owned;
-  inner =
-      λ child some here. before.inner child some here (λ it. absurd (let no : ⊥ = omega (arith, it, root, some) in no));
-}
-
 -- what a step leaves
 pub record IsStepped (s : Shape) (masks new : List ℕ) (node : ℕ) (set : List Bool) : Type 0 where
   pub cleared : AreLinkedBut s new node

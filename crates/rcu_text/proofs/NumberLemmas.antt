@@ -1,8 +1,8 @@
 -- Printed numbers read back.
 use Rattle.std.proofs.Common.{◌≡◌, ◌∙◌, ◌<◌, ◌≤◌, ◌+◌, ◌*◌, ◌-◌, ◌/◌, ◌%◌, ◌^◌, ◌&&◌, ℕ, zero, suc, Bool, true, false}
-use Rattle.std.proofs.Common.{List, [], ◌∷◌, ◌++◌, length, replicate, take, drop, Option, Some, None, Result, Ok, Err}
+use Rattle.std.proofs.Common.{List, [], ◌∷◌, ◌++◌, length, replicate, take, drop, Some, None, Result, Ok, Err}
 use Rattle.std.proofs.Common.{refl, sym, ap, ap₂, arith, length-append, length-drop, take-append-drop, if◌then◌else◌}
-use Rattle.std.specs.Prelude.{IfSome, decimal, nat_le, nat_lt}
+use Rattle.std.specs.Prelude.{decimal, nat_le, nat_lt}
 use Rattle.std.specs.List.{list_all}
 use Rattle.std.specs.Result.{OkIff, result_ok}
 use Rattle.std.proofs.Math.Nat.{pow-le-pow_right}
@@ -153,22 +153,3 @@ long_read word front last a b c d t n of_front of_last first later wide wide2 h 
         go : (u : Bool) → nat_lt (value_of word) (2 ^ 64) ≡ u → None ≡ (if u then Some (value_of word) else None)
         go false f = refl
         go true f = absurd (h (grind (arith, nat_tests)))
-
--- a number of at most 19 digits fits
-pub short_number : (word : List ℕ) (r : Option ℕ) → 0 < length word → length word ≤ 20
-    → r ≡ (if list_all is_digit word then Some (value_of word) else None) → IfSome r (λ n. n < 2 ^ 64)
-    → r ≡ number_in_word word
-short_number word r some short is fits =
-    let a : nat_lt 0 (length word) ≡ true = grind (arith, nat_tests) in
-    let b : nat_le (length word) 20 ≡ true = grind (arith, nat_tests) in
-    is ∙ sym (rw (a, b) (by_digits (list_all is_digit word) refl))
-  where
-    by_digits : (t : Bool) → list_all is_digit word ≡ t
-        → (if t && nat_lt (value_of word) (2 ^ 64) then Some (value_of word) else None)
-        ≡ (if t then Some (value_of word) else None)
-    by_digits false e = refl
-    by_digits true e =
-        let found : r ≡ Some (value_of word) = rw e at is in
-        let low : value_of word < 2 ^ 64 = rw found at fits in
-        let fits : nat_lt (value_of word) (2 ^ 64) ≡ true = grind (arith, nat_tests) in
-        rw fits refl

@@ -1,9 +1,7 @@
 -- The first byte that passes a test.
-use Rattle.std.proofs.Common.{◌≡◌, ◌≢◌, ◌==◌, ◌<◌, ◌≤◌, ℕ, suc, Bool, true, false, not, List, [], ◌∷◌, ◌++◌, length}
-use Rattle.std.proofs.Common.{take, drop, Option, Some, None, refl, sym, ap, ◌∙◌, arith, take-append-drop}
+use Rattle.std.proofs.Common.{◌≡◌, ◌≢◌, ◌==◌, ◌<◌, ◌≤◌, ℕ, suc, Bool, true, false, not, List, [], ◌∷◌, length}
+use Rattle.std.proofs.Common.{take, drop, Option, refl, ap, ◌∙◌, arith}
 use Rattle.std.proofs.lemmas.Bool.Decides.{nat_tests}
-use Rattle.std.proofs.Common.{ap₂}
-use Rattle.std.proofs.lemmas.List.{take_all}
 use Rattle.std.proofs.lemmas.List.Elements.{All-cons, All-nil}
 use Rattle.std.proofs.lemmas.List.Sums.{prefix_len-le-length}
 use Rattle.std.specs.Prelude.{All, position, nat_lt, unwrap_or}
@@ -33,30 +31,6 @@ place_there p xs o n found is =
     ∙ place_or_length p xs in
     let most = place_fits p xs in
     (same, omega arith)
-
-pub place_none : (p : ℕ → Bool) (xs : List ℕ) → None ≡ position p xs → position_or_len p xs ≡ length xs
-place_none p xs none = go (nat_lt (position_or_len p xs) (length xs)) refl none
-  where
-    go : (t : Bool) → nat_lt (position_or_len p xs) (length xs) ≡ t → None ≡ position p xs
-        → position_or_len p xs ≡ length xs
-    go true e none = let bad : None ≡ Some (position_or_len p xs) = rw e at none in cc
-    go false e none =
-        let most = place_fits p xs in
-        let least : length xs ≤ position_or_len p xs = grind (arith, nat_tests) in
-        omega arith
-
-pub place_some : (p : ℕ → Bool) (xs : List ℕ) (i : ℕ) → Some i ≡ position p xs → (i ≡ position_or_len p xs)
-    × (i < length xs)
-place_some p xs i some = go (nat_lt (position_or_len p xs) (length xs)) refl some
-  where
-    go : (t : Bool) → nat_lt (position_or_len p xs) (length xs) ≡ t → Some i ≡ position p xs
-        → (i ≡ position_or_len p xs) × (i < length xs)
-    go true e some =
-        let same : Some i ≡ Some (position_or_len p xs) = rw e at some in
-        let k : i ≡ position_or_len p xs = cc in
-        let lt : position_or_len p xs < length xs = grind (arith, nat_tests) in
-        (k, omega arith)
-    go false e some = let bad : Some i ≡ None = rw e at some in cc
 
 -- ---- a line end
 
@@ -103,21 +77,3 @@ end_stands (b ∷ bs) lt = go (is_end b) refl lt (end_stands bs)
     go false e lt ih =
         let n = place_later b bs e in
         rw n (ih (omega arith))
-
-pub no_line_ends : (bs : List ℕ) → None ≡ position (λ b. b == 10) bs → All (λ b. b ≢ 10) bs
-no_line_ends bs none =
-    let all : take (end_place bs) bs ≡ bs = take_all (end_place bs) bs (omega (arith, place_none is_end bs none)) in
-    rw all at (front_open bs)
-
-pub line_ends : (bs front back behind : List ℕ) (i : ℕ) → Some i ≡ position (λ b. b == 10) bs → front ≡ take i bs
-    → back ≡ drop i bs → behind ≡ drop 1 back
-    → (bs ≡ front ++ 10 ∷ behind) × All (λ b. b ≢ 10) front
-line_ends bs front back behind i some f k b =
-    let at = place_some is_end bs i some in
-    let place : i ≡ end_place bs = at.0 in
-    let there : end_place bs < length bs = omega (arith, at.1) in
-    let whole : bs ≡ take (end_place bs) bs ++ (10 ∷ drop 1 (drop (end_place bs) bs)) =
-    sym (take-append-drop (end_place bs) bs) ∙ ap (λ (l : List ℕ). take (end_place bs) bs ++ l) (end_stands bs there) in
-    let f2 : front ≡ take (end_place bs) bs = f ∙ ap (λ (n : ℕ). take n bs) place in
-    let b2 : behind ≡ drop 1 (drop (end_place bs) bs) = b ∙ ap (drop 1) (k ∙ ap (λ (n : ℕ). drop n bs) place) in
-    (whole ∙ ap₂ (λ (x y : List ℕ). x ++ 10 ∷ y) (sym f2) (sym b2), rw (← f2) at (front_open bs))

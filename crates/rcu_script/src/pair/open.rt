@@ -1,5 +1,8 @@
 //! The opening of a pair.
 ghost use Rattle.std.specs.Prelude.{◌≡◌, None, Some, IfOk, IfErr, OnOk};
+ghost use Rattle.rcu_geometry.specs.Geometry.{refusal, shape};
+ghost use Rattle.rcu_report.specs.Replica.{at_first};
+ghost use Rattle.rcu_script.specs.Opening.{machine_fault};
 ghost use Rattle.rcu_script.specs.PairRuns.{shapes_fault, trees_fault};
 ghost use Rattle.rcu_script.specs.PairState.{pair_at};
 ghost use Rattle.rcu_script.specs.RunEnds.{IsRefusedBy};
@@ -29,9 +32,36 @@ pub fn open_pair<const LEAF: u32, const INNER: u32, const LEAF2: u32, const INNE
 {
     test_shapes::<LEAF, INNER, LEAF2, INNER2>(cpus)?;
     let _counter = Seq::new(last)?;
-    let a = Replica::new(Tree::<LEAF, INNER>::new(alloc, cpus)?, last)?;
-    let b = Replica::new(Tree::<LEAF2, INNER2>::new(alloc, cpus)?, last)?;
-    Ok(PairMachine::new(a, b, CpuSet::new(alloc, cpus)?))
+    make_pair(alloc, cpus, last)
+}
+
+/// Two fresh replicas, of which only memory can be wanting.
+fn make_pair<const LEAF: u32, const INNER: u32, const LEAF2: u32, const INNER2: u32>(
+    alloc: Global,
+    cpus: u32,
+    last: u64,
+) -> Result<PairMachine<Tree<LEAF, INNER>, Tree<LEAF2, INNER2>>, Fault>
+    requires { trees_fault LEAF INNER LEAF2 INNER2 cpus last ≡ None }
+    ensures ok { IfOk result (λ machine. machine ≡ pair_at (record { cpus = cpus; last = last })) }
+    ensures err { IfErr result (λ fault. fault ≡ Fault.NoMemory) }
+{
+    let set = CpuSet::new(alloc, cpus)?;
+    let a = make_replica::<LEAF, INNER>(alloc, cpus, last)?;
+    let b = make_replica::<LEAF2, INNER2>(alloc, cpus, last)?;
+    Ok(PairMachine::new(a, b, set))
+}
+
+/// A fresh replica, of which only memory can be wanting.
+fn make_replica<const LEAF: u32, const INNER: u32>(
+    alloc: Global,
+    cpus: u32,
+    last: u64,
+) -> Result<Replica<Tree<LEAF, INNER>>, Fault>
+    requires { machine_fault LEAF INNER cpus last ≡ None }
+    ensures ok { IfOk result (λ made. made ≡ at_first cpus last) }
+    ensures err { IfErr result (λ fault. fault ≡ Fault.NoMemory) }
+{
+    Replica::new(Tree::<LEAF, INNER>::new(alloc, cpus)?, last)
 }
 
 /// Tests the shapes of two trees: the fanouts of both before the number of processors.
@@ -42,11 +72,21 @@ fn test_shapes<const LEAF: u32, const INNER: u32, const LEAF2: u32, const INNER2
     ensures err { IfErr result (λ fault. shapes_fault LEAF INNER LEAF2 INNER2 cpus ≡ Some fault) }
 {
     match (
-        Geometry::<LEAF, INNER>::new(cpus),
-        Geometry::<LEAF2, INNER2>::new(cpus),
+        test_shape::<LEAF, INNER>(cpus),
+        test_shape::<LEAF2, INNER2>(cpus),
     ) {
-        (Ok(_), Ok(_)) => Ok(()),
-        (Err(Fault::BadFanout), _) | (_, Err(Fault::BadFanout)) => Err(Fault::BadFanout),
-        _ => Err(Fault::TooManyCpus),
+        (Ok(()), second) => second,
+        (first, Ok(())) => first,
+        (Err(Fault::BadFanout), _) => Err(Fault::BadFanout),
+        (_, second) => second,
     }
+}
+
+/// Tests the shape of a tree.
+fn test_shape<const LEAF: u32, const INNER: u32>(cpus: u32) -> Result<(), Fault>
+    ensures ok { OnOk result (refusal (shape LEAF INNER cpus) ≡ None) }
+    ensures err { IfErr result (λ fault. refusal (shape LEAF INNER cpus) ≡ Some fault) }
+{
+    Geometry::<LEAF, INNER>::new(cpus)?;
+    Ok(())
 }

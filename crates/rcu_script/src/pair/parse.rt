@@ -7,7 +7,7 @@ ghost use Rattle.rcu_script.specs.PairLines.{pair_event_alone, pair_event_of, re
 ghost use Rattle.rcu_script.specs.PairLines.{side_of};
 
 use crate::pair::event::{LineCpus, PairAsk, PairEvent, Side};
-use crate::script::parse::cpu_of_number;
+use crate::script::parse::{cpu_of_number, is};
 use rcu_text::{Line, is_well_formed, next_word, number};
 
 /// What a line of a pair asks for.
@@ -62,11 +62,11 @@ fn parse_event(name: &[u8], rest: &[u8]) -> Option<PairEvent>
     match next_word(rest) {
         None => parse_event_alone(name),
         Some((word, behind)) => {
-            if name == b"begin".as_slice() {
+            if is(name, b"begin") {
                 Some(PairEvent::Begin(parse_cpus(rest)?))
-            } else if name == b"depart".as_slice() {
+            } else if is(name, b"depart") {
                 parse_depart(word, behind)
-            } else if name == b"report".as_slice() {
+            } else if is(name, b"report") {
                 parse_report(word, behind)
             } else {
                 None
@@ -79,11 +79,14 @@ fn parse_event(name: &[u8], rest: &[u8]) -> Option<PairEvent>
 fn parse_event_alone(name: &[u8]) -> Option<PairEvent>
     ensures { result ≡ pair_event_alone name.now }
 {
-    match name {
-        b"end" => Some(PairEvent::End),
-        b"awaits" => Some(PairEvent::Awaits),
-        b"merge" => Some(PairEvent::Merge),
-        _ => None,
+    if is(name, b"end") {
+        Some(PairEvent::End)
+    } else if is(name, b"awaits") {
+        Some(PairEvent::Awaits)
+    } else if is(name, b"merge") {
+        Some(PairEvent::Merge)
+    } else {
+        None
     }
 }
 

@@ -26,8 +26,8 @@ pub fn open<const LEAF: u32, const INNER: u32>(
     ensures fresh { IfOk result (λ core. Represents core []) }
     ensures err { IfErr result (IsRefusedBy (machine_fault LEAF INNER cpus last)) }
 {
-    let _shape = Geometry::<LEAF, INNER>::new(cpus)?;
-    let _seq = Seq::new(last)?;
+    Geometry::<LEAF, INNER>::new(cpus)?;
+    Seq::new(last)?;
     let awaited = Tree::<LEAF, INNER>::new(alloc, cpus)?;
     Core::new(alloc, awaited, last)
 }

@@ -1,5 +1,6 @@
 //! What a line of a script asks for.
 ghost use Rattle.std.specs.Prelude.{◌≡◌};
+ghost use Rattle.std.specs.Str.{bytes_eq};
 ghost use Rattle.rcu_text.specs.Words.{words_of};
 ghost use Rattle.rcu_script.specs.ScriptLines.{asked_by, cpu_of, event_alone, event_of};
 ghost use Rattle.rcu_script.specs.ScriptLines.{event_with_cpu, event_with_number};
@@ -46,21 +47,21 @@ fn parse_event(name: &[u8], rest: &[u8]) -> Option<Event>
 fn bare_event(name: &[u8]) -> Option<Event>
     ensures { result ≡ event_alone name.now }
 {
-    if name == b"begin".as_slice() {
+    if is(name, b"begin") {
         Some(Event::Begin)
-    } else if name == b"end".as_slice() {
+    } else if is(name, b"end") {
         Some(Event::End)
-    } else if name == b"turn".as_slice() {
+    } else if is(name, b"turn") {
         Some(Event::Turn)
-    } else if name == b"awaits".as_slice() {
+    } else if is(name, b"awaits") {
         Some(Event::Awaits)
-    } else if name == b"take".as_slice() {
+    } else if is(name, b"take") {
         Some(Event::Take)
-    } else if name == b"start".as_slice() {
+    } else if is(name, b"start") {
         Some(Event::StartPoll)
-    } else if name == b"bar".as_slice() {
+    } else if is(name, b"bar") {
         Some(Event::BarBegin)
-    } else if name == b"bartest".as_slice() {
+    } else if is(name, b"bartest") {
         Some(Event::BarTest)
     } else {
         None
@@ -71,9 +72,9 @@ fn bare_event(name: &[u8]) -> Option<Event>
 fn event_of_number(name: &[u8], n: u64) -> Option<Event>
     ensures { result ≡ event_with_number name.now n }
 {
-    if name == b"deliver".as_slice() {
+    if is(name, b"deliver") {
         Some(Event::Deliver(n))
-    } else if name == b"poll".as_slice() {
+    } else if is(name, b"poll") {
         Some(Event::Poll(n))
     } else {
         event_of_cpu(name, cpu_of_number(n))
@@ -84,21 +85,21 @@ fn event_of_number(name: &[u8], n: u64) -> Option<Event>
 fn event_of_cpu(name: &[u8], cpu: u32) -> Option<Event>
     ensures { result ≡ event_with_cpu name.now cpu }
 {
-    if name == b"enter".as_slice() {
+    if is(name, b"enter") {
         Some(Event::Enter(cpu))
-    } else if name == b"exit".as_slice() {
+    } else if is(name, b"exit") {
         Some(Event::Exit(cpu))
-    } else if name == b"note".as_slice() {
+    } else if is(name, b"note") {
         Some(Event::Note(cpu))
-    } else if name == b"quiet".as_slice() {
+    } else if is(name, b"quiet") {
         Some(Event::Quiesce(cpu))
-    } else if name == b"online".as_slice() {
+    } else if is(name, b"online") {
         Some(Event::Online(cpu))
-    } else if name == b"offline".as_slice() {
+    } else if is(name, b"offline") {
         Some(Event::Offline(cpu))
-    } else if name == b"tend".as_slice() {
+    } else if is(name, b"tend") {
         Some(Event::Tend(cpu))
-    } else if name == b"visit".as_slice() {
+    } else if is(name, b"visit") {
         Some(Event::Visit(cpu))
     } else {
         None
@@ -109,13 +110,20 @@ fn event_of_cpu(name: &[u8], cpu: u32) -> Option<Event>
 fn event_of_two(name: &[u8], first: u64, second: u64) -> Option<Event>
     ensures { result ≡ event_with_numbers name.now first second }
 {
-    if name == b"queue".as_slice() {
+    if is(name, b"queue") {
         Some(Event::Queue(cpu_of_number(first), second))
-    } else if name == b"run".as_slice() {
+    } else if is(name, b"run") {
         Some(Event::Run(cpu_of_number(first), second))
     } else {
         None
     }
+}
+
+/// Whether a name is this word.
+pub(crate) fn is(name: &[u8], word: &[u8]) -> bool
+    ensures { result ≡ bytes_eq name.now word.now }
+{
+    name == word
 }
 
 /// A processor. A number that does not fit 32 bits becomes the greatest one that does, which is no
