@@ -5,8 +5,6 @@ pub mod barrier_state;
 pub mod laws;
 pub mod lists;
 mod moving;
-#[cfg(test)]
-mod tests;
 pub mod visit;
 mod visits;
 

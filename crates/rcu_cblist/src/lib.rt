@@ -9,8 +9,6 @@ pub mod seg_list;
 mod segments;
 mod tail;
 pub mod taken;
-#[cfg(test)]
-mod tests;
 mod walks;
 
 pub use queued::Queued;

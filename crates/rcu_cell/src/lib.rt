@@ -14,6 +14,4 @@ mod places;
 mod section;
 pub mod slot_state;
 pub mod slots;
-#[cfg(test)]
-mod tests;
 pub mod value;

@@ -10,8 +10,6 @@ pub mod gp_state;
 pub mod laws;
 pub mod reply;
 pub mod run_laws;
-#[cfg(test)]
-mod tests;
 pub mod turned;
 pub mod value_list;
 pub mod version_laws;

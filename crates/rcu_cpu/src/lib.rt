@@ -3,7 +3,5 @@
 
 pub mod cpu_data;
 pub mod laws;
-#[cfg(test)]
-mod tests;
 
 pub use cpu_data::CpuData;

@@ -3,7 +3,5 @@
 
 pub mod geometry;
 pub mod laws;
-#[cfg(test)]
-mod tests;
 
 pub use geometry::Geometry;

@@ -3,7 +3,5 @@
 
 pub mod hotplug;
 pub mod laws;
-#[cfg(test)]
-mod tests;
 
 pub use hotplug::Hotplug;

@@ -16,18 +16,12 @@ pub mod laws;
 pub mod live;
 mod locked;
 mod locked_lists;
-#[cfg(test)]
-mod locked_tests;
 pub mod met;
 mod opening;
 pub mod periods;
 pub mod ran;
 pub mod reading;
 pub mod rule;
-#[cfg(test)]
-mod test_steps;
-#[cfg(test)]
-mod tests;
 pub mod view;
 pub mod watcher;
 pub mod words;

@@ -13,8 +13,6 @@ mod node;
 mod nodes;
 mod sets;
 mod tagged;
-#[cfg(test)]
-mod tests;
 pub mod tree;
 mod walk;
 

@@ -5,8 +5,6 @@ pub mod batch;
 pub mod laws;
 pub mod replica;
 pub mod report;
-#[cfg(test)]
-mod tests;
 
 pub use batch::Batch;
 pub use replica::Replica;

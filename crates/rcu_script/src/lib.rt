@@ -6,8 +6,6 @@ pub mod offered;
 pub mod pair;
 pub mod runs;
 pub mod script;
-#[cfg(test)]
-mod tests;
 
 pub use pair::run::run_pair;
 pub use runs::{RunFault, Setup};

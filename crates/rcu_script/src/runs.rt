@@ -47,6 +47,3 @@ pub fn stopped(fault: StreamFault) -> RunFault
         StreamFault::Write => RunFault::Write,
     }
 }
-
-#[cfg(test)]
-mod tests;

@@ -5,8 +5,6 @@ pub mod cookie;
 pub mod fault;
 pub mod laws;
 pub mod seq;
-#[cfg(test)]
-mod tests;
 
 pub use cookie::Cookie;
 pub use fault::Fault;

@@ -9,8 +9,6 @@ pub mod line_shape;
 pub mod printing;
 pub mod std_streams;
 pub mod streams;
-#[cfg(test)]
-mod tests;
 pub mod words;
 
 pub use block_writer::{BlockWriter, Output};

@@ -89,6 +89,3 @@ impl<S: Write> Sink for Marked<S> {
         self.judge(answer, bytes.len().min(1))
     }
 }
-
-#[cfg(test)]
-mod tests;

@@ -1,0 +1,95 @@
+//! Tends at numbers that never fall, beside a plain list with the number of each callback.
+use super::{ask, lists, queue, refused, tend};
+use crate::draw::Draw;
+use rcu_barrier::lists::Lists;
+use std::process::Abort;
+
+/// How many calls are drawn.
+const CALLS: u64 = 400;
+
+/// How many callbacks a plain list holds.
+const ROOM: usize = 400;
+
+/// What the list of processor 0 is to hold: of each callback that was queued, in order, the number
+/// that it waits for, 0 before its first tend. A callback's value is its place.
+#[derive(Drop)]
+struct Plain {
+    until: [u64; ROOM],
+    queued: u64,
+    handed: u64,
+    /// The number of the latest tend.
+    number: u64,
+}
+
+impl Plain {
+    /// How many callbacks that are not handed out are done, and how many wait.
+    fn counts(&self) -> (u64, u64) {
+        let left = self.queued.saturating_sub(self.handed);
+        let mut done = 0u64;
+        let places = self.handed as usize..self.queued as usize;
+        for until in self.until.get(places).unwrap_or(&[]) {
+            if *until != 0 && *until <= self.number {
+                done = done.saturating_add(1);
+            }
+        }
+        (done, left.saturating_sub(done))
+    }
+
+    /// Each callback without a number gets the snapshot.
+    fn tend(&mut self, number: u64, snapshot: u64) {
+        self.number = number;
+        for until in self.until.iter_mut().take(self.queued as usize) {
+            if *until == 0 {
+                *until = snapshot;
+            }
+        }
+    }
+}
+
+/// Takes callbacks from both, and compares them.
+fn run_both(rt: &impl Abort, lists: &mut Lists<u64>, plain: &mut Plain, max: u64) {
+    let before = ask(rt, lists);
+    assert!(rt; 0 < lists.cpus());
+    let calls = match lists.run(0, max) {
+        Ok(calls) => calls,
+        Err(fault) => {
+            refused(rt, fault, lists, before);
+            assert!(rt; 0 < lists.cpus());
+            lists.run(0, max).expect(rt, "the second call has memory")
+        }
+    };
+    assert_eq!(rt; calls.len() as u64, plain.counts().0.min(max));
+    for call in &calls {
+        assert_eq!(rt; call.value, plain.handed);
+        plain.handed = plain.handed.saturating_add(1);
+    }
+}
+
+#[test]
+fn tends_at_numbers_that_never_fall(rt: HostRuntime) {
+    let mut draw = Draw(11);
+    let mut lists = lists(&rt, rt.alloc());
+    let mut plain = Plain {
+        until: [0; ROOM],
+        queued: 0,
+        handed: 0,
+        number: 0,
+    };
+    let mut number = 0u64;
+    for _ in 0..CALLS {
+        match draw.below(8) {
+            0..=2 => {
+                let value = plain.queued;
+                plain.queued = value.saturating_add(1);
+                queue(&rt, &mut lists, 0, value, plain.queued);
+            }
+            3 => run_both(&rt, &mut lists, &mut plain, draw.below(4)),
+            4 | 5 => number = number.saturating_add(if number % 4 == 0 { 1 } else { 3 }),
+            _ => {
+                assert!(rt; number % 4 <= 1 && number <= 4 * CALLS);
+                plain.tend(number, (number + 3) / 4 * 4 + 4);
+                tend(&rt, &mut lists, 0, number, plain.counts());
+            }
+        }
+    }
+}

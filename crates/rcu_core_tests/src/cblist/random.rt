@@ -1,0 +1,197 @@
+//! Two lists under calls drawn at random, against the plain list.
+
+use crate::cblist::accelerate;
+use crate::cblist::plain::{Item, Mark, Plain, ROOM};
+use crate::draw::Draw;
+use rcu_cblist::queued::Queued;
+use rcu_cblist::seg_list::SegList;
+use std::mem::swap;
+use std::process::Abort;
+
+/// How many calls are drawn.
+const CALLS: u64 = 4_000;
+/// After so many calls a list is taken whole.
+const DRAINS: u64 = 64;
+/// A number at which each callback is done.
+const LAST: u64 = 1 << 62;
+
+/// Compares counts, the greatest number and the segments.
+fn compare(rt: &impl Abort, list: &SegList<u64>, plain: &Plain) {
+    let (all, done, most) = plain.counts();
+    assert_eq!(rt; (list.count(), list.done_count()), (all, done));
+    assert_eq!(rt; list.waiting_count(), all.saturating_sub(done));
+    assert_eq!(rt; list.greatest_waiting(), most);
+    assert_eq!(rt; list.segments(), plain.segments());
+    assert_eq!(rt; list.is_empty(), plain.len == 0);
+}
+
+/// Queues a callback, by a second call where the first is refused a growth.
+fn queue(rt: &impl Abort, list: &mut SegList<u64>, plain: &mut Plain, value: u64) {
+    if plain.len >= ROOM / 2 - 1 {
+        return;
+    }
+    let call = Queued {
+        ord: 0,
+        at: 0,
+        value,
+    };
+    if let Err(back) = list.queue(call) {
+        assert!(rt; list.queue(back.value).is_ok());
+    }
+    plain.push(Item::Call(value, Mark::Unmarked));
+}
+
+/// Puts a marker behind, by a second call where the first is refused a growth.
+fn entrain(rt: &impl Abort, list: &mut SegList<u64>, plain: &mut Plain) {
+    if plain.len >= ROOM / 2 - 1 {
+        return;
+    }
+    let marked = match list.entrain() {
+        Ok(marked) => marked,
+        Err(_) => list.entrain().expect(rt, "the second call has memory"),
+    };
+    assert_eq!(rt; marked, plain.len > 0);
+    if marked {
+        plain.push(Item::Marker);
+    }
+}
+
+/// Takes callbacks, by a second call where the first is refused a growth.
+fn take(rt: &impl Abort, list: &mut SegList<u64>, plain: &mut Plain, max: u64) {
+    let taken = match list.take_done(max) {
+        Ok(taken) => taken,
+        Err(_) => list.take_done(max).expect(rt, "the second call has memory"),
+    };
+    let mut left = max;
+    let mut markers = 0u64;
+    let mut place = 0usize;
+    for _ in 0..ROOM {
+        match plain.take_next(left) {
+            Some(Item::Call(value, _)) => {
+                left = left.saturating_sub(1);
+                assert_eq!(rt; taken.calls.get(place).map(|call| call.value), Some(value));
+                place = place.saturating_add(1);
+            }
+            Some(Item::Marker) => markers = markers.saturating_add(1),
+            None => break,
+        }
+    }
+    assert_eq!(rt; (taken.calls.len(), taken.markers), (place, markers));
+}
+
+/// Moves a list to another, by a second call where the first is refused a growth.
+fn migrate(
+    rt: &impl Abort,
+    list: &mut SegList<u64>,
+    plain: &mut Plain,
+    target: &mut SegList<u64>,
+    plain_target: &mut Plain,
+    marked: bool,
+) {
+    if plain.len.saturating_add(plain_target.len) >= ROOM / 2 {
+        return;
+    }
+    let mut moved = if marked {
+        list.migrate_marked_into(target)
+    } else {
+        list.migrate_into(target)
+    };
+    if moved.is_err() {
+        moved = if marked {
+            list.migrate_marked_into(target)
+        } else {
+            list.migrate_into(target)
+        };
+    }
+    assert_eq!(rt; moved, Ok(()));
+    if marked && plain.len > 0 {
+        plain.push(Item::Marker);
+    }
+    plain.migrate_into(plain_target);
+}
+
+/// Makes all callbacks done and takes them, which compares their order.
+fn drain(rt: &impl Abort, list: &mut SegList<u64>, plain: &mut Plain) {
+    list.advance(LAST);
+    plain.advance(LAST);
+    accelerate(rt, list, LAST);
+    plain.accelerate(LAST);
+    list.advance(LAST);
+    plain.advance(LAST);
+    take(rt, list, plain, u64::MAX);
+    assert!(rt; list.is_empty());
+}
+
+#[test]
+fn calls_at_random(rt: HostRuntime) {
+    let mut draw = Draw(7);
+    let mut list = SegList::new(rt.alloc());
+    let mut other = SegList::new(rt.alloc());
+    let mut plain = Plain::new();
+    let mut other_plain = Plain::new();
+    for call in 0..CALLS {
+        if draw.below(3) == 0 {
+            swap(&mut list, &mut other);
+            swap(&mut plain, &mut other_plain);
+        }
+        match draw.below(16) {
+            0..=4 => queue(&rt, &mut list, &mut plain, call),
+            5 => entrain(&rt, &mut list, &mut plain),
+            6..=7 => {
+                let number = draw.below(40);
+                list.advance(number);
+                plain.advance(number);
+            }
+            8..=10 => {
+                let drawn = draw.below(40);
+                let snap = list.greatest_waiting().unwrap_or(0).max(drawn);
+                accelerate(&rt, &mut list, snap);
+                plain.accelerate(snap);
+            }
+            11..=13 => take(&rt, &mut list, &mut plain, draw.below(4)),
+            kind => migrate(
+                &rt,
+                &mut list,
+                &mut plain,
+                &mut other,
+                &mut other_plain,
+                kind == 15,
+            ),
+        }
+        compare(&rt, &list, &plain);
+        compare(&rt, &other, &other_plain);
+        if call % DRAINS == 0 {
+            drain(&rt, &mut other, &mut other_plain);
+        }
+    }
+}
+
+#[test]
+fn tends_at_numbers_that_never_fall(rt: HostRuntime) {
+    let mut draw = Draw(11);
+    let mut list = SegList::new(rt.alloc());
+    let mut plain = Plain::new();
+    let mut periods = 0u64;
+    for call in 0..CALLS {
+        match draw.below(8) {
+            0..=2 => queue(&rt, &mut list, &mut plain, call),
+            3 => entrain(&rt, &mut list, &mut plain),
+            4 => take(&rt, &mut list, &mut plain, draw.below(4)),
+            5 => periods = periods.saturating_add(draw.below(3)),
+            _ => {
+                let running = draw.below(2);
+                let number = periods.saturating_mul(4).saturating_add(running);
+                let next = periods.saturating_add(1).saturating_add(running);
+                let snap = next.saturating_mul(4);
+                list.advance(number);
+                plain.advance(number);
+                accelerate(&rt, &mut list, snap);
+                plain.accelerate(snap);
+                assert_eq!(rt; list.segments()[3], 0);
+                periods = periods.saturating_add(running);
+            }
+        }
+        compare(&rt, &list, &plain);
+    }
+    drain(&rt, &mut list, &mut plain);
+}

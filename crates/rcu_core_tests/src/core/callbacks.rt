@@ -1,0 +1,222 @@
+//! Callbacks and barriers over events, each row taken one event at a time and as a list.
+
+use crate::core::machine::{core, lacks_memory, run, step, told_all};
+use crate::made::refused;
+use rcu_core::event::Event;
+use rcu_core::reply::Reply;
+use rcu_seq::fault::Fault;
+use std::alloc::Global;
+use std::process::Abort;
+
+/// The replies of a new machine to these events, taken one at a time.
+fn stepped(rt: &impl Abort, alloc: Global, events: &[Event]) -> Vec<Reply> {
+    let mut core = core(rt, alloc, 8);
+    let mut replies = match Vec::with_capacity(alloc, events.len()) {
+        Ok(replies) => replies,
+        Err(_) => {
+            refused(rt, Fault::NoMemory);
+            Vec::with_capacity(alloc, events.len()).expect(rt, "the second call has memory")
+        }
+    };
+    for event in events {
+        let reply = step(rt, &mut core, *event);
+        replies.push(reply).expect(rt, "there is room");
+    }
+    replies
+}
+
+/// The replies of a new machine to these events as one list, by a second machine where an event is
+/// refused its growth.
+fn ran(rt: &impl Abort, alloc: Global, events: &[Event]) -> Vec<Reply> {
+    let mut first = core(rt, alloc, 8);
+    let replies = run(rt, &mut first, events);
+    if !lacks_memory(replies.as_slice()) {
+        return replies;
+    }
+    refused(rt, Fault::NoMemory);
+    let mut second = core(rt, alloc, 8);
+    run(rt, &mut second, events)
+}
+
+/// Takes events one at a time and as a list, each by a new machine, and compares the replies with
+/// the texts that they print as.
+fn both(rt: &impl Abort, alloc: Global, events: &[Event], wanted: &[&str]) {
+    told_all(rt, alloc, stepped(rt, alloc, events).as_slice(), wanted);
+    told_all(rt, alloc, ran(rt, alloc, events).as_slice(), wanted);
+}
+
+/// A callback is handed out once a full grace period has passed, and once alone.
+#[test]
+fn one_callbacks_life(rt: HostRuntime) {
+    let events = [
+        Event::Queue(0, 7),
+        Event::Run(0, 9),
+        Event::Tend(0),
+        Event::Begin,
+        Event::Note(0),
+        Event::Quiesce(0),
+        Event::Deliver(1),
+        Event::End,
+        Event::Tend(0),
+        Event::Run(0, 9),
+        Event::Run(0, 9),
+    ];
+    let wanted = [
+        "Queued(1)",
+        "Ran(ValueList { calls: [] })",
+        "Tended(0, 1)",
+        "Begun(1, 1)",
+        "Noted(1, true)",
+        "Made(1, Report { cpu: 0, tag: 1 })",
+        "Answer(Last)",
+        "Ended(4)",
+        "Tended(1, 0)",
+        "Ran(ValueList { calls: [Queued { ord: 1, at: 0, value: 7 }] })",
+        "Ran(ValueList { calls: [] })",
+    ];
+    both(&rt, rt.alloc(), events.as_slice(), wanted.as_slice());
+}
+
+/// What a tended callback waits for is needed: turns end the running grace period and begin the
+/// next.
+#[test]
+fn turn_drives_two_periods(rt: HostRuntime) {
+    let events = [
+        Event::Queue(0, 1),
+        Event::Tend(0),
+        Event::Begin,
+        Event::Queue(0, 2),
+        Event::Tend(0),
+        Event::Note(0),
+        Event::Quiesce(0),
+        Event::Deliver(1),
+        Event::Turn,
+        Event::Tend(0),
+        Event::Run(0, 9),
+        Event::Turn,
+        Event::Turn,
+    ];
+    let wanted = [
+        "Queued(1)",
+        "Tended(0, 1)",
+        "Begun(1, 1)",
+        "Queued(2)",
+        "Tended(0, 2)",
+        "Noted(1, true)",
+        "Made(1, Report { cpu: 0, tag: 1 })",
+        "Answer(Last)",
+        "Ended(4)",
+        "Tended(1, 1)",
+        "Ran(ValueList { calls: [Queued { ord: 1, at: 0, value: 1 }] })",
+        "Begun(5, 1)",
+        "Waiting(1)",
+    ];
+    both(&rt, rt.alloc(), events.as_slice(), wanted.as_slice());
+}
+
+/// The callbacks of a processor that departed are handed out by processor 0, after its own.
+#[test]
+fn migrated_callbacks_run(rt: HostRuntime) {
+    let events = [
+        Event::Online(1),
+        Event::Queue(0, 1),
+        Event::Queue(1, 5),
+        Event::Tend(1),
+        Event::Offline(1),
+        Event::Tend(0),
+        Event::Begin,
+        Event::Note(0),
+        Event::Quiesce(0),
+        Event::Deliver(1),
+        Event::Turn,
+        Event::Run(0, 9),
+        Event::Tend(0),
+        Event::Run(0, 9),
+    ];
+    let wanted = [
+        "Online",
+        "Queued(1)",
+        "Queued(2)",
+        "Tended(0, 1)",
+        "Moved(1)",
+        "Tended(0, 2)",
+        "Begun(1, 1)",
+        "Noted(1, true)",
+        "Made(1, Report { cpu: 0, tag: 1 })",
+        "Answer(Last)",
+        "Ended(4)",
+        "Ran(ValueList { calls: [] })",
+        "Tended(2, 0)",
+        "Ran(ValueList { calls: [Queued { ord: 1, at: 0, value: 1 }, \
+            Queued { ord: 2, at: 0, value: 5 }] })",
+    ];
+    both(&rt, rt.alloc(), events.as_slice(), wanted.as_slice());
+}
+
+/// A processor departs during a barrier, which waits for its callback until that is handed out.
+#[test]
+fn barrier_completes_after_departure(rt: HostRuntime) {
+    let events = [
+        Event::Online(1),
+        Event::Queue(1, 5),
+        Event::BarBegin,
+        Event::Visit(0),
+        Event::Offline(1),
+        Event::BarTest,
+        Event::Tend(0),
+        Event::Begin,
+        Event::Note(0),
+        Event::Quiesce(0),
+        Event::Deliver(1),
+        Event::End,
+        Event::Tend(0),
+        Event::Run(0, 1),
+        Event::BarTest,
+        Event::BarTest,
+    ];
+    let wanted = [
+        "Online",
+        "Queued(1)",
+        "BarBegun",
+        "Visited(Empty)",
+        "Moved(1)",
+        "BarWaits(1)",
+        "Tended(0, 1)",
+        "Begun(1, 1)",
+        "Noted(1, true)",
+        "Made(1, Report { cpu: 0, tag: 1 })",
+        "Answer(Last)",
+        "Ended(4)",
+        "Tended(1, 0)",
+        "Ran(ValueList { calls: [Queued { ord: 1, at: 0, value: 5 }] })",
+        "BarDone",
+        "Fault(NoBarrier)",
+    ];
+    both(&rt, rt.alloc(), events.as_slice(), wanted.as_slice());
+}
+
+/// A barrier over empty lists is over once each processor was visited, online or not.
+#[test]
+fn barrier_over_empty_lists(rt: HostRuntime) {
+    let events = [
+        Event::BarBegin,
+        Event::BarBegin,
+        Event::BarTest,
+        Event::Visit(0),
+        Event::Visit(0),
+        Event::Visit(1),
+        Event::BarTest,
+        Event::Visit(0),
+    ];
+    let wanted = [
+        "BarBegun",
+        "Fault(BarrierBusy)",
+        "BarWaits(2)",
+        "Visited(Empty)",
+        "Visited(Already)",
+        "Visited(Empty)",
+        "BarDone",
+        "Fault(NoBarrier)",
+    ];
+    both(&rt, rt.alloc(), events.as_slice(), wanted.as_slice());
+}

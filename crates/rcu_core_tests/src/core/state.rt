@@ -1,0 +1,215 @@
+//! Calls of the state of the grace periods whose growth is refused: each leaves all as it was, and
+//! the same call again answers as if it had not been.
+
+use crate::made::{flat, refused};
+use rcu_barrier::barrier_state::BarrierState;
+use rcu_barrier::visit::Visit;
+use rcu_core::gp_state::GpState;
+use rcu_core::turned::Turned;
+use rcu_node::answer::Answer;
+use rcu_node::awaited::Awaited;
+use rcu_node::flat::Flat;
+use rcu_seq::fault::Fault;
+use std::alloc::Global;
+use std::process::Abort;
+
+type State = GpState<Flat, u64>;
+
+/// All that can be asked of a processor.
+#[derive(Clone, Copy, Debug, PartialEq)]
+struct AskedOf {
+    online: bool,
+    list_empty: bool,
+    awaited: bool,
+}
+
+/// All that can be asked of a state of two processors.
+#[derive(Clone, Copy, Debug, PartialEq)]
+struct Asked {
+    number: u64,
+    running: bool,
+    wants_begin: bool,
+    cookie: u64,
+    first: AskedOf,
+    second: AskedOf,
+}
+
+/// A state of two processors, made by a second call where the first is refused a growth.
+fn state(rt: &impl Abort, alloc: Global) -> State {
+    match GpState::new(alloc, flat(rt, alloc, 2), 8) {
+        Ok(state) => state,
+        Err(fault) => {
+            refused(rt, fault);
+            GpState::new(alloc, flat(rt, alloc, 2), 8).expect(rt, "the second call has memory")
+        }
+    }
+}
+
+/// Asks all of a processor.
+fn ask_of(rt: &impl Abort, state: &State, cpu: u32) -> AskedOf {
+    assert!(rt; cpu < state.cpus());
+    let awaited = state.awaited();
+    assert!(rt; cpu < awaited.cpus());
+    AskedOf {
+        online: state.online(cpu),
+        list_empty: state.is_list_empty(cpu),
+        awaited: awaited.awaits(cpu),
+    }
+}
+
+/// Asks all of a state of two processors.
+fn ask(rt: &impl Abort, state: &State) -> Asked {
+    Asked {
+        number: state.value(),
+        running: state.is_running(),
+        wants_begin: state.wants_begin(),
+        cookie: state.take().0,
+        first: ask_of(rt, state, 0),
+        second: ask_of(rt, state, 1),
+    }
+}
+
+/// Compares the fault of a call whose growth was refused, and what it left with what was there.
+fn left(rt: &impl Abort, fault: Fault, state: &State, before: Asked) {
+    refused(rt, fault);
+    assert_eq!(rt; ask(rt, state), before);
+}
+
+/// Queues a callback, by a second call where the first is refused a growth.
+fn queue(rt: &impl Abort, state: &mut State, cpu: u32, value: u64, wanted: u64) {
+    let before = ask(rt, state);
+    assert!(rt; cpu < state.cpus());
+    match state.queue(cpu, value) {
+        Ok(count) => assert_eq!(rt; count, wanted),
+        Err(back) => {
+            left(rt, back.fault, state, before);
+            assert_eq!(rt; back.value, value);
+            assert!(rt; cpu < state.cpus());
+            assert_eq!(rt; state.queue(cpu, back.value).ok(), Some(wanted));
+        }
+    }
+}
+
+/// Visits a processor, by a second call where the first is refused a growth.
+fn visit(rt: &impl Abort, state: &mut State, cpu: u32) {
+    let before = ask(rt, state);
+    assert!(rt; cpu < state.cpus());
+    match state.visit(cpu) {
+        Ok(visit) => assert_eq!(rt; visit, Visit::Marked),
+        Err(fault) => {
+            left(rt, fault, state, before);
+            assert!(rt; cpu < state.cpus());
+            assert_eq!(rt; state.visit(cpu), Ok(Visit::Marked));
+        }
+    }
+}
+
+/// Moves processor 1's list, by a second call where the first is refused a growth.
+fn migrate(rt: &impl Abort, state: &mut State, wanted: u64) {
+    let before = ask(rt, state);
+    assert!(rt; 1 < state.cpus());
+    match state.migrate(1) {
+        Ok(moved) => assert_eq!(rt; moved, wanted),
+        Err(fault) => {
+            left(rt, fault, state, before);
+            assert!(rt; 1 < state.cpus());
+            assert_eq!(rt; state.migrate(1), Ok(wanted));
+        }
+    }
+}
+
+/// Runs processor 0's callbacks, by a second call where the first is refused a growth.
+fn run(rt: &impl Abort, state: &mut State, wanted: usize) {
+    let before = ask(rt, state);
+    assert!(rt; 0 < state.cpus());
+    match state.run(0, 9) {
+        Ok(calls) => assert_eq!(rt; calls.len(), wanted),
+        Err(fault) => {
+            left(rt, fault, state, before);
+            assert!(rt; 0 < state.cpus());
+            assert_eq!(rt; state.run(0, 9).map(|calls| calls.len()), Ok(wanted));
+        }
+    }
+}
+
+/// Tends processor 0's list, and compares how many callbacks are done and how many wait.
+fn tend(rt: &impl Abort, state: &mut State, wanted: (u64, u64)) {
+    assert!(rt; 0 < state.cpus());
+    assert_eq!(rt; state.tend(0), wanted);
+}
+
+/// Queues callbacks on both processors; one departs during a barrier, which waits for its list.
+fn departs(rt: &impl Abort, state: &mut State) {
+    assert_eq!(rt; state.arrive(1), Ok(()));
+    queue(rt, state, 0, 5, 1);
+    queue(rt, state, 1, 6, 2);
+    queue(rt, state, 1, 7, 3);
+    assert_eq!(rt; state.barrier_begin(), Ok(()));
+    visit(rt, state, 0);
+    migrate(rt, state, 2);
+    assert_eq!(rt; state.barrier_test(), Ok(BarrierState::Waits(2)));
+    assert_eq!(rt; state.depart(1), Ok(()));
+}
+
+/// A grace period, which the three callbacks wait for, begins, is reported and ends.
+fn passes(rt: &impl Abort, state: &mut State) {
+    tend(rt, state, (0, 3));
+    assert_eq!(rt; state.turn(), Ok(Turned::Begun(1, 1)));
+    assert!(rt; 0 < state.cpus());
+    assert_eq!(rt; state.hear(0), Answer::Last);
+    assert_eq!(rt; state.turn(), Ok(Turned::Ended(4)));
+    tend(rt, state, (3, 0));
+}
+
+/// Hands out the callbacks, and the barrier is over.
+fn is_over(rt: &impl Abort, state: &mut State) {
+    run(rt, state, 3);
+    assert_eq!(rt; state.barrier_test(), Ok(BarrierState::Done));
+}
+
+#[test]
+fn refused_calls_leave_all_as_it_was(rt: HostRuntime) {
+    let mut state = state(&rt, rt.alloc());
+    departs(&rt, &mut state);
+    passes(&rt, &mut state);
+    is_over(&rt, &mut state);
+}
+
+/// What the first begin says, or why no state opens with this last number.
+fn first_begin(rt: &impl Abort, alloc: Global, last: u64) -> Result<(u64, u32), Fault> {
+    GpState::<Flat, u64>::new(alloc, flat(rt, alloc, 2), last)?.begin()
+}
+
+/// States open with the least and the greatest last number, and with none beyond.
+#[test]
+fn last_numbers(rt: HostRuntime) {
+    for last in [4, 1 << 62] {
+        match first_begin(&rt, rt.alloc(), last) {
+            Ok(begun) => assert_eq!(rt; begun, (1, 1), "{last}"),
+            Err(fault) => refused(&rt, fault),
+        }
+    }
+    for last in [0, 6, (1 << 62) + 4] {
+        assert_eq!(rt;
+            first_begin(&rt, rt.alloc(), last),
+            Err(Fault::BadLast),
+            "{last}"
+        );
+    }
+}
+
+/// Compares the size of a state.
+fn has_size(rt: &impl Abort, state: &mut State, cpus: u32) {
+    assert_eq!(rt; state.cpus(), cpus);
+    assert_eq!(rt; state.arrive(cpus), Err(Fault::BadCpu));
+}
+
+#[test]
+fn sizes(rt: HostRuntime) {
+    for cpus in [1, 4096] {
+        match GpState::new(rt.alloc(), flat(&rt, rt.alloc(), cpus), 8) {
+            Ok(mut state) => has_size(&rt, &mut state, cpus),
+            Err(fault) => refused(&rt, fault),
+        }
+    }
+}

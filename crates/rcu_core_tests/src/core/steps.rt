@@ -1,0 +1,193 @@
+//! The machine over events: one after another, and all of a list.
+use crate::core::machine::{core, core_of, lacks_memory, run, takes, told_all};
+use crate::made::flat;
+use rcu_core::event::Event;
+use rcu_core::event_core::Core;
+use rcu_seq::fault::Fault;
+use std::alloc::Global;
+use std::process::Abort;
+
+/// A reader holds up the grace period that began after it, and its cookie.
+#[test]
+fn open_section_blocks(rt: HostRuntime) {
+    let rows = [
+        (Event::Online(1), "Online"),
+        (Event::Enter(1), "Depth(1)"),
+        (Event::Take, "Cookie(Cookie(4))"),
+        (Event::Begin, "Begun(1, 2)"),
+        (Event::Quiesce(1), "Fault(InSection)"),
+        (Event::Offline(1), "Fault(InSection)"),
+        (Event::Exit(1), "Depth(0)"),
+        (Event::Poll(4), "Polled(false)"),
+        (Event::Offline(1), "Moved(0)"),
+        (Event::End, "Fault(Waiting)"),
+    ];
+    let mut core = core(&rt, rt.alloc(), 8);
+    takes(&rt, rt.alloc(), &mut core, rows.as_slice());
+}
+
+/// Turns begin what is needed, wait, and end.
+#[test]
+fn turns_drive_a_grace_period(rt: HostRuntime) {
+    let rows = [
+        (Event::Turn, "Nothing"),
+        (Event::StartPoll, "Cookie(Cookie(4))"),
+        (Event::Turn, "Begun(1, 1)"),
+        (Event::Turn, "Waiting(1)"),
+        (Event::Note(0), "Noted(1, true)"),
+        (Event::Quiesce(0), "Made(1, Report { cpu: 0, tag: 1 })"),
+        (Event::Deliver(1), "Answer(Last)"),
+        (Event::Turn, "Ended(4)"),
+        (Event::Poll(4), "Polled(true)"),
+        (Event::StartPoll, "Cookie(Cookie(8))"),
+        (Event::Turn, "Fault(Exhausted)"),
+    ];
+    let mut core = core(&rt, rt.alloc(), 4);
+    takes(&rt, rt.alloc(), &mut core, rows.as_slice());
+}
+
+/// A list of events gets the replies that single steps get. (Of two growths in one list the second
+/// is not made again.)
+#[test]
+fn a_run_replies_as_its_steps(rt: HostRuntime) {
+    let mut core = core(&rt, rt.alloc(), 8);
+    let events = [
+        Event::Begin,
+        Event::Online(1),
+        Event::Note(0),
+        Event::Quiesce(0),
+        Event::Deliver(1),
+        Event::End,
+        Event::Exit(1),
+    ];
+    let replies = run(&rt, &mut core, events.as_slice());
+    let wanted = if lacks_memory(replies.as_slice()) {
+        [
+            "Begun(1, 1)",
+            "Online",
+            "Noted(1, true)",
+            "Fault(NoMemory)",
+            "Fault(NoReport)",
+            "Fault(Waiting)",
+            "Fault(NotOpen)",
+        ]
+    } else {
+        [
+            "Begun(1, 1)",
+            "Online",
+            "Noted(1, true)",
+            "Made(1, Report { cpu: 0, tag: 1 })",
+            "Answer(Last)",
+            "Ended(4)",
+            "Fault(NotOpen)",
+        ]
+    };
+    told_all(&rt, rt.alloc(), replies.as_slice(), wanted.as_slice());
+}
+
+/// Each event that stores something; what follows one that was refused its growth, itself first, is
+/// answered as if the first had not been.
+#[test]
+fn refused_events_change_nothing(rt: HostRuntime) {
+    let rows = [
+        (Event::Online(1), "Online"),
+        (Event::Queue(1, 7), "Queued(1)"),
+        (Event::Queue(1, 8), "Queued(2)"),
+        (Event::Begin, "Begun(1, 2)"),
+        (Event::Awaits, "Awaits(CpuList { cpus: [0, 1] })"),
+        (Event::Quiesce(1), "Made(1, Report { cpu: 1, tag: 0 })"),
+        (Event::BarBegin, "BarBegun"),
+        (Event::Visit(1), "Visited(Marked)"),
+        (Event::Offline(1), "Moved(2)"),
+        (Event::BarTest, "BarWaits(2)"),
+        (Event::Awaits, "Awaits(CpuList { cpus: [0] })"),
+    ];
+    let mut core = core(&rt, rt.alloc(), 8);
+    takes(&rt, rt.alloc(), &mut core, rows.as_slice());
+}
+
+/// Whether no machine opens, since this is no last number.
+fn is_refused(rt: &impl Abort, alloc: Global, last: u64) -> bool {
+    matches!(
+        Core::new(alloc, flat(rt, alloc, 2), last),
+        Err(Fault::BadLast)
+    )
+}
+
+/// Machines open with the least and the greatest last number, and with none beyond.
+#[test]
+fn last_numbers(rt: HostRuntime) {
+    for last in [4, 1 << 62] {
+        let mut core = core(&rt, rt.alloc(), last);
+        takes(&rt, rt.alloc(), &mut core, &[(Event::Begin, "Begun(1, 1)")]);
+    }
+    for last in [0, 6, (1 << 62) + 4, u64::MAX] {
+        assert!(rt; is_refused(&rt, rt.alloc(), last));
+    }
+}
+
+#[test]
+fn sizes(rt: HostRuntime) {
+    for (cpus, reply_of_last) in [(1, "Noted(0, false)"), (4096, "Fault(Offline)")] {
+        let mut core = core_of(&rt, rt.alloc(), cpus, 8);
+        let rows = [
+            (Event::Note(cpus), "Fault(BadCpu)"),
+            (Event::Note(cpus - 1), reply_of_last),
+        ];
+        takes(&rt, rt.alloc(), &mut core, rows.as_slice());
+    }
+}
+
+/// No event of the list takes memory: once there is room for the replies, none is refused.
+#[test]
+fn events_without_memory(rt: HostRuntime) {
+    let mut core = core(&rt, rt.alloc(), 8);
+    let events = [
+        Event::Online(1),
+        Event::Enter(1),
+        Event::Exit(1),
+        Event::Note(1),
+        Event::Take,
+        Event::StartPoll,
+        Event::Poll(4),
+        Event::Awaits,
+        Event::Run(0, 9),
+        Event::Tend(0),
+        Event::BarBegin,
+        Event::Visit(0),
+        Event::Visit(0),
+        Event::BarTest,
+        Event::Turn,
+        Event::Offline(1),
+        Event::Deliver(1),
+        Event::Turn,
+        Event::End,
+        Event::Begin,
+        Event::BarTest,
+    ];
+    let wanted = [
+        "Online",
+        "Depth(1)",
+        "Depth(0)",
+        "Noted(0, false)",
+        "Cookie(Cookie(4))",
+        "Cookie(Cookie(4))",
+        "Polled(false)",
+        "Awaits(CpuList { cpus: [] })",
+        "Ran(ValueList { calls: [] })",
+        "Tended(0, 0)",
+        "BarBegun",
+        "Visited(Empty)",
+        "Visited(Already)",
+        "BarWaits(1)",
+        "Begun(1, 2)",
+        "Moved(0)",
+        "Fault(NoReport)",
+        "Waiting(1)",
+        "Fault(Waiting)",
+        "Fault(Running)",
+        "BarDone",
+    ];
+    let replies = run(&rt, &mut core, events.as_slice());
+    told_all(&rt, rt.alloc(), replies.as_slice(), wanted.as_slice());
+}

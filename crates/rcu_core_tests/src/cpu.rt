@@ -1,0 +1,123 @@
+//! The nesting of read sections to its limit, and each call with each of its faults.
+use rcu_cpu::cpu_data::CpuData;
+use rcu_report::report::Report;
+use rcu_seq::fault::Fault;
+use std::process::Abort;
+
+/// A call, with what it has to answer, or a look.
+enum Step {
+    Enter(Result<u32, Fault>),
+    Exit(Result<u32, Fault>),
+    /// Notes this number.
+    Note(u64, Result<(), Fault>),
+    /// A quiescent state: the number that its report carries.
+    Quiesce(Result<u64, Fault>),
+    /// Arrives at this number.
+    Arrive(u64, Result<(), Fault>),
+    Depart(Result<(), Fault>),
+    /// Whether the processor is online, the depth of its section, and the number noted.
+    Is(bool, u32, u64),
+}
+
+/// Makes a call, or looks, and compares.
+fn make(rt: &impl Abort, data: &mut CpuData, step: &Step) {
+    match step {
+        Step::Enter(wanted) => assert_eq!(rt; data.enter(), *wanted),
+        Step::Exit(wanted) => assert_eq!(rt; data.exit(), *wanted),
+        Step::Note(number, wanted) => assert_eq!(rt; data.note(*number), *wanted),
+        Step::Quiesce(wanted) => {
+            let cpu = data.cpu();
+            assert_eq!(rt; data.quiesce(), wanted.map(|tag| Report { cpu, tag }));
+        }
+        Step::Arrive(number, wanted) => assert_eq!(rt; data.arrive(*number), *wanted),
+        Step::Depart(wanted) => assert_eq!(rt; data.depart(), *wanted),
+        Step::Is(online, depth, noted) => {
+            assert_eq!(rt; data.online(), *online);
+            assert_eq!(rt; data.depth(), *depth);
+            assert_eq!(rt; data.noted(), *noted);
+        }
+    }
+}
+
+/// Makes the steps in turn.
+fn make_all(rt: &impl Abort, mut data: CpuData, cpu: u32, steps: &[Step]) {
+    for step in steps {
+        make(rt, &mut data, step);
+        assert_eq!(rt; data.cpu(), cpu);
+    }
+}
+
+#[test]
+fn full_nesting_depth(rt: HostRuntime) {
+    let mut data = CpuData::new(0, true);
+    for depth in 1..=65_535 {
+        assert_eq!(rt; data.enter(), Ok(depth));
+    }
+    make_all(
+        &rt,
+        data,
+        0,
+        &[
+            Step::Is(true, 65_535, 0),
+            Step::Enter(Err(Fault::NestFull)),
+            Step::Is(true, 65_535, 0),
+        ],
+    );
+}
+
+#[test]
+fn nested_sections(rt: HostRuntime) {
+    make_all(
+        &rt,
+        CpuData::new(0, true),
+        0,
+        &[
+            Step::Enter(Ok(1)),
+            Step::Enter(Ok(2)),
+            Step::Exit(Ok(1)),
+            Step::Quiesce(Err(Fault::InSection)),
+            Step::Exit(Ok(0)),
+            Step::Exit(Err(Fault::NotOpen)),
+            Step::Quiesce(Ok(0)),
+        ],
+    );
+}
+
+#[test]
+fn a_note_and_a_report(rt: HostRuntime) {
+    make_all(
+        &rt,
+        CpuData::new(4_095, true),
+        4_095,
+        &[
+            Step::Is(true, 0, 0),
+            Step::Note(5, Ok(())),
+            Step::Is(true, 0, 5),
+            Step::Quiesce(Ok(5)),
+        ],
+    );
+}
+
+#[test]
+fn an_arrival_and_a_departure(rt: HostRuntime) {
+    make_all(
+        &rt,
+        CpuData::new(7, false),
+        7,
+        &[
+            Step::Enter(Err(Fault::Offline)),
+            Step::Exit(Err(Fault::NotOpen)),
+            Step::Note(1, Err(Fault::Offline)),
+            Step::Quiesce(Err(Fault::Offline)),
+            Step::Depart(Err(Fault::Offline)),
+            Step::Arrive(9, Ok(())),
+            Step::Arrive(13, Err(Fault::AlreadyOnline)),
+            Step::Is(true, 0, 9),
+            Step::Enter(Ok(1)),
+            Step::Depart(Err(Fault::InSection)),
+            Step::Exit(Ok(0)),
+            Step::Depart(Ok(())),
+            Step::Is(false, 0, 9),
+        ],
+    );
+}

@@ -1,0 +1,113 @@
+//! The shapes of some trees, with every public call.
+
+use rcu_geometry::geometry::Geometry;
+use rcu_seq::fault::Fault;
+use std::process::Abort;
+
+/// The shape of a tree that is to be.
+fn geometry<const LEAF: u32, const FAN: u32>(rt: &impl Abort, cpus: u32) -> Geometry<LEAF, FAN> {
+    Geometry::new(cpus).expect(rt, "there is such a tree")
+}
+
+/// Compares where each level begins and how many nodes it has, and how many nodes there are.
+fn has_levels<const LEAF: u32, const FAN: u32>(
+    rt: &impl Abort,
+    cpus: u32,
+    wanted: &[(u32, u32)],
+    nodes: u32,
+) {
+    let geometry = geometry::<LEAF, FAN>(rt, cpus);
+    assert_eq!(rt; geometry.cpus(), cpus);
+    assert_eq!(rt; geometry.levels() as usize, wanted.len());
+    for (i, (start, nodes)) in (0..geometry.levels()).zip(wanted) {
+        assert!(rt; i < geometry.levels());
+        assert_eq!(rt; geometry.level_start(i), *start, "level {i}");
+        assert_eq!(rt; geometry.level_nodes(i), *nodes, "level {i}");
+    }
+    assert_eq!(rt; geometry.nodes(), nodes);
+}
+
+/// Compares why there is no such tree.
+fn refuses<const LEAF: u32, const FAN: u32>(rt: &impl Abort, cpus: u32, wanted: Fault) {
+    match Geometry::<LEAF, FAN>::new(cpus) {
+        Ok(_) => panic!(rt; "there is such a tree"),
+        Err(fault) => assert_eq!(rt; fault, wanted),
+    }
+}
+
+#[test]
+fn tree_shapes(rt: HostRuntime) {
+    has_levels::<2, 2>(&rt, 5, &[(0, 1), (1, 2), (3, 3)], 6);
+    has_levels::<2, 3>(&rt, 5, &[(0, 1), (1, 3)], 4);
+    has_levels::<16, 64>(&rt, 4096, &[(0, 1), (1, 4), (5, 256)], 261);
+    has_levels::<64, 64>(&rt, 4096, &[(0, 1), (1, 64)], 65);
+}
+
+#[test]
+fn shape_limits(rt: HostRuntime) {
+    has_levels::<2, 2>(&rt, 16, &[(0, 1), (1, 2), (3, 4), (7, 8)], 15);
+    refuses::<2, 2>(&rt, 17, Fault::TooManyCpus);
+    has_levels::<2, 3>(&rt, 54, &[(0, 1), (1, 3), (4, 9), (13, 27)], 40);
+    refuses::<2, 3>(&rt, 55, Fault::TooManyCpus);
+    has_levels::<64, 2>(&rt, 512, &[(0, 1), (1, 2), (3, 4), (7, 8)], 15);
+    refuses::<64, 2>(&rt, 513, Fault::TooManyCpus);
+    has_levels::<2, 64>(&rt, 4096, &[(0, 1), (1, 32), (33, 2048)], 2081);
+    has_levels::<16, 64>(&rt, 16, &[(0, 1)], 1);
+    has_levels::<16, 64>(&rt, 17, &[(0, 1), (1, 2)], 3);
+    has_levels::<2, 2>(&rt, 1, &[(0, 1)], 1);
+    has_levels::<64, 64>(&rt, 1, &[(0, 1)], 1);
+    for cpus in [0, 1, 4096] {
+        refuses::<1, 2>(&rt, cpus, Fault::BadFanout);
+        refuses::<65, 2>(&rt, cpus, Fault::BadFanout);
+        refuses::<2, 1>(&rt, cpus, Fault::BadFanout);
+        refuses::<2, 65>(&rt, cpus, Fault::BadFanout);
+    }
+    for cpus in [0, 4097] {
+        refuses::<2, 2>(&rt, cpus, Fault::TooManyCpus);
+        refuses::<64, 64>(&rt, cpus, Fault::TooManyCpus);
+    }
+}
+
+/// Compares each node's parent with its bit there.
+fn has_parents<const LEAF: u32, const FAN: u32>(
+    rt: &impl Abort,
+    geometry: &Geometry<LEAF, FAN>,
+    wanted: &[(Option<u32>, Option<u32>)],
+) {
+    for (node, (parent, bit)) in (0..geometry.nodes()).zip(wanted) {
+        assert!(rt; node < geometry.nodes());
+        assert_eq!(rt; geometry.parent(node), *parent, "node {node}");
+        assert_eq!(rt; geometry.bit_in_parent(node), *bit, "node {node}");
+    }
+}
+
+/// Compares each processor's leaf with its bit there.
+fn has_leaves<const LEAF: u32, const FAN: u32>(
+    rt: &impl Abort,
+    geometry: &Geometry<LEAF, FAN>,
+    wanted: &[(u32, u32)],
+) {
+    for (cpu, (leaf, bit)) in (0..geometry.cpus()).zip(wanted) {
+        assert!(rt; cpu < geometry.cpus());
+        assert_eq!(rt; geometry.leaf_of(cpu), *leaf, "processor {cpu}");
+        assert_eq!(rt; geometry.bit_of(cpu), *bit, "processor {cpu}");
+    }
+}
+
+#[test]
+fn places(rt: HostRuntime) {
+    let geometry = geometry::<2, 2>(&rt, 5);
+    has_parents(
+        &rt,
+        &geometry,
+        &[
+            (None, None),
+            (Some(0), Some(0)),
+            (Some(0), Some(1)),
+            (Some(1), Some(0)),
+            (Some(1), Some(1)),
+            (Some(2), Some(0)),
+        ],
+    );
+    has_leaves(&rt, &geometry, &[(3, 0), (3, 1), (4, 0), (4, 1), (5, 0)]);
+}

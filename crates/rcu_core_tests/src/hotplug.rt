@@ -1,0 +1,147 @@
+//! Each public call over each kind of awaited set.
+use crate::made::{flat, refused, tree};
+use rcu_hotplug::hotplug::Hotplug;
+use rcu_node::answer::Answer;
+use rcu_node::awaited::Awaited;
+use rcu_node::flat::Flat;
+use rcu_node::tree::Tree;
+use rcu_seq::fault::Fault;
+use std::alloc::Global;
+use std::process::Abort;
+
+/// So many processors over a flat set, made by a second call where the first is refused a growth.
+fn over_flat(rt: &impl Abort, alloc: Global, cpus: u32) -> Hotplug<Flat> {
+    match Hotplug::new(alloc, flat(rt, alloc, cpus)) {
+        Ok(hotplug) => hotplug,
+        Err(fault) => {
+            refused(rt, fault);
+            Hotplug::new(alloc, flat(rt, alloc, cpus)).expect(rt, "the second call has memory")
+        }
+    }
+}
+
+/// The processors over a tree, made by a second call where the first is refused a growth.
+fn over_tree(rt: &impl Abort, alloc: Global) -> Hotplug<Tree<2, 2>> {
+    match Hotplug::new(alloc, tree(rt, alloc, 5)) {
+        Ok(hotplug) => hotplug,
+        Err(fault) => {
+            refused(rt, fault);
+            Hotplug::new(alloc, tree(rt, alloc, 5)).expect(rt, "the second call has memory")
+        }
+    }
+}
+
+/// Compares which processors are awaited, ascending, and that each of them is online.
+fn awaits<A: Awaited>(rt: &impl Abort, hotplug: &Hotplug<A>, wanted: &[u32]) {
+    let awaited = hotplug.awaited();
+    for cpu in 0..awaited.cpus() {
+        let awaits = awaited.awaits(cpu);
+        assert_eq!(rt; awaits, wanted.contains(&cpu), "processor {cpu}");
+        assert!(rt; !awaits || hotplug.online(cpu), "processor {cpu}");
+    }
+    assert_eq!(rt; awaited.count() as usize, wanted.len());
+}
+
+/// Begins a grace period, and compares which processors it awaits.
+fn begin<A: Awaited>(rt: &impl Abort, hotplug: &mut Hotplug<A>, tag: u64, wanted: &[u32]) {
+    assert!(rt; tag % 4 == 1);
+    hotplug.begin(tag);
+    assert_eq!(rt; hotplug.awaited().tag(), tag);
+    awaits(rt, hotplug, wanted);
+}
+
+/// Makes reports, each of a processor and a number, and compares the answers.
+fn report<A: Awaited>(rt: &impl Abort, hotplug: &mut Hotplug<A>, reports: &[(u32, u64, Answer)]) {
+    for (cpu, tag, wanted) in reports {
+        assert!(rt; *cpu < hotplug.awaited().cpus());
+        let answer = hotplug.report(*cpu, *tag);
+        assert_eq!(rt; answer, *wanted, "processor {cpu}, number {tag}");
+    }
+}
+
+/// A processor that arrives while a grace period runs is awaited by the next one.
+fn late_arrival<A: Awaited>(rt: &impl Abort, hotplug: &mut Hotplug<A>) {
+    begin(rt, hotplug, 1, &[0]);
+    assert_eq!(rt; hotplug.arrive(1), Ok(()));
+    awaits(rt, hotplug, &[0]);
+    report(
+        rt,
+        hotplug,
+        &[
+            (1, 1, Answer::Repeat),
+            (0, 5, Answer::Stale),
+            (0, 1, Answer::Last),
+        ],
+    );
+    begin(rt, hotplug, 5, &[0, 1]);
+}
+
+/// A processor that departs is awaited no more; one that came back is awaited by the next grace
+/// period.
+fn departed_and_back<A: Awaited>(rt: &impl Abort, hotplug: &mut Hotplug<A>) {
+    assert_eq!(rt; hotplug.arrive(4), Ok(()));
+    begin(rt, hotplug, 9, &[0, 1, 4]);
+    assert_eq!(rt; hotplug.depart(4), Ok(()));
+    awaits(rt, hotplug, &[0, 1]);
+    assert_eq!(rt; hotplug.arrive(4), Ok(()));
+    awaits(rt, hotplug, &[0, 1]);
+    report(
+        rt,
+        hotplug,
+        &[
+            (4, 9, Answer::Repeat),
+            (1, 9, Answer::Taken),
+            (1, 9, Answer::Repeat),
+        ],
+    );
+    assert_eq!(rt; hotplug.depart(1), Ok(()));
+    awaits(rt, hotplug, &[0]);
+    begin(rt, hotplug, 13, &[0, 4]);
+}
+
+/// Each fault, the first cause first; a refused call changes nothing.
+fn faults<A: Awaited>(rt: &impl Abort, hotplug: &mut Hotplug<A>) {
+    for (cpu, wanted) in [
+        (5, Fault::BadCpu),
+        (0, Fault::AlreadyOnline),
+        (4, Fault::AlreadyOnline),
+    ] {
+        assert_eq!(rt; hotplug.arrive(cpu), Err(wanted));
+    }
+    for (cpu, wanted) in [
+        (5, Fault::BadCpu),
+        (0, Fault::BootStays),
+        (3, Fault::Offline),
+    ] {
+        assert_eq!(rt; hotplug.depart(cpu), Err(wanted));
+    }
+    awaits(rt, hotplug, &[0, 4]);
+}
+
+/// Four grace periods of five processors.
+fn come_and_go<A: Awaited>(rt: &impl Abort, mut hotplug: Hotplug<A>) {
+    assert_eq!(rt; hotplug.awaited().tag(), 0);
+    awaits(rt, &hotplug, &[]);
+    late_arrival(rt, &mut hotplug);
+    departed_and_back(rt, &mut hotplug);
+    faults(rt, &mut hotplug);
+}
+
+#[test]
+fn come_and_go_over_flat(rt: HostRuntime) {
+    come_and_go(&rt, over_flat(&rt, rt.alloc(), 5));
+}
+
+#[test]
+fn come_and_go_over_tree(rt: HostRuntime) {
+    come_and_go(&rt, over_tree(&rt, rt.alloc()));
+}
+
+#[test]
+fn sizes(rt: HostRuntime) {
+    for cpus in [1, 4096] {
+        let mut hotplug = over_flat(&rt, rt.alloc(), cpus);
+        assert_eq!(rt; hotplug.awaited().cpus(), cpus);
+        assert_eq!(rt; hotplug.arrive(cpus), Err(Fault::BadCpu));
+    }
+}

@@ -1,0 +1,246 @@
+//! Each public call once, two grace periods of each kind of awaited processors, and their merging.
+
+mod masks;
+mod merging;
+
+use crate::made::{empty_set, everyone, flat, tree};
+use rcu_node::answer::Answer;
+use rcu_node::awaited::Awaited;
+use rcu_node::cpu_set::CpuSet;
+use rcu_node::flat::Flat;
+use rcu_node::tree::Tree;
+use rcu_seq::fault::Fault;
+use std::alloc::Global;
+use std::process::Abort;
+
+/// Puts processors in, and compares whether each is new.
+fn insert(rt: &impl Abort, set: &mut CpuSet, cpus: &[(u32, bool)]) {
+    for (cpu, wanted) in cpus {
+        assert!(rt; *cpu < set.cpus());
+        let new = set.insert(*cpu);
+        assert_eq!(rt; new, *wanted, "processor {cpu}");
+    }
+}
+
+/// Compares whether each processor is in the set.
+fn contains(rt: &impl Abort, set: &CpuSet, cpus: &[(u32, bool)]) {
+    for (cpu, wanted) in cpus {
+        assert!(rt; *cpu < set.cpus());
+        let there = set.contains(*cpu);
+        assert_eq!(rt; there, *wanted, "processor {cpu}");
+    }
+}
+
+/// Makes reports, each of a processor and a number, and compares the answers.
+fn report<A: Awaited>(rt: &impl Abort, awaited: &mut A, reports: &[(u32, u64, Answer)]) {
+    for (cpu, number, wanted) in reports {
+        assert!(rt; *cpu < awaited.cpus());
+        let answer = awaited.report(*cpu, *number);
+        assert_eq!(rt; answer, *wanted, "processor {cpu}, number {number}");
+    }
+}
+
+/// Compares whether each processor was in the start set, and whether it is awaited.
+fn awaits<A: Awaited>(rt: &impl Abort, awaited: &A, cpus: &[(u32, bool, bool)]) {
+    for (cpu, at_start, now) in cpus {
+        assert!(rt; *cpu < awaited.cpus());
+        let starts = awaited.starts(*cpu);
+        assert_eq!(rt; starts, *at_start, "processor {cpu}");
+        let awaits = awaited.awaits(*cpu);
+        assert_eq!(rt; awaits, *now, "processor {cpu}");
+    }
+}
+
+/// Begins a grace period, and compares what the counts say.
+fn begin<A: Awaited>(rt: &impl Abort, awaited: &mut A, number: u64, set: &CpuSet) {
+    assert!(rt; set.cpus() == awaited.cpus());
+    assert!(rt; number % 4 == 1);
+    awaited.begin(number, set);
+    assert_eq!(rt; awaited.tag(), number);
+    assert_eq!(rt; awaited.count(), set.count());
+    assert!(rt; !awaited.is_empty());
+}
+
+/// A grace period of processors 0, 2 and 4.
+fn first_grace_period<A: Awaited>(rt: &impl Abort, awaited: &mut A, set: &mut CpuSet) {
+    insert(rt, set, &[(0, true), (2, true), (4, true)]);
+    begin(rt, awaited, 1, set);
+    report(
+        rt,
+        awaited,
+        &[
+            (1, 1, Answer::Repeat),
+            (0, 5, Answer::Stale),
+            (0, 1, Answer::Taken),
+            (0, 1, Answer::Repeat),
+        ],
+    );
+    awaits(
+        rt,
+        awaited,
+        &[
+            (0, true, false),
+            (1, false, false),
+            (2, true, true),
+            (4, true, true),
+        ],
+    );
+    assert_eq!(rt; awaited.count(), 2);
+    report(rt, awaited, &[(4, 1, Answer::Taken), (2, 1, Answer::Last)]);
+    assert!(rt; awaited.is_empty());
+}
+
+/// A grace period of processor 3.
+fn second_grace_period<A: Awaited>(rt: &impl Abort, awaited: &mut A, set: &mut CpuSet) {
+    set.clear();
+    insert(rt, set, &[(3, true)]);
+    begin(rt, awaited, 5, set);
+    awaits(
+        rt,
+        awaited,
+        &[(0, false, false), (3, true, true), (4, false, false)],
+    );
+    report(
+        rt,
+        awaited,
+        &[
+            (3, 1, Answer::Stale),
+            (0, 5, Answer::Repeat),
+            (3, 5, Answer::Last),
+        ],
+    );
+    assert!(rt; awaited.is_empty());
+}
+
+/// Two grace periods of five processors.
+fn two_grace_periods<A: Awaited>(rt: &impl Abort, alloc: Global, mut awaited: A) {
+    assert_eq!(rt; awaited.tag(), 0);
+    assert!(rt; awaited.is_empty());
+    let mut set = empty_set(rt, alloc, 5);
+    first_grace_period(rt, &mut awaited, &mut set);
+    second_grace_period(rt, &mut awaited, &mut set);
+}
+
+#[test]
+fn flat_awaits_two_grace_periods(rt: HostRuntime) {
+    two_grace_periods(&rt, rt.alloc(), flat(&rt, rt.alloc(), 5));
+}
+
+#[test]
+fn trees_await_two_grace_periods(rt: HostRuntime) {
+    two_grace_periods(&rt, rt.alloc(), tree::<2, 2>(&rt, rt.alloc(), 5));
+    two_grace_periods(&rt, rt.alloc(), tree::<2, 3>(&rt, rt.alloc(), 5));
+    two_grace_periods(&rt, rt.alloc(), tree::<4, 4>(&rt, rt.alloc(), 5));
+    two_grace_periods(&rt, rt.alloc(), tree::<16, 64>(&rt, rt.alloc(), 5));
+    two_grace_periods(&rt, rt.alloc(), tree::<64, 64>(&rt, rt.alloc(), 5));
+}
+
+#[test]
+fn tree_of_27_leaves(rt: HostRuntime) {
+    let mut tree = tree::<2, 3>(&rt, rt.alloc(), 54);
+    let all = everyone(&rt, rt.alloc(), 54);
+    begin(&rt, &mut tree, 1, &all);
+    for cpu in 0..53 {
+        report(&rt, &mut tree, &[(cpu, 1, Answer::Taken)]);
+        assert_eq!(rt; tree.count(), 53 - cpu);
+    }
+    report(&rt, &mut tree, &[(53, 1, Answer::Last)]);
+}
+
+#[test]
+fn set_of_three_words(rt: HostRuntime) {
+    let mut set = empty_set(&rt, rt.alloc(), 130);
+    insert(
+        &rt,
+        &mut set,
+        &[(0, true), (63, true), (64, true), (129, true), (64, false)],
+    );
+    let mut copy = empty_set(&rt, rt.alloc(), 130);
+    assert!(rt; copy.cpus() == set.cpus());
+    copy.copy_from(&set);
+
+    assert!(rt; 63 < set.cpus());
+    assert!(rt; set.remove(63));
+    assert!(rt; 63 < set.cpus());
+    assert!(rt; !set.remove(63));
+    contains(
+        &rt,
+        &set,
+        &[(0, true), (63, false), (64, true), (65, false), (129, true)],
+    );
+    assert_eq!(rt; set.count(), 3);
+    for (from, width, wanted) in [(0, 1, 1), (60, 8, 0b10000), (64, 64, 1), (128, 64, 2)] {
+        assert!(rt; from < set.cpus());
+        assert_eq!(rt; set.bits_from(from, width), wanted, "from {from}");
+    }
+
+    set.clear();
+    assert_eq!(rt; set.count(), 0);
+    contains(
+        &rt,
+        &copy,
+        &[(0, true), (63, true), (64, true), (65, false), (129, true)],
+    );
+    assert_eq!(rt; copy.count(), 4);
+}
+
+#[test]
+fn union_of_three_words(rt: HostRuntime) {
+    let mut set = empty_set(&rt, rt.alloc(), 130);
+    insert(&rt, &mut set, &[(0, true), (63, true), (129, true)]);
+    let mut other = empty_set(&rt, rt.alloc(), 130);
+    insert(&rt, &mut other, &[(0, true), (64, true), (128, true)]);
+    assert!(rt; set.cpus() == other.cpus());
+    set.insert_all(&other);
+    contains(
+        &rt,
+        &set,
+        &[
+            (0, true),
+            (1, false),
+            (63, true),
+            (64, true),
+            (128, true),
+            (129, true),
+        ],
+    );
+    assert_eq!(rt; set.count(), 5);
+    assert_eq!(rt; other.count(), 3);
+}
+
+/// No set of so many processors is made.
+fn no_set(rt: &impl Abort, alloc: Global, cpus: u32) {
+    assert!(rt; matches!(CpuSet::new(alloc, cpus), Err(Fault::TooManyCpus)));
+    assert!(rt; matches!(Flat::new(alloc, cpus), Err(Fault::TooManyCpus)));
+}
+
+/// No tree of so many processors is made.
+fn no_tree<const LEAF: u32, const FAN: u32>(
+    rt: &impl Abort,
+    alloc: Global,
+    cpus: u32,
+    wanted: Fault,
+) {
+    let made = Tree::<LEAF, FAN>::new(alloc, cpus);
+    assert!(rt; matches!(made, Err(fault) if fault == wanted));
+}
+
+/// Sets of so many processors are made.
+fn makes(rt: &impl Abort, alloc: Global, cpus: u32) {
+    assert!(rt; empty_set(rt, alloc, cpus).cpus() == cpus);
+    assert!(rt; flat(rt, alloc, cpus).cpus() == cpus);
+    assert!(rt; tree::<16, 64>(rt, alloc, cpus).cpus() == cpus);
+}
+
+#[test]
+fn sizes(rt: HostRuntime) {
+    for cpus in [0, 4097] {
+        no_set(&rt, rt.alloc(), cpus);
+        no_tree::<64, 64>(&rt, rt.alloc(), cpus, Fault::TooManyCpus);
+        no_tree::<1, 64>(&rt, rt.alloc(), cpus, Fault::BadFanout);
+        no_tree::<64, 65>(&rt, rt.alloc(), cpus, Fault::BadFanout);
+    }
+    no_tree::<2, 2>(&rt, rt.alloc(), 17, Fault::TooManyCpus);
+    makes(&rt, rt.alloc(), 1);
+    makes(&rt, rt.alloc(), 4096);
+}

@@ -1,0 +1,252 @@
+//! The masks of trees, node by node, and each call of a tree beside the same call of a flat set.
+ghost use Rattle.std.specs.Prelude.{◌<◌};
+
+use super::{begin, insert, report};
+use crate::draw::Draw;
+use crate::made::{empty_set, flat, tree};
+use rcu_geometry::geometry::Geometry;
+use rcu_node::answer::Answer;
+use rcu_node::awaited::Awaited;
+use rcu_node::cpu_set::CpuSet;
+use rcu_node::flat::Flat;
+use rcu_node::tree::Tree;
+use std::alloc::Global;
+use std::process::Abort;
+
+/// The most nodes of a tree that is drawn here: 64 leaves and a root.
+const MOST_NODES: usize = 65;
+
+/// What awaits processors, and may show masks.
+trait Shown {
+    /// The first node whose masks are not what the definition says of these sets, if there is one.
+    fn wrong_node(&self, awaited: &CpuSet, start: &CpuSet) -> Option<u32>;
+}
+
+impl Shown for Flat {
+    fn wrong_node(&self, _awaited: &CpuSet, _start: &CpuSet) -> Option<u32> {
+        None
+    }
+}
+
+impl<const LEAF: u32, const FAN: u32> Shown for Tree<LEAF, FAN> {
+    fn wrong_node(&self, awaited: &CpuSet, start: &CpuSet) -> Option<u32> {
+        let Ok(geometry) = Geometry::<LEAF, FAN>::new(self.cpus()) else {
+            return Some(0);
+        };
+        let (now, first) = (masks_of(&geometry, awaited), masks_of(&geometry, start));
+        for node in 0..self.nodes() {
+            if node >= self.nodes()
+                || self.qsmask(node) != mask_at(&now, node)
+                || self.qsmaskinit(node) != mask_at(&first, node)
+                || self.grpmask(node) != own_bit(&geometry, node)
+            {
+                return Some(node);
+            }
+        }
+        (self.nodes() != geometry.nodes()).then_some(self.nodes())
+    }
+}
+
+/// A mask of the list.
+fn mask_at(masks: &[u64], node: u32) -> u64 {
+    masks.get(node as usize).copied().unwrap_or(0)
+}
+
+/// Sets bits of a mask of the list.
+fn set_bits(masks: &mut [u64], node: u32, bits: u64) {
+    if let Some(mask) = masks.get_mut(node as usize) {
+        *mask |= bits;
+    }
+}
+
+/// The masks of a set: the bits of its processors in the leaves, and above them those of the nodes
+/// that are not empty.
+fn masks_of<const LEAF: u32, const FAN: u32>(
+    geometry: &Geometry<LEAF, FAN>,
+    set: &CpuSet,
+) -> [u64; MOST_NODES] {
+    let mut masks = [0; MOST_NODES];
+    for cpu in 0..geometry.cpus() {
+        if cpu < geometry.cpus() && cpu < set.cpus() && set.contains(cpu) {
+            let bit = 1u64.checked_shl(geometry.bit_of(cpu)).unwrap_or(0);
+            set_bits(&mut masks, geometry.leaf_of(cpu), bit);
+        }
+    }
+    for node in (1..geometry.nodes()).rev() {
+        if node < geometry.nodes() && mask_at(&masks, node) != 0 {
+            let parent = geometry.parent(node).unwrap_or(0);
+            set_bits(&mut masks, parent, own_bit(geometry, node));
+        }
+    }
+    masks
+}
+
+/// A node's bit in its parent, 0 at the root.
+fn own_bit<const LEAF: u32, const FAN: u32>(geometry: &Geometry<LEAF, FAN>, node: u32) -> u64 {
+    if node >= geometry.nodes() {
+        return 0;
+    }
+    match geometry.bit_in_parent(node) {
+        Some(bit) => 1u64.checked_shl(bit).unwrap_or(0),
+        None => 0,
+    }
+}
+
+/// A set of a drawn number of processors.
+fn drawn_set<R: Abort>(rt: &R, alloc: Global, draw: &mut Draw, cpus: u32) -> CpuSet {
+    let mut set = empty_set(rt, alloc, cpus);
+    for cpu in 0..cpus {
+        assert!(rt; cpu < set.cpus());
+        if draw.below(3) > 0 {
+            set.insert(cpu);
+        }
+    }
+    set
+}
+
+/// The first processor of which not both say the same, if there is one.
+fn wrong_cpu<A: Awaited>(shown: &A, flat: &Flat) -> Option<u32> {
+    for cpu in 0..flat.cpus() {
+        if cpu >= flat.cpus()
+            || cpu >= shown.cpus()
+            || shown.awaits(cpu) != flat.awaits(cpu)
+            || shown.starts(cpu) != flat.starts(cpu)
+        {
+            return Some(cpu);
+        }
+    }
+    None
+}
+
+/// Puts a processor in, where that is wanted.
+fn put(set: &mut CpuSet, cpu: u32, wanted: bool) {
+    if wanted && cpu < set.cpus() {
+        set.insert(cpu);
+    }
+}
+
+/// The processors that are awaited, and those that were at the start.
+fn sets_of<R: Abort>(rt: &R, alloc: Global, flat: &Flat) -> (CpuSet, CpuSet) {
+    let mut awaited = empty_set(rt, alloc, flat.cpus());
+    let mut start = empty_set(rt, alloc, flat.cpus());
+    for cpu in 0..flat.cpus() {
+        if cpu < flat.cpus() {
+            put(&mut awaited, cpu, flat.awaits(cpu));
+            put(&mut start, cpu, flat.starts(cpu));
+        }
+    }
+    (awaited, start)
+}
+
+/// Compares all that is said of each processor with what the flat set says, and then the masks.
+fn compare<A: Awaited + Shown, R: Abort>(rt: &R, alloc: Global, shown: &A, flat: &Flat) {
+    assert_eq!(rt;
+        (shown.cpus(), shown.tag(), shown.count(), shown.is_empty()),
+        (flat.cpus(), flat.tag(), flat.count(), flat.is_empty())
+    );
+    assert_eq!(rt; wrong_cpu(shown, flat), None);
+    let (awaited, start) = sets_of(rt, alloc, flat);
+    assert_eq!(rt; shown.wrong_node(&awaited, &start), None);
+}
+
+/// Begins a grace period in both, where the set and the number are fit for it.
+fn begin_both<A: Awaited>(shown: &mut A, flat: &mut Flat, number: u64, set: &CpuSet) -> bool {
+    if set.cpus() != shown.cpus() || set.cpus() != flat.cpus() || number % 4 != 1 {
+        return false;
+    }
+    shown.begin(number, set);
+    flat.begin(number, set);
+    true
+}
+
+/// Reports a processor to both. Whether there is one, and both answer the same.
+fn answer_alike<A: Awaited>(shown: &mut A, flat: &mut Flat, cpu: u32, number: u64) -> bool {
+    cpu < flat.cpus() && cpu < shown.cpus() && shown.report(cpu, number) == flat.report(cpu, number)
+}
+
+/// Grace periods of drawn sets, with drawn reports, repeats and stale ones, call by call beside a
+/// flat set; the last grace period is reported to its end.
+fn beside_flat<A: Awaited + Shown, R: Abort>(rt: &R, alloc: Global, mut shown: A, reports: u32) {
+    let cpus = shown.cpus();
+    let mut flat = flat(rt, alloc, cpus);
+    let mut draw = Draw(88_172_645_463_325_252);
+    compare(rt, alloc, &shown, &flat);
+    for round in 0..3u32 {
+        let number = 4 * u64::from(round) + 1;
+        let set = drawn_set(rt, alloc, &mut draw, cpus);
+        assert!(rt; begin_both(&mut shown, &mut flat, number, &set));
+        compare(rt, alloc, &shown, &flat);
+        for _ in 0..reports {
+            assert!(rt; cpus > 0);
+            let cpu = draw.below(u64::from(cpus)) as u32;
+            let told = number + 4 * (draw.below(4) / 3);
+            let alike = answer_alike(&mut shown, &mut flat, cpu, told);
+            assert!(rt; alike, "processor {cpu}, number {told}");
+            compare(rt, alloc, &shown, &flat);
+        }
+    }
+    for cpu in 0..cpus {
+        assert!(rt;
+            answer_alike(&mut shown, &mut flat, cpu, 9),
+            "processor {cpu}"
+        );
+    }
+    compare(rt, alloc, &shown, &flat);
+    assert!(rt; shown.is_empty());
+}
+
+#[test]
+fn masks_level_by_level(rt: HostRuntime) {
+    let mut tree = tree::<2, 2>(&rt, rt.alloc(), 5);
+    let mut all = empty_set(&rt, rt.alloc(), 5);
+    insert(
+        &rt,
+        &mut all,
+        &[(0, true), (1, true), (2, true), (3, true), (4, true)],
+    );
+    begin(&rt, &mut tree, 1, &all);
+    masks(&rt, &tree, [3, 3, 1, 3, 3, 1]);
+    for (cpu, answer, wanted) in [
+        (4, Answer::Taken, [1, 3, 0, 3, 3, 0]),
+        (0, Answer::Taken, [1, 3, 0, 2, 3, 0]),
+        (1, Answer::Taken, [1, 2, 0, 0, 3, 0]),
+        (2, Answer::Taken, [1, 2, 0, 0, 2, 0]),
+        (3, Answer::Last, [0; 6]),
+    ] {
+        report(&rt, &mut tree, &[(cpu, 1, answer)]);
+        masks(&rt, &tree, wanted);
+    }
+}
+
+/// Compares the masks of six nodes: those of now, and those that stay.
+fn masks<R: Abort>(rt: &R, tree: &Tree<2, 2>, wanted: [u64; 6]) {
+    let (start, group) = ([3, 3, 1, 3, 3, 1], [0, 1, 2, 1, 2, 1]);
+    assert_eq!(rt; tree.nodes(), 6);
+    for node in 0..6u32 {
+        assert!(rt; node < tree.nodes());
+        let found = (tree.qsmask(node), tree.qsmaskinit(node), tree.grpmask(node));
+        let place = node as usize;
+        assert_eq!(rt;
+            found,
+            (wanted[place], start[place], group[place]),
+            "node {node}"
+        );
+    }
+}
+
+#[test]
+fn flat_and_trees_beside_flat(rt: HostRuntime) {
+    beside_flat(&rt, rt.alloc(), flat(&rt, rt.alloc(), 5), 20);
+    beside_flat(&rt, rt.alloc(), tree::<64, 64>(&rt, rt.alloc(), 1), 5);
+    beside_flat(&rt, rt.alloc(), tree::<16, 64>(&rt, rt.alloc(), 16), 40);
+    beside_flat(&rt, rt.alloc(), tree::<2, 3>(&rt, rt.alloc(), 5), 20);
+    beside_flat(&rt, rt.alloc(), tree::<3, 2>(&rt, rt.alloc(), 7), 30);
+    beside_flat(&rt, rt.alloc(), tree::<2, 2>(&rt, rt.alloc(), 5), 20);
+    beside_flat(&rt, rt.alloc(), tree::<2, 2>(&rt, rt.alloc(), 16), 40);
+    beside_flat(&rt, rt.alloc(), tree::<2, 3>(&rt, rt.alloc(), 54), 60);
+}
+
+#[test]
+fn full_tree_beside_flat(rt: HostRuntime) {
+    beside_flat(&rt, rt.alloc(), tree::<64, 64>(&rt, rt.alloc(), 4096), 60);
+}

@@ -1,0 +1,181 @@
+//! Merging of flat sets and trees, of each kind into each other kind.
+use super::{awaits, begin, insert, report};
+use crate::made::{empty_set, everyone, flat, tree};
+use rcu_node::answer::Answer;
+use rcu_node::awaited::Awaited;
+use rcu_node::merging::merge;
+use rcu_seq::fault::Fault;
+use std::alloc::Global;
+use std::process::Abort;
+
+/// Merges the second into the first.
+fn merges<A: Awaited, B: Awaited>(
+    rt: &impl Abort,
+    first: &mut A,
+    second: &B,
+    wanted: Result<(), Fault>,
+) {
+    assert_eq!(rt; merge(first, second), wanted);
+}
+
+/// Each hears some of five processors; merged, they await whom neither heard.
+fn merge_two_replicas<A: Awaited, B: Awaited>(
+    rt: &impl Abort,
+    alloc: Global,
+    mut first: A,
+    mut second: B,
+) {
+    let set = everyone(rt, alloc, 5);
+    begin(rt, &mut first, 1, &set);
+    begin(rt, &mut second, 1, &set);
+    report(
+        rt,
+        &mut first,
+        &[(0, 1, Answer::Taken), (2, 1, Answer::Taken)],
+    );
+    report(
+        rt,
+        &mut second,
+        &[(4, 1, Answer::Taken), (2, 1, Answer::Taken)],
+    );
+    merges(rt, &mut first, &second, Ok(()));
+    assert_eq!(rt; (first.count(), first.tag()), (2, 1));
+    assert_eq!(rt; second.count(), 3);
+    merges(rt, &mut second, &first, Ok(()));
+    assert_eq!(rt; (second.count(), second.tag()), (2, 1));
+    let left = [
+        (0, true, false),
+        (1, true, true),
+        (2, true, false),
+        (3, true, true),
+        (4, true, false),
+    ];
+    awaits(rt, &first, &left);
+    awaits(rt, &second, &left);
+    merges(rt, &mut first, &second, Ok(()));
+    assert_eq!(rt; first.count(), 2);
+}
+
+/// Nothing changes where the tag, the start set or the number of processors differ.
+fn merge_unlike<A: Awaited, B: Awaited>(
+    rt: &impl Abort,
+    alloc: Global,
+    mut first: A,
+    mut second: B,
+) {
+    merges(rt, &mut first, &second, Ok(()));
+    merges(rt, &mut first, &flat(rt, alloc, 4), Err(Fault::NotAlike));
+
+    let mut set = empty_set(rt, alloc, 3);
+    insert(rt, &mut set, &[(0, true), (1, true)]);
+    begin(rt, &mut first, 1, &set);
+    merges(rt, &mut first, &second, Err(Fault::NotAlike));
+
+    begin(rt, &mut second, 5, &set);
+    report(rt, &mut second, &[(0, 5, Answer::Taken)]);
+    merges(rt, &mut first, &second, Err(Fault::NotAlike));
+
+    set.clear();
+    insert(rt, &mut set, &[(0, true), (2, true)]);
+    begin(rt, &mut second, 1, &set);
+    report(rt, &mut second, &[(0, 1, Answer::Taken)]);
+    merges(rt, &mut first, &second, Err(Fault::NotAlike));
+    merges(rt, &mut second, &first, Err(Fault::NotAlike));
+    awaits(
+        rt,
+        &first,
+        &[(0, true, true), (1, true, true), (2, false, false)],
+    );
+    awaits(
+        rt,
+        &second,
+        &[(0, true, false), (1, false, false), (2, true, true)],
+    );
+    assert_eq!(rt; (first.count(), second.count()), (2, 1));
+}
+
+/// Reports each processor whose bit is not set.
+fn hear<A: Awaited>(rt: &impl Abort, awaited: &mut A, left: u32) {
+    for cpu in 0..5 {
+        assert!(rt; cpu < awaited.cpus());
+        if (left >> cpu) & 1 == 0 {
+            awaited.report(cpu, 1);
+        }
+    }
+}
+
+/// Of every two sets of five processors left to await, those in both are left.
+fn merge_every_two<A: Awaited, B: Awaited>(
+    rt: &impl Abort,
+    alloc: Global,
+    mut first: A,
+    mut second: B,
+) {
+    let set = everyone(rt, alloc, 5);
+    for left in 0..32u32 {
+        for other in 0..32u32 {
+            begin(rt, &mut first, 1, &set);
+            begin(rt, &mut second, 1, &set);
+            hear(rt, &mut first, left);
+            hear(rt, &mut second, other);
+            assert_eq!(rt; merge(&mut first, &second), Ok(()));
+            for cpu in 0..5 {
+                assert!(rt; cpu < first.cpus());
+                assert_eq!(rt;
+                    first.awaits(cpu),
+                    ((left & other) >> cpu) & 1 == 1,
+                    "{left} with {other}"
+                );
+            }
+        }
+    }
+}
+
+#[test]
+fn merging_two_replicas(rt: HostRuntime) {
+    let alloc = rt.alloc();
+    merge_two_replicas(&rt, alloc, flat(&rt, alloc, 5), flat(&rt, alloc, 5));
+    merge_two_replicas(&rt, alloc, flat(&rt, alloc, 5), tree::<2, 3>(&rt, alloc, 5));
+    merge_two_replicas(
+        &rt,
+        alloc,
+        tree::<2, 2>(&rt, alloc, 5),
+        tree::<4, 4>(&rt, alloc, 5),
+    );
+    merge_two_replicas(
+        &rt,
+        alloc,
+        tree::<64, 64>(&rt, alloc, 5),
+        tree::<16, 64>(&rt, alloc, 5),
+    );
+    merge_two_replicas(
+        &rt,
+        alloc,
+        tree::<16, 64>(&rt, alloc, 5),
+        flat(&rt, alloc, 5),
+    );
+}
+
+#[test]
+fn merge_of_unlike_sets(rt: HostRuntime) {
+    let alloc = rt.alloc();
+    merge_unlike(&rt, alloc, flat(&rt, alloc, 3), tree::<2, 2>(&rt, alloc, 3));
+    merge_unlike(
+        &rt,
+        alloc,
+        tree::<2, 3>(&rt, alloc, 3),
+        tree::<64, 64>(&rt, alloc, 3),
+    );
+}
+
+#[test]
+fn merging_leaves_those_in_both(rt: HostRuntime) {
+    let alloc = rt.alloc();
+    merge_every_two(&rt, alloc, flat(&rt, alloc, 5), tree::<2, 2>(&rt, alloc, 5));
+    merge_every_two(
+        &rt,
+        alloc,
+        tree::<2, 3>(&rt, alloc, 5),
+        tree::<4, 4>(&rt, alloc, 5),
+    );
+}

@@ -1,0 +1,256 @@
+//! Replicas over trees and flat sets, and their merging.
+ghost use Rattle.std.specs.Prelude.{◌≡◌, false, replicate, length};
+
+use crate::made::{everyone, flat, set_of, tree};
+use rcu_node::answer::Answer;
+use rcu_node::awaited::Awaited;
+use rcu_node::cpu_set::CpuSet;
+use rcu_report::replica::Replica;
+use rcu_seq::fault::Fault;
+use std::process::Abort;
+
+/// A replica whose last number is 8.
+fn replica<A: Awaited>(rt: &impl Abort, inner: A) -> Replica<A>
+    requires tag { A.tag inner ≡ 0 }
+    requires empty { A.start_set inner ≡ replicate (length (A.awaited inner)) false }
+{
+    Replica::new(inner, 8).expect(rt, "8 is a last number")
+}
+
+/// Begins, and compares the result.
+fn begin<A: Awaited>(
+    rt: &impl Abort,
+    replica: &mut Replica<A>,
+    set: &CpuSet,
+    wanted: Result<u64, Fault>,
+) {
+    assert!(rt; set.cpus() == replica.awaited().cpus());
+    let result = replica.begin(set);
+    assert_eq!(rt; result, wanted);
+}
+
+/// Makes reports, each of a processor and a number, and compares the answers.
+fn report<A: Awaited>(
+    rt: &impl Abort,
+    replica: &mut Replica<A>,
+    reports: &[(u32, u64, Result<Answer, Fault>)],
+) {
+    for (cpu, tag, wanted) in reports {
+        let answer = replica.report(*cpu, *tag);
+        assert_eq!(rt; answer, *wanted, "processor {cpu}, number {tag}");
+    }
+}
+
+/// Takes a processor offline, and compares the result.
+fn depart<A: Awaited>(
+    rt: &impl Abort,
+    replica: &mut Replica<A>,
+    cpu: u32,
+    wanted: Result<(), Fault>,
+) {
+    assert_eq!(rt; replica.depart(cpu), wanted);
+}
+
+/// Ends, and compares the result.
+fn end<A: Awaited>(rt: &impl Abort, replica: &mut Replica<A>, wanted: Result<u64, Fault>) {
+    assert_eq!(rt; replica.end(), wanted);
+}
+
+/// Compares the number, and whether a grace period runs.
+fn is_at<A: Awaited>(rt: &impl Abort, replica: &Replica<A>, value: u64, running: bool) {
+    assert_eq!(rt; replica.value(), value);
+    assert_eq!(rt; replica.is_running(), running);
+}
+
+/// Takes in what the second has heard, and compares the result.
+fn merge<A: Awaited, B: Awaited>(
+    rt: &impl Abort,
+    first: &mut Replica<A>,
+    second: &Replica<B>,
+    wanted: Result<(), Fault>,
+) {
+    assert_eq!(rt; first.merge_from(second), wanted);
+}
+
+/// Compares which processors are awaited.
+fn awaits<A: Awaited>(rt: &impl Abort, replica: &Replica<A>, wanted: &[u32]) {
+    let awaited = replica.awaited();
+    for cpu in 0..awaited.cpus() {
+        let awaits = awaited.awaits(cpu);
+        assert_eq!(rt; awaits, wanted.contains(&cpu), "processor {cpu}");
+    }
+    assert_eq!(rt; awaited.count() as usize, wanted.len());
+}
+
+/// Two replicas of five processors that heard different ones, and take in each other.
+fn merge_two<A: Awaited, B: Awaited>(
+    rt: &impl Abort,
+    mut a: Replica<A>,
+    mut b: Replica<B>,
+    all: &CpuSet,
+) {
+    begin(rt, &mut a, all, Ok(1));
+    begin(rt, &mut b, all, Ok(1));
+    let taken = Ok(Answer::Taken);
+    report(rt, &mut a, &[(0, 1, taken), (2, 1, taken)]);
+    report(rt, &mut b, &[(4, 1, taken), (2, 1, taken)]);
+    awaits(rt, &a, &[1, 3, 4]);
+    awaits(rt, &b, &[0, 1, 3]);
+    merge(rt, &mut a, &b, Ok(()));
+    awaits(rt, &a, &[1, 3]);
+    merge(rt, &mut b, &a, Ok(()));
+    awaits(rt, &b, &[1, 3]);
+    merge(rt, &mut a, &b, Ok(()));
+    awaits(rt, &a, &[1, 3]);
+}
+
+#[test]
+fn merging_two_replicas(rt: HostRuntime) {
+    let all = everyone(&rt, rt.alloc(), 5);
+    let a = replica(&rt, tree::<2, 2>(&rt, rt.alloc(), 5));
+    let b = replica(&rt, tree::<4, 4>(&rt, rt.alloc(), 5));
+    merge_two(&rt, a, b, &all);
+    let a = replica(&rt, flat(&rt, rt.alloc(), 5));
+    let b = replica(&rt, tree::<64, 64>(&rt, rt.alloc(), 5));
+    merge_two(&rt, a, b, &all);
+}
+
+#[test]
+fn merge_of_unlike_sets(rt: HostRuntime) {
+    let mut a = replica(&rt, tree::<2, 2>(&rt, rt.alloc(), 5));
+    let mut b = replica(&rt, tree::<4, 4>(&rt, rt.alloc(), 5));
+    merge(&rt, &mut a, &b, Ok(()));
+    begin(&rt, &mut a, &set_of(&rt, rt.alloc(), 5, &[0, 1]), Ok(1));
+    merge(&rt, &mut a, &b, Err(Fault::NotAlike));
+    begin(&rt, &mut b, &set_of(&rt, rt.alloc(), 5, &[0, 2]), Ok(1));
+    merge(&rt, &mut a, &b, Err(Fault::NotAlike));
+    awaits(&rt, &a, &[0, 1]);
+    let c = replica(&rt, flat(&rt, rt.alloc(), 6));
+    merge(&rt, &mut a, &c, Err(Fault::NotAlike));
+}
+
+/// Two replicas of three processors up to where both await processor 0 alone.
+fn depart_in_both<A: Awaited, B: Awaited>(
+    rt: &impl Abort,
+    a: &mut Replica<A>,
+    b: &mut Replica<B>,
+    all: &CpuSet,
+) {
+    begin(rt, a, all, Ok(1));
+    begin(rt, b, all, Ok(1));
+    report(
+        rt,
+        a,
+        &[
+            (1, 1, Ok(Answer::Taken)),
+            (1, 1, Ok(Answer::Repeat)),
+            (2, 5, Ok(Answer::Stale)),
+        ],
+    );
+    depart(rt, a, 2, Ok(()));
+    depart(rt, b, 2, Ok(()));
+    report(
+        rt,
+        b,
+        &[(1, 1, Ok(Answer::Taken)), (2, 1, Ok(Answer::Repeat))],
+    );
+    awaits(rt, a, &[0]);
+    awaits(rt, b, &[0]);
+}
+
+/// The first ends its grace period, and the second does after it took in what the first has heard.
+fn end_in_both<A: Awaited, B: Awaited>(rt: &impl Abort, a: &mut Replica<A>, b: &mut Replica<B>) {
+    report(rt, a, &[(0, 1, Ok(Answer::Last))]);
+    end(rt, a, Ok(4));
+    is_at(rt, a, 4, false);
+    is_at(rt, b, 1, true);
+    merge(rt, b, a, Ok(()));
+    awaits(rt, b, &[]);
+    end(rt, b, Ok(4));
+    report(rt, a, &[(0, 1, Ok(Answer::Stale))]);
+}
+
+#[test]
+fn replicas_with_departures(rt: HostRuntime) {
+    let mut a = replica(&rt, tree::<2, 3>(&rt, rt.alloc(), 3));
+    let mut b = replica(&rt, tree::<64, 64>(&rt, rt.alloc(), 3));
+    let all = everyone(&rt, rt.alloc(), 3);
+    depart_in_both(&rt, &mut a, &mut b, &all);
+    end_in_both(&rt, &mut a, &mut b);
+}
+
+/// Each fault of a running replica of two processors, the first cause first; a refused call changes
+/// nothing.
+fn faults_while_running<A: Awaited>(rt: &impl Abort, replica: &mut Replica<A>, all: &CpuSet) {
+    begin(rt, replica, all, Err(Fault::Running));
+    end(rt, replica, Err(Fault::Waiting));
+    report(rt, replica, &[(2, 1, Err(Fault::BadCpu))]);
+    depart(rt, replica, 2, Err(Fault::BadCpu));
+    depart(rt, replica, 0, Err(Fault::BootStays));
+    awaits(rt, replica, &[0, 1]);
+}
+
+/// A grace period that its two reports end.
+fn grace_period<A: Awaited>(rt: &impl Abort, replica: &mut Replica<A>, tag: u64) {
+    report(
+        rt,
+        replica,
+        &[(1, tag, Ok(Answer::Taken)), (0, tag, Ok(Answer::Last))],
+    );
+    end(rt, replica, Ok(tag.saturating_add(3)));
+}
+
+/// A replica of two processors, up to where no grace period begins any more.
+fn up_to_the_last_number<A: Awaited>(rt: &impl Abort, replica: &mut Replica<A>, all: &CpuSet) {
+    end(rt, replica, Err(Fault::Idle));
+    report(rt, replica, &[(0, 0, Ok(Answer::Stale))]);
+    depart(rt, replica, 1, Ok(()));
+    begin(rt, replica, all, Ok(1));
+    faults_while_running(rt, replica, all);
+    grace_period(rt, replica, 1);
+    begin(rt, replica, all, Ok(5));
+    grace_period(rt, replica, 5);
+    is_at(rt, replica, 8, false);
+    begin(rt, replica, all, Err(Fault::Exhausted));
+}
+
+#[test]
+fn faults_up_to_the_last_number(rt: HostRuntime) {
+    let mut one = replica(&rt, flat(&rt, rt.alloc(), 2));
+    let all = everyone(&rt, rt.alloc(), 2);
+    up_to_the_last_number(&rt, &mut one, &all);
+    let bad = Replica::new(flat(&rt, rt.alloc(), 2), 6);
+    assert!(rt; matches!(bad, Err(Fault::BadLast)));
+}
+
+/// Replicas open with the least and the greatest last number, and with none beyond.
+#[test]
+fn last_numbers(rt: HostRuntime) {
+    let all = everyone(&rt, rt.alloc(), 2);
+    for last in [4, 1 << 62] {
+        let opened = Replica::new(flat(&rt, rt.alloc(), 2), last);
+        let mut one = opened.expect(&rt, "it is a last number");
+        begin(&rt, &mut one, &all, Ok(1));
+    }
+    for last in [0, 6, (1 << 62) + 4] {
+        let refused = Replica::new(flat(&rt, rt.alloc(), 2), last);
+        assert!(rt; matches!(refused, Err(Fault::BadLast)), "{last}");
+    }
+}
+
+#[test]
+fn sizes_of_replicas(rt: HostRuntime) {
+    for cpus in [1, 4096] {
+        let mut one = replica(&rt, flat(&rt, rt.alloc(), cpus));
+        let all = set_of(&rt, rt.alloc(), cpus, &[cpus - 1]);
+        begin(&rt, &mut one, &all, Ok(1));
+        report(
+            &rt,
+            &mut one,
+            &[
+                (cpus, 1, Err(Fault::BadCpu)),
+                (cpus - 1, 1, Ok(Answer::Last)),
+            ],
+        );
+    }
+}

@@ -1,0 +1,76 @@
+//! Parts of tests with threads: the seats, and what moves the grace periods on.
+ghost use Rattle.std.specs.Prelude.{◌≡◌, All};
+ghost use Rattle.rcu_cell.specs.Cell.{IsSeatOf, IsWatcherOf};
+
+use rcu_cell::cell::Cell;
+use rcu_cell::keeper::Keeper;
+use rcu_cell::known::Known;
+use rcu_cell::slots::Fits;
+use rcu_live::cpu_seat::CpuSeat;
+use std::process::Abort;
+use std::sync::Wait;
+
+/// The seat of the last processor that is left.
+pub(crate) fn next_seat<R: Abort, F: Fits, const W: usize, const N: usize>(
+    rt: &R,
+    cell: &Cell<4, 4, u64, F, W, N>,
+    seats: &mut Vec<CpuSeat<(), Known>>,
+) -> CpuSeat<(), Known>
+    requires seats { All (IsSeatOf cell.now) seats.old.items }
+    requires outside { All (λ seat. seat.depth ≡ 0) seats.old.items }
+    ensures seats { All (IsSeatOf cell.now) seats.new.items }
+    ensures outside { All (λ seat. seat.depth ≡ 0) seats.new.items }
+    ensures seat { IsSeatOf cell.now result }
+    ensures shut { result.depth ≡ 0 }
+{
+    seats.pop().expect(rt, "a processor is left")
+}
+
+/// The same, of a processor that is online from now on.
+pub(crate) fn next_online<R: Abort + Wait, F: Fits, const W: usize, const N: usize>(
+    rt: &R,
+    cell: &Cell<4, 4, u64, F, W, N>,
+    seats: &mut Vec<CpuSeat<(), Known>>,
+) -> CpuSeat<(), Known>
+    requires seats { All (IsSeatOf cell.now) seats.old.items }
+    requires outside { All (λ seat. seat.depth ≡ 0) seats.old.items }
+    ensures seats { All (IsSeatOf cell.now) seats.new.items }
+    ensures outside { All (λ seat. seat.depth ≡ 0) seats.new.items }
+    ensures seat { IsSeatOf cell.now result }
+    ensures shut { result.depth ≡ 0 }
+{
+    let mut seat = next_seat(rt, cell, seats);
+    assert_eq!(rt; cell.live().online(rt, &mut seat), Ok(()));
+    seat
+}
+
+/// Moves a grace period of so many processors on, from the processor 0, and looks which slots are
+/// free. A callback asks for the grace period; where its queueing is refused memory, a later call
+/// does.
+pub(crate) fn drive<R: Wait, F: Fits, const W: usize, const N: usize>(
+    rt: &R,
+    cell: &Cell<4, 4, u64, F, W, N>,
+    keeper: &mut Keeper<W, N>,
+    seat: &mut CpuSeat<(), Known>,
+    cpus: u32,
+)
+    requires keeper { IsWatcherOf cell.now keeper.old }
+    requires seat { IsSeatOf cell.now seat.old }
+    ensures keeper { IsWatcherOf cell.now keeper.new }
+    ensures seat { IsSeatOf cell.now seat.new }
+{
+    let live = cell.live();
+    keeper.age(cell);
+    if let Ok((_, 0)) = live.tend(rt, 0) {
+        let _ = live.queue(rt, seat, 0);
+        let _ = live.tend(rt, 0);
+    }
+    let _ = live.turn(rt);
+    let _ = seat.quiesce(live);
+    for cpu in 0..cpus {
+        let _ = live.collect(rt, cpu);
+    }
+    let _ = live.turn(rt);
+    let _ = live.run(rt, 0, 8);
+    keeper.age(cell);
+}

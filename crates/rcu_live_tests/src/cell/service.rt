@@ -1,0 +1,122 @@
+//! A service whose limits are replaced while it answers requests: how a cell is used, from its
+//! opening to the shutdown.
+ghost use Rattle.std.specs.Prelude.{◌≡◌, ◌≤◌, All};
+ghost use Rattle.std.specs.Thread.{IsSync};
+ghost use Rattle.rcu_cell.specs.Cell.{IsSeatOf, IsWatcherOf};
+
+use crate::cell::limits::Limits;
+use crate::cell::parts::{drive, next_online, next_seat};
+use rcu_cell::cell::Cell;
+use rcu_cell::keeper::Keeper;
+use rcu_cell::known::Known;
+use rcu_cell::value::Value;
+use rcu_live::cpu_seat::CpuSeat;
+use rcu_seq::fault::Fault;
+use std::process::Abort;
+use std::sync::Wait;
+use std::thread;
+use std::thread::Threads;
+
+/// The limits, in one of four slots, beside an engine.
+type Shared = Cell<4, 4, u64, Limits, 2, 4>;
+
+/// How many requests a server answers.
+const REQUESTS: u32 = 100_000;
+
+/// How often the limits are replaced.
+const CHANGES: u32 = 1_000;
+
+/// Who answers requests, with its processor's seat.
+#[derive(Drop)]
+struct Server<'a> {
+    cell: &'a Shared,
+    seat: CpuSeat<(), Known>,
+    ghost seat_of: { IsSeatOf cell.now seat },
+    ghost outside: { seat.depth ≡ 0 },
+}
+
+impl<'a> Server<'a> {
+    /// Whether so many requests at once are let in, by the limits that are shown. It waits for
+    /// nobody, and nobody waits for it longer than up to its quiescent state.
+    fn admits(&mut self, at_once: u32) -> Result<bool, Fault> {
+        let limits = self.cell.value_section(&mut self.seat)?;
+        self.seat.quiesce(self.cell.live())?;
+        Ok(at_once <= limits.burst)
+    }
+
+    /// Answers requests, and shuts down: the processor goes offline, so that no grace period waits
+    /// for it. Answers how many it answered.
+    fn serve<R: Wait>(mut self, rt: &R) -> u32 {
+        let mut answered = 0u32;
+        for request in 0..REQUESTS {
+            if self.admits(request % 64).is_ok() {
+                answered = answered.saturating_add(1);
+            }
+        }
+        let Server { cell, mut seat, .. } = self;
+        let _ = cell.live().offline(rt, &mut seat);
+        answered
+    }
+}
+
+/// Who replaces the limits, and drives the engine, with the seat of processor 0.
+#[derive(Drop)]
+struct Control<'a> {
+    cell: &'a Shared,
+    keeper: Keeper<2, 4>,
+    seat: CpuSeat<(), Known>,
+    ghost keeper_of: { IsWatcherOf cell.now keeper },
+    ghost seat_of: { IsSeatOf cell.now seat },
+}
+
+impl<'a> Control<'a> {
+    /// Replaces the limits. Where no slot is free, some grace period has to pass first.
+    fn replace<R: Wait>(&mut self, rt: &R, limits: Limits)
+        requires { limits.rate ≤ limits.burst }
+    {
+        for _ in rt.forever() {
+            if self.keeper.update_value(self.cell, limits).is_ok() {
+                return;
+            }
+            drive(rt, self.cell, &mut self.keeper, &mut self.seat, 2);
+        }
+    }
+
+    fn work<R: Wait>(mut self, rt: &R) {
+        for rate in 1..=CHANGES {
+            let burst = rate + 10;
+            self.replace(rt, Limits { rate, burst });
+        }
+    }
+}
+
+/// Runs the control on a thread of its own, and a server here. Where no thread can be made, the
+/// control runs last: it waits for the server, which waits for nobody. When both have ended, the
+/// cell and its engine may go: what waits in a slot needs no grace period for it.
+fn run_service<R: Abort + Threads + Wait + Sync>(
+    rt: &R,
+    cell: &Shared,
+    mut seats: Vec<CpuSeat<(), Known>>,
+    keeper: Keeper<2, 4>,
+) -> u32
+    requires seats { All (IsSeatOf cell.now) seats.items }
+    requires outside { All (λ seat. seat.depth ≡ 0) seats.items }
+    requires keeper { IsWatcherOf cell.now keeper }
+{
+    let seat = next_online(rt, cell, &mut seats);
+    let server = Server { cell, seat };
+    let seat = next_seat(rt, cell, &mut seats);
+    let control = Control { cell, keeper, seat };
+    let ((), answered) = thread::join(rt, move || control.work(rt), move || server.serve(rt));
+    answered
+}
+
+#[test]
+fn limits_are_replaced_while_requests_are_answered(rt: HostRuntime) {
+    let first = Limits { rate: 1, burst: 1 };
+    let opened = Shared::open(rt.alloc(), 2, 4_000_000, &first.to_words());
+    let Ok((cell, seats, _, keeper)) = opened else {
+        return;
+    };
+    assert_eq!(rt; run_service(&rt, &cell, seats, keeper), REQUESTS);
+}

@@ -1,0 +1,171 @@
+//! Three readers and a keeper, each on a thread of its own: no version that is read is torn, and
+//! none is older than one that the same reader saw before.
+ghost use Rattle.std.specs.Prelude.{◌≡◌, All};
+ghost use Rattle.std.specs.Thread.{IsSync};
+ghost use Rattle.rcu_cell.specs.Cell.{IsSeatOf, IsWatcherOf};
+
+use crate::cell::parts::{drive, next_online, next_seat};
+use rcu_cell::cell::Cell;
+use rcu_cell::keeper::Keeper;
+use rcu_cell::known::Known;
+use rcu_cell::slots::Fits;
+use rcu_live::cpu_seat::CpuSeat;
+use std::process::Abort;
+use std::sync::Wait;
+use std::thread;
+use std::thread::Threads;
+
+/// The fact: each word of a version is its number.
+struct Same;
+
+impl Fits for Same {
+    ghost use Rattle.std.specs.Prelude.{◌≡◌, slice_index};
+
+    ghost fits = { λ words. (slice_index words 1 ≡ slice_index words 0)
+        × (slice_index words 2 ≡ slice_index words 0)
+        × (slice_index words 3 ≡ slice_index words 0) };
+}
+
+type Numbered = Cell<4, 4, u64, Same, 4, 64>;
+
+/// The last version that is published.
+const LAST: u64 = 100_000;
+
+/// How often a reader reads at most: it ends also where no thread can be made for it.
+const READS: u32 = 4_000_000;
+
+/// A reader, with its processor's seat.
+#[derive(Drop)]
+struct Reader<'a> {
+    cell: &'a Numbered,
+    seat: CpuSeat<(), Known>,
+    newest: u64,
+    ghost seat_of: { IsSeatOf cell.now seat },
+    ghost outside: { seat.depth ≡ 0 },
+}
+
+impl<'a> Reader<'a> {
+    /// Reads a version, and passes a quiescent state. Answers whether the version is not torn, and
+    /// none older than the one before.
+    fn read(&mut self) -> bool {
+        let Ok(words) = self.cell.read_section(&mut self.seat) else {
+            return false;
+        };
+        let number = words[0];
+        let whole = words[1] == number && words[2] == number && words[3] == number;
+        let before = self.newest;
+        self.newest = number;
+        let quiet = self.seat.quiesce(self.cell.live());
+        whole && before <= number && quiet.is_ok()
+    }
+
+    /// Reads up to the last version, and takes the processor offline. Answers whether all reads
+    /// were right.
+    fn follow<R: Wait>(mut self, rt: &R) -> bool {
+        let mut right = true;
+        for _ in 0..READS {
+            right = self.read() && right;
+            if !right || self.newest == LAST {
+                break;
+            }
+        }
+        let Reader { cell, mut seat, .. } = self;
+        let _ = cell.live().offline(rt, &mut seat);
+        right
+    }
+}
+
+/// The updater, which drives the engine too, with the seat of processor 0.
+#[derive(Drop)]
+struct Updater<'a> {
+    cell: &'a Numbered,
+    keeper: Keeper<4, 64>,
+    seat: CpuSeat<(), Known>,
+    ghost keeper_of: { IsWatcherOf cell.now keeper },
+    ghost seat_of: { IsSeatOf cell.now seat },
+}
+
+impl<'a> Updater<'a> {
+    /// Publishes a version, as soon as a slot is free.
+    fn publish<R: Wait>(&mut self, rt: &R, version: u64) {
+        for _ in rt.forever() {
+            if self.keeper.update(self.cell, &[version; 4]).is_ok() {
+                return;
+            }
+            drive(rt, self.cell, &mut self.keeper, &mut self.seat, 4);
+        }
+    }
+
+    /// Publishes all versions.
+    fn publish_all<R: Wait>(mut self, rt: &R) {
+        for version in 1..=LAST {
+            self.publish(rt, version);
+        }
+    }
+}
+
+/// Runs the readers and the updater. Where no thread can be made for the updater, it runs here
+/// last, since it waits for readers, and they for nobody.
+fn run_beside<R: Threads + Wait + Sync>(
+    rt: &R,
+    updater: Updater<'_>,
+    a: Reader<'_>,
+    b: Reader<'_>,
+    c: Reader<'_>,
+) -> (bool, bool, bool) {
+    let last = move || -> (bool, bool)
+        requires { IsSync R.row }
+    { thread::join(rt, move || b.follow(rt), move || c.follow(rt)) };
+    let readers = move || -> (bool, (bool, bool))
+        requires { IsSync R.row }
+    { thread::join(rt, move || a.follow(rt), last) };
+    let ((), (first, (second, third))) = thread::join(rt, move || updater.publish_all(rt), readers);
+    (first, second, third)
+}
+
+/// A reader on the last processor that is left, which is online from now on.
+fn next_reader<'a, R: Abort + Wait>(
+    rt: &R,
+    cell: &'a Numbered,
+    seats: &mut Vec<CpuSeat<(), Known>>,
+) -> Reader<'a>
+    requires seats { All (IsSeatOf cell.now) seats.old.items }
+    requires outside { All (λ seat. seat.depth ≡ 0) seats.old.items }
+    ensures seats { All (IsSeatOf cell.now) seats.new.items }
+    ensures outside { All (λ seat. seat.depth ≡ 0) seats.new.items }
+{
+    let seat = next_online(rt, cell, seats);
+    Reader {
+        cell,
+        seat,
+        newest: 0,
+    }
+}
+
+/// Runs three readers and an updater on the cell. Answers whether what each reader saw was right.
+fn run_on<R: Abort + Threads + Wait + Sync>(
+    rt: &R,
+    cell: &Numbered,
+    mut seats: Vec<CpuSeat<(), Known>>,
+    keeper: Keeper<4, 64>,
+) -> (bool, bool, bool)
+    requires seats { All (IsSeatOf cell.now) seats.items }
+    requires outside { All (λ seat. seat.depth ≡ 0) seats.items }
+    requires keeper { IsWatcherOf cell.now keeper }
+{
+    let a = next_reader(rt, cell, &mut seats);
+    let b = next_reader(rt, cell, &mut seats);
+    let c = next_reader(rt, cell, &mut seats);
+    let seat = next_seat(rt, cell, &mut seats);
+    let updater = Updater { cell, keeper, seat };
+    run_beside(rt, updater, a, b, c)
+}
+
+#[test]
+fn readers_beside_a_keeper(rt: HostRuntime) {
+    let opened = Numbered::open(rt.alloc(), 4, 4_000_000, &[0; 4]);
+    let Ok((cell, seats, _, keeper)) = opened else {
+        return;
+    };
+    assert_eq!(rt; run_on(&rt, &cell, seats, keeper), (true, true, true));
+}

@@ -1,0 +1,349 @@
+//! Calls under the lock: one grace period with two seats, a barrier over a migration, a turn that
+//! ends what the seats see, and what a refused growth leaves.
+ghost use Rattle.std.specs.Prelude.{◌≡◌};
+
+use crate::live::steps::{
+    Four, barrier_begin, barrier_test, collect, enter, exit, offline, online, poll, quiesce, tend,
+    turn, visit,
+};
+use crate::live::threads::{Pair, last_seat, last_watcher, make_pair, opened};
+use rcu_barrier::barrier_state::BarrierState;
+use rcu_barrier::visit::Visit;
+use rcu_core::turned::Turned;
+use rcu_live::collected::Collected;
+use rcu_live::cpu_seat::CpuSeat;
+use rcu_live::watcher::Watcher;
+use rcu_seq::cookie::Cookie;
+use rcu_seq::fault::Fault;
+use std::alloc::Global;
+use std::process::Abort;
+use std::sync::Wait;
+
+/// Compares the fault of a call whose growth was refused.
+fn refused(rt: &impl Abort, fault: Fault) {
+    assert_eq!(rt; fault, Fault::NoMemory);
+}
+
+/// Queues a callback, by a second call where the first is refused a growth, and compares how many
+/// were queued.
+fn queue<R: Abort + Wait>(rt: &R, live: &Four, seat: &mut CpuSeat, value: u64, wanted: u64)
+    requires { seat.old.table ≡ live.now.table }
+    ensures { seat.new.table ≡ seat.old.table }
+{
+    match live.queue(rt, seat, value) {
+        Ok(count) => assert_eq!(rt; count, wanted),
+        Err(back) => {
+            refused(rt, back.fault);
+            assert_eq!(rt; back.value, value);
+            assert_eq!(rt; live.queue(rt, seat, back.value).ok(), Some(wanted));
+        }
+    }
+}
+
+/// Compares the fault of a queueing on a processor that is offline.
+fn queue_offline<R: Abort + Wait>(rt: &R, live: &Four, seat: &mut CpuSeat, value: u64)
+    requires { seat.old.table ≡ live.now.table }
+    ensures { seat.new.table ≡ seat.old.table }
+{
+    assert_eq!(rt;
+        live.queue(rt, seat, value).map_err(|back| back.fault),
+        Err(Fault::Offline)
+    );
+}
+
+/// Runs callbacks, by a second call where the first is refused a growth: the number, and the number
+/// and the value of each callback's queueing.
+fn run<R: Abort + Wait>(
+    rt: &R,
+    live: &Four,
+    cpu: u32,
+    max: u64,
+    number: u64,
+    wanted: &[(u64, u64)],
+) {
+    let ran = match live.run(rt, cpu, max) {
+        Ok(ran) => ran,
+        Err(fault) => {
+            refused(rt, fault);
+            live.run(rt, cpu, max)
+                .expect(rt, "the second call has memory")
+        }
+    };
+    assert_eq!(rt; (ran.number, ran.calls.len()), (number, wanted.len()));
+    for (call, pair) in ran.calls.iter().zip(wanted) {
+        assert_eq!(rt; (call.at, call.value), *pair);
+    }
+}
+
+/// How many callbacks of the processor are run, of at most nine.
+fn run_length(rt: &impl Wait, live: &Four, cpu: u32) -> Result<usize, Fault> {
+    Ok(live.run(rt, cpu, 9)?.calls.len())
+}
+
+/// Compares how many callbacks of the processor are run.
+fn run_any<R: Abort + Wait>(rt: &R, live: &Four, cpu: u32, wanted: Result<usize, Fault>) {
+    assert_eq!(rt; run_length(rt, live, cpu), wanted);
+}
+
+/// A processor passes a quiescent state, and the engine hears of it.
+fn pass<R: Abort + Wait>(
+    rt: &R,
+    live: &Four,
+    seat: &mut CpuSeat,
+    cpu: u32,
+    number: u64,
+    wanted: Collected,
+)
+    requires { seat.old.table ≡ live.now.table }
+    ensures { seat.new.table ≡ seat.old.table }
+{
+    quiesce(rt, live, seat, Ok(number));
+    collect(rt, live, cpu, Ok(wanted));
+}
+
+/// A grace period for a callback of the first seat, which waits for a section of the second one.
+fn one_period<R: Abort + Wait>(rt: &R, live: &Four, first: &mut CpuSeat, second: &mut CpuSeat)
+    requires first { first.old.table ≡ live.now.table }
+    requires second { second.old.table ≡ live.now.table }
+{
+    online(rt, live, second, Ok(()));
+    online(rt, live, second, Err(Fault::AlreadyOnline));
+    enter(rt, live, second, Ok(1));
+    queue(rt, live, first, 7, 1);
+    tend(rt, live, 0, Ok((0, 1)));
+    turn(rt, live, Ok(Turned::Begun(1, 2)));
+    pass(rt, live, first, 0, 1, Collected::Taken);
+    collect(rt, live, 1, Ok(Collected::NotYet));
+    turn(rt, live, Ok(Turned::Waiting(1)));
+    offline(rt, live, second, Err(Fault::InSection));
+    exit(rt, live, second, Ok(0));
+    pass(rt, live, second, 1, 1, Collected::Last);
+    collect(rt, live, 1, Ok(Collected::Repeat));
+    turn(rt, live, Ok(Turned::Ended(4)));
+    collect(rt, live, 1, Ok(Collected::Idle));
+    turn(rt, live, Ok(Turned::Nothing));
+    run(rt, live, 0, 9, 4, &[]);
+    tend(rt, live, 0, Ok((1, 0)));
+    run(rt, live, 0, 9, 4, &[(0, 7)]);
+}
+
+#[test]
+fn two_seats_one_period(rt: HostRuntime) {
+    let Pair {
+        live,
+        mut first,
+        mut second,
+        watcher: _,
+        other: _,
+    } = make_pair(&rt, rt.alloc());
+    one_period(&rt, &live, &mut first, &mut second);
+}
+
+/// The callback of a processor that went offline, once a grace period passed.
+fn barrier_over_a_migration<R: Abort + Wait>(rt: &R, live: &Four, first: &mut CpuSeat)
+    requires { first.old.table ≡ live.now.table }
+    ensures { first.new.table ≡ first.old.table }
+{
+    visit(rt, live, 1, Ok(Visit::Already));
+    barrier_test(rt, live, Ok(BarrierState::Waits(1)));
+    tend(rt, live, 0, Ok((0, 1)));
+    turn(rt, live, Ok(Turned::Begun(1, 1)));
+    pass(rt, live, first, 0, 1, Collected::Last);
+    turn(rt, live, Ok(Turned::Ended(4)));
+    tend(rt, live, 0, Ok((1, 0)));
+    run(rt, live, 0, 1, 4, &[(0, 5)]);
+    barrier_test(rt, live, Ok(BarrierState::Done));
+    barrier_test(rt, live, Err(Fault::NoBarrier));
+}
+
+/// Takes the processor offline. Where its growth is refused it has departed, its list stays, and
+/// the same call again finishes it.
+fn leave<R: Abort + Wait>(rt: &R, live: &Four, seat: &mut CpuSeat, wanted: u64)
+    requires { seat.old.table ≡ live.now.table }
+    ensures { seat.new.table ≡ seat.old.table }
+{
+    match live.offline(rt, seat) {
+        Ok(moved) => assert_eq!(rt; moved, wanted),
+        Err(fault) => {
+            refused(rt, fault);
+            enter(rt, live, seat, Err(Fault::Offline));
+            queue_offline(rt, live, seat, 9);
+            offline(rt, live, seat, Ok(wanted));
+        }
+    }
+}
+
+/// A processor with a callback departs. Where its growth is refused it comes back instead, and then
+/// has its list.
+fn depart_or_return<R: Abort + Wait>(rt: &R, live: &Four, first: &mut CpuSeat, second: &mut CpuSeat)
+    requires first { first.old.table ≡ live.now.table }
+    requires second { second.old.table ≡ live.now.table }
+{
+    match live.offline(rt, second) {
+        Ok(moved) => assert_eq!(rt; moved, 1),
+        Err(fault) => {
+            refused(rt, fault);
+            online(rt, live, second, Ok(()));
+            tend(rt, live, 1, Ok((0, 1)));
+            turn(rt, live, Ok(Turned::Begun(1, 2)));
+            pass(rt, live, first, 0, 1, Collected::Taken);
+            pass(rt, live, second, 1, 1, Collected::Last);
+        }
+    }
+}
+
+/// A processor whose departure was refused its growth may come back instead, and then has its list.
+#[test]
+fn return_keeps_the_list(rt: HostRuntime) {
+    let Pair {
+        live,
+        mut first,
+        mut second,
+        watcher: _,
+        other: _,
+    } = make_pair(&rt, rt.alloc());
+    online(&rt, &live, &mut second, Ok(()));
+    queue(&rt, &live, &mut second, 5, 1);
+    depart_or_return(&rt, &live, &mut first, &mut second);
+}
+
+/// A cookie that a watcher takes is not done yet, and the watcher meets the seat.
+fn watch(rt: &impl Abort, live: &Four, seat: &mut CpuSeat, watcher: &mut Watcher)
+    requires seat { seat.old.table ≡ live.now.table }
+    requires watcher { watcher.old.table ≡ live.now.table }
+    ensures seat { seat.new.table ≡ seat.old.table }
+    ensures watcher { watcher.new.table ≡ watcher.old.table }
+{
+    let cookie = watcher.take(live);
+    poll(rt, live, watcher, cookie, false);
+    assert!(rt; live.meet(seat, watcher).is_some());
+}
+
+/// A section and a quiescent state of the seat, beside a watcher.
+fn read(rt: &impl Abort, live: &Four, seat: &mut CpuSeat, watcher: &mut Watcher)
+    requires seat { seat.old.table ≡ live.now.table }
+    requires watcher { watcher.old.table ≡ live.now.table }
+{
+    enter(rt, live, seat, Ok(1));
+    exit(rt, live, seat, Ok(0));
+    quiesce(rt, live, seat, Ok(0));
+    watch(rt, live, seat, watcher);
+}
+
+/// A barrier over empty lists, over which the seat's processor departs.
+fn barrier_over_none<R: Abort + Wait>(rt: &R, live: &Four, seat: &mut CpuSeat)
+    requires { seat.old.table ≡ live.now.table }
+{
+    collect(rt, live, 0, Ok(Collected::Idle));
+    turn(rt, live, Ok(Turned::Nothing));
+    tend(rt, live, 1, Ok((0, 0)));
+    barrier_begin(rt, live, Ok(()));
+    visit(rt, live, 0, Ok(Visit::Empty));
+    visit(rt, live, 0, Ok(Visit::Already));
+    barrier_test(rt, live, Ok(BarrierState::Waits(1)));
+    run_any(rt, live, 1, Ok(0));
+    offline(rt, live, seat, Ok(0));
+    barrier_test(rt, live, Ok(BarrierState::Done));
+}
+
+/// The object is opened first; no growth of a later call is refused, for none asks for memory.
+#[test]
+fn calls_without_memory(rt: HostRuntime) {
+    let Pair {
+        live,
+        mut first,
+        mut second,
+        mut watcher,
+        other: _,
+    } = make_pair(&rt, rt.alloc());
+    online(&rt, &live, &mut second, Ok(()));
+    read(&rt, &live, &mut first, &mut watcher);
+    barrier_over_none(&rt, &live, &mut second);
+}
+
+/// A barrier visits a processor with a callback, by a second call where the first is refused a
+/// growth.
+fn mark<R: Abort + Wait>(rt: &R, live: &Four) {
+    match live.visit(rt, 0) {
+        Ok(visit) => assert_eq!(rt; visit, Visit::Marked),
+        Err(fault) => {
+            refused(rt, fault);
+            visit(rt, live, 0, Ok(Visit::Marked));
+        }
+    }
+}
+
+/// A barrier over the second seat's callback, which moves, and the begin of another one.
+fn two_barriers<R: Abort + Wait>(rt: &R, live: &Four, first: &mut CpuSeat, second: &mut CpuSeat)
+    requires first { first.old.table ≡ live.now.table }
+    requires second { second.old.table ≡ live.now.table }
+{
+    online(rt, live, second, Ok(()));
+    queue(rt, live, second, 5, 1);
+    visit(rt, live, 0, Err(Fault::NoBarrier));
+    barrier_begin(rt, live, Ok(()));
+    barrier_begin(rt, live, Err(Fault::BarrierBusy));
+    visit(rt, live, 0, Ok(Visit::Empty));
+    visit(rt, live, 0, Ok(Visit::Already));
+    leave(rt, live, second, 1);
+    offline(rt, live, second, Err(Fault::Offline));
+    queue_offline(rt, live, second, 8);
+    barrier_over_a_migration(rt, live, first);
+    queue(rt, live, first, 6, 2);
+    barrier_begin(rt, live, Ok(()));
+    mark(rt, live);
+}
+
+#[test]
+fn locked_barrier_and_migration(rt: HostRuntime) {
+    let Pair {
+        live,
+        mut first,
+        mut second,
+        watcher: _,
+        other: _,
+    } = make_pair(&rt, rt.alloc());
+    two_barriers(&rt, &live, &mut first, &mut second);
+}
+
+/// Turns over a callback of the seat, as a watcher sees them, up to the last number.
+fn turn_to_the_last<R: Abort + Wait>(rt: &R, live: &Four, seat: &mut CpuSeat, watcher: &mut Watcher)
+    requires seat { seat.old.table ≡ live.now.table }
+    requires watcher { watcher.old.table ≡ live.now.table }
+{
+    let cookie = watcher.take(live);
+    assert_eq!(rt; cookie, Cookie(4));
+    queue(rt, live, seat, 7, 1);
+    tend(rt, live, 0, Ok((0, 1)));
+    turn(rt, live, Ok(Turned::Begun(1, 1)));
+    poll(rt, live, watcher, cookie, false);
+    pass(rt, live, seat, 0, 1, Collected::Last);
+    turn(rt, live, Ok(Turned::Ended(4)));
+    poll(rt, live, watcher, cookie, true);
+    queue(rt, live, seat, 8, 2);
+    tend(rt, live, 0, Ok((1, 1)));
+    turn(rt, live, Err(Fault::Exhausted));
+}
+
+#[test]
+fn turn_ends_what_the_seats_see(rt: HostRuntime) {
+    let (live, mut seats, mut watchers) = opened(&rt, rt.alloc(), 1, 4);
+    let mut seat = last_seat(&live, &mut seats);
+    let mut watcher = last_watcher(&live, &mut watchers);
+    turn_to_the_last(&rt, &live, &mut seat, &mut watcher);
+}
+
+#[test]
+fn no_such_processor(rt: HostRuntime) {
+    let Pair {
+        live,
+        first: _,
+        second: _,
+        watcher: _,
+        other: _,
+    } = make_pair(&rt, rt.alloc());
+    collect(&rt, &live, 2, Err(Fault::BadCpu));
+    tend(&rt, &live, 2, Err(Fault::BadCpu));
+    run_any(&rt, &live, 2, Err(Fault::BadCpu));
+    visit(&rt, &live, 2, Err(Fault::BadCpu));
+}

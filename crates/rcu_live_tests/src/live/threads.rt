@@ -1,0 +1,257 @@
+//! A reader beside a watcher on two threads, meetings, arrivals and departures, and the opening.
+ghost use Rattle.std.specs.Prelude.{◌≡◌, ◌+◌, ◌<◌, All, length};
+
+use crate::live::steps::{Four, enter, exit, offline, online, quiesce};
+use rcu_live::cpu_seat::CpuSeat;
+use rcu_live::live::Live;
+use rcu_live::met::Met;
+use rcu_live::watcher::Watcher;
+use rcu_seq::cookie::Cookie;
+use rcu_seq::fault::Fault;
+use std::alloc::Global;
+use std::process::Abort;
+use std::sync::Wait;
+use std::thread;
+use std::thread::Threads;
+
+/// An object of so many processors, opened by a second call where the first is refused a growth.
+pub(crate) fn opened<R: Abort>(
+    rt: &R,
+    alloc: Global,
+    cpus: u32,
+    last: u64,
+) -> (Four, Vec<CpuSeat>, Vec<Watcher>)
+    ensures seat_count { length result.1.items ≡ cpus }
+    ensures watcher_count { length result.2.items ≡ cpus }
+    ensures seats { All (λ seat. seat.table ≡ result.0.table) result.1.items }
+    ensures watchers { All (λ watcher. watcher.table ≡ result.0.table) result.2.items }
+{
+    match Four::open(alloc, cpus, last) {
+        Ok(opened) => opened,
+        Err(fault) => {
+            assert_eq!(rt; fault, Fault::NoMemory);
+            Four::open(alloc, cpus, last).expect(rt, "the second call has memory")
+        }
+    }
+}
+
+/// The last of an object's seats.
+pub(crate) fn last_seat(live: &Four, seats: &mut Vec<CpuSeat>) -> CpuSeat
+    requires some { 0 < length seats.old.items }
+    requires each { All (λ seat. seat.table ≡ live.now.table) seats.old.items }
+    ensures seat { result.table ≡ live.now.table }
+    ensures fewer { length seats.new.items + 1 ≡ length seats.old.items }
+    ensures each { All (λ seat. seat.table ≡ live.now.table) seats.new.items }
+{
+    seats.pop().unwrap()
+}
+
+/// The last of an object's watchers.
+pub(crate) fn last_watcher(live: &Four, watchers: &mut Vec<Watcher>) -> Watcher
+    requires some { 0 < length watchers.old.items }
+    requires each { All (λ watcher. watcher.table ≡ live.now.table) watchers.old.items }
+    ensures watcher { result.table ≡ live.now.table }
+    ensures fewer { length watchers.new.items + 1 ≡ length watchers.old.items }
+    ensures each { All (λ watcher. watcher.table ≡ live.now.table) watchers.new.items }
+{
+    watchers.pop().unwrap()
+}
+
+/// An object of two processors, with the seats and the watchers of processors 0 and 1.
+pub(crate) struct Pair {
+    pub(crate) live: Four,
+    pub(crate) first: CpuSeat,
+    pub(crate) second: CpuSeat,
+    pub(crate) watcher: Watcher,
+    pub(crate) other: Watcher,
+}
+
+/// Opens such an object.
+pub(crate) fn make_pair<R: Abort>(rt: &R, alloc: Global) -> Pair
+    ensures first { result.first.table ≡ result.live.table }
+    ensures second { result.second.table ≡ result.live.table }
+    ensures watcher { result.watcher.table ≡ result.live.table }
+    ensures other { result.other.table ≡ result.live.table }
+{
+    let (live, mut seats, mut watchers) = opened(rt, alloc, 2, 8);
+    let second = last_seat(&live, &mut seats);
+    let first = last_seat(&live, &mut seats);
+    let other = last_watcher(&live, &mut watchers);
+    let watcher = last_watcher(&live, &mut watchers);
+    Pair {
+        live,
+        first,
+        second,
+        watcher,
+        other,
+    }
+}
+
+/// What a watcher tells: its cookie, whether that one is done, and whether the cookie 1 is.
+fn watch(live: &Four, mut watcher: Watcher) -> (Cookie, bool, bool)
+    requires { watcher.table ≡ live.now.table }
+{
+    let cookie = watcher.take(live);
+    let early = watcher.poll(live, cookie);
+    (cookie, early, watcher.poll(live, Cookie(1)))
+}
+
+/// The reader's section is open while the watcher runs on another thread.
+fn beside<R: Threads + Sync>(
+    rt: &R,
+    live: &Four,
+    reader: &mut CpuSeat,
+    watcher: Watcher,
+) -> (Result<u32, Fault>, (Cookie, bool, bool))
+    requires reader { reader.old.table ≡ live.now.table }
+    requires watcher { watcher.table ≡ live.now.table }
+    ensures { reader.new.table ≡ reader.old.table }
+{
+    let entered = reader.enter(live);
+    let (told, ()) = thread::join(
+        rt,
+        move || -> (Cookie, bool, bool)
+            requires { watcher.table ≡ live.now.table }
+        { watch(live, watcher) },
+        || {},
+    );
+    (entered, told)
+}
+
+/// Compares a meeting at number 0: the number at which the seat's section opened, if one is open.
+fn meet(
+    rt: &impl Abort,
+    live: &Four,
+    seat: &mut CpuSeat,
+    watcher: &mut Watcher,
+    opened: Option<u64>,
+)
+    requires seat { seat.old.table ≡ live.now.table }
+    requires watcher { watcher.old.table ≡ live.now.table }
+    ensures seat { seat.new.table ≡ seat.old.table }
+    ensures watcher { watcher.new.table ≡ watcher.old.table }
+{
+    let met = live.meet(seat, watcher);
+    assert_eq!(rt; met, Some(Met { opened, seen: 0 }));
+}
+
+#[test]
+fn reader_beside_a_watcher(rt: HostRuntime) {
+    let Pair {
+        live,
+        mut first,
+        mut second,
+        watcher,
+        mut other,
+    } = make_pair(&rt, rt.alloc());
+    let told = beside(&rt, &live, &mut first, watcher);
+    assert_eq!(rt; told, (Ok(1), (Cookie(4), false, true)));
+    meet(&rt, &live, &mut first, &mut other, Some(0));
+    quiesce(&rt, &live, &mut first, Err(Fault::InSection));
+    exit(&rt, &live, &mut first, Ok(0));
+    quiesce(&rt, &live, &mut first, Ok(0));
+    enter(&rt, &live, &mut second, Err(Fault::Offline));
+    meet(&rt, &live, &mut first, &mut other, None);
+}
+
+/// A seat that is offline arrives, reads, and departs.
+fn come_and_go<R: Abort + Wait>(rt: &R, live: &Four, seat: &mut CpuSeat)
+    requires { seat.old.table ≡ live.now.table }
+{
+    offline(rt, live, seat, Err(Fault::Offline));
+    online(rt, live, seat, Ok(()));
+    online(rt, live, seat, Err(Fault::AlreadyOnline));
+    enter(rt, live, seat, Ok(1));
+    enter(rt, live, seat, Ok(2));
+    offline(rt, live, seat, Err(Fault::InSection));
+    exit(rt, live, seat, Ok(1));
+    exit(rt, live, seat, Ok(0));
+    exit(rt, live, seat, Err(Fault::NotOpen));
+    offline(rt, live, seat, Ok(0));
+    quiesce(rt, live, seat, Err(Fault::Offline));
+}
+
+#[test]
+fn arrival_and_departure(rt: HostRuntime) {
+    let Pair {
+        live,
+        mut first,
+        mut second,
+        watcher: _,
+        other: _,
+    } = make_pair(&rt, rt.alloc());
+    come_and_go(&rt, &live, &mut second);
+    offline(&rt, &live, &mut first, Err(Fault::BootStays));
+}
+
+#[test]
+fn refused_openings(rt: HostRuntime) {
+    for (cpus, last, fault) in [
+        (0, 8, Fault::TooManyCpus),
+        (257, 6, Fault::TooManyCpus),
+        (256, 6, Fault::BadLast),
+        (256, 0, Fault::BadLast),
+    ] {
+        match Four::open(rt.alloc(), cpus, last) {
+            Ok(_) => assert!(rt; false, "{cpus} {last} opened"),
+            Err(found) => assert_eq!(rt; found, fault),
+        }
+    }
+}
+
+/// Opens an object of so many processors, by a second call where the first is refused a growth.
+fn opens(rt: &impl Abort, alloc: Global, cpus: u32, last: u64) -> Result<usize, Fault> {
+    let mut opened = Live::<64, 64, u64>::open(alloc, cpus, last);
+    if matches!(opened, Err(Fault::NoMemory)) {
+        opened = Live::open(alloc, cpus, last);
+    }
+    let (_, seats, watchers) = opened?;
+    assert_eq!(rt; seats.len(), watchers.len());
+    Ok(seats.len())
+}
+
+#[test]
+fn sizes(rt: HostRuntime) {
+    assert_eq!(rt; opens(&rt, rt.alloc(), 1, 4), Ok(1));
+    assert_eq!(rt; opens(&rt, rt.alloc(), 4096, 1 << 62), Ok(4096));
+    assert_eq!(rt; opens(&rt, rt.alloc(), 4097, 4), Err(Fault::TooManyCpus));
+    assert_eq!(rt;
+        opens(&rt, rt.alloc(), 4096, (1 << 62) + 4),
+        Err(Fault::BadLast)
+    );
+}
+
+/// A reader on a processor's seat.
+#[derive(Drop)]
+struct Reader {
+    live: Four,
+    seat: CpuSeat,
+    ghost seat_of: { seat.table ≡ live.table },
+}
+
+impl Reader {
+    fn enter(&mut self) -> Result<u32, Fault> {
+        self.seat.enter(&self.live)
+    }
+
+    fn exit(&mut self) -> Result<u32, Fault> {
+        self.seat.exit(&self.live)
+    }
+}
+
+#[test]
+fn sections_nest_up_to_a_depth(rt: HostRuntime) {
+    let Pair {
+        live,
+        first: seat,
+        second: _,
+        watcher: _,
+        other: _,
+    } = make_pair(&rt, rt.alloc());
+    let mut reader = Reader { live, seat };
+    for depth in 1..=65_535 {
+        assert_eq!(rt; reader.enter(), Ok(depth));
+    }
+    assert_eq!(rt; reader.enter(), Err(Fault::NestFull));
+    assert_eq!(rt; reader.exit(), Ok(65_534));
+}

@@ -1,0 +1,142 @@
+//! What a refused growth may do.
+
+use crate::runs::pair::rows::PAIR_ROWS;
+use crate::runs::row::{ALL, FAR, Row, Run};
+use arrayvec::{ArrayVec, CapacityError};
+use rcu_script::RunFault;
+use rcu_seq::fault::Fault;
+use std::alloc::Global;
+use std::io::Print;
+use std::process::Abort;
+use std::test::Fail;
+
+/// The reply to a line that wanted memory.
+const REFUSED: &[u8] = b"fault 16";
+
+/// Whether a run shows want of memory: it was not opened, or a line of its text says so, of which a
+/// writer that failed may have taken only a beginning.
+pub fn wants_memory(run: &Run) -> bool {
+    let is_cut = matches!(&run.end, Err(RunFault::Write));
+    let says_so = |line: &[u8]| {
+        line == REFUSED || (is_cut && !line.is_empty() && REFUSED.starts_with(line))
+    };
+    match &run.end {
+        Err(RunFault::Open(fault)) => *fault == Fault::NoMemory,
+        _ => run.written.as_slice().split(|b| *b == b'\n').any(says_so),
+    }
+}
+
+/// A script with each event that stores something, each such line twice: where the first is
+/// refused, the second is the same call again.
+static GROWING: Row = Row {
+    name: "growing",
+    fanouts: (2, 2),
+    second: None,
+    cpus: 2,
+    last: FAR,
+    lines: b"\
+        online 1\nbegin\nawaits\nawaits\nquiet 1\nquiet 1\nqueue 1 7\nqueue 1 7\ntend 1\n\
+        note 0\nnote 1\nquiet 0\nquiet 0\nquiet 1\nquiet 1\ndeliver 3\ndeliver 4\ndeliver 5\nend\n\
+        begin\nnote 0\nnote 1\nquiet 0\nquiet 1\ndeliver 6\ndeliver 7\ndeliver 8\nend\ntend 1\n\
+        run 1 1\nrun 1 1\nqueue 1 8\nqueue 1 8\nqueue 1 9\nqueue 1 9\nbar\nvisit 1\nvisit 1\n\
+        offline 1\noffline 1\nvisit 0\nvisit 0\n",
+    replies: b"\
+        online\nbegun 1 awaits 2\nawaits 0 1\nawaits 0 1\nreport 1 cpu 1 tag 0\n\
+        report 2 cpu 1 tag 0\nqueued 1\nqueued 2\ntended 0 2\nnoted 1 needed\nnoted 1 needed\n\
+        report 3 cpu 0 tag 1\nreport 4 cpu 0 tag 1\nreport 5 cpu 1 tag 1\nreport 6 cpu 1 tag 1\n\
+        taken\nrepeat\nlast\nended 4\nbegun 5 awaits 2\nnoted 5 needed\nnoted 5 needed\n\
+        report 7 cpu 0 tag 5\nreport 8 cpu 1 tag 5\nstale\ntaken\nlast\nended 8\ntended 2 0\n\
+        ran 7\nran 7\nqueued 3\nqueued 4\nqueued 5\nqueued 6\nbarrier begun\nmarked\nalready\n\
+        offline moved 4\nfault 2\nmarked\nalready\n",
+};
+
+/// The events that store something, by the words of their lines.
+static STORING: [&str; 6] = ["quiet", "awaits", "offline", "queue", "run", "visit"];
+
+/// The lines that were not refused, and their replies.
+#[derive(Drop)]
+struct Kept {
+    lines: ArrayVec<u8, 1024>,
+    replies: ArrayVec<u8, 2048>,
+}
+
+impl Kept {
+    /// Puts a line and its reply behind.
+    fn push(&mut self, line: &[u8], reply: &[u8]) -> Result<(), CapacityError> {
+        self.lines.try_extend_from_slice(line)?;
+        self.lines.try_extend_from_slice(b"\n")?;
+        self.replies.try_extend_from_slice(reply)?;
+        self.replies.try_extend_from_slice(b"\n")
+    }
+
+    /// Whether the lines alone get these replies.
+    fn is_answered(&self, alloc: Global) -> bool {
+        let row = Row {
+            lines: self.lines.as_slice(),
+            replies: self.replies.as_slice(),
+            ..GROWING
+        };
+        let again = row.run(alloc, ALL, ALL, ALL);
+        !wants_memory(&again) && again.came_to(&Ok(()), row.replies)
+    }
+}
+
+/// Tells of which event's line a growth was refused: it is one that stores something.
+fn tell<R: Print + Abort>(rt: &R, line: &[u8]) -> Result<(), Fail> {
+    let word = STORING
+        .iter()
+        .find(|word| line.starts_with(word.as_bytes()))
+        .expect(rt, "an event that stores something");
+    println!(rt; "a growth was refused at a line of {word}")?;
+    Ok(())
+}
+
+/// A refused growth leaves the engine as it was: the line is answered `fault 16`, and all other
+/// lines, among them the same one again, as if it had not been.
+#[test]
+fn growths_are_refused(rt: HostRuntime) -> Result<(), Fail> {
+    let first = GROWING.run(rt.alloc(), ALL, ALL, ALL);
+    if !wants_memory(&first) {
+        assert!(rt; first.came_to(&Ok(()), GROWING.replies));
+        return Ok(());
+    }
+    if first.end.is_err() {
+        println!(rt; "a growth was refused at the opening")?;
+        assert!(rt; first.came_to(&Err(RunFault::Open(Fault::NoMemory)), b""));
+        assert!(rt; GROWING.is_answered(rt.alloc(), ALL));
+        return Ok(());
+    }
+    let mut kept = Kept {
+        lines: ArrayVec::new(),
+        replies: ArrayVec::new(),
+    };
+    let end = |b: &u8| *b == b'\n';
+    let written = first.written.as_slice().split(end);
+    for (line, reply) in GROWING.lines.split(end).zip(written) {
+        if reply == REFUSED {
+            tell(&rt, line)?;
+        } else if !line.is_empty() {
+            kept.push(line, reply)?;
+        }
+    }
+    assert!(rt; kept.is_answered(rt.alloc()));
+    Ok(())
+}
+
+/// A pair takes memory only as it opens. One that is refused a growth there wrote nothing, and
+/// opens the next time.
+#[test]
+fn growths_of_a_pair_are_refused(rt: HostRuntime) -> Result<(), Fail> {
+    for row in PAIR_ROWS.iter().take(1) {
+        let first = row.run(rt.alloc(), ALL, ALL, ALL);
+        if wants_memory(&first) {
+            println!(rt; "a growth was refused")?;
+            assert!(rt; first.came_to(&Err(RunFault::Open(Fault::NoMemory)), b""));
+            let again = row.run(rt.alloc(), ALL, ALL, ALL);
+            assert!(rt; again.came_to(&Ok(()), row.replies));
+        } else {
+            assert!(rt; first.came_to(&Ok(()), row.replies));
+        }
+    }
+    Ok(())
+}

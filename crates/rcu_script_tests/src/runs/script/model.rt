@@ -1,0 +1,269 @@
+//! A plain program for the rules of the engine: for each event it looks back over all that
+//! happened.
+
+use crate::runs::script::model_lists::{gathered, waits_for, write_list_reply, write_values};
+use arrayvec::ArrayVec;
+use rcu_core::event::Event;
+use std::alloc::AllocError;
+
+/// How many processors a model has at most.
+const CPUS: usize = 8;
+
+/// What the rules say of all events so far.
+#[derive(Drop)]
+pub struct Model {
+    pub cpus: u32,
+    pub last: u64,
+    /// The events that were accepted. The model keeps nothing else.
+    pub past: Vec<Event>,
+}
+
+impl Model {
+    /// Writes the reply to an event, and keeps the event where it is accepted.
+    pub fn answer(&mut self, text: &mut String, event: Event) -> Result<(), AllocError> {
+        let fault = fault(self.cpus, self.last, self.past.as_slice(), event);
+        if fault > 0 {
+            return writeln!(text, "fault {fault}");
+        }
+        let said = meant(self.cpus, self.past.as_slice(), event);
+        let before = self.past.len();
+        self.past.push(said)?;
+        let now = self.past.as_slice();
+        let past = now.split_at(before).0;
+        write_reply(text, self.cpus, past, now, said)?;
+        if said == Event::BarTest && waits_for(self.cpus, past) > 0 {
+            let _ = self.past.pop();
+        }
+        text.push('\n')
+    }
+}
+
+/// How often an event happened.
+pub fn count(past: &[Event], wanted: Event) -> u64 {
+    let mut found = 0u64;
+    for event in past {
+        if *event == wanted {
+            found = found.saturating_add(1);
+        }
+    }
+    found
+}
+
+/// How many reports were made, and how many callbacks were queued.
+pub fn made(past: &[Event]) -> (u64, u64) {
+    let mut reports = 0u64;
+    let mut callbacks = 0u64;
+    for event in past {
+        match event {
+            Event::Quiesce(_) => reports = reports.saturating_add(1),
+            Event::Queue(_, _) => callbacks = callbacks.saturating_add(1),
+            _ => {}
+        }
+    }
+    (reports, callbacks)
+}
+
+pub fn is_running(past: &[Event]) -> bool {
+    count(past, Event::Begin) > count(past, Event::End)
+}
+
+pub fn number(past: &[Event]) -> u64 {
+    let state = if is_running(past) { 1 } else { 0 };
+    count(past, Event::End)
+        .saturating_mul(4)
+        .saturating_add(state)
+}
+
+/// The number after the first grace period that begins from now on.
+pub fn snapshot(past: &[Event]) -> u64 {
+    let more = if is_running(past) { 2 } else { 1 };
+    count(past, Event::End)
+        .saturating_add(more)
+        .saturating_mul(4)
+}
+
+pub fn is_online(past: &[Event], cpu: u32) -> bool {
+    let mut came = cpu == 0;
+    for event in past {
+        if *event == Event::Online(cpu) {
+            came = true;
+        } else if *event == Event::Offline(cpu) {
+            came = false;
+        }
+    }
+    came
+}
+
+pub fn depth(past: &[Event], cpu: u32) -> u64 {
+    count(past, Event::Enter(cpu)).saturating_sub(count(past, Event::Exit(cpu)))
+}
+
+/// The number at the last note or arrival, 0 before any.
+fn noted(past: &[Event], cpu: u32) -> u64 {
+    let mut until = 0;
+    for (i, event) in past.iter().enumerate() {
+        if *event == Event::Note(cpu) || *event == Event::Online(cpu) {
+            until = i + 1;
+        }
+    }
+    number(past.split_at(until.min(past.len())).0)
+}
+
+/// The report of a place: its processor and its tag.
+fn report(past: &[Event], place: u64) -> Option<(u32, u64)> {
+    let mut made = 0u64;
+    for (i, event) in past.iter().enumerate() {
+        if let Event::Quiesce(cpu) = event {
+            made = made.saturating_add(1);
+            if made == place {
+                return Some((*cpu, noted(past.split_at(i).0, *cpu)));
+            }
+        }
+    }
+    None
+}
+
+/// Whether a grace period runs whose begin the processor was online at, and since which neither a
+/// report of it with the number was delivered nor did it depart.
+pub fn is_awaited(past: &[Event], cpu: u32) -> bool {
+    let mut begun = 0;
+    for (i, event) in past.iter().enumerate() {
+        if *event == Event::Begin {
+            begun = i;
+        }
+    }
+    let (before, since) = past.split_at(begun.min(past.len()));
+    let mut is_heard = !is_running(past) || !is_online(before, cpu);
+    for event in since {
+        if let Event::Deliver(place) = event {
+            if report(past, *place) == Some((cpu, number(past))) {
+                is_heard = true;
+            }
+        } else if *event == Event::Offline(cpu) {
+            is_heard = true;
+        }
+    }
+    !is_heard
+}
+
+/// The awaited processors, in order.
+fn awaited(cpus: u32, past: &[Event]) -> ArrayVec<u64, CPUS> {
+    let mut found = ArrayVec::new();
+    for cpu in 0..cpus {
+        if is_awaited(past, cpu) {
+            let _ = found.try_push(u64::from(cpu));
+        }
+    }
+    found
+}
+
+/// The processor that an event names.
+fn named(event: Event) -> Option<u32> {
+    match event {
+        Event::Enter(cpu)
+        | Event::Exit(cpu)
+        | Event::Note(cpu)
+        | Event::Quiesce(cpu)
+        | Event::Online(cpu)
+        | Event::Offline(cpu)
+        | Event::Queue(cpu, _)
+        | Event::Tend(cpu)
+        | Event::Run(cpu, _)
+        | Event::Visit(cpu) => Some(cpu),
+        _ => None,
+    }
+}
+
+/// The fault of an event, by its number, 0 for none.
+fn fault(cpus: u32, last: u64, past: &[Event], event: Event) -> u32 {
+    if let Some(cpu) = named(event) {
+        if cpu >= cpus {
+            return 1;
+        }
+    }
+    let is_barrier_running = count(past, Event::BarBegin) > count(past, Event::BarTest);
+    match event {
+        Event::Offline(0) => 12,
+        Event::Enter(cpu)
+        | Event::Note(cpu)
+        | Event::Quiesce(cpu)
+        | Event::Offline(cpu)
+        | Event::Queue(cpu, _)
+            if !is_online(past, cpu) => { 2 }
+        Event::Online(cpu) if is_online(past, cpu) => 3,
+        Event::Quiesce(cpu) | Event::Offline(cpu) if depth(past, cpu) > 0 => 4,
+        Event::Exit(cpu) if depth(past, cpu) == 0 => 5,
+        Event::Enter(cpu) if depth(past, cpu) == 65_535 => 6,
+        Event::Deliver(place) if report(past, place).is_none() => 7,
+        Event::Begin if is_running(past) => 8,
+        Event::Begin if number(past) == last => 11,
+        Event::End if !is_running(past) => 9,
+        Event::End if !awaited(cpus, past).is_empty() => 10,
+        Event::Turn if number(past) == last && meant(cpus, past, event) == Event::Begin => 11,
+        Event::BarBegin if is_barrier_running => 13,
+        Event::Visit(_) | Event::BarTest if !is_barrier_running => 14,
+        _ => 0,
+    }
+}
+
+/// What an accepted event is: a turn is a begin where a later number is needed, and an end where
+/// nobody is awaited.
+fn meant(cpus: u32, past: &[Event], event: Event) -> Event {
+    match event {
+        Event::Turn if !is_running(past) && gathered(past).needed > number(past) => Event::Begin,
+        Event::Turn if is_running(past) && awaited(cpus, past).is_empty() => Event::End,
+        _ => event,
+    }
+}
+
+/// What a delivered report does.
+fn delivered(cpus: u32, past: &[Event], place: u64) -> &'static str {
+    match report(past, place) {
+        Some((cpu, tag)) if is_running(past) && tag == number(past) => {
+            if !is_awaited(past, cpu) {
+                "repeat"
+            } else if awaited(cpus, past).len() == 1 {
+                "last"
+            } else {
+                "taken"
+            }
+        }
+        _ => "stale",
+    }
+}
+
+/// Writes the reply to an event that has no fault. The history goes on from `past` to `now`.
+fn write_reply(
+    text: &mut String,
+    cpus: u32,
+    past: &[Event],
+    now: &[Event],
+    event: Event,
+) -> Result<(), AllocError> {
+    match event {
+        Event::Enter(cpu) | Event::Exit(cpu) => write!(text, "depth {}", depth(now, cpu)),
+        Event::Note(cpu) if is_awaited(past, cpu) => write!(text, "noted {} needed", number(past)),
+        Event::Note(_) => write!(text, "noted {} clear", number(past)),
+        Event::Quiesce(cpu) => {
+            let place = made(now).0;
+            write!(text, "report {place} cpu {cpu} tag {}", noted(past, cpu))
+        }
+        Event::Deliver(place) => text.push_str(delivered(cpus, past, place)),
+        Event::Online(_) => text.push_str("online"),
+        Event::Begin => write!(
+            text,
+            "begun {} awaits {}",
+            number(now),
+            awaited(cpus, now).len()
+        ),
+        Event::End => write!(text, "ended {}", number(now)),
+        Event::Turn if is_running(now) => write!(text, "waiting {}", awaited(cpus, now).len()),
+        Event::Turn => text.push_str("nothing"),
+        Event::Awaits => write_values(text, "awaits", awaited(cpus, past).as_slice()),
+        Event::Take | Event::StartPoll => write!(text, "cookie {}", snapshot(past)),
+        Event::Poll(cookie) if cookie == 1 || cookie <= number(past) => text.push_str("done"),
+        Event::Poll(_) => text.push_str("not yet"),
+        Event::Queue(_, _) => write!(text, "queued {}", made(now).1),
+        _ => write_list_reply(text, cpus, past, event),
+    }
+}

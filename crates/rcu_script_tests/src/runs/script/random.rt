@@ -1,0 +1,236 @@
+//! Scripts drawn at random, and their replies against the model's.
+
+use crate::runs::row::{ALL, Row};
+use crate::runs::script::model::{Model, depth, is_awaited, is_running, made, number};
+use rand_core::{Rng, SeedableRng};
+use rand_pcg::Pcg32;
+use rcu_core::event::Event;
+use std::alloc::{AllocError, Global};
+
+/// How many lines a script has.
+const LENGTH: usize = 250;
+
+/// The scripts: how many processors, the last number, and a seed.
+static SEEDS: [(u32, u64, u64); 20] = [
+    (1, 4, 1),
+    (1, 400, 2),
+    (2, 8, 3),
+    (2, 400, 4),
+    (2, 400, 5),
+    (3, 12, 6),
+    (3, 400, 7),
+    (4, 400, 8),
+    (4, 400, 9),
+    (6, 400, 10),
+    (2, 400, 11),
+    (3, 400, 12),
+    (2, 400, 13),
+    (3, 400, 14),
+    (4, 400, 15),
+    (5, 400, 16),
+    (2, 16, 17),
+    (2, 400, 18),
+    (3, 400, 19),
+    (4, 400, 20),
+];
+
+/// Lines outside the grammar, and one that is too long.
+static MALFORMED: [&str; 8] = [
+    "frob",
+    "enter",
+    "note x",
+    "poll -1",
+    "begin 0",
+    "queue 1",
+    "Turn",
+    "tend 0                                                                            ",
+];
+
+/// What the replies have to show, by how they begin and what they are not, and at least how often.
+static SHOWN: [(&str, &str, u64); 10] = [
+    ("ended", "", 80),
+    ("ran", "ran none", 30),
+    ("barrier done", "", 20),
+    ("offline moved", "offline moved 0", 8),
+    ("barrier waits", "", 40),
+    ("marked", "", 10),
+    ("done", "", 20),
+    ("not yet", "", 40),
+    ("stale", "", 60),
+    ("repeat", "", 8),
+];
+
+/// What leads an event on: from a note to the delivery of the report; from some callbacks to a
+/// departure that moves them; from an end to a tend and a run of each list; and from a barrier's
+/// begin to a visit of each processor, and at last to a test.
+fn next_of(event: Event, cpus: u32, reports: u64) -> Option<Event> {
+    match event {
+        Event::Note(cpu) => Some(Event::Quiesce(cpu)),
+        Event::Quiesce(_) => Some(Event::Deliver(reports)),
+        Event::Queue(cpu, value) if cpu > 0 && value % 4 == 0 => Some(Event::Offline(cpu)),
+        Event::End | Event::Turn => Some(Event::Tend(cpus.saturating_sub(1))),
+        Event::Tend(cpu) => Some(Event::Run(cpu, 3)),
+        Event::Run(cpu, _) if cpu > 0 => Some(Event::Tend(cpu - 1)),
+        Event::BarBegin => Some(Event::Visit(cpus.saturating_sub(1))),
+        Event::Visit(0) => Some(Event::BarTest),
+        Event::Visit(cpu) => Some(Event::Visit(cpu - 1)),
+        _ => None,
+    }
+}
+
+/// An event that leads the grace period on: of the first processor that is awaited, or else a turn
+/// or a begin.
+fn useful(cpus: u32, past: &[Event]) -> Event {
+    for cpu in 0..cpus {
+        if is_awaited(past, cpu) {
+            return if depth(past, cpu) > 0 {
+                Event::Exit(cpu)
+            } else {
+                Event::Note(cpu)
+            };
+        }
+    }
+    if is_running(past) || number(past) % 8 == 0 {
+        Event::Turn
+    } else {
+        Event::Begin
+    }
+}
+
+/// Any event: of a processor, which at times is none, of a report up to one that was not made, or
+/// of a cookie below 40.
+fn any_event(rng: &mut Pcg32, cpus: u32, reports: u64) -> Event {
+    let number = u64::from(rng.next_u32() % 40);
+    let cpu = rng.next_u32() % cpus.saturating_add(1).max(1);
+    match rng.next_u32() % 32 {
+        0 => Event::Begin,
+        1 => Event::End,
+        2 => Event::Turn,
+        3..=4 => Event::Online(cpu),
+        5..=6 => Event::Offline(cpu),
+        7 => Event::Enter(cpu),
+        8..=9 => Event::Exit(cpu),
+        10 => Event::Awaits,
+        11 => Event::Take,
+        12 => Event::StartPoll,
+        13..=14 => Event::Poll(number),
+        15 => Event::Note(cpu),
+        16 => Event::Quiesce(cpu),
+        17..=18 => Event::Deliver(number % reports.saturating_add(2).max(1)),
+        19..=24 => Event::Queue(cpu, number),
+        25 => Event::Tend(cpu),
+        26 => Event::Run(cpu, number % 8),
+        27..=28 => Event::BarBegin,
+        29 => Event::Visit(cpu),
+        _ => Event::BarTest,
+    }
+}
+
+fn write_line(text: &mut String, event: Event) -> Result<(), AllocError> {
+    match event {
+        Event::Enter(cpu) => writeln!(text, "enter {cpu}"),
+        Event::Exit(cpu) => writeln!(text, "exit {cpu}"),
+        Event::Note(cpu) => writeln!(text, "note {cpu}"),
+        Event::Quiesce(cpu) => writeln!(text, "quiet {cpu}"),
+        Event::Deliver(place) => writeln!(text, "deliver {place}"),
+        Event::Online(cpu) => writeln!(text, "online {cpu}"),
+        Event::Offline(cpu) => writeln!(text, "offline {cpu}"),
+        Event::Begin => text.push_str("begin\n"),
+        Event::End => text.push_str("end\n"),
+        Event::Turn => text.push_str("turn\n"),
+        Event::Awaits => text.push_str("awaits\n"),
+        Event::Take => text.push_str("take\n"),
+        Event::StartPoll => text.push_str("start\n"),
+        Event::Poll(cookie) => writeln!(text, "poll {cookie}"),
+        Event::Queue(cpu, value) => writeln!(text, "queue {cpu} {value}"),
+        Event::Tend(cpu) => writeln!(text, "tend {cpu}"),
+        Event::Run(cpu, most) => writeln!(text, "run {cpu} {most}"),
+        Event::BarBegin => text.push_str("bar\n"),
+        Event::Visit(cpu) => writeln!(text, "visit {cpu}"),
+        Event::BarTest => text.push_str("bartest\n"),
+    }
+}
+
+/// Draws a script, and writes the model's replies. Most events lead something on.
+fn draw(alloc: Global, cpus: u32, last: u64, seed: u64) -> Result<(String, String), AllocError> {
+    let mut rng = Pcg32::seed_from_u64(seed);
+    let mut model = Model {
+        cpus,
+        last,
+        past: Vec::new(alloc),
+    };
+    let mut script = String::new(alloc);
+    let mut replies = String::new(alloc);
+    let mut event = Event::Awaits;
+    for _ in 0..LENGTH {
+        let choice = rng.next_u32() % 32;
+        if choice == 0 {
+            script.push_str("  \n")?;
+            continue;
+        }
+        if choice == 1 {
+            let place = rng.next_u32() as usize % MALFORMED.len();
+            writeln!(script, "{}", MALFORMED[place])?;
+            replies.push_str("fault 21\n")?;
+            continue;
+        }
+        let reports = made(model.past.as_slice()).0;
+        event = match next_of(event, cpus, reports) {
+            Some(next) if choice < 26 => next,
+            None if choice < 16 => useful(cpus, model.past.as_slice()),
+            _ => any_event(&mut rng, cpus, reports),
+        };
+        write_line(&mut script, event)?;
+        model.answer(&mut replies, event)?;
+    }
+    Ok((script, replies))
+}
+
+/// How many lines of a text begin so, and are not this.
+pub fn count_lines(text: &str, front: &str, but: &str) -> u64 {
+    let mut found = 0u64;
+    for line in text.as_bytes().split(|b| *b == b'\n') {
+        if line.starts_with(front.as_bytes()) && line != but.as_bytes() {
+            found = found.saturating_add(1);
+        }
+    }
+    found
+}
+
+/// Whether a drawn script gets the replies of the model.
+fn is_answered(alloc: Global, cpus: u32, last: u64, script: &str, replies: &str) -> bool {
+    let row = Row {
+        name: "drawn",
+        fanouts: (2, 2),
+        second: None,
+        cpus,
+        last,
+        lines: script.as_bytes(),
+        replies: replies.as_bytes(),
+    };
+    row.is_answered(alloc, ALL)
+}
+
+/// Counts the lines of each kind.
+fn count_shown(replies: &str, found: &mut [u64; SHOWN.len()]) {
+    for (found, (front, but, _)) in found.iter_mut().zip(&SHOWN) {
+        *found = found.saturating_add(count_lines(replies, front, but));
+    }
+}
+
+#[test]
+fn drawn_scripts_get_the_replies_of_the_model(rt: HostRuntime) {
+    let mut found = [0u64; SHOWN.len()];
+    for (cpus, last, seed) in SEEDS {
+        let (script, replies) = match draw(rt.alloc(), cpus, last, seed) {
+            Ok(drawn) => drawn,
+            Err(_) => draw(rt.alloc(), cpus, last, seed).expect(&rt, "memory for a script"),
+        };
+        let holds = is_answered(rt.alloc(), cpus, last, script.as_str(), replies.as_str());
+        assert!(rt; holds, "{cpus} processors, last {last}, seed {seed}");
+        count_shown(replies.as_str(), &mut found);
+    }
+    for (found, (front, _, least)) in found.iter().zip(&SHOWN) {
+        assert!(rt; found >= least, "{front}: {found}");
+    }
+}

@@ -1,0 +1,441 @@
+//! Worked rows: scripts with the replies that the rules give, worked out by hand.
+
+use crate::runs::row::{ALL, FAR, Row};
+use rcu_script::{RunFault, Setup, run_script};
+use rcu_seq::fault::Fault;
+use rcu_text::Marked;
+use std::alloc::{AllocError, Global};
+
+/// The scripts.
+pub static ROWS: [Row; 33] = [
+    Row {
+        name: "one grace period",
+        fanouts: (2, 2),
+        second: None,
+        cpus: 1,
+        last: FAR,
+        lines: b"begin\nnote 0\nquiet 0\ndeliver 1\nend\n",
+        replies: b"begun 1 awaits 1\nnoted 1 needed\nreport 1 cpu 0 tag 1\nlast\nended 4\n",
+    },
+    Row {
+        name: "nested sections",
+        fanouts: (2, 2),
+        second: None,
+        cpus: 1,
+        last: FAR,
+        lines: b"enter 0\nenter 0\nexit 0\nquiet 0\nexit 0\nexit 0\n",
+        replies: b"depth 1\ndepth 2\ndepth 1\nfault 4\ndepth 0\nfault 5\n",
+    },
+    Row {
+        name: "open section blocks",
+        fanouts: (2, 2),
+        second: None,
+        cpus: 2,
+        last: FAR,
+        lines: b"online 1\nenter 1\ntake\nbegin\nquiet 1\nexit 1\npoll 4\n",
+        replies: b"online\ndepth 1\ncookie 4\nbegun 1 awaits 2\nfault 4\ndepth 0\nnot yet\n",
+    },
+    Row {
+        name: "cookie while running",
+        fanouts: (2, 2),
+        second: None,
+        cpus: 1,
+        last: FAR,
+        lines: b"begin\ntake\nnote 0\nquiet 0\ndeliver 1\nend\npoll 8\npoll 1\n",
+        replies: b"\
+            begun 1 awaits 1\ncookie 8\nnoted 1 needed\nreport 1 cpu 0 tag 1\nlast\nended 4\n\
+            not yet\ndone\n",
+    },
+    Row {
+        name: "repeat and departure",
+        fanouts: (2, 2),
+        second: None,
+        cpus: 2,
+        last: FAR,
+        lines: b"online 1\nbegin\nnote 0\nquiet 0\ndeliver 1\ndeliver 1\nend\noffline 1\nend\n",
+        replies: b"\
+            online\nbegun 1 awaits 2\nnoted 1 needed\nreport 1 cpu 0 tag 1\ntaken\nrepeat\n\
+            fault 10\noffline moved 0\nended 4\n",
+    },
+    Row {
+        name: "late arrival not awaited",
+        fanouts: (2, 2),
+        second: None,
+        cpus: 2,
+        last: FAR,
+        lines: b"begin\nonline 1\nawaits\nenter 1\nnote 1\n",
+        replies: b"begun 1 awaits 1\nonline\nawaits 0\ndepth 1\nnoted 1 clear\n",
+    },
+    Row {
+        name: "departed and back",
+        fanouts: (2, 2),
+        second: None,
+        cpus: 2,
+        last: FAR,
+        lines: b"\
+            online 1\nbegin\nnote 1\nquiet 1\noffline 1\nonline 1\nenter 1\ndeliver 1\nawaits\n",
+        replies: b"\
+            online\nbegun 1 awaits 2\nnoted 1 needed\nreport 1 cpu 1 tag 1\noffline moved 0\n\
+            online\ndepth 1\nrepeat\nawaits 0\n",
+    },
+    // A report of an ended grace period is stale, while none runs and while the next one does.
+    Row {
+        name: "stale report after end",
+        fanouts: (2, 2),
+        second: None,
+        cpus: 1,
+        last: FAR,
+        lines: b"begin\nnote 0\nquiet 0\ndeliver 1\nend\ndeliver 1\nbegin\ndeliver 1\nawaits\n",
+        replies: b"\
+            begun 1 awaits 1\nnoted 1 needed\nreport 1 cpu 0 tag 1\nlast\nended 4\nstale\n\
+            begun 5 awaits 1\nstale\nawaits 0\n",
+    },
+    Row {
+        name: "unended input",
+        fanouts: (2, 2),
+        second: None,
+        cpus: 1,
+        last: FAR,
+        lines: b"begin",
+        replies: b"begun 1 awaits 1\n",
+    },
+    Row {
+        name: "empty input",
+        fanouts: (2, 2),
+        second: None,
+        cpus: 1,
+        last: FAR,
+        lines: b"",
+        replies: b"",
+    },
+    Row {
+        name: "stop at last number",
+        fanouts: (2, 2),
+        second: None,
+        cpus: 1,
+        last: 4,
+        lines: b"begin\nnote 0\nquiet 0\ndeliver 1\nend\nbegin\ntake\npoll 8\nturn\nstart\nturn\n",
+        replies: b"\
+            begun 1 awaits 1\nnoted 1 needed\nreport 1 cpu 0 tag 1\nlast\nended 4\nfault 11\n\
+            cookie 8\nnot yet\nnothing\ncookie 8\nfault 11\n",
+    },
+    // A turn begins what a started poll needs, waits while somebody is awaited, and ends.
+    Row {
+        name: "turn drives what is needed",
+        fanouts: (2, 2),
+        second: None,
+        cpus: 1,
+        last: FAR,
+        lines: b"take\nturn\nstart\nturn\nturn\nnote 0\nquiet 0\ndeliver 1\nturn\npoll 4\nturn\n",
+        replies: b"\
+            cookie 4\nnothing\ncookie 4\nbegun 1 awaits 1\nwaiting 1\nnoted 1 needed\n\
+            report 1 cpu 0 tag 1\nlast\nended 4\ndone\nnothing\n",
+    },
+    // The first faults of the lines, each just where its cause stands.
+    Row {
+        name: "refused lines",
+        fanouts: (2, 2),
+        second: None,
+        cpus: 1,
+        last: FAR,
+        lines: b"\
+            frob\nenter\nenter 9\noffline 0\nonline 0\nexit 0\ndeliver 0\n\
+            poll 18446744073709551616\nturn\n",
+        replies: b"\
+            fault 21\nfault 21\nfault 1\nfault 12\nfault 3\nfault 5\nfault 7\nfault 21\nnothing\n",
+    },
+    Row {
+        name: "line of 81 bytes",
+        fanouts: (2, 2),
+        second: None,
+        cpus: 1,
+        last: FAR,
+        lines: &[b' '; 81],
+        replies: b"fault 21\n",
+    },
+    // Faults of lines, in the order of their tests, and the ways to be outside the grammar.
+    Row {
+        name: "faults in their order",
+        fanouts: (2, 2),
+        second: None,
+        cpus: 2,
+        last: FAR,
+        lines: b"\
+            note\nnote 9\nnote 1\nquiet 1\nonline 0\ndeliver 0\nend\nbegin\nbegin\nend\n\
+            note 4294967296\nnote 18446744073709551616\nBEGIN\nbegin 0\n\tbegin\n  \nnote   0  \n\
+            quiet +0\nawaits\n",
+        replies: b"\
+            fault 21\nfault 1\nfault 2\nfault 2\nfault 3\nfault 7\nfault 9\nbegun 1 awaits 1\n\
+            fault 8\nfault 10\nfault 1\nfault 21\nfault 21\nfault 21\nfault 21\nnoted 1 needed\n\
+            fault 21\nawaits 0\n",
+    },
+    // The faults of a processor that is offline, and of one in a read section.
+    Row {
+        name: "faults of processors in their order",
+        fanouts: (2, 2),
+        second: None,
+        cpus: 2,
+        last: FAR,
+        lines: b"\
+            enter 1\nexit 1\noffline 2\noffline 1\nonline 1\nenter 1\nquiet 1\noffline 1\n\
+            online 1\nexit 1\noffline 1\nquiet 1\ntake 1\npoll\nturn 0\n",
+        replies: b"\
+            fault 2\nfault 5\nfault 1\nfault 2\nonline\ndepth 1\nfault 4\nfault 4\nfault 3\n\
+            depth 0\noffline moved 0\nfault 2\nfault 21\nfault 21\nfault 21\n",
+    },
+    Row {
+        name: "one callback life",
+        fanouts: (2, 2),
+        second: None,
+        cpus: 1,
+        last: FAR,
+        lines: b"\
+            queue 0 7\nrun 0 9\ntend 0\nbegin\nnote 0\nquiet 0\ndeliver 1\nend\ntend 0\nrun 0 9\n\
+            run 0 9\n",
+        replies: b"\
+            queued 1\nran none\ntended 0 1\nbegun 1 awaits 1\nnoted 1 needed\n\
+            report 1 cpu 0 tag 1\nlast\nended 4\ntended 1 0\nran 7\nran none\n",
+    },
+    Row {
+        name: "turn drives two periods",
+        fanouts: (2, 2),
+        second: None,
+        cpus: 1,
+        last: FAR,
+        lines: b"\
+            queue 0 1\ntend 0\nbegin\nqueue 0 2\ntend 0\nnote 0\nquiet 0\ndeliver 1\nturn\ntend 0\n\
+            run 0 9\nturn\nturn\n",
+        replies: b"\
+            queued 1\ntended 0 1\nbegun 1 awaits 1\nqueued 2\ntended 0 2\nnoted 1 needed\n\
+            report 1 cpu 0 tag 1\nlast\nended 4\ntended 1 1\nran 1\nbegun 5 awaits 1\nwaiting 1\n",
+    },
+    Row {
+        name: "migrated callbacks run",
+        fanouts: (2, 2),
+        second: None,
+        cpus: 2,
+        last: FAR,
+        lines: b"\
+            online 1\nqueue 0 1\nqueue 1 5\ntend 1\noffline 1\ntend 0\nbegin\nnote 0\nquiet 0\n\
+            deliver 1\nturn\nrun 0 9\ntend 0\nrun 0 9\n",
+        replies: b"\
+            online\nqueued 1\nqueued 2\ntended 0 1\noffline moved 1\ntended 0 2\nbegun 1 awaits 1\n\
+            noted 1 needed\nreport 1 cpu 0 tag 1\nlast\nended 4\nran none\ntended 2 0\nran 1 5\n",
+    },
+    Row {
+        name: "departure during barrier",
+        fanouts: (2, 2),
+        second: None,
+        cpus: 2,
+        last: FAR,
+        lines: b"online 1\nqueue 1 5\nbar\nvisit 0\noffline 1\nbartest\n",
+        replies: b"online\nqueued 1\nbarrier begun\nempty\noffline moved 1\nbarrier waits 1\n",
+    },
+    Row {
+        name: "barrier completes",
+        fanouts: (2, 2),
+        second: None,
+        cpus: 2,
+        last: FAR,
+        lines: b"\
+            online 1\nqueue 1 5\nbar\nvisit 0\noffline 1\nbartest\ntend 0\nbegin\nnote 0\nquiet 0\n\
+            deliver 1\nend\ntend 0\nrun 0 1\nbartest\nbartest\n",
+        replies: b"\
+            online\nqueued 1\nbarrier begun\nempty\noffline moved 1\nbarrier waits 1\ntended 0 1\n\
+            begun 1 awaits 1\nnoted 1 needed\nreport 1 cpu 0 tag 1\nlast\nended 4\ntended 1 0\n\
+            ran 5\nbarrier done\nfault 14\n",
+    },
+    Row {
+        name: "barrier over empty lists",
+        fanouts: (2, 2),
+        second: None,
+        cpus: 2,
+        last: FAR,
+        lines: b"bar\nbar\nbartest\nvisit 0\nvisit 0\nvisit 1\nbartest\nvisit 0\n",
+        replies: b"\
+            barrier begun\nfault 13\nbarrier waits 2\nempty\nalready\nempty\nbarrier done\n\
+            fault 14\n",
+    },
+    // The faults of these lines, each in the order of its tests, and the ways to be outside the
+    // grammar. A processor that is offline can be tended and run.
+    Row {
+        name: "refused list lines",
+        fanouts: (2, 2),
+        second: None,
+        cpus: 2,
+        last: FAR,
+        lines: b"\
+            queue\nqueue 0\nqueue 0 1 2\nqueue x 1\nqueue 9 18446744073709551616\nqueue 2 1\n\
+            queue 4294967296 1\nqueue 1 1\ntend\ntend 0 0\ntend 2\nrun 0\nrun 2 1\nbar 0\nvisit\n\
+            visit 2\nvisit 0\nbartest 0\nbartest\ntend 1\nrun 1 0\n",
+        replies: b"\
+            fault 21\nfault 21\nfault 21\nfault 21\nfault 21\nfault 1\nfault 1\nfault 2\nfault 21\n\
+            fault 21\nfault 1\nfault 21\nfault 1\nfault 21\nfault 21\nfault 1\nfault 14\nfault 21\n\
+            fault 14\ntended 0 0\nran none\n",
+    },
+    Row {
+        name: "same bytes over 2 2",
+        fanouts: (2, 2),
+        second: None,
+        cpus: 5,
+        last: FAR,
+        lines: b"online 3\nonline 4\nbegin\nnote 4\nquiet 4\ndeliver 1\nawaits\n",
+        replies: b"\
+            online\nonline\nbegun 1 awaits 3\nnoted 1 needed\nreport 1 cpu 4 tag 1\ntaken\n\
+            awaits 0 3\n",
+    },
+    Row {
+        name: "same bytes over 2 3",
+        fanouts: (2, 3),
+        second: None,
+        cpus: 5,
+        last: FAR,
+        lines: b"online 3\nonline 4\nbegin\nnote 4\nquiet 4\ndeliver 1\nawaits\n",
+        replies: b"\
+            online\nonline\nbegun 1 awaits 3\nnoted 1 needed\nreport 1 cpu 4 tag 1\ntaken\n\
+            awaits 0 3\n",
+    },
+    Row {
+        name: "same bytes over 4 4",
+        fanouts: (4, 4),
+        second: None,
+        cpus: 5,
+        last: FAR,
+        lines: b"online 3\nonline 4\nbegin\nnote 4\nquiet 4\ndeliver 1\nawaits\n",
+        replies: b"\
+            online\nonline\nbegun 1 awaits 3\nnoted 1 needed\nreport 1 cpu 4 tag 1\ntaken\n\
+            awaits 0 3\n",
+    },
+    Row {
+        name: "same bytes over 16 64",
+        fanouts: (16, 64),
+        second: None,
+        cpus: 5,
+        last: FAR,
+        lines: b"online 3\nonline 4\nbegin\nnote 4\nquiet 4\ndeliver 1\nawaits\n",
+        replies: b"\
+            online\nonline\nbegun 1 awaits 3\nnoted 1 needed\nreport 1 cpu 4 tag 1\ntaken\n\
+            awaits 0 3\n",
+    },
+    Row {
+        name: "same bytes over 64 64",
+        fanouts: (64, 64),
+        second: None,
+        cpus: 5,
+        last: FAR,
+        lines: b"online 3\nonline 4\nbegin\nnote 4\nquiet 4\ndeliver 1\nawaits\n",
+        replies: b"\
+            online\nonline\nbegun 1 awaits 3\nnoted 1 needed\nreport 1 cpu 4 tag 1\ntaken\n\
+            awaits 0 3\n",
+    },
+    Row {
+        name: "pair 2 2 opens with 16",
+        fanouts: (2, 2),
+        second: None,
+        cpus: 16,
+        last: FAR,
+        lines: b"begin\n",
+        replies: b"begun 1 awaits 1\n",
+    },
+    Row {
+        name: "pair 2 3 opens with 54",
+        fanouts: (2, 3),
+        second: None,
+        cpus: 54,
+        last: FAR,
+        lines: b"begin\n",
+        replies: b"begun 1 awaits 1\n",
+    },
+    Row {
+        name: "pair 4 4 opens with 256",
+        fanouts: (4, 4),
+        second: None,
+        cpus: 256,
+        last: FAR,
+        lines: b"begin\n",
+        replies: b"begun 1 awaits 1\n",
+    },
+    Row {
+        name: "pair 16 64 opens with 4096",
+        fanouts: (16, 64),
+        second: None,
+        cpus: 4096,
+        last: FAR,
+        lines: b"begin\n",
+        replies: b"begun 1 awaits 1\n",
+    },
+    Row {
+        name: "pair 64 64 opens with 4096",
+        fanouts: (64, 64),
+        second: None,
+        cpus: 4096,
+        last: FAR,
+        lines: b"begin\n",
+        replies: b"begun 1 awaits 1\n",
+    },
+];
+
+/// The opening's faults, in the order of their tests. What is tested before the first growth takes
+/// no memory. A tree of four levels is full one processor earlier, as the rows say.
+#[test]
+fn refused_openings(rt: HostRuntime) {
+    for (fanouts, cpus, last, fault) in [
+        ((3, 3), 0, 6, Fault::BadFanout),
+        ((2, 4), 1, 4, Fault::BadFanout),
+        ((2, 2), 0, 6, Fault::TooManyCpus),
+        ((2, 2), 17, 6, Fault::TooManyCpus),
+        ((2, 2), 17, FAR, Fault::TooManyCpus),
+        ((2, 3), 55, FAR, Fault::TooManyCpus),
+        ((4, 4), 257, FAR, Fault::TooManyCpus),
+        ((16, 64), 4097, FAR, Fault::TooManyCpus),
+        ((64, 64), 4097, FAR, Fault::TooManyCpus),
+        ((64, 64), 4097, 4, Fault::TooManyCpus),
+        ((2, 2), 1, 6, Fault::BadLast),
+        ((2, 2), 1, 0, Fault::BadLast),
+        ((2, 2), 1, FAR + 4, Fault::BadLast),
+    ] {
+        let row = Row {
+            name: "refused",
+            fanouts,
+            second: None,
+            cpus,
+            last,
+            lines: b"begin\n",
+            replies: b"",
+        };
+        let run = row.run(rt.alloc(), ALL, ALL, ALL);
+        let holds = run.came_to(&Err(RunFault::Open(fault)), row.replies);
+        assert!(rt; holds, "{fanouts:?}, {cpus} processors, last {last}");
+    }
+}
+
+/// The replies to 65,536 enters, written to a place that has room for them.
+fn nested(alloc: Global) -> Result<Vec<u8>, AllocError> {
+    let script = b"enter 0\n".repeat(alloc, 65_536)?;
+    let mut reader = Marked::new(script.as_slice());
+    let mut writer = Marked::new(Vec::with_capacity(alloc, 1 << 20)?);
+    let setup = Setup {
+        leaf: 2,
+        inner: 2,
+        leaf2: 2,
+        inner2: 2,
+        cpus: 1,
+        last: FAR,
+    };
+    match run_script(alloc, &setup, &mut reader, &mut writer) {
+        Ok(()) => Ok(writer.into_inner()),
+        Err(_) => Err(AllocError),
+    }
+}
+
+/// Sections nest 65,535 deep, and no deeper.
+#[test]
+fn full_nesting_depth(rt: HostRuntime) {
+    let text = match nested(rt.alloc()) {
+        Ok(text) => text,
+        Err(AllocError) => nested(rt.alloc()).expect(&rt, "a run that no growth stops"),
+    };
+    let end = b"\ndepth 65534\ndepth 65535\nfault 6\n";
+    assert!(rt; text.as_slice().ends_with(end));
+    assert_eq!(rt; text.iter().filter(|b| **b == b'\n').count(), 65_536);
+}

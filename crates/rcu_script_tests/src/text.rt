@@ -1,0 +1,5 @@
+//! Tests of what no clause says.
+
+mod blocks;
+mod streams;
+mod words;

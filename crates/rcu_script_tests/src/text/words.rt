@@ -1,0 +1,38 @@
+//! Words and numbers.
+
+use rcu_text::{next_word, number};
+
+/// Words, and the numbers that they are.
+static NUMBERS: [(&str, Option<u64>); 11] = [
+    ("0", Some(0)),
+    ("00000000000000000002", Some(2)),
+    ("18446744073709551615", Some(u64::MAX)),
+    ("000000000000000000002", None),
+    ("18446744073709551616", None),
+    ("99999999999999999999", None),
+    ("", None),
+    ("+1", None),
+    ("-1", None),
+    ("1x", None),
+    ("0x1", None),
+];
+
+#[test]
+fn numbers(rt: HostRuntime) {
+    for (word, wanted) in &NUMBERS {
+        assert_eq!(rt; number(word.as_bytes()), *wanted, "{word}");
+    }
+}
+
+#[test]
+fn words(rt: HostRuntime) {
+    assert!(rt; next_word(b"").is_none());
+    assert!(rt; next_word(b"   ").is_none());
+    match next_word(b"  note  3 ") {
+        Some((word, rest)) => {
+            assert_eq!(rt; word, b"note".as_slice());
+            assert_eq!(rt; rest, b"  3 ".as_slice());
+        }
+        None => assert!(rt; false),
+    }
+}

@@ -1,4 +1,0 @@
-//! Tests of what no clause says.
-
-mod blocks;
-mod words;
