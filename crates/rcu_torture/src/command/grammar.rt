@@ -1,6 +1,6 @@
 //! The command line, as `clap` is told of it.
 ghost use Rattle.std.specs.Prelude.{◌≡◌, false, IfOk, codes};
-ghost use Rattle.clap.specs.Words.{app_of, new_app, rule_of};
+ghost use Rattle.clap.specs.Words.{app_of, new_app, rule_of, with_rule};
 ghost use Rattle.clap.specs.declared.builder.command.Command.TheViews.{out-Command as fields_of};
 ghost use Rattle.rcu_torture.specs.CommandLine.{any_u32, last_rule, number_rule, option_rule};
 ghost use Rattle.rcu_torture.specs.CommandLine.{pair, rcu, rcu_with_pair, rcu_with_script};
@@ -46,24 +46,23 @@ fn script_command<'a>(alloc: Global) -> Result<Command<'a>, AllocError>
     ensures local { IfOk result (λ command. (fields_of command).has_globals ≡ false) }
 {
     let about = "Answers a script on standard input, a line for each event";
-    described(alloc, "script", about, help::SCRIPT)
-        .arg(u32_option(alloc, "leaf", "Processors that a leaf of the tree holds"))?
-        .arg(u32_option(alloc, "inner", "Children that an inner node holds"))?
-        .arg(u32_option(alloc, "cpus", "Number of processors, from 1"))?
-        .arg(last_option(alloc))
+    let leaf = u32_option(alloc, "leaf", "Processors that a leaf of the tree holds");
+    let inner = u32_option(alloc, "inner", "Children that an inner node holds");
+    let cpus = u32_option(alloc, "cpus", "Number of processors, from 1");
+    let shaped = with_two(described(alloc, "script", about, help::SCRIPT), leaf, inner)?;
+    with_two(shaped, cpus, last_option(alloc))
 }
 
 fn pair_command<'a>(alloc: Global) -> Result<Command<'a>, AllocError>
     ensures app { IfOk result (λ command. app_of command ≡ pair) }
     ensures local { IfOk result (λ command. (fields_of command).has_globals ≡ false) }
 {
-    shapes_command(alloc)?
-        .arg(u32_option(
-            alloc,
-            "cpus",
-            "Number of processors of each replica, from 1",
-        ))?
-        .arg(last_option(alloc))
+    let help = "Number of processors of each replica, from 1";
+    with_two(
+        shapes_command(alloc)?,
+        u32_option(alloc, "cpus", help),
+        last_option(alloc),
+    )
 }
 
 /// The subcommand `pair` with the options of both shapes.
@@ -72,11 +71,12 @@ fn shapes_command<'a>(alloc: Global) -> Result<Command<'a>, AllocError>
     ensures local { IfOk result (λ command. (fields_of command).has_globals ≡ false) }
 {
     let about = "Answers the lines of two replicas, a and b, on standard input";
-    described(alloc, "pair", about, help::PAIR)
-        .arg(u32_option(alloc, "leaf", "Processors that a leaf of a holds"))?
-        .arg(u32_option(alloc, "inner", "Children that an inner node of a holds"))?
-        .arg(u32_option(alloc, "leaf2", "Processors that a leaf of b holds"))?
-        .arg(u32_option(alloc, "inner2", "Children that an inner node of b holds"))
+    let leaf = u32_option(alloc, "leaf", "Processors that a leaf of a holds");
+    let inner = u32_option(alloc, "inner", "Children that an inner node of a holds");
+    let leaf2 = u32_option(alloc, "leaf2", "Processors that a leaf of b holds");
+    let inner2 = u32_option(alloc, "inner2", "Children that an inner node of b holds");
+    let shaped = with_two(described(alloc, "pair", about, help::PAIR), leaf, inner)?;
+    with_two(shaped, leaf2, inner2)
 }
 
 fn torture_command<'a>(alloc: Global) -> Result<Command<'a>, AllocError>
@@ -84,11 +84,26 @@ fn torture_command<'a>(alloc: Global) -> Result<Command<'a>, AllocError>
     ensures local { IfOk result (λ command. (fields_of command).has_globals ≡ false) }
 {
     let about = "Works the engine for threads hard, and prints what came of it";
-    let seed = "Seed of the workers' random words";
-    described(alloc, "torture", about, help::TORTURE)
-        .arg(workers_option(alloc))?
-        .arg(rounds_option(alloc))?
-        .arg(required_option(alloc, "seed", seed, value_parser!(u64)))
+    let help = "Seed of the workers' random words";
+    let seed = required_option(alloc, "seed", help, value_parser!(u64));
+    let command = described(alloc, "torture", about, help::TORTURE);
+    with_two(command, workers_option(alloc), rounds_option(alloc))?.arg(seed)
+}
+
+/// The command with two more options.
+fn with_two<'a>(
+    command: Command<'a>,
+    first: Arg<'a>,
+    second: Arg<'a>,
+) -> Result<Command<'a>, AllocError>
+    requires local { (fields_of command).has_globals ≡ false }
+    requires first { first.global ≡ false }
+    requires second { second.global ≡ false }
+    ensures app { IfOk result (λ more. app_of more ≡ with_rule
+        (with_rule (app_of command.entry) (rule_of first.entry)) (rule_of second.entry)) }
+    ensures local { IfOk result (λ more. (fields_of more).has_globals ≡ false) }
+{
+    command.arg(first)?.arg(second)
 }
 
 /// A command of this name, and what help says of it: before its options, and behind them.
