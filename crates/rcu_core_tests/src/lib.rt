@@ -6,11 +6,11 @@ mod barrier;
 #[cfg(test)]
 mod cblist;
 #[cfg(test)]
-mod core;
-#[cfg(test)]
 mod cpu;
 #[cfg(test)]
 mod draw;
+#[cfg(test)]
+mod events;
 #[cfg(test)]
 mod geometry;
 #[cfg(test)]

@@ -1,5 +1,5 @@
 //! The machine over events: one after another, and all of a list.
-use crate::core::machine::{core, core_of, lacks_memory, run, takes, told_all};
+use crate::events::machine::{core, core_of, lacks_memory, run, takes, told_all};
 use crate::made::flat;
 use rcu_core::event::Event;
 use rcu_core::event_core::Core;

@@ -1,6 +1,6 @@
 //! Callbacks and barriers over events, each row taken one event at a time and as a list.
 
-use crate::core::machine::{core, lacks_memory, run, step, told_all};
+use crate::events::machine::{core, lacks_memory, run, step, told_all};
 use crate::made::refused;
 use rcu_core::event::Event;
 use rcu_core::reply::Reply;
