@@ -5,6 +5,7 @@ ghost use Rattle.rcu_cell.specs.Cell.{Holds, IsSeatOf};
 ghost use Rattle.rcu_cell.specs.Steps.{IsLoaded};
 ghost use Rattle.rcu_cell.specs.Versions.{IsReading, words_in};
 
+use crate::allowed::{load_is_allowed, read_is_allowed};
 use crate::known::Known;
 use crate::places::{SHOWN, word_of};
 use crate::slots::{Fits, Load, Read, Slots};
@@ -59,6 +60,7 @@ impl<const LEAF: u32, const FAN: u32, T: Drop, F: Fits, const W: usize, const N:
         ensures same { seat.new ≡ after_use seat.old seat.new.view.client }
         ensures loaded { IsLoaded F.fits W N result seat.new.view.client }
     {
+        load_is_allowed::<F, W, N>(seat);
         seat.load_word::<LEAF, FAN, T, Slots<F, W, N>, Load<F, W, N>>(&self.live, SHOWN)
     }
 
@@ -73,6 +75,7 @@ impl<const LEAF: u32, const FAN: u32, T: Drop, F: Fits, const W: usize, const N:
     {
         let live = &self.live;
         let place = word_of(W, N, slot, word);
+        read_is_allowed::<F, W, N>(seat, slot, word, place);
         seat.load_word::<LEAF, FAN, T, Slots<F, W, N>, Read<W>>(live, place)
     }
 

@@ -10,6 +10,7 @@ ghost use Rattle.rcu_cell.specs.Versions.{version_at, with_word};
 ghost use Rattle.rcu_cell.specs.declared.known.Known.TheVariants.{Keeps, Opens};
 ghost use Rattle.rcu_cell.specs.declared.slot_state.SlotState.TheVariants.{Free};
 
+use crate::allowed::{age_is_allowed, claim_is_allowed, publish_is_allowed, write_is_allowed};
 use crate::cell::Cell;
 use crate::known::Known;
 use crate::places::{SHOWN, word_of};
@@ -32,6 +33,7 @@ impl<const LEAF: u32, const FAN: u32, T: Drop, F: Fits, const W: usize, const N:
         ensures same { seat.new ≡ after_use seat.old seat.new.view.client }
         ensures claimed { IsClaimed F.fits W N seat.new.view.client }
     {
+        claim_is_allowed::<F, W, N>(seat);
         seat.load_word::<LEAF, FAN, T, Slots<F, W, N>, Claim<F, W, N>>(&self.live, SHOWN);
     }
 
@@ -49,6 +51,7 @@ impl<const LEAF: u32, const FAN: u32, T: Drop, F: Fits, const W: usize, const N:
     {
         let live = &self.live;
         let place = word_of(W, N, slot, word);
+        write_is_allowed::<F, W, N>(seat, slot, word, place, value);
         seat.store_word::<LEAF, FAN, T, Slots<F, W, N>, Write<W>>(live, place, value);
     }
 
@@ -64,6 +67,7 @@ impl<const LEAF: u32, const FAN: u32, T: Drop, F: Fits, const W: usize, const N:
             (published (slots_in seat.old.view.client) (slot_in seat.old.view.client) slot)) }
     {
         let value = slot as u64;
+        publish_is_allowed::<F, W, N>(seat, slot);
         seat.store_word::<LEAF, FAN, T, Slots<F, W, N>, Publish>(&self.live, SHOWN, value);
     }
 
@@ -79,6 +83,7 @@ impl<const LEAF: u32, const FAN: u32, T: Drop, F: Fits, const W: usize, const N:
         ensures later { seat.old.view.seen ≤ result }
         ensures number { is_number_word result ≡ true }
     {
+        age_is_allowed::<F, W, N>(seat);
         seat.learn::<LEAF, FAN, T, Slots<F, W, N>, Age>(&self.live)
     }
 

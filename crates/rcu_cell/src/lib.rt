@@ -2,6 +2,7 @@
 //! words of the running engine.
 #![tactic(auto)]
 
+mod allowed;
 pub mod cell;
 pub mod guard;
 mod guard_reads;

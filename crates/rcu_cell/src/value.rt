@@ -1,5 +1,5 @@
 //! A value of the user's type in a cell.
-ghost use Rattle.std.specs.Prelude.{◌≡◌, ◌≤◌, IfErr, IfOk, IsSome, None, OnErr, OnOk, Some};
+ghost use Rattle.std.specs.Prelude.{◌≡◌, ◌≤◌, ◌^◌, IfErr, IfOk, IsSome, None, OnErr, OnOk, Some};
 ghost use Rattle.rcu_live.specs.CpuSeat.{after_use, enter_refusal};
 ghost use Rattle.rcu_cell.specs.Cell.{IsSeatOf, IsWatcherOf, after_section};
 ghost use Rattle.rcu_cell.specs.Keeper.{IsFirstFree, IsFull, after_update};
@@ -42,6 +42,11 @@ pub trait Value<const W: usize>: Fits + Copy {
     ghost small: { W ≤ 2 ^ 32 };
 }
 
+/// The words of a value are few, as its type says.
+fn words_are_few<F: Value<W>, const W: usize>()
+    ensures { W ≤ 2 ^ 32 }
+{}
+
 impl<const LEAF: u32, const FAN: u32, T: Drop, F: Value<W>, const W: usize, const N: usize> Cell<
     LEAF,
     FAN,
@@ -59,6 +64,7 @@ impl<const LEAF: u32, const FAN: u32, T: Drop, F: Value<W>, const W: usize, cons
         ensures told { result ≡ F.told_by (words_in seat.new.view.client) }
         ensures sound { F.holds result }
     {
+        words_are_few::<F, W>();
         F::of_words(&self.snapshot(seat))
     }
 
@@ -106,6 +112,7 @@ impl<const W: usize, const N: usize> Keeper<W, N> {
         ensures full { OnErr result (IsFull (slots_in self.old.view.client)) }
         ensures unchanged { OnErr result (self.new ≡ self.old) }
     {
+        words_are_few::<F, W>();
         self.update(cell, &value.to_words())
     }
 }

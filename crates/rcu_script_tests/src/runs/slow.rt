@@ -50,54 +50,106 @@ impl Slow {
 /// What the words of a script's line ask for.
 fn event(words: &[&str]) -> Option<Event> {
     match words {
-        ["begin"] => Some(Event::Begin),
-        ["end"] => Some(Event::End),
-        ["turn"] => Some(Event::Turn),
-        ["awaits"] => Some(Event::Awaits),
-        ["take"] => Some(Event::Take),
-        ["start"] => Some(Event::StartPoll),
-        ["bar"] => Some(Event::BarBegin),
-        ["bartest"] => Some(Event::BarTest),
-        ["enter", cpu] => Some(Event::Enter(cpu_of(cpu)?)),
-        ["exit", cpu] => Some(Event::Exit(cpu_of(cpu)?)),
-        ["note", cpu] => Some(Event::Note(cpu_of(cpu)?)),
-        ["quiet", cpu] => Some(Event::Quiesce(cpu_of(cpu)?)),
-        ["online", cpu] => Some(Event::Online(cpu_of(cpu)?)),
-        ["offline", cpu] => Some(Event::Offline(cpu_of(cpu)?)),
-        ["tend", cpu] => Some(Event::Tend(cpu_of(cpu)?)),
-        ["visit", cpu] => Some(Event::Visit(cpu_of(cpu)?)),
-        ["deliver", place] => Some(Event::Deliver(number(place)?)),
-        ["poll", cookie] => Some(Event::Poll(number(cookie)?)),
-        ["queue", cpu, value] => Some(Event::Queue(cpu_of(cpu)?, number(value)?)),
-        ["run", cpu, most] => Some(Event::Run(cpu_of(cpu)?, number(most)?)),
+        [name] => bare_event(name),
+        [name, word] => event_of_one(name, number(word)?),
+        [name, cpu, word] => event_of_two(name, cpu_of(cpu)?, number(word)?),
         _ => None,
     }
 }
 
+/// The event of this name, of these.
+fn named(events: &[(&str, Event)], name: &str) -> Option<Event> {
+    for (known, event) in events {
+        if *known == name {
+            return Some(*event);
+        }
+    }
+    None
+}
+
+/// The event that a name alone asks for.
+fn bare_event(name: &str) -> Option<Event> {
+    let events = [
+        ("begin", Event::Begin),
+        ("end", Event::End),
+        ("turn", Event::Turn),
+        ("awaits", Event::Awaits),
+        ("take", Event::Take),
+        ("start", Event::StartPoll),
+        ("bar", Event::BarBegin),
+        ("bartest", Event::BarTest),
+    ];
+    named(events.as_slice(), name)
+}
+
+/// The event that a name and one number ask for: most often a processor's.
+fn event_of_one(name: &str, n: u64) -> Option<Event> {
+    let cpu = cpu_at(n);
+    let events = [
+        ("enter", Event::Enter(cpu)),
+        ("exit", Event::Exit(cpu)),
+        ("note", Event::Note(cpu)),
+        ("quiet", Event::Quiesce(cpu)),
+        ("online", Event::Online(cpu)),
+        ("offline", Event::Offline(cpu)),
+        ("tend", Event::Tend(cpu)),
+        ("visit", Event::Visit(cpu)),
+        ("deliver", Event::Deliver(n)),
+        ("poll", Event::Poll(n)),
+    ];
+    named(events.as_slice(), name)
+}
+
+/// The event that a name, a processor and a number ask for.
+fn event_of_two(name: &str, cpu: u32, n: u64) -> Option<Event> {
+    let events = [("queue", Event::Queue(cpu, n)), ("run", Event::Run(cpu, n))];
+    named(events.as_slice(), name)
+}
+
 /// What the words of a pair's line ask for, and of which replica.
 fn asked(words: &[&str]) -> Option<(Side, Asked)> {
-    let (side, words) = match words {
-        ["same"] => return Some((Side::A, Asked::Same)),
-        ["a", rest @ ..] => (Side::A, rest),
-        ["b", rest @ ..] => (Side::B, rest),
-        _ => return None,
-    };
-    let asked = match words {
-        ["begin", first, rest @ ..] => {
-            let mut set = bit(cpu_of(first)?.min(63));
-            for word in rest {
-                set |= bit(cpu_of(word)?.min(63));
-            }
-            Asked::Begin(set)
-        }
-        ["report", cpu, tag] => Asked::Report(cpu_of(cpu)?, number(tag)?),
-        ["depart", cpu] => Asked::Depart(cpu_of(cpu)?),
-        ["end"] => Asked::End,
-        ["awaits"] => Asked::Awaits,
-        ["merge"] => Asked::Merge,
-        _ => return None,
-    };
-    Some((side, asked))
+    match words {
+        [one] if *one == "same" => Some((Side::A, Asked::Same)),
+        [side, name, rest @ ..] => Some((side_of(side)?, asked_of(name, rest)?)),
+        _ => None,
+    }
+}
+
+fn side_of(name: &str) -> Option<Side> {
+    match name {
+        "a" => Some(Side::A),
+        "b" => Some(Side::B),
+        _ => None,
+    }
+}
+
+/// What a name and the words behind it ask of a replica.
+fn asked_of(name: &str, rest: &[&str]) -> Option<Asked> {
+    match rest {
+        [] => bare_asked(name),
+        _ if name == "begin" => Some(Asked::Begin(set_of(rest)?)),
+        [cpu] if name == "depart" => Some(Asked::Depart(cpu_of(cpu)?)),
+        [cpu, tag] if name == "report" => Some(Asked::Report(cpu_of(cpu)?, number(tag)?)),
+        _ => None,
+    }
+}
+
+fn bare_asked(name: &str) -> Option<Asked> {
+    match name {
+        "end" => Some(Asked::End),
+        "awaits" => Some(Asked::Awaits),
+        "merge" => Some(Asked::Merge),
+        _ => None,
+    }
+}
+
+/// The set of these processors, with a bit for each.
+fn set_of(cpus: &[&str]) -> Option<u64> {
+    let mut set = 0;
+    for word in cpus {
+        set |= bit(cpu_of(word)?.min(63));
+    }
+    Some(set)
 }
 
 /// The number of a word, by std, which takes a sign before it and any zeros.
@@ -109,6 +161,10 @@ fn number(word: &str) -> Option<u64> {
 }
 
 /// A processor; a number that no model has a processor for is as good as any other such one.
+fn cpu_at(n: u64) -> u32 {
+    n.min(9_999) as u32
+}
+
 fn cpu_of(word: &str) -> Option<u32> {
-    number(word).map(|n| n.min(9_999) as u32)
+    number(word).map(cpu_at)
 }
