@@ -13,7 +13,7 @@ use std::alloc::Global;
 use std::process::Abort;
 
 /// All that can be asked of a processor's list.
-#[derive(Clone, Copy, Debug, PartialEq)]
+#[derive(Clone, Copy, PartialEq)]
 struct AskedOf {
     visited: bool,
     empty: bool,
@@ -21,7 +21,7 @@ struct AskedOf {
 }
 
 /// All that can be asked of the lists of two processors.
-#[derive(Clone, Copy, Debug, PartialEq)]
+#[derive(Clone, Copy, PartialEq)]
 struct Asked {
     cpus: u32,
     queued: u64,
@@ -53,8 +53,8 @@ fn ask(rt: &impl Abort, lists: &Lists<u64>) -> Asked {
 
 /// Compares the fault of a call whose growth was refused, and what it left with what was there.
 fn refused(rt: &impl Abort, fault: Fault, lists: &Lists<u64>, before: Asked) {
-    assert_eq!(rt; fault, Fault::NoMemory);
-    assert_eq!(rt; ask(rt, lists), before);
+    assert!(rt; fault == Fault::NoMemory);
+    assert!(rt; ask(rt, lists) == before);
 }
 
 /// Lists for so many processors, made by a second call where the first is refused a growth.
@@ -65,7 +65,7 @@ fn lists_of(rt: &impl Abort, alloc: Global, cpus: u32) -> Lists<u64>
     match Lists::new(alloc, cpus) {
         Ok(lists) => lists,
         Err(fault) => {
-            assert_eq!(rt; fault, Fault::NoMemory);
+            assert!(rt; fault == Fault::NoMemory);
             Lists::new(alloc, cpus).expect(rt, "the second call has memory")
         }
     }
@@ -76,21 +76,29 @@ fn lists(rt: &impl Abort, alloc: Global) -> Lists<u64> {
     lists_of(rt, alloc, 2)
 }
 
+/// Queues a callback that was handed back, and compares how many were queued.
+fn queue_again(rt: &impl Abort, lists: &mut Lists<u64>, cpu: u32, value: u64, wanted: u64) {
+    assert!(rt; cpu < lists.cpus());
+    match lists.queue(cpu, 0, value) {
+        Ok(count) => assert!(rt; count == wanted),
+        Err(_) => panic!(rt; "the second call has memory"),
+    }
+}
+
 /// Queues a callback, by a second call where the first is refused a growth, and compares how many
 /// were queued.
 fn queue(rt: &impl Abort, lists: &mut Lists<u64>, cpu: u32, value: u64, wanted: u64) {
     let before = ask(rt, lists);
     assert!(rt; cpu < lists.cpus());
     match lists.queue(cpu, 0, value) {
-        Ok(count) => assert_eq!(rt; count, wanted),
+        Ok(count) => assert!(rt; count == wanted),
         Err(back) => {
             refused(rt, back.fault, lists, before);
-            assert_eq!(rt; back.value, value);
-            assert!(rt; cpu < lists.cpus());
-            assert_eq!(rt; lists.queue(cpu, 0, back.value).ok(), Some(wanted));
+            assert!(rt; back.value == value);
+            queue_again(rt, lists, cpu, back.value, wanted);
         }
     }
-    assert_eq!(rt; lists.queued(), wanted);
+    assert!(rt; lists.queued() == wanted);
 }
 
 /// Tends a list, and compares how many callbacks are done and how many wait.
@@ -107,7 +115,7 @@ fn tend(rt: &impl Abort, lists: &mut Lists<u64>, cpu: u32, number: u64, wanted: 
             lists.tend(cpu, number)
         }
     };
-    assert_eq!(rt; counts, wanted);
+    assert!(rt; counts.0 == wanted.0 && counts.1 == wanted.1);
 }
 
 /// Takes callbacks, by a second call where the first is refused a growth, and compares their
@@ -123,9 +131,9 @@ fn run(rt: &impl Abort, lists: &mut Lists<u64>, cpu: u32, max: u64, wanted: &[u6
             lists.run(cpu, max).expect(rt, "the second call has memory")
         }
     };
-    assert_eq!(rt; calls.len(), wanted.len());
+    assert!(rt; calls.len() == wanted.len());
     for (call, value) in calls.iter().zip(wanted) {
-        assert_eq!(rt; call.value, *value);
+        assert!(rt; call.value == *value);
     }
 }
 
@@ -135,11 +143,11 @@ fn migrate(rt: &impl Abort, lists: &mut Lists<u64>, wanted: u64) {
     let before = ask(rt, lists);
     assert!(rt; 1 < lists.cpus());
     match lists.migrate(1) {
-        Ok(moved) => assert_eq!(rt; moved, wanted),
+        Ok(moved) => assert!(rt; moved == wanted),
         Err(fault) => {
             refused(rt, fault, lists, before);
             assert!(rt; 1 < lists.cpus());
-            assert_eq!(rt; lists.migrate(1), Ok(wanted));
+            assert!(rt; lists.migrate(1) == Ok(wanted));
         }
     }
     assert!(rt; 1 < lists.cpus());
@@ -152,11 +160,11 @@ fn visit(rt: &impl Abort, lists: &mut Lists<u64>, cpu: u32, wanted: Visit) {
     let before = ask(rt, lists);
     assert!(rt; cpu < lists.cpus());
     match lists.visit(cpu) {
-        Ok(visit) => assert_eq!(rt; visit, wanted),
+        Ok(visit) => assert!(rt; visit == wanted),
         Err(fault) => {
             refused(rt, fault, lists, before);
             assert!(rt; cpu < lists.cpus());
-            assert_eq!(rt; lists.visit(cpu), Ok(wanted));
+            assert!(rt; lists.visit(cpu) == Ok(wanted));
         }
     }
     assert!(rt; cpu < lists.cpus());
@@ -195,14 +203,14 @@ fn make(rt: &impl Abort, lists: &mut Lists<u64>, step: &Step) {
         }
         Step::Run(cpu, max, wanted) => run(rt, lists, *cpu, *max, wanted),
         Step::Migrate(wanted) => migrate(rt, lists, *wanted),
-        Step::Begin(wanted) => assert_eq!(rt; lists.barrier_begin(), *wanted),
+        Step::Begin(wanted) => assert!(rt; lists.barrier_begin() == *wanted),
         Step::Visit(cpu, wanted) => visit(rt, lists, *cpu, *wanted),
         Step::NoVisit => {
             assert!(rt; 0 < lists.cpus());
-            assert_eq!(rt; lists.visit(0), Err(Fault::NoBarrier));
+            assert!(rt; lists.visit(0) == Err(Fault::NoBarrier));
         }
-        Step::Test(wanted) => assert_eq!(rt; lists.barrier_test(), *wanted),
-        Step::IsRunning(wanted) => assert_eq!(rt; lists.is_running(), *wanted),
+        Step::Test(wanted) => assert!(rt; lists.barrier_test() == *wanted),
+        Step::IsRunning(wanted) => assert!(rt; lists.is_running() == *wanted),
     }
 }
 
@@ -306,7 +314,7 @@ fn full(rt: &impl Abort, lists: &mut Lists<u64>) {
     assert!(rt; 1 < lists.cpus());
     match lists.queue(1, 0, 8) {
         Ok(_) => panic!(rt; "one too many was queued"),
-        Err(back) => assert_eq!(rt; (back.fault, back.value), (Fault::CallbacksFull, 8)),
+        Err(back) => assert!(rt; back.fault == Fault::CallbacksFull && back.value == 8),
     }
 }
 
@@ -315,12 +323,11 @@ fn fill(rt: &impl Abort, lists: &mut Lists<u64>) {
     for count in 0..1_000_000 {
         assert!(rt; 0 < lists.cpus());
         if let Err(back) = lists.queue(0, 0, 7) {
-            assert_eq!(rt; back.fault, Fault::NoMemory);
-            assert!(rt; 0 < lists.cpus());
-            assert_eq!(rt; lists.queue(0, 0, back.value).ok(), Some(count + 1));
+            assert!(rt; back.fault == Fault::NoMemory);
+            queue_again(rt, lists, 0, back.value, count + 1);
         }
     }
-    assert_eq!(rt; lists.queued(), 1_000_000);
+    assert!(rt; lists.queued() == 1_000_000);
 }
 
 #[test]
@@ -332,26 +339,34 @@ fn a_million_callbacks(rt: HostRuntime) {
     tend(&rt, &mut lists, 0, 4, (1_000_000, 0));
     assert!(rt; 0 < lists.cpus());
     match lists.run(0, 1_000_000) {
-        Ok(calls) => assert_eq!(rt; calls.len(), 1_000_000),
-        Err(fault) => assert_eq!(rt; fault, Fault::NoMemory),
+        Ok(calls) => assert!(rt; calls.len() == 1_000_000),
+        Err(fault) => assert!(rt; fault == Fault::NoMemory),
     }
     full(&rt, &mut lists);
+}
+
+/// Takes callbacks of processor 0, of which there is none.
+fn takes_none(rt: &impl Abort, lists: &mut Lists<u64>) {
+    assert!(rt; 0 < lists.cpus());
+    match lists.run(0, 9) {
+        Ok(calls) => assert!(rt; calls.is_empty()),
+        Err(_) => panic!(rt; "there is none to take"),
+    }
 }
 
 /// The calls that ask for no memory: none of them is refused a growth.
 fn call_without_memory(rt: &impl Abort, lists: &mut Lists<u64>) {
     tend(rt, lists, 0, 0, (0, 1));
+    takes_none(rt, lists);
     assert!(rt; 1 < lists.cpus());
-    assert_eq!(rt; lists.run(0, 9).map(|calls| calls.len()), Ok(0));
-    assert!(rt; 1 < lists.cpus());
-    assert_eq!(rt; lists.migrate(1), Ok(0));
+    assert!(rt; lists.migrate(1) == Ok(0));
     tend(rt, lists, 0, 4, (1, 0));
-    assert_eq!(rt; lists.barrier_begin(), Ok(()));
+    assert!(rt; lists.barrier_begin() == Ok(()));
     assert!(rt; 1 < lists.cpus());
-    assert_eq!(rt; lists.visit(1), Ok(Visit::Empty));
+    assert!(rt; lists.visit(1) == Ok(Visit::Empty));
     assert!(rt; 1 < lists.cpus());
-    assert_eq!(rt; lists.visit(1), Ok(Visit::Already));
-    assert_eq!(rt; lists.barrier_test(), Ok(BarrierState::Waits(1)));
+    assert!(rt; lists.visit(1) == Ok(Visit::Already));
+    assert!(rt; lists.barrier_test() == Ok(BarrierState::Waits(1)));
 }
 
 #[test]
@@ -364,6 +379,6 @@ fn calls_without_memory(rt: HostRuntime) {
 #[test]
 fn sizes(rt: HostRuntime) {
     for cpus in [1, 4096] {
-        assert_eq!(rt; lists_of(&rt, rt.alloc(), cpus).cpus(), cpus);
+        assert!(rt; lists_of(&rt, rt.alloc(), cpus).cpus() == cpus);
     }
 }

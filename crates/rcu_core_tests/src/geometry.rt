@@ -17,21 +17,23 @@ fn has_levels<const LEAF: u32, const FAN: u32>(
     nodes: u32,
 ) {
     let geometry = geometry::<LEAF, FAN>(rt, cpus);
-    assert_eq!(rt; geometry.cpus(), cpus);
-    assert_eq!(rt; geometry.levels() as usize, wanted.len());
-    for (i, (start, nodes)) in (0..geometry.levels()).zip(wanted) {
-        assert!(rt; i < geometry.levels());
-        assert_eq!(rt; geometry.level_start(i), *start, "level {i}");
-        assert_eq!(rt; geometry.level_nodes(i), *nodes, "level {i}");
+    assert!(rt; geometry.cpus() == cpus);
+    assert!(rt; geometry.levels() as usize == wanted.len());
+    let mut level = 0u32;
+    for (start, nodes) in wanted {
+        assert!(rt; level < geometry.levels());
+        assert!(rt; geometry.level_start(level) == *start, "level {level}");
+        assert!(rt; geometry.level_nodes(level) == *nodes, "level {level}");
+        level = level.saturating_add(1);
     }
-    assert_eq!(rt; geometry.nodes(), nodes);
+    assert!(rt; geometry.nodes() == nodes);
 }
 
 /// Compares why there is no such tree.
 fn refuses<const LEAF: u32, const FAN: u32>(rt: &impl Abort, cpus: u32, wanted: Fault) {
     match Geometry::<LEAF, FAN>::new(cpus) {
         Ok(_) => panic!(rt; "there is such a tree"),
-        Err(fault) => assert_eq!(rt; fault, wanted),
+        Err(fault) => assert!(rt; fault == wanted),
     }
 }
 
@@ -74,10 +76,12 @@ fn has_parents<const LEAF: u32, const FAN: u32>(
     geometry: &Geometry<LEAF, FAN>,
     wanted: &[(Option<u32>, Option<u32>)],
 ) {
-    for (node, (parent, bit)) in (0..geometry.nodes()).zip(wanted) {
+    let mut node = 0u32;
+    for (parent, bit) in wanted {
         assert!(rt; node < geometry.nodes());
-        assert_eq!(rt; geometry.parent(node), *parent, "node {node}");
-        assert_eq!(rt; geometry.bit_in_parent(node), *bit, "node {node}");
+        assert!(rt; geometry.parent(node) == *parent, "node {node}");
+        assert!(rt; geometry.bit_in_parent(node) == *bit, "node {node}");
+        node = node.saturating_add(1);
     }
 }
 
@@ -87,10 +91,12 @@ fn has_leaves<const LEAF: u32, const FAN: u32>(
     geometry: &Geometry<LEAF, FAN>,
     wanted: &[(u32, u32)],
 ) {
-    for (cpu, (leaf, bit)) in (0..geometry.cpus()).zip(wanted) {
+    let mut cpu = 0u32;
+    for (leaf, bit) in wanted {
         assert!(rt; cpu < geometry.cpus());
-        assert_eq!(rt; geometry.leaf_of(cpu), *leaf, "processor {cpu}");
-        assert_eq!(rt; geometry.bit_of(cpu), *bit, "processor {cpu}");
+        assert!(rt; geometry.leaf_of(cpu) == *leaf, "processor {cpu}");
+        assert!(rt; geometry.bit_of(cpu) == *bit, "processor {cpu}");
+        cpu = cpu.saturating_add(1);
     }
 }
 

@@ -36,17 +36,17 @@ fn awaits<A: Awaited>(rt: &impl Abort, hotplug: &Hotplug<A>, wanted: &[u32]) {
     let awaited = hotplug.awaited();
     for cpu in 0..awaited.cpus() {
         let awaits = awaited.awaits(cpu);
-        assert_eq!(rt; awaits, wanted.contains(&cpu), "processor {cpu}");
+        assert!(rt; awaits == wanted.contains(&cpu), "processor {cpu}");
         assert!(rt; !awaits || hotplug.online(cpu), "processor {cpu}");
     }
-    assert_eq!(rt; awaited.count() as usize, wanted.len());
+    assert!(rt; awaited.count() as usize == wanted.len());
 }
 
 /// Begins a grace period, and compares which processors it awaits.
 fn begin<A: Awaited>(rt: &impl Abort, hotplug: &mut Hotplug<A>, tag: u64, wanted: &[u32]) {
     assert!(rt; tag % 4 == 1);
     hotplug.begin(tag);
-    assert_eq!(rt; hotplug.awaited().tag(), tag);
+    assert!(rt; hotplug.awaited().tag() == tag);
     awaits(rt, hotplug, wanted);
 }
 
@@ -55,14 +55,24 @@ fn report<A: Awaited>(rt: &impl Abort, hotplug: &mut Hotplug<A>, reports: &[(u32
     for (cpu, tag, wanted) in reports {
         assert!(rt; *cpu < hotplug.awaited().cpus());
         let answer = hotplug.report(*cpu, *tag);
-        assert_eq!(rt; answer, *wanted, "processor {cpu}, number {tag}");
+        assert!(rt; answer == *wanted, "processor {cpu}, number {tag}");
     }
+}
+
+/// Takes a processor online.
+fn arrives<A: Awaited>(rt: &impl Abort, hotplug: &mut Hotplug<A>, cpu: u32) {
+    assert!(rt; hotplug.arrive(cpu).is_ok(), "processor {cpu}");
+}
+
+/// Takes a processor offline.
+fn departs<A: Awaited>(rt: &impl Abort, hotplug: &mut Hotplug<A>, cpu: u32) {
+    assert!(rt; hotplug.depart(cpu).is_ok(), "processor {cpu}");
 }
 
 /// A processor that arrives while a grace period runs is awaited by the next one.
 fn late_arrival<A: Awaited>(rt: &impl Abort, hotplug: &mut Hotplug<A>) {
     begin(rt, hotplug, 1, &[0]);
-    assert_eq!(rt; hotplug.arrive(1), Ok(()));
+    arrives(rt, hotplug, 1);
     awaits(rt, hotplug, &[0]);
     report(
         rt,
@@ -79,11 +89,11 @@ fn late_arrival<A: Awaited>(rt: &impl Abort, hotplug: &mut Hotplug<A>) {
 /// A processor that departs is awaited no more; one that came back is awaited by the next grace
 /// period.
 fn departed_and_back<A: Awaited>(rt: &impl Abort, hotplug: &mut Hotplug<A>) {
-    assert_eq!(rt; hotplug.arrive(4), Ok(()));
+    arrives(rt, hotplug, 4);
     begin(rt, hotplug, 9, &[0, 1, 4]);
-    assert_eq!(rt; hotplug.depart(4), Ok(()));
+    departs(rt, hotplug, 4);
     awaits(rt, hotplug, &[0, 1]);
-    assert_eq!(rt; hotplug.arrive(4), Ok(()));
+    arrives(rt, hotplug, 4);
     awaits(rt, hotplug, &[0, 1]);
     report(
         rt,
@@ -94,33 +104,51 @@ fn departed_and_back<A: Awaited>(rt: &impl Abort, hotplug: &mut Hotplug<A>) {
             (1, 9, Answer::Repeat),
         ],
     );
-    assert_eq!(rt; hotplug.depart(1), Ok(()));
+    departs(rt, hotplug, 1);
     awaits(rt, hotplug, &[0]);
     begin(rt, hotplug, 13, &[0, 4]);
 }
 
+/// Compares why each of these processors does not arrive.
+fn refuses_arrival<A: Awaited>(rt: &impl Abort, hotplug: &mut Hotplug<A>, rows: &[(u32, Fault)]) {
+    for (cpu, wanted) in rows {
+        assert!(rt; hotplug.arrive(*cpu) == Err(*wanted), "processor {cpu}");
+    }
+}
+
+/// Compares why each of these processors does not depart.
+fn refuses_departure<A: Awaited>(rt: &impl Abort, hotplug: &mut Hotplug<A>, rows: &[(u32, Fault)]) {
+    for (cpu, wanted) in rows {
+        assert!(rt; hotplug.depart(*cpu) == Err(*wanted), "processor {cpu}");
+    }
+}
+
 /// Each fault, the first cause first; a refused call changes nothing.
 fn faults<A: Awaited>(rt: &impl Abort, hotplug: &mut Hotplug<A>) {
-    for (cpu, wanted) in [
-        (5, Fault::BadCpu),
-        (0, Fault::AlreadyOnline),
-        (4, Fault::AlreadyOnline),
-    ] {
-        assert_eq!(rt; hotplug.arrive(cpu), Err(wanted));
-    }
-    for (cpu, wanted) in [
-        (5, Fault::BadCpu),
-        (0, Fault::BootStays),
-        (3, Fault::Offline),
-    ] {
-        assert_eq!(rt; hotplug.depart(cpu), Err(wanted));
-    }
+    refuses_arrival(
+        rt,
+        hotplug,
+        &[
+            (5, Fault::BadCpu),
+            (0, Fault::AlreadyOnline),
+            (4, Fault::AlreadyOnline),
+        ],
+    );
+    refuses_departure(
+        rt,
+        hotplug,
+        &[
+            (5, Fault::BadCpu),
+            (0, Fault::BootStays),
+            (3, Fault::Offline),
+        ],
+    );
     awaits(rt, hotplug, &[0, 4]);
 }
 
 /// Four grace periods of five processors.
 fn come_and_go<A: Awaited>(rt: &impl Abort, mut hotplug: Hotplug<A>) {
-    assert_eq!(rt; hotplug.awaited().tag(), 0);
+    assert!(rt; hotplug.awaited().tag() == 0);
     awaits(rt, &hotplug, &[]);
     late_arrival(rt, &mut hotplug);
     departed_and_back(rt, &mut hotplug);
@@ -141,7 +169,7 @@ fn come_and_go_over_tree(rt: HostRuntime) {
 fn sizes(rt: HostRuntime) {
     for cpus in [1, 4096] {
         let mut hotplug = over_flat(&rt, rt.alloc(), cpus);
-        assert_eq!(rt; hotplug.awaited().cpus(), cpus);
-        assert_eq!(rt; hotplug.arrive(cpus), Err(Fault::BadCpu));
+        assert!(rt; hotplug.awaited().cpus() == cpus);
+        refuses_arrival(&rt, &mut hotplug, &[(cpus, Fault::BadCpu)]);
     }
 }

@@ -4,6 +4,7 @@ mod replicas;
 
 use crate::made::{everyone, refused, tree};
 use rcu_node::awaited::Awaited;
+use rcu_node::tree::Tree;
 use rcu_report::batch::Batch;
 use rcu_report::report::Report;
 use rcu_seq::fault::Fault;
@@ -25,14 +26,14 @@ fn batch(rt: &impl Abort, alloc: Global, cpus: u32, tag: u64) -> Batch {
 fn add(rt: &impl Abort, batch: &mut Batch, cpu: u32, tag: u64, wanted: Result<(), Fault>) {
     assert!(rt; cpu < batch.cpus());
     let result = batch.add(Report { cpu, tag });
-    assert_eq!(rt; result, wanted, "processor {cpu}, number {tag}");
+    assert!(rt; result == wanted, "processor {cpu}, number {tag}");
 }
 
 /// Compares which processors are in a batch.
 fn contains(rt: &impl Abort, batch: &Batch, wanted: &[u32]) {
     for cpu in 0..batch.cpus() {
         let there = batch.contains(cpu);
-        assert_eq!(rt; there, wanted.contains(&cpu), "processor {cpu}");
+        assert!(rt; there == wanted.contains(&cpu), "processor {cpu}");
     }
 }
 
@@ -40,55 +41,76 @@ fn contains(rt: &impl Abort, batch: &Batch, wanted: &[u32]) {
 fn apply<A: Awaited>(rt: &impl Abort, batch: &Batch, to: &mut A, wanted: u32) {
     assert!(rt; to.cpus() == batch.cpus());
     let cleared = batch.apply(to);
-    assert_eq!(rt; cleared, wanted);
+    assert!(rt; cleared == wanted);
 }
 
 /// Compares which processors are awaited.
 fn awaits<A: Awaited>(rt: &impl Abort, awaited: &A, wanted: &[u32]) {
     for cpu in 0..awaited.cpus() {
         let awaits = awaited.awaits(cpu);
-        assert_eq!(rt; awaits, wanted.contains(&cpu), "processor {cpu}");
+        assert!(rt; awaits == wanted.contains(&cpu), "processor {cpu}");
     }
+}
+
+/// Puts the second's processors into the first, and compares the result.
+fn join(rt: &impl Abort, first: &mut Batch, second: &Batch, wanted: Result<(), Fault>) {
+    assert!(rt; first.join(second) == wanted);
+}
+
+/// A batch of five processors with reports of these, all of this number.
+fn batch_of(rt: &impl Abort, alloc: Global, tag: u64, cpus: &[u32]) -> Batch {
+    let mut made = batch(rt, alloc, 5, tag);
+    for cpu in cpus {
+        add(rt, &mut made, *cpu, tag, Ok(()));
+    }
+    made
+}
+
+/// Five processors of a tree, all awaited since grace period 1 began.
+fn all_awaited(rt: &impl Abort, alloc: Global) -> Tree<2, 2> {
+    let mut awaited = tree::<2, 2>(rt, alloc, 5);
+    let all = everyone(rt, alloc, 5);
+    assert!(rt; awaited.cpus() == all.cpus());
+    awaited.begin(1, &all);
+    awaited
+}
+
+/// A batch of processors 0 and 2 gets those of another one.
+fn join_second(rt: &impl Abort, alloc: Global, first: &mut Batch) {
+    add(rt, first, 0, 5, Err(Fault::NotAlike));
+    contains(rt, first, &[0, 2]);
+    let second = batch_of(rt, alloc, 1, &[2, 4]);
+    join(rt, first, &second, Ok(()));
+    contains(rt, first, &[0, 2, 4]);
+}
+
+/// Applies a batch of three processors twice, and one of another number, which clears none.
+fn apply_both<A: Awaited>(rt: &impl Abort, first: &Batch, other: &Batch, awaited: &mut A) {
+    apply(rt, first, awaited, 3);
+    awaits(rt, awaited, &[1, 3]);
+    apply(rt, first, awaited, 0);
+    awaits(rt, awaited, &[1, 3]);
+    apply(rt, other, awaited, 0);
+    awaits(rt, awaited, &[1, 3]);
 }
 
 #[test]
 fn joined_batch(rt: HostRuntime) {
-    let mut awaited = tree::<2, 2>(&rt, rt.alloc(), 5);
-    let all = everyone(&rt, rt.alloc(), 5);
-    assert!(rt; awaited.cpus() == all.cpus());
-    awaited.begin(1, &all);
-
-    let mut first = batch(&rt, rt.alloc(), 5, 1);
-    add(&rt, &mut first, 0, 1, Ok(()));
-    add(&rt, &mut first, 2, 1, Ok(()));
-    add(&rt, &mut first, 0, 5, Err(Fault::NotAlike));
-    contains(&rt, &first, &[0, 2]);
-
-    let mut second = batch(&rt, rt.alloc(), 5, 1);
-    add(&rt, &mut second, 2, 1, Ok(()));
-    add(&rt, &mut second, 4, 1, Ok(()));
-    assert_eq!(rt; first.join(&second), Ok(()));
-    contains(&rt, &first, &[0, 2, 4]);
-
-    apply(&rt, &first, &mut awaited, 3);
-    awaits(&rt, &awaited, &[1, 3]);
-    apply(&rt, &first, &mut awaited, 0);
-    awaits(&rt, &awaited, &[1, 3]);
-
-    let mut other = batch(&rt, rt.alloc(), 5, 5);
-    add(&rt, &mut other, 1, 5, Ok(()));
-    apply(&rt, &other, &mut awaited, 0);
-    awaits(&rt, &awaited, &[1, 3]);
+    let mut first = batch_of(&rt, rt.alloc(), 1, &[0, 2]);
+    join_second(&rt, rt.alloc(), &mut first);
+    let other = batch_of(&rt, rt.alloc(), 5, &[1]);
+    let mut awaited = all_awaited(&rt, rt.alloc());
+    apply_both(&rt, &first, &other, &mut awaited);
 }
 
 #[test]
 fn unlike_batches(rt: HostRuntime) {
     let mut first = batch(&rt, rt.alloc(), 5, 1);
-    assert_eq!(rt; first.tag(), 1);
+    assert!(rt; first.tag() == 1);
     let later = batch(&rt, rt.alloc(), 5, 5);
-    assert_eq!(rt; first.join(&later), Err(Fault::NotAlike));
+    join(&rt, &mut first, &later, Err(Fault::NotAlike));
     let wider = batch(&rt, rt.alloc(), 6, 1);
-    assert_eq!(rt; first.join(&wider), Err(Fault::NotAlike));
+    join(&rt, &mut first, &wider, Err(Fault::NotAlike));
     contains(&rt, &first, &[]);
 }
 
@@ -98,6 +120,6 @@ fn sizes(rt: HostRuntime) {
         assert!(rt; matches!(Batch::new(rt.alloc(), cpus, 1), Err(Fault::TooManyCpus)));
     }
     for cpus in [1, 4096] {
-        assert_eq!(rt; batch(&rt, rt.alloc(), cpus, 1).cpus(), cpus);
+        assert!(rt; batch(&rt, rt.alloc(), cpus, 1).cpus() == cpus);
     }
 }

@@ -58,9 +58,9 @@ fn run_both(rt: &impl Abort, lists: &mut Lists<u64>, plain: &mut Plain, max: u64
             lists.run(0, max).expect(rt, "the second call has memory")
         }
     };
-    assert_eq!(rt; calls.len() as u64, plain.counts().0.min(max));
+    assert!(rt; calls.len() as u64 == plain.counts().0.min(max));
     for call in &calls {
-        assert_eq!(rt; call.value, plain.handed);
+        assert!(rt; call.value == plain.handed);
         plain.handed = plain.handed.saturating_add(1);
     }
 }

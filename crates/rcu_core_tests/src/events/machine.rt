@@ -26,26 +26,33 @@ pub fn core(rt: &impl Abort, alloc: Global, last: u64) -> Core<Flat, u64> {
 }
 
 /// What events tell that change nothing: the cookie of a taking, and whether two cookies are done.
-fn asked(core: &mut Core<Flat, u64>) -> (Option<u64>, bool, bool) {
+#[derive(Clone, Copy, PartialEq)]
+struct Asked {
+    cookie: Option<u64>,
+    first: bool,
+    second: bool,
+}
+
+/// Asks all of them.
+fn ask(core: &mut Core<Flat, u64>) -> Asked {
     let cookie = match core.step(Event::Take) {
         Reply::Cookie(cookie) => Some(cookie.0),
         _ => None,
     };
-    let first = matches!(core.step(Event::Poll(4)), Reply::Polled(true));
-    (
+    Asked {
         cookie,
-        first,
-        matches!(core.step(Event::Poll(8)), Reply::Polled(true)),
-    )
+        first: matches!(core.step(Event::Poll(4)), Reply::Polled(true)),
+        second: matches!(core.step(Event::Poll(8)), Reply::Polled(true)),
+    }
 }
 
 /// The reply to an event. Where its growth is refused, all that can be asked is as before, and it
 /// is taken again.
 pub fn step(rt: &impl Abort, core: &mut Core<Flat, u64>, event: Event) -> Reply {
-    let before = asked(core);
+    let before = ask(core);
     match core.step(event) {
         Reply::Fault(Fault::NoMemory) => {
-            assert_eq!(rt; asked(core), before);
+            assert!(rt; ask(core) == before);
             core.step(event)
         }
         reply => reply,
@@ -84,7 +91,7 @@ fn told(rt: &impl Abort, alloc: Global, reply: &Reply, wanted: &str) {
 
 /// Compares replies with the texts that they print as.
 pub fn told_all(rt: &impl Abort, alloc: Global, replies: &[Reply], wanted: &[&str]) {
-    assert_eq!(rt; replies.len(), wanted.len());
+    assert!(rt; replies.len() == wanted.len());
     for (reply, text) in replies.iter().zip(wanted) {
         told(rt, alloc, reply, text);
     }

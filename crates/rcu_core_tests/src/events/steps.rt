@@ -10,77 +10,94 @@ use std::process::Abort;
 /// A reader holds up the grace period that began after it, and its cookie.
 #[test]
 fn open_section_blocks(rt: HostRuntime) {
-    let rows = [
-        (Event::Online(1), "Online"),
-        (Event::Enter(1), "Depth(1)"),
-        (Event::Take, "Cookie(Cookie(4))"),
-        (Event::Begin, "Begun(1, 2)"),
-        (Event::Quiesce(1), "Fault(InSection)"),
-        (Event::Offline(1), "Fault(InSection)"),
-        (Event::Exit(1), "Depth(0)"),
-        (Event::Poll(4), "Polled(false)"),
-        (Event::Offline(1), "Moved(0)"),
-        (Event::End, "Fault(Waiting)"),
-    ];
     let mut core = core(&rt, rt.alloc(), 8);
-    takes(&rt, rt.alloc(), &mut core, rows.as_slice());
+    takes(
+        &rt,
+        rt.alloc(),
+        &mut core,
+        &[
+            (Event::Online(1), "Online"),
+            (Event::Enter(1), "Depth(1)"),
+            (Event::Take, "Cookie(Cookie(4))"),
+            (Event::Begin, "Begun(1, 2)"),
+            (Event::Quiesce(1), "Fault(InSection)"),
+            (Event::Offline(1), "Fault(InSection)"),
+            (Event::Exit(1), "Depth(0)"),
+            (Event::Poll(4), "Polled(false)"),
+            (Event::Offline(1), "Moved(0)"),
+            (Event::End, "Fault(Waiting)"),
+        ],
+    );
 }
 
 /// Turns begin what is needed, wait, and end.
 #[test]
 fn turns_drive_a_grace_period(rt: HostRuntime) {
-    let rows = [
-        (Event::Turn, "Nothing"),
-        (Event::StartPoll, "Cookie(Cookie(4))"),
-        (Event::Turn, "Begun(1, 1)"),
-        (Event::Turn, "Waiting(1)"),
-        (Event::Note(0), "Noted(1, true)"),
-        (Event::Quiesce(0), "Made(1, Report { cpu: 0, tag: 1 })"),
-        (Event::Deliver(1), "Answer(Last)"),
-        (Event::Turn, "Ended(4)"),
-        (Event::Poll(4), "Polled(true)"),
-        (Event::StartPoll, "Cookie(Cookie(8))"),
-        (Event::Turn, "Fault(Exhausted)"),
-    ];
     let mut core = core(&rt, rt.alloc(), 4);
-    takes(&rt, rt.alloc(), &mut core, rows.as_slice());
+    takes(
+        &rt,
+        rt.alloc(),
+        &mut core,
+        &[
+            (Event::Turn, "Nothing"),
+            (Event::StartPoll, "Cookie(Cookie(4))"),
+            (Event::Turn, "Begun(1, 1)"),
+            (Event::Turn, "Waiting(1)"),
+            (Event::Note(0), "Noted(1, true)"),
+            (Event::Quiesce(0), "Made(1, Report { cpu: 0, tag: 1 })"),
+            (Event::Deliver(1), "Answer(Last)"),
+            (Event::Turn, "Ended(4)"),
+            (Event::Poll(4), "Polled(true)"),
+            (Event::StartPoll, "Cookie(Cookie(8))"),
+            (Event::Turn, "Fault(Exhausted)"),
+        ],
+    );
 }
+
+/// The replies to a run whose growths are made.
+static RUN: [&str; 7] = [
+    "Begun(1, 1)",
+    "Online",
+    "Noted(1, true)",
+    "Made(1, Report { cpu: 0, tag: 1 })",
+    "Answer(Last)",
+    "Ended(4)",
+    "Fault(NotOpen)",
+];
+
+/// The replies to the same run where the growth of a report is refused.
+static RUN_WITHOUT_MEMORY: [&str; 7] = [
+    "Begun(1, 1)",
+    "Online",
+    "Noted(1, true)",
+    "Fault(NoMemory)",
+    "Fault(NoReport)",
+    "Fault(Waiting)",
+    "Fault(NotOpen)",
+];
 
 /// A list of events gets the replies that single steps get. (Of two growths in one list the second
 /// is not made again.)
 #[test]
 fn a_run_replies_as_its_steps(rt: HostRuntime) {
     let mut core = core(&rt, rt.alloc(), 8);
-    let events = [
-        Event::Begin,
-        Event::Online(1),
-        Event::Note(0),
-        Event::Quiesce(0),
-        Event::Deliver(1),
-        Event::End,
-        Event::Exit(1),
-    ];
-    let replies = run(&rt, &mut core, events.as_slice());
+    let replies = run(
+        &rt,
+        &mut core,
+        &[
+            Event::Begin,
+            Event::Online(1),
+            Event::Note(0),
+            Event::Quiesce(0),
+            Event::Deliver(1),
+            Event::End,
+            Event::Exit(1),
+        ],
+    );
     let wanted = if lacks_memory(replies.as_slice()) {
-        [
-            "Begun(1, 1)",
-            "Online",
-            "Noted(1, true)",
-            "Fault(NoMemory)",
-            "Fault(NoReport)",
-            "Fault(Waiting)",
-            "Fault(NotOpen)",
-        ]
+        &RUN_WITHOUT_MEMORY
     } else {
-        [
-            "Begun(1, 1)",
-            "Online",
-            "Noted(1, true)",
-            "Made(1, Report { cpu: 0, tag: 1 })",
-            "Answer(Last)",
-            "Ended(4)",
-            "Fault(NotOpen)",
-        ]
+        &RUN
     };
     told_all(&rt, rt.alloc(), replies.as_slice(), wanted.as_slice());
 }
@@ -89,21 +106,25 @@ fn a_run_replies_as_its_steps(rt: HostRuntime) {
 /// answered as if the first had not been.
 #[test]
 fn refused_events_change_nothing(rt: HostRuntime) {
-    let rows = [
-        (Event::Online(1), "Online"),
-        (Event::Queue(1, 7), "Queued(1)"),
-        (Event::Queue(1, 8), "Queued(2)"),
-        (Event::Begin, "Begun(1, 2)"),
-        (Event::Awaits, "Awaits(CpuList { cpus: [0, 1] })"),
-        (Event::Quiesce(1), "Made(1, Report { cpu: 1, tag: 0 })"),
-        (Event::BarBegin, "BarBegun"),
-        (Event::Visit(1), "Visited(Marked)"),
-        (Event::Offline(1), "Moved(2)"),
-        (Event::BarTest, "BarWaits(2)"),
-        (Event::Awaits, "Awaits(CpuList { cpus: [0] })"),
-    ];
     let mut core = core(&rt, rt.alloc(), 8);
-    takes(&rt, rt.alloc(), &mut core, rows.as_slice());
+    takes(
+        &rt,
+        rt.alloc(),
+        &mut core,
+        &[
+            (Event::Online(1), "Online"),
+            (Event::Queue(1, 7), "Queued(1)"),
+            (Event::Queue(1, 8), "Queued(2)"),
+            (Event::Begin, "Begun(1, 2)"),
+            (Event::Awaits, "Awaits(CpuList { cpus: [0, 1] })"),
+            (Event::Quiesce(1), "Made(1, Report { cpu: 1, tag: 0 })"),
+            (Event::BarBegin, "BarBegun"),
+            (Event::Visit(1), "Visited(Marked)"),
+            (Event::Offline(1), "Moved(2)"),
+            (Event::BarTest, "BarWaits(2)"),
+            (Event::Awaits, "Awaits(CpuList { cpus: [0] })"),
+        ],
+    );
 }
 
 /// Whether no machine opens, since this is no last number.
@@ -126,68 +147,85 @@ fn last_numbers(rt: HostRuntime) {
     }
 }
 
+/// Notes the processor after the last, which there is not, and the last, with this reply.
+fn notes_last(rt: &impl Abort, alloc: Global, cpus: u32, reply_of_last: &str) {
+    let mut core = core_of(rt, alloc, cpus, 8);
+    takes(
+        rt,
+        alloc,
+        &mut core,
+        &[
+            (Event::Note(cpus), "Fault(BadCpu)"),
+            (Event::Note(cpus.saturating_sub(1)), reply_of_last),
+        ],
+    );
+}
+
 #[test]
 fn sizes(rt: HostRuntime) {
-    for (cpus, reply_of_last) in [(1, "Noted(0, false)"), (4096, "Fault(Offline)")] {
-        let mut core = core_of(&rt, rt.alloc(), cpus, 8);
-        let rows = [
-            (Event::Note(cpus), "Fault(BadCpu)"),
-            (Event::Note(cpus - 1), reply_of_last),
-        ];
-        takes(&rt, rt.alloc(), &mut core, rows.as_slice());
-    }
+    notes_last(&rt, rt.alloc(), 1, "Noted(0, false)");
+    notes_last(&rt, rt.alloc(), 4096, "Fault(Offline)");
 }
+
+/// Events that take no memory.
+static WITHOUT_MEMORY: [Event; 21] = [
+    Event::Online(1),
+    Event::Enter(1),
+    Event::Exit(1),
+    Event::Note(1),
+    Event::Take,
+    Event::StartPoll,
+    Event::Poll(4),
+    Event::Awaits,
+    Event::Run(0, 9),
+    Event::Tend(0),
+    Event::BarBegin,
+    Event::Visit(0),
+    Event::Visit(0),
+    Event::BarTest,
+    Event::Turn,
+    Event::Offline(1),
+    Event::Deliver(1),
+    Event::Turn,
+    Event::End,
+    Event::Begin,
+    Event::BarTest,
+];
+
+/// The replies to them.
+static REPLIES_WITHOUT_MEMORY: [&str; 21] = [
+    "Online",
+    "Depth(1)",
+    "Depth(0)",
+    "Noted(0, false)",
+    "Cookie(Cookie(4))",
+    "Cookie(Cookie(4))",
+    "Polled(false)",
+    "Awaits(CpuList { cpus: [] })",
+    "Ran(ValueList { calls: [] })",
+    "Tended(0, 0)",
+    "BarBegun",
+    "Visited(Empty)",
+    "Visited(Already)",
+    "BarWaits(1)",
+    "Begun(1, 2)",
+    "Moved(0)",
+    "Fault(NoReport)",
+    "Waiting(1)",
+    "Fault(Waiting)",
+    "Fault(Running)",
+    "BarDone",
+];
 
 /// No event of the list takes memory: once there is room for the replies, none is refused.
 #[test]
 fn events_without_memory(rt: HostRuntime) {
     let mut core = core(&rt, rt.alloc(), 8);
-    let events = [
-        Event::Online(1),
-        Event::Enter(1),
-        Event::Exit(1),
-        Event::Note(1),
-        Event::Take,
-        Event::StartPoll,
-        Event::Poll(4),
-        Event::Awaits,
-        Event::Run(0, 9),
-        Event::Tend(0),
-        Event::BarBegin,
-        Event::Visit(0),
-        Event::Visit(0),
-        Event::BarTest,
-        Event::Turn,
-        Event::Offline(1),
-        Event::Deliver(1),
-        Event::Turn,
-        Event::End,
-        Event::Begin,
-        Event::BarTest,
-    ];
-    let wanted = [
-        "Online",
-        "Depth(1)",
-        "Depth(0)",
-        "Noted(0, false)",
-        "Cookie(Cookie(4))",
-        "Cookie(Cookie(4))",
-        "Polled(false)",
-        "Awaits(CpuList { cpus: [] })",
-        "Ran(ValueList { calls: [] })",
-        "Tended(0, 0)",
-        "BarBegun",
-        "Visited(Empty)",
-        "Visited(Already)",
-        "BarWaits(1)",
-        "Begun(1, 2)",
-        "Moved(0)",
-        "Fault(NoReport)",
-        "Waiting(1)",
-        "Fault(Waiting)",
-        "Fault(Running)",
-        "BarDone",
-    ];
-    let replies = run(&rt, &mut core, events.as_slice());
-    told_all(&rt, rt.alloc(), replies.as_slice(), wanted.as_slice());
+    let replies = run(&rt, &mut core, WITHOUT_MEMORY.as_slice());
+    told_all(
+        &rt,
+        rt.alloc(),
+        replies.as_slice(),
+        REPLIES_WITHOUT_MEMORY.as_slice(),
+    );
 }

@@ -104,14 +104,18 @@ fn drawn_set<R: Abort>(rt: &R, alloc: Global, draw: &mut Draw, cpus: u32) -> Cpu
     set
 }
 
+/// Whether there is such a processor in both, and both say the same of it.
+fn says_alike<A: Awaited>(shown: &A, flat: &Flat, cpu: u32) -> bool {
+    cpu < flat.cpus()
+        && cpu < shown.cpus()
+        && shown.awaits(cpu) == flat.awaits(cpu)
+        && shown.starts(cpu) == flat.starts(cpu)
+}
+
 /// The first processor of which not both say the same, if there is one.
 fn wrong_cpu<A: Awaited>(shown: &A, flat: &Flat) -> Option<u32> {
     for cpu in 0..flat.cpus() {
-        if cpu >= flat.cpus()
-            || cpu >= shown.cpus()
-            || shown.awaits(cpu) != flat.awaits(cpu)
-            || shown.starts(cpu) != flat.starts(cpu)
-        {
+        if !says_alike(shown, flat, cpu) {
             return Some(cpu);
         }
     }
@@ -140,13 +144,17 @@ fn sets_of<R: Abort>(rt: &R, alloc: Global, flat: &Flat) -> (CpuSet, CpuSet) {
 
 /// Compares all that is said of each processor with what the flat set says, and then the masks.
 fn compare<A: Awaited + Shown, R: Abort>(rt: &R, alloc: Global, shown: &A, flat: &Flat) {
-    assert_eq!(rt;
-        (shown.cpus(), shown.tag(), shown.count(), shown.is_empty()),
-        (flat.cpus(), flat.tag(), flat.count(), flat.is_empty())
-    );
-    assert_eq!(rt; wrong_cpu(shown, flat), None);
+    assert!(rt; shown.cpus() == flat.cpus());
+    assert!(rt; shown.tag() == flat.tag());
+    assert!(rt; shown.count() == flat.count());
+    assert!(rt; shown.is_empty() == flat.is_empty());
+    if let Some(cpu) = wrong_cpu(shown, flat) {
+        panic!(rt; "processor {cpu}");
+    }
     let (awaited, start) = sets_of(rt, alloc, flat);
-    assert_eq!(rt; shown.wrong_node(&awaited, &start), None);
+    if let Some(node) = shown.wrong_node(&awaited, &start) {
+        panic!(rt; "node {node}");
+    }
 }
 
 /// Begins a grace period in both, where the set and the number are fit for it.
@@ -218,19 +226,22 @@ fn masks_level_by_level(rt: HostRuntime) {
     }
 }
 
+/// The masks of six nodes at the start of a grace period.
+static START: [u64; 6] = [3, 3, 1, 3, 3, 1];
+
+/// The bit of each of them in its parent.
+static GROUP: [u64; 6] = [0, 1, 2, 1, 2, 1];
+
 /// Compares the masks of six nodes: those of now, and those that stay.
 fn masks<R: Abort>(rt: &R, tree: &Tree<2, 2>, wanted: [u64; 6]) {
-    let (start, group) = ([3, 3, 1, 3, 3, 1], [0, 1, 2, 1, 2, 1]);
-    assert_eq!(rt; tree.nodes(), 6);
+    assert!(rt; tree.nodes() == 6);
     for node in 0..6u32 {
         assert!(rt; node < tree.nodes());
-        let found = (tree.qsmask(node), tree.qsmaskinit(node), tree.grpmask(node));
         let place = node as usize;
-        assert_eq!(rt;
-            found,
-            (wanted[place], start[place], group[place]),
-            "node {node}"
-        );
+        let alike = tree.qsmask(node) == wanted[place]
+            && tree.qsmaskinit(node) == START[place]
+            && tree.grpmask(node) == GROUP[place];
+        assert!(rt; alike, "node {node}");
     }
 }
 

@@ -15,8 +15,17 @@ fn merges<A: Awaited, B: Awaited>(
     second: &B,
     wanted: Result<(), Fault>,
 ) {
-    assert_eq!(rt; merge(first, second), wanted);
+    assert!(rt; merge(first, second) == wanted);
 }
+
+/// Of five processors whether each was in the start set, and whether it is awaited after a merge.
+static LEFT: [(u32, bool, bool); 5] = [
+    (0, true, false),
+    (1, true, true),
+    (2, true, false),
+    (3, true, true),
+    (4, true, false),
+];
 
 /// Each hears some of five processors; merged, they await whom neither heard.
 fn merge_two_replicas<A: Awaited, B: Awaited>(
@@ -39,21 +48,14 @@ fn merge_two_replicas<A: Awaited, B: Awaited>(
         &[(4, 1, Answer::Taken), (2, 1, Answer::Taken)],
     );
     merges(rt, &mut first, &second, Ok(()));
-    assert_eq!(rt; (first.count(), first.tag()), (2, 1));
-    assert_eq!(rt; second.count(), 3);
+    assert!(rt; first.count() == 2 && first.tag() == 1);
+    assert!(rt; second.count() == 3);
     merges(rt, &mut second, &first, Ok(()));
-    assert_eq!(rt; (second.count(), second.tag()), (2, 1));
-    let left = [
-        (0, true, false),
-        (1, true, true),
-        (2, true, false),
-        (3, true, true),
-        (4, true, false),
-    ];
-    awaits(rt, &first, &left);
-    awaits(rt, &second, &left);
+    assert!(rt; second.count() == 2 && second.tag() == 1);
+    awaits(rt, &first, LEFT.as_slice());
+    awaits(rt, &second, LEFT.as_slice());
     merges(rt, &mut first, &second, Ok(()));
-    assert_eq!(rt; first.count(), 2);
+    assert!(rt; first.count() == 2);
 }
 
 /// Nothing changes where the tag, the start set or the number of processors differ.
@@ -91,7 +93,8 @@ fn merge_unlike<A: Awaited, B: Awaited>(
         &second,
         &[(0, true, false), (1, false, false), (2, true, true)],
     );
-    assert_eq!(rt; (first.count(), second.count()), (2, 1));
+    assert!(rt; first.count() == 2);
+    assert!(rt; second.count() == 1);
 }
 
 /// Reports each processor whose bit is not set.
@@ -102,6 +105,16 @@ fn hear<A: Awaited>(rt: &impl Abort, awaited: &mut A, left: u32) {
             awaited.report(cpu, 1);
         }
     }
+}
+
+/// Whether those of five processors are awaited whose bits are set.
+fn awaits_those<A: Awaited>(awaited: &A, left: u32) -> bool {
+    for cpu in 0..5 {
+        if cpu >= awaited.cpus() || awaited.awaits(cpu) != ((left >> cpu) & 1 == 1) {
+            return false;
+        }
+    }
+    true
 }
 
 /// Of every two sets of five processors left to await, those in both are left.
@@ -118,15 +131,9 @@ fn merge_every_two<A: Awaited, B: Awaited>(
             begin(rt, &mut second, 1, &set);
             hear(rt, &mut first, left);
             hear(rt, &mut second, other);
-            assert_eq!(rt; merge(&mut first, &second), Ok(()));
-            for cpu in 0..5 {
-                assert!(rt; cpu < first.cpus());
-                assert_eq!(rt;
-                    first.awaits(cpu),
-                    ((left & other) >> cpu) & 1 == 1,
-                    "{left} with {other}"
-                );
-            }
+            merges(rt, &mut first, &second, Ok(()));
+            let alike = awaits_those(&first, left & other);
+            assert!(rt; alike, "{left} with {other}");
         }
     }
 }

@@ -5,8 +5,11 @@ use crate::made::{everyone, flat, set_of, tree};
 use rcu_node::answer::Answer;
 use rcu_node::awaited::Awaited;
 use rcu_node::cpu_set::CpuSet;
+use rcu_node::flat::Flat;
+use rcu_node::tree::Tree;
 use rcu_report::replica::Replica;
 use rcu_seq::fault::Fault;
+use std::alloc::Global;
 use std::process::Abort;
 
 /// A replica whose last number is 8.
@@ -15,6 +18,20 @@ fn replica<A: Awaited>(rt: &impl Abort, inner: A) -> Replica<A>
     requires empty { A.start_set inner ≡ replicate (length (A.awaited inner)) false }
 {
     Replica::new(inner, 8).expect(rt, "8 is a last number")
+}
+
+/// A replica over a flat set.
+fn over_flat(rt: &impl Abort, alloc: Global, cpus: u32) -> Replica<Flat> {
+    replica(rt, flat(rt, alloc, cpus))
+}
+
+/// A replica over a tree.
+fn over_tree<const LEAF: u32, const FAN: u32>(
+    rt: &impl Abort,
+    alloc: Global,
+    cpus: u32,
+) -> Replica<Tree<LEAF, FAN>> {
+    replica(rt, tree::<LEAF, FAN>(rt, alloc, cpus))
 }
 
 /// Begins, and compares the result.
@@ -26,7 +43,7 @@ fn begin<A: Awaited>(
 ) {
     assert!(rt; set.cpus() == replica.awaited().cpus());
     let result = replica.begin(set);
-    assert_eq!(rt; result, wanted);
+    assert!(rt; result == wanted);
 }
 
 /// Makes reports, each of a processor and a number, and compares the answers.
@@ -37,7 +54,7 @@ fn report<A: Awaited>(
 ) {
     for (cpu, tag, wanted) in reports {
         let answer = replica.report(*cpu, *tag);
-        assert_eq!(rt; answer, *wanted, "processor {cpu}, number {tag}");
+        assert!(rt; answer == *wanted, "processor {cpu}, number {tag}");
     }
 }
 
@@ -48,18 +65,18 @@ fn depart<A: Awaited>(
     cpu: u32,
     wanted: Result<(), Fault>,
 ) {
-    assert_eq!(rt; replica.depart(cpu), wanted);
+    assert!(rt; replica.depart(cpu) == wanted);
 }
 
 /// Ends, and compares the result.
 fn end<A: Awaited>(rt: &impl Abort, replica: &mut Replica<A>, wanted: Result<u64, Fault>) {
-    assert_eq!(rt; replica.end(), wanted);
+    assert!(rt; replica.end() == wanted);
 }
 
 /// Compares the number, and whether a grace period runs.
 fn is_at<A: Awaited>(rt: &impl Abort, replica: &Replica<A>, value: u64, running: bool) {
-    assert_eq!(rt; replica.value(), value);
-    assert_eq!(rt; replica.is_running(), running);
+    assert!(rt; replica.value() == value);
+    assert!(rt; replica.is_running() == running);
 }
 
 /// Takes in what the second has heard, and compares the result.
@@ -69,7 +86,7 @@ fn merge<A: Awaited, B: Awaited>(
     second: &Replica<B>,
     wanted: Result<(), Fault>,
 ) {
-    assert_eq!(rt; first.merge_from(second), wanted);
+    assert!(rt; first.merge_from(second) == wanted);
 }
 
 /// Compares which processors are awaited.
@@ -77,9 +94,9 @@ fn awaits<A: Awaited>(rt: &impl Abort, replica: &Replica<A>, wanted: &[u32]) {
     let awaited = replica.awaited();
     for cpu in 0..awaited.cpus() {
         let awaits = awaited.awaits(cpu);
-        assert_eq!(rt; awaits, wanted.contains(&cpu), "processor {cpu}");
+        assert!(rt; awaits == wanted.contains(&cpu), "processor {cpu}");
     }
-    assert_eq!(rt; awaited.count() as usize, wanted.len());
+    assert!(rt; awaited.count() as usize == wanted.len());
 }
 
 /// Two replicas of five processors that heard different ones, and take in each other.
@@ -107,25 +124,35 @@ fn merge_two<A: Awaited, B: Awaited>(
 #[test]
 fn merging_two_replicas(rt: HostRuntime) {
     let all = everyone(&rt, rt.alloc(), 5);
-    let a = replica(&rt, tree::<2, 2>(&rt, rt.alloc(), 5));
-    let b = replica(&rt, tree::<4, 4>(&rt, rt.alloc(), 5));
+    let a = over_tree::<2, 2>(&rt, rt.alloc(), 5);
+    let b = over_tree::<4, 4>(&rt, rt.alloc(), 5);
     merge_two(&rt, a, b, &all);
-    let a = replica(&rt, flat(&rt, rt.alloc(), 5));
-    let b = replica(&rt, tree::<64, 64>(&rt, rt.alloc(), 5));
+    let a = over_flat(&rt, rt.alloc(), 5);
+    let b = over_tree::<64, 64>(&rt, rt.alloc(), 5);
     merge_two(&rt, a, b, &all);
+}
+
+/// Two replicas of five processors that begin with different sets, and do not take in each other.
+fn merge_unlike<A: Awaited, B: Awaited>(
+    rt: &impl Abort,
+    alloc: Global,
+    a: &mut Replica<A>,
+    b: &mut Replica<B>,
+) {
+    merge(rt, a, b, Ok(()));
+    begin(rt, a, &set_of(rt, alloc, 5, &[0, 1]), Ok(1));
+    merge(rt, a, b, Err(Fault::NotAlike));
+    begin(rt, b, &set_of(rt, alloc, 5, &[0, 2]), Ok(1));
+    merge(rt, a, b, Err(Fault::NotAlike));
+    awaits(rt, a, &[0, 1]);
 }
 
 #[test]
 fn merge_of_unlike_sets(rt: HostRuntime) {
-    let mut a = replica(&rt, tree::<2, 2>(&rt, rt.alloc(), 5));
-    let mut b = replica(&rt, tree::<4, 4>(&rt, rt.alloc(), 5));
-    merge(&rt, &mut a, &b, Ok(()));
-    begin(&rt, &mut a, &set_of(&rt, rt.alloc(), 5, &[0, 1]), Ok(1));
-    merge(&rt, &mut a, &b, Err(Fault::NotAlike));
-    begin(&rt, &mut b, &set_of(&rt, rt.alloc(), 5, &[0, 2]), Ok(1));
-    merge(&rt, &mut a, &b, Err(Fault::NotAlike));
-    awaits(&rt, &a, &[0, 1]);
-    let c = replica(&rt, flat(&rt, rt.alloc(), 6));
+    let mut a = over_tree::<2, 2>(&rt, rt.alloc(), 5);
+    let mut b = over_tree::<4, 4>(&rt, rt.alloc(), 5);
+    merge_unlike(&rt, rt.alloc(), &mut a, &mut b);
+    let c = over_flat(&rt, rt.alloc(), 6);
     merge(&rt, &mut a, &c, Err(Fault::NotAlike));
 }
 
@@ -172,8 +199,8 @@ fn end_in_both<A: Awaited, B: Awaited>(rt: &impl Abort, a: &mut Replica<A>, b: &
 
 #[test]
 fn replicas_with_departures(rt: HostRuntime) {
-    let mut a = replica(&rt, tree::<2, 3>(&rt, rt.alloc(), 3));
-    let mut b = replica(&rt, tree::<64, 64>(&rt, rt.alloc(), 3));
+    let mut a = over_tree::<2, 3>(&rt, rt.alloc(), 3);
+    let mut b = over_tree::<64, 64>(&rt, rt.alloc(), 3);
     let all = everyone(&rt, rt.alloc(), 3);
     depart_in_both(&rt, &mut a, &mut b, &all);
     end_in_both(&rt, &mut a, &mut b);
@@ -216,11 +243,22 @@ fn up_to_the_last_number<A: Awaited>(rt: &impl Abort, replica: &mut Replica<A>, 
 
 #[test]
 fn faults_up_to_the_last_number(rt: HostRuntime) {
-    let mut one = replica(&rt, flat(&rt, rt.alloc(), 2));
+    let mut one = over_flat(&rt, rt.alloc(), 2);
     let all = everyone(&rt, rt.alloc(), 2);
     up_to_the_last_number(&rt, &mut one, &all);
-    let bad = Replica::new(flat(&rt, rt.alloc(), 2), 6);
-    assert!(rt; matches!(bad, Err(Fault::BadLast)));
+    assert!(rt; is_refused(&rt, rt.alloc(), 6));
+}
+
+/// A replica opens with this last number, and begins.
+fn opens(rt: &impl Abort, alloc: Global, all: &CpuSet, last: u64) {
+    let opened = Replica::new(flat(rt, alloc, 2), last);
+    let mut one = opened.expect(rt, "it is a last number");
+    begin(rt, &mut one, all, Ok(1));
+}
+
+/// Whether no replica opens, since this is no last number.
+fn is_refused(rt: &impl Abort, alloc: Global, last: u64) -> bool {
+    matches!(Replica::new(flat(rt, alloc, 2), last), Err(Fault::BadLast))
 }
 
 /// Replicas open with the least and the greatest last number, and with none beyond.
@@ -228,29 +266,31 @@ fn faults_up_to_the_last_number(rt: HostRuntime) {
 fn last_numbers(rt: HostRuntime) {
     let all = everyone(&rt, rt.alloc(), 2);
     for last in [4, 1 << 62] {
-        let opened = Replica::new(flat(&rt, rt.alloc(), 2), last);
-        let mut one = opened.expect(&rt, "it is a last number");
-        begin(&rt, &mut one, &all, Ok(1));
+        opens(&rt, rt.alloc(), &all, last);
     }
     for last in [0, 6, (1 << 62) + 4] {
-        let refused = Replica::new(flat(&rt, rt.alloc(), 2), last);
-        assert!(rt; matches!(refused, Err(Fault::BadLast)), "{last}");
+        assert!(rt; is_refused(&rt, rt.alloc(), last), "{last}");
     }
+}
+
+/// A grace period of the last of so many processors, which it ends.
+fn awaits_last<A: Awaited>(rt: &impl Abort, replica: &mut Replica<A>, last: &CpuSet, cpus: u32) {
+    begin(rt, replica, last, Ok(1));
+    report(
+        rt,
+        replica,
+        &[
+            (cpus, 1, Err(Fault::BadCpu)),
+            (cpus.saturating_sub(1), 1, Ok(Answer::Last)),
+        ],
+    );
 }
 
 #[test]
 fn sizes_of_replicas(rt: HostRuntime) {
     for cpus in [1, 4096] {
-        let mut one = replica(&rt, flat(&rt, rt.alloc(), cpus));
+        let mut one = over_flat(&rt, rt.alloc(), cpus);
         let all = set_of(&rt, rt.alloc(), cpus, &[cpus - 1]);
-        begin(&rt, &mut one, &all, Ok(1));
-        report(
-            &rt,
-            &mut one,
-            &[
-                (cpus, 1, Err(Fault::BadCpu)),
-                (cpus - 1, 1, Ok(Answer::Last)),
-            ],
-        );
+        awaits_last(&rt, &mut one, &all, cpus);
     }
 }
