@@ -7,7 +7,8 @@ ghost use Rattle.rcu_live.specs.CpuSeat.{after_depart, after_quiesce};
 ghost use Rattle.rcu_live.specs.EngineLists.{is_run_fault};
 ghost use Rattle.rcu_live.specs.Watcher.{after_watch};
 ghost use Rattle.rcu_torture.specs.Draws.{generator_of};
-ghost use Rattle.rcu_torture.specs.Ledger.{IsOfRounds, after_poll, after_run, most_rounds};
+ghost use Rattle.rcu_torture.specs.Ledger.{IsOfRounds, after_poll, after_run, most_in_round};
+ghost use Rattle.rcu_torture.specs.Ledger.{most_rounds};
 ghost use Rattle.rcu_torture.specs.Worker.{id_of, leaves_by, other_by};
 
 use crate::torture::draws::Draws;
@@ -166,6 +167,16 @@ impl<'a> Job<'a> {
         }
     }
 
+    /// Brings the processor online.
+    pub(crate) fn arrive<R: Wait>(&mut self, rt: &R) -> Result<(), Fault>
+        ensures arrived { OnOk result
+            (self.new.seat ≡ after_quiesce self.old.seat self.new.seat.view.seen) }
+        ensures unchanged { OnErr result (self.new ≡ self.old) }
+        ensures rest { self.new ≡ record self.old { seat = self.new.seat } }
+    {
+        self.live.online(rt, &mut self.seat)
+    }
+
     /// Runs the rounds, and takes the processor offline. A fault there counts as met.
     pub(crate) fn run<R: Wait, G: Gate>(mut self, rt: &R, gate: &G) -> End
         ensures { IsOfRounds self.entry.plan.rounds result.share }
@@ -248,10 +259,21 @@ impl<'a> Job<'a> {
         }
         self.queue(rt, round)?;
         share.note_queued();
+        self.settle(rt, word, share)?;
+        Ok(true)
+    }
+
+    /// What a round does when its callback is queued: it moves the grace periods on, hands out
+    /// callbacks, and goes offline and online again where the word says so.
+    fn settle<R: Wait>(&mut self, rt: &R, word: u32, share: &mut Share) -> Result<(), Fault>
+        ensures queued { share.new.queued ≡ share.old.queued }
+        ensures early { share.new.early ≡ share.old.early }
+        ensures ran { length share.new.ids ≤ length share.old.ids + most_in_round }
+        ensures rest { self.new ≡ record self.old { seat = self.new.seat } }
+    {
         self.drive(rt, word)?;
         hand_out(rt, self.live, self.worker, MOST_IN_ROUND, share)?;
-        self.leave_and_return(rt, word)?;
-        Ok(true)
+        self.leave_and_return(rt, word)
     }
 
     /// A read section with a cookie that is polled inside, and a quiescent state. Answers whether
@@ -342,6 +364,17 @@ impl<'a> Job<'a> {
         Ok(())
     }
 
+    /// One grace period, which nobody else's processor holds up.
+    fn pass_period<R: Wait>(&mut self, rt: &R) -> Result<(), Fault>
+        ensures rest { self.new ≡ record self.old { seat = self.new.seat } }
+    {
+        self.live.turn(rt)?;
+        self.seat.quiesce(self.live)?;
+        self.live.collect(rt, self.worker)?;
+        self.live.turn(rt)?;
+        Ok(())
+    }
+
     /// What the program does on its own when all workers have ended: two grace periods, and then it
     /// hands out what is left.
     pub(crate) fn finish<R: Wait>(&mut self, rt: &R) -> Result<Share, Fault>
@@ -350,10 +383,7 @@ impl<'a> Job<'a> {
     {
         self.live.tend(rt, self.worker)?;
         for _ in 0..2 {
-            self.live.turn(rt)?;
-            self.seat.quiesce(self.live)?;
-            self.live.collect(rt, self.worker)?;
-            self.live.turn(rt)?;
+            self.pass_period(rt)?;
         }
         // Nobody else works the engine any more: no more are done than the tend tells.
         let (done, _) = self.live.tend(rt, self.worker)?;

@@ -3,6 +3,7 @@ ghost use Rattle.std.specs.Prelude.{◌≡◌, ◌+◌, ◌<◌, ◌≤◌, [], 
 ghost use Rattle.std.specs.Prelude.{vec_capacity, vec_len};
 ghost use Rattle.std.specs.Option.{option_or};
 ghost use Rattle.std.specs.Thread.{IsSync};
+ghost use Rattle.rcu_torture.specs.Draws.{generator_of};
 ghost use Rattle.rcu_torture.specs.Ledger.{most_rounds};
 
 use crate::torture::gate::Gate;
@@ -51,6 +52,41 @@ impl Gathered {
     }
 }
 
+/// The job of the last seat and the last watcher, which it takes.
+#[tactic(auto, using(crate::proofs::TortureLemmas::first_ones_are))]
+fn last_job<'a>(
+    alloc: Global,
+    live: &'a Engine,
+    seats: &mut Vec<CpuSeat>,
+    watchers: &mut Vec<Watcher>,
+    plan: Plan,
+) -> Job<'a>
+    requires rounds { plan.rounds ≤ most_rounds }
+    requires some_seat { 0 < length seats.old.items }
+    requires some_watcher { 0 < length watchers.old.items }
+    requires each_seat { All (λ seat. seat.table ≡ live.now.table) seats.old.items }
+    requires each_cpu { All (λ seat. seat.cpu < plan.workers) seats.old.items }
+    requires each_watcher { All (λ watcher. watcher.table ≡ live.now.table) watchers.old.items }
+    ensures job { result ≡ record {
+      worker = result.seat.cpu;
+      plan = plan;
+      draws = generator_of plan.seed result.seat.cpu;
+      seat = result.seat;
+      watcher = result.watcher;
+    } }
+    ensures seats { seats.old.items ≡ seats.new.items ++ result.seat ∷ [] }
+    ensures watchers { watchers.old.items ≡ watchers.new.items ++ result.watcher ∷ [] }
+    ensures seat_count { length seats.new.items + 1 ≡ length seats.old.items }
+    ensures watcher_count { length watchers.new.items + 1 ≡ length watchers.old.items }
+    ensures each_seat { All (λ seat. seat.table ≡ live.now.table) seats.new.items }
+    ensures each_cpu { All (λ seat. seat.cpu < plan.workers) seats.new.items }
+    ensures each_watcher { All (λ watcher. watcher.table ≡ live.now.table) watchers.new.items }
+{
+    let seat = seats.pop().unwrap();
+    let watcher = watchers.pop().unwrap();
+    Job::new(alloc, live, seat, watcher, plan)
+}
+
 /// The jobs of a run: that of worker 0, and those of the others in order, whose processors are
 /// brought online.
 ///
@@ -76,15 +112,12 @@ pub(crate) fn deal_jobs<'a, R: Wait>(
         return Err(Fault::NoMemory);
     };
     for _ in 1..plan.workers {
-        let mut seat = seats.pop().unwrap();
-        let watcher = watchers.pop().unwrap();
-        live.online(rt, &mut seat)?;
-        others.push_reserved(Job::new(alloc, live, seat, watcher, plan));
+        let mut job = last_job(alloc, live, &mut seats, &mut watchers, plan);
+        job.arrive(rt)?;
+        others.push_reserved(job);
     }
     others.reverse();
-    let seat = seats.pop().unwrap();
-    let watcher = watchers.pop().unwrap();
-    let first = Job::new(alloc, live, seat, watcher, plan);
+    let first = last_job(alloc, live, &mut seats, &mut watchers, plan);
     Ok((first, others))
 }
 
