@@ -3,9 +3,9 @@ ghost use Rattle.std.specs.Prelude.{◌≡◌, false, IfOk, codes};
 ghost use Rattle.clap.specs.Words.{app_of, new_app, rule_of, with_rule};
 ghost use Rattle.clap.specs.declared.builder.command.Command.TheViews.{out-Command as fields_of};
 ghost use Rattle.rcu_torture.specs.CommandLine.{any_u32, last_rule, number_rule, option_rule};
-ghost use Rattle.rcu_torture.specs.CommandLine.{pair, rcu, rcu_with_pair, rcu_with_script};
-ghost use Rattle.rcu_torture.specs.CommandLine.{required_rule, script, shapes, torture};
-ghost use Rattle.rcu_torture.specs.CommandLine.{u32_from_1_to};
+ghost use Rattle.rcu_torture.specs.CommandLine.{pair, rcu, rcu_alone, rcu_with_pair};
+ghost use Rattle.rcu_torture.specs.CommandLine.{rcu_with_script, required_rule, script, shapes};
+ghost use Rattle.rcu_torture.specs.CommandLine.{torture, u32_from_1_to};
 ghost use Rattle.rcu_torture.specs.Ledger.{most_rounds, most_workers};
 
 use crate::command::help;
@@ -32,13 +32,19 @@ fn rcu_with_pair<'a>(alloc: Global) -> Result<Command<'a>, AllocError>
 fn rcu_with_script<'a>(alloc: Global) -> Result<Command<'a>, AllocError>
     ensures { IfOk result (λ command. app_of command ≡ rcu_with_script) }
 {
+    rcu_alone(alloc)?.subcommand(script_command(alloc)?)
+}
+
+/// The program before it has subcommands, of which one has to be given.
+fn rcu_alone<'a>(alloc: Global) -> Result<Command<'a>, AllocError>
+    ensures { IfOk result (λ command. app_of command ≡ rcu_alone) }
+{
     let about = "Drives a grace-period engine of read-copy-update (RCU)";
     described(alloc, "rcu", about, help::PROGRAM)
-        .bin_name("rcu")?
         .no_binary_name(true)
         .subcommand_required(true)
         .disable_help_subcommand(true)
-        .subcommand(script_command(alloc)?)
+        .bin_name("rcu")
 }
 
 fn script_command<'a>(alloc: Global) -> Result<Command<'a>, AllocError>
