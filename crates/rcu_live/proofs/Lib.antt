@@ -2,6 +2,7 @@ pub mod Begins
 pub mod ClientLemmas
 pub mod ClientSteps
 pub mod Deals
+pub mod DoneCookies
 pub mod Finds
 pub mod FoundWords
 pub mod Frames

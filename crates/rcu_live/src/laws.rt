@@ -1,5 +1,5 @@
-//! What meetings say of cookies, and the rule of sections, over the definitions alone.
-ghost use Rattle.std.specs.Prelude.{◌≡◌, ◌<◌, ◌≤◌, ℕ, Some, true, false};
+//! What meetings say of cookies, and the rule of sections and cookies, over the definitions alone.
+ghost use Rattle.std.specs.Prelude.{◌≡◌, ◌<◌, ◌≤◌, ℕ, Some, slice_index, true, false};
 ghost use mathlib.Core.Option.{some};
 ghost use lib.ListN.{get_elem?};
 ghost use Rattle.atomic_table.specs.Table.{State};
@@ -42,4 +42,15 @@ pub fn old_sections_are_awaited<T: Drop, S: Drop, C, P: Client<S, C>>()
         AwaitsTheOthers cpus engine.finds g → g.seq.running ≡ true →
         get_elem? s.views j ≡ some seat → seat.role ≡ Cpu → seat.section ≡ Some at →
         at < engine.seen → is_in g.processors.awaited seat.cpu ≡ true }
+{}
+
+/// A section is open where a cookie is taken, and one of the same beginning where that is polled.
+/// The rule holds of the words and all views at both moments, as at each. Then the poll does not
+/// answer done: where a cookie tests done, each section that was open at its taking has ended.
+pub fn readers_finish_before_done<S: Drop, C, P: Client<S, C>>()
+    ensures { (cpus : ℕ) (before after : State S (View C)) (i j : ℕ) (first later : View C)
+        (at : ℕ) → IsKept P.holds cpus before → IsKept P.holds cpus after →
+        get_elem? before.views i ≡ some first → first.role ≡ Cpu → first.section ≡ Some at →
+        get_elem? after.views j ≡ some later → later.role ≡ Cpu → later.section ≡ Some at →
+        is_done_at (snapshot (slice_index before.words 0)) (slice_index after.words 0) ≡ false }
 {}
