@@ -1,0 +1,28 @@
+use Rattle.std.proofs.Common.{arith, ◌≤◌, List, Result, Ok, Err, OnErr, length, subst, sym, length-take}
+use Rattle.std.specs.Arc.{arc_value}
+use Rattle.rcu_cblist.specs.declared.queued.Queued.{Queued}
+use Rattle.rcu_live.proofs.engine.Engine.run.Goals as goal
+
+on_any_err : {A B P : Type 0} (r : Result A B) → P → OnErr r P
+on_any_err (Ok _) _ = tt
+on_any_err (Err _) p = p
+
+pub returns-in_err-calls-clause-some : goal.returns-in_err-calls-clause-some
+returns-in_err-calls-clause-some g c =
+    rw (← c.self.view_is) (on_any_err c.from_residual.result (λ _. c.in_err-calls.ensures.some))
+
+pub returns-clause-calls : goal.returns-clause-calls
+returns-clause-calls g c = rw (← c.self.view_is) c.in_ok-calls.ensures.ok
+
+pub returns-clause-state : goal.returns-clause-state
+returns-clause-state g c = rw (← c.self.view_is) (λ i. record {
+      table = (arc_value c.self.inside.board).table;
+      cpus = (arc_value c.self.inside.board).cpus;
+      view = c.self.inside.seat.me.0;
+      grace = c.in_ok-calls.ensures.state i;
+    })
+
+pub returns-clause-most : goal.returns-clause-most
+returns-clause-most g c =
+    subst (λ (calls : List (Queued g.row.T.Denot)). length calls ≤ c.args.max) (sym c.in_ok-calls.ensures.ok)
+    (subst (λ n. n ≤ c.args.max) (sym (length-take c.args.max _)) (omega arith))
