@@ -2,8 +2,8 @@
 ghost use Rattle.std.specs.Prelude.{◌≡◌, false, IfOk, codes};
 ghost use Rattle.clap.specs.Words.{app_of, new_app, rule_of, with_rule};
 ghost use Rattle.clap.specs.declared.builder.command.Command.TheViews.{out-Command as fields_of};
-ghost use Rattle.rcu_torture.specs.CommandLine.{any_u32, last_rule, number_rule, option_rule};
-ghost use Rattle.rcu_torture.specs.CommandLine.{pair, rcu, rcu_alone, rcu_with_pair};
+ghost use Rattle.rcu_torture.specs.CommandLine.{any_u32, any_u64, last_rule, number_rule};
+ghost use Rattle.rcu_torture.specs.CommandLine.{option_rule, pair, rcu, rcu_alone, rcu_with_pair};
 ghost use Rattle.rcu_torture.specs.CommandLine.{rcu_with_script, required_rule, script, shapes};
 ghost use Rattle.rcu_torture.specs.CommandLine.{torture, u32_from_1_to};
 ghost use Rattle.rcu_torture.specs.Ledger.{most_rounds, most_workers};
@@ -54,21 +54,18 @@ fn script_command<'a>(alloc: Global) -> Result<Command<'a>, AllocError>
     let about = "Answers a script on standard input, a line for each event";
     let leaf = u32_option(alloc, "leaf", "Processors that a leaf of the tree holds");
     let inner = u32_option(alloc, "inner", "Children that an inner node holds");
-    let cpus = u32_option(alloc, "cpus", "Number of processors, from 1");
     let shaped = with_two(described(alloc, "script", about, help::SCRIPT), leaf, inner)?;
-    with_two(shaped, cpus, last_option(alloc))
+    let help = "Number of processors, from 1";
+    with_two(shaped, cpus_option(alloc, help), last_option(alloc))
 }
 
 fn pair_command<'a>(alloc: Global) -> Result<Command<'a>, AllocError>
     ensures app { IfOk result (λ command. app_of command ≡ pair) }
     ensures local { IfOk result (λ command. (fields_of command).has_globals ≡ false) }
 {
+    let shaped = shapes_command(alloc)?;
     let help = "Number of processors of each replica, from 1";
-    with_two(
-        shapes_command(alloc)?,
-        u32_option(alloc, "cpus", help),
-        last_option(alloc),
-    )
+    with_two(shaped, cpus_option(alloc, help), last_option(alloc))
 }
 
 /// The subcommand `pair` with the options of both shapes.
@@ -79,10 +76,8 @@ fn shapes_command<'a>(alloc: Global) -> Result<Command<'a>, AllocError>
     let about = "Answers the lines of two replicas, a and b, on standard input";
     let leaf = u32_option(alloc, "leaf", "Processors that a leaf of a holds");
     let inner = u32_option(alloc, "inner", "Children that an inner node of a holds");
-    let leaf2 = u32_option(alloc, "leaf2", "Processors that a leaf of b holds");
-    let inner2 = u32_option(alloc, "inner2", "Children that an inner node of b holds");
     let shaped = with_two(described(alloc, "pair", about, help::PAIR), leaf, inner)?;
-    with_two(shaped, leaf2, inner2)
+    with_two(shaped, leaf2_option(alloc), inner2_option(alloc))
 }
 
 fn torture_command<'a>(alloc: Global) -> Result<Command<'a>, AllocError>
@@ -90,10 +85,8 @@ fn torture_command<'a>(alloc: Global) -> Result<Command<'a>, AllocError>
     ensures local { IfOk result (λ command. (fields_of command).has_globals ≡ false) }
 {
     let about = "Works the engine for threads hard, and prints what came of it";
-    let help = "Seed of the workers' random words";
-    let seed = required_option(alloc, "seed", help, value_parser!(u64));
     let command = described(alloc, "torture", about, help::TORTURE);
-    with_two(command, workers_option(alloc), rounds_option(alloc))?.arg(seed)
+    with_two(command, workers_option(alloc), rounds_option(alloc))?.arg(seed_option(alloc))
 }
 
 /// The command with two more options.
@@ -120,6 +113,30 @@ fn described<'a>(alloc: Global, name: &'a str, about: &'a str, more: &'a str) ->
     Command::new(alloc, name).about(about).after_help(more)
 }
 
+/// The option `--cpus`.
+fn cpus_option<'a>(alloc: Global, help: &'a str) -> Arg<'a>
+    ensures rule { rule_of result ≡ required_rule (number_rule (codes "cpus") any_u32) }
+    ensures local { result.global ≡ false }
+{
+    u32_option(alloc, "cpus", help)
+}
+
+/// The option `--leaf2`, of the second replica.
+fn leaf2_option<'a>(alloc: Global) -> Arg<'a>
+    ensures rule { rule_of result ≡ required_rule (number_rule (codes "leaf2") any_u32) }
+    ensures local { result.global ≡ false }
+{
+    u32_option(alloc, "leaf2", "Processors that a leaf of b holds")
+}
+
+/// The option `--inner2`, of the second replica.
+fn inner2_option<'a>(alloc: Global) -> Arg<'a>
+    ensures rule { rule_of result ≡ required_rule (number_rule (codes "inner2") any_u32) }
+    ensures local { result.global ≡ false }
+{
+    u32_option(alloc, "inner2", "Children that an inner node of b holds")
+}
+
 /// The option `--workers`, whose range is that of a torture run.
 fn workers_option<'a>(alloc: Global) -> Arg<'a>
     ensures rule { rule_of result
@@ -138,6 +155,15 @@ fn rounds_option<'a>(alloc: Global) -> Arg<'a>
 {
     let range = value_parser!(u32).range(1..=10_000);
     required_option(alloc, "rounds", "Rounds of each worker, 1 to 10000", range)
+}
+
+/// The option `--seed`.
+fn seed_option<'a>(alloc: Global) -> Arg<'a>
+    ensures rule { rule_of result ≡ required_rule (number_rule (codes "seed") any_u64) }
+    ensures local { result.global ≡ false }
+{
+    let help = "Seed of the workers' random words";
+    required_option(alloc, "seed", help, value_parser!(u64))
 }
 
 /// A required option whose value is a u32.
