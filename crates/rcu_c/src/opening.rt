@@ -1,5 +1,6 @@
 //! Opening and closing.
-ghost use Rattle.std.specs.Prelude.{◌≡◌, ◌≢◌, ◌<◌, IfErr, IfOk, IsNone, None, Some, map};
+ghost use Rattle.std.specs.Prelude.{◌≡◌, ◌≢◌, ◌<◌, IfErr, IfOk, IsNone, None, OnErr, OnOk, Some};
+ghost use Rattle.std.specs.Prelude.{map};
 ghost use Rattle.std.specs.Arc.{arc_value};
 ghost use Rattle.std.specs.List.{range_with_len};
 ghost use Rattle.rcu_live.specs.CpuSeat.{at_first};
@@ -136,6 +137,31 @@ pub extern "C" fn rcu_close(rcu: Rcu)
     drop(rcu.into_unboxed().into_box());
 }
 
+/// Takes the seat of a processor out of the engine, and puts it into a box.
+fn deal_seat(alloc: Global, opened: &mut OpenEngine, cpu: u32) -> Result<Box<Held, Global>, Fault>
+    ensures open { IfOk result (λ held. HoldsSeat (Some held.value)) }
+    ensures seat { IfOk result (λ held.
+        seat_at opened.old cpu ≡ Some (seat_of (Some held.value))) }
+    ensures left { OnOk result (opened.new ≡ without_seat opened.old cpu) }
+    ensures bad { IfErr result (λ fault.
+        seat_at opened.old cpu ≡ None → fault ≡ Fault.BadCpu) }
+    ensures memory { IfErr result (λ fault.
+        seat_at opened.old cpu ≢ None → fault ≡ Fault.NoMemory) }
+    ensures unchanged { OnErr result (opened.new ≡ opened.old) }
+{
+    if !opened.has_seat(cpu) {
+        return Err(Fault::BadCpu);
+    }
+    let Ok(mut room) = Box::new(alloc, Held::Room) else {
+        return Err(Fault::NoMemory);
+    };
+    let Some(dealt) = opened.deal(cpu) else {
+        unreachable!()
+    };
+    *room = Held::Seat(dealt);
+    Ok(room)
+}
+
 /// Deals the seat of a processor to a closed handle. Each processor has one.
 ///
 /// Faults: 1 where there is no such processor, or its seat is dealt; 16. The handles then stay as
@@ -155,18 +181,13 @@ pub extern "C" fn rcu_seat_open(alloc: Global, rcu: &mut Rcu, cpu: u32, seat: &m
     ensures refused { result ≢ 0 → rcu.new.held ≡ rcu.old.held }
     ensures refused_seat { result ≢ 0 → seat.new.held ≡ seat.old.held }
 {
-    if !rcu.engine().has_seat(cpu) {
-        return code(Fault::BadCpu);
+    match deal_seat(alloc, rcu.engine(), cpu) {
+        Ok(held) => {
+            *seat = Handle::of(Unboxed::of(held));
+            0
+        }
+        Err(fault) => code(fault),
     }
-    let Ok(mut room) = Box::new(alloc, Held::Room) else {
-        return code(Fault::NoMemory);
-    };
-    let Some(dealt) = rcu.engine().deal(cpu) else {
-        unreachable!()
-    };
-    *room = Held::Seat(dealt);
-    *seat = Handle::of(Unboxed::of(room));
-    0
 }
 
 /// Closes a seat's handle. Its processor goes on as it stands: an online one is awaited by the next
