@@ -16,11 +16,11 @@ returns-clause-calls g c = rw (← c.self.view_is) c.in_ok-calls.ensures.ok
 
 pub returns-clause-state : goal.returns-clause-state
 returns-clause-state g c = rw (← c.self.view_is) (λ i. record {
-      table = (arc_value c.self.inside.board).table;
-      cpus = (arc_value c.self.inside.board).cpus;
-      view = c.self.inside.seat.me.0;
-      grace = c.in_ok-calls.ensures.state i;
-    })
+  table = (arc_value c.self.inside.board).table;
+  cpus = (arc_value c.self.inside.board).cpus;
+  view = c.self.inside.seat.me.0;
+  grace = c.in_ok-calls.ensures.state i;
+})
 
 pub returns-clause-most : goal.returns-clause-most
 returns-clause-most g c =
