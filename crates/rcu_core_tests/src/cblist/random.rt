@@ -143,8 +143,7 @@ fn calls_at_random(rt: HostRuntime) {
                 plain.advance(number);
             }
             8..=10 => {
-                let drawn = draw.below(40);
-                let snap = list.greatest_waiting().unwrap_or(0).max(drawn);
+                let snap = list.greatest_waiting().unwrap_or(0).max(draw.below(40));
                 accelerate(&rt, &mut list, snap);
                 plain.accelerate(snap);
             }
