@@ -21,22 +21,29 @@ class Function:
         self.is_of_trait = is_of_trait
 
 
-def last_line(lines, first):
-    """The line on which the item ends that begins on the first one, as rt fmt lays it out."""
+def lines_of_body(lines, first):
+    """The line on which the body opens of the item that begins on the first one, or nothing where it
+    has none of several lines, and the line on which the item ends, as rt fmt lays them out."""
     indent = re.match(" *", lines[first])[0]
-    has_body, open_braces = False, 0
+    body, open_braces = None, 0
     for number in range(first, len(lines)):
         line = lines[number]
-        if line == indent + "}" or (number == first and line.endswith("}")):
-            return number
+        if line in (indent + "}", indent + "{}") or (number == first and line.endswith("}")):
+            return body, number
         goes_on = line.startswith((indent + ")", indent + ">"))
         opens = line.endswith(" {") and (number == first or goes_on)
-        has_body = has_body or opens or line == indent + "{"
+        if body is None and (opens or line == indent + "{"):
+            body = number
         # (a clause has a semicolon for each field of its records)
         open_braces += line.count("{") - line.count("}")
-        if line.endswith(";") and not has_body and not open_braces:
-            return number
-    return len(lines) - 1
+        if line.endswith(";") and body is None and not open_braces:
+            return None, number
+    return body, len(lines) - 1
+
+
+def last_line(lines, first):
+    """The line on which the item ends that begins on the first one, as rt fmt lays it out."""
+    return lines_of_body(lines, first)[1]
 
 
 def without_arguments(text):

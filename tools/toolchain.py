@@ -1,4 +1,6 @@
-"""The toolchain's command as a module, for the tools of this folder."""
+#!/usr/bin/env python3
+"""The toolchain's command as a module, for the tools of this folder. Run alone, it prints how many
+processors there are to use, where there is memory for a check on each."""
 import importlib.machinery
 import importlib.util
 import os
@@ -30,23 +32,32 @@ def command():
 rt = command()
 rtlib = rt.rtlib
 
+# The memory in bytes that no check of this repository has been seen to take.
+CHECK_MEMORY = 4_000_000_000
+
 
 def is_newer(made, crate):
-    """Whether the file is there, and is no older than the files of the crate and those below."""
-    if not os.path.isfile(made):
+    """Whether the file or folder is there, and is no older than the files of the crate and those
+    below."""
+    if not os.path.exists(made):
         return False
     files = [file for it in [crate, *crate.below()] for file in rtlib.files_of(it.folder)]
     return all(os.path.getmtime(it) < os.path.getmtime(made) for it in files)
 
 
 def is_up_to_date(crate):
-    """Whether the library is built of the files as they are. (`rt ci` leaves no stamp.)"""
-    made, stamp = f"{crate.rlib}/format", f"{os.path.dirname(crate.rlib)}/stamp"
-    if os.path.isfile(stamp) or not os.path.isfile(made):
+    """Whether the library is built of the files as they are. (`rt ci` leaves no stamp. Of a library
+    that an earlier run of it proved, the files are as old as that run, and the folder is new.)"""
+    stamp = f"{os.path.dirname(crate.rlib)}/stamp"
+    if os.path.isfile(stamp) or not os.path.isfile(f"{crate.rlib}/format"):
         return crate.is_built()
-    return is_newer(made, crate)
+    return is_newer(crate.rlib, crate)
 
 
 def build_library(crate):
     """Builds the library where it is not up to date. Returns whether it stands."""
     return is_up_to_date(crate) or not crate.build_rlib(["--jobs", "1"], anew=False)
+
+
+if __name__ == "__main__" and rt.processors() * CHECK_MEMORY <= rt.free():
+    print(rt.processors())

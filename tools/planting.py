@@ -1,0 +1,219 @@
+"""The edits of the folders wrong/: by which functions each is judged, and the texts in which they
+stand planted."""
+import os
+import re
+
+from functions import HEAD, functions_of, has_proof_apart, last_line, lines_of_body
+from functions import proof_with_hole
+from toolchain import rt, rtlib
+
+# The body of a function that is taken at its contract's word: of any type, and soon read.
+NO_CODE = "loop {}"
+# What an edit breaks that is refused by no clause: what a call requires, an invariant, safety.
+BODY = "body"
+# After so many rounds in which it waited, an edit is tried alone.
+TRIES = 3
+# Why an edit fails that no contract refuses.
+STAYS = "it stays proved"
+
+
+class Edit:
+    """An edit: what it changes in each file, and the functions by which it is judged."""
+
+    def __init__(self, crate, file, functions, is_turned=True):
+        self.is_turned, self.twin_of = is_turned, None
+        self.crate, self.name = crate, os.path.basename(file).removesuffix(".edit")
+        texts, self.why = rt.read_edit(file, crate.folder)
+        if not file.endswith(".edit"):
+            self.why = "the name of an edit ends in .edit"
+        # The texts of the files that it adds.
+        self.changes, self.added = {}, {}
+        for path, text in (texts or {}).items():
+            self.changes[path] = changed(rtlib.text_of(f"{crate.folder}/{path}"), text)
+        self.functions, self.is_in_function = judges_of(self, functions)
+        clauses = re.findall(r"^breaks: (\w+)$", rtlib.text_of(file), re.MULTILINE)
+        self.opens = tuple(re.findall(r"^opens: (\S+)$", rtlib.text_of(file), re.MULTILINE))
+        has_twin = plant_in_twin(self, functions, *clauses)
+        if clauses and not (has_twin and self.has_clause(clauses[0])):
+            self.why = self.why or f"it has no twin with {clauses[0]} alone"
+        if self.opens and not has_twin:
+            self.why = self.why or "it has no twin to answer what it opens"
+        if not self.why and not self.functions:
+            self.why = "there is no function to judge it by"
+        self.waits, self.tries, self.seconds = set(), 0, 0
+
+    def has_clause(self, label):
+        texts = [new for _, _, new in self.changes.values()]
+        return label == BODY or any(f" ensures {label} {{" in it for it in texts)
+
+    def is_alone(self):
+        return self.tries >= TRIES
+
+    def is_well(self, state, why):
+        return state == "refused" if self.is_turned else why == STAYS
+
+
+def changed(before, after):
+    """From where to where the texts differ, and what the second one has there."""
+    most = min(len(before), len(after))
+    start = next((at for at in range(most) if before[at] != after[at]), most)
+    most -= start
+    end = next((at for at in range(most) if before[-1 - at] != after[-1 - at]), most)
+    return start, len(before) - end, after[start : len(after) - end]
+
+
+def names_at(lines, first, last):
+    """The constants that these lines declare, and the macro that they are a part of."""
+    names = re.findall(r"\b(?:const|static) (\w+):", "\n".join(lines[first : last + 1]))
+    for number, line in enumerate(lines):
+        macro = re.match(r"macro_rules! (\w+)", line)
+        if macro and number <= first and last <= last_line(lines, number):
+            names.append(macro[1])
+    return names
+
+
+def judges_of(edit, functions):
+    """The names of the functions by which the edit is judged, and whether it is made in these."""
+    found, is_inside = [], True
+    for path, (start, end, _) in edit.changes.items():
+        text = rtlib.text_of(f"{edit.crate.folder}/{path}")
+        here = functions.get(path, [])
+        first = text.count("\n", 0, start)
+        last = text.count("\n", 0, max(start, end - 1))
+        around = [it for it in here if it.first <= first and last <= it.last]
+        if around:
+            found.append(around[-1])
+            continue
+        is_inside = False
+        names = "|".join(names_at(text.split("\n"), first, last)) or "(?!)"
+        every = [it for of_file in functions.values() for it in of_file]
+        found += [it for it in every if re.search(rf"\b({names})\b", it.text)] or here
+    return list(dict.fromkeys(it.path for it in found)), is_inside
+
+
+def proofs_of_twin(crate, path, twin):
+    """The proof files of the function, as those of its twin; None where it is proved by hand, or in
+    one proof with others, or with those of closures in it."""
+    if has_proof_apart(crate, path):
+        return None
+    before, after = (it.replace("::", "/") for it in (path, twin))
+    folder, texts = f"{crate.folder}/proofs/{before}", {}
+    names = [it.replace("/", ".") for it in (before, after)]
+    for at, _, files in os.walk(folder):
+        for file in files:
+            text = rtlib.text_of(f"{at}/{file}")
+            to = os.path.relpath(f"{at}/{file}", folder)
+            of_twin = text.replace(f".proofs.{names[0]}.", f".proofs.{names[1]}.")
+            texts[f"proofs/{after}/{to}"] = of_twin
+    return texts
+
+
+def with_answers(crate, path, texts, goals):
+    """The proof files of a function, with the answer `search rules` for each of these goals."""
+    file, module = f"proofs/{path.replace('::', '/')}/Answers.antt", path.replace("::", ".")
+    kept, name = texts.get(file, ""), f"Rattle.{crate.name}.proofs.{module}.Goals"
+    known = re.search(rf"^use {re.escape(name)} as (\w+)$", kept, re.MULTILINE)
+    lines, goal = [], known[1] if known else "goal"
+    if not known:
+        lines.append(f"use {name} as {goal}")
+    if not re.search(r"\brules\b", kept.partition("\n\n")[0]):
+        lines.append("use Rattle.std.proofs.Common.{rules}")
+    lines += [kept, *(f"pub {it} : {goal}.{it}\n{it} = search rules\n" for it in goals)]
+    return texts | {file: "\n".join(lines)}
+
+
+def with_one_clause(text, label):
+    """The text of the function with that clause alone of those that begin with ensures (or with
+    none, where no clause has that label)."""
+    kept, is_kept = [], True
+    for line in text.split("\n"):
+        clause = re.match(r" *(?:ensures (\w*) ?|requires\b.*)?\{", line)
+        if clause:
+            is_kept = clause[1] in (None, label)
+        if is_kept:
+            kept.append(line)
+    return "\n".join(kept)
+
+
+def plant_in_twin(edit, functions, clause=None):
+    """Where it can be, has the edit add a twin of its function, and leave the function as it is.
+    Returns whether it can. The twin has one clause alone where that is named."""
+    if not edit.is_in_function or len(edit.functions) != 1 or len(edit.changes) != 1:
+        return False
+    [(path, (start, end, new))] = edit.changes.items()
+    text = rtlib.text_of(f"{edit.crate.folder}/{path}")
+    lines = text.split("\n")
+    [of] = [it for it in functions[path] if it.path == edit.functions[0]]
+    if of.is_of_trait:
+        return False
+    first = of.first
+    while lines[first - 1].lstrip().startswith("#["):
+        first -= 1
+    # (from where to where the function stands, with its attributes)
+    begin = len("\n".join(lines[:first])) + 1
+    ending = len("\n".join(lines[: of.last + 1]))
+    if not begin <= start <= end <= ending:
+        return False
+    name = re.match(HEAD, lines[of.first])[1]
+    twin = f"{name}_{edit.name}"
+    added = proofs_of_twin(edit.crate, of.path, of.path.removesuffix(name) + twin)
+    # (an answer that is kept is of all clauses: of one alone it would not fit, whatever the body)
+    if added is None or clause and any(it.endswith("/Answers.antt") for it in added):
+        return False
+    if edit.opens:
+        added = with_answers(edit.crate, of.path.removesuffix(name) + twin, added, edit.opens)
+    whole = text[begin:start] + (new if edit.is_turned else text[start:end]) + text[end:ending]
+    whole = re.sub(rf"\bfn {name}\b", f"fn {twin}", whole, count=1)
+    if clause:
+        whole = with_one_clause(whole, clause)
+    edit.changes, edit.added = {path: (ending, ending, f"\n\n{whole}")}, added
+    edit.functions = [of.path.removesuffix(name) + twin]
+    edit.twin_of = of.path, clause, edit.opens
+    return True
+
+
+def edits_of(crate, is_turned=True):
+    """The edits in a crate's folder wrong/; or one for each function with a clause that has a twin,
+    which leaves it as it is."""
+    folder = f"{crate.folder}/wrong"
+    names = sorted(os.listdir(folder)) if os.path.isdir(folder) else []
+    functions = functions_of(crate) if names else {}
+    files = [f"{folder}/{it}" for it in names if not it.endswith(".md")]
+    edits = [Edit(crate, it, functions, is_turned) for it in files]
+    return edits if is_turned else [*{it.twin_of: it for it in edits if it.twin_of}.values()]
+
+
+def planted(edits, changes_beside):
+    """The texts of the files that the edits change or add, with all made, and those beside: of those
+    that change a function no two lie in one place."""
+    places, texts = {path: [*changes] for path, changes in changes_beside.items()}, {}
+    for edit in edits:
+        texts |= edit.added
+        for path, change in edit.changes.items():
+            places.setdefault(path, []).append(change)
+    for path, changes in places.items():
+        text = rtlib.text_of(f"{edits[0].crate.folder}/{path}")
+        for start, end, new in sorted(changes, reverse=True):
+            text = text[:start] + new + text[end:]
+        texts[path] = text
+    return texts
+
+
+def taken_at_word(crate, names):
+    """By what the functions that are not named are taken at their contracts' word, where one can be:
+    proof files, and changes that leave them no code to read."""
+    holes, changes = {}, {}
+    for path, functions in functions_of(crate).items():
+        lines = rtlib.text_of(f"{crate.folder}/{path}").split("\n")
+        for it in functions:
+            is_apart = it.is_of_trait or it.path == "main" or has_proof_apart(crate, it.path)
+            if it.path in names or is_apart:
+                continue
+            file, hole = proof_with_hole(crate, it.path)
+            holes[file] = hole
+            body, last = lines_of_body(lines, it.first)
+            if body is not None and not re.search(r"\bconst fn\b", lines[it.first]):
+                start = len("\n".join(lines[: body + 1])) + 1
+                end = len("\n".join(lines[:last]))
+                changes.setdefault(path, []).append((start, end, NO_CODE))
+    return holes, changes
