@@ -1,6 +1,6 @@
 //! A version's slot over one grace period.
 ghost use Rattle.std.specs.Prelude.{◌≡◌};
-ghost use Rattle.rcu_cell.specs.Cell.{IsSeatOf};
+ghost use Rattle.rcu_cell.specs.Cell.{IsSeatOf, IsWatcherOf};
 
 mod limits;
 mod parts;
@@ -10,7 +10,7 @@ mod threads;
 mod versions;
 
 use rcu_cell::cell::Cell;
-use rcu_cell::keeper::{Full, Retired};
+use rcu_cell::keeper::{Full, Keeper, Retired};
 use rcu_cell::known::Known;
 use rcu_cell::slots::Fits;
 use rcu_core::turned::Turned;
@@ -51,27 +51,60 @@ fn pass_a_period<R: Abort + Wait>(rt: &R, cell: &Pairs, seat: &mut CpuSeat<(), K
     assert_eq!(rt; live.turn(rt), Ok(Turned::Ended(4)));
 }
 
+/// Has the keeper show these words, and compares what it answers.
+fn shows<R: Abort>(
+    rt: &R,
+    cell: &Pairs,
+    keeper: &mut Keeper<2, 2>,
+    words: [u64; 2],
+    wanted: Result<Retired, Full>,
+)
+    requires { IsWatcherOf cell.now keeper.old }
+    ensures { IsWatcherOf cell.now keeper.new }
+{
+    assert_eq!(rt; keeper.update(cell, &words), wanted);
+}
+
+/// Reads in a section of its own, and compares the words.
+fn reads<R: Abort>(rt: &R, cell: &Pairs, seat: &mut CpuSeat<(), Known>, wanted: [u64; 2])
+    requires seat { IsSeatOf cell.now seat.old }
+    requires outside { seat.old.depth ≡ 0 }
+    ensures seat { IsSeatOf cell.now seat.new }
+    ensures outside { seat.new.depth ≡ 0 }
+{
+    assert_eq!(rt; cell.read_section(seat), Ok(wanted));
+}
+
+/// Two slots show one version after the other: the first is free for a third once a grace period
+/// has passed, and the keeper has looked.
+fn use_a_slot_again<R: Abort + Wait>(
+    rt: &R,
+    cell: &Pairs,
+    seat: &mut CpuSeat<(), Known>,
+    keeper: &mut Keeper<2, 2>,
+)
+    requires seat { IsSeatOf cell.now seat.old }
+    requires outside { seat.old.depth ≡ 0 }
+    requires keeper { IsWatcherOf cell.now keeper.old }
+{
+    reads(rt, cell, seat, [1, 1]);
+    shows(rt, cell, keeper, [2, 2], Ok(Retired { slot: 0, by: 1 }));
+    reads(rt, cell, seat, [2, 2]);
+    shows(rt, cell, keeper, [3, 3], Err(Full));
+    assert_eq!(rt; keeper.age(cell), 0);
+    shows(rt, cell, keeper, [3, 3], Err(Full));
+    pass_a_period(rt, cell, seat);
+    shows(rt, cell, keeper, [3, 3], Err(Full));
+    assert_eq!(rt; keeper.age(cell), 4);
+    shows(rt, cell, keeper, [3, 3], Ok(Retired { slot: 1, by: 0 }));
+    reads(rt, cell, seat, [3, 3]);
+}
+
 #[test]
 fn slot_is_used_again_after_a_period(rt: HostRuntime) {
     let Ok((cell, mut seats, _, mut keeper)) = Pairs::open(rt.alloc(), 1, 8, &[1, 1]) else {
         return;
     };
     let mut seat = seats.pop().unwrap();
-    assert_eq!(rt; cell.read_section(&mut seat), Ok([1, 1]));
-    assert_eq!(rt;
-        keeper.update(&cell, &[2, 2]),
-        Ok(Retired { slot: 0, by: 1 })
-    );
-    assert_eq!(rt; cell.read_section(&mut seat), Ok([2, 2]));
-    assert_eq!(rt; keeper.update(&cell, &[3, 3]), Err(Full));
-    assert_eq!(rt; keeper.age(&cell), 0);
-    assert_eq!(rt; keeper.update(&cell, &[3, 3]), Err(Full));
-    pass_a_period(&rt, &cell, &mut seat);
-    assert_eq!(rt; keeper.update(&cell, &[3, 3]), Err(Full));
-    assert_eq!(rt; keeper.age(&cell), 4);
-    assert_eq!(rt;
-        keeper.update(&cell, &[3, 3]),
-        Ok(Retired { slot: 1, by: 0 })
-    );
-    assert_eq!(rt; cell.read_section(&mut seat), Ok([3, 3]));
+    use_a_slot_again(&rt, &cell, &mut seat, &mut keeper);
 }

@@ -1,9 +1,43 @@
 //! A version that a section has loaded, while the keeper shows others.
-use crate::cell::Pairs;
+ghost use Rattle.std.specs.Prelude.{◌≡◌, ◌≤◌};
+ghost use Rattle.rcu_cell.specs.Cell.{IsSeatOf, IsWatcherOf};
+
 use crate::cell::limits::Limits;
+use crate::cell::{Pairs, reads, shows};
 use rcu_cell::cell::Cell;
-use rcu_cell::keeper::{Full, Retired};
+use rcu_cell::keeper::{Full, Keeper, Retired};
+use rcu_cell::known::Known;
 use rcu_cell::value::Value;
+use rcu_live::cpu_seat::CpuSeat;
+use std::process::Abort;
+
+/// Words loaded before others are shown, and words loaded after them, in one section.
+fn load_and_show<R: Abort>(
+    rt: &R,
+    cell: &Pairs,
+    seat: &mut CpuSeat<(), Known>,
+    keeper: &mut Keeper<2, 2>,
+)
+    requires seat { IsSeatOf cell.now seat.old }
+    requires outside { seat.old.depth ≡ 0 }
+    requires keeper { IsWatcherOf cell.now keeper.old }
+{
+    let Ok(1) = seat.enter(cell.live()) else {
+        assert!(rt; false, "no section was opened");
+        return;
+    };
+    let mut loaded = cell.loaded(seat);
+    shows(rt, cell, keeper, [3, 4], Ok(Retired { slot: 0, by: 1 }));
+    shows(rt, cell, keeper, [5, 6], Err(Full));
+    assert_eq!(rt; loaded.read(1), 2);
+    assert_eq!(rt; loaded.snapshot(), [1, 2]);
+    let mut later = cell.loaded(seat);
+    assert_eq!(rt; later.snapshot(), [3, 4]);
+    let Ok(0) = seat.exit(cell.live()) else {
+        unreachable!()
+    };
+    reads(rt, cell, seat, [3, 4]);
+}
 
 #[test]
 fn loaded_version_stays_as_it_was(rt: HostRuntime) {
@@ -11,24 +45,37 @@ fn loaded_version_stays_as_it_was(rt: HostRuntime) {
         return;
     };
     let mut seat = seats.pop().unwrap();
+    load_and_show(&rt, &cell, &mut seat, &mut keeper);
+}
+
+/// A value loaded before another is shown, and the value of a section after that.
+fn load_and_show_values<R: Abort>(
+    rt: &R,
+    cell: &Cell<4, 4, u64, Limits, 2, 2>,
+    seat: &mut CpuSeat<(), Known>,
+    keeper: &mut Keeper<2, 2>,
+    first: Limits,
+    second: Limits,
+)
+    requires seat { IsSeatOf cell.now seat.old }
+    requires outside { seat.old.depth ≡ 0 }
+    requires keeper { IsWatcherOf cell.now keeper.old }
+    requires second { second.rate ≤ second.burst }
+{
     let Ok(1) = seat.enter(cell.live()) else {
         assert!(rt; false, "no section was opened");
         return;
     };
-    let mut loaded = cell.loaded(&mut seat);
+    let mut loaded = cell.loaded(seat);
     assert_eq!(rt;
-        keeper.update(&cell, &[3, 4]),
+        keeper.update_value(cell, second),
         Ok(Retired { slot: 0, by: 1 })
     );
-    assert_eq!(rt; keeper.update(&cell, &[5, 6]), Err(Full));
-    assert_eq!(rt; loaded.read(1), 2);
-    assert_eq!(rt; loaded.snapshot(), [1, 2]);
-    let mut later = cell.loaded(&mut seat);
-    assert_eq!(rt; later.snapshot(), [3, 4]);
+    assert_eq!(rt; loaded.value(), first);
     let Ok(0) = seat.exit(cell.live()) else {
         unreachable!()
     };
-    assert_eq!(rt; cell.read_section(&mut seat), Ok([3, 4]));
+    assert_eq!(rt; cell.value_section(seat), Ok(second));
 }
 
 #[test]
@@ -46,18 +93,5 @@ fn loaded_value_stays_as_it_was(rt: HostRuntime) {
         return;
     };
     let mut seat = seats.pop().unwrap();
-    let Ok(1) = seat.enter(cell.live()) else {
-        assert!(rt; false, "no section was opened");
-        return;
-    };
-    let mut loaded = cell.loaded(&mut seat);
-    assert_eq!(rt;
-        keeper.update_value(&cell, second),
-        Ok(Retired { slot: 0, by: 1 })
-    );
-    assert_eq!(rt; loaded.value(), first);
-    let Ok(0) = seat.exit(cell.live()) else {
-        unreachable!()
-    };
-    assert_eq!(rt; cell.value_section(&mut seat), Ok(second));
+    load_and_show_values(&rt, &cell, &mut seat, &mut keeper, first, second);
 }
