@@ -32,7 +32,7 @@ class Edit:
             self.changes[path] = changed(rtlib.text_of(f"{crate.folder}/{path}"), text)
         self.functions, self.is_in_function = judges_of(self, functions)
         clauses = re.findall(r"^breaks: (\w+)$", rtlib.text_of(file), re.MULTILINE)
-        # (the function as it is has no goal of a way out that the edit adds)
+        # (the function as it is has no goal of what the edit adds)
         kinds = "opens|adds" if is_turned else "opens"
         self.opens = tuple(re.findall(rf"^(?:{kinds}): (\S+)$", rtlib.text_of(file), re.MULTILINE))
         has_twin = plant_in_twin(self, functions, *clauses)
