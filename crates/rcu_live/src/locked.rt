@@ -54,13 +54,17 @@ impl<const LEAF: u32, const FAN: u32, T: Drop, S: Drop, C, P: Client<S, C>> Live
         ensures unchanged { OnErr result (seat.new ≡ seat.old) }
     {
         seat.arrive_on(self.board())?;
-        let cpu = seat.cpu();
+        self.join(rt, seat.cpu());
+        Ok(())
+    }
+
+    /// The processor joins the engine, under the lock.
+    fn join(&self, rt: &impl Wait, cpu: u32) {
         let mut engine = self.engine.lock(rt);
         // A seat's processor is one of the engine's, which no clause can say across the lock.
         if cpu < engine.cpus() {
             engine.join(cpu);
         }
-        Ok(())
     }
 
     /// Takes the processor offline: its own word becomes 0, also where it is; then, under the lock,
@@ -84,8 +88,16 @@ impl<const LEAF: u32, const FAN: u32, T: Drop, S: Drop, C, P: Client<S, C>> Live
             fault ≡ Fault.Offline → seat.old.view.stamp ≡ 0) }
     {
         let again = seat.depart_on(self.board())?;
-        let cpu = seat.cpu();
+        self.leave(rt, seat.cpu(), again)
+    }
+
+    /// The processor leaves the engine, under the lock. Answers how many callbacks moved.
+    fn leave(&self, rt: &impl Wait, cpu: u32, again: bool) -> Result<u64, Fault>
+        ensures fault { IfErr result (λ fault. is_leave_fault fault ≡ true) }
+        ensures again { IfErr result (λ fault. fault ≡ Fault.Offline → again ≡ true) }
+    {
         let mut engine = self.engine.lock(rt);
+        // A seat's processor is one of the engine's, which no clause can say across the lock.
         if cpu < engine.cpus() {
             return engine.leave(cpu, again);
         }

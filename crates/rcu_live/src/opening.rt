@@ -11,10 +11,9 @@ ghost use Rattle.rcu_live.specs.Watcher.{watcher_at_first};
 ghost use Rattle.rcu_live.specs.Words.{base_of};
 
 use crate::apart::Apart;
-use crate::board::Board;
 use crate::client::Client;
 use crate::cpu_seat::CpuSeat;
-use crate::dealing::deal;
+use crate::dealing::{Dealt, open_board};
 use crate::engine::Engine;
 use crate::live::Live;
 use crate::watcher::Watcher;
@@ -273,10 +272,13 @@ fn open_tested<const LEAF: u32, const FAN: u32, T: Drop, S: Drop, C, P: Client<S
     ensures each_watcher { IfOk result (λ apart.
         All (λ watcher. watcher.table ≡ (arc_value apart.board).table) apart.watchers.items) }
 {
-    let (board, mut seat) = Board::open(alloc, cpus, behind, slots)?;
-    let (seats, watchers) = deal(alloc, &board, &mut seat, cpus)?;
-    let own = Watcher::new(board.hand_over(&mut seat));
-    let board = Arc::new(alloc, board)?;
+    let Dealt {
+        board,
+        engine: seat,
+        seats,
+        watchers,
+        own,
+    } = open_board(alloc, cpus, behind, slots)?;
     let (gp, late) = make_parts(alloc, cpus, last)?;
     let engine = Engine::new(Arc::try_clone(&board)?, seat, gp, late);
     Ok(Apart {

@@ -1,5 +1,5 @@
 //! The opening of a script.
-ghost use Rattle.std.specs.Prelude.{◌≡◌, None, [], IfOk, IfErr, OnOk};
+ghost use Rattle.std.specs.Prelude.{◌≡◌, None, Some, [], IfOk, IfErr, OnOk};
 ghost use Rattle.rcu_core.specs.Core.{Represents, size_at};
 ghost use Rattle.rcu_script.specs.Opening.{machine_fault};
 ghost use Rattle.rcu_script.specs.RunEnds.{IsRefusedBy};
@@ -26,8 +26,18 @@ pub fn open<const LEAF: u32, const INNER: u32>(
     ensures fresh { IfOk result (λ core. Represents core []) }
     ensures err { IfErr result (IsRefusedBy (machine_fault LEAF INNER cpus last)) }
 {
-    Geometry::<LEAF, INNER>::new(cpus)?;
-    Seq::new(last)?;
+    test_size::<LEAF, INNER>(cpus, last)?;
     let awaited = Tree::<LEAF, INNER>::new(alloc, cpus)?;
     Core::new(alloc, awaited, last)
+}
+
+/// Refuses a size that no machine over the tree has, by the first fault that there is. It takes no
+/// memory.
+fn test_size<const LEAF: u32, const INNER: u32>(cpus: u32, last: u64) -> Result<(), Fault>
+    ensures accepted { OnOk result (machine_fault LEAF INNER cpus last ≡ None) }
+    ensures err { IfErr result (λ fault. machine_fault LEAF INNER cpus last ≡ Some fault) }
+{
+    Geometry::<LEAF, INNER>::new(cpus)?;
+    Seq::new(last)?;
+    Ok(())
 }

@@ -1,9 +1,10 @@
-use Rattle.std.proofs.Common.{ℕ, ◌+◌, ap, sym, ◌∙◌}
-use Rattle.rcu_live.specs.CpuSeat.{at_first}
+use Rattle.std.proofs.Common.{◌≡◌, ℕ, ◌+◌, ap, length, refl, sym, ◌∙◌, arith}
+use Rattle.std.proofs.lemmas.List.FromFn.{length-map-range_with_len}
+use Rattle.rcu_live.specs.CpuSeat.{Seated, at_first}
 use Rattle.rcu_live.specs.View.{engine_seat}
-use Rattle.rcu_live.specs.Watcher.{watcher_at_first}
+use Rattle.rcu_live.specs.Watcher.{Watching, watcher_at_first}
 use Rattle.rcu_live.specs.Words.{base_of}
-use Rattle.rcu_live.proofs.RowLemmas.{one_more}
+use Rattle.rcu_live.proofs.RowLemmas.{each_made, one_more}
 use Rattle.rcu_live.proofs.dealing.deal.Goals as goal
 
 pub loop-cpu-preserved : goal.loop-cpu-preserved
@@ -18,3 +19,25 @@ loop-cpu-preserved g c =
       one_more _ _ _ _ _ i.2 c.in_ok-push.ensures.items (d.seat ∙ ap (λ (n : ℕ). at_first table (base_of n) idle c.loop-cpu.cpu) cpus),
       one_more _ _ _ _ _ i.3 c.in_ok-push-2.ensures.items (d.watcher ∙ ap (λ (n : ℕ). watcher_at_first table (base_of n) idle) cpus),
     )
+
+pub returns-clause-seat_count : goal.returns-clause-seat_count
+returns-clause-seat_count g c =
+    let made = ap length c.loop-cpu.invariant.2 ∙ length-map-range_with_len _ 0 c.loop-cpu.cpu in
+    let most = c.loop-cpu.auto.cpu-end in
+    let least = c.loop-cpu-test.false in
+    omega arith
+
+pub returns-clause-watcher_count : goal.returns-clause-watcher_count
+returns-clause-watcher_count g c =
+    let made = ap length c.loop-cpu.invariant.3 ∙ length-map-range_with_len _ 0 c.loop-cpu.cpu in
+    let most = c.loop-cpu.auto.cpu-end in
+    let least = c.loop-cpu-test.false in
+    omega arith
+
+pub returns-clause-each_seat : goal.returns-clause-each_seat
+returns-clause-each_seat g c =
+    each_made _ _ _ (λ (s : Seated g.row.C.Denot). s.table ≡ c.args.board.now.table) c.loop-cpu.invariant.2 (λ cpu. refl)
+
+pub returns-clause-each_watcher : goal.returns-clause-each_watcher
+returns-clause-each_watcher g c =
+    each_made _ _ _ (λ (w : Watching g.row.C.Denot). w.table ≡ c.args.board.now.table) c.loop-cpu.invariant.3 (λ cpu. refl)
