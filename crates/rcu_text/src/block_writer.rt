@@ -1,5 +1,5 @@
 //! The bytes that wait for a writer.
-ghost use Rattle.std.specs.Prelude.{◌≡◌, ◌≤◌, ◌∷◌, [], length, OnOk};
+ghost use Rattle.std.specs.Prelude.{◌≡◌, ◌≤◌, ◌∷◌, [], length, OnErr, OnOk};
 ghost use Rattle.rcu_text.specs.Outputs.{Out, Puts, after_put_text, waiting_for};
 ghost use Rattle.rcu_text.specs.Streams.{Writes};
 
@@ -92,10 +92,19 @@ impl<'a, W: Sink> Output for BlockWriter<'a, W> {
     }
 
     fn flush(&mut self) -> Result<(), Failed> {
-        write_all(self.sink, self.block.as_slice())?;
-        self.block.clear();
-        Ok(())
+        write_block(self.sink, &mut self.block)
     }
+}
+
+/// Writes what waits in the block, in which then nothing waits.
+fn write_block<W: Sink>(sink: &mut W, block: &mut ArrayVec<u8, BLOCK>) -> Result<(), Failed>
+    ensures written { Writes result (W.outgoing sink.old) (W.outgoing sink.new) block.old.items }
+    ensures empty { OnOk result (block.new.items ≡ []) }
+    ensures unchanged { OnErr result (block.new.items ≡ block.old.items) }
+{
+    write_all(sink, block.as_slice())?;
+    block.clear();
+    Ok(())
 }
 
 /// Writes all of the bytes.
