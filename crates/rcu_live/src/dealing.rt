@@ -1,5 +1,6 @@
 //! Dealing the seats of an object: a processor's and a watcher's for each processor.
-ghost use Rattle.std.specs.Prelude.{◌≡◌, ◌+◌, ◌<◌, ◌≤◌, [], ◌∷◌, All, IfOk, None, OnOk, length, map};
+ghost use Rattle.std.specs.Prelude.{◌≡◌, ◌+◌, ◌<◌, ◌≤◌, [], ◌∷◌, All, IfOk, None, OnOk};
+ghost use Rattle.std.specs.Prelude.{length, map};
 ghost use Rattle.std.specs.Arc.{arc_value};
 ghost use mathlib.Core.Option.{some};
 ghost use Rattle.std.specs.List.{range_with_len};
