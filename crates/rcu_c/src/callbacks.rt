@@ -8,11 +8,13 @@ ghost use Rattle.rcu_node.specs.CpuSet.{is_in};
 ghost use Rattle.rcu_cblist.specs.SegList.{behind, callbacks, front, take_answer};
 ghost use Rattle.rcu_barrier.specs.Lists.{list_of, most_queued};
 ghost use Rattle.rcu_core.specs.GpState as grace;
+ghost use Rattle.rcu_live.specs.EngineLists as live;
 ghost use Rattle.rcu_live.specs.EngineLists.{queue_refusal};
 ghost use Rattle.rcu_c.specs.Holding.{HoldsEngine, engine_of, grace_of, on_grace};
 
 use crate::codes::code;
 use crate::handle::Rcu;
+use crate::open_engine::TreeEngine;
 use rcu_cblist::queued::Queued;
 use rcu_seq::fault::Fault;
 
@@ -39,6 +41,23 @@ pub extern "C" fn rcu_queue(rcu: &mut Rcu, cpu: u32, value: u64, place: &mut u64
     if cpu >= engine.cpus() {
         return code(Fault::BadCpu);
     }
+    queue(engine, cpu, value, place)
+}
+
+/// Queues a value on a processor of the engine, as `Engine::queue`. Writes how many were queued.
+///
+/// Faults, as their numbers: those of `Engine::queue`.
+fn queue(engine: &mut TreeEngine, cpu: u32, value: u64, place: &mut u64) -> u32
+    requires { cpu < engine.old.cpus }
+    ensures online { result ≡ 0 → is_in engine.old.grace.processors.online cpu ≡ true }
+    ensures room { result ≡ 0 → engine.old.grace.lists.queued < most_queued }
+    ensures state { result ≡ 0 → engine.new ≡
+        live.on_grace (λ g. grace.after_queue g cpu value) engine.old }
+    ensures place { result ≡ 0 → place.new ≡ engine.new.grace.lists.queued }
+    ensures fault { result ≢ 0 → result ≡ fault_number (queue_refusal engine.old cpu) }
+    ensures refused { result ≢ 0 → engine.new ≡ engine.old }
+    ensures refused_place { result ≢ 0 → place.new ≡ place.old }
+{
     match engine.queue(cpu, value) {
         Ok(count) => {
             *place = count;
@@ -79,15 +98,17 @@ pub extern "C" fn rcu_tend(rcu: &mut Rcu, cpu: u32, done: &mut u64, waiting: &mu
 }
 
 /// Writes the values of callbacks to the head of a buffer that has room for them, and leaves its
-/// rest as it is.
-fn put_values(calls: &[Queued<u64>], values: &mut [u64])
+/// rest as it is. Answers how many there are.
+fn put_values(calls: &[Queued<u64>], values: &mut [u64]) -> u64
     requires { length calls.now ≤ length values.old }
+    ensures count { result ≡ length calls.now }
     ensures head { take (length calls.now) values.new ≡ map (λ call. call.value) calls.now }
     ensures rest { drop (length calls.now) values.new ≡ drop (length calls.now) values.old }
 {
     for i in 0..calls.len() {
         values[i] = calls[i].value;
     }
+    calls.len() as u64
 }
 
 /// Hands out the first callbacks of a processor's done part, at most as many as the buffer has room
@@ -118,10 +139,36 @@ pub extern "C" fn rcu_run(rcu: &mut Rcu, cpu: u32, values: &mut [u64], count: &m
     ensures refused_values { result ≢ 0 → values.new ≡ values.old }
     ensures refused_count { result ≢ 0 → count.new ≡ count.old }
 {
-    match rcu.engine().engine.run(cpu, values.len() as u64) {
+    run(&mut rcu.engine().engine, cpu, values, count)
+}
+
+/// Hands out callbacks of a processor of the engine, as `Engine::run`: writes their values to the
+/// head of the buffer, and how many there are.
+///
+/// Faults, as their numbers: those of `Engine::run`.
+fn run(engine: &mut TreeEngine, cpu: u32, values: &mut [u64], count: &mut u64) -> u32
+    ensures accepted { result ≡ 0 → cpu < engine.old.cpus }
+    ensures state { result ≡ 0 → engine.new ≡
+        live.on_grace (λ g. grace.after_run g cpu (length values.old)) engine.old }
+    ensures count { result ≡ 0 → count.new ≡
+        length (take_answer (list_of engine.old.grace.lists cpu) (length values.old)) }
+    ensures values { result ≡ 0 → take count.new values.new ≡ map (λ call. call.value)
+        (take_answer (list_of engine.old.grace.lists cpu) (length values.old)) }
+    ensures rest { result ≡ 0 → drop count.new values.new ≡ drop count.new values.old }
+    ensures most { result ≡ 0 → count.new ≤ length values.old }
+    ensures waited { result ≡ 0 → All (λ call. snapshot call.at ≤ number_of engine.old.grace.seq)
+        (take_answer (list_of engine.old.grace.lists cpu) (length values.old)) }
+    ensures bad { engine.old.cpus ≤ cpu → result ≡ 1 }
+    ensures fault { result ≢ 0 → cpu < engine.old.cpus → result ≡ 16 }
+    ensures memory { result ≡ 16 →
+        take_answer (list_of engine.old.grace.lists cpu) (length values.old) ≢ [] }
+    ensures refused { result ≢ 0 → engine.new ≡ engine.old }
+    ensures refused_values { result ≢ 0 → values.new ≡ values.old }
+    ensures refused_count { result ≢ 0 → count.new ≡ count.old }
+{
+    match engine.run(cpu, values.len() as u64) {
         Ok(ran) => {
-            put_values(ran.calls.as_slice(), values);
-            *count = ran.calls.len() as u64;
+            *count = put_values(ran.calls.as_slice(), values);
             0
         }
         Err(fault) => code(fault),

@@ -7,10 +7,13 @@ use rcu_live::engine::Engine;
 use rcu_node::tree::Tree;
 use std::marker::Model;
 
-/// The engine of an open handle, over the tree of Linux's fanouts, with numbers as callbacks.
+/// The running engine over the tree of Linux's fanouts, with numbers as callbacks.
+pub(crate) type TreeEngine = Engine<Tree<16, 64>, u64>;
+
+/// The engine of an open handle.
 #[derive(Drop)]
 pub struct OpenEngine {
-    pub(crate) engine: Engine<Tree<16, 64>, u64>,
+    pub(crate) engine: TreeEngine,
     /// The seats that are not dealt yet, each at its processor's place.
     pub(crate) seats: Vec<Option<Sitting>>,
 }
@@ -25,7 +28,7 @@ impl Model for OpenEngine {
 
 impl OpenEngine {
     /// The engine with the seats of its processors.
-    pub(crate) fn new(engine: Engine<Tree<16, 64>, u64>, seats: Vec<Option<Sitting>>) -> OpenEngine
+    pub(crate) fn new(engine: TreeEngine, seats: Vec<Option<Sitting>>) -> OpenEngine
         ensures { result ≡ record { engine = engine; seats = seats.items } }
     {
         OpenEngine { engine, seats }

@@ -102,6 +102,29 @@ fn make_engine(alloc: Global, cpus: u32, last: u64) -> Result<OpenEngine, Fault>
     Ok(OpenEngine::new(engine, seats))
 }
 
+/// The engine, with a seat for each processor, in a box.
+fn box_engine(alloc: Global, cpus: u32, last: u64) -> Result<Box<Held, Global>, Fault>
+    ensures open { IfOk result (λ held. HoldsEngine (Some held.value)) }
+    ensures state { IfOk result (λ held. opened_of (Some held.value)
+        ≡ opened_at_first (engine_of (Some held.value)).table cpus last) }
+    ensures accepted { IfOk result (λ _. opening_refusal 16 64 cpus last ≡ None) }
+    ensures refused { IfErr result (λ fault. fault ≢ Fault.NoMemory →
+        opening_refusal 16 64 cpus last ≡ Some fault) }
+    ensures memory { IfErr result (λ fault. fault ≡ Fault.NoMemory →
+        opening_refusal 16 64 cpus last ≡ None) }
+{
+    let made = make_engine(alloc, cpus, last)?;
+    Ok(Box::new(alloc, Held::Engine(made))?)
+}
+
+/// Puts what lies in a box into a closed handle.
+fn put(handle: &mut Handle, held: Box<Held, Global>)
+    requires { IsNone handle.old.held }
+    ensures { handle.new.held ≡ Some held.value }
+{
+    *handle = Handle::of(Unboxed::of(held));
+}
+
 /// Opens a closed handle: the number is 0, no grace period runs, processor 0 alone is online, no
 /// callback is queued, and no seat is dealt.
 ///
@@ -117,14 +140,11 @@ pub extern "C" fn rcu_open(alloc: Global, cpus: u32, last: u64, rcu: &mut Rcu) -
         opened_at_first (engine_of rcu.new.held).table cpus last }
     ensures refused { result ≢ 0 → rcu.new.held ≡ rcu.old.held }
 {
-    let made = match make_engine(alloc, cpus, last) {
-        Ok(made) => made,
+    let held = match box_engine(alloc, cpus, last) {
+        Ok(held) => held,
         Err(fault) => return code(fault),
     };
-    let Ok(held) = Box::new(alloc, Held::Engine(made)) else {
-        return code(Fault::NoMemory);
-    };
-    *rcu = Handle::of(Unboxed::of(held));
+    put(rcu, held);
     0
 }
 
@@ -152,14 +172,22 @@ fn deal_seat(alloc: Global, opened: &mut OpenEngine, cpu: u32) -> Result<Box<Hel
     if !opened.has_seat(cpu) {
         return Err(Fault::BadCpu);
     }
-    let Ok(mut room) = Box::new(alloc, Held::Room) else {
-        return Err(Fault::NoMemory);
-    };
+    let mut room = Box::new(alloc, Held::Room)?;
+    deal_into(&mut room, opened, cpu);
+    Ok(room)
+}
+
+/// Takes the seat of a processor out of the engine, and puts it in place of what was held.
+fn deal_into(held: &mut Held, opened: &mut OpenEngine, cpu: u32)
+    requires { seat_at opened.old cpu ≢ None }
+    ensures open { HoldsSeat (Some held.new) }
+    ensures seat { seat_at opened.old cpu ≡ Some (seat_of (Some held.new)) }
+    ensures left { opened.new ≡ without_seat opened.old cpu }
+{
     let Some(dealt) = opened.deal(cpu) else {
         unreachable!()
     };
-    *room = Held::Seat(dealt);
-    Ok(room)
+    *held = Held::Seat(dealt);
 }
 
 /// Deals the seat of a processor to a closed handle. Each processor has one.
@@ -183,7 +211,7 @@ pub extern "C" fn rcu_seat_open(alloc: Global, rcu: &mut Rcu, cpu: u32, seat: &m
 {
     match deal_seat(alloc, rcu.engine(), cpu) {
         Ok(held) => {
-            *seat = Handle::of(Unboxed::of(held));
+            put(seat, held);
             0
         }
         Err(fault) => code(fault),

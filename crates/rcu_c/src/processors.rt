@@ -1,5 +1,5 @@
 //! Processors that come and go: each call takes the engine and the processor's seat.
-ghost use Rattle.std.specs.Prelude.{◌≡◌, ◌≢◌, ◌≤◌, ◌==◌, None, Some, false, length};
+ghost use Rattle.std.specs.Prelude.{◌≡◌, ◌≢◌, ◌<◌, ◌≤◌, ◌==◌, None, Some, false, length};
 ghost use Rattle.rcu_cblist.specs.SegList.{callbacks, is_empty};
 ghost use Rattle.rcu_barrier.specs.Lists.{list_of};
 ghost use Rattle.rcu_live.specs.CpuSeat.{after_depart, after_quiesce, arrive_refusal};
@@ -13,6 +13,7 @@ ghost use Rattle.rcu_c.specs.Holding.{grace_of, on_cpu, on_engine, on_grace};
 
 use crate::codes::code;
 use crate::handle::{Rcu, RcuSeat};
+use crate::open_engine::TreeEngine;
 use rcu_seq::fault::Fault;
 
 /// The seat's processor comes online: one load of the number, and one more than it in the own word;
@@ -90,7 +91,31 @@ pub extern "C" fn rcu_depart(rcu: &mut Rcu, seat: &mut RcuSeat, moved: &mut u64)
         Ok(again) => again,
         Err(fault) => return code(fault),
     };
-    match rcu.engine().engine.leave(seat.cpu.cpu(), again) {
+    leave(&mut rcu.engine().engine, seat.cpu.cpu(), again, moved)
+}
+
+/// A processor leaves the engine, as `Engine::leave`. Writes how many callbacks moved to processor
+/// 0's list.
+///
+/// Faults, as their numbers: those of `Engine::leave`.
+fn leave(engine: &mut TreeEngine, cpu: u32, again: bool, moved: &mut u64) -> u32
+    requires { cpu < engine.old.cpus }
+    ensures state { result ≡ 0 →
+        engine.new ≡ live.after_leave engine.old cpu (latest_found engine.new.view.finds) }
+    ensures moved { result ≡ 0 →
+        moved.new ≡ length (callbacks (list_of engine.old.grace.lists cpu)) }
+    ensures fault { result ≢ 16 → result ≡ number_for
+        (leave_refusal engine.old cpu again (latest_found engine.new.view.finds)) }
+    ensures looked { result ≢ 16 → result ≢ 0 →
+        engine.new ≡ live.after_load_own engine.old cpu (latest_found engine.new.view.finds) }
+    ensures alone { result ≡ 16 →
+        leave_refusal engine.old cpu again (latest_found engine.new.view.finds) ≡ None }
+    ensures memory { result ≡ 16 → is_empty (list_of engine.old.grace.lists cpu) ≡ false }
+    ensures departed { result ≡ 16 →
+        engine.new ≡ live.after_departure engine.old cpu (latest_found engine.new.view.finds) }
+    ensures refused_moved { result ≢ 0 → moved.new ≡ moved.old }
+{
+    match engine.leave(cpu, again) {
         Ok(count) => {
             *moved = count;
             0
