@@ -1,5 +1,6 @@
 //! Threads that work the running engine hard, and the ledger of what they did.
-ghost use Rattle.std.specs.Prelude.{◌≡◌, ◌≤◌, IfOk, length};
+ghost use Rattle.std.specs.Prelude.{◌≡◌, ◌+◌, ◌≤◌, Err, IfOk, IfSome, Ok, length};
+ghost use Rattle.std.specs.Prelude.{vec_capacity, vec_len};
 ghost use Rattle.rcu_torture.specs.Ledger.{most_rounds, most_workers};
 
 pub mod draws;
@@ -13,7 +14,7 @@ mod workers;
 
 pub use draws::Draws;
 pub use gate::{Gate, Open, Point};
-use job::{Engine, Plan};
+use job::{Engine, Job, Plan};
 pub use ledger::Ledger;
 use rcu_seq::fault::Fault;
 pub use share::Share;
@@ -44,23 +45,54 @@ pub fn torture<R: Threads + Wait + Sync, G: Gate>(
     ensures workers { IfOk result (λ ledger. length ledger.shares ≡ workers) }
     ensures own { IfOk result (λ ledger. (ledger.own.queued ≡ 0) × (ledger.own.early ≡ 0)) }
 {
+    let Ok(gathered) = Gathered::new(alloc, workers) else {
+        return Err(Fault::NoMemory);
+    };
+    let (live, seats, watchers) = Engine::open(alloc, workers, LAST)?;
     let plan = Plan {
         workers,
         rounds,
         seed,
     };
-    let (live, seats, watchers) = Engine::open(alloc, workers, LAST)?;
-    let Ok(gathered) = Gathered::new(alloc, workers) else {
-        return Err(Fault::NoMemory);
-    };
-    let (mut first, others) = deal_jobs(rt, alloc, &live, seats, watchers, plan)?;
-    let Gathered { shares, fault } = run_all(rt, gate, &mut first, others, gathered);
+    let (first, others) = deal_jobs(rt, alloc, &live, seats, watchers, plan)?;
+    work(rt, alloc, gate, first, others, gathered)
+}
+
+/// Does the jobs, and then works alone, as the first worker, until nothing is left. What the
+/// workers give back is added to what was gathered, which is nothing and has room for it.
+///
+/// Its faults are those of `torture`.
+fn work<R: Threads + Wait + Sync, G: Gate>(
+    rt: &R,
+    alloc: Global,
+    gate: &G,
+    mut first: Job<'_>,
+    others: Vec<Job<'_>>,
+    gathered: Gathered,
+) -> Result<Ledger, Fault>
+    requires few { vec_len others + 1 ≤ most_workers }
+    requires none { vec_len gathered.shares ≡ 0 }
+    requires room { vec_len others + 1 ≤ vec_capacity gathered.shares }
+    ensures workers { IfOk result (λ ledger. length ledger.shares ≡ vec_len others.entry + 1) }
+    ensures own { IfOk result (λ ledger. (ledger.own.queued ≡ 0) × (ledger.own.early ≡ 0)) }
+{
+    let gathered = run_all(rt, gate, &mut first, others, gathered);
     let own = first.finish(rt);
+    account(alloc, gathered, own)
+}
+
+/// The ledger of what was gathered and of the program's own share, or the fault that was met: the
+/// workers' first, else the program's. Fault 16.
+fn account(alloc: Global, gathered: Gathered, own: Result<Share, Fault>) -> Result<Ledger, Fault>
+    requires { vec_len gathered.shares ≤ most_workers }
+    ensures shares { IfOk result (λ ledger. ledger.shares ≡ gathered.shares.items) }
+    ensures own { IfOk result (λ ledger. own ≡ Ok ledger.own) }
+    ensures fault { IfSome gathered.fault (λ fault. result ≡ Err fault) }
+{
+    let Gathered { shares, fault } = gathered;
     if let Some(fault) = fault {
         return Err(fault);
     }
-    let Ok(ledger) = Ledger::of(alloc, shares, own?) else {
-        return Err(Fault::NoMemory);
-    };
-    Ok(ledger)
+    let own = own?;
+    Ledger::of(alloc, shares, own).map_err(|_| Fault::NoMemory)
 }

@@ -1,6 +1,6 @@
 //! The command line, as `clap` is told of it.
 ghost use Rattle.std.specs.Prelude.{◌≡◌, false, IfOk, codes};
-ghost use Rattle.clap.specs.Words.{app_of, new_app, rule_of, with_rule};
+ghost use Rattle.clap.specs.Words.{App, app_of, new_app, rule_of, with_rule, with_subcommand};
 ghost use Rattle.clap.specs.declared.builder.command.Command.TheViews.{out-Command as fields_of};
 ghost use Rattle.rcu_torture.specs.CommandLine.{any_u32, any_u64, last_rule, number_rule};
 ghost use Rattle.rcu_torture.specs.CommandLine.{option_rule, pair, rcu, rcu_alone, rcu_with_pair};
@@ -20,19 +20,32 @@ const GREATEST_LAST: &str = "4611686018427387904";
 pub fn rcu_command<'a>(alloc: Global) -> Result<Command<'a>, AllocError>
     ensures { IfOk result (λ command. app_of command ≡ rcu) }
 {
-    rcu_with_pair(alloc)?.subcommand(torture_command(alloc)?)
+    joined(rcu_with_pair(alloc)?, torture_command(alloc))
 }
 
 fn rcu_with_pair<'a>(alloc: Global) -> Result<Command<'a>, AllocError>
     ensures { IfOk result (λ command. app_of command ≡ rcu_with_pair) }
 {
-    rcu_with_script(alloc)?.subcommand(pair_command(alloc)?)
+    joined(rcu_with_script(alloc)?, pair_command(alloc))
 }
 
 fn rcu_with_script<'a>(alloc: Global) -> Result<Command<'a>, AllocError>
     ensures { IfOk result (λ command. app_of command ≡ rcu_with_script) }
 {
-    rcu_alone(alloc)?.subcommand(script_command(alloc)?)
+    joined(rcu_alone(alloc)?, script_command(alloc))
+}
+
+/// The command with this subcommand, where that was made.
+fn joined<'a>(
+    command: Command<'a>,
+    below: Result<Command<'a>, AllocError>,
+) -> Result<Command<'a>, AllocError>
+    ghost sub: { App }
+    requires app { IfOk below (λ met. app_of met ≡ sub) }
+    requires local { IfOk below (λ met. (fields_of met).has_globals ≡ false) }
+    ensures { IfOk result (λ more. app_of more ≡ with_subcommand (app_of command.entry) sub.top) }
+{
+    command.subcommand(below?)
 }
 
 /// The program before it has subcommands, of which one has to be given.
@@ -52,11 +65,10 @@ fn script_command<'a>(alloc: Global) -> Result<Command<'a>, AllocError>
     ensures local { IfOk result (λ command. (fields_of command).has_globals ≡ false) }
 {
     let about = "Answers a script on standard input, a line for each event";
-    let leaf = u32_option(alloc, "leaf", "Processors that a leaf of the tree holds");
-    let inner = u32_option(alloc, "inner", "Children that an inner node holds");
-    let shaped = with_two(described(alloc, "script", about, help::SCRIPT), leaf, inner)?;
-    let help = "Number of processors, from 1";
-    with_two(shaped, cpus_option(alloc, help), last_option(alloc))
+    let command = described(alloc, "script", about, help::SCRIPT);
+    let leaf = "Processors that a leaf of the tree holds";
+    let shaped = with_shape(alloc, command, leaf, "Children that an inner node holds")?;
+    with_cpus_and_last(alloc, shaped, "Number of processors, from 1")
 }
 
 fn pair_command<'a>(alloc: Global) -> Result<Command<'a>, AllocError>
@@ -64,8 +76,11 @@ fn pair_command<'a>(alloc: Global) -> Result<Command<'a>, AllocError>
     ensures local { IfOk result (λ command. (fields_of command).has_globals ≡ false) }
 {
     let shaped = shapes_command(alloc)?;
-    let help = "Number of processors of each replica, from 1";
-    with_two(shaped, cpus_option(alloc, help), last_option(alloc))
+    with_cpus_and_last(
+        alloc,
+        shaped,
+        "Number of processors of each replica, from 1",
+    )
 }
 
 /// The subcommand `pair` with the options of both shapes.
@@ -74,10 +89,15 @@ fn shapes_command<'a>(alloc: Global) -> Result<Command<'a>, AllocError>
     ensures local { IfOk result (λ command. (fields_of command).has_globals ≡ false) }
 {
     let about = "Answers the lines of two replicas, a and b, on standard input";
-    let leaf = u32_option(alloc, "leaf", "Processors that a leaf of a holds");
-    let inner = u32_option(alloc, "inner", "Children that an inner node of a holds");
-    let shaped = with_two(described(alloc, "pair", about, help::PAIR), leaf, inner)?;
-    with_two(shaped, leaf2_option(alloc), inner2_option(alloc))
+    let command = described(alloc, "pair", about, help::PAIR);
+    let leaf = "Processors that a leaf of a holds";
+    let shaped = with_shape(
+        alloc,
+        command,
+        leaf,
+        "Children that an inner node of a holds",
+    )?;
+    shaped.arg(leaf2_option(alloc))?.arg(inner2_option(alloc))
 }
 
 fn torture_command<'a>(alloc: Global) -> Result<Command<'a>, AllocError>
@@ -86,23 +106,43 @@ fn torture_command<'a>(alloc: Global) -> Result<Command<'a>, AllocError>
 {
     let about = "Works the engine for threads hard, and prints what came of it";
     let command = described(alloc, "torture", about, help::TORTURE);
-    with_two(command, workers_option(alloc), rounds_option(alloc))?.arg(seed_option(alloc))
+    command
+        .arg(workers_option(alloc))?
+        .arg(rounds_option(alloc))?
+        .arg(seed_option(alloc))
 }
 
-/// The command with two more options.
-fn with_two<'a>(
+/// The command with the options `--leaf` and `--inner`, of which help says this.
+fn with_shape<'a>(
+    alloc: Global,
     command: Command<'a>,
-    first: Arg<'a>,
-    second: Arg<'a>,
+    leaf: &'a str,
+    inner: &'a str,
 ) -> Result<Command<'a>, AllocError>
-    requires local { (fields_of command).has_globals ≡ false }
-    requires first { first.global ≡ false }
-    requires second { second.global ≡ false }
+    requires { (fields_of command).has_globals ≡ false }
     ensures app { IfOk result (λ more. app_of more ≡ with_rule
-        (with_rule (app_of command.entry) (rule_of first.entry)) (rule_of second.entry)) }
+        (with_rule (app_of command.entry) (required_rule (number_rule (codes "leaf") any_u32)))
+        (required_rule (number_rule (codes "inner") any_u32))) }
     ensures local { IfOk result (λ more. (fields_of more).has_globals ≡ false) }
 {
-    command.arg(first)?.arg(second)
+    let more = command.arg(u32_option(alloc, "leaf", leaf))?;
+    more.arg(u32_option(alloc, "inner", inner))
+}
+
+/// The command with the options `--cpus`, of which help says this, and `--last`.
+fn with_cpus_and_last<'a>(
+    alloc: Global,
+    command: Command<'a>,
+    cpus: &'a str,
+) -> Result<Command<'a>, AllocError>
+    requires { (fields_of command).has_globals ≡ false }
+    ensures app { IfOk result (λ more. app_of more ≡ with_rule
+        (with_rule (app_of command.entry) (required_rule (number_rule (codes "cpus") any_u32)))
+        last_rule) }
+    ensures local { IfOk result (λ more. (fields_of more).has_globals ≡ false) }
+{
+    let more = command.arg(cpus_option(alloc, cpus))?;
+    more.arg(last_option(alloc))
 }
 
 /// A command of this name, and what help says of it: before its options, and behind them.
