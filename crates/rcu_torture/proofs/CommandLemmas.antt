@@ -56,6 +56,13 @@ no_torture name rows is none (Torture workers rounds seed) p = none workers roun
 -- matches that make no setup and no torture run say no order
 pub ruleset no_order = (no_script, no_pair, no_torture)
 
+-- what a subcommand orders by its name, it orders by a text that is that name
+pub named_so : (name text : Text) (rows : List Row) (o : Option Order) → text ≡ name
+    → MatchOption o (HasNoOrder (Some (name, rows))) (IsOrderOf (Some (name, rows)))
+    → MatchOption o (HasNoOrder (Some (text, rows))) (IsOrderOf (Some (text, rows)))
+named_so name text rows o is said =
+    subst (λ (t : Text). MatchOption o (HasNoOrder (Some (t, rows))) (IsOrderOf (Some (t, rows)))) (sym is) said
+
 -- ---- a parse of `rcu`
 
 -- `clap` gives the matches of `rcu` exactly

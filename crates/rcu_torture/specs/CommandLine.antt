@@ -131,6 +131,15 @@ abbrev pub IsOrderOf : Option (Text × List Row) → Order → Type 0
 IsOrderOf None order = ⊥
 IsOrderOf (Some met) order = IsOrder met.0 met.1 order
 
+-- the options of these names have the numbers of a tree's shape
+pub record IsShapeOf (leaf_name inner_name : Text) (rows : List Row) (leaf inner : ℕ) : Type 0 where
+  pub of_leaf : number_up_to u32_max rows leaf_name ≡ Some leaf
+  pub of_inner : number_up_to u32_max rows inner_name ≡ Some inner
+
+-- no shape has them
+abbrev pub HasNoShape : Text → Text → List Row → Type 0
+HasNoShape leaf_name inner_name rows = (leaf inner : ℕ) → ¬ (IsShapeOf leaf_name inner_name rows leaf inner)
+
 -- no setup has the numbers of the options
 abbrev pub HasNoSetup : Text → Text → List Row → Type 0
 HasNoSetup second_leaf second_inner rows = (setup : Setup) → ¬ (IsSetupOf second_leaf second_inner rows setup)

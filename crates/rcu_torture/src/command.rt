@@ -1,9 +1,10 @@
 //! The command line.
-ghost use Rattle.std.specs.Prelude.{◌≡◌, Some, IfOk, map, MatchOption};
+ghost use Rattle.std.specs.Prelude.{◌≡◌, Some, IfOk, codes, map, MatchOption};
 ghost use Rattle.clap.specs.Words.{FailsBy, fault_of, found_of, rows_of, subcommand_of};
 ghost use Rattle.clap.specs.Words.{subcommand_rows_of};
-ghost use Rattle.rcu_torture.specs.CommandLine.{HasNoOrder, HasNoSetup, HasNoTorture, IsOrderOf};
-ghost use Rattle.rcu_torture.specs.CommandLine.{IsSetupOf, IsTortureOf, IsWithinLimits};
+ghost use Rattle.rcu_torture.specs.CommandLine.{HasNoOrder, HasNoSetup, HasNoShape, HasNoTorture};
+ghost use Rattle.rcu_torture.specs.CommandLine.{IsOrderOf, IsSetupOf, IsShapeOf, IsTortureOf};
+ghost use Rattle.rcu_torture.specs.CommandLine.{IsWithinLimits};
 ghost use Rattle.rcu_torture.specs.CommandLine.{number_up_to, rcu, u32_max, u64_max};
 
 mod grammar;
@@ -50,20 +51,45 @@ fn order_of(matches: &ArgMatches<'_>) -> Option<Order>
 }
 
 /// What the subcommand of this name orders by its matches.
-#[tactic(auto, using(crate::proofs::CommandLemmas::no_order))]
+#[tactic(auto, using(crate::proofs::CommandLemmas::named_so))]
 fn order_named(name: &str, matches: &ArgMatches<'_>) -> Option<Order>
     ensures { let met = Some (name.now, rows_of (found_of matches.now)) in
         MatchOption result (HasNoOrder met) (IsOrderOf met) }
 {
     match name {
-        "script" => Some(Order::Script(setup_of(matches, "leaf", "inner")?)),
-        "pair" => Some(Order::Pair(setup_of(matches, "leaf2", "inner2")?)),
-        "torture" => {
-            let (workers, rounds, seed) = torture_of(matches)?;
-            Some(Order::Torture(workers, rounds, seed))
-        }
+        "script" => script_order(matches),
+        "pair" => pair_order(matches),
+        "torture" => torture_order(matches),
         _ => None,
     }
+}
+
+/// What `script` orders by its matches.
+#[tactic(auto, using(crate::proofs::CommandLemmas::no_order))]
+fn script_order(matches: &ArgMatches<'_>) -> Option<Order>
+    ensures { let met = Some (codes "script", rows_of (found_of matches.now)) in
+        MatchOption result (HasNoOrder met) (IsOrderOf met) }
+{
+    Some(Order::Script(setup_of(matches, "leaf", "inner")?))
+}
+
+/// What `pair` orders by its matches.
+#[tactic(auto, using(crate::proofs::CommandLemmas::no_order))]
+fn pair_order(matches: &ArgMatches<'_>) -> Option<Order>
+    ensures { let met = Some (codes "pair", rows_of (found_of matches.now)) in
+        MatchOption result (HasNoOrder met) (IsOrderOf met) }
+{
+    Some(Order::Pair(setup_of(matches, "leaf2", "inner2")?))
+}
+
+/// What `torture` orders by its matches.
+#[tactic(auto, using(crate::proofs::CommandLemmas::no_order))]
+fn torture_order(matches: &ArgMatches<'_>) -> Option<Order>
+    ensures { let met = Some (codes "torture", rows_of (found_of matches.now)) in
+        MatchOption result (HasNoOrder met) (IsOrderOf met) }
+{
+    let (workers, rounds, seed) = torture_of(matches)?;
+    Some(Order::Torture(workers, rounds, seed))
 }
 
 /// The setup that the options give. Those of the second replica's tree have these names.
@@ -72,14 +98,28 @@ fn setup_of(matches: &ArgMatches<'_>, leaf2: &str, inner2: &str) -> Option<Setup
         MatchOption result (HasNoSetup leaf2.now inner2.now rows)
         (IsSetupOf leaf2.now inner2.now rows) }
 {
+    let (leaf, inner) = shape_of(matches, "leaf", "inner")?;
+    let (leaf2, inner2) = shape_of(matches, leaf2, inner2)?;
+    let cpus = u32_of(matches, "cpus")?;
     Some(Setup {
-        leaf: u32_of(matches, "leaf")?,
-        inner: u32_of(matches, "inner")?,
-        leaf2: u32_of(matches, leaf2)?,
-        inner2: u32_of(matches, inner2)?,
-        cpus: u32_of(matches, "cpus")?,
+        leaf,
+        inner,
+        leaf2,
+        inner2,
+        cpus,
         last: u64_of(matches, "last")?,
     })
+}
+
+/// The shape of a tree that the options of these names give: how much a leaf holds, and how much an
+/// inner node.
+fn shape_of(matches: &ArgMatches<'_>, leaf: &str, inner: &str) -> Option<(u32, u32)>
+    ensures { let rows = rows_of (found_of matches.now) in
+        MatchOption result (HasNoShape leaf.now inner.now rows)
+        (λ shape. IsShapeOf leaf.now inner.now rows shape.0 shape.1) }
+{
+    let holds = u32_of(matches, leaf)?;
+    Some((holds, u32_of(matches, inner)?))
 }
 
 /// The workers, the rounds and the seed that the options give.

@@ -1,5 +1,5 @@
 //! An order, performed between a reader and a writer.
-ghost use Rattle.std.specs.Prelude.{◌≡◌, ◌≤◌, false};
+ghost use Rattle.std.specs.Prelude.{◌≡◌, ◌≤◌, false, length};
 ghost use Rattle.rcu_text.specs.Runs.{ends_of};
 ghost use Rattle.rcu_torture.specs.CommandLine.{IsWithinLimits};
 ghost use Rattle.rcu_torture.specs.Ledger.{most_rounds, most_workers};
@@ -7,7 +7,7 @@ ghost use Rattle.rcu_torture.specs.Orders.{Answers, Performs, PrintsRun, Tells, 
 
 use crate::command::Order;
 use crate::printing::{print_fault, print_ledger};
-use crate::torture::{Open, torture};
+use crate::torture::{Ledger, Open, torture};
 use rcu_script::{RunFault, run_pair, run_script};
 use rcu_text::{Failed, Sink, Source};
 use std::alloc::Global;
@@ -72,11 +72,23 @@ fn run_torture<T: Threads + Wait + Sync, W: Sink>(
     requires rounds { (1 ≤ rounds) × (rounds ≤ most_rounds) }
     ensures { PrintsRun result workers rounds (W.outgoing writer.old) (W.outgoing writer.new) }
 {
-    let ledger = match torture(alloc, rt, workers, rounds, seed, &Open) {
-        Ok(ledger) => ledger,
-        Err(fault) => return Err(RunFault::Open(fault)),
-    };
-    match print_ledger(writer, workers, rounds, &ledger) {
+    match torture(alloc, rt, workers, rounds, seed, &Open) {
+        Ok(ledger) => print_run(writer, workers, rounds, &ledger),
+        Err(fault) => Err(RunFault::Open(fault)),
+    }
+}
+
+/// Prints the ledger of a run, with a share for each worker.
+fn print_run<W: Sink>(
+    writer: &mut W,
+    workers: u32,
+    rounds: u32,
+    ledger: &Ledger,
+) -> Result<(), RunFault>
+    requires { length ledger.now.shares ≡ workers }
+    ensures { PrintsRun result workers rounds (W.outgoing writer.old) (W.outgoing writer.new) }
+{
+    match print_ledger(writer, workers, rounds, ledger) {
         Ok(()) => Ok(()),
         Err(Failed) => Err(RunFault::Write),
     }

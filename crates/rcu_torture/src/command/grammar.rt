@@ -97,7 +97,7 @@ fn shapes_command<'a>(alloc: Global) -> Result<Command<'a>, AllocError>
         leaf,
         "Children that an inner node of a holds",
     )?;
-    shaped.arg(leaf2_option(alloc))?.arg(inner2_option(alloc))
+    with_second_shape(alloc, shaped)
 }
 
 fn torture_command<'a>(alloc: Global) -> Result<Command<'a>, AllocError>
@@ -106,10 +106,7 @@ fn torture_command<'a>(alloc: Global) -> Result<Command<'a>, AllocError>
 {
     let about = "Works the engine for threads hard, and prints what came of it";
     let command = described(alloc, "torture", about, help::TORTURE);
-    command
-        .arg(workers_option(alloc))?
-        .arg(rounds_option(alloc))?
-        .arg(seed_option(alloc))
+    with_workers_and_rounds(alloc, command)?.arg(seed_option(alloc))
 }
 
 /// The command with the options `--leaf` and `--inner`, of which help says this.
@@ -143,6 +140,33 @@ fn with_cpus_and_last<'a>(
 {
     let more = command.arg(cpus_option(alloc, cpus))?;
     more.arg(last_option(alloc))
+}
+
+/// The command with the options `--leaf2` and `--inner2`.
+fn with_second_shape<'a>(alloc: Global, command: Command<'a>) -> Result<Command<'a>, AllocError>
+    requires { (fields_of command).has_globals ≡ false }
+    ensures app { IfOk result (λ more. app_of more ≡ with_rule
+        (with_rule (app_of command.entry) (required_rule (number_rule (codes "leaf2") any_u32)))
+        (required_rule (number_rule (codes "inner2") any_u32))) }
+    ensures local { IfOk result (λ more. (fields_of more).has_globals ≡ false) }
+{
+    let more = command.arg(leaf2_option(alloc))?;
+    more.arg(inner2_option(alloc))
+}
+
+/// The command with the options `--workers` and `--rounds`.
+fn with_workers_and_rounds<'a>(
+    alloc: Global,
+    command: Command<'a>,
+) -> Result<Command<'a>, AllocError>
+    requires { (fields_of command).has_globals ≡ false }
+    ensures app { IfOk result (λ more. app_of more ≡ with_rule (with_rule (app_of command.entry)
+        (required_rule (number_rule (codes "workers") (u32_from_1_to most_workers))))
+        (required_rule (number_rule (codes "rounds") (u32_from_1_to most_rounds)))) }
+    ensures local { IfOk result (λ more. (fields_of more).has_globals ≡ false) }
+{
+    let more = command.arg(workers_option(alloc))?;
+    more.arg(rounds_option(alloc))
 }
 
 /// A command of this name, and what help says of it: before its options, and behind them.

@@ -1,5 +1,5 @@
 //! A worker's job.
-ghost use Rattle.std.specs.Prelude.{◌≡◌, ◌+◌, ◌%◌, ◌<◌, ◌≤◌, IfErr, IfOk, OnErr, OnOk, false};
+ghost use Rattle.std.specs.Prelude.{◌≡◌, ◌+◌, ◌*◌, ◌%◌, ◌<◌, ◌≤◌, IfErr, IfOk, OnErr, OnOk, false};
 ghost use Rattle.std.specs.Prelude.{length, true};
 ghost use Rattle.rand_pcg.specs.Pcg.{pcg32};
 ghost use Rattle.rcu_seq.specs.Numbers.{is_done_at};
@@ -257,10 +257,29 @@ impl<'a> Job<'a> {
         if !self.read(gate, word, share)? {
             return Ok(false);
         }
+        self.update(rt, round, word, share)?;
+        Ok(true)
+    }
+
+    /// What a round does behind its read section: it queues its callback, and settles.
+    fn update<R: Wait>(
+        &mut self,
+        rt: &R,
+        round: u32,
+        word: u32,
+        share: &mut Share,
+    ) -> Result<(), Fault>
+        requires { share.old.queued < most_rounds }
+        ensures counted { OnOk result (share.new.queued ≡ share.old.queued + 1) }
+        ensures queued { share.new.queued ≤ share.old.queued + 1 }
+        ensures early { share.new.early ≡ share.old.early }
+        ensures ran { length share.new.ids + most_in_round * share.old.queued
+            ≤ length share.old.ids + most_in_round * share.new.queued }
+        ensures rest { self.new ≡ record self.old { seat = self.new.seat } }
+    {
         self.queue(rt, round)?;
         share.note_queued();
-        self.settle(rt, word, share)?;
-        Ok(true)
+        self.settle(rt, word, share)
     }
 
     /// What a round does when its callback is queued: it moves the grace periods on, hands out
@@ -294,6 +313,22 @@ impl<'a> Job<'a> {
         if !gate.pass(self.worker, Point::Entered) {
             return Ok(false);
         }
+        self.poll_inside(gate, share)
+    }
+
+    /// Polls a cookie inside of the section in which it is taken, and then ends the section at a
+    /// quiescent state. Answers whether the gate let the worker pass; where it did not, the section
+    /// is open.
+    fn poll_inside<G: Gate>(&mut self, gate: &G, share: &mut Share) -> Result<bool, Fault>
+        requires { share.old.early < most_rounds + length share.old.ids }
+        ensures share { share.new ≡ record share.old { early = share.new.early } }
+        ensures early { share.new.early ≤ share.old.early + 1 }
+        ensures open { IfOk result (λ passed. passed ≡ false → self.new.seat ≡ self.old.seat) }
+        ensures polled { self.new.watcher.view.loads ≡ self.old.watcher.view.loads + 2 }
+        ensures closed { IfOk result (λ passed. passed ≡ true → self.new.seat.depth ≡ 0) }
+        ensures rest { self.new ≡
+            record self.old { seat = self.new.seat; watcher = self.new.watcher } }
+    {
         let cookie = self.watcher.take(self.live);
         self.poll(cookie, share);
         if !gate.pass(self.worker, Point::Polled) {
@@ -358,10 +393,19 @@ impl<'a> Job<'a> {
         ensures rest { self.new ≡ record self.old { seat = self.new.seat } }
     {
         if self.worker != 0 && word / 4 % 8 == 0 {
-            self.live.offline(rt, &mut self.seat)?;
-            self.live.online(rt, &mut self.seat)?;
+            self.return_from_offline(rt)?;
         }
         Ok(())
+    }
+
+    /// Takes the processor offline and online again.
+    fn return_from_offline<R: Wait>(&mut self, rt: &R) -> Result<(), Fault>
+        ensures returned { OnOk result
+            (self.new.seat ≡ after_quiesce (after_depart self.old.seat) self.new.seat.view.seen) }
+        ensures rest { self.new ≡ record self.old { seat = self.new.seat } }
+    {
+        self.live.offline(rt, &mut self.seat)?;
+        self.live.online(rt, &mut self.seat)
     }
 
     /// One grace period, which nobody else's processor holds up.
@@ -387,14 +431,18 @@ impl<'a> Job<'a> {
         }
         // Nobody else works the engine any more: no more are done than the tend tells.
         let (done, _) = self.live.tend(rt, self.worker)?;
+        self.hand_out_last(rt, done.min(MOST_AT_END))
+    }
+
+    /// Hands out callbacks of the processor, at most so many, to a share of their own.
+    fn hand_out_last<R: Wait>(&mut self, rt: &R, most: u64) -> Result<Share, Fault>
+        ensures queued { IfOk result (λ share. share.queued ≡ 0) }
+        ensures early { IfOk result (λ share. share.early ≡ 0) }
+        ensures most { IfOk result (λ share. length share.ids ≤ most) }
+        ensures rest { self.new ≡ self.old }
+    {
         let mut share = Share::new(self.alloc);
-        hand_out(
-            rt,
-            self.live,
-            self.worker,
-            done.min(MOST_AT_END),
-            &mut share,
-        )?;
+        hand_out(rt, self.live, self.worker, most, &mut share)?;
         Ok(share)
     }
 }
