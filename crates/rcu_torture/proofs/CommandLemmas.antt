@@ -11,7 +11,9 @@ use Rattle.clap.specs.Words.{App, HasMatchesOf, Row, Text, fault_of, is_simple, 
 use Rattle.clap.specs.Words.{subcommand_rows_of}
 use Rattle.clap.specs.declared.error.kind.ErrorKind.TheVariants.{MissingSubcommand}
 use Rattle.clap.specs.declared.parser.matches.ArgMatches.{ArgMatches}
-use Rattle.rcu_torture.specs.CommandLine.{HasNoOrder, HasNoSetup, HasNoTorture, IsOrderOf, IsWithinLimits, rcu, u32_max}
+use Rattle.rcu_torture.specs.CommandLine.{HasNoOrder, HasNoSetup, HasNoShape, HasNoTorture, IsOrderOf, IsSetupOf}
+use Rattle.rcu_torture.specs.CommandLine.{IsWithinLimits, rcu, u32_max}
+use Rattle.rcu_script.specs.declared.runs.Setup.{Setup}
 use Rattle.rcu_torture.specs.Ledger.{most_rounds, most_workers}
 use Rattle.rcu_torture.specs.declared.command.Order.{Order}
 use Rattle.rcu_torture.specs.declared.command.Order.TheVariants.{Script, Pair, Torture}
@@ -19,6 +21,27 @@ use Rattle.rcu_torture.proofs.SubcommandLemmas.{HasNumbers, HasTortureNumbers, b
 use Rattle.rcu_torture.proofs.SubcommandLemmas.{pair_numbers, script_numbers, torture_numbers}
 use Rattle.rcu_torture.proofs.GetterLemmas.{lies_within, widened}
 use Rattle.rcu_torture.proofs.WalkLemmas.{first_none, next_none}
+
+-- matches that make no shape of a tree make no setup
+pub no_shape : (second_leaf second_inner : Text) (rows : List Row) (o : Option Setup) → o ≡ None
+    → HasNoShape (codes "leaf") (codes "inner") rows
+    → MatchOption o (HasNoSetup second_leaf second_inner rows) (IsSetupOf second_leaf second_inner rows)
+no_shape second_leaf second_inner rows o is none =
+    let no : HasNoSetup second_leaf second_inner rows =
+    λ setup so. none setup.leaf setup.inner (record { of_leaf = so.leaf; of_inner = so.inner }) in
+    rw is no
+
+-- so do those that make none of the second one
+pub no_second_shape : (second_leaf second_inner : Text) (rows : List Row) (o : Option Setup) → o ≡ None
+    → HasNoShape second_leaf second_inner rows
+    → MatchOption o (HasNoSetup second_leaf second_inner rows) (IsSetupOf second_leaf second_inner rows)
+no_second_shape second_leaf second_inner rows o is none =
+    let no : HasNoSetup second_leaf second_inner rows =
+    λ setup so. none setup.leaf2 setup.inner2 (record { of_leaf = so.leaf2; of_inner = so.inner2 }) in
+    rw is no
+
+-- matches that make no shape make no setup
+pub ruleset no_setup = (no_shape, no_second_shape)
 
 -- matches of `script` that make no setup say no order
 pub no_script : (name : Text) (rows : List Row) → name ≡ codes "script"

@@ -93,6 +93,7 @@ fn torture_order(matches: &ArgMatches<'_>) -> Option<Order>
 }
 
 /// The setup that the options give. Those of the second replica's tree have these names.
+#[tactic(auto, using(crate::proofs::CommandLemmas::no_setup))]
 fn setup_of(matches: &ArgMatches<'_>, leaf2: &str, inner2: &str) -> Option<Setup>
     ensures { let rows = rows_of (found_of matches.now) in
         MatchOption result (HasNoSetup leaf2.now inner2.now rows)

@@ -431,18 +431,14 @@ impl<'a> Job<'a> {
         }
         // Nobody else works the engine any more: no more are done than the tend tells.
         let (done, _) = self.live.tend(rt, self.worker)?;
-        self.hand_out_last(rt, done.min(MOST_AT_END))
-    }
-
-    /// Hands out callbacks of the processor, at most so many, to a share of their own.
-    fn hand_out_last<R: Wait>(&mut self, rt: &R, most: u64) -> Result<Share, Fault>
-        ensures queued { IfOk result (λ share. share.queued ≡ 0) }
-        ensures early { IfOk result (λ share. share.early ≡ 0) }
-        ensures most { IfOk result (λ share. length share.ids ≤ most) }
-        ensures rest { self.new ≡ self.old }
-    {
         let mut share = Share::new(self.alloc);
-        hand_out(rt, self.live, self.worker, most, &mut share)?;
+        hand_out(
+            rt,
+            self.live,
+            self.worker,
+            done.min(MOST_AT_END),
+            &mut share,
+        )?;
         Ok(share)
     }
 }
