@@ -15,7 +15,28 @@ use std::time::Duration;
 const MOST_LOOKS: u32 = 200_000;
 
 /// What was queued, handed out, early and twice.
-type Totals = (u64, u64, u64, u64);
+#[derive(Clone, Copy, Debug, PartialEq, Eq)]
+struct Totals {
+    queued: u64,
+    ran: u64,
+    early: u64,
+    twice: u64,
+}
+
+/// Each of so many that were queued was handed out, and nothing came early or twice.
+fn whole(queued: u64) -> Totals {
+    Totals {
+        queued,
+        ran: queued,
+        early: 0,
+        twice: 0,
+    }
+}
+
+/// Compares the totals of a run, of which there are none where it was refused a growth.
+fn is_whole(rt: &impl Abort, found: Option<Totals>, queued: u64) {
+    assert_eq!(rt; found, Some(whole(queued)));
+}
 
 /// The totals of a run, or none where it was refused a growth.
 fn try_totals<R: Threads + Wait + Sync + Abort + Print, G: Gate>(
@@ -30,12 +51,12 @@ fn try_totals<R: Threads + Wait + Sync + Abort + Print, G: Gate>(
     requires rounds { (1 ≤ rounds) × (rounds ≤ most_rounds) }
 {
     match torture(alloc, rt, workers, rounds, seed, gate) {
-        Ok(ledger) => Some((
-            ledger.queued(),
-            ledger.ran(),
-            ledger.early(),
-            ledger.twice(),
-        )),
+        Ok(ledger) => Some(Totals {
+            queued: ledger.queued(),
+            ran: ledger.ran(),
+            early: ledger.early(),
+            twice: ledger.twice(),
+        }),
         Err(fault) => {
             assert_eq!(rt; fault, Fault::NoMemory);
             let _ = println!(rt; "a growth was refused");
@@ -60,8 +81,7 @@ fn all_are_handed_out<R: Threads + Wait + Sync + Abort + Print>(
         None => try_totals(rt, alloc, workers, rounds, seed, &Open),
         first => first,
     };
-    let queued = u64::from(workers) * u64::from(rounds);
-    assert_eq!(rt; found, Some((queued, queued, 0, 0)));
+    is_whole(rt, found, u64::from(workers) * u64::from(rounds));
 }
 
 /// Worker 0 stays in its section until worker 1 has polled, and worker 1 polls no sooner than
@@ -117,10 +137,18 @@ fn workers_overlap_at_the_gate(rt: HostRuntime) {
     // Where the growth was refused to the thread there was none: worker 1 ran after worker 0, which
     // waited for it in vain, and queued the one callback.
     let found = match try_totals(&rt, alloc, 2, 1, 1, &Overlap::new(&rt)) {
-        None | Some((1, 1, 0, 0)) => try_totals(&rt, alloc, 2, 1, 1, &Overlap::new(&rt)),
+        None
+        | Some(
+            Totals {
+                queued: 1,
+                ran: 1,
+                early: 0,
+                twice: 0,
+            },
+        ) => try_totals(&rt, alloc, 2, 1, 1, &Overlap::new(&rt)),
         first => first,
     };
-    assert_eq!(rt; found, Some((2, 2, 0, 0)));
+    is_whole(&rt, found, 2);
 }
 
 /// Does not let worker 0 pass at its third entering.
@@ -139,7 +167,7 @@ impl ThirdTime {
 
 impl Gate for ThirdTime {
     fn pass(&self, worker: u32, point: Point) -> bool {
-        (worker, point) != (0, Point::Entered) || self.entered.fetch_add(1, Ordering::SeqCst) != 2
+        worker != 0 || point != Point::Entered || self.entered.fetch_add(1, Ordering::SeqCst) != 2
     }
 }
 
@@ -148,7 +176,7 @@ fn closing_gate_shortens_the_ledger(rt: HostRuntime) {
     let alloc = rt.alloc();
     let first = try_totals(&rt, alloc, 2, 5, 1, &ThirdTime::new());
     let found = first.or_else(|| try_totals(&rt, alloc, 2, 5, 1, &ThirdTime::new()));
-    assert_eq!(rt; found, Some((7, 7, 0, 0)));
+    is_whole(&rt, found, 7);
 }
 
 #[test]
@@ -178,7 +206,9 @@ fn ledger_of_few_rounds(rt: HostRuntime) {
 #[test]
 fn run_is_refused_or_whole(rt: HostRuntime) {
     let found = try_totals(&rt, rt.alloc(), 2, 2, 1, &Open);
-    assert!(rt; found.is_none() || found == Some((4, 4, 0, 0)));
+    if found.is_some() {
+        is_whole(&rt, found, 4);
+    }
 }
 
 #[test]
