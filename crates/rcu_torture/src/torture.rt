@@ -1,6 +1,6 @@
 //! Threads that work the running engine hard, and the ledger of what they did.
-ghost use Rattle.std.specs.Prelude.{◌≡◌, ◌+◌, ◌≤◌, Err, IfOk, IfSome, Ok, length};
-ghost use Rattle.std.specs.Prelude.{vec_capacity, vec_len};
+ghost use Rattle.std.specs.Prelude.{◌≡◌, ◌+◌, ◌≤◌, Err, IfErr, IfNone, IfOk, IfSome, Ok, OnOk};
+ghost use Rattle.std.specs.Prelude.{length, vec_capacity, vec_len};
 ghost use Rattle.rcu_torture.specs.Ledger.{most_rounds, most_workers};
 
 pub mod draws;
@@ -81,13 +81,17 @@ fn work<R: Threads + Wait + Sync, G: Gate>(
     account(alloc, gathered, own)
 }
 
-/// The ledger of what was gathered and of the program's own share, or the fault that was met: the
-/// workers' first, else the program's. Fault 16.
+/// The ledger of what was gathered and of the program's own share.
+///
+/// Faults: the workers', else the program's, else 16.
 fn account(alloc: Global, gathered: Gathered, own: Result<Share, Fault>) -> Result<Ledger, Fault>
     requires { vec_len gathered.shares ≤ most_workers }
     ensures shares { IfOk result (λ ledger. ledger.shares ≡ gathered.shares.items) }
     ensures own { IfOk result (λ ledger. own ≡ Ok ledger.own) }
-    ensures fault { IfSome gathered.fault (λ fault. result ≡ Err fault) }
+    ensures first { IfSome gathered.fault (λ fault. result ≡ Err fault) }
+    ensures other { IfNone gathered.fault (IfErr own (λ fault. result ≡ Err fault)) }
+    ensures memory { IfNone gathered.fault
+        (OnOk own (IfErr result (λ fault. fault ≡ Fault.NoMemory))) }
 {
     let Gathered { shares, fault } = gathered;
     if let Some(fault) = fault {
