@@ -9,6 +9,16 @@ fn geometry<const LEAF: u32, const FAN: u32>(rt: &impl Abort, cpus: u32) -> Geom
     Geometry::new(cpus).expect(rt, "there is such a tree")
 }
 
+/// Compares a number that is said of a level or a processor.
+fn is_said(rt: &impl Abort, place: u32, said: u32, wanted: u32) {
+    assert!(rt; said == wanted, "at {place}");
+}
+
+/// Compares a number that is said of a node, and of which the root has none.
+fn is_above(rt: &impl Abort, node: u32, said: Option<u32>, wanted: Option<u32>) {
+    assert!(rt; said == wanted, "node {node}");
+}
+
 /// Compares where each level begins and how many nodes it has, and how many nodes there are.
 fn has_levels<const LEAF: u32, const FAN: u32>(
     rt: &impl Abort,
@@ -22,8 +32,8 @@ fn has_levels<const LEAF: u32, const FAN: u32>(
     let mut level = 0u32;
     for (start, nodes) in wanted {
         assert!(rt; level < geometry.levels());
-        assert!(rt; geometry.level_start(level) == *start, "level {level}");
-        assert!(rt; geometry.level_nodes(level) == *nodes, "level {level}");
+        is_said(rt, level, geometry.level_start(level), *start);
+        is_said(rt, level, geometry.level_nodes(level), *nodes);
         level = level.saturating_add(1);
     }
     assert!(rt; geometry.nodes() == nodes);
@@ -58,16 +68,25 @@ fn shape_limits(rt: HostRuntime) {
     has_levels::<16, 64>(&rt, 17, &[(0, 1), (1, 2)], 3);
     has_levels::<2, 2>(&rt, 1, &[(0, 1)], 1);
     has_levels::<64, 64>(&rt, 1, &[(0, 1)], 1);
-    for cpus in [0, 1, 4096] {
-        refuses::<1, 2>(&rt, cpus, Fault::BadFanout);
-        refuses::<65, 2>(&rt, cpus, Fault::BadFanout);
-        refuses::<2, 1>(&rt, cpus, Fault::BadFanout);
-        refuses::<2, 65>(&rt, cpus, Fault::BadFanout);
-    }
-    for cpus in [0, 4097] {
-        refuses::<2, 2>(&rt, cpus, Fault::TooManyCpus);
-        refuses::<64, 64>(&rt, cpus, Fault::TooManyCpus);
-    }
+    refuses_fanouts(&rt, 0);
+    refuses_fanouts(&rt, 1);
+    refuses_fanouts(&rt, 4096);
+    refuses_cpus(&rt, 0);
+    refuses_cpus(&rt, 4097);
+}
+
+/// There is no tree of fanouts below 2 or above 64.
+fn refuses_fanouts(rt: &impl Abort, cpus: u32) {
+    refuses::<1, 2>(rt, cpus, Fault::BadFanout);
+    refuses::<65, 2>(rt, cpus, Fault::BadFanout);
+    refuses::<2, 1>(rt, cpus, Fault::BadFanout);
+    refuses::<2, 65>(rt, cpus, Fault::BadFanout);
+}
+
+/// There is no tree of so many processors.
+fn refuses_cpus(rt: &impl Abort, cpus: u32) {
+    refuses::<2, 2>(rt, cpus, Fault::TooManyCpus);
+    refuses::<64, 64>(rt, cpus, Fault::TooManyCpus);
 }
 
 /// Compares each node's parent with its bit there.
@@ -79,8 +98,8 @@ fn has_parents<const LEAF: u32, const FAN: u32>(
     let mut node = 0u32;
     for (parent, bit) in wanted {
         assert!(rt; node < geometry.nodes());
-        assert!(rt; geometry.parent(node) == *parent, "node {node}");
-        assert!(rt; geometry.bit_in_parent(node) == *bit, "node {node}");
+        is_above(rt, node, geometry.parent(node), *parent);
+        is_above(rt, node, geometry.bit_in_parent(node), *bit);
         node = node.saturating_add(1);
     }
 }
@@ -94,8 +113,8 @@ fn has_leaves<const LEAF: u32, const FAN: u32>(
     let mut cpu = 0u32;
     for (leaf, bit) in wanted {
         assert!(rt; cpu < geometry.cpus());
-        assert!(rt; geometry.leaf_of(cpu) == *leaf, "processor {cpu}");
-        assert!(rt; geometry.bit_of(cpu) == *bit, "processor {cpu}");
+        is_said(rt, cpu, geometry.leaf_of(cpu), *leaf);
+        is_said(rt, cpu, geometry.bit_of(cpu), *bit);
         cpu = cpu.saturating_add(1);
     }
 }

@@ -1,5 +1,5 @@
 //! Each public call over each kind of awaited set.
-use crate::made::{flat, refused, tree};
+use crate::made::{flat, is_answer, is_said, refused, tree};
 use rcu_hotplug::hotplug::Hotplug;
 use rcu_node::answer::Answer;
 use rcu_node::awaited::Awaited;
@@ -36,8 +36,8 @@ fn awaits<A: Awaited>(rt: &impl Abort, hotplug: &Hotplug<A>, wanted: &[u32]) {
     let awaited = hotplug.awaited();
     for cpu in 0..awaited.cpus() {
         let awaits = awaited.awaits(cpu);
-        assert!(rt; awaits == wanted.contains(&cpu), "processor {cpu}");
-        assert!(rt; !awaits || hotplug.online(cpu), "processor {cpu}");
+        is_said(rt, cpu, awaits, wanted.contains(&cpu));
+        is_said(rt, cpu, !awaits || hotplug.online(cpu), true);
     }
     assert!(rt; awaited.count() as usize == wanted.len());
 }
@@ -54,19 +54,18 @@ fn begin<A: Awaited>(rt: &impl Abort, hotplug: &mut Hotplug<A>, tag: u64, wanted
 fn report<A: Awaited>(rt: &impl Abort, hotplug: &mut Hotplug<A>, reports: &[(u32, u64, Answer)]) {
     for (cpu, tag, wanted) in reports {
         assert!(rt; *cpu < hotplug.awaited().cpus());
-        let answer = hotplug.report(*cpu, *tag);
-        assert!(rt; answer == *wanted, "processor {cpu}, number {tag}");
+        is_answer(rt, *cpu, *tag, hotplug.report(*cpu, *tag), *wanted);
     }
 }
 
 /// Takes a processor online.
 fn arrives<A: Awaited>(rt: &impl Abort, hotplug: &mut Hotplug<A>, cpu: u32) {
-    assert!(rt; hotplug.arrive(cpu).is_ok(), "processor {cpu}");
+    is_said(rt, cpu, hotplug.arrive(cpu).is_ok(), true);
 }
 
 /// Takes a processor offline.
 fn departs<A: Awaited>(rt: &impl Abort, hotplug: &mut Hotplug<A>, cpu: u32) {
-    assert!(rt; hotplug.depart(cpu).is_ok(), "processor {cpu}");
+    is_said(rt, cpu, hotplug.depart(cpu).is_ok(), true);
 }
 
 /// A processor that arrives while a grace period runs is awaited by the next one.
@@ -112,14 +111,14 @@ fn departed_and_back<A: Awaited>(rt: &impl Abort, hotplug: &mut Hotplug<A>) {
 /// Compares why each of these processors does not arrive.
 fn refuses_arrival<A: Awaited>(rt: &impl Abort, hotplug: &mut Hotplug<A>, rows: &[(u32, Fault)]) {
     for (cpu, wanted) in rows {
-        assert!(rt; hotplug.arrive(*cpu) == Err(*wanted), "processor {cpu}");
+        is_said(rt, *cpu, hotplug.arrive(*cpu) == Err(*wanted), true);
     }
 }
 
 /// Compares why each of these processors does not depart.
 fn refuses_departure<A: Awaited>(rt: &impl Abort, hotplug: &mut Hotplug<A>, rows: &[(u32, Fault)]) {
     for (cpu, wanted) in rows {
-        assert!(rt; hotplug.depart(*cpu) == Err(*wanted), "processor {cpu}");
+        is_said(rt, *cpu, hotplug.depart(*cpu) == Err(*wanted), true);
     }
 }
 
@@ -165,11 +164,15 @@ fn come_and_go_over_tree(rt: HostRuntime) {
     come_and_go(&rt, over_tree(&rt, rt.alloc()));
 }
 
+/// So many processors are made, and no more.
+fn has_size(rt: &impl Abort, alloc: Global, cpus: u32) {
+    let mut hotplug = over_flat(rt, alloc, cpus);
+    assert!(rt; hotplug.awaited().cpus() == cpus);
+    refuses_arrival(rt, &mut hotplug, &[(cpus, Fault::BadCpu)]);
+}
+
 #[test]
 fn sizes(rt: HostRuntime) {
-    for cpus in [1, 4096] {
-        let mut hotplug = over_flat(&rt, rt.alloc(), cpus);
-        assert!(rt; hotplug.awaited().cpus() == cpus);
-        refuses_arrival(&rt, &mut hotplug, &[(cpus, Fault::BadCpu)]);
-    }
+    has_size(&rt, rt.alloc(), 1);
+    has_size(&rt, rt.alloc(), 4096);
 }

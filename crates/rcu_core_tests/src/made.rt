@@ -1,6 +1,7 @@
 //! Sets and trees, each made by a second call where the first is refused a growth.
 ghost use Rattle.std.specs.Prelude.{◌≡◌, false, replicate};
 
+use rcu_node::answer::Answer;
 use rcu_node::awaited::Awaited;
 use rcu_node::cpu_set::CpuSet;
 use rcu_node::flat::Flat;
@@ -12,6 +13,16 @@ use std::process::Abort;
 /// Compares the fault of a call whose growth was refused.
 pub fn refused(rt: &impl Abort, fault: Fault) {
     assert!(rt; fault == Fault::NoMemory);
+}
+
+/// Compares what is said of a processor.
+pub fn is_said(rt: &impl Abort, cpu: u32, said: bool, wanted: bool) {
+    assert!(rt; said == wanted, "processor {cpu}");
+}
+
+/// Compares the answer to a report of a processor and a number.
+pub fn is_answer(rt: &impl Abort, cpu: u32, number: u64, answer: Answer, wanted: Answer) {
+    assert!(rt; answer == wanted, "processor {cpu}, number {number}");
 }
 
 /// An empty set.

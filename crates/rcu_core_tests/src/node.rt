@@ -3,7 +3,7 @@
 mod masks;
 mod merging;
 
-use crate::made::{empty_set, everyone, flat, tree};
+use crate::made::{empty_set, everyone, flat, is_answer, is_said, tree};
 use rcu_node::answer::Answer;
 use rcu_node::awaited::Awaited;
 use rcu_node::cpu_set::CpuSet;
@@ -17,8 +17,7 @@ use std::process::Abort;
 fn insert(rt: &impl Abort, set: &mut CpuSet, cpus: &[(u32, bool)]) {
     for (cpu, wanted) in cpus {
         assert!(rt; *cpu < set.cpus());
-        let new = set.insert(*cpu);
-        assert!(rt; new == *wanted, "processor {cpu}");
+        is_said(rt, *cpu, set.insert(*cpu), *wanted);
     }
 }
 
@@ -26,8 +25,7 @@ fn insert(rt: &impl Abort, set: &mut CpuSet, cpus: &[(u32, bool)]) {
 fn contains(rt: &impl Abort, set: &CpuSet, cpus: &[(u32, bool)]) {
     for (cpu, wanted) in cpus {
         assert!(rt; *cpu < set.cpus());
-        let there = set.contains(*cpu);
-        assert!(rt; there == *wanted, "processor {cpu}");
+        is_said(rt, *cpu, set.contains(*cpu), *wanted);
     }
 }
 
@@ -35,8 +33,7 @@ fn contains(rt: &impl Abort, set: &CpuSet, cpus: &[(u32, bool)]) {
 fn report<A: Awaited>(rt: &impl Abort, awaited: &mut A, reports: &[(u32, u64, Answer)]) {
     for (cpu, number, wanted) in reports {
         assert!(rt; *cpu < awaited.cpus());
-        let answer = awaited.report(*cpu, *number);
-        assert!(rt; answer == *wanted, "processor {cpu}, number {number}");
+        is_answer(rt, *cpu, *number, awaited.report(*cpu, *number), *wanted);
     }
 }
 
@@ -44,10 +41,8 @@ fn report<A: Awaited>(rt: &impl Abort, awaited: &mut A, reports: &[(u32, u64, An
 fn awaits<A: Awaited>(rt: &impl Abort, awaited: &A, cpus: &[(u32, bool, bool)]) {
     for (cpu, at_start, now) in cpus {
         assert!(rt; *cpu < awaited.cpus());
-        let starts = awaited.starts(*cpu);
-        assert!(rt; starts == *at_start, "processor {cpu}");
-        let awaits = awaited.awaits(*cpu);
-        assert!(rt; awaits == *now, "processor {cpu}");
+        is_said(rt, *cpu, awaited.starts(*cpu), *at_start);
+        is_said(rt, *cpu, awaited.awaits(*cpu), *now);
     }
 }
 
@@ -128,11 +123,16 @@ fn flat_awaits_two_grace_periods(rt: HostRuntime) {
 
 #[test]
 fn trees_await_two_grace_periods(rt: HostRuntime) {
-    two_grace_periods(&rt, rt.alloc(), tree::<2, 2>(&rt, rt.alloc(), 5));
-    two_grace_periods(&rt, rt.alloc(), tree::<2, 3>(&rt, rt.alloc(), 5));
-    two_grace_periods(&rt, rt.alloc(), tree::<4, 4>(&rt, rt.alloc(), 5));
-    two_grace_periods(&rt, rt.alloc(), tree::<16, 64>(&rt, rt.alloc(), 5));
-    two_grace_periods(&rt, rt.alloc(), tree::<64, 64>(&rt, rt.alloc(), 5));
+    tree_awaits::<2, 2>(&rt, rt.alloc());
+    tree_awaits::<2, 3>(&rt, rt.alloc());
+    tree_awaits::<4, 4>(&rt, rt.alloc());
+    tree_awaits::<16, 64>(&rt, rt.alloc());
+    tree_awaits::<64, 64>(&rt, rt.alloc());
+}
+
+/// Two grace periods of a tree of five processors.
+fn tree_awaits<const LEAF: u32, const FAN: u32>(rt: &impl Abort, alloc: Global) {
+    two_grace_periods(rt, alloc, tree::<LEAF, FAN>(rt, alloc, 5));
 }
 
 #[test]
@@ -140,11 +140,16 @@ fn tree_of_27_leaves(rt: HostRuntime) {
     let mut tree = tree::<2, 3>(&rt, rt.alloc(), 54);
     let all = everyone(&rt, rt.alloc(), 54);
     begin(&rt, &mut tree, 1, &all);
+    report_54(&rt, &mut tree);
+}
+
+/// Reports 54 processors, in order.
+fn report_54<A: Awaited>(rt: &impl Abort, awaited: &mut A) {
     for cpu in 0..53 {
-        report(&rt, &mut tree, &[(cpu, 1, Answer::Taken)]);
-        assert!(rt; tree.count() == 53 - cpu);
+        report(rt, awaited, &[(cpu, 1, Answer::Taken)]);
+        assert!(rt; awaited.count() == 53 - cpu);
     }
-    report(&rt, &mut tree, &[(53, 1, Answer::Last)]);
+    report(rt, awaited, &[(53, 1, Answer::Last)]);
 }
 
 /// Takes a processor out, and compares whether it was there.
@@ -153,79 +158,88 @@ fn remove(rt: &impl Abort, set: &mut CpuSet, cpu: u32, wanted: bool) {
     assert!(rt; set.remove(cpu) == wanted);
 }
 
+/// Compares flags as a word, which begins at this processor.
+fn is_word(rt: &impl Abort, from: u32, bits: u64, wanted: u64) {
+    assert!(rt; bits == wanted, "from {from}");
+}
+
 /// Compares flags as words, each of a first processor and a number of processors.
 fn has_bits(rt: &impl Abort, set: &CpuSet, words: &[(u32, u32, u64)]) {
     for (from, width, wanted) in words {
         assert!(rt; *from < set.cpus() && *width <= 64);
-        let bits = set.bits_from(*from, *width);
-        assert!(rt; bits == *wanted, "from {from}");
+        is_word(rt, *from, set.bits_from(*from, *width), *wanted);
     }
+}
+
+/// Processors in the order in which they are put in, and whether each is new.
+static PUT: [(u32, bool); 5] = [(0, true), (63, true), (64, true), (129, true), (64, false)];
+
+/// Whether these are in the set once one was taken out.
+static LEFT: [(u32, bool); 5] = [(0, true), (63, false), (64, true), (65, false), (129, true)];
+
+/// Whether they are in a copy of it from before.
+static COPIED: [(u32, bool); 5] = [(0, true), (63, true), (64, true), (65, false), (129, true)];
+
+/// The flags then, as words of a first processor and a number of processors.
+static WORDS: [(u32, u32, u64); 4] = [(0, 1, 1), (60, 8, 0b10000), (64, 64, 1), (128, 64, 2)];
+
+/// Fills a set of three words, copies it, takes a processor out, and clears it.
+fn fill_and_copy(rt: &impl Abort, set: &mut CpuSet, copy: &mut CpuSet) {
+    insert(rt, set, &PUT);
+    assert!(rt; copy.cpus() == set.cpus());
+    copy.copy_from(set);
+
+    remove(rt, set, 63, true);
+    remove(rt, set, 63, false);
+    contains(rt, set, &LEFT);
+    assert!(rt; set.count() == 3);
+    has_bits(rt, set, &WORDS);
+
+    set.clear();
+    assert!(rt; set.count() == 0);
+    contains(rt, copy, &COPIED);
+    assert!(rt; copy.count() == 4);
 }
 
 #[test]
 fn set_of_three_words(rt: HostRuntime) {
     let mut set = empty_set(&rt, rt.alloc(), 130);
-    insert(
-        &rt,
-        &mut set,
-        &[(0, true), (63, true), (64, true), (129, true), (64, false)],
-    );
     let mut copy = empty_set(&rt, rt.alloc(), 130);
-    assert!(rt; copy.cpus() == set.cpus());
-    copy.copy_from(&set);
+    fill_and_copy(&rt, &mut set, &mut copy);
+}
 
-    remove(&rt, &mut set, 63, true);
-    remove(&rt, &mut set, 63, false);
-    contains(
-        &rt,
-        &set,
-        &[(0, true), (63, false), (64, true), (65, false), (129, true)],
-    );
-    assert!(rt; set.count() == 3);
-    has_bits(
-        &rt,
-        &set,
-        &[(0, 1, 1), (60, 8, 0b10000), (64, 64, 1), (128, 64, 2)],
-    );
+/// Whether these processors are in a union.
+static UNION: [(u32, bool); 6] = [
+    (0, true),
+    (1, false),
+    (63, true),
+    (64, true),
+    (128, true),
+    (129, true),
+];
 
-    set.clear();
-    assert!(rt; set.count() == 0);
-    contains(
-        &rt,
-        &copy,
-        &[(0, true), (63, true), (64, true), (65, false), (129, true)],
-    );
-    assert!(rt; copy.count() == 4);
+/// Fills two sets of three words, and puts the second's processors into the first.
+fn unite(rt: &impl Abort, set: &mut CpuSet, other: &mut CpuSet) {
+    insert(rt, set, &[(0, true), (63, true), (129, true)]);
+    insert(rt, other, &[(0, true), (64, true), (128, true)]);
+    assert!(rt; set.cpus() == other.cpus());
+    set.insert_all(other);
+    contains(rt, set, &UNION);
+    assert!(rt; set.count() == 5);
+    assert!(rt; other.count() == 3);
 }
 
 #[test]
 fn union_of_three_words(rt: HostRuntime) {
     let mut set = empty_set(&rt, rt.alloc(), 130);
-    insert(&rt, &mut set, &[(0, true), (63, true), (129, true)]);
     let mut other = empty_set(&rt, rt.alloc(), 130);
-    insert(&rt, &mut other, &[(0, true), (64, true), (128, true)]);
-    assert!(rt; set.cpus() == other.cpus());
-    set.insert_all(&other);
-    contains(
-        &rt,
-        &set,
-        &[
-            (0, true),
-            (1, false),
-            (63, true),
-            (64, true),
-            (128, true),
-            (129, true),
-        ],
-    );
-    assert!(rt; set.count() == 5);
-    assert!(rt; other.count() == 3);
+    unite(&rt, &mut set, &mut other);
 }
 
 /// No set of so many processors is made.
 fn no_set(rt: &impl Abort, alloc: Global, cpus: u32) {
-    assert!(rt; matches!(CpuSet::new(alloc, cpus), Err(Fault::TooManyCpus)));
-    assert!(rt; matches!(Flat::new(alloc, cpus), Err(Fault::TooManyCpus)));
+    assert!(rt; CpuSet::new(alloc, cpus).err() == Some(Fault::TooManyCpus));
+    assert!(rt; Flat::new(alloc, cpus).err() == Some(Fault::TooManyCpus));
 }
 
 /// No tree of so many processors is made.
@@ -235,8 +249,15 @@ fn no_tree<const LEAF: u32, const FAN: u32>(
     cpus: u32,
     wanted: Fault,
 ) {
-    let made = Tree::<LEAF, FAN>::new(alloc, cpus);
-    assert!(rt; matches!(made, Err(fault) if fault == wanted));
+    assert!(rt; Tree::<LEAF, FAN>::new(alloc, cpus).err() == Some(wanted));
+}
+
+/// Neither a set nor a tree of so many processors is made.
+fn makes_none(rt: &impl Abort, alloc: Global, cpus: u32) {
+    no_set(rt, alloc, cpus);
+    no_tree::<64, 64>(rt, alloc, cpus, Fault::TooManyCpus);
+    no_tree::<1, 64>(rt, alloc, cpus, Fault::BadFanout);
+    no_tree::<64, 65>(rt, alloc, cpus, Fault::BadFanout);
 }
 
 /// Sets of so many processors are made.
@@ -248,12 +269,8 @@ fn makes(rt: &impl Abort, alloc: Global, cpus: u32) {
 
 #[test]
 fn sizes(rt: HostRuntime) {
-    for cpus in [0, 4097] {
-        no_set(&rt, rt.alloc(), cpus);
-        no_tree::<64, 64>(&rt, rt.alloc(), cpus, Fault::TooManyCpus);
-        no_tree::<1, 64>(&rt, rt.alloc(), cpus, Fault::BadFanout);
-        no_tree::<64, 65>(&rt, rt.alloc(), cpus, Fault::BadFanout);
-    }
+    makes_none(&rt, rt.alloc(), 0);
+    makes_none(&rt, rt.alloc(), 4097);
     no_tree::<2, 2>(&rt, rt.alloc(), 17, Fault::TooManyCpus);
     makes(&rt, rt.alloc(), 1);
     makes(&rt, rt.alloc(), 4096);

@@ -2,7 +2,7 @@
 
 mod replicas;
 
-use crate::made::{everyone, refused, tree};
+use crate::made::{everyone, is_said, refused, tree};
 use rcu_node::awaited::Awaited;
 use rcu_node::tree::Tree;
 use rcu_report::batch::Batch;
@@ -25,15 +25,13 @@ fn batch(rt: &impl Abort, alloc: Global, cpus: u32, tag: u64) -> Batch {
 /// Adds a report, and compares the result.
 fn add(rt: &impl Abort, batch: &mut Batch, cpu: u32, tag: u64, wanted: Result<(), Fault>) {
     assert!(rt; cpu < batch.cpus());
-    let result = batch.add(Report { cpu, tag });
-    assert!(rt; result == wanted, "processor {cpu}, number {tag}");
+    is_said(rt, cpu, batch.add(Report { cpu, tag }) == wanted, true);
 }
 
 /// Compares which processors are in a batch.
 fn contains(rt: &impl Abort, batch: &Batch, wanted: &[u32]) {
     for cpu in 0..batch.cpus() {
-        let there = batch.contains(cpu);
-        assert!(rt; there == wanted.contains(&cpu), "processor {cpu}");
+        is_said(rt, cpu, batch.contains(cpu), wanted.contains(&cpu));
     }
 }
 
@@ -47,8 +45,7 @@ fn apply<A: Awaited>(rt: &impl Abort, batch: &Batch, to: &mut A, wanted: u32) {
 /// Compares which processors are awaited.
 fn awaits<A: Awaited>(rt: &impl Abort, awaited: &A, wanted: &[u32]) {
     for cpu in 0..awaited.cpus() {
-        let awaits = awaited.awaits(cpu);
-        assert!(rt; awaits == wanted.contains(&cpu), "processor {cpu}");
+        is_said(rt, cpu, awaited.awaits(cpu), wanted.contains(&cpu));
     }
 }
 
@@ -103,23 +100,40 @@ fn joined_batch(rt: HostRuntime) {
     apply_both(&rt, &first, &other, &mut awaited);
 }
 
+/// An empty batch of so many processors and this number is not joined.
+fn joins_no(rt: &impl Abort, alloc: Global, first: &mut Batch, cpus: u32, tag: u64) {
+    let second = batch(rt, alloc, cpus, tag);
+    join(rt, first, &second, Err(Fault::NotAlike));
+}
+
+/// A batch of number 1 joins neither one of another number nor one of more processors.
+fn joins_none(rt: &impl Abort, alloc: Global, first: &mut Batch) {
+    assert!(rt; first.tag() == 1);
+    joins_no(rt, alloc, first, 5, 5);
+    joins_no(rt, alloc, first, 6, 1);
+    contains(rt, first, &[]);
+}
+
 #[test]
 fn unlike_batches(rt: HostRuntime) {
     let mut first = batch(&rt, rt.alloc(), 5, 1);
-    assert!(rt; first.tag() == 1);
-    let later = batch(&rt, rt.alloc(), 5, 5);
-    join(&rt, &mut first, &later, Err(Fault::NotAlike));
-    let wider = batch(&rt, rt.alloc(), 6, 1);
-    join(&rt, &mut first, &wider, Err(Fault::NotAlike));
-    contains(&rt, &first, &[]);
+    joins_none(&rt, rt.alloc(), &mut first);
+}
+
+/// No batch of so many processors is made.
+fn no_batch(rt: &impl Abort, alloc: Global, cpus: u32) {
+    assert!(rt; Batch::new(alloc, cpus, 1).err() == Some(Fault::TooManyCpus));
+}
+
+/// A batch of so many processors is made.
+fn has_size(rt: &impl Abort, alloc: Global, cpus: u32) {
+    assert!(rt; batch(rt, alloc, cpus, 1).cpus() == cpus);
 }
 
 #[test]
 fn sizes(rt: HostRuntime) {
-    for cpus in [0, 4097] {
-        assert!(rt; matches!(Batch::new(rt.alloc(), cpus, 1), Err(Fault::TooManyCpus)));
-    }
-    for cpus in [1, 4096] {
-        assert!(rt; batch(&rt, rt.alloc(), cpus, 1).cpus() == cpus);
-    }
+    no_batch(&rt, rt.alloc(), 0);
+    no_batch(&rt, rt.alloc(), 4097);
+    has_size(&rt, rt.alloc(), 1);
+    has_size(&rt, rt.alloc(), 4096);
 }

@@ -19,16 +19,24 @@ enum Step {
 /// Makes a call, or looks, and compares.
 fn make(rt: &impl Abort, seq: &mut Seq, step: &Step) {
     match step {
-        Step::Start(wanted) => assert_eq!(rt; seq.start(), *wanted),
-        Step::End(wanted) => assert_eq!(rt; seq.end(), *wanted),
-        Step::Is(value, last, running) => {
-            assert_eq!(rt; seq.value(), *value);
-            assert_eq!(rt; seq.last(), *last);
-            assert_eq!(rt; seq.is_running(), *running);
-        }
-        Step::Snap(wanted) => assert_eq!(rt; seq.snap(), Cookie(*wanted)),
-        Step::Done(cookie, wanted) => assert_eq!(rt; seq.done(Cookie(*cookie)), *wanted),
+        Step::Start(wanted) => is_number(rt, seq.start(), *wanted),
+        Step::End(wanted) => is_number(rt, seq.end(), *wanted),
+        Step::Is(value, last, running) => is_at(rt, seq, *value, *last, *running),
+        Step::Snap(wanted) => assert!(rt; seq.snap() == Cookie(*wanted)),
+        Step::Done(cookie, wanted) => assert!(rt; seq.done(Cookie(*cookie)) == *wanted),
     }
+}
+
+/// Compares the number after a call, or its fault.
+fn is_number(rt: &impl Abort, answer: Result<u64, Fault>, wanted: Result<u64, Fault>) {
+    assert!(rt; answer == wanted);
+}
+
+/// Looks at the counter.
+fn is_at(rt: &impl Abort, seq: &Seq, value: u64, last: u64, running: bool) {
+    assert!(rt; seq.value() == value);
+    assert!(rt; seq.last() == last);
+    assert!(rt; seq.is_running() == running);
 }
 
 /// Makes the steps in turn on a new counter.
@@ -80,48 +88,70 @@ fn cookies_of_two_grace_periods(rt: HostRuntime) {
     );
 }
 
+/// Whether a counter is made with this last number.
+fn is_last(last: u64) -> bool {
+    Seq::new(last).is_ok()
+}
+
+/// Whether no counter is made, since this is no last number.
+fn is_refused(last: u64) -> bool {
+    matches!(Seq::new(last), Err(Fault::BadLast))
+}
+
 #[test]
 fn last_numbers(rt: HostRuntime) {
-    for last in [4, 1 << 62] {
-        assert!(rt; Seq::new(last).is_ok(), "{last}");
-    }
-    for last in [0, 6, (1 << 62) + 4] {
-        assert!(rt; matches!(Seq::new(last), Err(Fault::BadLast)), "{last}");
-    }
+    assert!(rt; is_last(4));
+    assert!(rt; is_last(1 << 62));
+    assert!(rt; is_refused(0));
+    assert!(rt; is_refused(6));
+    assert!(rt; is_refused((1 << 62) + 4));
+}
+
+/// Each fault with its number.
+static NUMBERS: [(Fault, u32); 21] = [
+    (Fault::BadCpu, 1),
+    (Fault::Offline, 2),
+    (Fault::AlreadyOnline, 3),
+    (Fault::InSection, 4),
+    (Fault::NotOpen, 5),
+    (Fault::NestFull, 6),
+    (Fault::NoReport, 7),
+    (Fault::Running, 8),
+    (Fault::Idle, 9),
+    (Fault::Waiting, 10),
+    (Fault::Exhausted, 11),
+    (Fault::BootStays, 12),
+    (Fault::BarrierBusy, 13),
+    (Fault::NoBarrier, 14),
+    (Fault::CallbacksFull, 15),
+    (Fault::NoMemory, 16),
+    (Fault::TooManyCpus, 17),
+    (Fault::BadFanout, 18),
+    (Fault::BadLast, 19),
+    (Fault::NotAlike, 20),
+    (Fault::BadLine, 21),
+];
+
+/// Compares the number of a fault.
+fn has_number(rt: &impl Abort, fault: Fault, number: u32) {
+    assert!(rt; fault.number() == number, "{fault}");
 }
 
 #[test]
 fn numbers(rt: HostRuntime) {
-    for (fault, number) in [
-        (Fault::BadCpu, 1),
-        (Fault::Offline, 2),
-        (Fault::AlreadyOnline, 3),
-        (Fault::InSection, 4),
-        (Fault::NotOpen, 5),
-        (Fault::NestFull, 6),
-        (Fault::NoReport, 7),
-        (Fault::Running, 8),
-        (Fault::Idle, 9),
-        (Fault::Waiting, 10),
-        (Fault::Exhausted, 11),
-        (Fault::BootStays, 12),
-        (Fault::BarrierBusy, 13),
-        (Fault::NoBarrier, 14),
-        (Fault::CallbacksFull, 15),
-        (Fault::NoMemory, 16),
-        (Fault::TooManyCpus, 17),
-        (Fault::BadFanout, 18),
-        (Fault::BadLast, 19),
-        (Fault::NotAlike, 20),
-        (Fault::BadLine, 21),
-    ] {
-        assert_eq!(rt; fault.number(), number, "{fault}");
+    for (fault, number) in &NUMBERS {
+        has_number(&rt, *fault, *number);
     }
+}
+
+/// Compares a text.
+fn is_text(rt: &impl Abort, text: &str, wanted: &str) {
+    assert!(rt; text == wanted);
 }
 
 #[test]
 fn display(rt: HostRuntime) {
     if let Ok(text) = format!(in rt.alloc(); "{}", Fault::Running) {
-        assert_eq!(rt; text.as_str(), "a grace period runs already");
+        is_text(&rt, text.as_str(), "a grace period runs already");
     }
 }

@@ -1,7 +1,8 @@
 //! Tends at numbers that never fall, beside a plain list with the number of each callback.
-use super::{ask, lists, queue, refused, tend};
+use super::{lists, queue, take, tend};
 use crate::draw::Draw;
 use rcu_barrier::lists::Lists;
+use rcu_cblist::queued::Queued;
 use std::process::Abort;
 
 /// How many calls are drawn.
@@ -35,6 +36,15 @@ impl Plain {
         (done, left.saturating_sub(done))
     }
 
+    /// Hands out callbacks, and compares them with those that were taken.
+    fn hand_out(&mut self, rt: &impl Abort, calls: &[Queued<u64>], max: u64) {
+        assert!(rt; calls.len() as u64 == self.counts().0.min(max));
+        for call in calls {
+            assert!(rt; call.value == self.handed);
+            self.handed = self.handed.saturating_add(1);
+        }
+    }
+
     /// Each callback without a number gets the snapshot.
     fn tend(&mut self, number: u64, snapshot: u64) {
         self.number = number;
@@ -48,21 +58,7 @@ impl Plain {
 
 /// Takes callbacks from both, and compares them.
 fn run_both(rt: &impl Abort, lists: &mut Lists<u64>, plain: &mut Plain, max: u64) {
-    let before = ask(rt, lists);
-    assert!(rt; 0 < lists.cpus());
-    let calls = match lists.run(0, max) {
-        Ok(calls) => calls,
-        Err(fault) => {
-            refused(rt, fault, lists, before);
-            assert!(rt; 0 < lists.cpus());
-            lists.run(0, max).expect(rt, "the second call has memory")
-        }
-    };
-    assert!(rt; calls.len() as u64 == plain.counts().0.min(max));
-    for call in &calls {
-        assert!(rt; call.value == plain.handed);
-        plain.handed = plain.handed.saturating_add(1);
-    }
+    plain.hand_out(rt, &take(rt, lists, 0, max), max);
 }
 
 #[test]

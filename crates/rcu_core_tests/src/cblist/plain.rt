@@ -4,7 +4,7 @@
 pub const ROOM: usize = 48;
 
 /// What a callback waits for.
-#[derive(Clone, Copy, Debug, PartialEq, Eq)]
+#[derive(Clone, Copy, PartialEq, Eq)]
 pub enum Mark {
     Unmarked,
     Until(u64),
@@ -12,7 +12,7 @@ pub enum Mark {
 }
 
 /// An item: a callback by its value, or a marker.
-#[derive(Clone, Copy, Debug, PartialEq, Eq)]
+#[derive(Clone, Copy, PartialEq, Eq)]
 pub enum Item {
     Call(u64, Mark),
     Marker,

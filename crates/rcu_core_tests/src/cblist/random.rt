@@ -18,11 +18,11 @@ const LAST: u64 = 1 << 62;
 /// Compares counts, the greatest number and the segments.
 fn compare(rt: &impl Abort, list: &SegList<u64>, plain: &Plain) {
     let (all, done, most) = plain.counts();
-    assert_eq!(rt; (list.count(), list.done_count()), (all, done));
-    assert_eq!(rt; list.waiting_count(), all.saturating_sub(done));
-    assert_eq!(rt; list.greatest_waiting(), most);
-    assert_eq!(rt; list.segments(), plain.segments());
-    assert_eq!(rt; list.is_empty(), plain.len == 0);
+    assert!(rt; list.count() == all && list.done_count() == done);
+    assert!(rt; list.waiting_count() == all.saturating_sub(done));
+    assert!(rt; list.greatest_waiting() == most);
+    assert!(rt; list.segments() == plain.segments());
+    assert!(rt; list.is_empty() == (plain.len == 0));
 }
 
 /// Queues a callback, by a second call where the first is refused a growth.
@@ -50,7 +50,7 @@ fn entrain(rt: &impl Abort, list: &mut SegList<u64>, plain: &mut Plain) {
         Ok(marked) => marked,
         Err(_) => list.entrain().expect(rt, "the second call has memory"),
     };
-    assert_eq!(rt; marked, plain.len > 0);
+    assert!(rt; marked == (plain.len > 0));
     if marked {
         plain.push(Item::Marker);
     }
@@ -69,14 +69,14 @@ fn take(rt: &impl Abort, list: &mut SegList<u64>, plain: &mut Plain, max: u64) {
         match plain.take_next(left) {
             Some(Item::Call(value, _)) => {
                 left = left.saturating_sub(1);
-                assert_eq!(rt; taken.calls.get(place).map(|call| call.value), Some(value));
+                assert!(rt; taken.calls.get(place).map(|call| call.value) == Some(value));
                 place = place.saturating_add(1);
             }
             Some(Item::Marker) => markers = markers.saturating_add(1),
             None => break,
         }
     }
-    assert_eq!(rt; (taken.calls.len(), taken.markers), (place, markers));
+    assert!(rt; taken.calls.len() == place && taken.markers == markers);
 }
 
 /// Moves a list to another, by a second call where the first is refused a growth.
@@ -103,7 +103,7 @@ fn migrate(
             list.migrate_into(target)
         };
     }
-    assert_eq!(rt; moved, Ok(()));
+    assert!(rt; moved == Ok(()));
     if marked && plain.len > 0 {
         plain.push(Item::Marker);
     }
@@ -186,7 +186,7 @@ fn tends_at_numbers_that_never_fall(rt: HostRuntime) {
                 plain.advance(number);
                 accelerate(&rt, &mut list, snap);
                 plain.accelerate(snap);
-                assert_eq!(rt; list.segments()[3], 0);
+                assert!(rt; list.segments()[3] == 0);
                 periods = periods.saturating_add(running);
             }
         }

@@ -6,22 +6,27 @@ use rcu_core::value_list::ValueList;
 use std::alloc::Global;
 use std::process::Abort;
 
+/// Puts a processor behind. A growth may be refused once; the list is then as it was.
+fn push(rt: &impl Abort, list: &mut CpuList, cpu: u32, before: &[u32]) {
+    if list.push(cpu).is_err() {
+        assert!(rt; list.as_slice() == before);
+        list.push(cpu).expect(rt, "memory");
+    }
+}
+
+/// Fills an empty list.
+fn fill(rt: &impl Abort, list: &mut CpuList) {
+    assert!(rt; list.as_slice().is_empty());
+    push(rt, list, 3, &[]);
+    push(rt, list, 0, &[3]);
+    push(rt, list, 4095, &[3, 0]);
+    assert!(rt; list.as_slice() == [3, 0, 4095].as_slice());
+}
+
 #[test]
 fn processors_stay_in_order(rt: HostRuntime) {
     let mut list = CpuList::new(rt.alloc());
-    assert!(rt; list.as_slice().is_empty());
-    for (cpu, before) in [
-        (3, [].as_slice()),
-        (0, [3].as_slice()),
-        (4095, [3, 0].as_slice()),
-    ] {
-        // A growth may be refused once; the list is then as it was.
-        if list.push(cpu).is_err() {
-            assert!(rt; list.as_slice() == before);
-            list.push(cpu).expect(&rt, "memory");
-        }
-    }
-    assert!(rt; list.as_slice() == [3, 0, 4095].as_slice());
+    fill(&rt, &mut list);
 }
 
 /// Callbacks of the values 1 and 5, in room made by a second call where the first is refused it.
@@ -30,12 +35,15 @@ fn calls(rt: &impl Abort, alloc: Global) -> Vec<Queued<u64>> {
         Ok(calls) => calls,
         Err(_) => Vec::with_capacity(alloc, 2).expect(rt, "the second call has memory"),
     };
-    for (ord, value) in [(1, 1), (2, 5)] {
-        calls
-            .push(Queued { ord, at: 0, value })
-            .expect(rt, "there is room");
-    }
+    put(rt, &mut calls, 1, 1);
+    put(rt, &mut calls, 2, 5);
     calls
+}
+
+/// Puts a callback behind, for which there is room.
+fn put(rt: &impl Abort, calls: &mut Vec<Queued<u64>>, ord: u64, value: u64) {
+    let call = Queued { ord, at: 0, value };
+    calls.push(call).expect(rt, "there is room");
 }
 
 /// Whether the list has these values, in order.

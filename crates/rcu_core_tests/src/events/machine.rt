@@ -35,15 +35,24 @@ struct Asked {
 
 /// Asks all of them.
 fn ask(core: &mut Core<Flat, u64>) -> Asked {
-    let cookie = match core.step(Event::Take) {
+    Asked {
+        cookie: cookie(core),
+        first: is_done(core, 4),
+        second: is_done(core, 8),
+    }
+}
+
+/// The cookie of a taking.
+fn cookie(core: &mut Core<Flat, u64>) -> Option<u64> {
+    match core.step(Event::Take) {
         Reply::Cookie(cookie) => Some(cookie.0),
         _ => None,
-    };
-    Asked {
-        cookie,
-        first: matches!(core.step(Event::Poll(4)), Reply::Polled(true)),
-        second: matches!(core.step(Event::Poll(8)), Reply::Polled(true)),
     }
+}
+
+/// Whether a cookie is done.
+fn is_done(core: &mut Core<Flat, u64>, cookie: u64) -> bool {
+    matches!(core.step(Event::Poll(cookie)), Reply::Polled(true))
 }
 
 /// The reply to an event. Where its growth is refused, all that can be asked is as before, and it
@@ -86,14 +95,14 @@ fn told(rt: &impl Abort, alloc: Global, reply: &Reply, wanted: &str) {
         Ok(text) => text,
         Err(_) => format!(in alloc; "{reply:?}").expect(rt, "the second call has memory"),
     };
-    assert_eq!(rt; text.as_str(), wanted);
+    assert!(rt; text.as_str() == wanted, "{text}");
 }
 
 /// Compares replies with the texts that they print as.
 pub fn told_all(rt: &impl Abort, alloc: Global, replies: &[Reply], wanted: &[&str]) {
     assert!(rt; replies.len() == wanted.len());
-    for (reply, text) in replies.iter().zip(wanted) {
-        told(rt, alloc, reply, text);
+    for place in 0..replies.len() {
+        told(rt, alloc, &replies[place], wanted[place]);
     }
 }
 

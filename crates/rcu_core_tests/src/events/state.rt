@@ -16,7 +16,7 @@ use std::process::Abort;
 type State = GpState<Flat, u64>;
 
 /// All that can be asked of a processor.
-#[derive(Clone, Copy, Debug, PartialEq)]
+#[derive(Clone, Copy, PartialEq)]
 struct AskedOf {
     online: bool,
     list_empty: bool,
@@ -24,7 +24,7 @@ struct AskedOf {
 }
 
 /// All that can be asked of a state of two processors.
-#[derive(Clone, Copy, Debug, PartialEq)]
+#[derive(Clone, Copy, PartialEq)]
 struct Asked {
     number: u64,
     running: bool,
@@ -72,7 +72,7 @@ fn ask(rt: &impl Abort, state: &State) -> Asked {
 /// Compares the fault of a call whose growth was refused, and what it left with what was there.
 fn left(rt: &impl Abort, fault: Fault, state: &State, before: Asked) {
     refused(rt, fault);
-    assert_eq!(rt; ask(rt, state), before);
+    assert!(rt; ask(rt, state) == before);
 }
 
 /// Queues a callback, by a second call where the first is refused a growth.
@@ -80,12 +80,12 @@ fn queue(rt: &impl Abort, state: &mut State, cpu: u32, value: u64, wanted: u64) 
     let before = ask(rt, state);
     assert!(rt; cpu < state.cpus());
     match state.queue(cpu, value) {
-        Ok(count) => assert_eq!(rt; count, wanted),
+        Ok(count) => assert!(rt; count == wanted),
         Err(back) => {
             left(rt, back.fault, state, before);
-            assert_eq!(rt; back.value, value);
+            assert!(rt; back.value == value);
             assert!(rt; cpu < state.cpus());
-            assert_eq!(rt; state.queue(cpu, back.value).ok(), Some(wanted));
+            assert!(rt; state.queue(cpu, back.value).ok() == Some(wanted));
         }
     }
 }
@@ -95,11 +95,11 @@ fn visit(rt: &impl Abort, state: &mut State, cpu: u32) {
     let before = ask(rt, state);
     assert!(rt; cpu < state.cpus());
     match state.visit(cpu) {
-        Ok(visit) => assert_eq!(rt; visit, Visit::Marked),
+        Ok(visit) => assert!(rt; visit == Visit::Marked),
         Err(fault) => {
             left(rt, fault, state, before);
             assert!(rt; cpu < state.cpus());
-            assert_eq!(rt; state.visit(cpu), Ok(Visit::Marked));
+            assert!(rt; state.visit(cpu) == Ok(Visit::Marked));
         }
     }
 }
@@ -109,11 +109,11 @@ fn migrate(rt: &impl Abort, state: &mut State, wanted: u64) {
     let before = ask(rt, state);
     assert!(rt; 1 < state.cpus());
     match state.migrate(1) {
-        Ok(moved) => assert_eq!(rt; moved, wanted),
+        Ok(moved) => assert!(rt; moved == wanted),
         Err(fault) => {
             left(rt, fault, state, before);
             assert!(rt; 1 < state.cpus());
-            assert_eq!(rt; state.migrate(1), Ok(wanted));
+            assert!(rt; state.migrate(1) == Ok(wanted));
         }
     }
 }
@@ -122,49 +122,61 @@ fn migrate(rt: &impl Abort, state: &mut State, wanted: u64) {
 fn run(rt: &impl Abort, state: &mut State, wanted: usize) {
     let before = ask(rt, state);
     assert!(rt; 0 < state.cpus());
-    match state.run(0, 9) {
-        Ok(calls) => assert_eq!(rt; calls.len(), wanted),
+    let calls = match state.run(0, 9) {
+        Ok(calls) => calls,
         Err(fault) => {
             left(rt, fault, state, before);
             assert!(rt; 0 < state.cpus());
-            assert_eq!(rt; state.run(0, 9).map(|calls| calls.len()), Ok(wanted));
+            state.run(0, 9).expect(rt, "the second call has memory")
         }
-    }
+    };
+    assert!(rt; calls.len() == wanted);
 }
 
 /// Tends processor 0's list, and compares how many callbacks are done and how many wait.
 fn tend(rt: &impl Abort, state: &mut State, wanted: (u64, u64)) {
     assert!(rt; 0 < state.cpus());
-    assert_eq!(rt; state.tend(0), wanted);
+    let (done, waiting) = state.tend(0);
+    assert!(rt; done == wanted.0 && waiting == wanted.1);
+}
+
+/// Makes a turn, and compares what it did.
+fn turns(rt: &impl Abort, state: &mut State, wanted: Turned) {
+    assert!(rt; state.turn() == Ok(wanted));
+}
+
+/// Compares how far the barrier is.
+fn barrier_is(rt: &impl Abort, state: &mut State, wanted: BarrierState) {
+    assert!(rt; state.barrier_test() == Ok(wanted));
 }
 
 /// Queues callbacks on both processors; one departs during a barrier, which waits for its list.
 fn departs(rt: &impl Abort, state: &mut State) {
-    assert_eq!(rt; state.arrive(1), Ok(()));
+    assert!(rt; state.arrive(1).is_ok());
     queue(rt, state, 0, 5, 1);
     queue(rt, state, 1, 6, 2);
     queue(rt, state, 1, 7, 3);
-    assert_eq!(rt; state.barrier_begin(), Ok(()));
+    assert!(rt; state.barrier_begin().is_ok());
     visit(rt, state, 0);
     migrate(rt, state, 2);
-    assert_eq!(rt; state.barrier_test(), Ok(BarrierState::Waits(2)));
-    assert_eq!(rt; state.depart(1), Ok(()));
+    barrier_is(rt, state, BarrierState::Waits(2));
+    assert!(rt; state.depart(1).is_ok());
 }
 
 /// A grace period, which the three callbacks wait for, begins, is reported and ends.
 fn passes(rt: &impl Abort, state: &mut State) {
     tend(rt, state, (0, 3));
-    assert_eq!(rt; state.turn(), Ok(Turned::Begun(1, 1)));
+    turns(rt, state, Turned::Begun(1, 1));
     assert!(rt; 0 < state.cpus());
-    assert_eq!(rt; state.hear(0), Answer::Last);
-    assert_eq!(rt; state.turn(), Ok(Turned::Ended(4)));
+    assert!(rt; state.hear(0) == Answer::Last);
+    turns(rt, state, Turned::Ended(4));
     tend(rt, state, (3, 0));
 }
 
 /// Hands out the callbacks, and the barrier is over.
 fn is_over(rt: &impl Abort, state: &mut State) {
     run(rt, state, 3);
-    assert_eq!(rt; state.barrier_test(), Ok(BarrierState::Done));
+    barrier_is(rt, state, BarrierState::Done);
 }
 
 #[test]
@@ -180,36 +192,48 @@ fn first_begin(rt: &impl Abort, alloc: Global, last: u64) -> Result<(u64, u32), 
     GpState::<Flat, u64>::new(alloc, flat(rt, alloc, 2), last)?.begin()
 }
 
+/// A state opens with this last number, and begins.
+fn opens(rt: &impl Abort, alloc: Global, last: u64) {
+    match first_begin(rt, alloc, last) {
+        Ok((number, awaited)) => assert!(rt; number == 1 && awaited == 1, "{last}"),
+        Err(fault) => refused(rt, fault),
+    }
+}
+
+/// No state opens, since this is no last number.
+fn refuses(rt: &impl Abort, alloc: Global, last: u64) {
+    assert!(rt;
+        first_begin(rt, alloc, last).err() == Some(Fault::BadLast),
+        "{last}"
+    );
+}
+
 /// States open with the least and the greatest last number, and with none beyond.
 #[test]
 fn last_numbers(rt: HostRuntime) {
-    for last in [4, 1 << 62] {
-        match first_begin(&rt, rt.alloc(), last) {
-            Ok(begun) => assert_eq!(rt; begun, (1, 1), "{last}"),
-            Err(fault) => refused(&rt, fault),
-        }
-    }
-    for last in [0, 6, (1 << 62) + 4] {
-        assert_eq!(rt;
-            first_begin(&rt, rt.alloc(), last),
-            Err(Fault::BadLast),
-            "{last}"
-        );
-    }
+    opens(&rt, rt.alloc(), 4);
+    opens(&rt, rt.alloc(), 1 << 62);
+    refuses(&rt, rt.alloc(), 0);
+    refuses(&rt, rt.alloc(), 6);
+    refuses(&rt, rt.alloc(), (1 << 62) + 4);
 }
 
 /// Compares the size of a state.
 fn has_size(rt: &impl Abort, state: &mut State, cpus: u32) {
-    assert_eq!(rt; state.cpus(), cpus);
-    assert_eq!(rt; state.arrive(cpus), Err(Fault::BadCpu));
+    assert!(rt; state.cpus() == cpus);
+    assert!(rt; state.arrive(cpus) == Err(Fault::BadCpu));
+}
+
+/// A state of so many processors opens.
+fn opens_with(rt: &impl Abort, alloc: Global, cpus: u32) {
+    match GpState::new(alloc, flat(rt, alloc, cpus), 8) {
+        Ok(mut state) => has_size(rt, &mut state, cpus),
+        Err(fault) => refused(rt, fault),
+    }
 }
 
 #[test]
 fn sizes(rt: HostRuntime) {
-    for cpus in [1, 4096] {
-        match GpState::new(rt.alloc(), flat(&rt, rt.alloc(), cpus), 8) {
-            Ok(mut state) => has_size(&rt, &mut state, cpus),
-            Err(fault) => refused(&rt, fault),
-        }
-    }
+    opens_with(&rt, rt.alloc(), 1);
+    opens_with(&rt, rt.alloc(), 4096);
 }

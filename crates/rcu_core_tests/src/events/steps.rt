@@ -7,51 +7,47 @@ use rcu_seq::fault::Fault;
 use std::alloc::Global;
 use std::process::Abort;
 
+/// The events of [`open_section_blocks`], and their replies.
+static SECTION: [(Event, &str); 10] = [
+    (Event::Online(1), "Online"),
+    (Event::Enter(1), "Depth(1)"),
+    (Event::Take, "Cookie(Cookie(4))"),
+    (Event::Begin, "Begun(1, 2)"),
+    (Event::Quiesce(1), "Fault(InSection)"),
+    (Event::Offline(1), "Fault(InSection)"),
+    (Event::Exit(1), "Depth(0)"),
+    (Event::Poll(4), "Polled(false)"),
+    (Event::Offline(1), "Moved(0)"),
+    (Event::End, "Fault(Waiting)"),
+];
+
 /// A reader holds up the grace period that began after it, and its cookie.
 #[test]
 fn open_section_blocks(rt: HostRuntime) {
     let mut core = core(&rt, rt.alloc(), 8);
-    takes(
-        &rt,
-        rt.alloc(),
-        &mut core,
-        &[
-            (Event::Online(1), "Online"),
-            (Event::Enter(1), "Depth(1)"),
-            (Event::Take, "Cookie(Cookie(4))"),
-            (Event::Begin, "Begun(1, 2)"),
-            (Event::Quiesce(1), "Fault(InSection)"),
-            (Event::Offline(1), "Fault(InSection)"),
-            (Event::Exit(1), "Depth(0)"),
-            (Event::Poll(4), "Polled(false)"),
-            (Event::Offline(1), "Moved(0)"),
-            (Event::End, "Fault(Waiting)"),
-        ],
-    );
+    takes(&rt, rt.alloc(), &mut core, &SECTION);
 }
+
+/// The events of [`turns_drive_a_grace_period`], and their replies.
+static TURNS: [(Event, &str); 11] = [
+    (Event::Turn, "Nothing"),
+    (Event::StartPoll, "Cookie(Cookie(4))"),
+    (Event::Turn, "Begun(1, 1)"),
+    (Event::Turn, "Waiting(1)"),
+    (Event::Note(0), "Noted(1, true)"),
+    (Event::Quiesce(0), "Made(1, Report { cpu: 0, tag: 1 })"),
+    (Event::Deliver(1), "Answer(Last)"),
+    (Event::Turn, "Ended(4)"),
+    (Event::Poll(4), "Polled(true)"),
+    (Event::StartPoll, "Cookie(Cookie(8))"),
+    (Event::Turn, "Fault(Exhausted)"),
+];
 
 /// Turns begin what is needed, wait, and end.
 #[test]
 fn turns_drive_a_grace_period(rt: HostRuntime) {
     let mut core = core(&rt, rt.alloc(), 4);
-    takes(
-        &rt,
-        rt.alloc(),
-        &mut core,
-        &[
-            (Event::Turn, "Nothing"),
-            (Event::StartPoll, "Cookie(Cookie(4))"),
-            (Event::Turn, "Begun(1, 1)"),
-            (Event::Turn, "Waiting(1)"),
-            (Event::Note(0), "Noted(1, true)"),
-            (Event::Quiesce(0), "Made(1, Report { cpu: 0, tag: 1 })"),
-            (Event::Deliver(1), "Answer(Last)"),
-            (Event::Turn, "Ended(4)"),
-            (Event::Poll(4), "Polled(true)"),
-            (Event::StartPoll, "Cookie(Cookie(8))"),
-            (Event::Turn, "Fault(Exhausted)"),
-        ],
-    );
+    takes(&rt, rt.alloc(), &mut core, &TURNS);
 }
 
 /// The replies to a run whose growths are made.
@@ -102,49 +98,50 @@ fn a_run_replies_as_its_steps(rt: HostRuntime) {
     told_all(&rt, rt.alloc(), replies.as_slice(), wanted.as_slice());
 }
 
+/// The events of [`refused_events_change_nothing`], and their replies.
+static STORING: [(Event, &str); 11] = [
+    (Event::Online(1), "Online"),
+    (Event::Queue(1, 7), "Queued(1)"),
+    (Event::Queue(1, 8), "Queued(2)"),
+    (Event::Begin, "Begun(1, 2)"),
+    (Event::Awaits, "Awaits(CpuList { cpus: [0, 1] })"),
+    (Event::Quiesce(1), "Made(1, Report { cpu: 1, tag: 0 })"),
+    (Event::BarBegin, "BarBegun"),
+    (Event::Visit(1), "Visited(Marked)"),
+    (Event::Offline(1), "Moved(2)"),
+    (Event::BarTest, "BarWaits(2)"),
+    (Event::Awaits, "Awaits(CpuList { cpus: [0] })"),
+];
+
 /// Each event that stores something; what follows one that was refused its growth, itself first, is
 /// answered as if the first had not been.
 #[test]
 fn refused_events_change_nothing(rt: HostRuntime) {
     let mut core = core(&rt, rt.alloc(), 8);
-    takes(
-        &rt,
-        rt.alloc(),
-        &mut core,
-        &[
-            (Event::Online(1), "Online"),
-            (Event::Queue(1, 7), "Queued(1)"),
-            (Event::Queue(1, 8), "Queued(2)"),
-            (Event::Begin, "Begun(1, 2)"),
-            (Event::Awaits, "Awaits(CpuList { cpus: [0, 1] })"),
-            (Event::Quiesce(1), "Made(1, Report { cpu: 1, tag: 0 })"),
-            (Event::BarBegin, "BarBegun"),
-            (Event::Visit(1), "Visited(Marked)"),
-            (Event::Offline(1), "Moved(2)"),
-            (Event::BarTest, "BarWaits(2)"),
-            (Event::Awaits, "Awaits(CpuList { cpus: [0] })"),
-        ],
-    );
+    takes(&rt, rt.alloc(), &mut core, &STORING);
 }
 
-/// Whether no machine opens, since this is no last number.
-fn is_refused(rt: &impl Abort, alloc: Global, last: u64) -> bool {
-    matches!(
-        Core::new(alloc, flat(rt, alloc, 2), last),
-        Err(Fault::BadLast)
-    )
+/// No machine opens, since this is no last number.
+fn refuses(rt: &impl Abort, alloc: Global, last: u64) {
+    let opened = Core::<_, u64>::new(alloc, flat(rt, alloc, 2), last);
+    assert!(rt; opened.err() == Some(Fault::BadLast));
+}
+
+/// A machine opens with this last number, and begins.
+fn opens(rt: &impl Abort, alloc: Global, last: u64) {
+    let mut core = core(rt, alloc, last);
+    takes(rt, alloc, &mut core, &[(Event::Begin, "Begun(1, 1)")]);
 }
 
 /// Machines open with the least and the greatest last number, and with none beyond.
 #[test]
 fn last_numbers(rt: HostRuntime) {
-    for last in [4, 1 << 62] {
-        let mut core = core(&rt, rt.alloc(), last);
-        takes(&rt, rt.alloc(), &mut core, &[(Event::Begin, "Begun(1, 1)")]);
-    }
-    for last in [0, 6, (1 << 62) + 4, u64::MAX] {
-        assert!(rt; is_refused(&rt, rt.alloc(), last));
-    }
+    opens(&rt, rt.alloc(), 4);
+    opens(&rt, rt.alloc(), 1 << 62);
+    refuses(&rt, rt.alloc(), 0);
+    refuses(&rt, rt.alloc(), 6);
+    refuses(&rt, rt.alloc(), (1 << 62) + 4);
+    refuses(&rt, rt.alloc(), u64::MAX);
 }
 
 /// Notes the processor after the last, which there is not, and the last, with this reply.

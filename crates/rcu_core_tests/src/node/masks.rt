@@ -1,9 +1,9 @@
 //! The masks of trees, node by node, and each call of a tree beside the same call of a flat set.
 ghost use Rattle.std.specs.Prelude.{◌<◌};
 
-use super::{begin, insert, report};
+use super::{begin, insert, is_word, report};
 use crate::draw::Draw;
-use crate::made::{empty_set, flat, tree};
+use crate::made::{empty_set, flat, is_said, tree};
 use rcu_geometry::geometry::Geometry;
 use rcu_node::answer::Answer;
 use rcu_node::awaited::Awaited;
@@ -148,12 +148,20 @@ fn compare<A: Awaited + Shown, R: Abort>(rt: &R, alloc: Global, shown: &A, flat:
     assert!(rt; shown.tag() == flat.tag());
     assert!(rt; shown.count() == flat.count());
     assert!(rt; shown.is_empty() == flat.is_empty());
-    if let Some(cpu) = wrong_cpu(shown, flat) {
-        panic!(rt; "processor {cpu}");
-    }
+    is_none(rt, wrong_cpu(shown, flat));
+    compare_masks(rt, alloc, shown, flat);
+}
+
+/// Compares the masks with what the flat set says.
+fn compare_masks<A: Shown, R: Abort>(rt: &R, alloc: Global, shown: &A, flat: &Flat) {
     let (awaited, start) = sets_of(rt, alloc, flat);
-    if let Some(node) = shown.wrong_node(&awaited, &start) {
-        panic!(rt; "node {node}");
+    is_none(rt, shown.wrong_node(&awaited, &start));
+}
+
+/// There is no wrong processor, or no wrong node.
+fn is_none<R: Abort>(rt: &R, wrong: Option<u32>) {
+    if let Some(place) = wrong {
+        panic!(rt; "at {place}");
     }
 }
 
@@ -179,28 +187,48 @@ fn beside_flat<A: Awaited + Shown, R: Abort>(rt: &R, alloc: Global, mut shown: A
     let mut flat = flat(rt, alloc, cpus);
     let mut draw = Draw(88_172_645_463_325_252);
     compare(rt, alloc, &shown, &flat);
-    for round in 0..3u32 {
-        let number = 4 * u64::from(round) + 1;
-        let set = drawn_set(rt, alloc, &mut draw, cpus);
-        assert!(rt; begin_both(&mut shown, &mut flat, number, &set));
-        compare(rt, alloc, &shown, &flat);
-        for _ in 0..reports {
-            assert!(rt; cpus > 0);
-            let cpu = draw.below(u64::from(cpus)) as u32;
-            let told = number + 4 * (draw.below(4) / 3);
-            let alike = answer_alike(&mut shown, &mut flat, cpu, told);
-            assert!(rt; alike, "processor {cpu}, number {told}");
-            compare(rt, alloc, &shown, &flat);
-        }
-    }
+    period_beside(rt, alloc, &mut shown, &mut flat, &mut draw, 1, reports);
+    period_beside(rt, alloc, &mut shown, &mut flat, &mut draw, 5, reports);
+    period_beside(rt, alloc, &mut shown, &mut flat, &mut draw, 9, reports);
     for cpu in 0..cpus {
-        assert!(rt;
-            answer_alike(&mut shown, &mut flat, cpu, 9),
-            "processor {cpu}"
-        );
+        is_said(rt, cpu, answer_alike(&mut shown, &mut flat, cpu, 9), true);
     }
     compare(rt, alloc, &shown, &flat);
     assert!(rt; shown.is_empty());
+}
+
+/// A grace period of a drawn set in both, with so many drawn reports.
+fn period_beside<A: Awaited + Shown, R: Abort>(
+    rt: &R,
+    alloc: Global,
+    shown: &mut A,
+    flat: &mut Flat,
+    draw: &mut Draw,
+    number: u64,
+    reports: u32,
+) {
+    let set = drawn_set(rt, alloc, draw, shown.cpus());
+    assert!(rt; begin_both(shown, flat, number, &set));
+    compare(rt, alloc, shown, flat);
+    for _ in 0..reports {
+        report_both(rt, shown, flat, draw, number);
+        compare(rt, alloc, shown, flat);
+    }
+}
+
+/// A drawn report of the number or of the next one, to both, which have to answer the same.
+fn report_both<A: Awaited, R: Abort>(
+    rt: &R,
+    shown: &mut A,
+    flat: &mut Flat,
+    draw: &mut Draw,
+    number: u64,
+) {
+    let cpus = shown.cpus();
+    assert!(rt; cpus > 0);
+    let cpu = draw.below(u64::from(cpus)) as u32;
+    let told = number.saturating_add(4 * (draw.below(4) / 3));
+    is_said(rt, cpu, answer_alike(shown, flat, cpu, told), true);
 }
 
 #[test]
@@ -213,16 +241,24 @@ fn masks_level_by_level(rt: HostRuntime) {
         &[(0, true), (1, true), (2, true), (3, true), (4, true)],
     );
     begin(&rt, &mut tree, 1, &all);
-    masks(&rt, &tree, [3, 3, 1, 3, 3, 1]);
-    for (cpu, answer, wanted) in [
-        (4, Answer::Taken, [1, 3, 0, 3, 3, 0]),
-        (0, Answer::Taken, [1, 3, 0, 2, 3, 0]),
-        (1, Answer::Taken, [1, 2, 0, 0, 3, 0]),
-        (2, Answer::Taken, [1, 2, 0, 0, 2, 0]),
-        (3, Answer::Last, [0; 6]),
-    ] {
-        report(&rt, &mut tree, &[(cpu, 1, answer)]);
-        masks(&rt, &tree, wanted);
+    masks(&rt, &tree, &START);
+    report_masks(&rt, &mut tree);
+}
+
+/// Processors in the order of their reports, with the answers and the masks of six nodes then.
+static REPORTS: [(u32, Answer, [u64; 6]); 5] = [
+    (4, Answer::Taken, [1, 3, 0, 3, 3, 0]),
+    (0, Answer::Taken, [1, 3, 0, 2, 3, 0]),
+    (1, Answer::Taken, [1, 2, 0, 0, 3, 0]),
+    (2, Answer::Taken, [1, 2, 0, 0, 2, 0]),
+    (3, Answer::Last, [0; 6]),
+];
+
+/// Makes the reports, and compares the masks after each.
+fn report_masks<R: Abort>(rt: &R, tree: &mut Tree<2, 2>) {
+    for (cpu, answer, wanted) in &REPORTS {
+        report(rt, tree, &[(*cpu, 1, *answer)]);
+        masks(rt, tree, wanted);
     }
 }
 
@@ -233,31 +269,40 @@ static START: [u64; 6] = [3, 3, 1, 3, 3, 1];
 static GROUP: [u64; 6] = [0, 1, 2, 1, 2, 1];
 
 /// Compares the masks of six nodes: those of now, and those that stay.
-fn masks<R: Abort>(rt: &R, tree: &Tree<2, 2>, wanted: [u64; 6]) {
+fn masks<R: Abort>(rt: &R, tree: &Tree<2, 2>, wanted: &[u64; 6]) {
     assert!(rt; tree.nodes() == 6);
     for node in 0..6u32 {
         assert!(rt; node < tree.nodes());
         let place = node as usize;
-        let alike = tree.qsmask(node) == wanted[place]
-            && tree.qsmaskinit(node) == START[place]
-            && tree.grpmask(node) == GROUP[place];
-        assert!(rt; alike, "node {node}");
+        is_word(rt, node, tree.qsmask(node), wanted[place]);
+        is_word(rt, node, tree.qsmaskinit(node), START[place]);
+        is_word(rt, node, tree.grpmask(node), GROUP[place]);
     }
 }
 
 #[test]
 fn flat_and_trees_beside_flat(rt: HostRuntime) {
     beside_flat(&rt, rt.alloc(), flat(&rt, rt.alloc(), 5), 20);
-    beside_flat(&rt, rt.alloc(), tree::<64, 64>(&rt, rt.alloc(), 1), 5);
-    beside_flat(&rt, rt.alloc(), tree::<16, 64>(&rt, rt.alloc(), 16), 40);
-    beside_flat(&rt, rt.alloc(), tree::<2, 3>(&rt, rt.alloc(), 5), 20);
-    beside_flat(&rt, rt.alloc(), tree::<3, 2>(&rt, rt.alloc(), 7), 30);
-    beside_flat(&rt, rt.alloc(), tree::<2, 2>(&rt, rt.alloc(), 5), 20);
-    beside_flat(&rt, rt.alloc(), tree::<2, 2>(&rt, rt.alloc(), 16), 40);
-    beside_flat(&rt, rt.alloc(), tree::<2, 3>(&rt, rt.alloc(), 54), 60);
+    tree_beside_flat::<64, 64, _>(&rt, rt.alloc(), 1, 5);
+    tree_beside_flat::<16, 64, _>(&rt, rt.alloc(), 16, 40);
+    tree_beside_flat::<2, 3, _>(&rt, rt.alloc(), 5, 20);
+    tree_beside_flat::<3, 2, _>(&rt, rt.alloc(), 7, 30);
+    tree_beside_flat::<2, 2, _>(&rt, rt.alloc(), 5, 20);
+    tree_beside_flat::<2, 2, _>(&rt, rt.alloc(), 16, 40);
+    tree_beside_flat::<2, 3, _>(&rt, rt.alloc(), 54, 60);
+}
+
+/// A tree of so many processors, with so many reports in each grace period.
+fn tree_beside_flat<const LEAF: u32, const FAN: u32, R: Abort>(
+    rt: &R,
+    alloc: Global,
+    cpus: u32,
+    reports: u32,
+) {
+    beside_flat(rt, alloc, tree::<LEAF, FAN>(rt, alloc, cpus), reports);
 }
 
 #[test]
 fn full_tree_beside_flat(rt: HostRuntime) {
-    beside_flat(&rt, rt.alloc(), tree::<64, 64>(&rt, rt.alloc(), 4096), 60);
+    tree_beside_flat::<64, 64, _>(&rt, rt.alloc(), 4096, 60);
 }

@@ -3,6 +3,7 @@ use super::{awaits, begin, insert, report};
 use crate::made::{empty_set, everyone, flat, tree};
 use rcu_node::answer::Answer;
 use rcu_node::awaited::Awaited;
+use rcu_node::cpu_set::CpuSet;
 use rcu_node::merging::merge;
 use rcu_seq::fault::Fault;
 use std::alloc::Global;
@@ -37,24 +38,27 @@ fn merge_two_replicas<A: Awaited, B: Awaited>(
     let set = everyone(rt, alloc, 5);
     begin(rt, &mut first, 1, &set);
     begin(rt, &mut second, 1, &set);
-    report(
-        rt,
-        &mut first,
-        &[(0, 1, Answer::Taken), (2, 1, Answer::Taken)],
-    );
-    report(
-        rt,
-        &mut second,
-        &[(4, 1, Answer::Taken), (2, 1, Answer::Taken)],
-    );
-    merges(rt, &mut first, &second, Ok(()));
+    hear_and_merge(rt, &mut first, &mut second);
+}
+
+/// What the first one hears.
+static FIRST_HEARD: [(u32, u64, Answer); 2] = [(0, 1, Answer::Taken), (2, 1, Answer::Taken)];
+
+/// What the second one hears.
+static SECOND_HEARD: [(u32, u64, Answer); 2] = [(4, 1, Answer::Taken), (2, 1, Answer::Taken)];
+
+/// They hear these, and are merged.
+fn hear_and_merge<A: Awaited, B: Awaited>(rt: &impl Abort, first: &mut A, second: &mut B) {
+    report(rt, first, &FIRST_HEARD);
+    report(rt, second, &SECOND_HEARD);
+    merges(rt, first, second, Ok(()));
     assert!(rt; first.count() == 2 && first.tag() == 1);
     assert!(rt; second.count() == 3);
-    merges(rt, &mut second, &first, Ok(()));
+    merges(rt, second, first, Ok(()));
     assert!(rt; second.count() == 2 && second.tag() == 1);
-    awaits(rt, &first, LEFT.as_slice());
-    awaits(rt, &second, LEFT.as_slice());
-    merges(rt, &mut first, &second, Ok(()));
+    awaits(rt, first, LEFT.as_slice());
+    awaits(rt, second, LEFT.as_slice());
+    merges(rt, first, second, Ok(()));
     assert!(rt; first.count() == 2);
 }
 
@@ -65,37 +69,54 @@ fn merge_unlike<A: Awaited, B: Awaited>(
     mut first: A,
     mut second: B,
 ) {
-    merges(rt, &mut first, &second, Ok(()));
-    merges(rt, &mut first, &flat(rt, alloc, 4), Err(Fault::NotAlike));
-
+    let wider = flat(rt, alloc, 4);
     let mut set = empty_set(rt, alloc, 3);
-    insert(rt, &mut set, &[(0, true), (1, true)]);
-    begin(rt, &mut first, 1, &set);
-    merges(rt, &mut first, &second, Err(Fault::NotAlike));
+    merges(rt, &mut first, &second, Ok(()));
+    merges(rt, &mut first, &wider, Err(Fault::NotAlike));
+    merge_unlike_tags(rt, &mut first, &mut second, &mut set);
+    merge_unlike_sets(rt, &mut first, &mut second, &mut set);
+}
 
-    begin(rt, &mut second, 5, &set);
-    report(rt, &mut second, &[(0, 5, Answer::Taken)]);
-    merges(rt, &mut first, &second, Err(Fault::NotAlike));
+/// Nothing changes where only one has begun, or both with different tags.
+fn merge_unlike_tags<A: Awaited, B: Awaited>(
+    rt: &impl Abort,
+    first: &mut A,
+    second: &mut B,
+    set: &mut CpuSet,
+) {
+    insert(rt, set, &[(0, true), (1, true)]);
+    begin(rt, first, 1, set);
+    merges(rt, first, second, Err(Fault::NotAlike));
 
+    begin(rt, second, 5, set);
+    report(rt, second, &[(0, 5, Answer::Taken)]);
+    merges(rt, first, second, Err(Fault::NotAlike));
+}
+
+/// Nothing changes where both have begun with different sets.
+fn merge_unlike_sets<A: Awaited, B: Awaited>(
+    rt: &impl Abort,
+    first: &mut A,
+    second: &mut B,
+    set: &mut CpuSet,
+) {
     set.clear();
-    insert(rt, &mut set, &[(0, true), (2, true)]);
-    begin(rt, &mut second, 1, &set);
-    report(rt, &mut second, &[(0, 1, Answer::Taken)]);
-    merges(rt, &mut first, &second, Err(Fault::NotAlike));
-    merges(rt, &mut second, &first, Err(Fault::NotAlike));
-    awaits(
-        rt,
-        &first,
-        &[(0, true, true), (1, true, true), (2, false, false)],
-    );
-    awaits(
-        rt,
-        &second,
-        &[(0, true, false), (1, false, false), (2, true, true)],
-    );
+    insert(rt, set, &[(0, true), (2, true)]);
+    begin(rt, second, 1, set);
+    report(rt, second, &[(0, 1, Answer::Taken)]);
+    merges(rt, first, second, Err(Fault::NotAlike));
+    merges(rt, second, first, Err(Fault::NotAlike));
+    awaits(rt, first, &FIRST_LEFT);
+    awaits(rt, second, &SECOND_LEFT);
     assert!(rt; first.count() == 2);
     assert!(rt; second.count() == 1);
 }
+
+/// Of three processors whether each was in the first's start set, and whether it is awaited.
+static FIRST_LEFT: [(u32, bool, bool); 3] = [(0, true, true), (1, true, true), (2, false, false)];
+
+/// The same of the second one.
+static SECOND_LEFT: [(u32, bool, bool); 3] = [(0, true, false), (1, false, false), (2, true, true)];
 
 /// Reports each processor whose bit is not set.
 fn hear<A: Awaited>(rt: &impl Abort, awaited: &mut A, left: u32) {
@@ -129,13 +150,33 @@ fn merge_every_two<A: Awaited, B: Awaited>(
         for other in 0..32u32 {
             begin(rt, &mut first, 1, &set);
             begin(rt, &mut second, 1, &set);
-            hear(rt, &mut first, left);
-            hear(rt, &mut second, other);
-            merges(rt, &mut first, &second, Ok(()));
-            let alike = awaits_those(&first, left & other);
-            assert!(rt; alike, "{left} with {other}");
+            merge_left(rt, &mut first, &mut second, left, other);
         }
     }
+}
+
+/// Each hears all but those that are left, and those in both are left.
+fn merge_left<A: Awaited, B: Awaited>(
+    rt: &impl Abort,
+    first: &mut A,
+    second: &mut B,
+    left: u32,
+    other: u32,
+) {
+    hear(rt, first, left);
+    hear(rt, second, other);
+    merges(rt, first, second, Ok(()));
+    assert!(rt; awaits_those(first, left & other), "{left} with {other}");
+}
+
+/// Two trees of five processors.
+fn merge_two_trees<const LEAF: u32, const FAN: u32, const LEAF_2: u32, const FAN_2: u32>(
+    rt: &impl Abort,
+    alloc: Global,
+) {
+    let first = tree::<LEAF, FAN>(rt, alloc, 5);
+    let second = tree::<LEAF_2, FAN_2>(rt, alloc, 5);
+    merge_two_replicas(rt, alloc, first, second);
 }
 
 #[test]
@@ -143,18 +184,8 @@ fn merging_two_replicas(rt: HostRuntime) {
     let alloc = rt.alloc();
     merge_two_replicas(&rt, alloc, flat(&rt, alloc, 5), flat(&rt, alloc, 5));
     merge_two_replicas(&rt, alloc, flat(&rt, alloc, 5), tree::<2, 3>(&rt, alloc, 5));
-    merge_two_replicas(
-        &rt,
-        alloc,
-        tree::<2, 2>(&rt, alloc, 5),
-        tree::<4, 4>(&rt, alloc, 5),
-    );
-    merge_two_replicas(
-        &rt,
-        alloc,
-        tree::<64, 64>(&rt, alloc, 5),
-        tree::<16, 64>(&rt, alloc, 5),
-    );
+    merge_two_trees::<2, 2, 4, 4>(&rt, alloc);
+    merge_two_trees::<64, 64, 16, 64>(&rt, alloc);
     merge_two_replicas(
         &rt,
         alloc,

@@ -1,7 +1,7 @@
 //! Replicas over trees and flat sets, and their merging.
 ghost use Rattle.std.specs.Prelude.{◌≡◌, false, replicate, length};
 
-use crate::made::{everyone, flat, set_of, tree};
+use crate::made::{everyone, flat, is_said, set_of, tree};
 use rcu_node::answer::Answer;
 use rcu_node::awaited::Awaited;
 use rcu_node::cpu_set::CpuSet;
@@ -53,8 +53,7 @@ fn report<A: Awaited>(
     reports: &[(u32, u64, Result<Answer, Fault>)],
 ) {
     for (cpu, tag, wanted) in reports {
-        let answer = replica.report(*cpu, *tag);
-        assert!(rt; answer == *wanted, "processor {cpu}, number {tag}");
+        is_said(rt, *cpu, replica.report(*cpu, *tag) == *wanted, true);
     }
 }
 
@@ -93,8 +92,7 @@ fn merge<A: Awaited, B: Awaited>(
 fn awaits<A: Awaited>(rt: &impl Abort, replica: &Replica<A>, wanted: &[u32]) {
     let awaited = replica.awaited();
     for cpu in 0..awaited.cpus() {
-        let awaits = awaited.awaits(cpu);
-        assert!(rt; awaits == wanted.contains(&cpu), "processor {cpu}");
+        is_said(rt, cpu, awaited.awaits(cpu), wanted.contains(&cpu));
     }
     assert!(rt; awaited.count() as usize == wanted.len());
 }
@@ -108,17 +106,33 @@ fn merge_two<A: Awaited, B: Awaited>(
 ) {
     begin(rt, &mut a, all, Ok(1));
     begin(rt, &mut b, all, Ok(1));
-    let taken = Ok(Answer::Taken);
-    report(rt, &mut a, &[(0, 1, taken), (2, 1, taken)]);
-    report(rt, &mut b, &[(4, 1, taken), (2, 1, taken)]);
-    awaits(rt, &a, &[1, 3, 4]);
-    awaits(rt, &b, &[0, 1, 3]);
-    merge(rt, &mut a, &b, Ok(()));
-    awaits(rt, &a, &[1, 3]);
-    merge(rt, &mut b, &a, Ok(()));
-    awaits(rt, &b, &[1, 3]);
-    merge(rt, &mut a, &b, Ok(()));
-    awaits(rt, &a, &[1, 3]);
+    report(rt, &mut a, &FIRST_HEARD);
+    report(rt, &mut b, &SECOND_HEARD);
+    merge_begun(rt, &mut a, &mut b);
+}
+
+/// What the first one hears.
+static FIRST_HEARD: [(u32, u64, Result<Answer, Fault>); 2] = [
+    (0, 1, Ok(Answer::Taken)),
+    (2, 1, Ok(Answer::Taken)),
+];
+
+/// What the second one hears.
+static SECOND_HEARD: [(u32, u64, Result<Answer, Fault>); 2] = [
+    (4, 1, Ok(Answer::Taken)),
+    (2, 1, Ok(Answer::Taken)),
+];
+
+/// They take in each other.
+fn merge_begun<A: Awaited, B: Awaited>(rt: &impl Abort, a: &mut Replica<A>, b: &mut Replica<B>) {
+    awaits(rt, a, &[1, 3, 4]);
+    awaits(rt, b, &[0, 1, 3]);
+    merge(rt, a, b, Ok(()));
+    awaits(rt, a, &[1, 3]);
+    merge(rt, b, a, Ok(()));
+    awaits(rt, b, &[1, 3]);
+    merge(rt, a, b, Ok(()));
+    awaits(rt, a, &[1, 3]);
 }
 
 #[test]
@@ -132,28 +146,46 @@ fn merging_two_replicas(rt: HostRuntime) {
     merge_two(&rt, a, b, &all);
 }
 
+/// Begins grace period 1 of these of five processors.
+fn begin_with<A: Awaited>(rt: &impl Abort, alloc: Global, replica: &mut Replica<A>, cpus: &[u32]) {
+    begin(rt, replica, &set_of(rt, alloc, 5, cpus), Ok(1));
+}
+
 /// Two replicas of five processors that begin with different sets, and do not take in each other.
-fn merge_unlike<A: Awaited, B: Awaited>(
+/// The first does not take in the third one either, which has more processors.
+fn merge_unlike<A: Awaited, B: Awaited, C: Awaited>(
     rt: &impl Abort,
     alloc: Global,
     a: &mut Replica<A>,
     b: &mut Replica<B>,
+    c: &Replica<C>,
 ) {
     merge(rt, a, b, Ok(()));
-    begin(rt, a, &set_of(rt, alloc, 5, &[0, 1]), Ok(1));
+    begin_with(rt, alloc, a, &[0, 1]);
     merge(rt, a, b, Err(Fault::NotAlike));
-    begin(rt, b, &set_of(rt, alloc, 5, &[0, 2]), Ok(1));
+    begin_with(rt, alloc, b, &[0, 2]);
     merge(rt, a, b, Err(Fault::NotAlike));
     awaits(rt, a, &[0, 1]);
+    merge(rt, a, c, Err(Fault::NotAlike));
 }
 
 #[test]
 fn merge_of_unlike_sets(rt: HostRuntime) {
     let mut a = over_tree::<2, 2>(&rt, rt.alloc(), 5);
     let mut b = over_tree::<4, 4>(&rt, rt.alloc(), 5);
-    merge_unlike(&rt, rt.alloc(), &mut a, &mut b);
     let c = over_flat(&rt, rt.alloc(), 6);
-    merge(&rt, &mut a, &c, Err(Fault::NotAlike));
+    merge_unlike(&rt, rt.alloc(), &mut a, &mut b, &c);
+}
+
+/// Two replicas of three processors, up to the end of a grace period in both.
+fn depart_and_end<A: Awaited, B: Awaited>(
+    rt: &impl Abort,
+    a: &mut Replica<A>,
+    b: &mut Replica<B>,
+    all: &CpuSet,
+) {
+    depart_in_both(rt, a, b, all);
+    end_in_both(rt, a, b);
 }
 
 /// Two replicas of three processors up to where both await processor 0 alone.
@@ -202,8 +234,7 @@ fn replicas_with_departures(rt: HostRuntime) {
     let mut a = over_tree::<2, 3>(&rt, rt.alloc(), 3);
     let mut b = over_tree::<64, 64>(&rt, rt.alloc(), 3);
     let all = everyone(&rt, rt.alloc(), 3);
-    depart_in_both(&rt, &mut a, &mut b, &all);
-    end_in_both(&rt, &mut a, &mut b);
+    depart_and_end(&rt, &mut a, &mut b, &all);
 }
 
 /// Each fault of a running replica of two processors, the first cause first; a refused call changes
@@ -246,7 +277,7 @@ fn faults_up_to_the_last_number(rt: HostRuntime) {
     let mut one = over_flat(&rt, rt.alloc(), 2);
     let all = everyone(&rt, rt.alloc(), 2);
     up_to_the_last_number(&rt, &mut one, &all);
-    assert!(rt; is_refused(&rt, rt.alloc(), 6));
+    refuses(&rt, rt.alloc(), 6);
 }
 
 /// A replica opens with this last number, and begins.
@@ -256,21 +287,21 @@ fn opens(rt: &impl Abort, alloc: Global, all: &CpuSet, last: u64) {
     begin(rt, &mut one, all, Ok(1));
 }
 
-/// Whether no replica opens, since this is no last number.
-fn is_refused(rt: &impl Abort, alloc: Global, last: u64) -> bool {
-    matches!(Replica::new(flat(rt, alloc, 2), last), Err(Fault::BadLast))
+/// No replica opens, since this is no last number.
+fn refuses(rt: &impl Abort, alloc: Global, last: u64) {
+    let opened = Replica::new(flat(rt, alloc, 2), last);
+    assert!(rt; opened.err() == Some(Fault::BadLast), "{last}");
 }
 
 /// Replicas open with the least and the greatest last number, and with none beyond.
 #[test]
 fn last_numbers(rt: HostRuntime) {
     let all = everyone(&rt, rt.alloc(), 2);
-    for last in [4, 1 << 62] {
-        opens(&rt, rt.alloc(), &all, last);
-    }
-    for last in [0, 6, (1 << 62) + 4] {
-        assert!(rt; is_refused(&rt, rt.alloc(), last), "{last}");
-    }
+    opens(&rt, rt.alloc(), &all, 4);
+    opens(&rt, rt.alloc(), &all, 1 << 62);
+    refuses(&rt, rt.alloc(), 0);
+    refuses(&rt, rt.alloc(), 6);
+    refuses(&rt, rt.alloc(), (1 << 62) + 4);
 }
 
 /// A grace period of the last of so many processors, which it ends.
@@ -286,11 +317,15 @@ fn awaits_last<A: Awaited>(rt: &impl Abort, replica: &mut Replica<A>, last: &Cpu
     );
 }
 
+/// A replica of so many processors awaits the last of them.
+fn has_size(rt: &impl Abort, alloc: Global, cpus: u32) {
+    let mut one = over_flat(rt, alloc, cpus);
+    let all = set_of(rt, alloc, cpus, &[cpus.saturating_sub(1)]);
+    awaits_last(rt, &mut one, &all, cpus);
+}
+
 #[test]
 fn sizes_of_replicas(rt: HostRuntime) {
-    for cpus in [1, 4096] {
-        let mut one = over_flat(&rt, rt.alloc(), cpus);
-        let all = set_of(&rt, rt.alloc(), cpus, &[cpus - 1]);
-        awaits_last(&rt, &mut one, &all, cpus);
-    }
+    has_size(&rt, rt.alloc(), 1);
+    has_size(&rt, rt.alloc(), 4096);
 }
