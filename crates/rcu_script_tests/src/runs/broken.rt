@@ -1,22 +1,32 @@
 //! All rows through streams that pass few bytes at once, and that fail at each byte.
 
-use crate::runs::pair::rows::PAIR_ROWS;
+use crate::runs::pair::rows::pair_rows;
 use crate::runs::row::{ALL, Row};
-use crate::runs::script::rows::ROWS;
+use crate::runs::script::rows::rows;
 use std::alloc::Global;
 use std::process::Abort;
 
 /// How many bytes the streams pass at once.
 static PIECES: [usize; 3] = [1, 7, ALL];
 
+/// The row through streams that fail after so many bytes.
+fn keeps_in_pieces(rt: &impl Abort, alloc: Global, row: &Row, gives: usize, takes: usize) {
+    for piece in &PIECES {
+        keeps(rt, alloc, row, *piece, gives, takes);
+    }
+}
+
+/// Each row through streams that never fail.
+fn all_in_pieces(rt: &impl Abort, alloc: Global, rows: &[Row]) {
+    for row in rows {
+        keeps_in_pieces(rt, alloc, row, ALL, ALL);
+    }
+}
+
 #[test]
 fn rows_in_pieces(rt: HostRuntime) {
-    for row in ROWS.iter().chain(&PAIR_ROWS) {
-        for piece in PIECES {
-            let holds = row.is_answered(rt.alloc(), piece);
-            assert!(rt; holds, "{}, {piece} at once", row.name);
-        }
-    }
+    all_in_pieces(&rt, rt.alloc(), rows());
+    all_in_pieces(&rt, rt.alloc(), pair_rows());
 }
 
 /// Runs the row over such streams, which has to keep what it owes.
@@ -34,9 +44,7 @@ fn keeps(rt: &impl Abort, alloc: Global, row: &Row, piece: usize, gives: usize, 
 fn fails_after(rt: &impl Abort, alloc: Global, row: &Row, gives: usize) {
     let owed = row.replies_within(gives).len();
     let room = [owed, owed.saturating_sub(1), owed / 2];
-    for piece in PIECES {
-        keeps(rt, alloc, row, piece, gives, ALL);
-    }
+    keeps_in_pieces(rt, alloc, row, gives, ALL);
     keeps(
         rt,
         alloc,
@@ -47,23 +55,32 @@ fn fails_after(rt: &impl Abort, alloc: Global, row: &Row, gives: usize) {
     );
 }
 
-#[test]
-fn failing_readers(rt: HostRuntime) {
-    for row in ROWS.iter().chain(&PAIR_ROWS) {
+/// The reader of each row fails after each byte.
+fn all_readers_fail(rt: &impl Abort, alloc: Global, rows: &[Row]) {
+    for row in rows {
         for gives in 0..row.lines.len().saturating_add(2) {
-            fails_after(&rt, rt.alloc(), row, gives);
+            fails_after(rt, alloc, row, gives);
         }
     }
 }
 
-/// The writer fails after each byte.
 #[test]
-fn failing_writers(rt: HostRuntime) {
-    for row in ROWS.iter().chain(&PAIR_ROWS) {
+fn failing_readers(rt: HostRuntime) {
+    all_readers_fail(&rt, rt.alloc(), rows());
+    all_readers_fail(&rt, rt.alloc(), pair_rows());
+}
+
+/// The writer of each row fails after each byte.
+fn all_writers_fail(rt: &impl Abort, alloc: Global, rows: &[Row]) {
+    for row in rows {
         for takes in 0..row.replies.len().saturating_add(1) {
-            for piece in PIECES {
-                keeps(&rt, rt.alloc(), row, piece, ALL, takes);
-            }
+            keeps_in_pieces(rt, alloc, row, ALL, takes);
         }
     }
+}
+
+#[test]
+fn failing_writers(rt: HostRuntime) {
+    all_writers_fail(&rt, rt.alloc(), rows());
+    all_writers_fail(&rt, rt.alloc(), pair_rows());
 }

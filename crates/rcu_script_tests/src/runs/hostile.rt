@@ -8,6 +8,7 @@ use arrayvec::ArrayVec;
 use rand_core::{Rng, SeedableRng};
 use rand_pcg::Pcg32;
 use std::alloc::{AllocError, Global};
+use std::process::Abort;
 
 /// The lines that the broken ones are made of.
 static LINES: [&str; 26] = [
@@ -124,9 +125,7 @@ impl Input {
     /// Ends the line that begins here, and asks the slow program.
     fn end_line(&mut self, begun: usize) -> Result<(), AllocError> {
         let lines = self.lines.split_at(begun.min(self.lines.len())).1;
-        for line in lines.split(|b| *b == b'\n') {
-            self.asked.answer(&mut self.replies, line)?;
-        }
+        answer_lines(&mut self.asked, &mut self.replies, lines)?;
         self.lines.push(b'\n')?;
         Ok(())
     }
@@ -147,6 +146,14 @@ impl Input {
     }
 }
 
+/// Asks the slow program for the reply to each line.
+fn answer_lines(asked: &mut Slow, replies: &mut String, lines: &[u8]) -> Result<(), AllocError> {
+    for line in lines.split(|b| *b == b'\n') {
+        asked.answer(replies, line)?;
+    }
+    Ok(())
+}
+
 /// Each byte as a line, behind a line's text and before it.
 fn bytes(input: &mut Input, line: &[u8]) -> Result<(), AllocError> {
     for b in 0..=u8::MAX {
@@ -159,17 +166,24 @@ fn bytes(input: &mut Input, line: &[u8]) -> Result<(), AllocError> {
 
 /// The name of a line one byte too short, one too long and in capitals, before up to four numbers.
 fn names(input: &mut Input, line: &[u8]) -> Result<(), AllocError> {
-    let length = line
-        .iter()
-        .rposition(u8::is_ascii_lowercase)
-        .map_or(0, |at| at + 1);
-    let (name, _) = line.split_at(length.min(line.len()));
+    let (name, _) = line.split_at(name_length(line).min(line.len()));
     for count in 0..5 {
         for how in 0..4 {
             input.push(&[misspelt(name, how, count).as_slice()])?;
         }
     }
     Ok(())
+}
+
+/// How many bytes a line has up to its last letter.
+fn name_length(line: &[u8]) -> usize {
+    let mut length = 0;
+    for (at, b) in line.iter().enumerate() {
+        if b.is_ascii_lowercase() {
+            length = at + 1;
+        }
+    }
+    length
 }
 
 /// The name before so many numbers: as it is, a byte too short, in capitals, a byte too long.
@@ -191,73 +205,110 @@ fn misspelt(name: &[u8], how: u8, count: usize) -> ArrayVec<u8, 32> {
 /// Each number as it is and behind zeros, with 20 digits and 21.
 fn numbers(input: &mut Input, before: &[&str]) -> Result<(), AllocError> {
     for word in before {
-        for number in NUMBERS {
-            for digits in [0, 20, 21] {
-                let zeros = digits.max(number.len()) - number.len();
-                let (zeros, _) = ZEROS.split_at(zeros.min(ZEROS.len()));
-                input.push(&[word.as_bytes(), zeros, number.as_bytes()])?;
-                input.push(&[word.as_bytes(), b"+", number.as_bytes()])?;
-            }
+        for number in &NUMBERS {
+            push_number(input, word.as_bytes(), number.as_bytes(), 0)?;
+            push_number(input, word.as_bytes(), number.as_bytes(), 20)?;
+            push_number(input, word.as_bytes(), number.as_bytes(), 21)?;
         }
     }
     Ok(())
 }
 
+/// A number behind as many zeros as make so many digits, and behind a sign.
+fn push_number(
+    input: &mut Input,
+    word: &[u8],
+    number: &[u8],
+    digits: usize,
+) -> Result<(), AllocError> {
+    let zeros = digits.saturating_sub(number.len());
+    let (zeros, _) = ZEROS.split_at(zeros.min(ZEROS.len()));
+    input.push(&[word, zeros, number])?;
+    input.push(&[word, b"+", number])
+}
+
 /// A line with bytes behind it, and a line of such bytes alone.
 fn padded(input: &mut Input, line: &[u8], length: usize) -> Result<(), AllocError> {
-    for byte in [b' ', b'0'] {
-        input.push_padded(b"", byte, length)?;
-        input.push_padded(line, byte, length)?;
-    }
-    Ok(())
+    input.push_padded(b"", b' ', length)?;
+    input.push_padded(line, b' ', length)?;
+    input.push_padded(b"", b'0', length)?;
+    input.push_padded(line, b'0', length)
 }
 
 /// The inputs that are not drawn, one after another.
 fn made(alloc: Global, is_pair: bool, place: usize) -> Result<Input, AllocError> {
     let mut input = Input::new(alloc, is_pair);
-    let (lines, before) = if is_pair {
-        (PAIR_LINES.as_slice(), PAIR_BEFORE.as_slice())
+    if is_pair {
+        fill(&mut input, b"same", &PAIR_LINES, &PAIR_BEFORE, place)?;
     } else {
-        (LINES.as_slice(), BEFORE.as_slice())
-    };
-    let first = if is_pair { "same" } else { "awaits" };
-    match place {
-        0 => bytes(&mut input, first.as_bytes())?,
-        1 => {
-            for line in lines.iter().copied() {
-                names(&mut input, line.as_bytes())?;
-            }
-        }
-        2 => numbers(&mut input, before)?,
-        _ => {
-            let length = LENGTHS.get(place - 3).copied().unwrap_or(0);
-            padded(&mut input, first.as_bytes(), length)?;
-        }
+        fill(&mut input, b"awaits", &LINES, &BEFORE, place)?;
     }
     Ok(input)
 }
 
-#[test]
-fn hostile_lines(rt: HostRuntime) {
-    for (is_pair, place) in (0..22).map(|n| (n % 2 == 1, n / 2)) {
-        let input = match made(rt.alloc(), is_pair, place) {
-            Ok(input) => input,
-            Err(_) => made(rt.alloc(), is_pair, place).expect(&rt, "memory for lines"),
-        };
-        let row = input.row();
-        let unended = row.without_last_end();
-        for piece in [7, ALL] {
-            let holds = row.is_answered(rt.alloc(), piece)
-                && unended.is_answered(rt.alloc(), piece);
-            assert!(rt; holds, "input {place}, {is_pair}, {piece} at once");
-        }
-        for part in 1..4usize {
-            let (gives, takes) = (row.lines.len() / 4 * part, row.replies.len() / 4 * part);
-            let holds = row.is_kept(rt.alloc(), 100, gives, ALL)
-                && row.is_kept(rt.alloc(), 100, ALL, takes);
-            assert!(rt; holds, "input {place}, {is_pair}, cut at {part}");
+/// Fills the input of this place, from these lines and what stands before a number.
+fn fill(
+    input: &mut Input,
+    first: &[u8],
+    lines: &[&str],
+    before: &[&str],
+    place: usize,
+) -> Result<(), AllocError> {
+    match place {
+        0 => bytes(input, first),
+        1 => all_names(input, lines),
+        2 => numbers(input, before),
+        _ => {
+            let length = LENGTHS.get(place - 3).copied().unwrap_or(0);
+            padded(input, first, length)
         }
     }
+}
+
+/// The names of all lines.
+fn all_names(input: &mut Input, lines: &[&str]) -> Result<(), AllocError> {
+    for line in lines {
+        names(input, line.as_bytes())?;
+    }
+    Ok(())
+}
+
+#[test]
+fn hostile_lines(rt: HostRuntime) {
+    for n in 0..22 {
+        let input = made_again(&rt, rt.alloc(), n % 2 == 1, n / 2);
+        assert!(rt; is_kept(rt.alloc(), &input.row()), "input {n}");
+    }
+}
+
+/// Makes an input, by a second call where the first is refused a growth.
+fn made_again(rt: &impl Abort, alloc: Global, is_pair: bool, place: usize) -> Input {
+    match made(alloc, is_pair, place) {
+        Ok(input) => input,
+        Err(_) => made(alloc, is_pair, place).expect(rt, "memory for lines"),
+    }
+}
+
+/// Whether the lines are answered in pieces, with and without their last end, and cut at each
+/// quarter.
+fn is_kept(alloc: Global, row: &Row) -> bool {
+    is_answered(alloc, row, 7)
+        && is_answered(alloc, row, ALL)
+        && is_cut(alloc, row, 1)
+        && is_cut(alloc, row, 2)
+        && is_cut(alloc, row, 3)
+}
+
+/// Whether the lines are answered so many bytes at once, with and without their last end.
+fn is_answered(alloc: Global, row: &Row, piece: usize) -> bool {
+    row.is_answered(alloc, piece) && row.without_last_end().is_answered(alloc, piece)
+}
+
+/// Whether the lines, and then the replies, may end at this quarter.
+fn is_cut(alloc: Global, row: &Row, part: usize) -> bool {
+    let gives = (row.lines.len() / 4).saturating_mul(part);
+    let takes = (row.replies.len() / 4).saturating_mul(part);
+    row.is_kept(alloc, 100, gives, ALL) && row.is_kept(alloc, 100, ALL, takes)
 }
 
 /// A legal line, broken at a place drawn at random, or bytes drawn at random.
@@ -283,32 +334,51 @@ fn push_drawn(input: &mut Input, rng: &mut Pcg32, lines: &[&str]) -> Result<(), 
 fn draw(alloc: Global, is_pair: bool, seed: u64) -> Result<Input, AllocError> {
     let mut rng = Pcg32::seed_from_u64(seed);
     let mut input = Input::new(alloc, is_pair);
-    for _ in 0..rng.next_u32() % 16 {
-        if is_pair {
-            push_drawn(&mut input, &mut rng, &PAIR_LINES)?;
-        } else {
-            push_drawn(&mut input, &mut rng, &LINES)?;
-        }
+    if is_pair {
+        push_all_drawn(&mut input, &mut rng, &PAIR_LINES)?;
+    } else {
+        push_all_drawn(&mut input, &mut rng, &LINES)?;
     }
     Ok(input)
+}
+
+/// Puts a drawn number of drawn lines.
+fn push_all_drawn(input: &mut Input, rng: &mut Pcg32, lines: &[&str]) -> Result<(), AllocError> {
+    for _ in 0..rng.next_u32() % 16 {
+        push_drawn(input, rng, lines)?;
+    }
+    Ok(())
 }
 
 #[test]
 fn drawn_bytes_get_the_replies_of_the_slow_programs(rt: HostRuntime) {
     for seed in 0..4_000u64 {
         let is_pair = seed % 2 == 1;
-        let input = match draw(rt.alloc(), is_pair, seed) {
-            Ok(input) => input,
-            Err(_) => draw(rt.alloc(), is_pair, seed).expect(&rt, "memory for lines"),
-        };
-        let row = input.row();
-        let mut rng = Pcg32::seed_from_u64(seed);
-        let piece = 1 + rng.next_u32() as usize % 40;
-        let gives = rng.next_u32() as usize % row.lines.len().saturating_add(9).max(1);
-        let takes = rng.next_u32() as usize % row.replies.len().saturating_add(40).max(1);
-        for (gives, takes) in [(ALL, ALL), (gives, ALL), (ALL, takes), (gives, takes)] {
-            let holds = row.is_kept(rt.alloc(), piece, gives, takes);
-            assert!(rt; holds, "seed {seed}: {piece} at once, {gives}, {takes}");
-        }
+        let input = drawn(&rt, rt.alloc(), is_pair, seed);
+        assert!(rt;
+            is_kept_anyhow(rt.alloc(), &input.row(), seed),
+            "seed {seed}"
+        );
     }
+}
+
+/// Draws an input, by a second call where the first is refused a growth.
+fn drawn(rt: &impl Abort, alloc: Global, is_pair: bool, seed: u64) -> Input {
+    match draw(alloc, is_pair, seed) {
+        Ok(input) => input,
+        Err(_) => draw(alloc, is_pair, seed).expect(rt, "memory for lines"),
+    }
+}
+
+/// Whether the lines are answered so many bytes at once as are drawn, through streams of which
+/// none, one, the other and both fail after a drawn number of bytes.
+fn is_kept_anyhow(alloc: Global, row: &Row, seed: u64) -> bool {
+    let mut rng = Pcg32::seed_from_u64(seed);
+    let piece = 1 + rng.next_u32() as usize % 40;
+    let gives = rng.next_u32() as usize % row.lines.len().saturating_add(9).max(1);
+    let takes = rng.next_u32() as usize % row.replies.len().saturating_add(40).max(1);
+    row.is_kept(alloc, piece, ALL, ALL)
+        && row.is_kept(alloc, piece, gives, ALL)
+        && row.is_kept(alloc, piece, ALL, takes)
+        && row.is_kept(alloc, piece, gives, takes)
 }

@@ -3,6 +3,7 @@
 use rcu_core::event::Event;
 use rcu_script::script::parse::parse_line;
 use rcu_text::Line;
+use std::process::Abort;
 
 /// Lines, and what they ask for.
 static LINES: [(&str, Line<Event>); 23] = [
@@ -57,16 +58,21 @@ static LINES_OF_LISTS: [(&str, Line<Event>); 13] = [
     ("bartest 0", Line::Malformed),
 ];
 
+/// Compares what a line asks for.
+fn asks(rt: &impl Abort, line: &str, asked: &Line<Event>) {
+    assert!(rt; parse_line(line.as_bytes()) == *asked, "{line}");
+}
+
 #[test]
 fn lines(rt: HostRuntime) {
     for (line, asked) in &LINES {
-        assert_eq!(rt; parse_line(line.as_bytes()), *asked, "{line}");
+        asks(&rt, line, asked);
     }
 }
 
 #[test]
 fn lines_of_lists(rt: HostRuntime) {
     for (line, asked) in &LINES_OF_LISTS {
-        assert_eq!(rt; parse_line(line.as_bytes()), *asked, "{line}");
+        asks(&rt, line, asked);
     }
 }

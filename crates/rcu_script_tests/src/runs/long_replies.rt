@@ -6,6 +6,7 @@ use arrayvec::ArrayVec;
 use rcu_script::{RunFault, Setup, run_script};
 use rcu_text::{Failed, Marked, Sink, Source};
 use std::alloc::{AllocError, Global};
+use std::process::Abort;
 
 /// How many writes are noted.
 const WRITES: usize = 64;
@@ -171,13 +172,22 @@ impl Long {
         } else {
             self.run(alloc, length)
         };
-        let within = writes.iter().filter(|left| **left < self.last);
         let mut holds = holds && writes.len() > 4;
-        for left in within.take(3) {
-            let border = length.saturating_sub(*left);
-            for takes in border.saturating_sub(8)..border.saturating_add(9) {
-                holds = holds && (self.run(alloc, takes).0 || self.run(alloc, takes).0);
+        let mut borders = 0;
+        for left in writes.as_slice() {
+            if *left < self.last && borders < 3 {
+                borders += 1;
+                holds = holds && self.is_cut(alloc, length.saturating_sub(*left));
             }
+        }
+        holds
+    }
+
+    /// Whether it is answered through writers that fail beside a border.
+    fn is_cut(&self, alloc: Global, border: usize) -> bool {
+        let mut holds = true;
+        for takes in border.saturating_sub(8)..border.saturating_add(9) {
+            holds = holds && (self.run(alloc, takes).0 || self.run(alloc, takes).0);
         }
         holds
     }
@@ -185,16 +195,22 @@ impl Long {
 
 #[test]
 fn long_replies(rt: HostRuntime) {
-    for make in 0..2 {
-        let made = |alloc| if make == 0 {
-            Long::awaits(alloc)
-        } else {
-            Long::runs(alloc)
-        };
-        let long = match made(rt.alloc()) {
-            Ok(long) => long,
-            Err(_) => made(rt.alloc()).expect(&rt, "memory for lines"),
-        };
-        assert!(rt; long.is_answered(rt.alloc()), "long reply {make}");
+    assert!(rt; awaits(&rt, rt.alloc()).is_answered(rt.alloc()), "awaits");
+    assert!(rt; runs(&rt, rt.alloc()).is_answered(rt.alloc()), "ran");
+}
+
+/// All processors are awaited, made by a second call where the first is refused a growth.
+fn awaits(rt: &impl Abort, alloc: Global) -> Long {
+    match Long::awaits(alloc) {
+        Ok(long) => long,
+        Err(_) => Long::awaits(alloc).expect(rt, "memory for lines"),
+    }
+}
+
+/// Ten thousand callbacks run, made by a second call where the first is refused a growth.
+fn runs(rt: &impl Abort, alloc: Global) -> Long {
+    match Long::runs(alloc) {
+        Ok(long) => long,
+        Err(_) => Long::runs(alloc).expect(rt, "memory for lines"),
     }
 }

@@ -1,6 +1,6 @@
 //! What a refused growth may do.
 
-use crate::runs::pair::rows::PAIR_ROWS;
+use crate::runs::pair::rows::pair_rows;
 use crate::runs::row::{ALL, FAR, Row, Run};
 use arrayvec::{ArrayVec, CapacityError};
 use rcu_script::RunFault;
@@ -102,7 +102,7 @@ fn growths_are_refused(rt: HostRuntime) -> Result<(), Fail> {
     }
     if first.end.is_err() {
         println!(rt; "a growth was refused at the opening")?;
-        assert!(rt; first.came_to(&Err(RunFault::Open(Fault::NoMemory)), b""));
+        assert!(rt; is_refused_opening(&first));
         assert!(rt; GROWING.is_answered(rt.alloc(), ALL));
         return Ok(());
     }
@@ -110,16 +110,21 @@ fn growths_are_refused(rt: HostRuntime) -> Result<(), Fail> {
         lines: ArrayVec::new(),
         replies: ArrayVec::new(),
     };
+    keep(&rt, &mut kept, first.written.as_slice())?;
+    assert!(rt; kept.is_answered(rt.alloc()));
+    Ok(())
+}
+
+/// Keeps the lines that were not refused, with their replies.
+fn keep<R: Print + Abort>(rt: &R, kept: &mut Kept, written: &[u8]) -> Result<(), Fail> {
     let end = |b: &u8| *b == b'\n';
-    let written = first.written.as_slice().split(end);
-    for (line, reply) in GROWING.lines.split(end).zip(written) {
+    for (line, reply) in GROWING.lines.split(end).zip(written.split(end)) {
         if reply == REFUSED {
-            tell(&rt, line)?;
+            tell(rt, line)?;
         } else if !line.is_empty() {
             kept.push(line, reply)?;
         }
     }
-    assert!(rt; kept.is_answered(rt.alloc()));
     Ok(())
 }
 
@@ -127,16 +132,24 @@ fn growths_are_refused(rt: HostRuntime) -> Result<(), Fail> {
 /// opens the next time.
 #[test]
 fn growths_of_a_pair_are_refused(rt: HostRuntime) -> Result<(), Fail> {
-    for row in PAIR_ROWS.iter().take(1) {
-        let first = row.run(rt.alloc(), ALL, ALL, ALL);
-        if wants_memory(&first) {
-            println!(rt; "a growth was refused")?;
-            assert!(rt; first.came_to(&Err(RunFault::Open(Fault::NoMemory)), b""));
-            let again = row.run(rt.alloc(), ALL, ALL, ALL);
-            assert!(rt; again.came_to(&Ok(()), row.replies));
-        } else {
-            assert!(rt; first.came_to(&Ok(()), row.replies));
-        }
+    let row = pair_rows().first().expect(&rt, "there are rows");
+    let first = row.run(rt.alloc(), ALL, ALL, ALL);
+    if !wants_memory(&first) {
+        assert!(rt; first.came_to(&Ok(()), row.replies));
+        return Ok(());
     }
+    println!(rt; "a growth was refused")?;
+    assert!(rt; is_refused_opening(&first));
+    assert!(rt; gets_replies(rt.alloc(), row));
     Ok(())
+}
+
+/// Whether a run was refused a growth as it opened, and wrote nothing.
+fn is_refused_opening(run: &Run) -> bool {
+    run.came_to(&Err(RunFault::Open(Fault::NoMemory)), b"")
+}
+
+/// Whether a run of the row, which is not made once more, comes to its replies.
+fn gets_replies(alloc: Global, row: &Row) -> bool {
+    row.run(alloc, ALL, ALL, ALL).came_to(&Ok(()), row.replies)
 }

@@ -43,13 +43,20 @@ impl Run {
     /// Whether it ended so, wrote this text, and read and wrote in turn.
     pub fn came_to(&self, end: &Result<(), RunFault>, text: &[u8]) -> bool {
         let is_end = match (&self.end, end) {
-            (Ok(()), Ok(()))
-            | (Err(RunFault::Read), Err(RunFault::Read))
-            | (Err(RunFault::Write), Err(RunFault::Write)) => true,
-            (Err(RunFault::Open(fault)), Err(RunFault::Open(wanted))) => fault == wanted,
+            (Ok(()), Ok(())) => true,
+            (Err(fault), Err(wanted)) => is_fault(fault, wanted),
             _ => false,
         };
         is_end && !self.is_untimely && self.written.as_slice() == text
+    }
+}
+
+/// Whether two faults are the same.
+fn is_fault(fault: &RunFault, wanted: &RunFault) -> bool {
+    match fault {
+        RunFault::Open(fault) => matches!(wanted, RunFault::Open(wanted) if fault == wanted),
+        RunFault::Read => matches!(wanted, RunFault::Read),
+        RunFault::Write => matches!(wanted, RunFault::Write),
     }
 }
 

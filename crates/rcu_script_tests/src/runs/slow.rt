@@ -20,31 +20,49 @@ pub enum Slow {
 impl Slow {
     /// Writes the reply to a line.
     pub fn answer(&mut self, replies: &mut String, line: &[u8]) -> Result<(), AllocError> {
-        let is_odd = |b: &u8| *b != b' ' && !b.is_ascii_graphic();
-        let text = match str::from_utf8(line) {
-            Ok(text) if text.len() <= 80 && !line.iter().any(is_odd) => text,
-            _ => return replies.push_str("fault 21\n"),
+        let Some(text) = text_of(line) else {
+            return replies.push_str("fault 21\n");
         };
-        let mut words = ArrayVec::<&str, WORDS>::new();
-        for word in text.split(' ') {
-            if !word.is_empty() {
-                let _ = words.try_push(word);
-            }
-        }
+        let words = words_of(text);
         if words.is_empty() {
             return Ok(());
         }
+        self.answer_words(replies, words.as_slice())
+    }
+
+    /// Writes the reply to a line of these words.
+    fn answer_words(&mut self, replies: &mut String, words: &[&str]) -> Result<(), AllocError> {
         match self {
-            Slow::Script(model) => match event(words.as_slice()) {
+            Slow::Script(model) => match event(words) {
                 Some(event) => model.answer(replies, event),
                 None => replies.push_str("fault 21\n"),
             },
-            Slow::Pair(model) => match asked(words.as_slice()) {
+            Slow::Pair(model) => match asked(words) {
                 Some((side, asked)) => model.answer(replies, side, asked),
                 None => replies.push_str("fault 21\n"),
             },
         }
     }
+}
+
+/// A line as text, if it is short enough and has spaces and graphic characters alone.
+fn text_of(line: &[u8]) -> Option<&str> {
+    let is_odd = |b: &u8| *b != b' ' && !b.is_ascii_graphic();
+    match str::from_utf8(line) {
+        Ok(text) if text.len() <= 80 && !line.iter().any(is_odd) => Some(text),
+        _ => None,
+    }
+}
+
+/// The words of a text.
+fn words_of(text: &str) -> ArrayVec<&str, WORDS> {
+    let mut words = ArrayVec::new();
+    for word in text.split(' ') {
+        if !word.is_empty() {
+            let _ = words.try_push(word);
+        }
+    }
+    words
 }
 
 /// What the words of a script's line ask for.
@@ -69,41 +87,47 @@ fn named(events: &[(&str, Event)], name: &str) -> Option<Event> {
 
 /// The event that a name alone asks for.
 fn bare_event(name: &str) -> Option<Event> {
-    let events = [
-        ("begin", Event::Begin),
-        ("end", Event::End),
-        ("turn", Event::Turn),
-        ("awaits", Event::Awaits),
-        ("take", Event::Take),
-        ("start", Event::StartPoll),
-        ("bar", Event::BarBegin),
-        ("bartest", Event::BarTest),
-    ];
-    named(events.as_slice(), name)
+    named(&BARE, name)
 }
+
+/// The names of the events without a number.
+static BARE: [(&str, Event); 8] = [
+    ("begin", Event::Begin),
+    ("end", Event::End),
+    ("turn", Event::Turn),
+    ("awaits", Event::Awaits),
+    ("take", Event::Take),
+    ("start", Event::StartPoll),
+    ("bar", Event::BarBegin),
+    ("bartest", Event::BarTest),
+];
 
 /// The event that a name and one number ask for: most often a processor's.
 fn event_of_one(name: &str, n: u64) -> Option<Event> {
     let cpu = cpu_at(n);
-    let events = [
-        ("enter", Event::Enter(cpu)),
-        ("exit", Event::Exit(cpu)),
-        ("note", Event::Note(cpu)),
-        ("quiet", Event::Quiesce(cpu)),
-        ("online", Event::Online(cpu)),
-        ("offline", Event::Offline(cpu)),
-        ("tend", Event::Tend(cpu)),
-        ("visit", Event::Visit(cpu)),
-        ("deliver", Event::Deliver(n)),
-        ("poll", Event::Poll(n)),
-    ];
-    named(events.as_slice(), name)
+    named(
+        &[
+            ("enter", Event::Enter(cpu)),
+            ("exit", Event::Exit(cpu)),
+            ("note", Event::Note(cpu)),
+            ("quiet", Event::Quiesce(cpu)),
+            ("online", Event::Online(cpu)),
+            ("offline", Event::Offline(cpu)),
+            ("tend", Event::Tend(cpu)),
+            ("visit", Event::Visit(cpu)),
+            ("deliver", Event::Deliver(n)),
+            ("poll", Event::Poll(n)),
+        ],
+        name,
+    )
 }
 
 /// The event that a name, a processor and a number ask for.
 fn event_of_two(name: &str, cpu: u32, n: u64) -> Option<Event> {
-    let events = [("queue", Event::Queue(cpu, n)), ("run", Event::Run(cpu, n))];
-    named(events.as_slice(), name)
+    named(
+        &[("queue", Event::Queue(cpu, n)), ("run", Event::Run(cpu, n))],
+        name,
+    )
 }
 
 /// What the words of a pair's line ask for, and of which replica.
@@ -128,10 +152,20 @@ fn asked_of(name: &str, rest: &[&str]) -> Option<Asked> {
     match rest {
         [] => bare_asked(name),
         _ if name == "begin" => Some(Asked::Begin(set_of(rest)?)),
-        [cpu] if name == "depart" => Some(Asked::Depart(cpu_of(cpu)?)),
-        [cpu, tag] if name == "report" => Some(Asked::Report(cpu_of(cpu)?, number(tag)?)),
+        [cpu] => asked_of_one(name, cpu_of(cpu)?),
+        [cpu, tag] => asked_of_two(name, cpu_of(cpu)?, number(tag)?),
         _ => None,
     }
+}
+
+/// What a name and a processor ask of a replica.
+fn asked_of_one(name: &str, cpu: u32) -> Option<Asked> {
+    (name == "depart").then_some(Asked::Depart(cpu))
+}
+
+/// What a name, a processor and a number ask of a replica.
+fn asked_of_two(name: &str, cpu: u32, tag: u64) -> Option<Asked> {
+    (name == "report").then_some(Asked::Report(cpu, tag))
 }
 
 fn bare_asked(name: &str) -> Option<Asked> {

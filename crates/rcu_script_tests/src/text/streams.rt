@@ -1,6 +1,7 @@
 use rcu_text::{Failed, Marked, Sink, Source};
 use std::io;
 use std::io::{Read, Write};
+use std::process::Abort;
 
 /// Fails at each read, and takes nothing at each write.
 #[derive(Drop)]
@@ -22,37 +23,41 @@ impl Write for Broken {
     }
 }
 
-/// What a read into 4 bytes answers, and whether the source has failed then.
-fn read_four<R: Source>(source: &mut R) -> (Result<usize, Failed>, bool) {
-    let count = source.read(&mut [0; 4]);
-    (count, source.has_failed())
+/// Compares what a read into 4 bytes answers. The source has failed where the read does.
+fn read_four<R: Source>(rt: &impl Abort, source: &mut R, wanted: Result<usize, Failed>) {
+    assert!(rt; source.read(&mut [0; 4]) == wanted);
+    assert!(rt; source.has_failed() == wanted.is_err());
 }
 
-fn write_to<W: Sink>(sink: &mut W, bytes: &[u8]) -> (Result<usize, Failed>, bool) {
-    let count = sink.write(bytes);
-    (count, sink.has_failed())
+/// Compares what a write answers, and whether the sink has failed then.
+fn write_to<W: Sink>(
+    rt: &impl Abort,
+    sink: &mut W,
+    bytes: &[u8],
+    wanted: Result<usize, Failed>,
+    has_failed: bool,
+) {
+    assert!(rt; sink.write(bytes) == wanted);
+    assert!(rt; sink.has_failed() == has_failed);
 }
 
 #[test]
 fn a_reader_is_read_to_its_end(rt: HostRuntime) {
     let mut source = Marked::new("grace".as_bytes());
-    assert_eq!(rt; read_four(&mut source), (Ok(4), false));
-    assert_eq!(rt; read_four(&mut source), (Ok(1), false));
-    assert_eq!(rt; read_four(&mut source), (Ok(0), false));
+    read_four(&rt, &mut source, Ok(4));
+    read_four(&rt, &mut source, Ok(1));
+    read_four(&rt, &mut source, Ok(0));
 }
 
 #[test]
 fn an_interrupted_read_is_a_failure(rt: HostRuntime) {
-    assert_eq!(rt; read_four(&mut Marked::new(Broken)), (Err(Failed), true));
+    read_four(&rt, &mut Marked::new(Broken), Err(Failed));
 }
 
 #[test]
 fn a_write_that_takes_nothing_is_a_failure(rt: HostRuntime) {
     let mut sink = Marked::new(Broken);
-    assert_eq!(rt; write_to(&mut sink, "".as_bytes()), (Ok(0), false));
-    assert_eq!(rt;
-        write_to(&mut sink, "grace".as_bytes()),
-        (Err(Failed), true)
-    );
-    assert_eq!(rt; write_to(&mut sink, "".as_bytes()), (Ok(0), true));
+    write_to(&rt, &mut sink, b"", Ok(0), false);
+    write_to(&rt, &mut sink, b"grace", Err(Failed), true);
+    write_to(&rt, &mut sink, b"", Ok(0), true);
 }

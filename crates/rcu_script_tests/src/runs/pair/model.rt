@@ -5,7 +5,7 @@ use rcu_script::pair::event::Side;
 use std::alloc::AllocError;
 
 /// What a line asks for. Sets have a bit for each processor.
-#[derive(Clone, Copy, Debug, PartialEq, Eq)]
+#[derive(Clone, Copy)]
 pub enum Asked {
     Begin(u64),
     Report(u32, u64),
@@ -17,7 +17,7 @@ pub enum Asked {
 }
 
 /// What a replica knows.
-#[derive(Clone, Copy, Debug, Default, PartialEq, Eq)]
+#[derive(Clone, Copy, Default)]
 pub struct Known {
     ends: u64,
     is_running: bool,
@@ -72,6 +72,43 @@ impl Known {
     }
 }
 
+impl Known {
+    /// What a report does.
+    fn reported(&self, cpu: u32, tag: u64) -> &'static str {
+        if !self.is_running || tag != self.tag {
+            "stale\n"
+        } else if self.awaited() == bit(cpu) {
+            "last\n"
+        } else if self.awaited() & bit(cpu) == 0 {
+            "repeat\n"
+        } else {
+            "taken\n"
+        }
+    }
+
+    /// Writes the reply to an accepted line, beside the other one.
+    fn write_reply(
+        &self,
+        other: &Known,
+        text: &mut String,
+        asked: Asked,
+    ) -> Result<(), AllocError> {
+        let now = self.after(other, asked);
+        match asked {
+            Asked::Begin(set) => {
+                writeln!(text, "begun {} awaits {}", now.number(), set.count_ones())
+            }
+            Asked::Report(cpu, tag) => text.push_str(self.reported(cpu, tag)),
+            Asked::Depart(_) => text.push_str("departed\n"),
+            Asked::End => writeln!(text, "ended {}", now.number()),
+            Asked::Awaits => write_awaited(text, self.awaited()),
+            Asked::Merge => writeln!(text, "merged {}", now.awaited().count_ones()),
+            Asked::Same if self.awaited() == other.awaited() => text.push_str("same\n"),
+            Asked::Same => text.push_str("differ\n"),
+        }
+    }
+}
+
 impl PairModel {
     /// What both replicas know, the one of the side first.
     pub fn known(&self, first: Side) -> (Known, Known) {
@@ -117,24 +154,7 @@ impl PairModel {
             return writeln!(text, "fault {fault}");
         }
         self.past.push((side, asked))?;
-        let now = mine.after(&other, asked);
-        match asked {
-            Asked::Begin(set) => {
-                writeln!(text, "begun {} awaits {}", now.number(), set.count_ones())
-            }
-            Asked::Report(_, tag) if !mine.is_running || tag != mine.tag => {
-                text.push_str("stale\n")
-            }
-            Asked::Report(cpu, _) if mine.awaited() == bit(cpu) => text.push_str("last\n"),
-            Asked::Report(cpu, _) if mine.awaited() & bit(cpu) == 0 => text.push_str("repeat\n"),
-            Asked::Report(_, _) => text.push_str("taken\n"),
-            Asked::Depart(_) => text.push_str("departed\n"),
-            Asked::End => writeln!(text, "ended {}", now.number()),
-            Asked::Awaits => write_awaited(text, mine.awaited()),
-            Asked::Merge => writeln!(text, "merged {}", now.awaited().count_ones()),
-            Asked::Same if mine.awaited() == other.awaited() => text.push_str("same\n"),
-            Asked::Same => text.push_str("differ\n"),
-        }
+        mine.write_reply(&other, text, asked)
     }
 }
 

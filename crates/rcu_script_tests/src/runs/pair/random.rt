@@ -2,14 +2,27 @@
 
 use crate::runs::pair::model::{Asked, Known, PairModel, bit};
 use crate::runs::row::{ALL, Row};
-use crate::runs::script::random::count_lines;
+use crate::runs::script::random::{are_shown, count_shown};
 use rand_core::{Rng, SeedableRng};
 use rand_pcg::Pcg32;
 use rcu_script::pair::event::Side;
 use std::alloc::{AllocError, Global};
+use std::process::Abort;
 
 /// How many lines are drawn.
 const LENGTH: usize = 300;
+
+/// The pairs: how many processors, the last number, and a seed.
+static SEEDS: [(u32, u64, u64); 8] = [
+    (3, 4, 1),
+    (3, 400, 2),
+    (4, 8, 3),
+    (5, 400, 4),
+    (6, 12, 5),
+    (6, 400, 6),
+    (3, 400, 7),
+    (1, 400, 8),
+];
 
 /// Lines outside the grammar.
 static MALFORMED: [&str; 8] = [
@@ -68,27 +81,32 @@ fn any_line(rng: &mut Pcg32, number: u64) -> Asked {
 }
 
 fn write_line(text: &mut String, side: Side, asked: Asked) -> Result<(), AllocError> {
-    let side = match side {
-        Side::A => "a",
-        Side::B => "b",
-    };
+    if !matches!(asked, Asked::Same) {
+        text.push_str(match side {
+            Side::A => "a ",
+            Side::B => "b ",
+        })?;
+    }
     match asked {
-        Asked::Begin(set) => {
-            write!(text, "{side} begin")?;
-            for cpu in 0..6u32 {
-                if set & bit(cpu) != 0 {
-                    write!(text, " {cpu} {cpu}")?;
-                }
-            }
-            text.push('\n')
-        }
-        Asked::Report(cpu, tag) => writeln!(text, "{side} report {cpu} {tag}"),
-        Asked::Depart(cpu) => writeln!(text, "{side} depart {cpu}"),
-        Asked::End => writeln!(text, "{side} end"),
-        Asked::Awaits => writeln!(text, "{side} awaits"),
-        Asked::Merge => writeln!(text, "{side} merge"),
+        Asked::Begin(set) => write_begin(text, set),
+        Asked::Report(cpu, tag) => writeln!(text, "report {cpu} {tag}"),
+        Asked::Depart(cpu) => writeln!(text, "depart {cpu}"),
+        Asked::End => text.push_str("end\n"),
+        Asked::Awaits => text.push_str("awaits\n"),
+        Asked::Merge => text.push_str("merge\n"),
         Asked::Same => text.push_str("same\n"),
     }
+}
+
+/// Writes the begin of a set, each of whose processors is named twice.
+fn write_begin(text: &mut String, set: u64) -> Result<(), AllocError> {
+    text.push_str("begin")?;
+    for cpu in 0..6u32 {
+        if set & bit(cpu) != 0 {
+            write!(text, " {cpu} {cpu}")?;
+        }
+    }
+    text.push('\n')
 }
 
 /// Draws lines, and writes the model's replies.
@@ -102,63 +120,68 @@ fn draw(alloc: Global, cpus: u32, last: u64, seed: u64) -> Result<(String, Strin
     let mut lines = String::new(alloc);
     let mut replies = String::new(alloc);
     for _ in 0..LENGTH {
-        let choice = rng.next_u32() % 64;
-        if choice == 0 {
-            lines.push_str("\n")?;
-            continue;
-        }
-        if choice == 1 {
-            let place = rng.next_u32() as usize % MALFORMED.len();
-            writeln!(lines, "{}", MALFORMED[place])?;
-            replies.push_str("fault 21\n")?;
-            continue;
-        }
-        let side = if choice % 2 == 0 { Side::A } else { Side::B };
-        let mine = model.known(side).0;
-        let asked = if choice < 28 {
-            useful(&mine)
-        } else {
-            any_line(&mut rng, mine.number())
-        };
-        write_line(&mut lines, side, asked)?;
-        model.answer(&mut replies, side, asked)?;
+        draw_line(&mut rng, &mut model, &mut lines, &mut replies)?;
     }
     Ok((lines, replies))
+}
+
+/// Draws a line, and writes the model's reply.
+fn draw_line(
+    rng: &mut Pcg32,
+    model: &mut PairModel,
+    lines: &mut String,
+    replies: &mut String,
+) -> Result<(), AllocError> {
+    let choice = rng.next_u32() % 64;
+    if choice == 0 {
+        return lines.push_str("\n");
+    }
+    if choice == 1 {
+        let place = rng.next_u32() as usize % MALFORMED.len();
+        writeln!(lines, "{}", MALFORMED[place])?;
+        return replies.push_str("fault 21\n");
+    }
+    let side = if choice % 2 == 0 { Side::A } else { Side::B };
+    let mine = model.known(side).0;
+    let asked = if choice < 28 {
+        useful(&mine)
+    } else {
+        any_line(rng, mine.number())
+    };
+    write_line(lines, side, asked)?;
+    model.answer(replies, side, asked)
 }
 
 #[test]
 fn drawn_pairs_get_the_replies_of_the_model(rt: HostRuntime) {
     let mut found = [0u64; SHOWN.len()];
-    for (cpus, last, seed) in [
-        (3, 4, 1),
-        (3, 400, 2),
-        (4, 8, 3),
-        (5, 400, 4),
-        (6, 12, 5),
-        (6, 400, 6),
-        (3, 400, 7),
-        (1, 400, 8),
-    ] {
-        let (lines, replies) = match draw(rt.alloc(), cpus, last, seed) {
-            Ok(drawn) => drawn,
-            Err(_) => draw(rt.alloc(), cpus, last, seed).expect(&rt, "memory for lines"),
-        };
-        let row = Row {
-            name: "drawn",
-            fanouts: (2, 2),
-            second: Some((2, 3)),
-            cpus,
-            last,
-            lines: lines.as_bytes(),
-            replies: replies.as_bytes(),
-        };
-        let holds = row.is_answered(rt.alloc(), ALL);
-        assert!(rt; holds, "{cpus} processors, last {last}, seed {seed}");
-        for (found, (front, but, _)) in found.iter_mut().zip(&SHOWN) {
-            *found = found.saturating_add(count_lines(replies.as_str(), front, but));
-        }
+    for (cpus, last, seed) in &SEEDS {
+        let (lines, replies) = drawn(&rt, rt.alloc(), *cpus, *last, *seed);
+        let holds = is_answered(rt.alloc(), *cpus, *last, lines.as_str(), replies.as_str());
+        assert!(rt; holds, "seed {seed}");
+        count_shown(&SHOWN, replies.as_str(), &mut found);
     }
-    for (found, (front, _, least)) in found.iter().zip(&SHOWN) {
-        assert!(rt; found >= least, "{front}: {found}");
+    are_shown(&rt, &SHOWN, &found);
+}
+
+/// Draws lines, by a second call where the first is refused a growth.
+fn drawn(rt: &impl Abort, alloc: Global, cpus: u32, last: u64, seed: u64) -> (String, String) {
+    match draw(alloc, cpus, last, seed) {
+        Ok(drawn) => drawn,
+        Err(_) => draw(alloc, cpus, last, seed).expect(rt, "memory for lines"),
     }
+}
+
+/// Whether drawn lines get the replies of the model.
+fn is_answered(alloc: Global, cpus: u32, last: u64, lines: &str, replies: &str) -> bool {
+    let row = Row {
+        name: "drawn",
+        fanouts: (2, 2),
+        second: Some((2, 3)),
+        cpus,
+        last,
+        lines: lines.as_bytes(),
+        replies: replies.as_bytes(),
+    };
+    row.is_answered(alloc, ALL)
 }

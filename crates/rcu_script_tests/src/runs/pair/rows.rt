@@ -3,9 +3,16 @@
 use crate::runs::row::{ALL, FAR, OFFERED, Row};
 use rcu_script::RunFault;
 use rcu_seq::fault::Fault;
+use std::alloc::Global;
+use std::process::Abort;
+
+/// The rows of pairs.
+pub fn pair_rows() -> &'static [Row<'static>] {
+    &PAIR_ROWS
+}
 
 /// The lines of pairs.
-pub static PAIR_ROWS: [Row; 5] = [
+static PAIR_ROWS: [Row; 5] = [
     Row {
         name: "merging two replicas",
         fanouts: (2, 2),
@@ -82,78 +89,101 @@ pub static PAIR_ROWS: [Row; 5] = [
 /// Each two of the offered pairs of fanouts are accepted, and all give the same bytes.
 #[test]
 fn fanouts_have_no_part_in_the_replies(rt: HostRuntime) {
-    for fanouts in OFFERED {
-        for second in OFFERED {
-            for row in &PAIR_ROWS {
+    for fanouts in &OFFERED {
+        for second in &OFFERED {
+            for row in pair_rows() {
                 let row = Row {
-                    fanouts,
-                    second: Some(second),
+                    fanouts: *fanouts,
+                    second: Some(*second),
                     ..*row
                 };
-                let holds = row.is_answered(rt.alloc(), ALL);
-                assert!(rt; holds, "{} over {fanouts:?} and {second:?}", row.name);
+                is_answered(&rt, rt.alloc(), &row);
             }
         }
     }
 }
 
+/// A pair gets its replies.
+fn is_answered(rt: &impl Abort, alloc: Global, row: &Row) {
+    let (leaf, inner) = row.fanouts;
+    let (leaf2, inner2) = row.second.unwrap_or((0, 0));
+    let holds = row.is_answered(alloc, ALL);
+    assert!(rt;
+        holds,
+        "{} over {leaf} {inner} and {leaf2} {inner2}",
+        row.name
+    );
+}
+
+/// A pair of these fanouts, so many processors and this last number is refused with this fault.
+fn is_refused(
+    rt: &impl Abort,
+    alloc: Global,
+    fanouts: (u32, u32),
+    second: (u32, u32),
+    cpus: u32,
+    last: u64,
+    fault: Fault,
+) {
+    let row = Row {
+        name: "refused",
+        fanouts,
+        second: Some(second),
+        cpus,
+        last,
+        lines: b"same\n",
+        replies: b"",
+    };
+    let run = row.run(alloc, ALL, ALL, ALL);
+    let holds = run.came_to(&Err(RunFault::Open(fault)), row.replies);
+    assert!(rt; holds, "{cpus} processors, last {last}");
+}
+
+/// Pairs of fanouts, numbers of processors and last numbers, with the fault of each.
+static REFUSED: [((u32, u32), (u32, u32), u32, u64, Fault); 9] = [
+    ((2, 2), (3, 3), 17, 6, Fault::BadFanout),
+    ((3, 3), (2, 2), 0, 6, Fault::BadFanout),
+    ((2, 4), (2, 2), 1, 4, Fault::BadFanout),
+    ((2, 2), (64, 64), 17, 6, Fault::TooManyCpus),
+    ((64, 64), (2, 2), 17, 6, Fault::TooManyCpus),
+    ((64, 64), (16, 64), 4097, 4, Fault::TooManyCpus),
+    ((2, 2), (2, 3), 0, 6, Fault::TooManyCpus),
+    ((2, 2), (2, 2), 16, 6, Fault::BadLast),
+    ((2, 2), (2, 2), 1, FAR + 4, Fault::BadLast),
+];
+
 /// The opening's faults, each tested of both replicas before the next one. What is tested before
 /// the first growth takes no memory.
 #[test]
 fn refused_openings(rt: HostRuntime) {
-    for (fanouts, second, cpus, last, fault) in [
-        ((2, 2), (3, 3), 17, 6, Fault::BadFanout),
-        ((3, 3), (2, 2), 0, 6, Fault::BadFanout),
-        ((2, 4), (2, 2), 1, 4, Fault::BadFanout),
-        ((2, 2), (64, 64), 17, 6, Fault::TooManyCpus),
-        ((64, 64), (2, 2), 17, 6, Fault::TooManyCpus),
-        ((64, 64), (16, 64), 4097, 4, Fault::TooManyCpus),
-        ((2, 2), (2, 3), 0, 6, Fault::TooManyCpus),
-        ((2, 2), (2, 2), 16, 6, Fault::BadLast),
-        ((2, 2), (2, 2), 1, FAR + 4, Fault::BadLast),
-    ] {
-        let row = Row {
-            name: "refused",
-            fanouts,
-            second: Some(second),
-            cpus,
-            last,
-            lines: b"same\n",
-            replies: b"",
-        };
-        let run = row.run(rt.alloc(), ALL, ALL, ALL);
-        let holds = run.came_to(&Err(RunFault::Open(fault)), row.replies);
-        assert!(rt;
-            holds,
-            "{fanouts:?} and {second:?}, {cpus} processors, last {last}"
-        );
+    for (fanouts, second, cpus, last, fault) in &REFUSED {
+        is_refused(&rt, rt.alloc(), *fanouts, *second, *cpus, *last, *fault);
     }
 }
+
+/// Pairs of fanouts, numbers of processors and last numbers that open.
+static FULL: [((u32, u32), (u32, u32), u32, u64); 5] = [
+    ((64, 64), (2, 2), 1, 4),
+    ((2, 2), (2, 3), 16, FAR),
+    ((2, 3), (4, 4), 54, 4),
+    ((4, 4), (64, 64), 256, FAR),
+    ((16, 64), (64, 64), 4096, 4),
+];
 
 /// Two replicas open with one processor, and with as many as four levels of both their trees hold,
 /// at the least and at the greatest last number.
 #[test]
 fn full_openings(rt: HostRuntime) {
-    for (fanouts, second, cpus, last) in [
-        ((64, 64), (2, 2), 1, 4),
-        ((2, 2), (2, 3), 16, FAR),
-        ((2, 3), (4, 4), 54, 4),
-        ((4, 4), (64, 64), 256, FAR),
-        ((16, 64), (64, 64), 4096, 4),
-    ] {
+    for (fanouts, second, cpus, last) in &FULL {
         let row = Row {
             name: "full",
-            fanouts,
-            second: Some(second),
-            cpus,
-            last,
+            fanouts: *fanouts,
+            second: Some(*second),
+            cpus: *cpus,
+            last: *last,
             lines: b"b begin 0\nb report 0 1\nb end\nsame\n",
             replies: b"begun 1 awaits 1\nlast\nended 4\nsame\n",
         };
-        let holds = row.is_answered(rt.alloc(), ALL);
-        assert!(rt;
-            holds,
-            "{fanouts:?} and {second:?}, {cpus} processors, last {last}"
-        );
+        is_answered(&rt, rt.alloc(), &row);
     }
 }

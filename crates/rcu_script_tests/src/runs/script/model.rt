@@ -1,7 +1,9 @@
 //! A plain program for the rules of the engine: for each event it looks back over all that
 //! happened.
 
-use crate::runs::script::model_lists::{gathered, waits_for, write_list_reply, write_values};
+use crate::runs::script::model_lists::{
+    gathered, waits_for, write_list_reply, write_number, write_values,
+};
 use arrayvec::ArrayVec;
 use rcu_core::event::Event;
 use std::alloc::AllocError;
@@ -157,6 +159,11 @@ fn awaited(cpus: u32, past: &[Event]) -> ArrayVec<u64, CPUS> {
     found
 }
 
+/// How many processors are awaited.
+fn count_awaited(cpus: u32, past: &[Event]) -> u64 {
+    awaited(cpus, past).len() as u64
+}
+
 /// The processor that an event names.
 fn named(event: Event) -> Option<u32> {
     match event {
@@ -241,29 +248,36 @@ fn write_reply(
     event: Event,
 ) -> Result<(), AllocError> {
     match event {
-        Event::Enter(cpu) | Event::Exit(cpu) => write!(text, "depth {}", depth(now, cpu)),
-        Event::Note(cpu) if is_awaited(past, cpu) => write!(text, "noted {} needed", number(past)),
-        Event::Note(_) => write!(text, "noted {} clear", number(past)),
-        Event::Quiesce(cpu) => {
-            let place = made(now).0;
-            write!(text, "report {place} cpu {cpu} tag {}", noted(past, cpu))
-        }
+        Event::Enter(cpu) | Event::Exit(cpu) => write_number(text, "depth", depth(now, cpu)),
+        Event::Note(cpu) => write_noted(text, number(past), is_awaited(past, cpu)),
+        Event::Quiesce(cpu) => write_report(text, made(now).0, cpu, noted(past, cpu)),
         Event::Deliver(place) => text.push_str(delivered(cpus, past, place)),
         Event::Online(_) => text.push_str("online"),
-        Event::Begin => write!(
-            text,
-            "begun {} awaits {}",
-            number(now),
-            awaited(cpus, now).len()
-        ),
-        Event::End => write!(text, "ended {}", number(now)),
-        Event::Turn if is_running(now) => write!(text, "waiting {}", awaited(cpus, now).len()),
+        Event::Begin => write_begun(text, number(now), count_awaited(cpus, now)),
+        Event::End => write_number(text, "ended", number(now)),
+        Event::Turn if is_running(now) => write_number(text, "waiting", count_awaited(cpus, now)),
         Event::Turn => text.push_str("nothing"),
         Event::Awaits => write_values(text, "awaits", awaited(cpus, past).as_slice()),
-        Event::Take | Event::StartPoll => write!(text, "cookie {}", snapshot(past)),
+        Event::Take | Event::StartPoll => write_number(text, "cookie", snapshot(past)),
         Event::Poll(cookie) if cookie == 1 || cookie <= number(past) => text.push_str("done"),
         Event::Poll(_) => text.push_str("not yet"),
-        Event::Queue(_, _) => write!(text, "queued {}", made(now).1),
+        Event::Queue(_, _) => write_number(text, "queued", made(now).1),
         _ => write_list_reply(text, cpus, past, event),
     }
+}
+
+/// Writes the reply to a note: the number, and whether the processor is awaited.
+fn write_noted(text: &mut String, number: u64, is_needed: bool) -> Result<(), AllocError> {
+    write_number(text, "noted", number)?;
+    text.push_str(if is_needed { " needed" } else { " clear" })
+}
+
+/// Writes the reply to a quiescent state.
+fn write_report(text: &mut String, place: u64, cpu: u32, tag: u64) -> Result<(), AllocError> {
+    write!(text, "report {place} cpu {cpu} tag {tag}")
+}
+
+/// Writes the reply to a begin.
+fn write_begun(text: &mut String, number: u64, awaited: u64) -> Result<(), AllocError> {
+    write!(text, "begun {number} awaits {awaited}")
 }

@@ -12,7 +12,7 @@ const ROOM: usize = 80;
 const MOST: usize = 16;
 
 /// What an item is: a callback, by what it waits for, or a marker of a barrier.
-#[derive(Clone, Copy, Debug, Default, PartialEq, Eq)]
+#[derive(Clone, Copy, Default, PartialEq, Eq)]
 enum Kind {
     #[default]
     Unmarked,
@@ -22,7 +22,7 @@ enum Kind {
 }
 
 /// What stands in the list of a processor; a marker's value is 0.
-#[derive(Clone, Copy, Debug, Default, PartialEq, Eq)]
+#[derive(Clone, Copy, Default)]
 struct Item {
     cpu: u32,
     value: u64,
@@ -198,6 +198,11 @@ impl Lists {
     }
 }
 
+/// Writes words and a number.
+pub fn write_number(text: &mut String, words: &str, n: u64) -> Result<(), AllocError> {
+    write!(text, "{words} {n}")
+}
+
 /// Writes a word and the values, or `none`.
 pub fn write_values(text: &mut String, word: &str, values: &[u64]) -> Result<(), AllocError> {
     text.push_str(word)?;
@@ -221,7 +226,7 @@ pub fn write_list_reply(
     match event {
         Event::Offline(cpu) => {
             let (done, waiting) = lists.counts(cpu);
-            write!(text, "offline moved {}", done.saturating_add(waiting))
+            write_number(text, "offline moved", done.saturating_add(waiting))
         }
         Event::Tend(cpu) => {
             lists.tend(cpu, number(past), snapshot(past));
@@ -235,7 +240,7 @@ pub fn write_list_reply(
         Event::Visit(_) => text.push_str("marked"),
         _ => match waits_for(cpus, past) {
             0 => text.push_str("barrier done"),
-            waits => write!(text, "barrier waits {waits}"),
+            waits => write_number(text, "barrier waits", waits),
         },
     }
 }

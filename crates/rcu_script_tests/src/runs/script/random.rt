@@ -6,6 +6,7 @@ use rand_core::{Rng, SeedableRng};
 use rand_pcg::Pcg32;
 use rcu_core::event::Event;
 use std::alloc::{AllocError, Global};
+use std::process::Abort;
 
 /// How many lines a script has.
 const LENGTH: usize = 250;
@@ -128,27 +129,37 @@ fn any_event(rng: &mut Pcg32, cpus: u32, reports: u64) -> Event {
 
 fn write_line(text: &mut String, event: Event) -> Result<(), AllocError> {
     match event {
-        Event::Enter(cpu) => writeln!(text, "enter {cpu}"),
-        Event::Exit(cpu) => writeln!(text, "exit {cpu}"),
-        Event::Note(cpu) => writeln!(text, "note {cpu}"),
-        Event::Quiesce(cpu) => writeln!(text, "quiet {cpu}"),
-        Event::Deliver(place) => writeln!(text, "deliver {place}"),
-        Event::Online(cpu) => writeln!(text, "online {cpu}"),
-        Event::Offline(cpu) => writeln!(text, "offline {cpu}"),
+        Event::Enter(cpu) => write_one(text, "enter", u64::from(cpu)),
+        Event::Exit(cpu) => write_one(text, "exit", u64::from(cpu)),
+        Event::Note(cpu) => write_one(text, "note", u64::from(cpu)),
+        Event::Quiesce(cpu) => write_one(text, "quiet", u64::from(cpu)),
+        Event::Deliver(place) => write_one(text, "deliver", place),
+        Event::Online(cpu) => write_one(text, "online", u64::from(cpu)),
+        Event::Offline(cpu) => write_one(text, "offline", u64::from(cpu)),
         Event::Begin => text.push_str("begin\n"),
         Event::End => text.push_str("end\n"),
         Event::Turn => text.push_str("turn\n"),
         Event::Awaits => text.push_str("awaits\n"),
         Event::Take => text.push_str("take\n"),
         Event::StartPoll => text.push_str("start\n"),
-        Event::Poll(cookie) => writeln!(text, "poll {cookie}"),
-        Event::Queue(cpu, value) => writeln!(text, "queue {cpu} {value}"),
-        Event::Tend(cpu) => writeln!(text, "tend {cpu}"),
-        Event::Run(cpu, most) => writeln!(text, "run {cpu} {most}"),
+        Event::Poll(cookie) => write_one(text, "poll", cookie),
+        Event::Queue(cpu, value) => write_two(text, "queue", cpu, value),
+        Event::Tend(cpu) => write_one(text, "tend", u64::from(cpu)),
+        Event::Run(cpu, most) => write_two(text, "run", cpu, most),
         Event::BarBegin => text.push_str("bar\n"),
-        Event::Visit(cpu) => writeln!(text, "visit {cpu}"),
+        Event::Visit(cpu) => write_one(text, "visit", u64::from(cpu)),
         Event::BarTest => text.push_str("bartest\n"),
     }
+}
+
+/// Writes a line of a name and a number.
+fn write_one(text: &mut String, name: &str, n: u64) -> Result<(), AllocError> {
+    writeln!(text, "{name} {n}")
+}
+
+/// Writes a line of a name, a processor and a number.
+fn write_two(text: &mut String, name: &str, cpu: u32, n: u64) -> Result<(), AllocError> {
+    writeln!(text, "{name} {cpu} {n}")
 }
 
 /// Draws a script, and writes the model's replies. Most events lead something on.
@@ -163,31 +174,43 @@ fn draw(alloc: Global, cpus: u32, last: u64, seed: u64) -> Result<(String, Strin
     let mut replies = String::new(alloc);
     let mut event = Event::Awaits;
     for _ in 0..LENGTH {
-        let choice = rng.next_u32() % 32;
-        if choice == 0 {
-            script.push_str("  \n")?;
-            continue;
-        }
-        if choice == 1 {
-            let place = rng.next_u32() as usize % MALFORMED.len();
-            writeln!(script, "{}", MALFORMED[place])?;
-            replies.push_str("fault 21\n")?;
-            continue;
-        }
-        let reports = made(model.past.as_slice()).0;
-        event = match next_of(event, cpus, reports) {
-            Some(next) if choice < 26 => next,
-            None if choice < 16 => useful(cpus, model.past.as_slice()),
-            _ => any_event(&mut rng, cpus, reports),
-        };
-        write_line(&mut script, event)?;
-        model.answer(&mut replies, event)?;
+        event = draw_line(&mut rng, &mut model, &mut script, &mut replies, event)?;
     }
     Ok((script, replies))
 }
 
+/// Draws a line after this event, and writes the model's reply. Answers with the last event.
+fn draw_line(
+    rng: &mut Pcg32,
+    model: &mut Model,
+    script: &mut String,
+    replies: &mut String,
+    event: Event,
+) -> Result<Event, AllocError> {
+    let choice = rng.next_u32() % 32;
+    if choice == 0 {
+        script.push_str("  \n")?;
+        return Ok(event);
+    }
+    if choice == 1 {
+        let place = rng.next_u32() as usize % MALFORMED.len();
+        writeln!(script, "{}", MALFORMED[place])?;
+        replies.push_str("fault 21\n")?;
+        return Ok(event);
+    }
+    let reports = made(model.past.as_slice()).0;
+    let event = match next_of(event, model.cpus, reports) {
+        Some(next) if choice < 26 => next,
+        None if choice < 16 => useful(model.cpus, model.past.as_slice()),
+        _ => any_event(rng, model.cpus, reports),
+    };
+    write_line(script, event)?;
+    model.answer(replies, event)?;
+    Ok(event)
+}
+
 /// How many lines of a text begin so, and are not this.
-pub fn count_lines(text: &str, front: &str, but: &str) -> u64 {
+fn count_lines(text: &str, front: &str, but: &str) -> u64 {
     let mut found = 0u64;
     for line in text.as_bytes().split(|b| *b == b'\n') {
         if line.starts_with(front.as_bytes()) && line != but.as_bytes() {
@@ -211,9 +234,9 @@ fn is_answered(alloc: Global, cpus: u32, last: u64, script: &str, replies: &str)
     row.is_answered(alloc, ALL)
 }
 
-/// Counts the lines of each kind.
-fn count_shown(replies: &str, found: &mut [u64; SHOWN.len()]) {
-    for (found, (front, but, _)) in found.iter_mut().zip(&SHOWN) {
+/// Counts the lines of each kind that is to be shown.
+pub fn count_shown(shown: &[(&str, &str, u64)], replies: &str, found: &mut [u64]) {
+    for (found, (front, but, _)) in found.iter_mut().zip(shown) {
         *found = found.saturating_add(count_lines(replies, front, but));
     }
 }
@@ -221,16 +244,28 @@ fn count_shown(replies: &str, found: &mut [u64; SHOWN.len()]) {
 #[test]
 fn drawn_scripts_get_the_replies_of_the_model(rt: HostRuntime) {
     let mut found = [0u64; SHOWN.len()];
-    for (cpus, last, seed) in SEEDS {
-        let (script, replies) = match draw(rt.alloc(), cpus, last, seed) {
-            Ok(drawn) => drawn,
-            Err(_) => draw(rt.alloc(), cpus, last, seed).expect(&rt, "memory for a script"),
-        };
-        let holds = is_answered(rt.alloc(), cpus, last, script.as_str(), replies.as_str());
-        assert!(rt; holds, "{cpus} processors, last {last}, seed {seed}");
-        count_shown(replies.as_str(), &mut found);
+    for (cpus, last, seed) in &SEEDS {
+        let (script, replies) = drawn(&rt, rt.alloc(), *cpus, *last, *seed);
+        let holds = is_answered(rt.alloc(), *cpus, *last, script.as_str(), replies.as_str());
+        assert!(rt; holds, "seed {seed}");
+        count_shown(&SHOWN, replies.as_str(), &mut found);
     }
-    for (found, (front, _, least)) in found.iter().zip(&SHOWN) {
-        assert!(rt; found >= least, "{front}: {found}");
+    are_shown(&rt, &SHOWN, &found);
+}
+
+/// Draws a script, by a second call where the first is refused a growth.
+fn drawn(rt: &impl Abort, alloc: Global, cpus: u32, last: u64, seed: u64) -> (String, String) {
+    match draw(alloc, cpus, last, seed) {
+        Ok(drawn) => drawn,
+        Err(_) => draw(alloc, cpus, last, seed).expect(rt, "memory for a script"),
+    }
+}
+
+/// Each kind of line was shown as often as it has to be.
+pub fn are_shown(rt: &impl Abort, shown: &[(&str, &str, u64)], found: &[u64]) {
+    assert!(rt; found.len() == shown.len());
+    for place in 0..found.len() {
+        let (front, _, least) = shown[place];
+        assert!(rt; found[place] >= least, "{front}");
     }
 }

@@ -5,9 +5,15 @@ use rcu_script::{RunFault, Setup, run_script};
 use rcu_seq::fault::Fault;
 use rcu_text::Marked;
 use std::alloc::{AllocError, Global};
+use std::process::Abort;
+
+/// The rows of scripts.
+pub fn rows() -> &'static [Row<'static>] {
+    &ROWS
+}
 
 /// The scripts.
-pub static ROWS: [Row; 33] = [
+static ROWS: [Row; 33] = [
     Row {
         name: "one grace period",
         fanouts: (2, 2),
@@ -379,34 +385,50 @@ pub static ROWS: [Row; 33] = [
 /// no memory. A tree of four levels is full one processor earlier, as the rows say.
 #[test]
 fn refused_openings(rt: HostRuntime) {
-    for (fanouts, cpus, last, fault) in [
-        ((3, 3), 0, 6, Fault::BadFanout),
-        ((2, 4), 1, 4, Fault::BadFanout),
-        ((2, 2), 0, 6, Fault::TooManyCpus),
-        ((2, 2), 17, 6, Fault::TooManyCpus),
-        ((2, 2), 17, FAR, Fault::TooManyCpus),
-        ((2, 3), 55, FAR, Fault::TooManyCpus),
-        ((4, 4), 257, FAR, Fault::TooManyCpus),
-        ((16, 64), 4097, FAR, Fault::TooManyCpus),
-        ((64, 64), 4097, FAR, Fault::TooManyCpus),
-        ((64, 64), 4097, 4, Fault::TooManyCpus),
-        ((2, 2), 1, 6, Fault::BadLast),
-        ((2, 2), 1, 0, Fault::BadLast),
-        ((2, 2), 1, FAR + 4, Fault::BadLast),
-    ] {
-        let row = Row {
-            name: "refused",
-            fanouts,
-            second: None,
-            cpus,
-            last,
-            lines: b"begin\n",
-            replies: b"",
-        };
-        let run = row.run(rt.alloc(), ALL, ALL, ALL);
-        let holds = run.came_to(&Err(RunFault::Open(fault)), row.replies);
-        assert!(rt; holds, "{fanouts:?}, {cpus} processors, last {last}");
+    for (fanouts, cpus, last, fault) in &REFUSED {
+        is_refused(&rt, rt.alloc(), *fanouts, *cpus, *last, *fault);
     }
+}
+
+/// Fanouts, numbers of processors and last numbers, with the fault of each.
+static REFUSED: [((u32, u32), u32, u64, Fault); 13] = [
+    ((3, 3), 0, 6, Fault::BadFanout),
+    ((2, 4), 1, 4, Fault::BadFanout),
+    ((2, 2), 0, 6, Fault::TooManyCpus),
+    ((2, 2), 17, 6, Fault::TooManyCpus),
+    ((2, 2), 17, FAR, Fault::TooManyCpus),
+    ((2, 3), 55, FAR, Fault::TooManyCpus),
+    ((4, 4), 257, FAR, Fault::TooManyCpus),
+    ((16, 64), 4097, FAR, Fault::TooManyCpus),
+    ((64, 64), 4097, FAR, Fault::TooManyCpus),
+    ((64, 64), 4097, 4, Fault::TooManyCpus),
+    ((2, 2), 1, 6, Fault::BadLast),
+    ((2, 2), 1, 0, Fault::BadLast),
+    ((2, 2), 1, FAR + 4, Fault::BadLast),
+];
+
+/// A script over these fanouts, of so many processors and this last number is refused with this
+/// fault.
+fn is_refused(
+    rt: &impl Abort,
+    alloc: Global,
+    fanouts: (u32, u32),
+    cpus: u32,
+    last: u64,
+    fault: Fault,
+) {
+    let row = Row {
+        name: "refused",
+        fanouts,
+        second: None,
+        cpus,
+        last,
+        lines: b"begin\n",
+        replies: b"",
+    };
+    let run = row.run(alloc, ALL, ALL, ALL);
+    let holds = run.came_to(&Err(RunFault::Open(fault)), row.replies);
+    assert!(rt; holds, "{cpus} processors, last {last}");
 }
 
 /// The replies to 65,536 enters, written to a place that has room for them.
@@ -435,7 +457,11 @@ fn full_nesting_depth(rt: HostRuntime) {
         Ok(text) => text,
         Err(AllocError) => nested(rt.alloc()).expect(&rt, "a run that no growth stops"),
     };
-    let end = b"\ndepth 65534\ndepth 65535\nfault 6\n";
-    assert!(rt; text.as_slice().ends_with(end));
-    assert_eq!(rt; text.iter().filter(|b| **b == b'\n').count(), 65_536);
+    is_nested(&rt, text.as_slice());
+}
+
+/// Compares the last lines, and how many there are.
+fn is_nested(rt: &impl Abort, text: &[u8]) {
+    assert!(rt; text.ends_with(b"\ndepth 65534\ndepth 65535\nfault 6\n"));
+    assert!(rt; text.iter().filter(|b| **b == b'\n').count() == 65_536);
 }
