@@ -41,14 +41,14 @@ fn pass_a_period<R: Abort + Wait>(rt: &R, cell: &Pairs, seat: &mut CpuSeat<(), K
 {
     let live = cell.live();
     assert!(rt; live.queue(rt, seat, 7).is_ok() || live.queue(rt, seat, 7).is_ok());
-    assert_eq!(rt; live.tend(rt, 0), Ok((0, 1)));
-    assert_eq!(rt; live.turn(rt), Ok(Turned::Begun(1, 1)));
+    assert!(rt; live.tend(rt, 0) == Ok((0, 1)));
+    assert!(rt; live.turn(rt) == Ok(Turned::Begun(1, 1)));
     match seat.quiesce(live) {
-        Ok(number) => assert_eq!(rt; number, 1),
+        Ok(number) => assert!(rt; number == 1),
         Err(fault) => assert!(rt; false, "{fault:?}"),
     }
-    assert_eq!(rt; live.collect(rt, 0), Ok(Collected::Last));
-    assert_eq!(rt; live.turn(rt), Ok(Turned::Ended(4)));
+    assert!(rt; live.collect(rt, 0) == Ok(Collected::Last));
+    assert!(rt; live.turn(rt) == Ok(Turned::Ended(4)));
 }
 
 /// Has the keeper show these words, and compares what it answers.
@@ -62,7 +62,7 @@ fn shows<R: Abort>(
     requires { IsWatcherOf cell.now keeper.old }
     ensures { IsWatcherOf cell.now keeper.new }
 {
-    assert_eq!(rt; keeper.update(cell, &words), wanted);
+    assert!(rt; keeper.update(cell, &words) == wanted);
 }
 
 /// Reads in a section of its own, and compares the words.
@@ -72,7 +72,7 @@ fn reads<R: Abort>(rt: &R, cell: &Pairs, seat: &mut CpuSeat<(), Known>, wanted: 
     ensures seat { IsSeatOf cell.now seat.new }
     ensures outside { seat.new.depth ≡ 0 }
 {
-    assert_eq!(rt; cell.read_section(seat), Ok(wanted));
+    assert!(rt; cell.read_section(seat) == Ok(wanted));
 }
 
 /// Two slots show one version after the other: the first is free for a third once a grace period
@@ -91,11 +91,11 @@ fn use_a_slot_again<R: Abort + Wait>(
     shows(rt, cell, keeper, [2, 2], Ok(Retired { slot: 0, by: 1 }));
     reads(rt, cell, seat, [2, 2]);
     shows(rt, cell, keeper, [3, 3], Err(Full));
-    assert_eq!(rt; keeper.age(cell), 0);
+    assert!(rt; keeper.age(cell) == 0);
     shows(rt, cell, keeper, [3, 3], Err(Full));
     pass_a_period(rt, cell, seat);
     shows(rt, cell, keeper, [3, 3], Err(Full));
-    assert_eq!(rt; keeper.age(cell), 4);
+    assert!(rt; keeper.age(cell) == 4);
     shows(rt, cell, keeper, [3, 3], Ok(Retired { slot: 1, by: 0 }));
     reads(rt, cell, seat, [3, 3]);
 }

@@ -5,7 +5,7 @@ use rcu_cell::slots::Fits;
 use rcu_cell::value::Value;
 
 /// How many requests a second are answered, and how many more at once: at least as many.
-#[derive(Clone, Copy, Debug, PartialEq, Eq)]
+#[derive(Clone, Copy, PartialEq, Eq)]
 pub(crate) struct Limits {
     pub(crate) rate: u32,
     pub(crate) burst: u32,
@@ -56,16 +56,13 @@ fn limits_are_replaced(rt: HostRuntime) {
         burst: 30,
     };
     let words = first.to_words();
-    assert_eq!(rt; words, [10, 20]);
+    assert!(rt; words == [10, 20]);
     let opened = Cell::<4, 4, u64, Limits, 2, 2>::open(rt.alloc(), 1, 8, &words);
     let Ok((cell, mut seats, _, mut keeper)) = opened else {
         return;
     };
     let mut seat = seats.pop().unwrap();
-    assert_eq!(rt; cell.value_section(&mut seat), Ok(first));
-    assert_eq!(rt;
-        keeper.update_value(&cell, second),
-        Ok(Retired { slot: 0, by: 1 })
-    );
-    assert_eq!(rt; cell.value_section(&mut seat), Ok(second));
+    assert!(rt; cell.value_section(&mut seat) == Ok(first));
+    assert!(rt; keeper.update_value(&cell, second) == Ok(Retired { slot: 0, by: 1 }));
+    assert!(rt; cell.value_section(&mut seat) == Ok(second));
 }

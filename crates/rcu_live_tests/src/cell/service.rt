@@ -118,5 +118,5 @@ fn limits_are_replaced_while_requests_are_answered(rt: HostRuntime) {
     let Ok((cell, seats, _, keeper)) = opened else {
         return;
     };
-    assert_eq!(rt; run_service(&rt, &cell, seats, keeper), REQUESTS);
+    assert!(rt; run_service(&rt, &cell, seats, keeper) == REQUESTS);
 }

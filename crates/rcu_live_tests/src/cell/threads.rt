@@ -167,5 +167,6 @@ fn readers_beside_a_keeper(rt: HostRuntime) {
     let Ok((cell, seats, _, keeper)) = opened else {
         return;
     };
-    assert_eq!(rt; run_on(&rt, &cell, seats, keeper), (true, true, true));
+    let (first, second, third) = run_on(&rt, &cell, seats, keeper);
+    assert!(rt; first && second && third);
 }

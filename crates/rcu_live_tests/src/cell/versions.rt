@@ -23,16 +23,15 @@ fn load_and_show<R: Abort>(
     requires keeper { IsWatcherOf cell.now keeper.old }
 {
     let Ok(1) = seat.enter(cell.live()) else {
-        assert!(rt; false, "no section was opened");
-        return;
+        panic!(rt; "no section was opened")
     };
     let mut loaded = cell.loaded(seat);
     shows(rt, cell, keeper, [3, 4], Ok(Retired { slot: 0, by: 1 }));
     shows(rt, cell, keeper, [5, 6], Err(Full));
-    assert_eq!(rt; loaded.read(1), 2);
-    assert_eq!(rt; loaded.snapshot(), [1, 2]);
+    assert!(rt; loaded.read(1) == 2);
+    assert!(rt; loaded.snapshot() == [1, 2]);
     let mut later = cell.loaded(seat);
-    assert_eq!(rt; later.snapshot(), [3, 4]);
+    assert!(rt; later.snapshot() == [3, 4]);
     let Ok(0) = seat.exit(cell.live()) else {
         unreachable!()
     };
@@ -63,19 +62,15 @@ fn load_and_show_values<R: Abort>(
     requires second { second.rate ≤ second.burst }
 {
     let Ok(1) = seat.enter(cell.live()) else {
-        assert!(rt; false, "no section was opened");
-        return;
+        panic!(rt; "no section was opened")
     };
     let mut loaded = cell.loaded(seat);
-    assert_eq!(rt;
-        keeper.update_value(cell, second),
-        Ok(Retired { slot: 0, by: 1 })
-    );
-    assert_eq!(rt; loaded.value(), first);
+    assert!(rt; keeper.update_value(cell, second) == Ok(Retired { slot: 0, by: 1 }));
+    assert!(rt; loaded.value() == first);
     let Ok(0) = seat.exit(cell.live()) else {
         unreachable!()
     };
-    assert_eq!(rt; cell.value_section(seat), Ok(second));
+    assert!(rt; cell.value_section(seat) == Ok(second));
 }
 
 #[test]

@@ -6,9 +6,10 @@ use crate::live::steps::{
     Four, barrier_begin, barrier_test, collect, enter, exit, offline, online, poll, quiesce, tend,
     turn, visit,
 };
-use crate::live::threads::{Pair, last_seat, last_watcher, make_pair, opened};
+use crate::live::threads::{last_seat, last_watcher, make_pair, opened};
 use rcu_barrier::barrier_state::BarrierState;
 use rcu_barrier::visit::Visit;
+use rcu_cblist::queued::Queued;
 use rcu_core::turned::Turned;
 use rcu_live::collected::Collected;
 use rcu_live::cpu_seat::CpuSeat;
@@ -21,7 +22,7 @@ use std::sync::Wait;
 
 /// Compares the fault of a call whose growth was refused.
 fn refused(rt: &impl Abort, fault: Fault) {
-    assert_eq!(rt; fault, Fault::NoMemory);
+    assert!(rt; fault == Fault::NoMemory);
 }
 
 /// Queues a callback, by a second call where the first is refused a growth, and compares how many
@@ -31,11 +32,11 @@ fn queue<R: Abort + Wait>(rt: &R, live: &Four, seat: &mut CpuSeat, value: u64, w
     ensures { seat.new.table ≡ seat.old.table }
 {
     match live.queue(rt, seat, value) {
-        Ok(count) => assert_eq!(rt; count, wanted),
+        Ok(count) => assert!(rt; count == wanted),
         Err(back) => {
             refused(rt, back.fault);
-            assert_eq!(rt; back.value, value);
-            assert_eq!(rt; live.queue(rt, seat, back.value).ok(), Some(wanted));
+            assert!(rt; back.value == value);
+            assert!(rt; live.queue(rt, seat, back.value).ok() == Some(wanted));
         }
     }
 }
@@ -45,10 +46,7 @@ fn queue_offline<R: Abort + Wait>(rt: &R, live: &Four, seat: &mut CpuSeat, value
     requires { seat.old.table ≡ live.now.table }
     ensures { seat.new.table ≡ seat.old.table }
 {
-    assert_eq!(rt;
-        live.queue(rt, seat, value).map_err(|back| back.fault),
-        Err(Fault::Offline)
-    );
+    assert!(rt; live.queue(rt, seat, value).map_err(|back| back.fault) == Err(Fault::Offline));
 }
 
 /// Runs callbacks, by a second call where the first is refused a growth: the number, and the number
@@ -69,9 +67,16 @@ fn run<R: Abort + Wait>(
                 .expect(rt, "the second call has memory")
         }
     };
-    assert_eq!(rt; (ran.number, ran.calls.len()), (number, wanted.len()));
-    for (call, pair) in ran.calls.iter().zip(wanted) {
-        assert_eq!(rt; (call.at, call.value), *pair);
+    assert!(rt; ran.number == number);
+    have_run(rt, ran.calls.as_slice(), wanted);
+}
+
+/// Compares the number and the value of each callback's queueing.
+fn have_run(rt: &impl Abort, calls: &[Queued<u64>], wanted: &[(u64, u64)]) {
+    assert!(rt; calls.len() == wanted.len());
+    for place in 0..calls.len() {
+        let (at, value) = wanted[place];
+        assert!(rt; calls[place].at == at && calls[place].value == value);
     }
 }
 
@@ -82,7 +87,7 @@ fn run_length(rt: &impl Wait, live: &Four, cpu: u32) -> Result<usize, Fault> {
 
 /// Compares how many callbacks of the processor are run.
 fn run_any<R: Abort + Wait>(rt: &R, live: &Four, cpu: u32, wanted: Result<usize, Fault>) {
-    assert_eq!(rt; run_length(rt, live, cpu), wanted);
+    assert!(rt; run_length(rt, live, cpu) == wanted);
 }
 
 /// A processor passes a quiescent state, and the engine hears of it.
@@ -129,14 +134,8 @@ fn one_period<R: Abort + Wait>(rt: &R, live: &Four, first: &mut CpuSeat, second:
 
 #[test]
 fn two_seats_one_period(rt: HostRuntime) {
-    let Pair {
-        live,
-        mut first,
-        mut second,
-        watcher: _,
-        other: _,
-    } = make_pair(&rt, rt.alloc());
-    one_period(&rt, &live, &mut first, &mut second);
+    let mut pair = make_pair(&rt, rt.alloc());
+    one_period(&rt, &pair.live, &mut pair.first, &mut pair.second);
 }
 
 /// The callback of a processor that went offline, once a grace period passed.
@@ -163,7 +162,7 @@ fn leave<R: Abort + Wait>(rt: &R, live: &Four, seat: &mut CpuSeat, wanted: u64)
     ensures { seat.new.table ≡ seat.old.table }
 {
     match live.offline(rt, seat) {
-        Ok(moved) => assert_eq!(rt; moved, wanted),
+        Ok(moved) => assert!(rt; moved == wanted),
         Err(fault) => {
             refused(rt, fault);
             enter(rt, live, seat, Err(Fault::Offline));
@@ -180,7 +179,7 @@ fn depart_or_return<R: Abort + Wait>(rt: &R, live: &Four, first: &mut CpuSeat, s
     requires second { second.old.table ≡ live.now.table }
 {
     match live.offline(rt, second) {
-        Ok(moved) => assert_eq!(rt; moved, 1),
+        Ok(moved) => assert!(rt; moved == 1),
         Err(fault) => {
             refused(rt, fault);
             online(rt, live, second, Ok(()));
@@ -192,19 +191,26 @@ fn depart_or_return<R: Abort + Wait>(rt: &R, live: &Four, first: &mut CpuSeat, s
     }
 }
 
+/// A processor gets a callback before that.
+fn depart_with_a_list<R: Abort + Wait>(
+    rt: &R,
+    live: &Four,
+    first: &mut CpuSeat,
+    second: &mut CpuSeat,
+)
+    requires first { first.old.table ≡ live.now.table }
+    requires second { second.old.table ≡ live.now.table }
+{
+    online(rt, live, second, Ok(()));
+    queue(rt, live, second, 5, 1);
+    depart_or_return(rt, live, first, second);
+}
+
 /// A processor whose departure was refused its growth may come back instead, and then has its list.
 #[test]
 fn return_keeps_the_list(rt: HostRuntime) {
-    let Pair {
-        live,
-        mut first,
-        mut second,
-        watcher: _,
-        other: _,
-    } = make_pair(&rt, rt.alloc());
-    online(&rt, &live, &mut second, Ok(()));
-    queue(&rt, &live, &mut second, 5, 1);
-    depart_or_return(&rt, &live, &mut first, &mut second);
+    let mut pair = make_pair(&rt, rt.alloc());
+    depart_with_a_list(&rt, &pair.live, &mut pair.first, &mut pair.second);
 }
 
 /// A cookie that a watcher takes is not done yet, and the watcher meets the seat.
@@ -249,23 +255,17 @@ fn barrier_over_none<R: Abort + Wait>(rt: &R, live: &Four, seat: &mut CpuSeat)
 /// The object is opened first; no growth of a later call is refused, for none asks for memory.
 #[test]
 fn calls_without_memory(rt: HostRuntime) {
-    let Pair {
-        live,
-        mut first,
-        mut second,
-        mut watcher,
-        other: _,
-    } = make_pair(&rt, rt.alloc());
-    online(&rt, &live, &mut second, Ok(()));
-    read(&rt, &live, &mut first, &mut watcher);
-    barrier_over_none(&rt, &live, &mut second);
+    let mut pair = make_pair(&rt, rt.alloc());
+    online(&rt, &pair.live, &mut pair.second, Ok(()));
+    read(&rt, &pair.live, &mut pair.first, &mut pair.watcher);
+    barrier_over_none(&rt, &pair.live, &mut pair.second);
 }
 
 /// A barrier visits a processor with a callback, by a second call where the first is refused a
 /// growth.
 fn mark<R: Abort + Wait>(rt: &R, live: &Four) {
     match live.visit(rt, 0) {
-        Ok(visit) => assert_eq!(rt; visit, Visit::Marked),
+        Ok(visit) => assert!(rt; visit == Visit::Marked),
         Err(fault) => {
             refused(rt, fault);
             visit(rt, live, 0, Ok(Visit::Marked));
@@ -296,14 +296,8 @@ fn two_barriers<R: Abort + Wait>(rt: &R, live: &Four, first: &mut CpuSeat, secon
 
 #[test]
 fn locked_barrier_and_migration(rt: HostRuntime) {
-    let Pair {
-        live,
-        mut first,
-        mut second,
-        watcher: _,
-        other: _,
-    } = make_pair(&rt, rt.alloc());
-    two_barriers(&rt, &live, &mut first, &mut second);
+    let mut pair = make_pair(&rt, rt.alloc());
+    two_barriers(&rt, &pair.live, &mut pair.first, &mut pair.second);
 }
 
 /// Turns over a callback of the seat, as a watcher sees them, up to the last number.
@@ -312,7 +306,7 @@ fn turn_to_the_last<R: Abort + Wait>(rt: &R, live: &Four, seat: &mut CpuSeat, wa
     requires watcher { watcher.old.table ≡ live.now.table }
 {
     let cookie = watcher.take(live);
-    assert_eq!(rt; cookie, Cookie(4));
+    assert!(rt; cookie == Cookie(4));
     queue(rt, live, seat, 7, 1);
     tend(rt, live, 0, Ok((0, 1)));
     turn(rt, live, Ok(Turned::Begun(1, 1)));
@@ -335,15 +329,14 @@ fn turn_ends_what_the_seats_see(rt: HostRuntime) {
 
 #[test]
 fn no_such_processor(rt: HostRuntime) {
-    let Pair {
-        live,
-        first: _,
-        second: _,
-        watcher: _,
-        other: _,
-    } = make_pair(&rt, rt.alloc());
-    collect(&rt, &live, 2, Err(Fault::BadCpu));
-    tend(&rt, &live, 2, Err(Fault::BadCpu));
-    run_any(&rt, &live, 2, Err(Fault::BadCpu));
-    visit(&rt, &live, 2, Err(Fault::BadCpu));
+    let pair = make_pair(&rt, rt.alloc());
+    lack_processor(&rt, &pair.live);
+}
+
+/// The calls of a processor that there is not.
+fn lack_processor<R: Abort + Wait>(rt: &R, live: &Four) {
+    collect(rt, live, 2, Err(Fault::BadCpu));
+    tend(rt, live, 2, Err(Fault::BadCpu));
+    run_any(rt, live, 2, Err(Fault::BadCpu));
+    visit(rt, live, 2, Err(Fault::BadCpu));
 }

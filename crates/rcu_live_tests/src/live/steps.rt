@@ -21,7 +21,7 @@ pub(crate) fn enter(rt: &impl Abort, live: &Four, seat: &mut CpuSeat, wanted: Re
     requires { seat.old.table ≡ live.now.table }
     ensures { seat.new.table ≡ seat.old.table }
 {
-    assert_eq!(rt; seat.enter(live), wanted);
+    assert!(rt; seat.enter(live) == wanted);
 }
 
 /// Compares the answer to an exit.
@@ -29,7 +29,7 @@ pub(crate) fn exit(rt: &impl Abort, live: &Four, seat: &mut CpuSeat, wanted: Res
     requires { seat.old.table ≡ live.now.table }
     ensures { seat.new.table ≡ seat.old.table }
 {
-    assert_eq!(rt; seat.exit(live), wanted);
+    assert!(rt; seat.exit(live) == wanted);
 }
 
 /// Compares the answer to a quiescent state.
@@ -37,7 +37,7 @@ pub(crate) fn quiesce(rt: &impl Abort, live: &Four, seat: &mut CpuSeat, wanted: 
     requires { seat.old.table ≡ live.now.table }
     ensures { seat.new.table ≡ seat.old.table }
 {
-    assert_eq!(rt; seat.quiesce(live), wanted);
+    assert!(rt; seat.quiesce(live) == wanted);
 }
 
 /// Compares the answer to an arrival.
@@ -50,7 +50,7 @@ pub(crate) fn online<R: Abort + Wait>(
     requires { seat.old.table ≡ live.now.table }
     ensures { seat.new.table ≡ seat.old.table }
 {
-    assert_eq!(rt; live.online(rt, seat), wanted);
+    assert!(rt; live.online(rt, seat) == wanted);
 }
 
 /// Compares the answer to a departure.
@@ -63,7 +63,7 @@ pub(crate) fn offline<R: Abort + Wait>(
     requires { seat.old.table ≡ live.now.table }
     ensures { seat.new.table ≡ seat.old.table }
 {
-    assert_eq!(rt; live.offline(rt, seat), wanted);
+    assert!(rt; live.offline(rt, seat) == wanted);
 }
 
 /// Compares whether a cookie is done.
@@ -77,12 +77,12 @@ pub(crate) fn poll(
     requires { watcher.old.table ≡ live.now.table }
     ensures { watcher.new.table ≡ watcher.old.table }
 {
-    assert_eq!(rt; watcher.poll(live, cookie), wanted);
+    assert!(rt; watcher.poll(live, cookie) == wanted);
 }
 
 /// Compares what a turn did.
 pub(crate) fn turn<R: Abort + Wait>(rt: &R, live: &Four, wanted: Result<Turned, Fault>) {
-    assert_eq!(rt; live.turn(rt), wanted);
+    assert!(rt; live.turn(rt) == wanted);
 }
 
 /// Compares what a collection found.
@@ -92,7 +92,7 @@ pub(crate) fn collect<R: Abort + Wait>(
     cpu: u32,
     wanted: Result<Collected, Fault>,
 ) {
-    assert_eq!(rt; live.collect(rt, cpu), wanted);
+    assert!(rt; live.collect(rt, cpu) == wanted);
 }
 
 /// Compares how many callbacks of a processor are done, and how many wait.
@@ -102,17 +102,17 @@ pub(crate) fn tend<R: Abort + Wait>(
     cpu: u32,
     wanted: Result<(u64, u64), Fault>,
 ) {
-    assert_eq!(rt; live.tend(rt, cpu), wanted);
+    assert!(rt; live.tend(rt, cpu) == wanted);
 }
 
 /// Compares the answer to the begin of a barrier.
 pub(crate) fn barrier_begin<R: Abort + Wait>(rt: &R, live: &Four, wanted: Result<(), Fault>) {
-    assert_eq!(rt; live.barrier_begin(rt), wanted);
+    assert!(rt; live.barrier_begin(rt) == wanted);
 }
 
 /// Compares what a barrier's visit of a processor did.
 pub(crate) fn visit<R: Abort + Wait>(rt: &R, live: &Four, cpu: u32, wanted: Result<Visit, Fault>) {
-    assert_eq!(rt; live.visit(rt, cpu), wanted);
+    assert!(rt; live.visit(rt, cpu) == wanted);
 }
 
 /// Compares how far a barrier is.
@@ -121,5 +121,5 @@ pub(crate) fn barrier_test<R: Abort + Wait>(
     live: &Four,
     wanted: Result<BarrierState, Fault>,
 ) {
-    assert_eq!(rt; live.barrier_test(rt), wanted);
+    assert!(rt; live.barrier_test(rt) == wanted);
 }

@@ -29,7 +29,7 @@ pub(crate) fn opened<R: Abort>(
     match Four::open(alloc, cpus, last) {
         Ok(opened) => opened,
         Err(fault) => {
-            assert_eq!(rt; fault, Fault::NoMemory);
+            assert!(rt; fault == Fault::NoMemory);
             Four::open(alloc, cpus, last).expect(rt, "the second call has memory")
         }
     }
@@ -58,6 +58,7 @@ pub(crate) fn last_watcher(live: &Four, watchers: &mut Vec<Watcher>) -> Watcher
 }
 
 /// An object of two processors, with the seats and the watchers of processors 0 and 1.
+#[derive(Drop)]
 pub(crate) struct Pair {
     pub(crate) live: Four,
     pub(crate) first: CpuSeat,
@@ -132,7 +133,7 @@ fn meet(
     ensures watcher { watcher.new.table ≡ watcher.old.table }
 {
     let met = live.meet(seat, watcher);
-    assert_eq!(rt; met, Some(Met { opened, seen: 0 }));
+    assert!(rt; met == Some(Met { opened, seen: 0 }));
 }
 
 #[test]
@@ -144,14 +145,30 @@ fn reader_beside_a_watcher(rt: HostRuntime) {
         watcher,
         mut other,
     } = make_pair(&rt, rt.alloc());
-    let told = beside(&rt, &live, &mut first, watcher);
-    assert_eq!(rt; told, (Ok(1), (Cookie(4), false, true)));
-    meet(&rt, &live, &mut first, &mut other, Some(0));
-    quiesce(&rt, &live, &mut first, Err(Fault::InSection));
-    exit(&rt, &live, &mut first, Ok(0));
-    quiesce(&rt, &live, &mut first, Ok(0));
-    enter(&rt, &live, &mut second, Err(Fault::Offline));
-    meet(&rt, &live, &mut first, &mut other, None);
+    let (entered, (cookie, early, first_done)) = beside(&rt, &live, &mut first, watcher);
+    assert!(rt; entered == Ok(1));
+    assert!(rt; cookie == Cookie(4) && !early && first_done);
+    leave_section(&rt, &live, &mut first, &mut second, &mut other);
+}
+
+/// The reader's section, as another watcher meets it, ends.
+fn leave_section(
+    rt: &impl Abort,
+    live: &Four,
+    reader: &mut CpuSeat,
+    offline: &mut CpuSeat,
+    watcher: &mut Watcher,
+)
+    requires reader { reader.old.table ≡ live.now.table }
+    requires offline { offline.old.table ≡ live.now.table }
+    requires watcher { watcher.old.table ≡ live.now.table }
+{
+    meet(rt, live, reader, watcher, Some(0));
+    quiesce(rt, live, reader, Err(Fault::InSection));
+    exit(rt, live, reader, Ok(0));
+    quiesce(rt, live, reader, Ok(0));
+    enter(rt, live, offline, Err(Fault::Offline));
+    meet(rt, live, reader, watcher, None);
 }
 
 /// A seat that is offline arrives, reads, and departs.
@@ -173,30 +190,22 @@ fn come_and_go<R: Abort + Wait>(rt: &R, live: &Four, seat: &mut CpuSeat)
 
 #[test]
 fn arrival_and_departure(rt: HostRuntime) {
-    let Pair {
-        live,
-        mut first,
-        mut second,
-        watcher: _,
-        other: _,
-    } = make_pair(&rt, rt.alloc());
-    come_and_go(&rt, &live, &mut second);
-    offline(&rt, &live, &mut first, Err(Fault::BootStays));
+    let mut pair = make_pair(&rt, rt.alloc());
+    come_and_go(&rt, &pair.live, &mut pair.second);
+    offline(&rt, &pair.live, &mut pair.first, Err(Fault::BootStays));
+}
+
+/// No object of so many processors opens with this last number.
+fn is_refused(rt: &impl Abort, alloc: Global, cpus: u32, last: u64, fault: Fault) {
+    assert!(rt; Four::open(alloc, cpus, last).err() == Some(fault));
 }
 
 #[test]
 fn refused_openings(rt: HostRuntime) {
-    for (cpus, last, fault) in [
-        (0, 8, Fault::TooManyCpus),
-        (257, 6, Fault::TooManyCpus),
-        (256, 6, Fault::BadLast),
-        (256, 0, Fault::BadLast),
-    ] {
-        match Four::open(rt.alloc(), cpus, last) {
-            Ok(_) => assert!(rt; false, "{cpus} {last} opened"),
-            Err(found) => assert_eq!(rt; found, fault),
-        }
-    }
+    is_refused(&rt, rt.alloc(), 0, 8, Fault::TooManyCpus);
+    is_refused(&rt, rt.alloc(), 257, 6, Fault::TooManyCpus);
+    is_refused(&rt, rt.alloc(), 256, 6, Fault::BadLast);
+    is_refused(&rt, rt.alloc(), 256, 0, Fault::BadLast);
 }
 
 /// Opens an object of so many processors, by a second call where the first is refused a growth.
@@ -206,19 +215,21 @@ fn opens(rt: &impl Abort, alloc: Global, cpus: u32, last: u64) -> Result<usize, 
         opened = Live::open(alloc, cpus, last);
     }
     let (_, seats, watchers) = opened?;
-    assert_eq!(rt; seats.len(), watchers.len());
+    assert!(rt; seats.len() == watchers.len());
     Ok(seats.len())
+}
+
+/// Compares what comes of opening an object.
+fn has_size(rt: &impl Abort, alloc: Global, cpus: u32, last: u64, wanted: Result<usize, Fault>) {
+    assert!(rt; opens(rt, alloc, cpus, last) == wanted);
 }
 
 #[test]
 fn sizes(rt: HostRuntime) {
-    assert_eq!(rt; opens(&rt, rt.alloc(), 1, 4), Ok(1));
-    assert_eq!(rt; opens(&rt, rt.alloc(), 4096, 1 << 62), Ok(4096));
-    assert_eq!(rt; opens(&rt, rt.alloc(), 4097, 4), Err(Fault::TooManyCpus));
-    assert_eq!(rt;
-        opens(&rt, rt.alloc(), 4096, (1 << 62) + 4),
-        Err(Fault::BadLast)
-    );
+    has_size(&rt, rt.alloc(), 1, 4, Ok(1));
+    has_size(&rt, rt.alloc(), 4096, 1 << 62, Ok(4096));
+    has_size(&rt, rt.alloc(), 4097, 4, Err(Fault::TooManyCpus));
+    has_size(&rt, rt.alloc(), 4096, (1 << 62) + 4, Err(Fault::BadLast));
 }
 
 /// A reader on a processor's seat.
@@ -248,10 +259,14 @@ fn sections_nest_up_to_a_depth(rt: HostRuntime) {
         watcher: _,
         other: _,
     } = make_pair(&rt, rt.alloc());
-    let mut reader = Reader { live, seat };
+    nest(&rt, &mut Reader { live, seat });
+}
+
+/// Enters as often as sections nest, once more, and exits once.
+fn nest(rt: &impl Abort, reader: &mut Reader) {
     for depth in 1..=65_535 {
-        assert_eq!(rt; reader.enter(), Ok(depth));
+        assert!(rt; reader.enter() == Ok(depth));
     }
-    assert_eq!(rt; reader.enter(), Err(Fault::NestFull));
-    assert_eq!(rt; reader.exit(), Ok(65_534));
+    assert!(rt; reader.enter() == Err(Fault::NestFull));
+    assert!(rt; reader.exit() == Ok(65_534));
 }
