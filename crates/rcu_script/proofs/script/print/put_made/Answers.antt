@@ -1,7 +1,6 @@
-use Rattle.std.proofs.Common.{◌≡◌, ◌∙◌, ◌++◌, List, ℕ, [], ◌∷◌, ap, append_assoc, codes, decimal, subst}
+use Rattle.std.proofs.Common.{◌≡◌, ◌∙◌, ◌++◌, List, ℕ, ap, append_assoc, codes, decimal, subst}
 use Rattle.std.proofs.lemmas.Result.{err_from_is_err_and}
 use Rattle.rcu_text.specs.Outputs.{Out, Sends, after_put_text}
-use Rattle.rcu_text.specs.Texts.{text_and_number}
 use Rattle.rcu_text.proofs.CallerLemmas.{put_twice, sends_behind, stops_before_text}
 use Rattle.rcu_script.proofs.script.print.put_made.Goals as goal
 
