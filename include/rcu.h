@@ -7,7 +7,8 @@
  *   closed it is not used again, unless it is set to zero, and then opened anew.
  * - One call at a time on each handle, and whatever one thread did to it comes before what the
  *   next one does: by a lock, by a sequentially consistent atomic, or by starting and joining
- *   threads. Calls on different handles need no order among them.
+ *   threads. Calls on different handles need no order among them. (What orders the caller's own
+ *   data stands below.)
  * - No call is made in a signal handler, nor in the forked child of a process with threads.
  * - Pointers are not null, even to room for no value; what they point to lies apart from the
  *   handles and from one another, and is there for the call alone to read and write while it lasts.
@@ -19,15 +20,28 @@
  * several faults that hold the first one that its note lists is answered. A refused call leaves its
  * handles and what its pointers point to as they were; where a note says otherwise, it says what
  * stays. No call waits for another thread, and only those that list fault 16 take memory.
+ *
+ * What orders the caller's own data. A publication and an unlink are atomic stores of order release
+ * or stronger, and a reader loads such a pointer by order acquire or stronger; nothing more is
+ * asked. "Comes before" is what C calls happens before; a section "sees" what a thread did where
+ * its loads give what that stored, or what was stored later. The notes say what each call adds to
+ * the lock; docs/C.md says it together.
+ *
+ * Six calls make a full fence, which this header adds: rcu_end, rcu_turn, rcu_arrive,
+ * rcu_seat_quiesce, rcu_seat_take and rcu_seat_poll. The archive has them without it, under their
+ * names with _unfenced behind, and has no call of the plain names. A note says what is lost with
+ * the fence; all else that it says holds of both.
  */
 #ifndef RCU_H
 #define RCU_H
 
 #ifdef __cplusplus
+#include <atomic>
 #include <cstddef>
 #include <cstdint>
 extern "C" {
 #else
+#include <stdatomic.h>
 #include <stdbool.h>
 #include <stddef.h>
 #include <stdint.h>
@@ -94,6 +108,25 @@ enum rcu_visited {
     RCU_VISIT_ALREADY = 2 /* it was visited before */
 };
 
+/* ---- the full fence */
+
+/* A sequentially consistent fence, which the calls below make. It is made under a thread sanitizer
+ * too, which does not follow it; of that alone gcc's warning speaks. */
+#if defined(__GNUC__) && !defined(__clang__) && __GNUC__ >= 11
+#pragma GCC diagnostic push
+#pragma GCC diagnostic ignored "-Wtsan"
+#endif
+static inline void rcu_fence(void) {
+#ifdef __cplusplus
+    std::atomic_thread_fence(std::memory_order_seq_cst);
+#else
+    atomic_thread_fence(memory_order_seq_cst);
+#endif
+}
+#if defined(__GNUC__) && !defined(__clang__) && __GNUC__ >= 11
+#pragma GCC diagnostic pop
+#endif
+
 /* ---- opening and closing */
 
 /* Opens an engine of 1 to 4,096 processors at number 0, of which 0 alone is online. No grace period
@@ -117,25 +150,53 @@ void rcu_seat_close(rcu_seat_t seat);
 /* ---- grace periods: `rcu` is open, under the caller's lock */
 
 /* Begins a grace period: it awaits each online processor that has not passed a quiescent state in
- * it. Writes its number, and how many it awaits. 8, 11. */
+ * it. Writes its number, and how many it awaits. 8, 11.
+ * Of each section one of two holds: all of it comes before what follows the end of this grace
+ * period, or it sees what came before this call. */
 uint32_t rcu_begin(rcu_t *rcu, uint64_t *number, uint32_t *awaited);
 
-/* Ends the grace period. Writes the new number. 9, 10. */
-uint32_t rcu_end(rcu_t *rcu, uint64_t *number);
+/* Ends the grace period. Writes the new number. 9, 10.
+ * What a thread stored before an rcu_seat_poll that found the number below the new one is seen by
+ * what follows this call: so a waiter that stores a wish to be woken, and then polls, is found. The
+ * same holds of rcu_seat_take and rcu_seat_quiesce. Unfenced, it is sure to be seen by sequentially
+ * consistent loads alone. */
+uint32_t rcu_end_unfenced(rcu_t *rcu, uint64_t *number);
+static inline uint32_t rcu_end(rcu_t *rcu, uint64_t *number) {
+    uint32_t fault = rcu_end_unfenced(rcu, number);
+    rcu_fence();
+    return fault;
+}
 
 /* Ends the grace period where nobody is awaited; begins one where none runs and a tended callback
- * waits for it. Writes what it did. 11. */
-uint32_t rcu_turn(rcu_t *rcu, rcu_turn_t *turn);
+ * waits for it. Writes what it did. 11.
+ * It orders what rcu_begin or rcu_end orders. */
+uint32_t rcu_turn_unfenced(rcu_t *rcu, rcu_turn_t *turn);
+static inline uint32_t rcu_turn(rcu_t *rcu, rcu_turn_t *turn) {
+    uint32_t fault = rcu_turn_unfenced(rcu, turn);
+    rcu_fence();
+    return fault;
+}
 
 /* Looks whether the processor passed a quiescent state in the grace period, or is offline, and then
- * awaits it no more. Writes an rcu_collected. 1. */
+ * awaits it no more. Writes an rcu_collected. 1.
+ * Where it finds one, or the departure, what the thread did before that comes before what follows
+ * this call; so too where a begin finds it. */
 uint32_t rcu_collect(rcu_t *rcu, uint32_t cpu, uint32_t *found);
 
 /* ---- processors: `rcu` is open, under the caller's lock; `seat` is open, was dealt by it, and is
  * in no other call */
 
-/* The seat's processor comes online. 3. */
-uint32_t rcu_arrive(rcu_t *rcu, rcu_seat_t *seat);
+/* The seat's processor comes online. 3.
+ * A section may open once it returns. A grace period that begins later awaits the processor. Of one
+ * that runs already the section sees what came before its begin, and what a thread did before it
+ * took a cookie that is done at its end. Unfenced, what came before an rcu_seat_take is sure to be
+ * seen by sequentially consistent loads alone. */
+uint32_t rcu_arrive_unfenced(rcu_t *rcu, rcu_seat_t *seat);
+static inline uint32_t rcu_arrive(rcu_t *rcu, rcu_seat_t *seat) {
+    uint32_t fault = rcu_arrive_unfenced(rcu, seat);
+    rcu_fence();
+    return fault;
+}
 
 /* The seat's processor goes offline, and its callbacks move to processor 0. Writes how many. 12, 4,
  * 2 (where it was offline, and has no callback), 16. At 16 it is offline, and its callbacks stay:
@@ -167,13 +228,16 @@ uint32_t rcu_awaited(rcu_t *rcu);
 uint64_t rcu_take(rcu_t *rcu);
 
 /* Whether the number has reached the cookie's: then each section that was open at the taking has
- * ended. Of a number that no taking gave nothing is said but that. */
+ * ended. Of a number that no taking gave nothing is said but that.
+ * Where it answers true, of each section one of two holds: all of it comes before what follows this
+ * call, or it sees what the thread that took did before it took. */
 bool rcu_poll(rcu_t *rcu, uint64_t cookie);
 
 /* ---- callbacks, which are values of 64 bits: `rcu` is open, under the caller's lock */
 
-/* Queues a value on an online processor. Writes how many were queued since opening. 1, 2, 15,
- * 16. */
+/* Queues a value on an online processor. Writes how many were queued since opening. 1, 2, 15, 16.
+ * Of each section one of two holds: all of it comes before what follows the rcu_run that hands the
+ * value out, or it sees what the thread did before this call. */
 uint32_t rcu_queue(rcu_t *rcu, uint32_t cpu, uint64_t value, uint64_t *place);
 
 /* Sets what the processor's callbacks wait for, and which are done: to be called after queueing, so
@@ -196,7 +260,10 @@ uint32_t rcu_barrier_begin(rcu_t *rcu);
 uint32_t rcu_barrier_visit(rcu_t *rcu, uint32_t cpu, uint32_t *did);
 
 /* Tests the barrier. Writes how many markers and unvisited processors are left; at 0 it is over,
- * and each callback that was queued before it began was handed out. 14. */
+ * and each callback that was queued before it began was handed out. 14.
+ * Handed out is not processed: what is done with a value comes before what follows this call where
+ * it is done under the lock under which rcu_run handed the value out. Else the caller counts what
+ * was processed, and waits for that too. */
 uint32_t rcu_barrier_test(rcu_t *rcu, uint64_t *left);
 
 /* ---- a thread by its seat, with no lock, beside all calls on other handles: `seat` is open */
@@ -211,13 +278,43 @@ uint32_t rcu_seat_enter(rcu_seat_t *seat, uint32_t *depth);
 uint32_t rcu_seat_exit(rcu_seat_t *seat, uint32_t *depth);
 
 /* Passes a quiescent state: what the thread read before, it uses no more. Writes the number that it
- * saw. 2, 4. */
-uint32_t rcu_seat_quiesce(rcu_seat_t *seat, uint64_t *number);
+ * saw. 2, 4.
+ * What the thread did before comes before what follows the collection or the begin that finds this
+ * call. The sections that follow see what came before a begin whose number it saw, and what a
+ * thread did before it took a cookie that such a grace period makes done. A full fence stands
+ * before the look, so the number tests a cookie as rcu_seat_poll does. Unfenced the last does not
+ * hold, and what came before an rcu_seat_take is sure to be seen by sequentially consistent loads
+ * alone. */
+uint32_t rcu_seat_quiesce_unfenced(rcu_seat_t *seat, uint64_t *number);
+static inline uint32_t rcu_seat_quiesce(rcu_seat_t *seat, uint64_t *number) {
+    rcu_fence();
+    uint32_t fault = rcu_seat_quiesce_unfenced(seat, number);
+    rcu_fence();
+    return fault;
+}
 
-/* As rcu_take and rcu_poll, at the number that one load sees, which no later load is below. In a
- * section or not, online or not. */
-uint64_t rcu_seat_take(rcu_seat_t *seat);
-bool rcu_seat_poll(rcu_seat_t *seat, uint64_t cookie);
+/* As rcu_take, at the number that one load sees, which no later load is below. In a section or not,
+ * online or not.
+ * A full fence stands between what the thread did before, as an unlink, and that load. Unfenced, a
+ * section may still come to what was unlinked once the cookie is done. */
+uint64_t rcu_seat_take_unfenced(rcu_seat_t *seat);
+static inline uint64_t rcu_seat_take(rcu_seat_t *seat) {
+    rcu_fence();
+    return rcu_seat_take_unfenced(seat);
+}
+
+/* As rcu_poll, at the number that one load sees, which no later load is below. In a section or not,
+ * online or not.
+ * Where it answers false, what the thread stored before it is seen by what follows the rcu_end, the
+ * rcu_turn or the rcu_seat_poll that makes or finds the cookie done. Unfenced it is not: a thread
+ * that stores a wish to be woken, polls, and sleeps may sleep for good. */
+bool rcu_seat_poll_unfenced(rcu_seat_t *seat, uint64_t cookie);
+static inline bool rcu_seat_poll(rcu_seat_t *seat, uint64_t cookie) {
+    rcu_fence();
+    bool done = rcu_seat_poll_unfenced(seat, cookie);
+    if (done) rcu_fence();
+    return done;
+}
 
 #ifdef __cplusplus
 }

@@ -54,6 +54,20 @@ static struct node *new_node(uint64_t value) {
     return node;
 }
 
+/* A reader follows a pointer by an acquire, and an updater publishes one by a release: the same
+ * store takes out of the list what stood there. */
+static struct node *follow(_Atomic(struct node *) *link) {
+    return atomic_load_explicit(link, memory_order_acquire);
+}
+
+static void publish(_Atomic(struct node *) *link, struct node *node) {
+    atomic_store_explicit(link, node, memory_order_release);
+}
+
+static void count_wrong(void) {
+    atomic_fetch_add_explicit(&wrong, 1, memory_order_relaxed);
+}
+
 static void pass_quiescent_state(uint32_t cpu) {
     uint64_t seen;
     __tsan_release(&quiet[cpu]);
@@ -66,15 +80,15 @@ static void *read_list(void *it) {
     pthread_mutex_lock(&lock);
     must("arrive", rcu_arrive(&rcu, &seats[cpu]));
     pthread_mutex_unlock(&lock);
-    while (!atomic_load(&over)) {
+    while (!atomic_load_explicit(&over, memory_order_acquire)) {
         must("enter", rcu_seat_enter(&seats[cpu], &depth));
         unsigned seen = 0;
-        for (struct node *node = atomic_load(&head); node; node = atomic_load(&node->next), seen++)
-            if (node->twice != 2 * node->value) atomic_fetch_add(&wrong, 1);
-        if (seen != NODES) atomic_fetch_add(&wrong, 1);
+        for (struct node *node = follow(&head); node; node = follow(&node->next), seen++)
+            if (node->twice != 2 * node->value) count_wrong();
+        if (seen != NODES) count_wrong();
         must("exit", rcu_seat_exit(&seats[cpu], &depth));
         pass_quiescent_state(cpu);
-        atomic_fetch_add(&readings[cpu], 1);
+        atomic_fetch_add_explicit(&readings[cpu], 1, memory_order_relaxed);
     }
     pthread_mutex_lock(&lock);
     must("depart", rcu_depart(&rcu, &seats[cpu], &moved));
@@ -106,11 +120,11 @@ static uint64_t drive(void) {
 /* Puts a new node in the place of the one that stands there, which becomes a callback. */
 static void replace(unsigned place, uint64_t value) {
     _Atomic(struct node *) *link = &head;
-    while (place--) link = &atomic_load(link)->next;
-    struct node *old = atomic_load(link), *new = new_node(value);
+    while (place--) link = &follow(link)->next;
+    struct node *old = follow(link), *new = new_node(value);
     uint64_t queued;
-    atomic_store(&new->next, atomic_load(&old->next));
-    atomic_store(link, new);
+    publish(&new->next, follow(&old->next));
+    publish(link, new);
     pthread_mutex_lock(&lock);
     must("queue", rcu_queue(&rcu, 0, (uint64_t)(uintptr_t)old, &queued));
     pthread_mutex_unlock(&lock);
@@ -123,8 +137,8 @@ int main(void) {
     for (uint32_t cpu = 0; cpu < CPUS; cpu++) must("seat", rcu_seat_open(&rcu, cpu, &seats[cpu]));
     for (unsigned i = 0; i < NODES; i++) {
         struct node *node = new_node(i);
-        atomic_store(&node->next, atomic_load(&head));
-        atomic_store(&head, node);
+        publish(&node->next, follow(&head));
+        publish(&head, node);
     }
     for (uintptr_t i = 0; i < READERS; i++)
         if (pthread_create(&threads[i], 0, read_list, (void *)(i + 1))) return 1;
@@ -134,12 +148,12 @@ int main(void) {
     }
     while (freed < UPDATES) freed += drive();
     for (unsigned cpu = 1; cpu < CPUS; cpu++)
-        while (!atomic_load(&readings[cpu])) freed += drive();
-    atomic_store(&over, 1);
+        while (!atomic_load_explicit(&readings[cpu], memory_order_relaxed)) freed += drive();
+    atomic_store_explicit(&over, true, memory_order_release);
     for (unsigned i = 0; i < READERS; i++) pthread_join(threads[i], 0);
     printf("replaced %d, freed %" PRIu64 ", read wrong %u\n", UPDATES, freed, atomic_load(&wrong));
-    for (struct node *node = atomic_load(&head), *next; node; node = next) {
-        next = atomic_load(&node->next);
+    for (struct node *node = follow(&head), *next; node; node = next) {
+        next = follow(&node->next);
         free(node);
     }
     rcu_close(rcu);

@@ -41,13 +41,25 @@ static void open_all(void) {
     printf("open: %" PRIu32 " processors, number %" PRIu64 "\n", rcu_cpus(&rcu), rcu_number(&rcu));
 }
 
+static const char *yes_or_no(bool answer) { return answer ? "yes" : "no"; }
+
+/* What the engine says of itself and of processor 1. */
+static void tell(void) {
+    printf("runs: %s, online: %s, awaited: %s, awaited in all: %" PRIu32 "\n",
+           yes_or_no(rcu_running(&rcu)), yes_or_no(rcu_online(&rcu, rcu_seat_cpu(&seats[1]))),
+           yes_or_no(rcu_awaits(&rcu, rcu_seat_cpu(&seats[1]))), rcu_awaited(&rcu));
+}
+
 static void a_grace_period(void) {
     uint64_t number, seen;
     uint32_t awaited, depth, found;
     must("enter", rcu_seat_enter(&seats[1], &depth), 0);
-    uint64_t cookie = rcu_seat_take(&seats[0]);
+    uint64_t cookie = rcu_seat_take(&seats[0]), same = rcu_take(&rcu), later;
+    tell();
     must("begin", rcu_begin(&rcu, &number, &awaited), 0);
     printf("begun %" PRIu64 ", awaits %" PRIu32 "\n", number, awaited);
+    tell();
+    later = rcu_take(&rcu);
     must("begin again", rcu_begin(&rcu, &number, &awaited), RCU_RUNNING);
     must("quiet inside", rcu_seat_quiesce(&seats[1], &seen), RCU_IN_SECTION);
     must("collect", rcu_collect(&rcu, 1, &found), 0);
@@ -58,6 +70,9 @@ static void a_grace_period(void) {
     must("end", rcu_end(&rcu, &number), 0);
     printf("ended %" PRIu64 "\n", number);
     printf("cookie %" PRIu64 " is %s\n", cookie, rcu_seat_poll(&seats[0], cookie) ? "done" : "not done");
+    printf("cookie %" PRIu64 " of the engine is done: %s, %" PRIu64 ": %s\n", same,
+           yes_or_no(rcu_poll(&rcu, same)), later, yes_or_no(rcu_poll(&rcu, later)));
+    tell();
 }
 
 static void callbacks(void) {

@@ -84,7 +84,7 @@ pub extern "C" fn rcu_begin(rcu: &mut Rcu, number: &mut u64, awaited: &mut u32) 
 ///
 /// Faults: 9 where none runs; 10 where a processor is awaited.
 #[unsafe(no_mangle)]
-pub extern "C" fn rcu_end(rcu: &mut Rcu, number: &mut u64) -> u32
+pub extern "C" fn rcu_end_unfenced(rcu: &mut Rcu, number: &mut u64) -> u32
     requires open { HoldsEngine rcu.old.held }
     ensures open { HoldsEngine rcu.new.held }
     ensures fault { result ≡ number_for (grace.end_refusal (grace_of rcu.old.held)) }
@@ -107,7 +107,7 @@ pub extern "C" fn rcu_end(rcu: &mut Rcu, number: &mut u64) -> u32
 ///
 /// Fault 11: one would begin, and the number is the last one.
 #[unsafe(no_mangle)]
-pub extern "C" fn rcu_turn(rcu: &mut Rcu, turn: &mut Turn) -> u32
+pub extern "C" fn rcu_turn_unfenced(rcu: &mut Rcu, turn: &mut Turn) -> u32
     requires open { HoldsEngine rcu.old.held }
     ensures open { HoldsEngine rcu.new.held }
     ensures fault { result ≡ number_for (grace.turn_refusal (grace_of rcu.old.held)) }

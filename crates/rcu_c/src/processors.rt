@@ -21,7 +21,7 @@ use rcu_seq::fault::Fault;
 ///
 /// Fault 3: the processor is online.
 #[unsafe(no_mangle)]
-pub extern "C" fn rcu_arrive(rcu: &mut Rcu, seat: &mut RcuSeat) -> u32
+pub extern "C" fn rcu_arrive_unfenced(rcu: &mut Rcu, seat: &mut RcuSeat) -> u32
     requires open { HoldsEngine rcu.old.held }
     requires seat { HoldsSeat seat.old.held }
     requires dealt { IsSeatOf seat.old.held rcu.old.held }

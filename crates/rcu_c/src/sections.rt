@@ -78,7 +78,7 @@ pub extern "C" fn rcu_seat_exit(seat: &mut RcuSeat, depth: &mut u32) -> u32
 ///
 /// Faults: 2 where the processor is offline; 4 where a section is open.
 #[unsafe(no_mangle)]
-pub extern "C" fn rcu_seat_quiesce(seat: &mut RcuSeat, number: &mut u64) -> u32
+pub extern "C" fn rcu_seat_quiesce_unfenced(seat: &mut RcuSeat, number: &mut u64) -> u32
     requires open { HoldsSeat seat.old.held }
     ensures fault { result ≡ number_for (quiesce_refusal (cpu_of seat.old.held)) }
     ensures state { result ≡ 0 → seat.new.held ≡
@@ -99,7 +99,7 @@ pub extern "C" fn rcu_seat_quiesce(seat: &mut RcuSeat, number: &mut u64) -> u32
 
 /// The cookie of a taking at the number that one load sees, as `Watcher::take`.
 #[unsafe(no_mangle)]
-pub extern "C" fn rcu_seat_take(seat: &mut RcuSeat) -> u64
+pub extern "C" fn rcu_seat_take_unfenced(seat: &mut RcuSeat) -> u64
     requires open { HoldsSeat seat.old.held }
     ensures look { seat.new.held ≡
         on_watcher (λ w. after_watch w (watcher_of seat.new.held).view.seen) seat.old.held }
@@ -112,7 +112,7 @@ pub extern "C" fn rcu_seat_take(seat: &mut RcuSeat) -> u64
 
 /// Whether a cookie is done at the number that one load sees, as `Watcher::poll`.
 #[unsafe(no_mangle)]
-pub extern "C" fn rcu_seat_poll(seat: &mut RcuSeat, cookie: u64) -> bool
+pub extern "C" fn rcu_seat_poll_unfenced(seat: &mut RcuSeat, cookie: u64) -> bool
     requires open { HoldsSeat seat.old.held }
     ensures look { seat.new.held ≡
         on_watcher (λ w. after_watch w (watcher_of seat.new.held).view.seen) seat.old.held }

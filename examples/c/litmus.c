@@ -1,0 +1,571 @@
+/* What comes before what, a litmus test for each sentence of docs/C.md: in each round three threads
+ * act at once, and then the driver judges what they saw. Use: litmus [SECONDS], for each test.
+ * Built with -DUNFENCED each test goes without the order that it is about, and finds that it is
+ * wanting: the header's fences, or the order of two steps. */
+#define _GNU_SOURCE
+#include "rcu.h"
+#include <inttypes.h>
+#include <pthread.h>
+#include <sched.h>
+#include <stdatomic.h>
+#include <stdio.h>
+#include <stdlib.h>
+#include <string.h>
+#include <sys/mman.h>
+#include <time.h>
+
+#ifdef UNFENCED
+#define rcu_end rcu_end_unfenced
+#define rcu_turn rcu_turn_unfenced
+#define rcu_arrive rcu_arrive_unfenced
+#define rcu_seat_quiesce rcu_seat_quiesce_unfenced
+#define rcu_seat_take rcu_seat_take_unfenced
+#define rcu_seat_poll rcu_seat_poll_unfenced
+enum { IN_ORDER = 0 };
+#else
+enum { IN_ORDER = 1 };
+#endif
+
+/* The driver, an updater or waiter whose processor is offline, and a reader. */
+enum { DRIVER, UPDATER, READER, THREADS };
+
+/* The steps of a round, each between two meetings of all threads. */
+enum { PREPARE, READY, ACT, JUDGE, LEAVE, STEPS };
+
+enum { SPINS = 2000, LINES = 1 << 21, LINE = 64, COLD = 40, LEAD = 3000, JITTER = 64, MOST = 4000 };
+enum { MOST_ROUNDS = 900000 };
+
+static rcu_t rcu;
+static pthread_mutex_t lock = PTHREAD_MUTEX_INITIALIZER;
+static rcu_seat_t seats[THREADS];
+
+/* What the threads share in a round, each on lines of its own. */
+static struct {
+    _Alignas(128) atomic_ulong pointer; /* what readers follow: the round of its latest store */
+    _Alignas(128) atomic_ulong want;    /* that a waiter wants to be woken */
+    _Alignas(128) atomic_ulong processed;
+    _Alignas(128) atomic_ulong node[2];
+    _Alignas(128) atomic_bool finished;
+} shared;
+
+/* What each of them found, for the driver to judge: written in one step, read in a later one. */
+static unsigned long now;
+static uint64_t cookie;
+static bool done;
+static unsigned long seen;
+static bool over;
+
+static void must(const char *call, uint32_t fault) {
+    if (fault) {
+        printf("%s: fault %" PRIu32 "\n", call, fault);
+        exit(1);
+    }
+}
+
+static void turn_round(unsigned *spins) {
+    if (++*spins > SPINS) sched_yield();
+}
+
+static unsigned long load(atomic_ulong *word) {
+    return atomic_load_explicit(word, memory_order_acquire);
+}
+
+static void store(atomic_ulong *word, unsigned long value) {
+    atomic_store_explicit(word, value, memory_order_release);
+}
+
+static uint64_t nanoseconds(void) {
+    struct timespec at;
+    clock_gettime(CLOCK_MONOTONIC, &at);
+    return (uint64_t)at.tv_sec * 1000000000 + (uint64_t)at.tv_nsec;
+}
+
+/* All threads meet, and go on. */
+static void meet(void) {
+    static _Alignas(128) atomic_uint met, meeting;
+    unsigned here = atomic_load(&meeting), spins = 0;
+    if (atomic_fetch_add(&met, 1) == THREADS - 1) {
+        atomic_store(&met, 0);
+        atomic_store(&meeting, here + 1);
+    } else {
+        while (atomic_load(&meeting) == here) turn_round(&spins);
+    }
+}
+
+static unsigned drawn(unsigned below) {
+    static _Thread_local uint64_t state;
+    if (!state) state = (uint64_t)(uintptr_t)&state | 1;
+    state ^= state << 13;
+    state ^= state >> 7;
+    state ^= state << 17;
+    return (unsigned)(state >> 20) % below;
+}
+
+static void idle(long turns) {
+    for (volatile long left = turns; left > 0;) left = left - 1;
+}
+
+/* By how many turns the driver waits longer before its step than the thread that looks at the
+ * number. It follows what that thread found, so that the two steps go on to meet. */
+static long shift;
+static bool looked_first;
+
+static void delay_driver(void) {
+    idle((shift > 0 ? shift : 0) + (long)drawn(JITTER));
+}
+
+static void delay_other(void) {
+    idle((shift < 0 ? -shift : 0) + (long)drawn(JITTER));
+}
+
+static void follow(void) {
+    if (looked_first && shift > -MOST) shift -= 4;
+    if (!looked_first && shift < MOST) shift += 4;
+}
+
+/* Stores that wait for their cache lines, so that a store behind them waits too. */
+static unsigned char *lines, *cold[COLD];
+
+static void draw_cold_lines(void) {
+    for (int i = 0; i < COLD; i++) cold[i] = lines + (size_t)LINE * drawn(LINES);
+}
+
+static void store_to_cold_lines(void) {
+    for (int i = 0; i < COLD; i++) *(volatile unsigned char *)cold[i] = 1;
+}
+
+/* ---- steps that several tests have */
+
+static void begin(void) {
+    uint64_t number;
+    uint32_t awaited;
+    pthread_mutex_lock(&lock);
+    must("begin", rcu_begin(&rcu, &number, &awaited));
+    pthread_mutex_unlock(&lock);
+}
+
+/* Ends the grace period, in which the reader has passed a quiescent state. */
+static void collect_all(void) {
+    uint64_t number;
+    uint32_t found;
+    must("quiesce", rcu_seat_quiesce(&seats[DRIVER], &number));
+    pthread_mutex_lock(&lock);
+    for (uint32_t cpu = 0; cpu < THREADS; cpu++) must("collect", rcu_collect(&rcu, cpu, &found));
+    pthread_mutex_unlock(&lock);
+}
+
+static void end(void) {
+    uint64_t number;
+    pthread_mutex_lock(&lock);
+    must("end", rcu_end(&rcu, &number));
+    pthread_mutex_unlock(&lock);
+}
+
+static void reader_quiesces(void) {
+    uint64_t number;
+    must("quiesce", rcu_seat_quiesce(&seats[READER], &number));
+}
+
+static void reader_loads(void) {
+    uint32_t depth;
+    must("enter", rcu_seat_enter(&seats[READER], &depth));
+    seen = load(&shared.pointer);
+}
+
+static void reader_leaves(void) {
+    uint32_t depth;
+    must("exit", rcu_seat_exit(&seats[READER], &depth));
+}
+
+/* Passes quiescent states until one is in the grace period of this round, and then reads. */
+static void reader_finds_the_begin(void) {
+    unsigned spins = 0;
+    uint64_t number = 0;
+    while (number % 4 != 1) {
+        turn_round(&spins);
+        must("quiesce", rcu_seat_quiesce(&seats[READER], &number));
+    }
+    reader_loads();
+}
+
+/* ---- an unlink before a taking without the lock */
+
+static void updater_gets_ready(void) {
+    draw_cold_lines();
+    rcu_seat_take(&seats[UPDATER]);
+}
+
+static void updater_unlinks_and_takes(void) {
+    delay_other();
+    store_to_cold_lines();
+    store(&shared.pointer, now);
+    cookie = rcu_seat_take(&seats[UPDATER]);
+}
+
+static void driver_begins(void) {
+    delay_driver();
+    begin();
+}
+
+/* Wrong where the reader, in a section, has the old pointer, and the cookie is done. */
+static bool judge_taking(void) {
+    collect_all();
+    end();
+    looked_first = rcu_seat_poll(&seats[DRIVER], cookie);
+    return looked_first && seen != now;
+}
+
+/* ---- an arrival after the begin, before its first section */
+
+static uint64_t running;
+
+static void reader_departs(void) {
+    uint64_t moved;
+    running = rcu_seat_take(&seats[READER]) + 4;
+    pthread_mutex_lock(&lock);
+    must("depart", rcu_depart(&rcu, &seats[READER], &moved));
+    pthread_mutex_unlock(&lock);
+}
+
+/* A cookie of the idle number is 4 more than it, and of the running one that follows 8. */
+static void reader_arrives_after_the_begin(void) {
+    for (unsigned spins = 0; rcu_seat_take(&seats[READER]) % 8 != running % 8;) turn_round(&spins);
+    pthread_mutex_lock(&lock);
+    must("arrive", rcu_arrive(&rcu, &seats[READER]));
+    pthread_mutex_unlock(&lock);
+    reader_loads();
+}
+
+/* ---- a wish to be woken before a poll that is not done */
+
+static void driver_takes_and_begins(void) {
+    pthread_mutex_lock(&lock);
+    cookie = rcu_take(&rcu);
+    pthread_mutex_unlock(&lock);
+    begin();
+}
+
+static void updater_wants_and_polls(void) {
+    delay_other();
+    store_to_cold_lines();
+    store(&shared.want, now);
+    done = rcu_seat_poll(&seats[UPDATER], cookie);
+}
+
+static void driver_ends(void) {
+    collect_all();
+    delay_driver();
+    end();
+}
+
+static void driver_ends_and_looks(void) {
+    driver_ends();
+    seen = load(&shared.want);
+}
+
+/* Wrong where the waiter goes to sleep, and nobody saw that it wants to be woken. */
+static bool judge_wake_up(void) {
+    looked_first = !done;
+    return looked_first && seen != now;
+}
+
+/* ---- the same, by the number of a quiescent state */
+
+static void reader_gets_ready(void) {
+    draw_cold_lines();
+    reader_quiesces();
+}
+
+static void reader_wants_and_quiesces(void) {
+    uint64_t number;
+    delay_other();
+    store_to_cold_lines();
+    store(&shared.want, now);
+    must("quiesce", rcu_seat_quiesce(&seats[READER], &number));
+    done = number >= cookie;
+}
+
+/* ---- the same, where not the driver wakes but who finds the cookie done */
+
+static void reader_finds_it_done_and_looks(void) {
+    for (unsigned spins = 0; !rcu_seat_poll(&seats[READER], cookie);) turn_round(&spins);
+    seen = load(&shared.want);
+}
+
+/* ---- an unlink before a queueing */
+
+static void queue(void) {
+    uint64_t place;
+    pthread_mutex_lock(&lock);
+    must("queue", rcu_queue(&rcu, DRIVER, now, &place));
+    pthread_mutex_unlock(&lock);
+}
+
+static void updater_unlinks_and_queues(void) {
+    if (!IN_ORDER) queue();
+    idle(drawn(JITTER));
+    store(&shared.pointer, now);
+    if (IN_ORDER) queue();
+}
+
+/* One step of the grace period for callbacks. Answers what the turn did. */
+static uint32_t tend_and_turn(void) {
+    uint64_t ready, waiting;
+    rcu_turn_t turn;
+    pthread_mutex_lock(&lock);
+    must("tend", rcu_tend(&rcu, DRIVER, &ready, &waiting));
+    must("turn", rcu_turn(&rcu, &turn));
+    must("tend", rcu_tend(&rcu, DRIVER, &ready, &waiting));
+    pthread_mutex_unlock(&lock);
+    return turn.what;
+}
+
+static void driver_begins_for_a_callback(void) {
+    for (unsigned spins = 0; tend_and_turn() != RCU_TURN_BEGUN;) turn_round(&spins);
+}
+
+/* Hands out this round's callback. With the lock kept, it is processed under it. */
+static void run_and_process(bool kept) {
+    uint64_t value, count;
+    pthread_mutex_lock(&lock);
+    must("run", rcu_run(&rcu, DRIVER, &value, 1, &count));
+    if (!kept) pthread_mutex_unlock(&lock);
+    if (count != 1 || value != now) must("what was handed out", RCU_WAITING);
+    if (!kept) idle(drawn(JITTER));
+    atomic_store_explicit(&shared.processed, value, memory_order_relaxed);
+    if (kept) pthread_mutex_unlock(&lock);
+}
+
+static bool judge_queueing(void) {
+    collect_all();
+    if (tend_and_turn() != RCU_TURN_ENDED) must("end of a turn", RCU_WAITING);
+    run_and_process(true);
+    return seen != now;
+}
+
+/* ---- an unlink before a begin */
+
+static void driver_unlinks_and_begins(void) {
+    if (!IN_ORDER) begin();
+    store(&shared.pointer, now);
+    if (IN_ORDER) begin();
+}
+
+static bool judge_begin(void) {
+    collect_all();
+    end();
+    return seen != now;
+}
+
+/* ---- a barrier's end, and the values handed out before */
+
+static void driver_begins_a_barrier(void) {
+    uint32_t did;
+    queue();
+    pthread_mutex_lock(&lock);
+    must("barrier", rcu_barrier_begin(&rcu));
+    for (uint32_t cpu = 0; cpu < THREADS; cpu++) must("visit", rcu_barrier_visit(&rcu, cpu, &did));
+    pthread_mutex_unlock(&lock);
+    driver_begins_for_a_callback();
+}
+
+static void driver_ends_and_processes(void) {
+    collect_all();
+    if (tend_and_turn() != RCU_TURN_ENDED) must("end of a turn", RCU_WAITING);
+    run_and_process(IN_ORDER);
+}
+
+static void reader_tests_the_barrier(void) {
+    unsigned spins = 0;
+    for (uint64_t left = 1; left > 0; turn_round(&spins)) {
+        pthread_mutex_lock(&lock);
+        must("test", rcu_barrier_test(&rcu, &left));
+        pthread_mutex_unlock(&lock);
+    }
+    seen = atomic_load_explicit(&shared.processed, memory_order_relaxed);
+}
+
+static bool judge_barrier(void) {
+    return seen != now;
+}
+
+/* ---- a section before what follows a poll that is done */
+
+static void driver_fills_both_nodes(void) {
+    for (int i = 0; i < 2; i++) atomic_store_explicit(&shared.node[i], now, memory_order_relaxed);
+    atomic_store(&shared.finished, false);
+    seen = 0;
+}
+
+/* Shows the other node, and once nobody reads the old one, clears that. */
+static void updater_replaces(void) {
+    unsigned spins = 0;
+    unsigned long old = load(&shared.pointer);
+    idle(drawn(JITTER));
+    store(&shared.pointer, 1 - old % 2);
+    cookie = rcu_seat_take(&seats[UPDATER]);
+    while (IN_ORDER && !rcu_seat_poll(&seats[UPDATER], cookie)) turn_round(&spins);
+    atomic_store_explicit(&shared.node[old % 2], 0, memory_order_relaxed);
+    atomic_store(&shared.finished, true);
+}
+
+static void reader_reads_until_the_end(void) {
+    uint32_t depth;
+    for (unsigned spins = 0; !atomic_load(&shared.finished); turn_round(&spins)) {
+        must("enter", rcu_seat_enter(&seats[READER], &depth));
+        atomic_ulong *node = &shared.node[load(&shared.pointer) % 2];
+        idle(drawn(JITTER));
+        if (!atomic_load_explicit(node, memory_order_relaxed)) seen++;
+        must("exit", rcu_seat_exit(&seats[READER], &depth));
+        reader_quiesces();
+    }
+}
+
+static void driver_drives_until_the_end(void) {
+    unsigned spins = 0;
+    begin();
+    while (!atomic_load(&shared.finished)) {
+        uint64_t number;
+        collect_all();
+        pthread_mutex_lock(&lock);
+        if (rcu_awaited(&rcu) == 0) must("end", rcu_end(&rcu, &number));
+        bool running = rcu_running(&rcu);
+        pthread_mutex_unlock(&lock);
+        if (!running) begin();
+        turn_round(&spins);
+    }
+}
+
+static bool judge_section(void) {
+    reader_quiesces();
+    collect_all();
+    end();
+    return seen > 0;
+}
+
+/* ---- the tests */
+
+typedef void step(void);
+
+static const struct test {
+    const char *sentence;
+    bool (*is_wrong)(void); /* in the step JUDGE, by the driver */
+    step *steps[STEPS][THREADS];
+} tests[] = {
+    {"an unlink before a taking", judge_taking,
+     {[READY] = {0, updater_gets_ready, 0},
+      [ACT] = {driver_begins, updater_unlinks_and_takes, reader_finds_the_begin},
+      [LEAVE] = {0, 0, reader_leaves}}},
+    {"an unlink before a taking, for a reader that arrives", judge_taking,
+     {[READY] = {0, updater_gets_ready, reader_departs},
+      [ACT] = {driver_begins, updater_unlinks_and_takes, reader_arrives_after_the_begin},
+      [LEAVE] = {0, 0, reader_leaves}}},
+    {"an unlink before a queueing", judge_queueing,
+     {[ACT] = {driver_begins_for_a_callback, updater_unlinks_and_queues, reader_finds_the_begin},
+      [LEAVE] = {0, 0, reader_leaves}}},
+    {"an unlink before a begin", judge_begin,
+     {[ACT] = {driver_unlinks_and_begins, 0, reader_finds_the_begin},
+      [LEAVE] = {0, 0, reader_leaves}}},
+    {"a section before what follows a done poll", judge_section,
+     {[PREPARE] = {driver_fills_both_nodes, 0, 0},
+      [ACT] = {driver_drives_until_the_end, updater_replaces, reader_reads_until_the_end}}},
+    {"a wish to be woken before a poll", judge_wake_up,
+     {[PREPARE] = {driver_takes_and_begins, 0, 0},
+      [READY] = {0, updater_gets_ready, reader_quiesces},
+      [ACT] = {driver_ends_and_looks, updater_wants_and_polls, 0}}},
+    {"a wish to be woken before a poll, for who finds it done", judge_wake_up,
+     {[PREPARE] = {driver_takes_and_begins, 0, 0},
+      [READY] = {0, updater_gets_ready, reader_quiesces},
+      [ACT] = {driver_ends, updater_wants_and_polls, reader_finds_it_done_and_looks}}},
+    {"a wish to be woken before a quiescent state", judge_wake_up,
+     {[PREPARE] = {driver_takes_and_begins, 0, 0},
+      [READY] = {0, 0, reader_gets_ready},
+      [ACT] = {driver_ends_and_looks, 0, reader_wants_and_quiesces}}},
+    {"what was processed under the lock before a barrier's end", judge_barrier,
+     {[PREPARE] = {driver_begins_a_barrier, 0, 0},
+      [READY] = {0, 0, reader_quiesces},
+      [ACT] = {driver_ends_and_processes, 0, reader_tests_the_barrier}}},
+};
+
+enum { TESTS = sizeof tests / sizeof *tests };
+
+static unsigned test;
+
+/* The threads begin to act at one time by the clock, as near as they get to it. */
+static uint64_t start;
+
+static void take_step(unsigned at, unsigned thread) {
+    step *own = tests[test].steps[at][thread];
+    if (at == ACT)
+        while (nanoseconds() < start) continue;
+    if (own) own();
+    if (at == READY && thread == DRIVER) start = nanoseconds() + LEAD;
+}
+
+static void *act(void *it) {
+    unsigned thread = (unsigned)(uintptr_t)it;
+    for (;;) {
+        meet();
+        if (over) return 0;
+        for (unsigned at = READY; at < STEPS; at++) {
+            take_step(at, thread);
+            meet();
+        }
+    }
+}
+
+/* Answers whether no round of the test was wrong. */
+static bool drive(double most, bool counted) {
+    unsigned long rounds = 0, wrong = 0;
+    uint64_t end = nanoseconds() + (uint64_t)(most * 1e9);
+    for (; nanoseconds() < end && rounds < MOST_ROUNDS; rounds++) {
+        now++;
+        take_step(PREPARE, DRIVER);
+        meet();
+        for (unsigned at = READY; at < STEPS; at++) {
+            take_step(at, DRIVER);
+            if (at == JUDGE) {
+                wrong += tests[test].is_wrong();
+                follow();
+            }
+            meet();
+        }
+    }
+    printf("%s: %s", tests[test].sentence, wrong ? "WRONG" : "right");
+    if (counted) printf(", wrong in %lu of %lu rounds", wrong, rounds);
+    printf("\n");
+    return wrong == 0;
+}
+
+int main(int count, char **words) {
+    double most = count > 1 ? atof(words[1]) : 0.2;
+    pthread_t threads[THREADS];
+    bool well = true;
+    lines = aligned_alloc(1 << 21, (size_t)LINES * LINE);
+    if (!lines) return 1;
+    madvise(lines, (size_t)LINES * LINE, MADV_HUGEPAGE);
+    memset(lines, 0, (size_t)LINES * LINE);
+    for (int i = 0; i < COLD; i++) cold[i] = lines;
+    for (test = 0; test < TESTS; test++) {
+        /* Each test has an engine of its own, since an engine takes 1,000,000 callbacks. */
+        rcu = (rcu_t){0};
+        over = false;
+        shift = 0;
+        must("open", rcu_open(THREADS, UINT64_C(1) << 62, &rcu));
+        for (uint32_t cpu = 0; cpu < THREADS; cpu++) {
+            seats[cpu] = (rcu_seat_t){0};
+            must("seat", rcu_seat_open(&rcu, cpu, &seats[cpu]));
+        }
+        must("arrive", rcu_arrive(&rcu, &seats[READER]));
+        for (uintptr_t i = UPDATER; i < THREADS; i++)
+            if (pthread_create(&threads[i], 0, act, (void *)i)) return 1;
+        well = drive(most, count > 1) && well;
+        over = true;
+        meet();
+        for (unsigned i = UPDATER; i < THREADS; i++) pthread_join(threads[i], 0);
+        rcu_close(rcu);
+        for (uint32_t cpu = 0; cpu < THREADS; cpu++) rcu_seat_close(seats[cpu]);
+    }
+    free(lines);
+    return !well;
+}
