@@ -1,7 +1,7 @@
-/* What comes before what, a litmus test for each sentence of docs/C.md: in each round three threads
- * act at once, and then the driver judges what they saw. Use: litmus [SECONDS], for each test.
- * Built with -DUNFENCED each test goes without the order that it is about, and finds that it is
- * wanting: the header's fences, or the order of two steps. */
+/* What comes before what: a litmus test for each sentence of docs/C.md. In each round three threads
+ * act at one time, and then the driver judges what they saw. Use: litmus [SECONDS], for each test.
+ * Built with -DUNFENCED a test goes without the order that it is about (the header's fences, or the
+ * order of two steps), and sooner or later is wrong. */
 #define _GNU_SOURCE
 #include "rcu.h"
 #include <inttypes.h>
@@ -10,8 +10,6 @@
 #include <stdatomic.h>
 #include <stdio.h>
 #include <stdlib.h>
-#include <string.h>
-#include <sys/mman.h>
 #include <time.h>
 
 #ifdef UNFENCED
@@ -32,8 +30,10 @@ enum { DRIVER, UPDATER, READER, THREADS };
 /* The steps of a round, each between two meetings of all threads. */
 enum { PREPARE, READY, ACT, JUDGE, LEAVE, STEPS };
 
-enum { SPINS = 2000, LINES = 1 << 21, LINE = 64, COLD = 40, LEAD = 3000, JITTER = 64, MOST = 4000 };
-enum { MOST_ROUNDS = 900000 };
+/* How long a thread waits before it yields; how many cache lines a round stores to; nanoseconds
+ * before its steps; turns of waiting; and the rounds that an engine is good for. */
+enum { SPINS = 2000, COLD = 40, LINE = 128, LEAD = 3000 };
+enum { JITTER = 64, MOST_SHIFT = 4000, MOST_ROUNDS = 900000 };
 
 static rcu_t rcu;
 static pthread_mutex_t lock = PTHREAD_MUTEX_INITIALIZER;
@@ -48,7 +48,7 @@ static struct {
     _Alignas(128) atomic_bool finished;
 } shared;
 
-/* What each of them found, for the driver to judge: written in one step, read in a later one. */
+/* The round, and what was found in it: written in one step, read in a later one. */
 static unsigned long now;
 static uint64_t cookie;
 static bool done;
@@ -78,6 +78,20 @@ static uint64_t nanoseconds(void) {
     struct timespec at;
     clock_gettime(CLOCK_MONOTONIC, &at);
     return (uint64_t)at.tv_sec * 1000000000 + (uint64_t)at.tv_nsec;
+}
+
+/* Each thread has a processor of its own, where there are enough. */
+static void settle(unsigned thread) {
+    static cpu_set_t all;
+    cpu_set_t own;
+    if (thread == DRIVER && sched_getaffinity(0, sizeof all, &all)) exit(1);
+    for (unsigned cpu = 0, left = thread % (unsigned)CPU_COUNT(&all);; cpu++) {
+        if (!CPU_ISSET(cpu, &all) || left-- > 0) continue;
+        CPU_ZERO(&own);
+        CPU_SET(cpu, &own);
+        sched_setaffinity(0, sizeof own, &own);
+        return;
+    }
 }
 
 /* All threads meet, and go on. */
@@ -110,6 +124,10 @@ static void idle(long turns) {
 static long shift;
 static bool looked_first;
 
+/* When the threads begin their steps, by the clock, and whether one was late for that. */
+static uint64_t start;
+static atomic_bool late;
+
 static void delay_driver(void) {
     idle((shift > 0 ? shift : 0) + (long)drawn(JITTER));
 }
@@ -119,19 +137,21 @@ static void delay_other(void) {
 }
 
 static void follow(void) {
-    if (looked_first && shift > -MOST) shift -= 4;
-    if (!looked_first && shift < MOST) shift += 4;
+    if (atomic_load(&late)) return;
+    if (looked_first && shift > -MOST_SHIFT) shift -= 4;
+    if (!looked_first && shift < MOST_SHIFT) shift += 4;
 }
 
-/* Stores that wait for their cache lines, so that a store behind them waits too. */
-static unsigned char *lines, *cold[COLD];
+/* Lines that the driver's processor has. A store to one of them waits for it, and what the same
+ * thread stores behind waits too. */
+static _Alignas(LINE) volatile unsigned char lines[COLD][LINE];
 
-static void draw_cold_lines(void) {
-    for (int i = 0; i < COLD; i++) cold[i] = lines + (size_t)LINE * drawn(LINES);
+static void take_lines(void) {
+    for (int i = 0; i < COLD; i++) lines[i][0] = 0;
 }
 
-static void store_to_cold_lines(void) {
-    for (int i = 0; i < COLD; i++) *(volatile unsigned char *)cold[i] = 1;
+static void store_to_lines(void) {
+    for (int i = 0; i < COLD; i++) lines[i][0] = 1;
 }
 
 /* ---- steps that several tests have */
@@ -144,7 +164,7 @@ static void begin(void) {
     pthread_mutex_unlock(&lock);
 }
 
-/* Ends the grace period, in which the reader has passed a quiescent state. */
+/* The driver passes a quiescent state, and looks for one of each processor. */
 static void collect_all(void) {
     uint64_t number;
     uint32_t found;
@@ -190,14 +210,14 @@ static void reader_finds_the_begin(void) {
 
 /* ---- an unlink before a taking without the lock */
 
-static void updater_gets_ready(void) {
-    draw_cold_lines();
+/* The number is in the cache of the processor that looks. */
+static void updater_looks(void) {
     rcu_seat_take(&seats[UPDATER]);
 }
 
 static void updater_unlinks_and_takes(void) {
     delay_other();
-    store_to_cold_lines();
+    store_to_lines();
     store(&shared.pointer, now);
     cookie = rcu_seat_take(&seats[UPDATER]);
 }
@@ -217,19 +237,19 @@ static bool judge_taking(void) {
 
 /* ---- an arrival after the begin, before its first section */
 
-static uint64_t running;
+/* What a taking gives while no grace period runs, and 4 more once one does. */
+static uint64_t idle_cookie;
 
 static void reader_departs(void) {
     uint64_t moved;
-    running = rcu_seat_take(&seats[READER]) + 4;
+    idle_cookie = rcu_seat_take(&seats[READER]);
     pthread_mutex_lock(&lock);
     must("depart", rcu_depart(&rcu, &seats[READER], &moved));
     pthread_mutex_unlock(&lock);
 }
 
-/* A cookie of the idle number is 4 more than it, and of the running one that follows 8. */
 static void reader_arrives_after_the_begin(void) {
-    for (unsigned spins = 0; rcu_seat_take(&seats[READER]) % 8 != running % 8;) turn_round(&spins);
+    for (unsigned spins = 0; rcu_seat_take(&seats[READER]) == idle_cookie;) turn_round(&spins);
     pthread_mutex_lock(&lock);
     must("arrive", rcu_arrive(&rcu, &seats[READER]));
     pthread_mutex_unlock(&lock);
@@ -247,7 +267,7 @@ static void driver_takes_and_begins(void) {
 
 static void updater_wants_and_polls(void) {
     delay_other();
-    store_to_cold_lines();
+    store_to_lines();
     store(&shared.want, now);
     done = rcu_seat_poll(&seats[UPDATER], cookie);
 }
@@ -271,15 +291,10 @@ static bool judge_wake_up(void) {
 
 /* ---- the same, by the number of a quiescent state */
 
-static void reader_gets_ready(void) {
-    draw_cold_lines();
-    reader_quiesces();
-}
-
 static void reader_wants_and_quiesces(void) {
     uint64_t number;
     delay_other();
-    store_to_cold_lines();
+    store_to_lines();
     store(&shared.want, now);
     must("quiesce", rcu_seat_quiesce(&seats[READER], &number));
     done = number >= cookie;
@@ -453,11 +468,11 @@ static const struct test {
     step *steps[STEPS][THREADS];
 } tests[] = {
     {"an unlink before a taking", judge_taking,
-     {[READY] = {0, updater_gets_ready, 0},
+     {[READY] = {take_lines, updater_looks, 0},
       [ACT] = {driver_begins, updater_unlinks_and_takes, reader_finds_the_begin},
       [LEAVE] = {0, 0, reader_leaves}}},
     {"an unlink before a taking, for a reader that arrives", judge_taking,
-     {[READY] = {0, updater_gets_ready, reader_departs},
+     {[READY] = {take_lines, updater_looks, reader_departs},
       [ACT] = {driver_begins, updater_unlinks_and_takes, reader_arrives_after_the_begin},
       [LEAVE] = {0, 0, reader_leaves}}},
     {"an unlink before a queueing", judge_queueing,
@@ -471,15 +486,15 @@ static const struct test {
       [ACT] = {driver_drives_until_the_end, updater_replaces, reader_reads_until_the_end}}},
     {"a wish to be woken before a poll", judge_wake_up,
      {[PREPARE] = {driver_takes_and_begins, 0, 0},
-      [READY] = {0, updater_gets_ready, reader_quiesces},
+      [READY] = {take_lines, updater_looks, reader_quiesces},
       [ACT] = {driver_ends_and_looks, updater_wants_and_polls, 0}}},
     {"a wish to be woken before a poll, for who finds it done", judge_wake_up,
      {[PREPARE] = {driver_takes_and_begins, 0, 0},
-      [READY] = {0, updater_gets_ready, reader_quiesces},
+      [READY] = {take_lines, updater_looks, reader_quiesces},
       [ACT] = {driver_ends, updater_wants_and_polls, reader_finds_it_done_and_looks}}},
     {"a wish to be woken before a quiescent state", judge_wake_up,
      {[PREPARE] = {driver_takes_and_begins, 0, 0},
-      [READY] = {0, 0, reader_gets_ready},
+      [READY] = {take_lines, 0, reader_quiesces},
       [ACT] = {driver_ends_and_looks, 0, reader_wants_and_quiesces}}},
     {"what was processed under the lock before a barrier's end", judge_barrier,
      {[PREPARE] = {driver_begins_a_barrier, 0, 0},
@@ -491,19 +506,22 @@ enum { TESTS = sizeof tests / sizeof *tests };
 
 static unsigned test;
 
-/* The threads begin to act at one time by the clock, as near as they get to it. */
-static uint64_t start;
-
 static void take_step(unsigned at, unsigned thread) {
     step *own = tests[test].steps[at][thread];
-    if (at == ACT)
+    if (at == ACT) {
+        if (nanoseconds() >= start) atomic_store(&late, true);
         while (nanoseconds() < start) continue;
+    }
     if (own) own();
-    if (at == READY && thread == DRIVER) start = nanoseconds() + LEAD;
+    if (at == READY && thread == DRIVER) {
+        atomic_store(&late, false);
+        start = nanoseconds() + LEAD;
+    }
 }
 
 static void *act(void *it) {
     unsigned thread = (unsigned)(uintptr_t)it;
+    settle(thread);
     for (;;) {
         meet();
         if (over) return 0;
@@ -541,11 +559,7 @@ int main(int count, char **words) {
     double most = count > 1 ? atof(words[1]) : 0.2;
     pthread_t threads[THREADS];
     bool well = true;
-    lines = aligned_alloc(1 << 21, (size_t)LINES * LINE);
-    if (!lines) return 1;
-    madvise(lines, (size_t)LINES * LINE, MADV_HUGEPAGE);
-    memset(lines, 0, (size_t)LINES * LINE);
-    for (int i = 0; i < COLD; i++) cold[i] = lines;
+    settle(DRIVER);
     for (test = 0; test < TESTS; test++) {
         /* Each test has an engine of its own, since an engine takes 1,000,000 callbacks. */
         rcu = (rcu_t){0};
@@ -566,6 +580,5 @@ int main(int count, char **words) {
         rcu_close(rcu);
         for (uint32_t cpu = 0; cpu < THREADS; cpu++) rcu_seat_close(seats[cpu]);
     }
-    free(lines);
     return !well;
 }

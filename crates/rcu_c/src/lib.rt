@@ -1,5 +1,6 @@
 //! The running engine for C programs (`include/rcu.h`): each export calls a call of `rcu_live`'s
-//! engine or of a seat, and states its clauses again.
+//! engine or of a seat, and states its clauses again. No export makes a fence: round those whose
+//! names end in `_unfenced` the header does, by functions of the names without that.
 #![tactic(auto)]
 
 pub mod barriers;
