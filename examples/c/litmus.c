@@ -41,11 +41,11 @@ static rcu_seat_t seats[THREADS];
 
 /* What the threads share in a round, each on lines of its own. */
 static struct {
-    _Alignas(128) atomic_ulong pointer; /* what readers follow: the round of its latest store */
-    _Alignas(128) atomic_ulong want;    /* that a waiter wants to be woken */
-    _Alignas(128) atomic_ulong processed;
-    _Alignas(128) atomic_ulong node[2];
-    _Alignas(128) atomic_bool finished;
+    _Alignas(LINE) atomic_ulong pointer; /* what readers follow: the round of its latest store */
+    _Alignas(LINE) atomic_ulong want;    /* that a waiter wants to be woken */
+    _Alignas(LINE) atomic_ulong processed;
+    _Alignas(LINE) atomic_ulong node[2];
+    _Alignas(LINE) atomic_bool finished;
 } shared;
 
 /* The round, and what was found in it: written in one step, read in a later one. */
@@ -84,7 +84,8 @@ static uint64_t nanoseconds(void) {
 static void settle(unsigned thread) {
     static cpu_set_t all;
     cpu_set_t own;
-    if (thread == DRIVER && sched_getaffinity(0, sizeof all, &all)) exit(1);
+    if (thread == DRIVER && sched_getaffinity(0, sizeof all, &all)) CPU_ZERO(&all);
+    if (CPU_COUNT(&all) == 0) return;
     for (unsigned cpu = 0, left = thread % (unsigned)CPU_COUNT(&all);; cpu++) {
         if (!CPU_ISSET(cpu, &all) || left-- > 0) continue;
         CPU_ZERO(&own);
@@ -96,7 +97,7 @@ static void settle(unsigned thread) {
 
 /* All threads meet, and go on. */
 static void meet(void) {
-    static _Alignas(128) atomic_uint met, meeting;
+    static _Alignas(LINE) atomic_uint met, meeting;
     unsigned here = atomic_load(&meeting), spins = 0;
     if (atomic_fetch_add(&met, 1) == THREADS - 1) {
         atomic_store(&met, 0);
