@@ -200,7 +200,9 @@ static inline uint32_t rcu_arrive(rcu_t *rcu, rcu_seat_t *seat) {
 
 /* The seat's processor goes offline, and its callbacks move to processor 0. Writes how many. 12, 4,
  * 2 (where it was offline, and has no callback), 16. At 16 it is offline, and its callbacks stay:
- * the same call again moves them. */
+ * the same call again moves them.
+ * What the thread did before comes before what follows the collection or the begin that finds it
+ * offline. */
 uint32_t rcu_depart(rcu_t *rcu, rcu_seat_t *seat, uint64_t *moved);
 
 /* ---- what an engine says of itself: `rcu` is open, under the caller's lock */
@@ -274,7 +276,9 @@ uint32_t rcu_seat_cpu(rcu_seat_t *seat);
 /* Opens a read section, or nests one deeper in the open one. Writes the depth. 2, 6. */
 uint32_t rcu_seat_enter(rcu_seat_t *seat, uint32_t *depth);
 
-/* Leaves the innermost section. Writes the depth, 0 where the section closed. 5. */
+/* Leaves the innermost section. Writes the depth, 0 where the section closed. 5.
+ * Neither this nor rcu_seat_enter orders what the thread stores: what a section did comes before
+ * the next quiescent state or departure. */
 uint32_t rcu_seat_exit(rcu_seat_t *seat, uint32_t *depth);
 
 /* Passes a quiescent state: what the thread read before, it uses no more. Writes the number that it
