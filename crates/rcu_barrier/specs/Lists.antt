@@ -2,10 +2,12 @@
 use Rattle.std.specs.Prelude.{ℕ, ◌≡◌, ◌≤◌, ◌+◌, ◌==◌, ◌&&◌, Bool, true, false, not, if◌then◌else◌, List, [], ◌∷◌, ◌++◌}
 use Rattle.std.specs.Prelude.{All, count_by, length, map, replicate, slice_index_or, slice_set, sum_by}
 use Rattle.rcu_seq.specs.Numbers.{Number}
+use Rattle.rcu_seq.specs.declared.tag.Tag.{Tag}
 use Rattle.rcu_seq.specs.declared.fault.Fault.{Fault}
 use Rattle.rcu_seq.specs.declared.fault.Fault.TheVariants as fault
 use Rattle.rcu_cblist.specs.declared.queued.Queued.{Queued}
-use Rattle.rcu_cblist.specs.SegList.{Item, Segmented, Of, Unmarked, after_entrain, after_migrate, after_take}
+use Rattle.rcu_cblist.specs.SegList.{Item, Segmented, Of, Unmarked, after_entrain, after_migrate, after_renumber}
+use Rattle.rcu_cblist.specs.SegList.{after_take}
 use Rattle.rcu_cblist.specs.SegList.{as_it_leaves, is_empty, markers}
 use Rattle.rcu_barrier.specs.Tending.{AreFours, after_tend}
 use Rattle.rcu_barrier.specs.declared.visit.Visit.{Visit}
@@ -86,15 +88,19 @@ module _ {X : Type 0} where
   abbrev pub queue_fault : AllLists X → Fault
   queue_fault all = if all.queued == most_queued then fault.CallbacksFull else fault.NoMemory
 
-  -- a callback, queued at this number, is at the end of the processor's list, and is counted
-  abbrev pub lists_after_queue : AllLists X → ℕ → Number → X → AllLists X
-  lists_after_queue all cpu number x =
-      let call : Queued X = record { ord = all.queued + 1; at = number; value = x } in
+  -- a callback, queued at this tag, is at the end of the processor's list, and is counted
+  abbrev pub lists_after_queue : AllLists X → ℕ → Tag → X → AllLists X
+  lists_after_queue all cpu at x =
+      let call : Queued X = record { ord = all.queued + 1; at = at; value = x } in
       record (with_list all cpu (list_of all cpu ++ Of call Unmarked ∷ [])) { queued = all.queued + 1 }
 
   -- the processor's list is tended at this number
   abbrev pub lists_after_tend : AllLists X → ℕ → Number → AllLists X
   lists_after_tend all cpu number = with_list all cpu (after_tend (list_of all cpu) number)
+
+  -- the numbers start anew: what waits in any list has none, and the barrier goes on
+  abbrev pub lists_after_renumber : AllLists X → AllLists X
+  lists_after_renumber all = record all { lists = map after_renumber all.lists }
 
   -- what a take of at most so many callbacks leaves of the processor's list
   abbrev pub lists_after_run : AllLists X → ℕ → ℕ → AllLists X

@@ -8,18 +8,19 @@ ghost use Rattle.rcu_barrier.specs.Tending.{after_tend};
 ghost use Rattle.rcu_barrier.specs.Lists.{HasRoomIn, IsSound, at_first, barrier_test_answer};
 ghost use Rattle.rcu_barrier.specs.Lists.{cpus_of, is_visited, leaving_list, list_of};
 ghost use Rattle.rcu_barrier.specs.Lists.{lists_after_barrier_begin, lists_after_barrier_test};
-ghost use Rattle.rcu_barrier.specs.Lists.{lists_after_migrate};
+ghost use Rattle.rcu_barrier.specs.Lists.{lists_after_migrate, lists_after_renumber};
 ghost use Rattle.rcu_barrier.specs.Lists.{lists_after_queue, lists_after_run, lists_after_tend};
 ghost use Rattle.rcu_barrier.specs.Lists.{lists_after_visit, most_queued, owes_visit, queue_fault};
 ghost use Rattle.rcu_barrier.specs.Lists.{visit_answer, visit_fault};
 
 use crate::barrier_state::BarrierState;
-use crate::moving::{empty_lists, move_to_first};
+use crate::moving::{empty_lists, move_to_first, renumber_each};
 use crate::visit::Visit;
 use crate::visits::Visits;
 use rcu_cblist::{Queued, Refused, SegList, Taken};
-use rcu_seq::cookie::Cookie;
+use rcu_seq::cookie::snapshot;
 use rcu_seq::fault::Fault;
+use rcu_seq::tag::Tag;
 use std::alloc::Global;
 use std::marker::Model;
 
@@ -93,12 +94,12 @@ impl<T: Drop> Lists<T> {
         })
     }
 
-    /// Queues a callback on a processor at a grace-period number, and answers how many were queued,
+    /// Queues a callback on a processor at a tag, and answers how many were queued,
     /// which is its place among them. Costs as [`SegList::queue`].
     ///
     /// Faults, which hand the value back: `CallbacksFull` (15) where 1,000,000 were queued;
     /// `NoMemory` (16), only where the list has no room for it.
-    pub fn queue(&mut self, cpu: u32, at: u64, value: T) -> Result<u64, Refused<T>>
+    pub fn queue(&mut self, cpu: u32, at: Tag, value: T) -> Result<u64, Refused<T>>
         requires { cpu < cpus_of self.old.all }
         ensures place { IfOk result (λ count. count ≡ self.old.all.queued + 1) }
         ensures few { IfOk result (λ count. count ≤ most_queued) }
@@ -146,8 +147,17 @@ impl<T: Drop> Lists<T> {
     {
         let list = &mut self.lists[cpu as usize];
         list.advance(number);
-        list.accelerate(Cookie::of(number).0);
+        list.accelerate(snapshot(number));
         (list.done_count(), list.waiting_count())
+    }
+
+    /// Takes the number from each callback that waits, in all lists, as the numbers start anew in
+    /// the next epoch. Done callbacks and markers stay, and a barrier goes on. Costs a step a
+    /// processor.
+    pub fn renumber(&mut self)
+        ensures { self.new.all ≡ lists_after_renumber self.old.all }
+    {
+        renumber_each(self.lists.as_mut_slice());
     }
 
     /// Takes the first callbacks of a processor's done part, at most so many (Linux's

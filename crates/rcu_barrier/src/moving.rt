@@ -1,7 +1,8 @@
 //! Lists that are made, and one that moves to the first.
-ghost use Rattle.std.specs.Prelude.{◌≡◌, ◌<◌, ◌≢◌, ◌&&◌, [], not, length, replicate};
+ghost use Rattle.std.specs.Prelude.{◌≡◌, ◌<◌, ◌≢◌, ◌&&◌, [], map, not, length, replicate};
 ghost use Rattle.std.specs.Prelude.{IsOk, IfOk, IfErr, OnOk, OnErr};
-ghost use Rattle.rcu_cblist.specs.SegList.{HasRoom, after_migrate, as_it_leaves, callbacks};
+ghost use Rattle.rcu_cblist.specs.SegList.{HasRoom, after_migrate, after_renumber, as_it_leaves};
+ghost use Rattle.rcu_cblist.specs.SegList.{callbacks};
 ghost use Rattle.rcu_cblist.specs.SegList.{is_empty};
 ghost use Rattle.rcu_barrier.specs.Lists.{HasRoomAt, items_in, list_at, lists_after_move};
 ghost use Rattle.rcu_barrier.specs.Lists.{rooms_in};
@@ -27,6 +28,15 @@ pub(crate) fn empty_lists<T: Drop>(alloc: Global, cpus: u32) -> Result<Vec<SegLi
         };
     }
     Ok(lists)
+}
+
+/// Takes the number from each callback that waits, in each of the lists.
+pub(crate) fn renumber_each<T: Drop>(lists: &mut [SegList<T>])
+    ensures { items_in lists.new ≡ map after_renumber (items_in lists.old) }
+{
+    for list in lists.iter_mut() {
+        list.renumber();
+    }
 }
 
 /// Moves a list to the first one, with a marker behind it where a visit is owed. Answers how many

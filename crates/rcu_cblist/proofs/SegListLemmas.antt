@@ -12,8 +12,8 @@ use Rattle.std.proofs.lemmas.List.Sums.{sum_by-append, sum_by-cons}
 use Rattle.rcu_seq.specs.Numbers.{Number}
 use Rattle.rcu_cblist.specs.declared.queued.Queued.{Queued}
 use Rattle.rcu_cblist.specs.SegList.{begins_with_marker, Item, Mark, Of, Marker, Unmarked, Until, Done, after_advance}
-use Rattle.rcu_cblist.specs.SegList.{after_entrain, after_migrate, after_take, behind, from_callback, front, has_other}
-use Rattle.rcu_cblist.specs.SegList.{has_two, is_empty, is_marker, mark_given, markers, markers_passed, number_carried}
+use Rattle.rcu_cblist.specs.SegList.{after_entrain, after_migrate, after_renumber, after_take, behind, from_callback, front, has_other}
+use Rattle.rcu_cblist.specs.SegList.{has_two, is_empty, is_marker, mark_given, mark_renumbered, markers, markers_passed, number_carried}
 use Rattle.rcu_cblist.specs.SegList.{numbers, remarked, take_answer, without_mark}
 
 -- a marker in front is one more
@@ -299,3 +299,15 @@ first_moved xs ys none others =
     first_append (front xs ++ ys) (map without_mark (behind xs))
     (first_append (front xs) ys (first_front xs none) others)
     (first_behind xs)
+
+-- no callback carries a number once they start anew
+pub numbers_renumbered : {X : Type 0} (xs : List (Item X)) → numbers (after_renumber xs) ≡ []
+numbers_renumbered [] = refl
+numbers_renumbered (Marker ∷ xs) = numbers_renumbered xs
+numbers_renumbered (Of call Unmarked ∷ xs) = numbers_renumbered xs
+numbers_renumbered (Of call (Until n) ∷ xs) = numbers_renumbered xs
+numbers_renumbered (Of call Done ∷ xs) = numbers_renumbered xs
+
+-- and the markers stay
+pub markers_renumbered : {X : Type 0} (xs : List (Item X)) → markers (after_renumber xs) ≡ markers xs
+markers_renumbered xs = markers_remarked mark_renumbered xs

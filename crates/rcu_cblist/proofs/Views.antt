@@ -11,8 +11,8 @@ use Rattle.rcu_seq.specs.Numbers.{Number}
 use Rattle.rcu_cblist.specs.declared.kept.Kept.{Kept}
 use Rattle.rcu_cblist.specs.declared.kept.Kept.TheVariants as kept
 use Rattle.rcu_cblist.specs.SegList.{Item, Mark, Of, Marker, Unmarked, Until, Done, IsAtMost, after_accelerate}
-use Rattle.rcu_cblist.specs.SegList.{after_advance, behind, begins_with_marker, front, front_with, greatest, has_other}
-use Rattle.rcu_cblist.specs.SegList.{has_two, mark_advanced, mark_given, numbered, numbers, past_numbered, remarked}
+use Rattle.rcu_cblist.specs.SegList.{after_advance, after_renumber, behind, begins_with_marker, front, front_with, greatest, has_other}
+use Rattle.rcu_cblist.specs.SegList.{has_two, mark_advanced, mark_given, mark_renumbered, numbered, numbers, past_numbered, remarked}
 use Rattle.rcu_cblist.specs.SegList.{segments, without_mark}
 use Rattle.rcu_cblist.specs.Kept.{item_of, marked, unmarked}
 use Rattle.rcu_cblist.specs.Segments.{AreSegments, joined}
@@ -208,6 +208,14 @@ module _ {X : Type 0} where
   pub lost : (a b : Number) (D W R N : List (Kept X)) → AreSegments a b D W R N →
       joined a b D [] [] (W ++ (R ++ N)) ≡ front (joined a b D W R N) ++ map without_mark (behind (joined a b D W R N))
   lost a b D W R N h = rw (front_joined a b D W R N h, behind_stripped a b D W R N h) refl
+
+  -- that is the list with each number taken away
+  pub renumbered : (a b : Number) (D W R N : List (Kept X)) →
+      joined a b D [] [] (W ++ (R ++ N)) ≡ after_renumber (joined a b D W R N)
+  renumbered a b D W R N =
+      ap (λ l. marked Done D ++ l)
+      (map-append (item_of Unmarked) W (R ++ N) ∙ ap (λ l. unmarked W ++ l) (map-append (item_of Unmarked) R N))
+      ∙ sym (under_remarked mark_renumbered Done (Until a) (Until b) Unmarked D W R N)
 
   -- the numbers of a list under one mark
   pub numbers_joined : (a b : Number) (D W R N : List (Kept X)) →

@@ -34,6 +34,12 @@ mark_given snap Unmarked = Until snap
 mark_given snap (Until n) = Until n
 mark_given snap Done = Done
 
+-- the mark once the numbers start anew: a number means nothing in the next epoch
+abbrev pub mark_renumbered : Mark → Mark
+mark_renumbered (Until n) = Unmarked
+mark_renumbered Unmarked = Unmarked
+mark_renumbered Done = Done
+
 -- one of the numbers is below the snapshot and differs from this one
 abbrev pub has_other : Number → Number → List Number → Bool
 has_other snap n numbers = list_any (λ k. nat_lt k snap && not (k == n)) numbers
@@ -118,6 +124,10 @@ module _ {X : Type 0} where
   -- the list once the number is reached
   abbrev pub after_advance : List (Item X) → Number → List (Item X)
   after_advance xs number = map (remarked (mark_advanced number)) xs
+
+  -- the list once the numbers start anew: what waits has no number, and what is done stays so
+  abbrev pub after_renumber : List (Item X) → List (Item X)
+  after_renumber xs = map (remarked mark_renumbered) xs
 
   -- no callback carries a number above the snapshot
   abbrev pub IsAtMost : Number → List (Item X) → Type 0

@@ -2,7 +2,8 @@
 ghost use Rattle.std.specs.Prelude.{◌≡◌, ◌≢◌, ◌+◌, ◌<◌, ◌^◌, ◌++◌, ◌∷◌, [], false, not, length};
 ghost use Rattle.std.specs.Prelude.{IsOk, OnOk, OnErr, IfOk, IfErr};
 ghost use Rattle.rcu_cblist.specs.SegList.{HasRoom, IsAtMost, Of, Unmarked, after_accelerate};
-ghost use Rattle.rcu_cblist.specs.SegList.{after_advance, after_entrain, after_migrate, after_take};
+ghost use Rattle.rcu_cblist.specs.SegList.{after_advance, after_entrain, after_migrate};
+ghost use Rattle.rcu_cblist.specs.SegList.{after_renumber, after_take};
 ghost use Rattle.rcu_cblist.specs.SegList.{as_it_leaves, begins_with_marker, behind, callbacks};
 ghost use Rattle.rcu_cblist.specs.SegList.{front, greatest, is_empty, markers_passed, numbers};
 ghost use Rattle.rcu_cblist.specs.SegList.{segments, take_answer};
@@ -92,6 +93,15 @@ impl<T: Drop> SegList<T> {
         ensures { self.new.items ≡ after_accelerate self.old.items snap }
     {
         self.segments.accelerate(snap);
+    }
+
+    /// Takes the number from each callback that waits, as the numbers start anew in the next epoch:
+    /// it is as if just queued, in the order that it has. Done callbacks and markers stay. Costs a
+    /// step.
+    pub fn renumber(&mut self)
+        ensures { self.new.items ≡ after_renumber self.old.items }
+    {
+        self.segments.lose_numbers();
     }
 
     /// Takes the first callbacks of the done part, at most so many, and each marker before the

@@ -4,7 +4,8 @@ ghost use Rattle.std.specs.Prelude.{if◌then◌else◌, map, nat_le, nat_lt};
 ghost use Rattle.std.specs.Vec.{vec_len, vec_capacity};
 ghost use Rattle.std.specs.VecDeque.{deque_len, deque_capacity};
 ghost use Rattle.rcu_cblist.specs.SegList.{IsAtMost, Of, Unmarked, after_accelerate, after_advance};
-ghost use Rattle.rcu_cblist.specs.SegList.{after_entrain, after_migrate, after_take};
+ghost use Rattle.rcu_cblist.specs.SegList.{after_entrain, after_migrate, after_renumber};
+ghost use Rattle.rcu_cblist.specs.SegList.{after_take};
 ghost use Rattle.rcu_cblist.specs.SegList.{as_it_leaves, behind, front, greatest, is_empty};
 ghost use Rattle.rcu_cblist.specs.SegList.{markers_passed, numbers};
 ghost use Rattle.rcu_cblist.specs.SegList.{segments, take_answer, without_mark};
@@ -189,7 +190,7 @@ impl<T: Drop> Segments<T> {
     }
 
     /// Loses the numbers of what waits: all behind DONE becomes NEXT.
-    fn lose_numbers(&mut self)
+    pub(crate) fn lose_numbers(&mut self)
         requires kept { IsCut self.old }
         ensures items { self.new.items ≡ self.old.items }
         ensures next { self.new.ready ≡ self.old.done }
@@ -197,6 +198,7 @@ impl<T: Drop> Segments<T> {
         ensures kept { IsCut self.new }
         ensures lost { seen self.new
             ≡ front (seen self.old) ++ map without_mark (behind (seen self.old)) }
+        ensures renumbered { seen self.new ≡ after_renumber (seen self.old) }
     {
         self.wait = self.done;
         self.ready = self.done;

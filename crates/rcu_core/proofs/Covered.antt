@@ -10,16 +10,16 @@ use Rattle.std.proofs.lemmas.List.Sums.{get_or-le-sum_by, sum_by-cons}
 use Rattle.rcu_seq.specs.declared.fault.Fault.TheVariants as fault
 use Rattle.rcu_cblist.specs.SegList.{Item, Of, Marker, Mark, Unmarked, Until, Done, behind, after_entrain}
 use Rattle.rcu_cblist.specs.SegList.{from_callback, front, is_marker, markers, after_migrate, remarked, take_answer}
-use Rattle.rcu_cblist.specs.SegList.{without_mark, after_take, as_it_leaves}
+use Rattle.rcu_cblist.specs.SegList.{without_mark, after_take, as_it_leaves, mark_renumbered}
 use Rattle.rcu_barrier.specs.Tending.{mark_after_tend, after_tend}
 use Rattle.rcu_core.specs.Callbacks.{barrier_runs, is_owed, list, queue_count, queued_before_barrier, times_handed_out}
 use Rattle.rcu_core.specs.Callbacks.{was_visited}
-use Rattle.rcu_core.specs.History.{History, number}
+use Rattle.rcu_core.specs.History.{History, number, tag_now}
 use Rattle.rcu_core.specs.Replies.{Size, fault_in, how_many, or_fault, waits_for, AreAccepted, IsLegalReply}
 use Rattle.rcu_core.specs.Situation.{situation}
 use Rattle.rcu_core.specs.Runs.{IsLegalRun, history, Run as Trace}
 use Rattle.rcu_core.specs.declared.event.Event.{Event}
-use Rattle.rcu_core.specs.declared.event.Event.TheVariants.{Offline, Queue, Tend, Run, BarBegin, Visit, BarTest}
+use Rattle.rcu_core.specs.declared.event.Event.TheVariants.{Offline, Queue, Tend, Run, BarBegin, Visit, BarTest, Renumber}
 use Rattle.rcu_core.specs.declared.reply.Reply.TheVariants as reply
 use Rattle.rcu_core.proofs.Counting.{none_passes}
 use Rattle.rcu_core.proofs.Kept.{queue_counts}
@@ -131,7 +131,7 @@ record Barrier (h : History) : Type 0 where
   pub before_le : queued_before_barrier h ≤ queue_count h
 
 abbrev new_item : ℕ → History → Item ℕ
-new_item y h = Of (record { ord = queue_count h + 1; at = number h; value = y }) Unmarked
+new_item y h = Of (record { ord = queue_count h + 1; at = tag_now h; value = y }) Unmarked
 
 barrier_step : (s : Size) (e : Event) (h : History) → fault_in s (situation h) e ≡ None → Barrier h → Barrier (e ∷ h)
 barrier_step s BarBegin h p f = record { covered = λ r c v. absurd (cc); before_le = omega arith }
@@ -171,6 +171,10 @@ barrier_step s (Offline d) h p f = let b = queued_before_barrier h in
           (λ z. old));
       before_le = f.before_le;
     }
+barrier_step s Renumber h p f = record {
+  covered = λ r c v. covered-remarked (queued_before_barrier h) mark_renumbered (list c h) (f.covered r c v);
+  before_le = f.before_le;
+}
 barrier_step s _ h p f = record { covered = f.covered; before_le = f.before_le }
 
 barrier_each : (s : Size) (h : History) → AreAccepted s h → Barrier h

@@ -2,11 +2,11 @@
 use Rattle.std.proofs.Common.{◌≡◌, ℕ, ◌+◌, ◌-◌, ◌<◌, Bool, true, false, cond, List, [], ◌∷◌, ◌++◌, length, Option, Some}
 use Rattle.std.proofs.Common.{None}
 use Rattle.std.proofs.Common.{refl, sym, ap, ap₂, subst, ◌∙◌, arith, get_or, take, inl, inr}
-use Rattle.std.specs.Prelude.{◌==◌, max}
+use Rattle.std.specs.Prelude.{◌==◌, ◌&&◌, max, nat_lt}
 use Rattle.std.proofs.lemmas.Bool.Decides.{nat_tests}
 use Rattle.std.proofs.lemmas.List.{length-set, take_more}
 use Rattle.rcu_seq.specs.Numbers.{snapshot}
-use Rattle.rcu_seq.specs.Seq.{number_of}
+use Rattle.rcu_seq.specs.Seq.{number_of, tag_of}
 use Rattle.rcu_seq.specs.declared.fault.Fault.{Fault}
 use Rattle.rcu_node.proofs.CpuSetLemmas.{in_none}
 use Rattle.rcu_cpu.specs.CpuData as cpu_data
@@ -15,7 +15,7 @@ use Rattle.rcu_cblist.specs.SegList.{Item, numbers}
 use Rattle.rcu_barrier.specs.Lists.{barrier_left}
 use Rattle.rcu_core.specs.Callbacks.{barrier_runs, greatest_from}
 use Rattle.rcu_core.specs.GpState.{after_begin, after_end, at_first, awaited_in, periods_of}
-use Rattle.rcu_core.specs.History.{History, online, noted, depth, enter_count, exit_count, report_at}
+use Rattle.rcu_core.specs.History.{History, epoch, online, running, noted, depth, enter_count, exit_count, report_at}
 use Rattle.rcu_core.specs.Replies.{Size, AreAccepted, IsLegalReply, accepted_reply, barrier_test_reply, fault_in}
 use Rattle.rcu_core.specs.Replies.{or_fault}
 use Rattle.rcu_core.specs.Replies.{waits_for, with_event}
@@ -27,15 +27,16 @@ use Rattle.rcu_core.specs.declared.event.Event.TheVariants.{Enter, Exit, Note, Q
 use Rattle.rcu_core.specs.declared.event.Event.TheVariants.{End}
 use Rattle.rcu_core.specs.declared.event.Event.TheVariants.{Turn, Awaits, Take, StartPoll, Poll, Queue, Tend, Run}
 use Rattle.rcu_core.specs.declared.event.Event.TheVariants.{BarBegin}
-use Rattle.rcu_core.specs.declared.event.Event.TheVariants.{Visit, BarTest}
+use Rattle.rcu_core.specs.declared.event.Event.TheVariants.{Visit, BarTest, Renumber}
 use Rattle.rcu_core.specs.declared.reply.Reply.{Reply}
 use Rattle.rcu_core.specs.declared.reply.Reply.TheVariants as reply
 use Rattle.rcu_core.proofs.FollowsLists.{calls_begun, calls_moved, calls_queued, calls_run, calls_tended, calls_tested}
-use Rattle.rcu_core.proofs.FollowsLists.{calls_visited}
+use Rattle.rcu_core.proofs.FollowsLists.{calls_renumbered, calls_visited}
+use Rattle.rcu_core.proofs.Clocks.{renumber_counts}
 use Rattle.rcu_core.proofs.FollowsPeriods.{awaits_delivered, awaits_departed, follows_begin, follows_end, follows_turn}
 use Rattle.rcu_core.proofs.FollowsPeriods.{length-awaited_by}
 use Rattle.rcu_core.proofs.Kept.{enter_counts, exit_counts, exits_le}
-use Rattle.rcu_core.proofs.Situations.{number_same, longer, one_changed, same, within, within_all}
+use Rattle.rcu_core.proofs.Situations.{number_same, longer, one_changed, same, tag_same, within, within_all}
 use Rattle.rcu_core.proofs.Sound.{first_cpus, first_at, no_item, boot_alone}
 use Rattle.rcu_core.proofs.Steps.{waits_said}
 use Rattle.rcu_core.proofs.Writes.{eqb_self, one_written}
@@ -133,8 +134,8 @@ follows v h (Note c) s x p = record {
   cpus = record {
     online = x.cpus.online;
     awaits = x.cpus.awaits;
-    each = one_changed v.cpus (cpus_in h) (cpus_in (Note c ∷ h)) c (cpu_data.Note (number_of v.grace.seq))
-        (within v c s (grind (arith, nat_tests))) x.cpus.each (rw (eqb_self c, number_same v h x) refl)
+    each = one_changed v.cpus (cpus_in h) (cpus_in (Note c ∷ h)) c (cpu_data.Note (tag_of v.grace.seq))
+        (within v c s (grind (arith, nat_tests))) x.cpus.each (rw (eqb_self c, tag_same v h x) refl)
         (λ k n. rw n refl);
     made = x.cpus.made;
   };
@@ -170,8 +171,8 @@ follows v h (Online c) s x p = record {
     online = one_written false v.grace.processors.online c true (λ k. online k h) (λ k. online k (Online c ∷ h))
         (within_all v c s (grind (arith, nat_tests))).0 x.cpus.online (rw (eqb_self c) refl) (λ k n. rw n refl);
     awaits = x.cpus.awaits;
-    each = one_changed v.cpus (cpus_in h) (cpus_in (Online c ∷ h)) c (cpu_data.Arrive (number_of v.grace.seq))
-        (within v c s (grind (arith, nat_tests))) x.cpus.each (rw (eqb_self c, number_same v h x) refl)
+    each = one_changed v.cpus (cpus_in h) (cpus_in (Online c ∷ h)) c (cpu_data.Arrive (tag_of v.grace.seq))
+        (within v c s (grind (arith, nat_tests))) x.cpus.each (rw (eqb_self c, tag_same v h x) refl)
         (λ k n. rw n refl);
     made = x.cpus.made;
   };
@@ -201,6 +202,7 @@ follows v h Take s x p = record { accepted = (p, x.accepted); periods = x.period
 follows v h StartPoll s x p = record {
   accepted = (p, x.accepted);
   periods = record {
+    epoch = x.periods.epoch;
     ends = x.periods.ends;
     running = x.periods.running;
     needed = ap₂ (λ (a b : ℕ). max a b) x.periods.needed (ap (λ n. snapshot n) (number_same v h x));
@@ -208,13 +210,13 @@ follows v h StartPoll s x p = record {
   cpus = x.cpus;
   calls = x.calls;
 }
-follows v h (Poll k) s x p = record { accepted = (p, x.accepted); periods = x.periods; cpus = x.cpus; calls = x.calls }
+follows v h (Poll k epoch) s x p = record { accepted = (p, x.accepted); periods = x.periods; cpus = x.cpus; calls = x.calls }
 follows v h (Queue c value) s x p = record {
   accepted = (p, x.accepted);
   periods = x.periods;
   cpus = x.cpus;
-  calls = calls_queued v.grace.lists h c value (number_of v.grace.seq) (within_all v c s (grind (arith, nat_tests))).1
-      (number_same v h x) x.calls;
+  calls = calls_queued v.grace.lists h c value (tag_of v.grace.seq) (within_all v c s (grind (arith, nat_tests))).1
+      (tag_same v h x) x.calls;
 }
 follows v h (Tend c) s x p =
     let here = (within_all v c s (grind (arith, nat_tests))).1 in
@@ -222,6 +224,7 @@ follows v h (Tend c) s x p =
     record {
       accepted = (p, x.accepted);
       periods = record {
+        epoch = x.periods.epoch;
         ends = x.periods.ends;
         running = x.periods.running;
         needed = ap₂ (λ (n : ℕ) (xs : List (Item ℕ)). greatest_from n (numbers xs)) x.periods.needed (tended.list c);
@@ -251,6 +254,30 @@ follows v h (Visit c) s x p =
       calls = calls_visited v.grace.lists h c here.1 here.2 (x.calls.barrier ∙ runs) x.calls;
     }
 follows v h BarTest s x p = follows_test v h s x p
+follows v h Renumber s x p =
+    let idle : running h ≡ false = grind (arith, nat_tests) in
+    record {
+      accepted = (p, x.accepted);
+      periods = record {
+        epoch = ap (λ n. n + 1) x.periods.epoch ∙ one_more (epoch h) ∙ sym (renumber_counts h);
+        ends = refl;
+        running = x.periods.running;
+        needed = ap₂ (λ (a b : ℕ). cond (nat_lt a b) 4 0) (number_same v h x) x.periods.needed;
+      };
+      cpus = record {
+        online = x.cpus.online;
+        awaits = λ c. x.cpus.awaits c ∙ idle_so (running h) _ _ idle;
+        each = x.cpus.each;
+        made = x.cpus.made;
+      };
+      calls = calls_renumbered v.grace.lists h x.calls;
+    }
+  where
+    one_more : (n : ℕ) → n + 1 ≡ 1 + n
+    one_more n = omega arith
+
+    idle_so : (r a b : Bool) → r ≡ false → (r && a) ≡ (r && b)
+    idle_so r a b e = rw e refl
 
 went_answer : (v w : State ℕ) (h : History) (e : Event) (o : Option Fault) → IsSound v → Represents v h
     → fault_in (size_at v) (situation h) e ≡ o
@@ -312,7 +339,7 @@ has_first n last v l e f m =
     subst (λ (x : State ℕ). Represents x []) (λ i. record { grace = sym e i; cpus = sym f i; made = sym m i })
     (record {
       accepted = tt;
-      periods = record { ends = refl; running = refl; needed = refl };
+      periods = record { epoch = refl; ends = refl; running = refl; needed = refl };
       cpus = record { online = λ c. boot_alone n c l; awaits = in_none n; each = λ c. first_at n c l; made = refl };
       calls = record { queued = refl; list = no_item n; barrier = refl; owed = λ c. refl };
     })

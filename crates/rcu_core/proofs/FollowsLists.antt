@@ -1,19 +1,20 @@
 -- What a call leaves of the lists and the barrier is as its event says.
-use Rattle.std.proofs.Common.{◌≡◌, ℕ, ◌+◌, ◌<◌, Bool, true, false, not, cond, ◌&&◌, ◌||◌, List, [], ◌∷◌, length}
+use Rattle.std.proofs.Common.{◌≡◌, ℕ, zero, suc, map, ◌+◌, ◌<◌, Bool, true, false, not, cond, ◌&&◌, ◌||◌, List, [], ◌∷◌, length}
 use Rattle.std.proofs.Common.{refl, sym, ap, ap₂, ◌∙◌, arith, eqb, get_or, slice_set}
 use Rattle.std.proofs.lemmas.Bool.Decides.{nat_tests}
 use Rattle.std.proofs.lemmas.List.{length-set}
 use Rattle.rcu_node.proofs.CpuSetLemmas.{in_none}
-use Rattle.rcu_cblist.specs.SegList.{Item, after_entrain, after_migrate, after_take, as_it_leaves}
+use Rattle.rcu_cblist.specs.SegList.{Item, after_entrain, after_migrate, after_renumber, after_take, as_it_leaves}
 use Rattle.rcu_barrier.specs.Lists.{AllLists, owes_visit, is_visited, list_of, with_list}
 use Rattle.rcu_barrier.specs.Lists.{lists_after_barrier_begin, lists_after_migrate, lists_after_queue, lists_after_run}
-use Rattle.rcu_barrier.specs.Lists.{lists_after_tend, lists_after_visit}
+use Rattle.rcu_barrier.specs.Lists.{lists_after_renumber, lists_after_tend, lists_after_visit}
 use Rattle.rcu_barrier.specs.Tending.{after_tend}
 use Rattle.rcu_core.specs.Callbacks.{barrier_runs, is_owed, list, was_visited}
 use Rattle.rcu_core.specs.Core.{RepresentsCalls}
-use Rattle.rcu_core.specs.History.{History, number}
+use Rattle.rcu_core.specs.History.{History, number, tag_now}
+use Rattle.rcu_seq.specs.declared.tag.Tag.{Tag}
 use Rattle.rcu_core.specs.Situation.{calls_in}
-use Rattle.rcu_core.specs.declared.event.Event.TheVariants.{Offline, Queue, Tend, Run, BarBegin, Visit, BarTest}
+use Rattle.rcu_core.specs.declared.event.Event.TheVariants.{Offline, Queue, Tend, Run, BarBegin, Visit, BarTest, Renumber}
 use Rattle.rcu_core.proofs.Kept.{queue_counts}
 use Rattle.rcu_core.proofs.Writes.{eqb_self, marked, one_written}
 
@@ -22,7 +23,7 @@ abbrev pub Hold : AllLists ℕ → History → Type 0
 Hold all h = RepresentsCalls all (calls_in h)
 
 -- a callback is queued
-pub calls_queued : (all : AllLists ℕ) (h : History) (c value n : ℕ) → c < length all.lists → n ≡ number h → Hold all h →
+pub calls_queued : (all : AllLists ℕ) (h : History) (c value : ℕ) (n : Tag) → c < length all.lists → n ≡ tag_now h → Hold all h →
     Hold (lists_after_queue all c n value) (Queue c value ∷ h)
 calls_queued all h c value n l now x = record {
   queued = ap (λ n. n + 1) x.queued ∙ (let q = queue_counts c value h in omega (arith, q));
@@ -156,4 +157,19 @@ calls_moved all h c l m x = record {
   list = moved_lists all h c l x;
   barrier = x.barrier;
   owed = λ k. move_owed all h c k all.running (is_visited all c) x m refl refl;
+}
+
+get_renumbered : (lists : List (List (Item ℕ))) (k : ℕ)
+    → get_or (map after_renumber lists) k [] ≡ after_renumber (get_or lists k [])
+get_renumbered [] k = refl
+get_renumbered (xs ∷ lists) zero = refl
+get_renumbered (xs ∷ lists) (suc k) = get_renumbered lists k
+
+-- the numbers start anew
+pub calls_renumbered : (all : AllLists ℕ) (h : History) → Hold all h → Hold (lists_after_renumber all) (Renumber ∷ h)
+calls_renumbered all h x = record {
+  queued = x.queued;
+  list = λ k. get_renumbered all.lists k ∙ ap (λ (xs : List (Item ℕ)). after_renumber xs) (x.list k);
+  barrier = x.barrier;
+  owed = x.owed;
 }

@@ -5,14 +5,16 @@ use Rattle.std.specs.Prelude.{◌==◌}
 use Rattle.std.proofs.lemmas.Bool.Decides.{nat_tests}
 use Rattle.std.proofs.lemmas.Bool.{cases_lt, and_right}
 use Rattle.std.proofs.lemmas.List.{get_or_past}
-use Rattle.rcu_seq.specs.Numbers.{number_at, same_number}
+use Rattle.rcu_seq.specs.Numbers.{number_at}
+use Rattle.rcu_seq.specs.Tags.{same_tag}
+use Rattle.rcu_seq.specs.declared.tag.Tag.{Tag}
 use Rattle.rcu_node.specs.CpuSet.{is_in}
 use Rattle.rcu_node.proofs.CpuSetLemmas.{is_in-remove}
 use Rattle.rcu_report.specs.declared.report.Report.{Report}
 use Rattle.rcu_hotplug.specs.Hotplug.{cpus_of}
-use Rattle.rcu_seq.specs.Seq.{number_of}
+use Rattle.rcu_seq.specs.Seq.{tag_of}
 use Rattle.rcu_core.specs.GpState.{Grace, after_begin, after_end, awaited_in, periods_of}
-use Rattle.rcu_core.specs.History.{History, begins, running, number, online, reports_made, report_at, is_of, is_heard}
+use Rattle.rcu_core.specs.History.{History, begins, running, tag_now, online, reports_made, report_at, is_of, is_heard}
 use Rattle.rcu_core.specs.History.{awaits}
 use Rattle.rcu_seq.specs.Histories.{latest}
 use Rattle.rcu_core.specs.Replies.{fault_in, accepted_reply, turn_reply, begin_reply as begun_said}
@@ -23,7 +25,7 @@ use Rattle.rcu_core.specs.declared.event.Event.TheVariants.{Begin, Deliver, End,
 use Rattle.rcu_core.specs.declared.reply.Reply.TheVariants as reply
 use Rattle.rcu_core.proofs.Recorded.{turned_after}
 use Rattle.rcu_core.proofs.Kept.{begin_counts, end_counts, turns, none_awaited}
-use Rattle.rcu_core.proofs.Situations.{longer, number_same, same}
+use Rattle.rcu_core.proofs.Situations.{longer, same, tag_same}
 use Rattle.rcu_core.proofs.Sound.{length-awaited_after}
 use Rattle.rcu_core.proofs.Steps.{awaited_size}
 
@@ -47,16 +49,16 @@ hears true o false false = refl
 
 -- what is awaited after a delivery
 pub heard_of : (g : Grace ℕ) (h : History) (o : Option Report) → g.seq.running ≡ running h
-    → number_of g.seq ≡ number h → ((c : ℕ) → is_in g.processors.awaited c ≡ awaits c h)
-    → (c : ℕ) → is_in (awaited_by g o) c ≡ (awaits c h && not (is_of c (number h) o))
+    → tag_of g.seq ≡ tag_now h → ((c : ℕ) → is_in g.processors.awaited c ≡ awaits c h)
+    → (c : ℕ) → is_in (awaited_by g o) c ≡ (awaits c h && not (is_of c (tag_now h) o))
 heard_of g h None r m w c = w c ∙ and_yes (awaits c h)
 heard_of g h (Some report) r m w c =
-    reported_awaited g.seq.running (same_number report.tag (number_of g.seq)) g.processors.awaited report.cpu c
+    reported_awaited g.seq.running (same_tag report.tag (tag_of g.seq)) g.processors.awaited report.cpu c
     ∙ ap₂ (λ (a s : Bool). a && not (g.seq.running && (s && eqb report.cpu c))) (w c)
-    (ap (λ n. same_number report.tag n) m)
-    ∙ ap (λ (b : Bool). awaits c h && not (b && (same_number report.tag (number h) && eqb report.cpu c))) r
-    ∙ hears (running h) (online c (latest begins h) && not (is_heard c (number h) h))
-    (same_number report.tag (number h)) (eqb report.cpu c)
+    (ap (λ (n : Tag). same_tag report.tag n) m)
+    ∙ ap (λ (b : Bool). awaits c h && not (b && (same_tag report.tag (tag_now h) && eqb report.cpu c))) r
+    ∙ hears (running h) (online c (latest begins h) && not (is_heard c (tag_now h) h))
+    (same_tag report.tag (tag_now h)) (eqb report.cpu c)
 
 pub length-awaited_by : (g : Grace ℕ) (o : Option Report) → length (awaited_by g o) ≡ length g.processors.awaited
 length-awaited_by g None = refl
@@ -72,17 +74,17 @@ unless_heard true true false b = and_yes (not b)
 pub awaits_delivered : (v : State ℕ) (h : History) (k : ℕ) → Represents v h →
     (c : ℕ) → is_in (awaited_by v.grace (report_at k v.made)) c ≡ awaits c (Deliver k ∷ h)
 awaits_delivered v h k x c =
-    heard_of v.grace h (report_at k v.made) x.periods.running (number_same v h x) x.cpus.awaits c
-    ∙ ap (λ rs. awaits c h && not (is_of c (number h) (report_at k rs))) x.cpus.made
-    ∙ sym (unless_heard (running h) (online c (latest begins h)) (is_of c (number h) (report_at k (reports_made h)))
-    (is_heard c (number h) h))
+    heard_of v.grace h (report_at k v.made) x.periods.running (tag_same v h x) x.cpus.awaits c
+    ∙ ap (λ rs. awaits c h && not (is_of c (tag_now h) (report_at k rs))) x.cpus.made
+    ∙ sym (unless_heard (running h) (online c (latest begins h)) (is_of c (tag_now h) (report_at k (reports_made h)))
+    (is_heard c (tag_now h) h))
 
 pub awaits_departed : (v : State ℕ) (h : History) (c : ℕ) → Represents v h →
     (k : ℕ) → is_in (slice_set v.grace.processors.awaited c false) k ≡ awaits k (Offline c ∷ h)
 awaits_departed v h c x k =
     is_in-remove v.grace.processors.awaited c k
     ∙ ap (λ (b : Bool). b && not (eqb c k)) (x.cpus.awaits k)
-    ∙ sym (unless_heard (running h) (online k (latest begins h)) (eqb c k) (is_heard k (number h) h))
+    ∙ sym (unless_heard (running h) (online k (latest begins h)) (eqb c k) (is_heard k (tag_now h) h))
 
 none_there : (v : State ℕ) (h : History) → Represents v h → fault_in (size_at v) (situation h) End ≡ None → (c : ℕ)
     → is_in v.grace.processors.awaited c ≡ false
@@ -96,7 +98,7 @@ pub follows_begin : (v : State ℕ) (h : History) → IsSound v → Represents v
     fault_in (size_at v) (situation h) Begin ≡ None → Represents (after_event v Begin) (Begin ∷ h)
 follows_begin v h s x p = let t = turns (size_at v) h x.accepted in let n = begin_counts h in record {
   accepted = longer v (after_event v Begin) h Begin x p s.flags refl;
-  periods = record { ends = x.periods.ends; running = grind (arith, nat_tests); needed = x.periods.needed };
+  periods = record { epoch = x.periods.epoch; ends = x.periods.ends; running = grind (arith, nat_tests); needed = x.periods.needed };
   cpus = record {
     online = x.cpus.online;
     awaits = λ c. let o = x.cpus.online c in grind (arith, nat_tests);
@@ -112,6 +114,7 @@ pub follows_end : (v : State ℕ) (h : History) → Represents v h → fault_in 
 follows_end v h x p = let t = turns (size_at v) h x.accepted in let n = end_counts h in record {
   accepted = (p, x.accepted);
   periods = record {
+    epoch = x.periods.epoch;
     ends = let m = x.periods.ends in grind (arith, nat_tests);
     running = grind (arith, nat_tests);
     needed = x.periods.needed;

@@ -5,28 +5,29 @@ use Rattle.std.specs.List.{list_any}
 use Rattle.std.proofs.lemmas.Bool.{and_parts, or_parts, or_right}
 use Rattle.std.proofs.lemmas.Bool.Decides.{nat_tests}
 use Rattle.rcu_seq.specs.Histories.{latest}
-use Rattle.rcu_seq.specs.Numbers.{Number}
-use Rattle.rcu_core.specs.History.{History, awaits, begins, hears, is_heard, number, online, running}
+use Rattle.rcu_seq.specs.declared.tag.Tag.{Tag}
+use Rattle.rcu_core.specs.History.{History, awaits, begins, hears, is_heard, online, running, tag_now}
 use Rattle.rcu_core.specs.Links.{ToldSince, starts, tag}
 use Rattle.rcu_core.specs.Replies.{Size, fault_in, AreAccepted}
 use Rattle.rcu_core.specs.Situation.{situation}
 use Rattle.rcu_core.specs.declared.event.Event.{Event}
-use Rattle.rcu_core.specs.declared.event.Event.TheVariants.{Begin, End}
+use Rattle.rcu_core.specs.declared.event.Event.TheVariants.{Begin, End, Renumber}
 use Rattle.rcu_core.proofs.Kept.{Turns, begin_counts, end_counts, none_awaited, turns}
 
 -- while a grace period runs its tag is the number, and one began
 record Runs (h : History) : Type 0 where
-  pub at_tag : number h ≡ tag h
+  pub at_tag : tag_now h ≡ tag h
   pub began : list_any begins h ≡ true
 
-runs_step : (e : Event) (h : History) → Turns h → (running h ≡ true → Runs h) → running (e ∷ h) ≡ true → Runs (e ∷ h)
-runs_step Begin h t k r = record { at_tag = refl; began = refl }
-runs_step End h t k r = let n = end_counts h in let b = t.begins_le in absurd (grind (arith, nat_tests))
-runs_step _ h t k r = record { at_tag = (k r).at_tag; began = (k r).began }
+runs_step : (s : Size) (e : Event) (h : History) → fault_in s (situation h) e ≡ None → Turns h → (running h ≡ true → Runs h) → running (e ∷ h) ≡ true → Runs (e ∷ h)
+runs_step s Begin h p t k r = record { at_tag = refl; began = refl }
+runs_step s End h p t k r = let n = end_counts h in let b = t.begins_le in absurd (grind (arith, nat_tests))
+runs_step s Renumber h p t k r = absurd (grind (arith, nat_tests))
+runs_step s _ h p t k r = record { at_tag = (k r).at_tag; began = (k r).began }
 
 runs_at_tag : (s : Size) (h : History) → AreAccepted s h → running h ≡ true → Runs h
 runs_at_tag s [] p r = absurd (cc)
-runs_at_tag s (e ∷ h) p r = runs_step e h (turns s h p.1) (runs_at_tag s h p.1) r
+runs_at_tag s (e ∷ h) p r = runs_step s e h p.0 (turns s h p.1) (runs_at_tag s h p.1) r
 
 -- what a processor that is not awaited while its grace period runs, and that it began with, says
 heard_there : (r o b : Bool) → r ≡ true → o ≡ true → (r && (o && not b)) ≡ false → b ≡ true
@@ -44,7 +45,7 @@ end_heard s c h p l k i =
     let n = none_awaited s h p c l in
     let there = (and_parts (list_any begins h) (online c (latest begins h)) i).1 in
     subst (λ t. is_heard c t h ≡ true) at
-    (heard_there (running h) (online c (latest begins h)) (is_heard c (number h) h) r there n)
+    (heard_there (running h) (online c (latest begins h)) (is_heard c (tag_now h) h) r there n)
 
 ended_step : (s : Size) (c : ℕ) (e : Event) (h : History) → fault_in s (situation h) e ≡ None → c < s.cpus → Turns h
     → (running h ≡ true → Runs h)
@@ -76,10 +77,10 @@ awaited_by : (s : Size) (c : ℕ) (h : History) (r : Bool) → AreAccepted s h �
     → awaits c h ≡ (starts c h && not (is_heard c (tag h) h))
 awaited_by s c h true p l r =
     let k = runs_at_tag s h p r in
-    while_running (running h) (list_any begins h) (online c (latest begins h)) (is_heard c (number h) h)
+    while_running (running h) (list_any begins h) (online c (latest begins h)) (is_heard c (tag_now h) h)
     (is_heard c (tag h) h) r k.began (ap (λ t. is_heard c t h) k.at_tag)
 awaited_by s c h false p l r =
-    once_ended (running h) (online c (latest begins h) && not (is_heard c (number h) h)) (starts c h)
+    once_ended (running h) (online c (latest begins h) && not (is_heard c (tag_now h) h)) (starts c h)
     (is_heard c (tag h) h) r (ended_heard s c h p l r)
 
 -- who is awaited, whether a grace period runs or has ended: those that it began with and that were not heard
@@ -102,7 +103,7 @@ alike_awaited s h g p q t b f c l =
     ∙ unheard_alike (starts c h) (starts c g) (is_heard c (tag h) h) (is_heard c (tag g) g) (b c) (f c)
     ∙ sym (awaited_are s c g q l)
 
-told_after : (c : ℕ) (t : Number) (e : Event) (h : History) (b d : Bool) → begins e ≡ b → hears c t e h ≡ d
+told_after : (c : ℕ) (t : Tag) (e : Event) (h : History) (b d : Bool) → begins e ≡ b → hears c t e h ≡ d
     → (not b && (d || is_heard c t h)) ≡ true → (is_heard c t h ≡ true → ToldSince c t h) → ToldSince c t (e ∷ h)
 told_after c t e h true d i j k g = absurd (cc)
 told_after c t e h false true i j k g =
@@ -118,7 +119,7 @@ told_after c t e h false false i j k g = let o = g k in record {
 }
 
 -- a processor that is heard was told of since the latest begin
-pub heard_is_told : (c : ℕ) (t : Number) (h : History) → is_heard c t h ≡ true → ToldSince c t h
+pub heard_is_told : (c : ℕ) (t : Tag) (h : History) → is_heard c t h ≡ true → ToldSince c t h
 heard_is_told c t [] i = absurd (cc)
 heard_is_told c t (e ∷ h) i = told_after c t e h (begins e) (hears c t e h) refl refl i (heard_is_told c t h)
 
@@ -132,7 +133,7 @@ told_later true b c i j = absurd (cc)
 told_later false true c i j = refl
 told_later false false c i j = j
 
-told_in : (c : ℕ) (t : Number) (later : History) (e : Event) (earlier : History) → list_any begins later ≡ false
+told_in : (c : ℕ) (t : Tag) (later : History) (e : Event) (earlier : History) → list_any begins later ≡ false
     → begins e ≡ false → hears c t e earlier ≡ true
     → is_heard c t (later ++ e ∷ earlier) ≡ true
 told_in c t [] e earlier n i j = told_here (begins e) (hears c t e earlier) (is_heard c t earlier) i j
@@ -142,7 +143,7 @@ told_in c t (x ∷ later) e earlier n i j =
     (told_in c t later e earlier q.1 i j)
 
 -- and one that was told of is heard
-pub told_is_heard : (c : ℕ) (t : Number) (h : History) → ToldSince c t h → is_heard c t h ≡ true
+pub told_is_heard : (c : ℕ) (t : Tag) (h : History) → ToldSince c t h → is_heard c t h ≡ true
 told_is_heard c t h o =
     subst (λ x. is_heard c t x ≡ true) (sym o.is)
     (told_in c t o.later o.event o.earlier o.no_begin_later o.is_no_begin o.tells)

@@ -4,6 +4,7 @@ use Rattle.std.proofs.Common.{ap, ◌∙◌, subst, arith}
 use Rattle.std.specs.Prelude.{◌==◌, ◌&&◌, nat_lt}
 use Rattle.std.proofs.lemmas.Bool.{or_cases, or_parts, and_parts, true≢false, false_from_ne_true}
 use Rattle.std.proofs.lemmas.Bool.Decides.{nat_tests, Decides-eqb}
+use Rattle.rcu_seq.specs.declared.cookie.Cookie.{Cookie}
 use Rattle.rcu_core.specs.History.{History, depth, opening, section}
 use Rattle.rcu_core.specs.Replies.{Size, history_event, with_event}
 use Rattle.rcu_core.specs.Runs.{Run, IsLegalRun, history, takes}
@@ -78,30 +79,30 @@ held_back cpu v (Load c ∷ s) t p n h = ⊎_elim
     (or_cases _ _ h)
 
 abbrev pub Finish : Type 0
-Finish = (size : Size) (later earlier : Run) (taking : Event) (cookie cpu : ℕ) (opened : History) → takes taking ≡ true
-    → IsLegalRun size ((Event.Poll cookie, Reply.Polled true) ∷ later ++ (taking, Reply.Cookie (record { 0 = cookie })) ∷ earlier)
+Finish = (size : Size) (later earlier : Run) (taking : Event) (cookie : Cookie) (cpu : ℕ) (opened : History) → takes taking ≡ true
+    → IsLegalRun size ((Event.Poll cookie.number cookie.epoch, Reply.Polled true) ∷ later ++ (taking, Reply.Cookie cookie) ∷ earlier)
     → section cpu (history earlier) ≡ Some opened
-    → section cpu (history (later ++ (taking, Reply.Cookie (record { 0 = cookie })) ∷ earlier)) ≢ Some opened
+    → section cpu (history (later ++ (taking, Reply.Cookie cookie) ∷ earlier)) ≢ Some opened
 
-pub not_held : Finish → (size : Size) (later middle before : Story) (old new cookie cpu : ℕ) (taking : Event)
+pub not_held : Finish → (size : Size) (later middle before : Story) (old new cpu : ℕ) (cookie : Cookie) (taking : Event)
     → takes taking ≡ true
     → old ≢ new → publishes old later ≡ false → publishes old middle ≡ false
-    → IsLegalRun size (run_of (Replied (Event.Poll cookie) (Reply.Polled true) ∷ later ++ Replied taking (Reply.Cookie (record { 0 = cookie })) ∷ (middle ++ Publish new ∷ before)))
-    → holds_version cpu old (Replied (Event.Poll cookie) (Reply.Polled true) ∷ later ++ Replied taking (Reply.Cookie (record { 0 = cookie })) ∷ (middle ++ Publish new ∷ before)) ≡ false
-not_held finish size later middle before old new cookie cpu taking t apart unlater unmiddle legal =
+    → IsLegalRun size (run_of (Replied (Event.Poll cookie.number cookie.epoch) (Reply.Polled true) ∷ later ++ Replied taking (Reply.Cookie cookie) ∷ (middle ++ Publish new ∷ before)))
+    → holds_version cpu old (Replied (Event.Poll cookie.number cookie.epoch) (Reply.Polled true) ∷ later ++ Replied taking (Reply.Cookie cookie) ∷ (middle ++ Publish new ∷ before)) ≡ false
+not_held finish size later middle before old new cpu cookie taking t apart unlater unmiddle legal =
     let m : Story = middle ++ Publish new ∷ before in
-    let taken : Story = Replied taking (Reply.Cookie (record { 0 = cookie })) ∷ m in
+    let taken : Story = Replied taking (Reply.Cookie cookie) ∷ m in
     let s : Story = later ++ taken in
     let gone : current m ≢ old = not_current old middle (Publish new ∷ before) unmiddle (λ e. apart (sym e)) in
-    false_from_ne_true _ (λ (h : (is_open cpu (Replied (Event.Poll cookie) (Reply.Polled true) ∷ s) && holds_version cpu old s) ≡ true).
+    false_from_ne_true _ (λ (h : (is_open cpu (Replied (Event.Poll cookie.number cookie.epoch) (Reply.Polled true) ∷ s) && holds_version cpu old s) ≡ true).
     let b = held_back cpu old later taken unlater gone (and_parts _ _ h).1 in
     let both = and_parts (is_open cpu taken) (holds_version cpu old m) b.held in
     let was = open_of_held cpu old m both.1 in
     let same : section cpu (history (run_of s)) ≡ section cpu (history (run_of m)) =
-    b.same ∙ section_kept cpu taking (Reply.Cookie (record { 0 = cookie })) (history (run_of m)) was both.0 in
+    b.same ∙ section_kept cpu taking (Reply.Cookie cookie) (history (run_of m)) was both.0 in
     let first : section cpu (history (run_of m)) ≡ Some (opening cpu (history (run_of m))) =
     section_is cpu (history (run_of m)) was in
     let split : run_of s ≡ run_of later ++ run_of taken = run_of_both later taken in
     finish size (run_of later) (run_of m) taking cookie cpu (opening cpu (history (run_of m))) t
-    (subst (λ (l : Run). IsLegalRun size ((Event.Poll cookie, Reply.Polled true) ∷ l)) split legal) first
+    (subst (λ (l : Run). IsLegalRun size ((Event.Poll cookie.number cookie.epoch, Reply.Polled true) ∷ l)) split legal) first
     (ap (λ (l : Run). section cpu (history l)) (sym split) ∙ same ∙ first))

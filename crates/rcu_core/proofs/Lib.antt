@@ -1,4 +1,5 @@
 pub mod Changes
+pub mod Clocks
 pub mod Counting
 pub mod Covered
 pub mod Facts

@@ -6,15 +6,15 @@ use Rattle.std.proofs.lemmas.Bool.Decides.{nat_tests}
 use Rattle.std.proofs.lemmas.List.Sums.{sum_by-cons}
 use Rattle.rcu_cblist.specs.declared.queued.Queued.{Queued}
 use Rattle.rcu_cblist.specs.SegList.{Item, Of, Marker, Mark, Unmarked, Until, Done, behind, front, after_migrate}
-use Rattle.rcu_cblist.specs.SegList.{remarked, take_answer, without_mark, after_take, as_it_leaves}
+use Rattle.rcu_cblist.specs.SegList.{remarked, take_answer, without_mark, after_renumber, after_take, as_it_leaves, mark_renumbered}
 use Rattle.rcu_barrier.specs.Tending.{mark_after_tend, after_tend}
 use Rattle.rcu_core.specs.Callbacks.{copies, is_owed, list, queue_count, times_handed_out}
-use Rattle.rcu_core.specs.History.{History, number}
+use Rattle.rcu_core.specs.History.{History, number, tag_now}
 use Rattle.rcu_core.specs.Replies.{Size, fault_in, AreAccepted}
 use Rattle.rcu_core.specs.Situation.{situation}
 use Rattle.rcu_core.specs.Runs.{IsLegalRun, history, Run as Trace}
 use Rattle.rcu_core.specs.declared.event.Event.{Event}
-use Rattle.rcu_core.specs.declared.event.Event.TheVariants.{Offline, Queue, Tend, Run, Visit}
+use Rattle.rcu_core.specs.declared.event.Event.TheVariants.{Offline, Queue, Tend, Run, Visit, Renumber}
 use Rattle.rcu_core.proofs.Kept.{queue_counts}
 use Rattle.rcu_core.proofs.Readers.{possible}
 
@@ -124,7 +124,7 @@ queue_step : (s : Size) (j d y : ℕ) (h : History) → fault_in s (situation h)
     → Once s j (Queue d y ∷ h)
 unfolding total
 queue_step s j d y h p o =
-    let new : Item ℕ = Of (record { ord = queue_count h + 1; at = number h; value = y }) Unmarked in
+    let new : Item ℕ = Of (record { ord = queue_count h + 1; at = tag_now h; value = y }) Unmarked in
     let l : d < s.cpus = grind (arith, nat_tests) in
     let k = one s j d h (Queue d y) (list d h ++ new ∷ []) l (cond_same d (list d h ++ new ∷ []) (list d h))
     (λ c n. cond_other c d (list c h ++ new ∷ []) (list c h) n) in
@@ -201,6 +201,18 @@ offline_step s j d h p =
     let r = lies-leaving j (is_owed d h) (list d h) in
     omega (arith, k, m, a, b, e, q, r)
 
+-- the lists of all processors change, and each holds as many
+sum_same : (n : ℕ) (f g : ℕ → ℕ) → ((c : ℕ) → f c ≡ g c) → sum_below n f ≡ sum_below n g
+sum_same zero f g h = refl
+sum_same (suc n) f g h = let i = sum_same n f g h in let j = h n in omega (arith, i, j)
+
+renumber_step : (s : Size) (j : ℕ) (h : History) → total s.cpus j (Renumber ∷ h) ≡ total s.cpus j h
+unfolding total
+renumber_step s j h =
+    let k = sum_same s.cpus (λ c. lies j (after_renumber (list c h))) (λ c. lies j (list c h))
+    (λ c. lies-remarked j mark_renumbered (list c h)) in
+    omega (arith, k)
+
 same_once : (s : Size) (j : ℕ) (h : History) (e : Event) → total s.cpus j (e ∷ h) ≡ total s.cpus j h
     → queue_count (e ∷ h) ≡ queue_count h → Once s j h → Once s j (e ∷ h)
 same_once s j h e i q o = record {
@@ -218,6 +230,7 @@ once_step s j (Run d m) h p o = same_once s j h (Run d m) (run_step s j d m h p)
 once_step s j (Tend d) h p o = same_once s j h (Tend d) (tend_step s j d h p) refl o
 once_step s j (Visit d) h p o = same_once s j h (Visit d) (visit_step s j d h p) refl o
 once_step s j (Offline d) h p o = same_once s j h (Offline d) (offline_step s j d h p) refl o
+once_step s j Renumber h p o = same_once s j h Renumber (renumber_step s j h) refl o
 once_step s j e h p o = same_once s j h e refl refl o
 
 once_each : (s : Size) (j : ℕ) (h : History) → AreAccepted s h → Once s j h

@@ -7,31 +7,35 @@ use Rattle.std.proofs.lemmas.Bool.Decides.{nat_tests}
 use Rattle.std.proofs.lemmas.List.{length-map}
 use Rattle.std.proofs.lemmas.List.Elements.{All-nil, All-cons, All-head, All-tail, All-push, All-weaker}
 use Rattle.std.proofs.lemmas.List.Elements.{All-take, All-map}
-use Rattle.rcu_seq.specs.Numbers.{Number, snapshot}
+use Rattle.rcu_seq.specs.Numbers.{snapshot}
+use Rattle.rcu_seq.specs.Tags.{clock_of, is_before}
+use Rattle.rcu_cblist.specs.SegList.{mark_renumbered}
 use Rattle.rcu_cblist.specs.declared.queued.Queued.{Queued}
 use Rattle.rcu_cblist.specs.SegList.{Item, Of, Marker, Mark, Unmarked, callbacks, front, after_migrate, remarked}
 use Rattle.rcu_cblist.specs.SegList.{take_answer, after_take}
 use Rattle.rcu_cblist.specs.SegList.{as_it_leaves}
 use Rattle.rcu_barrier.specs.Tending.{mark_after_tend, after_tend}
 use Rattle.rcu_core.specs.Callbacks.{handed_out, is_owed, list, queue_count}
-use Rattle.rcu_core.specs.History.{History, depth, enters, number, opening, section}
+use Rattle.rcu_core.specs.History.{History, depth, enters, epoch, number, opening, section, tag_now}
 use Rattle.rcu_core.specs.Links.{queued_as}
 use Rattle.rcu_core.specs.Replies.{Size, AreAccepted}
 use Rattle.rcu_core.specs.Runs.{IsLegalRun, history, Run as Trace}
 use Rattle.rcu_core.specs.declared.event.Event.{Event}
-use Rattle.rcu_core.specs.declared.event.Event.TheVariants.{Enter, Offline, Queue, Tend, Run, Visit}
+use Rattle.rcu_core.specs.declared.event.Event.TheVariants.{Enter, Offline, Queue, Tend, Run, Visit, Renumber}
 use Rattle.rcu_core.specs.declared.reply.Reply.TheVariants as reply
+use Rattle.rcu_core.proofs.Clocks.{before_where_lower, clock, in_epoch, opening_accepted, renumber_counts}
 use Rattle.rcu_core.proofs.Facts.{Facts, facts}
 use Rattle.rcu_core.proofs.Kept.{queue_counts}
 use Rattle.rcu_core.proofs.Readers.{Open, open_from, possible}
 use Rattle.rcu_core.proofs.Waited.{Waited, all_at, each_cond, each_from, each_front, each_leaving, each_moved}
-use Rattle.rcu_core.proofs.Waited.{front_waited, lists_kept, number_at_queueing, ran_values}
+use Rattle.rcu_core.proofs.Waited.{front_waited, lists_kept, clock_at_queueing, ran_values}
 use Rattle.rcu_core.proofs.Writes.{eqb_self}
 
 -- the callback was queued, and is what it was then
 record AsQueued (h : History) (call : Queued ℕ) : Type 0 where
   pub was : call.ord ≤ queue_count h
   pub found : queued_as call.ord h ≡ Some call
+  pub epoch : call.at.epoch ≤ epoch h
 
 -- the same of an item
 abbrev IsAsQueued : History → Item ℕ → Type 0
@@ -42,8 +46,10 @@ call_stays : (e : Event) (h : History) (call : Queued ℕ) → AsQueued h call �
 call_stays (Queue c y) h call k =
     let n = queue_counts c y h in let w = k.was in
     let other = ne_eqb (queue_count h + 1) call.ord (λ i. absurd (omega (arith, i, w))) in
-    record { was = omega (arith, n, w); found = rw other k.found }
-call_stays _ h call k = record { was = k.was; found = k.found }
+    record { was = omega (arith, n, w); found = rw other k.found; epoch = k.epoch }
+call_stays Renumber h call k =
+    let n = renumber_counts h in let le = k.epoch in record { was = k.was; found = k.found; epoch = omega (arith, n, le) }
+call_stays _ h call k = record { was = k.was; found = k.found; epoch = k.epoch }
 
 stays : (e : Event) (h : History) (x : Item ℕ) → IsAsQueued h x → IsAsQueued (e ∷ h) x
 stays e h (Of call mark) k = call_stays e h call k
@@ -54,15 +60,15 @@ remarked_stays h f (Of call mark) k = k
 remarked_stays h f Marker k = tt
 
 queued_now : (c y : ℕ) (h : History)
-    → AsQueued (Queue c y ∷ h) (record { ord = queue_count h + 1; at = number h; value = y })
+    → AsQueued (Queue c y ∷ h) (record { ord = queue_count h + 1; at = tag_now h; value = y })
 queued_now c y h =
-    let n = queue_counts c y h in record { was = omega (arith, n); found = rw (eqb_self (queue_count h + 1)) refl }
+    let n = queue_counts c y h in record { was = omega (arith, n); found = rw (eqb_self (queue_count h + 1)) refl; epoch = omega arith }
 
 lists_step : (e : Event) (h : History) → ((c : ℕ) → All (IsAsQueued h) (list c h)) → (c : ℕ)
     → All (IsAsQueued (e ∷ h)) (list c (e ∷ h))
 lists_step (Queue d y) h a c =
     let P = IsAsQueued (Queue d y ∷ h) in let b = All-weaker (IsAsQueued h) P (stays (Queue d y) h) (list c h) (a c) in
-    each_cond P (eqb d c) (list c h ++ Of (record { ord = queue_count h + 1; at = number h; value = y }) Unmarked ∷ [])
+    each_cond P (eqb d c) (list c h ++ Of (record { ord = queue_count h + 1; at = tag_now h; value = y }) Unmarked ∷ [])
     (list c h)
     (All-push P (list c h) _ b (queued_now d y h)) b
 lists_step (Tend d) h a c =
@@ -87,6 +93,11 @@ lists_step (Offline d) h a c =
     (each_cond P (eqb c 0) (after_migrate (list c h) xs) (list c h)
     (each_moved P xs (list c h) (remarked_stays (Offline d ∷ h) (λ _. Unmarked))
     (each_leaving P (is_owed d h) (list d h) tt (b d)) (b c)) (b c))
+lists_step Renumber h a c =
+    let P = IsAsQueued (Renumber ∷ h) in let b = All-weaker (IsAsQueued h) P (stays Renumber h) (list c h) (a c) in
+    let change = remarked mark_renumbered in
+    All-map P change (list c h)
+    (All-weaker P (λ x. P (change x)) (remarked_stays (Renumber ∷ h) mark_renumbered) (list c h) b)
 lists_step e h a c = All-weaker (IsAsQueued h) (IsAsQueued (e ∷ h)) (stays e h) (list c h) (a c)
 
 all_as_queued : (h : History) (c : ℕ) → All (IsAsQueued h) (list c h)
@@ -124,54 +135,67 @@ as_many_values s run c m values l =
     same_length values (handed_out c m (history run)) (ran_values s (history run) c m values l.0)
 
 waited_when_handed : (s : Size) (h : History) (c m k : ℕ) (call : Queued ℕ) → AreAccepted s h
-    → slice_get (handed_out c m h) k ≡ Some call → Waited h call
+    → slice_get (handed_out c m h) k ≡ Some call → Waited s h call
 waited_when_handed s h c m k call p e =
-    all_at (Waited h) (handed_out c m h) k call
-    (All-take (Waited h) m (callbacks (front (list c h))) (front_waited h (list c h) (lists_kept s h p c))) e
+    all_at (Waited s h) (handed_out c m h) k call
+    (All-take (Waited s h) m (callbacks (front (list c h))) (front_waited s h (list c h) (lists_kept s h p c))) e
 
-later_number : (at opened now : Number) → snapshot at ≤ now → now < snapshot opened → at < opened
-later_number at opened now l b = omega arith
+later_clock : (at opened now : ℕ) → snapshot at ≤ now → now < snapshot opened → at < opened
+later_clock at opened now l b = omega arith
 
-opened_later : (s : Size) (h x : History) (reader : ℕ) (call : Queued ℕ) → Facts s reader h → Waited h call
-    → Open reader h x → call.at < number x
+opened_later : (s : Size) (h x : History) (reader : ℕ) (call : Queued ℕ) → Facts s reader h → Waited s h call
+    → Open reader h x → clock_of s.last call.at < clock x
 opened_later s h x reader call f w o =
-    let b : number h < snapshot (number x) = rw o.at at (f.below_snap o.deep) in
-    later_number call.at (number x) (number h) w.reached b
+    let b : clock h < snapshot (clock x) = rw o.at at (f.below_snap o.deep) in
+    later_clock (clock_of s.last call.at) (clock x) (clock h) w.reached b
 
--- a section that is open when a callback is handed out was opened at a later number than that of the queueing
-pub readers_are_later : (s : Size) (run : Trace) (c m k reader : ℕ) (call : Queued ℕ) (opened : History)
-    → IsLegalRun s run
-    → slice_get (handed_out c m (history run)) k ≡ Some call → section reader
-    (history run) ≡ Some opened → call.at < number opened
-readers_are_later s run c m k reader call opened l e o =
+opened_later_run : (s : Size) (run : Trace) (c m k reader : ℕ) (call : Queued ℕ) (opened : History) → IsLegalRun s run
+    → slice_get (handed_out c m (history run)) k ≡ Some call → section reader (history run) ≡ Some opened
+    → clock_of s.last call.at < clock opened
+opened_later_run s run c m k reader call opened l e o =
     let p = possible s run l in
     opened_later s (history run) opened reader call (facts s reader (history run) p)
     (waited_when_handed s (history run) c m k call p e)
     (open_from reader (history run) opened o)
 
-pick : (b : Bool) (x y : History) (j n : ℕ) → j ≤ queue_count x → (n < number y → j ≤ queue_count y)
-    → n < number (cond b x y)
+-- a section that is open when a callback is handed out was opened at a later number than that of the queueing
+pub readers_are_later : (s : Size) (run : Trace) (c m k reader : ℕ) (call : Queued ℕ) (opened : History)
+    → IsLegalRun s run
+    → slice_get (handed_out c m (history run)) k ≡ Some call → section reader
+    (history run) ≡ Some opened → is_before call.at (tag_now opened) ≡ true
+readers_are_later s run c m k reader call opened l e o =
+    let p = possible s run l in
+    let x = open_from reader (history run) opened o in
+    let q = subst (λ g. AreAccepted s g) x.at (opening_accepted s reader (history run) p) in
+    before_where_lower s call.at opened q
+    (λ none.
+    let le = (handed_as_queued (history run) c m k call e).epoch in
+    let first = (in_epoch s (history run) p).alone none in omega (arith, le, first))
+    (opened_later_run s run c m k reader call opened l e o)
+
+pick : (b : Bool) (x y : History) (j n : ℕ) → j ≤ queue_count x → (n < clock y → j ≤ queue_count y)
+    → n < clock (cond b x y)
     → j ≤ queue_count (cond b x y)
 pick true x y j n p q l = p
 pick false x y j n p q l = q l
 
--- a section that was opened at a later number than that of a queueing was opened after it
+-- a section that was opened at a later clock than that of a queueing was opened after it
 queued_before : (s : Size) (c j : ℕ) (h : History) → AreAccepted s h → j ≤ queue_count h
-    → number_at_queueing j h < number (opening c h) → j ≤ queue_count (opening c h)
+    → clock_at_queueing j h < clock (opening c h) → j ≤ queue_count (opening c h)
 queued_before s c j [] p q l = q
 queued_before s c j (Enter d ∷ h) p q l =
-    pick (enters c (Enter d) && eqb (depth c h) 0) (Enter d ∷ h) (opening c h) j (number_at_queueing j h) q
+    pick (enters c (Enter d) && eqb (depth c h) 0) (Enter d ∷ h) (opening c h) j (clock_at_queueing j h) q
     (queued_before s c j h p.1 q) l
 queued_before s c j (Queue d y ∷ h) p q l =
     let n = queue_counts d y h in
     let f = (facts s c h p.1).opening_le in
-    let at = λ (b : Bool). cond b (number h) (number_at_queueing j h) in
+    let at = λ (b : Bool). cond b (clock h) (clock_at_queueing j h) in
     elim (cases_eq (queue_count h + 1) j) [
       | inl i ↦
-          let u : number h < number (opening c h) = subst (λ b. at b < number (opening c h)) (same i) l in
+          let u : clock h < clock (opening c h) = subst (λ b. at b < clock (opening c h)) (same i) l in
           absurd (omega (arith, u, f))
       | inr i ↦
-          let before = subst (λ b. at b < number (opening c h)) (ne_eqb (queue_count h + 1) j i) l in
+          let before = subst (λ b. at b < clock (opening c h)) (ne_eqb (queue_count h + 1) j i) l in
           queued_before s c j h p.1 (omega (arith, n, q, i)) before
     ]
   where
@@ -180,7 +204,7 @@ queued_before s c j (Queue d y ∷ h) p q l =
 queued_before s c j (_ ∷ h) p q l = queued_before s c j h p.1 q l
 
 opened_after : (s : Size) (h x : History) (reader : ℕ) (call : Queued ℕ) → AreAccepted s h → AsQueued h call
-    → Waited h call → Open reader h x → call.at < number x
+    → Waited s h call → Open reader h x → clock_of s.last call.at < clock x
     → call.ord ≤ queue_count x
 opened_after s h x reader call p a w o l =
     subst (λ g. call.ord ≤ queue_count g) o.at (queued_before s reader call.ord h p a.was (rw (← w.at, o.at) l))
@@ -193,4 +217,4 @@ readers_are_after s run c m k reader call opened l e o =
     let p = possible s run l in
     opened_after s (history run) opened reader call p (handed_as_queued (history run) c m k call e)
     (waited_when_handed s (history run) c m k call p e)
-    (open_from reader (history run) opened o) (readers_are_later s run c m k reader call opened l e o)
+    (open_from reader (history run) opened o) (opened_later_run s run c m k reader call opened l e o)

@@ -3,10 +3,12 @@ use Rattle.std.proofs.Common.{◌≡◌, ℕ, ◌+◌, ◌<◌, ◌≤◌, Bool,
 use Rattle.std.proofs.Common.{arith, cond, ltb, inl, inr, ◌≢◌}
 use Rattle.std.specs.Prelude.{◌==◌}
 use Rattle.std.proofs.lemmas.Bool.Decides.{nat_tests}
-use Rattle.std.proofs.lemmas.Bool.{ltb-true}
-use Rattle.rcu_seq.specs.Numbers.{is_done_at, number_at, snapshot}
+use Rattle.std.proofs.lemmas.Bool.{and_parts, ltb-true}
+use Rattle.rcu_seq.specs.Numbers.{number_at, snapshot}
+use Rattle.rcu_seq.specs.Tags.{cookie_at, is_done_at}
+use Rattle.rcu_seq.specs.declared.cookie.Cookie.{Cookie}
 use Rattle.rcu_seq.specs.declared.fault.Fault.{Fault}
-use Rattle.rcu_core.specs.History.{History, depth, number, opening, section, is_old, awaits}
+use Rattle.rcu_core.specs.History.{History, depth, opening, running, section, is_old, awaits, tag_now}
 use Rattle.rcu_core.specs.Replies.{Size, fault_in, how_many, accepted_reply, or_fault, waits_for, history_event}
 use Rattle.rcu_core.specs.Replies.{with_event, AreAccepted, IsLegalReply}
 use Rattle.rcu_core.specs.Situation.{Situation, situation, wants_begin}
@@ -15,6 +17,7 @@ use Rattle.rcu_core.specs.declared.event.Event.{Event}
 use Rattle.rcu_core.specs.declared.event.Event.TheVariants.{Turn, Take, StartPoll, Poll, BarTest}
 use Rattle.rcu_core.specs.declared.reply.Reply.{Reply}
 use Rattle.rcu_core.specs.declared.reply.Reply.TheVariants as reply
+use Rattle.rcu_core.proofs.Clocks.{before_ticks, clock, done_ticks, opening_accepted}
 use Rattle.rcu_core.proofs.Facts.{Facts, facts}
 use Rattle.rcu_core.proofs.Recorded.{after_said, after_test, is_test}
 
@@ -66,32 +69,37 @@ pub possible : (s : Size) (run : Run) → IsLegalRun s run → AreAccepted s (hi
 possible s [] l = tt
 possible s (x ∷ run) l = after_legal s (history run) x.0 x.1 l.0 (possible s run l.1)
 
-awaited_from : (s : Size) (c : ℕ) (h : History) → Facts s c h → is_old c h ≡ true → awaits c h ≡ true
-awaited_from s c h f i = let a = f.at_begin in let b = f.unheard in grind (arith, nat_tests)
+awaited_from : (s : Size) (c : ℕ) (h : History) → AreAccepted s h → Facts s c h → is_old c h ≡ true → awaits c h ≡ true
+awaited_from s c h p f i =
+    let runs : running h ≡ true = (and_parts (running h) _ i).0 in
+    let told = before_ticks s (opening c h) h (opening_accepted s c h p) p runs in
+    let a = f.at_begin in let b = f.unheard in grind (arith, nat_tests)
 
 pub old_is_awaited : (s : Size) (run : Run) (c : ℕ) → IsLegalRun s run → is_old c (history run) ≡ true
     → awaits c (history run) ≡ true
-old_is_awaited s run c l i = awaited_from s c (history run) (facts s c (history run) (possible s run l)) i
+old_is_awaited s run c l i =
+    awaited_from s c (history run) (possible s run l) (facts s c (history run) (possible s run l)) i
 
 -- the earlier part of a legal run is one
 pub legal_before : (s : Size) (later earlier : Run) → IsLegalRun s (later ++ earlier) → IsLegalRun s earlier
 legal_before s [] earlier l = l
 legal_before s (x ∷ later) earlier l = legal_before s later earlier l.1
 
-abbrev cookie_in : Reply → ℕ
-cookie_in (reply.Cookie cookie) = cookie.0
-cookie_in _ = 0
+abbrev cookie_in : Reply → Cookie
+cookie_in (reply.Cookie cookie) = cookie
+cookie_in _ = record { epoch = 0; number = 0 }
 
-cookie_is : (s : Size) (h : History) (e : Event) (k : ℕ) → takes e ≡ true
-    → IsLegalReply s (situation h) e (reply.Cookie (record { 0 = k })) → k ≡ snapshot (number h)
+cookie_is : (s : Size) (h : History) (e : Event) (k : Cookie) → takes e ≡ true
+    → IsLegalReply s (situation h) e (reply.Cookie k) → k ≡ cookie_at (tag_now h)
 cookie_is s h Take k t (inl i) = ap (λ r. cookie_in r) i
 cookie_is s h Take k t (inr i) = absurd (cc)
 cookie_is s h StartPoll k t (inl i) = ap (λ r. cookie_in r) i
 cookie_is s h StartPoll k t (inr i) = absurd (cc)
 cookie_is s h _ k t l = absurd (cc)
 
-polled_is : (s : Size) (h : History) (k : ℕ) → IsLegalReply s (situation h) (Poll k) (reply.Polled true)
-    → is_done_at k (number h) ≡ true
+polled_is : (s : Size) (h : History) (k : Cookie)
+    → IsLegalReply s (situation h) (Poll k.number k.epoch) (reply.Polled true)
+    → is_done_at s.last k (tag_now h) ≡ true
 polled_is s h k (inl i) = cc
 polled_is s h k (inr i) = absurd (cc)
 
@@ -107,24 +115,26 @@ pub open_from : (c : ℕ) (h x : History) → section c h ≡ Some x → Open c 
 open_from c h x e = let q = open_if (ltb 0 (depth c h)) (opening c h) x e in
     record { deep = ltb-true _ _ q.0; at = q.1 }
 
-snap_above : (a b n k : ℕ) → a ≤ b → k ≡ snapshot b → n < snapshot a → is_done_at k n ≡ true → ⊥
-snap_above a b n k l e m i = grind (arith, nat_tests)
+snap_above : (a b n : ℕ) → a ≤ b → snapshot b ≤ n → n < snapshot a → ⊥
+snap_above a b n l m i = omega (arith, l, m, i)
 
-ended_from : (s : Size) (c k : ℕ) (g h x : History) → Facts s c g → Facts s c h → k ≡ snapshot (number g)
-    → is_done_at k (number h) ≡ true → Open c g x → Open c h x → ⊥
-ended_from s c k g h x fg fh e i a b =
-    snap_above (number x) (number g) (number h) k (rw a.at at fg.opening_le) e (rw b.at at (fh.below_snap b.deep)) i
+ended_from : (s : Size) (c : ℕ) (k : Cookie) (g h x : History) → AreAccepted s g → AreAccepted s h → Facts s c g → Facts s c h
+    → k ≡ cookie_at (tag_now g) → is_done_at s.last k (tag_now h) ≡ true → Open c g x → Open c h x → ⊥
+ended_from s c k g h x p q fg fh e i a b =
+    snap_above (clock x) (clock g) (clock h) (rw a.at at fg.opening_le) (done_ticks s g h p q (rw e at i))
+    (rw b.at at (fh.below_snap b.deep))
 
-pub done_is_ended : (s : Size) (later earlier : Run) (e : Event) (k c : ℕ) (opened : History) → takes e ≡ true
-    → IsLegalRun s ((Poll k, reply.Polled true) ∷ later ++ (e, reply.Cookie (record { 0 = k })) ∷ earlier)
+pub done_is_ended : (s : Size) (later earlier : Run) (e : Event) (k : Cookie) (c : ℕ) (opened : History) → takes e ≡ true
+    → IsLegalRun s ((Poll k.number k.epoch, reply.Polled true) ∷ later ++ (e, reply.Cookie k) ∷ earlier)
     → section c (history earlier) ≡ Some opened
-    → section c (history (later ++ (e, reply.Cookie (record { 0 = k })) ∷ earlier)) ≢ Some opened
+    → section c (history (later ++ (e, reply.Cookie k) ∷ earlier)) ≢ Some opened
 done_is_ended s later earlier e k c opened t l a b =
-    let taken = (e, reply.Cookie (record { 0 = k })) ∷ earlier in
+    let taken = (e, reply.Cookie k) ∷ earlier in
     let m = legal_before s later taken l.1 in
-    ended_from s c k (history earlier) (history (later ++ taken)) opened
-    (facts s c (history earlier) (possible s earlier m.1))
-    (facts s c (history (later ++ taken)) (possible s (later ++ taken) l.1))
+    let p = possible s earlier m.1 in
+    let q = possible s (later ++ taken) l.1 in
+    ended_from s c k (history earlier) (history (later ++ taken)) opened p q (facts s c (history earlier) p)
+    (facts s c (history (later ++ taken)) q)
     (cookie_is s (history earlier) e k t m.0) (polled_is s (history (later ++ taken)) k l.0)
     (open_from c (history earlier) opened a)
     (open_from c (history (later ++ taken)) opened b)

@@ -49,7 +49,7 @@ after_said s u h Turn n =
     turned_after h u.periods.running (how_many s u.cpus.awaits == 0) (wants_begin u.periods)
     (number_at (u.periods.ends + 1) false) (how_many s u.cpus.awaits) (number_at u.periods.ends true)
     (how_many s u.cpus.online) (turn_reply s u) refl
-after_said s u h (Poll k) n = refl
+after_said s u h (Poll k epoch) n = refl
 after_said s u h (Queue c x) n = refl
 after_said s u h (Tend c) n = refl
 after_said s u h (Run c m) n = refl

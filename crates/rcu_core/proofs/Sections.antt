@@ -2,11 +2,12 @@
 use Rattle.std.proofs.Common.{◌≡◌, ◌≢◌, ℕ, ◌+◌, ◌<◌, ◌≤◌, Bool, true, false, ◌&&◌, ◌∷◌, Some, None, refl}
 use Rattle.std.proofs.Common.{sym, ap, ap₂, ◌∙◌, arith, cond, eqb, ltb, ne_eqb}
 use Rattle.std.proofs.lemmas.Bool.Decides.{nat_tests}
-use Rattle.rcu_core.specs.History.{History, depth, enter_count, exit_count, is_old, number, opening, section}
-use Rattle.rcu_core.specs.Replies.{Size, fault_in, AreAccepted}
-use Rattle.rcu_core.specs.Situation.{situation}
+use Rattle.rcu_core.specs.History.{History, depth, enter_count, exit_count, is_old, opening, running, section}
+use Rattle.rcu_core.specs.Replies.{Size, AreAccepted}
 use Rattle.rcu_core.specs.declared.event.Event.{Event}
 use Rattle.rcu_core.specs.declared.event.Event.TheVariants.{Enter, Exit, Begin}
+use Rattle.std.specs.Prelude.{nat_lt}
+use Rattle.rcu_core.proofs.Clocks.{before_ticks, clock, opening_accepted}
 use Rattle.rcu_core.proofs.Facts.{facts}
 use Rattle.rcu_core.proofs.Kept.{Turns, begin_counts, enter_counts, exit_counts, exits_le, turns}
 use Rattle.rcu_core.proofs.Readers.{open_from}
@@ -95,13 +96,21 @@ kept_by_others h c (Exit d) n m =
     same_section c (Exit d ∷ h) h (omega (arith, counts, none)) refl
 kept_by_others h c _ n m = refl
 
-old_at_begin : (s : Size) (c : ℕ) (h : History) → fault_in s (situation h) Begin ≡ None → Turns h
-    → number (opening c h) ≤ number h → 0 < depth c h → is_old c (Begin ∷ h) ≡ true
+old_at_begin : (s : Size) (c : ℕ) (h : History) → AreAccepted s (Begin ∷ h) → Turns h
+    → clock (opening c h) ≤ clock h → 0 < depth c h → is_old c (Begin ∷ h) ≡ true
 old_at_begin s c h p t o l =
-    let n = begin_counts h in let a = t.ends_le in let b = t.begins_le in grind (arith, nat_tests)
+    let n = begin_counts h in let a = t.ends_le in let b = t.begins_le in let q = p.0 in
+    let runs : running (Begin ∷ h) ≡ true = grind (arith, nat_tests) in
+    let higher : nat_lt (clock (opening c h)) (clock (Begin ∷ h)) ≡ true = grind (arith, nat_tests) in
+    let deep : nat_lt 0 (depth c h) ≡ true = grind (arith, nat_tests) in
+    let told = before_ticks s (opening c h) (Begin ∷ h) (opening_accepted s c h p.1) p runs in
+    all_three (running (Begin ∷ h)) (nat_lt 0 (depth c h)) _ runs deep (told ∙ higher)
+  where
+    all_three : (a b d : Bool) → a ≡ true → b ≡ true → d ≡ true → (a && (b && d)) ≡ true
+    all_three a b d i j k = rw (i, j, k) refl
 
 -- one that is open at a begin is old after it
 pub old_after_begin : (s : Size) (h opened : History) (c : ℕ) → AreAccepted s (Begin ∷ h) → section c h ≡ Some opened
     → is_old c (Begin ∷ h) ≡ true
 old_after_begin s h opened c p i =
-    old_at_begin s c h p.0 (turns s h p.1) (facts s c h p.1).opening_le (open_from c h opened i).deep
+    old_at_begin s c h p (turns s h p.1) (facts s c h p.1).opening_le (open_from c h opened i).deep

@@ -9,8 +9,9 @@ use Rattle.rcu_seq.specs.Numbers.{number_at}
 use Rattle.rcu_hotplug.specs.Hotplug.{cpus_of}
 use Rattle.rcu_cpu.specs.CpuData.{Call, after_call}
 use Rattle.rcu_cpu.specs.CpuData.{Processor, at_first as made_processor}
-use Rattle.rcu_seq.specs.Seq.{number_of}
-use Rattle.rcu_core.specs.History.{History, number}
+use Rattle.rcu_seq.specs.Seq.{number_of, tag_of}
+use Rattle.rcu_seq.specs.declared.tag.Tag.{Tag}
+use Rattle.rcu_core.specs.History.{History, number, tag_now}
 use Rattle.rcu_core.specs.Replies.{Size, fault_in, AreAccepted}
 use Rattle.rcu_core.specs.Situation.{CpuSituation, situation}
 use Rattle.rcu_core.specs.Core.{State, IsSound, Represents, size_at, says, processor, with_cpu, processor_in}
@@ -19,7 +20,7 @@ use Rattle.rcu_core.specs.declared.event.Event.{Event}
 -- a state in the situation of a history says what that situation says
 pub same : (v : State ℕ) (h : History) → Represents v h → says v ≡ situation h
 same v h x = λ i. record {
-  periods = record { ends = x.periods.ends i; running = x.periods.running i; needed = x.periods.needed i };
+  periods = record { epoch = x.periods.epoch i; ends = x.periods.ends i; running = x.periods.running i; needed = x.periods.needed i };
   cpus = record {
     online = λ c. x.cpus.online c i;
     awaits = λ c. x.cpus.awaits c i;
@@ -35,8 +36,14 @@ same v h x = λ i. record {
   };
 }
 
+abbrev the_tag : ℕ → ℕ → Tag
+the_tag e n = record { epoch = e; number = n }
+
 pub number_same : (v : State ℕ) (h : History) → Represents v h → number_of v.grace.seq ≡ number h
 number_same v h x = ap₂ (λ n r. number_at n r) x.periods.ends x.periods.running
+
+pub tag_same : (v : State ℕ) (h : History) → Represents v h → tag_of v.grace.seq ≡ tag_now h
+tag_same v h x = ap₂ (λ (e n : ℕ). the_tag e n) x.periods.epoch (number_same v h x)
 
 -- one processor changes, and the others stay
 pub one_changed : (cpus : List Processor) (u w : CpuSituation) (c : ℕ) (call : Call) → c < length cpus →

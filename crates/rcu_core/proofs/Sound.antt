@@ -5,18 +5,19 @@ use Rattle.std.specs.Prelude.{◌==◌, All}
 use Rattle.std.specs.List.{range_with_len}
 use Rattle.std.proofs.lemmas.Bool.{cases_eq, cases_lt}
 use Rattle.std.proofs.lemmas.List.{get_or_read_under, get_or-set_same, get_or-set_other, get_or_past}
-use Rattle.std.proofs.lemmas.List.{length-replicate, length-set}
+use Rattle.std.proofs.lemmas.List.{length-map, length-replicate, length-set}
+use Rattle.rcu_cblist.specs.SegList.{after_renumber as list_renumbered}
 use Rattle.std.proofs.lemmas.List.Elements.{All-append}
 use Rattle.std.proofs.lemmas.List.FromFn.{get_or-map-range_with_len, length-map-range_with_len, map-range_with_len_more}
-use Rattle.rcu_seq.specs.Numbers.{same_number}
+use Rattle.rcu_seq.specs.Tags.{same_tag}
 use Rattle.rcu_node.specs.CpuSet.{is_in}
 use Rattle.rcu_node.proofs.CpuSetLemmas.{length-remove_where}
 use Rattle.rcu_report.specs.declared.report.Report.{Report}
 use Rattle.rcu_hotplug.specs.Hotplug.{cpus_of}
 use Rattle.rcu_cpu.specs.CpuData.{Processor, at_first as made_processor, report_of}
 use Rattle.rcu_cblist.specs.SegList.{Item}
-use Rattle.rcu_seq.specs.Seq.{number_of}
-use Rattle.rcu_core.specs.GpState.{Grace, after_begin, after_end, after_report, after_turn, at_first, awaited_after}
+use Rattle.rcu_seq.specs.Seq.{tag_of}
+use Rattle.rcu_core.specs.GpState.{Grace, after_begin, after_end, after_renumber, after_report, after_turn, at_first, awaited_after}
 use Rattle.rcu_core.specs.GpState.{awaited_in, periods_of}
 use Rattle.rcu_core.specs.Situation.{wants_begin}
 use Rattle.rcu_core.specs.Core.{State, IsSound, processor, size_at}
@@ -41,10 +42,10 @@ pub length-awaited_after : (g : Grace ℕ) (report : Report)
 length-awaited_after g report = go g.seq.running
   where
     go : (b : Bool) → length
-        (cond b (cond (same_number report.tag (number_of g.seq))
+        (cond b (cond (same_tag report.tag (tag_of g.seq))
         (slice_set g.processors.awaited report.cpu false) g.processors.awaited) g.processors.awaited)
         ≡ length g.processors.awaited
-    go true = length-remove_where (same_number report.tag (number_of g.seq)) g.processors.awaited report.cpu
+    go true = length-remove_where (same_tag report.tag (tag_of g.seq)) g.processors.awaited report.cpu
     go false = refl
 
 -- after a report
@@ -71,6 +72,21 @@ sound_turned v g e s =
     go true false d = s
     go false b true = sound_begun v (after_begin v.grace) refl s
     go false b false = s
+
+-- as the numbers start anew
+pub sound_renumbered : (v : State ℕ) (g : Grace ℕ) → g ≡ after_renumber v.grace → IsSound v
+    → IsSound (record v { grace = g })
+sound_renumbered v g e s =
+    subst (λ (x : Grace ℕ). IsSound (record v { grace = x })) (sym e)
+    (record {
+      flags = s.flags;
+      sized = s.sized;
+      placed = s.placed;
+      present = s.present;
+      listed = length-map v.grace.lists.lists list_renumbered ∙ s.listed;
+      visits = s.visits;
+      made = s.made;
+    })
 
 all_one : {X : Type 0} (P : X → Type 0) (x : X) → P x → All P (x ∷ [])
 all_one P x p zero d l = p

@@ -4,7 +4,8 @@ use Rattle.std.proofs.Common.{Some, None, refl, sym, ap, ap₂, ◌∙◌, arith
 use Rattle.std.specs.Prelude.{nat_lt, ◌==◌, if◌then◌else◌}
 use Rattle.std.proofs.lemmas.Bool.Decides.{nat_tests}
 use Rattle.std.proofs.lemmas.List.{get_or-set_same}
-use Rattle.rcu_seq.specs.Numbers.{same_number}
+use Rattle.rcu_seq.specs.Numbers.{is_last, same_number}
+use Rattle.rcu_seq.specs.Tags.{last_epoch, same_tag}
 use Rattle.rcu_seq.specs.declared.fault.Fault.{Fault}
 use Rattle.rcu_seq.specs.declared.fault.Fault.TheVariants as fault
 use Rattle.rcu_node.specs.CpuSet.{is_in, size_of}
@@ -18,16 +19,16 @@ use Rattle.rcu_barrier.specs.Lists.{barrier_left, list_of, barrier_test_answer}
 use Rattle.rcu_barrier.specs.Tending.{after_tend}
 use Rattle.rcu_barrier.specs.declared.barrier_state.BarrierState.{BarrierState}
 use Rattle.rcu_barrier.specs.declared.barrier_state.BarrierState.TheVariants as barrier
-use Rattle.rcu_seq.specs.Seq.{number_of}
+use Rattle.rcu_seq.specs.Seq.{number_of, tag_of}
 use Rattle.rcu_core.specs.GpState.{after_begin, after_end, after_report, awaited_in, begin_refusal, end_refusal}
-use Rattle.rcu_core.specs.GpState.{periods_of, report_answer_in, turn_answer, turn_refusal}
+use Rattle.rcu_core.specs.GpState.{periods_of, renumber_refusal, report_answer_in, turn_answer, turn_refusal}
 use Rattle.rcu_core.specs.Situation.{wants_begin}
 use Rattle.rcu_core.specs.History.{report_at}
 use Rattle.rcu_core.specs.Replies.{fault_in, accepted_reply, or_fault, how_many, answer_to_report, waits_for}
 use Rattle.rcu_core.specs.Core.{State, IsSound, StepsLegally, says, after_event, after_reply, size_at}
 use Rattle.rcu_core.specs.declared.event.Event.{Event}
 use Rattle.rcu_core.specs.declared.event.Event.TheVariants.{Deliver, Begin, End, Turn, Awaits, Tend}
-use Rattle.rcu_core.specs.declared.event.Event.TheVariants.{BarTest}
+use Rattle.rcu_core.specs.declared.event.Event.TheVariants.{BarTest, Renumber}
 use Rattle.rcu_core.specs.declared.reply.Reply.{Reply}
 use Rattle.rcu_core.specs.declared.reply.Reply.TheVariants as reply
 use Rattle.rcu_core.specs.declared.turned.Turned.{Turned}
@@ -144,7 +145,7 @@ answer_said : (v : State ℕ) (report : Report)
     → report_answer_in v.grace report ≡ answer_to_report (size_at v) (says v) (Some report)
 answer_said v report =
     let g = v.grace in
-    let same = same_number report.tag (number_of g.seq) in
+    let same = same_tag report.tag (tag_of g.seq) in
     heard_so g.seq.running same (cond (not (is_in g.processors.awaited report.cpu)) Repeat
     (cond (awaited_in g == 1) Last Taken))
     ∙ ap (λ n. cond (not (g.seq.running && same)) Stale
@@ -217,3 +218,21 @@ does_test v w found s runs same kept =
           ∙ ap (λ m. cond (m == 0) reply.BarDone (reply.BarWaits m)) (sym (waits_said v s runs))));
       left = kept ∙ sym (left_test v found);
     }
+
+-- the numbers start anew: the last number of a state is one
+renumber_fault : (v : State ℕ) → is_last v.grace.seq.last ≡ true
+    → fault_in (size_at v) (says v) Renumber ≡ renumber_refusal v.grace
+renumber_fault v l = ap (λ (b : Bool). cond v.grace.seq.running (Some fault.Running)
+    (cond (not (b && same_number (number_of v.grace.seq) v.grace.seq.last)) (Some fault.NotLast)
+    (cond (v.grace.seq.epoch == last_epoch) (Some fault.Exhausted) None))) l
+
+pub does_renumber : (v w : State ℕ) (n : ℕ) → is_last v.grace.seq.last ≡ true → renumber_refusal v.grace ≡ None
+    → n ≡ v.grace.seq.epoch + 1 → w ≡ after_event v Renumber → StepsLegally v Renumber (reply.Renumbered n) w
+does_renumber v w n l none is kept = record {
+  legal = inl (says_so v Renumber (reply.Renumbered n) (renumber_fault v l ∙ none) (ap (λ x. reply.Renumbered x) is));
+  left = kept;
+}
+
+pub refuses_renumber : (v w : State ℕ) (f : Fault) → is_last v.grace.seq.last ≡ true → renumber_refusal v.grace ≡ Some f
+    → w ≡ v → StepsLegally v Renumber (reply.Fault f) w
+refuses_renumber v w f l found kept = does_refuse v w Renumber f (renumber_fault v l ∙ found) kept

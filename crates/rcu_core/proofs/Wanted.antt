@@ -13,11 +13,11 @@ use Rattle.rcu_cblist.specs.declared.queued.Queued.{Queued}
 use Rattle.rcu_cblist.specs.SegList.{Item, Of, Marker, Unmarked, after_migrate, after_take, begins_with_marker}
 use Rattle.rcu_cblist.specs.SegList.{callbacks, is_empty, take_answer}
 use Rattle.rcu_cblist.proofs.SegListLemmas.{first_from, first_moved, first_queued, first_remarked}
-use Rattle.rcu_cblist.specs.SegList.{as_it_leaves}
+use Rattle.rcu_cblist.specs.SegList.{as_it_leaves, mark_renumbered}
 use Rattle.rcu_barrier.specs.Tending.{mark_after_tend, after_tend}
 use Rattle.rcu_barrier.specs.declared.visit.Visit.TheVariants.{Marked, Empty, Already}
 use Rattle.rcu_core.specs.Callbacks.{is_owed, list, queue_count}
-use Rattle.rcu_core.specs.History.{History, awaits, number}
+use Rattle.rcu_core.specs.History.{History, awaits, number, tag_now}
 use Rattle.rcu_core.specs.Links.{holds}
 use Rattle.rcu_core.specs.Replies.{Size, accepted_reply, answer, causes, or_fault}
 use Rattle.rcu_core.specs.Situation.{Situation, situation}
@@ -25,7 +25,7 @@ use Rattle.rcu_core.specs.Replies.{stores, IsLegalReply}
 use Rattle.rcu_core.specs.declared.event.Event.{Event}
 use Rattle.rcu_core.specs.declared.event.Event.TheVariants.{Enter, Quiesce, Offline}
 use Rattle.rcu_core.specs.declared.event.Event.TheVariants.{Turn, Awaits, Queue, Tend, Run}
-use Rattle.rcu_core.specs.declared.event.Event.TheVariants.{Visit, BarTest}
+use Rattle.rcu_core.specs.declared.event.Event.TheVariants.{Visit, BarTest, Renumber}
 use Rattle.rcu_core.specs.declared.reply.Reply.{Reply}
 use Rattle.rcu_core.specs.declared.reply.Reply.TheVariants as reply
 
@@ -90,9 +90,9 @@ unled_leaving true (x ∷ xs) i = i
 unled : (h : History) (c : ℕ) → begins_with_marker (list c h) ≡ false
 unled [] c = refl
 unled (Queue d y ∷ h) c =
-    unled_if (eqb d c) (list c h ++ Of (record { ord = queue_count h + 1; at = number h; value = y }) Unmarked ∷ [])
+    unled_if (eqb d c) (list c h ++ Of (record { ord = queue_count h + 1; at = tag_now h; value = y }) Unmarked ∷ [])
     (list c h)
-    (first_queued (list c h) (record { ord = queue_count h + 1; at = number h; value = y }) Unmarked (unled h c))
+    (first_queued (list c h) (record { ord = queue_count h + 1; at = tag_now h; value = y }) Unmarked (unled h c))
     (unled h c)
 unled (Tend d ∷ h) c =
     unled_if (eqb d c) (after_tend (list c h) (number h)) (list c h)
@@ -108,6 +108,7 @@ unled (Offline d ∷ h) c =
     unled_if (eqb d c) [] (cond (eqb c 0) (after_migrate (list c h) xs) (list c h)) refl
     (unled_if (eqb c 0) (after_migrate (list c h) xs) (list c h)
     (first_moved xs (list c h) (unled_leaving (is_owed d h) (list d h) (unled h d)) (unled h c)) (unled h c))
+unled (Renumber ∷ h) c = first_remarked mark_renumbered (list c h) ∙ unled h c
 unled (_ ∷ h) c = unled h c
 
 above : (n : ℕ) → ltb 0 (suc n) ≡ true

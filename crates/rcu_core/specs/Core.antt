@@ -1,7 +1,7 @@
 -- What the engine holds, and how it says what a history says.
 use Rattle.std.specs.Prelude.{ℕ, ◌<◌, ◌≡◌, Bool, false, List, [], ◌∷◌, ◌++◌, length, slice_index_or, slice_set, All}
 use Rattle.std.specs.Prelude.{Option, Some, None}
-use Rattle.rcu_seq.specs.Seq.{number_of}
+use Rattle.rcu_seq.specs.Seq.{tag_of}
 use Rattle.rcu_seq.specs.declared.fault.Fault.{Fault}
 use Rattle.rcu_node.specs.CpuSet.{is_in}
 use Rattle.rcu_report.specs.declared.report.Report.{Report}
@@ -19,7 +19,7 @@ use Rattle.rcu_core.specs.Situation.{periods_in, cpus_in, calls_in, situation}
 use Rattle.rcu_core.specs.declared.event.Event.{Event}
 use Rattle.rcu_core.specs.declared.event.Event.TheVariants.{Enter, Exit, Note, Quiesce, Deliver, Online, Offline, Begin}
 use Rattle.rcu_core.specs.declared.event.Event.TheVariants.{End, Turn, Awaits, Take, StartPoll, Poll, Queue, Tend, Run}
-use Rattle.rcu_core.specs.declared.event.Event.TheVariants.{BarBegin, Visit, BarTest}
+use Rattle.rcu_core.specs.declared.event.Event.TheVariants.{BarBegin, Visit, BarTest, Renumber}
 use Rattle.rcu_core.specs.declared.reply.Reply.{Reply}
 use Rattle.rcu_core.specs.declared.reply.Reply.TheVariants as reply
 
@@ -83,13 +83,13 @@ awaited_by g (Some report) = grace.awaited_after g report
 abbrev pub after_event : State ℕ → Event → State ℕ
 after_event v (Enter cpu) = record v { cpus = with_cpu v.cpus cpu cpu_data.Enter }
 after_event v (Exit cpu) = record v { cpus = with_cpu v.cpus cpu cpu_data.Exit }
-after_event v (Note cpu) = record v { cpus = with_cpu v.cpus cpu (cpu_data.Note (number_of v.grace.seq)) }
+after_event v (Note cpu) = record v { cpus = with_cpu v.cpus cpu (cpu_data.Note (tag_of v.grace.seq)) }
 after_event v (Quiesce cpu) = record v { made = v.made ++ report_of (processor v.cpus cpu) ∷ [] }
 after_event v (Deliver place) =
     record v { grace = grace.with_awaited v.grace (awaited_by v.grace (report_at place v.made)) }
 after_event v (Online cpu) = record v {
   grace = grace.with_call v.grace (Arrives cpu);
-  cpus = with_cpu v.cpus cpu (cpu_data.Arrive (number_of v.grace.seq));
+  cpus = with_cpu v.cpus cpu (cpu_data.Arrive (tag_of v.grace.seq));
 }
 after_event v (Offline cpu) = record v {
   grace = grace.with_call (grace.after_migrate v.grace cpu) (Departs cpu);
@@ -101,13 +101,14 @@ after_event v Turn = record v { grace = grace.after_turn v.grace }
 after_event v Awaits = v
 after_event v Take = v
 after_event v StartPoll = record v { grace = grace.after_start_poll v.grace }
-after_event v (Poll cookie) = v
+after_event v (Poll number epoch) = v
 after_event v (Queue cpu value) = record v { grace = grace.after_queue v.grace cpu value }
 after_event v (Tend cpu) = record v { grace = grace.after_tend v.grace cpu }
 after_event v (Run cpu most) = record v { grace = grace.after_run v.grace cpu most }
 after_event v BarBegin = record v { grace = grace.after_barrier_begin v.grace }
 after_event v (Visit cpu) = record v { grace = grace.after_visit v.grace cpu }
 after_event v BarTest = record v { grace = grace.after_barrier_test v.grace }
+after_event v Renumber = record v { grace = grace.after_renumber v.grace }
 
 -- what an event and its reply leave: a refused event changes nothing
 abbrev pub after_reply : State ℕ → Event → Reply → State ℕ
@@ -125,6 +126,7 @@ Refuses v e fault w = StepsLegally v e (reply.Fault fault) w
 
 -- the counter and the needed number are as a situation says
 pub record RepresentsPeriods (p u : PeriodSituation) : Type 0 where
+  pub epoch : p.epoch ≡ u.epoch
   pub ends : p.ends ≡ u.ends
   pub running : p.running ≡ u.running
   pub needed : p.needed ≡ u.needed

@@ -2,7 +2,9 @@
 use Rattle.std.specs.Prelude.{ℕ, ◌+◌, ◌≤◌, ◌≡◌, ◌==◌, ◌&&◌, Bool, true, false, not, max, nat_lt, if◌then◌else◌}
 use Rattle.std.specs.Prelude.{List, [], ◌∷◌, All, Option, Some, None}
 use Rattle.rcu_seq.specs.Numbers.{Number, same_number, snapshot}
-use Rattle.rcu_seq.specs.Seq.{Periods, number_of, snapshot_of}
+use Rattle.rcu_seq.specs.Tags.{last_epoch}
+use Rattle.rcu_seq.specs.declared.tag.Tag.{Tag}
+use Rattle.rcu_seq.specs.Seq.{Periods, cookie_of, number_of, renumbered, tag_of}
 use Rattle.rcu_seq.specs.declared.fault.Fault.{Fault}
 use Rattle.rcu_seq.specs.declared.fault.Fault.TheVariants as fault
 use Rattle.rcu_node.specs.CpuSet.{size_of}
@@ -28,19 +30,31 @@ pub record Grace (X : Type 0) : Type 0 where
   pub processors : Processors
   pub lists : AllLists X
 
--- a callback that was queued at a number has this mark at another one: it was queued at no later one; what it waits for
--- is no sooner than the snapshot of its queueing and no later than that of now; and where it is done, the number has
--- reached the snapshot of its queueing
-abbrev pub IsTimely : Number → Number → Mark → Type 0
-IsTimely number at Unmarked = at ≤ number
-IsTimely number at (Until n) = (at ≤ number) × (snapshot at ≤ n) × (n ≤ snapshot number)
-IsTimely number at Done = (at ≤ number) × (snapshot at ≤ number)
+-- a callback was queued no later than now
+abbrev pub IsNoLater : Tag → Tag → Type 0
+IsNoLater now at = (at.epoch ≤ now.epoch) × (at.epoch ≡ now.epoch → at.number ≤ now.number)
+
+-- where a callback was queued in this epoch, the snapshot of its queueing is at most a number
+abbrev pub IsDue : Tag → Tag → Number → Type 0
+IsDue now at n = at.epoch ≡ now.epoch → snapshot at.number ≤ n
+
+-- a callback that was queued at one tag has this mark at another: it was queued no later; what it waits for is no sooner
+-- than the snapshot of its queueing, if that was in this epoch, and no later than that of now; and where it is done, the
+-- number has reached the snapshot of its queueing, if that was in this epoch
+abbrev pub IsTimely : Tag → Tag → Mark → Type 0
+IsTimely now at Unmarked = IsNoLater now at
+IsTimely now at (Until n) = IsNoLater now at × IsDue now at n × (n ≤ snapshot now.number)
+IsTimely now at Done = IsNoLater now at × IsDue now at now.number
+
+-- a callback was queued in an epoch before, or the number has reached the snapshot of its queueing
+abbrev pub HasWaited : Tag → Tag → Type 0
+HasWaited now at = (at.epoch ≤ now.epoch) × IsDue now at now.number
 
 module _ {X : Type 0} where
   -- before any call nothing ran, nothing is needed, processor 0 alone is online, and the lists are empty
   abbrev pub at_first : ℕ → Number → Grace X
   at_first cpus last = record {
-    seq = record { ends = 0; running = false; last = last };
+    seq = record { epoch = 0; ends = 0; running = false; last = last };
     needed = 0;
     processors = hotplug.at_first cpus;
     lists = lists.at_first cpus;
@@ -60,10 +74,10 @@ module _ {X : Type 0} where
       if g.seq.running then Some fault.Running
       else (if same_number (number_of g.seq) g.seq.last then Some fault.Exhausted else None)
 
-  -- a grace period began: it awaits the online processors, and its tag is the number
+  -- a grace period began: it awaits the online processors, and its tag is that of now
   abbrev pub after_begin : Grace X → Grace X
   after_begin g =
-      let seq = record g.seq { running = true } in record (with_call g (Begin (number_of seq))) { seq = seq }
+      let seq = record g.seq { running = true } in record (with_call g (Begin (tag_of seq))) { seq = seq }
 
   -- why none ends: none runs, or a processor is awaited
   abbrev pub end_refusal : Grace X → Option Fault
@@ -78,12 +92,12 @@ module _ {X : Type 0} where
   -- the answer to a report: while no grace period runs each is stale
   abbrev pub report_answer_in : Grace X → Report → Answer
   report_answer_in g report =
-      if g.seq.running then report_answer (number_of g.seq) g.processors.awaited report.cpu report.tag else Stale
+      if g.seq.running then report_answer (tag_of g.seq) g.processors.awaited report.cpu report.tag else Stale
 
   -- who is awaited after a report: one that is not stale clears its processor
   abbrev pub awaited_after : Grace X → Report → List Bool
   awaited_after g report =
-      if g.seq.running then awaited_after_report (number_of g.seq) g.processors.awaited report.cpu report.tag
+      if g.seq.running then awaited_after_report (tag_of g.seq) g.processors.awaited report.cpu report.tag
       else g.processors.awaited
 
   -- with these processors awaited
@@ -94,9 +108,9 @@ module _ {X : Type 0} where
   abbrev pub after_report : Grace X → Report → Grace X
   after_report g report = with_awaited g (awaited_after g report)
 
-  -- the report of a processor that has the number as its tag
+  -- the report of a processor that noted the tag of now
   abbrev pub own_report : Grace X → ℕ → Report
-  own_report g cpu = record { cpu = cpu; tag = number_of g.seq }
+  own_report g cpu = record { cpu = cpu; tag = tag_of g.seq }
 
   -- the answer to that report
   abbrev pub hear_answer : Grace X → ℕ → Answer
@@ -108,7 +122,7 @@ module _ {X : Type 0} where
 
   -- what its counter and its needed number say
   abbrev pub periods_of : Grace X → PeriodSituation
-  periods_of g = record { ends = g.seq.ends; running = g.seq.running; needed = g.needed }
+  periods_of g = record { epoch = g.seq.epoch; ends = g.seq.ends; running = g.seq.running; needed = g.needed }
 
   -- why a turn is refused: it would begin a grace period, and the number is the last one
   abbrev pub turn_refusal : Grace X → Option Fault
@@ -131,15 +145,15 @@ module _ {X : Type 0} where
 
   -- a poll was started: the number of its cookie is needed
   abbrev pub after_start_poll : Grace X → Grace X
-  after_start_poll g = record g { needed = max g.needed (snapshot_of g.seq) }
+  after_start_poll g = record g { needed = max g.needed (cookie_of g.seq).number }
 
   -- with the lists changed
   abbrev pub on_lists : (AllLists X → AllLists X) → Grace X → Grace X
   on_lists change g = record g { lists = change g.lists }
 
-  -- a callback was queued on a processor, at the number
+  -- a callback was queued on a processor, at the tag of now
   abbrev pub after_queue : Grace X → ℕ → X → Grace X
-  after_queue g cpu value = on_lists (λ all. lists.lists_after_queue all cpu (number_of g.seq) value) g
+  after_queue g cpu value = on_lists (λ all. lists.lists_after_queue all cpu (tag_of g.seq) value) g
 
   -- a processor's list was tended at the number; what it then waits for is needed
   abbrev pub after_tend : Grace X → ℕ → Grace X
@@ -166,15 +180,30 @@ module _ {X : Type 0} where
   abbrev pub after_barrier_test : Grace X → Grace X
   after_barrier_test g = on_lists lists.lists_after_barrier_test g
 
-  -- each callback of the list is timely at the number
-  abbrev pub AreTimely : Number → List (Item X) → Type 0
-  AreTimely number [] = Unit {0}
-  AreTimely number (Of call mark ∷ xs) = IsTimely number call.at mark × AreTimely number xs
-  AreTimely number (Marker ∷ xs) = AreTimely number xs
+  -- why the numbers do not start anew: a grace period runs, the number is not the last one, or the epoch is the last one
+  abbrev pub renumber_refusal : Grace X → Option Fault
+  renumber_refusal g =
+      if g.seq.running then Some fault.Running
+      else (if not (same_number (number_of g.seq) g.seq.last) then Some fault.NotLast
+      else (if g.seq.epoch == last_epoch then Some fault.Exhausted else None))
 
-  -- what always holds: a list for each processor; while a grace period runs, its number is the tag of the awaited set;
-  -- and each callback is timely at the number
+  -- the numbers start anew in the next epoch: what waits has none, and what was needed above the number, which was the
+  -- last one, is the first grace period of this epoch
+  abbrev pub after_renumber : Grace X → Grace X
+  after_renumber g = record (on_lists lists.lists_after_renumber g) {
+    seq = renumbered g.seq;
+    needed = if nat_lt (number_of g.seq) g.needed then 4 else 0;
+  }
+
+  -- each callback of the list is timely now
+  abbrev pub AreTimely : Tag → List (Item X) → Type 0
+  AreTimely now [] = Unit {0}
+  AreTimely now (Of call mark ∷ xs) = IsTimely now call.at mark × AreTimely now xs
+  AreTimely now (Marker ∷ xs) = AreTimely now xs
+
+  -- what always holds: a list for each processor; while a grace period runs, the tag of now is that of the awaited set;
+  -- and each callback is timely at it
   pub record IsSound (g : Grace X) : Type 0 where
-    pub tag : g.seq.running ≡ true → g.processors.tag ≡ number_of g.seq
+    pub tag : g.seq.running ≡ true → g.processors.tag ≡ tag_of g.seq
     pub sized : lists.cpus_of g.lists ≡ hotplug.cpus_of g.processors
-    pub timely : All (AreTimely (number_of g.seq)) g.lists.lists
+    pub timely : All (AreTimely (tag_of g.seq)) g.lists.lists

@@ -1,13 +1,15 @@
 -- What the accepted events so far say. A history is the list of the accepted events, the newest first. So the
 -- history as it was at an earlier event is the part of the list from that event on. A turn that began or ended a
 -- grace period stands in it as that begin or end.
-use Rattle.std.specs.Prelude.{ℕ, ◌-◌, ◌==◌, Bool, true, false, not, ◌&&◌, nat_lt, if◌then◌else◌}
+use Rattle.std.specs.Prelude.{ℕ, ◌+◌, ◌-◌, ◌==◌, Bool, true, false, not, ◌&&◌, nat_lt, if◌then◌else◌}
 use Rattle.std.specs.Prelude.{List, [], ◌∷◌, ◌++◌, count_by, slice_get, Option, Some, None}
 use Rattle.rcu_seq.specs.Histories.{is_on, latest, some_since}
-use Rattle.rcu_seq.specs.Numbers.{Number, number_at, same_number}
+use Rattle.rcu_seq.specs.Numbers.{Number, number_at}
+use Rattle.rcu_seq.specs.Tags.{first_tag, is_before, same_tag}
+use Rattle.rcu_seq.specs.declared.tag.Tag.{Tag}
 use Rattle.rcu_core.specs.declared.event.Event.{Event}
 use Rattle.rcu_core.specs.declared.event.Event.TheVariants.{Enter, Exit, Note, Quiesce, Deliver, Online, Offline, Begin}
-use Rattle.rcu_core.specs.declared.event.Event.TheVariants.{End}
+use Rattle.rcu_core.specs.declared.event.Event.TheVariants.{End, Renumber}
 use Rattle.rcu_report.specs.declared.report.Report.{Report}
 
 abbrev pub History : Type 0
@@ -22,6 +24,11 @@ begins _ = false
 abbrev pub ends : Event → Bool
 ends End = true
 ends _ = false
+
+-- the numbers start anew
+abbrev pub renumbers : Event → Bool
+renumbers Renumber = true
+renumbers _ = false
 
 -- the processor arrives
 abbrev pub arrives : ℕ → Event → Bool
@@ -43,7 +50,7 @@ abbrev pub exits : ℕ → Event → Bool
 exits cpu (Exit c) = c == cpu
 exits cpu _ = false
 
--- the processor takes down the number: at a note, and at its arrival
+-- the processor takes down the tag of now: at a note, and at its arrival
 abbrev pub notes : ℕ → Event → Bool
 notes cpu (Note c) = c == cpu
 notes cpu (Online c) = c == cpu
@@ -53,18 +60,33 @@ notes cpu _ = false
 abbrev pub running : History → Bool
 running h = nat_lt (count_by ends h) (count_by begins h)
 
--- the grace-period number: four for each end, and one more while a grace period runs
+-- the epoch: how often the numbers started anew
+abbrev pub epoch : History → ℕ
+epoch h = count_by renumbers h
+
+-- how many grace periods ended in the epoch, that is, since the numbers last started anew
+abbrev pub ends_in_epoch : History → ℕ
+ends_in_epoch [] = 0
+ends_in_epoch (End ∷ h) = ends_in_epoch h + 1
+ends_in_epoch (Renumber ∷ h) = 0
+ends_in_epoch (_ ∷ h) = ends_in_epoch h
+
+-- the grace-period number: four for each end in the epoch, and one more while a grace period runs
 abbrev pub number : History → Number
-number h = number_at (count_by ends h) (running h)
+number h = number_at (ends_in_epoch h) (running h)
+
+-- the number in its epoch
+abbrev pub tag_now : History → Tag
+tag_now h = record { epoch = epoch h; number = number h }
 
 -- the processor is online: its last arrival or departure is an arrival; before any, it is processor 0
 abbrev pub online : ℕ → History → Bool
 online cpu h = is_on (cpu == 0) (arrives cpu) (departs cpu) h
 
--- the noted number: the number at the processor's last note or arrival, 0 before any
-abbrev pub noted : ℕ → History → Number
-noted cpu [] = 0
-noted cpu (e ∷ h) = if notes cpu e then number (e ∷ h) else noted cpu h
+-- the noted tag: that at the processor's last note or arrival, number 0 of epoch 0 before any
+abbrev pub noted : ℕ → History → Tag
+noted cpu [] = first_tag
+noted cpu (e ∷ h) = if notes cpu e then tag_now (e ∷ h) else noted cpu h
 
 -- how often the processor entered
 abbrev pub enter_count : ℕ → History → ℕ
@@ -90,9 +112,9 @@ section cpu h = if nat_lt 0 (depth cpu h) then Some (opening cpu h) else None
 
 -- a section of it is open that began before the running grace period
 abbrev pub is_old : ℕ → History → Bool
-is_old cpu h = running h && (nat_lt 0 (depth cpu h) && nat_lt (number (opening cpu h)) (number h))
+is_old cpu h = running h && (nat_lt 0 (depth cpu h) && is_before (tag_now (opening cpu h)) (tag_now h))
 
--- all reports, the first one first: each quiescent state made one, of its processor and the noted number
+-- all reports, the first one first: each quiescent state made one, of its processor and the noted tag
 abbrev pub reports_made : History → List Report
 reports_made [] = []
 reports_made (Quiesce cpu ∷ h) = reports_made h ++ record { cpu = cpu; tag = noted cpu h } ∷ []
@@ -103,20 +125,20 @@ abbrev pub report_at : ℕ → List Report → Option Report
 report_at place reports = if place == 0 then None else slice_get reports (place - 1)
 
 -- it is a report of this processor and this tag
-abbrev pub is_of : ℕ → Number → Option Report → Bool
+abbrev pub is_of : ℕ → Tag → Option Report → Bool
 is_of cpu tag None = false
-is_of cpu tag (Some report) = report.cpu == cpu && same_number report.tag tag
+is_of cpu tag (Some report) = report.cpu == cpu && same_tag report.tag tag
 
 -- by this event the processor is heard in the grace period of this tag: a report of both is delivered, or it departs
-abbrev pub hears : ℕ → Number → Event → History → Bool
+abbrev pub hears : ℕ → Tag → Event → History → Bool
 hears cpu tag (Deliver place) h = is_of cpu tag (report_at place (reports_made h))
 hears cpu tag (Offline c) h = c == cpu
 hears cpu tag _ h = false
 
 -- the processor was heard since the latest begin
-abbrev pub is_heard : ℕ → Number → History → Bool
+abbrev pub is_heard : ℕ → Tag → History → Bool
 is_heard cpu tag h = some_since begins (hears cpu tag) h
 
 -- the processor is awaited: a grace period runs at whose begin it was online, and it was not heard since
 abbrev pub awaits : ℕ → History → Bool
-awaits cpu h = running h && (online cpu (latest begins h) && not (is_heard cpu (number h) h))
+awaits cpu h = running h && (online cpu (latest begins h) && not (is_heard cpu (tag_now h) h))

@@ -4,12 +4,12 @@ use Rattle.std.specs.Prelude.{ℕ, ◌+◌, ◌≡◌, ◌==◌, ◌&&◌, Bool,
 use Rattle.std.specs.Prelude.{length, Option, Some, None, sum_by}
 use Rattle.std.specs.List.{list_any, range_with_len}
 use Rattle.rcu_seq.specs.Histories.{latest}
-use Rattle.rcu_seq.specs.Numbers.{Number}
+use Rattle.rcu_seq.specs.declared.tag.Tag.{Tag}
 use Rattle.rcu_cblist.specs.SegList.{callbacks}
 use Rattle.rcu_cblist.specs.declared.queued.Queued.{Queued}
 use Rattle.rcu_barrier.specs.declared.visit.Visit.TheVariants.{Marked}
 use Rattle.rcu_core.specs.Callbacks.{copies, list, queue_count, since}
-use Rattle.rcu_core.specs.History.{History, begins, hears, number, online}
+use Rattle.rcu_core.specs.History.{History, begins, hears, online, tag_now}
 use Rattle.rcu_core.specs.Runs.{Run}
 use Rattle.rcu_core.specs.declared.event.Event.{Event}
 use Rattle.rcu_core.specs.declared.event.Event.TheVariants.{Queue}
@@ -22,16 +22,16 @@ onto (e ∷ events) (r ∷ replies) run = onto events replies ((e, r) ∷ run)
 onto [] replies run = run
 onto (e ∷ events) [] run = run
 
--- the tag of the latest grace period, whether it runs or has ended: the number at its begin; 0 before any
-abbrev pub tag : History → Number
-tag h = number (latest begins h)
+-- the tag of the latest grace period, whether it runs or has ended: the one at its begin; number 0 of epoch 0 before any
+abbrev pub tag : History → Tag
+tag h = tag_now (latest begins h)
 
 -- the processor is in the start set of the latest grace period: one began, and the processor was online then
 abbrev pub starts : ℕ → History → Bool
 starts cpu h = list_any begins h && online cpu (latest begins h)
 
 -- an event since the latest begin tells that the processor was heard in the grace period of this tag
-pub record ToldSince (cpu : ℕ) (tag : Number) (h : History) : Type 0 where
+pub record ToldSince (cpu : ℕ) (tag : Tag) (h : History) : Type 0 where
   pub later : History
   pub event : Event
   pub earlier : History
@@ -40,12 +40,12 @@ pub record ToldSince (cpu : ℕ) (tag : Number) (h : History) : Type 0 where
   pub is_no_begin : begins event ≡ false
   pub tells : hears cpu tag event earlier ≡ true
 
--- the callback of this place among all that were queued, as it was queued: its place, the number then, and its value
+-- the callback of this place among all that were queued, as it was queued: its place, the tag then, and its value
 abbrev pub queued_as : ℕ → History → Option (Queued ℕ)
 queued_as ord [] = None
 queued_as ord (Queue cpu value ∷ h) =
     if queue_count h + 1 == ord
-    then Some (record { ord = queue_count h + 1; at = number h; value = value })
+    then Some (record { ord = queue_count h + 1; at = tag_now h; value = value })
     else queued_as ord h
 queued_as ord (_ ∷ h) = queued_as ord h
 

@@ -2,7 +2,8 @@
 use Rattle.std.specs.Prelude.{ℕ, ◌+◌, ◌-◌, ◌≡◌, ◌⊎◌, ◌==◌, Bool, true, false, not, ◌&&◌, nat_lt, nat_le, if◌then◌else◌}
 use Rattle.std.specs.Prelude.{List, [], ◌∷◌, length, filter, count_by, map, sum_by, Option, Some, None, is_none}
 use Rattle.std.specs.List.{range_with_len}
-use Rattle.rcu_seq.specs.Numbers.{Number, is_done_at, number_at, same_number, snapshot}
+use Rattle.rcu_seq.specs.Numbers.{Number, is_last, number_at, same_number}
+use Rattle.rcu_seq.specs.Tags.{cookie_at, is_done_at, last_epoch, same_tag}
 use Rattle.rcu_seq.specs.Fault.{first_fault}
 use Rattle.rcu_seq.specs.declared.fault.Fault.{Fault}
 use Rattle.rcu_seq.specs.declared.fault.Fault.TheVariants as fault
@@ -16,11 +17,11 @@ use Rattle.rcu_barrier.specs.Tending.{after_tend}
 use Rattle.rcu_barrier.specs.declared.visit.Visit.{Visit as Visited}
 use Rattle.rcu_barrier.specs.declared.visit.Visit.TheVariants.{Marked, Empty, Already}
 use Rattle.rcu_core.specs.History.{History, report_at}
-use Rattle.rcu_core.specs.Situation.{Situation, number_in, situation, wants_begin}
+use Rattle.rcu_core.specs.Situation.{Situation, number_in, situation, tag_in, wants_begin}
 use Rattle.rcu_core.specs.declared.event.Event.{Event}
 use Rattle.rcu_core.specs.declared.event.Event.TheVariants.{Enter, Exit, Note, Quiesce, Deliver, Online, Offline, Begin}
 use Rattle.rcu_core.specs.declared.event.Event.TheVariants.{End, Turn, Awaits, Take, StartPoll, Poll, Queue, Tend, Run}
-use Rattle.rcu_core.specs.declared.event.Event.TheVariants.{BarBegin, Visit, BarTest}
+use Rattle.rcu_core.specs.declared.event.Event.TheVariants.{BarBegin, Visit, BarTest, Renumber}
 use Rattle.rcu_core.specs.declared.reply.Reply.{Reply}
 use Rattle.rcu_core.specs.declared.reply.Reply.TheVariants as reply
 
@@ -76,7 +77,7 @@ causes s v Turn = (wants_begin v.periods && is_last_in s v, fault.Exhausted) ∷
 causes s v Awaits = []
 causes s v Take = []
 causes s v StartPoll = []
-causes s v (Poll cookie) = []
+causes s v (Poll number epoch) = []
 causes s v (Queue cpu value) =
     no_cpu s cpu ∷ is_offline v cpu ∷ (v.calls.queued == most_queued, fault.CallbacksFull) ∷ []
 causes s v (Tend cpu) = no_cpu s cpu ∷ []
@@ -84,17 +85,20 @@ causes s v (Run cpu most) = no_cpu s cpu ∷ []
 causes s v BarBegin = (v.calls.barrier, fault.BarrierBusy) ∷ []
 causes s v (Visit cpu) = no_cpu s cpu ∷ (not v.calls.barrier, fault.NoBarrier) ∷ []
 causes s v BarTest = (not v.calls.barrier, fault.NoBarrier) ∷ []
+causes s v Renumber =
+    (v.periods.running, fault.Running) ∷ (not (is_last s.last && is_last_in s v), fault.NotLast)
+    ∷ (v.periods.epoch == last_epoch, fault.Exhausted) ∷ []
 
 -- the fault of an event
 abbrev pub fault_in : Size → Situation → Event → Option Fault
 fault_in s v e = first_fault (causes s v e)
 
--- what a delivered report does: it is stale where no grace period runs or its tag is not the number, a repeat where
+-- what a delivered report does: it is stale where no grace period runs or its tag is not that of now, a repeat where
 -- its processor is not awaited, the last where that alone is awaited, and taken else
 abbrev pub answer_to_report : Size → Situation → Option Report → Answer
 answer_to_report s v None = Stale
 answer_to_report s v (Some report) =
-    if not (v.periods.running && same_number report.tag (number_in v.periods)) then Stale
+    if not (v.periods.running && same_tag report.tag (tag_in v.periods)) then Stale
     else (if not (v.cpus.awaits report.cpu) then Repeat
     else (if how_many s v.cpus.awaits == 1 then Last else Taken))
 
@@ -135,9 +139,10 @@ accepted_reply s v Begin = begin_reply s v
 accepted_reply s v End = end_reply v
 accepted_reply s v Turn = turn_reply s v
 accepted_reply s v Awaits = reply.Awaits (which s.cpus v.cpus.awaits)
-accepted_reply s v Take = reply.Cookie (record { 0 = snapshot (number_in v.periods) })
-accepted_reply s v StartPoll = reply.Cookie (record { 0 = snapshot (number_in v.periods) })
-accepted_reply s v (Poll cookie) = reply.Polled (is_done_at cookie (number_in v.periods))
+accepted_reply s v Take = reply.Cookie (cookie_at (tag_in v.periods))
+accepted_reply s v StartPoll = reply.Cookie (cookie_at (tag_in v.periods))
+accepted_reply s v (Poll number epoch) =
+    reply.Polled (is_done_at s.last (record { epoch = epoch; number = number }) (tag_in v.periods))
 accepted_reply s v (Queue cpu value) = reply.Queued (v.calls.queued + 1)
 accepted_reply s v (Tend cpu) =
     let xs = tended_list v cpu in reply.Tended (length (callbacks (front xs))) (length (callbacks (behind xs)))
@@ -145,6 +150,7 @@ accepted_reply s v (Run cpu most) = reply.Ran (map (λ call. call.value) (take_a
 accepted_reply s v BarBegin = reply.BarBegun
 accepted_reply s v (Visit cpu) = reply.Visited (visit_in v cpu)
 accepted_reply s v BarTest = barrier_test_reply s v
+accepted_reply s v Renumber = reply.Renumbered (v.periods.epoch + 1)
 
 -- the first fault whose cause holds, and else what is said
 abbrev pub or_fault : Option Fault → Reply → Reply

@@ -8,14 +8,15 @@ pub enum Event {
     Enter(u32),
     /// The processor leaves its innermost read section. Faults: `BadCpu` (1), `NotOpen` (5).
     Exit(u32),
-    /// The processor takes down the number. Faults: `BadCpu` (1), `Offline` (2).
+    /// The processor takes down the tag of now. Faults: `BadCpu` (1), `Offline` (2).
     Note(u32),
-    /// The processor makes a report of its noted number. Faults: `BadCpu` (1), `Offline` (2),
+    /// The processor makes a report of its noted tag. Faults: `BadCpu` (1), `Offline` (2),
     /// `InSection` (4), `NoMemory` (16).
     Quiesce(u32),
     /// The report of this number, counted from 1, is delivered. Fault: `NoReport` (7).
     Deliver(u64),
-    /// The processor arrives, and takes down the number. Faults: `BadCpu` (1), `AlreadyOnline` (3).
+    /// The processor arrives, and takes down the tag of now. Faults: `BadCpu` (1), `AlreadyOnline`
+    /// (3).
     Online(u32),
     /// The processor departs, and is awaited no more. Its list moves to processor 0; a barrier
     /// visits it first. Faults: `BadCpu` (1), `BootStays` (12), `Offline` (2), `InSection` (4),
@@ -35,8 +36,8 @@ pub enum Event {
     Take,
     /// A cookie is taken, and its number is needed from now on.
     StartPoll,
-    /// The cookie of this number is tested.
-    Poll(u64),
+    /// The cookie of this number and this epoch is tested.
+    Poll(u64, u64),
     /// A callback of this value is queued on the processor. Faults: `BadCpu` (1), `Offline` (2),
     /// `CallbacksFull` (15), `NoMemory` (16).
     Queue(u32, u64),
@@ -51,4 +52,7 @@ pub enum Event {
     Visit(u32),
     /// The barrier is tested. Fault: `NoBarrier` (14).
     BarTest,
+    /// The numbers start anew, in the next epoch. Faults: `Running` (8); `NotLast` (22) where the
+    /// number is not the last one; `Exhausted` (11) in the last epoch.
+    Renumber,
 }

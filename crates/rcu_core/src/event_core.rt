@@ -2,6 +2,7 @@
 ghost use Rattle.std.specs.Prelude.{◌≡◌, ◌<◌, ◌≤◌, ℕ, true, false, [], Some, None, length};
 ghost use Rattle.std.specs.Prelude.{replicate, IfErr, IfOk, OnErr, OnOk};
 ghost use Rattle.rcu_seq.specs.Numbers.{is_last};
+ghost use Rattle.rcu_seq.specs.Tags.{first_tag};
 ghost use Rattle.rcu_node.specs.CpuSet.{is_in, size_of};
 ghost use Rattle.rcu_hotplug.specs.Hotplug.{cpus_of};
 ghost use Rattle.rcu_core.specs.History.{History, report_at};
@@ -84,7 +85,7 @@ impl<A: Awaited> Core<A, u64> {
     ///
     /// Faults: `BadLast` (19) where `last` is not a multiple of 4 in 4..=2^62; `NoMemory` (16).
     pub fn new(alloc: Global, inner: A, last: u64) -> Result<Self, Fault>
-        requires tag { A.tag inner ≡ 0 }
+        requires tag { A.tag inner ≡ first_tag }
         requires empty { A.start_set inner ≡ replicate (length (A.awaited inner)) false }
         ensures ok { IfOk result (λ made. Represents made []) }
         ensures size { IfOk result (λ made.
@@ -160,13 +161,14 @@ impl<A: Awaited> Core<A, u64> {
             Event::Awaits => self.awaits(),
             Event::Take => self.take(),
             Event::StartPoll => self.start_poll(),
-            Event::Poll(cookie) => self.poll(cookie),
+            Event::Poll(number, epoch) => self.poll(number, epoch),
             Event::Queue(cpu, value) => self.queue(cpu, value),
             Event::Tend(cpu) => self.tend(cpu),
             Event::Run(cpu, most) => self.run_callbacks(cpu, most),
             Event::BarBegin => self.begin_barrier(),
             Event::Visit(cpu) => self.visit(cpu),
             Event::BarTest => self.test_barrier(),
+            Event::Renumber => self.renumber(),
         }
     }
 
@@ -204,9 +206,9 @@ impl<A: Awaited> Core<A, u64> {
         ensures err { IfErr result (λ fault. Refuses self.old (Event.Note cpu) fault self.new) }
     {
         let place = self.place_of(cpu)?;
-        let number = self.gp.value();
-        self.cpus[place].note(number)?;
-        Ok(Reply::Noted(number, self.gp.awaited().awaits(cpu)))
+        let now = self.gp.tag();
+        self.cpus[place].note(now)?;
+        Ok(Reply::Noted(now.number, self.gp.awaited().awaits(cpu)))
     }
 
     fn quiesce(&mut self, cpu: u32) -> Result<Reply, Fault>
@@ -236,8 +238,8 @@ impl<A: Awaited> Core<A, u64> {
         ensures err { IfErr result (λ fault. Refuses self.old (Event.Online cpu) fault self.new) }
     {
         self.gp.arrive(cpu)?;
-        let number = self.gp.value();
-        match self.cpus[cpu as usize].arrive(number) {
+        let now = self.gp.tag();
+        match self.cpus[cpu as usize].arrive(now) {
             Ok(()) => Ok(Reply::Online),
             Err(_) => unreachable!(),
         }
@@ -325,12 +327,20 @@ impl<A: Awaited> Core<A, u64> {
         Ok(Reply::Cookie(self.gp.start_poll()))
     }
 
-    fn poll(&self, cookie: u64) -> Result<Reply, Fault>
+    fn poll(&self, number: u64, epoch: u64) -> Result<Reply, Fault>
         ensures ok { IfOk result (λ reply.
-            StepsLegally self.now (Event.Poll cookie) reply self.now) }
-        ensures err { IfErr result (λ fault. Refuses self.now (Event.Poll cookie) fault self.now) }
+            StepsLegally self.now (Event.Poll number epoch) reply self.now) }
+        ensures err { IfErr result (λ fault.
+            Refuses self.now (Event.Poll number epoch) fault self.now) }
     {
-        Ok(Reply::Polled(self.gp.done(Cookie(cookie))))
+        Ok(Reply::Polled(self.gp.done(Cookie { epoch, number })))
+    }
+
+    fn renumber(&mut self) -> Result<Reply, Fault>
+        ensures ok { IfOk result (λ reply. StepsLegally self.old Event.Renumber reply self.new) }
+        ensures err { IfErr result (λ fault. Refuses self.old Event.Renumber fault self.new) }
+    {
+        Ok(Reply::Renumbered(self.gp.renumber()?))
     }
 
     fn queue(&mut self, cpu: u32, value: u64) -> Result<Reply, Fault>

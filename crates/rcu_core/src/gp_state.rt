@@ -2,8 +2,9 @@
 ghost use Rattle.std.specs.Prelude.{◌≡◌, ◌≢◌, ◌<◌, ◌≤◌, ◌==◌, ◌^◌, if◌then◌else◌, All, []};
 ghost use Rattle.std.specs.Prelude.{Some, None};
 ghost use Rattle.std.specs.Prelude.{true, false, length, replicate, IfErr, IfOk, OnErr, OnOk};
-ghost use Rattle.rcu_seq.specs.Numbers.{is_last, snapshot};
-ghost use Rattle.rcu_seq.specs.Seq.{is_done, number_of, snapshot_of};
+ghost use Rattle.rcu_seq.specs.Numbers.{is_last};
+ghost use Rattle.rcu_seq.specs.Seq.{cookie_of, is_done, number_of, tag_of};
+ghost use Rattle.rcu_seq.specs.Tags.{first_tag};
 ghost use Rattle.rcu_node.specs.CpuSet.{is_in};
 ghost use Rattle.rcu_hotplug.specs.Hotplug as hotplug;
 ghost use Rattle.rcu_hotplug.specs.Hotplug.{Arrive, Depart, cpus_of};
@@ -22,9 +23,10 @@ use rcu_hotplug::hotplug::Hotplug;
 use rcu_node::answer::Answer;
 use rcu_node::awaited::Awaited;
 use rcu_report::report::Report;
-use rcu_seq::cookie::Cookie;
+use rcu_seq::cookie::{Cookie, FIRST_END};
 use rcu_seq::fault::Fault;
 use rcu_seq::seq::Seq;
+use rcu_seq::tag::Tag;
 use std::alloc::Global;
 use std::marker::Model;
 
@@ -37,8 +39,8 @@ use std::marker::Model;
 pub struct GpState<A: Awaited, T: Drop> {
     /// The number, and whether a grace period runs.
     seq: Seq,
-    /// The greatest number that was asked for, 0 before any (Linux's `gp_seq_needed`). It never
-    /// falls.
+    /// The greatest number that was asked for, 0 before any (Linux's `gp_seq_needed`). It
+    /// falls only where the numbers start anew.
     needed: u64,
     /// The processors.
     hotplug: Hotplug<A>,
@@ -72,7 +74,7 @@ impl<A: Awaited, T: Drop> GpState<A, T> {
     ///
     /// Faults: `BadLast` (19) where `last` is no last number; `NoMemory` (16).
     pub fn new(alloc: Global, inner: A, last: u64) -> Result<Self, Fault>
-        requires tag { A.tag inner ≡ 0 }
+        requires tag { A.tag inner ≡ first_tag }
         requires empty { A.start_set inner ≡ replicate (length (A.awaited inner)) false }
         ensures ok { IfOk result (λ made. made
             ≡ grace.at_first (length (A.awaited inner)) last) }
@@ -106,6 +108,14 @@ impl<A: Awaited, T: Drop> GpState<A, T> {
         ensures bounded { result ≤ 2 ^ 62 }
     {
         self.seq.value()
+    }
+
+    /// The grace-period number in its epoch. It is at most 2^62.
+    pub fn tag(&self) -> Tag
+        ensures value { result ≡ tag_of self.now.seq }
+        ensures bounded { result.number ≤ 2 ^ 62 }
+    {
+        self.seq.tag()
     }
 
     /// Whether a grace period runs.
@@ -173,7 +183,7 @@ impl<A: Awaited, T: Drop> GpState<A, T> {
         ensures unchanged { OnErr result (self.new ≡ self.old) }
     {
         let number = self.seq.start()?;
-        self.hotplug.begin(number);
+        self.hotplug.begin(self.seq.tag());
         Ok((number, self.hotplug.awaited().count()))
     }
 
@@ -215,7 +225,7 @@ impl<A: Awaited, T: Drop> GpState<A, T> {
         ensures answer { result ≡ grace.hear_answer self.old cpu }
         ensures state { self.new ≡ grace.after_hear self.old cpu }
     {
-        let tag = self.value();
+        let tag = self.tag();
         self.report(Report { cpu, tag })
     }
 
@@ -274,7 +284,7 @@ impl<A: Awaited, T: Drop> GpState<A, T> {
 
     /// The cookie of a taking now (Linux's `get_state_synchronize_rcu`).
     pub fn take(&self) -> Cookie
-        ensures { result.0 ≡ snapshot_of self.now.seq }
+        ensures { result ≡ cookie_of self.now.seq }
     {
         self.seq.snap()
     }
@@ -282,19 +292,41 @@ impl<A: Awaited, T: Drop> GpState<A, T> {
     /// The cookie of a taking now, whose number is needed from now on (Linux's
     /// `start_poll_synchronize_rcu`).
     pub fn start_poll(&mut self) -> Cookie
-        ensures cookie { result.0 ≡ snapshot_of self.old.seq }
+        ensures cookie { result ≡ cookie_of self.old.seq }
         ensures state { self.new ≡ grace.after_start_poll self.old }
     {
         let cookie = self.seq.snap();
-        self.needed = self.needed.max(cookie.0);
+        self.needed = self.needed.max(cookie.number);
         cookie
     }
 
     /// Whether a cookie is done (Linux's `poll_state_synchronize_rcu`).
     pub fn done(&self, cookie: Cookie) -> bool
-        ensures { result ≡ is_done cookie.0 self.now.seq }
+        ensures { result ≡ is_done cookie self.now.seq }
     {
         self.seq.done(cookie)
+    }
+
+    /// The numbers start anew at 0 in the next epoch, which is answered. Callbacks that wait lose
+    /// theirs, as [`Lists::renumber`] has it. A needed number above the last one becomes that of
+    /// the first grace period's end, any other 0. Takes no memory, and costs a step a processor.
+    ///
+    /// Faults: `Running` (8) where a grace period runs; `NotLast` (22) where the number is not the
+    /// last one; `Exhausted` (11) in the last epoch.
+    pub fn renumber(&mut self) -> Result<u64, Fault>
+        ensures last { is_last self.old.seq.last ≡ true }
+        ensures epoch { IfOk result (λ epoch. epoch ≡ self.new.seq.epoch) }
+        ensures accepted { OnOk result (grace.renumber_refusal self.old ≡ None) }
+        ensures state { OnOk result (self.new ≡ grace.after_renumber self.old) }
+        ensures refused { IfErr result (λ fault. grace.renumber_refusal self.old ≡ Some fault) }
+        ensures unchanged { OnErr result (self.new ≡ self.old) }
+    {
+        let last = self.seq.last();
+        let is_needed = self.needed > last;
+        let epoch = self.seq.renumber()?;
+        self.needed = if is_needed { FIRST_END } else { 0 };
+        self.lists.renumber();
+        Ok(epoch)
     }
 
     /// Queues a callback on a processor, at the number (Linux's `call_rcu`). Answers how many were
@@ -313,8 +345,8 @@ impl<A: Awaited, T: Drop> GpState<A, T> {
         ensures value { IfErr result (λ refused. refused.value ≡ value) }
         ensures unchanged { OnErr result (self.new ≡ self.old) }
     {
-        let number = self.seq.value();
-        self.lists.queue(cpu, number, value)
+        let now = self.seq.tag();
+        self.lists.queue(cpu, now, value)
     }
 
     /// Whether the processor's list is empty.
@@ -352,7 +384,7 @@ impl<A: Awaited, T: Drop> GpState<A, T> {
             calls.items ≡ take_answer (list_of self.old.lists cpu) max) }
         ensures state { OnOk result (self.new ≡ grace.after_run self.old cpu max) }
         ensures waited { IfOk result (λ calls.
-            All (λ call. snapshot call.at ≤ number_of self.old.seq) calls.items) }
+            All (λ call. grace.HasWaited (tag_of self.old.seq) call.at) calls.items) }
         ensures fault { IfErr result (λ fault. fault ≡ Fault.NoMemory) }
         ensures some { OnErr result (take_answer (list_of self.old.lists cpu) max ≢ []) }
         ensures unchanged { OnErr result (self.new ≡ self.old) }

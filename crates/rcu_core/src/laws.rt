@@ -1,5 +1,6 @@
 //! What the definitions say of every run: of any events, in any order, with legal replies.
 ghost use Rattle.std.specs.Prelude.{◌≡◌, ◌≢◌, ◌<◌, ◌≤◌, ◌∷◌, ◌++◌, ℕ, List, Some, true, slice_get};
+ghost use Rattle.rcu_seq.specs.declared.cookie.Cookie.{Cookie};
 ghost use Rattle.rcu_cblist.specs.declared.queued.Queued.{Queued};
 ghost use Rattle.rcu_core.specs.Callbacks.{handed_out, has_full_period, queued_before_barrier};
 ghost use Rattle.rcu_core.specs.Callbacks.{since, times_handed_out};
@@ -20,12 +21,12 @@ pub fn old_readers_are_awaited()
 /// Readers finish before done: when a cookie tests done, each read section that was open at its
 /// taking has ended.
 pub fn readers_finish_before_done()
-    ensures { (size : Size) (later earlier : Run) (taking : Event) (cookie cpu : ℕ)
-        (opened : History) → takes taking ≡ true
-        → IsLegalRun size ((Event.Poll cookie, Reply.Polled true)
-        ∷ later ++ (taking, Reply.Cookie (record { 0 = cookie })) ∷ earlier)
+    ensures { (size : Size) (later earlier : Run) (taking : Event) (cookie : Cookie)
+        (cpu : ℕ) (opened : History) → takes taking ≡ true
+        → IsLegalRun size ((Event.Poll cookie.number cookie.epoch, Reply.Polled true)
+        ∷ later ++ (taking, Reply.Cookie cookie) ∷ earlier)
         → section cpu (history earlier) ≡ Some opened
-        → section cpu (history (later ++ (taking, Reply.Cookie (record { 0 = cookie })) ∷ earlier))
+        → section cpu (history (later ++ (taking, Reply.Cookie cookie) ∷ earlier))
         ≢ Some opened }
 {}
 

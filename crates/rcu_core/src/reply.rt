@@ -51,6 +51,8 @@ pub enum Reply {
     BarDone,
     /// The barrier goes on, and waits for so many markers and unvisited processors.
     BarWaits(u64),
+    /// The numbers started anew, in this epoch.
+    Renumbered(u64),
     /// The event was refused, and changed nothing.
     Fault(Fault),
 }

@@ -1,10 +1,12 @@
 //! What ties a run to the laws.
 ghost use Rattle.std.specs.Prelude.{◌≡◌, ◌+◌, ◌<◌, ◌≤◌, ◌&&◌, not, true, [], ◌∷◌, ℕ, List, Some};
 ghost use Rattle.std.specs.Prelude.{length, slice_get};
+ghost use Rattle.rcu_seq.specs.Tags.{is_before};
+ghost use Rattle.rcu_seq.specs.declared.tag.Tag.{Tag};
 ghost use Rattle.rcu_cblist.specs.declared.queued.Queued.{Queued};
 ghost use Rattle.rcu_core.specs.Callbacks.{handed_out, queue_count, times_handed_out};
 ghost use Rattle.rcu_core.specs.Core.{Represents, State, size_at};
-ghost use Rattle.rcu_core.specs.History.{History, awaits, is_heard, number, section};
+ghost use Rattle.rcu_core.specs.History.{History, awaits, is_heard, section, tag_now};
 ghost use Rattle.rcu_core.specs.Links.{ToldSince, onto, queued_as, starts, tag, times_listed};
 ghost use Rattle.rcu_core.specs.Replies.{AreAccepted, IsLegalReply, Size};
 ghost use Rattle.rcu_core.specs.Situation.{situation};
@@ -60,7 +62,7 @@ pub fn what_a_core_ran_is_a_legal_run()
 {}
 
 /// The callbacks that a run hands out were queued: there are as many as the reply has values, and
-/// each one has the place, the number and the value of its queueing.
+/// each one has the place, the tag and the value of its queueing.
 pub fn handed_callbacks_were_queued()
     ensures length { (size : Size) (run : Run) (cpu most : ℕ) (values : List ℕ)
         → IsLegalRun size ((Event.Run cpu most, Reply.Ran values) ∷ run)
@@ -71,12 +73,12 @@ pub fn handed_callbacks_were_queued()
 {}
 
 /// Readers finish before callbacks: when a callback is handed out, each section that is open then
-/// was opened after the callback was queued, and at a later number.
+/// was opened after the callback was queued, and at a later number or in a later epoch.
 pub fn readers_finish_before_callbacks()
     ensures later { (size : Size) (run : Run) (cpu most place reader : ℕ) (call : Queued ℕ)
         (opened : History) → IsLegalRun size run
         → slice_get (handed_out cpu most (history run)) place ≡ Some call
-        → section reader (history run) ≡ Some opened → call.at < number opened }
+        → section reader (history run) ≡ Some opened → is_before call.at (tag_now opened) ≡ true }
     ensures after { (size : Size) (run : Run) (cpu most place reader : ℕ) (call : Queued ℕ)
         (opened : History) → IsLegalRun size run
         → slice_get (handed_out cpu most (history run)) place ≡ Some call
@@ -103,8 +105,10 @@ pub fn equally_heard_cores_await_the_same()
 /// A processor is heard exactly where some event since the latest begin tells it: which one, how
 /// many, and what else came makes no difference.
 pub fn heard_means_told()
-    ensures told { (cpu tag : ℕ) (h : History) → is_heard cpu tag h ≡ true → ToldSince cpu tag h }
-    ensures heard { (cpu tag : ℕ) (h : History) → ToldSince cpu tag h → is_heard cpu tag h ≡ true }
+    ensures told { (cpu : ℕ) (tag : Tag) (h : History) → is_heard cpu tag h ≡ true
+        → ToldSince cpu tag h }
+    ensures heard { (cpu : ℕ) (tag : Tag) (h : History) → ToldSince cpu tag h
+        → is_heard cpu tag h ≡ true }
 {}
 
 /// No callback is lost: each one that was queued was handed out or lies in one list, once.

@@ -1,34 +1,35 @@
 -- One processor: its calls, where each is accepted, and what it leaves.
 use Rattle.std.specs.Prelude.{ℕ, ◌+◌, ◌-◌, ◌≡◌, ◌<◌, Bool, true, false, List, [], ◌∷◌}
-use Rattle.rcu_seq.specs.Numbers.{Number}
+use Rattle.rcu_seq.specs.Tags.{first_tag}
+use Rattle.rcu_seq.specs.declared.tag.Tag.{Tag}
 use Rattle.rcu_report.specs.declared.report.Report.{Report}
 
--- a processor: its number, whether it is online, how deep its read sections nest, and the number that it noted
+-- a processor: its number, whether it is online, how deep its read sections nest, and the tag that it noted
 pub record Processor : Type 0 where
   pub cpu : ℕ
   pub online : Bool
   pub depth : ℕ
-  pub noted : Number
+  pub noted : Tag
 
 -- how deep read sections nest at most
 abbrev pub deepest : ℕ
 deepest = 65535
 
--- a processor at its making: no section is open, and the number 0 is noted
+-- a processor at its making: no section is open, and number 0 of epoch 0 is noted
 abbrev pub at_first : ℕ → Bool → Processor
-at_first cpu online = record { cpu = cpu; online = online; depth = 0; noted = 0 }
+at_first cpu online = record { cpu = cpu; online = online; depth = 0; noted = first_tag }
 
--- the report of its quiescent state: its number, and the number that it noted
+-- the report of its quiescent state: its number, and the tag that it noted
 abbrev pub report_of : Processor → Report
 report_of p = record { cpu = p.cpu; tag = p.noted }
 
--- a call; a note and an arrival are given the grace-period number
+-- a call; a note and an arrival are given the tag of now
 pub data Call : Type 0 where
   Enter : Call
   Exit : Call
-  Note : Number → Call
+  Note : Tag → Call
   Quiesce : Call
-  Arrive : Number → Call
+  Arrive : Tag → Call
   Depart : Call
 
 -- the call is accepted: no cause of its faults stands
@@ -44,9 +45,9 @@ IsAccepted p Depart = (p.online ≡ true) × (p.depth ≡ 0)
 abbrev pub after_call : Processor → Call → Processor
 after_call p Enter = record p { depth = p.depth + 1 }
 after_call p Exit = record p { depth = p.depth - 1 }
-after_call p (Note number) = record p { noted = number }
+after_call p (Note now) = record p { noted = now }
 after_call p Quiesce = p
-after_call p (Arrive number) = record p { online = true; noted = number }
+after_call p (Arrive now) = record p { online = true; noted = now }
 after_call p Depart = record p { online = false }
 
 -- the processor made so, after these calls, the newest first

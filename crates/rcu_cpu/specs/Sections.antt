@@ -1,7 +1,8 @@
 -- What the accepted calls of one processor, the newest first, say of its read sections.
 use Rattle.std.specs.Prelude.{ℕ, ◌-◌, ◌==◌, Bool, true, false, not, ◌&&◌, ◌||◌, List, [], ◌∷◌, count_by}
 use Rattle.rcu_seq.specs.Histories.{is_on}
-use Rattle.rcu_seq.specs.Numbers.{Number}
+use Rattle.rcu_seq.specs.Tags.{first_tag}
+use Rattle.rcu_seq.specs.declared.tag.Tag.{Tag}
 use Rattle.rcu_cpu.specs.CpuData.{Call, Enter, Exit, Note, Arrive, Depart}
 
 -- the call is an enter
@@ -45,9 +46,9 @@ is_open (call ∷ earlier) = opens call earlier || (is_open earlier && not (clos
 abbrev pub is_online : Bool → List Call → Bool
 is_online at_making calls = is_on at_making arrives departs calls
 
--- the number of the last note or arrival, 0 before any
-abbrev pub last_noted : List Call → Number
-last_noted [] = 0
-last_noted (Note number ∷ earlier) = number
-last_noted (Arrive number ∷ earlier) = number
+-- the tag of the last note or arrival, number 0 of epoch 0 before any
+abbrev pub last_noted : List Call → Tag
+last_noted [] = first_tag
+last_noted (Note now ∷ earlier) = now
+last_noted (Arrive now ∷ earlier) = now
 last_noted (_ ∷ earlier) = last_noted earlier

@@ -5,13 +5,14 @@ ghost use Rattle.rcu_cpu.specs.CpuData.{Arrive, Depart, Enter, Exit, Note, Quies
 
 use rcu_report::report::Report;
 use rcu_seq::fault::Fault;
+use rcu_seq::tag::Tag;
 use std::marker::Model;
 
 /// How deep read sections nest at most.
 const DEEPEST: u32 = 65_535;
 
 /// What one processor keeps: whether it is online, how deep its read sections nest, and the
-/// grace-period number that it noted (Linux's `rcu_data` and `rcu_read_lock_nesting`).
+/// tag that it noted (Linux's `rcu_data` and `rcu_read_lock_nesting`).
 ///
 /// A read section is open from an enter at depth 0 to the exit that brings the depth back to 0.
 /// None is open on an offline processor.
@@ -20,7 +21,7 @@ pub struct CpuData {
     cpu: u32,
     online: bool,
     depth: u32,
-    noted: u64,
+    noted: Tag,
 }
 
 impl Model for CpuData {
@@ -43,7 +44,7 @@ impl Model for CpuData {
 }
 
 impl CpuData {
-    /// A processor of this number, with no section open and the number 0 noted.
+    /// A processor of this number, with no section open and number 0 of epoch 0 noted.
     pub fn new(cpu: u32, online: bool) -> CpuData
         ensures { result ≡ at_first cpu online }
     {
@@ -51,7 +52,7 @@ impl CpuData {
             cpu,
             online,
             depth: 0,
-            noted: 0,
+            noted: Tag::of_first_epoch(0),
         }
     }
 
@@ -79,8 +80,8 @@ impl CpuData {
         self.depth
     }
 
-    /// The grace-period number of the last note or arrival, 0 before any.
-    pub fn noted(&self) -> u64
+    /// The tag of the last note or arrival, number 0 of epoch 0 before any.
+    pub fn noted(&self) -> Tag
         ensures { result ≡ self.now.noted }
     {
         self.noted
@@ -124,22 +125,22 @@ impl CpuData {
         Ok(self.depth)
     }
 
-    /// Notes the grace-period number (Linux's `__note_gp_changes`).
+    /// Notes the tag of now (Linux's `__note_gp_changes`).
     ///
     /// Fault `Offline` (2): the processor is offline.
-    pub fn note(&mut self, number: u64) -> Result<(), Fault>
-        ensures ok { OnOk result (self.new ≡ after_call self.old (Note number)) }
-        ensures accepted { OnOk result (IsAccepted self.old (Note number)) }
+    pub fn note(&mut self, now: Tag) -> Result<(), Fault>
+        ensures ok { OnOk result (self.new ≡ after_call self.old (Note now)) }
+        ensures accepted { OnOk result (IsAccepted self.old (Note now)) }
         ensures offline { IfErr result (λ fault. fault ≡ Fault.Offline) }
         ensures was_offline { OnErr result (self.old.online ≡ false) }
         ensures refused { OnErr result (self.new ≡ self.old) }
     {
         self.check_online()?;
-        self.noted = number;
+        self.noted = now;
         Ok(())
     }
 
-    /// The report of a quiescent state: of the processor and its noted number (Linux's
+    /// The report of a quiescent state: of the processor and its noted tag (Linux's
     /// `rcu_report_qs_rdp`).
     ///
     /// Faults: `Offline` (2) where the processor is offline; `InSection` (4) where a section is
@@ -163,13 +164,13 @@ impl CpuData {
         }
     }
 
-    /// The processor is online from now on, and notes the grace-period number (Linux's
+    /// The processor is online from now on, and notes the tag of now (Linux's
     /// `rcutree_report_cpu_starting`).
     ///
     /// Fault `AlreadyOnline` (3): the processor is online.
-    pub fn arrive(&mut self, number: u64) -> Result<(), Fault>
-        ensures ok { OnOk result (self.new ≡ after_call self.old (Arrive number)) }
-        ensures accepted { OnOk result (IsAccepted self.old (Arrive number)) }
+    pub fn arrive(&mut self, now: Tag) -> Result<(), Fault>
+        ensures ok { OnOk result (self.new ≡ after_call self.old (Arrive now)) }
+        ensures accepted { OnOk result (IsAccepted self.old (Arrive now)) }
         ensures online { IfErr result (λ fault. fault ≡ Fault.AlreadyOnline) }
         ensures was_online { OnErr result (self.old.online ≡ true) }
         ensures refused { OnErr result (self.new ≡ self.old) }
@@ -178,7 +179,7 @@ impl CpuData {
             return Err(Fault::AlreadyOnline);
         }
         self.online = true;
-        self.note(number)
+        self.note(now)
     }
 
     /// The processor is offline from now on (Linux's `rcutree_report_cpu_dead`).

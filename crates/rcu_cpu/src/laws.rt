@@ -29,7 +29,7 @@ pub fn sections_are_open_where_they_nest()
 {}
 
 /// A quiescent state is reported exactly where the processor is online and no section is open, with
-/// the number of the last note or arrival.
+/// the tag of the last note or arrival.
 pub fn reports_are_made_outside_sections()
     ensures accepted { (cpu : ℕ) (online : Bool) (calls : List Call) → AreAccepted cpu online calls
         → IsAccepted (after_calls cpu online calls) Quiesce

@@ -1,4 +1,4 @@
-//! One processor: its read sections, its noted number and its quiescent states.
+//! One processor: its read sections, its noted tag and its quiescent states.
 #![tactic(auto)]
 
 pub mod cpu_data;

@@ -5,7 +5,8 @@ use Rattle.std.proofs.Math.Bool.{and-true, or-false}
 use Rattle.std.proofs.lemmas.Bool.{cases_lt}
 use Rattle.std.proofs.lemmas.Bool.Decides.{nat_tests}
 use Rattle.std.proofs.lemmas.List.{length-set, length-replicate}
-use Rattle.rcu_seq.specs.Numbers.{Number, same_number}
+use Rattle.rcu_seq.specs.Tags.{same_tag}
+use Rattle.rcu_seq.specs.declared.tag.Tag.{Tag}
 use Rattle.rcu_node.specs.CpuSet.{is_in}
 use Rattle.rcu_node.proofs.CpuSetLemmas.{in_none, is_in-insert, is_in-remove}
 use Rattle.rcu_node.proofs.ReportLemmas.{is_in-awaited_after_report, length-awaited_after_report, neither}
@@ -87,7 +88,7 @@ told_departure cpus p h other told = record {
 }
 
 -- after a begin
-told_begin : (cpus : ℕ) (p : Processors) (h : History) (number : Number) → IsTold cpus p h
+told_begin : (cpus : ℕ) (p : Processors) (h : History) (number : Tag) → IsTold cpus p h
     → IsTold cpus (after_call p (Begin number)) (Begin number ∷ h)
 told_begin cpus p h number told = record {
   awaited = told.online;
@@ -101,7 +102,7 @@ told_begin cpus p h number told = record {
 }
 
 -- after a report
-told_report : (cpus : ℕ) (p : Processors) (h : History) (other : ℕ) (number : Number) → IsTold cpus p h
+told_report : (cpus : ℕ) (p : Processors) (h : History) (other : ℕ) (number : Tag) → IsTold cpus p h
     → IsTold cpus (after_call p (Report other number)) (Report other number ∷ h)
 told_report cpus p h other number told = record {
   awaited = length-awaited_after_report p.tag p.awaited other number ∙ told.awaited;
@@ -111,11 +112,11 @@ told_report cpus p h other number told = record {
     start_set = told.says.start_set;
     awaited = λ cpu l.
         is_in-awaited_after_report p.tag p.awaited other number cpu
-        ∙ ap (λ (n : Number). is_in p.awaited cpu && not (other == cpu && same_number number n)) told.says.tag
-        ∙ ap (λ b. b && not (other == cpu && same_number number (tag h))) (told.says.awaited cpu l)
-        ∙ neither (starts cpu h) (is_heard cpu (tag h) h) (other == cpu && same_number number (tag h))
+        ∙ ap (λ (n : Tag). is_in p.awaited cpu && not (other == cpu && same_tag number n)) told.says.tag
+        ∙ ap (λ b. b && not (other == cpu && same_tag number (tag h))) (told.says.awaited cpu l)
+        ∙ neither (starts cpu h) (is_heard cpu (tag h) h) (other == cpu && same_tag number (tag h))
         ∙ ap (λ b. starts cpu h && not (b || is_heard cpu (tag h) h))
-        (sym (or-false (other == cpu && same_number number (tag h))));
+        (sym (or-false (other == cpu && same_tag number (tag h))));
     online = told.says.online;
   };
 }

@@ -3,7 +3,8 @@
 use Rattle.std.specs.Prelude.{ℕ, ◌≡◌, ◌<◌, ◌==◌, Bool, true, false, not, ◌&&◌, ◌||◌, List, [], ◌∷◌, None}
 use Rattle.std.specs.List.{list_any}
 use Rattle.rcu_seq.specs.Histories.{is_on, latest, some_since}
-use Rattle.rcu_seq.specs.Numbers.{Number, same_number}
+use Rattle.rcu_seq.specs.Tags.{first_tag, same_tag}
+use Rattle.rcu_seq.specs.declared.tag.Tag.{Tag}
 use Rattle.rcu_node.specs.CpuSet.{is_in}
 use Rattle.rcu_hotplug.specs.Hotplug.{Processors, Call, Arrive, Depart, Begin, Report, at_first, refusal, after_call}
 
@@ -32,18 +33,18 @@ departs cpu _ = false
 
 -- a grace period begins
 abbrev pub begins : Call → Bool
-begins (Begin number) = true
+begins (Begin now) = true
 begins _ = false
 
--- the processor reports this number
-abbrev pub reports : ℕ → Number → Call → Bool
-reports cpu number (Report c tag) = c == cpu && same_number tag number
-reports cpu number _ = false
+-- the processor reports this tag
+abbrev pub reports : ℕ → Tag → Call → Bool
+reports cpu now (Report c noted) = c == cpu && same_tag noted now
+reports cpu now _ = false
 
--- the number of the latest begin, 0 before any
-abbrev pub tag : History → Number
-tag [] = 0
-tag (Begin number ∷ h) = number
+-- the tag of the latest begin, number 0 of epoch 0 before any
+abbrev pub tag : History → Tag
+tag [] = first_tag
+tag (Begin now ∷ h) = now
 tag (_ ∷ h) = tag h
 
 -- the processor is online: its last arrival or departure is an arrival; before any, it is processor 0
@@ -54,13 +55,13 @@ online cpu h = is_on (cpu == 0) (arrives cpu) (departs cpu) h
 abbrev pub starts : ℕ → History → Bool
 starts cpu h = list_any begins h && online cpu (latest begins h)
 
--- by this call the processor is heard in the grace period of this number: it reports the number, or departs
-abbrev pub hears : ℕ → Number → Call → Bool
-hears cpu number call = reports cpu number call || departs cpu call
+-- by this call the processor is heard in the grace period of this tag: it reports the tag, or departs
+abbrev pub hears : ℕ → Tag → Call → Bool
+hears cpu now call = reports cpu now call || departs cpu call
 
--- since the latest begin the processor was heard in the grace period of this number
-abbrev pub is_heard : ℕ → Number → History → Bool
-is_heard cpu number h = some_since begins (λ call earlier. hears cpu number call) h
+-- since the latest begin the processor was heard in the grace period of this tag
+abbrev pub is_heard : ℕ → Tag → History → Bool
+is_heard cpu now h = some_since begins (λ call earlier. hears cpu now call) h
 
 -- the processor is awaited: it was online at the latest begin, and since then it did not report with the grace
 -- period's number, and did not depart

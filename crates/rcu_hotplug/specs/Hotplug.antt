@@ -2,31 +2,32 @@
 use Rattle.std.specs.Prelude.{ℕ, ◌≡◌, ◌==◌, Bool, true, false, not, nat_lt, List, [], ◌∷◌, length, slice_set, replicate}
 use Rattle.std.specs.Prelude.{Option}
 use Rattle.rcu_seq.specs.Fault.{first_fault}
-use Rattle.rcu_seq.specs.Numbers.{Number}
+use Rattle.rcu_seq.specs.Tags.{first_tag}
+use Rattle.rcu_seq.specs.declared.tag.Tag.{Tag}
 use Rattle.rcu_seq.specs.declared.fault.Fault.{Fault}
 use Rattle.rcu_seq.specs.declared.fault.Fault.TheVariants.{BadCpu, Offline, AlreadyOnline, BootStays}
 use Rattle.rcu_node.specs.CpuSet.{is_in}
 use Rattle.rcu_node.specs.Reports.{awaited_after_report}
 
--- the latest grace period's number, the processors that it awaited at its start, those that it awaits now, and those
+-- the latest grace period's tag, the processors that it awaited at its start, those that it awaits now, and those
 -- that are online
 pub record Processors : Type 0 where
-  pub tag : Number
+  pub tag : Tag
   pub start_set : List Bool
   pub awaited : List Bool
   pub online : List Bool
 
--- a call: a processor arrives or departs, a grace period of a number begins, a processor reports a number
+-- a call: a processor arrives or departs, a grace period of a tag begins, a processor reports the tag that it noted
 pub data Call : Type 0 where
   Arrive : ℕ → Call
   Depart : ℕ → Call
-  Begin : Number → Call
-  Report : ℕ → Number → Call
+  Begin : Tag → Call
+  Report : ℕ → Tag → Call
 
 -- before any call processor 0 is online, and no processor is awaited
 abbrev pub at_first : ℕ → Processors
 at_first cpus = record {
-  tag = 0;
+  tag = first_tag;
   start_set = replicate cpus false;
   awaited = replicate cpus false;
   online = slice_set (replicate cpus false) 0 true;
@@ -41,8 +42,8 @@ abbrev pub causes : Processors → Call → List (Bool × Fault)
 causes p (Arrive cpu) = (not (nat_lt cpu (cpus_of p)), BadCpu) ∷ (is_in p.online cpu, AlreadyOnline) ∷ []
 causes p (Depart cpu) =
     (not (nat_lt cpu (cpus_of p)), BadCpu) ∷ (cpu == 0, BootStays) ∷ (not (is_in p.online cpu), Offline) ∷ []
-causes p (Begin number) = []
-causes p (Report cpu number) = []
+causes p (Begin tag) = []
+causes p (Report cpu noted) = []
 
 -- why a call is refused, if it is: the fault of the first cause that holds
 abbrev pub refusal : Processors → Call → Option Fault
@@ -53,8 +54,8 @@ refusal p call = first_fault (causes p call)
 abbrev pub after_call : Processors → Call → Processors
 after_call p (Arrive cpu) = record p { online = slice_set p.online cpu true }
 after_call p (Depart cpu) = record p { online = slice_set p.online cpu false; awaited = slice_set p.awaited cpu false }
-after_call p (Begin number) = record p { tag = number; start_set = p.online; awaited = p.online }
-after_call p (Report cpu number) = record p { awaited = awaited_after_report p.tag p.awaited cpu number }
+after_call p (Begin tag) = record p { tag = tag; start_set = p.online; awaited = p.online }
+after_call p (Report cpu noted) = record p { awaited = awaited_after_report p.tag p.awaited cpu noted }
 
 -- what always holds: there is a flag for each processor, processor 0 is online, and only online processors of the
 -- start set are awaited

@@ -2,6 +2,7 @@
 ghost use Rattle.std.specs.Prelude.{◌≡◌, ◌<◌, ℕ, true, false, Some, None, length, replicate};
 ghost use Rattle.std.specs.Prelude.{IfErr, IfOk, OnErr, OnOk};
 ghost use Rattle.rcu_seq.specs.Numbers.{is_running};
+ghost use Rattle.rcu_seq.specs.Tags.{first_tag};
 ghost use Rattle.rcu_node.specs.CpuSet.{is_in};
 ghost use Rattle.rcu_node.specs.Reports.{report_answer};
 ghost use Rattle.rcu_hotplug.specs.Hotplug.{Arrive, Begin, Depart, Report};
@@ -11,6 +12,7 @@ use rcu_node::answer::Answer;
 use rcu_node::awaited::Awaited;
 use rcu_node::cpu_set::CpuSet;
 use rcu_seq::fault::Fault;
+use rcu_seq::tag::Tag;
 use std::alloc::Global;
 use std::marker::Model;
 
@@ -54,7 +56,7 @@ impl<A: Awaited> Hotplug<A> {
     ///
     /// Fault: `NoMemory` (16).
     pub fn new(alloc: Global, inner: A) -> Result<Self, Fault>
-        requires tag { A.tag inner ≡ 0 }
+        requires tag { A.tag inner ≡ first_tag }
         requires empty { A.start_set inner ≡ replicate (length (A.awaited inner)) false }
         ensures ok { IfOk result (λ made. made ≡ at_first (length (A.awaited inner))) }
         ensures err { IfErr result (λ fault. fault ≡ Fault.NoMemory) }
@@ -100,24 +102,24 @@ impl<A: Awaited> Hotplug<A> {
         if !self.online.remove(cpu) {
             return Err(Fault::Offline);
         }
-        let number = self.inner.tag();
-        self.inner.report(cpu, number);
+        let latest = self.inner.tag();
+        self.inner.report(cpu, latest);
         Ok(())
     }
 
-    /// A grace period of this number begins, and awaits the online processors. The number is `4k +
-    /// 1`.
-    pub fn begin(&mut self, tag: u64)
-        requires { is_running tag ≡ true }
+    /// A grace period of this tag begins, and awaits the online processors. The tag's number is
+    /// `4k + 1`.
+    pub fn begin(&mut self, tag: Tag)
+        requires { is_running tag.number ≡ true }
         ensures state { self.new ≡ after_call self.old (Begin tag) }
         ensures sized { cpus_of self.new ≡ cpus_of self.old }
     {
         self.inner.begin(tag, &self.online);
     }
 
-    /// A processor reports a quiescent state with the number that it had noted, as
+    /// A processor reports a quiescent state with the tag that it had noted, as
     /// [`Awaited::report`].
-    pub fn report(&mut self, cpu: u32, tag: u64) -> Answer
+    pub fn report(&mut self, cpu: u32, tag: Tag) -> Answer
         requires { cpu < cpus_of self.old }
         ensures answer { result ≡ report_answer self.old.tag self.old.awaited cpu tag }
         ensures state { self.new ≡ after_call self.old (Report cpu tag) }

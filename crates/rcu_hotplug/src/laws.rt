@@ -1,6 +1,6 @@
 //! What the definitions say of processors that come and go.
 ghost use Rattle.std.specs.Prelude.{◌≡◌, ◌∷◌, ℕ};
-ghost use Rattle.rcu_seq.specs.Numbers.{Number};
+ghost use Rattle.rcu_seq.specs.declared.tag.Tag.{Tag};
 ghost use Rattle.rcu_hotplug.specs.Hotplug.{Arrive, Begin};
 ghost use Rattle.rcu_hotplug.specs.History.{History, AreAccepted, Represents, after_calls, awaits};
 ghost use Rattle.rcu_hotplug.specs.History.{online};
@@ -16,6 +16,6 @@ pub fn calls_leave_what_their_history_says()
 pub fn arrivals_are_awaited_from_the_next_begin()
     ensures arrival { (cpu other : ℕ) (h : History)
         → awaits cpu (Arrive other ∷ h) ≡ awaits cpu h }
-    ensures begin { (cpu : ℕ) (number : Number) (h : History)
+    ensures begin { (cpu : ℕ) (number : Tag) (h : History)
         → awaits cpu (Begin number ∷ h) ≡ online cpu h }
 {}

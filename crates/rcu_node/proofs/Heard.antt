@@ -1,7 +1,8 @@
 -- What is awaited by who was heard.
 use Rattle.std.proofs.Common.{◌≡◌, ℕ, ◌==◌, ◌&&◌, ◌||◌, ◌++◌, Bool, true, false, not, List, [], ◌∷◌, refl, sym, ap, ◌∙◌}
 use Rattle.std.proofs.Math.Bool.{or-false}
-use Rattle.rcu_seq.specs.Numbers.{Number, same_number}
+use Rattle.rcu_seq.specs.Tags.{same_tag}
+use Rattle.rcu_seq.specs.declared.tag.Tag.{Tag}
 use Rattle.rcu_node.specs.CpuSet.{intersection, is_in, unheard}
 use Rattle.rcu_node.specs.Reports.{awaited_after_reports, was_reported}
 use Rattle.rcu_node.proofs.CpuSetLemmas.{is_in-intersection, is_in-unheard, length-intersection, length-unheard}
@@ -9,7 +10,7 @@ use Rattle.rcu_node.proofs.CpuSetLemmas.{same_from_flags}
 use Rattle.rcu_node.proofs.ReportLemmas.{length-awaited_after_reports, unreported}
 
 -- after reports the unheard are awaited
-pub after_reports-unheard : (number : Number) (set : List Bool) (reports : List (ℕ × Number))
+pub after_reports-unheard : (number : Tag) (set : List Bool) (reports : List (ℕ × Tag))
     → awaited_after_reports number set reports ≡ unheard set (λ cpu. was_reported number cpu reports)
 after_reports-unheard number set reports =
     let heard = λ (cpu : ℕ). was_reported number cpu reports in
@@ -25,7 +26,7 @@ unheard-same set heard other h =
     (λ cpu.
     is_in-unheard set heard cpu ∙ ap (λ b. is_in set cpu && not b) (h cpu) ∙ sym (is_in-unheard set other cpu))
 
-pub equally_heard : (number : Number) (set : List Bool) (reports others : List (ℕ × Number))
+pub equally_heard : (number : Tag) (set : List Bool) (reports others : List (ℕ × Tag))
     → ((cpu : ℕ) → was_reported number cpu reports ≡ was_reported number cpu others)
     → awaited_after_reports number set reports ≡ awaited_after_reports number set others
 equally_heard number set reports others h =
@@ -58,15 +59,15 @@ or_over true true earlier = refl
 or_over true false earlier = refl
 or_over false other earlier = refl
 
-was_reported-both : (number : Number) (cpu : ℕ) (reports others : List (ℕ × Number))
+was_reported-both : (number : Tag) (cpu : ℕ) (reports others : List (ℕ × Tag))
     → (was_reported number cpu reports || was_reported number cpu others) ≡ was_reported number cpu (others ++ reports)
 was_reported-both number cpu reports [] = or-false (was_reported number cpu reports)
 was_reported-both number cpu reports (report ∷ others) =
-    or_over (was_reported number cpu reports) (report.0 == cpu && same_number report.1 number)
+    or_over (was_reported number cpu reports) (report.0 == cpu && same_tag report.1 number)
     (was_reported number cpu others)
-    ∙ ap (λ b. (report.0 == cpu && same_number report.1 number) || b) (was_reported-both number cpu reports others)
+    ∙ ap (λ b. (report.0 == cpu && same_tag report.1 number) || b) (was_reported-both number cpu reports others)
 
-pub reports-merged : (number : Number) (set : List Bool) (reports others : List (ℕ × Number))
+pub reports-merged : (number : Tag) (set : List Bool) (reports others : List (ℕ × Tag))
     → intersection (awaited_after_reports number set reports) (awaited_after_reports number set others)
     ≡ awaited_after_reports number set (others ++ reports)
 reports-merged number set reports others =

@@ -4,7 +4,8 @@ use Rattle.std.specs.Bool.{Decides}
 use Rattle.std.proofs.Math.Bool.{and_assoc, and_comm, and_self}
 use Rattle.std.proofs.lemmas.Bool.{and_parts}
 use Rattle.std.proofs.lemmas.Bool.Decides.{Decides-eqb}
-use Rattle.rcu_seq.specs.Numbers.{same_number}
+use Rattle.rcu_seq.specs.Tags.{same_tag}
+use Rattle.rcu_seq.proofs.TagLemmas.{same_tag-Decides}
 use Rattle.rcu_node.specs.CpuSet.{intersection, is_in}
 use Rattle.rcu_node.specs.Merging.{IsAtLeast, Standing, are_alike, after_merge, same_set}
 use Rattle.rcu_node.proofs.CpuSetLemmas.{is_in-intersection, length-intersection, same_from_flags, same_set-Decides}
@@ -45,17 +46,17 @@ Equals x y = (length x.awaited ≡ length y.awaited) × (x.tag ≡ y.tag) × (x.
 are_alike-equals : (x y : Standing) → are_alike x y ≡ true → Equals x y
 are_alike-equals x y e =
     let one =
-    and_parts (length x.awaited == length y.awaited) (same_number x.tag y.tag && same_set x.start_set y.start_set) e in
-    let two = and_parts (same_number x.tag y.tag) (same_set x.start_set y.start_set) one.1 in (
+    and_parts (length x.awaited == length y.awaited) (same_tag x.tag y.tag && same_set x.start_set y.start_set) e in
+    let two = and_parts (same_tag x.tag y.tag) (same_set x.start_set y.start_set) one.1 in (
       (Decides-eqb (length x.awaited) (length y.awaited)).0 one.0,
-      (Decides-eqb x.tag y.tag).0 two.0,
+      (same_tag-Decides x.tag y.tag).0 two.0,
       (same_set-Decides x.start_set y.start_set).0 two.1,
     )
 
 equals-alike : (x y : Standing) → Equals x y → are_alike x y ≡ true
 equals-alike x y h =
     let cpus = (Decides-eqb (length x.awaited) (length y.awaited)).1 h.0 in
-    let tag = (Decides-eqb x.tag y.tag).1 h.1 in
+    let tag = (same_tag-Decides x.tag y.tag).1 h.1 in
     let start = (same_set-Decides x.start_set y.start_set).1 h.2 in
     rw (cpus, tag, start)
 

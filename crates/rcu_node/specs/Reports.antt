@@ -1,29 +1,30 @@
 -- What a report does to the processors that a grace period awaits.
 use Rattle.std.specs.Prelude.{ℕ, ◌==◌, ◌&&◌, ◌||◌, Bool, false, not, List, [], ◌∷◌, if◌then◌else◌, slice_set}
-use Rattle.rcu_seq.specs.Numbers.{Number, same_number}
+use Rattle.rcu_seq.specs.Tags.{same_tag}
+use Rattle.rcu_seq.specs.declared.tag.Tag.{Tag}
 use Rattle.rcu_node.specs.CpuSet.{is_in, size_of}
 use Rattle.rcu_node.specs.declared.answer.Answer.{Answer}
 use Rattle.rcu_node.specs.declared.answer.Answer.TheVariants.{Taken, Last, Repeat, Stale}
 
--- the answer to a report of a processor and a tag, where the grace period of a number awaits this set
-abbrev pub report_answer : Number → List Bool → ℕ → Number → Answer
-report_answer number awaited cpu tag =
-    if not (same_number tag number) then Stale
+-- the answer to a report of a processor and the tag that it noted, where the grace period of a tag awaits this set
+abbrev pub report_answer : Tag → List Bool → ℕ → Tag → Answer
+report_answer tag awaited cpu noted =
+    if not (same_tag noted tag) then Stale
     else (if not (is_in awaited cpu) then Repeat
     else (if size_of awaited == 1 then Last else Taken))
 
--- what is awaited after that report: the same set without the processor, where the tag is the grace period's number
-abbrev pub awaited_after_report : Number → List Bool → ℕ → Number → List Bool
-awaited_after_report number awaited cpu tag = if same_number tag number then slice_set awaited cpu false else awaited
+-- what is awaited after that report: the same set without the processor, where it noted the grace period's tag
+abbrev pub awaited_after_report : Tag → List Bool → ℕ → Tag → List Bool
+awaited_after_report tag awaited cpu noted = if same_tag noted tag then slice_set awaited cpu false else awaited
 
 -- what is awaited after reports, the newest first, each of a processor and a tag
-abbrev pub awaited_after_reports : Number → List Bool → List (ℕ × Number) → List Bool
-awaited_after_reports number set [] = set
-awaited_after_reports number set (report ∷ earlier) =
-    awaited_after_report number (awaited_after_reports number set earlier) report.0 report.1
+abbrev pub awaited_after_reports : Tag → List Bool → List (ℕ × Tag) → List Bool
+awaited_after_reports tag set [] = set
+awaited_after_reports tag set (report ∷ earlier) =
+    awaited_after_report tag (awaited_after_reports tag set earlier) report.0 report.1
 
 -- one of the reports is of this processor and this tag
-abbrev pub was_reported : Number → ℕ → List (ℕ × Number) → Bool
-was_reported number cpu [] = false
-was_reported number cpu (report ∷ earlier) =
-    (report.0 == cpu && same_number report.1 number) || was_reported number cpu earlier
+abbrev pub was_reported : Tag → ℕ → List (ℕ × Tag) → Bool
+was_reported tag cpu [] = false
+was_reported tag cpu (report ∷ earlier) =
+    (report.0 == cpu && same_tag report.1 tag) || was_reported tag cpu earlier

@@ -1,19 +1,22 @@
 //! The processors that a grace period awaits.
 ghost use Rattle.std.specs.Prelude.{◌≡◌, ◌<◌, ◌≤◌, ◌==◌, ℕ, List, Bool, true, length};
 ghost use Rattle.rcu_seq.specs.Numbers.{is_running};
+ghost use Rattle.rcu_seq.specs.declared.tag.Tag.{Tag};
 ghost use Rattle.rcu_node.specs.CpuSet.{is_in, size_of};
 ghost use Rattle.rcu_node.specs.Reports.{report_answer, awaited_after_report};
 
 use crate::answer::Answer;
 use crate::cpu_set::CpuSet;
+use rcu_seq::tag::Tag;
 
 /// The processors that a grace period awaits: those of its start set, less those that reported.
 ///
-/// Contracts see its tag (the grace period's number), its start set and its awaited set, the sets
-/// as a flag for each processor. At making the tag is 0 and both sets are empty.
+/// Contracts see its tag (the grace period's number, with its epoch), its start set and its awaited
+/// set, the sets as a flag for each processor. At making the tag is number 0 of epoch 0 and both
+/// sets are empty.
 pub trait Awaited: Drop {
-    /// The number of the latest grace period.
-    ghost tag: { Self → ℕ };
+    /// The tag of the latest grace period.
+    ghost tag: { Self → Tag };
 
     /// The processors that it awaited at its start.
     ghost start_set: { Self → List Bool };
@@ -25,8 +28,8 @@ pub trait Awaited: Drop {
     fn cpus(&self) -> u32
         ensures { result ≡ length (awaited self.now) };
 
-    /// The number of the latest grace period, 0 before any.
-    fn tag(&self) -> u64
+    /// The tag of the latest grace period, number 0 of epoch 0 before any.
+    fn tag(&self) -> Tag
         ensures { result ≡ tag self.now };
 
     /// Whether the latest grace period awaited the processor at its start.
@@ -47,24 +50,24 @@ pub trait Awaited: Drop {
     fn is_empty(&self) -> bool
         ensures { result ≡ (size_of (awaited self.now) == 0) };
 
-    /// A grace period of this number begins, and awaits the set. The set is one of as many
-    /// processors, and the number is `4k + 1`.
-    fn begin(&mut self, number: u64, set: &CpuSet)
+    /// A grace period of this tag begins, and awaits the set. The set is one of as many
+    /// processors, and the tag's number is `4k + 1`.
+    fn begin(&mut self, now: Tag, set: &CpuSet)
         requires alike { length set.now ≡ length (awaited self.old) }
-        requires running { is_running number ≡ true }
-        ensures tag { tag self.new ≡ number }
+        requires running { is_running now.number ≡ true }
+        ensures tag { tag self.new ≡ now }
         ensures start_set { start_set self.new ≡ set.now }
         ensures awaited { awaited self.new ≡ set.now };
 
-    /// A processor reports a quiescent state with the number that it had noted. The caller answers
+    /// A processor reports a quiescent state with the tag that it had noted. The caller answers
     /// for the idle case: the report is compared with the tag alone.
-    fn report(&mut self, cpu: u32, number: u64) -> Answer
+    fn report(&mut self, cpu: u32, noted: Tag) -> Answer
         requires { cpu < length (awaited self.old) }
-        ensures answer { result ≡ report_answer (tag self.old) (awaited self.old) cpu number }
+        ensures answer { result ≡ report_answer (tag self.old) (awaited self.old) cpu noted }
         ensures tag { tag self.new ≡ tag self.old }
         ensures start_set { start_set self.new ≡ start_set self.old }
         ensures awaited { awaited self.new
-            ≡ awaited_after_report (tag self.old) (awaited self.old) cpu number };
+            ≡ awaited_after_report (tag self.old) (awaited self.old) cpu noted };
 
     /// There is a processor.
     ghost some: { (set : Self) → 0 < length (awaited set) };

@@ -1,6 +1,7 @@
 //! The awaited processors in a flat set.
 ghost use Rattle.std.specs.Prelude.{◌≡◌, ◌<◌, ◌≤◌, true, false, ℕ, length, replicate, IfOk, IfErr};
 ghost use Rattle.std.specs.Prelude.{OnOk};
+ghost use Rattle.rcu_seq.specs.Tags.{first_tag};
 ghost use Rattle.rcu_node.specs.CpuSet.{IsSetFault, is_in};
 
 use crate::awaited::Awaited;
@@ -8,6 +9,7 @@ use crate::cpu_set::CpuSet;
 use crate::sets::Sets;
 use crate::tagged::Tagged;
 use rcu_seq::fault::Fault;
+use rcu_seq::tag::Tag;
 use std::alloc::Global;
 
 /// The awaited processors as one set, and the start set beside it. A report costs one step.
@@ -20,7 +22,7 @@ impl Flat {
     pub fn new(alloc: Global, cpus: u32) -> Result<Flat, Fault>
         ensures some { OnOk result (0 < cpus) }
         ensures few { OnOk result (cpus ≤ 4096) }
-        ensures tag { IfOk result (λ flat. ⟦<Flat as Awaited>⟧.tag flat ≡ 0) }
+        ensures tag { IfOk result (λ flat. ⟦<Flat as Awaited>⟧.tag flat ≡ first_tag) }
         ensures start_set { IfOk result (λ flat.
             ⟦<Flat as Awaited>⟧.start_set flat ≡ replicate cpus false) }
         ensures awaited { IfOk result (λ flat.
@@ -28,7 +30,7 @@ impl Flat {
         ensures err { IfErr result (λ fault. IsSetFault cpus fault) }
     {
         Ok(Tagged {
-            tag: 0,
+            tag: Tag::of_first_epoch(0),
             sets: FlatSets {
                 start: CpuSet::new(alloc, cpus)?,
                 awaited: CpuSet::new(alloc, cpus)?,

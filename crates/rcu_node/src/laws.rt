@@ -2,7 +2,7 @@
 ghost use Rattle.std.specs.Bool.{Decides};
 ghost use Rattle.std.specs.Prelude.{◌≡◌, ◌<◌, ◌==◌, ◌&&◌, ◌||◌, ◌++◌, ℕ, Bool, List, true, false};
 ghost use Rattle.std.specs.Prelude.{length, nat_lt, not, slice_index, slice_set};
-ghost use Rattle.rcu_seq.specs.Numbers.{Number};
+ghost use Rattle.rcu_seq.specs.declared.tag.Tag.{Tag};
 ghost use Rattle.rcu_geometry.specs.Geometry.{IsLegalShape, Shape};
 ghost use Rattle.rcu_node.specs.CpuSet.{intersection, is_in, listed, size_of, unheard};
 ghost use Rattle.rcu_node.specs.Masks.{AreMasks};
@@ -40,7 +40,7 @@ pub fn nobody_is_in_a_set_of_size_0()
 /// After any reports, in any order and of any tags, a processor is awaited exactly where it was in
 /// the start set and no report of it had the grace period's number.
 pub fn reports_leave_the_unreported()
-    ensures { (number : Number) (set : List Bool) (reports : List (ℕ × Number)) (cpu : ℕ)
+    ensures { (number : Tag) (set : List Bool) (reports : List (ℕ × Tag)) (cpu : ℕ)
         → is_in (awaited_after_reports number set reports) cpu
         ≡ (is_in set cpu && not (was_reported number cpu reports)) }
 {}
@@ -48,7 +48,7 @@ pub fn reports_leave_the_unreported()
 /// So the awaited set is the start set less the processors that were heard, and has a flag for each
 /// processor too. A departed processor is heard as one that reports the grace period's number.
 pub fn reports_leave_the_unheard()
-    ensures { (number : Number) (set : List Bool) (reports : List (ℕ × Number))
+    ensures { (number : Tag) (set : List Bool) (reports : List (ℕ × Tag))
         → awaited_after_reports number set reports
         ≡ unheard set (λ cpu. was_reported number cpu reports) }
 {}
@@ -56,7 +56,7 @@ pub fn reports_leave_the_unheard()
 /// Equal numbers, start sets and sets of heard processors give equal awaited sets, in whatever
 /// order the reports came, however often, and whichever stale ones came between them.
 pub fn equally_heard_await_the_same()
-    ensures { (number : Number) (set : List Bool) (reports others : List (ℕ × Number))
+    ensures { (number : Tag) (set : List Bool) (reports others : List (ℕ × Tag))
         → ((cpu : ℕ) → was_reported number cpu reports ≡ was_reported number cpu others)
         → awaited_after_reports number set reports ≡ awaited_after_reports number set others }
 {}
@@ -113,7 +113,7 @@ pub fn merging_hears_what_the_other_heard()
     ensures heard { (set : List Bool) (heard other : ℕ → Bool)
         → intersection (unheard set heard) (unheard set other)
         ≡ unheard set (λ cpu. heard cpu || other cpu) }
-    ensures reports { (number : Number) (set : List Bool) (reports others : List (ℕ × Number))
+    ensures reports { (number : Tag) (set : List Bool) (reports others : List (ℕ × Tag))
         → intersection (awaited_after_reports number set reports)
         (awaited_after_reports number set others)
         ≡ awaited_after_reports number set (others ++ reports) }

@@ -4,12 +4,13 @@ use crate::answer::Answer;
 use crate::awaited::Awaited;
 use crate::cpu_set::CpuSet;
 use crate::sets::Sets;
+use rcu_seq::tag::Tag;
 
-/// The sets of the latest grace period, and its number.
+/// The sets of the latest grace period, and its tag.
 #[derive(Drop)]
 pub struct Tagged<S: Sets> {
-    /// The number of the latest grace period, 0 before any.
-    pub(crate) tag: u64,
+    /// The tag of the latest grace period, number 0 of epoch 0 before any.
+    pub(crate) tag: Tag,
     /// Whom it awaited at its start, and whom it awaits now.
     pub(crate) sets: S,
 }
@@ -33,7 +34,7 @@ impl<S: Sets> Awaited for Tagged<S> {
         self.sets.cpus()
     }
 
-    fn tag(&self) -> u64 {
+    fn tag(&self) -> Tag {
         self.tag
     }
 
@@ -53,13 +54,13 @@ impl<S: Sets> Awaited for Tagged<S> {
         self.sets.is_empty()
     }
 
-    fn begin(&mut self, number: u64, set: &CpuSet) {
-        self.tag = number;
+    fn begin(&mut self, now: Tag, set: &CpuSet) {
+        self.tag = now;
         self.sets.begin(set);
     }
 
-    fn report(&mut self, cpu: u32, number: u64) -> Answer {
-        if number != self.tag {
+    fn report(&mut self, cpu: u32, noted: Tag) -> Answer {
+        if noted != self.tag {
             return Answer::Stale;
         }
         if !self.sets.remove(cpu) {

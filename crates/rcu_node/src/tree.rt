@@ -3,12 +3,14 @@ ghost use Rattle.std.specs.Prelude.{◌≡◌, ◌<◌, None, false, length, rep
 ghost use Rattle.std.specs.Prelude.{IfOk, IfErr, OnOk};
 ghost use Rattle.rcu_geometry.specs.Geometry.{IsTreeFault, refusal, shape};
 ghost use Rattle.rcu_geometry.specs.Geometry.{nodes as nodes_of};
+ghost use Rattle.rcu_seq.specs.Tags.{first_tag};
 ghost use Rattle.rcu_node.specs.Masks.{IsMaskOf, group_of};
 
 use crate::awaited::Awaited;
 use crate::nodes::Nodes;
 use crate::tagged::Tagged;
 use rcu_seq::fault::Fault;
+use rcu_seq::tag::Tag;
 use std::alloc::Global;
 
 /// The awaited processors in a tree of up to `LEAF` processors a leaf and `FAN` children an inner
@@ -26,7 +28,7 @@ impl<const LEAF: u32, const FAN: u32> Tree<LEAF, FAN> {
     /// processor, more than 4,096, or more than four levels hold; `NoMemory` (16).
     pub fn new(alloc: Global, cpus: u32) -> Result<Self, Fault>
         ensures accepted { OnOk result (refusal (shape LEAF FAN cpus) ≡ None) }
-        ensures tag { IfOk result (λ tree. ⟦<Tree<LEAF, FAN> as Awaited>⟧.tag tree ≡ 0) }
+        ensures tag { IfOk result (λ tree. ⟦<Tree<LEAF, FAN> as Awaited>⟧.tag tree ≡ first_tag) }
         ensures start_set { IfOk result (λ tree.
             ⟦<Tree<LEAF, FAN> as Awaited>⟧.start_set tree ≡ replicate cpus false) }
         ensures awaited { IfOk result (λ tree.
@@ -34,7 +36,7 @@ impl<const LEAF: u32, const FAN: u32> Tree<LEAF, FAN> {
         ensures err { IfErr result (λ fault. IsTreeFault (shape LEAF FAN cpus) fault) }
     {
         Ok(Tagged {
-            tag: 0,
+            tag: Tag::of_first_epoch(0),
             sets: Nodes::new(alloc, cpus)?,
         })
     }

@@ -7,6 +7,8 @@ use Rattle.std.proofs.lemmas.Bool.Decides.{nat_tests}
 use Rattle.std.proofs.lemmas.List.{length-set, length-replicate, ext_get_or}
 use Rattle.std.proofs.lemmas.List.Sums.{sum_by-cons}
 use Rattle.rcu_seq.specs.Numbers.{Number, number_at, same_number}
+use Rattle.rcu_seq.specs.Tags.{of_first_epoch}
+use Rattle.rcu_seq.specs.declared.tag.Tag.{Tag}
 use Rattle.rcu_node.specs.CpuSet.{is_in}
 use Rattle.rcu_node.specs.Reports.{awaited_after_report}
 use Rattle.rcu_node.proofs.CpuSetLemmas.{in_none, is_in-intersection, is_in-remove, length-intersection}
@@ -55,22 +57,22 @@ cpus_of-next : (r : Replicated) (call : Call) → CanBeMade r call → cpus_of (
 cpus_of-next r (Begin set) made = made
 cpus_of-next r (Report cpu number) made =
     by_running (λ (left : Replicated). cpus_of left ≡ cpus_of r) r
-    (record r { awaited = awaited_after_report r.tag r.awaited cpu number })
-    (λ runs. length-awaited_after_report r.tag r.awaited cpu number) (λ rests. refl)
+    (record r { awaited = awaited_after_report (of_first_epoch r.tag) r.awaited cpu (of_first_epoch number) })
+    (λ runs. length-awaited_after_report (of_first_epoch r.tag) r.awaited cpu (of_first_epoch number)) (λ rests. refl)
 cpus_of-next r (Depart cpu) made = length-set r.awaited cpu false
 cpus_of-next r End made = refl
 cpus_of-next r (Merge other) made = length-intersection r.awaited other.awaited
 
 -- a report of a running grace period
 says_report : (r : Replicated) (h : History) (other : ℕ) (number : Number) → Represents r h
-    → Represents (record r { awaited = awaited_after_report r.tag r.awaited other number }) (Report other number ∷ h)
+    → Represents (record r { awaited = awaited_after_report (of_first_epoch r.tag) r.awaited other (of_first_epoch number) }) (Report other number ∷ h)
 says_report r h other number says = record {
   ends = says.ends ∙ sym (ends_stay (Report other number) h refl);
   running = says.running;
   tag = says.tag;
   start_set = says.start_set;
   awaited = λ cpu.
-      is_in-awaited_after_report r.tag r.awaited other number cpu
+      is_in-awaited_after_report (of_first_epoch r.tag) r.awaited other (of_first_epoch number) cpu
       ∙ ap (λ (n : Number). is_in r.awaited cpu && not (other == cpu && same_number number n)) says.tag
       ∙ ap (λ b. b && not (other == cpu && same_number number (tag h))) (says.awaited cpu)
       ∙ neither (starts cpu h) (is_heard cpu (tag h) h) (other == cpu && same_number number (tag h));
@@ -103,7 +105,7 @@ says_next r h (Begin set) accepted kept says = record {
 }
 says_next r h (Report other number) accepted kept says =
     by_running (λ (left : Replicated). Represents left (Report other number ∷ h)) r
-    (record r { awaited = awaited_after_report r.tag r.awaited other number })
+    (record r { awaited = awaited_after_report (of_first_epoch r.tag) r.awaited other (of_first_epoch number) })
     (λ runs. says_report r h other number says) (λ rests. says_idle_report r h other number (kept.idle rests) says)
 says_next r h (Depart other) accepted kept says = record {
   ends = says.ends ∙ sym (ends_stay (Depart other) h refl);
@@ -129,7 +131,7 @@ says_next r h (Merge other) accepted kept says = record {
   awaited = λ cpu.
       let agrees = merging_agrees r other accepted in
       let started = ap (λ (set : List Bool). is_in set cpu) (sym agrees.2) ∙ says.start_set cpu in
-      let tagged : same_number other.tag (tag h) ≡ true = grind (arith, nat_tests, agrees.1, says.tag) in
+      let tagged : same_number other.tag (tag h) ≡ true = let same = ap (λ (t : Tag). t.number) agrees.1 in grind (arith, nat_tests, same, says.tag) in
       is_in-intersection r.awaited other.awaited cpu ∙ ap (λ b. b && is_in other.awaited cpu) (says.awaited cpu)
       ∙ rw (tagged, started) (nor_by_the_other (starts cpu h) (is_heard cpu (tag h) h) (is_in other.awaited cpu));
 }

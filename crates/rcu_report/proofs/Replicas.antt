@@ -5,6 +5,7 @@ use Rattle.std.proofs.lemmas.Bool.{and_parts, cases_Bool, true≢false}
 use Rattle.std.proofs.lemmas.Bool.Decides.{nat_tests}
 use Rattle.std.proofs.lemmas.List.{length-set, length-replicate}
 use Rattle.rcu_seq.specs.Numbers.{Number, same_number}
+use Rattle.rcu_seq.specs.Tags.{of_first_epoch}
 use Rattle.rcu_node.specs.CpuSet.{intersection, is_in, size_of}
 use Rattle.rcu_node.specs.Merging.{are_alike}
 use Rattle.rcu_node.specs.Reports.{awaited_after_report}
@@ -87,12 +88,12 @@ kept_next r (Begin set) made accepted kept = record {
   idle = λ rests. absurd (true≢false rests);
 }
 kept_next r (Report cpu number) made accepted kept =
-    by_running IsSound r (record r { awaited = awaited_after_report r.tag r.awaited cpu number })
+    by_running IsSound r (record r { awaited = awaited_after_report (of_first_epoch r.tag) r.awaited cpu (of_first_epoch number) })
     (λ runs.
-    kept_cut r (awaited_after_report r.tag r.awaited cpu number)
-    (length-awaited_after_report r.tag r.awaited cpu number)
+    kept_cut r (awaited_after_report (of_first_epoch r.tag) r.awaited cpu (of_first_epoch number))
+    (length-awaited_after_report (of_first_epoch r.tag) r.awaited cpu (of_first_epoch number))
     (λ k there.
-    let left = sym (is_in-awaited_after_report r.tag r.awaited cpu number k) ∙ there in
+    let left = sym (is_in-awaited_after_report (of_first_epoch r.tag) r.awaited cpu (of_first_epoch number) k) ∙ there in
     (and_parts (is_in r.awaited k) (not (cpu == k && same_number number r.tag)) left).0) kept)
     (λ rests. kept)
 kept_next r (Depart cpu) made accepted kept =

@@ -1,26 +1,27 @@
 -- Reports of one tag, gathered as the set of their processors.
 use Rattle.std.specs.Prelude.{ℕ, ◌≡◌, Bool, List, All, if◌then◌else◌}
-use Rattle.rcu_seq.specs.Numbers.{Number, same_number}
+use Rattle.rcu_seq.specs.Tags.{same_tag}
+use Rattle.rcu_seq.specs.declared.tag.Tag.{Tag}
 use Rattle.rcu_node.specs.CpuSet.{is_in, unheard}
 use Rattle.rcu_node.specs.Reports.{was_reported}
 
 -- a batch, as contracts see it: the tag of its reports, and their processors
 pub record Gathered : Type 0 where
-  pub tag : Number
+  pub tag : Tag
   pub set : List Bool
 
 -- the processors of a set that are not in another one
 abbrev pub difference : List Bool → List Bool → List Bool
 difference set other = unheard set (is_in other)
 
--- what is awaited after the reports of a batch, where the grace period of a number awaits this set: those that no
--- report of the batch is of, where the tag is the number
-abbrev pub awaited_after_batch : Number → List Bool → Gathered → List Bool
-awaited_after_batch number awaited batch =
-    if same_number batch.tag number then difference awaited batch.set else awaited
+-- what is awaited after the reports of a batch, where the grace period of a tag awaits this set: those that no report
+-- of the batch is of, where the batch has that tag
+abbrev pub awaited_after_batch : Tag → List Bool → Gathered → List Bool
+awaited_after_batch tag awaited batch =
+    if same_tag batch.tag tag then difference awaited batch.set else awaited
 
 -- reports, each of a processor and a tag, are those of a batch, in any order and any number of times: each has its
 -- tag, and their processors are its set
-pub record AreOf (batch : Gathered) (reports : List (ℕ × Number)) : Type 0 where
+pub record AreOf (batch : Gathered) (reports : List (ℕ × Tag)) : Type 0 where
   pub tags : All (λ report. report.1 ≡ batch.tag) reports
   pub cpus : (cpu : ℕ) → is_in batch.set cpu ≡ was_reported batch.tag cpu reports

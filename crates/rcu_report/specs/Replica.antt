@@ -1,9 +1,10 @@
--- Replicas of one grace-period engine: what each call leaves, and when it is refused.
+-- Replicas of one grace-period engine, which stay in the first epoch: what each call leaves, and when it is refused.
 use Rattle.std.specs.Prelude.{ℕ, ◌≡◌, ◌+◌, ◌-◌, ◌==◌, Bool, true, false, not, nat_lt, if◌then◌else◌, List, [], ◌∷◌}
 use Rattle.std.specs.Prelude.{length, slice_set, replicate, Option}
 use Rattle.rcu_seq.specs.Fault.{first_fault}
 use Rattle.rcu_seq.specs.Numbers.{Number, number_at}
 use Rattle.rcu_seq.specs.Seq.{Periods, number_of}
+use Rattle.rcu_seq.specs.Tags.{of_first_epoch}
 use Rattle.rcu_seq.specs.declared.fault.Fault.{Fault}
 use Rattle.rcu_seq.specs.declared.fault.Fault.TheVariants.{BadCpu, Running, Idle, Waiting, Exhausted, BootStays}
 use Rattle.rcu_seq.specs.declared.fault.Fault.TheVariants.{NotAlike}
@@ -33,7 +34,7 @@ pub data Call : Type 0 where
 -- before any call no grace period began, and no processor is awaited
 abbrev pub at_first : ℕ → Number → Replicated
 at_first cpus last = record {
-  periods = record { ends = 0; running = false; last = last };
+  periods = record { epoch = 0; ends = 0; running = false; last = last };
   tag = 0;
   start_set = replicate cpus false;
   awaited = replicate cpus false;
@@ -45,7 +46,7 @@ cpus_of r = length r.awaited
 
 -- where the latest grace period of a replica stands
 abbrev pub standing_of : Replicated → Standing
-standing_of r = standing r.tag r.start_set r.awaited
+standing_of r = standing (of_first_epoch r.tag) r.start_set r.awaited
 
 -- the number of the latest grace period of a counter, 0 before any
 abbrev pub latest_of : Periods → Number
@@ -53,7 +54,9 @@ latest_of p = if p.running then number_of p else (if p.ends == 0 then 0 else num
 
 -- the answer to a report: stale while no grace period runs, whatever its number, else as the awaited set's
 abbrev pub answer_of : Replicated → ℕ → Number → Answer
-answer_of r cpu number = if r.periods.running then report_answer r.tag r.awaited cpu number else Stale
+answer_of r cpu number =
+    if r.periods.running then report_answer (of_first_epoch r.tag) r.awaited cpu (of_first_epoch number)
+    else Stale
 
 -- the call can be made: a set that begins is one of as many processors
 abbrev pub CanBeMade : Replicated → Call → Type 0
@@ -83,7 +86,9 @@ after_call r (Begin set) = record {
   awaited = set;
 }
 after_call r (Report cpu number) =
-    if r.periods.running then record r { awaited = awaited_after_report r.tag r.awaited cpu number } else r
+    if r.periods.running then
+    record r { awaited = awaited_after_report (of_first_epoch r.tag) r.awaited cpu (of_first_epoch number) }
+    else r
 after_call r (Depart cpu) = record r { awaited = slice_set r.awaited cpu false }
 after_call r End = record r { periods = record r.periods { ends = r.periods.ends + 1; running = false } }
 after_call r (Merge other) = record r { awaited = intersection r.awaited other.awaited }

@@ -1,7 +1,7 @@
 //! Reports of one tag, as a set.
 ghost use Rattle.std.specs.Prelude.{◌≡◌, ◌≢◌, ◌<◌, ◌≤◌, ◌+◌, ◌&&◌, ◌⊎◌, if◌then◌else◌, true, false};
 ghost use Rattle.std.specs.Prelude.{length, slice_set, replicate, IfErr, IfOk, OnErr, OnOk};
-ghost use Rattle.rcu_seq.specs.Numbers.{same_number};
+ghost use Rattle.rcu_seq.specs.Tags.{same_tag};
 ghost use Rattle.rcu_node.specs.CpuSet.{IsSetFault, is_in, size_of, union};
 ghost use Rattle.rcu_node.specs.Reports.{awaited_after_report};
 ghost use Rattle.rcu_report.specs.Batch.{difference, awaited_after_batch};
@@ -11,6 +11,7 @@ use rcu_node::answer::Answer;
 use rcu_node::awaited::Awaited;
 use rcu_node::cpu_set::CpuSet;
 use rcu_seq::fault::Fault;
+use rcu_seq::tag::Tag;
 use std::alloc::Global;
 use std::marker::Model;
 
@@ -22,7 +23,7 @@ use std::marker::Model;
 /// reports.
 #[derive(Drop)]
 pub struct Batch {
-    tag: u64,
+    tag: Tag,
     set: CpuSet,
 }
 
@@ -41,7 +42,7 @@ impl Batch {
     /// No report.
     ///
     /// Faults: `TooManyCpus` (17) for no processor or more than 4,096; `NoMemory` (16).
-    pub fn new(alloc: Global, cpus: u32, tag: u64) -> Result<Self, Fault>
+    pub fn new(alloc: Global, cpus: u32, tag: Tag) -> Result<Self, Fault>
         ensures ok { IfOk result (λ batch.
             batch ≡ record { tag = tag; set = replicate cpus false }) }
         ensures some { OnOk result (0 < cpus) }
@@ -55,7 +56,7 @@ impl Batch {
     }
 
     /// The tag of the reports.
-    pub fn tag(&self) -> u64
+    pub fn tag(&self) -> Tag
         ensures { result ≡ self.now.tag }
     {
         self.tag
@@ -154,9 +155,9 @@ impl Batch {
 }
 
 /// Makes a report, and answers whether its processor was awaited.
-fn clears<A: Awaited>(to: &mut A, cpu: u32, tag: u64) -> bool
+fn clears<A: Awaited>(to: &mut A, cpu: u32, tag: Tag) -> bool
     requires { cpu < length (A.awaited to.old) }
-    ensures cleared { result ≡ (same_number tag (A.tag to.old) && is_in (A.awaited to.old) cpu) }
+    ensures cleared { result ≡ (same_tag tag (A.tag to.old) && is_in (A.awaited to.old) cpu) }
     ensures tag { A.tag to.new ≡ A.tag to.old }
     ensures start_set { A.start_set to.new ≡ A.start_set to.old }
     ensures awaited { A.awaited to.new

@@ -1,6 +1,7 @@
 //! What the definitions say of batches and of replicas.
 ghost use Rattle.std.specs.Prelude.{◌≡◌, ◌&&◌, ℕ, Bool, List, None};
 ghost use Rattle.rcu_seq.specs.Numbers.{Number, same_number};
+ghost use Rattle.rcu_seq.specs.declared.tag.Tag.{Tag};
 ghost use Rattle.rcu_node.specs.Reports.{awaited_after_reports};
 ghost use Rattle.rcu_report.specs.Batch.{AreOf, Gathered, awaited_after_batch};
 ghost use Rattle.rcu_report.specs.History.{AreAccepted, AreAlike, History, Represents, after_calls};
@@ -9,8 +10,8 @@ ghost use Rattle.rcu_report.specs.Replica.{IsSound, Merge, Replicated, after_cal
 
 /// A batch leaves what its reports leave, one after another, in any order and any number of times.
 pub fn batch_leaves_what_its_reports_leave()
-    ensures { (batch : Gathered) (number : Number) (awaited : List Bool)
-        → (reports : List (ℕ × Number)) → AreOf batch reports
+    ensures { (batch : Gathered) (number : Tag) (awaited : List Bool)
+        → (reports : List (ℕ × Tag)) → AreOf batch reports
         → awaited_after_batch number awaited batch ≡ awaited_after_reports number awaited reports }
 {}
 

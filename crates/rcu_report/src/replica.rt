@@ -3,6 +3,7 @@ ghost use Rattle.std.specs.Prelude.{◌≡◌, ◌≤◌, Some, None, true, fals
 ghost use Rattle.std.specs.Prelude.{IfErr, IfOk, OnErr, OnOk};
 ghost use Rattle.rcu_seq.specs.Numbers.{is_last};
 ghost use Rattle.rcu_seq.specs.Seq.{number_of};
+ghost use Rattle.rcu_seq.specs.Tags.{first_tag, of_first_epoch};
 ghost use Rattle.rcu_report.specs.Replica.{Begin, Depart, End, Merge, Report};
 ghost use Rattle.rcu_report.specs.Replica.{IsSound, answer_of, at_first, cpus_of, after_call};
 ghost use Rattle.rcu_report.specs.Replica.{refusal};
@@ -13,6 +14,7 @@ use rcu_node::cpu_set::CpuSet;
 use rcu_node::merging::merge;
 use rcu_seq::fault::Fault;
 use rcu_seq::seq::Seq;
+use rcu_seq::tag::Tag;
 use std::marker::Model;
 
 /// An awaited set with a counter: one of two or more replicas of one grace-period engine, which
@@ -30,6 +32,7 @@ pub struct Replica<A: Awaited> {
 
 impl<A: Awaited> Model for Replica<A> {
     ghost use Rattle.std.specs.Prelude.{◌≡◌, true, false, ℕ, length, replicate};
+    ghost use Rattle.rcu_seq.specs.Tags.{of_first_epoch};
     ghost use Rattle.rcu_node.specs.CpuSet.{is_in};
     ghost use Rattle.rcu_report.specs.Replica.{Replicated, latest_of};
 
@@ -37,14 +40,15 @@ impl<A: Awaited> Model for Replica<A> {
 
     ghost view = { λ r. record {
       periods = r.seq;
-      tag = A.tag r.inner;
+      tag = (A.tag r.inner).number;
       start_set = A.start_set r.inner;
       awaited = A.awaited r.inner;
     } };
 
     ghost invariant = { λ r. record {
-      latest : A.tag r.inner ≡ latest_of r.seq;
-      fresh : A.tag r.inner ≡ 0
+      latest : A.tag r.inner ≡ of_first_epoch (latest_of r.seq);
+      epoch : r.seq.epoch ≡ 0;
+      fresh : (A.tag r.inner).number ≡ 0
           → A.start_set r.inner ≡ replicate (length (A.awaited r.inner)) false;
       idle : r.seq.running ≡ false → (cpu : ℕ) → is_in (A.awaited r.inner) cpu ≡ false;
     } };
@@ -55,7 +59,7 @@ impl<A: Awaited> Replica<A> {
     ///
     /// Fault `BadLast` (19): `last` is not a multiple of 4 in 4..=2^62.
     pub fn new(inner: A, last: u64) -> Result<Self, Fault>
-        requires tag { A.tag inner ≡ 0 }
+        requires tag { A.tag inner ≡ first_tag }
         requires empty { A.start_set inner ≡ replicate (length (A.awaited inner)) false }
         ensures ok { IfOk result (λ made. made ≡ at_first (length (A.awaited inner)) last) }
         ensures accepted { OnOk result (is_last last ≡ true) }
@@ -81,7 +85,7 @@ impl<A: Awaited> Replica<A> {
         ensures refused { OnErr result (self.new ≡ self.old) }
     {
         let number = self.seq.start()?;
-        self.inner.begin(number, set);
+        self.inner.begin(Tag::of_first_epoch(number), set);
         Ok(number)
     }
 
@@ -102,7 +106,7 @@ impl<A: Awaited> Replica<A> {
         if !self.seq.is_running() {
             return Ok(Answer::Stale);
         }
-        Ok(self.inner.report(cpu, tag))
+        Ok(self.inner.report(cpu, Tag::of_first_epoch(tag)))
     }
 
     /// A processor departs, and is awaited no more.
@@ -120,8 +124,8 @@ impl<A: Awaited> Replica<A> {
         if cpu == 0 {
             return Err(Fault::BootStays);
         }
-        let number = self.inner.tag();
-        self.inner.report(cpu, number);
+        let tag = self.inner.tag();
+        self.inner.report(cpu, tag);
         Ok(())
     }
 
@@ -160,7 +164,7 @@ impl<A: Awaited> Replica<A> {
 
     /// The awaited set.
     pub fn awaited(&self) -> &A
-        ensures tag { A.tag result.now ≡ self.now.tag }
+        ensures tag { A.tag result.now ≡ of_first_epoch self.now.tag }
         ensures start_set { A.start_set result.now ≡ self.now.start_set }
         ensures awaited { A.awaited result.now ≡ self.now.awaited }
         ensures kept { IsSound self.now }

@@ -1,6 +1,9 @@
 //! Cookies of polled grace periods.
-ghost use Rattle.std.specs.Prelude.{◌≡◌, ◌≤◌, ◌^◌};
-ghost use Rattle.rcu_seq.specs.Numbers.{is_done_at, snapshot};
+ghost use Rattle.std.specs.Prelude.{◌≡◌, ◌≤◌, ◌<◌, ◌^◌};
+ghost use Rattle.rcu_seq.specs.Numbers.{snapshot};
+ghost use Rattle.rcu_seq.specs.Tags.{cookie_at, has_come, is_done_at, is_done_first};
+
+use crate::tag::Tag;
 
 /// The low bits of a number, which say whether a grace period runs.
 const STATE_BITS: u64 = 3;
@@ -8,29 +11,70 @@ const STATE_BITS: u64 = 3;
 /// From `4k` beyond `4k + 4`, and from `4k + 1` to `4k + 8`.
 const TO_NEXT_END: u64 = 7;
 
-/// The cookie that is done at any time.
-const ALWAYS_DONE: Cookie = Cookie(1);
+/// The number of a cookie that is done at any time.
+const ALWAYS_DONE: u64 = 1;
 
-/// What a taking gives to be polled: the number that ends the first grace period to begin after it
-/// (Linux's `get_state_synchronize_rcu`). The cookie 1 is done at any time.
+/// The number that ends an epoch's first grace period.
+pub const FIRST_END: u64 = 4;
+
+/// What a taking gives to be polled: the number that ends the first grace period to begin after it,
+/// counted on past the last number where that one is in the next epoch, and the epoch of the taking
+/// (Linux's `get_state_synchronize_rcu`). A cookie of number 1 is done at any time.
 #[derive(Clone, Copy, Debug, PartialEq, Eq)]
-pub struct Cookie(pub u64);
+pub struct Cookie {
+    /// The epoch of its taking.
+    pub epoch: u64,
+    /// The number that it waits for.
+    pub number: u64,
+}
+
+/// The number that ends the first grace period to begin after this number, which is at most 2^62
+/// (Linux's `rcu_seq_snap`). A grace period that runs already is not enough, since a reader may
+/// have begun after its start.
+pub fn snapshot(number: u64) -> u64
+    requires { number ≤ 2 ^ 62 }
+    ensures { result ≡ snapshot number }
+{
+    (number + TO_NEXT_END) & !STATE_BITS
+}
 
 impl Cookie {
-    /// The cookie of a taking at this number, which is at most 2^62 (Linux's `rcu_seq_snap`). A
-    /// grace period that runs already is not enough, since a reader may have begun after its start.
-    pub fn of(number: u64) -> Cookie
-        requires { number ≤ 2 ^ 62 }
-        ensures { result.0 ≡ snapshot number }
+    /// The cookie of a taking at this tag, whose number is at most 2^62.
+    pub fn of(now: Tag) -> Cookie
+        requires { now.number ≤ 2 ^ 62 }
+        ensures { result ≡ cookie_at now }
     {
-        Cookie((number + TO_NEXT_END) & !STATE_BITS)
+        Cookie {
+            epoch: now.epoch,
+            number: snapshot(now.number),
+        }
     }
 
-    /// Whether it is done at this number (Linux's `poll_state_synchronize_rcu`, without
-    /// wrap-around): the number is at least the cookie's, or the cookie is 1.
-    pub fn is_done_at(self, number: u64) -> bool
-        ensures { result ≡ is_done_at self.0 number }
+    /// Whether it is done at this tag, where `last` is the number that ends an epoch (Linux's
+    /// `poll_state_synchronize_rcu`, without wrap-around). A cookie of number 1 is. One of the same
+    /// epoch is where the number is at least the cookie's. One of the epoch before is where its
+    /// number is at most `last`, or the number is at least 4. One of an older epoch is, and one of
+    /// a later epoch is not.
+    pub fn is_done_at(self, now: Tag, last: u64) -> bool
+        ensures { result ≡ is_done_at last self now }
     {
-        number >= self.0 || self == ALWAYS_DONE
+        self.number == ALWAYS_DONE || self.has_come(now, last)
+    }
+
+    /// The same for a counter that is never renumbered.
+    pub fn is_done_first(self, number: u64) -> bool
+        ensures { result ≡ is_done_first self number }
+    {
+        self.number == ALWAYS_DONE || (self.epoch == 0 && number >= self.number)
+    }
+
+    /// Whether what it waits for has come.
+    fn has_come(self, now: Tag, last: u64) -> bool
+        ensures { result ≡ has_come last self now }
+    {
+        if self.epoch >= now.epoch {
+            return self.epoch == now.epoch && self.number <= now.number;
+        }
+        now.epoch - self.epoch > 1 || self.number <= last || FIRST_END <= now.number
     }
 }

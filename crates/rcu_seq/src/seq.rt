@@ -1,11 +1,13 @@
 //! The counter of grace periods.
-ghost use Rattle.std.specs.Prelude.{◌≡◌, ◌+◌, ◌*◌, ◌≢◌, ◌≤◌, ◌^◌, ◌%◌, true, false, IfOk, IfErr};
-ghost use Rattle.std.specs.Prelude.{OnOk, OnErr, MatchResult};
+ghost use Rattle.std.specs.Prelude.{◌≡◌, ◌+◌, ◌*◌, ◌≢◌, ◌≤◌, ◌<◌, ◌^◌, ◌%◌, true, false};
+ghost use Rattle.std.specs.Prelude.{IfOk, IfErr, OnOk, OnErr, MatchResult};
 ghost use Rattle.rcu_seq.specs.Numbers.{is_last};
-ghost use Rattle.rcu_seq.specs.Seq.{is_done, number_of, snapshot_of};
+ghost use Rattle.rcu_seq.specs.Seq.{cookie_of, is_done, number_of, renumbered, tag_of};
+ghost use Rattle.rcu_seq.specs.Tags.{last_epoch};
 
 use crate::cookie::Cookie;
 use crate::fault::Fault;
+use crate::tag::Tag;
 use std::marker::Model;
 
 /// From `4k + 1`, where a grace period runs, to `4k + 4`, where it has ended.
@@ -14,13 +16,18 @@ const TO_END: u64 = 3;
 /// The greatest last number, 2^62.
 const GREATEST_LAST: u64 = 1 << 62;
 
+/// The last epoch.
+const LAST_EPOCH: u64 = 4_294_967_295;
+
 /// The counter of grace periods, which begins idle at 0 (Linux's `gp_seq`, RCU's Data-Structures
 /// document).
 ///
 /// Its number is `4k` where `k` grace periods ended and none runs, and `4k + 1` while one runs.
-/// Contracts see the count of ended grace periods, whether one runs, and the last number.
+/// A renumbering at the last number sets it back to 0, in the next epoch. Contracts see the epoch,
+/// the count of grace periods that ended in it, whether one runs, and the last number.
 #[derive(Debug, Drop)]
 pub struct Seq {
+    epoch: u64,
     value: u64,
     last: u64,
 }
@@ -29,10 +36,12 @@ impl Model for Seq {
     ghost use Rattle.std.specs.Prelude.{◌≡◌, ◌≤◌, ◌/◌, ◌%◌, true};
     ghost use Rattle.rcu_seq.specs.Seq.{Periods};
     ghost use Rattle.rcu_seq.specs.Numbers.{is_last, is_running};
+    ghost use Rattle.rcu_seq.specs.Tags.{last_epoch};
 
     ghost Value = { Periods };
 
     ghost view = { λ s. record {
+      epoch = s.epoch;
       ends = s.value / 4;
       running = is_running s.value;
       last = s.last;
@@ -42,22 +51,64 @@ impl Model for Seq {
       state : s.value % 4 ≤ 1;
       within : s.value ≤ s.last;
       last : is_last s.last ≡ true;
+      epochs : s.epoch ≤ last_epoch;
     } };
 }
 
 impl Seq {
-    /// A counter that is idle at 0, and idle for good once its number is `last`.
+    /// A counter that is idle at 0 of epoch 0.
     ///
     /// Fault `BadLast` (19): `last` is not a multiple of 4 in 4..=2^62.
     pub fn new(last: u64) -> Result<Seq, Fault>
-        ensures ok { IfOk result (λ seq. seq ≡ record { ends = 0; running = false; last = last }) }
+        ensures ok { IfOk result (λ seq. seq
+            ≡ record { epoch = 0; ends = 0; running = false; last = last }) }
+        ensures last { OnOk result (is_last last ≡ true) }
+        ensures err { IfErr result (λ fault. (fault ≡ Fault.BadLast) × (is_last last ≡ false)) }
+    {
+        Seq::at_epoch(last, 0)
+    }
+
+    /// A counter that is idle at 0 of this epoch.
+    ///
+    /// Fault `BadLast` (19): `last` is not a multiple of 4 in 4..=2^62.
+    pub fn at_epoch(last: u64, epoch: u64) -> Result<Seq, Fault>
+        requires { epoch ≤ last_epoch }
+        ensures ok { IfOk result (λ seq. seq ≡ record {
+          epoch = epoch;
+          ends = 0;
+          running = false;
+          last = last;
+        }) }
         ensures last { OnOk result (is_last last ≡ true) }
         ensures err { IfErr result (λ fault. (fault ≡ Fault.BadLast) × (is_last last ≡ false)) }
     {
         if last % 4 == 0 && 4 <= last && last <= GREATEST_LAST {
-            Ok(Seq { value: 0, last })
+            Ok(Seq {
+                epoch,
+                value: 0,
+                last,
+            })
         } else {
             Err(Fault::BadLast)
+        }
+    }
+
+    /// The epoch, which counts renumberings from 0, at most 4,294,967,295.
+    pub fn epoch(&self) -> u64
+        ensures value { result ≡ self.now.epoch }
+        ensures bounded { result ≤ last_epoch }
+    {
+        self.epoch
+    }
+
+    /// The number in its epoch.
+    pub fn tag(&self) -> Tag
+        ensures value { result ≡ tag_of self.now }
+        ensures bounded { result.number ≤ 2 ^ 62 }
+    {
+        Tag {
+            epoch: self.epoch,
+            number: self.value,
         }
     }
 
@@ -88,16 +139,16 @@ impl Seq {
 
     /// The cookie of a taking now, as [`Cookie::of`] has it.
     pub fn snap(&self) -> Cookie
-        ensures { result.0 ≡ snapshot_of self.now }
+        ensures { result ≡ cookie_of self.now }
     {
-        Cookie::of(self.value)
+        Cookie::of(self.tag())
     }
 
     /// Whether a cookie is done now, as [`Cookie::is_done_at`] has it.
     pub fn done(&self, cookie: Cookie) -> bool
-        ensures { result ≡ is_done cookie.0 self.now }
+        ensures { result ≡ is_done cookie self.now }
     {
-        cookie.is_done_at(self.value)
+        cookie.is_done_at(self.tag(), self.last)
     }
 
     /// Begins a grace period, and answers its number (Linux's `rcu_seq_start`).
@@ -143,5 +194,37 @@ impl Seq {
         }
         self.value += TO_END;
         Ok(self.value)
+    }
+
+    /// Renumbers: the number becomes 0, in the next epoch, which is answered.
+    ///
+    /// Faults: `Running` (8) where a grace period runs; `NotLast` (22) where the number is not
+    /// `last`; `Exhausted` (11) where the epoch is the last one.
+    pub fn renumber(&mut self) -> Result<u64, Fault>
+        ensures ok { IfOk result (λ epoch. epoch ≡ self.old.epoch + 1) }
+        ensures idle { OnOk result (self.old.running ≡ false) }
+        ensures at_last { OnOk result (number_of self.old ≡ self.old.last) }
+        ensures before_last_epoch { OnOk result (self.old.epoch < last_epoch) }
+        ensures renumbered { OnOk result (self.new ≡ renumbered self.old) }
+        ensures running { IfErr result (λ fault. self.old.running ≡ true → fault ≡ Fault.Running) }
+        ensures not_last { IfErr result (λ fault. self.old.running ≡ false →
+            number_of self.old ≢ self.old.last → fault ≡ Fault.NotLast) }
+        ensures exhausted { IfErr result (λ fault. self.old.running ≡ false →
+            number_of self.old ≡ self.old.last → (fault ≡ Fault.Exhausted)
+            × (self.old.epoch ≡ last_epoch)) }
+        ensures unchanged { OnErr result (self.new ≡ self.old) }
+    {
+        if self.is_running() {
+            return Err(Fault::Running);
+        }
+        if self.value != self.last {
+            return Err(Fault::NotLast);
+        }
+        if self.epoch == LAST_EPOCH {
+            return Err(Fault::Exhausted);
+        }
+        self.epoch += 1;
+        self.value = 0;
+        Ok(self.epoch)
     }
 }

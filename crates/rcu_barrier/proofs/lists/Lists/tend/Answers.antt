@@ -17,7 +17,7 @@ accelerate-requires g c =
     subst (λ v. c.args.cpu < length v.all.lists) (sym c.self.view_is) c.requires.cpu in
     let within : IsAtMost (snapshot number) (get_or (items_in i.lists.items) c.args.cpu []) =
     subst (λ v. IsAtMost (snapshot number) (get_or v.all.lists c.args.cpu [])) (sym c.self.view_is) c.requires.within in
-    let snap = c.of.ensures in
+    let snap = c.snapshot.ensures in
     let is = read_items i.lists.items c.args.cpu old inside c.index_mut-list.ensures.value in
     rw (snap, c.advance.ensures) (most_advanced number (snapshot number) old.items (subst (IsAtMost (snapshot number)) (sym is) within))
 
@@ -32,7 +32,7 @@ invariant_of-self g c =
     let is = read_items i.lists.items c.args.cpu old inside c.index_mut-list.ensures.value in
     let fours : AreFours old.items =
     subst AreFours (sym is) (fours_get (items_in i.lists.items) c.args.cpu k.1.fours) in
-    let snap = c.of.ensures in
+    let snap = c.snapshot.ensures in
     let after : c.accelerate.new.self.items ≡ after_tend old.items number =
     c.accelerate.ensures ∙ (rw (snap, c.advance.ensures) (tend_is number old.items c.requires.state fours)) in
     let same = ap markers after ∙ markers_remarked _ old.items in
@@ -51,7 +51,7 @@ returns-clause-state g c =
     let is = read_items i.lists.items c.args.cpu old inside c.index_mut-list.ensures.value in
     let fours : AreFours old.items =
     subst AreFours (sym is) (fours_get (items_in i.lists.items) c.args.cpu k.1.fours) in
-    let snap = c.of.ensures in
+    let snap = c.snapshot.ensures in
     let after : c.accelerate.new.self.items ≡ after_tend (get_or (items_in i.lists.items) c.args.cpu []) number =
     c.accelerate.ensures ∙ (rw (snap, c.advance.ensures) (tend_is number old.items c.requires.state fours) ∙ ap (λ l. after_tend l number) is) in
     rw (← c.self.view_is)
@@ -69,7 +69,7 @@ returns-clause-done g c =
     let is = read_items i.lists.items c.args.cpu old inside c.index_mut-list.ensures.value in
     let fours : AreFours old.items =
     subst AreFours (sym is) (fours_get (items_in i.lists.items) c.args.cpu k.1.fours) in
-    let snap = c.of.ensures in
+    let snap = c.snapshot.ensures in
     let after : c.accelerate.new.self.items ≡ after_tend (get_or (items_in i.lists.items) c.args.cpu []) number =
     c.accelerate.ensures ∙ (rw (snap, c.advance.ensures) (tend_is number old.items c.requires.state fours) ∙ ap (λ l. after_tend l number) is) in
     rw (← c.self.view_is, c.done_count.ensures ∙ ap (λ l. length (callbacks (front l))) after) refl
@@ -85,7 +85,7 @@ returns-clause-waiting g c =
     let is = read_items i.lists.items c.args.cpu old inside c.index_mut-list.ensures.value in
     let fours : AreFours old.items =
     subst AreFours (sym is) (fours_get (items_in i.lists.items) c.args.cpu k.1.fours) in
-    let snap = c.of.ensures in
+    let snap = c.snapshot.ensures in
     let after : c.accelerate.new.self.items ≡ after_tend (get_or (items_in i.lists.items) c.args.cpu []) number =
     c.accelerate.ensures ∙ (rw (snap, c.advance.ensures) (tend_is number old.items c.requires.state fours) ∙ ap (λ l. after_tend l number) is) in
     rw (← c.self.view_is, c.waiting_count.ensures ∙ ap (λ l. length (callbacks (behind l))) after) refl

@@ -1,6 +1,6 @@
 use Rattle.std.proofs.lemmas.Result.{IfOk-weaker}
 use Rattle.rcu_barrier.specs.Lists.{list_of}
-use Rattle.rcu_seq.specs.Seq.{number_of}
+use Rattle.rcu_seq.specs.Seq.{tag_of}
 use Rattle.rcu_core.specs.GpState.{Grace}
 use Rattle.rcu_core.proofs.Changes.{on_either, run_kept, same_kept}
 use Rattle.rcu_core.proofs.Timely.{taken_waited, timely_get}
@@ -28,7 +28,7 @@ returns-clause-waited g c =
       processors = i.hotplug;
       lists = i.lists.all;
     } in
-    let n = number_of old.seq in
+    let n = tag_of old.seq in
     let xs = list_of i.lists.all c.args.cpu in
     let timely = timely_get n i.lists.all.lists c.args.cpu c.self.invariant.timely in
     rw (← c.self.view_is)

@@ -2,7 +2,7 @@ use Rattle.std.proofs.Common.{sym, subst, ◌∙◌}
 use Rattle.rcu_cblist.specs.SegList.{IsAtMost}
 use Rattle.rcu_barrier.specs.Lists.{list_of}
 use Rattle.rcu_seq.specs.Numbers.{snapshot}
-use Rattle.rcu_seq.specs.Seq.{number_of}
+use Rattle.rcu_seq.specs.Seq.{tag_of}
 use Rattle.rcu_core.specs.GpState.{Grace}
 use Rattle.rcu_core.proofs.Changes.{tended_is, tended_kept}
 use Rattle.rcu_core.proofs.Timely.{timely_at_most, timely_get}
@@ -19,8 +19,8 @@ tend-tended-requires-clause-within g c =
     } in
     let xs = list_of i.lists.all c.args.cpu in
     subst (λ n. IsAtMost (snapshot n) xs) (sym c.value.ensures.value)
-    (timely_at_most (number_of old.seq) xs (timely_get
-    (number_of old.seq) i.lists.all.lists c.args.cpu c.self.invariant.timely))
+    (timely_at_most (tag_of old.seq) xs (timely_get
+    (tag_of old.seq) i.lists.all.lists c.args.cpu c.self.invariant.timely))
 
 pub invariant_of-self : goal.invariant_of-self
 invariant_of-self g c =

@@ -1,4 +1,5 @@
 use Rattle.std.proofs.Common.{◌≡◌, false, replicate, Ok, Err, OnOk, IfErr, inl, inr, ap, ◌∙◌, sym}
+use Rattle.rcu_seq.specs.declared.tag.Tag.{Tag}
 use Rattle.rcu_node.specs.CpuSet.{intersection}
 use Rattle.rcu_report.proofs.Awaiting.{IsMerged, length-merged, none_merged}
 use Rattle.rcu_report.proofs.replica.Replica.merge_from.Goals as goal
@@ -18,8 +19,9 @@ invariant_of-self g c =
     let sized = length-merged old other now either in
     record {
       latest = c.merge.ensures.tag ∙ c.self.invariant.latest;
+      epoch = c.self.invariant.epoch;
       fresh = λ e.
-          c.merge.ensures.start_set ∙ c.self.invariant.fresh (sym c.merge.ensures.tag ∙ e)
+          c.merge.ensures.start_set ∙ c.self.invariant.fresh (ap (λ (t : Tag). t.number) (sym c.merge.ensures.tag) ∙ e)
           ∙ ap (λ n. replicate n false) (sym sized);
       idle = λ rests. none_merged old other now either (c.self.invariant.idle rests);
     }
