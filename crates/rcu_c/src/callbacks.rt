@@ -2,12 +2,12 @@
 ghost use Rattle.std.specs.Prelude.{◌≡◌, ◌≢◌, ◌<◌, ◌≤◌, All, [], drop, length, map};
 ghost use Rattle.std.specs.Prelude.{take, true};
 ghost use Rattle.rcu_seq.specs.Fault.{fault_number};
-ghost use Rattle.rcu_seq.specs.Numbers.{snapshot};
 ghost use Rattle.rcu_seq.specs.Seq.{number_of};
 ghost use Rattle.rcu_node.specs.CpuSet.{is_in};
 ghost use Rattle.rcu_cblist.specs.SegList.{behind, callbacks, front, take_answer};
 ghost use Rattle.rcu_barrier.specs.Lists.{list_of, most_queued};
 ghost use Rattle.rcu_core.specs.GpState as grace;
+ghost use Rattle.rcu_live.specs.Engine.{HasWaited};
 ghost use Rattle.rcu_live.specs.EngineLists as live;
 ghost use Rattle.rcu_live.specs.EngineLists.{queue_refusal};
 ghost use Rattle.rcu_c.specs.Holding.{HoldsEngine, engine_of, grace_of, on_grace};
@@ -129,7 +129,7 @@ pub extern "C" fn rcu_run(rcu: &mut Rcu, cpu: u32, values: &mut [u64], count: &m
     ensures rest { result ≡ 0 → drop count.new values.new ≡ drop count.new values.old }
     ensures most { result ≡ 0 → count.new ≤ length values.old }
     ensures waited { result ≡ 0 →
-        All (λ call. snapshot call.at ≤ number_of (grace_of rcu.old.held).seq)
+        All (λ call. HasWaited (number_of (grace_of rcu.old.held).seq) call.at)
         (take_answer (list_of (grace_of rcu.old.held).lists cpu) (length values.old)) }
     ensures bad { (engine_of rcu.old.held).cpus ≤ cpu → result ≡ 1 }
     ensures fault { result ≢ 0 → cpu < (engine_of rcu.old.held).cpus → result ≡ 16 }
@@ -156,7 +156,8 @@ fn run(engine: &mut TreeEngine, cpu: u32, values: &mut [u64], count: &mut u64) -
         (take_answer (list_of engine.old.grace.lists cpu) (length values.old)) }
     ensures rest { result ≡ 0 → drop count.new values.new ≡ drop count.new values.old }
     ensures most { result ≡ 0 → count.new ≤ length values.old }
-    ensures waited { result ≡ 0 → All (λ call. snapshot call.at ≤ number_of engine.old.grace.seq)
+    ensures waited { result ≡ 0 →
+        All (λ call. HasWaited (number_of engine.old.grace.seq) call.at)
         (take_answer (list_of engine.old.grace.lists cpu) (length values.old)) }
     ensures bad { engine.old.cpus ≤ cpu → result ≡ 1 }
     ensures fault { result ≢ 0 → cpu < engine.old.cpus → result ≡ 16 }

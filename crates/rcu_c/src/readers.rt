@@ -1,6 +1,7 @@
 //! What an engine says of itself, and cookies under its lock.
 ghost use Rattle.std.specs.Prelude.{◌≡◌, ◌<◌};
-ghost use Rattle.rcu_seq.specs.Seq.{is_done, number_of, snapshot_of};
+ghost use Rattle.rcu_seq.specs.Seq.{cookie_of, number_of};
+ghost use Rattle.rcu_seq.specs.Tags.{is_done_first};
 ghost use Rattle.rcu_node.specs.CpuSet.{is_in};
 ghost use Rattle.rcu_core.specs.GpState.{awaited_in};
 ghost use Rattle.rcu_c.specs.Holding.{HoldsEngine, engine_of, grace_of};
@@ -76,9 +77,9 @@ pub extern "C" fn rcu_awaited(rcu: &mut Rcu) -> u32
 pub extern "C" fn rcu_take(rcu: &mut Rcu) -> u64
     requires open { HoldsEngine rcu.old.held }
     ensures kept { rcu.new.held ≡ rcu.old.held }
-    ensures cookie { result ≡ snapshot_of (grace_of rcu.old.held).seq }
+    ensures cookie { result ≡ (cookie_of (grace_of rcu.old.held).seq).number }
 {
-    rcu.engine().engine.grace().take().0
+    rcu.engine().engine.grace().take().number
 }
 
 /// Whether a cookie is done, as `GpState::done`.
@@ -86,7 +87,12 @@ pub extern "C" fn rcu_take(rcu: &mut Rcu) -> u64
 pub extern "C" fn rcu_poll(rcu: &mut Rcu, cookie: u64) -> bool
     requires open { HoldsEngine rcu.old.held }
     ensures kept { rcu.new.held ≡ rcu.old.held }
-    ensures done { result ≡ is_done cookie (grace_of rcu.old.held).seq }
+    ensures done { result ≡ is_done_first (record { epoch = 0; number = cookie })
+        (number_of (grace_of rcu.old.held).seq) }
 {
-    rcu.engine().engine.grace().done(Cookie(cookie))
+    let cookie = Cookie {
+        epoch: 0,
+        number: cookie,
+    };
+    rcu.engine().engine.grace().done(cookie)
 }

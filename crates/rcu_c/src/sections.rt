@@ -1,6 +1,7 @@
 //! What a thread does by its seat alone: no call here waits, takes memory or needs a lock.
 ghost use Rattle.std.specs.Prelude.{◌≡◌, ◌≢◌, ◌≤◌};
-ghost use Rattle.rcu_seq.specs.Numbers.{is_done_at, snapshot};
+ghost use Rattle.rcu_seq.specs.Numbers.{snapshot};
+ghost use Rattle.rcu_seq.specs.Tags.{is_done_first};
 ghost use Rattle.rcu_live.specs.CpuSeat.{after_enter, after_exit, after_quiesce, enter_refusal};
 ghost use Rattle.rcu_live.specs.CpuSeat.{exit_refusal, quiesce_refusal};
 ghost use Rattle.rcu_live.specs.Watcher.{after_watch};
@@ -107,7 +108,7 @@ pub extern "C" fn rcu_seat_take_unfenced(seat: &mut RcuSeat) -> u64
     ensures cookie { result ≡ snapshot (watcher_of seat.new.held).view.seen }
 {
     let sitting = seat.seat();
-    sitting.watcher.take_on(&sitting.board).0
+    sitting.watcher.take_on(&sitting.board).number
 }
 
 /// Whether a cookie is done at the number that one load sees, as `Watcher::poll`.
@@ -117,8 +118,13 @@ pub extern "C" fn rcu_seat_poll_unfenced(seat: &mut RcuSeat, cookie: u64) -> boo
     ensures look { seat.new.held ≡
         on_watcher (λ w. after_watch w (watcher_of seat.new.held).view.seen) seat.old.held }
     ensures later { (watcher_of seat.old.held).view.seen ≤ (watcher_of seat.new.held).view.seen }
-    ensures done { result ≡ is_done_at cookie (watcher_of seat.new.held).view.seen }
+    ensures done { result ≡ is_done_first (record { epoch = 0; number = cookie })
+        (watcher_of seat.new.held).view.seen }
 {
     let sitting = seat.seat();
-    sitting.watcher.poll_on(&sitting.board, Cookie(cookie))
+    let cookie = Cookie {
+        epoch: 0,
+        number: cookie,
+    };
+    sitting.watcher.poll_on(&sitting.board, cookie)
 }

@@ -2,7 +2,7 @@
 ghost use Rattle.std.specs.Prelude.{◌≡◌, ◌≤◌, ◌^◌};
 ghost use Rattle.rcu_cell.specs.Versions.{aged_state, is_free};
 
-use rcu_seq::cookie::Cookie;
+use rcu_seq::cookie::snapshot;
 
 /// The state of a slot.
 #[derive(Clone, Copy, Debug, PartialEq, Eq)]
@@ -35,7 +35,7 @@ impl SlotState {
             SlotState::Free | SlotState::Shown => self,
             SlotState::Replaced => SlotState::Retired(number),
             SlotState::Retired(at) => {
-                if at <= number && Cookie::of(at).0 <= number {
+                if at <= number && snapshot(at) <= number {
                     SlotState::Free
                 } else {
                     SlotState::Retired(at)

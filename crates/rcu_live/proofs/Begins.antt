@@ -3,7 +3,7 @@ use Rattle.std.proofs.Common.{◌≡◌, ℕ, ◌==◌, ◌&&◌, Bool, true, fa
 use Rattle.std.proofs.Common.{arith}
 use Rattle.std.proofs.lemmas.Bool.Decides.{nat_tests}
 use Rattle.rcu_seq.specs.Numbers.{Number}
-use Rattle.rcu_seq.specs.Seq.{Periods, number_of}
+use Rattle.rcu_seq.specs.Seq.{Periods, tag_of}
 use Rattle.rcu_node.specs.CpuSet.{is_in, listed, unheard}
 use Rattle.rcu_node.proofs.CpuSetLemmas.{is_in-listed, length-listed, listed_same}
 use Rattle.rcu_barrier.specs.Lists.{AllLists}
@@ -41,7 +41,7 @@ module _ {X : Type 0} where
   parts seq needed lists online awaited = record {
     seq = record seq { running = true };
     needed = needed;
-    processors = record { tag = number_of (record seq { running = true }); start_set = online; awaited = awaited; online = online };
+    processors = record { tag = tag_of (record seq { running = true }); start_set = online; awaited = awaited; online = online };
     lists = lists;
   }
 

@@ -5,7 +5,8 @@ use Rattle.std.specs.Prelude.{slice_index}
 use mathlib.Core.Option.{some}
 use lib.ListN.{get_elem?}
 use Rattle.atomic_table.specs.Table.{State}
-use Rattle.rcu_seq.specs.Numbers.{Number, is_done_at, snapshot}
+use Rattle.rcu_seq.specs.Numbers.{Number}
+use Rattle.rcu_seq.specs.Tags.{cookie_at, is_done_first, of_first_epoch}
 use Rattle.rcu_live.specs.Client.{Homes, Picture}
 use Rattle.rcu_live.specs.Numbers.{is_past}
 use Rattle.rcu_live.specs.Rule.{Fits, IsKept}
@@ -14,7 +15,7 @@ use Rattle.rcu_live.specs.declared.view.View.{View}
 
 -- where no full grace period lies behind a number, no cookie of a taking at it or later is done
 not_past : (at taken polled : Number) → is_past at polled ≡ false → at ≤ taken
-    → is_done_at (snapshot taken) polled ≡ false
+    → is_done_first (cookie_at (of_first_epoch taken)) polled ≡ false
 not_past at taken polled current up = grind (arith, nat_tests)
 
 pub not_done_while_open : {S C : Type 0} (holds : List ℕ → Homes S → Picture C → Type 0) (cpus : ℕ)
@@ -22,7 +23,7 @@ pub not_done_while_open : {S C : Type 0} (holds : List ℕ → Homes S → Pictu
     → IsKept holds cpus s → IsKept holds cpus t
     → get_elem? s.views i ≡ some v → v.role ≡ Cpu → v.section ≡ Some at
     → get_elem? t.views j ≡ some w → w.role ≡ Cpu → w.section ≡ Some at
-    → is_done_at (snapshot (slice_index s.words 0)) (slice_index t.words 0) ≡ false
+    → is_done_first (cookie_at (of_first_epoch (slice_index s.words 0))) (slice_index t.words 0) ≡ false
 not_done_while_open holds cpus s t i j v w at k l here cpu opened there also still =
     let f : Fits cpus s.words k.owner k.engine k.finds i v = k.fits i v here in
     let h : Fits cpus t.words l.owner l.engine l.finds j w = l.fits j w there in

@@ -1,9 +1,10 @@
 -- What is awaited once the processors of a set are heard.
-use Rattle.std.proofs.Common.{◌≡◌, ◌≢◌, ℕ, ◌+◌, ◌<◌, ◌≤◌, ◌==◌, ◌&&◌, Bool, true, false, not, nat_lt, if◌then◌else◌}
+use Rattle.std.proofs.Common.{◌≡◌, ◌≢◌, ℕ, ◌+◌, ◌<◌, ◌≤◌, ◌&&◌, Bool, true, false, not, nat_lt, if◌then◌else◌}
 use Rattle.std.proofs.Common.{List, length, slice_set, refl, sym, ap, ◌∙◌, arith}
 use Rattle.std.proofs.lemmas.Bool.Decides.{nat_tests}
-use Rattle.rcu_seq.specs.Numbers.{Number}
-use Rattle.rcu_seq.specs.Seq.{number_of}
+use Rattle.rcu_seq.specs.Seq.{tag_of}
+use Rattle.rcu_seq.specs.Tags.{same_tag}
+use Rattle.rcu_seq.specs.declared.tag.Tag.{Tag}
 use Rattle.rcu_node.specs.CpuSet.{is_in, unheard}
 use Rattle.rcu_node.specs.Reports.{awaited_after_report}
 use Rattle.rcu_node.proofs.CpuSetLemmas.{is_in-listed, length-listed, listed_same, listed_set}
@@ -61,12 +62,12 @@ module _ {X : Type 0} where
   pub heard_runs : (g : Grace X) (cpu : ℕ) → g.seq.running ≡ true
       → after_hear g cpu ≡ with_awaited g (slice_set g.processors.awaited cpu false)
   heard_runs g cpu runs = ap (λ (l : List Bool). with_awaited g l)
-      (ap (λ (b : Bool). if b then awaited_after_report (number_of g.seq) g.processors.awaited cpu (number_of g.seq) else g.processors.awaited) runs
+      (ap (λ (b : Bool). if b then awaited_after_report (tag_of g.seq) g.processors.awaited cpu (tag_of g.seq) else g.processors.awaited) runs
       ∙ ap (λ (b : Bool). if b then slice_set g.processors.awaited cpu false else g.processors.awaited)
-      (own (number_of g.seq)))
+      (own (tag_of g.seq)))
     where
-      own : (n : Number) → (n == n) ≡ true
-      own n = grind (arith, nat_tests)
+      own : (tag : Tag) → same_tag tag tag ≡ true
+      own tag = grind (arith, nat_tests)
 
   -- one processor more is heard
   pub heard_more : (g now next : Grace X) (late : List Bool) (n : ℕ) → g.seq.running ≡ true

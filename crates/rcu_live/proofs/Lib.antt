@@ -2,6 +2,7 @@ pub mod Begins
 pub mod ClientLemmas
 pub mod ClientSteps
 pub mod Deals
+pub mod Departures
 pub mod DoneCookies
 pub mod Finds
 pub mod FoundWords
@@ -15,3 +16,4 @@ pub mod Openings
 pub mod RowLemmas
 pub mod Stores
 pub mod Turns
+pub mod Waits

@@ -19,7 +19,7 @@ pub record Seated (C : Type 0) : Type 0 where
 
 -- the own word of a processor: 0 where it is offline, else one more than the number that it noted
 abbrev pub own_word : Processor → ℕ
-own_word p = if p.online then p.noted + 1 else 0
+own_word p = if p.online then p.noted.number + 1 else 0
 
 module _ {C : Type 0} where
   -- the seat of a processor as it is opened: no section is open

@@ -1,8 +1,9 @@
 -- The engine, which lies under the lock of an object: what it keeps, and what each call leaves and answers.
-use Rattle.std.specs.Prelude.{◌≡◌, ℕ, zero, suc, ◌+◌, ◌<◌, ◌==◌, true, false, not, if◌then◌else◌, List, [], ◌∷◌}
+use Rattle.std.specs.Prelude.{◌≡◌, ℕ, zero, suc, ◌+◌, ◌<◌, ◌≤◌, ◌==◌, true, false, not, if◌then◌else◌, List, [], ◌∷◌}
 use Rattle.atomic_table.specs.Seated.{TableId}
-use Rattle.rcu_seq.specs.Numbers.{Number}
-use Rattle.rcu_seq.specs.Seq.{number_of}
+use Rattle.rcu_seq.specs.Numbers.{Number, snapshot}
+use Rattle.rcu_seq.specs.Seq.{number_of, tag_of}
+use Rattle.rcu_seq.specs.declared.tag.Tag.{Tag}
 use Rattle.rcu_node.specs.CpuSet.{is_in, listed}
 use Rattle.rcu_node.specs.declared.answer.Answer.{Answer}
 use Rattle.rcu_node.specs.declared.answer.Answer.TheVariants as answer
@@ -49,6 +50,10 @@ collected_by answer.Last = collected.Last
 collected_by answer.Repeat = collected.Repeat
 collected_by answer.Stale = collected.Repeat
 
+-- the number has reached the snapshot of a callback's queueing, which was in the first epoch, where the engine stays
+abbrev pub HasWaited : Number → Tag → Type 0
+HasWaited number at = (at.epoch ≡ 0) × (snapshot at.number ≤ number)
+
 -- while a grace period runs, each processor that is not awaited is cleared
 abbrev pub AwaitsTheOthers : {X : Type 0} → ℕ → List (ℕ × ℕ) → Grace X → Type 0
 AwaitsTheOthers cpus finds g = g.seq.running ≡ true → (cpu : ℕ) → cpu < cpus → is_in g.processors.awaited cpu ≡ false
@@ -70,7 +75,7 @@ module _ {X : Type 0} where
   begun_from cpus word g = record g {
     seq = record g.seq { running = true };
     processors = record {
-      tag = next_number g;
+      tag = tag_of (record g.seq { running = true });
       start_set = listed cpus (λ cpu. not (word cpu == 0));
       awaited = listed cpus (λ cpu. not (tells (next_number g) (word cpu)));
       online = listed cpus (λ cpu. not (word cpu == 0));

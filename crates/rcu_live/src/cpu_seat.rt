@@ -15,6 +15,7 @@ use crate::client::{Client, Outcome};
 use crate::live::Live;
 use rcu_cpu::cpu_data::CpuData;
 use rcu_seq::fault::Fault;
+use rcu_seq::tag::Tag;
 use std::marker::Model;
 
 /// A processor's seat, for one thread.
@@ -48,7 +49,8 @@ impl<S, C> Model for CpuSeat<S, C> {
       own : s.seat.me.0.cpu ≡ s.data.cpu;
       inside : place s.data.cpu < s.seat.table_id.words;
       stamp : s.seat.me.0.stamp ≡ own_word s.data;
-      noted : s.data.noted ≤ s.seat.me.0.seen;
+      noted : s.data.noted.number ≤ s.seat.me.0.seen;
+      epoch : s.data.noted.epoch ≡ 0;
       section : s.seat.me.0.section ≡ s.opened;
       offline : s.data.online ≡ false → s.opened ≡ None;
       shut : s.data.depth ≡ 0 → s.opened ≡ None;
@@ -179,7 +181,7 @@ impl<S: Drop, C> CpuSeat<S, C> {
     {
         self.data.quiesce()?;
         let number = board.load(&mut self.seat);
-        self.data.note(number)?;
+        self.data.note(Tag::of_first_epoch(number))?;
         board.store(&mut self.seat, self.data.cpu(), number + 1);
         Ok(number)
     }
@@ -239,7 +241,7 @@ impl<S: Drop, C> CpuSeat<S, C> {
             return Err(Fault::AlreadyOnline);
         }
         let number = board.load(&mut self.seat);
-        self.data.arrive(number)?;
+        self.data.arrive(Tag::of_first_epoch(number))?;
         board.store(&mut self.seat, self.data.cpu(), number + 1);
         Ok(())
     }

@@ -49,6 +49,7 @@ impl<A: Awaited, T: Drop, S: Drop, C, P: Client<S, C>> Model for Engine<A, T, S,
       fits : e.seat.table_id ≡ (arc_value e.board).table;
       role : IsOfEngine e.seat.me.0;
       number : e.seat.me.0.seen ≡ number_of e.gp.seq;
+      epoch : e.gp.seq.epoch ≡ 0;
       cpus : cpus_of e.gp.processors ≡ (arc_value e.board).cpus;
       late : length e.late ≡ (arc_value e.board).cpus;
       awaited : AwaitsTheOthers (arc_value e.board).cpus e.seat.me.0.finds e.gp;
@@ -66,6 +67,7 @@ impl<A: Awaited, T: Drop, S: Drop, C, P: Client<S, C>> Engine<A, T, S, C, P> {
         requires fits { seat.table_id ≡ (arc_value board).table }
         requires role { IsOfEngine seat.me.0 }
         requires number { seat.me.0.seen ≡ number_of gp.seq }
+        requires epoch { gp.seq.epoch ≡ 0 }
         requires idle { gp.seq.running ≡ false }
         requires cpus { cpus_of gp.processors ≡ (arc_value board).cpus }
         requires late { length late ≡ (arc_value board).cpus }
@@ -93,6 +95,7 @@ impl<A: Awaited, T: Drop, S: Drop, C, P: Client<S, C>> Engine<A, T, S, C, P> {
     pub fn grace(&self) -> &GpState<A, T>
         ensures value { result.now ≡ self.now.grace }
         ensures cpus { cpus_of result.now.processors ≡ self.now.cpus }
+        ensures epoch { result.now.seq.epoch ≡ 0 }
     {
         &self.gp
     }

@@ -28,6 +28,7 @@ impl<A: Awaited, T: Drop, S: Drop, C, P: Client<S, C>> Engine<A, T, S, C, P> {
     /// Faults: `AlreadyOnline` (3) where its word is not 0; `Offline` (2) where it was offline
     /// before and its list is empty; `NoMemory` (16), only where its list is not empty: then it has
     /// departed, and its list stays.
+    #[tactic(auto, using(crate::proofs::Departures::departed))]
     pub fn leave(&mut self, cpu: u32, again: bool) -> Result<u64, Fault>
         requires { cpu < self.old.cpus }
         ensures moved { IfOk result (λ moved.

@@ -1,7 +1,7 @@
 //! The callbacks of an engine, and the barrier over them.
 ghost use Rattle.std.specs.Prelude.{◌≡◌, ◌≢◌, ◌<◌, ◌≤◌, ◌^◌, All, IfErr, IfOk, OnErr, OnOk, []};
 ghost use Rattle.std.specs.Prelude.{length, true, false};
-ghost use Rattle.rcu_seq.specs.Numbers.{snapshot};
+ghost use Rattle.rcu_live.specs.Engine.{HasWaited};
 ghost use Rattle.rcu_seq.specs.Seq.{number_of};
 ghost use Rattle.rcu_node.specs.CpuSet.{is_in};
 ghost use Rattle.rcu_cblist.specs.SegList.{behind, callbacks, front, take_answer};
@@ -80,7 +80,7 @@ impl<A: Awaited, T: Drop, S: Drop, C, P: Client<S, C>> Engine<A, T, S, C, P> {
         ensures state { OnOk result
             (self.new ≡ on_grace (λ g. grace.after_run g cpu max) self.old) }
         ensures waited { IfOk result (λ ran.
-            All (λ call. snapshot call.at ≤ ran.number) ran.calls.items) }
+            All (λ call. HasWaited ran.number call.at) ran.calls.items) }
         ensures bounded { IfOk result (λ ran. ran.number ≤ 2 ^ 62) }
         ensures word { IfOk result (λ ran. is_number_word ran.number ≡ true) }
         ensures most { IfOk result (λ ran. length ran.calls.items ≤ max) }

@@ -3,7 +3,7 @@ ghost use Rattle.std.specs.Prelude.{◌≡◌, ◌<◌, ◌≤◌, ℕ, Some, sl
 ghost use mathlib.Core.Option.{some};
 ghost use lib.ListN.{get_elem?};
 ghost use Rattle.atomic_table.specs.Table.{State};
-ghost use Rattle.rcu_seq.specs.Numbers.{is_done_at, snapshot};
+ghost use Rattle.rcu_seq.specs.Tags.{cookie_at, is_done_first, of_first_epoch};
 ghost use Rattle.rcu_seq.specs.Seq.{number_of};
 ghost use Rattle.rcu_node.specs.CpuSet.{is_in};
 ghost use Rattle.rcu_core.specs.GpState.{Grace};
@@ -22,14 +22,14 @@ use crate::client::Client;
 pub fn cookies_wait_for_the_section_met()
     ensures { (first later : Met) (at taken polled : ℕ) → MeetsSection first at →
         first.seen ≤ taken → MeetsSection later at → polled ≤ later.seen →
-        is_done_at (snapshot taken) polled ≡ false }
+        is_done_first (cookie_at (of_first_epoch taken)) polled ≡ false }
 {}
 
 /// A watcher meets an open section. No cookie that tested done for it by then was taken at the
 /// number at which the section began, or at a later one.
 pub fn done_cookies_are_older_than_the_section_met()
     ensures { (met : Met) (at taken polled : ℕ) → MeetsSection met at → at ≤ taken →
-        polled ≤ met.seen → is_done_at (snapshot taken) polled ≡ false }
+        polled ≤ met.seen → is_done_first (cookie_at (of_first_epoch taken)) polled ≡ false }
 {}
 
 /// The rule holds of the words and all views, and the engine, whose seat has one of these, awaits
@@ -52,5 +52,6 @@ pub fn readers_finish_before_done<S: Drop, C, P: Client<S, C>>()
         (at : ℕ) → IsKept P.holds cpus before → IsKept P.holds cpus after →
         get_elem? before.views i ≡ some first → first.role ≡ Cpu → first.section ≡ Some at →
         get_elem? after.views j ≡ some later → later.role ≡ Cpu → later.section ≡ Some at →
-        is_done_at (snapshot (slice_index before.words 0)) (slice_index after.words 0) ≡ false }
+        is_done_first (cookie_at (of_first_epoch (slice_index before.words 0)))
+        (slice_index after.words 0) ≡ false }
 {}

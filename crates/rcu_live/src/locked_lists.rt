@@ -1,6 +1,6 @@
 //! The calls that take the lock of an object for its callbacks.
 ghost use Rattle.std.specs.Prelude.{◌≡◌, ◌<◌, ◌≤◌, ◌^◌, All, IfErr, IfOk, length, true};
-ghost use Rattle.rcu_seq.specs.Numbers.{snapshot};
+ghost use Rattle.rcu_live.specs.Engine.{HasWaited};
 ghost use Rattle.rcu_barrier.specs.Lists.{most_queued};
 ghost use Rattle.rcu_live.specs.EngineLists.{is_queue_fault, is_run_fault, is_visit_fault};
 ghost use Rattle.rcu_live.specs.Numbers.{is_number_word};
@@ -70,7 +70,7 @@ impl<const LEAF: u32, const FAN: u32, T: Drop, S: Drop, C, P: Client<S, C>> Live
     /// Faults: `BadCpu` (1); `NoMemory` (16).
     pub fn run(&self, rt: &impl Wait, cpu: u32, max: u64) -> Result<Ran<T>, Fault>
         ensures waited { IfOk result (λ ran.
-            All (λ call. snapshot call.at ≤ ran.number) ran.calls.items) }
+            All (λ call. HasWaited ran.number call.at) ran.calls.items) }
         ensures bounded { IfOk result (λ ran. ran.number ≤ 2 ^ 62) }
         ensures word { IfOk result (λ ran. is_number_word ran.number ≡ true) }
         ensures most { IfOk result (λ ran. length ran.calls.items ≤ max) }

@@ -1,6 +1,6 @@
 //! A watcher: it takes cookies, and polls them.
 ghost use Rattle.std.specs.Prelude.{◌≡◌, ◌+◌, ◌<◌, ◌≤◌, None, true};
-ghost use Rattle.rcu_seq.specs.Numbers.{is_done_at, snapshot};
+ghost use Rattle.rcu_seq.specs.Tags.{cookie_at, is_done_first, of_first_epoch};
 ghost use Rattle.rcu_live.specs.Client.{Sees, Uses};
 ghost use Rattle.rcu_live.specs.Numbers.{is_number_word};
 ghost use Rattle.rcu_live.specs.View.{IsOfWatcher};
@@ -11,6 +11,7 @@ use crate::board::{Board, Place};
 use crate::client::{Client, Lesson, Outcome};
 use crate::live::Live;
 use rcu_seq::cookie::Cookie;
+use rcu_seq::tag::Tag;
 use std::marker::Model;
 
 /// A watcher of the object, for one thread.
@@ -44,7 +45,7 @@ impl<S: Drop, C> Watcher<S, C> {
         ensures table { self.new.table ≡ self.old.table }
         ensures look { self.new ≡ after_watch self.old self.new.view.seen }
         ensures later { self.old.view.seen ≤ self.new.view.seen }
-        ensures cookie { result.0 ≡ snapshot self.new.view.seen }
+        ensures cookie { result ≡ cookie_at (of_first_epoch self.new.view.seen) }
     {
         self.take_on(live.board())
     }
@@ -55,9 +56,9 @@ impl<S: Drop, C> Watcher<S, C> {
         ensures table { self.new.table ≡ self.old.table }
         ensures look { self.new ≡ after_watch self.old self.new.view.seen }
         ensures later { self.old.view.seen ≤ self.new.view.seen }
-        ensures cookie { result.0 ≡ snapshot self.new.view.seen }
+        ensures cookie { result ≡ cookie_at (of_first_epoch self.new.view.seen) }
     {
-        Cookie::of(board.load(&mut self.seat))
+        Cookie::of(Tag::of_first_epoch(board.load(&mut self.seat)))
     }
 
     /// Whether the cookie is done at the number that one load sees, at least all it saw before.
@@ -71,7 +72,7 @@ impl<S: Drop, C> Watcher<S, C> {
         ensures table { self.new.table ≡ self.old.table }
         ensures look { self.new ≡ after_watch self.old self.new.view.seen }
         ensures later { self.old.view.seen ≤ self.new.view.seen }
-        ensures done { result ≡ is_done_at cookie.0 self.new.view.seen }
+        ensures done { result ≡ is_done_first cookie self.new.view.seen }
     {
         self.poll_on(live.board(), cookie)
     }
@@ -82,9 +83,9 @@ impl<S: Drop, C> Watcher<S, C> {
         ensures table { self.new.table ≡ self.old.table }
         ensures look { self.new ≡ after_watch self.old self.new.view.seen }
         ensures later { self.old.view.seen ≤ self.new.view.seen }
-        ensures done { result ≡ is_done_at cookie.0 self.new.view.seen }
+        ensures done { result ≡ is_done_first cookie self.new.view.seen }
     {
-        cookie.is_done_at(board.load(&mut self.seat))
+        cookie.is_done_first(board.load(&mut self.seat))
     }
 
     /// One load of the number.

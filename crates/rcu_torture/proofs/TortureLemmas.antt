@@ -7,16 +7,17 @@ use Rattle.std.proofs.lemmas.List.FromFn.{get_or-range_with_len, length-range_wi
 use Rattle.std.proofs.lemmas.List.Sums.{sum_by-cons}
 use Rattle.rcu_seq.specs.Numbers.{snapshot}
 use Rattle.rcu_cblist.specs.declared.queued.Queued.{Queued}
+use Rattle.rcu_live.specs.Engine.{HasWaited}
 use Rattle.rcu_torture.specs.Ledger.{is_early}
 
 -- no callback came early where a full grace period has passed for each
-pub none_early : (n : ℕ) (calls : List (Queued ℕ)) → All (λ call. snapshot call.at ≤ n) calls
+pub none_early : (n : ℕ) (calls : List (Queued ℕ)) → All (λ call. HasWaited n call.at) calls
     → count_by (is_early n) calls ≡ 0
 none_early n [] waited = omega arith
 none_early n (call ∷ calls) waited =
     let first : ◌≡◌ {A = ℕ} (cond (is_early n call) 1 0) 0 =
-    rw (le-ltb n (snapshot call.at) (All-head (λ c. snapshot c.at ≤ n) call calls waited)) in
-    let rest = none_early n calls (All-tail (λ c. snapshot c.at ≤ n) call calls waited) in
+    rw (le-ltb n (snapshot call.at.number) (All-head (λ c. HasWaited n c.at) call calls waited).1) in
+    let rest = none_early n calls (All-tail (λ c. HasWaited n c.at) call calls waited) in
     omega (arith, sum_by-cons (λ c. cond (is_early n c) 1 0) call calls, first, rest)
 
 -- each of the first numbers is below their count

@@ -42,7 +42,7 @@ after_poll s done = record s { early = s.early + (if done then 1 else 0) }
 
 -- whether a callback that was handed out at this number came early: the snapshot of its queueing is above the number
 abbrev pub is_early : Number → Queued ℕ → Bool
-is_early number call = nat_lt number (snapshot call.at)
+is_early number call = nat_lt number (snapshot call.at.number)
 
 -- after a run at this number that handed these callbacks out
 abbrev pub after_run : Counts → Number → List (Queued ℕ) → Counts

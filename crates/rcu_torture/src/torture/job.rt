@@ -2,7 +2,7 @@
 ghost use Rattle.std.specs.Prelude.{◌≡◌, ◌+◌, ◌*◌, ◌%◌, ◌<◌, ◌≤◌, IfErr, IfOk, OnErr, OnOk, false};
 ghost use Rattle.std.specs.Prelude.{length, true};
 ghost use Rattle.rand_pcg.specs.Pcg.{pcg32};
-ghost use Rattle.rcu_seq.specs.Numbers.{is_done_at};
+ghost use Rattle.rcu_seq.specs.Tags.{is_done_first};
 ghost use Rattle.rcu_live.specs.CpuSeat.{after_depart, after_quiesce};
 ghost use Rattle.rcu_live.specs.EngineLists.{is_run_fault};
 ghost use Rattle.rcu_live.specs.Watcher.{after_watch};
@@ -343,7 +343,7 @@ impl<'a> Job<'a> {
     fn poll(&mut self, cookie: Cookie, share: &mut Share)
         requires { share.old.early < most_rounds + length share.old.ids }
         ensures share { share.new ≡
-            after_poll share.old (is_done_at cookie.0 self.new.watcher.view.seen) }
+            after_poll share.old (is_done_first cookie self.new.watcher.view.seen) }
         ensures looked { self.new.watcher ≡
             after_watch self.old.watcher self.new.watcher.view.seen }
         ensures rest { self.new ≡ record self.old { watcher = self.new.watcher } }

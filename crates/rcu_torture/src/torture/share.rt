@@ -3,7 +3,7 @@ ghost use Rattle.std.specs.Prelude.{◌≡◌, ◌+◌, ◌<◌, ◌≤◌, ◌^
 ghost use Rattle.rcu_torture.specs.Ledger.{after_run, most_rounds, ran_of};
 
 use rcu_live::ran::Ran;
-use rcu_seq::cookie::Cookie;
+use rcu_seq::cookie::snapshot;
 use std::alloc::{AllocError, Global};
 use std::marker::Model;
 
@@ -109,12 +109,12 @@ impl Share {
     /// Takes down what a run handed out, for which there is room.
     pub(crate) fn take_down(&mut self, ran: &Ran<u64>)
         requires room { length ran.now.calls.items ≤ self.old.room }
-        requires bounded { All (λ call. call.at ≤ 2 ^ 62) ran.now.calls.items }
+        requires bounded { All (λ call. call.at.number ≤ 2 ^ 62) ran.now.calls.items }
         ensures { self.new ≡ after_run self.old ran.now.number ran.now.calls.items }
     {
         for call in &ran.calls {
             self.ids.push_reserved(call.value);
-            self.early += u64::from(Cookie::of(call.at).0 > ran.number);
+            self.early += u64::from(snapshot(call.at.number) > ran.number);
         }
     }
 }

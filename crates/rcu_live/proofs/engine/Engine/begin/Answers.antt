@@ -38,6 +38,7 @@ invariant_of-self g c =
       number =
           ap (λ (v : View g.row.C.Denot). v.seen) view ∙ number
           ∙ sym (ap (λ (y : Grace g.row.T.Denot). number_of y.seq) state);
+      epoch = ap (λ (y : Grace g.row.T.Denot). y.seq.epoch) state ∙ i.epoch;
       cpus = ap (λ (y : Grace g.row.T.Denot). length y.processors.awaited) state ∙ length-listed _ _ ∙ same;
       late = ap (λ (l : List Bool). length l) f.late ∙ length-listed _ _ ∙ same;
       awaited =

@@ -1,6 +1,7 @@
 use Rattle.std.proofs.Common.{arith, ◌≤◌, List, Result, Ok, Err, OnErr, length, subst, sym, length-take}
 use Rattle.std.specs.Arc.{arc_value}
 use Rattle.rcu_cblist.specs.declared.queued.Queued.{Queued}
+use Rattle.rcu_live.proofs.Waits.{waited_first}
 use Rattle.rcu_live.proofs.engine.Engine.run.Goals as goal
 
 on_any_err : {A B P : Type 0} (r : Result A B) → P → OnErr r P
@@ -26,3 +27,8 @@ pub returns-clause-most : goal.returns-clause-most
 returns-clause-most g c =
     subst (λ (calls : List (Queued g.row.T.Denot)). length calls ≤ c.args.max) (sym c.in_ok-calls.ensures.ok)
     (subst (λ n. n ≤ c.args.max) (sym (length-take c.args.max _)) (omega arith))
+
+pub returns-clause-waited : goal.returns-clause-waited
+returns-clause-waited g c =
+    waited_first c.self.inside.gp.seq c.value-number.result c.in_ok-calls.calls.items c.self.invariant.epoch
+    c.value-number.ensures.value c.in_ok-calls.ensures.waited

@@ -1,0 +1,21 @@
+-- Processors that depart from the engine.
+use Rattle.std.proofs.Common.{◌≡◌, ◌≢◌, ℕ, ◌<◌, Bool, true, false, if◌then◌else◌, Result, Ok, Err, OnOk, OnErr, IfErr, Some, None}
+use Rattle.std.proofs.Common.{sym, ap, ◌∙◌, arith}
+use Rattle.std.proofs.lemmas.Bool.Decides.{nat_tests}
+use Rattle.rcu_seq.specs.declared.fault.Fault.{Fault}
+use Rattle.rcu_node.specs.CpuSet.{is_in}
+use Rattle.rcu_hotplug.specs.Hotplug.{Depart, cpus_of, refusal}
+use Rattle.rcu_core.specs.GpState.{Grace, with_call}
+use Rattle.rcu_live.specs.EngineLists.{with_departure}
+
+-- a processor other than 0 departs where it is online
+pub departed : {X U : Type 0} (g now : Grace X) (cpu : ℕ) (o : Result U Fault) → cpu < cpus_of g.processors → cpu ≢ 0
+    → OnOk o (refusal g.processors (Depart cpu) ≡ None) → OnOk o (now ≡ with_call g (Depart cpu))
+    → IfErr o (λ fault. refusal g.processors (Depart cpu) ≡ Some fault) → OnErr o (now ≡ g)
+    → now ≡ with_departure g cpu
+departed g now cpu (Ok u) inside other accepted state refused unchanged =
+    let there : is_in g.processors.online cpu ≡ true = grind (arith, nat_tests) in
+    state ∙ sym (ap (λ (b : Bool). if b then with_call g (Depart cpu) else g) there)
+departed g now cpu (Err fault) inside other accepted state refused unchanged =
+    let gone : is_in g.processors.online cpu ≡ false = grind (arith, nat_tests) in
+    unchanged ∙ sym (ap (λ (b : Bool). if b then with_call g (Depart cpu) else g) gone)
