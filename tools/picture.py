@@ -15,6 +15,8 @@ LEGEND = (
     "diamond: report",
     "square on a grace period: delivery (hollow: it did not count) · t: tend · v: visit · "
     "cross, red name: refused")
+# Of a script in which the numbers start anew.
+EPOCHS = "stroke across the grace periods: the next epoch begins, whose numbers count from 0"
 
 
 class Picture:
@@ -24,6 +26,7 @@ class Picture:
         self.rows = rows
         self.shapes = []
         self.lanes = {}
+        self.legend = list(LEGEND)
 
     def x(self, place):
         return LEFT + STEP * place + STEP // 2
@@ -73,6 +76,7 @@ class Picture:
         bottom = TOP + LANE * len(self.lanes) - 6
         longest = max((len(f"{number} {line}") for number, line, _ in self.rows), default=0)
         width, height = LEFT + max(STEP * len(self.rows) + 60, 420), bottom + 50 + 5 * longest
+        height += 12 * (len(self.legend) - len(LEGEND))
         out = [f'<svg xmlns="http://www.w3.org/2000/svg" width="{width}" height="{height}" '
                f'viewBox="0 0 {width} {height}" font-family="sans-serif" font-size="11">',
                f'<rect width="{width}" height="{height}" fill="white"/>']
@@ -86,7 +90,7 @@ class Picture:
         for lane, at in self.lanes.items():
             out.append(f'<text x="6" y="{TOP + LANE * at + 4}" fill="#222222">{lane}</text>')
         out += self.shapes
-        for at, line in enumerate(reversed(LEGEND)):
+        for at, line in enumerate(reversed(self.legend)):
             y = height - 8 - 12 * at
             out.append(f'<text x="6" y="{y}" font-size="9" fill="#777777">{line}</text>')
         return "\n".join(out) + "\n</svg>\n"
@@ -163,16 +167,35 @@ def draw_deliveries(picture):
             picture.mark("grace periods", place, "square", REPORT, counts, "" if counts else reply)
 
 
+def draw_epochs(picture):
+    """A stroke where an epoch begins."""
+    if any(reply.startswith("epoch ") for _, _, reply in picture.rows):
+        picture.legend.append(EPOCHS)
+    for place, (_, _, reply) in enumerate(picture.rows):
+        if reply.startswith("epoch "):
+            x, y = picture.x(place), picture.y("grace periods")
+            stroke = f'<path d="M{x} {y - 12}V{y + 12}" stroke="{GRACE}" stroke-width="2"/>'
+            told = f'<text x="{x + 4}" y="{y + 12}" fill="{GRACE}">{html.escape(reply)}</text>'
+            picture.put(stroke + told, place)
+
+
+def cookie_of(line):
+    """The cookie that a poll names, as a reply tells it."""
+    number, epoch = (*map(int, line.split()[1:]), 0)[:2]
+    return f"cookie {number} epoch {epoch}" if epoch else f"cookie {number}"
+
+
 def draw_cookies(picture):
     """Each cookie from its first taking on, with its polls."""
     polls = {}
     for place, (_, line, reply) in enumerate(picture.rows):
         if reply.startswith("cookie "):
-            polls.setdefault(reply.split()[1], []).append((place, "taken"))
-        elif line.startswith("poll ") and str(int(line.split()[1])) in polls:
-            polls[str(int(line.split()[1]))].append((place, reply))
-    for cookie, seen in polls.items():
-        lane, last = f"cookie {cookie}", seen[-1]
+            polls.setdefault(reply, []).append((place, "taken"))
+        elif line.split()[0] == "poll" and reply in ("done", "not yet"):
+            if cookie_of(line) in polls:
+                polls[cookie_of(line)].append((place, reply))
+    for lane, seen in polls.items():
+        last = seen[-1]
         picture.bar(lane, seen[0][0], last[0], COOKIE, 4)
         for place, reply in seen:
             picture.mark(lane, place, "square", COOKIE, reply != "not yet", reply)
@@ -207,6 +230,7 @@ def drawn(rows):
         if end is not None:
             number, x, y = rows[end][2].split()[1], picture.x(end), picture.y("grace periods")
             picture.put(f'<text x="{x + 4}" y="{y - 10}" fill="{GRACE}">{number}</text>', end)
+    draw_epochs(picture)
     for start, end in spans(rows, "barrier begun", "barrier done"):
         picture.bar("barriers", start, end, BARRIER, 8)
     for cpu in sorted({0, *(cpu_of(line, reply) or 0 for _, line, reply in rows)}):

@@ -1,6 +1,6 @@
 -- A text without `fault 16` is the one right text.
 use Rattle.std.proofs.Common.{◌≡◌, ◌⊎◌, ◌==◌, ◌∙◌, ◌||◌, ℕ, Bool, true, false, List, [], ◌∷◌, ◌++◌, length, refl, sym}
-use Rattle.std.proofs.Common.{ap, ap₂, inl, inr, codes}
+use Rattle.std.proofs.Common.{ap, ap₂, inl, inr, codes, if◌then◌else◌}
 use Rattle.std.specs.Prelude.{flat_map}
 use Rattle.std.specs.Fmt.{decimal, digits}
 use Rattle.std.specs.List.{list_any}
@@ -22,7 +22,7 @@ use Rattle.rcu_text.specs.declared.line_shape.Line.TheVariants.{Blank, Malformed
 use Rattle.rcu_text.proofs.CallerLemmas.{cut_append, Closes, closes_behind, closed}
 use Rattle.rcu_script.specs.ScriptAnswers.{Answers, AnswersLine, IsAnswer, next_after, replies, reply_to, wants_memory}
 use Rattle.rcu_script.specs.ScriptLines.{asked_by}
-use Rattle.rcu_script.specs.ScriptTexts.{text_of}
+use Rattle.rcu_script.specs.ScriptTexts.{epoch_text, text_of}
 
 -- ---- each line of a reply is ended
 
@@ -32,13 +32,20 @@ closes_number word rest n c = closes_behind word (decimal n ++ rest) (closes_beh
 closes_numbered : (text : List ℕ) (n : ℕ) → Closes (numbered_text text n)
 closes_numbered text n = closes_number text (codes "\n") n ([], refl)
 
+closes_epoch : (epoch : ℕ) → Closes (epoch_text epoch)
+closes_epoch epoch = go (epoch == 0)
+  where
+    go : (t : Bool) → Closes (if t then codes "\n" else numbered_text (codes " epoch ") epoch)
+    go true = ([], refl)
+    go false = closes_numbered (codes " epoch ") epoch
+
 pub closes_reply : (r : Reply) → Closes (text_of r)
 closes_reply (reply.Depth n) = closes_numbered (codes "depth ") n
 closes_reply (reply.Noted n true) = closes_number (codes "noted ") (codes " needed\n") n (codes " needed", refl)
 closes_reply (reply.Noted n false) = closes_number (codes "noted ") (codes " clear\n") n (codes " clear", refl)
 closes_reply (reply.Made place report) =
     closes_number (codes "report ") _ place (closes_number (codes " cpu ") _ report.cpu
-    (closes_number (codes " tag ") (codes "\n") report.tag ([], refl)))
+    (closes_number (codes " tag ") _ report.tag.number (closes_epoch report.tag.epoch)))
 closes_reply (reply.Answer answer.Taken) = (codes "taken", refl)
 closes_reply (reply.Answer answer.Last) = (codes "last", refl)
 closes_reply (reply.Answer answer.Repeat) = (codes "repeat", refl)
@@ -53,7 +60,7 @@ closes_reply reply.Nothing = (codes "nothing", refl)
 closes_reply (reply.Awaits []) = (codes "awaits none", refl)
 closes_reply (reply.Awaits (cpu ∷ cpus)) =
     closes_behind (codes "awaits") _ (closes_behind (flat_map space_and_number (cpu ∷ cpus)) (codes "\n") ([], refl))
-closes_reply (reply.Cookie c) = closes_numbered (codes "cookie ") c.0
+closes_reply (reply.Cookie c) = closes_number (codes "cookie ") _ c.number (closes_epoch c.epoch)
 closes_reply (reply.Polled true) = (codes "done", refl)
 closes_reply (reply.Polled false) = (codes "not yet", refl)
 closes_reply (reply.Queued n) = closes_numbered (codes "queued ") n
@@ -68,6 +75,7 @@ closes_reply (reply.Visited visit.Empty) = (codes "empty", refl)
 closes_reply (reply.Visited visit.Already) = (codes "already", refl)
 closes_reply reply.BarDone = (codes "barrier done", refl)
 closes_reply (reply.BarWaits n) = closes_numbered (codes "barrier waits ") n
+closes_reply (reply.Renumbered epoch) = closes_numbered (codes "epoch ") epoch
 closes_reply (reply.Fault f) = closes_numbered (codes "fault ") (fault_number f)
 
 closed_line : (size : Size) (h : History) (line : Line Event) (text : List ℕ) (next : History)

@@ -13,3 +13,4 @@ pub mod PolledLemmas
 pub mod RightTextLemmas
 pub mod RunLemmas
 pub mod ScriptRunLemmas
+pub mod SentLemmas

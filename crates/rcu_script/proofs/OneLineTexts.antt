@@ -1,7 +1,7 @@
 -- Texts of one line, and the numbers in them.
 use Rattle.std.proofs.Common.{◌≡◌, ◌==◌, ◌∙◌, ◌%◌, ◌/◌, ◌<◌, ℕ, zero, suc, Bool, true, false, List, [], ◌∷◌, ◌++◌}
 use Rattle.std.proofs.Common.{length, refl, sym, ap, codes, arith, append_assoc, if◌then◌else◌}
-use Rattle.std.specs.Prelude.{flat_map, slice_index_or}
+use Rattle.std.specs.Prelude.{flat_map, nat_le, slice_index_or}
 use Rattle.std.specs.Fmt.{decimal, digit_glyph, digits, digits_onto}
 use Rattle.std.specs.List.{list_any, slice_split}
 use Rattle.std.proofs.lemmas.Bool.Decides.{nat_tests}
@@ -9,6 +9,7 @@ use Rattle.std.proofs.lemmas.List.Folds.{list_any-append, list_any_at}
 use Rattle.std.proofs.lemmas.List.Splits.{slice_split_at}
 use Rattle.std.specs.Prelude.{All}
 use Rattle.rcu_text.specs.Texts.{numbered_text, space_and_number}
+use Rattle.rcu_script.specs.ScriptTexts.{epoch_text}
 
 -- the byte ends a line
 abbrev pub is_end : ℕ → Bool
@@ -16,24 +17,26 @@ is_end b = b == 10
 
 -- ---- no line ends in a number
 
-glyph_no_end : (d : ℕ) → d < 10 → is_end (digit_glyph false d) ≡ false
-glyph_no_end d low = grind (arith, nat_tests)
+-- a byte before the digits is in no number
+module _ (test : ℕ → Bool) (is_low : (d : ℕ) → d < 10 → test (digit_glyph false d) ≡ false) where
+  onto_without : (k n : ℕ) (acc : List ℕ) → list_any test acc ≡ false
+      → list_any test (digits_onto k 10 false n acc) ≡ false
+  onto_without zero n acc none = none
+  onto_without (suc k) n acc none =
+      let glyph = digit_glyph false (n % 10) in
+      let one : list_any test (glyph ∷ acc) ≡ false = rw (is_low (n % 10) (omega arith)) none in
+      let more = digits_onto k 10 false (n / 10) (glyph ∷ acc) in
+      elim (n / 10 == 0) as (λ t. list_any test (if t then glyph ∷ acc else more) ≡ false) [
+        | true ↦ one
+        | false ↦ onto_without k (n / 10) (glyph ∷ acc) one
+      ]
 
-onto_no_end : (k n : ℕ) (acc : List ℕ) → list_any is_end acc ≡ false
-    → list_any is_end (digits_onto k 10 false n acc) ≡ false
-onto_no_end zero n acc none = none
-onto_no_end (suc k) n acc none =
-    let glyph = digit_glyph false (n % 10) in
-    let one : list_any is_end (glyph ∷ acc) ≡ false = rw (glyph_no_end (n % 10) (omega arith)) none in
-    let more = digits_onto k 10 false (n / 10) (glyph ∷ acc) in
-    elim (n / 10 == 0) as (λ t. list_any is_end (if t then glyph ∷ acc else more) ≡ false) [
-      | true ↦ one
-      | false ↦ onto_no_end k (n / 10) (glyph ∷ acc) one
-    ]
+  decimal_without : (n : ℕ) → list_any test (decimal n) ≡ false
+  unfolding digits
+  decimal_without n = onto_without 64 n [] refl
 
 decimal_no_end : (n : ℕ) → list_any is_end (decimal n) ≡ false
-unfolding digits
-decimal_no_end n = onto_no_end 64 n [] refl
+decimal_no_end n = decimal_without is_end (λ d low. grind (arith, nat_tests)) n
 
 no_end_in : (a b : List ℕ) → list_any is_end a ≡ false → list_any is_end b ≡ false → list_any is_end (a ++ b) ≡ false
 no_end_in a b p q = list_any-append is_end a b ∙ rw (p, q) refl
@@ -44,6 +47,10 @@ listed_no_end (item ∷ items) =
     no_end_in (space_and_number item) (flat_map space_and_number items) (decimal_no_end item) (listed_no_end items)
 
 -- ---- texts of one line
+
+-- how a line ends that tells a number of an epoch
+abbrev end_of_epoch : ℕ → List ℕ
+end_of_epoch epoch = if epoch == 0 then [] else codes " epoch " ++ (decimal epoch ++ [])
 
 -- the text is this line and its end
 pub record OneLine (line text : List ℕ) : Type 0 where
@@ -70,6 +77,14 @@ pub line_numbered : (word : List ℕ) (n : ℕ) → list_any is_end word ≡ fal
     → OneLine (word ++ (decimal n ++ [])) (numbered_text word n)
 line_numbered word n none = line_of_number word [] (codes "\n") n none (line_alone [] refl)
 
+pub line_of_epoch : (epoch : ℕ) → OneLine (end_of_epoch epoch) (epoch_text epoch)
+line_of_epoch epoch = go (epoch == 0)
+  where
+    go : (t : Bool) → OneLine (if t then [] else codes " epoch " ++ (decimal epoch ++ []))
+        (if t then codes "\n" else numbered_text (codes " epoch ") epoch)
+    go true = line_alone [] refl
+    go false = line_numbered (codes " epoch ") epoch refl
+
 pub line_listed : (word : List ℕ) (item : ℕ) (items : List ℕ) → list_any is_end word ≡ false
     → OneLine (word ++ flat_map space_and_number (item ∷ items))
     (word ++ (flat_map space_and_number (item ∷ items) ++ codes "\n"))
@@ -77,15 +92,26 @@ line_listed word item items none =
     line_behind word (flat_map space_and_number (item ∷ items)) _ none
     (line_alone (flat_map space_and_number (item ∷ items)) (listed_no_end (item ∷ items)))
 
-all_no_end : (line : List ℕ) → list_any is_end line ≡ false → All (λ b. is_end b ≡ false) line
-all_no_end line none = λ k d within. go k d within _ refl
+all_without : (test : ℕ → Bool) (line : List ℕ) → list_any test line ≡ false → All (λ b. test b ≡ false) line
+all_without test line none = λ k d within. go k d within _ refl
   where
-    go : (k d : ℕ) → k < length line → (t : Bool) → is_end (slice_index_or line k d) ≡ t
-        → is_end (slice_index_or line k d) ≡ false
+    go : (k d : ℕ) → k < length line → (t : Bool) → test (slice_index_or line k d) ≡ t
+        → test (slice_index_or line k d) ≡ false
     go k d within false e = e
     go k d within true e =
-        let some : list_any is_end line ≡ true = list_any_at is_end line k d within e in
+        let some : list_any test line ≡ true = list_any_at test line k d within e in
         absurd (cc)
+
+-- a byte that may stand behind a number
+abbrev pub is_break : ℕ → Bool
+is_break b = nat_le b 32
+
+-- a number is the first piece of what begins with it and such a byte
+pub first_number : (n b : ℕ) (more : List ℕ) → is_break b ≡ true
+    → slice_split is_break (decimal n ++ b ∷ more) ≡ decimal n ∷ slice_split is_break more
+first_number n b more breaks =
+    slice_split_at is_break (decimal n) b more
+    (all_without is_break (decimal n) (decimal_without is_break (λ d low. grind (arith, nat_tests)) n)) breaks
 
 -- the line is the first piece of what begins with the text
 pub first_piece : (line text more : List ℕ) → OneLine line text
@@ -93,4 +119,4 @@ pub first_piece : (line text more : List ℕ) → OneLine line text
 first_piece line text more one =
     ap (λ (l : List ℕ). slice_split is_end (l ++ more)) one.ended
     ∙ ap (slice_split is_end) (append_assoc line (10 ∷ []) more)
-    ∙ slice_split_at is_end line 10 more (all_no_end line one.no_end) refl
+    ∙ slice_split_at is_end line 10 more (all_without is_end line one.no_end) refl

@@ -24,7 +24,8 @@ name_alone name e found =
     (named e (codes "take") name _ _ refl
     (named e (codes "start") name _ _ refl
     (named e (codes "bar") name _ _ refl
-    (named e (codes "bartest") name _ _ refl (λ none. cc)))))))) found
+    (named e (codes "bartest") name _ _ refl
+    (named e (codes "renumber") name _ _ refl (λ none. cc))))))))) found
 
 name_with_cpu : (name : List ℕ) (cpu : ℕ) (e : Event) → event_with_cpu name cpu ≡ Some e → is_word name ≡ true
 name_with_cpu name cpu e found =
@@ -42,11 +43,12 @@ name_with_number name n e found =
     named e (codes "deliver") name _ _ refl
     (named e (codes "poll") name _ _ refl (λ later. name_with_cpu name (cpu_of n) e later)) found
 
-name_with_numbers : (name : List ℕ) (cpu n : ℕ) (e : Event) → event_with_numbers name cpu n ≡ Some e
+name_with_numbers : (name : List ℕ) (first second : ℕ) (e : Event) → event_with_numbers name first second ≡ Some e
     → is_word name ≡ true
-name_with_numbers name cpu n e found =
+name_with_numbers name first second e found =
     named e (codes "queue") name _ _ refl
-    (named e (codes "run") name _ _ refl (λ none. cc)) found
+    (named e (codes "run") name _ _ refl
+    (named e (codes "poll") name _ _ refl (λ none. cc))) found
 
 -- ---- words
 
@@ -60,20 +62,21 @@ with_word name word e None is found = cc
 with_word name word e (Some n) is found =
     both (is_word name) _ (name_with_number name n e found) (both (is_word word) true (number_printable word n is) refl)
 
-with_next : (name word next : List ℕ) (cpu : ℕ) (e : Event) (o : Option ℕ) → number_in_word word ≡ Some cpu
+with_next : (name word next : List ℕ) (first : ℕ) (e : Event) (o : Option ℕ) → number_in_word word ≡ Some first
     → number_in_word next ≡ o
-    → option_map_or (event_with_numbers name cpu) o None ≡ Some e → list_all is_word (name ∷ word ∷ next ∷ []) ≡ true
-with_next name word next cpu e None is later found = cc
-with_next name word next cpu e (Some n) is later found =
-    both (is_word name) _ (name_with_numbers name cpu n e found)
-    (both (is_word word) _ (number_printable word cpu is)
-    (both (is_word next) true (number_printable next n later) refl))
+    → option_map_or (event_with_numbers name first) o None ≡ Some e
+    → list_all is_word (name ∷ word ∷ next ∷ []) ≡ true
+with_next name word next first e None is later found = cc
+with_next name word next first e (Some second) is later found =
+    both (is_word name) _ (name_with_numbers name first second e found)
+    (both (is_word word) _ (number_printable word first is)
+    (both (is_word next) true (number_printable next second later) refl))
 
 with_words : (name word next : List ℕ) (e : Event) (o : Option ℕ) → number_in_word word ≡ o
-    → option_map_or (λ cpu. option_map_or (event_with_numbers name cpu) (number_in_word next) None) o None ≡ Some e
+    → option_map_or (λ first. option_map_or (event_with_numbers name first) (number_in_word next) None) o None ≡ Some e
     → list_all is_word (name ∷ word ∷ next ∷ []) ≡ true
 with_words name word next e None is found = cc
-with_words name word next e (Some cpu) is found = with_next name word next cpu e (number_in_word next) is refl found
+with_words name word next e (Some first) is found = with_next name word next first e (number_in_word next) is refl found
 
 event_words : (name : List ℕ) (words : List (List ℕ)) (e : Event) → event_of name words ≡ Some e
     → list_all is_word (name ∷ words) ≡ true

@@ -1,7 +1,7 @@
 -- A script that takes a cookie and later finds it done ran as the law of cookies asks.
 use Rattle.std.proofs.Common.{◌≡◌, ◌==◌, ◌∙◌, ◌&&◌, ◌+◌, ◌^◌, ◌/◌, ◌%◌, ◌≤◌, ◌<◌, ℕ, zero, suc, Bool, true, false, List}
 use Rattle.std.proofs.Common.{[], ◌∷◌, ◌++◌, length, Option, Some, None, refl, sym, ap, subst, inl, inr, codes, arith}
-use Rattle.std.proofs.Common.{if◌then◌else◌}
+use Rattle.std.proofs.Common.{append_assoc, eqb-true, if◌then◌else◌}
 use Rattle.std.specs.Prelude.{nat_le, nat_lt}
 use Rattle.std.specs.Fmt.{decimal, digit_glyph, digits, digits_onto}
 use Rattle.std.specs.Str.Parse.{digits_value}
@@ -11,9 +11,9 @@ use Rattle.std.specs.Str.{bytes_eq}
 use Rattle.std.proofs.Math.Nat.{pow-succ'}
 use Rattle.std.proofs.lemmas.Bool.{cases_lt, ltb-true, ne_eqb}
 use Rattle.std.proofs.lemmas.Fmt.{decimal_is_IsNumeral_wide, length-decimal-le}
-use Rattle.std.proofs.lemmas.List.{append_cancel_left, append_cancel_right}
-use Rattle.rcu_seq.specs.Numbers.{is_done_at}
-use Rattle.rcu_core.specs.History.{History, number}
+use Rattle.std.proofs.lemmas.List.{append_cancel_left}
+use Rattle.rcu_seq.specs.declared.cookie.Cookie.{Cookie}
+use Rattle.rcu_core.specs.History.{History}
 use Rattle.rcu_core.specs.Replies.{IsLegalReply, Size, with_event}
 use Rattle.rcu_core.specs.Runs.{IsLegalRun, Run, history, takes}
 use Rattle.rcu_core.specs.Situation.{situation}
@@ -22,20 +22,21 @@ use Rattle.rcu_core.specs.declared.event.Event.TheVariants.{Take, StartPoll, Pol
 use Rattle.rcu_core.specs.declared.reply.Reply.{Reply}
 use Rattle.rcu_core.specs.declared.reply.Reply.TheVariants as reply
 use Rattle.rcu_text.specs.Lines.{is_well_formed, line_of_words}
+use Rattle.rcu_text.specs.Texts.{numbered_text}
 use Rattle.rcu_text.specs.Words.{is_digit, is_number, number_in_word, value_of, words_of}
 use Rattle.rcu_text.specs.declared.line_shape.Line.{Line}
 use Rattle.rcu_text.specs.declared.line_shape.Line.TheVariants.{Ask, Malformed}
 use Rattle.rcu_script.specs.ScriptAnswers.{Answers, AnswersLine}
 use Rattle.rcu_script.specs.ScriptLines.{asked_by, cpu_of, event_alone, event_of, event_with_cpu, event_with_number}
 use Rattle.rcu_script.specs.ScriptLines.{event_with_numbers}
-use Rattle.rcu_script.specs.ScriptTexts.{text_of}
-use Rattle.rcu_script.proofs.OneLineTexts.{first_piece, is_end, line_numbered}
+use Rattle.rcu_script.specs.ScriptTexts.{epoch_text, text_of}
+use Rattle.rcu_script.proofs.OneLineTexts.{first_number, is_break}
 use Rattle.rcu_script.proofs.ScriptRunLemmas.{lines_from_first, lines_further}
 
--- ---- a polled cookie fits 64 bits
+-- ---- the numbers of a polled cookie fit 64 bits
 
 abbrev Fits : Event → Type 0
-Fits (Poll cookie) = cookie < 2 ^ 64
+Fits (Poll number epoch) = (number < 2 ^ 64) × (epoch < 2 ^ 64)
 Fits _ = Unit {0}
 
 named_fits : (found : Event) (text name : List ℕ) (e : Event) (rest : Option Event) → Fits e
@@ -60,7 +61,8 @@ fits_alone name e found =
     (named_fits e (codes "take") name _ _ tt
     (named_fits e (codes "start") name _ _ tt
     (named_fits e (codes "bar") name _ _ tt
-    (named_fits e (codes "bartest") name _ _ tt (λ none. cc)))))))) found
+    (named_fits e (codes "bartest") name _ _ tt
+    (named_fits e (codes "renumber") name _ _ tt (λ none. cc))))))))) found
 
 fits_with_cpu : (name : List ℕ) (cpu : ℕ) (e : Event) → event_with_cpu name cpu ≡ Some e → Fits e
 fits_with_cpu name cpu e found =
@@ -76,12 +78,14 @@ fits_with_cpu name cpu e found =
 fits_with_number : (name : List ℕ) (n : ℕ) (e : Event) → n < 2 ^ 64 → event_with_number name n ≡ Some e → Fits e
 fits_with_number name n e fits found =
     named_fits e (codes "deliver") name _ _ tt
-    (named_fits e (codes "poll") name _ _ fits (λ later. fits_with_cpu name (cpu_of n) e later)) found
+    (named_fits e (codes "poll") name _ _ (fits, omega arith) (λ later. fits_with_cpu name (cpu_of n) e later)) found
 
-fits_with_numbers : (name : List ℕ) (cpu n : ℕ) (e : Event) → event_with_numbers name cpu n ≡ Some e → Fits e
-fits_with_numbers name cpu n e found =
+fits_with_numbers : (name : List ℕ) (first second : ℕ) (e : Event) → first < 2 ^ 64 → second < 2 ^ 64
+    → event_with_numbers name first second ≡ Some e → Fits e
+fits_with_numbers name first second e fits fits_too found =
     named_fits e (codes "queue") name _ _ tt
-    (named_fits e (codes "run") name _ _ tt (λ none. cc)) found
+    (named_fits e (codes "run") name _ _ tt
+    (named_fits e (codes "poll") name _ _ (fits, fits_too) (λ none. cc))) found
 
 number_fits : (word : List ℕ) (n : ℕ) → number_in_word word ≡ Some n → n < 2 ^ 64
 number_fits word n found = go (is_number word) refl found
@@ -109,21 +113,23 @@ fits_word : (name word : List ℕ) (e : Event) (o : Option ℕ) → number_in_wo
 fits_word name word e None is found = cc
 fits_word name word e (Some n) is found = fits_with_number name n e (number_fits word n is) found
 
-fits_next : (name : List ℕ) (cpu : ℕ) (e : Event) (o : Option ℕ)
-    → option_map_or (event_with_numbers name cpu) o None ≡ Some e → Fits e
-fits_next name cpu e None found = cc
-fits_next name cpu e (Some n) found = fits_with_numbers name cpu n e found
+fits_next : (name next : List ℕ) (first : ℕ) (e : Event) (o : Option ℕ) → first < 2 ^ 64 → number_in_word next ≡ o
+    → option_map_or (event_with_numbers name first) o None ≡ Some e → Fits e
+fits_next name next first e None fits is found = cc
+fits_next name next first e (Some second) fits is found =
+    fits_with_numbers name first second e fits (number_fits next second is) found
 
-fits_words : (name next : List ℕ) (e : Event) (o : Option ℕ)
-    → option_map_or (λ cpu. option_map_or (event_with_numbers name cpu) (number_in_word next) None) o None ≡ Some e
+fits_words : (name word next : List ℕ) (e : Event) (o : Option ℕ) → number_in_word word ≡ o
+    → option_map_or (λ first. option_map_or (event_with_numbers name first) (number_in_word next) None) o None ≡ Some e
     → Fits e
-fits_words name next e None found = cc
-fits_words name next e (Some cpu) found = fits_next name cpu e (number_in_word next) found
+fits_words name word next e None is found = cc
+fits_words name word next e (Some first) is found =
+    fits_next name next first e (number_in_word next) (number_fits word first is) refl found
 
 fits_of : (name : List ℕ) (words : List (List ℕ)) (e : Event) → event_of name words ≡ Some e → Fits e
 fits_of name [] e found = fits_alone name e found
 fits_of name (word ∷ []) e found = fits_word name word e (number_in_word word) refl found
-fits_of name (word ∷ next ∷ []) e found = fits_words name next e (number_in_word word) found
+fits_of name (word ∷ next ∷ []) e found = fits_words name word next e (number_in_word word) refl found
 fits_of name (word ∷ next ∷ more ∷ words) e found = cc
 
 fits_ask : (name : List ℕ) (words : List (List ℕ)) (e : Event) (o : Option Event) → event_of name words ≡ o
@@ -140,15 +146,14 @@ fits_line : (words : List (List ℕ)) (e : Event) → line_of_words event_of wor
 fits_line [] e asks = cc
 fits_line (name ∷ words) e asks = fits_ask name words e (event_of name words) refl asks
 
-polled_fits : (line : List ℕ) (cookie : ℕ) → asked_by line ≡ Ask (Poll cookie) → cookie < 2 ^ 64
-polled_fits line cookie asks = go (is_well_formed line) asks
+polled_fits : (line : List ℕ) (e : Event) → asked_by line ≡ Ask e → Fits e
+polled_fits line e asks = go (is_well_formed line) asks
   where
-    go : (t : Bool) → (if t then line_of_words event_of (words_of line) else Malformed) ≡ Ask (Poll cookie)
-        → cookie < 2 ^ 64
-    go true asks = fits_line (words_of line) (Poll cookie) asks
+    go : (t : Bool) → (if t then line_of_words event_of (words_of line) else Malformed) ≡ Ask e → Fits e
+    go true asks = fits_line (words_of line) e asks
     go false asks = cc
 
--- ---- the number in a line `cookie` is the one that was told
+-- ---- the cookie in a line is the one that was told
 
 -- a number of more digits than are printed fills them all
 long_digits : (k n : ℕ) (acc : List ℕ) → 10 ^ k ≤ n → length (digits_onto k 10 false n acc) ≡ k + length acc
@@ -185,44 +190,89 @@ abbrev head_of : List (List ℕ) → List ℕ
 head_of [] = []
 head_of (line ∷ lines) = line
 
-cookie_alike : (n k : ℕ) (x y : List ℕ) → k < 2 ^ 64
-    → text_of (reply.Cookie (record { 0 = n })) ++ x ≡ text_of (reply.Cookie (record { 0 = k })) ++ y → n ≡ k
-cookie_alike n k x y fits same =
-    let a = first_piece _ _ x (line_numbered (codes "cookie ") n refl) in
-    let b = first_piece _ _ y (line_numbered (codes "cookie ") k refl) in
-    let lines : codes "cookie " ++ (decimal n ++ []) ≡ codes "cookie " ++ (decimal k ++ []) =
-    ap head_of (sym a ∙ ap (slice_split is_end) same ∙ b) in
-    let numbers : decimal n ++ [] ≡ decimal k ++ [] = append_cancel_left (codes "cookie ") _ _ lines in
-    printed_alike n k fits (append_cancel_right (decimal n) (decimal k) [] numbers)
+-- a number that stands before a space or a line end, as one that fits 64 bits does, is that one
+number_alike : (n k b c : ℕ) (x y : List ℕ) → k < 2 ^ 64 → is_break b ≡ true → is_break c ≡ true
+    → decimal n ++ b ∷ x ≡ decimal k ++ c ∷ y → n ≡ k
+number_alike n k b c x y fits first second same =
+    printed_alike n k fits (ap head_of
+    (sym (first_number n b x first) ∙ ap (slice_split is_break) same ∙ first_number k c y second))
+
+-- the rest of a line `cookie`, behind its number, begins with a space or a line end
+record Broken (rest : List ℕ) : Type 0 where
+  byte : ℕ
+  more : List ℕ
+  breaks : is_break byte ≡ true
+  is : rest ≡ byte ∷ more
+
+epoch_breaks : (epoch : ℕ) (x : List ℕ) → Broken (epoch_text epoch ++ x)
+epoch_breaks epoch x = go (epoch == 0)
+  where
+    go : (t : Bool) → Broken ((if t then codes "\n" else numbered_text (codes " epoch ") epoch) ++ x)
+    go true = record { byte = 10; more = x; breaks = refl; is = refl }
+    go false = record { byte = 32; more = _; breaks = refl; is = refl }
+
+-- equal ends of lines tell of one epoch
+epoch_alike : (e f : ℕ) (x y : List ℕ) → f < 2 ^ 64 → epoch_text e ++ x ≡ epoch_text f ++ y → e ≡ f
+epoch_alike e f x y fits same = go (e == 0) (f == 0) refl refl same
+  where
+    told : ℕ → Bool → List ℕ
+    told n t = if t then codes "\n" else numbered_text (codes " epoch ") n
+
+    go : (s t : Bool) → (e == 0) ≡ s → (f == 0) ≡ t → told e s ++ x ≡ told f t ++ y → e ≡ f
+    go true true p q same = eqb-true e 0 p ∙ sym (eqb-true f 0 q)
+    go true false p q same = cc
+    go false true p q same = cc
+    go false false p q same =
+        number_alike e f 10 10 x y fits refl refl
+        (sym (append_assoc (decimal e) (codes "\n") x)
+        ∙ append_cancel_left (codes " epoch ") _ _ same ∙ append_assoc (decimal f) (codes "\n") y)
+
+cookie_alike : (c d : Cookie) (x y : List ℕ) → d.number < 2 ^ 64 → d.epoch < 2 ^ 64
+    → text_of (reply.Cookie c) ++ x ≡ text_of (reply.Cookie d) ++ y → c ≡ d
+cookie_alike c d x y fits fits_too same =
+    let a = epoch_breaks c.epoch x in
+    let b = epoch_breaks d.epoch y in
+    let behind : decimal c.number ++ (epoch_text c.epoch ++ x) ≡ decimal d.number ++ (epoch_text d.epoch ++ y) =
+    sym (append_assoc (decimal c.number) (epoch_text c.epoch) x) ∙ append_cancel_left (codes "cookie ") _ _ same
+    ∙ append_assoc (decimal d.number) (epoch_text d.epoch) y in
+    let number : c.number ≡ d.number =
+    number_alike c.number d.number a.byte b.byte a.more b.more fits a.breaks b.breaks
+    (ap (λ (l : List ℕ). decimal c.number ++ l) (sym a.is) ∙ behind
+    ∙ ap (λ (l : List ℕ). decimal d.number ++ l) b.is) in
+    let rest : epoch_text c.epoch ++ x ≡ epoch_text d.epoch ++ y =
+    append_cancel_left (decimal d.number) _ _
+    (ap (λ (n : ℕ). decimal n ++ (epoch_text c.epoch ++ x)) (sym number) ∙ behind) in
+    let epoch : c.epoch ≡ d.epoch = epoch_alike c.epoch d.epoch x y fits_too rest in
+    rw (number, epoch) refl
 
 -- ---- the run behind the answers
 
 cookie_told : (size : Size) (h : History) (e : Event) (r : Reply) → takes e ≡ true → IsLegalReply size (situation h) e r
-    → (n : ℕ) × (r ≡ reply.Cookie (record { 0 = n }))
+    → (c : Cookie) × (r ≡ reply.Cookie c)
 cookie_told size h Take r t (inl is) = (_, is)
 cookie_told size h Take r t (inr want) = absurd (cc)
 cookie_told size h StartPoll r t (inl is) = (_, is)
 cookie_told size h StartPoll r t (inr want) = absurd (cc)
 cookie_told size h _ r t l = absurd (cc)
 
-done_told : (size : Size) (h : History) (cookie : ℕ) (r : Reply) (x : List ℕ) → x ≡ []
-    → IsLegalReply size (situation h) (Poll cookie) r
+done_told : (size : Size) (h : History) (number epoch : ℕ) (r : Reply) (x : List ℕ) → x ≡ []
+    → IsLegalReply size (situation h) (Poll number epoch) r
     → text_of (reply.Polled true) ≡ text_of r ++ x → r ≡ reply.Polled true
-done_told size h cookie r x none (inl is) text = is ∙ go (is_done_at cookie (number h)) (text ∙ rw (is, none) refl)
+done_told size h number epoch r x none (inl is) text = is ∙ go _ (text ∙ rw (is, none) refl)
   where
     go : (t : Bool) → text_of (reply.Polled true) ≡ text_of (reply.Polled t) ++ [] → reply.Polled t ≡ reply.Polled true
     go true e = refl
     go false e = cc
-done_told size h cookie r x none (inr want) text = absurd (cc)
+done_told size h number epoch r x none (inr want) text = absurd (cc)
 
 -- a legal run that takes a cookie after one history and polls it after another one, and finds it done
-pub record DoneRun (size : Size) (event : Event) (cookie : ℕ) (at_taking at_poll : History) : Type 0 where
+pub record DoneRun (size : Size) (event : Event) (cookie : Cookie) (at_taking at_poll : History) : Type 0 where
   pub earlier : Run
   pub later : Run
   pub legal : IsLegalRun size
-      ((Poll cookie, reply.Polled true) ∷ later ++ (event, reply.Cookie (record { 0 = cookie })) ∷ earlier)
+      ((Poll cookie.number cookie.epoch, reply.Polled true) ∷ later ++ (event, reply.Cookie cookie) ∷ earlier)
   pub taken : history earlier ≡ at_taking
-  pub polled : history (later ++ (event, reply.Cookie (record { 0 = cookie })) ∷ earlier) ≡ at_poll
+  pub polled : history (later ++ (event, reply.Cookie cookie) ∷ earlier) ≡ at_poll
 
 pub asked_line : (size : Size) (h : History) (line : List ℕ) (event : Event) (text : List ℕ) (next : History)
     → asked_by line ≡ Ask event
@@ -230,31 +280,34 @@ pub asked_line : (size : Size) (h : History) (line : List ℕ) (event : Event) (
 asked_line size h line event text next asks a = subst (λ (l : Line Event). AnswersLine size h l text next) asks a
 
 pub done_run : (size : Size) (before between : List (List ℕ)) (taking polling told more : List ℕ) (event : Event)
-    (cookie : ℕ) (at_taking at_poll end : History) → Answers size [] before told at_taking
+    (cookie : Cookie) (at_taking at_poll end : History) → Answers size [] before told at_taking
     → asked_by taking ≡ Ask event → takes event ≡ true
-    → Answers size at_taking (taking ∷ between) (text_of (reply.Cookie (record { 0 = cookie })) ++ more) at_poll
-    → asked_by polling ≡ Ask (Poll cookie) → Answers size at_poll (polling ∷ []) (text_of (reply.Polled true)) end
+    → Answers size at_taking (taking ∷ between) (text_of (reply.Cookie cookie) ++ more) at_poll
+    → asked_by polling ≡ Ask (Poll cookie.number cookie.epoch)
+    → Answers size at_poll (polling ∷ []) (text_of (reply.Polled true)) end
     → DoneRun size event cookie at_taking at_poll
 done_run size before between taking polling told more event cookie at_taking at_poll end first asks t second
     polls third =
     let start = lines_from_first size before told at_taking first in
     let took = asked_line size at_taking taking event second.0 second.1 asks second.3 in
     let said = cookie_told size at_taking event took.0 t took.1 in
-    let number : said.0 ≡ cookie =
-    cookie_alike said.0 cookie second.2 more (polled_fits polling cookie polls)
+    let fits = polled_fits polling (Poll cookie.number cookie.epoch) polls in
+    let same : said.0 ≡ cookie =
+    cookie_alike said.0 cookie second.2 more fits.0 fits.1
     (ap (λ (r : Reply). text_of r ++ second.2) (sym said.1)
     ∙ ap (λ (l : List ℕ). l ++ second.2) (sym took.2) ∙ sym second.4) in
-    let is : took.0 ≡ reply.Cookie (record { 0 = cookie }) =
-    said.1 ∙ ap (λ (n : ℕ). reply.Cookie (record { 0 = n })) number in
-    let taken : Run = (event, reply.Cookie (record { 0 = cookie })) ∷ start.run in
+    let is : took.0 ≡ reply.Cookie cookie =
+    said.1 ∙ ap (λ (c : Cookie). reply.Cookie c) same in
+    let taken : Run = (event, reply.Cookie cookie) ∷ start.run in
     let legal : IsLegalRun size taken = (rw (start.reached, ← is) took.1, start.legal) in
     let reached : history taken ≡ second.1 =
-    ap (λ (h : History). with_event h event (reply.Cookie (record { 0 = cookie }))) start.reached
+    ap (λ (h : History). with_event h event (reply.Cookie cookie)) start.reached
     ∙ ap (with_event at_taking event) (sym is) ∙ sym took.3 in
     let on = lines_further size taken second.1 at_poll between second.2 legal reached second.5 in
-    let poll = asked_line size at_poll polling (Poll cookie) third.0 third.1 polls third.3 in
+    let poll =
+    asked_line size at_poll polling (Poll cookie.number cookie.epoch) third.0 third.1 polls third.3 in
     let done =
-    done_told size at_poll cookie poll.0 third.2 third.5.0 poll.1
+    done_told size at_poll cookie.number cookie.epoch poll.0 third.2 third.5.0 poll.1
     (third.4 ∙ ap (λ (l : List ℕ). l ++ third.2) poll.2) in
     record {
       earlier = start.run;

@@ -28,7 +28,7 @@ use Rattle.rcu_script.specs.ScriptTexts.{text_of}
 use Rattle.rcu_script.proofs.ExactLemmas.{both_false, closes_reply, ended_of_all, ended_wants, exact_text, is_answer}
 use Rattle.rcu_script.proofs.ExactLemmas.{wants_append}
 use Rattle.rcu_script.proofs.OneLineTexts.{OneLine, first_piece, is_end, line_alone, line_listed, line_numbered}
-use Rattle.rcu_script.proofs.OneLineTexts.{line_of_number}
+use Rattle.rcu_script.proofs.OneLineTexts.{line_of_epoch, line_of_number}
 
 -- ---- the right text is an answer
 
@@ -134,7 +134,8 @@ module _ (pieces : EndedArePieces) where
       other_line _ _ (line_of_number (codes "noted ") _ _ n refl (line_alone (codes " clear") refl)) refl
   other_reply (reply.Made place report) e =
       other_line _ _ (line_of_number (codes "report ") _ _ place refl
-      (line_of_number (codes " cpu ") _ _ report.cpu refl (line_numbered (codes " tag ") report.tag refl))) refl
+      (line_of_number (codes " cpu ") _ _ report.cpu refl
+      (line_of_number (codes " tag ") _ _ report.tag.number refl (line_of_epoch report.tag.epoch)))) refl
   other_reply (reply.Answer answer.Taken) e = other_line _ _ (line_alone (codes "taken") refl) refl
   other_reply (reply.Answer answer.Last) e = other_line _ _ (line_alone (codes "last") refl) refl
   other_reply (reply.Answer answer.Repeat) e = other_line _ _ (line_alone (codes "repeat") refl) refl
@@ -148,7 +149,8 @@ module _ (pieces : EndedArePieces) where
   other_reply reply.Nothing e = other_line _ _ (line_alone (codes "nothing") refl) refl
   other_reply (reply.Awaits []) e = other_line _ _ (line_alone (codes "awaits none") refl) refl
   other_reply (reply.Awaits (cpu ∷ cpus)) e = other_line _ _ (line_listed (codes "awaits") cpu cpus refl) refl
-  other_reply (reply.Cookie c) e = numbered (codes "cookie ") c.0 refl refl
+  other_reply (reply.Cookie c) e =
+      other_line _ _ (line_of_number (codes "cookie ") _ _ c.number refl (line_of_epoch c.epoch)) refl
   other_reply (reply.Polled true) e = other_line _ _ (line_alone (codes "done") refl) refl
   other_reply (reply.Polled false) e = other_line _ _ (line_alone (codes "not yet") refl) refl
   other_reply (reply.Queued n) e = numbered (codes "queued ") n refl refl
@@ -162,6 +164,7 @@ module _ (pieces : EndedArePieces) where
   other_reply (reply.Visited visit.Already) e = other_line _ _ (line_alone (codes "already") refl) refl
   other_reply reply.BarDone e = other_line _ _ (line_alone (codes "barrier done") refl) refl
   other_reply (reply.BarWaits n) e = numbered (codes "barrier waits ") n refl refl
+  other_reply (reply.Renumbered epoch) e = numbered (codes "epoch ") epoch refl refl
   other_reply (reply.Fault f) e = other_fault f e
 
   -- each line is ended in it, and none is `fault 16`

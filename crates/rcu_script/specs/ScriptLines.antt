@@ -5,7 +5,7 @@ use Rattle.std.specs.Option.{option_map_or}
 use Rattle.rcu_core.specs.declared.event.Event.{Event}
 use Rattle.rcu_core.specs.declared.event.Event.TheVariants.{Enter, Exit, Note, Quiesce, Deliver, Online, Offline, Begin}
 use Rattle.rcu_core.specs.declared.event.Event.TheVariants.{End, Turn, Awaits, Take, StartPoll, Poll, Queue, Tend, Run}
-use Rattle.rcu_core.specs.declared.event.Event.TheVariants.{BarBegin, Visit, BarTest}
+use Rattle.rcu_core.specs.declared.event.Event.TheVariants.{BarBegin, Visit, BarTest, Renumber}
 use Rattle.rcu_text.specs.Lines.{line_by}
 use Rattle.rcu_text.specs.Words.{number_in_word}
 use Rattle.rcu_text.specs.declared.line_shape.Line.{Line}
@@ -25,7 +25,8 @@ event_alone name =
     else (if bytes_eq name (codes "start") then Some StartPoll
     else (if bytes_eq name (codes "bar") then Some BarBegin
     else (if bytes_eq name (codes "bartest") then Some BarTest
-    else None)))))))
+    else (if bytes_eq name (codes "renumber") then Some Renumber
+    else None))))))))
 
 -- the event of a name that stands before a processor
 abbrev pub event_with_cpu : List ℕ → ℕ → Option Event
@@ -40,28 +41,31 @@ event_with_cpu name cpu =
     else (if bytes_eq name (codes "visit") then Some (Visit cpu)
     else None)))))))
 
--- the event of a name that stands before a number: of a report's place, a cookie's number, or else a processor's
+-- the event of a name that stands before a number: a report's place, the number of a cookie of the first epoch, or else
+-- a processor
 abbrev pub event_with_number : List ℕ → ℕ → Option Event
 event_with_number name n =
     if bytes_eq name (codes "deliver") then Some (Deliver n)
-    else (if bytes_eq name (codes "poll") then Some (Poll n)
+    else (if bytes_eq name (codes "poll") then Some (Poll n 0)
     else event_with_cpu name (cpu_of n))
 
 -- the event of a name and a word, which has to be a number
 abbrev pub event_with_word : List ℕ → List ℕ → Option Event
 event_with_word name word = option_map_or (event_with_number name) (number_in_word word) None
 
--- the event of a name that stands before a processor and a number: of a callback's value, or of how many run at most
+-- the event of a name that stands before two numbers: a processor and a callback's value, a processor and how many run
+-- at most, or a cookie's number and its epoch
 abbrev pub event_with_numbers : List ℕ → ℕ → ℕ → Option Event
-event_with_numbers name cpu n =
-    if bytes_eq name (codes "queue") then Some (Queue (cpu_of cpu) n)
-    else (if bytes_eq name (codes "run") then Some (Run (cpu_of cpu) n)
-    else None)
+event_with_numbers name first second =
+    if bytes_eq name (codes "queue") then Some (Queue (cpu_of first) second)
+    else (if bytes_eq name (codes "run") then Some (Run (cpu_of first) second)
+    else (if bytes_eq name (codes "poll") then Some (Poll first second)
+    else None))
 
 -- the event of a name and two words, which have to be numbers
 abbrev pub event_with_words : List ℕ → List ℕ → List ℕ → Option Event
 event_with_words name word next =
-    option_map_or (λ cpu. option_map_or (event_with_numbers name cpu) (number_in_word next) None)
+    option_map_or (λ first. option_map_or (event_with_numbers name first) (number_in_word next) None)
     (number_in_word word) None
 
 -- the event of a name and the words behind it: the name decides how many they are

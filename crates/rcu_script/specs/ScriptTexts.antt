@@ -1,6 +1,7 @@
 -- The texts of replies.
-use Rattle.std.specs.Prelude.{ℕ, Bool, true, false, List, [], ◌∷◌, ◌++◌, flat_map, codes, decimal}
+use Rattle.std.specs.Prelude.{ℕ, ◌==◌, Bool, true, false, List, [], ◌∷◌, ◌++◌, flat_map, codes, decimal, if◌then◌else◌}
 use Rattle.rcu_seq.specs.Fault.{fault_number}
+use Rattle.rcu_seq.specs.declared.cookie.Cookie.{Cookie}
 use Rattle.rcu_node.specs.declared.answer.Answer.{Answer}
 use Rattle.rcu_node.specs.declared.answer.Answer.TheVariants.{Taken, Last, Repeat, Stale}
 use Rattle.rcu_report.specs.declared.report.Report.{Report}
@@ -8,9 +9,9 @@ use Rattle.rcu_barrier.specs.declared.visit.Visit.{Visit}
 use Rattle.rcu_barrier.specs.declared.visit.Visit.TheVariants.{Marked, Empty, Already}
 use Rattle.rcu_core.specs.declared.reply.Reply.{Reply}
 use Rattle.rcu_core.specs.declared.reply.Reply.TheVariants.{Depth, Noted, Made, Answer as Answered, Online, Moved}
-use Rattle.rcu_core.specs.declared.reply.Reply.TheVariants.{Begun, Ended, Waiting, Nothing, Awaits, Cookie, Polled}
+use Rattle.rcu_core.specs.declared.reply.Reply.TheVariants.{Begun, Ended, Waiting, Nothing, Awaits, Cookie as Told, Polled}
 use Rattle.rcu_core.specs.declared.reply.Reply.TheVariants.{Queued, Tended, Ran, BarBegun, Visited, BarDone, BarWaits}
-use Rattle.rcu_core.specs.declared.reply.Reply.TheVariants.{Fault}
+use Rattle.rcu_core.specs.declared.reply.Reply.TheVariants.{Renumbered, Fault}
 use Rattle.rcu_text.specs.Texts.{numbered_text, space_and_number}
 
 -- what a processor noted: it is needed where the processor is awaited
@@ -18,11 +19,15 @@ abbrev pub noted_text : ℕ → Bool → List ℕ
 noted_text n true = codes "noted " ++ (decimal n ++ codes " needed\n")
 noted_text n false = codes "noted " ++ (decimal n ++ codes " clear\n")
 
+-- the end of a line that tells a number of an epoch: the epoch, where that is not the first one
+abbrev pub epoch_text : ℕ → List ℕ
+epoch_text epoch = if epoch == 0 then codes "\n" else numbered_text (codes " epoch ") epoch
+
 -- a report and its place among all reports
 abbrev pub made_text : ℕ → Report → List ℕ
 made_text place report =
     codes "report " ++ (decimal place ++ (codes " cpu " ++ (decimal report.cpu
-    ++ (codes " tag " ++ (decimal report.tag ++ codes "\n")))))
+    ++ (codes " tag " ++ (decimal report.tag.number ++ epoch_text report.tag.epoch)))))
 
 -- the word for what a report did
 abbrev pub answer_text : Answer → List ℕ
@@ -39,6 +44,10 @@ begun_text n cpus = codes "begun " ++ (decimal n ++ (codes " awaits " ++ (decima
 abbrev pub listed_text : List ℕ → List ℕ → List ℕ
 listed_text word [] = word ++ codes " none\n"
 listed_text word (item ∷ items) = word ++ (flat_map space_and_number (item ∷ items) ++ codes "\n")
+
+-- the cookie that was taken
+abbrev pub cookie_text : Cookie → List ℕ
+cookie_text cookie = codes "cookie " ++ (decimal cookie.number ++ epoch_text cookie.epoch)
 
 -- whether a cookie is done
 abbrev pub polled_text : Bool → List ℕ
@@ -68,7 +77,7 @@ text_of (Ended n) = numbered_text (codes "ended ") n
 text_of (Waiting cpus) = numbered_text (codes "waiting ") cpus
 text_of Nothing = codes "nothing\n"
 text_of (Awaits cpus) = listed_text (codes "awaits") cpus
-text_of (Cookie cookie) = numbered_text (codes "cookie ") cookie.0
+text_of (Told cookie) = cookie_text cookie
 text_of (Polled done) = polled_text done
 text_of (Queued n) = numbered_text (codes "queued ") n
 text_of (Tended done waiting) = tended_text done waiting
@@ -77,6 +86,7 @@ text_of BarBegun = codes "barrier begun\n"
 text_of (Visited visit) = visited_text visit
 text_of BarDone = codes "barrier done\n"
 text_of (BarWaits n) = numbered_text (codes "barrier waits ") n
+text_of (Renumbered epoch) = numbered_text (codes "epoch ") epoch
 text_of (Fault fault) = numbered_text (codes "fault ") (fault_number fault)
 
 -- what a processor's events and a report are answered
@@ -96,8 +106,9 @@ is_of_period (Ended n) = true
 is_of_period (Waiting cpus) = true
 is_of_period Nothing = true
 is_of_period (Awaits cpus) = true
-is_of_period (Cookie cookie) = true
+is_of_period (Told cookie) = true
 is_of_period (Polled done) = true
+is_of_period (Renumbered epoch) = true
 is_of_period reply = false
 
 -- what is answered of callbacks and barriers

@@ -1,6 +1,7 @@
 //! What the definitions say of the lines of a script.
 ghost use Rattle.std.specs.Prelude.{◌≡◌, ◌≢◌, ◌<◌, ◌≤◌, ◌∷◌, ◌++◌, false, true, ℕ, List, [], Some};
 ghost use Rattle.std.specs.Prelude.{All, codes, map};
+ghost use Rattle.rcu_seq.specs.declared.cookie.Cookie.{Cookie};
 ghost use Rattle.rcu_core.specs.Callbacks.{handed_out, has_full_period, queued_before_barrier};
 ghost use Rattle.rcu_core.specs.Callbacks.{since, times_handed_out};
 ghost use Rattle.rcu_core.specs.History.{History, section};
@@ -88,12 +89,12 @@ pub fn lines_are_answered_in_turn()
 /// ended at the later one.
 pub fn readers_finish_before_done_is_printed()
     ensures { (size : Size) (before between : List (List ℕ)) (taking polling told more : List ℕ)
-        (event : Event) (cookie cpu : ℕ) (at_taking at_poll end opened : History)
+        (event : Event) (cookie : Cookie) (cpu : ℕ) (at_taking at_poll end opened : History)
         → Answers size [] before told at_taking
         → asked_by taking ≡ Line.Ask event → takes event ≡ true
         → Answers size at_taking (taking ∷ between)
-        (text_of (Reply.Cookie (record { 0 = cookie })) ++ more) at_poll
-        → asked_by polling ≡ Line.Ask (Event.Poll cookie)
+        (text_of (Reply.Cookie cookie) ++ more) at_poll
+        → asked_by polling ≡ Line.Ask (Event.Poll cookie.number cookie.epoch)
         → Answers size at_poll (polling ∷ []) (text_of (Reply.Polled true)) end
         → section cpu at_taking ≡ Some opened → section cpu at_poll ≢ Some opened }
 {

@@ -63,6 +63,8 @@ fn bare_event(name: &[u8]) -> Option<Event>
         Some(Event::BarBegin)
     } else if is(name, b"bartest") {
         Some(Event::BarTest)
+    } else if is(name, b"renumber") {
+        Some(Event::Renumber)
     } else {
         None
     }
@@ -75,7 +77,7 @@ fn event_of_number(name: &[u8], n: u64) -> Option<Event>
     if is(name, b"deliver") {
         Some(Event::Deliver(n))
     } else if is(name, b"poll") {
-        Some(Event::Poll(n))
+        Some(Event::Poll(n, 0))
     } else {
         event_of_cpu(name, cpu_of_number(n))
     }
@@ -106,7 +108,7 @@ fn event_of_cpu(name: &[u8], cpu: u32) -> Option<Event>
     }
 }
 
-/// The event of a name that stands before a processor and a number.
+/// The event of a name that stands before two numbers.
 fn event_of_two(name: &[u8], first: u64, second: u64) -> Option<Event>
     ensures { result ≡ event_with_numbers name.now first second }
 {
@@ -114,6 +116,8 @@ fn event_of_two(name: &[u8], first: u64, second: u64) -> Option<Event>
         Some(Event::Queue(cpu_of_number(first), second))
     } else if is(name, b"run") {
         Some(Event::Run(cpu_of_number(first), second))
+    } else if is(name, b"poll") {
+        Some(Event::Poll(first, second))
     } else {
         None
     }

@@ -1,7 +1,8 @@
 //! Replies as text.
 ghost use Rattle.std.specs.Prelude.{◌≡◌, ◌≤◌, true, length};
-ghost use Rattle.rcu_text.specs.Outputs.{Puts};
-ghost use Rattle.rcu_script.specs.ScriptTexts.{answer_text, is_of_callbacks, is_of_period};
+ghost use Rattle.rcu_text.specs.Outputs.{Puts, after_put_text};
+ghost use Rattle.rcu_script.specs.ScriptTexts.{answer_text, cookie_text, epoch_text};
+ghost use Rattle.rcu_script.specs.ScriptTexts.{is_of_callbacks, is_of_period};
 ghost use Rattle.rcu_script.specs.ScriptTexts.{is_of_processor, made_text, noted_text};
 ghost use Rattle.rcu_script.specs.ScriptTexts.{polled_text, text_of, visited_text};
 
@@ -10,6 +11,7 @@ use rcu_barrier::visit::Visit;
 use rcu_core::reply::Reply;
 use rcu_node::answer::Answer;
 use rcu_report::report::Report;
+use rcu_seq::cookie::Cookie;
 use rcu_text::printing::{LONGEST_REPLY, push_numbered};
 use rcu_text::{Failed, Output, put_counts, put_line, put_numbered};
 
@@ -32,7 +34,8 @@ pub fn put_reply<O: Output>(out: &mut O, reply: &Reply) -> Result<(), Failed>
         | Reply::Nothing
         | Reply::Awaits(_)
         | Reply::Cookie(_)
-        | Reply::Polled(_) => put_period_reply(out, reply),
+        | Reply::Polled(_)
+        | Reply::Renumbered(_) => put_period_reply(out, reply),
         Reply::Queued(_)
         | Reply::Tended(_, _)
         | Reply::Ran(_)
@@ -73,8 +76,9 @@ fn put_period_reply<O: Output>(out: &mut O, reply: &Reply) -> Result<(), Failed>
         Reply::Waiting(cpus) => put_numbered(out, b"waiting ", u64::from(*cpus)),
         Reply::Nothing => put_line(out, b"nothing\n"),
         Reply::Awaits(cpus) => put_listed(out, b"awaits", cpus),
-        Reply::Cookie(cookie) => put_numbered(out, b"cookie ", cookie.0),
+        Reply::Cookie(cookie) => put_cookie(out, *cookie),
         Reply::Polled(done) => put_line(out, polled_line(*done)),
+        Reply::Renumbered(epoch) => put_numbered(out, b"epoch ", *epoch),
         _ => unreachable!(),
     }
 }
@@ -116,9 +120,30 @@ fn put_made<O: Output>(out: &mut O, place: u64, report: Report) -> Result<(), Fa
     out.make_room(LONGEST_REPLY)?;
     push_numbered(out, b"report ", place);
     push_numbered(out, b" cpu ", u64::from(report.cpu));
-    push_numbered(out, b" tag ", report.tag);
-    out.put_byte(b'\n');
+    push_numbered(out, b" tag ", report.tag.number);
+    push_epoch(out, report.tag.epoch);
     Ok(())
+}
+
+fn put_cookie<O: Output>(out: &mut O, cookie: Cookie) -> Result<(), Failed>
+    ensures { Puts result (O.out out.old) (O.out out.new) (cookie_text cookie) }
+{
+    out.make_room(LONGEST_REPLY)?;
+    push_numbered(out, b"cookie ", cookie.number);
+    push_epoch(out, cookie.epoch);
+    Ok(())
+}
+
+/// Ends a line that tells a number of this epoch: by the epoch, where it is not the first one.
+#[inline(always)]
+fn push_epoch<O: Output>(out: &mut O, epoch: u64)
+    requires { 28 ≤ (O.out out.old).room }
+    ensures { O.out out.new ≡ after_put_text (O.out out.old) (epoch_text epoch) }
+{
+    if epoch > 0 {
+        push_numbered(out, b" epoch ", epoch);
+    }
+    out.put_byte(b'\n');
 }
 
 fn answer_line(answer: Answer) -> &'static [u8]

@@ -24,7 +24,9 @@ Lines on standard input (C is a processor, counted from 0):
   deliver K                the report K arrives
   enter C, exit C          a read section of a processor
   online C, offline C      a processor comes, and goes
-  take, start, poll K      a cookie; one whose grace period is asked for; whether it is done
+  take, start              a cookie; one whose grace period is asked for
+  poll K, poll K E         whether the cookie K is done, of epoch 0 or of epoch E
+  renumber                 the next epoch begins, where the number is the last one
   queue C ID, tend C       a callback waits on a processor; its list is brought up to date
   run C MOST               callbacks that are done are handed out
   bar, visit C, bartest    a barrier begins, visits a processor, is tested

@@ -2,6 +2,7 @@ use Rattle.std.proofs.Common.{◌≡◌, ◌∙◌, ◌++◌, List, ℕ, ap, app
 use Rattle.std.proofs.lemmas.Result.{err_from_is_err_and}
 use Rattle.rcu_text.specs.Outputs.{Out, Sends, after_put_text}
 use Rattle.rcu_text.proofs.CallerLemmas.{put_twice, sends_behind, stops_before_text}
+use Rattle.rcu_script.specs.ScriptTexts.{epoch_text}
 use Rattle.rcu_script.proofs.script.print.put_made.Goals as goal
 
 -- four texts that are put one after another are put as one
@@ -27,16 +28,17 @@ pub returns : goal.returns
 returns g c =
     let place = decimal c.args.place in
     let cpu = decimal c.from.result in
-    let tag = decimal c.args.report.tag in
-    let e = c.put_byte.ensures
-    ∙ ap (λ (o : Out). after_put_text o (codes "\n")) c.push_numbered-3.ensures.puts
-    ∙ ap (λ (o : Out). after_put_text (after_put_text o (codes " tag " ++ tag)) (codes "\n"))
+    let tag = decimal c.args.report.tag.number in
+    let end = epoch_text c.args.report.tag.epoch in
+    let e = c.push_epoch.ensures
+    ∙ ap (λ (o : Out). after_put_text o end) c.push_numbered-3.ensures.puts
+    ∙ ap (λ (o : Out). after_put_text (after_put_text o (codes " tag " ++ tag)) end)
     c.push_numbered-2.ensures.puts
     ∙ ap (λ (o : Out). after_put_text (after_put_text (after_put_text o (codes " cpu " ++ cpu))
-    (codes " tag " ++ tag)) (codes "\n")) c.push_numbered.ensures.puts
-    ∙ put_four _ (codes "report " ++ place) (codes " cpu " ++ cpu) (codes " tag " ++ tag) (codes "\n") in
-    subst (Sends (g.O.Output.out c.args.out.now) (g.O.Output.out c.put_byte.new.self))
-    (regroup (codes "report ") place (codes " cpu ") cpu (codes " tag ") tag (codes "\n")
+    (codes " tag " ++ tag)) end) c.push_numbered.ensures.puts
+    ∙ put_four _ (codes "report " ++ place) (codes " cpu " ++ cpu) (codes " tag " ++ tag) end in
+    subst (Sends (g.O.Output.out c.args.out.now) (g.O.Output.out c.push_epoch.new.out))
+    (regroup (codes "report ") place (codes " cpu ") cpu (codes " tag ") tag end
     ∙ ap (λ (n : ℕ). codes "report " ++ (place ++ (codes " cpu " ++ (decimal n
-    ++ (codes " tag " ++ (tag ++ codes "\n")))))) c.from.ensures)
+    ++ (codes " tag " ++ (tag ++ end)))))) c.from.ensures)
     (sends_behind _ _ _ _ c.in_ok-make_room.ensures.bytes e)
