@@ -10,6 +10,7 @@ use rcu_barrier::visit::Visit;
 use rcu_cblist::laws::greatest_bounds_each;
 use rcu_cblist::queued::Queued;
 use rcu_seq::fault::Fault;
+use rcu_seq::tag::Tag;
 use std::alloc::Global;
 use std::process::Abort;
 
@@ -80,7 +81,7 @@ fn lists(rt: &impl Abort, alloc: Global) -> Lists<u64> {
 /// Queues a callback that was handed back, and compares how many were queued.
 fn queue_again(rt: &impl Abort, lists: &mut Lists<u64>, cpu: u32, value: u64, wanted: u64) {
     assert!(rt; cpu < lists.cpus());
-    match lists.queue(cpu, 0, value) {
+    match lists.queue(cpu, Tag::of_first_epoch(0), value) {
         Ok(count) => assert!(rt; count == wanted),
         Err(_) => panic!(rt; "the second call has memory"),
     }
@@ -91,7 +92,7 @@ fn queue_again(rt: &impl Abort, lists: &mut Lists<u64>, cpu: u32, value: u64, wa
 fn queue(rt: &impl Abort, lists: &mut Lists<u64>, cpu: u32, value: u64, wanted: u64) {
     let before = ask(rt, lists);
     assert!(rt; cpu < lists.cpus());
-    match lists.queue(cpu, 0, value) {
+    match lists.queue(cpu, Tag::of_first_epoch(0), value) {
         Ok(count) => assert!(rt; count == wanted),
         Err(back) => {
             refused(rt, back.fault, lists, before);
@@ -190,12 +191,22 @@ fn visit_once(
     Ok(())
 }
 
+/// Compares the greatest number that a callback of a processor carries.
+fn carries(rt: &impl Abort, lists: &Lists<u64>, cpu: u32, wanted: Option<u64>) {
+    assert!(rt; cpu < lists.cpus());
+    assert!(rt; lists.greatest_waiting(cpu) == wanted);
+}
+
 /// A call on the lists of two processors, with what it has to answer, or a look.
 enum Step<'a> {
     /// Queues a callback on a processor: its value, and how many were queued then.
     Queue(u32, u64, u64),
     /// Tends a processor's list at a number: how many callbacks are done, and how many wait.
     Tend(u32, u64, u64, u64),
+    /// Takes the numbers from what waits, on both.
+    Renumber,
+    /// The greatest number that a callback of a processor carries.
+    Greatest(u32, Option<u64>),
     /// Takes at most so many callbacks of a processor: their values.
     Run(u32, u64, &'a [u64]),
     /// Moves processor 1's list: how many moved.
@@ -220,6 +231,8 @@ fn make(rt: &impl Abort, lists: &mut Lists<u64>, step: &Step) {
             assert!(rt; *number % 4 <= 1 && *number <= 1 << 62);
             tend(rt, lists, *cpu, *number, (*done, *waiting));
         }
+        Step::Renumber => lists.renumber(),
+        Step::Greatest(cpu, wanted) => carries(rt, lists, *cpu, *wanted),
         Step::Run(cpu, max, wanted) => run(rt, lists, *cpu, *max, wanted),
         Step::Migrate(wanted) => migrate(rt, lists, *wanted),
         Step::Begin(wanted) => assert!(rt; lists.barrier_begin() == *wanted),
@@ -328,10 +341,51 @@ fn barrier_behind_callbacks(rt: HostRuntime) {
     );
 }
 
+/// What waits loses its numbers on both processors; what is done stays, and so do the counts. A
+/// barrier goes on.
+#[test]
+fn renumbering_during_a_barrier(rt: HostRuntime) {
+    make_all(
+        &rt,
+        rt.alloc(),
+        &[
+            Step::Queue(0, 5, 1),
+            Step::Tend(0, 0, 0, 1),
+            Step::Tend(0, 4, 1, 0),
+            Step::Queue(0, 6, 2),
+            Step::Queue(1, 7, 3),
+            Step::Begin(Ok(())),
+            Step::Visit(0, Visit::Marked),
+            Step::Tend(0, 4, 1, 1),
+            Step::Tend(1, 4, 0, 1),
+            Step::Greatest(0, Some(8)),
+            Step::Greatest(1, Some(8)),
+            Step::Renumber,
+            Step::Greatest(0, None),
+            Step::Greatest(1, None),
+            Step::IsRunning(true),
+            Step::Visit(0, Visit::Already),
+            Step::Test(Ok(BarrierState::Waits(2))),
+            Step::Visit(1, Visit::Marked),
+            Step::Run(0, 9, &[5]),
+            Step::Tend(0, 0, 0, 1),
+            Step::Tend(1, 0, 0, 1),
+            Step::Greatest(0, Some(4)),
+            Step::Tend(0, 4, 1, 0),
+            Step::Run(0, 9, &[6]),
+            Step::Test(Ok(BarrierState::Waits(1))),
+            Step::Tend(1, 4, 1, 0),
+            Step::Run(1, 9, &[7]),
+            Step::Test(Ok(BarrierState::Done)),
+            Step::Queue(1, 8, 4),
+        ],
+    );
+}
+
 /// The million and first callback is refused.
 fn full(rt: &impl Abort, lists: &mut Lists<u64>) {
     assert!(rt; 1 < lists.cpus());
-    match lists.queue(1, 0, 8) {
+    match lists.queue(1, Tag::of_first_epoch(0), 8) {
         Ok(_) => panic!(rt; "one too many was queued"),
         Err(back) => assert!(rt; back.fault == Fault::CallbacksFull && back.value == 8),
     }
@@ -341,7 +395,7 @@ fn full(rt: &impl Abort, lists: &mut Lists<u64>) {
 fn fill(rt: &impl Abort, lists: &mut Lists<u64>) {
     for count in 0..1_000_000 {
         assert!(rt; 0 < lists.cpus());
-        if let Err(back) = lists.queue(0, 0, 7) {
+        if let Err(back) = lists.queue(0, Tag::of_first_epoch(0), 7) {
             assert!(rt; back.fault == Fault::NoMemory);
             queue_again(rt, lists, 0, back.value, count + 1);
         }
@@ -375,6 +429,8 @@ fn takes_none(rt: &impl Abort, lists: &mut Lists<u64>) {
 
 /// The calls that ask for no memory: none of them is refused a growth.
 fn call_without_memory(rt: &impl Abort, lists: &mut Lists<u64>) {
+    tend(rt, lists, 0, 0, (0, 1));
+    lists.renumber();
     tend(rt, lists, 0, 0, (0, 1));
     takes_none(rt, lists);
     assert!(rt; migrate_once(rt, lists, 0).is_ok());

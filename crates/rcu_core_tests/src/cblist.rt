@@ -8,6 +8,7 @@ use rcu_cblist::queued::Queued;
 use rcu_cblist::seg_list::SegList;
 use rcu_cblist::taken::Taken;
 use rcu_seq::fault::Fault;
+use rcu_seq::tag::Tag;
 use std::alloc::Global;
 use std::mem::swap;
 use std::process::Abort;
@@ -42,7 +43,8 @@ fn refused(rt: &impl Abort, fault: Fault, now: Asked, before: Asked) {
 
 /// Queues a callback, by a second call where the first is refused a growth, and compares what that
 /// one hands back.
-fn queue(rt: &impl Abort, list: &mut SegList<u64>, ord: u64, at: u64, value: u64) {
+fn queue(rt: &impl Abort, list: &mut SegList<u64>, ord: u64, number: u64, value: u64) {
+    let at = Tag::of_first_epoch(number);
     let before = ask(list);
     if let Err(back) = list.queue(Queued { ord, at, value }) {
         refused(rt, back.fault, ask(list), before);
@@ -144,12 +146,14 @@ fn is_empty(rt: &impl Abort, list: &SegList<u64>, wanted: bool) {
 
 /// A call on a list, with what it has to answer, or a look at the list.
 enum Step<'a> {
-    /// Queues a callback of this order number, number at queueing, and value.
+    /// Queues a callback of this order number, number of epoch 0 at queueing, and value.
     Queue(u64, u64, u64),
     /// Gives this number to the unmarked callbacks.
     Accelerate(u64),
     /// Advances to this number.
     Advance(u64),
+    /// Takes the numbers from what waits.
+    Renumber,
     /// Takes at most so many: which values, and how many markers were passed.
     Take(u64, &'a [u64], u64),
     /// Puts a marker behind: whether it did.
@@ -171,9 +175,10 @@ enum Step<'a> {
 /// Makes a call on the list, or looks at it, and compares.
 fn make(rt: &impl Abort, list: &mut SegList<u64>, other: &mut SegList<u64>, step: &Step) {
     match step {
-        Step::Queue(ord, at, value) => queue(rt, list, *ord, *at, *value),
+        Step::Queue(ord, number, value) => queue(rt, list, *ord, *number, *value),
         Step::Accelerate(snap) => accelerate(rt, list, *snap),
         Step::Advance(number) => list.advance(*number),
+        Step::Renumber => list.renumber(),
         Step::Take(max, wanted, markers) => take(rt, list, *max, wanted, *markers),
         Step::Entrain(wanted) => entrain(rt, list, *wanted),
         Step::Migrate => migrate(rt, list, other),
@@ -356,6 +361,44 @@ fn migration_with_a_marker(rt: HostRuntime) {
     );
 }
 
+/// What waits loses its numbers in its order; what is done and the markers stay.
+#[test]
+fn renumbering_a_list(rt: HostRuntime) {
+    make_all(
+        &rt,
+        rt.alloc(),
+        &[
+            Step::Renumber,
+            Step::IsEmpty(true),
+            Step::Queue(1, 0, 10),
+            Step::Accelerate(4),
+            Step::Advance(4),
+            Step::Queue(2, 1, 11),
+            Step::Accelerate(8),
+            Step::Entrain(true),
+            Step::Queue(3, 5, 12),
+            Step::Accelerate(12),
+            Step::Queue(4, 9, 13),
+            Step::Segments([1, 2, 1, 1]),
+            Step::Renumber,
+            Step::Segments([1, 0, 0, 4]),
+            Step::Counts(1, 3, None),
+            Step::Advance(12),
+            Step::Counts(1, 3, None),
+            Step::Take(9, &[10], 0),
+            Step::Accelerate(4),
+            Step::Segments([0, 4, 0, 0]),
+            Step::Counts(0, 3, Some(4)),
+            Step::Advance(4),
+            Step::Renumber,
+            Step::Segments([4, 0, 0, 0]),
+            Step::Take(1, &[11], 1),
+            Step::Take(9, &[12, 13], 0),
+            Step::IsEmpty(true),
+        ],
+    );
+}
+
 /// How many markers a take passes, or its fault.
 fn markers_passed(list: &mut SegList<u64>, max: u64) -> Result<u64, Fault> {
     let taken = list.take_done(max)?;
@@ -374,6 +417,8 @@ fn call_without_memory(rt: &impl Abort, list: &mut SegList<u64>, empty: &mut Seg
     assert!(rt; empty.migrate_marked_into(list).is_ok());
     accelerate(rt, list, 4);
     list.advance(0);
+    list.renumber();
+    accelerate(rt, list, 4);
     passes_none(rt, list, 9);
     list.advance(4);
     passes_none(rt, list, 0);

@@ -2,21 +2,25 @@
 use rcu_cpu::cpu_data::CpuData;
 use rcu_report::report::Report;
 use rcu_seq::fault::Fault;
+use rcu_seq::tag::Tag;
 use std::process::Abort;
 
 /// A call, with what it has to answer, or a look.
 enum Step {
     Enter(Result<u32, Fault>),
     Exit(Result<u32, Fault>),
-    /// Notes this number.
-    Note(u64, Result<(), Fault>),
-    /// A quiescent state: the number that its report carries.
-    Quiesce(Result<u64, Fault>),
-    /// Arrives at this number.
-    Arrive(u64, Result<(), Fault>),
+    /// Notes this number of this epoch.
+    Note(u64, u64, Result<(), Fault>),
+    /// A quiescent state: the number and the epoch that its report carries.
+    Quiesce(u64, u64),
+    /// A quiescent state that is refused.
+    NoReport(Fault),
+    /// Arrives at this number of this epoch.
+    Arrive(u64, u64, Result<(), Fault>),
     Depart(Result<(), Fault>),
-    /// Whether the processor is online, the depth of its section, and the number noted.
-    Is(bool, u32, u64),
+    /// Whether the processor is online, the depth of its section, and the number and the epoch
+    /// noted.
+    Is(bool, u32, u64, u64),
 }
 
 /// Makes a call, or looks, and compares.
@@ -24,11 +28,18 @@ fn make(rt: &impl Abort, data: &mut CpuData, step: &Step) {
     match step {
         Step::Enter(wanted) => is_depth(rt, data.enter(), *wanted),
         Step::Exit(wanted) => is_depth(rt, data.exit(), *wanted),
-        Step::Note(number, wanted) => is_done(rt, data.note(*number), *wanted),
-        Step::Quiesce(wanted) => quiesce(rt, data, *wanted),
-        Step::Arrive(number, wanted) => is_done(rt, data.arrive(*number), *wanted),
+        Step::Note(number, epoch, wanted) => {
+            is_done(rt, data.note(tag(*number, *epoch)), *wanted);
+        },
+        Step::Quiesce(number, epoch) => quiesce(rt, data, Ok(tag(*number, *epoch))),
+        Step::NoReport(fault) => quiesce(rt, data, Err(*fault)),
+        Step::Arrive(number, epoch, wanted) => {
+            is_done(rt, data.arrive(tag(*number, *epoch)), *wanted);
+        },
         Step::Depart(wanted) => is_done(rt, data.depart(), *wanted),
-        Step::Is(online, depth, noted) => is_at(rt, data, *online, *depth, *noted),
+        Step::Is(online, depth, number, epoch) => {
+            is_at(rt, data, *online, *depth, tag(*number, *epoch));
+        },
     }
 }
 
@@ -43,16 +54,21 @@ fn is_done(rt: &impl Abort, answer: Result<(), Fault>, wanted: Result<(), Fault>
 }
 
 /// Makes a quiescent state, and compares the report.
-fn quiesce(rt: &impl Abort, data: &mut CpuData, wanted: Result<u64, Fault>) {
+fn quiesce(rt: &impl Abort, data: &mut CpuData, wanted: Result<Tag, Fault>) {
     let cpu = data.cpu();
     assert!(rt; data.quiesce() == wanted.map(|tag| Report { cpu, tag }));
 }
 
 /// Looks at the processor.
-fn is_at(rt: &impl Abort, data: &CpuData, online: bool, depth: u32, noted: u64) {
+fn is_at(rt: &impl Abort, data: &CpuData, online: bool, depth: u32, noted: Tag) {
     assert!(rt; data.online() == online);
     assert!(rt; data.depth() == depth);
     assert!(rt; data.noted() == noted);
+}
+
+/// This number of this epoch.
+fn tag(number: u64, epoch: u64) -> Tag {
+    Tag { epoch, number }
 }
 
 /// Makes the steps in turn.
@@ -74,9 +90,9 @@ fn full_nesting_depth(rt: HostRuntime) {
         data,
         0,
         &[
-            Step::Is(true, 65_535, 0),
+            Step::Is(true, 65_535, 0, 0),
             Step::Enter(Err(Fault::NestFull)),
-            Step::Is(true, 65_535, 0),
+            Step::Is(true, 65_535, 0, 0),
         ],
     );
 }
@@ -91,10 +107,10 @@ fn nested_sections(rt: HostRuntime) {
             Step::Enter(Ok(1)),
             Step::Enter(Ok(2)),
             Step::Exit(Ok(1)),
-            Step::Quiesce(Err(Fault::InSection)),
+            Step::NoReport(Fault::InSection),
             Step::Exit(Ok(0)),
             Step::Exit(Err(Fault::NotOpen)),
-            Step::Quiesce(Ok(0)),
+            Step::Quiesce(0, 0),
         ],
     );
 }
@@ -106,10 +122,13 @@ fn a_note_and_a_report(rt: HostRuntime) {
         CpuData::new(4_095, true),
         4_095,
         &[
-            Step::Is(true, 0, 0),
-            Step::Note(5, Ok(())),
-            Step::Is(true, 0, 5),
-            Step::Quiesce(Ok(5)),
+            Step::Is(true, 0, 0, 0),
+            Step::Note(5, 0, Ok(())),
+            Step::Is(true, 0, 5, 0),
+            Step::Quiesce(5, 0),
+            Step::Note(1, 1, Ok(())),
+            Step::Is(true, 0, 1, 1),
+            Step::Quiesce(1, 1),
         ],
     );
 }
@@ -123,17 +142,17 @@ fn an_arrival_and_a_departure(rt: HostRuntime) {
         &[
             Step::Enter(Err(Fault::Offline)),
             Step::Exit(Err(Fault::NotOpen)),
-            Step::Note(1, Err(Fault::Offline)),
-            Step::Quiesce(Err(Fault::Offline)),
+            Step::Note(1, 0, Err(Fault::Offline)),
+            Step::NoReport(Fault::Offline),
             Step::Depart(Err(Fault::Offline)),
-            Step::Arrive(9, Ok(())),
-            Step::Arrive(13, Err(Fault::AlreadyOnline)),
-            Step::Is(true, 0, 9),
+            Step::Arrive(9, 0, Ok(())),
+            Step::Arrive(13, 0, Err(Fault::AlreadyOnline)),
+            Step::Is(true, 0, 9, 0),
             Step::Enter(Ok(1)),
             Step::Depart(Err(Fault::InSection)),
             Step::Exit(Ok(0)),
             Step::Depart(Ok(())),
-            Step::Is(false, 0, 9),
+            Step::Is(false, 0, 9, 0),
         ],
     );
 }

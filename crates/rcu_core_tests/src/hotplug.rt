@@ -6,6 +6,7 @@ use rcu_node::awaited::Awaited;
 use rcu_node::flat::Flat;
 use rcu_node::tree::Tree;
 use rcu_seq::fault::Fault;
+use rcu_seq::tag::Tag;
 use std::alloc::Global;
 use std::process::Abort;
 
@@ -42,19 +43,21 @@ fn awaits<A: Awaited>(rt: &impl Abort, hotplug: &Hotplug<A>, wanted: &[u32]) {
     assert!(rt; awaited.count() as usize == wanted.len());
 }
 
-/// Begins a grace period, and compares which processors it awaits.
-fn begin<A: Awaited>(rt: &impl Abort, hotplug: &mut Hotplug<A>, tag: u64, wanted: &[u32]) {
-    assert!(rt; tag % 4 == 1);
-    hotplug.begin(tag);
-    assert!(rt; hotplug.awaited().tag() == tag);
+/// Begins a grace period of epoch 0, and compares which processors it awaits.
+fn begin<A: Awaited>(rt: &impl Abort, hotplug: &mut Hotplug<A>, number: u64, wanted: &[u32]) {
+    assert!(rt; number % 4 == 1);
+    let now = Tag::of_first_epoch(number);
+    hotplug.begin(now);
+    assert!(rt; hotplug.awaited().tag() == now);
     awaits(rt, hotplug, wanted);
 }
 
-/// Makes reports, each of a processor and a number, and compares the answers.
+/// Makes reports, each of a processor and a number of epoch 0, and compares the answers.
 fn report<A: Awaited>(rt: &impl Abort, hotplug: &mut Hotplug<A>, reports: &[(u32, u64, Answer)]) {
-    for (cpu, tag, wanted) in reports {
+    for (cpu, number, wanted) in reports {
         assert!(rt; *cpu < hotplug.awaited().cpus());
-        is_answer(rt, *cpu, *tag, hotplug.report(*cpu, *tag), *wanted);
+        let noted = Tag::of_first_epoch(*number);
+        is_answer(rt, *cpu, noted, hotplug.report(*cpu, noted), *wanted);
     }
 }
 
@@ -147,7 +150,7 @@ fn faults<A: Awaited>(rt: &impl Abort, hotplug: &mut Hotplug<A>) {
 
 /// Four grace periods of five processors.
 fn come_and_go<A: Awaited>(rt: &impl Abort, mut hotplug: Hotplug<A>) {
-    assert!(rt; hotplug.awaited().tag() == 0);
+    assert!(rt; hotplug.awaited().tag() == Tag::of_first_epoch(0));
     awaits(rt, &hotplug, &[]);
     late_arrival(rt, &mut hotplug);
     departed_and_back(rt, &mut hotplug);

@@ -20,6 +20,8 @@ mod made;
 #[cfg(test)]
 mod node;
 #[cfg(test)]
+mod path;
+#[cfg(test)]
 mod report;
 #[cfg(test)]
 mod seq;

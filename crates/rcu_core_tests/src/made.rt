@@ -1,5 +1,6 @@
 //! Sets and trees, each made by a second call where the first is refused a growth.
 ghost use Rattle.std.specs.Prelude.{◌≡◌, false, replicate};
+ghost use Rattle.rcu_seq.specs.Tags.{first_tag};
 
 use rcu_node::answer::Answer;
 use rcu_node::awaited::Awaited;
@@ -7,6 +8,7 @@ use rcu_node::cpu_set::CpuSet;
 use rcu_node::flat::Flat;
 use rcu_node::tree::Tree;
 use rcu_seq::fault::Fault;
+use rcu_seq::tag::Tag;
 use std::alloc::Global;
 use std::process::Abort;
 
@@ -20,9 +22,14 @@ pub fn is_said(rt: &impl Abort, cpu: u32, said: bool, wanted: bool) {
     assert!(rt; said == wanted, "processor {cpu}");
 }
 
-/// Compares the answer to a report of a processor and a number.
-pub fn is_answer(rt: &impl Abort, cpu: u32, number: u64, answer: Answer, wanted: Answer) {
-    assert!(rt; answer == wanted, "processor {cpu}, number {number}");
+/// Compares the answer to a report of a processor and a tag.
+pub fn is_answer(rt: &impl Abort, cpu: u32, tag: Tag, answer: Answer, wanted: Answer) {
+    assert!(rt;
+        answer == wanted,
+        "processor {cpu}, number {} of epoch {}",
+        tag.number,
+        tag.epoch
+    );
 }
 
 /// An empty set.
@@ -60,7 +67,7 @@ pub fn everyone(rt: &impl Abort, alloc: Global, cpus: u32) -> CpuSet {
 
 /// A flat set.
 pub fn flat(rt: &impl Abort, alloc: Global, cpus: u32) -> Flat
-    ensures tag { ⟦<Flat as Awaited>⟧.tag result ≡ 0 }
+    ensures tag { ⟦<Flat as Awaited>⟧.tag result ≡ first_tag }
     ensures start_set { ⟦<Flat as Awaited>⟧.start_set result ≡ replicate cpus false }
     ensures awaited { ⟦<Flat as Awaited>⟧.awaited result ≡ replicate cpus false }
 {
@@ -79,7 +86,7 @@ pub fn tree<const LEAF: u32, const FAN: u32>(
     alloc: Global,
     cpus: u32,
 ) -> Tree<LEAF, FAN>
-    ensures tag { ⟦<Tree<LEAF, FAN> as Awaited>⟧.tag result ≡ 0 }
+    ensures tag { ⟦<Tree<LEAF, FAN> as Awaited>⟧.tag result ≡ first_tag }
     ensures start_set { ⟦<Tree<LEAF, FAN> as Awaited>⟧.start_set result ≡ replicate cpus false }
     ensures awaited { ⟦<Tree<LEAF, FAN> as Awaited>⟧.awaited result ≡ replicate cpus false }
 {

@@ -1,4 +1,5 @@
-//! Each public call once, two grace periods of each kind of awaited processors, and their merging.
+//! Each public call once, three grace periods of each kind of awaited processors, and their
+//! merging.
 
 mod masks;
 mod merging;
@@ -10,6 +11,7 @@ use rcu_node::cpu_set::CpuSet;
 use rcu_node::flat::Flat;
 use rcu_node::tree::Tree;
 use rcu_seq::fault::Fault;
+use rcu_seq::tag::Tag;
 use std::alloc::Global;
 use std::process::Abort;
 
@@ -29,11 +31,16 @@ fn contains(rt: &impl Abort, set: &CpuSet, cpus: &[(u32, bool)]) {
     }
 }
 
-/// Makes reports, each of a processor and a number, and compares the answers.
+/// Makes a report, and compares the answer.
+fn report_of<A: Awaited>(rt: &impl Abort, awaited: &mut A, cpu: u32, noted: Tag, wanted: Answer) {
+    assert!(rt; cpu < awaited.cpus());
+    is_answer(rt, cpu, noted, awaited.report(cpu, noted), wanted);
+}
+
+/// Makes reports, each of a processor and a number of epoch 0, and compares the answers.
 fn report<A: Awaited>(rt: &impl Abort, awaited: &mut A, reports: &[(u32, u64, Answer)]) {
     for (cpu, number, wanted) in reports {
-        assert!(rt; *cpu < awaited.cpus());
-        is_answer(rt, *cpu, *number, awaited.report(*cpu, *number), *wanted);
+        report_of(rt, awaited, *cpu, Tag::of_first_epoch(*number), *wanted);
     }
 }
 
@@ -46,12 +53,17 @@ fn awaits<A: Awaited>(rt: &impl Abort, awaited: &A, cpus: &[(u32, bool, bool)]) 
     }
 }
 
-/// Begins a grace period, and compares what the counts say.
+/// Begins a grace period of epoch 0, and compares what the counts say.
 fn begin<A: Awaited>(rt: &impl Abort, awaited: &mut A, number: u64, set: &CpuSet) {
+    begin_at(rt, awaited, Tag::of_first_epoch(number), set);
+}
+
+/// Begins a grace period, and compares what the counts say.
+fn begin_at<A: Awaited>(rt: &impl Abort, awaited: &mut A, now: Tag, set: &CpuSet) {
     assert!(rt; set.cpus() == awaited.cpus());
-    assert!(rt; number % 4 == 1);
-    awaited.begin(number, set);
-    assert!(rt; awaited.tag() == number);
+    assert!(rt; now.number % 4 == 1);
+    awaited.begin(now, set);
+    assert!(rt; awaited.tag() == now);
     assert!(rt; awaited.count() == set.count());
     assert!(rt; !awaited.is_empty());
 }
@@ -107,22 +119,53 @@ fn second_grace_period<A: Awaited>(rt: &impl Abort, awaited: &mut A, set: &mut C
     assert!(rt; awaited.is_empty());
 }
 
-/// Two grace periods of five processors.
-fn two_grace_periods<A: Awaited>(rt: &impl Abort, alloc: Global, mut awaited: A) {
-    assert!(rt; awaited.tag() == 0);
+/// Reports of a grace period of epoch 1: each of a processor, a number and an epoch.
+static IN_EPOCHS: [(u32, u64, u64, Answer); 8] = [
+    (0, 1, 0, Answer::Stale),
+    (0, 5, 1, Answer::Stale),
+    (0, 1, 2, Answer::Stale),
+    (0, 1, 1, Answer::Taken),
+    (0, 1, 0, Answer::Stale),
+    (0, 1, 1, Answer::Repeat),
+    (3, 5, 0, Answer::Stale),
+    (3, 1, 1, Answer::Last),
+];
+
+/// A grace period of processors 0 and 3 in epoch 1, for which reports of other epochs are stale.
+fn grace_period_of_next_epoch<A: Awaited>(rt: &impl Abort, awaited: &mut A, set: &mut CpuSet) {
+    insert(rt, set, &[(0, true)]);
+    let now = Tag {
+        epoch: 1,
+        number: 1,
+    };
+    begin_at(rt, awaited, now, set);
+    for (cpu, number, epoch, wanted) in &IN_EPOCHS {
+        let noted = Tag {
+            epoch: *epoch,
+            number: *number,
+        };
+        report_of(rt, awaited, *cpu, noted, *wanted);
+    }
+    assert!(rt; awaited.is_empty());
+}
+
+/// Two grace periods of five processors, and one of the next epoch.
+fn grace_periods<A: Awaited>(rt: &impl Abort, alloc: Global, mut awaited: A) {
+    assert!(rt; awaited.tag() == Tag::of_first_epoch(0));
     assert!(rt; awaited.is_empty());
     let mut set = empty_set(rt, alloc, 5);
     first_grace_period(rt, &mut awaited, &mut set);
     second_grace_period(rt, &mut awaited, &mut set);
+    grace_period_of_next_epoch(rt, &mut awaited, &mut set);
 }
 
 #[test]
-fn flat_awaits_two_grace_periods(rt: HostRuntime) {
-    two_grace_periods(&rt, rt.alloc(), flat(&rt, rt.alloc(), 5));
+fn flat_awaits_three_grace_periods(rt: HostRuntime) {
+    grace_periods(&rt, rt.alloc(), flat(&rt, rt.alloc(), 5));
 }
 
 #[test]
-fn trees_await_two_grace_periods(rt: HostRuntime) {
+fn trees_await_three_grace_periods(rt: HostRuntime) {
     tree_awaits::<2, 2>(&rt, rt.alloc());
     tree_awaits::<2, 3>(&rt, rt.alloc());
     tree_awaits::<4, 4>(&rt, rt.alloc());
@@ -130,9 +173,9 @@ fn trees_await_two_grace_periods(rt: HostRuntime) {
     tree_awaits::<64, 64>(&rt, rt.alloc());
 }
 
-/// Two grace periods of a tree of five processors.
+/// Grace periods of a tree of five processors.
 fn tree_awaits<const LEAF: u32, const FAN: u32>(rt: &impl Abort, alloc: Global) {
-    two_grace_periods(rt, alloc, tree::<LEAF, FAN>(rt, alloc, 5));
+    grace_periods(rt, alloc, tree::<LEAF, FAN>(rt, alloc, 5));
 }
 
 #[test]

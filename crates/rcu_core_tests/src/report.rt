@@ -8,11 +8,30 @@ use rcu_node::tree::Tree;
 use rcu_report::batch::Batch;
 use rcu_report::report::Report;
 use rcu_seq::fault::Fault;
+use rcu_seq::tag::Tag;
 use std::alloc::Global;
 use std::process::Abort;
 
+/// Number 1 of epoch 0.
+const FIRST: Tag = Tag {
+    epoch: 0,
+    number: 1,
+};
+
+/// Number 5 of epoch 0.
+const FIFTH: Tag = Tag {
+    epoch: 0,
+    number: 5,
+};
+
+/// Number 1 of epoch 1.
+const IN_NEXT: Tag = Tag {
+    epoch: 1,
+    number: 1,
+};
+
 /// An empty batch, made by a second call where the first is refused a growth.
-fn batch(rt: &impl Abort, alloc: Global, cpus: u32, tag: u64) -> Batch {
+fn batch(rt: &impl Abort, alloc: Global, cpus: u32, tag: Tag) -> Batch {
     match Batch::new(alloc, cpus, tag) {
         Ok(batch) => batch,
         Err(fault) => {
@@ -23,7 +42,7 @@ fn batch(rt: &impl Abort, alloc: Global, cpus: u32, tag: u64) -> Batch {
 }
 
 /// Adds a report, and compares the result.
-fn add(rt: &impl Abort, batch: &mut Batch, cpu: u32, tag: u64, wanted: Result<(), Fault>) {
+fn add(rt: &impl Abort, batch: &mut Batch, cpu: u32, tag: Tag, wanted: Result<(), Fault>) {
     assert!(rt; cpu < batch.cpus());
     is_said(rt, cpu, batch.add(Report { cpu, tag }) == wanted, true);
 }
@@ -55,7 +74,7 @@ fn join(rt: &impl Abort, first: &mut Batch, second: &Batch, wanted: Result<(), F
 }
 
 /// A batch of five processors with reports of these, all of this number.
-fn batch_of(rt: &impl Abort, alloc: Global, tag: u64, cpus: &[u32]) -> Batch {
+fn batch_of(rt: &impl Abort, alloc: Global, tag: Tag, cpus: &[u32]) -> Batch {
     let mut made = batch(rt, alloc, 5, tag);
     for cpu in cpus {
         add(rt, &mut made, *cpu, tag, Ok(()));
@@ -63,20 +82,21 @@ fn batch_of(rt: &impl Abort, alloc: Global, tag: u64, cpus: &[u32]) -> Batch {
     made
 }
 
-/// Five processors of a tree, all awaited since grace period 1 began.
-fn all_awaited(rt: &impl Abort, alloc: Global) -> Tree<2, 2> {
+/// Five processors of a tree, all awaited since the grace period of this tag began.
+fn all_awaited(rt: &impl Abort, alloc: Global, now: Tag) -> Tree<2, 2> {
     let mut awaited = tree::<2, 2>(rt, alloc, 5);
     let all = everyone(rt, alloc, 5);
     assert!(rt; awaited.cpus() == all.cpus());
-    awaited.begin(1, &all);
+    assert!(rt; now.number % 4 == 1);
+    awaited.begin(now, &all);
     awaited
 }
 
 /// A batch of processors 0 and 2 gets those of another one.
 fn join_second(rt: &impl Abort, alloc: Global, first: &mut Batch) {
-    add(rt, first, 0, 5, Err(Fault::NotAlike));
+    add(rt, first, 0, FIFTH, Err(Fault::NotAlike));
     contains(rt, first, &[0, 2]);
-    let second = batch_of(rt, alloc, 1, &[2, 4]);
+    let second = batch_of(rt, alloc, FIRST, &[2, 4]);
     join(rt, first, &second, Ok(()));
     contains(rt, first, &[0, 2, 4]);
 }
@@ -93,41 +113,59 @@ fn apply_both<A: Awaited>(rt: &impl Abort, first: &Batch, other: &Batch, awaited
 
 #[test]
 fn joined_batch(rt: HostRuntime) {
-    let mut first = batch_of(&rt, rt.alloc(), 1, &[0, 2]);
+    let mut first = batch_of(&rt, rt.alloc(), FIRST, &[0, 2]);
     join_second(&rt, rt.alloc(), &mut first);
-    let other = batch_of(&rt, rt.alloc(), 5, &[1]);
-    let mut awaited = all_awaited(&rt, rt.alloc());
+    let other = batch_of(&rt, rt.alloc(), FIFTH, &[1]);
+    let mut awaited = all_awaited(&rt, rt.alloc(), FIRST);
     apply_both(&rt, &first, &other, &mut awaited);
 }
 
+/// Applies a batch of another epoch, which clears none, and one of the epoch.
+fn apply_epochs<A: Awaited>(rt: &impl Abort, old: &Batch, next: &Batch, awaited: &mut A) {
+    apply(rt, old, awaited, 0);
+    awaits(rt, awaited, &[0, 1, 2, 3, 4]);
+    apply(rt, next, awaited, 2);
+    awaits(rt, awaited, &[1, 3, 4]);
+}
+
+#[test]
+fn batches_of_two_epochs(rt: HostRuntime) {
+    let old = batch_of(&rt, rt.alloc(), FIRST, &[0, 2]);
+    let next = batch_of(&rt, rt.alloc(), IN_NEXT, &[0, 2]);
+    let mut awaited = all_awaited(&rt, rt.alloc(), IN_NEXT);
+    apply_epochs(&rt, &old, &next, &mut awaited);
+}
+
 /// An empty batch of so many processors and this number is not joined.
-fn joins_no(rt: &impl Abort, alloc: Global, first: &mut Batch, cpus: u32, tag: u64) {
+fn joins_no(rt: &impl Abort, alloc: Global, first: &mut Batch, cpus: u32, tag: Tag) {
     let second = batch(rt, alloc, cpus, tag);
     join(rt, first, &second, Err(Fault::NotAlike));
 }
 
-/// A batch of number 1 joins neither one of another number nor one of more processors.
+/// A batch of number 1 joins neither one of another number or epoch nor one of more processors.
 fn joins_none(rt: &impl Abort, alloc: Global, first: &mut Batch) {
-    assert!(rt; first.tag() == 1);
-    joins_no(rt, alloc, first, 5, 5);
-    joins_no(rt, alloc, first, 6, 1);
+    assert!(rt; first.tag() == FIRST);
+    joins_no(rt, alloc, first, 5, FIFTH);
+    joins_no(rt, alloc, first, 5, IN_NEXT);
+    joins_no(rt, alloc, first, 6, FIRST);
+    add(rt, first, 0, IN_NEXT, Err(Fault::NotAlike));
     contains(rt, first, &[]);
 }
 
 #[test]
 fn unlike_batches(rt: HostRuntime) {
-    let mut first = batch(&rt, rt.alloc(), 5, 1);
+    let mut first = batch(&rt, rt.alloc(), 5, FIRST);
     joins_none(&rt, rt.alloc(), &mut first);
 }
 
 /// No batch of so many processors is made.
 fn no_batch(rt: &impl Abort, alloc: Global, cpus: u32) {
-    assert!(rt; Batch::new(alloc, cpus, 1).err() == Some(Fault::TooManyCpus));
+    assert!(rt; Batch::new(alloc, cpus, FIRST).err() == Some(Fault::TooManyCpus));
 }
 
 /// A batch of so many processors is made.
 fn has_size(rt: &impl Abort, alloc: Global, cpus: u32) {
-    assert!(rt; batch(rt, alloc, cpus, 1).cpus() == cpus);
+    assert!(rt; batch(rt, alloc, cpus, FIRST).cpus() == cpus);
 }
 
 #[test]

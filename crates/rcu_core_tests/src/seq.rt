@@ -1,7 +1,9 @@
 //! A counter from its making to its last number, its cookies, and the numbers of faults.
+use crate::path::{Since, Turn, steps, turn_at};
 use rcu_seq::cookie::Cookie;
 use rcu_seq::fault::Fault;
 use rcu_seq::seq::Seq;
+use rcu_seq::tag::Tag;
 use std::process::Abort;
 
 /// A call on a counter, with what it has to answer, or a look.
@@ -10,10 +12,14 @@ enum Step {
     End(Result<u64, Fault>),
     /// Its number, the last one, and whether a grace period runs.
     Is(u64, u64, bool),
-    /// The cookie of a taking.
-    Snap(u64),
-    /// Whether a cookie is done.
-    Done(u64, bool),
+    /// The number and the epoch of a taking's cookie.
+    Snap(u64, u64),
+    /// Whether the cookie of this number and this epoch is done.
+    Done(u64, u64, bool),
+    /// Renumbers: the next epoch.
+    Renumber(Result<u64, Fault>),
+    /// Its number, and its epoch.
+    Tag(u64, u64),
 }
 
 /// Makes a call, or looks, and compares.
@@ -22,12 +28,14 @@ fn make(rt: &impl Abort, seq: &mut Seq, step: &Step) {
         Step::Start(wanted) => is_number(rt, seq.start(), *wanted),
         Step::End(wanted) => is_number(rt, seq.end(), *wanted),
         Step::Is(value, last, running) => is_at(rt, seq, *value, *last, *running),
-        Step::Snap(wanted) => assert!(rt; seq.snap() == Cookie(*wanted)),
-        Step::Done(cookie, wanted) => assert!(rt; seq.done(Cookie(*cookie)) == *wanted),
+        Step::Snap(number, epoch) => has_cookie(rt, seq, *number, *epoch),
+        Step::Done(number, epoch, wanted) => is_done(rt, seq, *number, *epoch, *wanted),
+        Step::Renumber(wanted) => is_number(rt, seq.renumber(), *wanted),
+        Step::Tag(number, epoch) => has_tag(rt, seq, *number, *epoch),
     }
 }
 
-/// Compares the number after a call, or its fault.
+/// Compares the number or the epoch after a call, or its fault.
 fn is_number(rt: &impl Abort, answer: Result<u64, Fault>, wanted: Result<u64, Fault>) {
     assert!(rt; answer == wanted);
 }
@@ -39,12 +47,32 @@ fn is_at(rt: &impl Abort, seq: &Seq, value: u64, last: u64, running: bool) {
     assert!(rt; seq.is_running() == running);
 }
 
-/// Makes the steps in turn on a new counter.
-fn make_all(rt: &impl Abort, last: u64, steps: &[Step]) {
-    let mut seq = Seq::new(last).expect(rt, "it is a last number");
+/// Compares the epoch and the tag.
+fn has_tag(rt: &impl Abort, seq: &Seq, number: u64, epoch: u64) {
+    assert!(rt; seq.epoch() == epoch);
+    assert!(rt; seq.tag() == Tag { epoch, number });
+}
+
+/// Compares the cookie of a taking.
+fn has_cookie(rt: &impl Abort, seq: &Seq, number: u64, epoch: u64) {
+    assert!(rt; seq.snap() == Cookie { epoch, number });
+}
+
+/// Compares whether a cookie is done.
+fn is_done(rt: &impl Abort, seq: &Seq, number: u64, epoch: u64, wanted: bool) {
+    assert!(rt; seq.done(Cookie { epoch, number }) == wanted);
+}
+
+/// Makes the steps in turn.
+fn make_each(rt: &impl Abort, mut seq: Seq, steps: &[Step]) {
     for step in steps {
         make(rt, &mut seq, step);
     }
+}
+
+/// Makes the steps in turn on a new counter.
+fn make_all(rt: &impl Abort, last: u64, steps: &[Step]) {
+    make_each(rt, Seq::new(last).expect(rt, "it is a last number"), steps);
 }
 
 #[test]
@@ -71,21 +99,139 @@ fn cookies_of_two_grace_periods(rt: HostRuntime) {
         &rt,
         8,
         &[
-            Step::Snap(4),
+            Step::Snap(4, 0),
             Step::Start(Ok(1)),
-            Step::Snap(8),
-            Step::Done(4, false),
-            Step::Done(8, false),
-            Step::Done(1, true),
+            Step::Snap(8, 0),
+            Step::Done(4, 0, false),
+            Step::Done(8, 0, false),
+            Step::Done(1, 0, true),
             Step::End(Ok(4)),
-            Step::Done(4, true),
-            Step::Done(8, false),
-            Step::Done(1, true),
+            Step::Done(4, 0, true),
+            Step::Done(8, 0, false),
+            Step::Done(1, 0, true),
             Step::Start(Ok(5)),
             Step::End(Ok(8)),
-            Step::Done(8, true),
+            Step::Done(8, 0, true),
         ],
     );
+}
+
+/// A cookie above the last number is done at 4 of the next epoch. Cookies of older epochs are done,
+/// those of later epochs are not.
+#[test]
+fn cookies_of_three_epochs(rt: HostRuntime) {
+    make_all(
+        &rt,
+        4,
+        &[
+            Step::Renumber(Err(Fault::NotLast)),
+            Step::Start(Ok(1)),
+            Step::Renumber(Err(Fault::Running)),
+            Step::Snap(8, 0),
+            Step::End(Ok(4)),
+            Step::Snap(8, 0),
+            Step::Done(4, 1, false),
+            Step::Done(1, 1, true),
+            Step::Tag(4, 0),
+            Step::Renumber(Ok(1)),
+            Step::Is(0, 4, false),
+            Step::Tag(0, 1),
+            Step::Done(4, 0, true),
+            Step::Done(8, 0, false),
+            Step::Snap(4, 1),
+            Step::Start(Ok(1)),
+            Step::Done(8, 0, false),
+            Step::Done(4, 1, false),
+            Step::End(Ok(4)),
+            Step::Done(8, 0, true),
+            Step::Done(4, 1, true),
+            Step::Snap(8, 1),
+            Step::Renumber(Ok(2)),
+            Step::Done(8, 0, true),
+            Step::Done(4, 1, true),
+            Step::Done(8, 1, false),
+            Step::Done(0, 3, false),
+        ],
+    );
+}
+
+/// A counter of the last epoch, with the last number 4.
+fn in_last_epoch(rt: &impl Abort) -> Seq {
+    Seq::at_epoch(4, 4_294_967_295).expect(rt, "4 is a last number")
+}
+
+#[test]
+fn the_last_epoch_refuses(rt: HostRuntime) {
+    make_each(
+        &rt,
+        in_last_epoch(&rt),
+        &[
+            Step::Is(0, 4, false),
+            Step::Tag(0, 4_294_967_295),
+            Step::Renumber(Err(Fault::NotLast)),
+            Step::Start(Ok(1)),
+            Step::Renumber(Err(Fault::Running)),
+            Step::End(Ok(4)),
+            Step::Renumber(Err(Fault::Exhausted)),
+            Step::Start(Err(Fault::Exhausted)),
+            Step::Tag(4, 4_294_967_295),
+        ],
+    );
+}
+
+/// Goes a step of the path.
+fn go(rt: &impl Abort, seq: &mut Seq, turn: Turn) {
+    let gone = match turn {
+        Turn::Begin => seq.start(),
+        Turn::End => seq.end(),
+        Turn::Renumber => seq.renumber(),
+    };
+    assert!(rt; gone.is_ok());
+}
+
+/// Takes a cookie at a place of the path, and polls it there and at each place behind.
+fn poll_from(rt: &impl Abort, mut seq: Seq, last: u32, place: u32) {
+    for before in 0..place {
+        go(rt, &mut seq, turn_at(last, before));
+    }
+    let cookie = seq.snap();
+    let mut since = Since::taking();
+    for behind in place..steps(last) {
+        assert!(rt;
+            seq.done(cookie) == since.has_full_period(),
+            "{place} and {behind}"
+        );
+        go(rt, &mut seq, turn_at(last, behind));
+        since.go(turn_at(last, behind));
+    }
+    assert!(rt;
+        seq.done(cookie) == since.has_full_period(),
+        "{place} and the end"
+    );
+}
+
+/// Polls from each place of the path.
+fn poll_all(rt: &impl Abort, last: u32) {
+    for place in 0..=steps(last) {
+        let seq = Seq::new(u64::from(last)).expect(rt, "it is a last number");
+        poll_from(rt, seq, last, place);
+    }
+}
+
+/// At every two places of a path through five epochs, a cookie that was taken at the first is done
+/// at the second where a full grace period lies between.
+#[test]
+fn every_two_places_of_five_epochs(rt: HostRuntime) {
+    poll_all(&rt, 4);
+    poll_all(&rt, 8);
+    poll_all(&rt, 12);
+    poll_all(&rt, 20);
+}
+
+/// No counter of an epoch is made, since this is no last number.
+#[test]
+fn an_epoch_of_no_last_number(rt: HostRuntime) {
+    assert!(rt; matches!(Seq::at_epoch(6, 1), Err(Fault::BadLast)));
 }
 
 /// Whether a counter is made with this last number.
@@ -108,7 +254,7 @@ fn last_numbers(rt: HostRuntime) {
 }
 
 /// Each fault with its number.
-static NUMBERS: [(Fault, u32); 21] = [
+static NUMBERS: [(Fault, u32); 22] = [
     (Fault::BadCpu, 1),
     (Fault::Offline, 2),
     (Fault::AlreadyOnline, 3),
@@ -130,6 +276,7 @@ static NUMBERS: [(Fault, u32); 21] = [
     (Fault::BadLast, 19),
     (Fault::NotAlike, 20),
     (Fault::BadLine, 21),
+    (Fault::NotLast, 22),
 ];
 
 /// Compares the number of a fault.

@@ -1,4 +1,4 @@
-//! Tends at numbers that never fall, beside a plain list with the number of each callback.
+//! Tends at the numbers of epochs, beside a plain list with the number of each callback.
 use super::{lists, queue, take, tend};
 use crate::draw::Draw;
 use rcu_barrier::lists::Lists;
@@ -12,13 +12,14 @@ const CALLS: u64 = 400;
 const ROOM: usize = 400;
 
 /// What the list of processor 0 is to hold: of each callback that was queued, in order, the number
-/// that it waits for, 0 before its first tend. A callback's value is its place.
+/// that it waits for, counted on over the epochs, and 0 before a tend in the running epoch. A
+/// callback's value is its place.
 #[derive(Drop)]
 struct Plain {
     until: [u64; ROOM],
     queued: u64,
     handed: u64,
-    /// The number of the latest tend.
+    /// The number of the latest tend, counted on over the epochs.
     number: u64,
 }
 
@@ -45,6 +46,15 @@ impl Plain {
         }
     }
 
+    /// Each callback that waits loses its number.
+    fn renumber(&mut self) {
+        for until in &mut self.until {
+            if *until > self.number {
+                *until = 0;
+            }
+        }
+    }
+
     /// Each callback without a number gets the snapshot.
     fn tend(&mut self, number: u64, snapshot: u64) {
         self.number = number;
@@ -62,7 +72,7 @@ fn run_both(rt: &impl Abort, lists: &mut Lists<u64>, plain: &mut Plain, max: u64
 }
 
 #[test]
-fn tends_at_numbers_that_never_fall(rt: HostRuntime) {
+fn tends_at_the_numbers_of_epochs(rt: HostRuntime) {
     let mut draw = Draw(11);
     let mut lists = lists(&rt, rt.alloc());
     let mut plain = Plain {
@@ -72,8 +82,9 @@ fn tends_at_numbers_that_never_fall(rt: HostRuntime) {
         number: 0,
     };
     let mut number = 0u64;
+    let mut epochs = 0u64;
     for _ in 0..CALLS {
-        match draw.below(8) {
+        match draw.below(9) {
             0..=2 => {
                 let value = plain.queued;
                 plain.queued = value.saturating_add(1);
@@ -81,9 +92,16 @@ fn tends_at_numbers_that_never_fall(rt: HostRuntime) {
             }
             3 => run_both(&rt, &mut lists, &mut plain, draw.below(4)),
             4 | 5 => number = number.saturating_add(if number % 4 == 0 { 1 } else { 3 }),
+            6 if number % 4 == 0 => {
+                lists.renumber();
+                plain.renumber();
+                epochs = epochs.saturating_add(number);
+                number = 0;
+            }
             _ => {
                 assert!(rt; number % 4 <= 1 && number <= 4 * CALLS);
-                plain.tend(number, (number + 3) / 4 * 4 + 4);
+                let end = (number + 3) / 4 * 4 + 4;
+                plain.tend(epochs.saturating_add(number), epochs.saturating_add(end));
                 tend(&rt, &mut lists, 0, number, plain.counts());
             }
         }

@@ -66,6 +66,21 @@ impl Plain {
         }
     }
 
+    /// Takes the number from each callback that has one.
+    pub fn renumber(&mut self) {
+        let before = *self;
+        *self = Plain::new();
+        for i in 0..ROOM {
+            match before.get(i) {
+                Some(Item::Call(value, Mark::Until(_))) => {
+                    self.push(Item::Call(value, Mark::Unmarked));
+                }
+                Some(item) => self.push(item),
+                None => {}
+            }
+        }
+    }
+
     /// Whether two numbers below this one are in the list.
     fn has_two_below(&self, snap: u64) -> bool {
         let mut found = None;

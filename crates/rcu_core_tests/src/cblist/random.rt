@@ -5,6 +5,7 @@ use crate::cblist::plain::{Item, Mark, Plain, ROOM};
 use crate::draw::Draw;
 use rcu_cblist::queued::Queued;
 use rcu_cblist::seg_list::SegList;
+use rcu_seq::tag::Tag;
 use std::mem::swap;
 use std::process::Abort;
 
@@ -32,7 +33,7 @@ fn queue(rt: &impl Abort, list: &mut SegList<u64>, plain: &mut Plain, value: u64
     }
     let call = Queued {
         ord: 0,
-        at: 0,
+        at: Tag::of_first_epoch(0),
         value,
     };
     if let Err(back) = list.queue(call) {
@@ -134,6 +135,10 @@ fn calls_at_random(rt: HostRuntime) {
             swap(&mut list, &mut other);
             swap(&mut plain, &mut other_plain);
         }
+        if draw.below(16) == 0 {
+            list.renumber();
+            plain.renumber();
+        }
         match draw.below(16) {
             0..=4 => queue(&rt, &mut list, &mut plain, call),
             5 => entrain(&rt, &mut list, &mut plain),
@@ -166,12 +171,17 @@ fn calls_at_random(rt: HostRuntime) {
 }
 
 #[test]
-fn tends_at_numbers_that_never_fall(rt: HostRuntime) {
+fn tends_at_the_numbers_of_epochs(rt: HostRuntime) {
     let mut draw = Draw(11);
     let mut list = SegList::new(rt.alloc());
     let mut plain = Plain::new();
     let mut periods = 0u64;
     for call in 0..CALLS {
+        if draw.below(64) == 0 {
+            list.renumber();
+            plain.renumber();
+            periods = 0;
+        }
         match draw.below(8) {
             0..=2 => queue(&rt, &mut list, &mut plain, call),
             3 => entrain(&rt, &mut list, &mut plain),

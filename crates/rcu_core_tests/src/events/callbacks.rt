@@ -1,49 +1,7 @@
 //! Callbacks and barriers over events, each row taken one event at a time and as a list.
 
-use crate::events::machine::{core, lacks_memory, run, step, told_all};
-use crate::made::refused;
+use crate::events::machine::both;
 use rcu_core::event::Event;
-use rcu_core::reply::Reply;
-use rcu_seq::fault::Fault;
-use std::alloc::Global;
-use std::process::Abort;
-
-/// The replies of a new machine to these events, taken one at a time.
-fn stepped(rt: &impl Abort, alloc: Global, events: &[Event]) -> Vec<Reply> {
-    let mut core = core(rt, alloc, 8);
-    let mut replies = match Vec::with_capacity(alloc, events.len()) {
-        Ok(replies) => replies,
-        Err(_) => {
-            refused(rt, Fault::NoMemory);
-            Vec::with_capacity(alloc, events.len()).expect(rt, "the second call has memory")
-        }
-    };
-    for event in events {
-        let reply = step(rt, &mut core, *event);
-        replies.push(reply).expect(rt, "there is room");
-    }
-    replies
-}
-
-/// The replies of a new machine to these events as one list, by a second machine where an event is
-/// refused its growth.
-fn ran(rt: &impl Abort, alloc: Global, events: &[Event]) -> Vec<Reply> {
-    let mut first = core(rt, alloc, 8);
-    let replies = run(rt, &mut first, events);
-    if !lacks_memory(replies.as_slice()) {
-        return replies;
-    }
-    refused(rt, Fault::NoMemory);
-    let mut second = core(rt, alloc, 8);
-    run(rt, &mut second, events)
-}
-
-/// Takes events one at a time and as a list, each by a new machine, and compares the replies with
-/// the texts that they print as.
-fn both(rt: &impl Abort, alloc: Global, events: &[Event], wanted: &[&str]) {
-    told_all(rt, alloc, stepped(rt, alloc, events).as_slice(), wanted);
-    told_all(rt, alloc, ran(rt, alloc, events).as_slice(), wanted);
-}
 
 /// The events of [`one_callbacks_life`].
 static LIFE: [Event; 11] = [
@@ -67,18 +25,18 @@ static LIFE_REPLIES: [&str; 11] = [
     "Tended(0, 1)",
     "Begun(1, 1)",
     "Noted(1, true)",
-    "Made(1, Report { cpu: 0, tag: 1 })",
+    "Made(1, Report { cpu: 0, tag: Tag { epoch: 0, number: 1 } })",
     "Answer(Last)",
     "Ended(4)",
     "Tended(1, 0)",
-    "Ran(ValueList { calls: [Queued { ord: 1, at: 0, value: 7 }] })",
+    "Ran(ValueList { calls: [Queued { ord: 1, at: Tag { epoch: 0, number: 0 }, value: 7 }] })",
     "Ran(ValueList { calls: [] })",
 ];
 
 /// A callback is handed out once a full grace period has passed, and once alone.
 #[test]
 fn one_callbacks_life(rt: HostRuntime) {
-    both(&rt, rt.alloc(), &LIFE, &LIFE_REPLIES);
+    both(&rt, rt.alloc(), 8, &LIFE, &LIFE_REPLIES);
 }
 
 /// The events of [`turn_drives_two_periods`].
@@ -106,11 +64,11 @@ static TURNS_REPLIES: [&str; 13] = [
     "Queued(2)",
     "Tended(0, 2)",
     "Noted(1, true)",
-    "Made(1, Report { cpu: 0, tag: 1 })",
+    "Made(1, Report { cpu: 0, tag: Tag { epoch: 0, number: 1 } })",
     "Answer(Last)",
     "Ended(4)",
     "Tended(1, 1)",
-    "Ran(ValueList { calls: [Queued { ord: 1, at: 0, value: 1 }] })",
+    "Ran(ValueList { calls: [Queued { ord: 1, at: Tag { epoch: 0, number: 0 }, value: 1 }] })",
     "Begun(5, 1)",
     "Waiting(1)",
 ];
@@ -119,7 +77,7 @@ static TURNS_REPLIES: [&str; 13] = [
 /// next.
 #[test]
 fn turn_drives_two_periods(rt: HostRuntime) {
-    both(&rt, rt.alloc(), &TURNS, &TURNS_REPLIES);
+    both(&rt, rt.alloc(), 8, &TURNS, &TURNS_REPLIES);
 }
 
 /// The events of [`migrated_callbacks_run`].
@@ -150,19 +108,19 @@ static MIGRATED_REPLIES: [&str; 14] = [
     "Tended(0, 2)",
     "Begun(1, 1)",
     "Noted(1, true)",
-    "Made(1, Report { cpu: 0, tag: 1 })",
+    "Made(1, Report { cpu: 0, tag: Tag { epoch: 0, number: 1 } })",
     "Answer(Last)",
     "Ended(4)",
     "Ran(ValueList { calls: [] })",
     "Tended(2, 0)",
-    "Ran(ValueList { calls: [Queued { ord: 1, at: 0, value: 1 }, \
-        Queued { ord: 2, at: 0, value: 5 }] })",
+    "Ran(ValueList { calls: [Queued { ord: 1, at: Tag { epoch: 0, number: 0 }, value: 1 }, \
+        Queued { ord: 2, at: Tag { epoch: 0, number: 0 }, value: 5 }] })",
 ];
 
 /// The callbacks of a processor that departed are handed out by processor 0, after its own.
 #[test]
 fn migrated_callbacks_run(rt: HostRuntime) {
-    both(&rt, rt.alloc(), &MIGRATED, &MIGRATED_REPLIES);
+    both(&rt, rt.alloc(), 8, &MIGRATED, &MIGRATED_REPLIES);
 }
 
 /// The events of [`barrier_completes_after_departure`].
@@ -196,11 +154,11 @@ static DEPARTURE_REPLIES: [&str; 16] = [
     "Tended(0, 1)",
     "Begun(1, 1)",
     "Noted(1, true)",
-    "Made(1, Report { cpu: 0, tag: 1 })",
+    "Made(1, Report { cpu: 0, tag: Tag { epoch: 0, number: 1 } })",
     "Answer(Last)",
     "Ended(4)",
     "Tended(1, 0)",
-    "Ran(ValueList { calls: [Queued { ord: 1, at: 0, value: 5 }] })",
+    "Ran(ValueList { calls: [Queued { ord: 1, at: Tag { epoch: 0, number: 0 }, value: 5 }] })",
     "BarDone",
     "Fault(NoBarrier)",
 ];
@@ -208,7 +166,7 @@ static DEPARTURE_REPLIES: [&str; 16] = [
 /// A processor departs during a barrier, which waits for its callback until that is handed out.
 #[test]
 fn barrier_completes_after_departure(rt: HostRuntime) {
-    both(&rt, rt.alloc(), &DEPARTURE, &DEPARTURE_REPLIES);
+    both(&rt, rt.alloc(), 8, &DEPARTURE, &DEPARTURE_REPLIES);
 }
 
 /// The events of [`barrier_over_empty_lists`].
@@ -238,5 +196,5 @@ static EMPTY_REPLIES: [&str; 8] = [
 /// A barrier over empty lists is over once each processor was visited, online or not.
 #[test]
 fn barrier_over_empty_lists(rt: HostRuntime) {
-    both(&rt, rt.alloc(), &EMPTY, &EMPTY_REPLIES);
+    both(&rt, rt.alloc(), 8, &EMPTY, &EMPTY_REPLIES);
 }

@@ -3,6 +3,7 @@
 use rcu_cblist::queued::Queued;
 use rcu_core::cpu_list::CpuList;
 use rcu_core::value_list::ValueList;
+use rcu_seq::tag::Tag;
 use std::alloc::Global;
 use std::process::Abort;
 
@@ -42,7 +43,11 @@ fn calls(rt: &impl Abort, alloc: Global) -> Vec<Queued<u64>> {
 
 /// Puts a callback behind, for which there is room.
 fn put(rt: &impl Abort, calls: &mut Vec<Queued<u64>>, ord: u64, value: u64) {
-    let call = Queued { ord, at: 0, value };
+    let call = Queued {
+        ord,
+        at: Tag::of_first_epoch(0),
+        value,
+    };
     calls.push(call).expect(rt, "there is room");
 }
 

@@ -4,6 +4,7 @@ use rcu_core::event::Event;
 use rcu_core::event_core::Core;
 use rcu_core::reply::Reply;
 use rcu_node::flat::Flat;
+use rcu_seq::cookie::Cookie;
 use rcu_seq::fault::Fault;
 use std::alloc::Global;
 use std::process::Abort;
@@ -28,7 +29,7 @@ pub fn core(rt: &impl Abort, alloc: Global, last: u64) -> Core<Flat, u64> {
 /// What events tell that change nothing: the cookie of a taking, and whether two cookies are done.
 #[derive(Clone, Copy, PartialEq)]
 struct Asked {
-    cookie: Option<u64>,
+    cookie: Option<Cookie>,
     first: bool,
     second: bool,
 }
@@ -43,16 +44,16 @@ fn ask(core: &mut Core<Flat, u64>) -> Asked {
 }
 
 /// The cookie of a taking.
-fn cookie(core: &mut Core<Flat, u64>) -> Option<u64> {
+fn cookie(core: &mut Core<Flat, u64>) -> Option<Cookie> {
     match core.step(Event::Take) {
-        Reply::Cookie(cookie) => Some(cookie.0),
+        Reply::Cookie(cookie) => Some(cookie),
         _ => None,
     }
 }
 
-/// Whether a cookie is done.
-fn is_done(core: &mut Core<Flat, u64>, cookie: u64) -> bool {
-    matches!(core.step(Event::Poll(cookie)), Reply::Polled(true))
+/// Whether the cookie of this number of epoch 0 is done.
+fn is_done(core: &mut Core<Flat, u64>, number: u64) -> bool {
+    matches!(core.step(Event::Poll(number, 0)), Reply::Polled(true))
 }
 
 /// The reply to an event. Where its growth is refused, all that can be asked is as before, and it
@@ -111,4 +112,46 @@ pub fn takes(rt: &impl Abort, alloc: Global, core: &mut Core<Flat, u64>, rows: &
     for (event, wanted) in rows {
         told(rt, alloc, &step(rt, core, *event), wanted);
     }
+}
+
+/// The replies of a new machine with this last number to these events, taken one at a time.
+fn stepped(rt: &impl Abort, alloc: Global, last: u64, events: &[Event]) -> Vec<Reply> {
+    let mut core = core(rt, alloc, last);
+    let mut replies = match Vec::with_capacity(alloc, events.len()) {
+        Ok(replies) => replies,
+        Err(_) => {
+            refused(rt, Fault::NoMemory);
+            Vec::with_capacity(alloc, events.len()).expect(rt, "the second call has memory")
+        }
+    };
+    for event in events {
+        let reply = step(rt, &mut core, *event);
+        replies.push(reply).expect(rt, "there is room");
+    }
+    replies
+}
+
+/// The replies of a new machine with this last number to these events as one list, by a second
+/// machine where an event is refused its growth.
+fn ran(rt: &impl Abort, alloc: Global, last: u64, events: &[Event]) -> Vec<Reply> {
+    let mut first = core(rt, alloc, last);
+    let replies = run(rt, &mut first, events);
+    if !lacks_memory(replies.as_slice()) {
+        return replies;
+    }
+    refused(rt, Fault::NoMemory);
+    let mut second = core(rt, alloc, last);
+    run(rt, &mut second, events)
+}
+
+/// Takes events one at a time and as a list, each by a new machine, and compares the replies with
+/// the texts that they print as.
+pub fn both(rt: &impl Abort, alloc: Global, last: u64, events: &[Event], wanted: &[&str]) {
+    told_all(
+        rt,
+        alloc,
+        stepped(rt, alloc, last, events).as_slice(),
+        wanted,
+    );
+    told_all(rt, alloc, ran(rt, alloc, last, events).as_slice(), wanted);
 }

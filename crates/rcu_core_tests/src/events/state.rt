@@ -9,7 +9,9 @@ use rcu_core::turned::Turned;
 use rcu_node::answer::Answer;
 use rcu_node::awaited::Awaited;
 use rcu_node::flat::Flat;
+use rcu_seq::cookie::Cookie;
 use rcu_seq::fault::Fault;
+use rcu_seq::tag::Tag;
 use std::alloc::Global;
 use std::process::Abort;
 
@@ -26,21 +28,22 @@ struct AskedOf {
 /// All that can be asked of a state of two processors.
 #[derive(Clone, Copy, PartialEq)]
 struct Asked {
-    number: u64,
+    tag: Tag,
     running: bool,
     wants_begin: bool,
-    cookie: u64,
+    cookie: Cookie,
     first: AskedOf,
     second: AskedOf,
 }
 
-/// A state of two processors, made by a second call where the first is refused a growth.
-fn state(rt: &impl Abort, alloc: Global) -> State {
-    match GpState::new(alloc, flat(rt, alloc, 2), 8) {
+/// A state of two processors with this last number, made by a second call where the first is
+/// refused a growth.
+fn state(rt: &impl Abort, alloc: Global, last: u64) -> State {
+    match GpState::new(alloc, flat(rt, alloc, 2), last) {
         Ok(state) => state,
         Err(fault) => {
             refused(rt, fault);
-            GpState::new(alloc, flat(rt, alloc, 2), 8).expect(rt, "the second call has memory")
+            GpState::new(alloc, flat(rt, alloc, 2), last).expect(rt, "the second call has memory")
         }
     }
 }
@@ -60,10 +63,10 @@ fn ask_of(rt: &impl Abort, state: &State, cpu: u32) -> AskedOf {
 /// Asks all of a state of two processors.
 fn ask(rt: &impl Abort, state: &State) -> Asked {
     Asked {
-        number: state.value(),
+        tag: state.tag(),
         running: state.is_running(),
         wants_begin: state.wants_begin(),
-        cookie: state.take().0,
+        cookie: state.take(),
         first: ask_of(rt, state, 0),
         second: ask_of(rt, state, 1),
     }
@@ -181,10 +184,50 @@ fn is_over(rt: &impl Abort, state: &mut State) {
 
 #[test]
 fn refused_calls_leave_all_as_it_was(rt: HostRuntime) {
-    let mut state = state(&rt, rt.alloc());
+    let mut state = state(&rt, rt.alloc(), 8);
     departs(&rt, &mut state);
     passes(&rt, &mut state);
     is_over(&rt, &mut state);
+}
+
+/// A renumbering is refused by this fault, and changes nothing.
+fn stays(rt: &impl Abort, state: &mut State, wanted: Fault) {
+    let before = ask(rt, state);
+    assert!(rt; state.renumber() == Err(wanted));
+    assert!(rt; ask(rt, state) == before);
+}
+
+/// The numbers start anew in this epoch, and a grace period is needed or not.
+fn starts_anew(rt: &impl Abort, state: &mut State, epoch: u64, needed: bool) {
+    assert!(rt; state.renumber() == Ok(epoch));
+    assert!(rt; state.tag() == Tag { epoch, number: 0 });
+    assert!(rt; state.value() == 0);
+    assert!(rt; state.wants_begin() == needed);
+}
+
+/// A turn begins a grace period that is needed, and its end is all that was needed.
+fn turn_ends_one(rt: &impl Abort, state: &mut State) {
+    turns(rt, state, Turned::Begun(1, 1));
+    stays(rt, state, Fault::Running);
+    assert!(rt; 0 < state.cpus());
+    assert!(rt; state.hear(0) == Answer::Last);
+    turns(rt, state, Turned::Ended(4));
+    turns(rt, state, Turned::Nothing);
+}
+
+/// A needed number above the last one becomes 4, and any other 0.
+#[test]
+fn needed_numbers_across_epochs(rt: HostRuntime) {
+    let mut state = state(&rt, rt.alloc(), 4);
+    stays(&rt, &mut state, Fault::NotLast);
+    state.start_poll();
+    turn_ends_one(&rt, &mut state);
+    state.start_poll();
+    assert!(rt; state.turn() == Err(Fault::Exhausted));
+    starts_anew(&rt, &mut state, 1, true);
+    turn_ends_one(&rt, &mut state);
+    starts_anew(&rt, &mut state, 2, false);
+    turns(&rt, &mut state, Turned::Nothing);
 }
 
 /// What the first begin says, or why no state opens with this last number.

@@ -10,6 +10,7 @@ use rcu_node::awaited::Awaited;
 use rcu_node::cpu_set::CpuSet;
 use rcu_node::flat::Flat;
 use rcu_node::tree::Tree;
+use rcu_seq::tag::Tag;
 use std::alloc::Global;
 use std::process::Abort;
 
@@ -166,19 +167,46 @@ fn is_none<R: Abort>(rt: &R, wrong: Option<u32>) {
 }
 
 /// Begins a grace period in both, where the set and the number are fit for it.
-fn begin_both<A: Awaited>(shown: &mut A, flat: &mut Flat, number: u64, set: &CpuSet) -> bool {
-    if set.cpus() != shown.cpus() || set.cpus() != flat.cpus() || number % 4 != 1 {
+fn begin_both<A: Awaited>(shown: &mut A, flat: &mut Flat, now: Tag, set: &CpuSet) -> bool {
+    if set.cpus() != shown.cpus() || set.cpus() != flat.cpus() || now.number % 4 != 1 {
         return false;
     }
-    shown.begin(number, set);
-    flat.begin(number, set);
+    shown.begin(now, set);
+    flat.begin(now, set);
     true
 }
 
 /// Reports a processor to both. Whether there is one, and both answer the same.
-fn answer_alike<A: Awaited>(shown: &mut A, flat: &mut Flat, cpu: u32, number: u64) -> bool {
-    cpu < flat.cpus() && cpu < shown.cpus() && shown.report(cpu, number) == flat.report(cpu, number)
+fn answer_alike<A: Awaited>(shown: &mut A, flat: &mut Flat, cpu: u32, noted: Tag) -> bool {
+    cpu < flat.cpus() && cpu < shown.cpus() && shown.report(cpu, noted) == flat.report(cpu, noted)
 }
+
+/// The tag of the latest grace period.
+const LATEST: Tag = Tag {
+    epoch: 1,
+    number: 5,
+};
+
+/// The tags of the grace periods, across a renumbering.
+static PERIODS: [Tag; 5] = [
+    Tag {
+        epoch: 0,
+        number: 1,
+    },
+    Tag {
+        epoch: 0,
+        number: 5,
+    },
+    Tag {
+        epoch: 0,
+        number: 9,
+    },
+    Tag {
+        epoch: 1,
+        number: 1,
+    },
+    LATEST,
+];
 
 /// Grace periods of drawn sets, with drawn reports, repeats and stale ones, call by call beside a
 /// flat set; the last grace period is reported to its end.
@@ -187,11 +215,16 @@ fn beside_flat<A: Awaited + Shown, R: Abort>(rt: &R, alloc: Global, mut shown: A
     let mut flat = flat(rt, alloc, cpus);
     let mut draw = Draw(88_172_645_463_325_252);
     compare(rt, alloc, &shown, &flat);
-    period_beside(rt, alloc, &mut shown, &mut flat, &mut draw, 1, reports);
-    period_beside(rt, alloc, &mut shown, &mut flat, &mut draw, 5, reports);
-    period_beside(rt, alloc, &mut shown, &mut flat, &mut draw, 9, reports);
+    for now in &PERIODS {
+        period_beside(rt, alloc, &mut shown, &mut flat, &mut draw, *now, reports);
+    }
     for cpu in 0..cpus {
-        is_said(rt, cpu, answer_alike(&mut shown, &mut flat, cpu, 9), true);
+        is_said(
+            rt,
+            cpu,
+            answer_alike(&mut shown, &mut flat, cpu, LATEST),
+            true,
+        );
     }
     compare(rt, alloc, &shown, &flat);
     assert!(rt; shown.is_empty());
@@ -204,31 +237,35 @@ fn period_beside<A: Awaited + Shown, R: Abort>(
     shown: &mut A,
     flat: &mut Flat,
     draw: &mut Draw,
-    number: u64,
+    now: Tag,
     reports: u32,
 ) {
     let set = drawn_set(rt, alloc, draw, shown.cpus());
-    assert!(rt; begin_both(shown, flat, number, &set));
+    assert!(rt; begin_both(shown, flat, now, &set));
     compare(rt, alloc, shown, flat);
     for _ in 0..reports {
-        report_both(rt, shown, flat, draw, number);
+        report_both(rt, shown, flat, draw, now);
         compare(rt, alloc, shown, flat);
     }
 }
 
-/// A drawn report of the number or of the next one, to both, which have to answer the same.
+/// A drawn report of the number or of the next one, of the epoch or of the one beside it, to both,
+/// which have to answer the same.
 fn report_both<A: Awaited, R: Abort>(
     rt: &R,
     shown: &mut A,
     flat: &mut Flat,
     draw: &mut Draw,
-    number: u64,
+    now: Tag,
 ) {
     let cpus = shown.cpus();
     assert!(rt; cpus > 0);
     let cpu = draw.below(u64::from(cpus)) as u32;
-    let told = number.saturating_add(4 * (draw.below(4) / 3));
-    is_said(rt, cpu, answer_alike(shown, flat, cpu, told), true);
+    let noted = Tag {
+        epoch: now.epoch ^ (draw.below(8) / 7),
+        number: now.number.saturating_add(4 * (draw.below(4) / 3)),
+    };
+    is_said(rt, cpu, answer_alike(shown, flat, cpu, noted), true);
 }
 
 #[test]

@@ -1,11 +1,12 @@
 //! Merging of flat sets and trees, of each kind into each other kind.
-use super::{awaits, begin, insert, report};
+use super::{awaits, begin, begin_at, insert, report};
 use crate::made::{empty_set, everyone, flat, tree};
 use rcu_node::answer::Answer;
 use rcu_node::awaited::Awaited;
 use rcu_node::cpu_set::CpuSet;
 use rcu_node::merging::merge;
 use rcu_seq::fault::Fault;
+use rcu_seq::tag::Tag;
 use std::alloc::Global;
 use std::process::Abort;
 
@@ -52,10 +53,10 @@ fn hear_and_merge<A: Awaited, B: Awaited>(rt: &impl Abort, first: &mut A, second
     report(rt, first, &FIRST_HEARD);
     report(rt, second, &SECOND_HEARD);
     merges(rt, first, second, Ok(()));
-    assert!(rt; first.count() == 2 && first.tag() == 1);
+    assert!(rt; first.count() == 2 && first.tag() == Tag::of_first_epoch(1));
     assert!(rt; second.count() == 3);
     merges(rt, second, first, Ok(()));
-    assert!(rt; second.count() == 2 && second.tag() == 1);
+    assert!(rt; second.count() == 2 && second.tag() == Tag::of_first_epoch(1));
     awaits(rt, first, LEFT.as_slice());
     awaits(rt, second, LEFT.as_slice());
     merges(rt, first, second, Ok(()));
@@ -91,6 +92,13 @@ fn merge_unlike_tags<A: Awaited, B: Awaited>(
     begin(rt, second, 5, set);
     report(rt, second, &[(0, 5, Answer::Taken)]);
     merges(rt, first, second, Err(Fault::NotAlike));
+
+    let next = Tag {
+        epoch: 1,
+        number: 1,
+    };
+    begin_at(rt, second, next, set);
+    merges(rt, first, second, Err(Fault::NotAlike));
 }
 
 /// Nothing changes where both have begun with different sets.
@@ -123,7 +131,7 @@ fn hear<A: Awaited>(rt: &impl Abort, awaited: &mut A, left: u32) {
     for cpu in 0..5 {
         assert!(rt; cpu < awaited.cpus());
         if (left >> cpu) & 1 == 0 {
-            awaited.report(cpu, 1);
+            awaited.report(cpu, Tag::of_first_epoch(1));
         }
     }
 }

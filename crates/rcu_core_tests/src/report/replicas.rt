@@ -1,5 +1,6 @@
 //! Replicas over trees and flat sets, and their merging.
 ghost use Rattle.std.specs.Prelude.{◌≡◌, false, replicate, length};
+ghost use Rattle.rcu_seq.specs.Tags.{first_tag};
 
 use crate::made::{everyone, flat, is_said, set_of, tree};
 use rcu_node::answer::Answer;
@@ -14,7 +15,7 @@ use std::process::Abort;
 
 /// A replica whose last number is 8.
 fn replica<A: Awaited>(rt: &impl Abort, inner: A) -> Replica<A>
-    requires tag { A.tag inner ≡ 0 }
+    requires tag { A.tag inner ≡ first_tag }
     requires empty { A.start_set inner ≡ replicate (length (A.awaited inner)) false }
 {
     Replica::new(inner, 8).expect(rt, "8 is a last number")

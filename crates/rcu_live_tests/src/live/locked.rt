@@ -3,8 +3,8 @@
 ghost use Rattle.std.specs.Prelude.{◌≡◌};
 
 use crate::live::steps::{
-    Four, barrier_begin, barrier_test, collect, enter, exit, offline, online, poll, quiesce, tend,
-    turn, visit,
+    Four, barrier_begin, barrier_test, collect, enter, exit, of_epoch, offline, online, poll,
+    quiesce, tend, turn, visit,
 };
 use crate::live::threads::{last_seat, last_watcher, make_pair, opened};
 use rcu_barrier::barrier_state::BarrierState;
@@ -14,8 +14,8 @@ use rcu_core::turned::Turned;
 use rcu_live::collected::Collected;
 use rcu_live::cpu_seat::CpuSeat;
 use rcu_live::watcher::Watcher;
-use rcu_seq::cookie::Cookie;
 use rcu_seq::fault::Fault;
+use rcu_seq::tag::Tag;
 use std::alloc::Global;
 use std::process::Abort;
 use std::sync::Wait;
@@ -76,7 +76,7 @@ fn have_run(rt: &impl Abort, calls: &[Queued<u64>], wanted: &[(u64, u64)]) {
     assert!(rt; calls.len() == wanted.len());
     for place in 0..calls.len() {
         let (at, value) = wanted[place];
-        assert!(rt; calls[place].at == at && calls[place].value == value);
+        assert!(rt; calls[place].at == Tag::of_first_epoch(at) && calls[place].value == value);
     }
 }
 
@@ -306,7 +306,7 @@ fn turn_to_the_last<R: Abort + Wait>(rt: &R, live: &Four, seat: &mut CpuSeat, wa
     requires watcher { watcher.old.table ≡ live.now.table }
 {
     let cookie = watcher.take(live);
-    assert!(rt; cookie == Cookie(4));
+    assert!(rt; cookie == of_epoch(0, 4));
     queue(rt, live, seat, 7, 1);
     tend(rt, live, 0, Ok((0, 1)));
     turn(rt, live, Ok(Turned::Begun(1, 1)));

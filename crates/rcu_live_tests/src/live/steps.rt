@@ -66,6 +66,11 @@ pub(crate) fn offline<R: Abort + Wait>(
     assert!(rt; live.offline(rt, seat) == wanted);
 }
 
+/// The cookie of this epoch that waits for this number.
+pub(crate) fn of_epoch(epoch: u64, number: u64) -> Cookie {
+    Cookie { epoch, number }
+}
+
 /// Compares whether a cookie is done.
 pub(crate) fn poll(
     rt: &impl Abort,

@@ -1,7 +1,7 @@
 //! A reader beside a watcher on two threads, meetings, arrivals and departures, and the opening.
 ghost use Rattle.std.specs.Prelude.{◌≡◌, ◌+◌, ◌<◌, All, length};
 
-use crate::live::steps::{Four, enter, exit, offline, online, quiesce};
+use crate::live::steps::{Four, enter, exit, of_epoch, offline, online, quiesce};
 use rcu_live::cpu_seat::CpuSeat;
 use rcu_live::live::Live;
 use rcu_live::met::Met;
@@ -94,7 +94,7 @@ fn watch(live: &Four, mut watcher: Watcher) -> (Cookie, bool, bool)
 {
     let cookie = watcher.take(live);
     let early = watcher.poll(live, cookie);
-    (cookie, early, watcher.poll(live, Cookie(1)))
+    (cookie, early, watcher.poll(live, of_epoch(0, 1)))
 }
 
 /// The reader's section is open while the watcher runs on another thread.
@@ -147,7 +147,7 @@ fn reader_beside_a_watcher(rt: HostRuntime) {
     } = make_pair(&rt, rt.alloc());
     let (entered, (cookie, early, first_done)) = beside(&rt, &live, &mut first, watcher);
     assert!(rt; entered == Ok(1));
-    assert!(rt; cookie == Cookie(4) && !early && first_done);
+    assert!(rt; cookie == of_epoch(0, 4) && !early && first_done);
     leave_section(&rt, &live, &mut first, &mut second, &mut other);
 }
 

@@ -11,7 +11,7 @@ use std::alloc::{AllocError, Global};
 use std::process::Abort;
 
 /// The lines that the broken ones are made of.
-static LINES: [&str; 26] = [
+static LINES: [&str; 28] = [
     "begin",
     "end",
     "turn",
@@ -20,6 +20,7 @@ static LINES: [&str; 26] = [
     "start",
     "bar",
     "bartest",
+    "renumber",
     "enter 0",
     "exit 0",
     "note 0",
@@ -34,6 +35,7 @@ static LINES: [&str; 26] = [
     "deliver 1",
     "deliver 2",
     "poll 4",
+    "poll 4 1",
     "queue 0 7",
     "queue 1 8",
     "run 0 2",
@@ -71,7 +73,7 @@ static NUMBERS: [&str; 9] = [
 ];
 
 /// What stands before a number.
-static BEFORE: [&str; 4] = ["poll ", "note ", "queue 0 ", "run 0 "];
+static BEFORE: [&str; 5] = ["poll ", "poll 4 ", "note ", "queue 0 ", "run 0 "];
 
 static PAIR_BEFORE: [&str; 4] = ["a begin ", "a report 0 ", "b depart ", "b report 1 1 "];
 

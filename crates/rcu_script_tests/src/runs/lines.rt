@@ -33,7 +33,7 @@ static LINES: [(&str, Line<Event>); 23] = [
     ("start 1", Line::Malformed),
     (
         "poll 18446744073709551615",
-        Line::Ask(Event::Poll(u64::MAX)),
+        Line::Ask(Event::Poll(u64::MAX, 0)),
     ),
     ("poll", Line::Malformed),
 ];
@@ -58,6 +58,25 @@ static LINES_OF_LISTS: [(&str, Line<Event>); 13] = [
     ("bartest 0", Line::Malformed),
 ];
 
+/// Lines of epochs, and what they ask for.
+static LINES_OF_EPOCHS: [(&str, Line<Event>); 12] = [
+    ("renumber", Line::Ask(Event::Renumber)),
+    (" renumber  ", Line::Ask(Event::Renumber)),
+    ("renumber 1", Line::Malformed),
+    ("poll 4", Line::Ask(Event::Poll(4, 0))),
+    ("poll 4 0", Line::Ask(Event::Poll(4, 0))),
+    ("poll 4 7", Line::Ask(Event::Poll(4, 7))),
+    (
+        "poll 4294967296 18446744073709551615",
+        Line::Ask(Event::Poll(4_294_967_296, u64::MAX)),
+    ),
+    ("poll 4 18446744073709551616", Line::Malformed),
+    ("poll 18446744073709551616 4", Line::Malformed),
+    ("poll 4 x", Line::Malformed),
+    ("poll x 4", Line::Malformed),
+    ("poll 4 1 1", Line::Malformed),
+];
+
 /// Compares what a line asks for.
 fn asks(rt: &impl Abort, line: &str, asked: &Line<Event>) {
     assert!(rt; parse_line(line.as_bytes()) == *asked, "{line}");
@@ -73,6 +92,13 @@ fn lines(rt: HostRuntime) {
 #[test]
 fn lines_of_lists(rt: HostRuntime) {
     for (line, asked) in &LINES_OF_LISTS {
+        asks(&rt, line, asked);
+    }
+}
+
+#[test]
+fn lines_of_epochs(rt: HostRuntime) {
+    for (line, asked) in &LINES_OF_EPOCHS {
         asks(&rt, line, asked);
     }
 }

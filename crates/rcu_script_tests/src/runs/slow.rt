@@ -70,7 +70,7 @@ fn event(words: &[&str]) -> Option<Event> {
     match words {
         [name] => bare_event(name),
         [name, word] => event_of_one(name, number(word)?),
-        [name, cpu, word] => event_of_two(name, cpu_of(cpu)?, number(word)?),
+        [name, word, next] => event_of_two(name, number(word)?, number(next)?),
         _ => None,
     }
 }
@@ -91,7 +91,7 @@ fn bare_event(name: &str) -> Option<Event> {
 }
 
 /// The names of the events without a number.
-static BARE: [(&str, Event); 8] = [
+static BARE: [(&str, Event); 9] = [
     ("begin", Event::Begin),
     ("end", Event::End),
     ("turn", Event::Turn),
@@ -100,6 +100,7 @@ static BARE: [(&str, Event); 8] = [
     ("start", Event::StartPoll),
     ("bar", Event::BarBegin),
     ("bartest", Event::BarTest),
+    ("renumber", Event::Renumber),
 ];
 
 /// The event that a name and one number ask for: most often a processor's.
@@ -116,16 +117,21 @@ fn event_of_one(name: &str, n: u64) -> Option<Event> {
             ("tend", Event::Tend(cpu)),
             ("visit", Event::Visit(cpu)),
             ("deliver", Event::Deliver(n)),
-            ("poll", Event::Poll(n)),
+            ("poll", Event::Poll(n, 0)),
         ],
         name,
     )
 }
 
-/// The event that a name, a processor and a number ask for.
-fn event_of_two(name: &str, cpu: u32, n: u64) -> Option<Event> {
+/// The event that a name and two numbers ask for.
+fn event_of_two(name: &str, first: u64, second: u64) -> Option<Event> {
+    let cpu = cpu_at(first);
     named(
-        &[("queue", Event::Queue(cpu, n)), ("run", Event::Run(cpu, n))],
+        &[
+            ("queue", Event::Queue(cpu, second)),
+            ("run", Event::Run(cpu, second)),
+            ("poll", Event::Poll(first, second)),
+        ],
         name,
     )
 }

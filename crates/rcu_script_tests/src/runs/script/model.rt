@@ -69,19 +69,89 @@ pub fn is_running(past: &[Event]) -> bool {
     count(past, Event::Begin) > count(past, Event::End)
 }
 
-pub fn number(past: &[Event]) -> u64 {
-    let state = if is_running(past) { 1 } else { 0 };
-    count(past, Event::End)
-        .saturating_mul(4)
-        .saturating_add(state)
+/// A number and its epoch.
+pub type Tag = (u64, u64);
+
+/// How often the numbers started anew.
+pub fn epoch(past: &[Event]) -> u64 {
+    count(past, Event::Renumber)
 }
 
-/// The number after the first grace period that begins from now on.
+/// What happened before the numbers last started anew, and what since then.
+fn at_renumbering(past: &[Event]) -> (&[Event], &[Event]) {
+    let mut begun = 0;
+    for (i, event) in past.iter().enumerate() {
+        if *event == Event::Renumber {
+            begun = i;
+        }
+    }
+    past.split_at(begun.min(past.len()))
+}
+
+/// How many grace periods ended in the epoch.
+fn ends(past: &[Event]) -> u64 {
+    count(at_renumbering(past).1, Event::End)
+}
+
+pub fn number(past: &[Event]) -> u64 {
+    let state = if is_running(past) { 1 } else { 0 };
+    ends(past).saturating_mul(4).saturating_add(state)
+}
+
+pub fn tag(past: &[Event]) -> Tag {
+    (number(past), epoch(past))
+}
+
+/// The number after the first grace period that begins from now on, were the numbers to go on.
 pub fn snapshot(past: &[Event]) -> u64 {
     let more = if is_running(past) { 2 } else { 1 };
-    count(past, Event::End)
-        .saturating_add(more)
-        .saturating_mul(4)
+    ends(past).saturating_add(more).saturating_mul(4)
+}
+
+/// What happened since a cookie was first taken, if it was.
+fn since_taking(past: &[Event], cookie: Tag) -> Option<&[Event]> {
+    for (i, event) in past.iter().enumerate() {
+        let (before, since) = past.split_at(i);
+        if matches!(event, Event::Take | Event::StartPoll)
+            && cookie == (snapshot(before), epoch(before))
+        {
+            return Some(since);
+        }
+    }
+    None
+}
+
+/// Whether a grace period began, and one ended later.
+fn has_full_period(since: &[Event]) -> bool {
+    let mut has_begun = false;
+    for event in since {
+        if *event == Event::Begin {
+            has_begun = true;
+        } else if *event == Event::End && has_begun {
+            return true;
+        }
+    }
+    false
+}
+
+/// Whether a cookie is done. One that was taken is where a full grace period lies after its taking.
+/// Of any other, the number is compared.
+fn is_done(past: &[Event], cookie: Tag) -> bool {
+    match since_taking(past, cookie) {
+        Some(since) => has_full_period(since),
+        None => cookie.0 == 1 || has_come(past, cookie),
+    }
+}
+
+/// Whether a number of an epoch was reached in it or, in the next epoch, a grace period ended; or
+/// whether more epochs than one passed since.
+fn has_come(past: &[Event], (number_then, epoch_then): Tag) -> bool {
+    match epoch(past).checked_sub(epoch_then) {
+        None => false,
+        Some(0) => number_then <= number(past),
+        Some(1) => number_then <= number(at_renumbering(past).0) || ends(past) > 0,
+        Some(_) => true,
+    }
 }
 
 pub fn is_online(past: &[Event], cpu: u32) -> bool {
@@ -100,19 +170,19 @@ pub fn depth(past: &[Event], cpu: u32) -> u64 {
     count(past, Event::Enter(cpu)).saturating_sub(count(past, Event::Exit(cpu)))
 }
 
-/// The number at the last note or arrival, 0 before any.
-fn noted(past: &[Event], cpu: u32) -> u64 {
+/// The number at the last note or arrival and its epoch, both 0 before any.
+fn noted(past: &[Event], cpu: u32) -> Tag {
     let mut until = 0;
     for (i, event) in past.iter().enumerate() {
         if *event == Event::Note(cpu) || *event == Event::Online(cpu) {
             until = i + 1;
         }
     }
-    number(past.split_at(until.min(past.len())).0)
+    tag(past.split_at(until.min(past.len())).0)
 }
 
 /// The report of a place: its processor and its tag.
-fn report(past: &[Event], place: u64) -> Option<(u32, u64)> {
+fn report(past: &[Event], place: u64) -> Option<(u32, Tag)> {
     let mut made = 0u64;
     for (i, event) in past.iter().enumerate() {
         if let Event::Quiesce(cpu) = event {
@@ -138,7 +208,7 @@ pub fn is_awaited(past: &[Event], cpu: u32) -> bool {
     let mut is_heard = !is_running(past) || !is_online(before, cpu);
     for event in since {
         if let Event::Deliver(place) = event {
-            if report(past, *place) == Some((cpu, number(past))) {
+            if report(past, *place) == Some((cpu, tag(past))) {
                 is_heard = true;
             }
         } else if *event == Event::Offline(cpu) {
@@ -204,6 +274,8 @@ fn fault(cpus: u32, last: u64, past: &[Event], event: Event) -> u32 {
         Event::Deliver(place) if report(past, place).is_none() => 7,
         Event::Begin if is_running(past) => 8,
         Event::Begin if number(past) == last => 11,
+        Event::Renumber if is_running(past) => 8,
+        Event::Renumber if number(past) != last => 22,
         Event::End if !is_running(past) => 9,
         Event::End if !awaited(cpus, past).is_empty() => 10,
         Event::Turn if number(past) == last && meant(cpus, past, event) == Event::Begin => 11,
@@ -226,7 +298,7 @@ fn meant(cpus: u32, past: &[Event], event: Event) -> Event {
 /// What a delivered report does.
 fn delivered(cpus: u32, past: &[Event], place: u64) -> &'static str {
     match report(past, place) {
-        Some((cpu, tag)) if is_running(past) && tag == number(past) => {
+        Some((cpu, noted)) if is_running(past) && noted == tag(past) => {
             if !is_awaited(past, cpu) {
                 "repeat"
             } else if awaited(cpus, past).len() == 1 {
@@ -258,9 +330,10 @@ fn write_reply(
         Event::Turn if is_running(now) => write_number(text, "waiting", count_awaited(cpus, now)),
         Event::Turn => text.push_str("nothing"),
         Event::Awaits => write_values(text, "awaits", awaited(cpus, past).as_slice()),
-        Event::Take | Event::StartPoll => write_number(text, "cookie", snapshot(past)),
-        Event::Poll(cookie) if cookie == 1 || cookie <= number(past) => text.push_str("done"),
-        Event::Poll(_) => text.push_str("not yet"),
+        Event::Take | Event::StartPoll => write_cookie(text, (snapshot(past), epoch(past))),
+        Event::Poll(number, epoch) if is_done(past, (number, epoch)) => text.push_str("done"),
+        Event::Poll(_, _) => text.push_str("not yet"),
+        Event::Renumber => write_number(text, "epoch", epoch(now)),
         Event::Queue(_, _) => write_number(text, "queued", made(now).1),
         _ => write_list_reply(text, cpus, past, event),
     }
@@ -273,8 +346,28 @@ fn write_noted(text: &mut String, number: u64, is_needed: bool) -> Result<(), Al
 }
 
 /// Writes the reply to a quiescent state.
-fn write_report(text: &mut String, place: u64, cpu: u32, tag: u64) -> Result<(), AllocError> {
-    write!(text, "report {place} cpu {cpu} tag {tag}")
+fn write_report(
+    text: &mut String,
+    place: u64,
+    cpu: u32,
+    (number, epoch): Tag,
+) -> Result<(), AllocError> {
+    write!(text, "report {place} cpu {cpu} tag {number}")?;
+    write_epoch(text, epoch)
+}
+
+/// Writes the reply to a taking.
+fn write_cookie(text: &mut String, (number, epoch): Tag) -> Result<(), AllocError> {
+    write_number(text, "cookie", number)?;
+    write_epoch(text, epoch)
+}
+
+/// Writes an epoch, where it is not the first one.
+fn write_epoch(text: &mut String, epoch: u64) -> Result<(), AllocError> {
+    if epoch > 0 {
+        write_number(text, " epoch", epoch)?;
+    }
+    Ok(())
 }
 
 /// Writes the reply to a begin.

@@ -36,8 +36,8 @@ type Items = ArrayVec<Item, ROOM>;
 pub struct Lists {
     /// The items. A processor's list is its items, in order.
     items: Items,
-    /// The greatest number that a started poll asked for or a tended list then waited for, 0 before
-    /// any.
+    /// The greatest number that a started poll asked for or a tended list then waited for in the
+    /// epoch, 0 before any. Where one of the epoch before was not reached, it is at least 4.
     pub needed: u64,
 }
 
@@ -63,6 +63,7 @@ pub fn gathered(past: &[Event]) -> Lists {
                 lists.run(*cpu, *most);
             }
             Event::Visit(cpu) => lists.visit(*cpu, before),
+            Event::Renumber => lists.renumber(number(before)),
             Event::Offline(cpu) => {
                 lists.visit(*cpu, before);
                 lists.move_away(*cpu);
@@ -120,6 +121,16 @@ impl Lists {
             }
         }
         self.needed = needed;
+    }
+
+    /// What waits for a number waits for any. A number that is not reached is needed anew.
+    fn renumber(&mut self, number: u64) {
+        for item in self.items.as_mut_slice() {
+            if let Kind::Until(_) = item.kind {
+                item.kind = Kind::Unmarked;
+            }
+        }
+        self.needed = if self.needed > number { 4 } else { 0 };
     }
 
     /// Hands out the first callbacks of the done part, at most so many, and drops the markers

@@ -1,7 +1,7 @@
 //! Scripts drawn at random, and their replies against the model's.
 
 use crate::runs::row::{ALL, Row};
-use crate::runs::script::model::{Model, depth, is_awaited, is_running, made, number};
+use crate::runs::script::model::{Model, depth, epoch, is_awaited, is_running, made, number};
 use rand_core::{Rng, SeedableRng};
 use rand_pcg::Pcg32;
 use rcu_core::event::Event;
@@ -12,7 +12,7 @@ use std::process::Abort;
 const LENGTH: usize = 250;
 
 /// The scripts: how many processors, the last number, and a seed.
-static SEEDS: [(u32, u64, u64); 20] = [
+static SEEDS: [(u32, u64, u64); 26] = [
     (1, 4, 1),
     (1, 400, 2),
     (2, 8, 3),
@@ -33,14 +33,22 @@ static SEEDS: [(u32, u64, u64); 20] = [
     (2, 400, 18),
     (3, 400, 19),
     (4, 400, 20),
+    (1, 4, 21),
+    (2, 4, 22),
+    (3, 4, 23),
+    (2, 8, 24),
+    (3, 8, 25),
+    (2, 12, 26),
 ];
 
 /// Lines outside the grammar, and one that is too long.
-static MALFORMED: [&str; 8] = [
+static MALFORMED: [&str; 10] = [
     "frob",
     "enter",
     "note x",
     "poll -1",
+    "poll 4 -1",
+    "renumber 1",
     "begin 0",
     "queue 1",
     "Turn",
@@ -48,7 +56,7 @@ static MALFORMED: [&str; 8] = [
 ];
 
 /// What the replies have to show, by how they begin and what they are not, and at least how often.
-static SHOWN: [(&str, &str, u64); 10] = [
+static SHOWN: [(&str, &str, u64); 14] = [
     ("ended", "", 80),
     ("ran", "ran none", 30),
     ("barrier done", "", 20),
@@ -59,11 +67,15 @@ static SHOWN: [(&str, &str, u64); 10] = [
     ("not yet", "", 40),
     ("stale", "", 60),
     ("repeat", "", 8),
+    ("epoch", "", 20),
+    ("cookie 4 epoch", "", 20),
+    ("fault 11", "", 10),
+    ("fault 22", "", 15),
 ];
 
 /// What leads an event on: from a note to the delivery of the report; from some callbacks to a
-/// departure that moves them; from an end to a tend and a run of each list; and from a barrier's
-/// begin to a visit of each processor, and at last to a test.
+/// departure that moves them; from an end to a tend and a run of each list; from a barrier's begin
+/// to a visit of each processor, and at last to a test; and from a renumbering to a taking.
 fn next_of(event: Event, cpus: u32, reports: u64) -> Option<Event> {
     match event {
         Event::Note(cpu) => Some(Event::Quiesce(cpu)),
@@ -75,13 +87,14 @@ fn next_of(event: Event, cpus: u32, reports: u64) -> Option<Event> {
         Event::BarBegin => Some(Event::Visit(cpus.saturating_sub(1))),
         Event::Visit(0) => Some(Event::BarTest),
         Event::Visit(cpu) => Some(Event::Visit(cpu - 1)),
+        Event::Renumber => Some(Event::Take),
         _ => None,
     }
 }
 
 /// An event that leads the grace period on: of the first processor that is awaited, or else a turn
-/// or a begin.
-fn useful(cpus: u32, past: &[Event]) -> Event {
+/// or a begin; at the last number a renumbering, and at times a begin, which is refused there.
+fn useful(cpus: u32, last: u64, past: &[Event]) -> Event {
     for cpu in 0..cpus {
         if is_awaited(past, cpu) {
             return if depth(past, cpu) > 0 {
@@ -91,7 +104,13 @@ fn useful(cpus: u32, past: &[Event]) -> Event {
             };
         }
     }
-    if is_running(past) || number(past) % 8 == 0 {
+    if number(past) == last {
+        if past.len() % 4 == 0 {
+            Event::Begin
+        } else {
+            Event::Renumber
+        }
+    } else if is_running(past) || number(past) % 8 == 0 {
         Event::Turn
     } else {
         Event::Begin
@@ -99,11 +118,12 @@ fn useful(cpus: u32, past: &[Event]) -> Event {
 }
 
 /// Any event: of a processor, which at times is none, of a report up to one that was not made, or
-/// of a cookie below 40.
-fn any_event(rng: &mut Pcg32, cpus: u32, reports: u64) -> Event {
+/// of a cookie below 40 and of an epoch up to one that did not begin.
+fn any_event(rng: &mut Pcg32, cpus: u32, reports: u64, epoch: u64) -> Event {
     let number = u64::from(rng.next_u32() % 40);
     let cpu = rng.next_u32() % cpus.saturating_add(1).max(1);
-    match rng.next_u32() % 32 {
+    let later = epoch.saturating_add(1);
+    match rng.next_u32() % 35 {
         0 => Event::Begin,
         1 => Event::End,
         2 => Event::Turn,
@@ -114,7 +134,7 @@ fn any_event(rng: &mut Pcg32, cpus: u32, reports: u64) -> Event {
         10 => Event::Awaits,
         11 => Event::Take,
         12 => Event::StartPoll,
-        13..=14 => Event::Poll(number),
+        13..=14 => Event::Poll(number, later.saturating_sub(number % 4)),
         15 => Event::Note(cpu),
         16 => Event::Quiesce(cpu),
         17..=18 => Event::Deliver(number % reports.saturating_add(2).max(1)),
@@ -123,7 +143,9 @@ fn any_event(rng: &mut Pcg32, cpus: u32, reports: u64) -> Event {
         26 => Event::Run(cpu, number % 8),
         27..=28 => Event::BarBegin,
         29 => Event::Visit(cpu),
-        _ => Event::BarTest,
+        30..=31 => Event::BarTest,
+        32..=33 => Event::Poll(number / 8 * 4, later.saturating_sub(number % 4)),
+        _ => Event::Renumber,
     }
 }
 
@@ -142,13 +164,15 @@ fn write_line(text: &mut String, event: Event) -> Result<(), AllocError> {
         Event::Awaits => text.push_str("awaits\n"),
         Event::Take => text.push_str("take\n"),
         Event::StartPoll => text.push_str("start\n"),
-        Event::Poll(cookie) => write_one(text, "poll", cookie),
-        Event::Queue(cpu, value) => write_two(text, "queue", cpu, value),
+        Event::Poll(cookie, 0) => write_one(text, "poll", cookie),
+        Event::Poll(cookie, epoch) => write_two(text, "poll", cookie, epoch),
+        Event::Queue(cpu, value) => write_two(text, "queue", u64::from(cpu), value),
         Event::Tend(cpu) => write_one(text, "tend", u64::from(cpu)),
-        Event::Run(cpu, most) => write_two(text, "run", cpu, most),
+        Event::Run(cpu, most) => write_two(text, "run", u64::from(cpu), most),
         Event::BarBegin => text.push_str("bar\n"),
         Event::Visit(cpu) => write_one(text, "visit", u64::from(cpu)),
         Event::BarTest => text.push_str("bartest\n"),
+        Event::Renumber => text.push_str("renumber\n"),
     }
 }
 
@@ -157,9 +181,9 @@ fn write_one(text: &mut String, name: &str, n: u64) -> Result<(), AllocError> {
     writeln!(text, "{name} {n}")
 }
 
-/// Writes a line of a name, a processor and a number.
-fn write_two(text: &mut String, name: &str, cpu: u32, n: u64) -> Result<(), AllocError> {
-    writeln!(text, "{name} {cpu} {n}")
+/// Writes a line of a name and two numbers.
+fn write_two(text: &mut String, name: &str, first: u64, second: u64) -> Result<(), AllocError> {
+    writeln!(text, "{name} {first} {second}")
 }
 
 /// Draws a script, and writes the model's replies. Most events lead something on.
@@ -201,8 +225,8 @@ fn draw_line(
     let reports = made(model.past.as_slice()).0;
     let event = match next_of(event, model.cpus, reports) {
         Some(next) if choice < 26 => next,
-        None if choice < 16 => useful(model.cpus, model.past.as_slice()),
-        _ => any_event(rng, model.cpus, reports),
+        None if choice < 16 => useful(model.cpus, model.last, model.past.as_slice()),
+        _ => any_event(rng, model.cpus, reports, epoch(model.past.as_slice())),
     };
     write_line(script, event)?;
     model.answer(replies, event)?;

@@ -13,7 +13,7 @@ pub fn rows() -> &'static [Row<'static>] {
 }
 
 /// The scripts.
-static ROWS: [Row; 33] = [
+static ROWS: [Row; 38] = [
     Row {
         name: "one grace period",
         fanouts: (2, 2),
@@ -278,6 +278,88 @@ static ROWS: [Row; 33] = [
             fault 21\nfault 21\nfault 21\nfault 21\nfault 21\nfault 1\nfault 1\nfault 2\nfault 21\n\
             fault 21\nfault 1\nfault 21\nfault 1\nfault 21\nfault 21\nfault 1\nfault 14\nfault 21\n\
             fault 14\ntended 0 0\nran none\n",
+    },
+    // A cookie of the last number is done by the first grace period of the next epoch, one that was
+    // reached in its own epoch at once. A report of an earlier epoch is stale.
+    Row {
+        name: "cookies across epochs",
+        fanouts: (2, 2),
+        second: None,
+        cpus: 1,
+        last: 4,
+        lines: b"\
+            renumber\nbegin\nnote 0\nquiet 0\ndeliver 1\nend\ntake\nbegin\nrenumber\npoll 8\n\
+            poll 4\ntake\nbegin\ndeliver 1\npoll 4 1\nnote 0\nquiet 0\ndeliver 2\nend\npoll 8\n\
+            poll 4 1\n",
+        replies: b"\
+            fault 22\nbegun 1 awaits 1\nnoted 1 needed\nreport 1 cpu 0 tag 1\nlast\nended 4\n\
+            cookie 8\nfault 11\nepoch 1\nnot yet\ndone\ncookie 4 epoch 1\nbegun 1 awaits 1\nstale\n\
+            not yet\nnoted 1 needed\nreport 2 cpu 0 tag 1 epoch 1\nlast\nended 4\ndone\ndone\n",
+    },
+    Row {
+        name: "callback across epochs",
+        fanouts: (2, 2),
+        second: None,
+        cpus: 1,
+        last: 4,
+        lines: b"\
+            begin\nnote 0\nquiet 0\ndeliver 1\nend\nqueue 0 7\ntend 0\nturn\nrenumber\ntend 0\n\
+            turn\nnote 0\nquiet 0\ndeliver 2\nturn\ntend 0\nrun 0 9\n",
+        replies: b"\
+            begun 1 awaits 1\nnoted 1 needed\nreport 1 cpu 0 tag 1\nlast\nended 4\nqueued 1\n\
+            tended 0 1\nfault 11\nepoch 1\ntended 0 1\nbegun 1 awaits 1\nnoted 1 needed\n\
+            report 2 cpu 0 tag 1 epoch 1\nlast\nended 4\ntended 1 0\nran 7\n",
+    },
+    // What a started poll needs is needed in the next epoch too. Its cookie is that of an earlier
+    // taking, while the grace period before the last number ran.
+    Row {
+        name: "started poll across epochs",
+        fanouts: (2, 2),
+        second: None,
+        cpus: 1,
+        last: 4,
+        lines: b"\
+            begin\ntake\nnote 0\nquiet 0\ndeliver 1\nend\nstart\nturn\nrenumber\nturn\npoll 8\n\
+            turn\nnote 0\nquiet 0\ndeliver 2\nturn\npoll 8\nturn\nrenumber\npoll 8\npoll 8 1\n\
+            turn\nstart\nquiet 0\n",
+        replies: b"\
+            begun 1 awaits 1\ncookie 8\nnoted 1 needed\nreport 1 cpu 0 tag 1\nlast\nended 4\n\
+            cookie 8\nfault 11\nepoch 1\nbegun 1 awaits 1\nnot yet\nwaiting 1\nnoted 1 needed\n\
+            report 2 cpu 0 tag 1 epoch 1\nlast\nended 4\ndone\nnothing\nepoch 2\ndone\nnot yet\n\
+            nothing\ncookie 4 epoch 2\nreport 3 cpu 0 tag 1 epoch 1\n",
+    },
+    // A barrier goes on into the next epoch: the callback that it covers and its marker stay.
+    Row {
+        name: "barrier across epochs",
+        fanouts: (2, 2),
+        second: None,
+        cpus: 1,
+        last: 4,
+        lines: b"\
+            begin\nnote 0\nquiet 0\ndeliver 1\nend\nqueue 0 7\ntend 0\nbar\nvisit 0\nrenumber\n\
+            bartest\nrun 0 9\ntend 0\nturn\nnote 0\nquiet 0\ndeliver 2\nend\ntend 0\nrun 0 9\n\
+            bartest\n",
+        replies: b"\
+            begun 1 awaits 1\nnoted 1 needed\nreport 1 cpu 0 tag 1\nlast\nended 4\nqueued 1\n\
+            tended 0 1\nbarrier begun\nmarked\nepoch 1\nbarrier waits 1\nran none\ntended 0 1\n\
+            begun 1 awaits 1\nnoted 1 needed\nreport 2 cpu 0 tag 1 epoch 1\nlast\nended 4\n\
+            tended 1 0\nran 7\nbarrier done\n",
+    },
+    // The faults of these lines in the order of their tests, and the ways to be outside the
+    // grammar. A cookie of a later epoch is not done, but for one of number 1.
+    Row {
+        name: "refused lines of epochs",
+        fanouts: (2, 2),
+        second: None,
+        cpus: 1,
+        last: 4,
+        lines: b"\
+            renumber\nbegin\nrenumber\nrenumber 0\nRenumber\npoll 4 0\npoll 0 1\npoll 1 7\n\
+            poll 0 18446744073709551615\npoll 0 18446744073709551616\npoll 0 x\npoll x 0\n\
+            poll 0 0 0\npoll  0   00\ntake 1\n",
+        replies: b"\
+            fault 22\nbegun 1 awaits 1\nfault 8\nfault 21\nfault 21\nnot yet\nnot yet\ndone\n\
+            not yet\nfault 21\nfault 21\nfault 21\nfault 21\ndone\nfault 21\n",
     },
     Row {
         name: "same bytes over 2 2",

@@ -1,0 +1,76 @@
+//! Cookies of later epochs: the running engine stays in the first one.
+ghost use Rattle.std.specs.Prelude.{◌≡◌};
+ghost use Rattle.std.specs.Arc.{arc_value};
+
+use crate::live::steps::{Four, of_epoch, poll};
+use crate::live::threads::make_pair;
+use rcu_live::apart::Apart;
+use rcu_live::board::Board;
+use rcu_live::client::Alone;
+use rcu_live::watcher::Watcher;
+use rcu_seq::cookie::Cookie;
+use rcu_seq::fault::Fault;
+use std::alloc::Global;
+use std::process::Abort;
+
+/// An object taken apart.
+type Parts = Apart<4, 4, u64>;
+
+/// Opens the parts of an object, by a second call where the first is refused a growth.
+fn open_parts(rt: &impl Abort, alloc: Global) -> Parts
+    ensures { result.own.table ≡ (arc_value result.board).table }
+{
+    match Parts::open(alloc, 1, 4) {
+        Ok(parts) => parts,
+        Err(fault) => {
+            assert!(rt; fault == Fault::NoMemory);
+            Parts::open(alloc, 1, 4).expect(rt, "the second call has memory")
+        }
+    }
+}
+
+/// Polls cookies at number 0: one of a later epoch is done by the number 1 alone.
+fn poll_later(rt: &impl Abort, live: &Four, watcher: &mut Watcher)
+    requires { watcher.old.table ≡ live.now.table }
+{
+    poll(rt, live, watcher, of_epoch(0, 0), true);
+    poll(rt, live, watcher, of_epoch(1, 0), false);
+    poll(rt, live, watcher, of_epoch(1, 1), true);
+    poll(rt, live, watcher, of_epoch(4_294_967_295, 0), false);
+}
+
+#[test]
+fn watcher_finds_no_later_epoch_done(rt: HostRuntime) {
+    let mut pair = make_pair(&rt, rt.alloc());
+    poll_later(&rt, &pair.live, &mut pair.watcher);
+}
+
+/// The same over the shared words alone.
+fn poll_on(
+    rt: &impl Abort,
+    board: &Board<(), (), Alone>,
+    watcher: &mut Watcher,
+    cookie: Cookie,
+    wanted: bool,
+)
+    requires { watcher.old.table ≡ board.now.table }
+    ensures { watcher.new.table ≡ watcher.old.table }
+{
+    assert!(rt; watcher.poll_on(board, cookie) == wanted);
+}
+
+#[test]
+fn seat_finds_no_later_epoch_done(rt: HostRuntime) {
+    let Parts {
+        board,
+        engine,
+        seats: _,
+        watchers: _,
+        mut own,
+    } = open_parts(&rt, rt.alloc());
+    poll_on(&rt, &board, &mut own, of_epoch(0, 0), true);
+    poll_on(&rt, &board, &mut own, of_epoch(1, 0), false);
+    poll_on(&rt, &board, &mut own, of_epoch(1, 1), true);
+    assert!(rt; !engine.grace().done(of_epoch(1, 0)));
+    assert!(rt; engine.grace().done(of_epoch(1, 1)));
+}
