@@ -111,14 +111,24 @@ fn migrate(
     plain.migrate_into(plain_target);
 }
 
+/// Makes done what has reached this number, in both.
+fn advance(list: &mut SegList<u64>, plain: &mut Plain, number: u64) {
+    list.advance(number);
+    plain.advance(number);
+}
+
+/// The numbers start anew, in both.
+fn renumber(list: &mut SegList<u64>, plain: &mut Plain) {
+    list.renumber();
+    plain.renumber();
+}
+
 /// Makes all callbacks done and takes them, which compares their order.
 fn drain(rt: &impl Abort, list: &mut SegList<u64>, plain: &mut Plain) {
-    list.advance(LAST);
-    plain.advance(LAST);
+    advance(list, plain, LAST);
     accelerate(rt, list, LAST);
     plain.accelerate(LAST);
-    list.advance(LAST);
-    plain.advance(LAST);
+    advance(list, plain, LAST);
     take(rt, list, plain, u64::MAX);
     assert!(rt; list.is_empty());
 }
@@ -136,17 +146,12 @@ fn calls_at_random(rt: HostRuntime) {
             swap(&mut plain, &mut other_plain);
         }
         if draw.below(16) == 0 {
-            list.renumber();
-            plain.renumber();
+            renumber(&mut list, &mut plain);
         }
         match draw.below(16) {
             0..=4 => queue(&rt, &mut list, &mut plain, call),
             5 => entrain(&rt, &mut list, &mut plain),
-            6..=7 => {
-                let number = draw.below(40);
-                list.advance(number);
-                plain.advance(number);
-            }
+            6..=7 => advance(&mut list, &mut plain, draw.below(40)),
             8..=10 => {
                 let snap = list.greatest_waiting().unwrap_or(0).max(draw.below(40));
                 accelerate(&rt, &mut list, snap);
@@ -178,8 +183,7 @@ fn tends_at_the_numbers_of_epochs(rt: HostRuntime) {
     let mut periods = 0u64;
     for call in 0..CALLS {
         if draw.below(64) == 0 {
-            list.renumber();
-            plain.renumber();
+            renumber(&mut list, &mut plain);
             periods = 0;
         }
         match draw.below(8) {
