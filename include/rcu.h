@@ -3,8 +3,10 @@
  *
  * What a caller owes, and nothing checks:
  * - A handle is all zero bits before it is opened, as in `rcu_t rcu = {0};`. One that is open is
- *   not opened, and never copied, nor read or written otherwise than by these calls. Once it is
- *   closed it is not used again, unless it is set to zero, and then opened anew.
+ *   not opened, nor read or written otherwise than by these calls. Once it is closed it is not used
+ *   again, unless it is set to zero, and then opened anew. Between calls its bits may be moved, as
+ *   memcpy, realloc or a move constructor does: from then on the new place is the handle, and the
+ *   old one is used no more.
  * - One call at a time on each handle, and whatever one thread did to it comes before what the
  *   next one does: by a lock, by a sequentially consistent atomic, or by starting and joining
  *   threads. Calls on different handles need no order among them. (What orders the caller's own
@@ -13,11 +15,12 @@
  * - Pointers are not null, even to room for no value; what they point to lies apart from the
  *   handles and from one another, and is there for the call alone to read and write while it lasts.
  * - malloc, realloc and free are of one allocator, and align a block to 16 where that divides its
- *   size, else to the greatest power of two that does.
+ *   size, else to the greatest power of two that does. They return (by no exception and no
+ *   longjmp), and make no call on the handles of the call that they serve.
  * - "Needs" names what else must hold.
  *
- * A call that answers a uint32_t without a note of its own answers 0, or the number of a fault. Of
- * several faults that hold the first one that its note lists is answered. A refused call leaves its
+ * A call that returns a uint32_t without a note of its own returns 0, or the number of a fault. Of
+ * several faults that hold it returns the first one that its note lists. A refused call leaves its
  * handles and what its pointers point to as they were; where a note says otherwise, it says what
  * stays. No call waits for another thread, and only those that list fault 16 take memory.
  *
@@ -27,10 +30,10 @@
  * its loads give what that stored, or what was stored later. The notes say what each call adds to
  * the lock; docs/C.md says it together.
  *
- * Six calls make a full fence, which this header adds: rcu_end, rcu_turn, rcu_arrive,
- * rcu_seat_quiesce, rcu_seat_take and rcu_seat_poll. The archive has them without it, under their
- * names with _unfenced behind, and has no call of the plain names. A note says what is lost with
- * the fence; all else that it says holds of both.
+ * Seven calls make a full fence, which this header adds: rcu_end, rcu_turn, rcu_arrive,
+ * rcu_seat_quiesce, rcu_seat_wake, rcu_seat_take and rcu_seat_poll. The archive has them without
+ * it, under their names with _unfenced behind, and has no call of the plain names. A note says what
+ * is lost with the fence; all else that it says holds of both.
  */
 #ifndef RCU_H
 #define RCU_H
@@ -47,6 +50,12 @@ extern "C" {
 #include <stdint.h>
 #endif
 
+/* The version: three numbers, and one that grows with them. */
+#define RCU_VERSION_MAJOR 0
+#define RCU_VERSION_MINOR 1
+#define RCU_VERSION_PATCH 0
+#define RCU_VERSION (RCU_VERSION_MAJOR * 1000000 + RCU_VERSION_MINOR * 1000 + RCU_VERSION_PATCH)
+
 /* Why a call is refused. */
 enum rcu_fault {
     RCU_BAD_CPU = 1,         /* there is no such processor, or its seat is dealt */
@@ -62,11 +71,40 @@ enum rcu_fault {
     RCU_BOOT_STAYS = 12,     /* processor 0 never departs */
     RCU_BARRIER_BUSY = 13,   /* a barrier runs */
     RCU_NO_BARRIER = 14,     /* no barrier runs */
-    RCU_CALLBACKS_FULL = 15, /* 1,000,000 callbacks were queued since opening */
-    RCU_NO_MEMORY = 16,      /* no memory is left */
+    RCU_CALLBACKS_FULL = 15, /* 2^62 callbacks were queued since opening */
+    RCU_NO_MEMORY = 16,      /* out of memory */
     RCU_TOO_MANY_CPUS = 17,  /* no processor, or more than 4,096 */
-    RCU_BAD_LAST = 19        /* the last number is no multiple of 4 from 4 to 2^62 */
+    RCU_BAD_LAST = 19,       /* the last number is no multiple of 4 from 4 to 2^62 */
+    RCU_CPU_IDLE = 23,       /* the processor is idle */
+    RCU_NOT_IDLE = 24        /* the processor is awake */
 };
+
+/* A sentence for a fault, without a full stop. At 0 it says that there is none. */
+static inline const char *rcu_fault_text(uint32_t fault) {
+    switch (fault) {
+    case 0: return "no fault";
+    case RCU_BAD_CPU: return "there is no processor of this number, or its seat is dealt";
+    case RCU_OFFLINE: return "the processor is offline";
+    case RCU_ALREADY_ONLINE: return "the processor is online already";
+    case RCU_IN_SECTION: return "a read section is open on the processor";
+    case RCU_NOT_OPEN: return "no read section is open on the processor";
+    case RCU_NEST_FULL: return "the read section nests 65,535 deep already";
+    case RCU_RUNNING: return "a grace period runs already";
+    case RCU_IDLE: return "no grace period runs";
+    case RCU_WAITING: return "a processor is still awaited";
+    case RCU_EXHAUSTED: return "the grace-period number is the last one";
+    case RCU_BOOT_STAYS: return "processor 0 never departs";
+    case RCU_BARRIER_BUSY: return "a barrier runs already";
+    case RCU_NO_BARRIER: return "no barrier runs";
+    case RCU_CALLBACKS_FULL: return "as many callbacks were queued as the opening allows";
+    case RCU_NO_MEMORY: return "out of memory";
+    case RCU_TOO_MANY_CPUS: return "there is no processor, or there are more than the engine holds";
+    case RCU_BAD_LAST: return "the last number is not a multiple of 4 from 4 to 2^62";
+    case RCU_CPU_IDLE: return "the processor is idle";
+    case RCU_NOT_IDLE: return "the processor is not idle";
+    default: return "no fault has this number";
+    }
+}
 
 /* The engine, which lies under a lock of the caller's. Handles may pass between threads. */
 typedef struct rcu {
@@ -138,19 +176,31 @@ uint32_t rcu_open(uint32_t cpus, uint64_t last, rcu_t *rcu);
  * lock. */
 void rcu_close(rcu_t rcu);
 
-/* Deals the seat of a processor; each has one. Of processor 0 it is online, of any other offline.
- * Needs: `rcu` is open, under the caller's lock, and `seat` is closed. 1, 16. */
+/* Deals the seat of a processor; each has one. Of processor 0 it is online at first, of any other
+ * offline; one that was handed back is as it was then. Processor 0 is awaited like any other: where
+ * no thread reads on it, make its seat idle once. Needs: `rcu` is open, under the caller's lock, and
+ * `seat` is closed. 1, 16. */
 uint32_t rcu_seat_open(rcu_t *rcu, uint32_t cpu, rcu_seat_t *seat);
 
-/* Closes a seat, which its engine does not deal again. Its processor stays as it is: one that is
- * online is awaited by each grace period that begins, for good; so depart first (processor 0
- * cannot). Needs: `seat` is open. */
+/* Whether rcu_seat_open can deal the seat of the processor: there is such a processor, and its seat
+ * is not dealt. Needs: `rcu` is open, under the caller's lock. */
+bool rcu_has_seat(rcu_t *rcu, uint32_t cpu);
+
+/* Hands a seat back to its engine, which can deal it again, and closes it: for a thread that ends.
+ * Its processor stays as it is: depart first, or, where it is processor 0, make it idle. Else each
+ * grace period waits until another thread has the seat. Needs: `rcu` is open, under the caller's
+ * lock; `seat` is open, was dealt by it, and is in no other call. */
+void rcu_seat_return(rcu_t *rcu, rcu_seat_t seat);
+
+/* Closes a seat, which its engine does not deal again: for when the engine goes. Its processor stays
+ * as it is: one that is online is awaited by each grace period that begins, for good. Needs: `seat`
+ * is open. */
 void rcu_seat_close(rcu_seat_t seat);
 
 /* ---- grace periods: `rcu` is open, under the caller's lock */
 
-/* Begins a grace period: it awaits each online processor that has not passed a quiescent state in
- * it. Writes its number, and how many it awaits. 8, 11.
+/* Begins a grace period: it awaits each online processor that is not idle, and has not passed a
+ * quiescent state in it. Writes its number, and how many it awaits. 8, 11.
  * Of each section one of two holds: all of it comes before what follows the end of this grace
  * period, or it sees what came before this call. */
 uint32_t rcu_begin(rcu_t *rcu, uint64_t *number, uint32_t *awaited);
@@ -177,10 +227,12 @@ static inline uint32_t rcu_turn(rcu_t *rcu, rcu_turn_t *turn) {
     return fault;
 }
 
-/* Looks whether the processor passed a quiescent state in the grace period, or is offline, and then
- * awaits it no more. Writes an rcu_collected. 1.
- * Where it finds one, or the departure, what the thread did before that comes before what follows
- * this call; so too where a begin finds it. */
+/* Looks whether the processor passed a quiescent state in the grace period, or is offline or idle,
+ * and then awaits it no more. Writes an rcu_collected. 1.
+ * Where it finds one, the departure or the idleness, what the thread did before that comes before
+ * what follows this call; so too where a begin finds it.
+ * A processor that was idle at the begin and woke since is found "not yet", and is not awaited:
+ * whether one is awaited, rcu_awaits tells. */
 uint32_t rcu_collect(rcu_t *rcu, uint32_t cpu, uint32_t *found);
 
 /* ---- processors: `rcu` is open, under the caller's lock; `seat` is open, was dealt by it, and is
@@ -199,8 +251,8 @@ static inline uint32_t rcu_arrive(rcu_t *rcu, rcu_seat_t *seat) {
 }
 
 /* The seat's processor goes offline, and its callbacks move to processor 0. Writes how many. 12, 4,
- * 2 (where it was offline, and has no callback), 16. At 16 it is offline, and its callbacks stay:
- * the same call again moves them.
+ * 2 (where it was offline, and has no callback), 16. At 2 nothing has changed that a call tells. At
+ * 16 the processor is offline, and its callbacks stay: the same call again moves them.
  * What the thread did before comes before what follows the collection or the begin that finds it
  * offline. */
 uint32_t rcu_depart(rcu_t *rcu, rcu_seat_t *seat, uint64_t *moved);
@@ -216,10 +268,10 @@ uint64_t rcu_number(rcu_t *rcu);
 /* Whether a grace period runs. */
 bool rcu_running(rcu_t *rcu);
 
-/* Whether the engine has the processor as online. Needs: cpu < rcu_cpus(rcu). */
+/* Whether the engine has the processor as online: false too where there is no such processor. */
 bool rcu_online(rcu_t *rcu, uint32_t cpu);
 
-/* Whether the processor is awaited. Needs: cpu < rcu_cpus(rcu). */
+/* Whether the processor is awaited: false too where there is no such processor. */
 bool rcu_awaits(rcu_t *rcu, uint32_t cpu);
 
 /* How many processors are awaited. */
@@ -231,13 +283,14 @@ uint64_t rcu_take(rcu_t *rcu);
 
 /* Whether the number has reached the cookie's: then each section that was open at the taking has
  * ended. Of a number that no taking gave nothing is said but that.
- * Where it answers true, of each section one of two holds: all of it comes before what follows this
+ * Where it returns true, of each section one of two holds: all of it comes before what follows this
  * call, or it sees what the thread that took did before it took. */
 bool rcu_poll(rcu_t *rcu, uint64_t cookie);
 
 /* ---- callbacks, which are values of 64 bits: `rcu` is open, under the caller's lock */
 
 /* Queues a value on an online processor. Writes how many were queued since opening. 1, 2, 15, 16.
+ * The room that a list ever had stays its own until rcu_close.
  * Of each section one of two holds: all of it comes before what follows the rcu_run that hands the
  * value out, or it sees what the thread did before this call. */
 uint32_t rcu_queue(rcu_t *rcu, uint32_t cpu, uint64_t value, uint64_t *place);
@@ -248,8 +301,9 @@ uint32_t rcu_queue(rcu_t *rcu, uint32_t cpu, uint64_t value, uint64_t *place);
 uint32_t rcu_tend(rcu_t *rcu, uint32_t cpu, uint64_t *done, uint64_t *waiting);
 
 /* Hands out done callbacks of the processor, in order, `room` at most: writes their values from
- * `values` on, and how many; what lies behind them stays. A full grace period has passed since each
- * was queued, and none is handed out again. 1, 16 (only where there is one). */
+ * `values` on, where there is room for so many, and how many; what lies behind them stays. A full
+ * grace period has passed since each was queued, and none is handed out again. 1, 16 (only where
+ * there is one). */
 uint32_t rcu_run(rcu_t *rcu, uint32_t cpu, uint64_t *values, size_t room, uint64_t *count);
 
 /* ---- the barrier over callbacks: `rcu` is open, under the caller's lock */
@@ -273,7 +327,16 @@ uint32_t rcu_barrier_test(rcu_t *rcu, uint64_t *left);
 /* The seat's processor. */
 uint32_t rcu_seat_cpu(rcu_seat_t *seat);
 
-/* Opens a read section, or nests one deeper in the open one. Writes the depth. 2, 6. */
+/* How deep its read sections nest: 0 where none is open. */
+uint32_t rcu_seat_depth(rcu_seat_t *seat);
+
+/* Whether its processor is online, be it awake or idle. */
+bool rcu_seat_is_online(rcu_seat_t *seat);
+
+/* Whether its processor is idle. */
+bool rcu_seat_is_idle(rcu_seat_t *seat);
+
+/* Opens a read section, or nests one deeper in the open one. Writes the depth. 2, 23, 6. */
 uint32_t rcu_seat_enter(rcu_seat_t *seat, uint32_t *depth);
 
 /* Leaves the innermost section. Writes the depth, 0 where the section closed. 5.
@@ -282,7 +345,7 @@ uint32_t rcu_seat_enter(rcu_seat_t *seat, uint32_t *depth);
 uint32_t rcu_seat_exit(rcu_seat_t *seat, uint32_t *depth);
 
 /* Passes a quiescent state: what the thread read before, it uses no more. Writes the number that it
- * saw. 2, 4.
+ * saw. 2, 23, 4.
  * What the thread did before comes before what follows the collection or the begin that finds this
  * call. The sections that follow see what came before a begin whose number it saw, and what a
  * thread did before it took a cookie that such a grace period makes done. A full fence stands
@@ -293,6 +356,26 @@ uint32_t rcu_seat_quiesce_unfenced(rcu_seat_t *seat, uint64_t *number);
 static inline uint32_t rcu_seat_quiesce(rcu_seat_t *seat, uint64_t *number) {
     rcu_fence();
     uint32_t fault = rcu_seat_quiesce_unfenced(seat, number);
+    rcu_fence();
+    return fault;
+}
+
+/* The processor gets idle, until it wakes or departs: it opens no section, and no grace period
+ * waits for it. It stays online, and its callbacks stay. For a thread that is about to block.
+ * 2, 23, 4.
+ * What the thread did before comes before what follows the collection or the begin that finds it
+ * idle. */
+uint32_t rcu_seat_idle(rcu_seat_t *seat);
+
+/* The processor wakes. Writes the number that it saw. 2, 24.
+ * A section may open once it returns. A grace period that begins later awaits the processor. Of one
+ * that found it idle, or whose number it saw, the section sees what came before its begin, and what
+ * a thread did before it took a cookie that is done at its end. Unfenced, what came before an
+ * rcu_seat_take is sure to be seen by sequentially consistent loads alone. No fence stands before
+ * the look: who stored a wish to be woken polls by rcu_seat_poll, and not by this number. */
+uint32_t rcu_seat_wake_unfenced(rcu_seat_t *seat, uint64_t *number);
+static inline uint32_t rcu_seat_wake(rcu_seat_t *seat, uint64_t *number) {
+    uint32_t fault = rcu_seat_wake_unfenced(seat, number);
     rcu_fence();
     return fault;
 }
@@ -309,7 +392,7 @@ static inline uint64_t rcu_seat_take(rcu_seat_t *seat) {
 
 /* As rcu_poll, at the number that one load sees, which no later load is below. In a section or not,
  * online or not.
- * Where it answers false, what the thread stored before it is seen by what follows the rcu_end, the
+ * Where it returns false, what the thread stored before it is seen by what follows the rcu_end, the
  * rcu_turn or the rcu_seat_poll that makes or finds the cookie done. Unfenced it is not: a thread
  * that stores a wish to be woken, polls, and sleeps may sleep for good. */
 bool rcu_seat_poll_unfenced(rcu_seat_t *seat, uint64_t cookie);

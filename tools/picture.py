@@ -1,39 +1,89 @@
 """Draws a script and its replies as one SVG, for ./explain --svg.
 
-Time goes from left to right, a column a line. Above are the grace periods and the barriers, then a
-lane for each processor, then the cookies and the callbacks. What a line did is drawn where its
-reply says so; a refused line is a cross.
+Time goes from left to right, a column a line. At the top are the notes, which are comments of the
+script. Then come the grace periods and the barriers, a lane for each processor, and the cookies and
+the callbacks. What a line did is drawn where its reply says so; a refused line is a cross. The
+legend tells what occurs.
 """
 import html
 
-LEFT, STEP, LANE, TOP = 118, 46, 34, 30
-GRACE, SECTION, REPORT, COOKIE, CALLBACK, BARRIER, FAULT, FAINT = (
-    "#4477aa", "#ccbb44", "#228833", "#0077aa", "#aa3377", "#ee6677", "#cc3311", "#bbbbbb")
-OF_CPUS = "enter exit note quiet online offline queue tend run visit".split()
-LEGEND = (
-    "grey line: online · broad bar on it: a read section · circle: note (hollow: not awaited) · "
-    "diamond: report",
-    "square on a grace period: delivery (hollow: it did not count) · t: tend · v: visit · "
-    "cross, red name: refused")
-# Of a script in which the numbers start anew.
-EPOCHS = "stroke across the grace periods: the next epoch begins, whose numbers count from 0"
+LEFT, STEP, LANE, TOP, LINE, LETTER = 118, 46, 34, 30, 14, 6
+GRACE, SECTION, REPORT, COOKIE, CALLBACK, BARRIER, FAULT, FAINT, TEXT = (
+    "#4477aa", "#ccbb44", "#228833", "#0077aa", "#aa3377", "#ee6677", "#cc3311", "#bbbbbb",
+    "#444444")
+OF_CPUS = "enter exit note quiet online offline queue tend run visit idle wake scan".split()
+ANSWERS = "taken last repeat stale".split()
+LEGEND = {
+    "grace": "numbers on a grace period: the number while it runs, and after it",
+    "delivery": "square on a grace period: a report arrives",
+    "stale": "hollow square there: the report did not count",
+    "scan": "upright line to a square: a scan, which counts as a report",
+    "epoch": "stroke across the grace periods: the next epoch begins, whose numbers count from 0",
+    "online": "grey line: online",
+    "section": "broad bar on it: a read section",
+    "idle": "dashed line: idle",
+    "noted": "circle: note",
+    "clear": "hollow circle: note, not awaited",
+    "report": "diamond with a number: this report is made",
+    "cookie": "square on a cookie: taken, or polled and done",
+    "not yet": "hollow square there: polled, not yet done",
+    "tend": "t: tend",
+    "run": "r: run",
+    "ran none": "r none: a run that hands out nothing",
+    "visit": "v: visit",
+    "marker": "triangle on a barrier: a marker is put, or moves",
+    "moved": "triangle on a callback: it moves to processor 0",
+    "fault": "cross, red name: refused",
+}
 
 
 class Picture:
     """The lines of a script with their replies, and what was drawn of them so far."""
 
-    def __init__(self, rows):
+    def __init__(self, rows, notes):
         self.rows = rows
+        self.notes = notes
         self.shapes = []
         self.lanes = {}
-        self.legend = list(LEGEND)
+        self.shown = set()
+        self.top = TOP + LINE * len(self.note_rows())
 
     def x(self, place):
         return LEFT + STEP * place + STEP // 2
 
     def y(self, lane):
         """Where a lane is; lanes are opened in the order in which they are asked for."""
-        return TOP + LANE * self.lanes.setdefault(lane, len(self.lanes))
+        return self.top + LANE * self.lanes.setdefault(lane, len(self.lanes))
+
+    def width(self):
+        return LEFT + max(STEP * len(self.rows) + 60, 420)
+
+    def note_rows(self):
+        """The notes in rows, such that none stands over another one: where the line of each goes
+        down, where its text begins, and that."""
+        rows = []
+        for place, text, is_before in self.notes:
+            x = self.x(place) - STEP // 2 * is_before
+            long = LETTER * len(text)
+            begin = x + 4 if x + long < self.width() else max(x - 4 - long, 6)
+            row = next((it for it in rows if it[-1][1] + LETTER * len(it[-1][2]) + 9 < begin), None)
+            if row is None:
+                rows.append(row := [])
+            row.append((x, begin, text))
+        return rows
+
+    def legend(self):
+        """What occurs in the picture, in lines."""
+        lines = []
+        for key in LEGEND:
+            if key not in self.shown:
+                continue
+            longer = f"{lines[-1]} · {LEGEND[key]}" if lines else LEGEND[key]
+            if lines and LETTER * len(longer) < self.width() - 12:
+                lines[-1] = longer
+            else:
+                lines.append(LEGEND[key])
+        return lines
 
     def put(self, shape, place=None):
         if place is not None:
@@ -54,7 +104,7 @@ class Picture:
         self.put(shape, start if place is None else place)
 
     def mark(self, lane, place, kind, color, filled=True, text=""):
-        """A mark at a line: a ring, a diamond, a square, a cross or a letter."""
+        """A mark at a line: a ring, a diamond, a square, a triangle, a cross or a letter."""
         x, y = self.x(place), self.y(lane)
         fill = color if filled else "white"
         paint = f'fill="{fill}" stroke="{color}" stroke-width="2"'
@@ -64,6 +114,7 @@ class Picture:
             "ring": f'<circle cx="{x}" cy="{y}" r="5" {paint}/>',
             "diamond": f'<path d="M{x} {y - 7}L{x + 7} {y}L{x} {y + 7}L{x - 7} {y}Z" {paint}/>',
             "square": f'<rect x="{x - 5}" y="{y - 5}" width="10" height="10" {paint}/>',
+            "triangle": f'<path d="M{x - 6} {y - 5}H{x + 6}L{x} {y + 6}Z" {paint}/>',
             "cross": f'<path d="{strokes}" {paint}/>',
             "letter": f'<text x="{x}" y="{y - 6}" {middle}>{text}</text>',
         }[kind]
@@ -73,26 +124,32 @@ class Picture:
         self.put(shape, place)
 
     def svg(self):
-        bottom = TOP + LANE * len(self.lanes) - 6
-        longest = max((len(f"{number} {line}") for number, line, _ in self.rows), default=0)
-        width, height = LEFT + max(STEP * len(self.rows) + 60, 420), bottom + 50 + 5 * longest
-        height += 12 * (len(self.legend) - len(LEGEND))
+        bottom = self.top + LANE * len(self.lanes) - 6
+        longest = max((len(f"{number}: {line}") for number, line, _ in self.rows), default=0)
+        width, legend = self.width(), self.legend()
+        height = bottom + 26 + 5 * longest + LINE * len(legend)
         out = [f'<svg xmlns="http://www.w3.org/2000/svg" width="{width}" height="{height}" '
                f'viewBox="0 0 {width} {height}" font-family="sans-serif" font-size="11">',
                f'<rect width="{width}" height="{height}" fill="white"/>']
         for place, (number, line, reply) in enumerate(self.rows):
             x, title = self.x(place), html.escape(f"line {number}: {line}: {reply}")
-            color = FAULT if reply.startswith("fault") else "#222222"
-            out.append(f'<path d="M{x} 14V{bottom}" stroke="#eeeeee"/>')
+            color = FAULT if reply.startswith("fault") else TEXT
+            out.append(f'<path d="M{x} {self.top - 16}V{bottom}" stroke="#eeeeee"/>')
             turned = f"translate({x - 3} {bottom + 12}) rotate(55)"
             out.append(f'<text transform="{turned}" fill="{color}">'
-                       f"<title>{title}</title>{number} {html.escape(line)}</text>")
+                       f"<title>{title}</title>{number}: {html.escape(line)}</text>")
+        for at, row in enumerate(self.note_rows()):
+            y = 14 + LINE * at
+            for x, begin, text in row:
+                out.append(f'<path d="M{x} {y + 3}V{bottom}" stroke="{TEXT}" '
+                           'stroke-dasharray="2 4"/>')
+                out.append(f'<text x="{begin}" y="{y}" fill="{TEXT}" font-style="italic">'
+                           f"{html.escape(text)}</text>")
         for lane, at in self.lanes.items():
-            out.append(f'<text x="6" y="{TOP + LANE * at + 4}" fill="#222222">{lane}</text>')
+            out.append(f'<text x="6" y="{self.top + LANE * at + 4}" fill="{TEXT}">{lane}</text>')
         out += self.shapes
-        for at, line in enumerate(reversed(self.legend)):
-            y = height - 8 - 12 * at
-            out.append(f'<text x="6" y="{y}" font-size="9" fill="#777777">{line}</text>')
+        for at, line in enumerate(reversed(legend)):
+            out.append(f'<text x="6" y="{height - 8 - LINE * at}" fill="{TEXT}">{line}</text>')
         return "\n".join(out) + "\n</svg>\n"
 
 
@@ -132,9 +189,14 @@ def draw_sections(picture, cpu):
     for start, end in pairs(online + mine, lambda it: it[1] == "online",
                             lambda it: it[1] == "offline"):
         picture.bar(lane, start, end, FAINT, 2)
+        picture.shown.add("online")
+    for start, end in pairs(mine, lambda it: it[1] == "idle",
+                            lambda it: it[1] in ("wake", "offline")):
+        draw_idleness(picture, lane, start, end)
     for start, end in pairs(mine, lambda it: it[1:] == ("enter", "depth 1"),
                             lambda it: it[1:] == ("exit", "depth 0")):
         picture.bar(lane, start, end, SECTION)
+        picture.shown.add("section")
     for place, (_, line, reply) in enumerate(rows):
         name = line.split()[0]
         if cpu_of(line, reply) != cpu:
@@ -142,22 +204,39 @@ def draw_sections(picture, cpu):
         if reply.startswith("fault"):
             picture.mark(lane, place, "cross", FAULT)
         elif name == "note":
-            picture.mark(lane, place, "ring", REPORT, reply.endswith("needed"))
+            is_awaited = reply.endswith("needed")
+            picture.mark(lane, place, "ring", REPORT, is_awaited)
+            picture.shown.add("noted" if is_awaited else "clear")
         elif name == "quiet":
             picture.mark(lane, place, "diamond", REPORT, text=reply.split()[1])
-        elif name in ("tend", "visit"):
-            picture.mark(lane, place, "letter", CALLBACK, text=name[0])
+            picture.shown.add("report")
+        elif name in ("tend", "visit", "run"):
+            text = "r none" if reply == "ran none" else name[0]
+            picture.mark(lane, place, "letter", CALLBACK, text=text)
+            picture.shown.add("ran none" if reply == "ran none" else name)
+
+
+def draw_idleness(picture, lane, start, end):
+    """The processor's line is dashed while it is idle."""
+    x, y = picture.x(start), picture.y(lane)
+    right = picture.x(end) if end is not None else picture.x(len(picture.rows)) - STEP // 2
+    dashes = 'stroke="white" stroke-width="4" stroke-dasharray="4 4"'
+    picture.shown.add("idle")
+    picture.put(f'<path d="M{x} {y}H{right}" {dashes}/>', start)
 
 
 def draw_deliveries(picture):
-    """A line from each report that is delivered to the grace periods, where it arrives."""
+    """A line from each report that is delivered to the grace periods, where it arrives, and from
+    each processor that a scan finds idle."""
     made = {}
     for place, (_, line, reply) in enumerate(picture.rows):
         words = reply.split()
         if words[:1] == ["report"]:
             made[words[1]] = (words[3], place)
-        elif line.startswith("deliver") and reply in ("taken", "last", "repeat", "stale"):
-            cpu, start = made[str(int(line.split()[1]))]
+        elif reply in ANSWERS:
+            number = int(line.split()[1])
+            is_scan = line.split()[0] == "scan"
+            cpu, start = (number, place) if is_scan else made[str(number)]
             x, y = picture.x(start), picture.y(f"processor {cpu}")
             to, above = picture.x(place), picture.y("grace periods")
             counts = reply in ("taken", "last")
@@ -165,18 +244,18 @@ def draw_deliveries(picture):
             way = f'd="M{x} {y}L{to} {above}" stroke="{REPORT}"'
             picture.put(f'<path {way} fill="none"{dashes}/>', place)
             picture.mark("grace periods", place, "square", REPORT, counts, "" if counts else reply)
+            picture.shown.add("scan" if is_scan else "delivery" if counts else "stale")
 
 
 def draw_epochs(picture):
     """A stroke where an epoch begins."""
-    if any(reply.startswith("epoch ") for _, _, reply in picture.rows):
-        picture.legend.append(EPOCHS)
     for place, (_, _, reply) in enumerate(picture.rows):
         if reply.startswith("epoch "):
             x, y = picture.x(place), picture.y("grace periods")
             stroke = f'<path d="M{x} {y - 12}V{y + 12}" stroke="{GRACE}" stroke-width="2"/>'
             told = f'<text x="{x + 4}" y="{y + 12}" fill="{GRACE}">{html.escape(reply)}</text>'
             picture.put(stroke + told, place)
+            picture.shown.add("epoch")
 
 
 def cookie_of(line):
@@ -199,34 +278,106 @@ def draw_cookies(picture):
         picture.bar(lane, seen[0][0], last[0], COOKIE, 4)
         for place, reply in seen:
             picture.mark(lane, place, "square", COOKIE, reply != "not yet", reply)
+            picture.shown.add("not yet" if reply == "not yet" else "cookie")
+
+
+class Lists:
+    """Which callbacks wait on which processor, and behind which of them a marker stands."""
+
+    def __init__(self, picture):
+        self.picture = picture
+        self.waiting = []    # the processor, value, place of queueing and moves of each callback
+        self.done = []
+        self.markers = []    # the processor of each marker, and the callbacks before it
+        self.unvisited = None    # those whose processors a running barrier has not visited
+
+    def of(self, cpu):
+        return [it for it in self.waiting if it["cpu"] == cpu]
+
+    def mark(self, cpu, place, text):
+        self.picture.mark("barriers", place, "triangle", BARRIER, text=text)
+        self.picture.shown.add("marker")
+        self.markers.append({"cpu": cpu, "before": self.of(cpu)})
+
+    def take(self, cpu, place, value):
+        found = next(it for it in self.of(cpu) if it["value"] == int(value))
+        self.waiting.remove(found)
+        self.done.append((found, place))
+
+    def move(self, cpu, place):
+        """What a departure does: an unvisited list gets its marker first."""
+        moved = self.of(cpu)
+        kept = [it for it in self.markers if it["cpu"] == cpu
+                and any(call in moved for call in it["before"])]
+        if moved and self.unvisited is not None and cpu not in self.unvisited:
+            self.unvisited.add(cpu)
+            self.mark(cpu, place, "to 0")
+        elif kept:
+            self.picture.shown.add("marker")
+            self.picture.mark("barriers", place, "triangle", BARRIER, text="to 0")
+        for call in moved:
+            call["cpu"] = 0
+            call["moves"].append(place)
+
+    def hear(self, place, line, reply):
+        """What a line did to the lists, by its reply."""
+        words = [int(it) for it in line.split()[1:] if it.isdigit()]
+        if reply.startswith("queued "):
+            self.waiting.append({"cpu": words[0], "value": words[1], "place": place, "moves": [],
+                                 "name": line.split()[2]})
+        elif reply.startswith("ran ") and reply != "ran none":
+            for value in reply.split()[1:]:
+                self.take(words[0], place, value)
+        elif reply.startswith("offline moved"):
+            self.move(words[0], place)
+        elif reply == "barrier begun":
+            self.unvisited = set()
+        elif reply == "barrier done":
+            self.unvisited = None
+        elif reply.startswith("barrier waits"):
+            x, y = self.picture.x(place), self.picture.y("barriers") + 15
+            text = reply.removeprefix("barrier ")
+            self.picture.put(f'<text x="{x - 14}" y="{y}" fill="{BARRIER}">{text}</text>', place)
+        elif line.split()[0] == "visit" and reply in ("marked", "empty"):
+            self.unvisited.add(words[0])
+            if reply == "marked":
+                self.mark(words[0], place, f"on {words[0]}")
 
 
 def draw_callbacks(picture):
-    """Each callback from its queueing to its handing out."""
-    waiting, done = [], []
+    """Each callback from its queueing to its handing out, with its moves, and the markers."""
+    lists = Lists(picture)
     for place, (_, line, reply) in enumerate(picture.rows):
-        if reply.startswith("queued "):
-            waiting.append((line.split()[2], place))
-        elif reply.startswith("ran ") and reply != "ran none":
-            for value in reply.split()[1:]:
-                found = next(it for it in waiting if int(it[0]) == int(value))
-                waiting.remove(found)
-                done.append((found[1], found[0], place))
-    done += [(place, value, None) for value, place in waiting]
-    for start, value, end in sorted(done, key=lambda it: it[0]):
-        lane = f"callback {value}"
-        picture.bar(lane, start, end, CALLBACK, 6, "queued")
+        if not reply.startswith("fault") and reply != "-":
+            lists.hear(place, line, reply)
+    calls = lists.done + [(it, None) for it in lists.waiting]
+    for call, end in sorted(calls, key=lambda it: it[0]["place"]):
+        lane = f"callback {call['name']}"
+        picture.bar(lane, call["place"], end, CALLBACK, 6, "queued")
+        for place in call["moves"]:
+            picture.mark(lane, place, "triangle", CALLBACK, text="to processor 0")
+            picture.shown.add("moved")
         if end is not None:
             picture.mark(lane, end, "square", CALLBACK, text="handed out")
 
 
-def drawn(rows):
+def draw_refusals(picture):
+    """A cross for each refused line; those that belong to no processor have it at the foot."""
+    for place, (_, line, reply) in enumerate(picture.rows):
+        if reply.startswith("fault"):
+            picture.shown.add("fault")
+            if cpu_of(line, reply) is None:
+                picture.mark("refused", place, "cross", FAULT)
+
+
+def drawn(rows, notes=()):
     """The picture of rows of a number, a line and its reply; of the processors those that a line is
-    about, and processor 0."""
-    picture = Picture(rows)
+    about, and processor 0. A note is a row's place, a text, and whether it stands before the row."""
+    picture = Picture(rows, notes)
     picture.y("grace periods")
     for start, end in spans(rows, "begun", "ended"):
         picture.bar("grace periods", start, end, GRACE, 14, rows[start][2].split()[1])
+        picture.shown.add("grace")
         if end is not None:
             number, x, y = rows[end][2].split()[1], picture.x(end), picture.y("grace periods")
             picture.put(f'<text x="{x + 4}" y="{y - 10}" fill="{GRACE}">{number}</text>', end)
@@ -238,4 +389,5 @@ def drawn(rows):
     draw_deliveries(picture)
     draw_cookies(picture)
     draw_callbacks(picture)
+    draw_refusals(picture)
     return picture.svg()

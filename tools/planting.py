@@ -1,5 +1,5 @@
-"""The edits of the folders wrong/: by which functions each is judged, and the texts in which they
-stand planted."""
+"""The edits of the folders wrong/ and harmless/: by which functions each is judged, and the texts in
+which they stand planted."""
 import os
 import re
 
@@ -13,16 +13,17 @@ NO_CODE = "loop {}"
 BODY = "body"
 # After so many rounds in which it waited, an edit is tried alone.
 TRIES = 3
-# Why an edit fails that no contract refuses.
-STAYS = "it stays proved"
 
 
 class Edit:
-    """An edit: what it changes in each file, and the functions by which it is judged."""
+    """An edit, or nothing in its place: what it changes in each file, and the functions by which it
+    is judged. Two with one `subject` are judged by the same functions in the same place; what is not
+    made has all clauses."""
 
-    def __init__(self, crate, file, functions, is_turned=True):
-        self.is_turned, self.twin_of = is_turned, None
-        self.crate, self.name = crate, os.path.basename(file).removesuffix(".edit")
+    def __init__(self, crate, file, functions, is_made=True):
+        self.crate, self.file, self.is_made = crate, file, is_made
+        self.name = os.path.basename(file).removesuffix(".edit")
+        self.is_harmless = os.path.basename(os.path.dirname(file)) != "wrong"
         texts, self.why = rt.read_edit(file, crate.folder)
         if not file.endswith(".edit"):
             self.why = "the name of an edit ends in .edit"
@@ -31,17 +32,17 @@ class Edit:
         for path, text in (texts or {}).items():
             self.changes[path] = changed(rtlib.text_of(f"{crate.folder}/{path}"), text)
         self.functions, self.is_in_function = judges_of(self, functions)
-        clauses = re.findall(r"^breaks: (\w+)$", rtlib.text_of(file), re.MULTILINE)
-        # (the function as it is has no goal of what the edit adds)
-        kinds = "opens|adds" if is_turned else "opens"
-        self.opens = tuple(re.findall(rf"^(?:{kinds}): (\S+)$", rtlib.text_of(file), re.MULTILINE))
-        has_twin = plant_in_twin(self, functions, *clauses)
-        if clauses and not (has_twin and self.has_clause(clauses[0])):
-            self.why = self.why or f"it has no twin with {clauses[0]} alone"
-        if self.opens and not has_twin:
-            self.why = self.why or "it has no twin to answer what it opens"
         if not self.why and not self.functions:
             self.why = "there is no function to judge it by"
+        named = re.findall(r"^breaks: (\w+)$", rtlib.text_of(file), re.MULTILINE)
+        clauses = named if is_made else []
+        judges, is_inside = tuple(self.functions), self.is_in_function
+        has_twin = plant_in_twin(self, functions, *clauses)
+        self.subject = judges, is_inside, has_twin
+        if not is_made:
+            self.is_in_function, self.changes = True, self.changes if has_twin else {}
+        if clauses and not (has_twin and self.has_clause(clauses[0])):
+            self.why = self.why or f"it has no twin with {clauses[0]} alone"
         self.waits, self.tries, self.seconds = set(), 0, 0
 
     def has_clause(self, label):
@@ -51,8 +52,17 @@ class Edit:
     def is_alone(self):
         return self.tries >= TRIES
 
-    def is_well(self, state, why):
-        return state == "refused" if self.is_turned else why == STAYS
+    def full_name(self):
+        return f"{self.crate.name}/{self.name}"
+
+    def wanted(self):
+        return "proved" if self.is_harmless else "refused"
+
+    def unmade(self):
+        """Its functions as they are, with all their clauses, to be judged where it is."""
+        found = Edit(self.crate, self.file, functions_of(self.crate), is_made=False)
+        found.tries = TRIES if self.is_alone() else 0
+        return found
 
 
 def changed(before, after):
@@ -110,20 +120,6 @@ def proofs_of_twin(crate, path, twin):
     return texts
 
 
-def with_answers(crate, path, texts, goals):
-    """The proof files of a function, with the answer `search rules` for each of these goals."""
-    file, module = f"proofs/{path.replace('::', '/')}/Answers.antt", path.replace("::", ".")
-    kept, name = texts.get(file, ""), f"Rattle.{crate.name}.proofs.{module}.Goals"
-    known = re.search(rf"^use {re.escape(name)} as (\w+)$", kept, re.MULTILINE)
-    lines, goal = [], known[1] if known else "goal"
-    if not known:
-        lines.append(f"use {name} as {goal}")
-    if not re.search(r"\brules\b", kept.partition("\n\n")[0]):
-        lines.append("use Rattle.std.proofs.Common.{rules}")
-    lines += [kept, *(f"pub {it} : {goal}.{it}\n{it} = search rules\n" for it in goals)]
-    return texts | {file: "\n".join(lines)}
-
-
 def with_one_clause(text, label):
     """The text of the function with that clause alone of those that begin with ensures (or with
     none, where no clause has that label)."""
@@ -137,7 +133,7 @@ def with_one_clause(text, label):
     return "\n".join(kept)
 
 
-def plant_in_twin(edit, functions, clause=None):
+def plant_in_twin(edit, functions, *clause):
     """Where it can be, has the edit add a twin of its function, and leave the function as it is.
     Returns whether it can. The twin has one clause alone where that is named."""
     if not edit.is_in_function or len(edit.functions) != 1 or len(edit.changes) != 1:
@@ -157,32 +153,26 @@ def plant_in_twin(edit, functions, clause=None):
     if not begin <= start <= end <= ending:
         return False
     name = re.match(HEAD, lines[of.first])[1]
-    twin = f"{name}_{edit.name}"
+    twin = f"{name}_{edit.name}" if edit.is_made else f"{name}_as_it_is"
     added = proofs_of_twin(edit.crate, of.path, of.path.removesuffix(name) + twin)
     # (an answer that is kept is of all clauses: of one alone it would not fit, whatever the body)
     if added is None or clause and any(it.endswith("/Answers.antt") for it in added):
         return False
-    if edit.opens:
-        added = with_answers(edit.crate, of.path.removesuffix(name) + twin, added, edit.opens)
-    whole = text[begin:start] + (new if edit.is_turned else text[start:end]) + text[end:ending]
+    whole = text[begin:start] + (new if edit.is_made else text[start:end]) + text[end:ending]
     whole = re.sub(rf"\bfn {name}\b", f"fn {twin}", whole, count=1)
     if clause:
-        whole = with_one_clause(whole, clause)
+        whole = with_one_clause(whole, *clause)
     edit.changes, edit.added = {path: (ending, ending, f"\n\n{whole}")}, added
     edit.functions = [of.path.removesuffix(name) + twin]
-    edit.twin_of = of.path, clause, edit.opens
     return True
 
 
-def edits_of(crate, is_turned=True):
-    """The edits in a crate's folder wrong/; or one for each function with a clause that has a twin,
-    which leaves it as it is."""
-    folder = f"{crate.folder}/wrong"
-    names = sorted(os.listdir(folder)) if os.path.isdir(folder) else []
-    functions = functions_of(crate) if names else {}
-    files = [f"{folder}/{it}" for it in names if not it.endswith(".md")]
-    edits = [Edit(crate, it, functions, is_turned) for it in files]
-    return edits if is_turned else [*{it.twin_of: it for it in edits if it.twin_of}.values()]
+def edits_of(crate):
+    """The edits in a crate's folders wrong/ and harmless/."""
+    folders = [f"{crate.folder}/{it}" for it in ("wrong", "harmless")]
+    files = [f"{it}/{name}" for it in folders if os.path.isdir(it) for name in os.listdir(it)]
+    functions = functions_of(crate) if files else {}
+    return [Edit(crate, it, functions) for it in sorted(files) if not it.endswith(".md")]
 
 
 def planted(edits, changes_beside):

@@ -1,6 +1,7 @@
 /* Two threads replace nodes, and free the old ones by cookies, with no callback: each takes and
  * polls by its seat, without the lock, and sleeps until it is woken. Two threads read, one drives. */
 #include "rcu.h"
+#include "thread_sanitizer.h"
 #include <inttypes.h>
 #include <pthread.h>
 #include <sched.h>
@@ -11,21 +12,6 @@
 
 enum { READERS = 2, UPDATERS = 2, FIRST_UPDATER = 1 + READERS, CPUS = FIRST_UPDATER + UPDATERS };
 enum { UPDATES = 500 };
-
-/* The archive's own steps are not seen by the thread sanitizer, and fences it does not follow. So
- * that it sees the order from a quiescent state to the poll that is done, it is told of it. */
-#if defined(__has_feature)
-#if __has_feature(thread_sanitizer)
-#define __SANITIZE_THREAD__ 1
-#endif
-#endif
-#ifdef __SANITIZE_THREAD__
-void __tsan_acquire(void *at);
-void __tsan_release(void *at);
-#else
-#define __tsan_acquire(at) ((void)(at))
-#define __tsan_release(at) ((void)(at))
-#endif
 
 struct node {
     uint64_t value, twice;

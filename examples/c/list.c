@@ -1,6 +1,7 @@
 /* Three threads read a list while a fourth one replaces its nodes. A node that was replaced is a
  * callback, and freed when it is handed out: when nobody reads it any more. */
 #include "rcu.h"
+#include "thread_sanitizer.h"
 #include <inttypes.h>
 #include <pthread.h>
 #include <stdatomic.h>
@@ -8,21 +9,6 @@
 #include <stdlib.h>
 
 enum { READERS = 3, CPUS = READERS + 1, NODES = 8, UPDATES = 50000, ROOM = 64 };
-
-/* The archive's own steps are not seen by the thread sanitizer. So that it sees the order which they
- * make, from a quiescent state to the collection that found it, it is told of it by name. */
-#if defined(__has_feature)
-#if __has_feature(thread_sanitizer)
-#define __SANITIZE_THREAD__ 1
-#endif
-#endif
-#ifdef __SANITIZE_THREAD__
-void __tsan_acquire(void *at);
-void __tsan_release(void *at);
-#else
-#define __tsan_acquire(at) ((void)(at))
-#define __tsan_release(at) ((void)(at))
-#endif
 
 struct node {
     _Atomic(struct node *) next;
@@ -96,7 +82,7 @@ static void *read_list(void *it) {
     return 0;
 }
 
-/* Goes on with the grace periods by one step, and frees what is handed out. Answers how many. */
+/* Goes on with the grace periods by one step, and frees what is handed out. Returns how many. */
 static uint64_t drive(void) {
     uint64_t done, waiting, count, values[ROOM];
     uint32_t found;

@@ -17,6 +17,7 @@
 #define rcu_turn rcu_turn_unfenced
 #define rcu_arrive rcu_arrive_unfenced
 #define rcu_seat_quiesce rcu_seat_quiesce_unfenced
+#define rcu_seat_wake rcu_seat_wake_unfenced
 #define rcu_seat_take rcu_seat_take_unfenced
 #define rcu_seat_poll rcu_seat_poll_unfenced
 enum { IN_ORDER = 0 };
@@ -249,11 +250,29 @@ static void reader_departs(void) {
     pthread_mutex_unlock(&lock);
 }
 
-static void reader_arrives_after_the_begin(void) {
+static void wait_for_the_begin(void) {
     for (unsigned spins = 0; rcu_seat_take(&seats[READER]) == idle_cookie;) turn_round(&spins);
+}
+
+static void reader_arrives_after_the_begin(void) {
+    wait_for_the_begin();
     pthread_mutex_lock(&lock);
     must("arrive", rcu_arrive(&rcu, &seats[READER]));
     pthread_mutex_unlock(&lock);
+    reader_loads();
+}
+
+/* ---- a wake after the begin, before its first section */
+
+static void reader_gets_idle(void) {
+    idle_cookie = rcu_seat_take(&seats[READER]);
+    must("idle", rcu_seat_idle(&seats[READER]));
+}
+
+static void reader_wakes_after_the_begin(void) {
+    uint64_t number;
+    wait_for_the_begin();
+    must("wake", rcu_seat_wake(&seats[READER], &number));
     reader_loads();
 }
 
@@ -324,7 +343,7 @@ static void updater_unlinks_and_queues(void) {
     if (IN_ORDER) queue();
 }
 
-/* One step of the grace period for callbacks. Answers what the turn did. */
+/* One step of the grace period for callbacks. Returns what the turn did. */
 static uint32_t tend_and_turn(void) {
     uint64_t ready, waiting;
     rcu_turn_t turn;
@@ -476,6 +495,10 @@ static const struct test {
      {[READY] = {take_lines, updater_looks, reader_departs},
       [ACT] = {driver_begins, updater_unlinks_and_takes, reader_arrives_after_the_begin},
       [LEAVE] = {0, 0, reader_leaves}}},
+    {"an unlink before a taking, for a reader that wakes", judge_taking,
+     {[READY] = {take_lines, updater_looks, reader_gets_idle},
+      [ACT] = {driver_begins, updater_unlinks_and_takes, reader_wakes_after_the_begin},
+      [LEAVE] = {0, 0, reader_leaves}}},
     {"an unlink before a queueing", judge_queueing,
      {[ACT] = {driver_begins_for_a_callback, updater_unlinks_and_queues, reader_finds_the_begin},
       [LEAVE] = {0, 0, reader_leaves}}},
@@ -533,7 +556,7 @@ static void *act(void *it) {
     }
 }
 
-/* Answers whether no round of the test was wrong. */
+/* Returns whether no round of the test was wrong. */
 static bool drive(double most, bool counted) {
     unsigned long rounds = 0, wrong = 0;
     uint64_t end = nanoseconds() + (uint64_t)(most * 1e9);
@@ -562,7 +585,7 @@ int main(int count, char **words) {
     bool well = true;
     settle(DRIVER);
     for (test = 0; test < TESTS; test++) {
-        /* Each test has an engine of its own, since an engine takes 1,000,000 callbacks. */
+        /* Each test has an engine of its own. */
         rcu = (rcu_t){0};
         over = false;
         shift = 0;

@@ -7,7 +7,7 @@
 static rcu_t rcu;
 static rcu_seat_t seats[2];
 
-/* Ends the program where a call answers otherwise than it has to. */
+/* Ends the program where a call returns something else than it has to. */
 static void must(const char *call, uint32_t answer, uint32_t wanted) {
     if (answer != wanted) {
         printf("%s: %" PRIu32 " and not %" PRIu32 "\n", call, answer, wanted);

@@ -1,5 +1,5 @@
-/* Each growth of memory is refused in turn: the call answers 16 and leaves what it writes to as it
- * was, and nothing is lost. The same call again, with one growth more, does what it has to. */
+/* Each allocation is refused in turn: the call returns 16 and leaves what it writes to as it was,
+ * and nothing is lost. The same call again, with one allocation more, does what it has to. */
 #include "rcu.h"
 #include <inttypes.h>
 #include <stdio.h>
@@ -18,8 +18,8 @@ static struct {
     uint32_t did;
 } out;
 
-/* The growths that are granted before one is refused; below 0 all are. The program is linked with
- * the flags in the file beside it, so that the archive's growths come here. */
+/* The allocations that are granted before one is refused; below 0 all are. The program is linked
+ * with the flags in the file beside it, so that the archive's allocations come here. */
 static long granted = -1;
 void *__real_malloc(size_t size);
 void *__real_realloc(void *block, size_t size);
@@ -49,8 +49,8 @@ static void must(const char *call, uint32_t fault) {
     }
 }
 
-/* Makes the call with each of its growths refused, the first one first, until none is. Answers how
- * many were. */
+/* Makes the call with each of its allocations refused, the first one first, until none is. Returns
+ * how many were. */
 static unsigned refuse_each(const char *name, uint32_t (*call)(void)) {
     for (unsigned refused = 0;; refused++) {
         for (unsigned i = 0; i < ROOM; i++) out.values[i] = UNTOUCHED;

@@ -1,13 +1,13 @@
 -- What is kept where one list changes, and where one moves to the first.
 use Rattle.std.proofs.Common.{◌≡◌, ◌≢◌, get_or-set_other, ℕ, ◌+◌, ◌<◌, ◌≤◌, Bool, true, false, not, ◌&&◌, ◌∙◌, List, []}
 use Rattle.std.proofs.Common.{length, set, get_or, refl, ap, sym, subst, arith}
-use Rattle.std.specs.Prelude.{◌%◌, ◌∷◌, if◌then◌else◌, replicate}
+use Rattle.std.specs.Prelude.{◌%◌, ◌^◌, ◌∷◌, if◌then◌else◌, replicate}
 use Rattle.std.proofs.lemmas.List.{length-replicate, length-set, get_or_default}
 use Rattle.rcu_cblist.specs.SegList.{Item, after_migrate, as_it_leaves, is_empty, markers}
 use Rattle.rcu_cblist.proofs.SegListLemmas.{markers_entrained, markers_moved}
 use Rattle.std.proofs.lemmas.List.Elements.{All-nil}
 use Rattle.rcu_barrier.specs.Tending.{AreFours}
-use Rattle.rcu_barrier.specs.Lists.{AllFours, AllLists, IsSound, list_of, lists_after_move, markers_in, most_queued}
+use Rattle.rcu_barrier.specs.Lists.{AllFours, AllLists, IsSound, list_of, lists_after_move, markers_in}
 use Rattle.rcu_barrier.specs.Lists.{unvisited}
 use Rattle.rcu_barrier.proofs.Fours.{fours_get, fours_none, fours_moved, fours_set}
 use Rattle.rcu_barrier.proofs.Markers.{markers_none, markers_set, unvisited_all}
@@ -24,10 +24,11 @@ owed_parts true true owed = cc
 owed_parts false visited owed = cc
 
 -- what is kept at first
-pub kept_first : (X : Type 0) (cpus : ℕ) (lists : List (List (Item X))) (flags : List Bool) → 1 ≤ cpus → cpus ≤ 4096 →
-    lists ≡ replicate cpus [] → flags ≡ replicate cpus true →
-    (0 ≡ markers_in lists) × IsSound (record { lists = lists; visited = flags; running = false; queued = 0 })
-kept_first X cpus lists flags some few empty all =
+pub kept_first : (X : Type 0) (cpus most : ℕ) (lists : List (List (Item X))) (flags : List Bool) → 1 ≤ cpus →
+    cpus ≤ 4096 → 1 ≤ most → most ≤ 2 ^ 62 → lists ≡ replicate cpus [] → flags ≡ replicate cpus true →
+    (0 ≡ markers_in lists)
+    × IsSound (record { lists = lists; visited = flags; running = false; queued = 0; most = most })
+kept_first X cpus most lists flags some few most_some most_few empty all =
     let long : length lists ≡ cpus = ap length empty ∙ length-replicate cpus [] in
     let sized : length flags ≡ cpus = ap length all ∙ length-replicate cpus true in
     let count : markers_in lists ≡ 0 = ap markers_in empty ∙ markers_none X cpus in
@@ -40,6 +41,8 @@ kept_first X cpus lists flags some few empty all =
         within = omega arith;
         idle = λ off. omega arith;
         counted = omega arith;
+        most_some = most_some;
+        most_few = most_few;
         fours = subst AllFours (sym empty) (fours_none X cpus);
       },
     )
@@ -49,9 +52,15 @@ pub relisted : {X : Type 0} (all : AllLists X) (m n queued cpu : ℕ) (old xs : 
     m ≡ markers_in all.lists → IsSound all → cpu < length all.lists → old ≡ get_or all.lists cpu old →
     length flags ≡ length all.visited → n + markers old ≡ m + markers xs →
     n + unvisited flags ≤ m + unvisited all.visited →
-    queued ≤ most_queued → (AreFours old → AreFours xs) →
+    queued ≤ all.most → (AreFours old → AreFours xs) →
     (n ≡ markers_in (set all.lists cpu xs))
-    × IsSound (record { lists = set all.lists cpu xs; visited = flags; running = all.running; queued = queued })
+    × IsSound (record {
+      lists = set all.lists cpu xs;
+      visited = flags;
+      running = all.running;
+      queued = queued;
+      most = all.most;
+    })
 relisted all m n queued cpu old xs flags count kept inside read sized now fewer few keeps =
     let is = list_is all.lists cpu old inside read in
     let change = markers_set all.lists cpu xs inside in
@@ -69,6 +78,8 @@ relisted all m n queued cpu old xs flags count kept inside read sized now fewer 
         within = omega arith;
         idle = λ off. let none = kept.idle off in omega arith;
         counted = few;
+        most_some = kept.most_some;
+        most_few = kept.most_few;
         fours = fours_set all.lists cpu xs kept.fours fours;
       },
     )
@@ -97,6 +108,7 @@ pub moved_kept : {X : Type 0} (all : AllLists X) (m n cpu : ℕ) (owed : Bool) (
       visited = flags;
       running = all.running;
       queued = all.queued;
+      most = all.most;
     })
 moved_kept all m n cpu owed flags count kept other inside sized now fewer =
     let old = get_or all.lists cpu [] in
@@ -128,6 +140,8 @@ moved_kept all m n cpu owed flags count kept other inside sized now fewer =
         within = omega arith;
         idle = λ off. let none = kept.idle off in omega arith;
         counted = kept.counted;
+        most_some = kept.most_some;
+        most_few = kept.most_few;
         fours = fours_set first cpu [] fours_first (All-nil (λ n. n % 4 ≡ 0));
       },
     )

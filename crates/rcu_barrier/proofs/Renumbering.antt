@@ -87,6 +87,8 @@ module _ {X : Type 0} where
           within = omega (arith, long, count, within);
           idle = λ off. let none = idle off in omega (arith, count, none);
           counted = s.counted;
+          most_some = s.most_some;
+          most_few = s.most_few;
           fours = subst AllFours (sym is) (fours-renumbered all.lists s.fours);
         },
       )

@@ -1,12 +1,12 @@
 -- Lists and their items: what a change of one list with room changes in the list of the items.
 use Rattle.std.proofs.Common.{◌≡◌, ℕ, zero, suc, ◌+◌, ◌-◌, ◌<◌, ◌≤◌, Bool, List, [], ◌∷◌, ◌++◌, length, set, get_or}
 use Rattle.std.proofs.Common.{take, drop, ap, sym, subst, ◌∙◌, arith}
-use Rattle.std.proofs.lemmas.List.{get_or-map, get_or_default, length-map, map-set, set-get_or}
+use Rattle.std.proofs.lemmas.List.{get_or-map, get_or-set_same, get_or_default, length-map, map-set, set-get_or}
 use Rattle.std.proofs.Math.Seq.{map-set_same}
 use Rattle.rcu_cblist.specs.SegList.{Item, Segmented, after_migrate, as_it_leaves, markers}
 use Rattle.rcu_barrier.specs.Tending.{AreFours}
 use Rattle.std.specs.Prelude.{slice_index_or}
-use Rattle.rcu_barrier.specs.Lists.{IsSound, items_in, list_at, lists_after_move, markers_in, most_queued, rooms_in, unvisited}
+use Rattle.rcu_barrier.specs.Lists.{IsSound, items_in, list_at, lists_after_move, markers_in, rooms_in, unvisited}
 use Rattle.rcu_barrier.proofs.Kept.{relisted}
 
 module _ {X : Type 0} where
@@ -34,6 +34,56 @@ module _ {X : Type 0} where
   pub same_items : (lists : List (Segmented X)) (cpu : ℕ) (old new : Segmented X) → old ≡ get_or lists cpu old →
       new.items ≡ old.items → items_in (set lists cpu new) ≡ items_in lists
   same_items lists cpu old new read same = map-set_same items_of lists cpu new old (same ∙ ap items_of read)
+
+  -- the room of a list
+  abbrev room_in : Segmented X → ℕ
+  room_in list = list.room
+
+  -- one list is another with the same room
+  pub same_rooms : (lists : List (Segmented X)) (cpu : ℕ) (old new : Segmented X) → old ≡ get_or lists cpu old →
+      new.room ≡ old.room → rooms_in (set lists cpu new) ≡ rooms_in lists
+  same_rooms lists cpu old new read same = map-set_same room_in lists cpu new old (same ∙ ap room_in read)
+
+  -- the room of the list that was changed
+  pub room_now : (lists : List (Segmented X)) (cpu : ℕ) (new : Segmented X) → cpu < length (items_in lists) →
+      get_or (rooms_in (set lists cpu new)) cpu 0 ≡ new.room
+  room_now lists cpu new inside =
+      let long = long_in lists in
+      let sized = length-map lists room_in in
+      ap (λ rooms. get_or rooms cpu 0) (map-set room_in lists cpu new)
+      ∙ get_or-set_same (rooms_in lists) cpu new.room 0 (omega arith)
+
+  -- the room that it had
+  pub room_was : (lists : List (Segmented X)) (cpu : ℕ) (old : Segmented X) → cpu < length (items_in lists) →
+      old ≡ get_or lists cpu old → get_or (rooms_in lists) cpu 0 ≡ old.room
+  room_was lists cpu old inside read =
+      let long = long_in lists in
+      get_or-map room_in lists cpu old 0 (omega arith) ∙ sym (ap room_in read)
+
+  -- a list that changed has no less room
+  pub rooms_rise : (lists : List (Segmented X)) (cpu : ℕ) (old new : Segmented X) → cpu < length (items_in lists) →
+      old ≡ get_or lists cpu old → old.room ≤ new.room →
+      get_or (rooms_in lists) cpu 0 ≤ get_or (rooms_in (set lists cpu new)) cpu 0
+  rooms_rise lists cpu old new inside read more =
+      let was = room_was lists cpu old inside read in
+      let now = room_now lists cpu new inside in
+      omega (arith, was, now, more)
+
+  -- it has no more
+  pub rooms_fall : (lists : List (Segmented X)) (cpu : ℕ) (old new : Segmented X) → cpu < length (items_in lists) →
+      old ≡ get_or lists cpu old → new.room ≤ old.room →
+      get_or (rooms_in (set lists cpu new)) cpu 0 ≤ get_or (rooms_in lists) cpu 0
+  rooms_fall lists cpu old new inside read less =
+      let was = room_was lists cpu old inside read in
+      let now = room_now lists cpu new inside in
+      omega (arith, was, now, less)
+
+  -- where one list is another, only its room may be another one
+  pub other_rooms : (lists : List (Segmented X)) (cpu : ℕ) (new : Segmented X) → cpu < length (items_in lists) →
+      rooms_in (set lists cpu new) ≡ set (rooms_in lists) cpu (get_or (rooms_in (set lists cpu new)) cpu 0)
+  other_rooms lists cpu new inside =
+      map-set room_in lists cpu new
+      ∙ ap (λ room. set (rooms_in lists) cpu room) (sym (room_now lists cpu new inside))
 
   -- one list is what a change makes of it
   pub changed_items : (change : List (Item X) → List (Item X)) (lists : List (Segmented X)) (cpu : ℕ)
@@ -106,21 +156,58 @@ module _ {X : Type 0} where
       ap (λ l. set (set (items_in lists) 0 (after_migrate (list_at (items_in lists) 0)
       (as_it_leaves (list_at (items_in lists) from) owed))) from l) left)
 
+  -- only the first list's room may be another one
+  pub two_rooms : (lists front back : List (Segmented X)) (from : ℕ) (first other e : Segmented X) →
+      front ≡ take 1 lists → back ≡ drop 1 lists → 0 < from → from < length lists →
+      other.room ≡ (get_or back (from - 1) e).room →
+      rooms_in (set front 0 first ++ set back (from - 1) other)
+      ≡ set (rooms_in lists) 0 (get_or (rooms_in (set front 0 first ++ set back (from - 1) other)) 0 0)
+  two_rooms [] front back from first other e is_front is_back above inside same = absurd (omega arith)
+  two_rooms (x ∷ xs) front back zero first other e is_front is_back above inside same = absurd (omega arith)
+  two_rooms (x ∷ xs) front back (suc n) first other e is_front is_back above inside same =
+      let less : suc n - 1 ≡ n = omega arith in
+      let kept = same ∙ (ap (λ k. (get_or back k e).room) less ∙ ap (λ l. (get_or l n e).room) is_back) in
+      rw less (rw (is_front, is_back) (ap (λ rooms. first.room ∷ rooms) (map-set_same room_in xs n other e kept)))
+
+  -- there are as many lists where there are as many rooms
+  pub long_rooms : (lists new : List (Segmented X)) → length (rooms_in new) ≡ length (rooms_in lists) →
+      length new ≡ length lists
+  long_rooms lists new same = sym (length-map new room_in) ∙ (same ∙ length-map lists room_in)
+
   -- what is kept where one list changes, and perhaps visits and the count of queued callbacks
   pub relisted_in : (lists : List (Segmented X)) (visited flags : List Bool) (running : Bool)
-      (before m n queued cpu : ℕ)
+      (before m n queued most cpu : ℕ)
       (old new : Segmented X) → m ≡ markers_in (items_in lists) →
-      IsSound (record { lists = items_in lists; visited = visited; running = running; queued = before }) →
+      IsSound (record {
+        lists = items_in lists;
+        visited = visited;
+        running = running;
+        queued = before;
+        most = most;
+      }) →
       cpu < length (items_in lists) → old ≡ get_or lists cpu old →
       length flags ≡ length visited → n + markers old.items ≡ m + markers new.items →
       n + unvisited flags ≤ m + unvisited visited →
-      queued ≤ most_queued → (AreFours old.items → AreFours new.items) →
+      queued ≤ most → (AreFours old.items → AreFours new.items) →
       (n ≡ markers_in (items_in (set lists cpu new)))
-      × IsSound (record { lists = items_in (set lists cpu new); visited = flags; running = running; queued = queued })
-  relisted_in lists visited flags running before m n queued cpu old new count kept inside read sized now fewer few keeps =
+      × IsSound (record {
+        lists = items_in (set lists cpu new);
+        visited = flags;
+        running = running;
+        queued = queued;
+        most = most;
+      })
+  relisted_in lists visited flags running before m n queued most cpu old new count kept inside read sized now fewer few keeps =
       let is = read_items lists cpu old inside read in
       let default = get_or_default (items_in lists) cpu old.items [] inside in
-      subst (λ l. (n ≡ markers_in l) × IsSound (record { lists = l; visited = flags; running = running; queued = queued }))
+      subst (λ l. (n ≡ markers_in l)
+      × IsSound (record { lists = l; visited = flags; running = running; queued = queued; most = most }))
       (sym (set_items lists cpu new))
-      (relisted (record { lists = items_in lists; visited = visited; running = running; queued = before }) m n queued cpu
+      (relisted (record {
+        lists = items_in lists;
+        visited = visited;
+        running = running;
+        queued = before;
+        most = most;
+      }) m n queued cpu
       old.items new.items flags count kept inside (is ∙ sym default) sized now fewer few keeps)

@@ -1,5 +1,5 @@
 -- All processors' lists, and the barrier over them: what each call leaves, and what it answers.
-use Rattle.std.specs.Prelude.{ℕ, ◌≡◌, ◌≤◌, ◌+◌, ◌==◌, ◌&&◌, Bool, true, false, not, if◌then◌else◌, List, [], ◌∷◌, ◌++◌}
+use Rattle.std.specs.Prelude.{ℕ, ◌≡◌, ◌≤◌, ◌+◌, ◌^◌, ◌==◌, ◌&&◌, Bool, true, false, not, if◌then◌else◌, List, [], ◌∷◌, ◌++◌}
 use Rattle.std.specs.Prelude.{All, count_by, length, map, replicate, slice_index_or, slice_set, sum_by}
 use Rattle.rcu_seq.specs.Numbers.{Number}
 use Rattle.rcu_seq.specs.declared.tag.Tag.{Tag}
@@ -15,19 +15,21 @@ use Rattle.rcu_barrier.specs.declared.visit.Visit.TheVariants as visit
 use Rattle.rcu_barrier.specs.declared.barrier_state.BarrierState.{BarrierState}
 use Rattle.rcu_barrier.specs.declared.barrier_state.BarrierState.TheVariants as state
 
--- each processor's list, whether the barrier visited it, whether a barrier runs, and how many callbacks were queued
+-- each processor's list, whether the barrier visited it, whether a barrier runs, how many callbacks were queued, and how
+-- many may be
 pub record AllLists (X : Type 0) : Type 0 where
   pub lists : List (List (Item X))
   pub visited : List Bool
   pub running : Bool
   pub queued : ℕ
+  pub most : ℕ
 
 -- what contracts see of all lists: what they say, and for how many items each list has room before it grows
 pub record ListsWithRooms (X : Type 0) : Type 0 where
   pub all : AllLists X
   pub rooms : List ℕ
 
--- how many callbacks may be queued
+-- how many callbacks may be queued where an opening does not say
 abbrev pub most_queued : ℕ
 most_queued = 1000000
 
@@ -61,8 +63,14 @@ module _ {X : Type 0} where
   HasRoomAt lists rooms place more = length (list_at lists place) + more ≤ slice_index_or rooms place 0
 
   -- at first the lists are empty, no barrier runs, and no processor is unvisited
-  abbrev pub at_first : ℕ → AllLists X
-  at_first cpus = record { lists = replicate cpus []; visited = replicate cpus true; running = false; queued = 0 }
+  abbrev pub at_first : ℕ → ℕ → AllLists X
+  at_first cpus most = record {
+    lists = replicate cpus [];
+    visited = replicate cpus true;
+    running = false;
+    queued = 0;
+    most = most;
+  }
 
   -- how many processors there are
   abbrev pub cpus_of : AllLists X → ℕ
@@ -76,6 +84,14 @@ module _ {X : Type 0} where
   abbrev pub HasRoomIn : ListsWithRooms X → ℕ → ℕ → Type 0
   HasRoomIn lists cpu more = HasRoomAt lists.all.lists lists.rooms cpu more
 
+  -- for how many items the processor's list has room
+  abbrev pub room_of : ListsWithRooms X → ℕ → ℕ
+  room_of lists cpu = slice_index_or lists.rooms cpu 0
+
+  -- the other processors' lists have as much room
+  abbrev pub KeepsOtherRooms : ListsWithRooms X → ℕ → ListsWithRooms X → Type 0
+  KeepsOtherRooms old cpu new = new.rooms ≡ slice_set old.rooms cpu (room_of new cpu)
+
   -- the barrier visited the processor
   abbrev pub is_visited : AllLists X → ℕ → Bool
   is_visited all cpu = slice_index_or all.visited cpu false
@@ -84,9 +100,9 @@ module _ {X : Type 0} where
   abbrev pub with_list : AllLists X → ℕ → List (Item X) → AllLists X
   with_list all cpu xs = record all { lists = slice_set all.lists cpu xs }
 
-  -- why a callback is not queued: there are too many, or memory was refused
+  -- why a callback is not queued: as many were queued as may be, or memory was refused
   abbrev pub queue_fault : AllLists X → Fault
-  queue_fault all = if all.queued == most_queued then fault.CallbacksFull else fault.NoMemory
+  queue_fault all = if all.queued == all.most then fault.CallbacksFull else fault.NoMemory
 
   -- a callback, queued at this tag, is at the end of the processor's list, and is counted
   abbrev pub lists_after_queue : AllLists X → ℕ → Tag → X → AllLists X
@@ -159,12 +175,15 @@ module _ {X : Type 0} where
   barrier_test_answer all = if barrier_left all == 0 then state.Done else state.Waits (barrier_left all)
 
   -- what always holds: 1 to 4,096 processors, each with a flag; a barrier waits for at most one thing a processor, and
-  -- for nothing while none runs, so that no marker is left then; at most so many are queued; numbers are multiples of 4
+  -- for nothing while none runs, so that no marker is left then; from 1 to 2^62 callbacks may be queued, and no more were;
+  -- numbers are multiples of 4
   pub record IsSound (all : AllLists X) : Type 0 where
     pub some : 1 ≤ cpus_of all
     pub few : cpus_of all ≤ 4096
     pub sized : length all.visited ≡ cpus_of all
     pub within : barrier_left all ≤ cpus_of all
     pub idle : all.running ≡ false → barrier_left all ≡ 0
-    pub counted : all.queued ≤ most_queued
+    pub counted : all.queued ≤ all.most
+    pub most_some : 1 ≤ all.most
+    pub most_few : all.most ≤ 2 ^ 62
     pub fours : AllFours all.lists

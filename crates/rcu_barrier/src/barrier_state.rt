@@ -1,6 +1,6 @@
 //! Whether a barrier is over.
 
-/// What a test of a barrier answers.
+/// What a test of a barrier returns.
 #[derive(Clone, Copy, Debug, PartialEq, Eq)]
 pub enum BarrierState {
     /// No marker is left and each processor was visited: the barrier is over.

@@ -5,12 +5,14 @@ ghost use Rattle.rcu_cblist.specs.SegList.{IsAtMost, behind, callbacks, front, g
 ghost use Rattle.rcu_cblist.specs.SegList.{numbers, take_answer};
 ghost use Rattle.rcu_seq.specs.Numbers.{snapshot};
 ghost use Rattle.rcu_barrier.specs.Tending.{after_tend};
-ghost use Rattle.rcu_barrier.specs.Lists.{HasRoomIn, IsSound, at_first, barrier_test_answer};
+ghost use Rattle.rcu_barrier.specs.Lists.{HasRoomIn, IsSound, KeepsOtherRooms, at_first};
+ghost use Rattle.rcu_barrier.specs.Lists.{barrier_test_answer};
 ghost use Rattle.rcu_barrier.specs.Lists.{cpus_of, is_visited, leaving_list, list_of};
 ghost use Rattle.rcu_barrier.specs.Lists.{lists_after_barrier_begin, lists_after_barrier_test};
 ghost use Rattle.rcu_barrier.specs.Lists.{lists_after_migrate, lists_after_renumber};
 ghost use Rattle.rcu_barrier.specs.Lists.{lists_after_queue, lists_after_run, lists_after_tend};
 ghost use Rattle.rcu_barrier.specs.Lists.{lists_after_visit, most_queued, owes_visit, queue_fault};
+ghost use Rattle.rcu_barrier.specs.Lists.{room_of};
 ghost use Rattle.rcu_barrier.specs.Lists.{visit_answer, visit_fault};
 
 use crate::barrier_state::BarrierState;
@@ -24,15 +26,16 @@ use rcu_seq::tag::Tag;
 use std::alloc::Global;
 use std::marker::Model;
 
-/// How many callbacks may be queued.
-const MOST_QUEUED: u64 = 1_000_000;
+/// How many callbacks may be queued where an opening does not say.
+pub const MOST_QUEUED: u64 = 1_000_000;
 
 /// A list of callbacks for each processor, and a barrier over them (Linux's `rcu_barrier`, without
 /// waiting).
 ///
-/// Contracts see the lists, which processors the barrier visited, whether one runs, and how many
-/// callbacks were queued; and beside these, for how many items each list has room. A refused call
-/// leaves all as it was, and no growth is asked for where there is room. `cpu < cpus` is a
+/// Contracts see the lists, which processors the barrier visited, whether one runs, how many
+/// callbacks were queued, and how many may be; and beside these, for how many items each list has
+/// room. A refused call leaves all but room as it was, and no allocation is made where there is
+/// room. A list keeps the most room that it ever had, until [`Lists::shrink`]. `cpu < cpus` is a
 /// condition of each call.
 #[derive(Drop)]
 pub struct Lists<T: Drop> {
@@ -44,6 +47,8 @@ pub struct Lists<T: Drop> {
     running: bool,
     /// How many callbacks were queued.
     queued: u64,
+    /// How many may be queued.
+    most: u64,
     /// How many markers the lists have.
     markers: u64,
 }
@@ -61,6 +66,7 @@ impl<T: Drop> Model for Lists<T> {
         visited = s.visits;
         running = s.running;
         queued = s.queued;
+        most = s.most;
       };
       rooms = rooms_in s.lists.items;
     } };
@@ -70,17 +76,33 @@ impl<T: Drop> Model for Lists<T> {
       visited = s.visits;
       running = s.running;
       queued = s.queued;
+      most = s.most;
     }) };
 }
 
 impl<T: Drop> Lists<T> {
-    /// Empty lists, so many, from 1 to 4,096. No barrier runs. Costs a step a processor.
+    /// Empty lists of `cpus` processors, from 1 to 4,096. No barrier runs, and 1,000,000 callbacks
+    /// may be queued. Costs a step a processor.
     ///
     /// Fault: `NoMemory` (16).
     pub fn new(alloc: Global, cpus: u32) -> Result<Self, Fault>
         requires some { 1 ≤ cpus }
         requires few { cpus ≤ 4096 }
-        ensures ok { IfOk result (λ lists. lists.all ≡ at_first cpus) }
+        ensures ok { IfOk result (λ lists. lists.all ≡ at_first cpus most_queued) }
+        ensures err { IfErr result (λ fault. fault ≡ Fault.NoMemory) }
+    {
+        Lists::with_most(alloc, cpus, MOST_QUEUED)
+    }
+
+    /// Empty lists, as [`Lists::new`], in which `most` callbacks may be queued, from 1 to 2^62.
+    ///
+    /// Fault: `NoMemory` (16).
+    pub fn with_most(alloc: Global, cpus: u32, most: u64) -> Result<Self, Fault>
+        requires some { 1 ≤ cpus }
+        requires few { cpus ≤ 4096 }
+        requires most_some { 1 ≤ most }
+        requires most_few { most ≤ 2 ^ 62 }
+        ensures ok { IfOk result (λ lists. lists.all ≡ at_first cpus most) }
         ensures err { IfErr result (λ fault. fault ≡ Fault.NoMemory) }
     {
         let lists = empty_lists(alloc, cpus)?;
@@ -90,27 +112,31 @@ impl<T: Drop> Lists<T> {
             visits,
             running: false,
             queued: 0,
+            most,
             markers: 0,
         })
     }
 
-    /// Queues a callback on a processor at a tag, and answers how many were queued,
-    /// which is its place among them. Costs as [`SegList::queue`].
+    /// Queues a callback on a processor at a tag, and returns how many were queued, which is its
+    /// place among them. Costs as [`SegList::queue`].
     ///
-    /// Faults, which hand the value back: `CallbacksFull` (15) where 1,000,000 were queued;
-    /// `NoMemory` (16), only where the list has no room for it.
+    /// Faults, with the value: `CallbacksFull` (15) where as many were queued as may be; `NoMemory`
+    /// (16), only where the list has no room for it.
     pub fn queue(&mut self, cpu: u32, at: Tag, value: T) -> Result<u64, Refused<T>>
         requires { cpu < cpus_of self.old.all }
         ensures place { IfOk result (λ count. count ≡ self.old.all.queued + 1) }
-        ensures few { IfOk result (λ count. count ≤ most_queued) }
+        ensures few { IfOk result (λ count. count ≤ self.old.all.most) }
+        ensures bounded { IfOk result (λ count. count ≤ 2 ^ 62) }
         ensures ok { OnOk result (self.new.all ≡ lists_after_queue self.old.all cpu at value) }
         ensures err { IfErr result (λ refused. refused.fault ≡ queue_fault self.old.all) }
         ensures handed_back { IfErr result (λ refused. refused.value ≡ value) }
-        ensures succeeds { HasRoomIn self.old cpu 1 → self.old.all.queued < most_queued
+        ensures succeeds { HasRoomIn self.old cpu 1 → self.old.all.queued < self.old.all.most
             → IsOk result }
         ensures unchanged { OnErr result (self.new.all ≡ self.old.all) }
+        ensures room { room_of self.old cpu ≤ room_of self.new cpu }
+        ensures others { KeepsOtherRooms self.old cpu self.new }
     {
-        if self.queued == MOST_QUEUED {
+        if self.queued == self.most {
             return Err(Refused {
                 fault: Fault::CallbacksFull,
                 value,
@@ -131,7 +157,7 @@ impl<T: Drop> Lists<T> {
     }
 
     /// Makes each callback of a processor done whose number is at most this one, and gives the
-    /// number's snapshot to each that has none (Linux's `rcu_advance_cbs`). Answers how many
+    /// number's snapshot to each that has none (Linux's `rcu_advance_cbs`). Returns how many
     /// callbacks are done and how many wait then. The number is `4k` or `4k + 1` and at most 2^62;
     /// no callback carries one above its snapshot.
     pub fn tend(&mut self, cpu: u32, number: u64) -> (u64, u64)
@@ -144,6 +170,7 @@ impl<T: Drop> Lists<T> {
             ≡ length (callbacks (front (after_tend (list_of self.old.all cpu) number))) }
         ensures waiting { result.1
             ≡ length (callbacks (behind (after_tend (list_of self.old.all cpu) number))) }
+        ensures rooms { self.new.rooms ≡ self.old.rooms }
     {
         let list = &mut self.lists[cpu as usize];
         list.advance(number);
@@ -155,12 +182,13 @@ impl<T: Drop> Lists<T> {
     /// the next epoch. Done callbacks and markers stay, and a barrier goes on. Costs a step a
     /// processor.
     pub fn renumber(&mut self)
-        ensures { self.new.all ≡ lists_after_renumber self.old.all }
+        ensures state { self.new.all ≡ lists_after_renumber self.old.all }
+        ensures rooms { self.new.rooms ≡ self.old.rooms }
     {
         renumber_each(self.lists.as_mut_slice());
     }
 
-    /// Takes the first callbacks of a processor's done part, at most so many (Linux's
+    /// Takes the first callbacks of a processor's done part, at most `max` (Linux's
     /// `rcu_do_batch`). The markers before the first callback that is left are dropped. Costs a
     /// step for each of both.
     ///
@@ -173,6 +201,7 @@ impl<T: Drop> Lists<T> {
         ensures err { IfErr result (λ fault. fault ≡ Fault.NoMemory) }
         ensures memory { OnErr result (take_answer (list_of self.old.all cpu) max ≢ []) }
         ensures unchanged { OnErr result (self.new.all ≡ self.old.all) }
+        ensures rooms { self.new.rooms ≡ self.old.rooms }
     {
         let list = &mut self.lists[cpu as usize];
         let Taken { calls, markers } = list.take_done(max)?;
@@ -181,7 +210,7 @@ impl<T: Drop> Lists<T> {
     }
 
     /// Moves the list of another processor than 0 to processor 0's (Linux's
-    /// `rcutree_migrate_callbacks`), and answers how many callbacks moved. While a barrier runs, an
+    /// `rcutree_migrate_callbacks`), and returns how many callbacks moved. While a barrier runs, an
     /// unvisited processor is visited first. Costs as [`SegList::migrate_into`].
     ///
     /// Fault `NoMemory` (16), only where the list is not empty, and processor 0's has no room for
@@ -197,6 +226,8 @@ impl<T: Drop> Lists<T> {
         ensures succeeds { HasRoomIn self.old 0 (length (leaving_list self.old.all cpu))
             → IsOk result }
         ensures unchanged { OnErr result (self.new.all ≡ self.old.all) }
+        ensures room { room_of self.old 0 ≤ room_of self.new 0 }
+        ensures others { KeepsOtherRooms self.old 0 self.new }
     {
         let owed = self.owes_visit(cpu);
         let (moved, marked) = move_to_first(self.lists.as_mut_slice(), cpu as usize, owed)?;
@@ -215,8 +246,8 @@ impl<T: Drop> Lists<T> {
         self.running && !self.visits.contains(cpu)
     }
 
-    /// Begins a barrier: each processor is unvisited, whether online or not. Costs a step a
-    /// processor.
+    /// Begins a barrier: each processor is unvisited, whether online or not. Costs a step for
+    /// every 64 processors.
     ///
     /// Fault `BarrierBusy` (13): one runs.
     pub fn barrier_begin(&mut self) -> Result<(), Fault>
@@ -225,6 +256,7 @@ impl<T: Drop> Lists<T> {
         ensures err { IfErr result (λ fault. fault ≡ Fault.BarrierBusy) }
         ensures busy { OnErr result (self.old.all.running ≡ true) }
         ensures unchanged { OnErr result (self.new.all ≡ self.old.all) }
+        ensures rooms { self.new.rooms ≡ self.old.rooms }
     {
         if self.running {
             return Err(Fault::BarrierBusy);
@@ -249,6 +281,8 @@ impl<T: Drop> Lists<T> {
             → visit_answer self.old.all cpu ≡ Visit.Marked) }
         ensures succeeds { HasRoomIn self.old cpu 1 → self.old.all.running ≡ true → IsOk result }
         ensures unchanged { OnErr result (self.new.all ≡ self.old.all) }
+        ensures room { room_of self.old cpu ≤ room_of self.new cpu }
+        ensures others { KeepsOtherRooms self.old cpu self.new }
     {
         if !self.running {
             return Err(Fault::NoBarrier);
@@ -272,6 +306,8 @@ impl<T: Drop> Lists<T> {
         ensures memory { OnErr result (visit_answer self.old.all cpu ≡ Visit.Marked) }
         ensures succeeds { HasRoomIn self.old cpu 1 → IsOk result }
         ensures unchanged { OnErr result (self.new.all ≡ self.old.all) }
+        ensures room { room_of self.old cpu ≤ room_of self.new cpu }
+        ensures others { KeepsOtherRooms self.old cpu self.new }
     {
         let list = &mut self.lists[cpu as usize];
         let marked = list.entrain()?;
@@ -294,6 +330,7 @@ impl<T: Drop> Lists<T> {
         ensures err { IfErr result (λ fault. fault ≡ Fault.NoBarrier) }
         ensures idle { OnErr result (self.old.all.running ≡ false) }
         ensures unchanged { OnErr result (self.new.all ≡ self.old.all) }
+        ensures rooms { self.new.rooms ≡ self.old.rooms }
     {
         if !self.running {
             return Err(Fault::NoBarrier);
@@ -314,12 +351,43 @@ impl<T: Drop> Lists<T> {
         self.lists.len() as u32
     }
 
-    /// How many callbacks were queued, at most 1,000,000.
+    /// How many callbacks were queued, at most as many as may be.
     pub fn queued(&self) -> u64
         ensures value { result ≡ self.now.all.queued }
-        ensures few { result ≤ most_queued }
+        ensures few { result ≤ self.now.all.most }
     {
         self.queued
+    }
+
+    /// How many callbacks may be queued since opening, from 1 to 2^62.
+    pub fn most(&self) -> u64
+        ensures value { result ≡ self.now.all.most }
+        ensures some { 1 ≤ result }
+        ensures few { result ≤ 2 ^ 62 }
+    {
+        self.most
+    }
+
+    /// Gives back the memory that a processor's list does not need, as [`SegList::shrink`], and
+    /// costs as that.
+    pub fn shrink(&mut self, cpu: u32)
+        requires { cpu < cpus_of self.old.all }
+        ensures state { self.new.all ≡ self.old.all }
+        ensures room { room_of self.new cpu ≤ room_of self.old cpu }
+        ensures empty { list_of self.old.all cpu ≡ [] → room_of self.new cpu ≡ 0 }
+        ensures others { KeepsOtherRooms self.old cpu self.new }
+    {
+        let list = &mut self.lists[cpu as usize];
+        list.shrink();
+    }
+
+    /// For how many items a processor's list has room before it grows: never fewer than it has.
+    pub fn room(&self, cpu: u32) -> u64
+        requires { cpu < cpus_of self.now.all }
+        ensures value { result ≡ room_of self.now cpu }
+        ensures fits { length (list_of self.now.all cpu) ≤ result }
+    {
+        self.lists[cpu as usize].room()
     }
 
     /// Whether a barrier runs.

@@ -1,5 +1,6 @@
 //! Lists that are made, and one that moves to the first.
-ghost use Rattle.std.specs.Prelude.{◌≡◌, ◌<◌, ◌≢◌, ◌&&◌, [], map, not, length, replicate};
+ghost use Rattle.std.specs.Prelude.{◌≡◌, ◌<◌, ◌≤◌, ◌≢◌, ◌&&◌, [], map, not, length, replicate};
+ghost use Rattle.std.specs.Prelude.{slice_index_or, slice_set};
 ghost use Rattle.std.specs.Prelude.{IsOk, IfOk, IfErr, OnOk, OnErr};
 ghost use Rattle.rcu_cblist.specs.SegList.{HasRoom, after_migrate, after_renumber, as_it_leaves};
 ghost use Rattle.rcu_cblist.specs.SegList.{callbacks};
@@ -32,14 +33,15 @@ pub(crate) fn empty_lists<T: Drop>(alloc: Global, cpus: u32) -> Result<Vec<SegLi
 
 /// Takes the number from each callback that waits, in each of the lists.
 pub(crate) fn renumber_each<T: Drop>(lists: &mut [SegList<T>])
-    ensures { items_in lists.new ≡ map after_renumber (items_in lists.old) }
+    ensures items { items_in lists.new ≡ map after_renumber (items_in lists.old) }
+    ensures rooms { rooms_in lists.new ≡ rooms_in lists.old }
 {
     for list in lists.iter_mut() {
         list.renumber();
     }
 }
 
-/// Moves a list to the first one, with a marker behind it where a visit is owed. Answers how many
+/// Moves a list to the first one, with a marker behind it where a visit is owed. Returns how many
 /// callbacks moved, and whether a marker did.
 ///
 /// Fault `NoMemory` (16), only where the list is not empty, and the first one has no room for it.
@@ -61,12 +63,16 @@ pub(crate) fn move_to_first<T: Drop>(
     ensures succeeds { HasRoomAt (items_in lists.old) (rooms_in lists.old) 0
         (length (as_it_leaves (list_at (items_in lists.old) from) owed)) → IsOk result }
     ensures unchanged { OnErr result (items_in lists.new ≡ items_in lists.old) }
+    ensures room { slice_index_or (rooms_in lists.old) 0 0
+        ≤ slice_index_or (rooms_in lists.new) 0 0 }
+    ensures others { rooms_in lists.new
+        ≡ slice_set (rooms_in lists.old) 0 (slice_index_or (rooms_in lists.new) 0 0) }
 {
     let (first, others) = lists.split_at_mut(1);
     move_behind(&mut first[0], &mut others[from - 1], owed)
 }
 
-/// Moves a list to the end of a target, with a marker behind it where a visit is owed. Answers how
+/// Moves a list to the end of a target, with a marker behind it where a visit is owed. Returns how
 /// many callbacks moved, and whether a marker did.
 ///
 /// Fault `NoMemory` (16), only where the list is not empty, and the target has no room for it.
@@ -86,6 +92,8 @@ fn move_behind<T: Drop>(
         → IsOk result }
     ensures unchanged { OnErr result (list.new.items ≡ list.old.items) }
     ensures target { OnErr result (target.new.items ≡ target.old.items) }
+    ensures room { list.new.room ≡ list.old.room }
+    ensures target_room { target.old.room ≤ target.new.room }
 {
     let count = list.count();
     let marked = owed && !list.is_empty();

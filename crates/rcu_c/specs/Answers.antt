@@ -8,9 +8,9 @@ use Rattle.rcu_barrier.specs.declared.visit.Visit.{Visit}
 use Rattle.rcu_barrier.specs.declared.visit.Visit.TheVariants as visit
 use Rattle.rcu_core.specs.declared.turned.Turned.{Turned}
 use Rattle.rcu_core.specs.declared.turned.Turned.TheVariants as turned
-use Rattle.rcu_live.specs.declared.collected.Collected.{Collected}
-use Rattle.rcu_live.specs.declared.collected.Collected.TheVariants as collected
-use Rattle.rcu_c.specs.declared.periods.Turn.{Turn}
+use Rattle.rcu_live.specs.declared.collection.Collected.{Collected}
+use Rattle.rcu_live.specs.declared.collection.Collected.TheVariants as collected
+use Rattle.rcu_c.specs.declared.grace_periods.Turn.{Turn}
 
 -- the number of a refusal, 0 where there is none
 abbrev pub number_for : Option Fault → ℕ

@@ -1,5 +1,5 @@
 -- The engine of an open handle, as contracts see it.
-use Rattle.std.specs.Prelude.{ℕ, List, map, Option, Some, None, slice_index_or, slice_set}
+use Rattle.std.specs.Prelude.{ℕ, ◌^◌, List, map, Option, Some, None, slice_index_or, slice_set}
 use Rattle.std.specs.List.{range_with_len}
 use Rattle.atomic_table.specs.Seated.{TableId}
 use Rattle.rcu_seq.specs.Numbers.{Number}
@@ -20,9 +20,17 @@ seat_at o cpu = slice_index_or o.seats cpu None
 abbrev pub without_seat : EngineAndSeats → ℕ → EngineAndSeats
 without_seat o cpu = record o { seats = slice_set o.seats cpu None }
 
+-- a seat is handed back: its processor's seat is not dealt
+abbrev pub with_seat : EngineAndSeats → Seat → EngineAndSeats
+with_seat o s = record o { seats = slice_set o.seats s.cpu.cpu (Some s) }
+
+-- how many callbacks may be queued in an engine of C's: so many that no program queues them all
+abbrev pub most_in_c : ℕ
+most_in_c = 2 ^ 62
+
 -- an engine of so many processors as it is opened, with a seat for each
 abbrev pub opened_at_first : TableId → ℕ → Number → EngineAndSeats
 opened_at_first table cpus last = record {
-  engine = engine_at_first table cpus last tt;
+  engine = engine_at_first table cpus last most_in_c tt;
   seats = map (λ cpu. Some (seat_at_first table cpus cpu)) (range_with_len 0 cpus);
 }

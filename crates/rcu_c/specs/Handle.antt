@@ -7,13 +7,13 @@ use Rattle.std.specs.Coded.{coded_option}
 use Rattle.std.specs.Box.Ownership.{box_owns}
 use Rattle.std.specs.Global.{Global}
 use Rattle.std_heap.specs.contracts.GlobalAllocator.TheImpl.{ghosts}
-use Rattle.rcu_c.specs.contracts.held.Held.{the_row}
+use Rattle.rcu_c.specs.contracts.contents.Contents.{the_row}
 
 -- a closed handle owns nothing
 abbrev pub handle_owns : Global → Ptr → Option the_row.Denot → Fml
 handle_owns alloc at None = ftrue
-handle_owns alloc at (Some held) = box_owns (ghosts.dealloc_token alloc) the_row at held
+handle_owns alloc at (Some contents) = box_owns (ghosts.dealloc_token alloc) the_row at contents
 
 -- how the logic stores what a handle holds
-abbrev pub held_coded : Coded (Option the_row.Denot)
-held_coded = coded_option the_row.coded
+abbrev pub contents_coded : Coded (Option the_row.Denot)
+contents_coded = coded_option the_row.coded

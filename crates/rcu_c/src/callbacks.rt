@@ -5,66 +5,43 @@ ghost use Rattle.rcu_seq.specs.Fault.{fault_number};
 ghost use Rattle.rcu_seq.specs.Seq.{number_of};
 ghost use Rattle.rcu_node.specs.CpuSet.{is_in};
 ghost use Rattle.rcu_cblist.specs.SegList.{behind, callbacks, front, take_answer};
-ghost use Rattle.rcu_barrier.specs.Lists.{list_of, most_queued};
+ghost use Rattle.rcu_barrier.specs.Lists.{list_of};
 ghost use Rattle.rcu_core.specs.GpState as grace;
 ghost use Rattle.rcu_live.specs.Engine.{HasWaited};
-ghost use Rattle.rcu_live.specs.EngineLists as live;
 ghost use Rattle.rcu_live.specs.EngineLists.{queue_refusal};
 ghost use Rattle.rcu_c.specs.Holding.{HoldsEngine, engine_of, grace_of, on_grace};
 
-use crate::codes::code;
+use crate::codes::{code, write_out};
 use crate::handle::Rcu;
-use crate::open_engine::TreeEngine;
 use rcu_cblist::queued::Queued;
 use rcu_seq::fault::Fault;
 
 /// Queues a value as a callback on a processor, as `Engine::queue`. Writes how many were queued,
 /// which is its place among them.
 ///
-/// Faults: 1; 2 where the processor is not online; 15 where 1,000,000 were queued; 16.
+/// Faults: 1; 2 where the processor is not online; 15 where 2^62 were queued; 16.
 #[unsafe(no_mangle)]
 pub extern "C" fn rcu_queue(rcu: &mut Rcu, cpu: u32, value: u64, place: &mut u64) -> u32
-    requires open { HoldsEngine rcu.old.held }
-    ensures accepted { result ≡ 0 → cpu < (engine_of rcu.old.held).cpus }
-    ensures online { result ≡ 0 → is_in (grace_of rcu.old.held).processors.online cpu ≡ true }
-    ensures room { result ≡ 0 → (grace_of rcu.old.held).lists.queued < most_queued }
-    ensures state { result ≡ 0 → rcu.new.held ≡
-        on_grace (λ g. grace.after_queue g cpu value) rcu.old.held }
-    ensures place { result ≡ 0 → place.new ≡ (grace_of rcu.new.held).lists.queued }
-    ensures bad { (engine_of rcu.old.held).cpus ≤ cpu → result ≡ 1 }
-    ensures fault { cpu < (engine_of rcu.old.held).cpus → result ≢ 0 →
-        result ≡ fault_number (queue_refusal (engine_of rcu.old.held) cpu) }
-    ensures refused { result ≢ 0 → rcu.new.held ≡ rcu.old.held }
-    ensures refused_place { result ≢ 0 → place.new ≡ place.old }
+    requires open { HoldsEngine rcu.old.contents }
+    ensures accepted { result ≡ 0 → cpu < (engine_of rcu.old.contents).cpus }
+    ensures online { result ≡ 0 → is_in (grace_of rcu.old.contents).processors.online cpu ≡ true }
+    ensures room { result ≡ 0 → (grace_of rcu.old.contents).lists.queued
+        < (grace_of rcu.old.contents).lists.most }
+    ensures state { result ≡ 0 → rcu.new.contents ≡
+        on_grace (λ g. grace.after_queue g cpu value) rcu.old.contents }
+    ensures place { result ≡ 0 → place.new ≡ (grace_of rcu.new.contents).lists.queued }
+    ensures bad { (engine_of rcu.old.contents).cpus ≤ cpu → result ≡ 1 }
+    ensures fault { cpu < (engine_of rcu.old.contents).cpus → result ≢ 0 →
+        result ≡ fault_number (queue_refusal (engine_of rcu.old.contents) cpu) }
+    ensures unchanged { result ≢ 0 → rcu.new.contents ≡ rcu.old.contents }
+    ensures unchanged_place { result ≢ 0 → place.new ≡ place.old }
 {
-    let engine = &mut rcu.engine().engine;
+    let engine = &mut rcu.engine().inner;
     if cpu >= engine.cpus() {
         return code(Fault::BadCpu);
     }
-    queue(engine, cpu, value, place)
-}
-
-/// Queues a value on a processor of the engine, as `Engine::queue`. Writes how many were queued.
-///
-/// Faults, as their numbers: those of `Engine::queue`.
-fn queue(engine: &mut TreeEngine, cpu: u32, value: u64, place: &mut u64) -> u32
-    requires { cpu < engine.old.cpus }
-    ensures online { result ≡ 0 → is_in engine.old.grace.processors.online cpu ≡ true }
-    ensures room { result ≡ 0 → engine.old.grace.lists.queued < most_queued }
-    ensures state { result ≡ 0 → engine.new ≡
-        live.on_grace (λ g. grace.after_queue g cpu value) engine.old }
-    ensures place { result ≡ 0 → place.new ≡ engine.new.grace.lists.queued }
-    ensures fault { result ≢ 0 → result ≡ fault_number (queue_refusal engine.old cpu) }
-    ensures refused { result ≢ 0 → engine.new ≡ engine.old }
-    ensures refused_place { result ≢ 0 → place.new ≡ place.old }
-{
-    match engine.queue(cpu, value) {
-        Ok(count) => {
-            *place = count;
-            0
-        }
-        Err(refused) => code(refused.fault),
-    }
+    let queued = engine.queue(cpu, value);
+    write_out(queued.map_err(|refused| refused.fault), place)
 }
 
 /// Brings the marks of a processor's callbacks up to the number, as `Engine::tend`. Writes how many
@@ -73,21 +50,21 @@ fn queue(engine: &mut TreeEngine, cpu: u32, value: u64, place: &mut u64) -> u32
 /// Fault 1: there is no such processor.
 #[unsafe(no_mangle)]
 pub extern "C" fn rcu_tend(rcu: &mut Rcu, cpu: u32, done: &mut u64, waiting: &mut u64) -> u32
-    requires open { HoldsEngine rcu.old.held }
+    requires open { HoldsEngine rcu.old.contents }
     ensures fault { result ≢ 0 → result ≡ 1 }
-    ensures accepted { result ≡ 0 → cpu < (engine_of rcu.old.held).cpus }
-    ensures bad { result ≢ 0 → (engine_of rcu.old.held).cpus ≤ cpu }
-    ensures state { result ≡ 0 → rcu.new.held ≡
-        on_grace (λ g. grace.after_tend g cpu) rcu.old.held }
+    ensures accepted { result ≡ 0 → cpu < (engine_of rcu.old.contents).cpus }
+    ensures bad { result ≢ 0 → (engine_of rcu.old.contents).cpus ≤ cpu }
+    ensures state { result ≡ 0 → rcu.new.contents ≡
+        on_grace (λ g. grace.after_tend g cpu) rcu.old.contents }
     ensures done { result ≡ 0 → done.new ≡
-        length (callbacks (front (list_of (grace_of rcu.new.held).lists cpu))) }
+        length (callbacks (front (list_of (grace_of rcu.new.contents).lists cpu))) }
     ensures waiting { result ≡ 0 → waiting.new ≡
-        length (callbacks (behind (list_of (grace_of rcu.new.held).lists cpu))) }
-    ensures refused { result ≢ 0 → rcu.new.held ≡ rcu.old.held }
-    ensures refused_done { result ≢ 0 → done.new ≡ done.old }
-    ensures refused_waiting { result ≢ 0 → waiting.new ≡ waiting.old }
+        length (callbacks (behind (list_of (grace_of rcu.new.contents).lists cpu))) }
+    ensures unchanged { result ≢ 0 → rcu.new.contents ≡ rcu.old.contents }
+    ensures unchanged_done { result ≢ 0 → done.new ≡ done.old }
+    ensures unchanged_waiting { result ≢ 0 → waiting.new ≡ waiting.old }
 {
-    match rcu.engine().engine.tend(cpu) {
+    match rcu.engine().inner.tend(cpu) {
         Ok((ready, waits)) => {
             *done = ready;
             *waiting = waits;
@@ -98,7 +75,7 @@ pub extern "C" fn rcu_tend(rcu: &mut Rcu, cpu: u32, done: &mut u64, waiting: &mu
 }
 
 /// Writes the values of callbacks to the head of a buffer that has room for them, and leaves its
-/// rest as it is. Answers how many there are.
+/// rest as it is. Returns how many there are.
 fn put_values(calls: &[Queued<u64>], values: &mut [u64]) -> u64
     requires { length calls.now ≤ length values.old }
     ensures count { result ≡ length calls.now }
@@ -118,56 +95,28 @@ fn put_values(calls: &[Queued<u64>], values: &mut [u64]) -> u64
 /// Faults: 1; 16, only where it has a callback to hand out.
 #[unsafe(no_mangle)]
 pub extern "C" fn rcu_run(rcu: &mut Rcu, cpu: u32, values: &mut [u64], count: &mut u64) -> u32
-    requires open { HoldsEngine rcu.old.held }
-    ensures accepted { result ≡ 0 → cpu < (engine_of rcu.old.held).cpus }
-    ensures state { result ≡ 0 → rcu.new.held ≡
-        on_grace (λ g. grace.after_run g cpu (length values.old)) rcu.old.held }
+    requires open { HoldsEngine rcu.old.contents }
+    ensures accepted { result ≡ 0 → cpu < (engine_of rcu.old.contents).cpus }
+    ensures state { result ≡ 0 → rcu.new.contents ≡
+        on_grace (λ g. grace.after_run g cpu (length values.old)) rcu.old.contents }
     ensures count { result ≡ 0 → count.new ≡
-        length (take_answer (list_of (grace_of rcu.old.held).lists cpu) (length values.old)) }
+        length (take_answer (list_of (grace_of rcu.old.contents).lists cpu) (length values.old)) }
     ensures values { result ≡ 0 → take count.new values.new ≡ map (λ call. call.value)
-        (take_answer (list_of (grace_of rcu.old.held).lists cpu) (length values.old)) }
+        (take_answer (list_of (grace_of rcu.old.contents).lists cpu) (length values.old)) }
     ensures rest { result ≡ 0 → drop count.new values.new ≡ drop count.new values.old }
     ensures most { result ≡ 0 → count.new ≤ length values.old }
     ensures waited { result ≡ 0 →
-        All (λ call. HasWaited (number_of (grace_of rcu.old.held).seq) call.at)
-        (take_answer (list_of (grace_of rcu.old.held).lists cpu) (length values.old)) }
-    ensures bad { (engine_of rcu.old.held).cpus ≤ cpu → result ≡ 1 }
-    ensures fault { result ≢ 0 → cpu < (engine_of rcu.old.held).cpus → result ≡ 16 }
+        All (λ call. HasWaited (number_of (grace_of rcu.old.contents).seq) call.at)
+        (take_answer (list_of (grace_of rcu.old.contents).lists cpu) (length values.old)) }
+    ensures bad { (engine_of rcu.old.contents).cpus ≤ cpu → result ≡ 1 }
+    ensures fault { result ≢ 0 → cpu < (engine_of rcu.old.contents).cpus → result ≡ 16 }
     ensures memory { result ≡ 16 →
-        take_answer (list_of (grace_of rcu.old.held).lists cpu) (length values.old) ≢ [] }
-    ensures refused { result ≢ 0 → rcu.new.held ≡ rcu.old.held }
-    ensures refused_values { result ≢ 0 → values.new ≡ values.old }
-    ensures refused_count { result ≢ 0 → count.new ≡ count.old }
+        take_answer (list_of (grace_of rcu.old.contents).lists cpu) (length values.old) ≢ [] }
+    ensures unchanged { result ≢ 0 → rcu.new.contents ≡ rcu.old.contents }
+    ensures unchanged_values { result ≢ 0 → values.new ≡ values.old }
+    ensures unchanged_count { result ≢ 0 → count.new ≡ count.old }
 {
-    run(&mut rcu.engine().engine, cpu, values, count)
-}
-
-/// Hands out callbacks of a processor of the engine, as `Engine::run`: writes their values to the
-/// head of the buffer, and how many there are.
-///
-/// Faults, as their numbers: those of `Engine::run`.
-fn run(engine: &mut TreeEngine, cpu: u32, values: &mut [u64], count: &mut u64) -> u32
-    ensures accepted { result ≡ 0 → cpu < engine.old.cpus }
-    ensures state { result ≡ 0 → engine.new ≡
-        live.on_grace (λ g. grace.after_run g cpu (length values.old)) engine.old }
-    ensures count { result ≡ 0 → count.new ≡
-        length (take_answer (list_of engine.old.grace.lists cpu) (length values.old)) }
-    ensures values { result ≡ 0 → take count.new values.new ≡ map (λ call. call.value)
-        (take_answer (list_of engine.old.grace.lists cpu) (length values.old)) }
-    ensures rest { result ≡ 0 → drop count.new values.new ≡ drop count.new values.old }
-    ensures most { result ≡ 0 → count.new ≤ length values.old }
-    ensures waited { result ≡ 0 →
-        All (λ call. HasWaited (number_of engine.old.grace.seq) call.at)
-        (take_answer (list_of engine.old.grace.lists cpu) (length values.old)) }
-    ensures bad { engine.old.cpus ≤ cpu → result ≡ 1 }
-    ensures fault { result ≢ 0 → cpu < engine.old.cpus → result ≡ 16 }
-    ensures memory { result ≡ 16 →
-        take_answer (list_of engine.old.grace.lists cpu) (length values.old) ≢ [] }
-    ensures refused { result ≢ 0 → engine.new ≡ engine.old }
-    ensures refused_values { result ≢ 0 → values.new ≡ values.old }
-    ensures refused_count { result ≢ 0 → count.new ≡ count.old }
-{
-    match engine.run(cpu, values.len() as u64) {
+    match rcu.engine().inner.run(cpu, values.len() as u64) {
         Ok(ran) => {
             *count = put_values(ran.calls.as_slice(), values);
             0

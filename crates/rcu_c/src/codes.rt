@@ -1,6 +1,8 @@
 //! The numbers that C is told.
-ghost use Rattle.std.specs.Prelude.{◌≡◌, ◌≢◌};
+ghost use Rattle.std.specs.Prelude.{◌≡◌, ◌≢◌, IfOk, OnErr};
+ghost use Rattle.std.specs.Result.{result_err};
 ghost use Rattle.rcu_seq.specs.Fault.{fault_number};
+ghost use Rattle.rcu_c.specs.Answers.{number_for};
 
 use rcu_seq::fault::Fault;
 
@@ -11,4 +13,30 @@ pub(crate) fn code(fault: Fault) -> u32
     ensures memory { result ≡ 16 → fault ≡ Fault.NoMemory }
 {
     fault.number()
+}
+
+/// Writes what a call returned, and returns 0; or returns the number of its fault, and writes
+/// nothing.
+pub(crate) fn write_out<T: Drop>(returned: Result<T, Fault>, out: &mut T) -> u32
+    ensures fault { result ≡ number_for (result_err returned) }
+    ensures written { IfOk returned (λ value. out.new ≡ value) }
+    ensures kept { OnErr returned (out.new ≡ out.old) }
+{
+    match returned {
+        Ok(value) => {
+            *out = value;
+            0
+        }
+        Err(fault) => code(fault),
+    }
+}
+
+/// Returns 0, or the number of the fault.
+pub(crate) fn status(returned: Result<(), Fault>) -> u32
+    ensures { result ≡ number_for (result_err returned) }
+{
+    match returned {
+        Ok(()) => 0,
+        Err(fault) => code(fault),
+    }
 }

@@ -1,14 +1,14 @@
 //! The handle that C keeps.
 ghost use Rattle.std.specs.Prelude.{◌≡◌, Option, Some, IsNone, IsSome};
 ghost use Rattle.std.specs.Borrow.{sem};
-ghost use Rattle.rcu_c.specs.declared.held.Held.{Held};
-ghost use Rattle.rcu_c.specs.Handle.{handle_owns, held_coded};
+ghost use Rattle.rcu_c.specs.declared.contents.Contents.{Contents};
+ghost use Rattle.rcu_c.specs.Handle.{handle_owns, contents_coded};
 ghost use Rattle.rcu_c.specs.Holding.{HoldsEngine, HoldsSeat};
 
-use crate::held::Held;
+use crate::contents::Contents;
 use crate::open_engine::OpenEngine;
-use crate::sitting::Sitting;
-use crate::unboxed::Unboxed;
+use crate::raw_box::RawBox;
+use crate::seat_parts::SeatParts;
 use std::alloc::Global;
 use std::marker::Model;
 
@@ -18,7 +18,7 @@ use std::marker::Model;
 pub struct Handle {
     at: *mut u8,
     alloc: Global,
-    pub ghost held: { Option Held } by { held_coded },
+    pub ghost contents: { Option Contents } by { contents_coded },
 }
 
 /// An engine's handle (`rcu_t`).
@@ -28,17 +28,17 @@ pub type Rcu = Handle;
 pub type RcuSeat = Handle;
 
 impl Model for Handle {
-    ghost also_owns = { λ h. handle_owns h.alloc h.at h.held };
+    ghost also_owns = { λ h. handle_owns h.alloc h.at h.contents };
 }
 
 impl Handle {
-    ghost use Rattle.rcu_c.specs.Lending.{lends_engine, lends_held, lends_seat};
+    ghost use Rattle.rcu_c.specs.Lending.{lends_engine, lends_contents, lends_seat};
 
     /// A handle of what lies in a box.
-    pub(crate) fn of(held: Unboxed<Held, Global>) -> Handle
-        ensures { result.held ≡ Some held.value }
+    pub(crate) fn of(contents: RawBox<Contents, Global>) -> Handle
+        ensures { result.contents ≡ Some contents.value }
     {
-        let Unboxed { at, alloc } = held;
+        let RawBox { at, alloc } = contents;
         Handle {
             at: at as *mut u8,
             alloc,
@@ -46,46 +46,46 @@ impl Handle {
     }
 
     /// What an open handle holds.
-    pub(crate) fn held(&mut self) -> &mut Held
-        requires { IsSome self.old.held }
-        ensures* writes_back { sem 𝓛 (lends_held self.entry result) }
-        ensures value { self.old.held ≡ Some result.now }
+    pub(crate) fn contents(&mut self) -> &mut Contents
+        requires { IsSome self.old.contents }
+        ensures* writes_back { sem 𝓛 (lends_contents self.entry result) }
+        ensures value { self.old.contents ≡ Some result.now }
     {
-        unsafe { &mut *(self.at as *mut Held) }
+        unsafe { &mut *(self.at as *mut Contents) }
     }
 
     /// The engine of an open handle.
     pub(crate) fn engine(&mut self) -> &mut OpenEngine
-        requires { HoldsEngine self.old.held }
+        requires { HoldsEngine self.old.contents }
         ensures* writes_back { sem 𝓛 (lends_engine self.entry result) }
-        ensures value { self.old.held ≡ Some (Held.Engine result.now) }
+        ensures value { self.old.contents ≡ Some (Contents.Engine result.now) }
     {
-        match self.held() {
-            Held::Engine(engine) => engine,
-            Held::Seat(_) | Held::Room => unreachable!(),
+        match self.contents() {
+            Contents::Engine(engine) => engine,
+            Contents::Seat(_) | Contents::Room => unreachable!(),
         }
     }
 
     /// The seat of an open handle.
-    pub(crate) fn seat(&mut self) -> &mut Sitting
-        requires { HoldsSeat self.old.held }
+    pub(crate) fn seat(&mut self) -> &mut SeatParts
+        requires { HoldsSeat self.old.contents }
         ensures* writes_back { sem 𝓛 (lends_seat self.entry result) }
-        ensures value { self.old.held ≡ Some (Held.Seat result.now) }
+        ensures value { self.old.contents ≡ Some (Contents.Seat result.now) }
     {
-        match self.held() {
-            Held::Seat(seat) => seat,
-            Held::Engine(_) | Held::Room => unreachable!(),
+        match self.contents() {
+            Contents::Seat(seat) => seat,
+            Contents::Engine(_) | Contents::Room => unreachable!(),
         }
     }
 
     /// What an open handle holds, to be put into a box again.
-    pub(crate) fn into_unboxed(self) -> Unboxed<Held, Global>
-        requires { IsSome self.held }
-        ensures { self.held ≡ Some result.value }
+    pub(crate) fn into_raw_box(self) -> RawBox<Contents, Global>
+        requires { IsSome self.contents }
+        ensures { self.contents ≡ Some result.value }
     {
         let Handle { at, alloc } = self;
-        Unboxed {
-            at: at as *mut Held,
+        RawBox {
+            at: at as *mut Contents,
             alloc,
         }
     }
@@ -94,7 +94,7 @@ impl Handle {
 /// Frees nothing, so no open handle is let go: closing takes its box back first.
 impl Drop for Handle {
     fn drop(self)
-        requires closed { IsNone self.held }
+        requires closed { IsNone self.contents }
     {
         let Handle { at: _, alloc: _ } = self;
     }

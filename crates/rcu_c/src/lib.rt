@@ -6,14 +6,19 @@
 pub mod barriers;
 pub mod callbacks;
 pub mod codes;
+pub mod contents;
+pub mod grace_periods;
 pub mod handle;
-pub mod held;
 pub mod laws;
 pub mod open_engine;
 pub mod opening;
-pub mod periods;
 pub mod processors;
+pub mod raw_box;
 pub mod readers;
+pub mod seat_parts;
 pub mod sections;
-pub mod sitting;
-pub mod unboxed;
+
+pub use contents::Contents;
+pub use handle::{Handle, Rcu, RcuSeat};
+pub use open_engine::OpenEngine;
+pub use seat_parts::SeatParts;

@@ -1,8 +1,8 @@
 //! The engine of an open handle.
 ghost use Rattle.std.specs.Prelude.{◌≡◌, is_some};
-ghost use Rattle.rcu_c.specs.Engines.{seat_at, without_seat};
+ghost use Rattle.rcu_c.specs.Engines.{seat_at, with_seat, without_seat};
 
-use crate::sitting::Sitting;
+use crate::seat_parts::SeatParts;
 use rcu_live::engine::Engine;
 use rcu_node::tree::Tree;
 use std::marker::Model;
@@ -13,9 +13,9 @@ pub(crate) type TreeEngine = Engine<Tree<16, 64>, u64>;
 /// The engine of an open handle.
 #[derive(Drop)]
 pub struct OpenEngine {
-    pub(crate) engine: TreeEngine,
+    pub(crate) inner: TreeEngine,
     /// The seats that are not dealt yet, each at its processor's place.
-    pub(crate) seats: Vec<Option<Sitting>>,
+    pub(crate) seats: Vec<Option<SeatParts>>,
 }
 
 impl Model for OpenEngine {
@@ -23,15 +23,15 @@ impl Model for OpenEngine {
 
     ghost Value = { EngineAndSeats };
 
-    ghost view = { λ o. record { engine = o.engine; seats = o.seats.items } };
+    ghost view = { λ o. record { engine = o.inner; seats = o.seats.items } };
 }
 
 impl OpenEngine {
     /// The engine with the seats of its processors.
-    pub(crate) fn new(engine: TreeEngine, seats: Vec<Option<Sitting>>) -> OpenEngine
-        ensures { result ≡ record { engine = engine; seats = seats.items } }
+    pub(crate) fn new(inner: TreeEngine, seats: Vec<Option<SeatParts>>) -> OpenEngine
+        ensures { result ≡ record { engine = inner; seats = seats.items } }
     {
-        OpenEngine { engine, seats }
+        OpenEngine { inner, seats }
     }
 
     /// Whether the processor's seat is not dealt yet.
@@ -45,13 +45,22 @@ impl OpenEngine {
     }
 
     /// The processor's seat, where it is not dealt yet.
-    pub(crate) fn deal(&mut self, cpu: u32) -> Option<Sitting>
+    pub(crate) fn deal(&mut self, cpu: u32) -> Option<SeatParts>
         ensures seat { result ≡ seat_at self.old cpu }
         ensures left { self.new ≡ without_seat self.old cpu }
     {
         match self.seats.get_mut(cpu as usize) {
             Some(seat) => seat.take(),
             None => None,
+        }
+    }
+
+    /// Takes the seat of a processor back, which is not dealt from now on.
+    pub(crate) fn take_back(&mut self, seat: SeatParts)
+        ensures { self.new ≡ with_seat self.old seat }
+    {
+        if let Some(place) = self.seats.get_mut(seat.cpu.cpu() as usize) {
+            *place = Some(seat);
         }
     }
 }

@@ -1,40 +1,44 @@
 //! Opening and closing.
 ghost use Rattle.std.specs.Prelude.{◌≡◌, ◌≢◌, ◌<◌, IfErr, IfOk, IsNone, None, OnErr, OnOk, Some};
-ghost use Rattle.std.specs.Prelude.{map};
+ghost use Rattle.std.specs.Prelude.{is_some, map};
 ghost use Rattle.std.specs.Arc.{arc_value};
 ghost use Rattle.std.specs.List.{range_with_len};
 ghost use Rattle.rcu_live.specs.CpuSeat.{at_first};
-ghost use Rattle.rcu_live.specs.Opening.{opening_refusal};
+ghost use Rattle.rcu_geometry.specs.Opening.{opening_refusal};
+ghost use Rattle.rcu_live.specs.Opening.{AreDealt};
+ghost use Rattle.rcu_seq.specs.Memory.{tested_fault};
 ghost use Rattle.rcu_live.specs.Watcher.{watcher_at_first};
 ghost use Rattle.rcu_live.specs.Words.{base_of};
 ghost use Rattle.rcu_c.specs.Answers.{number_for};
-ghost use Rattle.rcu_c.specs.Engines.{opened_at_first, seat_at, without_seat};
-ghost use Rattle.rcu_c.specs.Holding.{HoldsEngine, HoldsSeat, engine_of, on_opened, opened_of};
-ghost use Rattle.rcu_c.specs.Holding.{seat_of};
+ghost use Rattle.rcu_c.specs.Engines.{opened_at_first, seat_at, with_seat, without_seat};
+ghost use Rattle.rcu_c.specs.Holding.{HoldsEngine, HoldsSeat, IsSeatOf, engine_of, on_opened};
+ghost use Rattle.rcu_c.specs.Holding.{opened_of, seat_of};
 ghost use Rattle.rcu_c.specs.Seats.{seat_at_first};
 
 use crate::codes::code;
+use crate::contents::Contents;
 use crate::handle::{Handle, Rcu, RcuSeat};
-use crate::held::Held;
 use crate::open_engine::OpenEngine;
-use crate::sitting::Sitting;
-use crate::unboxed::Unboxed;
-use rcu_live::apart::Apart;
+use crate::raw_box::RawBox;
+use crate::seat_parts::SeatParts;
 use rcu_live::board::Board;
-use rcu_live::client::Alone;
 use rcu_live::cpu_seat::CpuSeat;
+use rcu_live::parts::Parts;
 use rcu_live::watcher::Watcher;
 use rcu_seq::fault::Fault;
 use std::alloc::{AllocError, Global};
 use std::sync::Arc;
 
+/// How many callbacks may be queued: so many that no program queues them all.
+const MOST: u64 = 1 << 62;
+
 /// The seat of a processor, with its share of the words.
 fn make_seat(
-    board: &Arc<Board<(), (), Alone>, Global>,
+    board: &Arc<Board, Global>,
     cpu: u32,
     seat: CpuSeat,
     watcher: Watcher,
-) -> Result<Sitting, AllocError>
+) -> Result<SeatParts, AllocError>
     requires inside { cpu < (arc_value board.now).cpus }
     requires seat { seat ≡ at_first (arc_value board.now).table
         (base_of (arc_value board.now).cpus) tt cpu }
@@ -43,26 +47,20 @@ fn make_seat(
     ensures { IfOk result (λ made. made ≡
         seat_at_first (arc_value board.now).table (arc_value board.now).cpus cpu) }
 {
-    Ok(Sitting::new(Arc::try_clone(board)?, seat, watcher))
+    Ok(SeatParts::new(Arc::try_clone(board)?, seat, watcher))
 }
 
 /// The seats of all processors, in order.
 fn make_seats(
     alloc: Global,
-    board: &Arc<Board<(), (), Alone>, Global>,
+    board: &Arc<Board, Global>,
     cpus: u32,
     seats: Vec<CpuSeat>,
     watchers: Vec<Watcher>,
-) -> Result<Vec<Option<Sitting>>, AllocError>
-    requires cpus { (arc_value board.now).cpus ≡ cpus }
-    requires seats { seats.items ≡ map
-        (at_first (arc_value board.now).table (base_of (arc_value board.now).cpus) tt)
-        (range_with_len 0 cpus) }
-    requires watchers { watchers.items ≡ map
-        (λ _. watcher_at_first (arc_value board.now).table (base_of (arc_value board.now).cpus) tt)
-        (range_with_len 0 cpus) }
+) -> Result<Vec<Option<SeatParts>>, AllocError>
+    requires dealt { AreDealt cpus 0 0 tt (arc_value board.now) seats.items watchers.items }
     ensures { IfOk result (λ made. made.items ≡ map
-        (λ cpu. Some (seat_at_first (arc_value board.now).table (arc_value board.now).cpus cpu))
+        (λ cpu. Some (seat_at_first (arc_value board.now).table cpus cpu))
         (range_with_len 0 cpus)) }
 {
     let mut made = Vec::new(alloc);
@@ -83,19 +81,15 @@ fn make_seats(
 fn make_engine(alloc: Global, cpus: u32, last: u64) -> Result<OpenEngine, Fault>
     ensures ok { IfOk result (λ made.
         made ≡ opened_at_first made.engine.table cpus last) }
-    ensures accepted { IfOk result (λ _. opening_refusal 16 64 cpus last ≡ None) }
-    ensures refused { IfErr result (λ fault. fault ≢ Fault.NoMemory →
-        opening_refusal 16 64 cpus last ≡ Some fault) }
-    ensures memory { IfErr result (λ fault. fault ≡ Fault.NoMemory →
-        opening_refusal 16 64 cpus last ≡ None) }
+    ensures fault { tested_fault result ≡ opening_refusal 16 64 cpus last }
 {
-    let Apart {
+    let Parts {
         board,
         engine,
         seats,
         watchers,
         own: _,
-    } = Apart::open(alloc, cpus, last)?;
+    } = Parts::open(alloc, cpus, last, MOST)?;
     let Ok(seats) = make_seats(alloc, &board, cpus, seats, watchers) else {
         return Err(Fault::NoMemory);
     };
@@ -103,26 +97,22 @@ fn make_engine(alloc: Global, cpus: u32, last: u64) -> Result<OpenEngine, Fault>
 }
 
 /// The engine, with a seat for each processor, in a box.
-fn box_engine(alloc: Global, cpus: u32, last: u64) -> Result<Box<Held, Global>, Fault>
-    ensures open { IfOk result (λ held. HoldsEngine (Some held.value)) }
-    ensures state { IfOk result (λ held. opened_of (Some held.value)
-        ≡ opened_at_first (engine_of (Some held.value)).table cpus last) }
-    ensures accepted { IfOk result (λ _. opening_refusal 16 64 cpus last ≡ None) }
-    ensures refused { IfErr result (λ fault. fault ≢ Fault.NoMemory →
-        opening_refusal 16 64 cpus last ≡ Some fault) }
-    ensures memory { IfErr result (λ fault. fault ≡ Fault.NoMemory →
-        opening_refusal 16 64 cpus last ≡ None) }
+fn box_engine(alloc: Global, cpus: u32, last: u64) -> Result<Box<Contents, Global>, Fault>
+    ensures open { IfOk result (λ contents. HoldsEngine (Some contents.value)) }
+    ensures state { IfOk result (λ contents. opened_of (Some contents.value)
+        ≡ opened_at_first (engine_of (Some contents.value)).table cpus last) }
+    ensures fault { tested_fault result ≡ opening_refusal 16 64 cpus last }
 {
     let made = make_engine(alloc, cpus, last)?;
-    Ok(Box::new(alloc, Held::Engine(made))?)
+    Ok(Box::new(alloc, Contents::Engine(made))?)
 }
 
 /// Puts what lies in a box into a closed handle.
-fn put(handle: &mut Handle, held: Box<Held, Global>)
-    requires { IsNone handle.old.held }
-    ensures { handle.new.held ≡ Some held.value }
+fn put(handle: &mut Handle, contents: Box<Contents, Global>)
+    requires { IsNone handle.old.contents }
+    ensures { handle.new.contents ≡ Some contents.value }
 {
-    *handle = Handle::of(Unboxed::of(held));
+    *handle = Handle::of(RawBox::of(contents));
 }
 
 /// Opens a closed handle: the number is 0, no grace period runs, processor 0 alone is online, no
@@ -132,19 +122,19 @@ fn put(handle: &mut Handle, held: Box<Held, Global>)
 /// handle then stays closed.
 #[unsafe(no_mangle)]
 pub extern "C" fn rcu_open(alloc: Global, cpus: u32, last: u64, rcu: &mut Rcu) -> u32
-    requires closed { IsNone rcu.old.held }
+    requires closed { IsNone rcu.old.contents }
     ensures fault { result ≢ 16 → result ≡ number_for (opening_refusal 16 64 cpus last) }
     ensures memory { result ≡ 16 → opening_refusal 16 64 cpus last ≡ None }
-    ensures open { result ≡ 0 → HoldsEngine rcu.new.held }
-    ensures state { result ≡ 0 → opened_of rcu.new.held ≡
-        opened_at_first (engine_of rcu.new.held).table cpus last }
-    ensures refused { result ≢ 0 → rcu.new.held ≡ rcu.old.held }
+    ensures open { result ≡ 0 → HoldsEngine rcu.new.contents }
+    ensures state { result ≡ 0 → opened_of rcu.new.contents ≡
+        opened_at_first (engine_of rcu.new.contents).table cpus last }
+    ensures unchanged { result ≢ 0 → rcu.new.contents ≡ rcu.old.contents }
 {
-    let held = match box_engine(alloc, cpus, last) {
-        Ok(held) => held,
+    let contents = match box_engine(alloc, cpus, last) {
+        Ok(contents) => contents,
         Err(fault) => return code(fault),
     };
-    put(rcu, held);
+    put(rcu, contents);
     0
 }
 
@@ -152,16 +142,20 @@ pub extern "C" fn rcu_open(alloc: Global, cpus: u32, last: u64, rcu: &mut Rcu) -
 /// read.
 #[unsafe(no_mangle)]
 pub extern "C" fn rcu_close(rcu: Rcu)
-    requires open { HoldsEngine rcu.held }
+    requires open { HoldsEngine rcu.contents }
 {
-    drop(rcu.into_unboxed().into_box());
+    drop(rcu.into_raw_box().into_box());
 }
 
 /// Takes the seat of a processor out of the engine, and puts it into a box.
-fn deal_seat(alloc: Global, opened: &mut OpenEngine, cpu: u32) -> Result<Box<Held, Global>, Fault>
-    ensures open { IfOk result (λ held. HoldsSeat (Some held.value)) }
-    ensures seat { IfOk result (λ held.
-        seat_at opened.old cpu ≡ Some (seat_of (Some held.value))) }
+fn deal_seat(
+    alloc: Global,
+    opened: &mut OpenEngine,
+    cpu: u32,
+) -> Result<Box<Contents, Global>, Fault>
+    ensures open { IfOk result (λ contents. HoldsSeat (Some contents.value)) }
+    ensures seat { IfOk result (λ contents.
+        seat_at opened.old cpu ≡ Some (seat_of (Some contents.value))) }
     ensures left { OnOk result (opened.new ≡ without_seat opened.old cpu) }
     ensures bad { IfErr result (λ fault.
         seat_at opened.old cpu ≡ None → fault ≡ Fault.BadCpu) }
@@ -172,57 +166,83 @@ fn deal_seat(alloc: Global, opened: &mut OpenEngine, cpu: u32) -> Result<Box<Hel
     if !opened.has_seat(cpu) {
         return Err(Fault::BadCpu);
     }
-    let mut room = Box::new(alloc, Held::Room)?;
+    let mut room = Box::new(alloc, Contents::Room)?;
     deal_into(&mut room, opened, cpu);
     Ok(room)
 }
 
 /// Takes the seat of a processor out of the engine, and puts it in place of what was held.
-fn deal_into(held: &mut Held, opened: &mut OpenEngine, cpu: u32)
+fn deal_into(contents: &mut Contents, opened: &mut OpenEngine, cpu: u32)
     requires { seat_at opened.old cpu ≢ None }
-    ensures open { HoldsSeat (Some held.new) }
-    ensures seat { seat_at opened.old cpu ≡ Some (seat_of (Some held.new)) }
+    ensures open { HoldsSeat (Some contents.new) }
+    ensures seat { seat_at opened.old cpu ≡ Some (seat_of (Some contents.new)) }
     ensures left { opened.new ≡ without_seat opened.old cpu }
 {
     let Some(dealt) = opened.deal(cpu) else {
         unreachable!()
     };
-    *held = Held::Seat(dealt);
+    *contents = Contents::Seat(dealt);
 }
 
-/// Deals the seat of a processor to a closed handle. Each processor has one.
+/// Deals the seat of a processor to a closed handle. Each processor has one, and a new engine deals
+/// each as it is at first; one that was handed back is dealt as it was then.
 ///
 /// Faults: 1 where there is no such processor, or its seat is dealt; 16. The handles then stay as
 /// they were.
 #[unsafe(no_mangle)]
 pub extern "C" fn rcu_seat_open(alloc: Global, rcu: &mut Rcu, cpu: u32, seat: &mut RcuSeat) -> u32
-    requires open { HoldsEngine rcu.old.held }
-    requires closed { IsNone seat.old.held }
+    requires open { HoldsEngine rcu.old.contents }
+    requires closed { IsNone seat.old.contents }
     ensures fault { result ≢ 0 → result ≢ 16 → result ≡ 1 }
-    ensures bad { result ≡ 1 → seat_at (opened_of rcu.old.held) cpu ≡ None }
-    ensures memory { result ≡ 16 → seat_at (opened_of rcu.old.held) cpu ≢ None }
-    ensures open { result ≡ 0 → HoldsSeat seat.new.held }
+    ensures bad { result ≡ 1 → seat_at (opened_of rcu.old.contents) cpu ≡ None }
+    ensures memory { result ≡ 16 → seat_at (opened_of rcu.old.contents) cpu ≢ None }
+    ensures open { result ≡ 0 → HoldsSeat seat.new.contents }
     ensures seat { result ≡ 0 →
-        seat_at (opened_of rcu.old.held) cpu ≡ Some (seat_of seat.new.held) }
+        seat_at (opened_of rcu.old.contents) cpu ≡ Some (seat_of seat.new.contents) }
     ensures state { result ≡ 0 →
-        rcu.new.held ≡ on_opened (λ o. without_seat o cpu) rcu.old.held }
-    ensures refused { result ≢ 0 → rcu.new.held ≡ rcu.old.held }
-    ensures refused_seat { result ≢ 0 → seat.new.held ≡ seat.old.held }
+        rcu.new.contents ≡ on_opened (λ o. without_seat o cpu) rcu.old.contents }
+    ensures unchanged { result ≢ 0 → rcu.new.contents ≡ rcu.old.contents }
+    ensures unchanged_seat { result ≢ 0 → seat.new.contents ≡ seat.old.contents }
 {
     match deal_seat(alloc, rcu.engine(), cpu) {
-        Ok(held) => {
-            put(seat, held);
+        Ok(contents) => {
+            put(seat, contents);
             0
         }
         Err(fault) => code(fault),
     }
 }
 
-/// Closes a seat's handle. Its processor goes on as it stands: an online one is awaited by the next
-/// grace period, and passes no quiescent state any more.
+/// Whether the seat of a processor can be dealt: it is one of the engine's, and its seat is not
+/// dealt.
+#[unsafe(no_mangle)]
+pub extern "C" fn rcu_has_seat(rcu: &mut Rcu, cpu: u32) -> bool
+    requires open { HoldsEngine rcu.old.contents }
+    ensures kept { rcu.new.contents ≡ rcu.old.contents }
+    ensures value { result ≡ is_some (seat_at (opened_of rcu.old.contents) cpu) }
+{
+    rcu.engine().has_seat(cpu)
+}
+
+/// Hands a seat back to the engine that dealt it, which deals it again as it stands, and closes its
+/// handle. Its processor goes on as it stands.
+#[unsafe(no_mangle)]
+pub extern "C" fn rcu_seat_return(rcu: &mut Rcu, seat: RcuSeat)
+    requires open { HoldsEngine rcu.old.contents }
+    requires seat { HoldsSeat seat.contents }
+    requires dealt { IsSeatOf seat.contents rcu.old.contents }
+    ensures state { rcu.new.contents ≡
+        on_opened (λ o. with_seat o (seat_of seat.contents)) rcu.old.contents }
+{
+    let mut contents = seat.into_raw_box().into_box();
+    rcu.engine().take_back(contents.take_seat());
+}
+
+/// Closes a seat's handle: nobody has its seat any more. Its processor goes on as it stands: an
+/// online one is awaited by the next grace period, and passes no quiescent state any more.
 #[unsafe(no_mangle)]
 pub extern "C" fn rcu_seat_close(seat: RcuSeat)
-    requires open { HoldsSeat seat.held }
+    requires open { HoldsSeat seat.contents }
 {
-    drop(seat.into_unboxed().into_box());
+    drop(seat.into_raw_box().into_box());
 }

@@ -1,51 +1,77 @@
 //! What a thread does by its seat alone: no call here waits, takes memory or needs a lock.
-ghost use Rattle.std.specs.Prelude.{◌≡◌, ◌≢◌, ◌≤◌};
+ghost use Rattle.std.specs.Prelude.{◌≡◌, ◌≢◌, ◌≤◌, ◌==◌, not};
 ghost use Rattle.rcu_seq.specs.Numbers.{snapshot};
 ghost use Rattle.rcu_seq.specs.Tags.{is_done_first};
-ghost use Rattle.rcu_live.specs.CpuSeat.{after_enter, after_exit, after_quiesce, enter_refusal};
-ghost use Rattle.rcu_live.specs.CpuSeat.{exit_refusal, quiesce_refusal};
+ghost use Rattle.rcu_live.specs.CpuSeat.{after_enter, after_exit, after_idle, after_quiesce};
+ghost use Rattle.rcu_live.specs.CpuSeat.{enter_refusal, exit_refusal, quiesce_refusal};
+ghost use Rattle.rcu_live.specs.CpuSeat.{wake_refusal};
+ghost use Rattle.rcu_live.specs.Numbers.{idle_word};
 ghost use Rattle.rcu_live.specs.Watcher.{after_watch};
 ghost use Rattle.rcu_c.specs.Answers.{number_for};
 ghost use Rattle.rcu_c.specs.Holding.{HoldsSeat, cpu_of, on_cpu, on_watcher, watcher_of};
 
-use crate::codes::code;
+use crate::codes::{status, write_out};
 use crate::handle::RcuSeat;
 use rcu_seq::cookie::Cookie;
 
 /// The seat's processor.
 #[unsafe(no_mangle)]
 pub extern "C" fn rcu_seat_cpu(seat: &mut RcuSeat) -> u32
-    requires open { HoldsSeat seat.old.held }
-    ensures kept { seat.new.held ≡ seat.old.held }
-    ensures value { result ≡ (cpu_of seat.old.held).cpu }
+    requires open { HoldsSeat seat.old.contents }
+    ensures kept { seat.new.contents ≡ seat.old.contents }
+    ensures value { result ≡ (cpu_of seat.old.contents).cpu }
 {
     seat.seat().cpu.cpu()
+}
+
+/// How deep the seat's read sections nest, as `CpuSeat::depth`: 0 where none is open.
+#[unsafe(no_mangle)]
+pub extern "C" fn rcu_seat_depth(seat: &mut RcuSeat) -> u32
+    requires open { HoldsSeat seat.old.contents }
+    ensures kept { seat.new.contents ≡ seat.old.contents }
+    ensures value { result ≡ (cpu_of seat.old.contents).depth }
+{
+    seat.seat().cpu.depth()
+}
+
+/// Whether the seat's processor is online, be it awake or idle, as `CpuSeat::is_online`.
+#[unsafe(no_mangle)]
+pub extern "C" fn rcu_seat_is_online(seat: &mut RcuSeat) -> bool
+    requires open { HoldsSeat seat.old.contents }
+    ensures kept { seat.new.contents ≡ seat.old.contents }
+    ensures value { result ≡ not ((cpu_of seat.old.contents).view.own_word == 0) }
+{
+    seat.seat().cpu.is_online()
+}
+
+/// Whether the seat's processor is idle, as `CpuSeat::is_idle`.
+#[unsafe(no_mangle)]
+pub extern "C" fn rcu_seat_is_idle(seat: &mut RcuSeat) -> bool
+    requires open { HoldsSeat seat.old.contents }
+    ensures kept { seat.new.contents ≡ seat.old.contents }
+    ensures value { result ≡ ((cpu_of seat.old.contents).view.own_word == idle_word) }
+{
+    seat.seat().cpu.is_idle()
 }
 
 /// Opens a read section by one load, or nests one deeper in the open one by none, as
 /// `CpuSeat::enter`. Writes the depth.
 ///
-/// Faults: 2 where the processor is offline; 6 where the depth is 65,535.
+/// Faults: 2 where the processor is offline; 23 where it is idle; 6 where the depth is 65,535.
 #[unsafe(no_mangle)]
 pub extern "C" fn rcu_seat_enter(seat: &mut RcuSeat, depth: &mut u32) -> u32
-    requires open { HoldsSeat seat.old.held }
-    ensures fault { result ≡ number_for (enter_refusal (cpu_of seat.old.held)) }
-    ensures depth { result ≡ 0 → depth.new ≡ (cpu_of seat.new.held).depth }
-    ensures state { result ≡ 0 → seat.new.held ≡
-        on_cpu (λ s. after_enter s (cpu_of seat.new.held).view.seen) seat.old.held }
+    requires open { HoldsSeat seat.old.contents }
+    ensures fault { result ≡ number_for (enter_refusal (cpu_of seat.old.contents)) }
+    ensures depth { result ≡ 0 → depth.new ≡ (cpu_of seat.new.contents).depth }
+    ensures state { result ≡ 0 → seat.new.contents ≡
+        on_cpu (λ s. after_enter s (cpu_of seat.new.contents).view.seen) seat.old.contents }
     ensures later { result ≡ 0 →
-        (cpu_of seat.old.held).view.seen ≤ (cpu_of seat.new.held).view.seen }
-    ensures refused { result ≢ 0 → seat.new.held ≡ seat.old.held }
-    ensures refused_depth { result ≢ 0 → depth.new ≡ depth.old }
+        (cpu_of seat.old.contents).view.seen ≤ (cpu_of seat.new.contents).view.seen }
+    ensures unchanged { result ≢ 0 → seat.new.contents ≡ seat.old.contents }
+    ensures unchanged_depth { result ≢ 0 → depth.new ≡ depth.old }
 {
-    let sitting = seat.seat();
-    match sitting.cpu.enter_on(&sitting.board) {
-        Ok(nested) => {
-            *depth = nested;
-            0
-        }
-        Err(fault) => code(fault),
-    }
+    let seat_parts = seat.seat();
+    write_out(seat_parts.cpu.enter(&*seat_parts.board), depth)
 }
 
 /// Leaves the innermost section, as `CpuSeat::exit`. Writes the depth: at 0 one load closed the
@@ -54,77 +80,99 @@ pub extern "C" fn rcu_seat_enter(seat: &mut RcuSeat, depth: &mut u32) -> u32
 /// Fault 5: no section is open.
 #[unsafe(no_mangle)]
 pub extern "C" fn rcu_seat_exit(seat: &mut RcuSeat, depth: &mut u32) -> u32
-    requires open { HoldsSeat seat.old.held }
-    ensures fault { result ≡ number_for (exit_refusal (cpu_of seat.old.held)) }
-    ensures depth { result ≡ 0 → depth.new ≡ (cpu_of seat.new.held).depth }
-    ensures state { result ≡ 0 → seat.new.held ≡
-        on_cpu (λ s. after_exit (λ c. c) s (cpu_of seat.new.held).view.seen) seat.old.held }
+    requires open { HoldsSeat seat.old.contents }
+    ensures fault { result ≡ number_for (exit_refusal (cpu_of seat.old.contents)) }
+    ensures depth { result ≡ 0 → depth.new ≡ (cpu_of seat.new.contents).depth }
+    ensures state { result ≡ 0 → seat.new.contents ≡
+        on_cpu (λ s. after_exit (λ c. c) s (cpu_of seat.new.contents).view.seen) seat.old.contents }
     ensures later { result ≡ 0 →
-        (cpu_of seat.old.held).view.seen ≤ (cpu_of seat.new.held).view.seen }
-    ensures refused { result ≢ 0 → seat.new.held ≡ seat.old.held }
-    ensures refused_depth { result ≢ 0 → depth.new ≡ depth.old }
+        (cpu_of seat.old.contents).view.seen ≤ (cpu_of seat.new.contents).view.seen }
+    ensures unchanged { result ≢ 0 → seat.new.contents ≡ seat.old.contents }
+    ensures unchanged_depth { result ≢ 0 → depth.new ≡ depth.old }
 {
-    let sitting = seat.seat();
-    match sitting.cpu.exit_on(&sitting.board) {
-        Ok(nested) => {
-            *depth = nested;
-            0
-        }
-        Err(fault) => code(fault),
-    }
+    let seat_parts = seat.seat();
+    write_out(seat_parts.cpu.exit(&*seat_parts.board), depth)
 }
 
 /// Passes a quiescent state by one load and one store, as `CpuSeat::quiesce`. Writes the number
 /// that it saw.
 ///
-/// Faults: 2 where the processor is offline; 4 where a section is open.
+/// Faults: 2 where the processor is offline; 23 where it is idle; 4 where a section is open.
 #[unsafe(no_mangle)]
 pub extern "C" fn rcu_seat_quiesce_unfenced(seat: &mut RcuSeat, number: &mut u64) -> u32
-    requires open { HoldsSeat seat.old.held }
-    ensures fault { result ≡ number_for (quiesce_refusal (cpu_of seat.old.held)) }
-    ensures state { result ≡ 0 → seat.new.held ≡
-        on_cpu (λ s. after_quiesce s number.new) seat.old.held }
-    ensures later { result ≡ 0 → (cpu_of seat.old.held).view.seen ≤ number.new }
-    ensures refused { result ≢ 0 → seat.new.held ≡ seat.old.held }
-    ensures refused_number { result ≢ 0 → number.new ≡ number.old }
+    requires open { HoldsSeat seat.old.contents }
+    ensures fault { result ≡ number_for (quiesce_refusal (cpu_of seat.old.contents)) }
+    ensures state { result ≡ 0 → seat.new.contents ≡
+        on_cpu (λ s. after_quiesce s number.new) seat.old.contents }
+    ensures later { result ≡ 0 → (cpu_of seat.old.contents).view.seen ≤ number.new }
+    ensures unchanged { result ≢ 0 → seat.new.contents ≡ seat.old.contents }
+    ensures unchanged_number { result ≢ 0 → number.new ≡ number.old }
 {
-    let sitting = seat.seat();
-    match sitting.cpu.quiesce_on(&sitting.board) {
-        Ok(seen) => {
-            *number = seen;
-            0
-        }
-        Err(fault) => code(fault),
-    }
+    let seat_parts = seat.seat();
+    write_out(seat_parts.cpu.quiesce(&*seat_parts.board), number)
+}
+
+/// The processor gets idle by one store, as `CpuSeat::idle`.
+///
+/// Faults: 2 where the processor is offline; 23 where it is idle; 4 where a section is open.
+#[unsafe(no_mangle)]
+pub extern "C" fn rcu_seat_idle(seat: &mut RcuSeat) -> u32
+    requires open { HoldsSeat seat.old.contents }
+    ensures fault { result ≡ number_for (quiesce_refusal (cpu_of seat.old.contents)) }
+    ensures state { result ≡ 0 → seat.new.contents ≡ on_cpu after_idle seat.old.contents }
+    ensures unchanged { result ≢ 0 → seat.new.contents ≡ seat.old.contents }
+{
+    let seat_parts = seat.seat();
+    status(seat_parts.cpu.idle(&*seat_parts.board))
+}
+
+/// The processor wakes by one load and one store, as `CpuSeat::wake`. Writes the number that it
+/// saw.
+///
+/// Faults: 2 where the processor is offline; 24 where it is awake.
+#[unsafe(no_mangle)]
+pub extern "C" fn rcu_seat_wake_unfenced(seat: &mut RcuSeat, number: &mut u64) -> u32
+    requires open { HoldsSeat seat.old.contents }
+    ensures fault { result ≡ number_for (wake_refusal (cpu_of seat.old.contents)) }
+    ensures state { result ≡ 0 → seat.new.contents ≡
+        on_cpu (λ s. after_quiesce s number.new) seat.old.contents }
+    ensures later { result ≡ 0 → (cpu_of seat.old.contents).view.seen ≤ number.new }
+    ensures unchanged { result ≢ 0 → seat.new.contents ≡ seat.old.contents }
+    ensures unchanged_number { result ≢ 0 → number.new ≡ number.old }
+{
+    let seat_parts = seat.seat();
+    write_out(seat_parts.cpu.wake(&*seat_parts.board), number)
 }
 
 /// The cookie of a taking at the number that one load sees, as `Watcher::take`.
 #[unsafe(no_mangle)]
 pub extern "C" fn rcu_seat_take_unfenced(seat: &mut RcuSeat) -> u64
-    requires open { HoldsSeat seat.old.held }
-    ensures look { seat.new.held ≡
-        on_watcher (λ w. after_watch w (watcher_of seat.new.held).view.seen) seat.old.held }
-    ensures later { (watcher_of seat.old.held).view.seen ≤ (watcher_of seat.new.held).view.seen }
-    ensures cookie { result ≡ snapshot (watcher_of seat.new.held).view.seen }
+    requires open { HoldsSeat seat.old.contents }
+    ensures look { seat.new.contents ≡
+        on_watcher (λ w. after_watch w (watcher_of seat.new.contents).view.seen) seat.old.contents }
+    ensures later { (watcher_of seat.old.contents).view.seen
+        ≤ (watcher_of seat.new.contents).view.seen }
+    ensures cookie { result ≡ snapshot (watcher_of seat.new.contents).view.seen }
 {
-    let sitting = seat.seat();
-    sitting.watcher.take_on(&sitting.board).number
+    let seat_parts = seat.seat();
+    seat_parts.watcher.take(&*seat_parts.board).number
 }
 
 /// Whether a cookie is done at the number that one load sees, as `Watcher::poll`.
 #[unsafe(no_mangle)]
 pub extern "C" fn rcu_seat_poll_unfenced(seat: &mut RcuSeat, cookie: u64) -> bool
-    requires open { HoldsSeat seat.old.held }
-    ensures look { seat.new.held ≡
-        on_watcher (λ w. after_watch w (watcher_of seat.new.held).view.seen) seat.old.held }
-    ensures later { (watcher_of seat.old.held).view.seen ≤ (watcher_of seat.new.held).view.seen }
+    requires open { HoldsSeat seat.old.contents }
+    ensures look { seat.new.contents ≡
+        on_watcher (λ w. after_watch w (watcher_of seat.new.contents).view.seen) seat.old.contents }
+    ensures later { (watcher_of seat.old.contents).view.seen
+        ≤ (watcher_of seat.new.contents).view.seen }
     ensures done { result ≡ is_done_first (record { epoch = 0; number = cookie })
-        (watcher_of seat.new.held).view.seen }
+        (watcher_of seat.new.contents).view.seen }
 {
-    let sitting = seat.seat();
+    let seat_parts = seat.seat();
     let cookie = Cookie {
         epoch: 0,
         number: cookie,
     };
-    sitting.watcher.poll_on(&sitting.board, cookie)
+    seat_parts.watcher.poll(&*seat_parts.board, cookie)
 }

@@ -1,6 +1,6 @@
 //! One processor's list of callbacks.
-ghost use Rattle.std.specs.Prelude.{◌≡◌, ◌≢◌, ◌+◌, ◌<◌, ◌^◌, ◌++◌, ◌∷◌, [], false, not, length};
-ghost use Rattle.std.specs.Prelude.{IsOk, OnOk, OnErr, IfOk, IfErr};
+ghost use Rattle.std.specs.Prelude.{◌≡◌, ◌≢◌, ◌+◌, ◌<◌, ◌≤◌, ◌^◌, ◌++◌, ◌∷◌, [], false, not};
+ghost use Rattle.std.specs.Prelude.{IsOk, OnOk, OnErr, IfOk, IfErr, length};
 ghost use Rattle.rcu_cblist.specs.SegList.{HasRoom, IsAtMost, Of, Unmarked, after_accelerate};
 ghost use Rattle.rcu_cblist.specs.SegList.{after_advance, after_entrain, after_migrate};
 ghost use Rattle.rcu_cblist.specs.SegList.{after_renumber, after_take};
@@ -20,8 +20,9 @@ use std::marker::Model;
 /// (Linux's `rcu_segcblist`). Contracts see the list of items, and for how many there is room.
 ///
 /// The done part is the longest front with no callback that is not done. No list begins with a
-/// marker, so each marker has a callback before it. A call is refused only where a growth was, and
-/// leaves its lists as they were; no growth is asked for where there is room.
+/// marker, so each marker has a callback before it. A call is refused only where an allocation
+/// failed, and leaves its lists as they were; where there is room none is made. A list keeps the
+/// most room that it ever had, until [`SegList::shrink`].
 #[derive(Drop)]
 pub struct SegList<T: Drop> {
     /// The items, in four segments.
@@ -59,14 +60,15 @@ impl<T: Drop> SegList<T> {
     /// Queues a callback at the end, without a mark. Costs a step, and one an item where the list
     /// grows.
     ///
-    /// Fault `NoMemory` (16) where there is no room for it and a growth was refused, which hands it
-    /// back.
+    /// Fault `NoMemory` (16) where there is no room for it and an allocation failed; the callback
+    /// is returned.
     pub fn queue(&mut self, item: Queued<T>) -> Result<(), Refused<Queued<T>>>
         ensures ok { OnOk result (self.new.items ≡ self.old.items ++ Of item Unmarked ∷ []) }
         ensures err { IfErr result (λ refused. refused.fault ≡ Fault.NoMemory) }
         ensures handed_back { IfErr result (λ refused. refused.value ≡ item) }
         ensures succeeds { HasRoom self.old 1 → IsOk result }
         ensures unchanged { OnErr result (self.new.items ≡ self.old.items) }
+        ensures room { self.old.room ≤ self.new.room }
     {
         let Ok(()) = self.segments.items.reserve(1) else {
             return Err(Refused {
@@ -80,7 +82,8 @@ impl<T: Drop> SegList<T> {
 
     /// Makes each callback done whose number is at most this one (Linux's `rcu_segcblist_advance`).
     pub fn advance(&mut self, number: u64)
-        ensures { self.new.items ≡ after_advance self.old.items number }
+        ensures items { self.new.items ≡ after_advance self.old.items number }
+        ensures room { self.new.room ≡ self.old.room }
     {
         self.segments.advance(number);
     }
@@ -90,7 +93,8 @@ impl<T: Drop> SegList<T> {
     /// number above it.
     pub fn accelerate(&mut self, snap: u64)
         requires { IsAtMost snap self.old.items }
-        ensures { self.new.items ≡ after_accelerate self.old.items snap }
+        ensures items { self.new.items ≡ after_accelerate self.old.items snap }
+        ensures room { self.new.room ≡ self.old.room }
     {
         self.segments.accelerate(snap);
     }
@@ -99,13 +103,14 @@ impl<T: Drop> SegList<T> {
     /// it is as if just queued, in the order that it has. Done callbacks and markers stay. Costs a
     /// step.
     pub fn renumber(&mut self)
-        ensures { self.new.items ≡ after_renumber self.old.items }
+        ensures items { self.new.items ≡ after_renumber self.old.items }
+        ensures room { self.new.room ≡ self.old.room }
     {
         self.segments.lose_numbers();
     }
 
-    /// Takes the first callbacks of the done part, at most so many, and each marker before the
-    /// first callback that is left. Costs a step for each.
+    /// Takes the first callbacks of the done part, at most `max`, and each marker before the first
+    /// callback that is left. Costs a step for each.
     ///
     /// Fault `NoMemory` (16), only where it has a callback to hand out.
     pub fn take_done(&mut self, max: u64) -> Result<Taken<T>, Fault>
@@ -115,6 +120,7 @@ impl<T: Drop> SegList<T> {
         ensures err { IfErr result (λ fault. fault ≡ Fault.NoMemory) }
         ensures memory { OnErr result (take_answer self.old.items max ≢ []) }
         ensures unchanged { OnErr result (self.new.items ≡ self.old.items) }
+        ensures room { self.new.room ≡ self.old.room }
     {
         let most = self.done_count().min(max);
         let mut calls = Vec::new(self.alloc);
@@ -140,12 +146,14 @@ impl<T: Drop> SegList<T> {
         ensures succeeds { HasRoom target.old (length self.old.items) → IsOk result }
         ensures unchanged { OnErr result (self.new.items ≡ self.old.items) }
         ensures target { OnErr result (target.new.items ≡ target.old.items) }
+        ensures room { self.new.room ≡ self.old.room }
+        ensures target_room { target.old.room ≤ target.new.room }
     {
         self.move_into(target, false)
     }
 
     /// Puts a marker at the end of a list that is not empty (Linux's `rcu_segcblist_entrain`), and
-    /// answers whether it did. An empty list stays as it is, and takes no memory. Costs as
+    /// returns whether it did. An empty list stays as it is, and takes no memory. Costs as
     /// [`SegList::queue`].
     ///
     /// Fault `NoMemory` (16), only where the list is not empty and there is no room for the
@@ -157,6 +165,7 @@ impl<T: Drop> SegList<T> {
         ensures memory { OnErr result (self.old.items ≢ []) }
         ensures succeeds { HasRoom self.old 1 → IsOk result }
         ensures unchanged { OnErr result (self.new.items ≡ self.old.items) }
+        ensures room { self.old.room ≤ self.new.room }
     {
         if self.is_empty() {
             return Ok(false);
@@ -183,6 +192,8 @@ impl<T: Drop> SegList<T> {
             → IsOk result }
         ensures unchanged { OnErr result (self.new.items ≡ self.old.items) }
         ensures target { OnErr result (target.new.items ≡ target.old.items) }
+        ensures room { self.new.room ≡ self.old.room }
+        ensures target_room { target.old.room ≤ target.new.room }
     {
         self.move_into(target, true)
     }
@@ -202,6 +213,8 @@ impl<T: Drop> SegList<T> {
             → IsOk result }
         ensures unchanged { OnErr result (self.new.items ≡ self.old.items) }
         ensures target { OnErr result (target.new.items ≡ target.old.items) }
+        ensures room { self.new.room ≡ self.old.room }
+        ensures target_room { target.old.room ≤ target.new.room }
     {
         if self.is_empty() {
             return Ok(());
@@ -212,6 +225,25 @@ impl<T: Drop> SegList<T> {
         };
         self.segments.carry_into(&mut target.segments, marked);
         Ok(())
+    }
+
+    /// Gives back the memory that its items do not need, as [`VecDeque::shrink_to_fit`]. It keeps
+    /// what it has where the smaller block is refused; an empty list keeps none. Costs a step an
+    /// item.
+    pub fn shrink(&mut self)
+        ensures items { self.new.items ≡ self.old.items }
+        ensures room { self.new.room ≤ self.old.room }
+        ensures empty { self.old.items ≡ [] → self.new.room ≡ 0 }
+    {
+        self.segments.items.shrink_to_fit();
+    }
+
+    /// For how many items there is room before it grows: never fewer than it has.
+    pub fn room(&self) -> u64
+        ensures value { result ≡ self.now.room }
+        ensures fits { length self.now.items ≤ result }
+    {
+        self.segments.items.capacity() as u64
     }
 
     /// Whether it has no item. It never begins with a marker.

@@ -101,6 +101,7 @@ impl<T: Drop> Segments<T> {
         requires room { deque_len self.old.items < deque_capacity self.old.items }
         ensures kept { IsCut self.new }
         ensures items { seen self.new ≡ seen self.old ++ Of call Unmarked ∷ [] }
+        ensures capacity { deque_capacity self.new.items ≡ deque_capacity self.old.items }
     {
         self.items.push_back_reserved(Kept::Call(call));
         self.calls += 1;
@@ -113,6 +114,7 @@ impl<T: Drop> Segments<T> {
         requires room { deque_len self.old.items < deque_capacity self.old.items }
         ensures kept { IsCut self.new }
         ensures items { seen self.new ≡ after_entrain (seen self.old) }
+        ensures capacity { deque_capacity self.new.items ≡ deque_capacity self.old.items }
     {
         let end = self.items.len();
         self.items.push_back_reserved(Kept::Marker);
@@ -127,6 +129,7 @@ impl<T: Drop> Segments<T> {
         requires kept { IsCut self.old }
         ensures kept { IsCut self.new }
         ensures items { seen self.new ≡ after_advance (seen self.old) number }
+        ensures capacity { deque_capacity self.new.items ≡ deque_capacity self.old.items }
     {
         if !self.wait_is_reached(number) {
             return;
@@ -148,6 +151,7 @@ impl<T: Drop> Segments<T> {
         requires most { IsAtMost snap (seen self.old) }
         ensures kept { IsCut self.new }
         ensures items { seen self.new ≡ after_accelerate (seen self.old) snap }
+        ensures capacity { deque_capacity self.new.items ≡ deque_capacity self.old.items }
     {
         if self.ready_is_below(snap) {
             return;
@@ -167,7 +171,7 @@ impl<T: Drop> Segments<T> {
     }
 
     /// Takes the first callbacks of DONE, so many, and each marker before the first callback that
-    /// is left. Answers how many markers.
+    /// is left. Returns how many markers.
     pub(crate) fn take(&mut self, calls: &mut Vec<Queued<T>>, most: u64) -> u64
         requires kept { IsCut self.old }
         requires room { vec_len calls.old + most ≤ vec_capacity calls.old }
@@ -176,6 +180,7 @@ impl<T: Drop> Segments<T> {
         ensures calls { calls.new.items ≡ calls.old.items ++ take_answer (seen self.old) most }
         ensures markers { result ≡ markers_passed (seen self.old) most }
         ensures items { seen self.new ≡ after_take (seen self.old) most }
+        ensures capacity { deque_capacity self.new.items ≡ deque_capacity self.old.items }
     {
         let markers = take_first(&mut self.items, calls, most);
         let gone = Tail {
@@ -217,9 +222,12 @@ impl<T: Drop> Segments<T> {
         ensures there { IsCut target.new }
         ensures target { seen target.new
             ≡ after_migrate (seen target.old) (as_it_leaves (seen self.old) marked) }
+        ensures capacity { deque_capacity self.new.items ≡ deque_capacity self.old.items }
+        ensures target_capacity { deque_capacity target.old.items
+            ≤ deque_capacity target.new.items }
     {
         self.lose_numbers();
-        // NEXT begins where DONE ends now.
+        // With no numbers WAIT and NEXT_READY are empty: `ready` stands where DONE ends.
         let Tail { items, calls } = self.ready;
         let front = Tail {
             items: join_marked(&mut target.items, &mut self.items, items, marked),

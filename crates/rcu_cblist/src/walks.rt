@@ -11,7 +11,7 @@ use crate::queued::Queued;
 use std::collections::VecDeque;
 
 /// Takes the first callbacks, so many, and each marker before the first callback that is left.
-/// Answers how many markers.
+/// Returns how many markers.
 #[tactic(auto, using(crate::proofs::Lists::map_split, crate::proofs::Lists::gone_more))]
 pub(crate) fn take_first<T: Drop>(
     items: &mut VecDeque<Kept<T>>,
@@ -28,6 +28,7 @@ pub(crate) fn take_first<T: Drop>(
     ensures left { most + result + length items.new.items ≡ length items.old.items }
     ensures markers { result + markers (unmarked items.new.items)
         ≡ markers (unmarked items.old.items) }
+    ensures capacity { deque_capacity items.new ≡ deque_capacity items.old }
 {
     let mut markers = 0;
     let mut left = most;
@@ -51,7 +52,7 @@ pub(crate) fn take_first<T: Drop>(
 }
 
 /// Puts the first items before a target's, and the rest behind them. Where that is wanted, a marker
-/// stands behind the last of them. Answers how many went in front.
+/// stands behind the last of them. Returns how many went in front.
 pub(crate) fn join_marked<T: Drop>(
     target: &mut VecDeque<Kept<T>>,
     items: &mut VecDeque<Kept<T>>,
@@ -65,6 +66,8 @@ pub(crate) fn join_marked<T: Drop>(
     ensures target { target.new.items ≡ moved_in_front items.old.items ahead marked
         ++ (target.old.items ++ moved_behind items.old.items ahead marked) }
     ensures items { items.new.items ≡ [] }
+    ensures capacity { deque_capacity items.new ≡ deque_capacity items.old }
+    ensures target_capacity { deque_capacity target.old ≤ deque_capacity target.new }
 {
     if !marked {
         join_around(target, items, ahead);
@@ -89,7 +92,8 @@ fn join_around<T: Drop>(target: &mut VecDeque<T>, items: &mut VecDeque<T>, ahead
         ≡ take ahead items.old.items ++ (target.old.items ++ drop ahead items.old.items) }
     ensures items { items.new.items ≡ [] }
     ensures len { deque_len target.new ≡ deque_len target.old + deque_len items.old }
-    ensures capacity { deque_capacity target.old ≤ deque_capacity target.new }
+    ensures capacity { deque_capacity items.new ≡ deque_capacity items.old }
+    ensures target_capacity { deque_capacity target.old ≤ deque_capacity target.new }
 {
     items.rotate_left(ahead);
     let Ok(()) = target.append(items) else {

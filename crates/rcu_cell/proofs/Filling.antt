@@ -7,20 +7,20 @@ use mathlib.Core.Logic.{dite}
 use native.Mathlib.Decide.{ℕ_discrete}
 use Rattle.rcu_live.specs.Board.{Object}
 use Rattle.rcu_live.specs.View.{IsOfWatcher}
-use Rattle.rcu_live.specs.Watcher.{Watching, after_use}
+use Rattle.rcu_live.specs.Watcher.{Watching, after_word_step}
 use Rattle.rcu_cell.specs.Cell.{IsWatcherOf}
 use Rattle.rcu_cell.specs.Versions.{IsKeeping, filled, no_version, slot_in, slots_in, version_at, with_word}
 use Rattle.rcu_cell.specs.declared.known.Known.{Known}
-use Rattle.rcu_cell.specs.declared.known.Known.TheVariants.{Idle, Opens, Reads, Keeps}
+use Rattle.rcu_cell.specs.declared.known.Known.TheVariants.{Idle, Owner, Reader, Keeper}
 use Rattle.rcu_cell.specs.declared.known.Version.{Version}
 use Rattle.rcu_cell.specs.declared.slot_state.SlotState.{SlotState}
 use Rattle.rcu_cell.specs.declared.slot_state.SlotState.TheVariants.{Free}
 
-pub known_is : (known : Known) → IsKeeping known → Keeps (slot_in known) (slots_in known) ≡ known
+pub known_is : (known : Known) → IsKeeping known → Keeper (slot_in known) (slots_in known) ≡ known
 known_is Idle keeps = absurd keeps
-known_is Opens keeps = absurd keeps
-known_is (Reads i words) keeps = absurd keeps
-known_is (Keeps c s) keeps = refl
+known_is Owner keeps = absurd keeps
+known_is (Reader i words) keeps = absurd keeps
+known_is (Keeper c s) keeps = refl
 
 -- a free slot has its own words
 filled_again : (s : List Version) (i : ℕ) → (version_at s i).state ≡ Free → filled s i (version_at s i).words ≡ s
@@ -30,10 +30,10 @@ filled_again s i free =
 
 pub filled_first : (seat : Watching Known) (i : ℕ) → IsKeeping seat.view.client
     → (version_at (slots_in seat.view.client) i).state ≡ Free
-    → seat ≡ after_use seat (Keeps (slot_in seat.view.client) (filled (slots_in seat.view.client) i (version_at (slots_in seat.view.client) i).words))
+    → seat ≡ after_word_step seat (Keeper (slot_in seat.view.client) (filled (slots_in seat.view.client) i (version_at (slots_in seat.view.client) i).words))
 filled_first seat i keeps free =
-    sym (ap (λ (k : Known). after_use seat k)
-    (ap (λ (l : List Version). Keeps (slot_in seat.view.client) l) (filled_again (slots_in seat.view.client) i free) ∙ known_is seat.view.client keeps))
+    sym (ap (λ (k : Known). after_word_step seat k)
+    (ap (λ (l : List Version). Keeper (slot_in seat.view.client) l) (filled_again (slots_in seat.view.client) i free) ∙ known_is seat.view.client keeps))
 
 -- one word more
 pub filled_more : (s : List Version) (i k x : ℕ) (words : List ℕ) → i < length s
@@ -72,7 +72,7 @@ pub record IsReady (o : Object) (seat : Watching Known) (i : ℕ) : Type 0 where
   pub free : (version_at (slots_in seat.view.client) i).state ≡ Free
 
 pub ready : (o : Object) (old now : Watching Known) (c i : ℕ) (s : List Version) (words : List ℕ)
-    → now ≡ after_use old (Keeps c (filled s i words))
+    → now ≡ after_word_step old (Keeper c (filled s i words))
     → IsWatcherOf o old → IsOfWatcher old.view → i < length s → IsReady o now i
 ready o old now c i s words is seat role low = subst (λ (w : Watching Known). IsReady o w i) (sym is) record {
   seat_of = seat;
@@ -83,10 +83,10 @@ ready o old now c i s words is seat role low = subst (λ (w : Watching Known). I
 }
 
 pub fill_more : (old now next : Watching Known) (c i k x : ℕ) (s : List Version) (words : List ℕ)
-    → now ≡ after_use old (Keeps c (filled s i words))
-    → next ≡ after_use now (Keeps (slot_in now.view.client) (with_word (slots_in now.view.client) i k x)) → i < length s
-    → next ≡ after_use old (Keeps c (filled s i (set words k x)))
+    → now ≡ after_word_step old (Keeper c (filled s i words))
+    → next ≡ after_word_step now (Keeper (slot_in now.view.client) (with_word (slots_in now.view.client) i k x)) → i < length s
+    → next ≡ after_word_step old (Keeper c (filled s i (set words k x)))
 fill_more old now next c i k x s words is more low =
     more
-    ∙ ap (λ (w : Watching Known). after_use w (Keeps (slot_in w.view.client) (with_word (slots_in w.view.client) i k x))) is
-    ∙ ap (λ (l : List Version). after_use old (Keeps c l)) (filled_more s i k x words low)
+    ∙ ap (λ (w : Watching Known). after_word_step w (Keeper (slot_in w.view.client) (with_word (slots_in w.view.client) i k x))) is
+    ∙ ap (λ (l : List Version). after_word_step old (Keeper c l)) (filled_more s i k x words low)

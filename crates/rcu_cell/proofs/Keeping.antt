@@ -2,11 +2,11 @@
 use Rattle.std.proofs.Common.{◌≡◌, ℕ, List, length, map, set, refl, sym, ap, ◌∙◌, subst}
 use Rattle.rcu_seq.specs.Numbers.{Number}
 use Rattle.rcu_live.specs.View.{IsOfWatcher}
-use Rattle.rcu_live.specs.Watcher.{Watching, after_use}
+use Rattle.rcu_live.specs.Watcher.{Watching, after_word_step}
 use Rattle.rcu_cell.specs.Keeper.{IsFirstFree, after_age, after_update}
 use Rattle.rcu_cell.specs.Versions.{AreSized, IsKeeping, aged_state, filled, published, slot_in, slots_in, state_of}
 use Rattle.rcu_cell.specs.declared.known.Known.{Known}
-use Rattle.rcu_cell.specs.declared.known.Known.TheVariants.{Keeps}
+use Rattle.rcu_cell.specs.declared.known.Known.TheVariants.{Keeper}
 use Rattle.rcu_cell.specs.declared.slot_state.SlotState.{SlotState}
 use Rattle.rcu_cell.specs.declared.slot_state.SlotState.TheVariants.{Shown, Replaced}
 use Rattle.rcu_cell.proofs.States.{sized_aged, sized_updated, states_aged, states_updated}
@@ -21,12 +21,12 @@ pub record IsKeptBeside (width : ℕ) (seat : Watching Known) (items : List Slot
 pub kept_updated : (width : ℕ) (old mid next : Watching Known) (items : List SlotState) (shown by : ℕ) (words : List ℕ)
     → IsKeptBeside width old items shown
     → IsFirstFree (slots_in old.view.client) by → length words ≡ width
-    → mid ≡ after_use old (Keeps (slot_in old.view.client) (filled (slots_in old.view.client) by words))
-    → next ≡ after_use mid (Keeps by (published (slots_in mid.view.client) (slot_in mid.view.client) by))
+    → mid ≡ after_word_step old (Keeper (slot_in old.view.client) (filled (slots_in old.view.client) by words))
+    → next ≡ after_word_step mid (Keeper by (published (slots_in mid.view.client) (slot_in mid.view.client) by))
     → IsKeptBeside width next (set (set items shown Replaced) by Shown) by
 kept_updated width old mid next items shown by words k first size is then_is =
     let both : next ≡ after_update old by words =
-    then_is ∙ ap (λ (w : Watching Known). after_use w (Keeps by (published (slots_in w.view.client) (slot_in w.view.client) by))) is in
+    then_is ∙ ap (λ (w : Watching Known). after_word_step w (Keeper by (published (slots_in w.view.client) (slot_in w.view.client) by))) is in
     subst (λ (w : Watching Known). IsKeptBeside width w (set (set items shown Replaced) by Shown) by)
     (sym both) record {
       role = k.role;

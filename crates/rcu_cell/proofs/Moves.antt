@@ -10,7 +10,7 @@ use native.Mathlib.Decide.{ℕ_discrete}
 use lib.ListN.{get_elem?, length-map}
 use Rattle.atomic_table.proofs.Lists.{at_set, set_here, set_else, at_map}
 use Rattle.rcu_seq.specs.Numbers.{Number}
-use Rattle.rcu_live.specs.Client.{Homes, Picture, Sees, Uses}
+use Rattle.rcu_live.specs.Client.{Slots, Views, AllowsNumber, AllowsWord}
 use Rattle.rcu_live.specs.Numbers.{is_open_at, is_past}
 use Rattle.rcu_live.proofs.ClientLemmas.{at_map_back, not_open_past}
 use Rattle.rcu_cell.specs.Rule.{IsKept, Knows, Reading}
@@ -20,7 +20,7 @@ use Rattle.rcu_cell.specs.Versions.{IsKeeping, IsReading, IsWhole, MayRead, aged
 use Rattle.rcu_cell.specs.Versions.{first_slots, no_version, published, slot_in, slots_in, version_at, with_word}
 use Rattle.rcu_cell.specs.Versions.{word_of}
 use Rattle.rcu_cell.specs.declared.known.Known.{Known}
-use Rattle.rcu_cell.specs.declared.known.Known.TheVariants.{Idle, Opens, Reads, Keeps}
+use Rattle.rcu_cell.specs.declared.known.Known.TheVariants.{Idle, Owner, Reader, Keeper}
 use Rattle.rcu_cell.specs.declared.known.Version.{Version}
 use Rattle.rcu_cell.specs.declared.slot_state.SlotState.{SlotState}
 use Rattle.rcu_cell.specs.declared.slot_state.SlotState.TheVariants.{Free, Shown, Replaced, Retired}
@@ -40,21 +40,21 @@ at_inside (x ∷ xs) (suc i) d low = at_inside xs i d (omega (arith, low))
 not_both : (st : SlotState) → st ≡ Shown → st ≡ Free → ⊥
 not_both st a b = cc
 
-module _ (fits : List ℕ → Type 0) (width count : ℕ) where
+module _ (holds : List ℕ → Type 0) (width count : ℕ) where
   -- the keeper's step: the slots become these, and who reads one goes on
-  rekeep : (ws ws' : List ℕ) (homes : Homes (Unit {0})) (xs : Picture Known) (h : IsKept fits width count ws homes xs)
+  rekeep : (ws ws' : List ℕ) (homes : Slots (Unit {0})) (xs : Views Known) (h : IsKept holds width count ws homes xs)
       (id : ℕ) (cpu section : Option ℕ) (known : Known)
       → get_elem? xs id ≡ some (cpu, section, known) → h.keeper ≡ id → (c' : ℕ) (s' : List Version)
       → length s' ≡ count → length ws' ≡ first_place + width * count → slice_index ws' 0 ≡ c' → (now : List ℕ)
       → get_elem? s' c' ≡ some record { state = Shown; words = now }
       → ((i : ℕ) (v : Version) → get_elem? s' i ≡ some v → v.state ≡ Shown → i ≡ c')
       → ((i : ℕ) (v : Version) → get_elem? s' i ≡ some v → (k : ℕ) → k < width → slice_index ws' (word_of width i k) ≡ slice_index v.words k)
-      → ((i : ℕ) (v : Version) → get_elem? s' i ≡ some v → IsWhole fits v.state v.words)
+      → ((i : ℕ) (v : Version) → get_elem? s' i ≡ some v → IsWhole holds v.state v.words)
       → ((i : ℕ) (v : Version) → get_elem? s' i ≡ some v → length v.words ≡ width)
       → ((j at i : ℕ) (who : Option ℕ) (d : Known) (words : List ℕ) (st : SlotState) → get_elem? xs j ≡ some (who, Some at, d)
       → get_elem? h.slots i ≡ some record { state = st; words = words } → MayRead at st
       → (st' : SlotState) × (get_elem? s' i ≡ some record { state = st'; words = words }) × MayRead at st')
-      → IsKept fits width count ws' homes (set xs id (cpu, section, Keeps c' s'))
+      → IsKept holds width count ws' homes (set xs id (cpu, section, Keeper c' s'))
   rekeep ws ws' homes xs h id cpu section known at is_keeper c' s' few long at_shown now current lone written whole sized reads = record {
     slots = s';
     shown = c';
@@ -68,68 +68,68 @@ module _ (fits : List ℕ → Type 0) (width count : ℕ) where
     written = written;
     whole = whole;
     sized = sized;
-    seats = λ j who o d e. reseat (SeatKnows width count s' c' id) xs id (cpu, section, Keeps c' s') (refl, refl, refl)
+    seats = λ j who o d e. reseat (SeatKnows width count s' c' id) xs id (cpu, section, Keeper c' s') (refl, refl, refl)
         (λ i y apart f. other i y.0 y.1 y.2 apart f (h.seats i y.0 y.1 y.2 f)) j (who, o, d) e;
   }
     where
       other : (j : ℕ) (who o : Option ℕ) (d : Known) → j ≢ id → get_elem? xs j ≡ some (who, o, d)
           → Knows width count h.slots h.shown h.keeper j o d → Knows width count s' c' id j o d
       other j who o Idle apart e k = tt
-      other j who o Opens apart e k = absurd (apart (sym k.3 ∙ is_keeper))
-      other j who o (Reads i words) apart e k =
-          let r = reads j k.opened i who (Reads i words) words k.state (subst (λ (q : Option ℕ). get_elem? xs j ≡ some (who, q, Reads i words)) k.is_open e) k.here k.may in
+      other j who o Owner apart e k = absurd (apart (sym k.3 ∙ is_keeper))
+      other j who o (Reader i words) apart e k =
+          let r = reads j k.opened i who (Reader i words) words k.state (subst (λ (q : Option ℕ). get_elem? xs j ≡ some (who, q, Reader i words)) k.is_open e) k.here k.may in
           record { opened = k.opened; is_open = k.is_open; state = r.0; here = r.1; may = r.2 }
-      other j who o (Keeps c s) apart e k = absurd (apart (sym k.2 ∙ is_keeper))
+      other j who o (Keeper c s) apart e k = absurd (apart (sym k.2 ∙ is_keeper))
 
   -- the load of the word that names the shown slot
   pub loads : (cpu : Option ℕ) (at : ℕ) (was : Known)
-      → Uses (IsKept fits width count) cpu (Some at) was 0 (λ n. n) (λ slot now. IsLoaded fits width count slot now)
+      → AllowsWord (IsKept holds width count) cpu (Some at) was 0 (λ n. n) (λ slot now. IsLoaded holds width count slot now)
   loads cpu at was n ws homes xs id h are lone there =
       let i : ℕ = slice_index ws 0 in
-      let w : Known = Reads i h.words_shown in
+      let w : Known = Reader i h.words_shown in
       let here : get_elem? h.slots i ≡ some record { state = Shown; words = h.words_shown } =
       subst (λ (m : ℕ). get_elem? h.slots m ≡ some record { state = Shown; words = h.words_shown })
       (sym h.at_shown) h.current in
       let low : i < length h.slots = inside h.slots i _ here in
       let reading : Reading h.slots (Some at) i h.words_shown =
       record { opened = at; is_open = refl; state = Shown; here = here; may = tt } in
-      let after : IsKept fits width count ws homes (set xs id (cpu, Some at, w)) =
-      one_changes fits width count ws homes xs h id (cpu, Some at, w) reading in (
+      let after : IsKept holds width count ws homes (set xs id (cpu, Some at, w)) =
+      one_changes holds width count ws homes xs h id (cpu, Some at, w) reading in (
         w,
-        subst (λ (l : List ℕ). IsKept fits width count l homes (set xs id (cpu, Some at, w)))
+        subst (λ (l : List ℕ). IsKept holds width count l homes (set xs id (cpu, Some at, w)))
             (sym (set-get_or ws 0 0)) after,
         record { words = h.words_shown; is = refl; inside = omega (arith, low, h.few); size = h.sized i _ here; whole = h.whole i _ here },
       )
 
   -- the load of a word of the version that the section reads
   pub reads_word : (cpu section : Option ℕ) (i k : ℕ) (words : List ℕ) → k < width
-      → Uses (IsKept fits width count) cpu section (Reads i words) (word_of width i k) (λ n. n)
-      (IsRead width (word_of width i k) (Reads i words))
+      → AllowsWord (IsKept holds width count) cpu section (Reader i words) (word_of width i k) (λ n. n)
+      (IsRead width (word_of width i k) (Reader i words))
   reads_word cpu section i k words low n ws homes xs id h are lone there =
-      let r = h.seats id cpu section (Reads i words) there in
-      let w : Known = Reads i words in
+      let r = h.seats id cpu section (Reader i words) there in
+      let w : Known = Reader i words in
       let p : ℕ = word_of width i k in
       let found : slice_index ws p ≡ slice_index words k = h.written i _ r.here k low in
-      let after : IsKept fits width count ws homes (set xs id (cpu, section, w)) =
-      one_changes fits width count ws homes xs h id (cpu, section, w) r in (
+      let after : IsKept holds width count ws homes (set xs id (cpu, section, w)) =
+      one_changes holds width count ws homes xs h id (cpu, section, w) r in (
         w,
-        subst (λ (l : List ℕ). IsKept fits width count l homes (set xs id (cpu, section, w)))
+        subst (λ (l : List ℕ). IsKept holds width count l homes (set xs id (cpu, section, w)))
             (sym (set-get_or ws p 0)) after,
         (refl, λ l high is. found ∙ ap (λ (m : ℕ). slice_index words m) (word_told width i i k l refl is)),
       )
 
   -- the load by which the slots are kept from now on
   pub claims : (cpu section : Option ℕ)
-      → Uses (IsKept fits width count) cpu section Opens 0 (λ n. n) (λ _ now. IsClaimed fits width count now)
+      → AllowsWord (IsKept holds width count) cpu section Owner 0 (λ n. n) (λ _ now. IsClaimed holds width count now)
   claims cpu section n ws homes xs id h are lone there =
-      let k = h.seats id cpu section Opens there in
-      let w : Known = Keeps 0 (first_slots width count k.0) in
+      let k = h.seats id cpu section Owner there in
+      let w : Known = Keeper 0 (first_slots width count k.0) in
       let here : get_elem? h.slots 0 ≡ some record { state = Shown; words = k.0 } =
       ap (λ (l : List Version). get_elem? l 0) k.1 in
-      let after : IsKept fits width count ws homes (set xs id (cpu, section, w)) =
-      one_changes fits width count ws homes xs h id (cpu, section, w) (sym k.2, sym k.1, k.3) in (
+      let after : IsKept holds width count ws homes (set xs id (cpu, section, w)) =
+      one_changes holds width count ws homes xs h id (cpu, section, w) (sym k.2, sym k.1, k.3) in (
         w,
-        subst (λ (l : List ℕ). IsKept fits width count l homes (set xs id (cpu, section, w)))
+        subst (λ (l : List ℕ). IsKept holds width count l homes (set xs id (cpu, section, w)))
             (sym (set-get_or ws 0 0)) after,
         record { words = k.0; is = refl; size = h.sized 0 _ here; whole = h.whole 0 _ here },
       )
@@ -137,16 +137,16 @@ module _ (fits : List ℕ → Type 0) (width count : ℕ) where
   -- a word of a free slot is stored
   pub writes : (cpu section : Option ℕ) (c i k x : ℕ) (s : List Version) → i < length s → (version_at s i).state ≡ Free
       → k < width
-      → Uses (IsKept fits width count) cpu section (Keeps c s) (word_of width i k) (λ _. x)
-      (λ _ now. IsWritten width (word_of width i k) (Keeps c s) x now)
+      → AllowsWord (IsKept holds width count) cpu section (Keeper c s) (word_of width i k) (λ _. x)
+      (λ _ now. IsWritten width (word_of width i k) (Keeper c s) x now)
   writes cpu section c i k x s bound free low n ws homes xs id h are lone at =
-      let mine = h.seats id cpu section (Keeps c s) at in
+      let mine = h.seats id cpu section (Keeper c s) at in
       let u : Version = version_at s i in
       let there : get_elem? s i ≡ some u = at_inside s i no_version bound in
       let p : ℕ = word_of width i k in
       let new : Version = record { state = Free; words = set u.words k x } in
       let s' : List Version = set s i new in
-      let w : Known = Keeps c s' in
+      let w : Known = Keeper c s' in
       let same : s ≡ h.slots = mine.1 in
       let few : length s ≡ count = ap length same ∙ h.few in
       let long : length ws ≡ first_place + width * count = h.long in
@@ -160,7 +160,7 @@ module _ (fits : List ℕ → Type 0) (width count : ℕ) where
       let within : p < length ws =
       let q = place_inside width count i k (omega (arith, bound, few)) low in omega (arith, q, long) in (
         w,
-        rekeep ws (set ws p x) homes xs h id cpu section (Keeps c s) at mine.2 c s' (length-set s i new ∙ few)
+        rekeep ws (set ws p x) homes xs h id cpu section (Keeper c s) at mine.2 c s' (length-set s i new ∙ few)
             (length-set ws p x ∙ long)
             (get_or-set_other ws p 0 x 0 (λ e. absurd (omega (arith, e))) ∙ (h.at_shown ∙ sym mine.0)) h.words_shown
             (set_else s i c new apart ∙ now)
@@ -175,7 +175,7 @@ module _ (fits : List ℕ → Type 0) (width count : ℕ) where
             (λ (ne : k' ≢ k). get_or-set_other ws p (word_of width i k') x 0 (λ e'. ne (word_told width i i k' k refl e')) ∙ (h.written i u (in_h i u there) k' low' ∙ sym (get_or-set_other u.words k k' x 0 ne)))))
             (λ (t : (j ≢ i) × (get_elem? s j ≡ some v)). get_or-set_other ws p (word_of width j k') x 0 (places_differ width j i k' k t.0 low' low) ∙ h.written j v (in_h j v t.1) k' low')
             (at_set s i j new v e))
-            (λ j v e. ⊎_elim (λ (t : (j ≡ i) × (new ≡ v)). subst (λ (y : Version). IsWhole fits y.state y.words) t.1 tt)
+            (λ j v e. ⊎_elim (λ (t : (j ≡ i) × (new ≡ v)). subst (λ (y : Version). IsWhole holds y.state y.words) t.1 tt)
             (λ (t : (j ≢ i) × (get_elem? s j ≡ some v)). h.whole j v (in_h j v t.1)) (at_set s i j new v e))
             (λ j v e. ⊎_elim (λ (t : (j ≡ i) × (new ≡ v)). ap (λ (y : Version). length y.words) (sym t.1) ∙ (length-set u.words k x ∙ many))
             (λ (t : (j ≢ i) × (get_elem? s j ≡ some v)). h.sized j v (in_h j v t.1)) (at_set s i j new v e))
@@ -186,7 +186,7 @@ module _ (fits : List ℕ → Type 0) (width count : ℕ) where
         λ i' k' low' is.
             let one : i ≡ i' = slot_told width i i' k k' low low' is in
             let two : k ≡ k' = word_told width i i' k k' one is in
-            ap (λ (y : ℕ × ℕ). Keeps c (with_word s y.0 y.1 x)) (λ z. (one z, two z)),
+            ap (λ (y : ℕ × ℕ). Keeper c (with_word s y.0 y.1 x)) (λ z. (one z, two z)),
       )
 
   -- who has an open section may read the slot after a look at the number, if it might before
@@ -206,13 +206,13 @@ module _ (fits : List ℕ → Type 0) (width count : ℕ) where
           true_false e = cc
       past false is = may
 
-  aged_whole : (n : ℕ) (st : SlotState) (words : List ℕ) → IsWhole fits st words → IsWhole fits (aged_state n st) words
+  aged_whole : (n : ℕ) (st : SlotState) (words : List ℕ) → IsWhole holds st words → IsWhole holds (aged_state n st) words
   aged_whole n Free words h = h
   aged_whole n Shown words h = h
   aged_whole n Replaced words h = h
   aged_whole n (Retired number) words h = past (is_past number n)
     where
-      past : (b : Bool) → IsWhole fits (if b then Free else Retired number) words
+      past : (b : Bool) → IsWhole holds (if b then Free else Retired number) words
       past true = tt
       past false = h
 
@@ -228,9 +228,9 @@ module _ (fits : List ℕ → Type 0) (width count : ℕ) where
 
   -- the keeper's look: what no section may read any more is free
   pub ages : (cpu section : Option ℕ) (c : ℕ) (s : List Version)
-      → Sees (IsKept fits width count) cpu section (Keeps c s) (IsAged (Keeps c s))
+      → AllowsNumber (IsKept holds width count) cpu section (Keeper c s) (IsAged (Keeper c s))
   ages cpu section c s n ws homes xs id h are lone at =
-      let mine = h.seats id cpu section (Keeps c s) at in
+      let mine = h.seats id cpu section (Keeper c s) at in
       let same : s ≡ h.slots = mine.1 in
       let s' : List Version = aged n s in
       let back : (j : ℕ) (v : Version) → get_elem? s' j ≡ some v
@@ -239,12 +239,12 @@ module _ (fits : List ℕ → Type 0) (width count : ℕ) where
       let now : get_elem? s c ≡ some record { state = Shown; words = h.words_shown } =
       subst (λ (y : List Version × ℕ). get_elem? y.0 y.1 ≡ some record { state = Shown; words = h.words_shown })
       (λ z. (sym same z, sym mine.0 z)) h.current in (
-        Keeps c s',
-        rekeep ws ws homes xs h id cpu section (Keeps c s) at mine.2 c s' (length-map s (aged_version n) ∙ (ap length same ∙ h.few)) h.long (h.at_shown ∙ sym mine.0) h.words_shown
+        Keeper c s',
+        rekeep ws ws homes xs h id cpu section (Keeper c s) at mine.2 c s' (length-map s (aged_version n) ∙ (ap length same ∙ h.few)) h.long (h.at_shown ∙ sym mine.0) h.words_shown
             (at_map (aged_version n) s c _ now)
             (λ j v e shown. let t = back j v e in h.lone j t.0 t.1 (aged_shown n t.0.state (ap (λ (y : Version). y.state) t.2 ∙ shown)) ∙ sym mine.0)
             (λ j v e k low. let t = back j v e in h.written j t.0 t.1 k low ∙ ap (λ (y : Version). get_or y.words k 0) t.2)
-            (λ j v e. let t = back j v e in subst (λ (y : Version). IsWhole fits y.state y.words) t.2 (aged_whole n t.0.state t.0.words (h.whole j t.0 t.1)))
+            (λ j v e. let t = back j v e in subst (λ (y : Version). IsWhole holds y.state y.words) t.2 (aged_whole n t.0.state t.0.words (h.whole j t.0 t.1)))
             (λ j v e. let t = back j v e in ap (λ (y : Version). length y.words) (sym t.2) ∙ h.sized j t.0 t.1)
             (λ j a q who d words st e here may.
             (aged_state n st, at_map (aged_version n) s q record { state = st; words = words } (ap (λ (l : List Version). get_elem? l q) same ∙ here), ages_state a n st (are j a who d e) may)),
@@ -252,15 +252,15 @@ module _ (fits : List ℕ → Type 0) (width count : ℕ) where
       )
 
   shown_fits : (v : Version) (words : List ℕ) → v ≡ record { state = Shown; words = words }
-      → IsWhole fits v.state v.words → fits v.words
-  shown_fits v words e w = subst (λ (y : SlotState). IsWhole fits y v.words) (ap (λ (x : Version). x.state) e) w
+      → IsWhole holds v.state v.words → holds v.words
+  shown_fits v words e w = subst (λ (y : SlotState). IsWhole holds y v.words) (ap (λ (x : Version). x.state) e) w
 
   -- a free slot is shown in place of the shown one
   pub publishes : (cpu section : Option ℕ) (c i : ℕ) (s : List Version) → i < length s → (version_at s i).state ≡ Free
-      → fits (version_at s i).words
-      → Uses (IsKept fits width count) cpu section (Keeps c s) 0 (λ _. i) (λ _ now. IsPublished (Keeps c s) i now)
+      → holds (version_at s i).words
+      → AllowsWord (IsKept holds width count) cpu section (Keeper c s) 0 (λ _. i) (λ _ now. IsPublished (Keeper c s) i now)
   publishes cpu section c i s bound free fit n ws homes xs id h are lone at =
-      let mine = h.seats id cpu section (Keeps c s) at in
+      let mine = h.seats id cpu section (Keeper c s) at in
       let same : s ≡ h.slots = mine.1 in
       let in_h : (j : ℕ) (v : Version) → get_elem? s j ≡ some v → get_elem? h.slots j ≡ some v =
       λ j v e. subst (λ (l : List Version). get_elem? l j ≡ some v) same e in
@@ -293,8 +293,8 @@ module _ (fits : List ℕ → Type 0) (width count : ℕ) where
       (λ (t : (j ≢ c) × (get_elem? s j ≡ some v)). rest j v ne t.0 (in_h j v t.1)) (at_set s c j old' v e)) in
       let still : (j k : ℕ) → get_or (set ws 0 i) (word_of width j k) 0 ≡ get_or ws (word_of width j k) 0 =
       λ j k. get_or-set_other ws 0 (word_of width j k) i 0 (λ e. absurd (omega (arith, e))) in
-      let after : IsKept fits width count (set ws 0 i) homes (set xs id (cpu, section, Keeps i s₂)) =
-      rekeep ws (set ws 0 i) homes xs h id cpu section (Keeps c s) at mine.2 i s₂
+      let after : IsKept holds width count (set ws 0 i) homes (set xs id (cpu, section, Keeper i s₂)) =
+      rekeep ws (set ws 0 i) homes xs h id cpu section (Keeper c s) at mine.2 i s₂
       (length-set s₁ i new' ∙ (length-set s c old' ∙ (ap length same ∙ h.few))) (length-set ws 0 i ∙ long)
       (get_or-set_same ws 0 i 0 (omega (arith, long))) new.words (set_here s₁ i new' low)
       (each (λ j v. v.state ≡ Shown → j ≡ i) (λ e. refl) (λ e. absurd (cc)) (λ j v ne ne' e shown. absurd (ne' (h.lone j v e shown ∙ sym mine.0))))
@@ -302,7 +302,7 @@ module _ (fits : List ℕ → Type 0) (width count : ℕ) where
       (λ k b. still i k ∙ h.written i new (in_h i new at_new) k b)
       (λ k b. still c k ∙ h.written c old (in_h c old at_old) k b)
       (λ j v ne ne' e k b. still j k ∙ h.written j v e k b))
-      (each (λ j v. IsWhole fits v.state v.words) fit (shown_fits old h.words_shown was (h.whole c old (in_h c old at_old))) (λ j v ne ne' e. h.whole j v e))
+      (each (λ j v. IsWhole holds v.state v.words) fit (shown_fits old h.words_shown was (h.whole c old (in_h c old at_old))) (λ j v ne ne' e. h.whole j v e))
       (each (λ j v. length v.words ≡ width) (h.sized i new (in_h i new at_new)) (h.sized c old (in_h c old at_old)) (λ j v ne ne' e. h.sized j v e))
       (λ j a q who d words st e here may. dite (ℕ_discrete q i)
       (λ (is : q ≡ i). let both : new ≡ record { state = st; words = words } = some-injective _ _ (sym (in_h i new at_new) ∙ (ap (λ (m : ℕ). get_elem? h.slots m) (sym is) ∙ here)) in
@@ -311,54 +311,54 @@ module _ (fits : List ℕ → Type 0) (width count : ℕ) where
       (λ (is : q ≡ c). let both : old ≡ record { state = st; words = words } = some-injective _ _ (sym (in_h c old at_old) ∙ (ap (λ (m : ℕ). get_elem? h.slots m) (sym is) ∙ here)) in
       (Replaced, set_else s₁ i q new' ne ∙ (ap (λ (m : ℕ). get_elem? s₁ m) is ∙ (set_here s c old' low_c ∙ ap (λ (l : List ℕ). some record { state = Replaced; words = l }) (ap (λ (y : Version). y.words) both))), tt))
       (λ (ne' : q ≢ c). (st, set_else s₁ i q new' ne ∙ (set_else s c q old' ne' ∙ (ap (λ (l : List Version). get_elem? l q) same ∙ here)), may)))) in (
-        Keeps i s',
-        subst (λ (l : List Version). IsKept fits width count (set ws 0 i) homes (set xs id (cpu, section, Keeps i l))) is after,
+        Keeper i s',
+        subst (λ (l : List Version). IsKept holds width count (set ws 0 i) homes (set xs id (cpu, section, Keeper i l))) is after,
         refl,
       )
 
   -- the same where a section is open, and at a view that reads a version
   pub loads_open : (cpu section : Option ℕ) (was : Known) → IsSome section
-      → Uses (IsKept fits width count) cpu section was 0 (λ n. n) (λ slot now. IsLoaded fits width count slot now)
+      → AllowsWord (IsKept holds width count) cpu section was 0 (λ n. n) (λ slot now. IsLoaded holds width count slot now)
   loads_open cpu None was some_open = absurd (cc)
   loads_open cpu (Some at) was some_open = loads cpu at was
 
   pub reads_held : (cpu section : Option ℕ) (was : Known) (slot k place : ℕ) → IsReading was → slot_in was ≡ slot
       → k < width → place ≡ word_of width slot k
-      → Uses (IsKept fits width count) cpu section was place (λ n. n) (IsRead width place was)
+      → AllowsWord (IsKept holds width count) cpu section was place (λ n. n) (IsRead width place was)
   reads_held cpu section Idle slot k place reading is low at = absurd reading
-  reads_held cpu section Opens slot k place reading is low at = absurd reading
-  reads_held cpu section (Keeps c s) slot k place reading is low at = absurd reading
-  reads_held cpu section (Reads i words) slot k place reading is low at =
+  reads_held cpu section Owner slot k place reading is low at = absurd reading
+  reads_held cpu section (Keeper c s) slot k place reading is low at = absurd reading
+  reads_held cpu section (Reader i words) slot k place reading is low at =
       let here : place ≡ word_of width i k = at ∙ ap (λ (n : ℕ). word_of width n k) (sym is) in
-      subst (λ (p : ℕ). Uses (IsKept fits width count) cpu section (Reads i words) p (λ n. n) (IsRead width p (Reads i words))) (sym here) (reads_word cpu section i k words low)
+      subst (λ (p : ℕ). AllowsWord (IsKept holds width count) cpu section (Reader i words) p (λ n. n) (IsRead width p (Reader i words))) (sym here) (reads_word cpu section i k words low)
 
   -- the same at a view that keeps the slots
-  pub claims_at : (cpu section : Option ℕ) (was : Known) → was ≡ Opens
-      → Uses (IsKept fits width count) cpu section was 0 (λ n. n) (λ _ now. IsClaimed fits width count now)
-  claims_at cpu section was is = subst (λ (k : Known). Uses (IsKept fits width count) cpu section k 0 (λ n. n) (λ _ now. IsClaimed fits width count now)) (sym is) (claims cpu section)
+  pub claims_at : (cpu section : Option ℕ) (was : Known) → was ≡ Owner
+      → AllowsWord (IsKept holds width count) cpu section was 0 (λ n. n) (λ _ now. IsClaimed holds width count now)
+  claims_at cpu section was is = subst (λ (k : Known). AllowsWord (IsKept holds width count) cpu section k 0 (λ n. n) (λ _ now. IsClaimed holds width count now)) (sym is) (claims cpu section)
 
   pub writes_at : (cpu section : Option ℕ) (was : Known) (i k x place : ℕ) → IsKeeping was → i < length (slots_in was)
       → (version_at (slots_in was) i).state ≡ Free → k < width
       → place ≡ word_of width i k
-      → Uses (IsKept fits width count) cpu section was place (λ _. x) (λ _ now. IsWritten width place was x now)
+      → AllowsWord (IsKept holds width count) cpu section was place (λ _. x) (λ _ now. IsWritten width place was x now)
   writes_at cpu section Idle i k x place keeps bound free low at = absurd keeps
-  writes_at cpu section Opens i k x place keeps bound free low at = absurd keeps
-  writes_at cpu section (Reads c s) i k x place keeps bound free low at = absurd keeps
-  writes_at cpu section (Keeps c s) i k x place keeps bound free low at =
-      subst (λ (p : ℕ). Uses (IsKept fits width count) cpu section (Keeps c s) p (λ _. x) (λ _ now. IsWritten width p (Keeps c s) x now)) (sym at) (writes cpu section c i k x s bound free low)
+  writes_at cpu section Owner i k x place keeps bound free low at = absurd keeps
+  writes_at cpu section (Reader c s) i k x place keeps bound free low at = absurd keeps
+  writes_at cpu section (Keeper c s) i k x place keeps bound free low at =
+      subst (λ (p : ℕ). AllowsWord (IsKept holds width count) cpu section (Keeper c s) p (λ _. x) (λ _ now. IsWritten width p (Keeper c s) x now)) (sym at) (writes cpu section c i k x s bound free low)
 
   pub publishes_at : (cpu section : Option ℕ) (was : Known) (i : ℕ) → IsKeeping was → i < length (slots_in was)
       → (version_at (slots_in was) i).state ≡ Free
-      → fits (version_at (slots_in was) i).words
-      → Uses (IsKept fits width count) cpu section was 0 (λ _. i) (λ _ now. IsPublished was i now)
+      → holds (version_at (slots_in was) i).words
+      → AllowsWord (IsKept holds width count) cpu section was 0 (λ _. i) (λ _ now. IsPublished was i now)
   publishes_at cpu section Idle i keeps bound free fit = absurd keeps
-  publishes_at cpu section Opens i keeps bound free fit = absurd keeps
-  publishes_at cpu section (Reads c s) i keeps bound free fit = absurd keeps
-  publishes_at cpu section (Keeps c s) i keeps bound free fit = publishes cpu section c i s bound free fit
+  publishes_at cpu section Owner i keeps bound free fit = absurd keeps
+  publishes_at cpu section (Reader c s) i keeps bound free fit = absurd keeps
+  publishes_at cpu section (Keeper c s) i keeps bound free fit = publishes cpu section c i s bound free fit
 
   pub ages_at : (cpu section : Option ℕ) (was : Known) → IsKeeping was
-      → Sees (IsKept fits width count) cpu section was (IsAged was)
+      → AllowsNumber (IsKept holds width count) cpu section was (IsAged was)
   ages_at cpu section Idle keeps = absurd keeps
-  ages_at cpu section Opens keeps = absurd keeps
-  ages_at cpu section (Reads c s) keeps = absurd keeps
-  ages_at cpu section (Keeps c s) keeps = ages cpu section c s
+  ages_at cpu section Owner keeps = absurd keeps
+  ages_at cpu section (Reader c s) keeps = absurd keeps
+  ages_at cpu section (Keeper c s) keeps = ages cpu section c s

@@ -6,11 +6,11 @@ use Rattle.std.proofs.Math.Nat.{mul-suc, mul-zero}
 use Rattle.std.proofs.lemmas.List.{get_or-replicate, length-replicate}
 use mathlib.Core.Option.{some, some-injective, some-ne-none}
 use lib.ListN.{get_elem?}
-use Rattle.rcu_live.specs.Client.{Homes, Shown as SeatShown}
+use Rattle.rcu_live.specs.Client.{Slots, ClientView as SeatShown}
 use Rattle.rcu_cell.specs.Rule.{IsKept, Knows}
 use Rattle.rcu_cell.specs.Versions.{IsWhole, first_place, first_slots, word_of}
 use Rattle.rcu_cell.specs.declared.known.Known.{Known}
-use Rattle.rcu_cell.specs.declared.known.Known.TheVariants.{Opens}
+use Rattle.rcu_cell.specs.declared.known.Known.TheVariants.{Owner}
 use Rattle.rcu_cell.specs.declared.known.Version.{Version}
 use Rattle.rcu_cell.specs.declared.slot_state.SlotState.TheVariants.{Free, Shown}
 
@@ -34,7 +34,7 @@ one_or_free width count words (suc i) v e = inr (omega arith, in_replicate (coun
 not_shown : Free ≡ Shown → ⊥
 not_shown e = cc
 
-module _ (fits : List ℕ → Type 0) (width count : ℕ) where
+module _ (holds : List ℕ → Type 0) (width count : ℕ) where
   -- what holds of each slot at first holds of the shown one, and of the free ones
   each_first : (words : List ℕ) (P : ℕ → Version → Type 0) → P 0 (shown_one words)
       → ((i : ℕ) → 0 < i → P i (free_one width))
@@ -50,17 +50,17 @@ module _ (fits : List ℕ → Type 0) (width count : ℕ) where
 
   alone : (slots : List Version) (words : List ℕ) → slots ≡ first_slots width count words
       → (id : ℕ) (x : SeatShown Known)
-      → get_elem? ((None, None, Opens) ∷ []) id ≡ some x → Knows width count slots 0 0 id x.1 x.2
+      → get_elem? ((None, None, Owner) ∷ []) id ≡ some x → Knows width count slots 0 0 id x.1 x.2
   alone slots words is zero x e =
       subst (λ (y : SeatShown Known). Knows width count slots 0 0 0 y.1 y.2) (some-injective _ _ e)
       (words, is, refl, refl)
   alone slots words is (suc id) x e = absurd (some-ne-none x (sym e))
 
-  pub starts : (words behind : List ℕ) (homes : Homes (Unit {0})) → 0 < count → length words ≡ width
+  pub starts : (words behind : List ℕ) (homes : Slots (Unit {0})) → 0 < count → length words ≡ width
       → length behind ≡ first_place + width * count
       → slice_index behind 0 ≡ 0 → ((k : ℕ) → k < width → slice_index behind (first_place + k) ≡ slice_index words k)
-      → ((j : ℕ) → first_place + width ≤ j → slice_index behind j ≡ 0) → fits words
-      → IsKept fits width count behind homes ((None, None, Opens) ∷ [])
+      → ((j : ℕ) → first_place + width ≤ j → slice_index behind j ≡ 0) → holds words
+      → IsKept holds width count behind homes ((None, None, Owner) ∷ [])
   starts words behind homes any size long shown copied rest whole = record {
     slots = first_slots width count words;
     shown = 0;
@@ -76,6 +76,6 @@ module _ (fits : List ℕ → Type 0) (width count : ℕ) where
         (λ k low. ap (λ (n : ℕ). slice_index behind (first_place + n + k)) (mul-zero width) ∙ copied k low)
         (λ i low k small. rest (word_of width i k) (row_past i k low) ∙ sym (get_or-replicate width k 0 0 small));
     sized = each_first words (λ i v. length v.words ≡ width) size (λ i low. length-replicate width 0);
-    whole = each_first words (λ i v. IsWhole fits v.state v.words) whole (λ i low. tt);
+    whole = each_first words (λ i v. IsWhole holds v.state v.words) whole (λ i low. tt);
     seats = λ id cpu section known at. alone (first_slots width count words) words refl id (cpu, section, known) at;
   }

@@ -21,5 +21,5 @@ abbrev pub after_section : Seated Known → Number → Seated Known
 after_section s n = record s { view = record s.view { seen = n; loads = s.view.loads + 2; section = None; client = Idle } }
 
 -- the seat reads the version of this slot
-abbrev pub Holds : Seated Known → ℕ → Type 0
-Holds seat slot = IsReading seat.view.client × (slot_in seat.view.client ≡ slot)
+abbrev pub ReadsSlot : Seated Known → ℕ → Type 0
+ReadsSlot seat slot = IsReading seat.view.client × (slot_in seat.view.client ≡ slot)

@@ -1,10 +1,10 @@
 -- What a keeper's calls leave.
 use Rattle.std.specs.Prelude.{◌≡◌, ℕ, ◌<◌, true, false, List, length}
 use Rattle.rcu_seq.specs.Numbers.{Number}
-use Rattle.rcu_live.specs.Watcher.{Watching, after_learn, after_use}
+use Rattle.rcu_live.specs.Watcher.{Watching, after_number_step, after_word_step}
 use Rattle.rcu_cell.specs.Versions.{aged, filled, is_free, published, slot_in, slots_in, version_at}
 use Rattle.rcu_cell.specs.declared.known.Known.{Known}
-use Rattle.rcu_cell.specs.declared.known.Known.TheVariants.{Keeps}
+use Rattle.rcu_cell.specs.declared.known.Known.TheVariants.{Keeper}
 use Rattle.rcu_cell.specs.declared.known.Version.{Version}
 
 -- the first free slot
@@ -20,9 +20,9 @@ IsFull slots = (i : ℕ) → i < length slots → is_free (version_at slots i).s
 -- after an update: the slot has these words, and is shown in place of the one that was
 abbrev pub after_update : Watching Known → ℕ → List ℕ → Watching Known
 after_update keeper slot words =
-    after_use keeper (Keeps slot (published (filled (slots_in keeper.view.client) slot words) (slot_in keeper.view.client) slot))
+    after_word_step keeper (Keeper slot (published (filled (slots_in keeper.view.client) slot words) (slot_in keeper.view.client) slot))
 
 -- after a look, which saw the number
 abbrev pub after_age : Watching Known → Number → Watching Known
 after_age keeper number =
-    after_learn keeper number (Keeps (slot_in keeper.view.client) (aged number (slots_in keeper.view.client)))
+    after_number_step keeper number (Keeper (slot_in keeper.view.client) (aged number (slots_in keeper.view.client)))

@@ -4,7 +4,7 @@ use Rattle.std.specs.Borrow.{GName}
 use Rattle.rcu_live.specs.Board.{Object}
 use Rattle.rcu_live.specs.CpuSeat.{Seated}
 use Rattle.rcu_cell.specs.Versions.{words_in}
-use Rattle.rcu_cell.specs.declared.guard.Loaded.{Loaded}
+use Rattle.rcu_cell.specs.declared.version_guard.VersionGuard.{VersionGuard}
 use Rattle.rcu_cell.specs.declared.known.Known.{Known}
 
 -- the cell, the seat whose section reads the version, the slot that it stays in, and which seat is borrowed: a name
@@ -20,6 +20,6 @@ abbrev pub version_of : Lent → List ℕ
 version_of loaded = words_in loaded.seat.view.client
 
 module _ {LEAF FAN : ℕ} {T F : Type 0} {W N : ℕ} where
-  abbrev pub lent : Loaded LEAF FAN T F W N → Lent
+  abbrev pub lent : VersionGuard LEAF FAN T F W N → Lent
   lent loaded =
       record { cell = loaded.cell.now; seat = loaded.seat.now; slot = loaded.slot; name = loaded.seat.ghost_name }

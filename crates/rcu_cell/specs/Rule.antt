@@ -3,10 +3,10 @@ use Rattle.std.specs.Prelude.{◌≡◌, ℕ, ◌+◌, ◌*◌, ◌<◌, List, l
 use mathlib.Core.Option.{some}
 use lib.ListN.{get_elem?}
 use Rattle.rcu_seq.specs.Numbers.{Number}
-use Rattle.rcu_live.specs.Client.{Homes, Picture}
+use Rattle.rcu_live.specs.Client.{Slots, Views}
 use Rattle.rcu_cell.specs.Versions.{IsWhole, MayRead, first_place, first_slots, word_of}
 use Rattle.rcu_cell.specs.declared.known.Known.{Known}
-use Rattle.rcu_cell.specs.declared.known.Known.TheVariants.{Idle, Opens, Reads, Keeps}
+use Rattle.rcu_cell.specs.declared.known.Known.TheVariants.{Idle, Owner, Reader, Keeper}
 use Rattle.rcu_cell.specs.declared.known.Version.{Version}
 use Rattle.rcu_cell.specs.declared.slot_state.SlotState.{SlotState}
 use Rattle.rcu_cell.specs.declared.slot_state.SlotState.TheVariants.{Shown}
@@ -23,13 +23,13 @@ pub record Reading (slots : List Version) (section : Option Number) (i : ℕ) (w
 -- what a seat knows is so: of so many slots of so many words, where one is shown and one seat keeps them
 abbrev pub Knows : ℕ → ℕ → List Version → ℕ → ℕ → ℕ → Option Number → Known → Type 0
 Knows width count slots shown keeper id section Idle = Unit {0}
-Knows width count slots shown keeper id section Opens =
+Knows width count slots shown keeper id section Owner =
     (words : List ℕ) × (slots ≡ first_slots width count words) × (shown ≡ 0) × (keeper ≡ id)
-Knows width count slots shown keeper id section (Reads i words) = Reading slots section i words
-Knows width count slots shown keeper id section (Keeps s known) = (s ≡ shown) × (known ≡ slots) × (keeper ≡ id)
+Knows width count slots shown keeper id section (Reader i words) = Reading slots section i words
+Knows width count slots shown keeper id section (Keeper s known) = (s ≡ shown) × (known ≡ slots) × (keeper ≡ id)
 
-pub record IsKept (fits : List ℕ → Type 0) (width count : ℕ) (words : List ℕ) (homes : Homes (Unit {0}))
-    (xs : Picture Known) : Type 0 where
+pub record IsKept (holds : List ℕ → Type 0) (width count : ℕ) (words : List ℕ) (homes : Slots (Unit {0}))
+    (xs : Views Known) : Type 0 where
   pub slots : List Version
   pub shown : ℕ
   pub keeper : ℕ
@@ -44,6 +44,6 @@ pub record IsKept (fits : List ℕ → Type 0) (width count : ℕ) (words : List
   pub written : (i : ℕ) (v : Version) → get_elem? slots i ≡ some v → (k : ℕ) → k < width
       → slice_index words (word_of width i k) ≡ slice_index v.words k
   pub sized : (i : ℕ) (v : Version) → get_elem? slots i ≡ some v → length v.words ≡ width
-  pub whole : (i : ℕ) (v : Version) → get_elem? slots i ≡ some v → IsWhole fits v.state v.words
+  pub whole : (i : ℕ) (v : Version) → get_elem? slots i ≡ some v → IsWhole holds v.state v.words
   pub seats : (id : ℕ) (cpu : Option ℕ) (section : Option Number) (known : Known)
       → get_elem? xs id ≡ some (cpu, section, known) → Knows width count slots shown keeper id section known

@@ -4,7 +4,7 @@ use Rattle.std.specs.Prelude.{map, replicate, slice_index_or, slice_set}
 use Rattle.rcu_seq.specs.Numbers.{Number}
 use Rattle.rcu_live.specs.Numbers.{is_past}
 use Rattle.rcu_cell.specs.declared.known.Known.{Known}
-use Rattle.rcu_cell.specs.declared.known.Known.TheVariants.{Idle, Opens, Reads, Keeps}
+use Rattle.rcu_cell.specs.declared.known.Known.TheVariants.{Idle, Owner, Reader, Keeper}
 use Rattle.rcu_cell.specs.declared.known.Version.{Version}
 use Rattle.rcu_cell.specs.declared.slot_state.SlotState.{SlotState}
 use Rattle.rcu_cell.specs.declared.slot_state.SlotState.TheVariants.{Free, Shown, Replaced, Retired}
@@ -26,10 +26,10 @@ MayRead at (Retired number) = at ≤ number
 
 -- what was published meets the user's fact, and a free slot may have any words
 abbrev pub IsWhole : (List ℕ → Type 0) → SlotState → List ℕ → Type 0
-IsWhole fits Free words = Unit {0}
-IsWhole fits Shown words = fits words
-IsWhole fits Replaced words = fits words
-IsWhole fits (Retired number) words = fits words
+IsWhole holds Free words = Unit {0}
+IsWhole holds Shown words = holds words
+IsWhole holds Replaced words = holds words
+IsWhole holds (Retired number) words = holds words
 
 abbrev pub is_free : SlotState → Bool
 is_free Free = true
@@ -93,38 +93,38 @@ AreSized width slots = (i : ℕ) → i < length slots → length (version_at slo
 -- of what a seat knows: the slot that it reads or shows, the words that it reads, all slots
 abbrev pub slot_in : Known → ℕ
 slot_in Idle = 0
-slot_in Opens = 0
-slot_in (Reads slot words) = slot
-slot_in (Keeps slot slots) = slot
+slot_in Owner = 0
+slot_in (Reader slot words) = slot
+slot_in (Keeper slot slots) = slot
 
 abbrev pub words_in : Known → List ℕ
 words_in Idle = []
-words_in Opens = []
-words_in (Reads slot words) = words
-words_in (Keeps slot slots) = []
+words_in Owner = []
+words_in (Reader slot words) = words
+words_in (Keeper slot slots) = []
 
 abbrev pub slots_in : Known → List Version
 slots_in Idle = []
-slots_in Opens = []
-slots_in (Reads slot words) = []
-slots_in (Keeps slot slots) = slots
+slots_in Owner = []
+slots_in (Reader slot words) = []
+slots_in (Keeper slot slots) = slots
 
 -- it reads a version, it keeps the slots
 abbrev pub IsReading : Known → Type 0
 IsReading Idle = ⊥
-IsReading Opens = ⊥
-IsReading (Reads slot words) = Unit {0}
-IsReading (Keeps slot slots) = ⊥
+IsReading Owner = ⊥
+IsReading (Reader slot words) = Unit {0}
+IsReading (Keeper slot slots) = ⊥
 
 abbrev pub IsKeeping : Known → Type 0
 IsKeeping Idle = ⊥
-IsKeeping Opens = ⊥
-IsKeeping (Reads slot words) = ⊥
-IsKeeping (Keeps slot slots) = Unit {0}
+IsKeeping Owner = ⊥
+IsKeeping (Reader slot words) = ⊥
+IsKeeping (Keeper slot slots) = Unit {0}
 
 -- what is left of it when a section closes
 abbrev pub closed : Known → Known
 closed Idle = Idle
-closed Opens = Opens
-closed (Reads slot words) = Idle
-closed (Keeps slot slots) = Keeps slot slots
+closed Owner = Owner
+closed (Reader slot words) = Idle
+closed (Keeper slot slots) = Keeper slot slots

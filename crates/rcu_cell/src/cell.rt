@@ -1,26 +1,31 @@
 //! A cell: what a section reads of it, without a lock, a wait or a store.
 ghost use Rattle.std.specs.Prelude.{◌≡◌, ◌+◌, ◌*◌, ◌<◌, IsSome, length, slice_index};
-ghost use Rattle.rcu_live.specs.CpuSeat.{after_use};
-ghost use Rattle.rcu_cell.specs.Cell.{Holds, IsSeatOf};
+ghost use Rattle.rcu_live.specs.CpuSeat.{after_word_step};
+ghost use Rattle.rcu_cell.specs.Cell.{ReadsSlot, IsSeatOf};
 ghost use Rattle.rcu_cell.specs.Steps.{IsLoaded};
-ghost use Rattle.rcu_cell.specs.Versions.{IsReading, words_in};
+ghost use Rattle.rcu_cell.specs.Versions.{words_in};
 
 use crate::allowed::{load_is_allowed, read_is_allowed};
-use crate::known::Known;
 use crate::places::{SHOWN, word_of};
-use crate::slots::{Fits, Load, Read, Slots};
-use rcu_live::cpu_seat::CpuSeat;
+use crate::rule::{CellRule, CellSeat, Invariant, Load, Read};
 use rcu_live::live::Live;
 use std::marker::Model;
 
 /// A value of `W` words in one of `N` slots, beside a running engine. Each version that is
 /// published meets `F`.
 #[derive(Drop)]
-pub struct Cell<const LEAF: u32, const FAN: u32, T: Drop, F: Fits, const W: usize, const N: usize> {
-    pub(crate) live: Live<LEAF, FAN, T, (), Known, Slots<F, W, N>>,
+pub struct Cell<
+    const LEAF: u32,
+    const FAN: u32,
+    T: Drop,
+    F: Invariant,
+    const W: usize,
+    const N: usize,
+> {
+    pub(crate) live: Live<LEAF, FAN, T, CellRule<F, W, N>>,
 }
 
-impl<const LEAF: u32, const FAN: u32, T: Drop, F: Fits, const W: usize, const N: usize> Model
+impl<const LEAF: u32, const FAN: u32, T: Drop, F: Invariant, const W: usize, const N: usize> Model
     for Cell<LEAF, FAN, T, F, W, N> {
     ghost use Rattle.std.specs.Prelude.{◌≡◌, ◌+◌, ◌*◌, ◌^◌, ◌<◌};
     ghost use Rattle.rcu_live.specs.Board.{Object};
@@ -37,7 +42,7 @@ impl<const LEAF: u32, const FAN: u32, T: Drop, F: Fits, const W: usize, const N:
     } };
 }
 
-impl<const LEAF: u32, const FAN: u32, T: Drop, F: Fits, const W: usize, const N: usize> Cell<
+impl<const LEAF: u32, const FAN: u32, T: Drop, F: Invariant, const W: usize, const N: usize> Cell<
     LEAF,
     FAN,
     T,
@@ -46,49 +51,37 @@ impl<const LEAF: u32, const FAN: u32, T: Drop, F: Fits, const W: usize, const N:
     N,
 > {
     /// The running engine.
-    pub fn live(&self) -> &Live<LEAF, FAN, T, (), Known, Slots<F, W, N>>
+    pub fn live(&self) -> &Live<LEAF, FAN, T, CellRule<F, W, N>>
         ensures { result.now ≡ self.now }
     {
         &self.live
     }
 
-    /// Loads which slot is shown, and answers it: the open section reads its version from now on,
+    /// Loads which slot is shown, and returns it: the open section reads its version from now on,
     /// as it was published, until it closes or loads again (Linux's `rcu_dereference`).
-    pub fn load(&self, seat: &mut CpuSeat<(), Known>) -> u64
+    pub fn load(&self, seat: &mut CellSeat<F, W, N>) -> u64
         requires seat { IsSeatOf self.now seat.old }
         requires open { IsSome seat.old.view.section }
-        ensures same { seat.new ≡ after_use seat.old seat.new.view.client }
-        ensures loaded { IsLoaded F.fits W N result seat.new.view.client }
+        ensures same { seat.new ≡ after_word_step seat.old seat.new.view.client }
+        ensures loaded { IsLoaded F.holds W N result seat.new.view.client }
     {
         load_is_allowed::<F, W, N>(seat);
-        seat.load_word::<LEAF, FAN, T, Slots<F, W, N>, Load<F, W, N>>(&self.live, SHOWN)
+        seat.load_word::<_, Load<F, W, N>>(&self.live, SHOWN)
     }
 
     /// Loads a word of the version that the section reads: the one that it had when it was loaded.
-    pub fn read(&self, seat: &mut CpuSeat<(), Known>, slot: usize, word: usize) -> u64
+    pub fn read(&self, seat: &mut CellSeat<F, W, N>, slot: usize, word: usize) -> u64
         requires seat { IsSeatOf self.now seat.old }
-        requires holds { Holds seat.old slot }
+        requires holds { ReadsSlot seat.old slot }
         requires slot { slot < N }
         requires word { word < W }
         ensures same { seat.new ≡ seat.old }
         ensures word { result ≡ slice_index (words_in seat.old.view.client) word }
     {
+        // A borrow of a field shows the prover what the type keeps: that the words fit in memory.
         let live = &self.live;
         let place = word_of(W, N, slot, word);
         read_is_allowed::<F, W, N>(seat, slot, word, place);
-        seat.load_word::<LEAF, FAN, T, Slots<F, W, N>, Read<W>>(live, place)
-    }
-
-    /// All words of the version that is shown: one load, and one a word. They are of one version,
-    /// which the section reads from now on.
-    pub fn snapshot(&self, seat: &mut CpuSeat<(), Known>) -> [u64; W]
-        requires seat { IsSeatOf self.now seat.old }
-        requires open { IsSome seat.old.view.section }
-        ensures same { seat.new ≡ after_use seat.old seat.new.view.client }
-        ensures held { words_in seat.new.view.client ≡ result }
-        ensures reading { IsReading seat.new.view.client }
-        ensures whole { F.fits result }
-    {
-        self.loaded(seat).snapshot()
+        seat.load_word::<_, Read<W>>(live, place)
     }
 }

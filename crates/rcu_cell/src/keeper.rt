@@ -1,18 +1,18 @@
 //! The keeper of a cell: it publishes versions, and looks which slots are free.
 ghost use Rattle.std.specs.Prelude.{◌≡◌, ◌<◌, ◌≤◌, ◌^◌, IfOk, IfSome, None, OnErr, map};
 ghost use Rattle.rcu_live.specs.View.{IsOfWatcher};
-ghost use Rattle.rcu_live.specs.Watcher.{after_use};
+ghost use Rattle.rcu_live.specs.Watcher.{after_word_step};
 ghost use Rattle.rcu_cell.specs.Cell.{IsWatcherOf};
 ghost use Rattle.rcu_cell.specs.Keeper.{IsFirstFree, IsFull, after_age, after_update};
 ghost use Rattle.rcu_cell.specs.Steps.{IsClaimed};
 ghost use Rattle.rcu_cell.specs.Versions.{aged_state, first_states, slot_in, slots_in};
-ghost use Rattle.rcu_cell.specs.declared.known.Known.TheVariants.{Opens};
+ghost use Rattle.rcu_cell.specs.declared.known.Known.TheVariants.{Owner};
 
+use crate::allowed::words_are_few;
 use crate::cell::Cell;
-use crate::known::Known;
+use crate::rule::{CellWatcher, Invariant};
 use crate::slot_state::SlotState;
-use crate::slots::Fits;
-use rcu_live::watcher::Watcher;
+use crate::value::Value;
 use std::marker::Model;
 
 /// No slot is free.
@@ -30,13 +30,13 @@ pub struct Retired {
 
 /// The keeper of a cell of `N` slots of `W` words, for one thread. A cell has one.
 #[derive(Drop)]
-pub struct Keeper<const W: usize, const N: usize> {
-    seat: Watcher<(), Known>,
+pub struct Keeper<F: Invariant, const W: usize, const N: usize> {
+    seat: CellWatcher<F, W, N>,
     states: Vec<SlotState>,
     shown: usize,
 }
 
-impl<const W: usize, const N: usize> Model for Keeper<W, N> {
+impl<F: Invariant, const W: usize, const N: usize> Model for Keeper<F, W, N> {
     ghost use Rattle.std.specs.Prelude.{◌≡◌, ◌<◌, length, map};
     ghost use Rattle.rcu_live.specs.View.{IsOfWatcher};
     ghost use Rattle.rcu_live.specs.Watcher.{Watching};
@@ -68,21 +68,21 @@ fn age_all(states: &mut Vec<SlotState>, number: u64)
     }
 }
 
-impl<const W: usize, const N: usize> Keeper<W, N> {
+impl<F: Invariant, const W: usize, const N: usize> Keeper<F, W, N> {
     /// The keeper of a cell whose slots are as at first, in these states.
-    pub(crate) fn new<const LEAF: u32, const FAN: u32, T: Drop, F: Fits>(
+    pub(crate) fn new<const LEAF: u32, const FAN: u32, T: Drop>(
         cell: &Cell<LEAF, FAN, T, F, W, N>,
-        seat: Watcher<(), Known>,
+        seat: CellWatcher<F, W, N>,
         states: Vec<SlotState>,
     ) -> Self
         requires cell { IsWatcherOf cell.now seat }
         requires role { IsOfWatcher seat.view }
-        requires opens { seat.view.client ≡ Opens }
+        requires opens { seat.view.client ≡ Owner }
         requires some { 0 < N }
         requires states { states.items ≡ first_states N }
         ensures cell { IsWatcherOf cell.now result }
-        ensures same { result ≡ after_use seat result.view.client }
-        ensures claimed { IsClaimed F.fits W N result.view.client }
+        ensures same { result ≡ after_word_step seat result.view.client }
+        ensures claimed { IsClaimed F.holds W N result.view.client }
     {
         let mut seat = seat;
         cell.claim(&mut seat);
@@ -109,13 +109,13 @@ impl<const W: usize, const N: usize> Keeper<W, N> {
 
     /// Publishes a version: stores its words in the first free slot, and shows that in place of the
     /// shown one. It waits for nobody. `Full` tells that no slot is free, and nothing changed.
-    pub fn update<const LEAF: u32, const FAN: u32, T: Drop, F: Fits>(
+    pub fn update<const LEAF: u32, const FAN: u32, T: Drop>(
         &mut self,
         cell: &Cell<LEAF, FAN, T, F, W, N>,
         words: &[u64; W],
     ) -> Result<Retired, Full>
         requires cell { IsWatcherOf cell.now self.old }
-        requires whole { F.fits words.now }
+        requires whole { F.holds words.now }
         ensures cell { IsWatcherOf cell.now self.new }
         ensures slot { IfOk result (λ retired.
             IsFirstFree (slots_in self.old.view.client) retired.by) }
@@ -138,9 +138,9 @@ impl<const W: usize, const N: usize> Keeper<W, N> {
         Ok(Retired { slot, by })
     }
 
-    /// Looks at the number, by one load, and answers it: what was replaced is so no later than now,
+    /// Looks at the number, by one load, and returns it: what was replaced is so no later than now,
     /// and what was replaced a full grace period ago is free.
-    pub fn age<const LEAF: u32, const FAN: u32, T: Drop, F: Fits>(
+    pub fn age<const LEAF: u32, const FAN: u32, T: Drop>(
         &mut self,
         cell: &Cell<LEAF, FAN, T, F, W, N>,
     ) -> u64
@@ -152,5 +152,29 @@ impl<const W: usize, const N: usize> Keeper<W, N> {
         let number = cell.look(&mut self.seat);
         age_all(&mut self.states, number);
         number
+    }
+}
+
+impl<F: Value<W>, const W: usize, const N: usize> Keeper<F, W, N> {
+    /// Publishes a value, as [`update`](Self::update) does its words.
+    pub fn update_value<const LEAF: u32, const FAN: u32, T: Drop>(
+        &mut self,
+        cell: &Cell<LEAF, FAN, T, F, W, N>,
+        value: F,
+    ) -> Result<Retired, Full>
+        requires cell { IsWatcherOf cell.now self.old }
+        requires sound { F.valid value }
+        ensures cell { IsWatcherOf cell.now self.new }
+        ensures slot { IfOk result (λ retired.
+            IsFirstFree (slots_in self.old.view.client) retired.by) }
+        ensures replaced { IfOk result (λ retired.
+            retired.slot ≡ slot_in self.old.view.client) }
+        ensures state { IfOk result (λ retired.
+            self.new ≡ after_update self.old retired.by (F.in_words value)) }
+        ensures full { OnErr result (IsFull (slots_in self.old.view.client)) }
+        ensures unchanged { OnErr result (self.new ≡ self.old) }
+    {
+        words_are_few::<F, W>();
+        self.update(cell, &value.to_words())
     }
 }

@@ -2,22 +2,20 @@
 ghost use Rattle.std.specs.Prelude.{◌≡◌, ◌<◌, ◌≤◌, length, true};
 ghost use Rattle.rcu_live.specs.Numbers.{is_number_word};
 ghost use Rattle.rcu_live.specs.View.{IsOfWatcher};
-ghost use Rattle.rcu_live.specs.Watcher.{after_learn, after_use};
+ghost use Rattle.rcu_live.specs.Watcher.{after_number_step, after_word_step};
 ghost use Rattle.rcu_cell.specs.Cell.{IsWatcherOf};
 ghost use Rattle.rcu_cell.specs.Steps.{IsClaimed};
 ghost use Rattle.rcu_cell.specs.Versions.{IsKeeping, aged, filled, published, slot_in, slots_in};
 ghost use Rattle.rcu_cell.specs.Versions.{version_at, with_word};
-ghost use Rattle.rcu_cell.specs.declared.known.Known.TheVariants.{Keeps, Opens};
+ghost use Rattle.rcu_cell.specs.declared.known.Known.TheVariants.{Keeper, Owner};
 ghost use Rattle.rcu_cell.specs.declared.slot_state.SlotState.TheVariants.{Free};
 
 use crate::allowed::{age_is_allowed, claim_is_allowed, publish_is_allowed, write_is_allowed};
 use crate::cell::Cell;
-use crate::known::Known;
 use crate::places::{SHOWN, word_of};
-use crate::slots::{Age, Claim, Fits, Publish, Slots, Write};
-use rcu_live::watcher::Watcher;
+use crate::rule::{Age, CellWatcher, Claim, Invariant, Publish, Write};
 
-impl<const LEAF: u32, const FAN: u32, T: Drop, F: Fits, const W: usize, const N: usize> Cell<
+impl<const LEAF: u32, const FAN: u32, T: Drop, F: Invariant, const W: usize, const N: usize> Cell<
     LEAF,
     FAN,
     T,
@@ -26,19 +24,25 @@ impl<const LEAF: u32, const FAN: u32, T: Drop, F: Fits, const W: usize, const N:
     N,
 > {
     /// Loads which slot is shown: the seat keeps the slots from now on.
-    pub(crate) fn claim(&self, seat: &mut Watcher<(), Known>)
+    pub(crate) fn claim(&self, seat: &mut CellWatcher<F, W, N>)
         requires seat { IsWatcherOf self.now seat.old }
         requires role { IsOfWatcher seat.old.view }
-        requires opens { seat.old.view.client ≡ Opens }
-        ensures same { seat.new ≡ after_use seat.old seat.new.view.client }
-        ensures claimed { IsClaimed F.fits W N seat.new.view.client }
+        requires opens { seat.old.view.client ≡ Owner }
+        ensures same { seat.new ≡ after_word_step seat.old seat.new.view.client }
+        ensures claimed { IsClaimed F.holds W N seat.new.view.client }
     {
         claim_is_allowed::<F, W, N>(seat);
-        seat.load_word::<LEAF, FAN, T, Slots<F, W, N>, Claim<F, W, N>>(&self.live, SHOWN);
+        seat.load_word::<_, Claim<F, W, N>>(&self.live, SHOWN);
     }
 
     /// Stores a word of a free slot.
-    pub(crate) fn store(&self, seat: &mut Watcher<(), Known>, slot: usize, word: usize, value: u64)
+    pub(crate) fn store(
+        &self,
+        seat: &mut CellWatcher<F, W, N>,
+        slot: usize,
+        word: usize,
+        value: u64,
+    )
         requires seat { IsWatcherOf self.now seat.old }
         requires role { IsOfWatcher seat.old.view }
         requires keeps { IsKeeping seat.old.view.client }
@@ -46,49 +50,50 @@ impl<const LEAF: u32, const FAN: u32, T: Drop, F: Fits, const W: usize, const N:
         requires inside { slot < length (slots_in seat.old.view.client) }
         requires free { (version_at (slots_in seat.old.view.client) slot).state ≡ Free }
         requires word { word < W }
-        ensures { seat.new ≡ after_use seat.old (Keeps (slot_in seat.old.view.client)
+        ensures { seat.new ≡ after_word_step seat.old (Keeper (slot_in seat.old.view.client)
             (with_word (slots_in seat.old.view.client) slot word value)) }
     {
+        // A borrow of a field shows the prover what the type keeps: that the words fit in memory.
         let live = &self.live;
         let place = word_of(W, N, slot, word);
         write_is_allowed::<F, W, N>(seat, slot, word, place, value);
-        seat.store_word::<LEAF, FAN, T, Slots<F, W, N>, Write<W>>(live, place, value);
+        seat.store_word::<_, Write<W>>(live, place, value);
     }
 
     /// Shows a free slot, whose words meet the fact, in place of the shown one.
-    pub(crate) fn show(&self, seat: &mut Watcher<(), Known>, slot: usize)
+    pub(crate) fn show(&self, seat: &mut CellWatcher<F, W, N>, slot: usize)
         requires seat { IsWatcherOf self.now seat.old }
         requires role { IsOfWatcher seat.old.view }
         requires keeps { IsKeeping seat.old.view.client }
         requires inside { slot < length (slots_in seat.old.view.client) }
         requires free { (version_at (slots_in seat.old.view.client) slot).state ≡ Free }
-        requires whole { F.fits (version_at (slots_in seat.old.view.client) slot).words }
-        ensures { seat.new ≡ after_use seat.old (Keeps slot
+        requires whole { F.holds (version_at (slots_in seat.old.view.client) slot).words }
+        ensures { seat.new ≡ after_word_step seat.old (Keeper slot
             (published (slots_in seat.old.view.client) (slot_in seat.old.view.client) slot)) }
     {
         let value = slot as u64;
         publish_is_allowed::<F, W, N>(seat, slot);
-        seat.store_word::<LEAF, FAN, T, Slots<F, W, N>, Publish>(&self.live, SHOWN, value);
+        seat.store_word::<_, Publish>(&self.live, SHOWN, value);
     }
 
     /// Loads the number: what was replaced is so no later than now, and what was replaced a full
     /// grace period ago is free.
-    pub(crate) fn look(&self, seat: &mut Watcher<(), Known>) -> u64
+    pub(crate) fn look(&self, seat: &mut CellWatcher<F, W, N>) -> u64
         requires seat { IsWatcherOf self.now seat.old }
         requires role { IsOfWatcher seat.old.view }
         requires keeps { IsKeeping seat.old.view.client }
-        ensures same { seat.new ≡ after_learn seat.old result
-            (Keeps (slot_in seat.old.view.client)
+        ensures same { seat.new ≡ after_number_step seat.old result
+            (Keeper (slot_in seat.old.view.client)
             (aged result (slots_in seat.old.view.client))) }
         ensures later { seat.old.view.seen ≤ result }
         ensures number { is_number_word result ≡ true }
     {
         age_is_allowed::<F, W, N>(seat);
-        seat.learn::<LEAF, FAN, T, Slots<F, W, N>, Age>(&self.live)
+        seat.load_number::<_, Age>(&self.live)
     }
 
     /// Stores all words of a free slot.
-    pub(crate) fn fill(&self, seat: &mut Watcher<(), Known>, slot: usize, words: &[u64])
+    pub(crate) fn fill(&self, seat: &mut CellWatcher<F, W, N>, slot: usize, words: &[u64])
         requires seat { IsWatcherOf self.now seat.old }
         requires role { IsOfWatcher seat.old.view }
         requires keeps { IsKeeping seat.old.view.client }
@@ -97,7 +102,7 @@ impl<const LEAF: u32, const FAN: u32, T: Drop, F: Fits, const W: usize, const N:
         requires free { (version_at (slots_in seat.old.view.client) slot).state ≡ Free }
         requires sized { length (version_at (slots_in seat.old.view.client) slot).words ≡ W }
         requires words { length words.now ≡ W }
-        ensures { seat.new ≡ after_use seat.old (Keeps (slot_in seat.old.view.client)
+        ensures { seat.new ≡ after_word_step seat.old (Keeper (slot_in seat.old.view.client)
             (filled (slots_in seat.old.view.client) slot words.now)) }
     {
         for word in 0..W {

@@ -13,9 +13,9 @@ pub enum Known {
     /// Nothing.
     Idle,
     /// That it is to keep the slots, which are as at first.
-    Opens,
+    Owner,
     /// That its section reads this slot, which has these words.
-    Reads(u64, LinkedList<u64>),
+    Reader(u64, LinkedList<u64>),
     /// The shown slot, and all slots.
-    Keeps(u64, LinkedList<Version>),
+    Keeper(u64, LinkedList<Version>),
 }

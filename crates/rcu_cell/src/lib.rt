@@ -4,15 +4,22 @@
 
 mod allowed;
 pub mod cell;
-pub mod guard;
-mod guard_reads;
 pub mod keeper;
 mod keeper_steps;
 pub mod known;
 pub mod laws;
 mod opening;
 mod places;
+pub mod rule;
 mod section;
 pub mod slot_state;
-pub mod slots;
 pub mod value;
+pub mod version_guard;
+mod version_reads;
+
+pub use cell::Cell;
+pub use keeper::{Full, Keeper, Retired};
+pub use rule::{CellSeat, CellWatcher, Invariant};
+pub use slot_state::SlotState;
+pub use value::Value;
+pub use version_guard::VersionGuard;

@@ -3,26 +3,24 @@ ghost use Rattle.std.specs.Prelude.{◌≡◌, ◌≢◌, ◌+◌, ◌*◌, ◌<
 ghost use Rattle.std.specs.Prelude.{None, OnOk, Some, length, map, slice_index};
 ghost use Rattle.std.specs.List.{range_with_len};
 ghost use Rattle.rcu_live.specs.CpuSeat.{at_first};
-ghost use Rattle.rcu_live.specs.Opening.{opening_refusal};
-ghost use Rattle.rcu_live.specs.Watcher.{after_use, watcher_at_first};
+ghost use Rattle.rcu_geometry.specs.Opening.{opening_refusal};
+ghost use Rattle.rcu_live.specs.Opening.{AreDealt};
+ghost use Rattle.rcu_seq.specs.Memory.{tested_fault};
+ghost use Rattle.rcu_live.specs.Watcher.{after_word_step, watcher_at_first};
 ghost use Rattle.rcu_live.specs.Words.{base_of};
 ghost use Rattle.rcu_cell.specs.Cell.{IsSeatOf, IsWatcherOf};
 ghost use Rattle.rcu_cell.specs.Steps.{IsClaimed};
 ghost use Rattle.rcu_cell.specs.Versions.{first_place, first_states};
-ghost use Rattle.rcu_cell.specs.declared.known.Known.TheVariants.{Idle, Opens};
+ghost use Rattle.rcu_cell.specs.declared.known.Known.TheVariants.{Idle, Owner};
 
 use crate::cell::Cell;
 use crate::keeper::Keeper;
-use crate::known::Known;
 use crate::places::FIRST;
+use crate::rule::{CellRule, CellSeat, CellWatcher, Invariant};
 use crate::slot_state::SlotState;
-use crate::slots::{Fits, Slots};
-use rcu_geometry::geometry::Geometry;
-use rcu_live::cpu_seat::CpuSeat;
+use rcu_geometry::opening::check_size;
 use rcu_live::live::Live;
-use rcu_live::watcher::Watcher;
 use rcu_seq::fault::Fault;
-use rcu_seq::seq::Seq;
 use std::alloc::{AllocError, Global};
 
 /// The words of a cell at first: the first slot is shown, with these words.
@@ -46,6 +44,9 @@ fn first_words<const W: usize, const N: usize>(
     Ok(behind)
 }
 
+/// How many callbacks may be queued: so many that no program queues them all.
+const MOST: u64 = 1 << 62;
+
 /// The states of so many slots at first.
 fn first_states(alloc: Global, count: usize) -> Result<Vec<SlotState>, AllocError>
     requires { 0 < count }
@@ -56,28 +57,15 @@ fn first_states(alloc: Global, count: usize) -> Result<Vec<SlotState>, AllocErro
     Ok(states)
 }
 
-/// Refuses a size that no object has, by 17 and then 19.
-fn check_size<const LEAF: u32, const FAN: u32>(cpus: u32, last: u64) -> Result<(), Fault>
-    requires leaf { (2 ≤ LEAF) × (LEAF ≤ 64) }
-    requires fan { (2 ≤ FAN) × (FAN ≤ 64) }
-    ensures accepted { OnOk result (opening_refusal LEAF FAN cpus last ≡ None) }
-    ensures refused { IfErr result (λ fault. opening_refusal LEAF FAN cpus last ≡ Some fault) }
-    ensures memory { IfErr result (λ fault. fault ≢ Fault.NoMemory) }
-{
-    Geometry::<LEAF, FAN>::new(cpus)?;
-    Seq::new(last)?;
-    Ok(())
-}
-
 /// A cell, a seat and a watcher a processor, and the keeper.
 pub type Opened<const LEAF: u32, const FAN: u32, T, F, const W: usize, const N: usize> = (
     Cell<LEAF, FAN, T, F, W, N>,
-    Vec<CpuSeat<(), Known>>,
-    Vec<Watcher<(), Known>>,
-    Keeper<W, N>,
+    Vec<CellSeat<F, W, N>>,
+    Vec<CellWatcher<F, W, N>>,
+    Keeper<F, W, N>,
 );
 
-impl<const LEAF: u32, const FAN: u32, T: Drop, F: Fits, const W: usize, const N: usize> Cell<
+impl<const LEAF: u32, const FAN: u32, T: Drop, F: Invariant, const W: usize, const N: usize> Cell<
     LEAF,
     FAN,
     T,
@@ -85,11 +73,11 @@ impl<const LEAF: u32, const FAN: u32, T: Drop, F: Fits, const W: usize, const N:
     W,
     N,
 > {
-    /// Opens a cell that shows these words, with its engine: of so many processors, idle at number
+    /// Opens a cell that shows these words, with its engine: of `cpus` processors, idle at number
     /// 0, processor 0 alone online.
     ///
-    /// Faults: 17 for no processor, more than 4,096, or more than four levels hold; 19 where `last`
-    /// is no last number; 16.
+    /// Faults: `TooManyCpus` (17) for no processor, more than 4,096, or more than four levels hold;
+    /// `BadLast` (19) where `last` is no last number; `NoMemory` (16).
     pub fn open(
         alloc: Global,
         cpus: u32,
@@ -100,14 +88,10 @@ impl<const LEAF: u32, const FAN: u32, T: Drop, F: Fits, const W: usize, const N:
         requires fan { (2 ≤ FAN) × (FAN ≤ 64) }
         requires some { 0 < N }
         requires small { W * N ≤ 2 ^ 32 }
-        requires whole { F.fits words.now }
-        ensures accepted { OnOk result (opening_refusal LEAF FAN cpus last ≡ None) }
-        ensures cpus { IfOk result (λ opened. opened.0.cpus ≡ cpus) }
-        ensures seats { IfOk result (λ opened. opened.1.items ≡
-            map (at_first opened.0.table (base_of cpus) Idle) (range_with_len 0 cpus)) }
-        ensures watchers { IfOk result (λ opened. opened.2.items ≡
-            map (λ _. watcher_at_first opened.0.table (base_of cpus) Idle)
-            (range_with_len 0 cpus)) }
+        requires whole { F.holds words.now }
+        ensures fault { tested_fault result ≡ opening_refusal LEAF FAN cpus last }
+        ensures dealt { IfOk result (λ opened. AreDealt cpus (first_place + W * N) 0 Idle
+            opened.0 opened.1.items opened.2.items) }
         ensures seat_count { IfOk result (λ opened. length opened.1.items ≡ cpus) }
         ensures watcher_count { IfOk result (λ opened. length opened.2.items ≡ cpus) }
         ensures each_seat { IfOk result (λ opened. All (IsSeatOf opened.0) opened.1.items) }
@@ -115,27 +99,23 @@ impl<const LEAF: u32, const FAN: u32, T: Drop, F: Fits, const W: usize, const N:
         ensures outside { IfOk result (λ opened.
             All (λ seat. seat.depth ≡ 0) opened.1.items) }
         ensures keeper { IfOk result (λ opened. IsWatcherOf opened.0 opened.3) }
-        ensures own { IfOk result (λ opened. opened.3 ≡ after_use
-            (watcher_at_first opened.0.table (base_of cpus) Opens) opened.3.view.client) }
-        ensures claimed { IfOk result (λ opened. IsClaimed F.fits W N opened.3.view.client) }
-        ensures refused { IfErr result (λ fault. fault ≢ Fault.NoMemory →
-            opening_refusal LEAF FAN cpus last ≡ Some fault) }
-        ensures memory { IfErr result (λ fault. fault ≡ Fault.NoMemory →
-            opening_refusal LEAF FAN cpus last ≡ None) }
+        ensures own { IfOk result (λ opened. opened.3 ≡ after_word_step
+            (watcher_at_first opened.0.table (base_of cpus) Owner) opened.3.view.client) }
+        ensures claimed { IfOk result (λ opened. IsClaimed F.holds W N opened.3.view.client) }
     {
         check_size::<LEAF, FAN>(cpus, last)?;
         let (Ok(behind), Ok(states)) = (first_words::<W, N>(alloc, words), first_states(alloc, N))
         else {
             return Err(Fault::NoMemory);
         };
-        let (live, seats, watchers, own) = Live::<
-            LEAF,
-            FAN,
-            T,
-            (),
-            Known,
-            Slots<F, W, N>,
-        >::open_for(alloc, cpus, last, behind.as_slice(), Vec::new(alloc))?;
+        let (live, seats, watchers, own) = Live::<LEAF, FAN, T, CellRule<F, W, N>>::open_for(
+            alloc,
+            cpus,
+            last,
+            MOST,
+            behind.as_slice(),
+            Vec::new(alloc),
+        )?;
         let cell = Cell { live };
         let keeper = Keeper::new(&cell, own, states);
         Ok((cell, seats, watchers, keeper))

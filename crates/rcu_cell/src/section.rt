@@ -1,15 +1,20 @@
-//! A whole read section on a cell.
-ghost use Rattle.std.specs.Prelude.{◌≡◌, ◌≤◌, IfErr, IfOk, None, OnErr, OnOk, Some};
-ghost use Rattle.rcu_live.specs.CpuSeat.{enter_refusal};
+//! What a section reads of a cell, and whole sections.
+ghost use Rattle.std.specs.Prelude.{◌≡◌, ◌≤◌, IfOk, IsSome, OnErr, OnOk};
+ghost use Rattle.std.specs.Result.{result_err};
+ghost use Rattle.rcu_live.specs.CpuSeat.{after_word_step, enter_refusal};
 ghost use Rattle.rcu_cell.specs.Cell.{IsSeatOf, after_section};
+ghost use Rattle.rcu_cell.specs.Lent.{lent};
+ghost use Rattle.rcu_cell.specs.Steps.{IsLoaded};
+ghost use Rattle.rcu_cell.specs.Versions.{IsReading, words_in};
 
+use crate::allowed::words_are_few;
 use crate::cell::Cell;
-use crate::known::Known;
-use crate::slots::Fits;
-use rcu_live::cpu_seat::CpuSeat;
+use crate::rule::{CellSeat, Invariant};
+use crate::value::Value;
+use crate::version_guard::VersionGuard;
 use rcu_seq::fault::Fault;
 
-impl<const LEAF: u32, const FAN: u32, T: Drop, F: Fits, const W: usize, const N: usize> Cell<
+impl<const LEAF: u32, const FAN: u32, T: Drop, F: Invariant, const W: usize, const N: usize> Cell<
     LEAF,
     FAN,
     T,
@@ -17,20 +22,54 @@ impl<const LEAF: u32, const FAN: u32, T: Drop, F: Fits, const W: usize, const N:
     W,
     N,
 > {
+    /// Loads the shown version, as [`load`](Self::load) does, and lends it the seat: the section
+    /// stays open, and reads this version, until it is let go.
+    pub fn loaded<'a>(
+        &'a self,
+        seat: &'a mut CellSeat<F, W, N>,
+    ) -> VersionGuard<'a, LEAF, FAN, T, F, W, N>
+        requires seat { IsSeatOf self.now seat.old }
+        requires open { IsSome seat.old.view.section }
+        ensures cell { (lent result).cell ≡ self.now }
+        ensures name { (lent result).name ≡ seat.entry.ghost_name }
+        ensures same { (lent result).seat
+            ≡ after_word_step seat.old (lent result).seat.view.client }
+        ensures loaded { IsLoaded F.holds W N (lent result).slot (lent result).seat.view.client }
+    {
+        let slot = self.load(seat) as usize;
+        VersionGuard {
+            cell: self,
+            seat,
+            slot,
+        }
+    }
+
+    /// All words of the version that is shown: one load, and one a word. They are of one version,
+    /// which the section reads from now on.
+    pub fn snapshot(&self, seat: &mut CellSeat<F, W, N>) -> [u64; W]
+        requires seat { IsSeatOf self.now seat.old }
+        requires open { IsSome seat.old.view.section }
+        ensures state { seat.new ≡ after_word_step seat.old seat.new.view.client }
+        ensures held { words_in seat.new.view.client ≡ result }
+        ensures reading { IsReading seat.new.view.client }
+        ensures whole { F.holds result }
+    {
+        self.loaded(seat).snapshot()
+    }
+
     /// Reads the current version in a section of its own, by three loads and one a word. It takes
     /// no lock and waits for nobody.
     ///
-    /// Fault 2: the processor is offline.
-    pub fn read_section(&self, seat: &mut CpuSeat<(), Known>) -> Result<[u64; W], Fault>
+    /// Faults: `Offline` (2) where the processor is offline; `CpuIdle` (23) where it is idle.
+    pub fn read_section(&self, seat: &mut CellSeat<F, W, N>) -> Result<[u64; W], Fault>
         requires seat { IsSeatOf self.now seat.old }
         requires outside { seat.old.depth ≡ 0 }
         ensures seat { IsSeatOf self.now seat.new }
         ensures outside { seat.new.depth ≡ 0 }
-        ensures accepted { OnOk result (enter_refusal seat.old ≡ None) }
-        ensures left { OnOk result (seat.new ≡ after_section seat.old seat.new.view.seen) }
+        ensures fault { result_err result ≡ enter_refusal seat.old }
+        ensures state { OnOk result (seat.new ≡ after_section seat.old seat.new.view.seen) }
         ensures later { OnOk result (seat.old.view.seen ≤ seat.new.view.seen) }
-        ensures whole { IfOk result (λ words. F.fits words) }
-        ensures refused { IfErr result (λ fault. enter_refusal seat.old ≡ Some fault) }
+        ensures whole { IfOk result (λ words. F.holds words) }
         ensures unchanged { OnErr result (seat.new ≡ seat.old) }
     {
         seat.enter(&self.live)?;
@@ -39,5 +78,46 @@ impl<const LEAF: u32, const FAN: u32, T: Drop, F: Fits, const W: usize, const N:
             unreachable!()
         };
         Ok(words)
+    }
+}
+
+impl<const LEAF: u32, const FAN: u32, T: Drop, F: Value<W>, const W: usize, const N: usize> Cell<
+    LEAF,
+    FAN,
+    T,
+    F,
+    W,
+    N,
+> {
+    /// The value that is shown, by one load, and one a word, in an open section.
+    pub fn value(&self, seat: &mut CellSeat<F, W, N>) -> F
+        requires seat { IsSeatOf self.now seat.old }
+        requires open { IsSome seat.old.view.section }
+        ensures state { seat.new ≡ after_word_step seat.old seat.new.view.client }
+        ensures reading { IsReading seat.new.view.client }
+        ensures told { result ≡ F.decode (words_in seat.new.view.client) }
+        ensures sound { F.valid result }
+    {
+        words_are_few::<F, W>();
+        self.loaded(seat).value()
+    }
+
+    /// Reads the current value in a section of its own, as [`read_section`](Self::read_section)
+    /// does its words.
+    ///
+    /// Faults: `Offline` (2) where the processor is offline; `CpuIdle` (23) where it is idle.
+    pub fn value_section(&self, seat: &mut CellSeat<F, W, N>) -> Result<F, Fault>
+        requires seat { IsSeatOf self.now seat.old }
+        requires outside { seat.old.depth ≡ 0 }
+        ensures seat { IsSeatOf self.now seat.new }
+        ensures outside { seat.new.depth ≡ 0 }
+        ensures fault { result_err result ≡ enter_refusal seat.old }
+        ensures state { OnOk result (seat.new ≡ after_section seat.old seat.new.view.seen) }
+        ensures later { OnOk result (seat.old.view.seen ≤ seat.new.view.seen) }
+        ensures sound { IfOk result (λ value. F.valid value) }
+        ensures unchanged { OnErr result (seat.new ≡ seat.old) }
+    {
+        words_are_few::<F, W>();
+        Ok(F::of_words(&self.read_section(seat)?))
     }
 }

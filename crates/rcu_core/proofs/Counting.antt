@@ -1,11 +1,14 @@
 -- Counts and lists of the processors that pass a test.
 use Rattle.std.proofs.Common.{◌≡◌, ℕ, ◌+◌, ◌<◌, ◌≤◌, Bool, true, false, not, cond, List, [], ◌∷◌, ◌++◌, length, get_or}
-use Rattle.std.proofs.Common.{refl, sym, ap, ◌∙◌, append-nil, arith}
+use Rattle.std.proofs.Common.{zero, suc, inl, inr, refl, sym, ap, ◌∙◌, append-nil, arith}
+use Rattle.std.proofs.Math.Nat.{eq-or-lt_of_le}
+use Rattle.std.proofs.lemmas.List.{length-append}
 use Rattle.std.specs.Prelude.{filter, count_by, sum_by}
 use Rattle.std.specs.List.{range_with_len}
 use Rattle.std.proofs.lemmas.List.FromFn.{fill_by_all, length-range_with_len, get_or-range_with_len}
-use Rattle.std.proofs.lemmas.List.Sums.{get_or-le-sum_by}
-use Rattle.rcu_node.specs.CpuSet.{is_in}
+use Rattle.std.proofs.lemmas.List.Sums.{get_or-le-sum_by, length-filter}
+use Rattle.rcu_node.specs.CpuSet.{is_in, size_of}
+use Rattle.rcu_node.proofs.CpuSetLemmas.{count_by-is_in}
 use Rattle.rcu_node.proofs.RangeLemmas.{filter-range_more, sum_by-map}
 use Rattle.rcu_cblist.specs.SegList.{Item, markers}
 use Rattle.rcu_barrier.specs.Lists.{markers_in, unvisited}
@@ -50,3 +53,41 @@ pub which_no : (p : ℕ → Bool) (n : ℕ) (old new : List ℕ) → p n ≡ fal
     → new ≡ old → new ≡ filter p (range_with_len 0 (n + 1))
 which_no p n old new fails so_far same = same ∙ so_far
     ∙ sym (filter-range_more p n ∙ rw fails (append-nil (filter p (range_with_len 0 n))))
+
+-- as many of one number more pass, and that one if it does
+one_more : (p : ℕ → Bool) (n : ℕ) → length (filter p (range_with_len 0 (n + 1)))
+    ≡ length (filter p (range_with_len 0 n)) + cond (p n) 1 0
+one_more p n =
+    ap (λ (l : List ℕ). length l) (filter-range_more p n)
+    ∙ length-append (filter p (range_with_len 0 n)) (cond (p n) (n ∷ []) [])
+    ∙ ap (λ k. length (filter p (range_with_len 0 n)) + k) (of_one (p n))
+  where
+    of_one : (b : Bool) → length (cond b (n ∷ []) []) ≡ cond b 1 0
+    of_one true = refl
+    of_one false = refl
+
+-- before a number that passes there are fewer that pass than in all
+fewer_before : (p : ℕ → Bool) (c n : ℕ) → c < n → p c ≡ true
+    → length (filter p (range_with_len 0 c)) < length (filter p (range_with_len 0 n))
+fewer_before p c zero l i = absurd (omega (arith, l))
+fewer_before p c (suc n) l i =
+    let more = one_more p n in
+    let next : suc n ≡ n + 1 = omega arith in
+    let longer = ap (λ k. length (filter p (range_with_len 0 k))) next in
+    elim (eq-or-lt_of_le {n = c} {m = n} (omega (arith, l))) [
+      | inl at ↦
+          let one : cond {A = ℕ} (p n) 1 0 ≡ 1 = rw (← at, i) refl in
+          let here = ap (λ k. length (filter p (range_with_len 0 k))) at in
+          omega (arith, more, one, here, longer)
+      | inr before ↦ let fewer = fewer_before p c n before i in omega (arith, more, fewer, longer)
+    ]
+
+-- the list of the processors of a set has room for one more before each of them
+pub has_room : (set : List Bool) (c room : ℕ) (list : List ℕ) → c < length set → is_in set c ≡ true
+    → list ≡ filter (is_in set) (range_with_len 0 c) → size_of set ≤ room → length list < room
+has_room set c room list l i is le =
+    let all = length-filter (is_in set) (range_with_len 0 (length set)) in
+    let counted = count_by-is_in set (length set) refl in
+    let fewer = fewer_before (is_in set) c (length set) l i in
+    let same = ap (λ (xs : List ℕ). length xs) is in
+    omega (arith, all, counted, fewer, same, le)

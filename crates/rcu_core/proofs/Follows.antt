@@ -12,10 +12,10 @@ use Rattle.rcu_node.proofs.CpuSetLemmas.{in_none}
 use Rattle.rcu_cpu.specs.CpuData as cpu_data
 use Rattle.rcu_cpu.specs.CpuData.{Processor}
 use Rattle.rcu_cblist.specs.SegList.{Item, numbers}
-use Rattle.rcu_barrier.specs.Lists.{barrier_left}
+use Rattle.rcu_barrier.specs.Lists.{AllLists, barrier_left, is_visited}
 use Rattle.rcu_core.specs.Callbacks.{barrier_runs, greatest_from}
-use Rattle.rcu_core.specs.GpState.{after_begin, after_end, at_first, awaited_in, periods_of}
-use Rattle.rcu_core.specs.History.{History, epoch, online, running, noted, depth, enter_count, exit_count, report_at}
+use Rattle.rcu_core.specs.GpState.{after_begin, after_end, at_first, awaited_in, own_report, periods_of}
+use Rattle.rcu_core.specs.History.{History, epoch, online, running, noted, depth, enter_count, exit_count, report_at, is_idle}
 use Rattle.rcu_core.specs.Replies.{Size, AreAccepted, IsLegalReply, accepted_reply, barrier_test_reply, fault_in}
 use Rattle.rcu_core.specs.Replies.{or_fault}
 use Rattle.rcu_core.specs.Replies.{waits_for, with_event}
@@ -27,17 +27,17 @@ use Rattle.rcu_core.specs.declared.event.Event.TheVariants.{Enter, Exit, Note, Q
 use Rattle.rcu_core.specs.declared.event.Event.TheVariants.{End}
 use Rattle.rcu_core.specs.declared.event.Event.TheVariants.{Turn, Awaits, Take, StartPoll, Poll, Queue, Tend, Run}
 use Rattle.rcu_core.specs.declared.event.Event.TheVariants.{BarBegin}
-use Rattle.rcu_core.specs.declared.event.Event.TheVariants.{Visit, BarTest, Renumber}
+use Rattle.rcu_core.specs.declared.event.Event.TheVariants.{Visit, BarTest, Renumber, Idle, Wake, Scan}
 use Rattle.rcu_core.specs.declared.reply.Reply.{Reply}
 use Rattle.rcu_core.specs.declared.reply.Reply.TheVariants as reply
 use Rattle.rcu_core.proofs.FollowsLists.{calls_begun, calls_moved, calls_queued, calls_run, calls_tended, calls_tested}
 use Rattle.rcu_core.proofs.FollowsLists.{calls_renumbered, calls_visited}
 use Rattle.rcu_core.proofs.Clocks.{renumber_counts}
 use Rattle.rcu_core.proofs.FollowsPeriods.{awaits_delivered, awaits_departed, follows_begin, follows_end, follows_turn}
-use Rattle.rcu_core.proofs.FollowsPeriods.{length-awaited_by}
+use Rattle.rcu_core.proofs.FollowsPeriods.{awaits_scanned, length-awaited_by}
 use Rattle.rcu_core.proofs.Kept.{enter_counts, exit_counts, exits_le}
 use Rattle.rcu_core.proofs.Situations.{number_same, longer, one_changed, same, tag_same, within, within_all}
-use Rattle.rcu_core.proofs.Sound.{first_cpus, first_at, no_item, boot_alone}
+use Rattle.rcu_core.proofs.Sound.{first_cpus, first_at, no_item, boot_alone, length-awaited_after}
 use Rattle.rcu_core.proofs.Steps.{waits_said}
 use Rattle.rcu_core.proofs.Writes.{eqb_self, one_written}
 
@@ -96,7 +96,12 @@ shallower c h =
 
 -- with its sections nested so deep
 abbrev so_deep : ℕ → History → ℕ → Processor
-so_deep c h n = record { cpu = c; online = online c h; depth = n; noted = noted c h }
+so_deep c h n = record { cpu = c; online = online c h; idle = is_idle c h; depth = n; noted = noted c h }
+
+-- of two lists in which as many callbacks may be queued, either is so
+same_most : (b : Bool) (x y : AllLists ℕ) → y.most ≡ x.most → (cond b x y).most ≡ x.most
+same_most true x y e = refl
+same_most false x y e = e
 
 follows : (v : State ℕ) (h : History) (e : Event) → IsSound v → Represents v h →
     fault_in (size_at v) (situation h) e ≡ None →
@@ -154,7 +159,7 @@ follows v h (Quiesce c) s x p = record {
 }
 follows v h (Deliver k) s x p = record {
   accepted = longer v (after_event v (Deliver k)) h (Deliver k) x p
-      (length-awaited_by v.grace (report_at k v.made)) refl;
+      (length-awaited_by v.grace (report_at k v.made)) refl refl;
   periods = x.periods;
   cpus = record {
     online = x.cpus.online;
@@ -180,7 +185,7 @@ follows v h (Online c) s x p = record {
 }
 follows v h (Offline c) s x p = let here = within_all v c s (grind (arith, nat_tests)) in record {
   accepted = longer v (after_event v (Offline c)) h (Offline c) x p
-      (length-set v.grace.processors.awaited c false) refl;
+      (length-set v.grace.processors.awaited c false) refl refl;
   periods = x.periods;
   cpus = record {
     online = one_written false v.grace.processors.online c false (λ k. online k h)
@@ -248,12 +253,49 @@ follows v h (Visit c) s x p =
     let here = within_all v c s (grind (arith, nat_tests)) in
     let runs : barrier_runs h ≡ true = grind (arith, nat_tests) in
     record {
-      accepted = (p, x.accepted);
+      accepted = longer v (after_event v (Visit c)) h (Visit c) x p refl refl
+          (same_most (is_visited v.grace.lists c) v.grace.lists _ refl);
       periods = x.periods;
       cpus = x.cpus;
       calls = calls_visited v.grace.lists h c here.1 here.2 (x.calls.barrier ∙ runs) x.calls;
     }
 follows v h BarTest s x p = follows_test v h s x p
+follows v h (Idle c) s x p = record {
+  accepted = (p, x.accepted);
+  periods = x.periods;
+  cpus = record {
+    online = x.cpus.online;
+    awaits = x.cpus.awaits;
+    each = one_changed v.cpus (cpus_in h) (cpus_in (Idle c ∷ h)) c cpu_data.Idle
+        (within v c s (grind (arith, nat_tests))) x.cpus.each (rw (eqb_self c) refl) (λ k n. rw n refl);
+    made = x.cpus.made;
+  };
+  calls = x.calls;
+}
+follows v h (Wake c) s x p = record {
+  accepted = (p, x.accepted);
+  periods = x.periods;
+  cpus = record {
+    online = x.cpus.online;
+    awaits = x.cpus.awaits;
+    each = one_changed v.cpus (cpus_in h) (cpus_in (Wake c ∷ h)) c cpu_data.Wake
+        (within v c s (grind (arith, nat_tests))) x.cpus.each (rw (eqb_self c) refl) (λ k n. rw n refl);
+    made = x.cpus.made;
+  };
+  calls = x.calls;
+}
+follows v h (Scan c) s x p = record {
+  accepted = longer v (after_event v (Scan c)) h (Scan c) x p
+      (length-awaited_after v.grace (own_report v.grace c)) refl refl;
+  periods = x.periods;
+  cpus = record {
+    online = x.cpus.online;
+    awaits = awaits_scanned v h c x;
+    each = x.cpus.each;
+    made = x.cpus.made;
+  };
+  calls = x.calls;
+}
 follows v h Renumber s x p =
     let idle : running h ≡ false = grind (arith, nat_tests) in
     record {
@@ -291,8 +333,8 @@ went : (v w : State ℕ) (h : History) (e : Event) (r : Reply) → IsSound v →
 went v w h e r s x (inl l) i = rw l (went_answer v w h e (fault_in (size_at v) (situation h) e) s x refl (rw l at i))
 went v w h e r s x (inr l) i = rw l.2 (subst (λ (u : State ℕ). Represents u h) (sym (rw l.2 at i)) x)
 
-abbrev the_size : ℕ → ℕ → Size
-the_size cpus last = record { cpus = cpus; last = last }
+abbrev the_size : State ℕ → ℕ → Size
+the_size v cpus = record { cpus = cpus; last = v.grace.seq.last; most = v.grace.lists.most }
 
 turn_size : (v : State ℕ) (a b d : Bool) → IsSound v
     → size_at (record v {
@@ -301,13 +343,19 @@ turn_size : (v : State ℕ) (a b d : Bool) → IsSound v
     }) ≡ size_at v
 turn_size v true true d s = refl
 turn_size v true false d s = refl
-turn_size v false b true s = ap (λ n. the_size n v.grace.seq.last) s.flags
+turn_size v false b true s = ap (λ n. the_size v n) s.flags
 turn_size v false b false s = refl
 
 next_size : (v : State ℕ) (e : Event) → IsSound v → size_at (after_event v e) ≡ size_at v
-next_size v (Deliver k) s = ap (λ n. the_size n v.grace.seq.last) (length-awaited_by v.grace (report_at k v.made))
-next_size v (Offline c) s = ap (λ n. the_size n v.grace.seq.last) (length-set v.grace.processors.awaited c false)
-next_size v Begin s = ap (λ n. the_size n v.grace.seq.last) s.flags
+next_size v (Deliver k) s = ap (λ n. the_size v n) (length-awaited_by v.grace (report_at k v.made))
+next_size v (Offline c) s = ap (λ n. the_size v n) (length-set v.grace.processors.awaited c false)
+next_size v (Scan c) s = ap (λ n. the_size v n) (length-awaited_after v.grace (own_report v.grace c))
+next_size v Begin s = ap (λ n. the_size v n) s.flags
+next_size v (Visit c) s =
+    ap (λ n. record (size_at v) { most = n }) (same_most (is_visited v.grace.lists c) v.grace.lists _ refl)
+next_size v BarTest s =
+    ap (λ n. record (size_at v) { most = n })
+    (same_most (barrier_left v.grace.lists == 0) (record v.grace.lists { running = false }) v.grace.lists refl)
 next_size v Turn s = turn_size v v.grace.seq.running (awaited_in v.grace == 0) (wants_begin (periods_of v.grace)) s
 next_size v _ s = refl
 
@@ -333,9 +381,9 @@ pub refused_stays : (v w : State ℕ) (e : Event) (r : Reply) (f : Fault) → St
 refused_stays v w e r f d p = d.left ∙ ap (λ (x : Reply). after_reply v e x) p
 
 -- a new machine is in the situation of the empty history
-pub has_first : (n last : ℕ) (v : State ℕ) → 0 < n → v.grace ≡ at_first n last → v.cpus ≡ first_cpus n → v.made ≡ []
-    → Represents v []
-has_first n last v l e f m =
+pub has_first : (n last most : ℕ) (v : State ℕ) → 0 < n → v.grace ≡ at_first n last most → v.cpus ≡ first_cpus n
+    → v.made ≡ [] → Represents v []
+has_first n last most v l e f m =
     subst (λ (x : State ℕ). Represents x []) (λ i. record { grace = sym e i; cpus = sym f i; made = sym m i })
     (record {
       accepted = tt;

@@ -13,7 +13,7 @@ use Rattle.rcu_node.proofs.CpuSetLemmas.{is_in-remove}
 use Rattle.rcu_report.specs.declared.report.Report.{Report}
 use Rattle.rcu_hotplug.specs.Hotplug.{cpus_of}
 use Rattle.rcu_seq.specs.Seq.{tag_of}
-use Rattle.rcu_core.specs.GpState.{Grace, after_begin, after_end, awaited_in, periods_of}
+use Rattle.rcu_core.specs.GpState.{Grace, after_begin, after_end, awaited_in, own_report, periods_of}
 use Rattle.rcu_core.specs.History.{History, begins, running, tag_now, online, reports_made, report_at, is_of, is_heard}
 use Rattle.rcu_core.specs.History.{awaits}
 use Rattle.rcu_seq.specs.Histories.{latest}
@@ -21,7 +21,7 @@ use Rattle.rcu_core.specs.Replies.{fault_in, accepted_reply, turn_reply, begin_r
 use Rattle.rcu_core.specs.Replies.{end_reply as ended_said, how_many, history_event, with_event}
 use Rattle.rcu_core.specs.Situation.{Situation, situation, wants_begin}
 use Rattle.rcu_core.specs.Core.{State, IsSound, Represents, size_at, says, awaited_by, after_event, after_reply}
-use Rattle.rcu_core.specs.declared.event.Event.TheVariants.{Begin, Deliver, End, Offline, Turn}
+use Rattle.rcu_core.specs.declared.event.Event.TheVariants.{Begin, Deliver, End, Offline, Scan, Turn}
 use Rattle.rcu_core.specs.declared.reply.Reply.TheVariants as reply
 use Rattle.rcu_core.proofs.Recorded.{turned_after}
 use Rattle.rcu_core.proofs.Kept.{begin_counts, end_counts, turns, none_awaited}
@@ -70,7 +70,7 @@ unless_heard true false a b = refl
 unless_heard true true true b = sym (and_right (not b) false refl)
 unless_heard true true false b = and_yes (not b)
 
--- who is awaited after a delivery, and after a departure
+-- who is awaited after a delivery, after a departure
 pub awaits_delivered : (v : State ℕ) (h : History) (k : ℕ) → Represents v h →
     (c : ℕ) → is_in (awaited_by v.grace (report_at k v.made)) c ≡ awaits c (Deliver k ∷ h)
 awaits_delivered v h k x c =
@@ -86,6 +86,20 @@ awaits_departed v h c x k =
     ∙ ap (λ (b : Bool). b && not (eqb c k)) (x.cpus.awaits k)
     ∙ sym (unless_heard (running h) (online k (latest begins h)) (eqb c k) (is_heard k (tag_now h) h))
 
+own_tag : (tag : Tag) → same_tag tag tag ≡ true
+own_tag tag = grind (arith, nat_tests)
+
+-- and after a scan
+pub awaits_scanned : (v : State ℕ) (h : History) (c : ℕ) → Represents v h →
+    (k : ℕ) → is_in (awaited_by v.grace (Some (own_report v.grace c))) k ≡ awaits k (Scan c ∷ h)
+awaits_scanned v h c x k =
+    let now : same_tag (tag_of v.grace.seq) (tag_now h) ≡ true =
+    ap (λ (t : Tag). same_tag t (tag_now h)) (tag_same v h x) ∙ own_tag (tag_now h) in
+    heard_of v.grace h (Some (own_report v.grace c)) x.periods.running (tag_same v h x) x.cpus.awaits k
+    ∙ ap (λ (b : Bool). awaits k h && not (eqb c k && b)) now
+    ∙ ap (λ (b : Bool). awaits k h && not b) (sym (and_yes (eqb c k)))
+    ∙ sym (unless_heard (running h) (online k (latest begins h)) (eqb c k) (is_heard k (tag_now h) h))
+
 none_there : (v : State ℕ) (h : History) → Represents v h → fault_in (size_at v) (situation h) End ≡ None → (c : ℕ)
     → is_in v.grace.processors.awaited c ≡ false
 none_there v h x p c = elim (cases_lt c (cpus_of v.grace.processors)) [
@@ -97,7 +111,7 @@ none_there v h x p c = elim (cases_lt c (cpus_of v.grace.processors)) [
 pub follows_begin : (v : State ℕ) (h : History) → IsSound v → Represents v h →
     fault_in (size_at v) (situation h) Begin ≡ None → Represents (after_event v Begin) (Begin ∷ h)
 follows_begin v h s x p = let t = turns (size_at v) h x.accepted in let n = begin_counts h in record {
-  accepted = longer v (after_event v Begin) h Begin x p s.flags refl;
+  accepted = longer v (after_event v Begin) h Begin x p s.flags refl refl;
   periods = record { epoch = x.periods.epoch; ends = x.periods.ends; running = grind (arith, nat_tests); needed = x.periods.needed };
   cpus = record {
     online = x.cpus.online;

@@ -94,14 +94,14 @@ unheard_alike true false x y i g = absurd (cc)
 unheard_alike false true x y i g = absurd (cc)
 unheard_alike false false x y i g = refl
 
-pub alike_awaited : (s : Size) (h g : History) → AreAccepted s h → AreAccepted s g → tag h ≡ tag g
+pub alike_awaited : (s u : Size) (h g : History) → AreAccepted s h → AreAccepted u g → tag h ≡ tag g
     → ((c : ℕ) → starts c h ≡ starts c g)
     → ((c : ℕ) → starts c h ≡ true → is_heard c (tag h) h ≡ is_heard c (tag g) g) →
-    (c : ℕ) → c < s.cpus → awaits c h ≡ awaits c g
-alike_awaited s h g p q t b f c l =
+    (c : ℕ) → c < s.cpus → c < u.cpus → awaits c h ≡ awaits c g
+alike_awaited s u h g p q t b f c l m =
     awaited_are s c h p l
     ∙ unheard_alike (starts c h) (starts c g) (is_heard c (tag h) h) (is_heard c (tag g) g) (b c) (f c)
-    ∙ sym (awaited_are s c g q l)
+    ∙ sym (awaited_are u c g q m)
 
 told_after : (c : ℕ) (t : Tag) (e : Event) (h : History) (b d : Bool) → begins e ≡ b → hears c t e h ≡ d
     → (not b && (d || is_heard c t h)) ≡ true → (is_heard c t h ≡ true → ToldSince c t h) → ToldSince c t (e ∷ h)

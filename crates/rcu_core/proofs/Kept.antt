@@ -1,14 +1,14 @@
 -- What holds after every history of accepted events.
-use Rattle.std.proofs.Common.{◌≡◌, ℕ, ◌+◌, ◌<◌, ◌≤◌, Bool, false, cond, eqb, [], ◌∷◌, None, subst, arith}
+use Rattle.std.proofs.Common.{◌≡◌, ℕ, ◌+◌, ◌<◌, ◌≤◌, Bool, true, false, cond, eqb, [], ◌∷◌, None, subst, arith}
 use Rattle.std.proofs.lemmas.Bool.Decides.{nat_tests}
 use Rattle.std.proofs.lemmas.List.Sums.{sum_by-cons}
-use Rattle.rcu_core.specs.History.{History, begins, ends, enters, exits, enter_count, exit_count, depth, awaits}
+use Rattle.rcu_core.specs.History.{History, begins, ends, enters, exits, enter_count, exit_count, depth, awaits, is_idle}
 use Rattle.std.specs.Prelude.{count_by}
 use Rattle.rcu_core.specs.Callbacks.{queue_count, queues}
 use Rattle.rcu_core.specs.Replies.{Size, fault_in, AreAccepted}
 use Rattle.rcu_core.specs.Situation.{situation}
 use Rattle.rcu_core.specs.declared.event.Event.{Event}
-use Rattle.rcu_core.specs.declared.event.Event.TheVariants.{Enter, Exit, Quiesce, Offline, Begin, End, Queue}
+use Rattle.rcu_core.specs.declared.event.Event.TheVariants.{Enter, Exit, Quiesce, Offline, Begin, End, Queue, Idle, Scan}
 use Rattle.rcu_core.proofs.Counting.{none_passes}
 
 -- one event more, counted where it passes the test
@@ -64,6 +64,15 @@ quiet_where_reported s c d h p e = subst (λ k. depth k h ≡ 0) e (grind (arith
 pub quiet_where_departed : (s : Size) (c d : ℕ) (h : History) → fault_in s (situation h) (Offline d) ≡ None → d ≡ c
     → depth c h ≡ 0
 quiet_where_departed s c d h p e = subst (λ k. depth k h ≡ 0) e (grind (arith, nat_tests))
+
+-- none is open where the processor goes idle, and a scan finds it idle
+pub quiet_where_idle : (s : Size) (c d : ℕ) (h : History) → fault_in s (situation h) (Idle d) ≡ None → d ≡ c
+    → depth c h ≡ 0
+quiet_where_idle s c d h p e = subst (λ k. depth k h ≡ 0) e (grind (arith, nat_tests))
+
+pub idle_where_scanned : (s : Size) (c d : ℕ) (h : History) → fault_in s (situation h) (Scan d) ≡ None → d ≡ c
+    → is_idle c h ≡ true
+idle_where_scanned s c d h p e = subst (λ k. is_idle k h ≡ true) e (grind (arith, nat_tests))
 
 -- a processor exits at most as often as it entered
 pub exits_step : (s : Size) (c : ℕ) (e : Event) (h : History) → fault_in s (situation h) e ≡ None

@@ -1,9 +1,9 @@
 -- Runs made longer by legal replies.
-use Rattle.std.proofs.Common.{◌≡◌, ℕ, List, [], ◌∷◌, sym, subst}
+use Rattle.std.proofs.Common.{◌≡◌, ℕ, List, [], ◌∷◌, length, refl, sym, subst, ap, suc}
 use Rattle.rcu_core.specs.Core.{Represents, State, size_at}
 use Rattle.rcu_core.specs.History.{History}
 use Rattle.rcu_core.specs.Links.{onto}
-use Rattle.rcu_core.specs.Replies.{Size}
+use Rattle.rcu_core.specs.Replies.{Size, with_event}
 use Rattle.rcu_core.specs.Runs.{IsLegalRun, Leads, Run, RunsLegally, history}
 use Rattle.rcu_core.specs.declared.event.Event.{Event}
 use Rattle.rcu_core.specs.declared.reply.Reply.{Reply}
@@ -24,6 +24,14 @@ longer_history s run (e ∷ events) (r ∷ replies) g t = longer_history s ((e, 
 longer_history s run [] (r ∷ replies) g t = absurd t
 longer_history s run (e ∷ events) [] g t = absurd t
 
+-- each event has its reply
+pub one_each : (s : Size) (h g : History) (events : List Event) (replies : List Reply) → Leads s h events replies g
+    → length replies ≡ length events
+one_each s h g [] [] t = refl
+one_each s h g (e ∷ events) (r ∷ replies) t = ap (λ n. suc n) (one_each s (with_event h e r) g events replies t.1)
+one_each s h g [] (r ∷ replies) t = absurd t
+one_each s h g (e ∷ events) [] t = absurd t
+
 -- what a core ran, from a history that a run has
 leads_from : (v w : State ℕ) (h : History) (run : Run) (events : List Event) (replies : List Reply) →
     (ran : RunsLegally v h events replies w) → history run ≡ h → Leads (size_at v)
@@ -42,3 +50,12 @@ pub stands_there : (v w : State ℕ) (h : History) (run : Run) (events : List Ev
 stands_there v w h run events replies ran is =
     let leads = leads_from v w h run events replies ran is in
     subst (λ k. Represents w k) (sym (longer_history (size_at v) run events replies ran.reached leads)) ran.has
+
+pub ran_one_each : (v w : State ℕ) (h : History) (events : List Event) (replies : List Reply) →
+    RunsLegally v h events replies w → length replies ≡ length events
+ran_one_each v w h events replies ran = one_each (size_at v) h ran.reached events replies ran.leads
+
+-- what a new core ran
+pub first_ran_legally : (v w : State ℕ) (events : List Event) (replies : List Reply) →
+    RunsLegally v [] events replies w → IsLegalRun (size_at v) (onto events replies [])
+first_ran_legally v w events replies ran = ran_legally v w [] [] events replies ran record {} refl

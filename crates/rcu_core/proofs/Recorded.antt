@@ -7,7 +7,7 @@ use Rattle.rcu_core.specs.Replies.{Size, accepted_reply, turn_reply, waits_for, 
 use Rattle.rcu_core.specs.Situation.{Situation, wants_begin}
 use Rattle.rcu_core.specs.declared.event.Event.{Event}
 use Rattle.rcu_core.specs.declared.event.Event.TheVariants.{Enter, Exit, Note, Quiesce, Deliver, Online, Offline, Turn}
-use Rattle.rcu_core.specs.declared.event.Event.TheVariants.{Poll, Queue, Tend, Run, Visit, BarTest}
+use Rattle.rcu_core.specs.declared.event.Event.TheVariants.{Poll, Queue, Tend, Run, Visit, BarTest, Idle, Wake, Scan}
 use Rattle.rcu_core.specs.declared.reply.Reply.{Reply}
 use Rattle.rcu_core.specs.declared.reply.Reply.TheVariants as reply
 
@@ -54,5 +54,8 @@ after_said s u h (Queue c x) n = refl
 after_said s u h (Tend c) n = refl
 after_said s u h (Run c m) n = refl
 after_said s u h (Visit c) n = refl
+after_said s u h (Idle c) n = refl
+after_said s u h (Wake c) n = refl
+after_said s u h (Scan c) n = refl
 after_said s u h BarTest n = absurd (cc)
 after_said s u h _ n = refl

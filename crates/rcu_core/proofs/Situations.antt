@@ -23,6 +23,7 @@ same v h x = λ i. record {
   periods = record { epoch = x.periods.epoch i; ends = x.periods.ends i; running = x.periods.running i; needed = x.periods.needed i };
   cpus = record {
     online = λ c. x.cpus.online c i;
+    idle = λ c. (x.cpus.each c i).idle;
     awaits = λ c. x.cpus.awaits c i;
     depth = λ c. (x.cpus.each c i).depth;
     noted = λ c. (x.cpus.each c i).noted;
@@ -61,9 +62,9 @@ one_changed cpus u w c call l x at other k = elim (cases_eq k c) [
 -- the history grew by an accepted event, and the size stayed
 pub longer : (v w : State ℕ) (h : History) (e : Event) → Represents v h → fault_in (size_at v) (situation h) e ≡ None →
     cpus_of w.grace.processors ≡ cpus_of v.grace.processors → w.grace.seq.last ≡ v.grace.seq.last →
-    AreAccepted (size_at w) (e ∷ h)
-longer v w h e x p n l =
-    subst (λ (s : Size). AreAccepted s (e ∷ h)) (ap₂ (λ (a b : ℕ). record { cpus = a; last = b }) (sym n) (sym l))
+    w.grace.lists.most ≡ v.grace.lists.most → AreAccepted (size_at w) (e ∷ h)
+longer v w h e x p n l m =
+    subst (λ (s : Size). AreAccepted s (e ∷ h)) (λ i. record { cpus = sym n i; last = sym l i; most = sym m i })
     (p, x.accepted)
 
 -- a processor whose number is not too high is there

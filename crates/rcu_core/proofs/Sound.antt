@@ -1,6 +1,6 @@
 -- What always holds goes on holding.
 use Rattle.std.proofs.Common.{◌≡◌, ℕ, zero, suc, ◌+◌, ◌<◌, Bool, true, false, cond, List, [], ◌∷◌, ◌++◌, length, map}
-use Rattle.std.proofs.Common.{get_or, slice_set, replicate, refl, sym, ap, ap₂, subst, ◌∙◌, arith, ne_eqb, inl, inr}
+use Rattle.std.proofs.Common.{get_or, slice_set, replicate, refl, sym, ap, subst, ◌∙◌, arith, ne_eqb, inl, inr}
 use Rattle.std.specs.Prelude.{◌==◌, All}
 use Rattle.std.specs.List.{range_with_len}
 use Rattle.std.proofs.lemmas.Bool.{cases_eq, cases_lt}
@@ -146,9 +146,9 @@ boot_alone n cpu l = elim (cases_eq cpu 0) [
 ]
 
 -- it holds at the start
-pub sound_first : (n : ℕ) (last : ℕ) (v : State ℕ) → 0 < n → v.grace ≡ at_first n last → v.cpus ≡ first_cpus n
+pub sound_first : (n last most : ℕ) (v : State ℕ) → 0 < n → v.grace ≡ at_first n last most → v.cpus ≡ first_cpus n
     → v.made ≡ [] → IsSound v
-sound_first n last v l e f m =
+sound_first n last most v l e f m =
     subst (λ (x : State ℕ). IsSound x) (λ i. record { grace = sym e i; cpus = sym f i; made = sym m i })
     (record {
       flags = length-set (replicate n false) 0 true;
@@ -168,10 +168,14 @@ at_place v cpu p s l e =
     get_or_read_under v.cpus cpu (cpus_of v.grace.processors) p (made_processor cpu false) e l (sym s.sized)
 
 -- how many processors there are at the start
-pub first_count : (n last : ℕ) (g : Grace ℕ) → g ≡ at_first n last → cpus_of g.processors ≡ n
-first_count n last g e = ap (λ (x : Grace ℕ). cpus_of x.processors) e ∙ length-replicate {A = Bool} n false
+pub first_count : (n last most : ℕ) (g : Grace ℕ) → g ≡ at_first n last most → cpus_of g.processors ≡ n
+first_count n last most g e = ap (λ (x : Grace ℕ). cpus_of x.processors) e ∙ length-replicate {A = Bool} n false
 
 -- the size at the start
-pub first_size : (n last : ℕ) (v : State ℕ) → v.grace ≡ at_first n last → size_at v ≡ record { cpus = n; last = last }
-first_size n last v e =
-    ap₂ (λ (a b : ℕ). record { cpus = a; last = b }) (first_count n last v.grace e) (ap (λ (x : Grace ℕ). x.seq.last) e)
+pub first_size : (n last most : ℕ) (v : State ℕ) → v.grace ≡ at_first n last most
+    → size_at v ≡ record { cpus = n; last = last; most = most }
+first_size n last most v e = λ i. record {
+  cpus = first_count n last most v.grace e i;
+  last = (e i).seq.last;
+  most = (e i).lists.most;
+}

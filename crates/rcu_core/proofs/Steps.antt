@@ -14,21 +14,22 @@ use Rattle.rcu_node.specs.declared.answer.Answer.{Answer}
 use Rattle.rcu_node.specs.declared.answer.Answer.TheVariants.{Taken, Last, Repeat, Stale}
 use Rattle.rcu_report.specs.declared.report.Report.{Report}
 use Rattle.rcu_hotplug.specs.Hotplug.{cpus_of}
+use Rattle.rcu_cpu.specs.CpuData.{Processor}
 use Rattle.rcu_cblist.specs.SegList.{Item, behind, callbacks, front}
 use Rattle.rcu_barrier.specs.Lists.{barrier_left, list_of, barrier_test_answer}
 use Rattle.rcu_barrier.specs.Tending.{after_tend}
 use Rattle.rcu_barrier.specs.declared.barrier_state.BarrierState.{BarrierState}
 use Rattle.rcu_barrier.specs.declared.barrier_state.BarrierState.TheVariants as barrier
 use Rattle.rcu_seq.specs.Seq.{number_of, tag_of}
-use Rattle.rcu_core.specs.GpState.{after_begin, after_end, after_report, awaited_in, begin_refusal, end_refusal}
-use Rattle.rcu_core.specs.GpState.{periods_of, renumber_refusal, report_answer_in, turn_answer, turn_refusal}
+use Rattle.rcu_core.specs.GpState.{after_begin, after_end, after_hear, after_report, awaited_in, begin_refusal, end_refusal}
+use Rattle.rcu_core.specs.GpState.{hear_answer, own_report, periods_of, renumber_refusal, report_answer_in, turn_answer, turn_refusal}
 use Rattle.rcu_core.specs.Situation.{wants_begin}
 use Rattle.rcu_core.specs.History.{report_at}
 use Rattle.rcu_core.specs.Replies.{fault_in, accepted_reply, or_fault, how_many, answer_to_report, waits_for}
-use Rattle.rcu_core.specs.Core.{State, IsSound, StepsLegally, says, after_event, after_reply, size_at}
+use Rattle.rcu_core.specs.Core.{State, IsSound, StepsLegally, says, after_event, after_reply, processor, size_at}
 use Rattle.rcu_core.specs.declared.event.Event.{Event}
 use Rattle.rcu_core.specs.declared.event.Event.TheVariants.{Deliver, Begin, End, Turn, Awaits, Tend}
-use Rattle.rcu_core.specs.declared.event.Event.TheVariants.{BarTest, Renumber}
+use Rattle.rcu_core.specs.declared.event.Event.TheVariants.{BarTest, Renumber, Scan}
 use Rattle.rcu_core.specs.declared.reply.Reply.{Reply}
 use Rattle.rcu_core.specs.declared.reply.Reply.TheVariants as reply
 use Rattle.rcu_core.specs.declared.turned.Turned.{Turned}
@@ -157,6 +158,24 @@ pub does_hear : (v w : State ℕ) (place : ℕ) (report : Report) (a : Answer) �
 does_hear v w place report a found answer kept = record {
   legal = inl (rw found (ap (λ x. reply.Answer x) (answer ∙ answer_said v report)));
   left = kept ∙ rw found refl;
+}
+
+-- a scan is accepted where the processor there is online and idle
+pub scan_accepted : (v : State ℕ) (cpu : ℕ) (p : Processor) → cpu < cpus_of v.grace.processors
+    → is_in v.grace.processors.online cpu ≡ true → p ≡ processor v.cpus cpu → p.idle ≡ true
+    → fault_in (size_at v) (says v) (Scan cpu) ≡ None
+scan_accepted v cpu p within online here idle =
+    let asleep : (processor v.cpus cpu).idle ≡ true = sym (ap (λ (q : Processor). q.idle) here) ∙ idle in
+    grind (arith, nat_tests)
+
+-- a scan is a report of the processor with the tag of now
+pub does_scan : (v w : State ℕ) (cpu : ℕ) (a : Answer) → fault_in (size_at v) (says v) (Scan cpu) ≡ None
+    → a ≡ hear_answer v.grace cpu → w ≡ record v { grace = after_hear v.grace cpu }
+    → StepsLegally v (Scan cpu) (reply.Answer a) w
+does_scan v w cpu a none answer kept = record {
+  legal = inl (says_so v (Scan cpu) (reply.Answer a) none
+      (ap (λ x. reply.Answer x) (answer ∙ answer_said v (own_report v.grace cpu))));
+  left = kept;
 }
 
 -- the list of the awaited is refused only where one is awaited

@@ -1,6 +1,6 @@
 -- Memory is wanted only where the answer would have told of something kept.
-use Rattle.std.proofs.Common.{◌≡◌, ℕ, suc, ◌+◌, Bool, true, false, not, ◌&&◌, List, [], ◌∷◌, ◌++◌, length, Some}
-use Rattle.std.proofs.Common.{refl, sym, ap, ◌∙◌, subst, arith, cond, eqb, ltb, inl, inr}
+use Rattle.std.proofs.Common.{◌≡◌, ℕ, suc, ◌+◌, Bool, true, false, not, ◌&&◌, List, [], ◌∷◌, ◌++◌, length, Some, None}
+use Rattle.std.proofs.Common.{refl, sym, ap, ◌∙◌, subst, arith, cond, eqb, ltb, ◌⊎◌, ◌<◌, inl, inr}
 use Rattle.std.specs.List.{list_any, range_with_len}
 use Rattle.std.proofs.lemmas.Bool.{or_parts}
 use Rattle.std.proofs.lemmas.Bool.Decides.{nat_tests}
@@ -18,8 +18,7 @@ use Rattle.rcu_barrier.specs.Tending.{mark_after_tend, after_tend}
 use Rattle.rcu_barrier.specs.declared.visit.Visit.TheVariants.{Marked, Empty, Already}
 use Rattle.rcu_core.specs.Callbacks.{is_owed, list, queue_count}
 use Rattle.rcu_core.specs.History.{History, awaits, number, tag_now}
-use Rattle.rcu_core.specs.Links.{holds}
-use Rattle.rcu_core.specs.Replies.{Size, accepted_reply, answer, causes, or_fault}
+use Rattle.rcu_core.specs.Replies.{Size, accepted_reply, answer, causes, or_fault, fault_in}
 use Rattle.rcu_core.specs.Situation.{Situation, situation}
 use Rattle.rcu_core.specs.Replies.{stores, IsLegalReply}
 use Rattle.rcu_core.specs.declared.event.Event.{Event}
@@ -120,26 +119,72 @@ some_callback [] i j = absurd (cc)
 some_callback (Marker ∷ xs) i j = absurd (cc)
 some_callback (Of call mark ∷ xs) i j = above (length (callbacks xs))
 
-marked_holds : (owed empty : Bool) → (owed && not empty) ≡ true
-    → holds (reply.Visited (cond (not owed) Already (cond empty Empty Marked))) ≡ true
-marked_holds true true i = absurd (cc)
-marked_holds true false i = refl
-marked_holds false empty i = absurd (cc)
+positive : (n : ℕ) → ltb 0 n ≡ true → 0 < n
+positive n i = grind (arith, nat_tests)
 
-stored_holds : (s : Size) (h : History) (e : Event) → stores s (situation h) e ≡ true
-    → holds (accepted_reply s (situation h) e) ≡ true
-stored_holds s h (Quiesce c) i = refl
-stored_holds s h Awaits i =
-    subst (λ n. ltb 0 n ≡ true) (sym (length-filter (λ c. awaits c h) (range_with_len 0 s.cpus))) i
-stored_holds s h (Offline c) i = some_callback (list c h) (unled h c) i
-stored_holds s h (Queue c y) i = refl
-stored_holds s h (Run c m) i =
-    subst (λ n. ltb 0 n ≡ true) (sym (length-map (take_answer (list c h) m) (λ (call : Queued ℕ). call.value))) i
-stored_holds s h (Visit c) i = marked_holds (is_owed c h) (is_empty (list c h)) i
-stored_holds s h _ i = absurd (cc)
+does_mark : (owed empty : Bool) → (owed && not empty) ≡ true
+    → cond (not owed) Already (cond empty Empty Marked) ≡ Marked
+does_mark true true i = absurd (cc)
+does_mark true false i = refl
+does_mark false empty i = absurd (cc)
 
-pub wanted_holds : (s : Size) (h : History) (e : Event) → IsLegalReply s (situation h) e (reply.Fault fault.NoMemory)
-    → holds (answer s (situation h) e) ≡ true
-wanted_holds s h e (inl i) = absurd (let a = no_answer_wants s (situation h) e in let b = ap (λ r. is_want r) i in cc)
-wanted_holds s h e (inr i) =
-    subst (λ o. holds (or_fault o (accepted_reply s (situation h) e)) ≡ true) (sym i.1) (stored_holds s h e i.0)
+-- memory is wanted where the event stores something, and no fault holds
+wanted_stores : (s : Size) (h : History) (e : Event) → IsLegalReply s (situation h) e (reply.Fault fault.NoMemory)
+    → (stores s (situation h) e ≡ true) × (fault_in s (situation h) e ≡ None)
+wanted_stores s h e (inl i) = absurd (let a = no_answer_wants s (situation h) e in let b = ap (λ r. is_want r) i in cc)
+wanted_stores s h e (inr i) = (i.0, i.1)
+
+is_accepted : (s : Size) (h : History) (e : Event) → fault_in s (situation h) e ≡ None
+    → answer s (situation h) e ≡ accepted_reply s (situation h) e
+is_accepted s h e n = ap (λ o. or_fault o (accepted_reply s (situation h) e)) n
+
+storing : (s : Size) (h : History) (e : Event) → stores s (situation h) e ≡ true
+    → (e ≡ Awaits) ⊎ ((c : ℕ) × ((e ≡ Quiesce c) ⊎ ((e ≡ Offline c) ⊎ ((e ≡ Visit c)
+    ⊎ ((n : ℕ) × ((e ≡ Queue c n) ⊎ (e ≡ Run c n)))))))
+storing s h (Quiesce c) i = inr (c, inl refl)
+storing s h Awaits i = inl refl
+storing s h (Offline c) i = inr (c, inr (inl refl))
+storing s h (Queue c y) i = inr (c, inr (inr (inr (y, inl refl))))
+storing s h (Run c m) i = inr (c, inr (inr (inr (m, inr refl))))
+storing s h (Visit c) i = inr (c, inr (inr (inl refl)))
+storing s h _ i = absurd (cc)
+
+-- by six events
+pub wanting_event : (s : Size) (h : History) (e : Event)
+    → IsLegalReply s (situation h) e (reply.Fault fault.NoMemory)
+    → (e ≡ Awaits) ⊎ ((c : ℕ) × ((e ≡ Quiesce c) ⊎ ((e ≡ Offline c) ⊎ ((e ≡ Visit c)
+    ⊎ ((n : ℕ) × ((e ≡ Queue c n) ⊎ (e ≡ Run c n)))))))
+wanting_event s h e l = storing s h e (wanted_stores s h e l).0
+
+-- by a list of the awaited that is not empty
+pub wants_to_list : (s : Size) (h : History) → IsLegalReply s (situation h) Awaits (reply.Fault fault.NoMemory)
+    → (cpus : List ℕ) × (answer s (situation h) Awaits ≡ reply.Awaits cpus) × (0 < length cpus)
+wants_to_list s h l =
+    let i = wanted_stores s h Awaits l in
+    let n = length-filter (λ c. awaits c h) (range_with_len 0 s.cpus) in
+    (_, is_accepted s h Awaits i.1, positive _ (subst (λ n. ltb 0 n ≡ true) (sym n) i.0))
+
+-- by a departure that moves callbacks
+pub wants_to_move : (s : Size) (h : History) (c : ℕ)
+    → IsLegalReply s (situation h) (Offline c) (reply.Fault fault.NoMemory)
+    → (calls : ℕ) × (answer s (situation h) (Offline c) ≡ reply.Moved calls) × (0 < calls)
+wants_to_move s h c l =
+    let i = wanted_stores s h (Offline c) l in
+    (_, is_accepted s h (Offline c) i.1, positive _ (some_callback (list c h) (unled h c) i.0))
+
+-- by a run that hands out callbacks
+pub wants_to_hand_out : (s : Size) (h : History) (c m : ℕ)
+    → IsLegalReply s (situation h) (Run c m) (reply.Fault fault.NoMemory)
+    → (values : List ℕ) × (answer s (situation h) (Run c m) ≡ reply.Ran values) × (0 < length values)
+wants_to_hand_out s h c m l =
+    let i = wanted_stores s h (Run c m) l in
+    let n = length-map (take_answer (list c h) m) (λ (call : Queued ℕ). call.value) in
+    (_, is_accepted s h (Run c m) i.1, positive _ (subst (λ n. ltb 0 n ≡ true) (sym n) i.0))
+
+-- by a visit that puts a marker
+pub wants_to_mark : (s : Size) (h : History) (c : ℕ)
+    → IsLegalReply s (situation h) (Visit c) (reply.Fault fault.NoMemory)
+    → answer s (situation h) (Visit c) ≡ reply.Visited Marked
+wants_to_mark s h c l =
+    let i = wanted_stores s h (Visit c) l in
+    is_accepted s h (Visit c) i.1 ∙ ap (λ v. reply.Visited v) (does_mark (is_owed c h) (is_empty (list c h)) i.0)

@@ -19,7 +19,7 @@ use Rattle.rcu_core.specs.Situation.{periods_in, cpus_in, calls_in, situation}
 use Rattle.rcu_core.specs.declared.event.Event.{Event}
 use Rattle.rcu_core.specs.declared.event.Event.TheVariants.{Enter, Exit, Note, Quiesce, Deliver, Online, Offline, Begin}
 use Rattle.rcu_core.specs.declared.event.Event.TheVariants.{End, Turn, Awaits, Take, StartPoll, Poll, Queue, Tend, Run}
-use Rattle.rcu_core.specs.declared.event.Event.TheVariants.{BarBegin, Visit, BarTest, Renumber}
+use Rattle.rcu_core.specs.declared.event.Event.TheVariants.{BarBegin, Visit, BarTest, Renumber, Idle, Wake, Scan}
 use Rattle.rcu_core.specs.declared.reply.Reply.{Reply}
 use Rattle.rcu_core.specs.declared.reply.Reply.TheVariants as reply
 
@@ -29,9 +29,9 @@ pub record State (X : Type 0) : Type 0 where
   pub cpus : List Processor
   pub made : List Report
 
--- how many processors there are, and the last number
+-- how many processors there are, the last number, and how many callbacks may be queued
 abbrev pub size_at : {X : Type 0} → State X → Size
-size_at v = record { cpus = cpus_of v.grace.processors; last = v.grace.seq.last }
+size_at v = record { cpus = cpus_of v.grace.processors; last = v.grace.seq.last; most = v.grace.lists.most }
 
 -- the processor at a place
 abbrev pub processor : List Processor → ℕ → Processor
@@ -41,6 +41,7 @@ processor cpus cpu = slice_index_or cpus cpu (cpu_data.at_first cpu false)
 abbrev pub cpus_said : State ℕ → CpuSituation
 cpus_said v = record {
   online = is_in v.grace.processors.online;
+  idle = λ cpu. (processor v.cpus cpu).idle;
   awaits = is_in v.grace.processors.awaited;
   depth = λ cpu. (processor v.cpus cpu).depth;
   noted = λ cpu. (processor v.cpus cpu).noted;
@@ -109,6 +110,9 @@ after_event v BarBegin = record v { grace = grace.after_barrier_begin v.grace }
 after_event v (Visit cpu) = record v { grace = grace.after_visit v.grace cpu }
 after_event v BarTest = record v { grace = grace.after_barrier_test v.grace }
 after_event v Renumber = record v { grace = grace.after_renumber v.grace }
+after_event v (Idle cpu) = record v { cpus = with_cpu v.cpus cpu cpu_data.Idle }
+after_event v (Wake cpu) = record v { cpus = with_cpu v.cpus cpu cpu_data.Wake }
+after_event v (Scan cpu) = record v { grace = grace.after_hear v.grace cpu }
 
 -- what an event and its reply leave: a refused event changes nothing
 abbrev pub after_reply : State ℕ → Event → Reply → State ℕ
@@ -133,7 +137,13 @@ pub record RepresentsPeriods (p u : PeriodSituation) : Type 0 where
 
 -- what a situation says of one processor
 abbrev pub processor_in : CpuSituation → ℕ → Processor
-processor_in u cpu = record { cpu = cpu; online = u.online cpu; depth = u.depth cpu; noted = u.noted cpu }
+processor_in u cpu = record {
+  cpu = cpu;
+  online = u.online cpu;
+  idle = u.idle cpu;
+  depth = u.depth cpu;
+  noted = u.noted cpu;
+}
 
 -- the processors and the reports are as a situation says
 pub record RepresentsCpus (processors : Processors) (cpus : List Processor) (reports : List Report) (u : CpuSituation)

@@ -1,13 +1,13 @@
 -- The state of the grace periods and the callbacks: what each call leaves, and when it is refused.
 use Rattle.std.specs.Prelude.{ℕ, ◌+◌, ◌≤◌, ◌≡◌, ◌==◌, ◌&&◌, Bool, true, false, not, max, nat_lt, if◌then◌else◌}
-use Rattle.std.specs.Prelude.{List, [], ◌∷◌, All, Option, Some, None}
+use Rattle.std.specs.Prelude.{List, [], ◌∷◌, All, Option, Some, None, slice_set}
 use Rattle.rcu_seq.specs.Numbers.{Number, same_number, snapshot}
 use Rattle.rcu_seq.specs.Tags.{last_epoch}
 use Rattle.rcu_seq.specs.declared.tag.Tag.{Tag}
 use Rattle.rcu_seq.specs.Seq.{Periods, cookie_of, number_of, renumbered, tag_of}
 use Rattle.rcu_seq.specs.declared.fault.Fault.{Fault}
 use Rattle.rcu_seq.specs.declared.fault.Fault.TheVariants as fault
-use Rattle.rcu_node.specs.CpuSet.{size_of}
+use Rattle.rcu_node.specs.CpuSet.{is_in, size_of}
 use Rattle.rcu_node.specs.Reports.{report_answer, awaited_after_report}
 use Rattle.rcu_node.specs.declared.answer.Answer.{Answer}
 use Rattle.rcu_node.specs.declared.answer.Answer.TheVariants.{Stale}
@@ -19,6 +19,8 @@ use Rattle.rcu_barrier.specs.Lists as lists
 use Rattle.rcu_barrier.specs.Lists.{AllLists}
 use Rattle.rcu_core.specs.Callbacks.{greatest_from}
 use Rattle.rcu_core.specs.Situation.{PeriodSituation, wants_begin}
+use Rattle.rcu_core.specs.declared.current_answer.CurrentAnswer.{CurrentAnswer}
+use Rattle.rcu_core.specs.declared.current_answer.CurrentAnswer.TheVariants as current
 use Rattle.rcu_core.specs.declared.turned.Turned.{Turned}
 use Rattle.rcu_core.specs.declared.turned.Turned.TheVariants as turned
 
@@ -52,12 +54,12 @@ HasWaited now at = (at.epoch ≤ now.epoch) × IsDue now at now.number
 
 module _ {X : Type 0} where
   -- before any call nothing ran, nothing is needed, processor 0 alone is online, and the lists are empty
-  abbrev pub at_first : ℕ → Number → Grace X
-  at_first cpus last = record {
+  abbrev pub at_first : ℕ → Number → ℕ → Grace X
+  at_first cpus last most = record {
     seq = record { epoch = 0; ends = 0; running = false; last = last };
     needed = 0;
     processors = hotplug.at_first cpus;
-    lists = lists.at_first cpus;
+    lists = lists.at_first cpus most;
   }
 
   -- how many processors are awaited
@@ -119,6 +121,16 @@ module _ {X : Type 0} where
   -- after that report
   abbrev pub after_hear : Grace X → ℕ → Grace X
   after_hear g cpu = after_report g (own_report g cpu)
+
+  -- what a report of the processor answers in the grace period that runs
+  abbrev pub current_answer : Grace X → ℕ → CurrentAnswer
+  current_answer g cpu =
+      if not (is_in g.processors.awaited cpu) then current.Repeat
+      else (if awaited_in g == 1 then current.Last else current.Taken)
+
+  -- after that report
+  abbrev pub after_current_report : Grace X → ℕ → Grace X
+  after_current_report g cpu = with_awaited g (slice_set g.processors.awaited cpu false)
 
   -- what its counter and its needed number say
   abbrev pub periods_of : Grace X → PeriodSituation

@@ -9,7 +9,7 @@ use Rattle.rcu_seq.specs.Tags.{first_tag, is_before, same_tag}
 use Rattle.rcu_seq.specs.declared.tag.Tag.{Tag}
 use Rattle.rcu_core.specs.declared.event.Event.{Event}
 use Rattle.rcu_core.specs.declared.event.Event.TheVariants.{Enter, Exit, Note, Quiesce, Deliver, Online, Offline, Begin}
-use Rattle.rcu_core.specs.declared.event.Event.TheVariants.{End, Renumber}
+use Rattle.rcu_core.specs.declared.event.Event.TheVariants.{End, Renumber, Idle, Wake, Scan}
 use Rattle.rcu_report.specs.declared.report.Report.{Report}
 
 abbrev pub History : Type 0
@@ -50,6 +50,18 @@ abbrev pub exits : ℕ → Event → Bool
 exits cpu (Exit c) = c == cpu
 exits cpu _ = false
 
+-- the processor goes idle
+abbrev pub goes_idle : ℕ → Event → Bool
+goes_idle cpu (Idle c) = c == cpu
+goes_idle cpu _ = false
+
+-- its idleness ends: it wakes, departs or arrives
+abbrev pub ends_idleness : ℕ → Event → Bool
+ends_idleness cpu (Wake c) = c == cpu
+ends_idleness cpu (Offline c) = c == cpu
+ends_idleness cpu (Online c) = c == cpu
+ends_idleness cpu _ = false
+
 -- the processor takes down the tag of now: at a note, and at its arrival
 abbrev pub notes : ℕ → Event → Bool
 notes cpu (Note c) = c == cpu
@@ -82,6 +94,10 @@ tag_now h = record { epoch = epoch h; number = number h }
 -- the processor is online: its last arrival or departure is an arrival; before any, it is processor 0
 abbrev pub online : ℕ → History → Bool
 online cpu h = is_on (cpu == 0) (arrives cpu) (departs cpu) h
+
+-- the processor is idle: it went idle, and its idleness did not end since
+abbrev pub is_idle : ℕ → History → Bool
+is_idle cpu h = is_on false (goes_idle cpu) (ends_idleness cpu) h
 
 -- the noted tag: that at the processor's last note or arrival, number 0 of epoch 0 before any
 abbrev pub noted : ℕ → History → Tag
@@ -129,10 +145,12 @@ abbrev pub is_of : ℕ → Tag → Option Report → Bool
 is_of cpu tag None = false
 is_of cpu tag (Some report) = report.cpu == cpu && same_tag report.tag tag
 
--- by this event the processor is heard in the grace period of this tag: a report of both is delivered, or it departs
+-- by this event the processor is heard in the grace period of this tag: a report of both is delivered, it departs, or a
+-- scan finds it idle
 abbrev pub hears : ℕ → Tag → Event → History → Bool
 hears cpu tag (Deliver place) h = is_of cpu tag (report_at place (reports_made h))
 hears cpu tag (Offline c) h = c == cpu
+hears cpu tag (Scan c) h = c == cpu
 hears cpu tag _ h = false
 
 -- the processor was heard since the latest begin

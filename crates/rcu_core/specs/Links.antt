@@ -1,20 +1,18 @@
 -- What ties runs and histories to the laws: a run made longer, the latest grace period whether it runs or has ended,
 -- who was heard in it, and callbacks as they were queued.
-use Rattle.std.specs.Prelude.{ℕ, ◌+◌, ◌≡◌, ◌==◌, ◌&&◌, Bool, true, false, nat_lt, if◌then◌else◌, List, [], ◌∷◌, ◌++◌}
-use Rattle.std.specs.Prelude.{length, Option, Some, None, sum_by}
+use Rattle.std.specs.Prelude.{ℕ, ◌+◌, ◌≡◌, ◌==◌, ◌&&◌, Bool, true, false, if◌then◌else◌, List, [], ◌∷◌, ◌++◌}
+use Rattle.std.specs.Prelude.{Option, Some, None, sum_by}
 use Rattle.std.specs.List.{list_any, range_with_len}
 use Rattle.rcu_seq.specs.Histories.{latest}
 use Rattle.rcu_seq.specs.declared.tag.Tag.{Tag}
 use Rattle.rcu_cblist.specs.SegList.{callbacks}
 use Rattle.rcu_cblist.specs.declared.queued.Queued.{Queued}
-use Rattle.rcu_barrier.specs.declared.visit.Visit.TheVariants.{Marked}
 use Rattle.rcu_core.specs.Callbacks.{copies, list, queue_count, since}
 use Rattle.rcu_core.specs.History.{History, begins, hears, online, tag_now}
 use Rattle.rcu_core.specs.Runs.{Run}
 use Rattle.rcu_core.specs.declared.event.Event.{Event}
 use Rattle.rcu_core.specs.declared.event.Event.TheVariants.{Queue}
 use Rattle.rcu_core.specs.declared.reply.Reply.{Reply}
-use Rattle.rcu_core.specs.declared.reply.Reply.TheVariants as reply
 
 -- the run made longer by these events and their replies, the first one first
 abbrev pub onto : List Event → List Reply → Run → Run
@@ -56,17 +54,6 @@ pub record QueuedAt (ord : ℕ) (h : History) : Type 0 where
   pub earlier : History
   pub is : h ≡ since ord h ++ Queue cpu value ∷ earlier
   pub place : queue_count earlier + 1 ≡ ord
-
--- the reply tells of something that is kept, or that goes out in a list of its own: a report, a listed processor, a
--- callback that moved, was queued or was handed out, or a marker
-abbrev pub holds : Reply → Bool
-holds (reply.Made place report) = true
-holds (reply.Awaits cpus) = nat_lt 0 (length cpus)
-holds (reply.Moved calls) = nat_lt 0 calls
-holds (reply.Queued place) = true
-holds (reply.Ran values) = nat_lt 0 (length values)
-holds (reply.Visited Marked) = true
-holds _ = false
 
 -- how often the callback of this place lies in the lists of this many processors
 abbrev pub times_listed : ℕ → ℕ → History → ℕ

@@ -12,7 +12,6 @@ use Rattle.rcu_node.specs.declared.answer.Answer.TheVariants.{Taken, Last, Repea
 use Rattle.rcu_report.specs.declared.report.Report.{Report}
 use Rattle.rcu_cpu.specs.CpuData.{deepest}
 use Rattle.rcu_cblist.specs.SegList.{Item, behind, callbacks, front, is_empty, markers, take_answer}
-use Rattle.rcu_barrier.specs.Lists.{most_queued}
 use Rattle.rcu_barrier.specs.Tending.{after_tend}
 use Rattle.rcu_barrier.specs.declared.visit.Visit.{Visit as Visited}
 use Rattle.rcu_barrier.specs.declared.visit.Visit.TheVariants.{Marked, Empty, Already}
@@ -21,14 +20,15 @@ use Rattle.rcu_core.specs.Situation.{Situation, number_in, situation, tag_in, wa
 use Rattle.rcu_core.specs.declared.event.Event.{Event}
 use Rattle.rcu_core.specs.declared.event.Event.TheVariants.{Enter, Exit, Note, Quiesce, Deliver, Online, Offline, Begin}
 use Rattle.rcu_core.specs.declared.event.Event.TheVariants.{End, Turn, Awaits, Take, StartPoll, Poll, Queue, Tend, Run}
-use Rattle.rcu_core.specs.declared.event.Event.TheVariants.{BarBegin, Visit, BarTest, Renumber}
+use Rattle.rcu_core.specs.declared.event.Event.TheVariants.{BarBegin, Visit, BarTest, Renumber, Idle, Wake, Scan}
 use Rattle.rcu_core.specs.declared.reply.Reply.{Reply}
 use Rattle.rcu_core.specs.declared.reply.Reply.TheVariants as reply
 
--- how many processors there are, and the last number
+-- how many processors there are, the last number, and how many callbacks may be queued
 pub record Size : Type 0 where
   pub cpus : ℕ
   pub last : Number
+  pub most : ℕ
 
 -- how many of the processors pass a test
 abbrev pub how_many : Size → (ℕ → Bool) → ℕ
@@ -50,22 +50,30 @@ tended_list v cpu = after_tend (v.calls.list cpu) (number_in v.periods)
 abbrev pub waits_for : Size → Situation → ℕ
 waits_for s v = sum_by (λ cpu. markers (v.calls.list cpu)) (range_with_len 0 s.cpus) + how_many s v.calls.owed
 
--- causes that several events test: there is no such processor, it is offline, a section of it is open
+-- causes that several events test: there is no such processor, it is offline, it is idle, it is not idle, a section of
+-- it is open
 abbrev pub no_cpu : Size → ℕ → Bool × Fault
 no_cpu s cpu = (nat_le s.cpus cpu, fault.BadCpu)
 
 abbrev pub is_offline : Situation → ℕ → Bool × Fault
 is_offline v cpu = (not (v.cpus.online cpu), fault.Offline)
 
+abbrev pub is_asleep : Situation → ℕ → Bool × Fault
+is_asleep v cpu = (v.cpus.idle cpu, fault.CpuIdle)
+
+abbrev pub is_awake : Situation → ℕ → Bool × Fault
+is_awake v cpu = (not (v.cpus.idle cpu), fault.NotIdle)
+
 abbrev pub is_inside : Situation → ℕ → Bool × Fault
 is_inside v cpu = (nat_lt 0 (v.cpus.depth cpu), fault.InSection)
 
 -- what is tested for an event, in order: a cause, and the fault that it is answered by
 abbrev pub causes : Size → Situation → Event → List (Bool × Fault)
-causes s v (Enter cpu) = no_cpu s cpu ∷ is_offline v cpu ∷ (v.cpus.depth cpu == deepest, fault.NestFull) ∷ []
+causes s v (Enter cpu) =
+    no_cpu s cpu ∷ is_offline v cpu ∷ is_asleep v cpu ∷ (v.cpus.depth cpu == deepest, fault.NestFull) ∷ []
 causes s v (Exit cpu) = no_cpu s cpu ∷ (v.cpus.depth cpu == 0, fault.NotOpen) ∷ []
 causes s v (Note cpu) = no_cpu s cpu ∷ is_offline v cpu ∷ []
-causes s v (Quiesce cpu) = no_cpu s cpu ∷ is_offline v cpu ∷ is_inside v cpu ∷ []
+causes s v (Quiesce cpu) = no_cpu s cpu ∷ is_offline v cpu ∷ is_asleep v cpu ∷ is_inside v cpu ∷ []
 causes s v (Deliver place) = (is_none (report_at place v.cpus.made), fault.NoReport) ∷ []
 causes s v (Online cpu) = no_cpu s cpu ∷ (v.cpus.online cpu, fault.AlreadyOnline) ∷ []
 causes s v (Offline cpu) =
@@ -79,7 +87,7 @@ causes s v Take = []
 causes s v StartPoll = []
 causes s v (Poll number epoch) = []
 causes s v (Queue cpu value) =
-    no_cpu s cpu ∷ is_offline v cpu ∷ (v.calls.queued == most_queued, fault.CallbacksFull) ∷ []
+    no_cpu s cpu ∷ is_offline v cpu ∷ (v.calls.queued == s.most, fault.CallbacksFull) ∷ []
 causes s v (Tend cpu) = no_cpu s cpu ∷ []
 causes s v (Run cpu most) = no_cpu s cpu ∷ []
 causes s v BarBegin = (v.calls.barrier, fault.BarrierBusy) ∷ []
@@ -88,6 +96,9 @@ causes s v BarTest = (not v.calls.barrier, fault.NoBarrier) ∷ []
 causes s v Renumber =
     (v.periods.running, fault.Running) ∷ (not (is_last s.last && is_last_in s v), fault.NotLast)
     ∷ (v.periods.epoch == last_epoch, fault.Exhausted) ∷ []
+causes s v (Idle cpu) = no_cpu s cpu ∷ is_offline v cpu ∷ is_asleep v cpu ∷ is_inside v cpu ∷ []
+causes s v (Wake cpu) = no_cpu s cpu ∷ is_offline v cpu ∷ is_awake v cpu ∷ []
+causes s v (Scan cpu) = no_cpu s cpu ∷ is_offline v cpu ∷ is_awake v cpu ∷ []
 
 -- the fault of an event
 abbrev pub fault_in : Size → Situation → Event → Option Fault
@@ -101,6 +112,10 @@ answer_to_report s v (Some report) =
     if not (v.periods.running && same_tag report.tag (tag_in v.periods)) then Stale
     else (if not (v.cpus.awaits report.cpu) then Repeat
     else (if how_many s v.cpus.awaits == 1 then Last else Taken))
+
+-- the report of a processor that noted the tag of now
+abbrev pub own_report : Situation → ℕ → Report
+own_report v cpu = record { cpu = cpu; tag = tag_in v.periods }
 
 -- a grace period begins
 abbrev pub begin_reply : Size → Situation → Reply
@@ -151,6 +166,9 @@ accepted_reply s v BarBegin = reply.BarBegun
 accepted_reply s v (Visit cpu) = reply.Visited (visit_in v cpu)
 accepted_reply s v BarTest = barrier_test_reply s v
 accepted_reply s v Renumber = reply.Renumbered (v.periods.epoch + 1)
+accepted_reply s v (Idle cpu) = reply.Idle
+accepted_reply s v (Wake cpu) = reply.Awake
+accepted_reply s v (Scan cpu) = reply.Answer (answer_to_report s v (Some (own_report v cpu)))
 
 -- the first fault whose cause holds, and else what is said
 abbrev pub or_fault : Option Fault → Reply → Reply

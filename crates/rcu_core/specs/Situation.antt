@@ -6,7 +6,7 @@ use Rattle.rcu_report.specs.declared.report.Report.{Report}
 use Rattle.rcu_cblist.specs.SegList.{Item}
 use Rattle.rcu_core.specs.Callbacks.{barrier_runs, is_owed, list, needed, queue_count}
 use Rattle.rcu_core.specs.History.{History, awaits, depth, ends_in_epoch, epoch, noted, online, reports_made}
-use Rattle.rcu_core.specs.History.{running}
+use Rattle.rcu_core.specs.History.{is_idle, running}
 
 -- what the events so far say of grace periods: the epoch, how many ended in it, whether one runs, and which number is
 -- needed
@@ -28,10 +28,11 @@ tag_in p = record { epoch = p.epoch; number = number_in p }
 abbrev pub wants_begin : PeriodSituation → Bool
 wants_begin p = not p.running && nat_lt (number_in p) p.needed
 
--- what they say of the processors: which are online, which are awaited, how deep the sections of each nest, which tag
--- it noted last; and all reports
+-- what they say of the processors: which are online, which are idle, which are awaited, how deep the sections of each
+-- nest, which tag it noted last; and all reports
 pub record CpuSituation : Type 0 where
   pub online : ℕ → Bool
+  pub idle : ℕ → Bool
   pub awaits : ℕ → Bool
   pub depth : ℕ → ℕ
   pub noted : ℕ → Tag
@@ -58,6 +59,7 @@ periods_in h = record { epoch = epoch h; ends = ends_in_epoch h; running = runni
 abbrev pub cpus_in : History → CpuSituation
 cpus_in h = record {
   online = λ cpu. online cpu h;
+  idle = λ cpu. is_idle cpu h;
   awaits = λ cpu. awaits cpu h;
   depth = λ cpu. depth cpu h;
   noted = λ cpu. noted cpu h;

@@ -1,7 +1,6 @@
 //! Processors in a row.
-ghost use Rattle.std.specs.Prelude.{◌≡◌, ◌∷◌, ◌++◌, [], IfOk, OnOk, OnErr};
+ghost use Rattle.std.specs.Prelude.{◌≡◌};
 
-use std::alloc::{AllocError, Global};
 use std::marker::Model;
 
 /// Processors in a row, which a reply lists. Contracts see the list of their numbers.
@@ -19,22 +18,11 @@ impl Model for CpuList {
 }
 
 impl CpuList {
-    /// The empty list, which takes no memory.
-    pub fn new(alloc: Global) -> CpuList
-        ensures { result ≡ [] }
+    /// The list of these processors, which are not copied.
+    pub fn new(cpus: Vec<u32>) -> CpuList
+        ensures { result ≡ cpus.items }
     {
-        CpuList {
-            cpus: Vec::new(alloc),
-        }
-    }
-
-    /// Puts a processor behind the others.
-    pub fn push(&mut self, cpu: u32) -> Result<(), AllocError>
-        ensures ok { OnOk result (self.new ≡ self.old ++ cpu ∷ []) }
-        ensures err { OnErr result (self.new ≡ self.old) }
-    {
-        self.cpus.push(cpu)?;
-        Ok(())
+        CpuList { cpus }
     }
 
     /// The processors' numbers.

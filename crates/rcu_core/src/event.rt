@@ -4,14 +4,14 @@
 #[derive(Clone, Copy, Debug, PartialEq, Eq)]
 pub enum Event {
     /// The processor opens a read section, or nests one deeper. Faults: `BadCpu` (1), `Offline`
-    /// (2), `NestFull` (6).
+    /// (2), `CpuIdle` (23), `NestFull` (6).
     Enter(u32),
     /// The processor leaves its innermost read section. Faults: `BadCpu` (1), `NotOpen` (5).
     Exit(u32),
     /// The processor takes down the tag of now. Faults: `BadCpu` (1), `Offline` (2).
     Note(u32),
     /// The processor makes a report of its noted tag. Faults: `BadCpu` (1), `Offline` (2),
-    /// `InSection` (4), `NoMemory` (16).
+    /// `CpuIdle` (23), `InSection` (4), `NoMemory` (16).
     Quiesce(u32),
     /// The report of this number, counted from 1, is delivered. Fault: `NoReport` (7).
     Deliver(u64),
@@ -43,8 +43,8 @@ pub enum Event {
     Queue(u32, u64),
     /// The marks of the processor's callbacks are brought up to the number. Fault: `BadCpu` (1).
     Tend(u32),
-    /// The first callbacks of the processor's done part are handed out, at most so many. Faults:
-    /// `BadCpu` (1), `NoMemory` (16).
+    /// The first callbacks of the processor's done part are handed out, at most as many as the
+    /// second number says. Faults: `BadCpu` (1), `NoMemory` (16).
     Run(u32, u64),
     /// A barrier begins. Fault: `BarrierBusy` (13).
     BarBegin,
@@ -55,4 +55,12 @@ pub enum Event {
     /// The numbers start anew, in the next epoch. Faults: `Running` (8); `NotLast` (22) where the
     /// number is not the last one; `Exhausted` (11) in the last epoch.
     Renumber,
+    /// The processor goes idle: it opens no section until it wakes. Faults: `BadCpu` (1), `Offline`
+    /// (2), `CpuIdle` (23), `InSection` (4).
+    Idle(u32),
+    /// The processor wakes. Faults: `BadCpu` (1), `Offline` (2), `NotIdle` (24).
+    Wake(u32),
+    /// The processor is looked at, and found idle: that is as a report of it with the tag of now.
+    /// Faults: `BadCpu` (1), `Offline` (2), `NotIdle` (24).
+    Scan(u32),
 }

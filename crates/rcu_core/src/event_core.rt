@@ -1,13 +1,15 @@
 //! The machine over events.
-ghost use Rattle.std.specs.Prelude.{◌≡◌, ◌<◌, ◌≤◌, ℕ, true, false, [], Some, None, length};
+ghost use Rattle.std.specs.Prelude.{◌≡◌, ◌<◌, ◌≤◌, ◌^◌, ℕ, true, false, [], Some, None, length};
 ghost use Rattle.std.specs.Prelude.{replicate, IfErr, IfOk, OnErr, OnOk};
 ghost use Rattle.rcu_seq.specs.Numbers.{is_last};
 ghost use Rattle.rcu_seq.specs.Tags.{first_tag};
 ghost use Rattle.rcu_node.specs.CpuSet.{is_in, size_of};
 ghost use Rattle.rcu_hotplug.specs.Hotplug.{cpus_of};
+ghost use Rattle.rcu_barrier.specs.Lists.{most_queued};
 ghost use Rattle.rcu_core.specs.History.{History, report_at};
 ghost use Rattle.rcu_core.specs.Replies.{fault_in, which};
-ghost use Rattle.rcu_core.specs.Runs.{RunsLegally};
+ghost use Rattle.rcu_core.specs.Links.{onto};
+ghost use Rattle.rcu_core.specs.Runs.{IsLegalRun, RunsLegally};
 ghost use Rattle.rcu_core.specs.Core.{Follows, Refuses, Represents, StepsLegally, says, size_at};
 
 use crate::cpu_list::CpuList;
@@ -17,6 +19,7 @@ use crate::reply::Reply;
 use crate::turned::Turned;
 use crate::value_list::ValueList;
 use rcu_barrier::barrier_state::BarrierState;
+use rcu_barrier::lists::MOST_QUEUED;
 use rcu_cpu::cpu_data::CpuData;
 use rcu_node::awaited::Awaited;
 use rcu_report::report::Report;
@@ -63,38 +66,56 @@ fn report_of(reports: &[Report], place: u64) -> Option<Report>
     Some(reports[place as usize - 1])
 }
 
-/// The awaited processors, ascending.
+/// The awaited processors, ascending, once there is room for all of them.
 fn list_awaited<A: Awaited>(alloc: Global, awaited: &A) -> Result<CpuList, AllocError>
     ensures ok { IfOk result (λ list.
         list ≡ which (length (A.awaited awaited.now)) (is_in (A.awaited awaited.now))) }
     ensures err { OnErr result (0 < size_of (A.awaited awaited.now)) }
 {
-    let mut list = CpuList::new(alloc);
+    let mut list = Vec::with_capacity(alloc, awaited.count() as usize)?;
     for cpu in 0..awaited.cpus() {
         if awaited.awaits(cpu) {
-            list.push(cpu)?;
+            list.push_reserved(cpu);
         }
     }
-    Ok(list)
+    Ok(CpuList::new(list))
 }
 
 impl<A: Awaited> Core<A, u64> {
     /// A machine in the situation of the empty history: processor 0 is online, nothing runs, and
-    /// the lists are empty. The awaited set is as it was made, and no grace period begins at the
-    /// number `last`. It costs a step a processor.
+    /// the lists are empty. The awaited set is as it was made, no grace period begins at the number
+    /// `last`, and 1,000,000 callbacks may be queued. It costs a step a processor.
     ///
     /// Faults: `BadLast` (19) where `last` is not a multiple of 4 in 4..=2^62; `NoMemory` (16).
     pub fn new(alloc: Global, inner: A, last: u64) -> Result<Self, Fault>
         requires tag { A.tag inner ≡ first_tag }
         requires empty { A.start_set inner ≡ replicate (length (A.awaited inner)) false }
         ensures ok { IfOk result (λ made. Represents made []) }
-        ensures size { IfOk result (λ made.
-            size_at made ≡ record { cpus = length (A.awaited inner); last = last }) }
+        ensures size { IfOk result (λ made. size_at made
+            ≡ record { cpus = length (A.awaited inner); last = last; most = most_queued }) }
         ensures accepted { OnOk result (is_last last ≡ true) }
         ensures err { IfErr result (λ fault. is_last last ≡ false → fault ≡ Fault.BadLast) }
         ensures memory { IfErr result (λ fault. is_last last ≡ true → fault ≡ Fault.NoMemory) }
     {
-        let gp = GpState::new(alloc, inner, last)?;
+        Core::with_most(alloc, inner, last, MOST_QUEUED)
+    }
+
+    /// As [`Core::new`], in which `most` callbacks may be queued, from 1 to 2^62.
+    ///
+    /// Faults: `BadLast` (19) where `last` is not a multiple of 4 in 4..=2^62; `NoMemory` (16).
+    pub fn with_most(alloc: Global, inner: A, last: u64, most: u64) -> Result<Self, Fault>
+        requires tag { A.tag inner ≡ first_tag }
+        requires empty { A.start_set inner ≡ replicate (length (A.awaited inner)) false }
+        requires most_some { 1 ≤ most }
+        requires most_few { most ≤ 2 ^ 62 }
+        ensures ok { IfOk result (λ made. Represents made []) }
+        ensures size { IfOk result (λ made. size_at made
+            ≡ record { cpus = length (A.awaited inner); last = last; most = most }) }
+        ensures accepted { OnOk result (is_last last ≡ true) }
+        ensures err { IfErr result (λ fault. is_last last ≡ false → fault ≡ Fault.BadLast) }
+        ensures memory { IfErr result (λ fault. is_last last ≡ true → fault ≡ Fault.NoMemory) }
+    {
+        let gp = GpState::with_most(alloc, inner, last, most)?;
         let mut cpus = Vec::with_capacity(alloc, gp.cpus() as usize)?;
         for cpu in 0..gp.cpus() {
             cpus.push(CpuData::new(cpu, cpu == 0))?;
@@ -115,9 +136,9 @@ impl<A: Awaited> Core<A, u64> {
     pub fn step(&mut self, event: Event) -> Reply
         ensures follows { (h : History) → Represents self.old h →
             Follows self.old h event result self.new }
-        ensures refused { (fault : Fault) → result ≡ Reply.Fault fault → self.new ≡ self.old }
+        ensures unchanged { (fault : Fault) → result ≡ Reply.Fault fault → self.new ≡ self.old }
     {
-        // A look at a field shows the prover what the type keeps.
+        // For the proof alone: a look at a field brings in the type's invariant.
         let _ = &self.gp;
         match self.apply(event) {
             Ok(reply) => reply,
@@ -126,12 +147,15 @@ impl<A: Awaited> Core<A, u64> {
     }
 
     /// Takes these events, one after another, once there is room for all replies: they are those
-    /// that [`Core::step`] gives. It costs what these steps cost.
+    /// that [`Core::step`] gives. What a new machine replies is a legal run, of which all laws of
+    /// runs hold. It costs what these steps cost.
     ///
     /// Fault `NoMemory` (16): no event was taken.
     pub fn run(&mut self, events: &[Event]) -> Result<Vec<Reply>, Fault>
         ensures ok { IfOk result (λ replies. (h : History) → Represents self.old h →
             RunsLegally self.old h events.now replies.items self.new) }
+        ensures anew { IfOk result (λ replies. Represents self.old []
+            → IsLegalRun (size_at self.old) (onto events.now replies.items [])) }
         ensures err { IfErr result (λ fault. fault ≡ Fault.NoMemory) }
         ensures unchanged { OnErr result (self.new ≡ self.old) }
     {
@@ -169,6 +193,9 @@ impl<A: Awaited> Core<A, u64> {
             Event::Visit(cpu) => self.visit(cpu),
             Event::BarTest => self.test_barrier(),
             Event::Renumber => self.renumber(),
+            Event::Idle(cpu) => self.idle(cpu),
+            Event::Wake(cpu) => self.wake(cpu),
+            Event::Scan(cpu) => self.scan(cpu),
         }
     }
 
@@ -341,6 +368,38 @@ impl<A: Awaited> Core<A, u64> {
         ensures err { IfErr result (λ fault. Refuses self.old Event.Renumber fault self.new) }
     {
         Ok(Reply::Renumbered(self.gp.renumber()?))
+    }
+
+    fn idle(&mut self, cpu: u32) -> Result<Reply, Fault>
+        ensures ok { IfOk result (λ reply. StepsLegally self.old (Event.Idle cpu) reply self.new) }
+        ensures err { IfErr result (λ fault. Refuses self.old (Event.Idle cpu) fault self.new) }
+    {
+        let place = self.place_of(cpu)?;
+        self.cpus[place].idle()?;
+        Ok(Reply::Idle)
+    }
+
+    fn wake(&mut self, cpu: u32) -> Result<Reply, Fault>
+        ensures ok { IfOk result (λ reply. StepsLegally self.old (Event.Wake cpu) reply self.new) }
+        ensures err { IfErr result (λ fault. Refuses self.old (Event.Wake cpu) fault self.new) }
+    {
+        let place = self.place_of(cpu)?;
+        self.cpus[place].wake()?;
+        Ok(Reply::Awake)
+    }
+
+    fn scan(&mut self, cpu: u32) -> Result<Reply, Fault>
+        ensures ok { IfOk result (λ reply. StepsLegally self.old (Event.Scan cpu) reply self.new) }
+        ensures err { IfErr result (λ fault. Refuses self.old (Event.Scan cpu) fault self.new) }
+    {
+        let place = self.place_of(cpu)?;
+        if !self.gp.online(cpu) {
+            return Err(Fault::Offline);
+        }
+        if !self.cpus[place].is_idle() {
+            return Err(Fault::NotIdle);
+        }
+        Ok(Reply::Answer(self.gp.hear(cpu)))
     }
 
     fn queue(&mut self, cpu: u32, value: u64) -> Result<Reply, Fault>

@@ -9,13 +9,15 @@ ghost use Rattle.rcu_node.specs.CpuSet.{is_in};
 ghost use Rattle.rcu_hotplug.specs.Hotplug as hotplug;
 ghost use Rattle.rcu_hotplug.specs.Hotplug.{Arrive, Depart, cpus_of};
 ghost use Rattle.rcu_cblist.specs.SegList.{behind, callbacks, front, is_empty, take_answer};
+ghost use Rattle.rcu_barrier.specs.Lists as lists;
 ghost use Rattle.rcu_barrier.specs.Lists.{barrier_test_answer, list_of, most_queued, visit_answer};
 ghost use Rattle.rcu_core.specs.GpState as grace;
 ghost use Rattle.rcu_core.specs.Situation.{wants_begin};
 
+use crate::current_answer::CurrentAnswer;
 use crate::turned::Turned;
 use rcu_barrier::barrier_state::BarrierState;
-use rcu_barrier::lists::Lists;
+use rcu_barrier::lists::{Lists, MOST_QUEUED};
 use rcu_barrier::visit::Visit;
 use rcu_cblist::queued::Queued;
 use rcu_cblist::refused::Refused;
@@ -70,20 +72,38 @@ impl<A: Awaited, T: Drop> Model for GpState<A, T> {
 
 impl<A: Awaited, T: Drop> GpState<A, T> {
     /// No grace period ran yet, none is needed, processor 0 alone is online, and the lists are
-    /// empty. The awaited set is as it was made. Costs a step a processor.
+    /// empty. The awaited set is as it was made, and 1,000,000 callbacks may be queued. Costs a
+    /// step a processor.
     ///
     /// Faults: `BadLast` (19) where `last` is no last number; `NoMemory` (16).
     pub fn new(alloc: Global, inner: A, last: u64) -> Result<Self, Fault>
         requires tag { A.tag inner ≡ first_tag }
         requires empty { A.start_set inner ≡ replicate (length (A.awaited inner)) false }
         ensures ok { IfOk result (λ made. made
-            ≡ grace.at_first (length (A.awaited inner)) last) }
+            ≡ grace.at_first (length (A.awaited inner)) last most_queued) }
+        ensures accepted { OnOk result (is_last last ≡ true) }
+        ensures err { IfErr result (λ fault. is_last last ≡ false → fault ≡ Fault.BadLast) }
+        ensures memory { IfErr result (λ fault. is_last last ≡ true → fault ≡ Fault.NoMemory) }
+    {
+        GpState::with_most(alloc, inner, last, MOST_QUEUED)
+    }
+
+    /// As [`GpState::new`], in which `most` callbacks may be queued, from 1 to 2^62.
+    ///
+    /// Faults: `BadLast` (19) where `last` is no last number; `NoMemory` (16).
+    pub fn with_most(alloc: Global, inner: A, last: u64, most: u64) -> Result<Self, Fault>
+        requires tag { A.tag inner ≡ first_tag }
+        requires empty { A.start_set inner ≡ replicate (length (A.awaited inner)) false }
+        requires most_some { 1 ≤ most }
+        requires most_few { most ≤ 2 ^ 62 }
+        ensures ok { IfOk result (λ made. made
+            ≡ grace.at_first (length (A.awaited inner)) last most) }
         ensures accepted { OnOk result (is_last last ≡ true) }
         ensures err { IfErr result (λ fault. is_last last ≡ false → fault ≡ Fault.BadLast) }
         ensures memory { IfErr result (λ fault. is_last last ≡ true → fault ≡ Fault.NoMemory) }
     {
         let seq = Seq::new(last)?;
-        let lists = Lists::new(alloc, inner.cpus())?;
+        let lists = Lists::with_most(alloc, inner.cpus(), most)?;
         let hotplug = Hotplug::new(alloc, inner)?;
         Ok(GpState {
             seq,
@@ -140,7 +160,7 @@ impl<A: Awaited, T: Drop> GpState<A, T> {
             number ≡ number_of (grace.after_begin self.now).seq) }
         ensures bounded { IfOk result (λ number. number < 2 ^ 62) }
         ensures accepted { OnOk result (grace.begin_refusal self.now ≡ None) }
-        ensures refused { IfErr result (λ fault. grace.begin_refusal self.now ≡ Some fault) }
+        ensures fault { IfErr result (λ fault. grace.begin_refusal self.now ≡ Some fault) }
     {
         if self.is_running() {
             return Err(Fault::Running);
@@ -169,7 +189,7 @@ impl<A: Awaited, T: Drop> GpState<A, T> {
         self.hotplug.awaited()
     }
 
-    /// A grace period begins, and awaits the online processors (Linux's `rcu_gp_init`). Answers its
+    /// A grace period begins, and awaits the online processors (Linux's `rcu_gp_init`). Returns its
     /// number, and how many it awaits. Costs what a begin of the awaited set costs, in a
     /// [`Tree`](rcu_node::tree::Tree) a step a node.
     ///
@@ -179,7 +199,7 @@ impl<A: Awaited, T: Drop> GpState<A, T> {
         ensures awaited { IfOk result (λ began. began.1 ≡ grace.awaited_in self.new) }
         ensures accepted { OnOk result (grace.begin_refusal self.old ≡ None) }
         ensures state { OnOk result (self.new ≡ grace.after_begin self.old) }
-        ensures refused { IfErr result (λ fault. grace.begin_refusal self.old ≡ Some fault) }
+        ensures fault { IfErr result (λ fault. grace.begin_refusal self.old ≡ Some fault) }
         ensures unchanged { OnErr result (self.new ≡ self.old) }
     {
         let number = self.seq.start()?;
@@ -187,14 +207,14 @@ impl<A: Awaited, T: Drop> GpState<A, T> {
         Ok((number, self.hotplug.awaited().count()))
     }
 
-    /// The grace period ends (Linux's `rcu_gp_cleanup`). Answers the new number.
+    /// The grace period ends (Linux's `rcu_gp_cleanup`). Returns the new number.
     ///
     /// Faults: `Idle` (9) where none runs; `Waiting` (10) where a processor is awaited.
     pub fn end(&mut self) -> Result<u64, Fault>
         ensures number { IfOk result (λ number. number ≡ number_of self.new.seq) }
         ensures accepted { OnOk result (grace.end_refusal self.old ≡ None) }
         ensures state { OnOk result (self.new ≡ grace.after_end self.old) }
-        ensures refused { IfErr result (λ fault. grace.end_refusal self.old ≡ Some fault) }
+        ensures fault { IfErr result (λ fault. grace.end_refusal self.old ≡ Some fault) }
         ensures unchanged { OnErr result (self.new ≡ self.old) }
     {
         if self.is_running() && !self.hotplug.awaited().is_empty() {
@@ -229,6 +249,22 @@ impl<A: Awaited, T: Drop> GpState<A, T> {
         self.report(Report { cpu, tag })
     }
 
+    /// A report of the processor in the grace period that runs. Costs as [`GpState::report`].
+    pub fn report_current(&mut self, cpu: u32) -> CurrentAnswer
+        requires cpu { cpu < cpus_of self.old.processors }
+        requires running { self.old.seq.running ≡ true }
+        ensures answer { result ≡ grace.current_answer self.old cpu }
+        ensures state { self.new ≡ grace.after_current_report self.old cpu }
+    {
+        let tag = self.tag();
+        match self.hotplug.report(cpu, tag) {
+            Answer::Taken => CurrentAnswer::Taken,
+            Answer::Last => CurrentAnswer::Last,
+            Answer::Repeat => CurrentAnswer::Repeat,
+            Answer::Stale => unreachable!(),
+        }
+    }
+
     /// The running grace period ends where nobody is awaited. Where none runs, one begins if the
     /// needed number is above the number. A turn that begins one costs as [`GpState::begin`], any
     /// other a step.
@@ -238,7 +274,7 @@ impl<A: Awaited, T: Drop> GpState<A, T> {
         ensures answer { IfOk result (λ turned. turned ≡ grace.turn_answer self.old) }
         ensures accepted { OnOk result (grace.turn_refusal self.old ≡ None) }
         ensures state { OnOk result (self.new ≡ grace.after_turn self.old) }
-        ensures refused { IfErr result (λ fault. grace.turn_refusal self.old ≡ Some fault) }
+        ensures fault { IfErr result (λ fault. grace.turn_refusal self.old ≡ Some fault) }
         ensures unchanged { OnErr result (self.new ≡ self.old) }
     {
         if self.is_running() {
@@ -261,7 +297,7 @@ impl<A: Awaited, T: Drop> GpState<A, T> {
     pub fn arrive(&mut self, cpu: u32) -> Result<(), Fault>
         ensures accepted { OnOk result (hotplug.refusal self.old.processors (Arrive cpu) ≡ None) }
         ensures state { OnOk result (self.new ≡ grace.with_call self.old (Arrive cpu)) }
-        ensures refused { IfErr result (λ fault.
+        ensures fault { IfErr result (λ fault.
             hotplug.refusal self.old.processors (Arrive cpu) ≡ Some fault) }
         ensures unchanged { OnErr result (self.new ≡ self.old) }
     {
@@ -275,7 +311,7 @@ impl<A: Awaited, T: Drop> GpState<A, T> {
     pub fn depart(&mut self, cpu: u32) -> Result<(), Fault>
         ensures accepted { OnOk result (hotplug.refusal self.old.processors (Depart cpu) ≡ None) }
         ensures state { OnOk result (self.new ≡ grace.with_call self.old (Depart cpu)) }
-        ensures refused { IfErr result (λ fault.
+        ensures fault { IfErr result (λ fault.
             hotplug.refusal self.old.processors (Depart cpu) ≡ Some fault) }
         ensures unchanged { OnErr result (self.new ≡ self.old) }
     {
@@ -307,7 +343,7 @@ impl<A: Awaited, T: Drop> GpState<A, T> {
         self.seq.done(cookie)
     }
 
-    /// The numbers start anew at 0 in the next epoch, which is answered. Callbacks that wait lose
+    /// The numbers start anew at 0 in the next epoch, which it returns. Callbacks that wait lose
     /// theirs, as [`Lists::renumber`] has it. A needed number above the last one becomes that of
     /// the first grace period's end, any other 0. Takes no memory, and costs a step a processor.
     ///
@@ -318,7 +354,7 @@ impl<A: Awaited, T: Drop> GpState<A, T> {
         ensures epoch { IfOk result (λ epoch. epoch ≡ self.new.seq.epoch) }
         ensures accepted { OnOk result (grace.renumber_refusal self.old ≡ None) }
         ensures state { OnOk result (self.new ≡ grace.after_renumber self.old) }
-        ensures refused { IfErr result (λ fault. grace.renumber_refusal self.old ≡ Some fault) }
+        ensures fault { IfErr result (λ fault. grace.renumber_refusal self.old ≡ Some fault) }
         ensures unchanged { OnErr result (self.new ≡ self.old) }
     {
         let last = self.seq.last();
@@ -329,24 +365,42 @@ impl<A: Awaited, T: Drop> GpState<A, T> {
         Ok(epoch)
     }
 
-    /// Queues a callback on a processor, at the number (Linux's `call_rcu`). Answers how many were
+    /// Queues a callback on a processor, at the number (Linux's `call_rcu`). Returns how many were
     /// queued, which is its place among them. Costs as [`Lists::queue`].
     ///
-    /// Faults, which hand the value back: `CallbacksFull` (15) where 1,000,000 were queued;
-    /// `NoMemory` (16).
+    /// Faults, with the value: `CallbacksFull` (15) where as many were queued as may be; `NoMemory`
+    /// (16).
     pub fn queue(&mut self, cpu: u32, value: T) -> Result<u64, Refused<T>>
         requires { cpu < cpus_of self.old.processors }
         ensures count { IfOk result (λ count. count ≡ self.new.lists.queued) }
-        ensures room { OnOk result (self.old.lists.queued < most_queued) }
+        ensures bounded { IfOk result (λ count. count ≤ 2 ^ 62) }
+        ensures room { OnOk result (self.old.lists.queued < self.old.lists.most) }
         ensures state { OnOk result (self.new ≡ grace.after_queue self.old cpu value) }
         ensures fault { IfErr result (λ refused. refused.fault ≡
-            (if self.old.lists.queued == most_queued then Fault.CallbacksFull
+            (if self.old.lists.queued == self.old.lists.most then Fault.CallbacksFull
             else Fault.NoMemory)) }
         ensures value { IfErr result (λ refused. refused.value ≡ value) }
         ensures unchanged { OnErr result (self.new ≡ self.old) }
     {
         let now = self.seq.tag();
         self.lists.queue(cpu, now, value)
+    }
+
+    /// The callbacks, to look at: one list a processor.
+    pub fn lists(&self) -> &Lists<T>
+        ensures value { result.now.all ≡ self.now.lists }
+        ensures sized { lists.cpus_of result.now.all ≡ cpus_of self.now.processors }
+    {
+        &self.lists
+    }
+
+    /// Gives back the memory that a processor's list does not need, as [`Lists::shrink`], and costs
+    /// as that.
+    pub fn shrink(&mut self, cpu: u32)
+        requires { cpu < cpus_of self.old.processors }
+        ensures { self.new ≡ self.old }
+    {
+        self.lists.shrink(cpu);
     }
 
     /// Whether the processor's list is empty.
@@ -358,7 +412,7 @@ impl<A: Awaited, T: Drop> GpState<A, T> {
     }
 
     /// Brings the marks of a processor's callbacks up to the number, whose greatest is needed from
-    /// now on (Linux's `rcu_advance_cbs`). Answers how many callbacks of the list are done and how
+    /// now on (Linux's `rcu_advance_cbs`). Returns how many callbacks of the list are done and how
     /// many wait then.
     pub fn tend(&mut self, cpu: u32) -> (u64, u64)
         requires { cpu < cpus_of self.old.processors }
@@ -373,7 +427,7 @@ impl<A: Awaited, T: Drop> GpState<A, T> {
         tended
     }
 
-    /// Hands out the first callbacks of a processor's done part, at most so many (Linux's
+    /// Hands out the first callbacks of a processor's done part, at most `max` (Linux's
     /// `rcu_do_batch`): only such that a full grace period has passed since their queueing. Costs
     /// as [`Lists::run`].
     ///
@@ -393,7 +447,7 @@ impl<A: Awaited, T: Drop> GpState<A, T> {
     }
 
     /// Moves the list of another processor than 0 to processor 0's (Linux's
-    /// `rcutree_migrate_callbacks`); a barrier that did not visit it does so first. Answers how
+    /// `rcutree_migrate_callbacks`); a barrier that did not visit it does so first. Returns how
     /// many callbacks moved. Costs as [`Lists::migrate`].
     ///
     /// Fault `NoMemory` (16), only where the list is not empty.
@@ -410,7 +464,7 @@ impl<A: Awaited, T: Drop> GpState<A, T> {
         self.lists.migrate(cpu)
     }
 
-    /// Begins a barrier (Linux's `rcu_barrier`). Costs a step a processor.
+    /// Begins a barrier (Linux's `rcu_barrier`). Costs a step for every 64 processors.
     ///
     /// Fault `BarrierBusy` (13): one runs.
     pub fn barrier_begin(&mut self) -> Result<(), Fault>

@@ -47,7 +47,7 @@ pub fn no_callback_runs_twice()
         → times_handed_out ord (history run) ≤ 1 }
 {}
 
-/// A barrier covers earlier callbacks: when its test answers done, each callback that was queued
+/// A barrier covers earlier callbacks: when its test returns done, each callback that was queued
 /// before it began has been handed out.
 pub fn barrier_covers_earlier_callbacks()
     ensures { (size : Size) (run : Run) (ord : ℕ)

@@ -3,6 +3,7 @@
 #![tactic(auto)]
 
 pub mod cpu_list;
+pub mod current_answer;
 pub mod definition_laws;
 pub mod event;
 pub mod event_core;
@@ -15,6 +16,7 @@ pub mod value_list;
 pub mod version_laws;
 
 pub use cpu_list::CpuList;
+pub use current_answer::CurrentAnswer;
 pub use event::Event;
 pub use event_core::Core;
 pub use gp_state::GpState;

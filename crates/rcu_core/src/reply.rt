@@ -1,4 +1,4 @@
-//! What the engine answers.
+//! What the engine replies.
 
 use crate::cpu_list::CpuList;
 use crate::value_list::ValueList;
@@ -17,17 +17,17 @@ pub enum Reply {
     Noted(u64, bool),
     /// The place of the report among all reports, counted from 1, and the report.
     Made(u64, Report),
-    /// What the delivered report did.
+    /// What the delivered report did, or the scan.
     Answer(Answer),
     /// The processor arrived.
     Online,
-    /// The processor departed, and so many callbacks moved.
+    /// The processor departed, and this many callbacks moved.
     Moved(u64),
     /// The number of the grace period, and how many processors it awaits.
     Begun(u64, u32),
     /// The number after the grace period.
     Ended(u64),
-    /// The grace period goes on, and awaits so many processors.
+    /// The grace period goes on, and awaits this many processors.
     Waiting(u32),
     /// No grace period runs, and none is needed.
     Nothing,
@@ -49,10 +49,14 @@ pub enum Reply {
     Visited(Visit),
     /// The barrier is over.
     BarDone,
-    /// The barrier goes on, and waits for so many markers and unvisited processors.
+    /// The barrier goes on, and waits for this many markers and unvisited processors.
     BarWaits(u64),
     /// The numbers started anew, in this epoch.
     Renumbered(u64),
+    /// The processor went idle.
+    Idle,
+    /// The processor woke.
+    Awake,
     /// The event was refused, and changed nothing.
     Fault(Fault),
 }

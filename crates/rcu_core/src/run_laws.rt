@@ -36,8 +36,8 @@ pub fn a_legal_run_has_legal_replies()
         → IsLegalRun size ((event, reply) ∷ run) → IsLegalRun size run }
 {}
 
-/// Legal replies to a list of events make a legal run longer by them, and its history is the one
-/// that they lead to.
+/// Legal replies to a list of events are as many as the events. They make a legal run longer by
+/// them, and its history is the one that they lead to.
 pub fn a_run_of_events_is_legal()
     ensures legal { (size : Size) (run : Run) (events : List Event) (replies : List Reply)
         (reached : History) → IsLegalRun size run → Leads size (history run) events replies reached
@@ -45,9 +45,11 @@ pub fn a_run_of_events_is_legal()
     ensures history { (size : Size) (run : Run) (events : List Event) (replies : List Reply)
         (reached : History) → Leads size (history run) events replies reached
         → history (onto events replies run) ≡ reached }
+    ensures each { (size : Size) (h reached : History) (events : List Event) (replies : List Reply)
+        → Leads size h events replies reached → length replies ≡ length events }
 {}
 
-/// What a core answered to a list of events is a legal run, put on any legal run that led to its
+/// What a core returned for a list of events is a legal run, put on any legal run that led to its
 /// state; and the core stands in the situation of that run's history. So each law of runs is one of
 /// cores.
 pub fn what_a_core_ran_is_a_legal_run()
@@ -59,6 +61,8 @@ pub fn what_a_core_ran_is_a_legal_run()
         → Represents w (history (onto events replies run)) }
     ensures size { (v w : State ℕ) (h : History) (events : List Event) (replies : List Reply)
         → RunsLegally v h events replies w → size_at w ≡ size_at v }
+    ensures each { (v w : State ℕ) (h : History) (events : List Event) (replies : List Reply)
+        → RunsLegally v h events replies w → length replies ≡ length events }
 {}
 
 /// The callbacks that a run hands out were queued: there are as many as the reply has values, and
@@ -92,14 +96,14 @@ pub fn the_awaited_are_those_not_heard()
         → awaits cpu h ≡ (starts cpu h && not (is_heard cpu (tag h) h)) }
 {}
 
-/// Two engines of one size, of any kinds of awaited set, whose latest grace periods had one tag and
-/// one start set, and in which the same processors of it were heard since, in any order, await the
-/// same processors, whether either grace period runs or has ended.
+/// Two engines, of any kinds of awaited set and any last numbers, whose latest grace periods had
+/// one tag and one start set, and in which the same processors of it were heard since, in any
+/// order, await the same processors, whether either grace period runs or has ended.
 pub fn equally_heard_cores_await_the_same()
-    ensures { (size : Size) (h g : History) → AreAccepted size h → AreAccepted size g
+    ensures { (size other : Size) (h g : History) → AreAccepted size h → AreAccepted other g
         → tag h ≡ tag g → ((cpu : ℕ) → starts cpu h ≡ starts cpu g)
         → ((cpu : ℕ) → starts cpu h ≡ true → is_heard cpu (tag h) h ≡ is_heard cpu (tag g) g)
-        → (cpu : ℕ) → cpu < size.cpus → awaits cpu h ≡ awaits cpu g }
+        → (cpu : ℕ) → cpu < size.cpus → cpu < other.cpus → awaits cpu h ≡ awaits cpu g }
 {}
 
 /// A processor is heard exactly where some event since the latest begin tells it: which one, how

@@ -3,11 +3,11 @@
 /// What a turn did.
 #[derive(Clone, Copy, Debug, PartialEq, Eq)]
 pub enum Turned {
-    /// A grace period of this number began, and awaits so many processors.
+    /// A grace period of this number began, and awaits this many processors.
     Begun(u64, u32),
     /// The grace period ended, and this is the number now.
     Ended(u64),
-    /// The grace period goes on, and awaits so many processors.
+    /// The grace period goes on, and awaits this many processors.
     Waiting(u32),
     /// No grace period runs, and none is needed.
     Nothing,

@@ -2,8 +2,11 @@
 //! leaves, and a million callbacks.
 ghost use Rattle.std.specs.Prelude.{◌≤◌, ◌%◌, ◌^◌};
 
+mod most;
+mod rooms;
 mod tends;
 
+use crate::barrier::most::{fill, is_full};
 use rcu_barrier::barrier_state::BarrierState;
 use rcu_barrier::lists::Lists;
 use rcu_barrier::visit::Visit;
@@ -15,7 +18,7 @@ use std::alloc::Global;
 use std::process::Abort;
 
 /// All that can be asked of a processor's list.
-#[derive(Clone, Copy, PartialEq)]
+#[derive(Clone, Copy, Debug, PartialEq)]
 struct AskedOf {
     visited: bool,
     empty: bool,
@@ -23,7 +26,7 @@ struct AskedOf {
 }
 
 /// All that can be asked of the lists of two processors.
-#[derive(Clone, Copy, PartialEq)]
+#[derive(Clone, Copy, Debug, PartialEq)]
 struct Asked {
     cpus: u32,
     queued: u64,
@@ -53,10 +56,13 @@ fn ask(rt: &impl Abort, lists: &Lists<u64>) -> Asked {
     }
 }
 
-/// Compares the fault of a call whose growth was refused, and what it left with what was there.
-fn refused(rt: &impl Abort, fault: Fault, lists: &Lists<u64>, before: Asked) {
-    assert!(rt; fault == Fault::NoMemory);
-    assert!(rt; ask(rt, lists) == before);
+/// Compares the fault of a row's call whose growth was refused, and what it left with what was
+/// there.
+fn refused(rt: &impl Abort, row: usize, fault: Fault, lists: &Lists<u64>, before: Asked) {
+    assert_eq!(rt;
+        (row, fault, ask(rt, lists)),
+        (row, Fault::NoMemory, before)
+    );
 }
 
 /// Lists for so many processors, made by a second call where the first is refused a growth.
@@ -67,7 +73,7 @@ fn lists_of(rt: &impl Abort, alloc: Global, cpus: u32) -> Lists<u64>
     match Lists::new(alloc, cpus) {
         Ok(lists) => lists,
         Err(fault) => {
-            assert!(rt; fault == Fault::NoMemory);
+            assert_eq!(rt; fault, Fault::NoMemory);
             Lists::new(alloc, cpus).expect(rt, "the second call has memory")
         }
     }
@@ -78,33 +84,45 @@ fn lists(rt: &impl Abort, alloc: Global) -> Lists<u64> {
     lists_of(rt, alloc, 2)
 }
 
-/// Queues a callback that was handed back, and compares how many were queued.
-fn queue_again(rt: &impl Abort, lists: &mut Lists<u64>, cpu: u32, value: u64, wanted: u64) {
+/// Queues a row's callback that was handed back, and compares how many were queued.
+fn queue_again(
+    rt: &impl Abort,
+    row: usize,
+    lists: &mut Lists<u64>,
+    cpu: u32,
+    value: u64,
+    wanted: u64,
+) {
     assert!(rt; cpu < lists.cpus());
-    match lists.queue(cpu, Tag::of_first_epoch(0), value) {
-        Ok(count) => assert!(rt; count == wanted),
-        Err(_) => panic!(rt; "the second call has memory"),
-    }
+    let queued = lists.queue(cpu, Tag::of_first_epoch(0), value);
+    assert_eq!(rt; (row, queued.map_err(|back| back.fault)), (row, Ok(wanted)));
 }
 
-/// Queues a callback, by a second call where the first is refused a growth, and compares how many
-/// were queued.
-fn queue(rt: &impl Abort, lists: &mut Lists<u64>, cpu: u32, value: u64, wanted: u64) {
+/// Queues a row's callback, by a second call where the first is refused a growth, and compares how
+/// many were queued.
+fn queue(rt: &impl Abort, row: usize, lists: &mut Lists<u64>, cpu: u32, value: u64, wanted: u64) {
     let before = ask(rt, lists);
     assert!(rt; cpu < lists.cpus());
     match lists.queue(cpu, Tag::of_first_epoch(0), value) {
-        Ok(count) => assert!(rt; count == wanted),
+        Ok(count) => assert_eq!(rt; (row, count), (row, wanted)),
         Err(back) => {
-            refused(rt, back.fault, lists, before);
-            assert!(rt; back.value == value);
-            queue_again(rt, lists, cpu, back.value, wanted);
+            refused(rt, row, back.fault, lists, before);
+            assert_eq!(rt; (row, back.value), (row, value));
+            queue_again(rt, row, lists, cpu, back.value, wanted);
         }
     }
-    assert!(rt; lists.queued() == wanted);
+    assert_eq!(rt; (row, lists.queued()), (row, wanted));
 }
 
-/// Tends a list, and compares how many callbacks are done and how many wait.
-fn tend(rt: &impl Abort, lists: &mut Lists<u64>, cpu: u32, number: u64, wanted: (u64, u64))
+/// Tends a row's list, and compares how many callbacks are done and how many wait.
+fn tend(
+    rt: &impl Abort,
+    row: usize,
+    lists: &mut Lists<u64>,
+    cpu: u32,
+    number: u64,
+    wanted: (u64, u64),
+)
     requires state { number % 4 ≤ 1 }
     requires bounded { number ≤ 2 ^ 62 }
 {
@@ -113,35 +131,44 @@ fn tend(rt: &impl Abort, lists: &mut Lists<u64>, cpu: u32, number: u64, wanted: 
     let counts = match lists.greatest_waiting(cpu) {
         None => lists.tend(cpu, number),
         Some(most) => {
-            assert!(rt; most <= (number + 3) / 4 * 4 + 4);
+            assert!(rt;
+                most <= (number + 3) / 4 * 4 + 4,
+                "row {row}: {most} at {number}"
+            );
             lists.tend(cpu, number)
         }
     };
-    assert!(rt; counts.0 == wanted.0 && counts.1 == wanted.1);
+    assert_eq!(rt; (row, counts), (row, wanted));
 }
 
-/// Takes callbacks, by a second call where the first is refused a growth, and compares their
-/// values.
-fn run(rt: &impl Abort, lists: &mut Lists<u64>, cpu: u32, max: u64, wanted: &[u64]) {
-    have_values(rt, &take(rt, lists, cpu, max), wanted);
+/// Takes a row's callbacks, by a second call where the first is refused a growth, and compares
+/// their values.
+fn run(rt: &impl Abort, row: usize, lists: &mut Lists<u64>, cpu: u32, max: u64, wanted: &[u64]) {
+    have_values(rt, row, &take(rt, row, lists, cpu, max), wanted);
 }
 
-/// Compares the values of callbacks.
-fn have_values(rt: &impl Abort, calls: &[Queued<u64>], wanted: &[u64]) {
-    assert!(rt; calls.len() == wanted.len());
-    for place in 0..calls.len() {
-        assert!(rt; calls[place].value == wanted[place]);
+/// Compares the values of a row's callbacks.
+fn have_values(rt: &impl Abort, row: usize, calls: &[Queued<u64>], wanted: &[u64]) {
+    assert_eq!(rt; (row, calls.len()), (row, wanted.len()));
+    for (place, (call, wanted)) in calls.iter().zip(wanted).enumerate() {
+        assert_eq!(rt; (row, place, call.value), (row, place, *wanted));
     }
 }
 
-/// Takes callbacks, by a second call where the first is refused a growth.
-fn take(rt: &impl Abort, lists: &mut Lists<u64>, cpu: u32, max: u64) -> Vec<Queued<u64>> {
+/// Takes a row's callbacks, by a second call where the first is refused a growth.
+fn take(
+    rt: &impl Abort,
+    row: usize,
+    lists: &mut Lists<u64>,
+    cpu: u32,
+    max: u64,
+) -> Vec<Queued<u64>> {
     let before = ask(rt, lists);
     assert!(rt; cpu < lists.cpus());
     match lists.run(cpu, max) {
         Ok(calls) => calls,
         Err(fault) => {
-            refused(rt, fault, lists, before);
+            refused(rt, row, fault, lists, before);
             assert!(rt; cpu < lists.cpus());
             lists.run(cpu, max).expect(rt, "the second call has memory")
         }
@@ -150,54 +177,65 @@ fn take(rt: &impl Abort, lists: &mut Lists<u64>, cpu: u32, max: u64) -> Vec<Queu
 
 /// Moves processor 1's list, by a second call where the first is refused a growth, and compares how
 /// many moved.
-fn migrate(rt: &impl Abort, lists: &mut Lists<u64>, wanted: u64) {
+fn migrate(rt: &impl Abort, row: usize, lists: &mut Lists<u64>, wanted: u64) {
     let before = ask(rt, lists);
-    if let Err(fault) = migrate_once(rt, lists, wanted) {
-        refused(rt, fault, lists, before);
-        assert!(rt; migrate_once(rt, lists, wanted).is_ok());
+    let mut moved = migrate_once(rt, row, lists);
+    if let Err(Fault::NoMemory) = moved {
+        refused(rt, row, Fault::NoMemory, lists, before);
+        moved = migrate_once(rt, row, lists);
     }
+    assert_eq!(rt; (row, moved), (row, Ok(wanted)));
 }
 
-/// Moves processor 1's list, and compares how many moved, unless that is refused.
-fn migrate_once(rt: &impl Abort, lists: &mut Lists<u64>, wanted: u64) -> Result<(), Fault> {
+/// Moves processor 1's list, which is empty then, unless that is refused: how many moved.
+fn migrate_once(rt: &impl Abort, row: usize, lists: &mut Lists<u64>) -> Result<u64, Fault> {
     assert!(rt; 1 < lists.cpus());
-    assert!(rt; lists.migrate(1)? == wanted);
+    let moved = lists.migrate(1)?;
     assert!(rt; 1 < lists.cpus());
-    assert!(rt; lists.is_empty(1));
-    Ok(())
+    assert!(rt; lists.is_empty(1), "row {row}");
+    Ok(moved)
 }
 
 /// Visits a processor, by a second call where the first is refused a growth, and compares what it
 /// did.
-fn visit(rt: &impl Abort, lists: &mut Lists<u64>, cpu: u32, wanted: Visit) {
+fn visit(rt: &impl Abort, row: usize, lists: &mut Lists<u64>, cpu: u32, wanted: Visit) {
     let before = ask(rt, lists);
-    if let Err(fault) = visit_once(rt, lists, cpu, wanted) {
-        refused(rt, fault, lists, before);
-        assert!(rt; visit_once(rt, lists, cpu, wanted).is_ok());
+    let mut visit = visit_once(rt, row, lists, cpu);
+    if let Err(Fault::NoMemory) = visit {
+        refused(rt, row, Fault::NoMemory, lists, before);
+        visit = visit_once(rt, row, lists, cpu);
     }
+    assert_eq!(rt; (row, visit), (row, Ok(wanted)));
 }
 
-/// Visits a processor, and compares what it did, unless that is refused.
+/// Visits a processor, which is visited then, unless that is refused: what it did.
 fn visit_once(
     rt: &impl Abort,
+    row: usize,
     lists: &mut Lists<u64>,
     cpu: u32,
-    wanted: Visit,
-) -> Result<(), Fault> {
+) -> Result<Visit, Fault> {
     assert!(rt; cpu < lists.cpus());
-    assert!(rt; lists.visit(cpu)? == wanted);
+    let visit = lists.visit(cpu)?;
     assert!(rt; cpu < lists.cpus());
-    assert!(rt; lists.is_visited(cpu));
-    Ok(())
+    assert!(rt; lists.is_visited(cpu), "row {row}");
+    Ok(visit)
+}
+
+/// A visit of processor 0 where no barrier runs.
+fn no_visit(rt: &impl Abort, row: usize, lists: &mut Lists<u64>) {
+    assert!(rt; 0 < lists.cpus());
+    assert_eq!(rt; (row, lists.visit(0)), (row, Err(Fault::NoBarrier)));
 }
 
 /// Compares the greatest number that a callback of a processor carries.
-fn carries(rt: &impl Abort, lists: &Lists<u64>, cpu: u32, wanted: Option<u64>) {
+fn carries(rt: &impl Abort, row: usize, lists: &Lists<u64>, cpu: u32, wanted: Option<u64>) {
     assert!(rt; cpu < lists.cpus());
-    assert!(rt; lists.greatest_waiting(cpu) == wanted);
+    assert_eq!(rt; (row, lists.greatest_waiting(cpu)), (row, wanted));
 }
 
 /// A call on the lists of two processors, with what it has to answer, or a look.
+#[derive(Drop)]
 enum Step<'a> {
     /// Queues a callback on a processor: its value, and how many were queued then.
     Queue(u32, u64, u64),
@@ -221,37 +259,41 @@ enum Step<'a> {
     Test(Result<BarrierState, Fault>),
     /// Whether a barrier runs.
     IsRunning(bool),
+    /// No more callback is queued on either processor.
+    Full,
 }
 
-/// Makes a call on the lists, or looks at them, and compares.
-fn make(rt: &impl Abort, lists: &mut Lists<u64>, step: &Step) {
+/// Makes a row's call on the lists, or looks at them, and compares.
+fn make(rt: &impl Abort, row: usize, lists: &mut Lists<u64>, step: &Step) {
     match step {
-        Step::Queue(cpu, value, wanted) => queue(rt, lists, *cpu, *value, *wanted),
+        Step::Queue(cpu, value, wanted) => queue(rt, row, lists, *cpu, *value, *wanted),
         Step::Tend(cpu, number, done, waiting) => {
             assert!(rt; *number % 4 <= 1 && *number <= 1 << 62);
-            tend(rt, lists, *cpu, *number, (*done, *waiting));
+            tend(rt, row, lists, *cpu, *number, (*done, *waiting));
         }
         Step::Renumber => lists.renumber(),
-        Step::Greatest(cpu, wanted) => carries(rt, lists, *cpu, *wanted),
-        Step::Run(cpu, max, wanted) => run(rt, lists, *cpu, *max, wanted),
-        Step::Migrate(wanted) => migrate(rt, lists, *wanted),
-        Step::Begin(wanted) => assert!(rt; lists.barrier_begin() == *wanted),
-        Step::Visit(cpu, wanted) => visit(rt, lists, *cpu, *wanted),
-        Step::NoVisit => {
-            assert!(rt; 0 < lists.cpus());
-            assert!(rt; lists.visit(0) == Err(Fault::NoBarrier));
-        }
-        Step::Test(wanted) => assert!(rt; lists.barrier_test() == *wanted),
-        Step::IsRunning(wanted) => assert!(rt; lists.is_running() == *wanted),
+        Step::Greatest(cpu, wanted) => carries(rt, row, lists, *cpu, *wanted),
+        Step::Run(cpu, max, wanted) => run(rt, row, lists, *cpu, *max, wanted),
+        Step::Migrate(wanted) => migrate(rt, row, lists, *wanted),
+        Step::Begin(wanted) => assert_eq!(rt; (row, lists.barrier_begin()), (row, *wanted)),
+        Step::Visit(cpu, wanted) => visit(rt, row, lists, *cpu, *wanted),
+        Step::NoVisit => no_visit(rt, row, lists),
+        Step::Test(wanted) => assert_eq!(rt; (row, lists.barrier_test()), (row, *wanted)),
+        Step::IsRunning(wanted) => assert_eq!(rt; (row, lists.is_running()), (row, *wanted)),
+        Step::Full => is_full(rt, row, lists),
+    }
+}
+
+/// Makes the steps in turn.
+fn make_each(rt: &impl Abort, lists: &mut Lists<u64>, steps: &[Step]) {
+    for (row, step) in steps.iter().enumerate() {
+        make(rt, row, lists, step);
     }
 }
 
 /// Makes the steps in turn, on lists that are empty at first.
 fn make_all(rt: &impl Abort, alloc: Global, steps: &[Step]) {
-    let mut lists = lists(rt, alloc);
-    for step in steps {
-        make(rt, &mut lists, step);
-    }
+    make_each(rt, &mut lists(rt, alloc), steps);
 }
 
 #[test]
@@ -382,74 +424,57 @@ fn renumbering_during_a_barrier(rt: HostRuntime) {
     );
 }
 
-/// The million and first callback is refused.
-fn full(rt: &impl Abort, lists: &mut Lists<u64>) {
-    assert!(rt; 1 < lists.cpus());
-    match lists.queue(1, Tag::of_first_epoch(0), 8) {
-        Ok(_) => panic!(rt; "one too many was queued"),
-        Err(back) => assert!(rt; back.fault == Fault::CallbacksFull && back.value == 8),
-    }
-}
-
-/// Queues a million callbacks on processor 0.
-fn fill(rt: &impl Abort, lists: &mut Lists<u64>) {
-    for count in 0..1_000_000 {
-        assert!(rt; 0 < lists.cpus());
-        if let Err(back) = lists.queue(0, Tag::of_first_epoch(0), 7) {
-            assert!(rt; back.fault == Fault::NoMemory);
-            queue_again(rt, lists, 0, back.value, count + 1);
-        }
-    }
-    assert!(rt; lists.queued() == 1_000_000);
+/// How many callbacks of processor 0 are taken.
+fn taken(rt: &impl Abort, lists: &mut Lists<u64>, max: u64) -> Result<usize, Fault> {
+    assert!(rt; 0 < lists.cpus());
+    Ok(lists.run(0, max)?.len())
 }
 
 #[test]
 fn a_million_callbacks(rt: HostRuntime) {
     let mut lists = lists(&rt, rt.alloc());
     fill(&rt, &mut lists);
-    full(&rt, &mut lists);
-    tend(&rt, &mut lists, 0, 0, (0, 1_000_000));
-    tend(&rt, &mut lists, 0, 4, (1_000_000, 0));
-    assert!(rt; 0 < lists.cpus());
-    match lists.run(0, 1_000_000) {
-        Ok(calls) => assert!(rt; calls.len() == 1_000_000),
-        Err(fault) => assert!(rt; fault == Fault::NoMemory),
+    make_each(
+        &rt,
+        &mut lists,
+        &[
+            Step::Full,
+            Step::Tend(0, 0, 0, 1_000_000),
+            Step::Tend(0, 4, 1_000_000, 0),
+        ],
+    );
+    let count = taken(&rt, &mut lists, 1_000_000);
+    if count != Err(Fault::NoMemory) {
+        assert_eq!(rt; count, Ok(1_000_000));
     }
-    full(&rt, &mut lists);
-}
-
-/// Takes callbacks of processor 0, of which there is none.
-fn takes_none(rt: &impl Abort, lists: &mut Lists<u64>) {
-    assert!(rt; 0 < lists.cpus());
-    match lists.run(0, 9) {
-        Ok(calls) => assert!(rt; calls.is_empty()),
-        Err(_) => panic!(rt; "there is none to take"),
-    }
+    make_each(&rt, &mut lists, &[Step::Full]);
 }
 
 /// The calls that ask for no memory: none of them is refused a growth.
 fn call_without_memory(rt: &impl Abort, lists: &mut Lists<u64>) {
-    tend(rt, lists, 0, 0, (0, 1));
-    lists.renumber();
-    tend(rt, lists, 0, 0, (0, 1));
-    takes_none(rt, lists);
-    assert!(rt; migrate_once(rt, lists, 0).is_ok());
-    tend(rt, lists, 0, 4, (1, 0));
-    make(rt, lists, &Step::Begin(Ok(())));
-    assert!(rt; visit_once(rt, lists, 1, Visit::Empty).is_ok());
-    assert!(rt; visit_once(rt, lists, 1, Visit::Already).is_ok());
-    make(rt, lists, &Step::Test(Ok(BarrierState::Waits(1))));
+    let tends = [
+        Step::Tend(0, 0, 0, 1),
+        Step::Renumber,
+        Step::Tend(0, 0, 0, 1),
+    ];
+    make_each(rt, lists, &tends);
+    assert_eq!(rt; taken(rt, lists, 9), Ok(0));
+    assert_eq!(rt; migrate_once(rt, 3, lists), Ok(0));
+    make_each(rt, lists, &[Step::Tend(0, 4, 1, 0), Step::Begin(Ok(()))]);
+    assert_eq!(rt; visit_once(rt, 5, lists, 1), Ok(Visit::Empty));
+    assert_eq!(rt; visit_once(rt, 6, lists, 1), Ok(Visit::Already));
+    make_each(rt, lists, &[Step::Test(Ok(BarrierState::Waits(1)))]);
 }
 
 #[test]
 fn calls_without_memory(rt: HostRuntime) {
     let mut lists = lists(&rt, rt.alloc());
-    queue(&rt, &mut lists, 0, 5, 1);
+    make_each(&rt, &mut lists, &[Step::Queue(0, 5, 1)]);
     call_without_memory(&rt, &mut lists);
 }
 
 #[test]
 fn sizes(rt: HostRuntime) {
-    assert!(rt; lists_of(&rt, rt.alloc(), 1).cpus() == 1);
-    assert!(rt; lists_of(&rt, rt.alloc(), 4096).cpus() == 4096);
+    assert_eq!(rt; lists_of(&rt, rt.alloc(), 1).cpus(), 1);
+    assert_eq!(rt; lists_of(&rt, rt.alloc(), 4096).cpus(), 4096);
 }

@@ -3,6 +3,7 @@
 
 mod plain;
 mod random;
+mod rooms;
 
 use rcu_cblist::queued::Queued;
 use rcu_cblist::seg_list::SegList;
@@ -14,7 +15,7 @@ use std::mem::swap;
 use std::process::Abort;
 
 /// All that can be asked of a list.
-#[derive(Clone, Copy, PartialEq)]
+#[derive(Clone, Copy, Debug, PartialEq)]
 struct Asked {
     count: u64,
     done: u64,
@@ -34,23 +35,34 @@ fn ask(list: &SegList<u64>) -> Asked {
     }
 }
 
-/// Compares the fault of a call whose growth was refused, and what it left of a list with what was
-/// there.
-fn refused(rt: &impl Abort, fault: Fault, now: Asked, before: Asked) {
-    assert!(rt; fault == Fault::NoMemory);
-    assert!(rt; now == before);
+/// Compares the fault of a row's call whose growth was refused, and what it left of a list with
+/// what was there.
+fn refused(rt: &impl Abort, row: usize, fault: Fault, now: Asked, before: Asked) {
+    assert_eq!(rt; (row, fault, now), (row, Fault::NoMemory, before));
 }
 
-/// Queues a callback, by a second call where the first is refused a growth, and compares what that
-/// one hands back.
-fn queue(rt: &impl Abort, list: &mut SegList<u64>, ord: u64, number: u64, value: u64) {
-    let at = Tag::of_first_epoch(number);
+/// The callback of this order number, number of epoch 0 at queueing, and value.
+fn call(ord: u64, number: u64, value: u64) -> Queued<u64> {
+    Queued {
+        ord,
+        at: Tag::of_first_epoch(number),
+        value,
+    }
+}
+
+/// Queues a row's callback, by a second call where the first is refused a growth, and compares what
+/// that one hands back.
+fn queue(rt: &impl Abort, row: usize, list: &mut SegList<u64>, call: Queued<u64>) {
     let before = ask(list);
-    if let Err(back) = list.queue(Queued { ord, at, value }) {
-        refused(rt, back.fault, ask(list), before);
+    let (ord, at, value) = (call.ord, call.at, call.value);
+    if let Err(back) = list.queue(call) {
+        refused(rt, row, back.fault, ask(list), before);
         let item = back.value;
-        assert!(rt; item.ord == ord && item.at == at && item.value == value);
-        assert!(rt; list.queue(item).is_ok(), "the second call has memory");
+        assert_eq!(rt; (row, item.ord, item.at, item.value), (row, ord, at, value));
+        assert_eq!(rt;
+            (row, list.queue(item).map_err(|back| back.fault)),
+            (row, Ok(()))
+        );
     }
 }
 
@@ -60,88 +72,92 @@ fn accelerate(rt: &impl Abort, list: &mut SegList<u64>, snap: u64) {
     match list.greatest_waiting() {
         None => list.accelerate(snap),
         Some(most) => {
-            assert!(rt; most <= snap);
+            assert!(rt; most <= snap, "{most} is above {snap}");
             list.accelerate(snap);
         }
     }
 }
 
-/// Compares the values of the callbacks that were taken, and how many markers were passed.
-fn compare_taken(rt: &impl Abort, taken: &Taken<u64>, wanted: &[u64], markers: u64) {
-    assert!(rt; taken.markers == markers);
-    have_values(rt, taken.calls.as_slice(), wanted);
-}
-
-/// Compares the values of callbacks.
-fn have_values(rt: &impl Abort, calls: &[Queued<u64>], wanted: &[u64]) {
-    assert!(rt; calls.len() == wanted.len());
-    for place in 0..calls.len() {
-        assert!(rt; calls[place].value == wanted[place]);
+/// Compares the values of the callbacks that a row took, and how many markers were passed.
+fn compare_taken(rt: &impl Abort, row: usize, taken: &Taken<u64>, wanted: &[u64], markers: u64) {
+    let count = taken.calls.len();
+    assert_eq!(rt; (row, taken.markers, count), (row, markers, wanted.len()));
+    for (place, (call, wanted)) in taken.calls.iter().zip(wanted).enumerate() {
+        assert_eq!(rt; (row, place, call.value), (row, place, *wanted));
     }
 }
 
-/// Takes callbacks, by a second call where the first is refused a growth, and compares them.
-fn take(rt: &impl Abort, list: &mut SegList<u64>, max: u64, wanted: &[u64], markers: u64) {
+/// Takes a row's callbacks, by a second call where the first is refused a growth, and compares
+/// them.
+fn take(
+    rt: &impl Abort,
+    row: usize,
+    list: &mut SegList<u64>,
+    max: u64,
+    wanted: &[u64],
+    markers: u64,
+) {
     let before = ask(list);
     let taken = match list.take_done(max) {
         Ok(taken) => taken,
         Err(fault) => {
-            refused(rt, fault, ask(list), before);
+            refused(rt, row, fault, ask(list), before);
             list.take_done(max).expect(rt, "the second call has memory")
         }
     };
-    compare_taken(rt, &taken, wanted, markers);
+    compare_taken(rt, row, &taken, wanted, markers);
 }
 
-/// Moves a list, by a second call where the first is refused a growth.
-fn migrate(rt: &impl Abort, list: &mut SegList<u64>, target: &mut SegList<u64>) {
+/// Moves a row's list, by a second call where the first is refused a growth.
+fn migrate(rt: &impl Abort, row: usize, list: &mut SegList<u64>, target: &mut SegList<u64>) {
     let (before, there) = (ask(list), ask(target));
     if let Err(fault) = list.migrate_into(target) {
-        refused(rt, fault, ask(list), before);
-        refused(rt, fault, ask(target), there);
-        assert!(rt; list.migrate_into(target) == Ok(()));
+        refused(rt, row, fault, ask(list), before);
+        refused(rt, row, fault, ask(target), there);
+        assert_eq!(rt; (row, list.migrate_into(target)), (row, Ok(())));
     }
 }
 
-/// Moves a list with a marker behind it, by a second call where the first is refused a growth.
-fn migrate_marked(rt: &impl Abort, list: &mut SegList<u64>, target: &mut SegList<u64>) {
+/// Moves a row's list with a marker behind it, by a second call where the first is refused a
+/// growth.
+fn migrate_marked(rt: &impl Abort, row: usize, list: &mut SegList<u64>, target: &mut SegList<u64>) {
     let (before, there) = (ask(list), ask(target));
     if let Err(fault) = list.migrate_marked_into(target) {
-        refused(rt, fault, ask(list), before);
-        refused(rt, fault, ask(target), there);
-        assert!(rt; list.migrate_marked_into(target) == Ok(()));
+        refused(rt, row, fault, ask(list), before);
+        refused(rt, row, fault, ask(target), there);
+        assert_eq!(rt; (row, list.migrate_marked_into(target)), (row, Ok(())));
     }
 }
 
-/// Puts a marker behind a list, by a second call where the first is refused a growth, and compares
-/// whether it did.
-fn entrain(rt: &impl Abort, list: &mut SegList<u64>, wanted: bool) {
+/// Puts a marker behind a row's list, by a second call where the first is refused a growth, and
+/// compares whether it did.
+fn entrain(rt: &impl Abort, row: usize, list: &mut SegList<u64>, wanted: bool) {
     let before = ask(list);
-    match list.entrain() {
-        Ok(marked) => assert!(rt; marked == wanted),
-        Err(fault) => {
-            refused(rt, fault, ask(list), before);
-            assert!(rt; list.entrain() == Ok(wanted));
-        }
+    let mut marked = list.entrain();
+    if let Err(Fault::NoMemory) = marked {
+        refused(rt, row, Fault::NoMemory, ask(list), before);
+        marked = list.entrain();
     }
+    assert_eq!(rt; (row, marked), (row, Ok(wanted)));
 }
 
-/// Compares how many callbacks are done and how many wait, and the greatest number that one
-/// carries.
-fn counts(rt: &impl Abort, list: &SegList<u64>, done: u64, waiting: u64, greatest: Option<u64>) {
-    assert!(rt; list.done_count() == done && list.waiting_count() == waiting);
-    assert!(rt; list.count().checked_sub(done) == Some(waiting));
-    assert!(rt; list.greatest_waiting() == greatest);
-}
-
-/// Compares the sizes of the segments.
-fn has_segments(rt: &impl Abort, list: &SegList<u64>, wanted: &[u64; 4]) {
-    assert!(rt; list.segments() == *wanted);
-}
-
-/// Compares whether nothing is in the list.
-fn is_empty(rt: &impl Abort, list: &SegList<u64>, wanted: bool) {
-    assert!(rt; list.is_empty() == wanted);
+/// Compares how many callbacks are done and how many wait, how many there are, and the greatest
+/// number that one carries.
+fn counts(
+    rt: &impl Abort,
+    row: usize,
+    list: &SegList<u64>,
+    done: u64,
+    waiting: u64,
+    greatest: Option<u64>,
+) {
+    let found = (
+        list.done_count(),
+        list.waiting_count(),
+        list.greatest_waiting(),
+    );
+    assert_eq!(rt; (row, found), (row, (done, waiting, greatest)));
+    assert_eq!(rt; (row, list.count().checked_sub(done)), (row, Some(waiting)));
 }
 
 /// A call on a list, with what it has to answer, or a look at the list.
@@ -172,31 +188,45 @@ enum Step<'a> {
     IsEmpty(bool),
 }
 
-/// Makes a call on the list, or looks at it, and compares.
-fn make(rt: &impl Abort, list: &mut SegList<u64>, other: &mut SegList<u64>, step: &Step) {
+/// Makes a row's call on the list, or looks at it, and compares.
+fn make(
+    rt: &impl Abort,
+    row: usize,
+    list: &mut SegList<u64>,
+    other: &mut SegList<u64>,
+    step: &Step,
+) {
     match step {
-        Step::Queue(ord, number, value) => queue(rt, list, *ord, *number, *value),
+        Step::Queue(ord, number, value) => queue(rt, row, list, call(*ord, *number, *value)),
         Step::Accelerate(snap) => accelerate(rt, list, *snap),
         Step::Advance(number) => list.advance(*number),
         Step::Renumber => list.renumber(),
-        Step::Take(max, wanted, markers) => take(rt, list, *max, wanted, *markers),
-        Step::Entrain(wanted) => entrain(rt, list, *wanted),
-        Step::Migrate => migrate(rt, list, other),
-        Step::MigrateMarked => migrate_marked(rt, list, other),
+        Step::Take(max, wanted, markers) => take(rt, row, list, *max, wanted, *markers),
+        Step::Entrain(wanted) => entrain(rt, row, list, *wanted),
+        Step::Migrate => migrate(rt, row, list, other),
+        Step::MigrateMarked => migrate_marked(rt, row, list, other),
         Step::Swap => swap(list, other),
-        Step::Counts(done, waiting, greatest) => counts(rt, list, *done, *waiting, *greatest),
-        Step::Segments(wanted) => has_segments(rt, list, wanted),
-        Step::IsEmpty(wanted) => is_empty(rt, list, *wanted),
+        Step::Counts(done, waiting, greatest) => counts(rt, row, list, *done, *waiting, *greatest),
+        Step::Segments(wanted) => assert_eq!(rt; (row, list.segments()), (row, *wanted)),
+        Step::IsEmpty(wanted) => assert_eq!(rt; (row, list.is_empty()), (row, *wanted)),
+    }
+}
+
+/// Makes the steps in turn.
+fn make_each(rt: &impl Abort, list: &mut SegList<u64>, other: &mut SegList<u64>, steps: &[Step]) {
+    for (row, step) in steps.iter().enumerate() {
+        make(rt, row, list, other, step);
     }
 }
 
 /// Makes the steps in turn, on two lists that are empty at first.
 fn make_all(rt: &impl Abort, alloc: Global, steps: &[Step]) {
-    let mut list = SegList::new(alloc);
-    let mut other = SegList::new(alloc);
-    for step in steps {
-        make(rt, &mut list, &mut other, step);
-    }
+    make_each(
+        rt,
+        &mut SegList::new(alloc),
+        &mut SegList::new(alloc),
+        steps,
+    );
 }
 
 #[test]
@@ -405,34 +435,37 @@ fn markers_passed(list: &mut SegList<u64>, max: u64) -> Result<u64, Fault> {
     Ok(taken.markers)
 }
 
-/// A take passes no marker.
-fn passes_none(rt: &impl Abort, list: &mut SegList<u64>, max: u64) {
-    assert!(rt; markers_passed(list, max) == Ok(0));
-}
-
 /// The calls that ask for no memory: none of them is refused a growth.
 fn call_without_memory(rt: &impl Abort, list: &mut SegList<u64>, empty: &mut SegList<u64>) {
-    assert!(rt; empty.entrain() == Ok(false));
-    assert!(rt; empty.migrate_into(list).is_ok());
-    assert!(rt; empty.migrate_marked_into(list).is_ok());
+    assert_eq!(rt; empty.entrain(), Ok(false));
+    assert_eq!(rt; empty.migrate_into(list), Ok(()));
+    assert_eq!(rt; empty.migrate_marked_into(list), Ok(()));
     accelerate(rt, list, 4);
     list.advance(0);
     list.renumber();
     accelerate(rt, list, 4);
-    passes_none(rt, list, 9);
+    assert_eq!(rt; markers_passed(list, 9), Ok(0));
     list.advance(4);
-    passes_none(rt, list, 0);
-    counts(rt, list, 2, 0, None);
-    has_segments(rt, list, &[2, 0, 0, 0]);
-    counts(rt, empty, 0, 0, None);
-    has_segments(rt, empty, &[0, 0, 0, 0]);
+    assert_eq!(rt; markers_passed(list, 0), Ok(0));
+    make_each(
+        rt,
+        list,
+        empty,
+        &[
+            Step::Counts(2, 0, None),
+            Step::Segments([2, 0, 0, 0]),
+            Step::Swap,
+            Step::Counts(0, 0, None),
+            Step::Segments([0, 0, 0, 0]),
+        ],
+    );
 }
 
 #[test]
 fn calls_without_memory(rt: HostRuntime) {
     let mut list = SegList::new(rt.alloc());
-    queue(&rt, &mut list, 1, 0, 10);
-    queue(&rt, &mut list, 2, 0, 11);
+    queue(&rt, 0, &mut list, call(1, 0, 10));
+    queue(&rt, 1, &mut list, call(2, 0, 11));
     let mut empty = SegList::new(rt.alloc());
     call_without_memory(&rt, &mut list, &mut empty);
 }

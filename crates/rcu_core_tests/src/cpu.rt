@@ -1,4 +1,5 @@
 //! The nesting of read sections to its limit, and each call with each of its faults.
+use crate::made::is_done;
 use rcu_cpu::cpu_data::CpuData;
 use rcu_report::report::Report;
 use rcu_seq::fault::Fault;
@@ -18,52 +19,58 @@ enum Step {
     /// Arrives at this number of this epoch.
     Arrive(u64, u64, Result<(), Fault>),
     Depart(Result<(), Fault>),
+    Idle(Result<(), Fault>),
+    Wake(Result<(), Fault>),
+    /// Whether the processor is idle.
+    IsIdle(bool),
     /// Whether the processor is online, the depth of its section, and the number and the epoch
     /// noted.
     Is(bool, u32, u64, u64),
 }
 
-/// Makes a call, or looks, and compares.
-fn make(rt: &impl Abort, data: &mut CpuData, step: &Step) {
+/// Makes a row's call, or looks, and compares.
+fn make(rt: &impl Abort, row: usize, data: &mut CpuData, step: &Step) {
     match step {
-        Step::Enter(wanted) => is_depth(rt, data.enter(), *wanted),
-        Step::Exit(wanted) => is_depth(rt, data.exit(), *wanted),
+        Step::Enter(wanted) => is_depth(rt, row, data.enter(), *wanted),
+        Step::Exit(wanted) => is_depth(rt, row, data.exit(), *wanted),
         Step::Note(number, epoch, wanted) => {
-            is_done(rt, data.note(tag(*number, *epoch)), *wanted);
+            is_done(rt, row, data.note(tag(*number, *epoch)), *wanted);
         },
-        Step::Quiesce(number, epoch) => quiesce(rt, data, Ok(tag(*number, *epoch))),
-        Step::NoReport(fault) => quiesce(rt, data, Err(*fault)),
+        Step::Quiesce(number, epoch) => quiesce(rt, row, data, Ok(tag(*number, *epoch))),
+        Step::NoReport(fault) => quiesce(rt, row, data, Err(*fault)),
         Step::Arrive(number, epoch, wanted) => {
-            is_done(rt, data.arrive(tag(*number, *epoch)), *wanted);
+            is_done(rt, row, data.arrive(tag(*number, *epoch)), *wanted);
         },
-        Step::Depart(wanted) => is_done(rt, data.depart(), *wanted),
+        Step::Depart(wanted) => is_done(rt, row, data.depart(), *wanted),
+        Step::Idle(wanted) => is_done(rt, row, data.idle(), *wanted),
+        Step::Wake(wanted) => is_done(rt, row, data.wake(), *wanted),
+        Step::IsIdle(wanted) => assert_eq!(rt; (row, data.is_idle()), (row, *wanted)),
         Step::Is(online, depth, number, epoch) => {
-            is_at(rt, data, *online, *depth, tag(*number, *epoch));
+            is_at(rt, row, data, (*online, *depth, tag(*number, *epoch)));
         },
     }
 }
 
-/// Compares the depth after a call, or its fault.
-fn is_depth(rt: &impl Abort, answer: Result<u32, Fault>, wanted: Result<u32, Fault>) {
-    assert!(rt; answer == wanted);
+/// Compares the depth after a row's call, or its fault.
+fn is_depth(rt: &impl Abort, row: usize, answer: Result<u32, Fault>, wanted: Result<u32, Fault>) {
+    assert_eq!(rt; (row, answer), (row, wanted));
 }
 
-/// Compares whether a call was made, or its fault.
-fn is_done(rt: &impl Abort, answer: Result<(), Fault>, wanted: Result<(), Fault>) {
-    assert!(rt; answer == wanted);
-}
-
-/// Makes a quiescent state, and compares the report.
-fn quiesce(rt: &impl Abort, data: &mut CpuData, wanted: Result<Tag, Fault>) {
+/// Makes a row's quiescent state, and compares the report.
+fn quiesce(rt: &impl Abort, row: usize, data: &mut CpuData, wanted: Result<Tag, Fault>) {
     let cpu = data.cpu();
-    assert!(rt; data.quiesce() == wanted.map(|tag| Report { cpu, tag }));
+    assert_eq!(rt;
+        (row, data.quiesce()),
+        (row, wanted.map(|tag| Report { cpu, tag }))
+    );
 }
 
-/// Looks at the processor.
-fn is_at(rt: &impl Abort, data: &CpuData, online: bool, depth: u32, noted: Tag) {
-    assert!(rt; data.online() == online);
-    assert!(rt; data.depth() == depth);
-    assert!(rt; data.noted() == noted);
+/// Compares whether the processor is online, the depth of its section, and what is noted.
+fn is_at(rt: &impl Abort, row: usize, data: &CpuData, wanted: (bool, u32, Tag)) {
+    assert_eq!(rt;
+        (row, (data.online(), data.depth(), data.noted())),
+        (row, wanted)
+    );
 }
 
 /// This number of this epoch.
@@ -73,9 +80,9 @@ fn tag(number: u64, epoch: u64) -> Tag {
 
 /// Makes the steps in turn.
 fn make_all(rt: &impl Abort, mut data: CpuData, cpu: u32, steps: &[Step]) {
-    for step in steps {
-        make(rt, &mut data, step);
-        assert!(rt; data.cpu() == cpu);
+    for (row, step) in steps.iter().enumerate() {
+        make(rt, row, &mut data, step);
+        assert_eq!(rt; (row, data.cpu()), (row, cpu));
     }
 }
 
@@ -83,7 +90,7 @@ fn make_all(rt: &impl Abort, mut data: CpuData, cpu: u32, steps: &[Step]) {
 fn full_nesting_depth(rt: HostRuntime) {
     let mut data = CpuData::new(0, true);
     for depth in 1..=65_535 {
-        assert!(rt; data.enter() == Ok(depth));
+        assert_eq!(rt; data.enter(), Ok(depth));
     }
     make_all(
         &rt,
@@ -153,6 +160,65 @@ fn an_arrival_and_a_departure(rt: HostRuntime) {
             Step::Exit(Ok(0)),
             Step::Depart(Ok(())),
             Step::Is(false, 0, 9, 0),
+        ],
+    );
+}
+
+/// An idle processor opens no section and makes no report until it wakes; a note goes on.
+#[test]
+fn an_idle_processor(rt: HostRuntime) {
+    make_all(
+        &rt,
+        CpuData::new(7, true),
+        7,
+        &[
+            Step::IsIdle(false),
+            Step::Wake(Err(Fault::NotIdle)),
+            Step::Enter(Ok(1)),
+            Step::Idle(Err(Fault::InSection)),
+            Step::IsIdle(false),
+            Step::Exit(Ok(0)),
+            Step::Idle(Ok(())),
+            Step::IsIdle(true),
+            Step::Idle(Err(Fault::CpuIdle)),
+            Step::Enter(Err(Fault::CpuIdle)),
+            Step::NoReport(Fault::CpuIdle),
+            Step::Exit(Err(Fault::NotOpen)),
+            Step::Note(5, 0, Ok(())),
+            Step::Arrive(9, 0, Err(Fault::AlreadyOnline)),
+            Step::IsIdle(true),
+            Step::Is(true, 0, 5, 0),
+            Step::Wake(Ok(())),
+            Step::IsIdle(false),
+            Step::Quiesce(5, 0),
+            Step::Enter(Ok(1)),
+        ],
+    );
+}
+
+/// A departure ends the idleness, and an arrival comes awake.
+#[test]
+fn an_idle_processor_departs(rt: HostRuntime) {
+    make_all(
+        &rt,
+        CpuData::new(7, false),
+        7,
+        &[
+            Step::IsIdle(false),
+            Step::Idle(Err(Fault::Offline)),
+            Step::Wake(Err(Fault::Offline)),
+            Step::Arrive(1, 0, Ok(())),
+            Step::IsIdle(false),
+            Step::Idle(Ok(())),
+            Step::Depart(Ok(())),
+            Step::IsIdle(false),
+            Step::Wake(Err(Fault::Offline)),
+            Step::Idle(Err(Fault::Offline)),
+            Step::Is(false, 0, 1, 0),
+            Step::Arrive(5, 0, Ok(())),
+            Step::IsIdle(false),
+            Step::Wake(Err(Fault::NotIdle)),
+            Step::Enter(Ok(1)),
         ],
     );
 }

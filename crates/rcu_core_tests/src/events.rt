@@ -2,7 +2,9 @@
 
 mod callbacks;
 mod epochs;
+mod idle;
 mod lists;
 mod machine;
+mod most;
 mod state;
 mod steps;

@@ -9,14 +9,9 @@ fn geometry<const LEAF: u32, const FAN: u32>(rt: &impl Abort, cpus: u32) -> Geom
     Geometry::new(cpus).expect(rt, "there is such a tree")
 }
 
-/// Compares a number that is said of a level or a processor.
-fn is_said(rt: &impl Abort, place: u32, said: u32, wanted: u32) {
-    assert!(rt; said == wanted, "at {place}");
-}
-
-/// Compares a number that is said of a node, and of which the root has none.
-fn is_above(rt: &impl Abort, node: u32, said: Option<u32>, wanted: Option<u32>) {
-    assert!(rt; said == wanted, "node {node}");
+/// Compares the two numbers that are said of a level or a processor.
+fn is_said(rt: &impl Abort, place: u32, said: (u32, u32), wanted: (u32, u32)) {
+    assert_eq!(rt; (place, said), (place, wanted));
 }
 
 /// Compares where each level begins and how many nodes it has, and how many nodes there are.
@@ -27,23 +22,24 @@ fn has_levels<const LEAF: u32, const FAN: u32>(
     nodes: u32,
 ) {
     let geometry = geometry::<LEAF, FAN>(rt, cpus);
-    assert!(rt; geometry.cpus() == cpus);
-    assert!(rt; geometry.levels() as usize == wanted.len());
-    let mut level = 0u32;
-    for (start, nodes) in wanted {
+    let found = (
+        geometry.cpus(),
+        geometry.levels() as usize,
+        geometry.nodes(),
+    );
+    assert_eq!(rt; found, (cpus, wanted.len(), nodes));
+    for (level, wanted) in (0..geometry.levels()).zip(wanted) {
         assert!(rt; level < geometry.levels());
-        is_said(rt, level, geometry.level_start(level), *start);
-        is_said(rt, level, geometry.level_nodes(level), *nodes);
-        level = level.saturating_add(1);
+        let said = (geometry.level_start(level), geometry.level_nodes(level));
+        is_said(rt, level, said, *wanted);
     }
-    assert!(rt; geometry.nodes() == nodes);
 }
 
 /// Compares why there is no such tree.
 fn refuses<const LEAF: u32, const FAN: u32>(rt: &impl Abort, cpus: u32, wanted: Fault) {
     match Geometry::<LEAF, FAN>::new(cpus) {
         Ok(_) => panic!(rt; "there is such a tree"),
-        Err(fault) => assert!(rt; fault == wanted),
+        Err(fault) => assert_eq!(rt; (cpus, fault), (cpus, wanted)),
     }
 }
 
@@ -95,12 +91,11 @@ fn has_parents<const LEAF: u32, const FAN: u32>(
     geometry: &Geometry<LEAF, FAN>,
     wanted: &[(Option<u32>, Option<u32>)],
 ) {
-    let mut node = 0u32;
-    for (parent, bit) in wanted {
+    assert_eq!(rt; geometry.nodes() as usize, wanted.len());
+    for (node, wanted) in (0..geometry.nodes()).zip(wanted) {
         assert!(rt; node < geometry.nodes());
-        is_above(rt, node, geometry.parent(node), *parent);
-        is_above(rt, node, geometry.bit_in_parent(node), *bit);
-        node = node.saturating_add(1);
+        let said = (geometry.parent(node), geometry.bit_in_parent(node));
+        assert_eq!(rt; (node, said), (node, *wanted));
     }
 }
 
@@ -110,12 +105,15 @@ fn has_leaves<const LEAF: u32, const FAN: u32>(
     geometry: &Geometry<LEAF, FAN>,
     wanted: &[(u32, u32)],
 ) {
-    let mut cpu = 0u32;
-    for (leaf, bit) in wanted {
+    assert_eq!(rt; geometry.cpus() as usize, wanted.len());
+    for (cpu, wanted) in (0..geometry.cpus()).zip(wanted) {
         assert!(rt; cpu < geometry.cpus());
-        is_said(rt, cpu, geometry.leaf_of(cpu), *leaf);
-        is_said(rt, cpu, geometry.bit_of(cpu), *bit);
-        cpu = cpu.saturating_add(1);
+        is_said(
+            rt,
+            cpu,
+            (geometry.leaf_of(cpu), geometry.bit_of(cpu)),
+            *wanted,
+        );
     }
 }
 

@@ -1,10 +1,11 @@
 //! Each public call over each kind of awaited set.
-use crate::made::{flat, is_answer, is_said, refused, tree};
+use crate::made::{flat, is_answer, is_done, is_said, refused, tree};
 use rcu_hotplug::hotplug::Hotplug;
 use rcu_node::answer::Answer;
 use rcu_node::awaited::Awaited;
 use rcu_node::flat::Flat;
 use rcu_node::tree::Tree;
+use rcu_report::report::Report;
 use rcu_seq::fault::Fault;
 use rcu_seq::tag::Tag;
 use std::alloc::Global;
@@ -40,35 +41,44 @@ fn awaits<A: Awaited>(rt: &impl Abort, hotplug: &Hotplug<A>, wanted: &[u32]) {
         is_said(rt, cpu, awaits, wanted.contains(&cpu));
         is_said(rt, cpu, !awaits || hotplug.online(cpu), true);
     }
-    assert!(rt; awaited.count() as usize == wanted.len());
+    assert_eq!(rt; awaited.count() as usize, wanted.len());
 }
 
 /// Begins a grace period of epoch 0, and compares which processors it awaits.
 fn begin<A: Awaited>(rt: &impl Abort, hotplug: &mut Hotplug<A>, number: u64, wanted: &[u32]) {
-    assert!(rt; number % 4 == 1);
+    assert_eq!(rt; number % 4, 1);
     let now = Tag::of_first_epoch(number);
     hotplug.begin(now);
-    assert!(rt; hotplug.awaited().tag() == now);
+    assert_eq!(rt; hotplug.awaited().tag(), now);
     awaits(rt, hotplug, wanted);
 }
 
 /// Makes reports, each of a processor and a number of epoch 0, and compares the answers.
 fn report<A: Awaited>(rt: &impl Abort, hotplug: &mut Hotplug<A>, reports: &[(u32, u64, Answer)]) {
-    for (cpu, number, wanted) in reports {
+    for (row, (cpu, number, wanted)) in reports.iter().enumerate() {
         assert!(rt; *cpu < hotplug.awaited().cpus());
-        let noted = Tag::of_first_epoch(*number);
-        is_answer(rt, *cpu, noted, hotplug.report(*cpu, noted), *wanted);
+        let report = Report {
+            cpu: *cpu,
+            tag: Tag::of_first_epoch(*number),
+        };
+        is_answer(
+            rt,
+            row,
+            report,
+            hotplug.report(report.cpu, report.tag),
+            *wanted,
+        );
     }
 }
 
 /// Takes a processor online.
 fn arrives<A: Awaited>(rt: &impl Abort, hotplug: &mut Hotplug<A>, cpu: u32) {
-    is_said(rt, cpu, hotplug.arrive(cpu).is_ok(), true);
+    assert_eq!(rt; (cpu, hotplug.arrive(cpu)), (cpu, Ok(())));
 }
 
 /// Takes a processor offline.
 fn departs<A: Awaited>(rt: &impl Abort, hotplug: &mut Hotplug<A>, cpu: u32) {
-    is_said(rt, cpu, hotplug.depart(cpu).is_ok(), true);
+    assert_eq!(rt; (cpu, hotplug.depart(cpu)), (cpu, Ok(())));
 }
 
 /// A processor that arrives while a grace period runs is awaited by the next one.
@@ -113,15 +123,15 @@ fn departed_and_back<A: Awaited>(rt: &impl Abort, hotplug: &mut Hotplug<A>) {
 
 /// Compares why each of these processors does not arrive.
 fn refuses_arrival<A: Awaited>(rt: &impl Abort, hotplug: &mut Hotplug<A>, rows: &[(u32, Fault)]) {
-    for (cpu, wanted) in rows {
-        is_said(rt, *cpu, hotplug.arrive(*cpu) == Err(*wanted), true);
+    for (row, (cpu, wanted)) in rows.iter().enumerate() {
+        is_done(rt, row, hotplug.arrive(*cpu), Err(*wanted));
     }
 }
 
 /// Compares why each of these processors does not depart.
 fn refuses_departure<A: Awaited>(rt: &impl Abort, hotplug: &mut Hotplug<A>, rows: &[(u32, Fault)]) {
-    for (cpu, wanted) in rows {
-        is_said(rt, *cpu, hotplug.depart(*cpu) == Err(*wanted), true);
+    for (row, (cpu, wanted)) in rows.iter().enumerate() {
+        is_done(rt, row, hotplug.depart(*cpu), Err(*wanted));
     }
 }
 
@@ -150,7 +160,7 @@ fn faults<A: Awaited>(rt: &impl Abort, hotplug: &mut Hotplug<A>) {
 
 /// Four grace periods of five processors.
 fn come_and_go<A: Awaited>(rt: &impl Abort, mut hotplug: Hotplug<A>) {
-    assert!(rt; hotplug.awaited().tag() == Tag::of_first_epoch(0));
+    assert_eq!(rt; hotplug.awaited().tag(), Tag::of_first_epoch(0));
     awaits(rt, &hotplug, &[]);
     late_arrival(rt, &mut hotplug);
     departed_and_back(rt, &mut hotplug);
@@ -170,7 +180,7 @@ fn come_and_go_over_tree(rt: HostRuntime) {
 /// So many processors are made, and no more.
 fn has_size(rt: &impl Abort, alloc: Global, cpus: u32) {
     let mut hotplug = over_flat(rt, alloc, cpus);
-    assert!(rt; hotplug.awaited().cpus() == cpus);
+    assert_eq!(rt; hotplug.awaited().cpus(), cpus);
     refuses_arrival(rt, &mut hotplug, &[(cpus, Fault::BadCpu)]);
 }
 

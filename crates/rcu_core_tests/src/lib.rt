@@ -5,6 +5,7 @@
 mod barrier;
 #[cfg(test)]
 mod cblist;
+pub mod client;
 #[cfg(test)]
 mod cpu;
 #[cfg(test)]

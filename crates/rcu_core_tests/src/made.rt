@@ -7,29 +7,29 @@ use rcu_node::awaited::Awaited;
 use rcu_node::cpu_set::CpuSet;
 use rcu_node::flat::Flat;
 use rcu_node::tree::Tree;
+use rcu_report::report::Report;
 use rcu_seq::fault::Fault;
-use rcu_seq::tag::Tag;
 use std::alloc::Global;
 use std::process::Abort;
 
 /// Compares the fault of a call whose growth was refused.
 pub fn refused(rt: &impl Abort, fault: Fault) {
-    assert!(rt; fault == Fault::NoMemory);
+    assert_eq!(rt; fault, Fault::NoMemory);
 }
 
 /// Compares what is said of a processor.
 pub fn is_said(rt: &impl Abort, cpu: u32, said: bool, wanted: bool) {
-    assert!(rt; said == wanted, "processor {cpu}");
+    assert_eq!(rt; (cpu, said), (cpu, wanted));
 }
 
-/// Compares the answer to a report of a processor and a tag.
-pub fn is_answer(rt: &impl Abort, cpu: u32, tag: Tag, answer: Answer, wanted: Answer) {
-    assert!(rt;
-        answer == wanted,
-        "processor {cpu}, number {} of epoch {}",
-        tag.number,
-        tag.epoch
-    );
+/// Compares the answer to the report of a row.
+pub fn is_answer(rt: &impl Abort, row: usize, report: Report, answer: Answer, wanted: Answer) {
+    assert_eq!(rt; (row, report, answer), (row, report, wanted));
+}
+
+/// Compares whether the call of a row was made, or its fault.
+pub fn is_done(rt: &impl Abort, row: usize, answer: Result<(), Fault>, wanted: Result<(), Fault>) {
+    assert_eq!(rt; (row, answer), (row, wanted));
 }
 
 /// An empty set.

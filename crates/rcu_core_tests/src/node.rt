@@ -10,6 +10,7 @@ use rcu_node::awaited::Awaited;
 use rcu_node::cpu_set::CpuSet;
 use rcu_node::flat::Flat;
 use rcu_node::tree::Tree;
+use rcu_report::report::Report;
 use rcu_seq::fault::Fault;
 use rcu_seq::tag::Tag;
 use std::alloc::Global;
@@ -31,16 +32,32 @@ fn contains(rt: &impl Abort, set: &CpuSet, cpus: &[(u32, bool)]) {
     }
 }
 
-/// Makes a report, and compares the answer.
-fn report_of<A: Awaited>(rt: &impl Abort, awaited: &mut A, cpu: u32, noted: Tag, wanted: Answer) {
-    assert!(rt; cpu < awaited.cpus());
-    is_answer(rt, cpu, noted, awaited.report(cpu, noted), wanted);
+/// Makes the report of a row, and compares the answer.
+fn report_of<A: Awaited>(
+    rt: &impl Abort,
+    row: usize,
+    awaited: &mut A,
+    report: Report,
+    wanted: Answer,
+) {
+    assert!(rt; report.cpu < awaited.cpus());
+    is_answer(
+        rt,
+        row,
+        report,
+        awaited.report(report.cpu, report.tag),
+        wanted,
+    );
 }
 
 /// Makes reports, each of a processor and a number of epoch 0, and compares the answers.
 fn report<A: Awaited>(rt: &impl Abort, awaited: &mut A, reports: &[(u32, u64, Answer)]) {
-    for (cpu, number, wanted) in reports {
-        report_of(rt, awaited, *cpu, Tag::of_first_epoch(*number), *wanted);
+    for (row, (cpu, number, wanted)) in reports.iter().enumerate() {
+        let report = Report {
+            cpu: *cpu,
+            tag: Tag::of_first_epoch(*number),
+        };
+        report_of(rt, row, awaited, report, *wanted);
     }
 }
 
@@ -48,8 +65,8 @@ fn report<A: Awaited>(rt: &impl Abort, awaited: &mut A, reports: &[(u32, u64, An
 fn awaits<A: Awaited>(rt: &impl Abort, awaited: &A, cpus: &[(u32, bool, bool)]) {
     for (cpu, at_start, now) in cpus {
         assert!(rt; *cpu < awaited.cpus());
-        is_said(rt, *cpu, awaited.starts(*cpu), *at_start);
-        is_said(rt, *cpu, awaited.awaits(*cpu), *now);
+        let found = (awaited.starts(*cpu), awaited.awaits(*cpu));
+        assert_eq!(rt; (*cpu, found), (*cpu, (*at_start, *now)));
     }
 }
 
@@ -60,12 +77,11 @@ fn begin<A: Awaited>(rt: &impl Abort, awaited: &mut A, number: u64, set: &CpuSet
 
 /// Begins a grace period, and compares what the counts say.
 fn begin_at<A: Awaited>(rt: &impl Abort, awaited: &mut A, now: Tag, set: &CpuSet) {
-    assert!(rt; set.cpus() == awaited.cpus());
-    assert!(rt; now.number % 4 == 1);
+    assert_eq!(rt; set.cpus(), awaited.cpus());
+    assert_eq!(rt; now.number % 4, 1);
     awaited.begin(now, set);
-    assert!(rt; awaited.tag() == now);
-    assert!(rt; awaited.count() == set.count());
-    assert!(rt; !awaited.is_empty());
+    let found = (awaited.tag(), awaited.count(), awaited.is_empty());
+    assert_eq!(rt; found, (now, set.count(), false));
 }
 
 /// A grace period of processors 0, 2 and 4.
@@ -92,7 +108,7 @@ fn first_grace_period<A: Awaited>(rt: &impl Abort, awaited: &mut A, set: &mut Cp
             (4, true, true),
         ],
     );
-    assert!(rt; awaited.count() == 2);
+    assert_eq!(rt; awaited.count(), 2);
     report(rt, awaited, &[(4, 1, Answer::Taken), (2, 1, Answer::Last)]);
     assert!(rt; awaited.is_empty());
 }
@@ -139,19 +155,19 @@ fn grace_period_of_next_epoch<A: Awaited>(rt: &impl Abort, awaited: &mut A, set:
         number: 1,
     };
     begin_at(rt, awaited, now, set);
-    for (cpu, number, epoch, wanted) in &IN_EPOCHS {
-        let noted = Tag {
+    for (row, (cpu, number, epoch, wanted)) in IN_EPOCHS.iter().enumerate() {
+        let tag = Tag {
             epoch: *epoch,
             number: *number,
         };
-        report_of(rt, awaited, *cpu, noted, *wanted);
+        report_of(rt, row, awaited, Report { cpu: *cpu, tag }, *wanted);
     }
     assert!(rt; awaited.is_empty());
 }
 
 /// Two grace periods of five processors, and one of the next epoch.
 fn grace_periods<A: Awaited>(rt: &impl Abort, alloc: Global, mut awaited: A) {
-    assert!(rt; awaited.tag() == Tag::of_first_epoch(0));
+    assert_eq!(rt; awaited.tag(), Tag::of_first_epoch(0));
     assert!(rt; awaited.is_empty());
     let mut set = empty_set(rt, alloc, 5);
     first_grace_period(rt, &mut awaited, &mut set);
@@ -190,7 +206,7 @@ fn tree_of_27_leaves(rt: HostRuntime) {
 fn report_54<A: Awaited>(rt: &impl Abort, awaited: &mut A) {
     for cpu in 0..53 {
         report(rt, awaited, &[(cpu, 1, Answer::Taken)]);
-        assert!(rt; awaited.count() == 53 - cpu);
+        assert_eq!(rt; awaited.count(), 53 - cpu);
     }
     report(rt, awaited, &[(53, 1, Answer::Last)]);
 }
@@ -198,12 +214,12 @@ fn report_54<A: Awaited>(rt: &impl Abort, awaited: &mut A) {
 /// Takes a processor out, and compares whether it was there.
 fn remove(rt: &impl Abort, set: &mut CpuSet, cpu: u32, wanted: bool) {
     assert!(rt; cpu < set.cpus());
-    assert!(rt; set.remove(cpu) == wanted);
+    is_said(rt, cpu, set.remove(cpu), wanted);
 }
 
 /// Compares flags as a word, which begins at this processor.
 fn is_word(rt: &impl Abort, from: u32, bits: u64, wanted: u64) {
-    assert!(rt; bits == wanted, "from {from}");
+    assert_eq!(rt; (from, bits), (from, wanted));
 }
 
 /// Compares flags as words, each of a first processor and a number of processors.
@@ -229,19 +245,19 @@ static WORDS: [(u32, u32, u64); 4] = [(0, 1, 1), (60, 8, 0b10000), (64, 64, 1), 
 /// Fills a set of three words, copies it, takes a processor out, and clears it.
 fn fill_and_copy(rt: &impl Abort, set: &mut CpuSet, copy: &mut CpuSet) {
     insert(rt, set, &PUT);
-    assert!(rt; copy.cpus() == set.cpus());
+    assert_eq!(rt; copy.cpus(), set.cpus());
     copy.copy_from(set);
 
     remove(rt, set, 63, true);
     remove(rt, set, 63, false);
     contains(rt, set, &LEFT);
-    assert!(rt; set.count() == 3);
+    assert_eq!(rt; set.count(), 3);
     has_bits(rt, set, &WORDS);
 
     set.clear();
-    assert!(rt; set.count() == 0);
+    assert_eq!(rt; set.count(), 0);
     contains(rt, copy, &COPIED);
-    assert!(rt; copy.count() == 4);
+    assert_eq!(rt; copy.count(), 4);
 }
 
 #[test]
@@ -265,11 +281,10 @@ static UNION: [(u32, bool); 6] = [
 fn unite(rt: &impl Abort, set: &mut CpuSet, other: &mut CpuSet) {
     insert(rt, set, &[(0, true), (63, true), (129, true)]);
     insert(rt, other, &[(0, true), (64, true), (128, true)]);
-    assert!(rt; set.cpus() == other.cpus());
+    assert_eq!(rt; set.cpus(), other.cpus());
     set.insert_all(other);
     contains(rt, set, &UNION);
-    assert!(rt; set.count() == 5);
-    assert!(rt; other.count() == 3);
+    assert_eq!(rt; (set.count(), other.count()), (5, 3));
 }
 
 #[test]
@@ -281,8 +296,9 @@ fn union_of_three_words(rt: HostRuntime) {
 
 /// No set of so many processors is made.
 fn no_set(rt: &impl Abort, alloc: Global, cpus: u32) {
-    assert!(rt; CpuSet::new(alloc, cpus).err() == Some(Fault::TooManyCpus));
-    assert!(rt; Flat::new(alloc, cpus).err() == Some(Fault::TooManyCpus));
+    let found = (CpuSet::new(alloc, cpus).err(), Flat::new(alloc, cpus).err());
+    let wanted = (Some(Fault::TooManyCpus), Some(Fault::TooManyCpus));
+    assert_eq!(rt; (cpus, found), (cpus, wanted));
 }
 
 /// No tree of so many processors is made.
@@ -292,7 +308,8 @@ fn no_tree<const LEAF: u32, const FAN: u32>(
     cpus: u32,
     wanted: Fault,
 ) {
-    assert!(rt; Tree::<LEAF, FAN>::new(alloc, cpus).err() == Some(wanted));
+    let found = Tree::<LEAF, FAN>::new(alloc, cpus).err();
+    assert_eq!(rt; (LEAF, FAN, cpus, found), (LEAF, FAN, cpus, Some(wanted)));
 }
 
 /// Neither a set nor a tree of so many processors is made.
@@ -305,9 +322,9 @@ fn makes_none(rt: &impl Abort, alloc: Global, cpus: u32) {
 
 /// Sets of so many processors are made.
 fn makes(rt: &impl Abort, alloc: Global, cpus: u32) {
-    assert!(rt; empty_set(rt, alloc, cpus).cpus() == cpus);
-    assert!(rt; flat(rt, alloc, cpus).cpus() == cpus);
-    assert!(rt; tree::<16, 64>(rt, alloc, cpus).cpus() == cpus);
+    assert_eq!(rt; empty_set(rt, alloc, cpus).cpus(), cpus);
+    assert_eq!(rt; flat(rt, alloc, cpus).cpus(), cpus);
+    assert_eq!(rt; tree::<16, 64>(rt, alloc, cpus).cpus(), cpus);
 }
 
 #[test]

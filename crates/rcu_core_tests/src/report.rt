@@ -44,7 +44,8 @@ fn batch(rt: &impl Abort, alloc: Global, cpus: u32, tag: Tag) -> Batch {
 /// Adds a report, and compares the result.
 fn add(rt: &impl Abort, batch: &mut Batch, cpu: u32, tag: Tag, wanted: Result<(), Fault>) {
     assert!(rt; cpu < batch.cpus());
-    is_said(rt, cpu, batch.add(Report { cpu, tag }) == wanted, true);
+    let report = Report { cpu, tag };
+    assert_eq!(rt; (report, batch.add(report)), (report, wanted));
 }
 
 /// Compares which processors are in a batch.
@@ -56,9 +57,9 @@ fn contains(rt: &impl Abort, batch: &Batch, wanted: &[u32]) {
 
 /// Applies a batch, and compares how many processors it cleared.
 fn apply<A: Awaited>(rt: &impl Abort, batch: &Batch, to: &mut A, wanted: u32) {
-    assert!(rt; to.cpus() == batch.cpus());
+    assert_eq!(rt; to.cpus(), batch.cpus());
     let cleared = batch.apply(to);
-    assert!(rt; cleared == wanted);
+    assert_eq!(rt; cleared, wanted);
 }
 
 /// Compares which processors are awaited.
@@ -70,7 +71,7 @@ fn awaits<A: Awaited>(rt: &impl Abort, awaited: &A, wanted: &[u32]) {
 
 /// Puts the second's processors into the first, and compares the result.
 fn join(rt: &impl Abort, first: &mut Batch, second: &Batch, wanted: Result<(), Fault>) {
-    assert!(rt; first.join(second) == wanted);
+    assert_eq!(rt; first.join(second), wanted);
 }
 
 /// A batch of five processors with reports of these, all of this number.
@@ -86,8 +87,8 @@ fn batch_of(rt: &impl Abort, alloc: Global, tag: Tag, cpus: &[u32]) -> Batch {
 fn all_awaited(rt: &impl Abort, alloc: Global, now: Tag) -> Tree<2, 2> {
     let mut awaited = tree::<2, 2>(rt, alloc, 5);
     let all = everyone(rt, alloc, 5);
-    assert!(rt; awaited.cpus() == all.cpus());
-    assert!(rt; now.number % 4 == 1);
+    assert_eq!(rt; awaited.cpus(), all.cpus());
+    assert_eq!(rt; now.number % 4, 1);
     awaited.begin(now, &all);
     awaited
 }
@@ -144,7 +145,7 @@ fn joins_no(rt: &impl Abort, alloc: Global, first: &mut Batch, cpus: u32, tag: T
 
 /// A batch of number 1 joins neither one of another number or epoch nor one of more processors.
 fn joins_none(rt: &impl Abort, alloc: Global, first: &mut Batch) {
-    assert!(rt; first.tag() == FIRST);
+    assert_eq!(rt; first.tag(), FIRST);
     joins_no(rt, alloc, first, 5, FIFTH);
     joins_no(rt, alloc, first, 5, IN_NEXT);
     joins_no(rt, alloc, first, 6, FIRST);
@@ -160,12 +161,13 @@ fn unlike_batches(rt: HostRuntime) {
 
 /// No batch of so many processors is made.
 fn no_batch(rt: &impl Abort, alloc: Global, cpus: u32) {
-    assert!(rt; Batch::new(alloc, cpus, FIRST).err() == Some(Fault::TooManyCpus));
+    let found = Batch::new(alloc, cpus, FIRST).err();
+    assert_eq!(rt; (cpus, found), (cpus, Some(Fault::TooManyCpus)));
 }
 
 /// A batch of so many processors is made.
 fn has_size(rt: &impl Abort, alloc: Global, cpus: u32) {
-    assert!(rt; batch(rt, alloc, cpus, FIRST).cpus() == cpus);
+    assert_eq!(rt; batch(rt, alloc, cpus, FIRST).cpus(), cpus);
 }
 
 #[test]

@@ -22,51 +22,54 @@ enum Step {
     Tag(u64, u64),
 }
 
-/// Makes a call, or looks, and compares.
-fn make(rt: &impl Abort, seq: &mut Seq, step: &Step) {
+/// Makes a row's call, or looks, and compares.
+fn make(rt: &impl Abort, row: usize, seq: &mut Seq, step: &Step) {
     match step {
-        Step::Start(wanted) => is_number(rt, seq.start(), *wanted),
-        Step::End(wanted) => is_number(rt, seq.end(), *wanted),
-        Step::Is(value, last, running) => is_at(rt, seq, *value, *last, *running),
-        Step::Snap(number, epoch) => has_cookie(rt, seq, *number, *epoch),
-        Step::Done(number, epoch, wanted) => is_done(rt, seq, *number, *epoch, *wanted),
-        Step::Renumber(wanted) => is_number(rt, seq.renumber(), *wanted),
-        Step::Tag(number, epoch) => has_tag(rt, seq, *number, *epoch),
+        Step::Start(wanted) => is_number(rt, row, seq.start(), *wanted),
+        Step::End(wanted) => is_number(rt, row, seq.end(), *wanted),
+        Step::Is(value, last, running) => is_at(rt, row, seq, (*value, *last, *running)),
+        Step::Snap(number, epoch) => has_cookie(rt, row, seq, *number, *epoch),
+        Step::Done(number, epoch, wanted) => is_done(rt, row, seq, *number, *epoch, *wanted),
+        Step::Renumber(wanted) => is_number(rt, row, seq.renumber(), *wanted),
+        Step::Tag(number, epoch) => has_tag(rt, row, seq, *number, *epoch),
     }
 }
 
-/// Compares the number or the epoch after a call, or its fault.
-fn is_number(rt: &impl Abort, answer: Result<u64, Fault>, wanted: Result<u64, Fault>) {
-    assert!(rt; answer == wanted);
+/// Compares the number or the epoch after a row's call, or its fault.
+fn is_number(rt: &impl Abort, row: usize, answer: Result<u64, Fault>, wanted: Result<u64, Fault>) {
+    assert_eq!(rt; (row, answer), (row, wanted));
 }
 
-/// Looks at the counter.
-fn is_at(rt: &impl Abort, seq: &Seq, value: u64, last: u64, running: bool) {
-    assert!(rt; seq.value() == value);
-    assert!(rt; seq.last() == last);
-    assert!(rt; seq.is_running() == running);
+/// Compares the number, the last one, and whether a grace period runs.
+fn is_at(rt: &impl Abort, row: usize, seq: &Seq, wanted: (u64, u64, bool)) {
+    assert_eq!(rt;
+        (row, (seq.value(), seq.last(), seq.is_running())),
+        (row, wanted)
+    );
 }
 
 /// Compares the epoch and the tag.
-fn has_tag(rt: &impl Abort, seq: &Seq, number: u64, epoch: u64) {
-    assert!(rt; seq.epoch() == epoch);
-    assert!(rt; seq.tag() == Tag { epoch, number });
+fn has_tag(rt: &impl Abort, row: usize, seq: &Seq, number: u64, epoch: u64) {
+    assert_eq!(rt;
+        (row, seq.epoch(), seq.tag()),
+        (row, epoch, Tag { epoch, number })
+    );
 }
 
 /// Compares the cookie of a taking.
-fn has_cookie(rt: &impl Abort, seq: &Seq, number: u64, epoch: u64) {
-    assert!(rt; seq.snap() == Cookie { epoch, number });
+fn has_cookie(rt: &impl Abort, row: usize, seq: &Seq, number: u64, epoch: u64) {
+    assert_eq!(rt; (row, seq.snap()), (row, Cookie { epoch, number }));
 }
 
 /// Compares whether a cookie is done.
-fn is_done(rt: &impl Abort, seq: &Seq, number: u64, epoch: u64, wanted: bool) {
-    assert!(rt; seq.done(Cookie { epoch, number }) == wanted);
+fn is_done(rt: &impl Abort, row: usize, seq: &Seq, number: u64, epoch: u64, wanted: bool) {
+    assert_eq!(rt; (row, seq.done(Cookie { epoch, number })), (row, wanted));
 }
 
 /// Makes the steps in turn.
 fn make_each(rt: &impl Abort, mut seq: Seq, steps: &[Step]) {
-    for step in steps {
-        make(rt, &mut seq, step);
+    for (row, step) in steps.iter().enumerate() {
+        make(rt, row, &mut seq, step);
     }
 }
 
@@ -179,34 +182,33 @@ fn the_last_epoch_refuses(rt: HostRuntime) {
     );
 }
 
-/// Goes a step of the path.
-fn go(rt: &impl Abort, seq: &mut Seq, turn: Turn) {
+/// Goes a step of the path, which is made.
+fn go(rt: &impl Abort, seq: &mut Seq, place: u32, turn: Turn) {
     let gone = match turn {
         Turn::Begin => seq.start(),
         Turn::End => seq.end(),
         Turn::Renumber => seq.renumber(),
     };
-    assert!(rt; gone.is_ok());
+    assert_eq!(rt; (place, gone.err()), (place, None));
 }
 
 /// Takes a cookie at a place of the path, and polls it there and at each place behind.
 fn poll_from(rt: &impl Abort, mut seq: Seq, last: u32, place: u32) {
     for before in 0..place {
-        go(rt, &mut seq, turn_at(last, before));
+        go(rt, &mut seq, before, turn_at(last, before));
     }
     let cookie = seq.snap();
     let mut since = Since::taking();
     for behind in place..steps(last) {
-        assert!(rt;
-            seq.done(cookie) == since.has_full_period(),
-            "{place} and {behind}"
-        );
-        go(rt, &mut seq, turn_at(last, behind));
+        let (found, wanted) = (seq.done(cookie), since.has_full_period());
+        assert_eq!(rt; (place, behind, found), (place, behind, wanted));
+        go(rt, &mut seq, behind, turn_at(last, behind));
         since.go(turn_at(last, behind));
     }
-    assert!(rt;
-        seq.done(cookie) == since.has_full_period(),
-        "{place} and the end"
+    assert_eq!(rt;
+        (place, seq.done(cookie)),
+        (place, since.has_full_period()),
+        "at the end"
     );
 }
 
@@ -231,26 +233,21 @@ fn every_two_places_of_five_epochs(rt: HostRuntime) {
 /// No counter of an epoch is made, since this is no last number.
 #[test]
 fn an_epoch_of_no_last_number(rt: HostRuntime) {
-    assert!(rt; matches!(Seq::at_epoch(6, 1), Err(Fault::BadLast)));
+    assert_eq!(rt; Seq::at_epoch(6, 1).err(), Some(Fault::BadLast));
 }
 
-/// Whether a counter is made with this last number.
-fn is_last(last: u64) -> bool {
-    Seq::new(last).is_ok()
-}
-
-/// Whether no counter is made, since this is no last number.
-fn is_refused(last: u64) -> bool {
-    matches!(Seq::new(last), Err(Fault::BadLast))
+/// Why no counter is made with this last number, if none is made.
+fn refusal(last: u64) -> Option<Fault> {
+    Seq::new(last).err()
 }
 
 #[test]
 fn last_numbers(rt: HostRuntime) {
-    assert!(rt; is_last(4));
-    assert!(rt; is_last(1 << 62));
-    assert!(rt; is_refused(0));
-    assert!(rt; is_refused(6));
-    assert!(rt; is_refused((1 << 62) + 4));
+    assert_eq!(rt; refusal(4), None);
+    assert_eq!(rt; refusal(1 << 62), None);
+    assert_eq!(rt; refusal(0), Some(Fault::BadLast));
+    assert_eq!(rt; refusal(6), Some(Fault::BadLast));
+    assert_eq!(rt; refusal((1 << 62) + 4), Some(Fault::BadLast));
 }
 
 /// Each fault with its number.
@@ -281,7 +278,7 @@ static NUMBERS: [(Fault, u32); 22] = [
 
 /// Compares the number of a fault.
 fn has_number(rt: &impl Abort, fault: Fault, number: u32) {
-    assert!(rt; fault.number() == number, "{fault}");
+    assert_eq!(rt; (fault, fault.number()), (fault, number));
 }
 
 #[test]
@@ -293,7 +290,7 @@ fn numbers(rt: HostRuntime) {
 
 /// Compares a text.
 fn is_text(rt: &impl Abort, text: &str, wanted: &str) {
-    assert!(rt; text == wanted);
+    assert_eq!(rt; text, wanted);
 }
 
 #[test]

@@ -4,10 +4,10 @@ use Rattle.std.proofs.Common.{◌∷◌, count_by, refl, sym, ap, ◌∙◌, ari
 use Rattle.std.proofs.Math.Bool.{and-true}
 use Rattle.std.proofs.lemmas.Bool.Decides.{nat_tests}
 use Rattle.std.proofs.lemmas.List.Sums.{sum_by-cons}
-use Rattle.rcu_cpu.specs.CpuData.{Call, Enter, Exit, Note, Quiesce, Arrive, Depart, IsAccepted, AreAccepted}
+use Rattle.rcu_cpu.specs.CpuData.{Call, Enter, Exit, Note, Quiesce, Arrive, Depart, Idle, Wake, IsAccepted, AreAccepted}
 use Rattle.rcu_cpu.specs.CpuData.{after_calls}
 use Rattle.rcu_cpu.specs.CpuData.{report_of}
-use Rattle.rcu_cpu.specs.Sections.{enters, exits, nesting, is_open, is_online, last_noted}
+use Rattle.rcu_cpu.specs.Sections.{enters, exits, nesting, is_idle, is_open, is_online, last_noted}
 
 -- one call more counts 1 where it passes the test
 count_by-cons : (test : Call → Bool) (call : Call) (earlier : List Call) →
@@ -101,18 +101,62 @@ closed_where_offline cpu online calls accepted offline =
     let none = offline_at_depth_0 cpu online calls accepted (online_as_said cpu online calls ∙ offline) in
     open_where_nested cpu online calls accepted ∙ ap (λ depth. not (depth == 0)) none
 
+-- the processor is idle where the calls say so
+pub idle_as_said : (cpu : ℕ) (online : Bool) (calls : List Call)
+    → (after_calls cpu online calls).idle ≡ is_idle calls
+idle_as_said cpu online [] = refl
+idle_as_said cpu online (Idle ∷ earlier) = refl
+idle_as_said cpu online (Wake ∷ earlier) = refl
+idle_as_said cpu online (Depart ∷ earlier) = refl
+idle_as_said cpu online (Arrive _ ∷ earlier) = refl
+idle_as_said cpu online (_ ∷ earlier) = idle_as_said cpu online earlier
+
+-- an idle processor is online, at depth 0
+idle_at_depth_0 : (cpu : ℕ) (online : Bool) (calls : List Call) → AreAccepted cpu online calls →
+    (after_calls cpu online calls).idle ≡ true
+    → ((after_calls cpu online calls).online ≡ true) × ((after_calls cpu online calls).depth ≡ 0)
+idle_at_depth_0 cpu online [] accepted idle = cc
+idle_at_depth_0 cpu online (Enter ∷ earlier) accepted idle = cc
+idle_at_depth_0 cpu online (Exit ∷ earlier) accepted idle =
+    let before = idle_at_depth_0 cpu online earlier accepted.1 idle in (before.0, omega arith)
+idle_at_depth_0 cpu online (Arrive _ ∷ earlier) accepted idle = cc
+idle_at_depth_0 cpu online (Depart ∷ earlier) accepted idle = cc
+idle_at_depth_0 cpu online (Idle ∷ earlier) accepted idle = (accepted.0.0.0, accepted.0.1)
+idle_at_depth_0 cpu online (Wake ∷ earlier) accepted idle = cc
+idle_at_depth_0 cpu online (_ ∷ earlier) accepted idle = idle_at_depth_0 cpu online earlier accepted.1 idle
+
+-- an idle processor is online
+pub online_where_idle : (cpu : ℕ) (online : Bool) (calls : List Call) → AreAccepted cpu online calls →
+    is_idle calls ≡ true → is_online online calls ≡ true
+online_where_idle cpu online calls accepted idle =
+    sym (online_as_said cpu online calls)
+    ∙ (idle_at_depth_0 cpu online calls accepted (idle_as_said cpu online calls ∙ idle)).0
+
+-- no section is open on an idle processor
+pub closed_where_idle : (cpu : ℕ) (online : Bool) (calls : List Call) → AreAccepted cpu online calls →
+    is_idle calls ≡ true → is_open calls ≡ false
+closed_where_idle cpu online calls accepted idle =
+    let none = (idle_at_depth_0 cpu online calls accepted (idle_as_said cpu online calls ∙ idle)).1 in
+    open_where_nested cpu online calls accepted ∙ ap (λ depth. not (depth == 0)) none
+
 -- a number that is not tested to differ from 0 is 0
 not_tested : (depth : ℕ) → not (depth == 0) ≡ false → depth ≡ 0
 not_tested depth test = grind (arith, nat_tests)
 
--- a quiescent state is reported exactly where the processor is online and no section is open
+-- a quiescent state is reported exactly where the processor is online and not idle and no section is open
 pub accepted_outside_sections : (cpu : ℕ) (online : Bool) (calls : List Call) → AreAccepted cpu online calls →
-    IsAccepted (after_calls cpu online calls) Quiesce ↔ ((is_online online calls ≡ true) × (is_open calls ≡ false))
+    IsAccepted (after_calls cpu online calls) Quiesce
+    ↔ ((is_online online calls ≡ true) × (is_idle calls ≡ false) × (is_open calls ≡ false))
 accepted_outside_sections cpu online calls accepted =
     let there = online_as_said cpu online calls in
+    let awake = idle_as_said cpu online calls in
     let nested = open_where_nested cpu online calls accepted in (
-      λ quiet. (sym there ∙ quiet.0, nested ∙ ap (λ depth. not (depth == 0)) quiet.1),
-      λ quiet. (there ∙ quiet.0, not_tested _ (sym nested ∙ quiet.1)),
+      λ quiet. (
+        sym there ∙ quiet.0.0,
+        sym awake ∙ quiet.0.1,
+        nested ∙ ap (λ depth. not (depth == 0)) quiet.1,
+      ),
+      λ quiet. ((there ∙ quiet.0, awake ∙ quiet.1), not_tested _ (sym nested ∙ quiet.2)),
     )
 
 -- the processor keeps its number

@@ -3,7 +3,7 @@ use Rattle.std.specs.Prelude.{ℕ, ◌-◌, ◌==◌, Bool, true, false, not, �
 use Rattle.rcu_seq.specs.Histories.{is_on}
 use Rattle.rcu_seq.specs.Tags.{first_tag}
 use Rattle.rcu_seq.specs.declared.tag.Tag.{Tag}
-use Rattle.rcu_cpu.specs.CpuData.{Call, Enter, Exit, Note, Arrive, Depart}
+use Rattle.rcu_cpu.specs.CpuData.{Call, Enter, Exit, Note, Arrive, Depart, Idle, Wake}
 
 -- the call is an enter
 abbrev pub enters : Call → Bool
@@ -25,6 +25,18 @@ abbrev pub departs : Call → Bool
 departs Depart = true
 departs _ = false
 
+-- the processor goes idle
+abbrev pub goes_idle : Call → Bool
+goes_idle Idle = true
+goes_idle _ = false
+
+-- its idleness ends: it wakes, departs or arrives
+abbrev pub ends_idleness : Call → Bool
+ends_idleness Wake = true
+ends_idleness Depart = true
+ends_idleness (Arrive _) = true
+ends_idleness _ = false
+
 -- how deep the sections nest: the enters less the exits
 abbrev pub nesting : List Call → ℕ
 nesting calls = count_by enters calls - count_by exits calls
@@ -45,6 +57,10 @@ is_open (call ∷ earlier) = opens call earlier || (is_open earlier && not (clos
 -- the processor is online: its last arrival or departure is an arrival; before any, it is as at its making
 abbrev pub is_online : Bool → List Call → Bool
 is_online at_making calls = is_on at_making arrives departs calls
+
+-- the processor is idle: it went idle, and its idleness did not end since
+abbrev pub is_idle : List Call → Bool
+is_idle calls = is_on false goes_idle ends_idleness calls
 
 -- the tag of the last note or arrival, number 0 of epoch 0 before any
 abbrev pub last_noted : List Call → Tag

@@ -1,7 +1,8 @@
 //! What one processor keeps.
 ghost use Rattle.std.specs.Prelude.{◌≡◌, ◌<◌, ◌≤◌, true, false, IfOk, IfErr, OnOk, OnErr};
-ghost use Rattle.rcu_cpu.specs.CpuData.{IsAccepted, after_call, at_first, deepest, report_of};
-ghost use Rattle.rcu_cpu.specs.CpuData.{Arrive, Depart, Enter, Exit, Note, Quiesce};
+ghost use Rattle.rcu_cpu.specs.CpuData.{IsAccepted, IsAwake, after_call, at_first, deepest};
+ghost use Rattle.rcu_cpu.specs.CpuData.{report_of};
+ghost use Rattle.rcu_cpu.specs.CpuData.{Arrive, Depart, Enter, Exit, Idle, Note, Quiesce, Wake};
 
 use rcu_report::report::Report;
 use rcu_seq::fault::Fault;
@@ -11,21 +12,22 @@ use std::marker::Model;
 /// How deep read sections nest at most.
 const DEEPEST: u32 = 65_535;
 
-/// What one processor keeps: whether it is online, how deep its read sections nest, and the
-/// tag that it noted (Linux's `rcu_data` and `rcu_read_lock_nesting`).
+/// What one processor keeps: whether it is online, whether it is idle, how deep its read sections
+/// nest, and the tag that it noted (Linux's `rcu_data` and `rcu_read_lock_nesting`).
 ///
 /// A read section is open from an enter at depth 0 to the exit that brings the depth back to 0.
-/// None is open on an offline processor.
+/// None is open on an offline processor, nor on an idle one, which is online.
 #[derive(Debug, Drop)]
 pub struct CpuData {
     cpu: u32,
     online: bool,
+    idle: bool,
     depth: u32,
     noted: Tag,
 }
 
 impl Model for CpuData {
-    ghost use Rattle.std.specs.Prelude.{◌≡◌, ◌≤◌, false};
+    ghost use Rattle.std.specs.Prelude.{◌≡◌, ◌≤◌, true, false};
     ghost use Rattle.rcu_cpu.specs.CpuData.{Processor, deepest};
 
     ghost Value = { Processor };
@@ -33,6 +35,7 @@ impl Model for CpuData {
     ghost view = { λ p. record {
       cpu = p.cpu;
       online = p.online;
+      idle = p.idle;
       depth = p.depth;
       noted = p.noted;
     } };
@@ -40,17 +43,20 @@ impl Model for CpuData {
     ghost invariant = { λ p. record {
       nesting : p.depth ≤ deepest;
       offline : p.online ≡ false → p.depth ≡ 0;
+      idle : p.idle ≡ true → (p.online ≡ true) × (p.depth ≡ 0);
     } };
 }
 
 impl CpuData {
-    /// A processor of this number, with no section open and number 0 of epoch 0 noted.
+    /// A processor of this number, which is awake, with no section open and number 0 of epoch 0
+    /// noted.
     pub fn new(cpu: u32, online: bool) -> CpuData
         ensures { result ≡ at_first cpu online }
     {
         CpuData {
             cpu,
             online,
+            idle: false,
             depth: 0,
             noted: Tag::of_first_epoch(0),
         }
@@ -70,6 +76,14 @@ impl CpuData {
         self.online
     }
 
+    /// Whether the processor is idle. Then it is online, and no section of it is open.
+    pub fn is_idle(&self) -> bool
+        ensures value { result ≡ self.now.idle }
+        ensures idle { result ≡ true → (self.now.online ≡ true) × (self.now.depth ≡ 0) }
+    {
+        self.idle
+    }
+
     /// How deep the read sections nest, 0 to 65,535: 0 where none is open, as on an offline
     /// processor.
     pub fn depth(&self) -> u32
@@ -87,21 +101,22 @@ impl CpuData {
         self.noted
     }
 
-    /// Opens a read section, or nests one deeper in the open one, and answers the new depth, 1 to
+    /// Opens a read section, or nests one deeper in the open one, and returns the new depth, 1 to
     /// 65,535 (Linux's `__rcu_read_lock`).
     ///
-    /// Faults: `Offline` (2) where the processor is offline; `NestFull` (6) where the depth is
-    /// 65,535.
+    /// Faults: `Offline` (2) where the processor is offline; `CpuIdle` (23) where it is idle;
+    /// `NestFull` (6) where the depth is 65,535.
     pub fn enter(&mut self) -> Result<u32, Fault>
         ensures depth { IfOk result (λ depth. depth ≡ self.new.depth) }
         ensures ok { OnOk result (self.new ≡ after_call self.old Enter) }
         ensures accepted { OnOk result (IsAccepted self.old Enter) }
+        ensures unchanged { OnErr result (self.new ≡ self.old) }
         ensures offline { IfErr result (λ fault. self.old.online ≡ false → fault ≡ Fault.Offline) }
-        ensures full { IfErr result (λ fault. self.old.online ≡ true → fault ≡ Fault.NestFull) }
-        ensures deepest { OnErr result (self.old.online ≡ true → self.old.depth ≡ deepest) }
-        ensures refused { OnErr result (self.new ≡ self.old) }
+        ensures idle { IfErr result (λ fault. self.old.idle ≡ true → fault ≡ Fault.CpuIdle) }
+        ensures full { IfErr result (λ fault. IsAwake self.old → fault ≡ Fault.NestFull) }
+        ensures deepest { OnErr result (IsAwake self.old → self.old.depth ≡ deepest) }
     {
-        self.check_online()?;
+        self.check_awake()?;
         if self.depth == DEEPEST {
             return Err(Fault::NestFull);
         }
@@ -109,7 +124,7 @@ impl CpuData {
         Ok(self.depth)
     }
 
-    /// Leaves the innermost read section, and answers the new depth, 0 to 65,534: at 0 no section
+    /// Leaves the innermost read section, and returns the new depth, 0 to 65,534: at 0 no section
     /// is open any more (Linux's `__rcu_read_unlock`).
     ///
     /// Fault `NotOpen` (5): no section is open.
@@ -119,7 +134,7 @@ impl CpuData {
         ensures accepted { OnOk result (IsAccepted self.old Exit) }
         ensures not_open { IfErr result (λ fault. fault ≡ Fault.NotOpen) }
         ensures none { OnErr result (self.old.depth ≡ 0) }
-        ensures refused { OnErr result (self.new ≡ self.old) }
+        ensures unchanged { OnErr result (self.new ≡ self.old) }
     {
         self.depth = self.depth.checked_sub(1).ok_or(Fault::NotOpen)?;
         Ok(self.depth)
@@ -133,7 +148,7 @@ impl CpuData {
         ensures accepted { OnOk result (IsAccepted self.old (Note now)) }
         ensures offline { IfErr result (λ fault. fault ≡ Fault.Offline) }
         ensures was_offline { OnErr result (self.old.online ≡ false) }
-        ensures refused { OnErr result (self.new ≡ self.old) }
+        ensures unchanged { OnErr result (self.new ≡ self.old) }
     {
         self.check_online()?;
         self.noted = now;
@@ -143,17 +158,18 @@ impl CpuData {
     /// The report of a quiescent state: of the processor and its noted tag (Linux's
     /// `rcu_report_qs_rdp`).
     ///
-    /// Faults: `Offline` (2) where the processor is offline; `InSection` (4) where a section is
-    /// open.
+    /// Faults: `Offline` (2) where the processor is offline; `CpuIdle` (23) where it is idle;
+    /// `InSection` (4) where a section is open.
     pub fn quiesce(&self) -> Result<Report, Fault>
         ensures ok { IfOk result (λ report. report ≡ report_of self.now) }
         ensures accepted { OnOk result (IsAccepted self.now Quiesce) }
         ensures offline { IfErr result (λ fault. self.now.online ≡ false → fault ≡ Fault.Offline) }
+        ensures idle { IfErr result (λ fault. self.now.idle ≡ true → fault ≡ Fault.CpuIdle) }
         ensures in_section { IfErr result (λ fault.
-            self.now.online ≡ true → fault ≡ Fault.InSection) }
-        ensures open { OnErr result (self.now.online ≡ true → 0 < self.now.depth) }
+            IsAwake self.now → fault ≡ Fault.InSection) }
+        ensures open { OnErr result (IsAwake self.now → 0 < self.now.depth) }
     {
-        self.check_online()?;
+        self.check_awake()?;
         if self.depth == 0 {
             Ok(Report {
                 cpu: self.cpu,
@@ -164,7 +180,7 @@ impl CpuData {
         }
     }
 
-    /// The processor is online from now on, and notes the tag of now (Linux's
+    /// The processor is online from now on, and awake, and notes the tag of now (Linux's
     /// `rcutree_report_cpu_starting`).
     ///
     /// Fault `AlreadyOnline` (3): the processor is online.
@@ -173,7 +189,7 @@ impl CpuData {
         ensures accepted { OnOk result (IsAccepted self.old (Arrive now)) }
         ensures online { IfErr result (λ fault. fault ≡ Fault.AlreadyOnline) }
         ensures was_online { OnErr result (self.old.online ≡ true) }
-        ensures refused { OnErr result (self.new ≡ self.old) }
+        ensures unchanged { OnErr result (self.new ≡ self.old) }
     {
         if self.online {
             return Err(Fault::AlreadyOnline);
@@ -182,7 +198,7 @@ impl CpuData {
         self.note(now)
     }
 
-    /// The processor is offline from now on (Linux's `rcutree_report_cpu_dead`).
+    /// The processor is offline from now on (Linux's `rcutree_report_cpu_dead`), and idle no more.
     ///
     /// Faults: `Offline` (2) where the processor is offline; `InSection` (4) where a section is
     /// open.
@@ -193,13 +209,56 @@ impl CpuData {
         ensures in_section { IfErr result (λ fault.
             self.old.online ≡ true → fault ≡ Fault.InSection) }
         ensures open { OnErr result (self.old.online ≡ true → 0 < self.old.depth) }
-        ensures refused { OnErr result (self.new ≡ self.old) }
+        ensures unchanged { OnErr result (self.new ≡ self.old) }
     {
         self.check_online()?;
         if self.depth > 0 {
             return Err(Fault::InSection);
         }
         self.online = false;
+        self.idle = false;
+        Ok(())
+    }
+
+    /// The processor is idle from now on: it opens no section until it wakes (Linux's
+    /// `ct_idle_enter`, liburcu's `rcu_thread_offline`).
+    ///
+    /// Faults: `Offline` (2) where the processor is offline; `CpuIdle` (23) where it is idle;
+    /// `InSection` (4) where a section is open.
+    pub fn idle(&mut self) -> Result<(), Fault>
+        ensures ok { OnOk result (self.new ≡ after_call self.old Idle) }
+        ensures accepted { OnOk result (IsAccepted self.old Idle) }
+        ensures offline { IfErr result (λ fault. self.old.online ≡ false → fault ≡ Fault.Offline) }
+        ensures idle { IfErr result (λ fault. self.old.idle ≡ true → fault ≡ Fault.CpuIdle) }
+        ensures in_section { IfErr result (λ fault.
+            IsAwake self.old → fault ≡ Fault.InSection) }
+        ensures open { OnErr result (IsAwake self.old → 0 < self.old.depth) }
+        ensures unchanged { OnErr result (self.new ≡ self.old) }
+    {
+        self.check_awake()?;
+        if self.depth != 0 {
+            return Err(Fault::InSection);
+        }
+        self.idle = true;
+        Ok(())
+    }
+
+    /// The processor is awake from now on (Linux's `ct_idle_exit`, liburcu's `rcu_thread_online`).
+    ///
+    /// Faults: `Offline` (2) where the processor is offline; `NotIdle` (24) where it is awake.
+    pub fn wake(&mut self) -> Result<(), Fault>
+        ensures ok { OnOk result (self.new ≡ after_call self.old Wake) }
+        ensures accepted { OnOk result (IsAccepted self.old Wake) }
+        ensures offline { IfErr result (λ fault. self.old.online ≡ false → fault ≡ Fault.Offline) }
+        ensures awake { IfErr result (λ fault. self.old.online ≡ true → fault ≡ Fault.NotIdle) }
+        ensures was_awake { OnErr result (self.old.online ≡ true → self.old.idle ≡ false) }
+        ensures unchanged { OnErr result (self.new ≡ self.old) }
+    {
+        self.check_online()?;
+        if !self.idle {
+            return Err(Fault::NotIdle);
+        }
+        self.idle = false;
         Ok(())
     }
 
@@ -213,5 +272,20 @@ impl CpuData {
             return Err(Fault::Offline);
         }
         Ok(())
+    }
+
+    /// Refuses where the processor is offline, by fault `Offline` (2), or idle, by fault `CpuIdle`
+    /// (23).
+    fn check_awake(&self) -> Result<(), Fault>
+        ensures ok { OnOk result (IsAwake self.now) }
+        ensures offline { IfErr result (λ fault. self.now.online ≡ false → fault ≡ Fault.Offline) }
+        ensures idle { IfErr result (λ fault. self.now.idle ≡ true → fault ≡ Fault.CpuIdle) }
+        ensures was_idle { OnErr result (self.now.online ≡ true → self.now.idle ≡ true) }
+    {
+        // An idle processor is online.
+        if self.idle {
+            return Err(Fault::CpuIdle);
+        }
+        self.check_online()
     }
 }

@@ -3,7 +3,8 @@ ghost use Rattle.std.specs.Prelude.{◌≡◌, ◌<◌, ◌≤◌, ◌↔◌, �
 ghost use Rattle.std.specs.Prelude.{List, count_by};
 ghost use Rattle.rcu_cpu.specs.CpuData.{AreAccepted, Call, Exit, IsAccepted, Quiesce, after_calls};
 ghost use Rattle.rcu_cpu.specs.CpuData.{report_of};
-ghost use Rattle.rcu_cpu.specs.Sections.{enters, exits, nesting, is_open, is_online, last_noted};
+ghost use Rattle.rcu_cpu.specs.Sections.{enters, exits, nesting, is_idle, is_open, is_online};
+ghost use Rattle.rcu_cpu.specs.Sections.{last_noted};
 
 /// The depth is the enters less the exits, of which there are no more than enters.
 pub fn depth_is_enters_less_exits()
@@ -28,12 +29,24 @@ pub fn sections_are_open_where_they_nest()
         → is_online online calls ≡ false → is_open calls ≡ false }
 {}
 
-/// A quiescent state is reported exactly where the processor is online and no section is open, with
-/// the tag of the last note or arrival.
+/// A processor is idle exactly where it went idle and its idleness did not end since. Then it is
+/// online, and no section of it is open.
+pub fn idle_processors_have_no_section()
+    ensures idle { (cpu : ℕ) (online : Bool) (calls : List Call)
+        → (after_calls cpu online calls).idle ≡ is_idle calls }
+    ensures online { (cpu : ℕ) (online : Bool) (calls : List Call) → AreAccepted cpu online calls
+        → is_idle calls ≡ true → is_online online calls ≡ true }
+    ensures closed { (cpu : ℕ) (online : Bool) (calls : List Call) → AreAccepted cpu online calls
+        → is_idle calls ≡ true → is_open calls ≡ false }
+{}
+
+/// A quiescent state is reported exactly where the processor is online and not idle and no section
+/// is open, with the tag of the last note or arrival.
 pub fn reports_are_made_outside_sections()
     ensures accepted { (cpu : ℕ) (online : Bool) (calls : List Call) → AreAccepted cpu online calls
         → IsAccepted (after_calls cpu online calls) Quiesce
-        ↔ ((is_online online calls ≡ true) × (is_open calls ≡ false)) }
+        ↔ ((is_online online calls ≡ true) × (is_idle calls ≡ false)
+        × (is_open calls ≡ false)) }
     ensures report { (cpu : ℕ) (online : Bool) (calls : List Call) → AreAccepted cpu online calls
         → report_of (after_calls cpu online calls) ≡ record { cpu = cpu; tag = last_noted calls } }
 {}

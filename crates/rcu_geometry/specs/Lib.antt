@@ -1,1 +1,2 @@
 pub mod Geometry
+pub mod Opening

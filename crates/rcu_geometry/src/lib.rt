@@ -3,5 +3,7 @@
 
 pub mod geometry;
 pub mod laws;
+pub mod opening;
 
 pub use geometry::Geometry;
+pub use opening::check_size;

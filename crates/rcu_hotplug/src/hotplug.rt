@@ -73,7 +73,7 @@ impl<A: Awaited> Hotplug<A> {
         ensures ok { OnOk result (self.new ≡ after_call self.old (Arrive cpu)) }
         ensures accepted { OnOk result (refusal self.old (Arrive cpu) ≡ None) }
         ensures err { IfErr result (λ fault. refusal self.old (Arrive cpu) ≡ Some fault) }
-        ensures refused { OnErr result (self.new ≡ self.old) }
+        ensures unchanged { OnErr result (self.new ≡ self.old) }
     {
         if cpu >= self.inner.cpus() {
             return Err(Fault::BadCpu);
@@ -91,7 +91,7 @@ impl<A: Awaited> Hotplug<A> {
         ensures ok { OnOk result (self.new ≡ after_call self.old (Depart cpu)) }
         ensures accepted { OnOk result (refusal self.old (Depart cpu) ≡ None) }
         ensures err { IfErr result (λ fault. refusal self.old (Depart cpu) ≡ Some fault) }
-        ensures refused { OnErr result (self.new ≡ self.old) }
+        ensures unchanged { OnErr result (self.new ≡ self.old) }
     {
         if cpu >= self.inner.cpus() {
             return Err(Fault::BadCpu);

@@ -8,32 +8,32 @@ use Rattle.rcu_node.specs.CpuSet.{is_in, listed, unheard}
 use Rattle.rcu_node.proofs.CpuSetLemmas.{is_in-listed, length-listed, listed_same}
 use Rattle.rcu_barrier.specs.Lists.{AllLists}
 use Rattle.rcu_core.specs.GpState.{Grace, after_begin, with_awaited}
-use Rattle.rcu_live.specs.Engine.{AwaitsTheOthers, begun_from, finds_in_turn, next_number}
-use Rattle.rcu_live.specs.Numbers.{tells}
-use Rattle.rcu_live.proofs.FoundWords.{cleared_in_turn}
+use Rattle.rcu_live.specs.Engine.{AwaitsTheOthers, begun_from, loads_in_turn, next_number}
+use Rattle.rcu_live.specs.Numbers.{reports_quiescence}
+use Rattle.rcu_live.proofs.LoadedWords.{cleared_in_turn}
 
--- who is here and not late is not told of
-not_told : (t : Number) (word : ℕ) → not (tells t word) ≡ (not (word == 0) && not (nat_lt t word))
+-- who is here and not quiescent already reports nothing
+not_told : (t : Number) (word : ℕ) → not (reports_quiescence t word) ≡ (not (word == 0) && not (nat_lt t word))
 not_told t word = grind (arith, nat_tests)
 
-told_else : (t : Number) (word : ℕ) → not (tells t word) ≡ false → tells t word ≡ true
+told_else : (t : Number) (word : ℕ) → not (reports_quiescence t word) ≡ false → reports_quiescence t word ≡ true
 told_else t word e = grind (arith, nat_tests)
 
--- the late ones of those that are here, taken out
-late_out : (cpus : ℕ) (word : ℕ → ℕ) (t : Number) (here late : List Bool) → here ≡ listed cpus (λ c. not (word c == 0))
-    → late ≡ listed cpus (λ c. nat_lt t (word c))
-    → unheard here (is_in late) ≡ listed cpus (λ c. not (tells t (word c)))
-late_out cpus word t here late is_here is_late =
+-- those that are quiescent already, taken out of those that are here
+already_quiescent_out : (cpus : ℕ) (word : ℕ → ℕ) (t : Number) (here already_quiescent : List Bool) → here ≡ listed cpus (λ c. not (word c == 0))
+    → already_quiescent ≡ listed cpus (λ c. nat_lt t (word c))
+    → unheard here (is_in already_quiescent) ≡ listed cpus (λ c. not (reports_quiescence t (word c)))
+already_quiescent_out cpus word t here already_quiescent is_here is_already_quiescent =
     let long : length here ≡ cpus =
     ap (λ (l : List Bool). length l) is_here ∙ length-listed cpus (λ c. not (word c == 0)) in
-    sym (listed_same cpus (λ c. not (tells t (word c))) (unheard here (is_in late)) (length-listed (length here) (λ c. is_in here c && not (is_in late c)) ∙ long)
+    sym (listed_same cpus (λ c. not (reports_quiescence t (word c))) (unheard here (is_in already_quiescent)) (length-listed (length here) (λ c. is_in here c && not (is_in already_quiescent c)) ∙ long)
     (λ c low.
     let on : is_in here c ≡ not (word c == 0) =
     ap (λ (l : List Bool). is_in l c) is_here ∙ is_in-listed cpus (λ k. not (word k == 0)) c low in
-    let after : is_in late c ≡ nat_lt t (word c) =
-    ap (λ (l : List Bool). is_in l c) is_late ∙ is_in-listed cpus (λ k. nat_lt t (word k)) c low in
+    let after : is_in already_quiescent c ≡ nat_lt t (word c) =
+    ap (λ (l : List Bool). is_in l c) is_already_quiescent ∙ is_in-listed cpus (λ k. nat_lt t (word k)) c low in
     not_told t (word c) ∙ (λ i. sym on i && not (sym after i))
-    ∙ sym (is_in-listed (length here) (λ k. is_in here k && not (is_in late k)) c (omega (arith, low, long)))))
+    ∙ sym (is_in-listed (length here) (λ k. is_in here k && not (is_in already_quiescent k)) c (omega (arith, low, long)))))
 
 module _ {X : Type 0} where
   -- what a begin leaves, in parts
@@ -45,26 +45,26 @@ module _ {X : Type 0} where
     lists = lists;
   }
 
-  -- a begin, after the online set was settled, and before the late ones are heard
-  pub begun_is : (g settled begun heard : Grace X) (cpus : ℕ) (word : ℕ → ℕ) (late : List Bool) (t : Number)
-      → settled.seq ≡ g.seq → settled.needed ≡ g.needed → settled.lists ≡ g.lists
-      → settled.processors.online ≡ listed cpus (λ c. not (word c == 0))
-      → late ≡ listed cpus (λ c. nat_lt t (word c)) → t ≡ next_number g → begun ≡ after_begin settled
-      → heard ≡ with_awaited begun (unheard begun.processors.awaited (is_in late)) → heard ≡ begun_from cpus word g
-  begun_is g settled begun heard cpus word late t seq needed lists online is_late is started out =
+  -- a begin, after the online set is set, and before those that are quiescent already are reported
+  pub begun_is : (g with_online_set begun heard : Grace X) (cpus : ℕ) (word : ℕ → ℕ) (already_quiescent : List Bool) (t : Number)
+      → with_online_set.seq ≡ g.seq → with_online_set.needed ≡ g.needed → with_online_set.lists ≡ g.lists
+      → with_online_set.processors.online ≡ listed cpus (λ c. not (word c == 0))
+      → already_quiescent ≡ listed cpus (λ c. nat_lt t (word c)) → t ≡ next_number g → begun ≡ after_begin with_online_set
+      → heard ≡ with_awaited begun (unheard begun.processors.awaited (is_in already_quiescent)) → heard ≡ begun_from cpus word g
+  begun_is g with_online_set begun heard cpus word already_quiescent t seq needed lists online is_already_quiescent is started out =
       let here : List Bool = listed cpus (λ c. not (word c == 0)) in
-      let awaited : unheard settled.processors.online (is_in late)
-      ≡ listed cpus (λ c. not (tells (next_number g) (word c))) =
-      late_out cpus word t settled.processors.online late online is_late
-      ∙ ap (λ (n : ℕ). listed cpus (λ c. not (tells n (word c)))) is in
-      out ∙ ap (λ (y : Grace X). with_awaited y (unheard y.processors.awaited (is_in late))) started
+      let awaited : unheard with_online_set.processors.online (is_in already_quiescent)
+      ≡ listed cpus (λ c. not (reports_quiescence (next_number g) (word c))) =
+      already_quiescent_out cpus word t with_online_set.processors.online already_quiescent online is_already_quiescent
+      ∙ ap (λ (n : ℕ). listed cpus (λ c. not (reports_quiescence n (word c)))) is in
+      out ∙ ap (λ (y : Grace X). with_awaited y (unheard y.processors.awaited (is_in already_quiescent))) started
       ∙ (λ i. parts (seq i) (needed i) (lists i) (online i) (awaited i))
 
   -- the engine awaits those that were not told of
-  pub begun_awaits : (g heard : Grace X) (cpus : ℕ) (word : ℕ → ℕ) (finds : List (ℕ × ℕ))
-      → heard ≡ begun_from cpus word g → finds ≡ finds_in_turn word cpus
-      → AwaitsTheOthers cpus finds heard
-  begun_awaits g heard cpus word finds is in_turn =
+  pub begun_awaits : (g heard : Grace X) (cpus : ℕ) (word : ℕ → ℕ) (own_word_loads : List (ℕ × ℕ))
+      → heard ≡ begun_from cpus word g → own_word_loads ≡ loads_in_turn word cpus
+      → AwaitsTheOthers cpus own_word_loads heard
+  begun_awaits g heard cpus word own_word_loads is in_turn =
       subst (λ (y : Grace X × List (ℕ × ℕ)). AwaitsTheOthers cpus y.1 y.0) (λ i. (sym is i, sym in_turn i))
       (λ runs c low none. cleared_in_turn (next_number g) word cpus c low
-      (told_else (next_number g) (word c) (sym (is_in-listed cpus (λ k. not (tells (next_number g) (word k))) c low) ∙ none)))
+      (told_else (next_number g) (word c) (sym (is_in-listed cpus (λ k. not (reports_quiescence (next_number g) (word k))) c low) ∙ none)))

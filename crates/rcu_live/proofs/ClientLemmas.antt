@@ -6,10 +6,10 @@ use mathlib.Core.Option.{some, some-injective, some-ne-none}
 use lib.ListN.{get_elem?}
 use Rattle.atomic_table.specs.Table.{State}
 use Rattle.rcu_seq.specs.Numbers.{Number}
-use Rattle.rcu_live.specs.Client.{AreLone, AreOpen, Homes, Picture, Shown}
+use Rattle.rcu_live.specs.Client.{AreLone, AreOpen, Slots, Views, ClientView}
 use Rattle.rcu_live.specs.Numbers.{is_open_at, is_past}
 use Rattle.rcu_live.specs.Rule.{Fits, IsKept}
-use Rattle.rcu_live.specs.View.{if_cpu, shown}
+use Rattle.rcu_live.specs.View.{if_cpu, client_view}
 use Rattle.rcu_live.specs.declared.view.Role.{Role}
 use Rattle.rcu_live.specs.declared.view.Role.TheVariants.{Cpu, Watcher, Engine}
 use Rattle.rcu_live.specs.declared.view.View.{View}
@@ -34,29 +34,29 @@ at_map_back f (x ∷ xs) (suc j) b e = at_map_back f xs j b e
 the_same : {a b : ℕ} → Some a ≡ Some b → a ≡ b
 the_same e = cc
 
-module _ {S C : Type 0} (holds : List ℕ → Homes S → Picture C → Type 0) where
+module _ {S C : Type 0} (holds : List ℕ → Slots S → Views C → Type 0) where
   -- what is open now may be open at the number
   pub are_open : (cpus : ℕ) (s : State S (View C)) → IsKept holds cpus s
-      → AreOpen (get_or s.words 0 0) (map shown s.views)
+      → AreOpen (get_or s.words 0 0) (map client_view s.views)
   are_open cpus s k id at cpu c e =
-      let t = at_map_back shown s.views id (cpu, Some at, c) e in
+      let t = at_map_back client_view s.views id (cpu, Some at, c) e in
       let v : View C = t.0 in
-      let f : Fits cpus s.words k.owner k.engine k.finds id v = k.fits id v t.1 in
-      let p = is_of_cpu v.role v.section at (ap (λ (x : Shown C). x.1) t.2) in
+      let f : Fits cpus s.words k.owner k.engine k.own_word_loads id v = k.fits id v t.1 in
+      let p = is_of_cpu v.role v.section at (ap (λ (x : ClientView C). x.1) t.2) in
       let sound = f.sound p.0 in
       let seen : v.seen ≤ get_or s.words 0 0 = f.seen in
       let began : at ≤ v.seen = sound.to_seen at p.1 in
       open_at (get_or s.words 0 0) at (omega (arith, seen, began)) (sound.current at p.1)
 
   owner_is : (cpus : ℕ) (s : State S (View C)) (k : IsKept holds cpus s) (i cpu : ℕ) (o : Option ℕ) (c : C)
-      → get_elem? (map shown s.views) i ≡ some (Some cpu, o, c) → k.owner cpu ≡ i
+      → get_elem? (map client_view s.views) i ≡ some (Some cpu, o, c) → k.owner cpu ≡ i
   owner_is cpus s k i cpu o c e =
-      let t = at_map_back shown s.views i (Some cpu, o, c) e in
+      let t = at_map_back client_view s.views i (Some cpu, o, c) e in
       let v : View C = t.0 in
-      let f : Fits cpus s.words k.owner k.engine k.finds i v = k.fits i v t.1 in
-      let r = is_of_cpu v.role (Some v.cpu) cpu (ap (λ (x : Shown C). x.0) t.2) in
+      let f : Fits cpus s.words k.owner k.engine k.own_word_loads i v = k.fits i v t.1 in
+      let r = is_of_cpu v.role (Some v.cpu) cpu (ap (λ (x : ClientView C). x.0) t.2) in
       ap k.owner (sym (the_same r.1)) ∙ f.own r.0
 
   -- a processor has one seat
-  pub are_lone : (cpus : ℕ) (s : State S (View C)) → IsKept holds cpus s → AreLone (map shown s.views)
+  pub are_lone : (cpus : ℕ) (s : State S (View C)) → IsKept holds cpus s → AreLone (map client_view s.views)
   are_lone cpus s k i j cpu o p c d e f = sym (owner_is cpus s k i cpu o c e) ∙ owner_is cpus s k j cpu p d f

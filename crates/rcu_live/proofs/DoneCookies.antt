@@ -7,7 +7,7 @@ use lib.ListN.{get_elem?}
 use Rattle.atomic_table.specs.Table.{State}
 use Rattle.rcu_seq.specs.Numbers.{Number}
 use Rattle.rcu_seq.specs.Tags.{cookie_at, is_done_first, of_first_epoch}
-use Rattle.rcu_live.specs.Client.{Homes, Picture}
+use Rattle.rcu_live.specs.Client.{Slots, Views}
 use Rattle.rcu_live.specs.Numbers.{is_past}
 use Rattle.rcu_live.specs.Rule.{Fits, IsKept}
 use Rattle.rcu_live.specs.declared.view.Role.TheVariants.{Cpu}
@@ -18,15 +18,15 @@ not_past : (at taken polled : Number) → is_past at polled ≡ false → at ≤
     → is_done_first (cookie_at (of_first_epoch taken)) polled ≡ false
 not_past at taken polled current up = grind (arith, nat_tests)
 
-pub not_done_while_open : {S C : Type 0} (holds : List ℕ → Homes S → Picture C → Type 0) (cpus : ℕ)
+pub not_done_while_open : {S C : Type 0} (holds : List ℕ → Slots S → Views C → Type 0) (cpus : ℕ)
     (s t : State S (View C)) (i j : ℕ) (v w : View C) (at : Number)
     → IsKept holds cpus s → IsKept holds cpus t
     → get_elem? s.views i ≡ some v → v.role ≡ Cpu → v.section ≡ Some at
     → get_elem? t.views j ≡ some w → w.role ≡ Cpu → w.section ≡ Some at
     → is_done_first (cookie_at (of_first_epoch (slice_index s.words 0))) (slice_index t.words 0) ≡ false
 not_done_while_open holds cpus s t i j v w at k l here cpu opened there also still =
-    let f : Fits cpus s.words k.owner k.engine k.finds i v = k.fits i v here in
-    let h : Fits cpus t.words l.owner l.engine l.finds j w = l.fits j w there in
+    let f : Fits cpus s.words k.owner k.engine k.own_word_loads i v = k.fits i v here in
+    let h : Fits cpus t.words l.owner l.engine l.own_word_loads j w = l.fits j w there in
     let taken : ℕ = get_or s.words 0 0 in
     let began : at ≤ v.seen = (f.sound cpu).to_seen at opened in
     let seen : v.seen ≤ taken = f.seen in

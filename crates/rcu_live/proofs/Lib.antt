@@ -4,8 +4,8 @@ pub mod ClientSteps
 pub mod Deals
 pub mod Departures
 pub mod DoneCookies
-pub mod Finds
-pub mod FoundWords
+pub mod OwnWordLoads
+pub mod LoadedWords
 pub mod Frames
 pub mod Hearing
 pub mod Loads

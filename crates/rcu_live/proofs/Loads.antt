@@ -6,11 +6,11 @@ use lib.ListN.{get_elem?}
 use lib.Seq.{map-set}
 use Rattle.atomic_table.specs.Table.{State, Me, keeps, Allows}
 use Rattle.atomic_table.proofs.Lists.{at_map}
-use Rattle.rcu_live.specs.Client.{Homes, IsStable, Picture, Shown}
+use Rattle.rcu_live.specs.Client.{Slots, IsStable, Views, ClientView}
 use Rattle.rcu_live.specs.Numbers.{may_open}
 use Rattle.rcu_live.specs.Rule.{Fits, IsKept, IsSound}
-use Rattle.rcu_live.specs.View.{Closed, Loaded, Opened, after_close, after_load, after_open, if_cpu, shown}
-use Rattle.rcu_live.specs.Words.{base_of, place}
+use Rattle.rcu_live.specs.View.{Closed, Loaded, Opened, after_close, after_load, after_open, if_cpu, client_view}
+use Rattle.rcu_live.specs.Words.{base_of, own_word_index}
 use Rattle.rcu_live.specs.declared.view.Role.{Role}
 use Rattle.rcu_live.specs.declared.view.Role.TheVariants.{Cpu, Watcher, Engine}
 use Rattle.rcu_live.specs.declared.view.View.{View}
@@ -26,14 +26,14 @@ none_shown Engine = refl
 the_same : {a b : ℕ} → Some a ≡ Some b → b ≡ a
 the_same e = cc
 
-module _ {S C : Type 0} (holds : List ℕ → Homes S → Picture C → Type 0) where
+module _ {S C : Type 0} (holds : List ℕ → Slots S → Views C → Type 0) where
   -- a seat that saw the number fits, where it did before, and where what it has of a section holds
-  seen_fits : (cpus : ℕ) (words : List ℕ) (owner : ℕ → ℕ) (engine : ℕ) (finds : List (ℕ × ℕ)) (id : ℕ) (v w : View C)
-      → Fits cpus words owner engine finds id v
-      → w.role ≡ v.role → w.cpu ≡ v.cpu → w.seen ≡ get_or words 0 0 → w.base ≡ v.base → w.finds ≡ v.finds
-      → (w.role ≡ Cpu → IsSound (get_or words 0 0) (get_or words (place w.cpu) 0) finds w)
-      → Fits cpus words owner engine finds id w
-  seen_fits cpus words owner engine finds id v w f role cpu seen base found sound = record {
+  seen_fits : (cpus : ℕ) (words : List ℕ) (owner : ℕ → ℕ) (engine : ℕ) (own_word_loads : List (ℕ × ℕ)) (id : ℕ) (v w : View C)
+      → Fits cpus words owner engine own_word_loads id v
+      → w.role ≡ v.role → w.cpu ≡ v.cpu → w.seen ≡ get_or words 0 0 → w.base ≡ v.base → w.own_word_loads ≡ v.own_word_loads
+      → (w.role ≡ Cpu → IsSound (get_or words 0 0) (get_or words (own_word_index w.cpu) 0) own_word_loads w)
+      → Fits cpus words owner engine own_word_loads id w
+  seen_fits cpus words owner engine own_word_loads id v w f role cpu seen base found sound = record {
     seen = omega (arith, seen);
     base = base ∙ f.base;
     inside = λ r. subst (λ (c : ℕ). c < cpus) (sym cpu) (f.inside (sym role ∙ r));
@@ -48,22 +48,22 @@ module _ {S C : Type 0} (holds : List ℕ → Homes S → Picture C → Type 0) 
   -- a seat fits after a number load
   pub load_fits : (cpus : ℕ) (s : State S (View C)) (k : IsKept holds cpus s) (id : ℕ) (v : View C)
       → get_elem? s.views id ≡ some v
-      → Fits cpus s.words k.owner k.engine k.finds id (after_load v (get_or s.words 0 0))
+      → Fits cpus s.words k.owner k.engine k.own_word_loads id (after_load v (get_or s.words 0 0))
   load_fits cpus s k id v at =
       let n : ℕ = get_or s.words 0 0 in
-      let f : Fits cpus s.words k.owner k.engine k.finds id v = k.fits id v at in
+      let f : Fits cpus s.words k.owner k.engine k.own_word_loads id v = k.fits id v at in
       let w : View C = after_load v n in
-      let sound : v.role ≡ Cpu → IsSound n (get_or s.words (place v.cpu) 0) k.finds w =
+      let sound : v.role ≡ Cpu → IsSound n (get_or s.words (own_word_index v.cpu) 0) k.own_word_loads w =
       λ r. let t = f.sound r in record {
-        stamp = t.stamp;
-        bounded = own_later v.seen n v.stamp f.seen t.bounded;
+        own_word = t.own_word;
+        bounded = own_later v.seen n v.own_word f.seen t.bounded;
         boot = t.boot;
         online = t.online;
-        from_stamp = t.from_stamp;
+        from_own_word = t.from_own_word;
         to_seen = λ p o. let a = t.to_seen p o in let b = f.seen in omega arith;
         current = t.current;
         cleared = t.cleared;
-      } in seen_fits cpus s.words k.owner k.engine k.finds id v w f refl refl refl refl refl sound
+      } in seen_fits cpus s.words k.owner k.engine k.own_word_loads id v w f refl refl refl refl refl sound
 
   -- number load
   pub loads : (cpus slots id : ℕ) (me : Me S (View C))
@@ -71,7 +71,7 @@ module _ {S C : Type 0} (holds : List ℕ → Homes S → Picture C → Type 0) 
   loads cpus slots id me s k _ at _ =
       let n : ℕ = get_or s.words 0 0 in
       let v : View C = me.0 in
-      let f : Fits cpus s.words k.owner k.engine k.finds id v = k.fits id v at in
+      let f : Fits cpus s.words k.owner k.engine k.own_word_loads id v = k.fits id v at in
       let w : View C = after_load v n in (
         w,
         keeps,
@@ -83,36 +83,36 @@ module _ {S C : Type 0} (holds : List ℕ → Homes S → Picture C → Type 0) 
 
   -- section-opening load
   pub opens : (idle : C) (close : C → C) → IsStable holds idle close → (cpus slots id : ℕ) (me : Me S (View C))
-      → me.0.role ≡ Cpu → may_open me.0.stamp ≡ true → me.0.section ≡ None
+      → me.0.role ≡ Cpu → may_open me.0.own_word ≡ true → me.0.section ≡ None
       → Allows (IsKept holds cpus) slots id me 0 (λ n. n) (λ n m. Opened me.0 n m.0 × (m.1 ≡ me.1))
   opens idle close stable cpus slots id me cpu online shut s k _ at _ =
       let n : ℕ = get_or s.words 0 0 in
       let v : View C = me.0 in
-      let f : Fits cpus s.words k.owner k.engine k.finds id v = k.fits id v at in
+      let f : Fits cpus s.words k.owner k.engine k.own_word_loads id v = k.fits id v at in
       let w : View C = after_open v n in
       let t = f.sound cpu in
       let up : v.seen ≤ n = f.seen in
-      let low : v.stamp ≤ v.seen + 1 = own_bound v.seen v.stamp t.bounded in
-      let sound : v.role ≡ Cpu → IsSound n (get_or s.words (place v.cpu) 0) k.finds w = λ r. record {
-        stamp = t.stamp;
-        bounded = own_later v.seen n v.stamp up t.bounded;
+      let low : v.own_word ≤ v.seen + 1 = own_bound v.seen v.own_word t.bounded online in
+      let sound : v.role ≡ Cpu → IsSound n (get_or s.words (own_word_index v.cpu) 0) k.own_word_loads w = λ r. record {
+        own_word = t.own_word;
+        bounded = own_later v.seen n v.own_word up t.bounded;
         boot = t.boot;
         online = λ p o. online;
-        from_stamp = λ p o. let e = the_same o in omega arith;
+        from_own_word = λ p o. let e = the_same o in omega arith;
         to_seen = λ p o. let e = the_same o in omega arith;
         current = λ p o. rw (the_same o) (not_past n);
         cleared = λ p o running told. let e = the_same o in omega arith;
       } in
-      let mine = seen_fits cpus s.words k.owner k.engine k.finds id v w f refl refl refl refl refl sound in
+      let mine = seen_fits cpus s.words k.owner k.engine k.own_word_loads id v w f refl refl refl refl refl sound in
       let one : Option ℕ = if_cpu v.role (Some v.cpu) in
-      let now : shown w ≡ (one, Some n, v.client) = ap (λ (r : Role). (one, if_cpu r (Some n), v.client)) cpu in
-      let was : shown v ≡ (one, None, v.client) =
+      let now : client_view w ≡ (one, Some n, v.client) = ap (λ (r : Role). (one, if_cpu r (Some n), v.client)) cpu in
+      let was : client_view v ≡ (one, None, v.client) =
       ap (λ (y : Role × Option ℕ). (one, if_cpu y.0 y.1, v.client)) (λ i. (cpu i, shut i)) in
-      let after : map shown (set s.views id w) ≡ set (map shown s.views) id (one, Some n, v.client) =
-      map-set shown s.views id w ∙ ap (λ (x : Shown C). set (map shown s.views) id x) now in
-      let client : holds (drop (base_of cpus) s.words) s.homes (map shown (set s.views id w)) =
-      subst (λ (xs : Picture C). holds (drop (base_of cpus) s.words) s.homes xs) (sym after)
-      (stable.opens (drop (base_of cpus) s.words) s.homes (map shown s.views) id n one v.client k.client (at_map shown s.views id v at ∙ ap some was)) in
+      let after : map client_view (set s.views id w) ≡ set (map client_view s.views) id (one, Some n, v.client) =
+      map-set client_view s.views id w ∙ ap (λ (x : ClientView C). set (map client_view s.views) id x) now in
+      let client : holds (drop (base_of cpus) s.words) s.homes (map client_view (set s.views id w)) =
+      subst (λ (xs : Views C). holds (drop (base_of cpus) s.words) s.homes xs) (sym after)
+      (stable.opens (drop (base_of cpus) s.words) s.homes (map client_view s.views) id n one v.client k.client (at_map client_view s.views id v at ∙ ap some was)) in
       (w, keeps, tt, unchanged holds cpus s k id 0 w mine client, (record { view = refl; later = up; number = k.number }, refl))
 
   -- section-closing load
@@ -121,27 +121,27 @@ module _ {S C : Type 0} (holds : List ℕ → Homes S → Picture C → Type 0) 
   closes idle close stable cpus slots id me s k _ at _ =
       let n : ℕ = get_or s.words 0 0 in
       let v : View C = me.0 in
-      let f : Fits cpus s.words k.owner k.engine k.finds id v = k.fits id v at in
+      let f : Fits cpus s.words k.owner k.engine k.own_word_loads id v = k.fits id v at in
       let w : View C = after_close close v n in
       let up : v.seen ≤ n = f.seen in
-      let sound : v.role ≡ Cpu → IsSound n (get_or s.words (place v.cpu) 0) k.finds w =
+      let sound : v.role ≡ Cpu → IsSound n (get_or s.words (own_word_index v.cpu) 0) k.own_word_loads w =
       λ r. let t = f.sound r in record {
-        stamp = t.stamp;
-        bounded = own_later v.seen n v.stamp up t.bounded;
+        own_word = t.own_word;
+        bounded = own_later v.seen n v.own_word up t.bounded;
         boot = t.boot;
         online = λ p o. absurd (cc);
-        from_stamp = λ p o. absurd (cc);
+        from_own_word = λ p o. absurd (cc);
         to_seen = λ p o. absurd (cc);
         current = λ p o. absurd (cc);
         cleared = λ p o. absurd (cc);
       } in
-      let mine = seen_fits cpus s.words k.owner k.engine k.finds id v w f refl refl refl refl refl sound in
+      let mine = seen_fits cpus s.words k.owner k.engine k.own_word_loads id v w f refl refl refl refl refl sound in
       let one : Option ℕ = if_cpu v.role (Some v.cpu) in
-      let now : shown w ≡ (one, None, close v.client) =
+      let now : client_view w ≡ (one, None, close v.client) =
       ap (λ (o : Option ℕ). (one, o, close v.client)) (none_shown v.role) in
-      let after : map shown (set s.views id w) ≡ set (map shown s.views) id (one, None, close v.client) =
-      map-set shown s.views id w ∙ ap (λ (x : Shown C). set (map shown s.views) id x) now in
-      let client : holds (drop (base_of cpus) s.words) s.homes (map shown (set s.views id w)) =
-      subst (λ (xs : Picture C). holds (drop (base_of cpus) s.words) s.homes xs) (sym after)
-      (stable.closes (drop (base_of cpus) s.words) s.homes (map shown s.views) id one (if_cpu v.role v.section) v.client k.client (at_map shown s.views id v at)) in
+      let after : map client_view (set s.views id w) ≡ set (map client_view s.views) id (one, None, close v.client) =
+      map-set client_view s.views id w ∙ ap (λ (x : ClientView C). set (map client_view s.views) id x) now in
+      let client : holds (drop (base_of cpus) s.words) s.homes (map client_view (set s.views id w)) =
+      subst (λ (xs : Views C). holds (drop (base_of cpus) s.words) s.homes xs) (sym after)
+      (stable.closes (drop (base_of cpus) s.words) s.homes (map client_view s.views) id one (if_cpu v.role v.section) v.client k.client (at_map client_view s.views id v at)) in
       (w, keeps, tt, unchanged holds cpus s k id 0 w mine client, (record { view = refl; later = up; number = k.number }, refl))

@@ -2,12 +2,12 @@
 use Rattle.std.proofs.Common.{◌≡◌, ◌≢◌, ℕ, ◌+◌, ◌≤◌, true, false, arith}
 use Rattle.std.proofs.lemmas.Bool.Decides.{nat_tests}
 use Rattle.rcu_seq.specs.Numbers.{Number}
-use Rattle.rcu_live.specs.Numbers.{is_own_word, is_past, is_open_at}
-use Rattle.rcu_live.specs.Words.{place}
+use Rattle.rcu_live.specs.Numbers.{is_own_word, is_past, is_open_at, may_open}
+use Rattle.rcu_live.specs.Words.{own_word_index}
 
--- an own word is at most one more than the number seen
-pub own_bound : (seen : Number) (word : ℕ) → is_own_word seen word ≡ true → word ≤ seen + 1
-own_bound seen word own = grind (arith, nat_tests)
+-- an own word with which a section may open is at most one more than the number seen
+pub own_bound : (seen : Number) (word : ℕ) → is_own_word seen word ≡ true → may_open word ≡ true → word ≤ seen + 1
+own_bound seen word own online = grind (arith, nat_tests)
 
 -- who saw a later number may store the same words
 pub own_later : (seen n : Number) (word : ℕ) → seen ≤ n → is_own_word seen word ≡ true → is_own_word n word ≡ true
@@ -26,8 +26,8 @@ pub open_at : (n at : Number) → at ≤ n → is_past at n ≡ false → is_ope
 open_at n at up current = grind (arith, nat_tests)
 
 -- processors have places of their own, and the number's is none of them
-pub places_apart : (a b : ℕ) → a ≢ b → place a ≢ place b
-places_apart a b apart same = apart (omega arith)
+pub own_words_apart : (a b : ℕ) → a ≢ b → own_word_index a ≢ own_word_index b
+own_words_apart a b apart same = apart (omega arith)
 
-pub number_apart : (cpu : ℕ) → place cpu ≢ 0
+pub number_apart : (cpu : ℕ) → own_word_index cpu ≢ 0
 number_apart cpu same = absurd (omega arith)

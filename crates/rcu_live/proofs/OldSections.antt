@@ -9,7 +9,7 @@ use Rattle.rcu_seq.specs.Numbers.{Number, is_running, number_at}
 use Rattle.rcu_seq.specs.Seq.{number_of}
 use Rattle.rcu_node.specs.CpuSet.{is_in}
 use Rattle.rcu_core.specs.GpState.{Grace}
-use Rattle.rcu_live.specs.Client.{Homes, Picture}
+use Rattle.rcu_live.specs.Client.{Slots, Views}
 use Rattle.rcu_live.specs.Engine.{AwaitsTheOthers}
 use Rattle.rcu_live.specs.Rule.{Fits, IsKept, is_cleared}
 use Rattle.rcu_live.specs.View.{IsOfEngine}
@@ -23,25 +23,25 @@ running_number ends running runs = ap (λ (b : Bool). is_running (number_at ends
     one : (ends : ℕ) → is_running (number_at ends true) ≡ true
     one ends = grind (arith, nat_tests)
 
-pub old_awaited : {S C X : Type 0} (holds : List ℕ → Homes S → Picture C → Type 0) (cpus : ℕ) (s : State S (View C))
+pub old_awaited : {S C X : Type 0} (holds : List ℕ → Slots S → Views C → Type 0) (cpus : ℕ) (s : State S (View C))
     (i j : ℕ) (e v : View C) (g : Grace X) (at : Number)
     → IsKept holds cpus s → get_elem? s.views i ≡ some e → IsOfEngine e → e.seen ≡ number_of g.seq
-    → AwaitsTheOthers cpus e.finds g
+    → AwaitsTheOthers cpus e.own_word_loads g
     → g.seq.running ≡ true → get_elem? s.views j ≡ some v → v.role ≡ Cpu → v.section ≡ Some at → at < e.seen
     → is_in g.processors.awaited v.cpu ≡ true
 old_awaited holds cpus s i j e v g at k here engine number lock runs there cpu section old =
     elim (cases_Bool (is_in g.processors.awaited v.cpu)) [
       | inl awaited ↦ awaited
       | inr none ↦
-          let f : Fits cpus s.words k.owner k.engine k.finds i e = k.fits i e here in
-          let h : Fits cpus s.words k.owner k.engine k.finds j v = k.fits j v there in
+          let f : Fits cpus s.words k.owner k.engine k.own_word_loads i e = k.fits i e here in
+          let h : Fits cpus s.words k.owner k.engine k.own_word_loads j v = k.fits j v there in
           let n : ℕ = get_or s.words 0 0 in
           let same : e.seen ≡ n = f.number engine in
           let is : number_of g.seq ≡ n = sym number ∙ same in
-          let cleared : is_cleared n v.cpu k.finds ≡ true =
+          let cleared : is_cleared n v.cpu k.own_word_loads ≡ true =
           subst (λ (y : ℕ × List (ℕ × ℕ)). is_cleared y.0 v.cpu y.1 ≡ true) (λ x. (is x, f.found engine x))
           (lock runs v.cpu (h.inside cpu) none) in
           let running : is_running n ≡ true =
           subst (λ (m : ℕ). is_running m ≡ true) is (running_number g.seq.ends g.seq.running runs) in
-          let late : n ≤ at = (h.sound cpu).cleared at section running cleared in absurd (omega (arith, late, same, old))
+          let already_quiescent : n ≤ at = (h.sound cpu).cleared at section running cleared in absurd (omega (arith, already_quiescent, same, old))
     ]

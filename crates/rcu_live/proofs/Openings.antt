@@ -5,11 +5,11 @@ use Rattle.std.proofs.lemmas.List.{get_or-replicate, get_or-set_other, get_or-se
 use mathlib.Core.Option.{some, some-injective, some-ne-none}
 use lib.ListN.{get_elem?}
 use Rattle.atomic_table.specs.Table.{opening}
-use Rattle.rcu_live.specs.Client.{Homes, Picture}
+use Rattle.rcu_live.specs.Client.{Slots, Views}
 use Rattle.rcu_live.specs.Numbers.{is_number_word}
 use Rattle.rcu_live.specs.Rule.{Fits, IsKept}
 use Rattle.rcu_live.specs.View.{engine_seat}
-use Rattle.rcu_live.specs.Words.{base_of, first_word, first_words, place}
+use Rattle.rcu_live.specs.Words.{base_of, first_own_word, first_words, own_word_index}
 use Rattle.rcu_live.specs.declared.view.View.{View}
 
 -- what stands behind a list of so many
@@ -39,16 +39,16 @@ number_at_first cpus =
     get_or-set_other (replicate (base_of cpus) 0) 16 0 1 0 (λ e. absurd (omega arith))
     ∙ get_or-replicate (base_of cpus) 0 0 0 (omega arith)
 
-word_at_first : (cpus c : ℕ) → c < cpus → get_or (first_words cpus) (place c) 0 ≡ first_word c
+word_at_first : (cpus c : ℕ) → c < cpus → get_or (first_words cpus) (own_word_index c) 0 ≡ first_own_word c
 word_at_first cpus zero low = get_or-set_same (replicate (base_of cpus) 0) 16 1 0 (let z : ℕ = 0 in let l = length-replicate (base_of cpus) z in omega arith)
 word_at_first cpus (suc c) low =
-    get_or-set_other (replicate (base_of cpus) 0) 16 (place (suc c)) 1 0 (λ e. absurd (omega arith))
-    ∙ get_or-replicate (base_of cpus) (place (suc c)) 0 0 (omega arith)
+    get_or-set_other (replicate (base_of cpus) 0) 16 (own_word_index (suc c)) 1 0 (λ e. absurd (omega arith))
+    ∙ get_or-replicate (base_of cpus) (own_word_index (suc c)) 0 0 (omega arith)
 
 zero_is_number : (n : ℕ) → n ≡ 0 → is_number_word n ≡ true
 zero_is_number n e = rw e refl
 
-module _ {S C : Type 0} (holds : List ℕ → Homes S → Picture C → Type 0) where
+module _ {S C : Type 0} (holds : List ℕ → Slots S → Views C → Type 0) where
   -- the rule at the start, with the client's words behind
   pub starts : (cpus : ℕ) (behind : List ℕ) (slots : List S) (c : C) → 0 < cpus
       → holds behind (map some slots) ((None, None, c) ∷ [])
@@ -58,8 +58,8 @@ module _ {S C : Type 0} (holds : List ℕ → Homes S → Picture C → Type 0) 
       let long : length (first_words cpus) ≡ base_of cpus = length-first_words cpus in
       let both : length words ≡ length (first_words cpus) + length behind = length-append (first_words cpus) behind in
       let number : get_or words 0 0 ≡ 0 = at_front (first_words cpus) behind 0 (omega arith) ∙ number_at_first cpus in
-      let word : (d : ℕ) → d < cpus → get_or words (place d) 0 ≡ first_word d =
-      λ d low. at_front (first_words cpus) behind (place d) (omega arith) ∙ word_at_first cpus d low in
+      let word : (d : ℕ) → d < cpus → get_or words (own_word_index d) 0 ≡ first_own_word d =
+      λ d low. at_front (first_words cpus) behind (own_word_index d) (omega arith) ∙ word_at_first cpus d low in
       let first : Fits cpus words (λ _. 0) 0 [] 0 (engine_seat cpus 0 c) = record {
         seen = omega arith;
         base = refl;
@@ -73,10 +73,10 @@ module _ {S C : Type 0} (holds : List ℕ → Homes S → Picture C → Type 0) 
       } in record {
         room = omega arith;
         number = zero_is_number _ number;
-        boot = let one : get_or words (place 0) 0 ≡ 1 = word 0 any in omega arith;
+        boot = let one : get_or words (own_word_index 0) 0 ≡ 1 = word 0 any in omega arith;
         owner = λ _. 0;
         engine = 0;
-        finds = [];
+        own_word_loads = [];
         fits = λ id v at. alone words id v at first;
         client =
             subst (λ (l : List ℕ). holds l (map some slots) ((None, None, c) ∷ []))

@@ -7,11 +7,11 @@ use mathlib.Core.Option.{some}
 use lib.ListN.{get_elem?}
 use Rattle.atomic_table.specs.Table.{State, Me, keeps, Allows}
 use Rattle.rcu_seq.specs.Numbers.{Number, is_running}
-use Rattle.rcu_live.specs.Client.{Homes, Picture}
+use Rattle.rcu_live.specs.Client.{Slots, Views}
 use Rattle.rcu_live.specs.Numbers.{is_number_word, is_past}
 use Rattle.rcu_live.specs.Rule.{AreCleared, Fits, IsKept, IsSound, is_cleared}
 use Rattle.rcu_live.specs.View.{after_begin_store, after_end_store}
-use Rattle.rcu_live.specs.Words.{base_of, place}
+use Rattle.rcu_live.specs.Words.{base_of, own_word_index}
 use Rattle.rcu_live.specs.declared.view.Role.TheVariants.{Engine}
 use Rattle.rcu_live.specs.declared.view.View.{View}
 use Rattle.rcu_live.proofs.Frames.{changed, unseen}
@@ -31,28 +31,28 @@ begun_current n at word idle current = grind (arith, nat_tests)
 
 -- an end ends none that began after a section at its own number
 ended_current : (n at : Number) → is_running n ≡ true → n ≤ at → is_past at (n + 3) ≡ false
-ended_current n at runs late = grind (arith, nat_tests)
+ended_current n at runs already_quiescent = grind (arith, nat_tests)
 
 ended_rests : (n : Number) → is_running n ≡ true → is_running (n + 3) ≡ false
 ended_rests n runs = grind (arith, nat_tests)
 
-module _ {S C : Type 0} (holds : List ℕ → Homes S → Picture C → Type 0) where
+module _ {S C : Type 0} (holds : List ℕ → Slots S → Views C → Type 0) where
   -- the engine stores a number that is no lower, and what it found stays or falls: the rule is kept where each
   -- processor's seat is sound at it
-  stored : (cpus id n : ℕ) (s : State S (View C)) (k : IsKept holds cpus s) (v : View C) (finds : List (ℕ × ℕ))
+  stored : (cpus id n : ℕ) (s : State S (View C)) (k : IsKept holds cpus s) (v : View C) (own_word_loads : List (ℕ × ℕ))
       → get_elem? s.views id ≡ some v → v.role ≡ Engine
       → get_or s.words 0 0 ≤ n → is_number_word n ≡ true
-      → ((u : View C) → IsSound (get_or s.words 0 0) (get_or s.words (place u.cpu) 0) k.finds u → u.cpu < cpus → IsSound n (get_or s.words (place u.cpu) 0) finds u)
-      → IsKept holds cpus record { words = set s.words 0 n; homes = s.homes; views = set s.views id (record v { seen = n; finds = finds }) }
-  stored cpus id n s k v finds at engine up legal sound =
-      let f : Fits cpus s.words k.owner k.engine k.finds id v = k.fits id v at in
-      let w : View C = record v { seen = n; finds = finds } in
+      → ((u : View C) → IsSound (get_or s.words 0 0) (get_or s.words (own_word_index u.cpu) 0) k.own_word_loads u → u.cpu < cpus → IsSound n (get_or s.words (own_word_index u.cpu) 0) own_word_loads u)
+      → IsKept holds cpus record { words = set s.words 0 n; homes = s.homes; views = set s.views id (record v { seen = n; own_word_loads = own_word_loads }) }
+  stored cpus id n s k v own_word_loads at engine up legal sound =
+      let f : Fits cpus s.words k.owner k.engine k.own_word_loads id v = k.fits id v at in
+      let w : View C = record v { seen = n; own_word_loads = own_word_loads } in
       let room : base_of cpus ≤ length s.words = k.room in
       let words : List ℕ = set s.words 0 n in
       let now : get_or words 0 0 ≡ n = get_or-set_same s.words 0 n 0 (omega arith) in
-      let same : (c : ℕ) → get_or words (place c) 0 ≡ get_or s.words (place c) 0 =
-      λ c. get_or-set_other s.words 0 (place c) n 0 (number_apart c) in
-      let mine : Fits cpus words k.owner k.engine finds id w = record {
+      let same : (c : ℕ) → get_or words (own_word_index c) 0 ≡ get_or s.words (own_word_index c) 0 =
+      λ c. get_or-set_other s.words 0 (own_word_index c) n 0 (number_apart c) in
+      let mine : Fits cpus words k.owner k.engine own_word_loads id w = record {
         seen = omega (arith, now);
         base = f.base;
         inside = λ r. absurd (cc);
@@ -63,8 +63,8 @@ module _ {S C : Type 0} (holds : List ℕ → Homes S → Picture C → Type 0) 
         found = λ r. refl;
         undealt = λ r d low high. let t = f.undealt r d low high in (t.0, same d ∙ t.1);
       } in
-      let others : (j : ℕ) (u : View C) → j ≢ id → Fits cpus s.words k.owner k.engine k.finds j u
-      → Fits cpus words k.owner k.engine finds j u =
+      let others : (j : ℕ) (u : View C) → j ≢ id → Fits cpus s.words k.owner k.engine k.own_word_loads j u
+      → Fits cpus words k.owner k.engine own_word_loads j u =
       λ j u apart h.
       let none : u.role ≡ Engine → ⊥ = λ r. apart (sym (h.lone r) ∙ f.lone engine) in record {
         seen = let b : u.seen ≤ get_or s.words 0 0 = h.seen in omega (arith, now);
@@ -72,14 +72,14 @@ module _ {S C : Type 0} (holds : List ℕ → Homes S → Picture C → Type 0) 
         inside = h.inside;
         own = h.own;
         sound =
-            λ r. subst (λ (y : ℕ × ℕ). IsSound y.0 y.1 finds u) (λ i. (sym now i, sym (same u.cpu) i))
+            λ r. subst (λ (y : ℕ × ℕ). IsSound y.0 y.1 own_word_loads u) (λ i. (sym now i, sym (same u.cpu) i))
             (sound u (h.sound r) (h.inside r));
         lone = h.lone;
         number = λ r. absurd (none r);
         found = λ r. absurd (none r);
         undealt = λ r. absurd (none r);
       } in
-      changed holds cpus s k id w words s.homes finds (rw (length-set s.words 0 n) room) (rw now legal)
+      changed holds cpus s k id w words s.homes own_word_loads (rw (length-set s.words 0 n) room) (rw now legal)
       (rw (same 0) k.boot) others mine
       (unseen holds cpus s k id v w words at refl (drop-set-lt (base_of cpus) s.words 0 n (omega arith)))
 
@@ -90,17 +90,17 @@ module _ {S C : Type 0} (holds : List ℕ → Homes S → Picture C → Type 0) 
   begins_next cpus slots id me engine idle small s k _ at _ =
       let v : View C = me.0 in
       let n : ℕ = get_or s.words 0 0 in
-      let f : Fits cpus s.words k.owner k.engine k.finds id v = k.fits id v at in
+      let f : Fits cpus s.words k.owner k.engine k.own_word_loads id v = k.fits id v at in
       let same : v.seen ≡ n = f.number engine in
       let word : is_number_word v.seen ≡ true = rw same k.number in
-      let sound : (u : View C) → IsSound n (get_or s.words (place u.cpu) 0) k.finds u → u.cpu < cpus
-      → IsSound (v.seen + 1) (get_or s.words (place u.cpu) 0) [] u =
+      let sound : (u : View C) → IsSound n (get_or s.words (own_word_index u.cpu) 0) k.own_word_loads u → u.cpu < cpus
+      → IsSound (v.seen + 1) (get_or s.words (own_word_index u.cpu) 0) [] u =
       λ u t inside. record {
-        stamp = t.stamp;
+        own_word = t.own_word;
         bounded = t.bounded;
         boot = t.boot;
         online = t.online;
-        from_stamp = t.from_stamp;
+        from_own_word = t.from_own_word;
         to_seen = t.to_seen;
         current = λ p o. begun_current v.seen p word idle (rw same (t.current p o));
         cleared = λ p o runs none. absurd (cc);
@@ -113,35 +113,35 @@ module _ {S C : Type 0} (holds : List ℕ → Homes S → Picture C → Type 0) 
       )
 
   ends_next : (cpus slots id : ℕ) (me : Me S (View C)) → me.0.role ≡ Engine → is_running me.0.seen ≡ true
-      → AreCleared cpus me.0.seen me.0.finds
+      → AreCleared cpus me.0.seen me.0.own_word_loads
       → Allows (IsKept holds cpus) slots id me 0 (λ _. me.0.seen + 3)
       (λ _ m. (m.0 ≡ after_end_store me.0 (me.0.seen + 3)) × (m.1 ≡ me.1))
   ends_next cpus slots id me engine runs all s k _ at _ =
       let v : View C = me.0 in
       let n : ℕ = get_or s.words 0 0 in
-      let f : Fits cpus s.words k.owner k.engine k.finds id v = k.fits id v at in
+      let f : Fits cpus s.words k.owner k.engine k.own_word_loads id v = k.fits id v at in
       let same : v.seen ≡ n = f.number engine in
       let word : is_number_word v.seen ≡ true = rw same k.number in
-      let sound : (u : View C) → IsSound n (get_or s.words (place u.cpu) 0) k.finds u → u.cpu < cpus
-      → IsSound (v.seen + 3) (get_or s.words (place u.cpu) 0) v.finds u =
+      let sound : (u : View C) → IsSound n (get_or s.words (own_word_index u.cpu) 0) k.own_word_loads u → u.cpu < cpus
+      → IsSound (v.seen + 3) (get_or s.words (own_word_index u.cpu) 0) v.own_word_loads u =
       λ u t inside.
-      let cleared : is_cleared n u.cpu k.finds ≡ true =
+      let cleared : is_cleared n u.cpu k.own_word_loads ≡ true =
       subst (λ (y : ℕ × List (ℕ × ℕ)). is_cleared y.0 u.cpu y.1 ≡ true) (λ i. (same i, f.found engine i))
       (all u.cpu inside) in
       record {
-        stamp = t.stamp;
+        own_word = t.own_word;
         bounded = t.bounded;
         boot = t.boot;
         online = t.online;
-        from_stamp = t.from_stamp;
+        from_own_word = t.from_own_word;
         to_seen = t.to_seen;
-        current = λ p o. ended_current v.seen p runs (let late : n ≤ p = t.cleared p o (subst (λ (m : ℕ). is_running m ≡ true) same runs) cleared in omega (arith, same));
+        current = λ p o. ended_current v.seen p runs (let already_quiescent : n ≤ p = t.cleared p o (subst (λ (m : ℕ). is_running m ≡ true) same runs) cleared in omega (arith, same));
         cleared = λ p o again none. absurd (let rests = ended_rests v.seen runs in cc);
       } in (
         after_end_store v (v.seen + 3),
         keeps,
         tt,
-        stored cpus id (v.seen + 3) s k v v.finds at engine (omega (arith, same)) (ended_word v.seen word runs) sound,
+        stored cpus id (v.seen + 3) s k v v.own_word_loads at engine (omega (arith, same)) (ended_word v.seen word runs) sound,
         (refl, refl),
       )
 
@@ -156,7 +156,7 @@ module _ {S C : Type 0} (holds : List ℕ → Homes S → Picture C → Type 0) 
   -- end store, of a number that is the next idle one
   pub ends_at : (cpus slots id n key : ℕ) (me : Me S (View C)) → me.0.role ≡ Engine → is_running me.0.seen ≡ true
       → cpus ≡ key
-      → AreCleared key me.0.seen me.0.finds → n ≡ me.0.seen + 3
+      → AreCleared key me.0.seen me.0.own_word_loads → n ≡ me.0.seen + 3
       → Allows (IsKept holds cpus) slots id me 0 (λ _. n) (λ _ m. (m.0 ≡ after_end_store me.0 n) × (m.1 ≡ me.1))
   ends_at cpus slots id n key me engine runs is all next =
       subst (λ (x : ℕ). Allows (IsKept holds cpus) slots id me 0 (λ _. x) (λ _ m. (m.0 ≡ after_end_store me.0 x) × (m.1 ≡ me.1))) (sym next)

@@ -8,64 +8,64 @@ use Rattle.rcu_live.specs.Numbers.{is_open_at}
 
 -- what is shown of a seat: its processor and the number at which its open section began, none where it is no
 -- processor's, and what it knows of the client
-abbrev pub Shown : Type 0 → Type 0
-Shown C = Option ℕ × Option Number × C
+abbrev pub ClientView : Type 0 → Type 0
+ClientView C = Option ℕ × Option Number × C
 
 -- what is shown of all seats
-abbrev pub Picture : Type 0 → Type 0
-Picture C = List (Shown C)
+abbrev pub Views : Type 0 → Type 0
+Views C = List (ClientView C)
 
 -- the slots, each at home with a value, or out with a seat
-abbrev pub Homes : Type 0 → Type 0
-Homes S = List (maybe.Option S)
+abbrev pub Slots : Type 0 → Type 0
+Slots S = List (maybe.Option S)
 
 -- the law of a client: its rule is kept where a section opens, where one closes, where a seat is dealt, and where what
 -- a seat with no section knows is handed over to a new seat
-pub record IsStable {S C : Type 0} (holds : List ℕ → Homes S → Picture C → Type 0) (idle : C)
+pub record IsStable {S C : Type 0} (holds : List ℕ → Slots S → Views C → Type 0) (idle : C)
     (closed : C → C) : Type 0 where
-  pub opens : (words : List ℕ) (homes : Homes S) (xs : Picture C) (id : ℕ) (number : Number) (cpu : Option ℕ) (c : C)
+  pub opens : (words : List ℕ) (homes : Slots S) (xs : Views C) (id : ℕ) (number : Number) (cpu : Option ℕ) (c : C)
       → holds words homes xs → get_elem? xs id ≡ some (cpu, None, c)
       → holds words homes (slice_set xs id (cpu, Some number, c))
-  pub closes : (words : List ℕ) (homes : Homes S) (xs : Picture C) (id : ℕ) (cpu : Option ℕ) (section : Option Number)
+  pub closes : (words : List ℕ) (homes : Slots S) (xs : Views C) (id : ℕ) (cpu : Option ℕ) (section : Option Number)
       (c : C)
       → holds words homes xs → get_elem? xs id ≡ some (cpu, section, c)
       → holds words homes (slice_set xs id (cpu, None, closed c))
-  pub deals : (words : List ℕ) (homes : Homes S) (xs : Picture C) (cpu : Option ℕ)
+  pub deals : (words : List ℕ) (homes : Slots S) (xs : Views C) (cpu : Option ℕ)
       → holds words homes xs → holds words homes (xs ++ (cpu, None, idle) ∷ [])
-  pub hands : (words : List ℕ) (homes : Homes S) (xs : Picture C) (id : ℕ) (c : C)
+  pub hands : (words : List ℕ) (homes : Slots S) (xs : Views C) (id : ℕ) (c : C)
       → holds words homes xs → get_elem? xs id ≡ some (None, None, c)
       → holds words homes (slice_set xs id (None, None, idle) ++ (None, None, c) ∷ [])
 
 -- at this number: each open section may be open at it
-abbrev pub AreOpen : {C : Type 0} → Number → Picture C → Type 0
+abbrev pub AreOpen : {C : Type 0} → Number → Views C → Type 0
 AreOpen {C} number xs =
     (id : ℕ) (at : Number) (cpu : Option ℕ) (c : C) → get_elem? xs id ≡ some (cpu, Some at, c)
     → is_open_at number at ≡ true
 
 -- a processor has one seat
-abbrev pub AreLone : {C : Type 0} → Picture C → Type 0
+abbrev pub AreLone : {C : Type 0} → Views C → Type 0
 AreLone {C} xs = (i j cpu : ℕ) (o p : Option Number) (c d : C)
     → get_elem? xs i ≡ some (Some cpu, o, c) → get_elem? xs j ≡ some (Some cpu, p, d) → i ≡ j
 
-module _ {S C : Type 0} (holds : List ℕ → Homes S → Picture C → Type 0) (cpu section : Option ℕ) (c : C) where
+module _ {S C : Type 0} (holds : List ℕ → Slots S → Views C → Type 0) (cpu section : Option ℕ) (c : C) where
   -- a client's step on its word p, which becomes `change` of what it was: wherever its rule holds, the seat has a new
   -- view that keeps it, and what the step tells holds of the word found and of that view. The step takes no slot
-  abbrev pub Uses : ℕ → (ℕ → ℕ) → (ℕ → C → Type 0) → Type 0
-  Uses p change tells = (number : Number) (words : List ℕ) (homes : Homes S) (xs : Picture C) (id : ℕ)
+  abbrev pub AllowsWord : ℕ → (ℕ → ℕ) → (ℕ → C → Type 0) → Type 0
+  AllowsWord p change tells = (number : Number) (words : List ℕ) (homes : Slots S) (xs : Views C) (id : ℕ)
       → holds words homes xs → AreOpen number xs → AreLone xs → get_elem? xs id ≡ some (cpu, section, c)
       → (after : C)
       × holds (slice_set words p (change (slice_index words p))) homes (slice_set xs id (cpu, section, after))
       × tells (slice_index words p) after
 
   -- a client's look at the number
-  abbrev pub Sees : (Number → C → Type 0) → Type 0
-  Sees tells = (number : Number) (words : List ℕ) (homes : Homes S) (xs : Picture C) (id : ℕ)
+  abbrev pub AllowsNumber : (Number → C → Type 0) → Type 0
+  AllowsNumber tells = (number : Number) (words : List ℕ) (homes : Slots S) (xs : Views C) (id : ℕ)
       → holds words homes xs → AreOpen number xs → AreLone xs → get_elem? xs id ≡ some (cpu, section, c)
       → (after : C) × holds words homes (slice_set xs id (cpu, section, after)) × tells number after
 
 -- a client with no rule keeps the law
-pub alone_is_stable : IsStable {S = Unit {0}} {C = Unit {0}} (λ _ _ _. Unit {0}) tt (λ c. c)
-alone_is_stable = record {
+pub no_client_is_stable : IsStable {S = Unit {0}} {C = Unit {0}} (λ _ _ _. Unit {0}) tt (λ c. c)
+no_client_is_stable = record {
   opens = λ words homes xs id number cpu c kept at. tt;
   closes = λ words homes xs id cpu section c kept at. tt;
   deals = λ words homes xs cpu kept. tt;

@@ -1,12 +1,13 @@
 -- A processor's seat: its calls, where each is accepted, and what it leaves.
-use Rattle.std.specs.Prelude.{ℕ, ◌+◌, ◌-◌, ◌==◌, nat_lt, if◌then◌else◌, [], ◌∷◌, Option}
+use Rattle.std.specs.Prelude.{ℕ, ◌+◌, ◌-◌, ◌==◌, nat_lt, not, if◌then◌else◌, [], ◌∷◌, Option}
 use Rattle.atomic_table.specs.Seated.{TableId}
 use Rattle.rcu_seq.specs.Fault.{first_fault}
 use Rattle.rcu_seq.specs.Numbers.{Number}
 use Rattle.rcu_seq.specs.declared.fault.Fault.{Fault}
-use Rattle.rcu_seq.specs.declared.fault.Fault.TheVariants.{AlreadyOnline, BootStays, InSection, NestFull, NotOpen}
-use Rattle.rcu_seq.specs.declared.fault.Fault.TheVariants.{Offline}
+use Rattle.rcu_seq.specs.declared.fault.Fault.TheVariants.{AlreadyOnline, BootStays, CpuIdle, InSection, NestFull, NotIdle}
+use Rattle.rcu_seq.specs.declared.fault.Fault.TheVariants.{NotOpen, Offline}
 use Rattle.rcu_cpu.specs.CpuData.{Processor, deepest}
+use Rattle.rcu_live.specs.Numbers.{idle_word}
 use Rattle.rcu_live.specs.View.{after_close, after_load, after_open, after_store, cpu_seat, with_client}
 use Rattle.rcu_live.specs.declared.view.View.{View}
 
@@ -17,9 +18,10 @@ pub record Seated (C : Type 0) : Type 0 where
   pub depth : ℕ
   pub view : View C
 
--- the own word of a processor: 0 where it is offline, else one more than the number that it noted
-abbrev pub own_word : Processor → ℕ
-own_word p = if p.online then p.noted.number + 1 else 0
+-- the own word of a processor: 0 where it is offline, the idle word where it is idle, else one more than the number that
+-- it noted
+abbrev pub own_word_of : Processor → ℕ
+own_word_of p = if not p.online then 0 else if p.idle then idle_word else p.noted.number + 1
 
 module _ {C : Type 0} where
   -- the seat of a processor as it is opened: no section is open
@@ -28,7 +30,8 @@ module _ {C : Type 0} where
 
   -- why an enter is refused
   abbrev pub enter_refusal : Seated C → Option Fault
-  enter_refusal s = first_fault ((s.view.stamp == 0, Offline) ∷ (s.depth == deepest, NestFull) ∷ [])
+  enter_refusal s =
+      first_fault ((s.view.own_word == 0, Offline) ∷ (s.view.own_word == idle_word, CpuIdle) ∷ (s.depth == deepest, NestFull) ∷ [])
 
   -- after an enter: the outermost one is a section-opening load, which saw n, and an inner one leaves the view
   abbrev pub after_enter : Seated C → Number → Seated C
@@ -43,11 +46,21 @@ module _ {C : Type 0} where
   after_exit closed s n =
       record s { depth = s.depth - 1; view = if s.depth == 1 then after_close closed s.view n else s.view }
 
-  -- why a quiescent state is refused
+  -- why a quiescent state is refused, and why the processor does not get idle
   abbrev pub quiesce_refusal : Seated C → Option Fault
-  quiesce_refusal s = first_fault ((s.view.stamp == 0, Offline) ∷ (nat_lt 0 s.depth, InSection) ∷ [])
+  quiesce_refusal s =
+      first_fault ((s.view.own_word == 0, Offline) ∷ (s.view.own_word == idle_word, CpuIdle) ∷ (nat_lt 0 s.depth, InSection) ∷ [])
 
-  -- after a quiescent state or an arrival: one load more, which saw n, and then the own word is n + 1
+  -- after the processor got idle: one store more, of the idle word
+  abbrev pub after_idle : Seated C → Seated C
+  after_idle s = record s { view = after_store s.view idle_word }
+
+  -- why a wake is refused
+  abbrev pub wake_refusal : Seated C → Option Fault
+  wake_refusal s =
+      first_fault ((s.view.own_word == 0, Offline) ∷ (not (s.view.own_word == idle_word), NotIdle) ∷ [])
+
+  -- after a quiescent state, a wake or an arrival: one load more, which saw n, and then the own word is n + 1
   abbrev pub after_quiesce : Seated C → Number → Seated C
   after_quiesce s n = record s { view = after_store (after_load s.view n) (n + 1) }
 
@@ -56,12 +69,12 @@ module _ {C : Type 0} where
   after_look s n = record s { view = after_load s.view n }
 
   -- after a client's step, by which it knows this
-  abbrev pub after_use : Seated C → C → Seated C
-  after_use s c = record s { view = with_client s.view c }
+  abbrev pub after_word_step : Seated C → C → Seated C
+  after_word_step s c = record s { view = with_client s.view c }
 
   -- why an arrival is refused
   abbrev pub arrive_refusal : Seated C → Option Fault
-  arrive_refusal s = first_fault ((nat_lt 0 s.view.stamp, AlreadyOnline) ∷ [])
+  arrive_refusal s = first_fault ((nat_lt 0 s.view.own_word, AlreadyOnline) ∷ [])
 
   -- why a departure is refused
   abbrev pub depart_refusal : Seated C → Option Fault

@@ -1,23 +1,26 @@
--- The engine, which lies under the lock of an object: what it keeps, and what each call leaves and answers.
-use Rattle.std.specs.Prelude.{◌≡◌, ℕ, zero, suc, ◌+◌, ◌<◌, ◌≤◌, ◌==◌, true, false, not, if◌then◌else◌, List, [], ◌∷◌}
+-- The engine, which lies under a lock: what it keeps, and what each call leaves and answers.
+use Rattle.std.specs.Prelude.{◌≡◌, ℕ, zero, suc, ◌+◌, ◌<◌, ◌≤◌, ◌==◌, true, false, not, nat_le, if◌then◌else◌, List, [], ◌∷◌, Option}
 use Rattle.atomic_table.specs.Seated.{TableId}
+use Rattle.rcu_seq.specs.Fault.{first_fault}
 use Rattle.rcu_seq.specs.Numbers.{Number, snapshot}
 use Rattle.rcu_seq.specs.Seq.{number_of, tag_of}
+use Rattle.rcu_seq.specs.declared.fault.Fault.{Fault}
+use Rattle.rcu_seq.specs.declared.fault.Fault.TheVariants.{BadCpu}
 use Rattle.rcu_seq.specs.declared.tag.Tag.{Tag}
 use Rattle.rcu_node.specs.CpuSet.{is_in, listed}
-use Rattle.rcu_node.specs.declared.answer.Answer.{Answer}
-use Rattle.rcu_node.specs.declared.answer.Answer.TheVariants as answer
 use Rattle.rcu_core.specs.GpState as grace
-use Rattle.rcu_core.specs.GpState.{Grace, awaited_in, hear_answer, after_hear, periods_of}
+use Rattle.rcu_core.specs.GpState.{Grace, after_current_report, awaited_in, current_answer, periods_of}
 use Rattle.rcu_core.specs.Situation.{wants_begin}
+use Rattle.rcu_core.specs.declared.current_answer.CurrentAnswer.{CurrentAnswer}
+use Rattle.rcu_core.specs.declared.current_answer.CurrentAnswer.TheVariants as current
 use Rattle.rcu_core.specs.declared.turned.Turned.{Turned}
 use Rattle.rcu_core.specs.declared.turned.Turned.TheVariants as turned
-use Rattle.rcu_live.specs.Numbers.{tells}
+use Rattle.rcu_live.specs.Numbers.{reports_quiescence}
 use Rattle.rcu_live.specs.Rule.{is_cleared}
-use Rattle.rcu_live.specs.View.{after_begin_store, after_end_store, after_find}
-use Rattle.rcu_live.specs.Words.{place}
-use Rattle.rcu_live.specs.declared.collected.Collected.{Collected}
-use Rattle.rcu_live.specs.declared.collected.Collected.TheVariants as collected
+use Rattle.rcu_live.specs.View.{after_begin_store, after_end_store, after_own_word_load}
+use Rattle.rcu_live.specs.Words.{own_word_index}
+use Rattle.rcu_live.specs.declared.collection.Collected.{Collected}
+use Rattle.rcu_live.specs.declared.collection.Collected.TheVariants as collected
 use Rattle.rcu_live.specs.declared.view.View.{View}
 
 -- the engine: of which object, of how many processors, what its seat has seen, and the state of grace periods and
@@ -29,26 +32,37 @@ pub record Locked (C X : Type 0) : Type 0 where
   pub grace : Grace X
 
 -- the word that the latest of these loads of a processor's own word found, 0 where there is none
-abbrev pub found_in : List (ℕ × ℕ) → ℕ → ℕ
-found_in [] cpu = 0
-found_in (find ∷ earlier) cpu = if find.0 == place cpu then find.1 else found_in earlier cpu
+abbrev pub loaded_word : List (ℕ × ℕ) → ℕ → ℕ
+loaded_word [] cpu = 0
+loaded_word (find ∷ earlier) cpu = if find.0 == own_word_index cpu then find.1 else loaded_word earlier cpu
 
 -- the word that the latest load found
-abbrev pub latest_found : List (ℕ × ℕ) → ℕ
-latest_found [] = 0
-latest_found (find ∷ earlier) = find.1
+abbrev pub latest_loaded_word : List (ℕ × ℕ) → ℕ
+latest_loaded_word [] = 0
+latest_loaded_word (find ∷ earlier) = find.1
 
 -- one load of the own word of each of the first processors, in turn, which found these words
-abbrev pub finds_in_turn : (ℕ → ℕ) → ℕ → List (ℕ × ℕ)
-finds_in_turn word zero = []
-finds_in_turn word (suc n) = (place n, word n) ∷ finds_in_turn word n
+abbrev pub loads_in_turn : (ℕ → ℕ) → ℕ → List (ℕ × ℕ)
+loads_in_turn word zero = []
+loads_in_turn word (suc n) = (own_word_index n, word n) ∷ loads_in_turn word n
+
+-- the word that the engine's latest load of an own word found
+abbrev pub latest_word : {C X : Type 0} → Locked C X → ℕ
+latest_word e = latest_loaded_word e.view.own_word_loads
+
+-- by processor, the word that the engine's latest load of its own word found
+abbrev pub latest_words : {C X : Type 0} → Locked C X → ℕ → ℕ
+latest_words e = loaded_word e.view.own_word_loads
+
+-- why a call that names a processor is refused: there is no such processor
+abbrev pub cpu_refusal : {C X : Type 0} → Locked C X → ℕ → Option Fault
+cpu_refusal e cpu = first_fault ((nat_le e.cpus cpu, BadCpu) ∷ [])
 
 -- the answer of a collection, by that of the report
-abbrev pub collected_by : Answer → Collected
-collected_by answer.Taken = collected.Taken
-collected_by answer.Last = collected.Last
-collected_by answer.Repeat = collected.Repeat
-collected_by answer.Stale = collected.Repeat
+abbrev pub collected_by : CurrentAnswer → Collected
+collected_by current.Taken = collected.Taken
+collected_by current.Last = collected.Last
+collected_by current.Repeat = collected.Repeat
 
 -- the number has reached the snapshot of a callback's queueing, which was in the first epoch, where the engine stays
 abbrev pub HasWaited : Number → Tag → Type 0
@@ -56,13 +70,13 @@ HasWaited number at = (at.epoch ≡ 0) × (snapshot at.number ≤ number)
 
 -- while a grace period runs, each processor that is not awaited is cleared
 abbrev pub AwaitsTheOthers : {X : Type 0} → ℕ → List (ℕ × ℕ) → Grace X → Type 0
-AwaitsTheOthers cpus finds g = g.seq.running ≡ true → (cpu : ℕ) → cpu < cpus → is_in g.processors.awaited cpu ≡ false
-    → is_cleared (number_of g.seq) cpu finds ≡ true
+AwaitsTheOthers cpus own_word_loads g = g.seq.running ≡ true → (cpu : ℕ) → cpu < cpus → is_in g.processors.awaited cpu ≡ false
+    → is_cleared (number_of g.seq) cpu own_word_loads ≡ true
 
 module _ {C : Type 0} where
   -- after loads of the own words of the first n processors, in turn, which found these words; none was found before
-  abbrev pub after_finds : View C → (ℕ → ℕ) → ℕ → View C
-  after_finds v word n = record v { loads = v.loads + n; finds = finds_in_turn word n }
+  abbrev pub after_own_word_loads : View C → (ℕ → ℕ) → ℕ → View C
+  after_own_word_loads v word n = record v { loads = v.loads + n; own_word_loads = loads_in_turn word n }
 
 module _ {X : Type 0} where
   -- the number of the grace period that begins next
@@ -77,7 +91,7 @@ module _ {X : Type 0} where
     processors = record {
       tag = tag_of (record g.seq { running = true });
       start_set = listed cpus (λ cpu. not (word cpu == 0));
-      awaited = listed cpus (λ cpu. not (tells (next_number g) (word cpu)));
+      awaited = listed cpus (λ cpu. not (reports_quiescence (next_number g) (word cpu)));
       online = listed cpus (λ cpu. not (word cpu == 0));
     };
   }
@@ -86,7 +100,7 @@ module _ {C X : Type 0} where
   -- a grace period begins: its number is stored, and then each own word is loaded once, which found these words
   abbrev pub after_begin : Locked C X → (ℕ → ℕ) → Locked C X
   after_begin e word = record e {
-    view = after_finds (after_begin_store e.view (next_number e.grace)) word e.cpus;
+    view = after_own_word_loads (after_begin_store e.view (next_number e.grace)) word e.cpus;
     grace = begun_from e.cpus word e.grace;
   }
 
@@ -113,11 +127,11 @@ module _ {C X : Type 0} where
       if e.grace.seq.running then (if awaited_in e.grace == 0 then after_end e else e)
       else (if wants_begin (periods_of e.grace) then after_begin e word else e)
 
-  -- what a collection answers, where it finds this word
+  -- what a collection answers, where it loads this word
   abbrev pub collect_answer : Locked C X → ℕ → ℕ → Collected
   collect_answer e cpu word =
       if e.grace.seq.running
-      then (if tells (number_of e.grace.seq) word then collected_by (hear_answer e.grace cpu) else collected.NotYet)
+      then (if reports_quiescence (number_of e.grace.seq) word then collected_by (current_answer e.grace cpu) else collected.NotYet)
       else collected.Idle
 
   -- what a collection leaves: while a grace period runs one load more, and a report where the word tells of the
@@ -126,7 +140,7 @@ module _ {C X : Type 0} where
   after_collect e cpu word =
       if e.grace.seq.running
       then record e {
-        view = after_find e.view (place cpu) word;
-        grace = if tells (number_of e.grace.seq) word then after_hear e.grace cpu else e.grace;
+        view = after_own_word_load e.view (own_word_index cpu) word;
+        grace = if reports_quiescence (number_of e.grace.seq) word then after_current_report e.grace cpu else e.grace;
       }
       else e

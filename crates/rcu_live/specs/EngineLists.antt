@@ -1,16 +1,19 @@
 -- The engine's processors that come and go, and its callbacks: what each call leaves, and why it is refused.
-use Rattle.std.specs.Prelude.{ℕ, ◌&&◌, Bool, true, false, nat_lt, if◌then◌else◌, [], ◌∷◌, Option}
+use Rattle.std.specs.Prelude.{◌≡◌, ℕ, ◌≤◌, ◌^◌, ◌&&◌, Bool, true, false, nat_le, nat_lt, not, if◌then◌else◌, List, [], ◌∷◌}
+use Rattle.std.specs.Prelude.{All, Option, length}
 use Rattle.rcu_seq.specs.Fault.{first_fault}
 use Rattle.rcu_seq.specs.declared.fault.Fault.{Fault}
 use Rattle.rcu_seq.specs.declared.fault.Fault.TheVariants as fault
 use Rattle.rcu_node.specs.CpuSet.{is_in}
 use Rattle.rcu_hotplug.specs.Hotplug.{Arrive, Depart}
 use Rattle.rcu_cblist.specs.SegList.{is_empty}
+use Rattle.rcu_cblist.specs.declared.queued.Queued.{Queued}
 use Rattle.rcu_barrier.specs.Lists.{list_of, queue_fault}
 use Rattle.rcu_core.specs.GpState.{Grace, after_migrate, with_call}
-use Rattle.rcu_live.specs.Engine.{Locked}
-use Rattle.rcu_live.specs.View.{after_find}
-use Rattle.rcu_live.specs.Words.{place}
+use Rattle.rcu_live.specs.Engine.{HasWaited, Locked}
+use Rattle.rcu_live.specs.Numbers.{is_number_word}
+use Rattle.rcu_live.specs.View.{after_own_word_load}
+use Rattle.rcu_live.specs.Words.{own_word_index}
 
 module _ {X : Type 0} where
   -- the processor is online: it arrived, where no begin had found it
@@ -28,7 +31,7 @@ module _ {C X : Type 0} where
 
   -- after one load of the processor's own word, which found this word
   abbrev pub after_load_own : Locked C X → ℕ → ℕ → Locked C X
-  after_load_own e cpu word = record e { view = after_find e.view (place cpu) word }
+  after_load_own e cpu word = record e { view = after_own_word_load e.view (own_word_index cpu) word }
 
   -- why a leave is refused that found this word: the processor is online; or it was offline already, and its list is
   -- empty
@@ -51,6 +54,27 @@ module _ {C X : Type 0} where
   -- why a callback is not queued: the processor is not online in the engine, there are too many, or memory was refused
   abbrev pub queue_refusal : Locked C X → ℕ → Fault
   queue_refusal e cpu = if is_in e.grace.processors.online cpu then queue_fault e.grace.lists else fault.Offline
+
+  -- why a barrier does not begin: one runs
+  abbrev pub barrier_begin_refusal : Locked C X → Option Fault
+  barrier_begin_refusal e = first_fault ((e.grace.lists.running, fault.BarrierBusy) ∷ [])
+
+  -- why a barrier is not tested: none runs
+  abbrev pub barrier_test_refusal : Locked C X → Option Fault
+  barrier_test_refusal e = first_fault ((not e.grace.lists.running, fault.NoBarrier) ∷ [])
+
+  -- why a barrier visits no processor: there is no such processor, or no barrier runs
+  abbrev pub visit_refusal : Locked C X → ℕ → Option Fault
+  visit_refusal e cpu =
+      first_fault ((nat_le e.cpus cpu, fault.BadCpu) ∷ (not e.grace.lists.running, fault.NoBarrier) ∷ [])
+
+-- these callbacks may be handed out at this number, at most so many: a full grace period has passed since the queueing of
+-- each. The number is one that the number word may have
+pub record AreDue {X : Type 0} (number most : ℕ) (calls : List (Queued X)) : Type 0 where
+  pub waited : All (λ call. HasWaited number call.at) calls
+  pub few : length calls ≤ most
+  pub bounded : number ≤ 2 ^ 62
+  pub word : is_number_word number ≡ true
 
 -- the faults that a departure may meet under the lock
 abbrev pub is_leave_fault : Fault → Bool

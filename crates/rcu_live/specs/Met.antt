@@ -2,7 +2,7 @@
 use Rattle.std.specs.Prelude.{◌≡◌, ◌&&◌, true, nat_le, if◌then◌else◌, Option, Some, None}
 use Rattle.rcu_seq.specs.Numbers.{Number}
 use Rattle.rcu_live.specs.Numbers.{is_open_at}
-use Rattle.rcu_live.specs.declared.met.Met.{Met}
+use Rattle.rcu_live.specs.declared.meeting.Met.{Met}
 
 -- what a meeting answers, by the number at which the open section began, the one that the watcher saw and the one that
 -- the seat saw then: nothing where the watcher saw more than the seat, or less than the number at which the section

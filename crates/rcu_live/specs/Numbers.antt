@@ -7,17 +7,21 @@ use Rattle.rcu_seq.specs.Numbers.{Number, snapshot}
 abbrev pub is_number_word : Number → Bool
 is_number_word n = nat_le n (2 ^ 62) && nat_lt (n % 4) 2
 
--- an own word that a processor may store which has seen this number: 0, or at most one more than it
+-- the own word of an idle processor. It is above each number, and is not one more than any
+abbrev pub idle_word : ℕ
+idle_word = 2 ^ 63
+
+-- an own word that a processor may store which has seen this number: 0, at most one more than it, or the idle word
 abbrev pub is_own_word : Number → ℕ → Bool
-is_own_word seen word = nat_le word (seen + 1)
+is_own_word seen word = nat_le word (seen + 1) || word == idle_word
 
--- a processor with this own word may open a section: it is online
+-- a processor with this own word may open a section: it is online, and is not idle
 abbrev pub may_open : ℕ → Bool
-may_open stamp = not (stamp == 0)
+may_open own_word = not (own_word == 0) && not (own_word == idle_word)
 
--- by this own word a processor is heard of in grace period t: it is offline, or passed a quiescent state in it
-abbrev pub tells : Number → ℕ → Bool
-tells t word = word == 0 || nat_lt t word
+-- by this own word a processor is heard of in grace period t: it is offline, passed a quiescent state in it, or is idle
+abbrev pub reports_quiescence : Number → ℕ → Bool
+reports_quiescence t word = word == 0 || nat_lt t word
 
 -- a grace period that began after this number has ended at number n
 abbrev pub is_past : Number → Number → Bool

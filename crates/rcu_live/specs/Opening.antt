@@ -1,22 +1,36 @@
--- Why an object is not opened, and its engine where it is.
-use Rattle.std.specs.Prelude.{ℕ, not, Option}
+-- What an opening deals.
+use Rattle.std.specs.Prelude.{◌≡◌, ℕ, ◌+◌, List, map}
+use Rattle.std.specs.List.{range_with_len}
 use Rattle.atomic_table.specs.Seated.{TableId}
-use Rattle.rcu_seq.specs.Fault.{first_fault}
-use Rattle.rcu_seq.specs.Numbers.{Number, is_last}
-use Rattle.rcu_seq.specs.declared.fault.Fault.{Fault}
-use Rattle.rcu_seq.specs.declared.fault.Fault.TheVariants.{BadLast, TooManyCpus}
-use Rattle.rcu_geometry.specs.Geometry.{shape, is_held}
-use Rattle.std.specs.Prelude.{[], ◌∷◌}
+use Rattle.rcu_seq.specs.Numbers.{Number}
 use Rattle.rcu_core.specs.GpState as grace
+use Rattle.rcu_live.specs.Board.{Object}
 use Rattle.rcu_live.specs.Engine.{Locked}
+use Rattle.rcu_live.specs.CpuSeat.{Seated, at_first}
 use Rattle.rcu_live.specs.View.{engine_seat}
+use Rattle.rcu_live.specs.Watcher.{Watching, watcher_at_first}
+use Rattle.rcu_live.specs.Words.{base_of}
 
--- the first fault of the opening of an object of these fanouts; want of memory comes after all of these
-abbrev pub opening_refusal : ℕ → ℕ → ℕ → Number → Option Fault
-opening_refusal leaf fan cpus last =
-    first_fault ((not (is_held (shape leaf fan cpus)), TooManyCpus) ∷ (not (is_last last), BadLast) ∷ [])
+-- the state of an engine of so many processors as it is opened, in which so many callbacks may be queued: idle at number
+-- 0, with processor 0 alone online
+abbrev pub engine_at_first : {C X : Type 0} → TableId → ℕ → Number → ℕ → C → Locked C X
+engine_at_first table cpus last most idle =
+    record { table = table; cpus = cpus; view = engine_seat cpus cpus idle; grace = grace.at_first cpus last most }
 
--- the engine of an object of so many processors as it is opened: idle at number 0, with processor 0 alone online
-abbrev pub engine_at_first : {C X : Type 0} → TableId → ℕ → Number → C → Locked C X
-engine_at_first table cpus last idle =
-    record { table = table; cpus = cpus; view = engine_seat cpus cpus idle; grace = grace.at_first cpus last }
+module _ {C : Type 0} where
+  -- what an opening deals of an engine of so many processors, with so many words of a client behind its own, and so
+  -- many slots: a seat and a watcher a processor, in order, as they are at first
+  pub record AreDealt (cpus behind slots : ℕ) (idle : C) (engine : Object) (seats : List (Seated C))
+      (watchers : List (Watching C)) : Type 0 where
+    pub count : engine.cpus ≡ cpus
+    pub words : engine.table.words ≡ base_of cpus + behind
+    pub homes : engine.table.slots ≡ slots
+    pub each_seat : seats ≡ map (at_first engine.table (base_of cpus) idle) (range_with_len 0 cpus)
+    pub each_watcher : watchers ≡ map (λ _. watcher_at_first engine.table (base_of cpus) idle) (range_with_len 0 cpus)
+
+  -- all parts of an engine as it is opened: its words and seats, its state, and the client's own watcher
+  pub record IsOpened {X : Type 0} (cpus : ℕ) (last : Number) (most behind slots : ℕ) (first idle : C) (engine : Object)
+      (state : Locked C X) (seats : List (Seated C)) (watchers : List (Watching C)) (own : Watching C) : Type 0 where
+    pub dealt : AreDealt cpus behind slots idle engine seats watchers
+    pub at_start : state ≡ engine_at_first engine.table cpus last most idle
+    pub alone : own ≡ watcher_at_first engine.table (base_of cpus) first

@@ -1,9 +1,9 @@
 -- The views of seats: at the start, as they are dealt, and after each kind of step.
 use Rattle.std.specs.Prelude.{◌≡◌, ℕ, ◌+◌, ◌<◌, ◌≤◌, [], ◌∷◌, Option, Some, None, true, false}
 use Rattle.rcu_seq.specs.Numbers.{Number}
-use Rattle.rcu_live.specs.Client.{Shown}
+use Rattle.rcu_live.specs.Client.{ClientView}
 use Rattle.rcu_live.specs.Numbers.{is_number_word, is_past}
-use Rattle.rcu_live.specs.Words.{base_of, first_word, place}
+use Rattle.rcu_live.specs.Words.{base_of, first_own_word, own_word_index}
 use Rattle.rcu_live.specs.declared.view.Role.{Role}
 use Rattle.rcu_live.specs.declared.view.Role.TheVariants.{Cpu, Watcher, Engine}
 use Rattle.rcu_live.specs.declared.view.View.{View}
@@ -16,20 +16,20 @@ if_cpu Engine o = None
 
 module _ {C : Type 0} where
   -- what a client is shown of a seat
-  abbrev pub shown : View C → Shown C
-  shown v = (if_cpu v.role (Some v.cpu), if_cpu v.role v.section, v.client)
+  abbrev pub client_view : View C → ClientView C
+  client_view v = (if_cpu v.role (Some v.cpu), if_cpu v.role v.section, v.client)
 
   -- a seat that has seen nothing
   abbrev pub fresh : Role → ℕ → ℕ → ℕ → C → View C
-  fresh role cpu stamp base c = record {
+  fresh role cpu own_word base c = record {
     role = role;
     cpu = cpu;
     seen = 0;
     loads = 0;
     stores = 0;
-    stamp = stamp;
+    own_word = own_word;
     section = None;
-    finds = [];
+    own_word_loads = [];
     base = base;
     client = c;
   }
@@ -48,7 +48,7 @@ module _ {C : Type 0} where
 
   -- a processor's seat as it is dealt: its own word is as at the start
   abbrev pub cpu_seat : ℕ → ℕ → C → View C
-  cpu_seat base cpu c = fresh Cpu cpu (first_word cpu) base c
+  cpu_seat base cpu c = fresh Cpu cpu (first_own_word cpu) base c
 
   -- a watcher's seat as it is dealt
   abbrev pub watcher_seat : ℕ → C → View C
@@ -84,7 +84,7 @@ module _ {C : Type 0} where
 
   -- after a store of the own word: one store more
   abbrev pub after_store : View C → ℕ → View C
-  after_store v word = record v { stores = v.stores + 1; stamp = word }
+  after_store v word = record v { stores = v.stores + 1; own_word = word }
 
   -- what a number load tells: one load more, which saw n, a number that is at least all that the seat saw before; where
   -- a section is open at it, the section began no later than what the seat saw, and no full grace period lies since
@@ -108,32 +108,32 @@ module _ {C : Type 0} where
     pub number : is_number_word n ≡ true
 
   -- after a processor-word load: one load more, which found a word at a place
-  abbrev pub after_find : View C → ℕ → ℕ → View C
-  after_find v at word = record v { loads = v.loads + 1; finds = (at, word) ∷ v.finds }
+  abbrev pub after_own_word_load : View C → ℕ → ℕ → View C
+  after_own_word_load v at word = record v { loads = v.loads + 1; own_word_loads = (at, word) ∷ v.own_word_loads }
 
   -- after a begin store of the number n: what was found before it falls
   abbrev pub after_begin_store : View C → Number → View C
-  after_begin_store v n = record v { seen = n; finds = [] }
+  after_begin_store v n = record v { seen = n; own_word_loads = [] }
 
   -- after an end store of the number n
   abbrev pub after_end_store : View C → Number → View C
   after_end_store v n = record v { seen = n }
 
   -- what a processor-word load tells: one load more, which found the word; that of processor 0 is never 0
-  pub record Found (at : ℕ) (v : View C) (word : ℕ) (w : View C) : Type 0 where
-    pub view : w ≡ after_find v at word
-    pub boot : at ≡ place 0 → 0 < word
+  pub record OwnWordLoaded (at : ℕ) (v : View C) (word : ℕ) (w : View C) : Type 0 where
+    pub view : w ≡ after_own_word_load v at word
+    pub boot : at ≡ own_word_index 0 → 0 < word
 
   -- with this for what the client knows
   abbrev pub with_client : View C → C → View C
   with_client v c = record v { client = c }
 
   -- what a client's step on the word at a place tells, which found or stored n: of that word among the client's
-  abbrev pub Used : (ℕ → C → ℕ → C → Type 0) → ℕ → View C → ℕ → View C → Type 0
-  Used tells at v n w =
+  abbrev pub SteppedOnWord : (ℕ → C → ℕ → C → Type 0) → ℕ → View C → ℕ → View C → Type 0
+  SteppedOnWord tells at v n w =
       (w ≡ with_client v w.client) × ((p : ℕ) → at ≡ v.base + p → tells p v.client n w.client)
 
   -- what a client's look at the number tells
-  abbrev pub Learned : (C → Number → C → Type 0) → View C → Number → View C → Type 0
-  Learned tells v n w =
+  abbrev pub SteppedOnNumber : (C → Number → C → Type 0) → View C → Number → View C → Type 0
+  SteppedOnNumber tells v n w =
       (w ≡ with_client (after_load v n) w.client) × (v.seen ≤ n) × (is_number_word n ≡ true) × tells v.client n w.client

@@ -16,12 +16,12 @@ module _ {C : Type 0} where
   after_watch w n = record w { view = after_load w.view n }
 
   -- after a client's step, by which it knows this
-  abbrev pub after_use : Watching C → C → Watching C
-  after_use w c = record w { view = with_client w.view c }
+  abbrev pub after_word_step : Watching C → C → Watching C
+  after_word_step w c = record w { view = with_client w.view c }
 
   -- after a client's look, which saw n and by which it knows this
-  abbrev pub after_learn : Watching C → Number → C → Watching C
-  after_learn w n c = record w { view = with_client (after_load w.view n) c }
+  abbrev pub after_number_step : Watching C → Number → C → Watching C
+  after_number_step w n c = record w { view = with_client (after_load w.view n) c }
 
   -- a watcher as it is opened
   abbrev pub watcher_at_first : TableId → ℕ → C → Watching C

@@ -5,28 +5,28 @@ ghost use mathlib.Core.Option.{some};
 ghost use Rattle.rcu_seq.specs.Numbers.{is_running};
 ghost use Rattle.rcu_live.specs.Numbers.{is_own_word, may_open};
 ghost use Rattle.rcu_live.specs.Rule.{AreCleared};
-ghost use Rattle.rcu_live.specs.View.{Closed, Found, Loaded, Opened, after_begin_store, after_deal};
-ghost use Rattle.rcu_live.specs.View.{after_end_store, after_store};
+ghost use Rattle.rcu_live.specs.View.{Closed, Loaded, Opened, OwnWordLoaded};
+ghost use Rattle.rcu_live.specs.View.{after_begin_store, after_deal, after_end_store, after_store};
 ghost use Rattle.rcu_live.specs.View.{engine_seat, next_cpu_seat, watcher_seat};
-ghost use Rattle.rcu_live.specs.Words.{base_of, place};
+ghost use Rattle.rcu_live.specs.Words.{base_of, own_word_index};
 ghost use Rattle.rcu_live.specs.declared.view.Role.TheVariants.{Cpu, Engine};
 
-use crate::client::Client;
+use crate::client::{Client, NoClient};
 use crate::rule::{Begin, Close, DealCpu, DealWatcher, End, Load, LoadOwn, Open, Store, Words};
 use crate::view::View;
-use crate::words::{NUMBER, first_words, place};
+use crate::words::{NUMBER, first_words, own_word_index};
 use atomic_table::{Seat, Table};
 use std::alloc::{AllocError, Global};
 use std::marker::Model;
 
 /// The shared words: the number, a word a processor, and a client's words behind them.
 #[derive(Drop)]
-pub struct Board<S: Drop, C, P: Client<S, C>> {
-    pub(crate) table: Table<S, View<C>, u32, Words<P>, Global>,
+pub struct Board<P: Client = NoClient> {
+    pub(crate) table: Table<P::Slot, View<P::Known>, u32, Words<P>, Global>,
     pub(crate) cpus: u32,
 }
 
-impl<S: Drop, C, P: Client<S, C>> Model for Board<S, C, P> {
+impl<P: Client> Model for Board<P> {
     ghost use Rattle.std.specs.Prelude.{◌≡◌, ◌<◌, ◌≤◌, ◌^◌};
     ghost use Rattle.rcu_live.specs.Board.{Object};
     ghost use Rattle.rcu_live.specs.Words.{base_of};
@@ -45,16 +45,16 @@ impl<S: Drop, C, P: Client<S, C>> Model for Board<S, C, P> {
 }
 
 /// A seat at the shared words.
-pub type Place<S, C> = Seat<S, View<C>>;
+pub type TableSeat<P> = Seat<<P as Client>::Slot, View<<P as Client>::Known>>;
 
-impl<S: Drop, C, P: Client<S, C>> Board<S, C, P> {
+impl<P: Client> Board<P> {
     /// The words with their first seat, which is the engine's and has all parts.
     pub fn open(
         alloc: Global,
         cpus: u32,
         behind: &[u64],
-        slots: Vec<S>,
-    ) -> Result<(Board<S, C, P>, Place<S, C>), AllocError>
+        slots: Vec<P::Slot>,
+    ) -> Result<(Board<P>, TableSeat<P>), AllocError>
         requires some { 0 < cpus }
         requires few { cpus ≤ 4096 }
         requires client { P.holds behind.now (map some slots.items) ((None, None, P.first) ∷ []) }
@@ -82,32 +82,32 @@ impl<S: Drop, C, P: Client<S, C>> Board<S, C, P> {
     }
 
     /// Seat split: the next processor's seat.
-    pub fn deal_cpu(&self, seat: &mut Place<S, C>) -> Place<S, C>
+    pub fn deal_cpu(&self, seat: &mut TableSeat<P>) -> TableSeat<P>
         requires table { seat.old.table_id ≡ self.now.table }
         requires engine { seat.old.me.0.role ≡ Engine }
         requires left { seat.old.me.0.cpu < self.now.cpus }
         ensures table { seat.new.table_id ≡ seat.old.table_id }
         ensures left { seat.new.me.0 ≡ after_deal seat.old.me.0 }
-        ensures inside { place seat.old.me.0.cpu < seat.old.table_id.words }
+        ensures inside { own_word_index seat.old.me.0.cpu < seat.old.table_id.words }
         ensures view { result.me.0 ≡ next_cpu_seat P.idle seat.old.me.0 }
-        ensures place { result.table_id ≡ seat.old.table_id }
+        ensures seat { result.table_id ≡ seat.old.table_id }
     {
-        self.table.shared.split_seat::<DealCpu<S, P>>(seat)
+        self.table.shared.split_seat::<DealCpu<P>>(seat)
     }
 
     /// Seat split: a watcher's seat.
-    pub fn deal_watcher(&self, seat: &mut Place<S, C>) -> Place<S, C>
+    pub fn deal_watcher(&self, seat: &mut TableSeat<P>) -> TableSeat<P>
         requires table { seat.old.table_id ≡ self.now.table }
         ensures table { seat.new.table_id ≡ seat.old.table_id }
         ensures left { seat.new.me.0 ≡ seat.old.me.0 }
         ensures view { result.me.0 ≡ watcher_seat seat.old.me.0.base P.idle }
-        ensures place { result.table_id ≡ seat.old.table_id }
+        ensures seat { result.table_id ≡ seat.old.table_id }
     {
-        self.table.shared.split_seat::<DealWatcher<S, P>>(seat)
+        self.table.shared.split_seat::<DealWatcher<P>>(seat)
     }
 
-    /// Number load: answers the number.
-    pub fn load(&self, seat: &mut Place<S, C>) -> u64
+    /// Number load: returns the number.
+    pub fn load(&self, seat: &mut TableSeat<P>) -> u64
         requires { seat.old.table_id ≡ self.now.table }
         ensures table { seat.new.table_id ≡ seat.old.table_id }
         ensures told { Loaded seat.old.me.0 result seat.new.me.0 }
@@ -116,11 +116,11 @@ impl<S: Drop, C, P: Client<S, C>> Board<S, C, P> {
         self.table.shared.load::<Load>(seat, NUMBER)
     }
 
-    /// Section-opening load: answers the number at which the section began.
-    pub fn open_section(&self, seat: &mut Place<S, C>) -> u64
+    /// Section-opening load: returns the number at which the section began.
+    pub fn open_section(&self, seat: &mut TableSeat<P>) -> u64
         requires table { seat.old.table_id ≡ self.now.table }
         requires cpu { seat.old.me.0.role ≡ Cpu }
-        requires online { may_open seat.old.me.0.stamp ≡ true }
+        requires online { may_open seat.old.me.0.own_word ≡ true }
         requires shut { seat.old.me.0.section ≡ None }
         ensures table { seat.new.table_id ≡ seat.old.table_id }
         ensures told { Opened seat.old.me.0 result seat.new.me.0 }
@@ -129,8 +129,8 @@ impl<S: Drop, C, P: Client<S, C>> Board<S, C, P> {
         self.table.shared.load::<Open>(seat, NUMBER)
     }
 
-    /// Section-closing load: answers the number.
-    pub fn close_section(&self, seat: &mut Place<S, C>) -> u64
+    /// Section-closing load: returns the number.
+    pub fn close_section(&self, seat: &mut TableSeat<P>) -> u64
         requires { seat.old.table_id ≡ self.now.table }
         ensures table { seat.new.table_id ≡ seat.old.table_id }
         ensures told { Closed P.closed seat.old.me.0 result seat.new.me.0 }
@@ -140,11 +140,11 @@ impl<S: Drop, C, P: Client<S, C>> Board<S, C, P> {
     }
 
     /// Own-word store.
-    pub fn store(&self, seat: &mut Place<S, C>, cpu: u32, word: u64)
+    pub fn store(&self, seat: &mut TableSeat<P>, cpu: u32, word: u64)
         requires table { seat.old.table_id ≡ self.now.table }
         requires cpu { seat.old.me.0.role ≡ Cpu }
         requires own { seat.old.me.0.cpu ≡ cpu }
-        requires inside { place cpu < seat.old.table_id.words }
+        requires inside { own_word_index cpu < seat.old.table_id.words }
         requires shut { seat.old.me.0.section ≡ None }
         requires bounded { is_own_word seat.old.me.0.seen word ≡ true }
         requires boot { cpu ≡ 0 → 0 < word }
@@ -152,23 +152,25 @@ impl<S: Drop, C, P: Client<S, C>> Board<S, C, P> {
         ensures told { seat.new.me.0 ≡ after_store seat.old.me.0 word }
         ensures hand { seat.new.me.1 ≡ seat.old.me.1 }
     {
-        self.table.shared.store::<Store>(seat, place(cpu), word)
+        self.table
+            .shared
+            .store::<Store>(seat, own_word_index(cpu), word)
     }
 
-    /// Processor-word load: answers the processor's own word.
-    pub fn load_own(&self, seat: &mut Place<S, C>, cpu: u32) -> u64
+    /// Processor-word load: returns the processor's own word.
+    pub fn load_own(&self, seat: &mut TableSeat<P>, cpu: u32) -> u64
         requires table { seat.old.table_id ≡ self.now.table }
         requires engine { seat.old.me.0.role ≡ Engine }
         requires inside { cpu < self.now.cpus }
         ensures table { seat.new.table_id ≡ seat.old.table_id }
-        ensures told { Found (place cpu) seat.old.me.0 result seat.new.me.0 }
+        ensures told { OwnWordLoaded (own_word_index cpu) seat.old.me.0 result seat.new.me.0 }
         ensures hand { seat.new.me.1 ≡ seat.old.me.1 }
     {
-        self.table.shared.load::<LoadOwn>(seat, place(cpu))
+        self.table.shared.load::<LoadOwn>(seat, own_word_index(cpu))
     }
 
     /// Begin store: the number becomes the next one, at which a grace period runs.
-    pub fn begin(&self, seat: &mut Place<S, C>, number: u64)
+    pub fn begin(&self, seat: &mut TableSeat<P>, number: u64)
         requires table { seat.old.table_id ≡ self.now.table }
         requires engine { seat.old.me.0.role ≡ Engine }
         requires idle { is_running seat.old.me.0.seen ≡ false }
@@ -182,11 +184,12 @@ impl<S: Drop, C, P: Client<S, C>> Board<S, C, P> {
     }
 
     /// End store: the number becomes the next one, at which none runs.
-    pub fn end(&self, seat: &mut Place<S, C>, number: u64)
+    pub fn end(&self, seat: &mut TableSeat<P>, number: u64)
         requires table { seat.old.table_id ≡ self.now.table }
         requires engine { seat.old.me.0.role ≡ Engine }
         requires running { is_running seat.old.me.0.seen ≡ true }
-        requires cleared { AreCleared self.now.cpus seat.old.me.0.seen seat.old.me.0.finds }
+        requires cleared { AreCleared self.now.cpus seat.old.me.0.seen
+            seat.old.me.0.own_word_loads }
         requires next { number ≡ seat.old.me.0.seen + 3 }
         ensures table { seat.new.table_id ≡ seat.old.table_id }
         ensures told { seat.new.me.0 ≡ after_end_store seat.old.me.0 number }

@@ -1,12 +1,12 @@
-//! What lies under the lock of an object.
+//! What lies under the engine's lock.
 ghost use Rattle.std.specs.Prelude.{◌≡◌, false, length};
 ghost use Rattle.std.specs.Arc.{arc_value};
 ghost use Rattle.rcu_seq.specs.Seq.{number_of};
 ghost use Rattle.rcu_hotplug.specs.Hotplug.{cpus_of};
 ghost use Rattle.rcu_live.specs.View.{IsOfEngine};
 
-use crate::board::{Board, Place};
-use crate::client::{Alone, Client};
+use crate::board::{Board, TableSeat};
+use crate::client::{Client, NoClient};
 use rcu_core::gp_state::GpState;
 use rcu_node::awaited::Awaited;
 use rcu_node::cpu_set::CpuSet;
@@ -20,15 +20,15 @@ use std::sync::Arc;
 /// Between its calls a running grace period awaits each processor that is not cleared: that no load
 /// since the begin found offline, or past a quiescent state.
 #[derive(Drop)]
-pub struct Engine<A: Awaited, T: Drop, S: Drop = (), C = (), P: Client<S, C> = Alone> {
-    pub(crate) board: Arc<Board<S, C, P>, Global>,
-    pub(crate) seat: Place<S, C>,
+pub struct Engine<A: Awaited, T: Drop, P: Client = NoClient> {
+    pub(crate) board: Arc<Board<P>, Global>,
+    pub(crate) seat: TableSeat<P>,
     pub(crate) gp: GpState<A, T>,
-    /// Room for the processors that a begin finds past it.
-    pub(crate) late: CpuSet,
+    /// Room for the processors that a begin finds quiescent already.
+    pub(crate) already_quiescent: CpuSet,
 }
 
-impl<A: Awaited, T: Drop, S: Drop, C, P: Client<S, C>> Model for Engine<A, T, S, C, P> {
+impl<A: Awaited, T: Drop, P: Client> Model for Engine<A, T, P> {
     ghost use Rattle.std.specs.Prelude.{◌≡◌, length};
     ghost use Rattle.std.specs.Arc.{arc_value};
     ghost use Rattle.rcu_seq.specs.Seq.{number_of};
@@ -36,7 +36,7 @@ impl<A: Awaited, T: Drop, S: Drop, C, P: Client<S, C>> Model for Engine<A, T, S,
     ghost use Rattle.rcu_live.specs.Engine.{AwaitsTheOthers, Locked};
     ghost use Rattle.rcu_live.specs.View.{IsOfEngine};
 
-    ghost Value = { Locked C T };
+    ghost Value = { Locked P.Known T };
 
     ghost view = { λ e. record {
       table = (arc_value e.board).table;
@@ -51,18 +51,18 @@ impl<A: Awaited, T: Drop, S: Drop, C, P: Client<S, C>> Model for Engine<A, T, S,
       number : e.seat.me.0.seen ≡ number_of e.gp.seq;
       epoch : e.gp.seq.epoch ≡ 0;
       cpus : cpus_of e.gp.processors ≡ (arc_value e.board).cpus;
-      late : length e.late ≡ (arc_value e.board).cpus;
-      awaited : AwaitsTheOthers (arc_value e.board).cpus e.seat.me.0.finds e.gp;
+      already_quiescent : length e.already_quiescent ≡ (arc_value e.board).cpus;
+      awaited : AwaitsTheOthers (arc_value e.board).cpus e.seat.me.0.own_word_loads e.gp;
     } };
 }
 
-impl<A: Awaited, T: Drop, S: Drop, C, P: Client<S, C>> Engine<A, T, S, C, P> {
+impl<A: Awaited, T: Drop, P: Client> Engine<A, T, P> {
     /// The engine of this seat and state.
     pub(crate) fn new(
-        board: Arc<Board<S, C, P>, Global>,
-        seat: Place<S, C>,
+        board: Arc<Board<P>, Global>,
+        seat: TableSeat<P>,
         gp: GpState<A, T>,
-        late: CpuSet,
+        already_quiescent: CpuSet,
     ) -> Self
         requires fits { seat.table_id ≡ (arc_value board).table }
         requires role { IsOfEngine seat.me.0 }
@@ -70,7 +70,7 @@ impl<A: Awaited, T: Drop, S: Drop, C, P: Client<S, C>> Engine<A, T, S, C, P> {
         requires epoch { gp.seq.epoch ≡ 0 }
         requires idle { gp.seq.running ≡ false }
         requires cpus { cpus_of gp.processors ≡ (arc_value board).cpus }
-        requires late { length late ≡ (arc_value board).cpus }
+        requires already_quiescent { length already_quiescent ≡ (arc_value board).cpus }
         ensures table { result.table ≡ (arc_value board).table }
         ensures cpus { result.cpus ≡ (arc_value board).cpus }
         ensures view { result.view ≡ seat.me.0 }
@@ -80,7 +80,7 @@ impl<A: Awaited, T: Drop, S: Drop, C, P: Client<S, C>> Engine<A, T, S, C, P> {
             board,
             seat,
             gp,
-            late,
+            already_quiescent,
         }
     }
 

@@ -1,8 +1,9 @@
 //! The processors of an engine that come and go.
-ghost use Rattle.std.specs.Prelude.{◌≡◌, ◌≢◌, ◌<◌, IfErr, IfOk, None, OnOk, Some, false, length};
+ghost use Rattle.std.specs.Prelude.{◌≡◌, ◌≢◌, ◌<◌, IfErr, IfOk, OnOk, false, length};
 ghost use Rattle.rcu_cblist.specs.SegList.{callbacks, is_empty};
 ghost use Rattle.rcu_barrier.specs.Lists.{list_of};
-ghost use Rattle.rcu_live.specs.Engine.{latest_found};
+ghost use Rattle.rcu_live.specs.Engine.{latest_word};
+ghost use Rattle.rcu_seq.specs.Memory.{tested_fault};
 ghost use Rattle.rcu_live.specs.EngineLists.{after_departure, after_join, after_leave};
 ghost use Rattle.rcu_live.specs.EngineLists.{after_load_own, leave_refusal};
 
@@ -11,7 +12,7 @@ use crate::engine::Engine;
 use rcu_node::awaited::Awaited;
 use rcu_seq::fault::Fault;
 
-impl<A: Awaited, T: Drop, S: Drop, C, P: Client<S, C>> Engine<A, T, S, C, P> {
+impl<A: Awaited, T: Drop, P: Client> Engine<A, T, P> {
     /// The processor is online here too, where no begin has found it. It is awaited from the next
     /// begin on.
     pub fn join(&mut self, cpu: u32)
@@ -22,7 +23,7 @@ impl<A: Awaited, T: Drop, S: Drop, C, P: Client<S, C>> Engine<A, T, S, C, P> {
     }
 
     /// The processor is offline here too: loads its own word, and where that is 0 the processor
-    /// departs, unless a begin has found it gone, and its list moves to processor 0's. Answers how
+    /// departs, unless a begin has found it gone, and its list moves to processor 0's. Returns how
     /// many callbacks moved. `again` tells that it was offline before.
     ///
     /// Faults: `AlreadyOnline` (3) where its word is not 0; `Offline` (2) where it was offline
@@ -33,20 +34,16 @@ impl<A: Awaited, T: Drop, S: Drop, C, P: Client<S, C>> Engine<A, T, S, C, P> {
         requires { cpu < self.old.cpus }
         ensures moved { IfOk result (λ moved.
             moved ≡ length (callbacks (list_of self.old.grace.lists cpu))) }
-        ensures accepted { OnOk result
-            (leave_refusal self.old cpu again (latest_found self.new.view.finds) ≡ None) }
+        ensures fault { tested_fault result
+            ≡ leave_refusal self.old cpu again (latest_word self.new) }
         ensures state { OnOk result
-            (self.new ≡ after_leave self.old cpu (latest_found self.new.view.finds)) }
-        ensures refused { IfErr result (λ fault. fault ≢ Fault.NoMemory →
-            leave_refusal self.old cpu again (latest_found self.new.view.finds) ≡ Some fault) }
+            (self.new ≡ after_leave self.old cpu (latest_word self.new)) }
         ensures looked { IfErr result (λ fault. fault ≢ Fault.NoMemory →
-            self.new ≡ after_load_own self.old cpu (latest_found self.new.view.finds)) }
-        ensures memory { IfErr result (λ fault. fault ≡ Fault.NoMemory →
-            leave_refusal self.old cpu again (latest_found self.new.view.finds) ≡ None) }
+            self.new ≡ after_load_own self.old cpu (latest_word self.new)) }
         ensures some { IfErr result (λ fault. fault ≡ Fault.NoMemory →
             is_empty (list_of self.old.grace.lists cpu) ≡ false) }
         ensures departed { IfErr result (λ fault. fault ≡ Fault.NoMemory →
-            self.new ≡ after_departure self.old cpu (latest_found self.new.view.finds)) }
+            self.new ≡ after_departure self.old cpu (latest_word self.new)) }
     {
         if self.board.load_own(&mut self.seat, cpu) != 0 {
             return Err(Fault::AlreadyOnline);

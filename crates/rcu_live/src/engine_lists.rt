@@ -1,36 +1,40 @@
 //! The callbacks of an engine, and the barrier over them.
-ghost use Rattle.std.specs.Prelude.{◌≡◌, ◌≢◌, ◌<◌, ◌≤◌, ◌^◌, All, IfErr, IfOk, OnErr, OnOk, []};
-ghost use Rattle.std.specs.Prelude.{length, true, false};
-ghost use Rattle.rcu_live.specs.Engine.{HasWaited};
+ghost use Rattle.std.specs.Prelude.{◌≡◌, ◌≢◌, ◌<◌, ◌≤◌, ◌^◌, IfErr, IfOk, OnErr, OnOk};
+ghost use Rattle.std.specs.Prelude.{[], length, true};
+ghost use Rattle.std.specs.Result.{result_err};
+ghost use Rattle.rcu_live.specs.Engine.{cpu_refusal};
 ghost use Rattle.rcu_seq.specs.Seq.{number_of};
 ghost use Rattle.rcu_node.specs.CpuSet.{is_in};
 ghost use Rattle.rcu_cblist.specs.SegList.{behind, callbacks, front, take_answer};
-ghost use Rattle.rcu_barrier.specs.Lists.{barrier_test_answer, list_of, most_queued};
-ghost use Rattle.rcu_barrier.specs.Lists.{visit_answer, visit_fault};
+ghost use Rattle.rcu_barrier.specs.Lists.{barrier_test_answer, list_of};
+ghost use Rattle.rcu_barrier.specs.Lists.{visit_answer};
 ghost use Rattle.rcu_core.specs.GpState as grace;
-ghost use Rattle.rcu_live.specs.EngineLists.{on_grace, queue_refusal};
-ghost use Rattle.rcu_live.specs.Numbers.{is_number_word};
+ghost use Rattle.rcu_live.specs.EngineLists.{AreDue, barrier_begin_refusal};
+ghost use Rattle.rcu_live.specs.EngineLists.{barrier_test_refusal, on_grace, queue_refusal};
+ghost use Rattle.rcu_live.specs.EngineLists.{visit_refusal};
+ghost use Rattle.rcu_seq.specs.Memory.{tested_fault};
 
 use crate::client::Client;
 use crate::engine::Engine;
-use crate::ran::Ran;
+use crate::run::Ran;
 use rcu_barrier::barrier_state::BarrierState;
 use rcu_barrier::visit::Visit;
 use rcu_cblist::refused::Refused;
 use rcu_node::awaited::Awaited;
 use rcu_seq::fault::Fault;
 
-impl<A: Awaited, T: Drop, S: Drop, C, P: Client<S, C>> Engine<A, T, S, C, P> {
-    /// Queues a callback on a processor, at the number. Answers how many were queued, which is its
+impl<A: Awaited, T: Drop, P: Client> Engine<A, T, P> {
+    /// Queues a callback on a processor, at the number. Returns how many were queued, which is its
     /// place among them.
     ///
-    /// Faults, which hand the value back: `Offline` (2) where the processor is not online here;
-    /// `CallbacksFull` (15) where 1,000,000 were queued; `NoMemory` (16).
+    /// Faults, with the value: `Offline` (2) where the processor is not online here;
+    /// `CallbacksFull` (15) where as many were queued as may be; `NoMemory` (16).
     pub fn queue(&mut self, cpu: u32, value: T) -> Result<u64, Refused<T>>
         requires { cpu < self.old.cpus }
         ensures count { IfOk result (λ count. count ≡ self.new.grace.lists.queued) }
+        ensures bounded { IfOk result (λ count. count ≤ 2 ^ 62) }
         ensures online { OnOk result (is_in self.old.grace.processors.online cpu ≡ true) }
-        ensures room { OnOk result (self.old.grace.lists.queued < most_queued) }
+        ensures room { OnOk result (self.old.grace.lists.queued < self.old.grace.lists.most) }
         ensures state { OnOk result
             (self.new ≡ on_grace (λ g. grace.after_queue g cpu value) self.old) }
         ensures fault { IfErr result (λ refused. refused.fault ≡ queue_refusal self.old cpu) }
@@ -46,20 +50,18 @@ impl<A: Awaited, T: Drop, S: Drop, C, P: Client<S, C>> Engine<A, T, S, C, P> {
         self.gp.queue(cpu, value)
     }
 
-    /// Brings the marks of a processor's callbacks up to the number. Answers how many callbacks of
+    /// Brings the marks of a processor's callbacks up to the number. Returns how many callbacks of
     /// the list are done and how many wait then.
     ///
     /// Fault `BadCpu` (1): there is no such processor.
     pub fn tend(&mut self, cpu: u32) -> Result<(u64, u64), Fault>
-        ensures accepted { OnOk result (cpu < self.old.cpus) }
+        ensures fault { result_err result ≡ cpu_refusal self.old cpu }
         ensures state { OnOk result
             (self.new ≡ on_grace (λ g. grace.after_tend g cpu) self.old) }
         ensures done { IfOk result (λ tended.
             tended.0 ≡ length (callbacks (front (list_of self.new.grace.lists cpu)))) }
         ensures waiting { IfOk result (λ tended.
             tended.1 ≡ length (callbacks (behind (list_of self.new.grace.lists cpu)))) }
-        ensures fault { IfErr result (λ fault. fault ≡ Fault.BadCpu) }
-        ensures refused { OnErr result (self.old.cpus ≤ cpu) }
         ensures unchanged { OnErr result (self.new ≡ self.old) }
     {
         if cpu >= self.cpus() {
@@ -68,24 +70,18 @@ impl<A: Awaited, T: Drop, S: Drop, C, P: Client<S, C>> Engine<A, T, S, C, P> {
         Ok(self.gp.tend(cpu))
     }
 
-    /// Hands out the first callbacks of a processor's done part, at most so many, with the number:
+    /// Hands out the first callbacks of a processor's done part, at most `max`, with the number:
     /// only such that a full grace period has passed since their queueing.
     ///
     /// Faults: `BadCpu` (1); `NoMemory` (16), only where it has a callback to hand out.
     pub fn run(&mut self, cpu: u32, max: u64) -> Result<Ran<T>, Fault>
-        ensures accepted { OnOk result (cpu < self.old.cpus) }
+        ensures fault { tested_fault result ≡ cpu_refusal self.old cpu }
         ensures number { IfOk result (λ ran. ran.number ≡ number_of self.old.grace.seq) }
         ensures calls { IfOk result (λ ran.
             ran.calls.items ≡ take_answer (list_of self.old.grace.lists cpu) max) }
         ensures state { OnOk result
             (self.new ≡ on_grace (λ g. grace.after_run g cpu max) self.old) }
-        ensures waited { IfOk result (λ ran.
-            All (λ call. HasWaited ran.number call.at) ran.calls.items) }
-        ensures bounded { IfOk result (λ ran. ran.number ≤ 2 ^ 62) }
-        ensures word { IfOk result (λ ran. is_number_word ran.number ≡ true) }
-        ensures most { IfOk result (λ ran. length ran.calls.items ≤ max) }
-        ensures bad { IfErr result (λ fault. self.old.cpus ≤ cpu → fault ≡ Fault.BadCpu) }
-        ensures memory { IfErr result (λ fault. cpu < self.old.cpus → fault ≡ Fault.NoMemory) }
+        ensures due { IfOk result (λ ran. AreDue ran.number max ran.calls.items) }
         ensures some { OnErr result (cpu < self.old.cpus →
             take_answer (list_of self.old.grace.lists cpu) max ≢ []) }
         ensures unchanged { OnErr result (self.new ≡ self.old) }
@@ -102,11 +98,9 @@ impl<A: Awaited, T: Drop, S: Drop, C, P: Client<S, C>> Engine<A, T, S, C, P> {
     ///
     /// Fault `BarrierBusy` (13): one runs.
     pub fn barrier_begin(&mut self) -> Result<(), Fault>
-        ensures idle { OnOk result (self.old.grace.lists.running ≡ false) }
+        ensures fault { result_err result ≡ barrier_begin_refusal self.old }
         ensures state { OnOk result
             (self.new ≡ on_grace (λ g. grace.after_barrier_begin g) self.old) }
-        ensures fault { IfErr result (λ fault. fault ≡ Fault.BarrierBusy) }
-        ensures running { OnErr result (self.old.grace.lists.running ≡ true) }
         ensures unchanged { OnErr result (self.new ≡ self.old) }
     {
         self.gp.barrier_begin()
@@ -117,15 +111,11 @@ impl<A: Awaited, T: Drop, S: Drop, C, P: Client<S, C>> Engine<A, T, S, C, P> {
     /// Faults: `BadCpu` (1); `NoBarrier` (14) where none runs; `NoMemory` (16), only where it would
     /// put a marker.
     pub fn visit(&mut self, cpu: u32) -> Result<Visit, Fault>
-        ensures accepted { OnOk result (cpu < self.old.cpus) }
-        ensures running { OnOk result (self.old.grace.lists.running ≡ true) }
+        ensures fault { tested_fault result ≡ visit_refusal self.old cpu }
         ensures answer { IfOk result (λ visit. visit ≡ visit_answer self.old.grace.lists cpu) }
         ensures state { OnOk result
             (self.new ≡ on_grace (λ g. grace.after_visit g cpu) self.old) }
-        ensures bad { IfErr result (λ fault. self.old.cpus ≤ cpu → fault ≡ Fault.BadCpu) }
-        ensures fault { IfErr result (λ fault. cpu < self.old.cpus →
-            fault ≡ visit_fault self.old.grace.lists) }
-        ensures memory { OnErr result (cpu < self.old.cpus → self.old.grace.lists.running ≡ true →
+        ensures memory { IfErr result (λ fault. fault ≡ Fault.NoMemory →
             visit_answer self.old.grace.lists cpu ≡ Visit.Marked) }
         ensures unchanged { OnErr result (self.new ≡ self.old) }
     {
@@ -141,11 +131,9 @@ impl<A: Awaited, T: Drop, S: Drop, C, P: Client<S, C>> Engine<A, T, S, C, P> {
     pub fn barrier_test(&mut self) -> Result<BarrierState, Fault>
         ensures answer { IfOk result (λ found.
             found ≡ barrier_test_answer self.old.grace.lists) }
-        ensures running { OnOk result (self.old.grace.lists.running ≡ true) }
+        ensures fault { result_err result ≡ barrier_test_refusal self.old }
         ensures state { OnOk result
             (self.new ≡ on_grace (λ g. grace.after_barrier_test g) self.old) }
-        ensures fault { IfErr result (λ fault. fault ≡ Fault.NoBarrier) }
-        ensures idle { OnErr result (self.old.grace.lists.running ≡ false) }
         ensures unchanged { OnErr result (self.new ≡ self.old) }
     {
         self.gp.barrier_test()

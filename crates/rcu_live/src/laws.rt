@@ -11,7 +11,7 @@ ghost use Rattle.rcu_live.specs.Engine.{AwaitsTheOthers};
 ghost use Rattle.rcu_live.specs.Met.{MeetsSection};
 ghost use Rattle.rcu_live.specs.Rule.{IsKept};
 ghost use Rattle.rcu_live.specs.View.{IsOfEngine};
-ghost use Rattle.rcu_live.specs.declared.met.Met.{Met};
+ghost use Rattle.rcu_live.specs.declared.meeting.Met.{Met};
 ghost use Rattle.rcu_live.specs.declared.view.Role.TheVariants.{Cpu};
 ghost use Rattle.rcu_live.specs.declared.view.View.{View};
 
@@ -35,23 +35,25 @@ pub fn done_cookies_are_older_than_the_section_met()
 /// The rule holds of the words and all views, and the engine, whose seat has one of these, awaits
 /// every processor that is not cleared. Then, while a grace period runs, it awaits the processor of
 /// each section that is open and began before that.
-pub fn old_sections_are_awaited<T: Drop, S: Drop, C, P: Client<S, C>>()
-    ensures { (cpus : ℕ) (s : State S (View C)) (i j : ℕ) (engine seat : View C) (g : Grace T)
-        (at : ℕ) → IsKept P.holds cpus s → get_elem? s.views i ≡ some engine →
-        IsOfEngine engine → engine.seen ≡ number_of g.seq →
-        AwaitsTheOthers cpus engine.finds g → g.seq.running ≡ true →
-        get_elem? s.views j ≡ some seat → seat.role ≡ Cpu → seat.section ≡ Some at →
-        at < engine.seen → is_in g.processors.awaited seat.cpu ≡ true }
+pub fn old_sections_are_awaited<T: Drop, P: Client>()
+    ensures { (cpus : ℕ) (s : State P.Slot (View P.Known)) (i j : ℕ)
+        (engine seat : View P.Known) (g : Grace T) (at : ℕ) → IsKept P.holds cpus s →
+        get_elem? s.views i ≡ some engine → IsOfEngine engine →
+        engine.seen ≡ number_of g.seq → AwaitsTheOthers cpus engine.own_word_loads g →
+        g.seq.running ≡ true → get_elem? s.views j ≡ some seat → seat.role ≡ Cpu →
+        seat.section ≡ Some at → at < engine.seen →
+        is_in g.processors.awaited seat.cpu ≡ true }
 {}
 
 /// A section is open where a cookie is taken, and one of the same beginning where that is polled.
 /// The rule holds of the words and all views at both moments, as at each. Then the poll does not
-/// answer done: where a cookie tests done, each section that was open at its taking has ended.
-pub fn readers_finish_before_done<S: Drop, C, P: Client<S, C>>()
-    ensures { (cpus : ℕ) (before after : State S (View C)) (i j : ℕ) (first later : View C)
-        (at : ℕ) → IsKept P.holds cpus before → IsKept P.holds cpus after →
-        get_elem? before.views i ≡ some first → first.role ≡ Cpu → first.section ≡ Some at →
-        get_elem? after.views j ≡ some later → later.role ≡ Cpu → later.section ≡ Some at →
+/// return done: where a cookie tests done, each section that was open at its taking has ended.
+pub fn readers_finish_before_done<P: Client>()
+    ensures { (cpus : ℕ) (before after : State P.Slot (View P.Known)) (i j : ℕ)
+        (first later : View P.Known) (at : ℕ) → IsKept P.holds cpus before →
+        IsKept P.holds cpus after → get_elem? before.views i ≡ some first →
+        first.role ≡ Cpu → first.section ≡ Some at → get_elem? after.views j ≡ some later →
+        later.role ≡ Cpu → later.section ≡ Some at →
         is_done_first (cookie_at (of_first_epoch (slice_index before.words 0)))
         (slice_index after.words 0) ≡ false }
 {}

@@ -1,27 +1,40 @@
 //! The running engine: the shared words, and the seats by which threads read them without a lock.
 #![tactic(auto)]
 
-pub mod apart;
+mod begin;
 pub mod board;
 pub mod client;
 mod client_words;
-pub mod collected;
+pub mod collection;
 pub mod cpu_seat;
-mod dealing;
 pub mod engine;
 pub mod engine_cpus;
 pub mod engine_lists;
-mod finding;
+pub mod grace_periods;
 pub mod laws;
 pub mod live;
 mod locked;
 mod locked_lists;
-pub mod met;
-mod opening;
-pub mod periods;
-pub mod ran;
+pub mod meeting;
+pub mod opening;
+pub mod parts;
 pub mod reading;
 pub mod rule;
+pub mod run;
+mod seats;
+pub mod shared;
 pub mod view;
 pub mod watcher;
 pub mod words;
+
+pub use board::Board;
+pub use client::{Client, NoClient, NumberStep, WordStep};
+pub use collection::Collected;
+pub use cpu_seat::CpuSeat;
+pub use engine::Engine;
+pub use live::Live;
+pub use meeting::Met;
+pub use parts::Parts;
+pub use run::Ran;
+pub use shared::Shared;
+pub use watcher::Watcher;

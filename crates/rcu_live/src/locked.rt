@@ -1,27 +1,22 @@
-//! The calls that take the lock of an object. What each does to the engine is said where it is lent
+//! The calls that take the engine's lock. What each does to the engine is said where it is lent
 //! the engine: no clause here can name what a lock was found to keep.
 ghost use Rattle.std.specs.Prelude.{◌≡◌, ◌≤◌, Err, IfErr, None, OnErr, OnOk, Some, true};
+ghost use Rattle.std.specs.Result.{result_err};
 ghost use Rattle.rcu_seq.specs.declared.fault.Fault.{Fault};
 ghost use Rattle.rcu_live.specs.CpuSeat.{after_depart, after_quiesce, arrive_refusal};
 ghost use Rattle.rcu_live.specs.CpuSeat.{depart_refusal};
 ghost use Rattle.rcu_live.specs.EngineLists.{is_leave_fault};
 
 use crate::client::Client;
-use crate::collected::Collected;
+use crate::collection::Collected;
 use crate::cpu_seat::CpuSeat;
 use crate::live::Live;
 use rcu_core::turned::Turned;
+use rcu_node::awaited::Awaited;
 use rcu_seq::fault::Fault;
 use std::sync::Wait;
 
-impl<const LEAF: u32, const FAN: u32, T: Drop, S: Drop, C, P: Client<S, C>> Live<
-    LEAF,
-    FAN,
-    T,
-    S,
-    C,
-    P,
-> {
+impl<const LEAF: u32, const FAN: u32, T: Drop, P: Client> Live<LEAF, FAN, T, P> {
     /// Looks for a quiescent state of the processor, as [`Engine::collect`](crate::engine::Engine).
     ///
     /// Fault `BadCpu` (1): there is no such processor.
@@ -40,20 +35,26 @@ impl<const LEAF: u32, const FAN: u32, T: Drop, S: Drop, C, P: Client<S, C>> Live
         self.engine.lock(rt).turn()
     }
 
+    /// Whether the grace period that runs awaits the processor, so that a program learns whose
+    /// thread holds it up: false too where none runs, and where there is no such processor.
+    pub fn awaits(&self, rt: &impl Wait, cpu: u32) -> bool {
+        let engine = self.engine.lock(rt);
+        cpu < engine.cpus() && engine.grace().awaited().awaits(cpu)
+    }
+
     /// Brings the processor online: one load of the number, and one more than it in the own word;
     /// then, under the lock, as [`Engine::join`](crate::engine::Engine).
     ///
     /// Fault `AlreadyOnline` (3): the processor is online.
-    pub fn online(&self, rt: &impl Wait, seat: &mut CpuSeat<S, C>) -> Result<(), Fault>
+    pub fn online(&self, rt: &impl Wait, seat: &mut CpuSeat<P>) -> Result<(), Fault>
         requires { seat.old.table ≡ self.now.table }
         ensures table { seat.new.table ≡ seat.old.table }
-        ensures accepted { OnOk result (arrive_refusal seat.old ≡ None) }
-        ensures arrived { OnOk result (seat.new ≡ after_quiesce seat.old seat.new.view.seen) }
+        ensures fault { result_err result ≡ arrive_refusal seat.old }
+        ensures state { OnOk result (seat.new ≡ after_quiesce seat.old seat.new.view.seen) }
         ensures later { OnOk result (seat.old.view.seen ≤ seat.new.view.seen) }
-        ensures refused { IfErr result (λ fault. arrive_refusal seat.old ≡ Some fault) }
         ensures unchanged { OnErr result (seat.new ≡ seat.old) }
     {
-        seat.arrive_on(self.board())?;
+        seat.arrive(self)?;
         self.join(rt, seat.cpu());
         Ok(())
     }
@@ -68,30 +69,30 @@ impl<const LEAF: u32, const FAN: u32, T: Drop, S: Drop, C, P: Client<S, C>> Live
     }
 
     /// Takes the processor offline: its own word becomes 0, also where it is; then, under the lock,
-    /// as [`Engine::leave`](crate::engine::Engine). Answers how many callbacks moved to processor
-    /// 0's list. Refused memory, the same call again finishes that.
+    /// as [`Engine::leave`](crate::engine::Engine). Returns how many callbacks moved to processor
+    /// 0's list. After fault 16 the same call again finishes that.
     ///
     /// Faults: `BootStays` (12) for processor 0; `InSection` (4) where a section is open; `Offline`
     /// (2) where it was offline and its list is empty; `NoMemory` (16), where it is offline from
     /// now on. Under the lock it passes on `AlreadyOnline` (3), which it never meets.
-    pub fn offline(&self, rt: &impl Wait, seat: &mut CpuSeat<S, C>) -> Result<u64, Fault>
+    pub fn offline(&self, rt: &impl Wait, seat: &mut CpuSeat<P>) -> Result<u64, Fault>
         requires { seat.old.table ≡ self.now.table }
         ensures table { seat.new.table ≡ seat.old.table }
-        ensures refused { (fault : Fault) → depart_refusal seat.old ≡ Some fault →
+        ensures fault { (fault : Fault) → depart_refusal seat.old ≡ Some fault →
             result ≡ Err fault }
         ensures unchanged { (fault : Fault) → depart_refusal seat.old ≡ Some fault →
             seat.new ≡ seat.old }
         ensures stored { depart_refusal seat.old ≡ None → seat.new ≡ after_depart seat.old }
-        ensures fault { IfErr result (λ fault. depart_refusal seat.old ≡ None →
+        ensures leave_fault { IfErr result (λ fault. depart_refusal seat.old ≡ None →
             is_leave_fault fault ≡ true) }
         ensures again { IfErr result (λ fault. depart_refusal seat.old ≡ None →
-            fault ≡ Fault.Offline → seat.old.view.stamp ≡ 0) }
+            fault ≡ Fault.Offline → seat.old.view.own_word ≡ 0) }
     {
-        let again = seat.depart_on(self.board())?;
+        let again = seat.depart(self)?;
         self.leave(rt, seat.cpu(), again)
     }
 
-    /// The processor leaves the engine, under the lock. Answers how many callbacks moved.
+    /// The processor leaves the engine, under the lock. Returns how many callbacks moved.
     fn leave(&self, rt: &impl Wait, cpu: u32, again: bool) -> Result<u64, Fault>
         ensures fault { IfErr result (λ fault. is_leave_fault fault ≡ true) }
         ensures again { IfErr result (λ fault. fault ≡ Fault.Offline → again ≡ true) }

@@ -1,43 +1,29 @@
-//! The calls that take the lock of an object for its callbacks.
-ghost use Rattle.std.specs.Prelude.{◌≡◌, ◌<◌, ◌≤◌, ◌^◌, All, IfErr, IfOk, length, true};
-ghost use Rattle.rcu_live.specs.Engine.{HasWaited};
-ghost use Rattle.rcu_barrier.specs.Lists.{most_queued};
-ghost use Rattle.rcu_live.specs.EngineLists.{is_queue_fault, is_run_fault, is_visit_fault};
-ghost use Rattle.rcu_live.specs.Numbers.{is_number_word};
+//! The calls that take the engine's lock for its callbacks.
+ghost use Rattle.std.specs.Prelude.{◌≡◌, ◌<◌, ◌≤◌, ◌^◌, IfErr, IfOk, true};
+ghost use Rattle.rcu_live.specs.EngineLists.{AreDue, is_queue_fault, is_run_fault};
+ghost use Rattle.rcu_live.specs.EngineLists.{is_visit_fault};
 
 use crate::client::Client;
 use crate::cpu_seat::CpuSeat;
 use crate::live::Live;
-use crate::ran::Ran;
+use crate::run::Ran;
 use rcu_barrier::barrier_state::BarrierState;
 use rcu_barrier::visit::Visit;
 use rcu_cblist::refused::Refused;
 use rcu_seq::fault::Fault;
 use std::sync::Wait;
 
-impl<const LEAF: u32, const FAN: u32, T: Drop, S: Drop, C, P: Client<S, C>> Live<
-    LEAF,
-    FAN,
-    T,
-    S,
-    C,
-    P,
-> {
+impl<const LEAF: u32, const FAN: u32, T: Drop, P: Client> Live<LEAF, FAN, T, P> {
     /// Queues a callback on the processor, as [`Engine::queue`](crate::engine::Engine). Over the
-    /// object's life at most 1,000,000 are queued.
+    /// engine's life at most as many are queued as its opening chose.
     ///
-    /// Faults, which hand the value back: `Offline` (2) where the processor is not online under the
-    /// lock; `CallbacksFull` (15); `NoMemory` (16).
-    pub fn queue(
-        &self,
-        rt: &impl Wait,
-        seat: &mut CpuSeat<S, C>,
-        value: T,
-    ) -> Result<u64, Refused<T>>
+    /// Faults, with the value: `Offline` (2) where the processor is not online under the lock;
+    /// `CallbacksFull` (15); `NoMemory` (16).
+    pub fn queue(&self, rt: &impl Wait, seat: &mut CpuSeat<P>, value: T) -> Result<u64, Refused<T>>
         requires { seat.old.table ≡ self.now.table }
         ensures seat { seat.new ≡ seat.old }
         ensures any { IfOk result (λ count. 0 < count) }
-        ensures most { IfOk result (λ count. count ≤ most_queued) }
+        ensures bounded { IfOk result (λ count. count ≤ 2 ^ 62) }
         ensures fault { IfErr result (λ refused. is_queue_fault refused.fault ≡ true) }
         ensures value { IfErr result (λ refused. refused.value ≡ value) }
     {
@@ -63,17 +49,13 @@ impl<const LEAF: u32, const FAN: u32, T: Drop, S: Drop, C, P: Client<S, C>> Live
         self.engine.lock(rt).tend(cpu)
     }
 
-    /// Hands out done callbacks of a processor, at most so many, as
+    /// Hands out done callbacks of a processor, at most `max`, as
     /// [`Engine::run`](crate::engine::Engine): only such that a full grace period has passed since
     /// their queueing.
     ///
     /// Faults: `BadCpu` (1); `NoMemory` (16).
     pub fn run(&self, rt: &impl Wait, cpu: u32, max: u64) -> Result<Ran<T>, Fault>
-        ensures waited { IfOk result (λ ran.
-            All (λ call. HasWaited ran.number call.at) ran.calls.items) }
-        ensures bounded { IfOk result (λ ran. ran.number ≤ 2 ^ 62) }
-        ensures word { IfOk result (λ ran. is_number_word ran.number ≡ true) }
-        ensures most { IfOk result (λ ran. length ran.calls.items ≤ max) }
+        ensures due { IfOk result (λ ran. AreDue ran.number max ran.calls.items) }
         ensures fault { IfErr result (λ fault. is_run_fault fault ≡ true) }
     {
         self.engine.lock(rt).run(cpu, max)

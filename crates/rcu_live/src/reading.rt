@@ -1,6 +1,7 @@
 //! A watcher that meets an open section, with no handle: nothing here waits or takes memory.
 ghost use Rattle.std.specs.Prelude.{◌≡◌, ◌+◌, IfErr, IfOk, IsOk, IsSome, None, OnErr, OnOk};
-ghost use Rattle.std.specs.Prelude.{Some, false};
+ghost use Rattle.std.specs.Prelude.{false};
+ghost use Rattle.std.specs.Result.{result_err};
 ghost use Rattle.rcu_live.specs.CpuSeat.{quiesce_refusal};
 
 use crate::client::Client;
@@ -11,10 +12,10 @@ use rcu_seq::fault::Fault;
 
 /// A watcher meets an open section, takes a cookie, polls it, and meets the section again. Whether
 /// the cookie tested done: it never does.
-pub fn is_done_beside<const LEAF: u32, const FAN: u32, T: Drop, S: Drop, C, P: Client<S, C>>(
-    live: &Live<LEAF, FAN, T, S, C, P>,
-    seat: &mut CpuSeat<S, C>,
-    watcher: &mut Watcher<S, C>,
+pub fn is_done_beside<const LEAF: u32, const FAN: u32, T: Drop, P: Client>(
+    live: &Live<LEAF, FAN, T, P>,
+    seat: &mut CpuSeat<P>,
+    watcher: &mut Watcher<P>,
 ) -> bool
     requires seat { seat.old.table ≡ live.now.table }
     requires watcher { watcher.old.table ≡ live.now.table }
@@ -23,7 +24,7 @@ pub fn is_done_beside<const LEAF: u32, const FAN: u32, T: Drop, S: Drop, C, P: C
     ensures watcher { watcher.new.table ≡ watcher.old.table }
     ensures cpu { seat.new.cpu ≡ seat.old.cpu }
     ensures depth { seat.new.depth ≡ seat.old.depth }
-    ensures stamp { seat.new.view.stamp ≡ seat.old.view.stamp }
+    ensures own_word { seat.new.view.own_word ≡ seat.old.view.own_word }
     ensures looked { seat.new.view.loads ≡ seat.old.view.loads + 2 }
     ensures stored { seat.new.view.stores ≡ seat.old.view.stores }
     ensures watched { watcher.new.view.loads ≡ watcher.old.view.loads + 4 }
@@ -38,11 +39,12 @@ pub fn is_done_beside<const LEAF: u32, const FAN: u32, T: Drop, S: Drop, C, P: C
 
 /// The processor passes a quiescent state, reads beside the watcher, and passes another one.
 ///
-/// Faults: `Offline` (2) where the processor is offline; `InSection` (4) where a section is open.
-pub fn read_beside<const LEAF: u32, const FAN: u32, T: Drop, S: Drop, C, P: Client<S, C>>(
-    live: &Live<LEAF, FAN, T, S, C, P>,
-    seat: &mut CpuSeat<S, C>,
-    watcher: &mut Watcher<S, C>,
+/// Faults: `Offline` (2) where the processor is offline; `CpuIdle` (23) where it is idle;
+/// `InSection` (4) where a section is open.
+pub fn read_beside<const LEAF: u32, const FAN: u32, T: Drop, P: Client>(
+    live: &Live<LEAF, FAN, T, P>,
+    seat: &mut CpuSeat<P>,
+    watcher: &mut Watcher<P>,
 ) -> Result<bool, Fault>
     requires seat { seat.old.table ≡ live.now.table }
     requires watcher { watcher.old.table ≡ live.now.table }
@@ -51,8 +53,7 @@ pub fn read_beside<const LEAF: u32, const FAN: u32, T: Drop, S: Drop, C, P: Clie
     ensures looked { OnOk result (seat.new.view.loads ≡ seat.old.view.loads + 6) }
     ensures stored { OnOk result (seat.new.view.stores ≡ seat.old.view.stores + 2) }
     ensures watched { OnOk result (watcher.new.view.loads ≡ watcher.old.view.loads + 4) }
-    ensures accepted { OnOk result (quiesce_refusal seat.old ≡ None) }
-    ensures refused { IfErr result (λ fault. quiesce_refusal seat.old ≡ Some fault) }
+    ensures fault { result_err result ≡ quiesce_refusal seat.old }
     ensures unchanged { OnErr result (seat.new ≡ seat.old) }
     ensures unwatched { OnErr result (watcher.new ≡ watcher.old) }
     ensures never { IfOk result (λ is_done. is_done ≡ false) }
@@ -63,12 +64,12 @@ pub fn read_beside<const LEAF: u32, const FAN: u32, T: Drop, S: Drop, C, P: Clie
     Ok(is_done)
 }
 
-/// The processor, which is online with no open section, reads beside the watcher in a section of
-/// its own. No fault comes.
-fn read_once<const LEAF: u32, const FAN: u32, T: Drop, S: Drop, C, P: Client<S, C>>(
-    live: &Live<LEAF, FAN, T, S, C, P>,
-    seat: &mut CpuSeat<S, C>,
-    watcher: &mut Watcher<S, C>,
+/// The processor, which is online and awake with no open section, reads beside the watcher in a
+/// section of its own. No fault comes.
+fn read_once<const LEAF: u32, const FAN: u32, T: Drop, P: Client>(
+    live: &Live<LEAF, FAN, T, P>,
+    seat: &mut CpuSeat<P>,
+    watcher: &mut Watcher<P>,
 ) -> Result<bool, Fault>
     requires seat { seat.old.table ≡ live.now.table }
     requires watcher { watcher.old.table ≡ live.now.table }

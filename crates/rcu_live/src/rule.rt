@@ -1,7 +1,7 @@
 //! The rule of the shared words as the table takes it, and what each kind of step on them tells.
 ghost use Rattle.std.specs.Prelude.{◌≡◌};
 
-use crate::client::{Client, Lesson, Outcome};
+use crate::client::{Client, NumberStep, WordStep};
 use crate::view::View;
 use atomic_table::{Play, Split, TableRule};
 use std::marker::PhantomData;
@@ -11,7 +11,7 @@ pub struct Words<P> {
     client: PhantomData<P>,
 }
 
-impl<S, C, P: Client<S, C>> TableRule<S, View<C>, u32> for Words<P> {
+impl<P: Client> TableRule<P::Slot, View<P::Known>, u32> for Words<P> {
     ghost use Rattle.rcu_live.specs.Rule.{IsKept};
     ghost use Rattle.rcu_live.specs.View.{engine_seat};
 
@@ -43,7 +43,7 @@ pub struct Close<P> {
     client: PhantomData<P>,
 }
 
-impl<S, C, P: Client<S, C>> Play<S, View<C>> for Close<P> {
+impl<P: Client> Play<P::Slot, View<P::Known>> for Close<P> {
     ghost use Rattle.rcu_live.specs.View.{Closed};
 
     ghost then = { λ _ me n now. Closed P.closed me.0 n now.0 × (now.1 ≡ me.1) };
@@ -62,9 +62,9 @@ impl<S, C> Play<S, View<C>> for Store {
 pub struct LoadOwn;
 
 impl<S, C> Play<S, View<C>> for LoadOwn {
-    ghost use Rattle.rcu_live.specs.View.{Found};
+    ghost use Rattle.rcu_live.specs.View.{OwnWordLoaded};
 
-    ghost then = { λ step me word now. Found step.word me.0 word now.0 × (now.1 ≡ me.1) };
+    ghost then = { λ step me word now. OwnWordLoaded step.word me.0 word now.0 × (now.1 ≡ me.1) };
 }
 
 /// Begin store.
@@ -86,33 +86,33 @@ impl<S, C> Play<S, View<C>> for End {
 }
 
 /// A client's step on one of its words.
-pub struct Use<M> {
+pub struct OnWord<M> {
     outcome: PhantomData<M>,
 }
 
-impl<S, C, M: Outcome<C>> Play<S, View<C>> for Use<M> {
-    ghost use Rattle.rcu_live.specs.View.{Used};
+impl<S, C, M: WordStep<C>> Play<S, View<C>> for OnWord<M> {
+    ghost use Rattle.rcu_live.specs.View.{SteppedOnWord};
 
-    ghost then = { λ step me n now. Used M.then step.word me.0 n now.0 × (now.1 ≡ me.1) };
+    ghost then = { λ step me n now. SteppedOnWord M.then step.word me.0 n now.0 × (now.1 ≡ me.1) };
 }
 
 /// A client's look at the number.
-pub struct Learn<M> {
+pub struct OnNumber<M> {
     lesson: PhantomData<M>,
 }
 
-impl<S, C, M: Lesson<C>> Play<S, View<C>> for Learn<M> {
-    ghost use Rattle.rcu_live.specs.View.{Learned};
+impl<S, C, M: NumberStep<C>> Play<S, View<C>> for OnNumber<M> {
+    ghost use Rattle.rcu_live.specs.View.{SteppedOnNumber};
 
-    ghost then = { λ _ me n now. Learned M.then me.0 n now.0 × (now.1 ≡ me.1) };
+    ghost then = { λ _ me n now. SteppedOnNumber M.then me.0 n now.0 × (now.1 ≡ me.1) };
 }
 
 /// Seat split: the next processor's seat.
-pub struct DealCpu<S, P> {
-    client: PhantomData<(S, P)>,
+pub struct DealCpu<P> {
+    client: PhantomData<P>,
 }
 
-impl<S, C, P: Client<S, C>> Split<View<C>> for DealCpu<S, P> {
+impl<P: Client> Split<View<P::Known>> for DealCpu<P> {
     ghost use Rattle.rcu_live.specs.View.{after_deal, next_cpu_seat};
 
     ghost left = { after_deal };
@@ -121,11 +121,11 @@ impl<S, C, P: Client<S, C>> Split<View<C>> for DealCpu<S, P> {
 }
 
 /// Seat split: a watcher's seat.
-pub struct DealWatcher<S, P> {
-    client: PhantomData<(S, P)>,
+pub struct DealWatcher<P> {
+    client: PhantomData<P>,
 }
 
-impl<S, C, P: Client<S, C>> Split<View<C>> for DealWatcher<S, P> {
+impl<P: Client> Split<View<P::Known>> for DealWatcher<P> {
     ghost use Rattle.rcu_live.specs.View.{watcher_seat};
 
     ghost left = { λ v. v };
@@ -134,11 +134,11 @@ impl<S, C, P: Client<S, C>> Split<View<C>> for DealWatcher<S, P> {
 }
 
 /// Seat split: a watcher's seat that has what the client knew here.
-pub struct HandOver<S, P> {
-    client: PhantomData<(S, P)>,
+pub struct HandOver<P> {
+    client: PhantomData<P>,
 }
 
-impl<S, C, P: Client<S, C>> Split<View<C>> for HandOver<S, P> {
+impl<P: Client> Split<View<P::Known>> for HandOver<P> {
     ghost use Rattle.rcu_live.specs.View.{after_hand, handed_seat};
 
     ghost left = { after_hand P.idle };

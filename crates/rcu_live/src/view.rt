@@ -20,11 +20,11 @@ pub struct View<C> {
     /// How many times the seat stored its processor's own word.
     pub stores: u64,
     /// The processor's own word.
-    pub stamp: u64,
+    pub own_word: u64,
     /// The number at which the open section began.
     pub section: Option<u64>,
     /// The engine's loads of own words since the latest begin, the newest first: place and word.
-    pub finds: LinkedList<(u64, u64)>,
+    pub own_word_loads: LinkedList<(u64, u64)>,
     /// The place where the client's words begin.
     pub base: u64,
     /// What the client has seen.

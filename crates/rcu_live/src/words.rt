@@ -1,6 +1,6 @@
 //! Where the shared words stand.
 ghost use Rattle.std.specs.Prelude.{◌≡◌, ◌<◌, ◌≤◌, IfOk};
-ghost use Rattle.rcu_live.specs.Words.{first_words, place};
+ghost use Rattle.rcu_live.specs.Words.{first_words, own_word_index};
 
 use std::alloc::{AllocError, Global};
 
@@ -16,8 +16,8 @@ const BOOT_WORD: u64 = 1;
 
 /// The place of a processor's own word. The place that one more processor would have is where the
 /// words behind the engine's begin.
-pub fn place(cpu: u32) -> usize
-    ensures { result ≡ place cpu }
+pub fn own_word_index(cpu: u32) -> usize
+    ensures { result ≡ own_word_index cpu }
 {
     APART * (cpu as usize + 1)
 }
@@ -27,7 +27,7 @@ pub fn first_words(alloc: Global, cpus: u32) -> Result<Vec<u64>, AllocError>
     requires { 0 < cpus }
     ensures { IfOk result (λ words. words.items ≡ first_words cpus) }
 {
-    let mut words = vec![in alloc; 0u64; place(cpus)]?;
-    words[place(0)] = BOOT_WORD;
+    let mut words = vec![in alloc; 0u64; own_word_index(cpus)]?;
+    words[own_word_index(0)] = BOOT_WORD;
     Ok(words)
 }

@@ -11,11 +11,9 @@ mod versions;
 
 use rcu_cell::cell::Cell;
 use rcu_cell::keeper::{Full, Keeper, Retired};
-use rcu_cell::known::Known;
-use rcu_cell::slots::Fits;
+use rcu_cell::rule::{CellSeat, Invariant};
 use rcu_core::turned::Turned;
-use rcu_live::collected::Collected;
-use rcu_live::cpu_seat::CpuSeat;
+use rcu_live::collection::Collected;
 use rcu_seq::fault::Fault;
 use std::alloc::Global;
 use std::io::Print;
@@ -23,17 +21,17 @@ use std::process::Abort;
 use std::sync::Wait;
 
 /// No fact: any words are a version.
-struct Any;
+pub(crate) struct Any;
 
-impl Fits for Any {
-    ghost fits = { λ _. Unit {0} };
+impl Invariant for Any {
+    ghost holds = { λ _. Unit {0} };
 }
 
 type Pairs = Cell<4, 4, u64, Any, 2, 2>;
 
 /// One grace period, which a callback needs. Where its queueing is refused memory, the same call
 /// is made again.
-fn pass_a_period<R: Abort + Wait>(rt: &R, cell: &Pairs, seat: &mut CpuSeat<(), Known>)
+fn pass_a_period<R: Abort + Wait>(rt: &R, cell: &Pairs, seat: &mut CellSeat<Any, 2, 2>)
     requires seat { IsSeatOf cell.now seat.old }
     requires outside { seat.old.depth ≡ 0 }
     ensures seat { IsSeatOf cell.now seat.new }
@@ -41,38 +39,35 @@ fn pass_a_period<R: Abort + Wait>(rt: &R, cell: &Pairs, seat: &mut CpuSeat<(), K
 {
     let live = cell.live();
     assert!(rt; live.queue(rt, seat, 7).is_ok() || live.queue(rt, seat, 7).is_ok());
-    assert!(rt; live.tend(rt, 0) == Ok((0, 1)));
-    assert!(rt; live.turn(rt) == Ok(Turned::Begun(1, 1)));
-    match seat.quiesce(live) {
-        Ok(number) => assert!(rt; number == 1),
-        Err(fault) => assert!(rt; false, "{fault:?}"),
-    }
-    assert!(rt; live.collect(rt, 0) == Ok(Collected::Last));
-    assert!(rt; live.turn(rt) == Ok(Turned::Ended(4)));
+    assert_eq!(rt; live.tend(rt, 0), Ok((0, 1)));
+    assert_eq!(rt; live.turn(rt), Ok(Turned::Begun(1, 1)));
+    assert_eq!(rt; seat.quiesce(live), Ok(1));
+    assert_eq!(rt; live.collect(rt, 0), Ok(Collected::Last));
+    assert_eq!(rt; live.turn(rt), Ok(Turned::Ended(4)));
 }
 
 /// Has the keeper show these words, and compares what it answers.
 fn shows<R: Abort>(
     rt: &R,
     cell: &Pairs,
-    keeper: &mut Keeper<2, 2>,
+    keeper: &mut Keeper<Any, 2, 2>,
     words: [u64; 2],
     wanted: Result<Retired, Full>,
 )
     requires { IsWatcherOf cell.now keeper.old }
     ensures { IsWatcherOf cell.now keeper.new }
 {
-    assert!(rt; keeper.update(cell, &words) == wanted);
+    assert_eq!(rt; (words, keeper.update(cell, &words)), (words, wanted));
 }
 
 /// Reads in a section of its own, and compares the words.
-fn reads<R: Abort>(rt: &R, cell: &Pairs, seat: &mut CpuSeat<(), Known>, wanted: [u64; 2])
+fn reads<R: Abort>(rt: &R, cell: &Pairs, seat: &mut CellSeat<Any, 2, 2>, wanted: [u64; 2])
     requires seat { IsSeatOf cell.now seat.old }
     requires outside { seat.old.depth ≡ 0 }
     ensures seat { IsSeatOf cell.now seat.new }
     ensures outside { seat.new.depth ≡ 0 }
 {
-    assert!(rt; cell.read_section(seat) == Ok(wanted));
+    assert_eq!(rt; cell.read_section(seat), Ok(wanted));
 }
 
 /// Two slots show one version after the other: the first is free for a third once a grace period
@@ -80,8 +75,8 @@ fn reads<R: Abort>(rt: &R, cell: &Pairs, seat: &mut CpuSeat<(), Known>, wanted: 
 fn use_a_slot_again<R: Abort + Wait>(
     rt: &R,
     cell: &Pairs,
-    seat: &mut CpuSeat<(), Known>,
-    keeper: &mut Keeper<2, 2>,
+    seat: &mut CellSeat<Any, 2, 2>,
+    keeper: &mut Keeper<Any, 2, 2>,
 )
     requires seat { IsSeatOf cell.now seat.old }
     requires outside { seat.old.depth ≡ 0 }
@@ -91,11 +86,11 @@ fn use_a_slot_again<R: Abort + Wait>(
     shows(rt, cell, keeper, [2, 2], Ok(Retired { slot: 0, by: 1 }));
     reads(rt, cell, seat, [2, 2]);
     shows(rt, cell, keeper, [3, 3], Err(Full));
-    assert!(rt; keeper.age(cell) == 0);
+    assert_eq!(rt; keeper.age(cell), 0);
     shows(rt, cell, keeper, [3, 3], Err(Full));
     pass_a_period(rt, cell, seat);
     shows(rt, cell, keeper, [3, 3], Err(Full));
-    assert!(rt; keeper.age(cell) == 4);
+    assert_eq!(rt; keeper.age(cell), 4);
     shows(rt, cell, keeper, [3, 3], Ok(Retired { slot: 1, by: 0 }));
     reads(rt, cell, seat, [3, 3]);
 }

@@ -1,6 +1,10 @@
 //! The running engine: each public call once, and threads.
 
 mod epochs;
+mod idle;
 mod locked;
+mod most;
+mod states;
 mod steps;
+mod stress;
 mod threads;

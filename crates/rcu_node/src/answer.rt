@@ -1,4 +1,4 @@
-//! Answers to reports.
+//! What a report returns.
 
 /// What a report of a quiescent state did.
 #[derive(Clone, Copy, Debug, PartialEq, Eq)]

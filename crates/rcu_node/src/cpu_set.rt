@@ -103,7 +103,7 @@ impl CpuSet {
         cut(word, next, from % WORD_BITS, width)
     }
 
-    /// Puts the processor into the set, and answers whether it is new.
+    /// Puts the processor into the set, and returns whether it is new.
     pub fn insert(&mut self, cpu: u32) -> bool
         requires { cpu < length self.old }
         ensures new { result ≡ not (is_in self.old cpu) }
@@ -126,7 +126,7 @@ impl CpuSet {
         self.count = count_ones(&self.words);
     }
 
-    /// Takes the processor out of the set, and answers whether it was there.
+    /// Takes the processor out of the set, and returns whether it was there.
     pub fn remove(&mut self, cpu: u32) -> bool
         requires { cpu < length self.old }
         ensures there { result ≡ is_in self.old cpu }

@@ -27,7 +27,7 @@ pub fn merge<A: Awaited, B: Awaited>(to: &mut A, from: &B) -> Result<(), Fault>
     ensures unlike { OnErr result (are_alike
         (standing (A.tag to.old) (A.start_set to.old) (A.awaited to.old))
         (standing (B.tag from.now) (B.start_set from.now) (B.awaited from.now)) ≡ false) }
-    ensures refused { IfErr result (λ _. to.new ≡ to.old) }
+    ensures unchanged { IfErr result (λ _. to.new ≡ to.old) }
 {
     if !began_alike(to, from) {
         return Err(Fault::NotAlike);

@@ -41,7 +41,7 @@ pub trait Sets: Drop {
         ensures start_set { start_set self.new ≡ set.now }
         ensures awaited { awaited self.new ≡ set.now };
 
-    /// A processor is awaited no more. Answers whether it was.
+    /// A processor is awaited no more. Returns whether it was.
     fn remove(&mut self, cpu: u32) -> bool
         requires { cpu < length (awaited self.old) }
         ensures there { result ≡ is_in (awaited self.old) cpu }

@@ -15,7 +15,7 @@ use Rattle.rcu_node.proofs.CpuSetLemmas.{in_none, is_in-intersection, is_in-remo
 use Rattle.rcu_node.proofs.ReportLemmas.{is_in-awaited_after_report, length-awaited_after_report, neither}
 use Rattle.rcu_report.specs.Replica.{Replicated, Call, Begin, Report, Depart, End, Merge, IsSound, CanBeMade, cpus_of}
 use Rattle.rcu_report.specs.Replica.{after_call, refusal}
-use Rattle.rcu_report.specs.History.{History, AreAccepted, Represents, AreAlike, after_calls, awaits, ends, hears}
+use Rattle.rcu_report.specs.History.{History, AreAccepted, Represents, after_calls, awaits, ends, hears}
 use Rattle.rcu_report.specs.History.{is_heard, starts, tag}
 use Rattle.rcu_report.proofs.Replicas.{by_running, kept_at_first, kept_next, merging_agrees}
 
@@ -177,19 +177,22 @@ hears_the_heard cpus last h cpu number accepted =
     (ap (λ b. same_number (tag h) number && b) (heard_since (starts cpu h) (is_heard cpu (tag h) h)))
 
 -- a processor is awaited by both or by neither
-awaits-alike : (x y : History) → AreAlike x y → (cpu : ℕ) → awaits cpu x ≡ awaits cpu y
-awaits-alike x y alike cpu = elim (cases_Bool (starts cpu x)) [
-  | inl there ↦ rw (alike.heard cpu there) (ap (λ b. b && not (is_heard cpu (tag y) y)) (alike.start_set cpu))
+awaits-alike : (x y : History) → ((cpu : ℕ) → starts cpu x ≡ starts cpu y)
+    → ((cpu : ℕ) → starts cpu x ≡ true → is_heard cpu (tag x) x ≡ is_heard cpu (tag y) y)
+    → (cpu : ℕ) → awaits cpu x ≡ awaits cpu y
+awaits-alike x y began heard cpu = elim (cases_Bool (starts cpu x)) [
+  | inl there ↦ rw (heard cpu there) (ap (λ b. b && not (is_heard cpu (tag y) y)) (began cpu))
   | inr out ↦ ap (λ b. b && not (is_heard cpu (tag x) x)) out
-      ∙ sym (ap (λ b. b && not (is_heard cpu (tag y) y)) (sym (alike.start_set cpu) ∙ out))
+      ∙ sym (ap (λ b. b && not (is_heard cpu (tag y) y)) (sym (began cpu) ∙ out))
 ]
 
 -- two that began alike and heard alike await the same processors
 pub alike_await_the_same : (cpus : ℕ) (last other : Number) (x y : History) → AreAccepted cpus last x
-    → AreAccepted cpus other y → AreAlike x y
+    → AreAccepted cpus other y → tag x ≡ tag y → ((cpu : ℕ) → starts cpu x ≡ starts cpu y)
+    → ((cpu : ℕ) → starts cpu x ≡ true → is_heard cpu (tag x) x ≡ is_heard cpu (tag y) y)
     → (after_calls cpus last x).awaited ≡ (after_calls cpus other y).awaited
-alike_await_the_same cpus last other x y first second alike =
+alike_await_the_same cpus last other x y first second tags began heard =
     let one = told cpus last x first in
     let two = told cpus other y second in
     ext_get_or false (after_calls cpus last x).awaited (after_calls cpus other y).awaited (one.sized ∙ sym two.sized)
-    (λ cpu l. one.says.awaited cpu ∙ awaits-alike x y alike cpu ∙ sym (two.says.awaited cpu))
+    (λ cpu l. one.says.awaited cpu ∙ awaits-alike x y began heard cpu ∙ sym (two.says.awaited cpu))

@@ -1,9 +1,8 @@
 -- Reports of one tag, gathered as the set of their processors.
-use Rattle.std.specs.Prelude.{ℕ, ◌≡◌, Bool, List, All, if◌then◌else◌}
+use Rattle.std.specs.Prelude.{Bool, List, if◌then◌else◌}
 use Rattle.rcu_seq.specs.Tags.{same_tag}
 use Rattle.rcu_seq.specs.declared.tag.Tag.{Tag}
 use Rattle.rcu_node.specs.CpuSet.{is_in, unheard}
-use Rattle.rcu_node.specs.Reports.{was_reported}
 
 -- a batch, as contracts see it: the tag of its reports, and their processors
 pub record Gathered : Type 0 where
@@ -19,9 +18,3 @@ difference set other = unheard set (is_in other)
 abbrev pub awaited_after_batch : Tag → List Bool → Gathered → List Bool
 awaited_after_batch tag awaited batch =
     if same_tag batch.tag tag then difference awaited batch.set else awaited
-
--- reports, each of a processor and a tag, are those of a batch, in any order and any number of times: each has its
--- tag, and their processors are its set
-pub record AreOf (batch : Gathered) (reports : List (ℕ × Tag)) : Type 0 where
-  pub tags : All (λ report. report.1 ≡ batch.tag) reports
-  pub cpus : (cpu : ℕ) → is_in batch.set cpu ≡ was_reported batch.tag cpu reports

@@ -70,10 +70,3 @@ pub record Represents (r : Replicated) (h : History) : Type 0 where
   pub tag : r.tag ≡ tag h
   pub start_set : (cpu : ℕ) → is_in r.start_set cpu ≡ starts cpu h
   pub awaited : (cpu : ℕ) → is_in r.awaited cpu ≡ awaits cpu h
-
--- two histories began alike and heard alike: the latest begins have one number and one start set, and of its
--- processors the same ones were heard since
-pub record AreAlike (x y : History) : Type 0 where
-  pub number : tag x ≡ tag y
-  pub start_set : (cpu : ℕ) → starts cpu x ≡ starts cpu y
-  pub heard : (cpu : ℕ) → starts cpu x ≡ true → is_heard cpu (tag x) x ≡ is_heard cpu (tag y) y

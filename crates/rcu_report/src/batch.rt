@@ -89,7 +89,7 @@ impl Batch {
         ensures alike { OnOk result (report.tag ≡ self.old.tag) }
         ensures err { IfErr result (λ fault. fault ≡ Fault.NotAlike) }
         ensures unlike { OnErr result (report.tag ≢ self.old.tag) }
-        ensures refused { OnErr result (self.new ≡ self.old) }
+        ensures unchanged { OnErr result (self.new ≡ self.old) }
     {
         if report.tag != self.tag {
             return Err(Fault::NotAlike);
@@ -109,7 +109,7 @@ impl Batch {
         ensures err { IfErr result (λ fault. fault ≡ Fault.NotAlike) }
         ensures unlike { OnErr result ((other.now.tag ≢ self.old.tag)
             ⊎ (length other.now.set ≢ length self.old.set)) }
-        ensures refused { OnErr result (self.new ≡ self.old) }
+        ensures unchanged { OnErr result (self.new ≡ self.old) }
     {
         if other.tag != self.tag || other.set.cpus() != self.set.cpus() {
             return Err(Fault::NotAlike);
@@ -118,7 +118,7 @@ impl Batch {
         Ok(())
     }
 
-    /// Makes each of the reports, and answers how many processors they cleared. There are as many
+    /// Makes each of the reports, and returns how many processors they cleared. There are as many
     /// processors in the batch as in the awaited set.
     pub fn apply<A: Awaited>(&self, to: &mut A) -> u32
         requires { length (A.awaited to.old) ≡ length self.now.set }
@@ -135,7 +135,7 @@ impl Batch {
         cleared
     }
 
-    /// Makes the report of a processor, if it is in the batch, and answers how many processors it
+    /// Makes the report of a processor, if it is in the batch, and returns how many processors it
     /// cleared.
     fn deliver<A: Awaited>(&self, to: &mut A, cpu: u32) -> u32
         requires there { cpu < length self.now.set }
@@ -154,7 +154,7 @@ impl Batch {
     }
 }
 
-/// Makes a report, and answers whether its processor was awaited.
+/// Makes a report, and returns whether its processor was awaited.
 fn clears<A: Awaited>(to: &mut A, cpu: u32, tag: Tag) -> bool
     requires { cpu < length (A.awaited to.old) }
     ensures cleared { result ≡ (same_tag tag (A.tag to.old) && is_in (A.awaited to.old) cpu) }

@@ -1,17 +1,20 @@
 //! What the definitions say of batches and of replicas.
-ghost use Rattle.std.specs.Prelude.{◌≡◌, ◌&&◌, ℕ, Bool, List, None};
+ghost use Rattle.std.specs.Prelude.{◌≡◌, ◌&&◌, ℕ, All, Bool, List, None, true};
 ghost use Rattle.rcu_seq.specs.Numbers.{Number, same_number};
 ghost use Rattle.rcu_seq.specs.declared.tag.Tag.{Tag};
-ghost use Rattle.rcu_node.specs.Reports.{awaited_after_reports};
-ghost use Rattle.rcu_report.specs.Batch.{AreOf, Gathered, awaited_after_batch};
-ghost use Rattle.rcu_report.specs.History.{AreAccepted, AreAlike, History, Represents, after_calls};
+ghost use Rattle.rcu_node.specs.CpuSet.{is_in};
+ghost use Rattle.rcu_node.specs.Reports.{awaited_after_reports, was_reported};
+ghost use Rattle.rcu_report.specs.Batch.{Gathered, awaited_after_batch};
+ghost use Rattle.rcu_report.specs.History.{AreAccepted, History, Represents, after_calls};
 ghost use Rattle.rcu_report.specs.History.{hears, is_heard, starts, tag};
 ghost use Rattle.rcu_report.specs.Replica.{IsSound, Merge, Replicated, after_call, refusal};
 
-/// A batch leaves what its reports leave, one after another, in any order and any number of times.
+/// A batch leaves what its reports leave, one after another, in any order and any number of times:
+/// reports that have its tag, and whose processors are its set.
 pub fn batch_leaves_what_its_reports_leave()
     ensures { (batch : Gathered) (number : Tag) (awaited : List Bool)
-        → (reports : List (ℕ × Tag)) → AreOf batch reports
+        → (reports : List (ℕ × Tag)) → All (λ report. report.1 ≡ batch.tag) reports
+        → ((cpu : ℕ) → is_in batch.set cpu ≡ was_reported batch.tag cpu reports)
         → awaited_after_batch number awaited batch ≡ awaited_after_reports number awaited reports }
 {}
 
@@ -33,12 +36,14 @@ pub fn merging_takes_in_what_the_other_heard()
         ≡ (same_number (tag h) number && (starts cpu h && is_heard cpu (tag h) h)) }
 {}
 
-/// Two replicas that began alike and heard the same processors await the same ones, in whatever
-/// order the reports and departures came, however often, and whichever stale ones came between
-/// them.
+/// Two replicas whose latest grace periods had one number and one start set, and in which the same
+/// processors of it were heard since, await the same ones, in whatever order the reports and
+/// departures came, however often, and whichever stale ones came between them.
 pub fn equally_heard_replicas_await_the_same()
     ensures { (cpus : ℕ) (last other : Number) (x y : History)
-        → AreAccepted cpus last x → AreAccepted cpus other y → AreAlike x y
+        → AreAccepted cpus last x → AreAccepted cpus other y → tag x ≡ tag y
+        → ((cpu : ℕ) → starts cpu x ≡ starts cpu y)
+        → ((cpu : ℕ) → starts cpu x ≡ true → is_heard cpu (tag x) x ≡ is_heard cpu (tag y) y)
         → (after_calls cpus last x).awaited ≡ (after_calls cpus other y).awaited }
 {}
 

@@ -72,8 +72,8 @@ impl<A: Awaited> Replica<A> {
         })
     }
 
-    /// A grace period begins, awaits the set and answers its number, `4k + 1`. The set is one of as
-    /// many processors.
+    /// A grace period begins, awaits the set, and returns its number, `4k + 1`. The set is one of
+    /// as many processors.
     ///
     /// Faults: `Running` (8) where one runs; `Exhausted` (11) where the number is the last one.
     pub fn begin(&mut self, set: &CpuSet) -> Result<u64, Fault>
@@ -82,7 +82,7 @@ impl<A: Awaited> Replica<A> {
         ensures ok { OnOk result (self.new ≡ after_call self.old (Begin set.now)) }
         ensures accepted { OnOk result (refusal self.old (Begin set.now) ≡ None) }
         ensures err { IfErr result (λ fault. refusal self.old (Begin set.now) ≡ Some fault) }
-        ensures refused { OnErr result (self.new ≡ self.old) }
+        ensures unchanged { OnErr result (self.new ≡ self.old) }
     {
         let number = self.seq.start()?;
         self.inner.begin(Tag::of_first_epoch(number), set);
@@ -90,7 +90,7 @@ impl<A: Awaited> Replica<A> {
     }
 
     /// A processor reports a quiescent state with the number that it had noted. While no grace
-    /// period runs each report is stale, else it is answered as by [`Awaited::report`].
+    /// period runs each report is stale, else it does what [`Awaited::report`] says.
     ///
     /// Fault `BadCpu` (1): there is no such processor.
     pub fn report(&mut self, cpu: u32, tag: u64) -> Result<Answer, Fault>
@@ -98,7 +98,7 @@ impl<A: Awaited> Replica<A> {
         ensures ok { OnOk result (self.new ≡ after_call self.old (Report cpu tag)) }
         ensures accepted { OnOk result (refusal self.old (Report cpu tag) ≡ None) }
         ensures err { IfErr result (λ fault. refusal self.old (Report cpu tag) ≡ Some fault) }
-        ensures refused { OnErr result (self.new ≡ self.old) }
+        ensures unchanged { OnErr result (self.new ≡ self.old) }
     {
         if cpu >= self.inner.cpus() {
             return Err(Fault::BadCpu);
@@ -116,7 +116,7 @@ impl<A: Awaited> Replica<A> {
         ensures ok { OnOk result (self.new ≡ after_call self.old (Depart cpu)) }
         ensures accepted { OnOk result (refusal self.old (Depart cpu) ≡ None) }
         ensures err { IfErr result (λ fault. refusal self.old (Depart cpu) ≡ Some fault) }
-        ensures refused { OnErr result (self.new ≡ self.old) }
+        ensures unchanged { OnErr result (self.new ≡ self.old) }
     {
         if cpu >= self.inner.cpus() {
             return Err(Fault::BadCpu);
@@ -129,8 +129,8 @@ impl<A: Awaited> Replica<A> {
         Ok(())
     }
 
-    /// The grace period ends, and the new number is answered. The awaited set keeps its tag and
-    /// start set.
+    /// The grace period ends, and returns the new number. The awaited set keeps its tag and start
+    /// set.
     ///
     /// Faults: `Idle` (9) where none runs; `Waiting` (10) where a processor is awaited.
     #[tactic(auto, using(crate::proofs::Awaiting::refused_while_awaited))]
@@ -139,7 +139,7 @@ impl<A: Awaited> Replica<A> {
         ensures ok { OnOk result (self.new ≡ after_call self.old End) }
         ensures accepted { OnOk result (refusal self.old End ≡ None) }
         ensures err { IfErr result (λ fault. refusal self.old End ≡ Some fault) }
-        ensures refused { OnErr result (self.new ≡ self.old) }
+        ensures unchanged { OnErr result (self.new ≡ self.old) }
     {
         // While no grace period runs nobody is awaited, so that the counter finds the first fault.
         if !self.inner.is_empty() {
@@ -157,7 +157,7 @@ impl<A: Awaited> Replica<A> {
         ensures ok { OnOk result (self.new ≡ after_call self.old (Merge other.now)) }
         ensures accepted { OnOk result (refusal self.old (Merge other.now) ≡ None) }
         ensures err { IfErr result (λ fault. refusal self.old (Merge other.now) ≡ Some fault) }
-        ensures refused { OnErr result (self.new ≡ self.old) }
+        ensures unchanged { OnErr result (self.new ≡ self.old) }
     {
         merge(&mut self.inner, &other.inner)
     }

@@ -76,6 +76,8 @@ closes_reply (reply.Visited visit.Already) = (codes "already", refl)
 closes_reply reply.BarDone = (codes "barrier done", refl)
 closes_reply (reply.BarWaits n) = closes_numbered (codes "barrier waits ") n
 closes_reply (reply.Renumbered epoch) = closes_numbered (codes "epoch ") epoch
+closes_reply reply.Idle = (codes "idle", refl)
+closes_reply reply.Awake = (codes "awake", refl)
 closes_reply (reply.Fault f) = closes_numbered (codes "fault ") (fault_number f)
 
 closed_line : (size : Size) (h : History) (line : Line Event) (text : List ℕ) (next : History)

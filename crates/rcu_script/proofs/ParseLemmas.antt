@@ -36,7 +36,10 @@ name_with_cpu name cpu e found =
     (named e (codes "online") name _ _ refl
     (named e (codes "offline") name _ _ refl
     (named e (codes "tend") name _ _ refl
-    (named e (codes "visit") name _ _ refl (λ none. cc)))))))) found
+    (named e (codes "visit") name _ _ refl
+    (named e (codes "idle") name _ _ refl
+    (named e (codes "wake") name _ _ refl
+    (named e (codes "scan") name _ _ refl (λ none. cc))))))))))) found
 
 name_with_number : (name : List ℕ) (n : ℕ) (e : Event) → event_with_number name n ≡ Some e → is_word name ≡ true
 name_with_number name n e found =

@@ -73,7 +73,10 @@ fits_with_cpu name cpu e found =
     (named_fits e (codes "online") name _ _ tt
     (named_fits e (codes "offline") name _ _ tt
     (named_fits e (codes "tend") name _ _ tt
-    (named_fits e (codes "visit") name _ _ tt (λ none. cc)))))))) found
+    (named_fits e (codes "visit") name _ _ tt
+    (named_fits e (codes "idle") name _ _ tt
+    (named_fits e (codes "wake") name _ _ tt
+    (named_fits e (codes "scan") name _ _ tt (λ none. cc))))))))))) found
 
 fits_with_number : (name : List ℕ) (n : ℕ) (e : Event) → n < 2 ^ 64 → event_with_number name n ≡ Some e → Fits e
 fits_with_number name n e fits found =

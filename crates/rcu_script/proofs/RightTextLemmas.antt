@@ -165,6 +165,8 @@ module _ (pieces : EndedArePieces) where
   other_reply reply.BarDone e = other_line _ _ (line_alone (codes "barrier done") refl) refl
   other_reply (reply.BarWaits n) e = numbered (codes "barrier waits ") n refl refl
   other_reply (reply.Renumbered epoch) e = numbered (codes "epoch ") epoch refl refl
+  other_reply reply.Idle e = other_line _ _ (line_alone (codes "idle") refl) refl
+  other_reply reply.Awake e = other_line _ _ (line_alone (codes "awake") refl) refl
   other_reply (reply.Fault f) e = other_fault f e
 
   -- each line is ended in it, and none is `fault 16`

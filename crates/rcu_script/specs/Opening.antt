@@ -3,7 +3,8 @@ use Rattle.std.specs.Prelude.{ℕ, ◌==◌, ◌&&◌, ◌||◌, not, Bool, Opti
 use Rattle.rcu_seq.specs.Numbers.{Number, is_last}
 use Rattle.rcu_seq.specs.declared.fault.Fault.{Fault}
 use Rattle.rcu_seq.specs.declared.fault.Fault.TheVariants.{BadFanout, BadLast}
-use Rattle.rcu_geometry.specs.Geometry.{refusal, shape}
+use Rattle.rcu_geometry.specs.Opening.{opening_refusal}
+use Rattle.rcu_barrier.specs.Lists.{most_queued}
 use Rattle.rcu_core.specs.Replies.{Size}
 use Rattle.rcu_script.specs.declared.runs.Setup.{Setup}
 
@@ -17,15 +18,15 @@ abbrev pub or_last_fault : Option Fault → Number → Option Fault
 or_last_fault (Some fault) last = Some fault
 or_last_fault None last = if not (is_last last) then Some BadLast else None
 
--- the first fault of a machine over the tree of two fanouts
-abbrev pub machine_fault : ℕ → ℕ → ℕ → Number → Option Fault
-machine_fault leaf inner cpus last = or_last_fault (refusal (shape leaf inner cpus)) last
-
 -- the first fault of a setup
 abbrev pub opening_fault : Setup → Option Fault
 opening_fault setup = if not (is_offered setup.leaf setup.inner) then Some BadFanout
-    else machine_fault setup.leaf setup.inner setup.cpus setup.last
+    else opening_refusal setup.leaf setup.inner setup.cpus setup.last
 
--- its size
+-- the size of what opens, of which a setup does not say how many callbacks may be queued
+abbrev pub opened_size : ℕ → Number → Size
+opened_size cpus last = record { cpus = cpus; last = last; most = most_queued }
+
+-- that of a setup
 abbrev pub size_of_setup : Setup → Size
-size_of_setup setup = record { cpus = setup.cpus; last = setup.last }
+size_of_setup setup = opened_size setup.cpus setup.last

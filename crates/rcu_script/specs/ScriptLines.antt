@@ -5,7 +5,7 @@ use Rattle.std.specs.Option.{option_map_or}
 use Rattle.rcu_core.specs.declared.event.Event.{Event}
 use Rattle.rcu_core.specs.declared.event.Event.TheVariants.{Enter, Exit, Note, Quiesce, Deliver, Online, Offline, Begin}
 use Rattle.rcu_core.specs.declared.event.Event.TheVariants.{End, Turn, Awaits, Take, StartPoll, Poll, Queue, Tend, Run}
-use Rattle.rcu_core.specs.declared.event.Event.TheVariants.{BarBegin, Visit, BarTest, Renumber}
+use Rattle.rcu_core.specs.declared.event.Event.TheVariants.{BarBegin, Visit, BarTest, Renumber, Idle, Wake, Scan}
 use Rattle.rcu_text.specs.Lines.{line_by}
 use Rattle.rcu_text.specs.Words.{number_in_word}
 use Rattle.rcu_text.specs.declared.line_shape.Line.{Line}
@@ -39,7 +39,10 @@ event_with_cpu name cpu =
     else (if bytes_eq name (codes "offline") then Some (Offline cpu)
     else (if bytes_eq name (codes "tend") then Some (Tend cpu)
     else (if bytes_eq name (codes "visit") then Some (Visit cpu)
-    else None)))))))
+    else (if bytes_eq name (codes "idle") then Some (Idle cpu)
+    else (if bytes_eq name (codes "wake") then Some (Wake cpu)
+    else (if bytes_eq name (codes "scan") then Some (Scan cpu)
+    else None))))))))))
 
 -- the event of a name that stands before a number: a report's place, the number of a cookie of the first epoch, or else
 -- a processor

@@ -11,7 +11,7 @@ use Rattle.rcu_core.specs.declared.reply.Reply.{Reply}
 use Rattle.rcu_core.specs.declared.reply.Reply.TheVariants.{Depth, Noted, Made, Answer as Answered, Online, Moved}
 use Rattle.rcu_core.specs.declared.reply.Reply.TheVariants.{Begun, Ended, Waiting, Nothing, Awaits, Cookie as Told, Polled}
 use Rattle.rcu_core.specs.declared.reply.Reply.TheVariants.{Queued, Tended, Ran, BarBegun, Visited, BarDone, BarWaits}
-use Rattle.rcu_core.specs.declared.reply.Reply.TheVariants.{Renumbered, Fault}
+use Rattle.rcu_core.specs.declared.reply.Reply.TheVariants.{Renumbered, Idle, Awake, Fault}
 use Rattle.rcu_text.specs.Texts.{numbered_text, space_and_number}
 
 -- what a processor noted: it is needed where the processor is awaited
@@ -29,7 +29,7 @@ made_text place report =
     codes "report " ++ (decimal place ++ (codes " cpu " ++ (decimal report.cpu
     ++ (codes " tag " ++ (decimal report.tag.number ++ epoch_text report.tag.epoch)))))
 
--- the word for what a report did
+-- the word for what a report did, or a scan
 abbrev pub answer_text : Answer → List ℕ
 answer_text Taken = codes "taken\n"
 answer_text Last = codes "last\n"
@@ -87,37 +87,6 @@ text_of (Visited visit) = visited_text visit
 text_of BarDone = codes "barrier done\n"
 text_of (BarWaits n) = numbered_text (codes "barrier waits ") n
 text_of (Renumbered epoch) = numbered_text (codes "epoch ") epoch
+text_of Idle = codes "idle\n"
+text_of Awake = codes "awake\n"
 text_of (Fault fault) = numbered_text (codes "fault ") (fault_number fault)
-
--- what a processor's events and a report are answered
-abbrev pub is_of_processor : Reply → Bool
-is_of_processor (Depth depth) = true
-is_of_processor (Noted n needed) = true
-is_of_processor (Made place report) = true
-is_of_processor (Answered answer) = true
-is_of_processor Online = true
-is_of_processor (Moved calls) = true
-is_of_processor reply = false
-
--- what is answered of grace periods and cookies
-abbrev pub is_of_period : Reply → Bool
-is_of_period (Begun n cpus) = true
-is_of_period (Ended n) = true
-is_of_period (Waiting cpus) = true
-is_of_period Nothing = true
-is_of_period (Awaits cpus) = true
-is_of_period (Told cookie) = true
-is_of_period (Polled done) = true
-is_of_period (Renumbered epoch) = true
-is_of_period reply = false
-
--- what is answered of callbacks and barriers
-abbrev pub is_of_callbacks : Reply → Bool
-is_of_callbacks (Queued n) = true
-is_of_callbacks (Tended done waiting) = true
-is_of_callbacks (Ran values) = true
-is_of_callbacks BarBegun = true
-is_of_callbacks (Visited visit) = true
-is_of_callbacks BarDone = true
-is_of_callbacks (BarWaits n) = true
-is_of_callbacks reply = false

@@ -27,7 +27,7 @@ pub struct Setup {
 /// Why a run stopped. Its text is what the program prints.
 #[derive(Debug, Drop, Error)]
 pub enum RunFault {
-    /// The machine could not be opened.
+    /// The engine could not be opened.
     #[error("fault {}", .0.number())]
     Open(Fault),
     /// The reader failed.

@@ -9,7 +9,7 @@ fn prints(rt: &impl Abort, alloc: Global, fault: &RunFault, line: &str) {
         Ok(text) => text,
         Err(_) => format!(in alloc; "{fault}").expect(rt, "memory for a line"),
     };
-    assert!(rt; text.as_str() == line, "{text}");
+    assert_eq!(rt; text.as_str(), line);
 }
 
 /// Faults, and the texts that they print as.

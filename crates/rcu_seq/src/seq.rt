@@ -151,7 +151,7 @@ impl Seq {
         cookie.is_done_at(self.tag(), self.last)
     }
 
-    /// Begins a grace period, and answers its number (Linux's `rcu_seq_start`).
+    /// Begins a grace period, and returns its number (Linux's `rcu_seq_start`).
     ///
     /// Faults: `Running` (8) where one runs; `Exhausted` (11) where the number is `last`.
     pub fn start(&mut self) -> Result<u64, Fault>
@@ -176,7 +176,7 @@ impl Seq {
         Ok(self.value)
     }
 
-    /// Ends the grace period that runs, and answers the new number (Linux's `rcu_seq_end`).
+    /// Ends the grace period that runs, and returns the new number (Linux's `rcu_seq_end`).
     ///
     /// Fault `Idle` (9): none runs.
     pub fn end(&mut self) -> Result<u64, Fault>
@@ -196,7 +196,7 @@ impl Seq {
         Ok(self.value)
     }
 
-    /// Renumbers: the number becomes 0, in the next epoch, which is answered.
+    /// Renumbers: the number becomes 0, in the next epoch, which it returns.
     ///
     /// Faults: `Running` (8) where a grace period runs; `NotLast` (22) where the number is not
     /// `last`; `Exhausted` (11) where the epoch is the last one.

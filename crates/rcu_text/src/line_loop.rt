@@ -15,8 +15,8 @@ const BLOCK: usize = 16_384;
 
 /// Replies to lines, one at a time.
 pub trait Responder {
-    /// Since it stood as the first, these lines were answered by this text, and it stands as the
-    /// second now.
+    /// Of the state before some lines and the state after them: these lines were answered by this
+    /// text.
     ghost past: { Self → Self → List (List ℕ) → List ℕ → Type 0 };
 
     /// Replies to a line, whose bytes behind the first 81 make no difference.
@@ -37,12 +37,15 @@ pub enum StreamFault {
     Write,
 }
 
-/// Answers all lines that the reader gives, in order. It costs a step a byte that is read, and what
-/// the replies cost.
+/// Replies to all lines that the reader gives, in order. It costs a step a byte that is read, and
+/// what the replies cost.
+///
+/// Faults: `Read` where the reader failed; `Write` where the writer failed.
 ///
 /// Every reply of the lines that were read is written before the next read, so a run that a failed
-/// read stops has answered the lines that were read whole. Where a write failed, a beginning of the
-/// replies to such lines was written: no line is answered before its end, or the input's, was read.
+/// read stops has replied to the lines that were read whole. Where a write failed, a beginning of
+/// the replies to such lines was written: no line has its reply before its end, or the input's, was
+/// read.
 pub fn run<A: Responder, R: Source, W: Sink>(
     responder: &mut A,
     reader: &mut R,

@@ -11,9 +11,8 @@ use Rattle.clap.specs.Words.{App, HasMatchesOf, Row, Text, fault_of, is_simple, 
 use Rattle.clap.specs.Words.{subcommand_rows_of}
 use Rattle.clap.specs.declared.error.kind.ErrorKind.TheVariants.{MissingSubcommand}
 use Rattle.clap.specs.declared.parser.matches.ArgMatches.{ArgMatches}
-use Rattle.rcu_torture.specs.CommandLine.{HasNoOrder, HasNoSetup, HasNoShape, HasNoTorture, IsOrderOf, IsSetupOf}
-use Rattle.rcu_torture.specs.CommandLine.{IsWithinLimits, rcu, u32_max}
-use Rattle.rcu_script.specs.declared.runs.Setup.{Setup}
+use Rattle.rcu_torture.specs.CommandLine.{HasNoOrder, HasNoSetup, IsOrderOf, IsTortureOf, IsWithinLimits, number_up_to}
+use Rattle.rcu_torture.specs.CommandLine.{rcu, u32_max, u64_max}
 use Rattle.rcu_torture.specs.Ledger.{most_rounds, most_workers}
 use Rattle.rcu_torture.specs.declared.command.Order.{Order}
 use Rattle.rcu_torture.specs.declared.command.Order.TheVariants.{Script, Pair, Torture}
@@ -21,27 +20,6 @@ use Rattle.rcu_torture.proofs.SubcommandLemmas.{HasNumbers, HasTortureNumbers, b
 use Rattle.rcu_torture.proofs.SubcommandLemmas.{pair_numbers, script_numbers, torture_numbers}
 use Rattle.rcu_torture.proofs.GetterLemmas.{lies_within, widened}
 use Rattle.rcu_torture.proofs.WalkLemmas.{first_none, next_none}
-
--- matches that make no shape of a tree make no setup
-pub no_shape : (second_leaf second_inner : Text) (rows : List Row) (o : Option Setup) → o ≡ None
-    → HasNoShape (codes "leaf") (codes "inner") rows
-    → MatchOption o (HasNoSetup second_leaf second_inner rows) (IsSetupOf second_leaf second_inner rows)
-no_shape second_leaf second_inner rows o is none =
-    let no : HasNoSetup second_leaf second_inner rows =
-    λ setup so. none setup.leaf setup.inner (record { of_leaf = so.leaf; of_inner = so.inner }) in
-    rw is no
-
--- so do those that make none of the second one
-pub no_second_shape : (second_leaf second_inner : Text) (rows : List Row) (o : Option Setup) → o ≡ None
-    → HasNoShape second_leaf second_inner rows
-    → MatchOption o (HasNoSetup second_leaf second_inner rows) (IsSetupOf second_leaf second_inner rows)
-no_second_shape second_leaf second_inner rows o is none =
-    let no : HasNoSetup second_leaf second_inner rows =
-    λ setup so. none setup.leaf2 setup.inner2 (record { of_leaf = so.leaf2; of_inner = so.inner2 }) in
-    rw is no
-
--- matches that make no shape make no setup
-pub ruleset no_setup = (no_shape, no_second_shape)
 
 -- matches of `script` that make no setup say no order
 pub no_script : (name : Text) (rows : List Row) → name ≡ codes "script"
@@ -65,9 +43,9 @@ no_pair name rows is none (Torture workers rounds seed) p =
     let other : codes "pair" ≡ codes "torture" = sym is ∙ p.0 in
     cc
 
--- matches of `torture` that make no torture run say no order
-pub no_torture : (name : Text) (rows : List Row) → name ≡ codes "torture" → HasNoTorture rows
-    → HasNoOrder (Some (name, rows))
+-- matches of `torture` that give one of its numbers no value say no order
+no_torture : (name : Text) (rows : List Row) → name ≡ codes "torture"
+    → ((workers rounds seed : ℕ) → IsTortureOf rows workers rounds seed → ⊥) → HasNoOrder (Some (name, rows))
 no_torture name rows is none (Script setup) p =
     let other : codes "torture" ≡ codes "script" = sym is ∙ p.0 in
     cc
@@ -76,15 +54,23 @@ no_torture name rows is none (Pair setup) p =
     cc
 no_torture name rows is none (Torture workers rounds seed) p = none workers rounds seed p.1
 
--- matches that make no setup and no torture run say no order
-pub ruleset no_order = (no_script, no_pair, no_torture)
+no_value : (o : Option ℕ) (n : ℕ) → o ≡ None → o ≡ Some n → ⊥
+no_value o n none some = let bad : None ≡ Some n = sym none ∙ some in cc
 
--- what a subcommand orders by its name, it orders by a text that is that name
-pub named_so : (name text : Text) (rows : List Row) (o : Option Order) → text ≡ name
-    → MatchOption o (HasNoOrder (Some (name, rows))) (IsOrderOf (Some (name, rows)))
-    → MatchOption o (HasNoOrder (Some (text, rows))) (IsOrderOf (Some (text, rows)))
-named_so name text rows o is said =
-    subst (λ (t : Text). MatchOption o (HasNoOrder (Some (t, rows))) (IsOrderOf (Some (t, rows)))) (sym is) said
+pub no_workers : (name : Text) (rows : List Row) → name ≡ codes "torture"
+    → number_up_to u32_max rows (codes "workers") ≡ None → HasNoOrder (Some (name, rows))
+no_workers name rows is none = no_torture name rows is (λ workers rounds seed so. no_value _ _ none so.of_workers)
+
+pub no_rounds : (name : Text) (rows : List Row) → name ≡ codes "torture"
+    → number_up_to u32_max rows (codes "rounds") ≡ None → HasNoOrder (Some (name, rows))
+no_rounds name rows is none = no_torture name rows is (λ workers rounds seed so. no_value _ _ none so.of_rounds)
+
+pub no_seed : (name : Text) (rows : List Row) → name ≡ codes "torture"
+    → number_up_to u64_max rows (codes "seed") ≡ None → HasNoOrder (Some (name, rows))
+no_seed name rows is none = no_torture name rows is (λ workers rounds seed so. no_value _ _ none so.of_seed)
+
+-- matches that make no setup, and no torture run, say no order
+pub ruleset no_order = (no_script, no_pair, no_workers, no_rounds, no_seed)
 
 -- ---- a parse of `rcu`
 

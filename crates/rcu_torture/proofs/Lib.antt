@@ -1,5 +1,6 @@
 pub mod CommandLemmas
 pub mod GetterLemmas
+pub mod GrammarLemmas
 pub mod LedgerLemmas
 pub mod LevelLemmas
 pub mod RowLemmas

@@ -58,17 +58,15 @@ script = with_rule (with_rule (with_rule (with_rule (new_app (codes "script"))
     (required_rule (number_rule (codes "cpus") any_u32)))
     last_rule
 
--- `pair` before its other options: the shapes of both trees
-abbrev pub shapes : App
-shapes = with_rule (with_rule (with_rule (with_rule (new_app (codes "pair"))
+-- `pair`: the shapes of both trees, the number of processors and the last number
+abbrev pub pair : App
+pair = with_rule (with_rule (with_rule (with_rule (with_rule (with_rule (new_app (codes "pair"))
     (required_rule (number_rule (codes "leaf") any_u32)))
     (required_rule (number_rule (codes "inner") any_u32)))
     (required_rule (number_rule (codes "leaf2") any_u32)))
-    (required_rule (number_rule (codes "inner2") any_u32))
-
--- `pair`: the shapes of both trees, the number of processors and the last number
-abbrev pub pair : App
-pair = with_rule (with_rule shapes (required_rule (number_rule (codes "cpus") any_u32))) last_rule
+    (required_rule (number_rule (codes "inner2") any_u32)))
+    (required_rule (number_rule (codes "cpus") any_u32)))
+    last_rule
 
 -- `torture`: the number of workers, that of rounds, and the seed
 abbrev pub torture : App
@@ -77,26 +75,14 @@ torture = with_rule (with_rule (with_rule (new_app (codes "torture"))
     (required_rule (number_rule (codes "rounds") (u32_from_1_to most_rounds))))
     (required_rule (number_rule (codes "seed") any_u64))
 
--- `rcu` before it has subcommands: its words come without the program's name, one of them has to name a subcommand,
--- and `help` is no subcommand
-abbrev pub rcu_alone : App
-rcu_alone = on_top (λ top. record top {
+-- `rcu` with its subcommands: its words come without the program's name, one of them has to name a subcommand, and
+-- `help` is no subcommand
+abbrev pub rcu : App
+rcu = with_subcommand (with_subcommand (with_subcommand (on_top (λ top. record top {
   no_binary_name = true;
   subcommand_required = true;
   disable_help_subcommand = true;
-}) (new_app (codes "rcu"))
-
--- `rcu` with its first subcommand
-abbrev pub rcu_with_script : App
-rcu_with_script = with_subcommand rcu_alone script.top
-
--- `rcu` with its first two
-abbrev pub rcu_with_pair : App
-rcu_with_pair = with_subcommand rcu_with_script pair.top
-
--- `rcu` with its subcommands
-abbrev pub rcu : App
-rcu = with_subcommand rcu_with_pair torture.top
+}) (new_app (codes "rcu"))) script.top) pair.top) torture.top
 
 -- ---- what the matches say
 
@@ -131,22 +117,9 @@ abbrev pub IsOrderOf : Option (Text × List Row) → Order → Type 0
 IsOrderOf None order = ⊥
 IsOrderOf (Some met) order = IsOrder met.0 met.1 order
 
--- the options of these names have the numbers of a tree's shape
-pub record IsShapeOf (leaf_name inner_name : Text) (rows : List Row) (leaf inner : ℕ) : Type 0 where
-  pub of_leaf : number_up_to u32_max rows leaf_name ≡ Some leaf
-  pub of_inner : number_up_to u32_max rows inner_name ≡ Some inner
-
--- no shape has them
-abbrev pub HasNoShape : Text → Text → List Row → Type 0
-HasNoShape leaf_name inner_name rows = (leaf inner : ℕ) → ¬ (IsShapeOf leaf_name inner_name rows leaf inner)
-
 -- no setup has the numbers of the options
 abbrev pub HasNoSetup : Text → Text → List Row → Type 0
 HasNoSetup second_leaf second_inner rows = (setup : Setup) → ¬ (IsSetupOf second_leaf second_inner rows setup)
-
--- no torture run has them
-abbrev pub HasNoTorture : List Row → Type 0
-HasNoTorture rows = (workers rounds seed : ℕ) → ¬ (IsTortureOf rows workers rounds seed)
 
 -- the subcommand says no order
 abbrev pub HasNoOrder : Option (Text × List Row) → Type 0

@@ -1,5 +1,5 @@
 -- A worker of a torture run, and what its words say.
-use Rattle.std.specs.Prelude.{ℕ, ◌+◌, ◌*◌, ◌/◌, ◌%◌, ◌==◌, ◌&&◌, Bool, not}
+use Rattle.std.specs.Prelude.{ℕ, ◌+◌, ◌*◌, ◌/◌, ◌%◌, ◌==◌, ◌&&◌, if◌then◌else◌, Bool, not}
 use Rattle.rand_pcg.specs.Lcg.{Lcg}
 use Rattle.rcu_live.specs.CpuSeat.{Seated}
 use Rattle.rcu_live.specs.Watcher.{Watching}
@@ -24,3 +24,12 @@ other_by workers word = word / 8 % workers
 -- whether a worker goes offline and online again in a round, by its word: processor 0 never does
 abbrev pub leaves_by : ℕ → ℕ → Bool
 leaves_by worker word = not (worker == 0) && (word / 4 % 8 == 0)
+
+-- whether a worker gets idle and wakes at the end of a round, by its word
+abbrev pub sleeps_by : ℕ → Bool
+sleeps_by word = word / 64 % 4 == 0
+
+-- how often a worker's seat stores in a round, by its word, when its callback is queued: twice to go offline and come
+-- back, and twice to get idle and wake
+abbrev pub stores_by : ℕ → ℕ → ℕ
+stores_by worker word = (if leaves_by worker word then 2 else 0) + (if sleeps_by word then 2 else 0)

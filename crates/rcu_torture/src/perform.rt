@@ -14,9 +14,9 @@ use std::alloc::Global;
 use std::sync::Wait;
 use std::thread::Threads;
 
-/// Does what the order says, and costs what that costs: answers the lines that the reader gives, or
-/// works the running engine and prints the ledger. The fault for which it was refused is printed as
-/// a reply is; where the writer fails in it, the answer is `Write`.
+/// Does what the order says, and costs what that costs: replies to the lines that the reader gives,
+/// or stresses the running engine and prints the ledger. The fault for which it was refused is
+/// printed as a reply is; where the writer fails in it, it returns `Write`.
 pub fn perform<T: Threads + Wait + Sync, R: Source, W: Sink>(
     alloc: Global,
     rt: &T,

@@ -26,11 +26,11 @@ use workers::{Gathered, deal_jobs, run_all};
 /// The last number of a run's engine, the greatest that there is.
 const LAST: u64 = 1 << 62;
 
-/// Works the running engine with so many workers, each on a thread of its own with a processor of
-/// its own, for so many rounds, and then alone until nothing is left. A worker draws its words by
-/// the seed, and passes the gate twice a round.
+/// Stresses the running engine with `workers` workers, each on a thread of its own with a processor
+/// of its own, for `rounds` rounds, and then alone until nothing is left. A worker draws its words
+/// by the seed, and passes the gate twice a round.
 ///
-/// It answers what was counted. Faults: the first one that the lowest worker met, else the one that
+/// Returns what was counted. Faults: the first one that the lowest worker met, else the one that
 /// the program met, of which only 16 is expected.
 pub fn torture<R: Threads + Wait + Sync, G: Gate>(
     alloc: Global,

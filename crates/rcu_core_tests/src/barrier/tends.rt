@@ -6,7 +6,7 @@ use rcu_cblist::queued::Queued;
 use std::process::Abort;
 
 /// How many calls are drawn.
-const CALLS: u64 = 400;
+const CALLS: usize = 400;
 
 /// How many callbacks a plain list holds.
 const ROOM: usize = 400;
@@ -37,11 +37,11 @@ impl Plain {
         (done, left.saturating_sub(done))
     }
 
-    /// Hands out callbacks, and compares them with those that were taken.
-    fn hand_out(&mut self, rt: &impl Abort, calls: &[Queued<u64>], max: u64) {
-        assert!(rt; calls.len() as u64 == self.counts().0.min(max));
+    /// Hands out callbacks, and compares them with those that were taken in a row.
+    fn hand_out(&mut self, rt: &impl Abort, row: usize, calls: &[Queued<u64>], max: u64) {
+        assert_eq!(rt; (row, calls.len() as u64), (row, self.counts().0.min(max)));
         for call in calls {
-            assert!(rt; call.value == self.handed);
+            assert_eq!(rt; (row, call.value), (row, self.handed));
             self.handed = self.handed.saturating_add(1);
         }
     }
@@ -67,8 +67,8 @@ impl Plain {
 }
 
 /// Takes callbacks from both, and compares them.
-fn run_both(rt: &impl Abort, lists: &mut Lists<u64>, plain: &mut Plain, max: u64) {
-    plain.hand_out(rt, &take(rt, lists, 0, max), max);
+fn run_both(rt: &impl Abort, row: usize, lists: &mut Lists<u64>, plain: &mut Plain, max: u64) {
+    plain.hand_out(rt, row, &take(rt, row, lists, 0, max), max);
 }
 
 #[test]
@@ -83,14 +83,14 @@ fn tends_at_the_numbers_of_epochs(rt: HostRuntime) {
     };
     let mut number = 0u64;
     let mut epochs = 0u64;
-    for _ in 0..CALLS {
+    for row in 0..CALLS {
         match draw.below(9) {
             0..=2 => {
                 let value = plain.queued;
                 plain.queued = value.saturating_add(1);
-                queue(&rt, &mut lists, 0, value, plain.queued);
+                queue(&rt, row, &mut lists, 0, value, plain.queued);
             }
-            3 => run_both(&rt, &mut lists, &mut plain, draw.below(4)),
+            3 => run_both(&rt, row, &mut lists, &mut plain, draw.below(4)),
             4 | 5 => number = number.saturating_add(if number % 4 == 0 { 1 } else { 3 }),
             6 if number % 4 == 0 => {
                 lists.renumber();
@@ -99,10 +99,10 @@ fn tends_at_the_numbers_of_epochs(rt: HostRuntime) {
                 number = 0;
             }
             _ => {
-                assert!(rt; number % 4 <= 1 && number <= 4 * CALLS);
+                assert!(rt; number % 4 <= 1 && number <= 4 * CALLS as u64);
                 let end = (number + 3) / 4 * 4 + 4;
                 plain.tend(epochs.saturating_add(number), epochs.saturating_add(end));
-                tend(&rt, &mut lists, 0, number, plain.counts());
+                tend(&rt, row, &mut lists, 0, number, plain.counts());
             }
         }
     }

@@ -4,7 +4,7 @@
 pub const ROOM: usize = 48;
 
 /// What a callback waits for.
-#[derive(Clone, Copy, PartialEq, Eq)]
+#[derive(Clone, Copy, Debug, PartialEq, Eq)]
 pub enum Mark {
     Unmarked,
     Until(u64),
@@ -12,7 +12,7 @@ pub enum Mark {
 }
 
 /// An item: a callback by its value, or a marker.
-#[derive(Clone, Copy, PartialEq, Eq)]
+#[derive(Clone, Copy, Debug, PartialEq, Eq)]
 pub enum Item {
     Call(u64, Mark),
     Marker,
@@ -34,13 +34,9 @@ impl Plain {
         }
     }
 
-    /// The item at a place.
-    pub fn get(&self, place: usize) -> Option<Item> {
-        if place < self.len && place < ROOM {
-            Some(self.items[place])
-        } else {
-            None
-        }
+    /// The items, in order.
+    fn items(&self) -> &[Item] {
+        self.items.get(..self.len).unwrap_or(&[])
     }
 
     /// Puts an item at the end.
@@ -53,30 +49,21 @@ impl Plain {
 
     /// Makes each callback done whose number is at most this one.
     pub fn advance(&mut self, number: u64) {
-        let before = *self;
-        *self = Plain::new();
-        for i in 0..ROOM {
-            match before.get(i) {
-                Some(Item::Call(value, Mark::Until(n))) if n <= number => {
-                    self.push(Item::Call(value, Mark::Done));
+        for item in &mut self.items {
+            match *item {
+                Item::Call(value, Mark::Until(n)) if n <= number => {
+                    *item = Item::Call(value, Mark::Done);
                 }
-                Some(item) => self.push(item),
-                None => {}
+                _ => {}
             }
         }
     }
 
     /// Takes the number from each callback that has one.
     pub fn renumber(&mut self) {
-        let before = *self;
-        *self = Plain::new();
-        for i in 0..ROOM {
-            match before.get(i) {
-                Some(Item::Call(value, Mark::Until(_))) => {
-                    self.push(Item::Call(value, Mark::Unmarked));
-                }
-                Some(item) => self.push(item),
-                None => {}
+        for item in &mut self.items {
+            if let Item::Call(value, Mark::Until(_)) = *item {
+                *item = Item::Call(value, Mark::Unmarked);
             }
         }
     }
@@ -84,8 +71,8 @@ impl Plain {
     /// Whether two numbers below this one are in the list.
     fn has_two_below(&self, snap: u64) -> bool {
         let mut found = None;
-        for i in 0..ROOM {
-            if let Some(Item::Call(_, Mark::Until(n))) = self.get(i) {
+        for item in self.items() {
+            if let Item::Call(_, Mark::Until(n)) = *item {
                 match found {
                     Some(k) if k != n && n < snap => return true,
                     None if n < snap => found = Some(n),
@@ -101,24 +88,18 @@ impl Plain {
         if self.has_two_below(snap) {
             return;
         }
-        let before = *self;
-        *self = Plain::new();
-        for i in 0..ROOM {
-            match before.get(i) {
-                Some(Item::Call(value, Mark::Unmarked)) => {
-                    self.push(Item::Call(value, Mark::Until(snap)));
-                }
-                Some(item) => self.push(item),
-                None => {}
+        for item in &mut self.items {
+            if let Item::Call(value, Mark::Unmarked) = *item {
+                *item = Item::Call(value, Mark::Until(snap));
             }
         }
     }
 
     /// How many items the done part has.
     pub fn ahead(&self) -> usize {
-        for i in 0..ROOM {
-            if let Some(Item::Call(_, Mark::Unmarked | Mark::Until(_))) = self.get(i) {
-                return i;
+        for (place, item) in self.items().iter().enumerate() {
+            if let Item::Call(_, Mark::Unmarked | Mark::Until(_)) = item {
+                return place;
             }
         }
         self.len
@@ -126,42 +107,35 @@ impl Plain {
 
     /// Takes the first item where a take goes on that has so many callbacks left to hand out.
     pub fn take_next(&mut self, left: u64) -> Option<Item> {
-        let first = match self.get(0) {
-            Some(Item::Call(value, Mark::Done)) if left > 0 => Item::Call(value, Mark::Done),
-            Some(Item::Marker) => Item::Marker,
-            _ => return None,
-        };
         let before = *self;
-        *self = Plain::new();
-        for i in 1..ROOM {
-            if let Some(item) = before.get(i) {
-                self.push(item);
-            }
+        let (first, rest) = before.items().split_first()?;
+        match first {
+            Item::Call(_, Mark::Done) if left > 0 => {}
+            Item::Marker => {}
+            Item::Call(_, _) => return None,
         }
-        Some(first)
+        *self = Plain::new();
+        for item in rest {
+            self.push(*item);
+        }
+        Some(*first)
     }
 
     /// Moves all around a target: the done part before it, and the rest without marks behind it.
     pub fn migrate_into(&mut self, target: &mut Plain) {
-        let ahead = self.ahead();
         let before = *target;
         *target = Plain::new();
-        for i in 0..ahead {
-            if let Some(item) = self.get(i) {
-                target.push(item);
-            }
+        for item in self.items().iter().take(self.ahead()) {
+            target.push(*item);
         }
-        for i in 0..ROOM {
-            if let Some(item) = before.get(i) {
-                target.push(item);
-            }
+        for item in before.items() {
+            target.push(*item);
         }
-        for i in ahead..ROOM {
-            match self.get(i) {
-                Some(Item::Call(value, _)) => target.push(Item::Call(value, Mark::Unmarked)),
-                Some(Item::Marker) => target.push(Item::Marker),
-                None => {}
-            }
+        for item in self.items().iter().skip(self.ahead()) {
+            target.push(match *item {
+                Item::Call(value, _) => Item::Call(value, Mark::Unmarked),
+                Item::Marker => Item::Marker,
+            });
         }
         *self = Plain::new();
     }
@@ -172,10 +146,10 @@ impl Plain {
         let mut all = 0u64;
         let mut done = 0u64;
         let mut most = None;
-        for i in 0..ROOM {
-            if let Some(Item::Call(_, mark)) = self.get(i) {
+        for (place, item) in self.items().iter().enumerate() {
+            if let Item::Call(_, mark) = *item {
                 all = all.saturating_add(1);
-                if i < ahead {
+                if place < ahead {
                     done = done.saturating_add(1);
                 }
                 if let Mark::Until(n) = mark {
@@ -192,9 +166,9 @@ impl Plain {
         let mut sizes = [0u64; 4];
         let mut at = 0usize;
         let mut last = Mark::Done;
-        for i in 0..ROOM {
-            match self.get(i) {
-                Some(Item::Call(_, mark)) if mark != last => {
+        for item in self.items() {
+            match *item {
+                Item::Call(_, mark) if mark != last => {
                     at = if mark == Mark::Unmarked {
                         3
                     } else {
@@ -202,7 +176,6 @@ impl Plain {
                     };
                     last = mark;
                 }
-                None => break,
                 _ => {}
             }
             if at < 4 {

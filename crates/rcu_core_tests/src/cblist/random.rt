@@ -1,7 +1,7 @@
 //! Two lists under calls drawn at random, against the plain list.
 
-use crate::cblist::accelerate;
 use crate::cblist::plain::{Item, Mark, Plain, ROOM};
+use crate::cblist::{Asked, accelerate, ask};
 use crate::draw::Draw;
 use rcu_cblist::queued::Queued;
 use rcu_cblist::seg_list::SegList;
@@ -16,14 +16,22 @@ const DRAINS: u64 = 64;
 /// A number at which each callback is done.
 const LAST: u64 = 1 << 62;
 
-/// Compares counts, the greatest number and the segments.
-fn compare(rt: &impl Abort, list: &SegList<u64>, plain: &Plain) {
-    let (all, done, most) = plain.counts();
-    assert!(rt; list.count() == all && list.done_count() == done);
-    assert!(rt; list.waiting_count() == all.saturating_sub(done));
-    assert!(rt; list.greatest_waiting() == most);
-    assert!(rt; list.segments() == plain.segments());
-    assert!(rt; list.is_empty() == (plain.len == 0));
+/// All that a list answers that is as the plain one.
+fn asked_of(plain: &Plain) -> Asked {
+    let (count, done, greatest) = plain.counts();
+    Asked {
+        count,
+        done,
+        waiting: count.saturating_sub(done),
+        greatest,
+        segments: plain.segments(),
+    }
+}
+
+/// Compares counts, the greatest number and the segments after this call.
+fn compare(rt: &impl Abort, call: u64, list: &SegList<u64>, plain: &Plain) {
+    assert_eq!(rt; (call, ask(list)), (call, asked_of(plain)));
+    assert_eq!(rt; (call, list.is_empty()), (call, plain.len == 0));
 }
 
 /// Queues a callback, by a second call where the first is refused a growth.
@@ -37,13 +45,14 @@ fn queue(rt: &impl Abort, list: &mut SegList<u64>, plain: &mut Plain, value: u64
         value,
     };
     if let Err(back) = list.queue(call) {
-        assert!(rt; list.queue(back.value).is_ok());
+        let again = list.queue(back.value).map_err(|back| back.fault);
+        assert_eq!(rt; (value, again), (value, Ok(())));
     }
     plain.push(Item::Call(value, Mark::Unmarked));
 }
 
 /// Puts a marker behind, by a second call where the first is refused a growth.
-fn entrain(rt: &impl Abort, list: &mut SegList<u64>, plain: &mut Plain) {
+fn entrain(rt: &impl Abort, call: u64, list: &mut SegList<u64>, plain: &mut Plain) {
     if plain.len >= ROOM / 2 - 1 {
         return;
     }
@@ -51,14 +60,14 @@ fn entrain(rt: &impl Abort, list: &mut SegList<u64>, plain: &mut Plain) {
         Ok(marked) => marked,
         Err(_) => list.entrain().expect(rt, "the second call has memory"),
     };
-    assert!(rt; marked == (plain.len > 0));
+    assert_eq!(rt; (call, marked), (call, plain.len > 0));
     if marked {
         plain.push(Item::Marker);
     }
 }
 
 /// Takes callbacks, by a second call where the first is refused a growth.
-fn take(rt: &impl Abort, list: &mut SegList<u64>, plain: &mut Plain, max: u64) {
+fn take(rt: &impl Abort, call: u64, list: &mut SegList<u64>, plain: &mut Plain, max: u64) {
     let taken = match list.take_done(max) {
         Ok(taken) => taken,
         Err(_) => list.take_done(max).expect(rt, "the second call has memory"),
@@ -70,14 +79,16 @@ fn take(rt: &impl Abort, list: &mut SegList<u64>, plain: &mut Plain, max: u64) {
         match plain.take_next(left) {
             Some(Item::Call(value, _)) => {
                 left = left.saturating_sub(1);
-                assert!(rt; taken.calls.get(place).map(|call| call.value) == Some(value));
+                let found = taken.calls.get(place).map(|call| call.value);
+                assert_eq!(rt; (call, place, found), (call, place, Some(value)));
                 place = place.saturating_add(1);
             }
             Some(Item::Marker) => markers = markers.saturating_add(1),
             None => break,
         }
     }
-    assert!(rt; taken.calls.len() == place && taken.markers == markers);
+    let found = (taken.calls.len(), taken.markers);
+    assert_eq!(rt; (call, found), (call, (place, markers)));
 }
 
 /// Moves a list to another, by a second call where the first is refused a growth.
@@ -104,7 +115,7 @@ fn migrate(
             list.migrate_into(target)
         };
     }
-    assert!(rt; moved == Ok(()));
+    assert_eq!(rt; moved, Ok(()));
     if marked && plain.len > 0 {
         plain.push(Item::Marker);
     }
@@ -124,13 +135,13 @@ fn renumber(list: &mut SegList<u64>, plain: &mut Plain) {
 }
 
 /// Makes all callbacks done and takes them, which compares their order.
-fn drain(rt: &impl Abort, list: &mut SegList<u64>, plain: &mut Plain) {
+fn drain(rt: &impl Abort, call: u64, list: &mut SegList<u64>, plain: &mut Plain) {
     advance(list, plain, LAST);
     accelerate(rt, list, LAST);
     plain.accelerate(LAST);
     advance(list, plain, LAST);
-    take(rt, list, plain, u64::MAX);
-    assert!(rt; list.is_empty());
+    take(rt, call, list, plain, u64::MAX);
+    assert_eq!(rt; (call, list.count(), list.is_empty()), (call, 0, true));
 }
 
 #[test]
@@ -150,14 +161,14 @@ fn calls_at_random(rt: HostRuntime) {
         }
         match draw.below(16) {
             0..=4 => queue(&rt, &mut list, &mut plain, call),
-            5 => entrain(&rt, &mut list, &mut plain),
+            5 => entrain(&rt, call, &mut list, &mut plain),
             6..=7 => advance(&mut list, &mut plain, draw.below(40)),
             8..=10 => {
                 let snap = list.greatest_waiting().unwrap_or(0).max(draw.below(40));
                 accelerate(&rt, &mut list, snap);
                 plain.accelerate(snap);
             }
-            11..=13 => take(&rt, &mut list, &mut plain, draw.below(4)),
+            11..=13 => take(&rt, call, &mut list, &mut plain, draw.below(4)),
             kind => migrate(
                 &rt,
                 &mut list,
@@ -167,10 +178,10 @@ fn calls_at_random(rt: HostRuntime) {
                 kind == 15,
             ),
         }
-        compare(&rt, &list, &plain);
-        compare(&rt, &other, &other_plain);
+        compare(&rt, call, &list, &plain);
+        compare(&rt, call, &other, &other_plain);
         if call % DRAINS == 0 {
-            drain(&rt, &mut other, &mut other_plain);
+            drain(&rt, call, &mut other, &mut other_plain);
         }
     }
 }
@@ -188,8 +199,8 @@ fn tends_at_the_numbers_of_epochs(rt: HostRuntime) {
         }
         match draw.below(8) {
             0..=2 => queue(&rt, &mut list, &mut plain, call),
-            3 => entrain(&rt, &mut list, &mut plain),
-            4 => take(&rt, &mut list, &mut plain, draw.below(4)),
+            3 => entrain(&rt, call, &mut list, &mut plain),
+            4 => take(&rt, call, &mut list, &mut plain, draw.below(4)),
             5 => periods = periods.saturating_add(draw.below(3)),
             _ => {
                 let running = draw.below(2);
@@ -200,11 +211,11 @@ fn tends_at_the_numbers_of_epochs(rt: HostRuntime) {
                 plain.advance(number);
                 accelerate(&rt, &mut list, snap);
                 plain.accelerate(snap);
-                assert!(rt; list.segments()[3] == 0);
+                assert_eq!(rt; (call, list.segments()[3]), (call, 0));
                 periods = periods.saturating_add(running);
             }
         }
-        compare(&rt, &list, &plain);
+        compare(&rt, call, &list, &plain);
     }
-    drain(&rt, &mut list, &mut plain);
+    drain(&rt, CALLS, &mut list, &mut plain);
 }

@@ -158,7 +158,8 @@ fn go(rt: &impl Abort, core: &mut Core<Flat, u64>, turn: Turn) {
         matches!(
             reply,
             Reply::Begun(..) | Reply::Ended(_) | Reply::Renumbered(_)
-        )
+        ),
+        "{reply:?}"
     );
 }
 
@@ -170,10 +171,10 @@ fn take(rt: &impl Abort, core: &mut Core<Flat, u64>) -> Cookie {
     }
 }
 
-/// Compares whether a cookie is done.
-fn is_done(rt: &impl Abort, core: &mut Core<Flat, u64>, cookie: Cookie, wanted: bool) {
+/// Compares whether a cookie is done at a place of the path.
+fn is_done(rt: &impl Abort, at: u32, core: &mut Core<Flat, u64>, cookie: Cookie, wanted: bool) {
     match core.step(Event::Poll(cookie.number, cookie.epoch)) {
-        Reply::Polled(done) => assert!(rt; done == wanted),
+        Reply::Polled(done) => assert_eq!(rt; (at, cookie, done), (at, cookie, wanted)),
         _ => panic!(rt; "no answer"),
     }
 }
@@ -186,11 +187,12 @@ fn poll_from(rt: &impl Abort, mut core: Core<Flat, u64>, last: u32, place: u32) 
     let cookie = take(rt, &mut core);
     let mut since = Since::taking();
     for behind in place..steps(last) {
-        is_done(rt, &mut core, cookie, since.has_full_period());
+        is_done(rt, behind, &mut core, cookie, since.has_full_period());
         go(rt, &mut core, turn_at(last, behind));
         since.go(turn_at(last, behind));
     }
-    is_done(rt, &mut core, cookie, since.has_full_period());
+    let (end, is_over) = (steps(last), since.has_full_period());
+    is_done(rt, end, &mut core, cookie, is_over);
 }
 
 /// Polls from each place of the path.

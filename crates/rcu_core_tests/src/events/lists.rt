@@ -1,4 +1,4 @@
-//! A list of processors, filled and read, and a list of values, read.
+//! A list of processors and a list of values, read.
 
 use rcu_cblist::queued::Queued;
 use rcu_core::cpu_list::CpuList;
@@ -7,27 +7,20 @@ use rcu_seq::tag::Tag;
 use std::alloc::Global;
 use std::process::Abort;
 
-/// Puts a processor behind. A growth may be refused once; the list is then as it was.
-fn push(rt: &impl Abort, list: &mut CpuList, cpu: u32, before: &[u32]) {
-    if list.push(cpu).is_err() {
-        assert!(rt; list.as_slice() == before);
-        list.push(cpu).expect(rt, "memory");
+/// These three processors, in room made by a second call where the first is refused it.
+fn three(rt: &impl Abort, alloc: Global) -> Vec<u32> {
+    match Vec::from_slice(alloc, &[3, 0, 4095]) {
+        Ok(cpus) => cpus,
+        Err(_) => Vec::from_slice(alloc, &[3, 0, 4095]).expect(rt, "the second call has memory"),
     }
-}
-
-/// Fills an empty list.
-fn fill(rt: &impl Abort, list: &mut CpuList) {
-    assert!(rt; list.as_slice().is_empty());
-    push(rt, list, 3, &[]);
-    push(rt, list, 0, &[3]);
-    push(rt, list, 4095, &[3, 0]);
-    assert!(rt; list.as_slice() == [3, 0, 4095].as_slice());
 }
 
 #[test]
 fn processors_stay_in_order(rt: HostRuntime) {
-    let mut list = CpuList::new(rt.alloc());
-    fill(&rt, &mut list);
+    let none = CpuList::new(Vec::new(rt.alloc()));
+    assert!(rt; none.as_slice().is_empty());
+    let list = CpuList::new(three(&rt, rt.alloc()));
+    assert_eq!(rt; list.as_slice(), [3, 0, 4095].as_slice());
 }
 
 /// Callbacks of the values 1 and 5, in room made by a second call where the first is refused it.
@@ -51,23 +44,19 @@ fn put(rt: &impl Abort, calls: &mut Vec<Queued<u64>>, ord: u64, value: u64) {
     calls.push(call).expect(rt, "there is room");
 }
 
-/// Whether the list has these values, in order.
-fn has_values(list: &ValueList, values: &[u64]) -> bool {
-    if list.len() != values.len() || list.is_empty() != values.is_empty() {
-        return false;
-    }
+/// Compares the values of a list, in order.
+fn has_values(rt: &impl Abort, list: &ValueList, wanted: &[u64]) {
+    assert_eq!(rt; list.is_empty(), wanted.is_empty());
+    assert_eq!(rt; list.len(), wanted.len());
     for place in 0..list.len() {
-        if list.value(place) != values[place] {
-            return false;
-        }
+        assert_eq!(rt; (place, list.value(place)), (place, wanted[place]));
     }
-    true
 }
 
 #[test]
 fn values_stay_in_order(rt: HostRuntime) {
     let none = ValueList::new(Vec::new(rt.alloc()));
-    assert!(rt; has_values(&none, &[]));
+    has_values(&rt, &none, &[]);
     let both = ValueList::new(calls(&rt, rt.alloc()));
-    assert!(rt; has_values(&both, &[1, 5]));
+    has_values(&rt, &both, &[1, 5]);
 }

@@ -27,7 +27,7 @@ pub fn core(rt: &impl Abort, alloc: Global, last: u64) -> Core<Flat, u64> {
 }
 
 /// What events tell that change nothing: the cookie of a taking, and whether two cookies are done.
-#[derive(Clone, Copy, PartialEq)]
+#[derive(Clone, Copy, Debug, PartialEq)]
 struct Asked {
     cookie: Option<Cookie>,
     first: bool,
@@ -62,7 +62,7 @@ pub fn step(rt: &impl Abort, core: &mut Core<Flat, u64>, event: Event) -> Reply 
     let before = ask(core);
     match core.step(event) {
         Reply::Fault(Fault::NoMemory) => {
-            assert!(rt; ask(core) == before);
+            assert_eq!(rt; (event, ask(core)), (event, before));
             core.step(event)
         }
         reply => reply,
@@ -90,27 +90,27 @@ pub fn lacks_memory(replies: &[Reply]) -> bool {
     false
 }
 
-/// Compares a reply with the text that it prints as.
-fn told(rt: &impl Abort, alloc: Global, reply: &Reply, wanted: &str) {
+/// Compares the reply of a row with the text that it prints as.
+fn told(rt: &impl Abort, alloc: Global, row: usize, reply: &Reply, wanted: &str) {
     let text = match format!(in alloc; "{reply:?}") {
         Ok(text) => text,
         Err(_) => format!(in alloc; "{reply:?}").expect(rt, "the second call has memory"),
     };
-    assert!(rt; text.as_str() == wanted, "{text}");
+    assert_eq!(rt; (row, text.as_str()), (row, wanted));
 }
 
 /// Compares replies with the texts that they print as.
 pub fn told_all(rt: &impl Abort, alloc: Global, replies: &[Reply], wanted: &[&str]) {
-    assert!(rt; replies.len() == wanted.len());
-    for place in 0..replies.len() {
-        told(rt, alloc, &replies[place], wanted[place]);
+    assert_eq!(rt; replies.len(), wanted.len());
+    for (row, (reply, wanted)) in replies.iter().zip(wanted).enumerate() {
+        told(rt, alloc, row, reply, wanted);
     }
 }
 
 /// Takes events one at a time, and compares each reply with the text that it prints as.
 pub fn takes(rt: &impl Abort, alloc: Global, core: &mut Core<Flat, u64>, rows: &[(Event, &str)]) {
-    for (event, wanted) in rows {
-        told(rt, alloc, &step(rt, core, *event), wanted);
+    for (row, (event, wanted)) in rows.iter().enumerate() {
+        told(rt, alloc, row, &step(rt, core, *event), wanted);
     }
 }
 

@@ -1,6 +1,8 @@
 //! Calls of the state of the grace periods whose growth is refused: each leaves all as it was, and
 //! the same call again answers as if it had not been.
 
+mod rooms;
+
 use crate::made::{flat, refused};
 use rcu_barrier::barrier_state::BarrierState;
 use rcu_barrier::visit::Visit;
@@ -18,7 +20,7 @@ use std::process::Abort;
 type State = GpState<Flat, u64>;
 
 /// All that can be asked of a processor.
-#[derive(Clone, Copy, PartialEq)]
+#[derive(Clone, Copy, Debug, PartialEq)]
 struct AskedOf {
     online: bool,
     list_empty: bool,
@@ -26,7 +28,7 @@ struct AskedOf {
 }
 
 /// All that can be asked of a state of two processors.
-#[derive(Clone, Copy, PartialEq)]
+#[derive(Clone, Copy, Debug, PartialEq)]
 struct Asked {
     tag: Tag,
     running: bool,
@@ -75,7 +77,7 @@ fn ask(rt: &impl Abort, state: &State) -> Asked {
 /// Compares the fault of a call whose growth was refused, and what it left with what was there.
 fn left(rt: &impl Abort, fault: Fault, state: &State, before: Asked) {
     refused(rt, fault);
-    assert!(rt; ask(rt, state) == before);
+    assert_eq!(rt; ask(rt, state), before);
 }
 
 /// Queues a callback, by a second call where the first is refused a growth.
@@ -83,12 +85,13 @@ fn queue(rt: &impl Abort, state: &mut State, cpu: u32, value: u64, wanted: u64) 
     let before = ask(rt, state);
     assert!(rt; cpu < state.cpus());
     match state.queue(cpu, value) {
-        Ok(count) => assert!(rt; count == wanted),
+        Ok(count) => assert_eq!(rt; (cpu, value, count), (cpu, value, wanted)),
         Err(back) => {
             left(rt, back.fault, state, before);
-            assert!(rt; back.value == value);
+            assert_eq!(rt; back.value, value);
             assert!(rt; cpu < state.cpus());
-            assert!(rt; state.queue(cpu, back.value).ok() == Some(wanted));
+            let again = state.queue(cpu, back.value).map_err(|back| back.fault);
+            assert_eq!(rt; (cpu, value, again), (cpu, value, Ok(wanted)));
         }
     }
 }
@@ -98,11 +101,11 @@ fn visit(rt: &impl Abort, state: &mut State, cpu: u32) {
     let before = ask(rt, state);
     assert!(rt; cpu < state.cpus());
     match state.visit(cpu) {
-        Ok(visit) => assert!(rt; visit == Visit::Marked),
+        Ok(visit) => assert_eq!(rt; (cpu, visit), (cpu, Visit::Marked)),
         Err(fault) => {
             left(rt, fault, state, before);
             assert!(rt; cpu < state.cpus());
-            assert!(rt; state.visit(cpu) == Ok(Visit::Marked));
+            assert_eq!(rt; (cpu, state.visit(cpu)), (cpu, Ok(Visit::Marked)));
         }
     }
 }
@@ -112,11 +115,11 @@ fn migrate(rt: &impl Abort, state: &mut State, wanted: u64) {
     let before = ask(rt, state);
     assert!(rt; 1 < state.cpus());
     match state.migrate(1) {
-        Ok(moved) => assert!(rt; moved == wanted),
+        Ok(moved) => assert_eq!(rt; moved, wanted),
         Err(fault) => {
             left(rt, fault, state, before);
             assert!(rt; 1 < state.cpus());
-            assert!(rt; state.migrate(1) == Ok(wanted));
+            assert_eq!(rt; state.migrate(1), Ok(wanted));
         }
     }
 }
@@ -133,37 +136,36 @@ fn run(rt: &impl Abort, state: &mut State, wanted: usize) {
             state.run(0, 9).expect(rt, "the second call has memory")
         }
     };
-    assert!(rt; calls.len() == wanted);
+    assert_eq!(rt; calls.len(), wanted);
 }
 
 /// Tends processor 0's list, and compares how many callbacks are done and how many wait.
 fn tend(rt: &impl Abort, state: &mut State, wanted: (u64, u64)) {
     assert!(rt; 0 < state.cpus());
-    let (done, waiting) = state.tend(0);
-    assert!(rt; done == wanted.0 && waiting == wanted.1);
+    assert_eq!(rt; state.tend(0), wanted);
 }
 
 /// Makes a turn, and compares what it did.
 fn turns(rt: &impl Abort, state: &mut State, wanted: Turned) {
-    assert!(rt; state.turn() == Ok(wanted));
+    assert_eq!(rt; state.turn(), Ok(wanted));
 }
 
 /// Compares how far the barrier is.
 fn barrier_is(rt: &impl Abort, state: &mut State, wanted: BarrierState) {
-    assert!(rt; state.barrier_test() == Ok(wanted));
+    assert_eq!(rt; state.barrier_test(), Ok(wanted));
 }
 
 /// Queues callbacks on both processors; one departs during a barrier, which waits for its list.
 fn departs(rt: &impl Abort, state: &mut State) {
-    assert!(rt; state.arrive(1).is_ok());
+    assert_eq!(rt; state.arrive(1), Ok(()));
     queue(rt, state, 0, 5, 1);
     queue(rt, state, 1, 6, 2);
     queue(rt, state, 1, 7, 3);
-    assert!(rt; state.barrier_begin().is_ok());
+    assert_eq!(rt; state.barrier_begin(), Ok(()));
     visit(rt, state, 0);
     migrate(rt, state, 2);
     barrier_is(rt, state, BarrierState::Waits(2));
-    assert!(rt; state.depart(1).is_ok());
+    assert_eq!(rt; state.depart(1), Ok(()));
 }
 
 /// A grace period, which the three callbacks wait for, begins, is reported and ends.
@@ -171,7 +173,7 @@ fn passes(rt: &impl Abort, state: &mut State) {
     tend(rt, state, (0, 3));
     turns(rt, state, Turned::Begun(1, 1));
     assert!(rt; 0 < state.cpus());
-    assert!(rt; state.hear(0) == Answer::Last);
+    assert_eq!(rt; state.hear(0), Answer::Last);
     turns(rt, state, Turned::Ended(4));
     tend(rt, state, (3, 0));
 }
@@ -193,16 +195,15 @@ fn refused_calls_leave_all_as_it_was(rt: HostRuntime) {
 /// A renumbering is refused by this fault, and changes nothing.
 fn stays(rt: &impl Abort, state: &mut State, wanted: Fault) {
     let before = ask(rt, state);
-    assert!(rt; state.renumber() == Err(wanted));
-    assert!(rt; ask(rt, state) == before);
+    assert_eq!(rt; state.renumber(), Err(wanted));
+    assert_eq!(rt; ask(rt, state), before);
 }
 
 /// The numbers start anew in this epoch, and a grace period is needed or not.
 fn starts_anew(rt: &impl Abort, state: &mut State, epoch: u64, needed: bool) {
-    assert!(rt; state.renumber() == Ok(epoch));
-    assert!(rt; state.tag() == Tag { epoch, number: 0 });
-    assert!(rt; state.value() == 0);
-    assert!(rt; state.wants_begin() == needed);
+    assert_eq!(rt; state.renumber(), Ok(epoch));
+    let found = (state.tag(), state.value(), state.wants_begin());
+    assert_eq!(rt; found, (Tag { epoch, number: 0 }, 0, needed));
 }
 
 /// A turn begins a grace period that is needed, and its end is all that was needed.
@@ -210,7 +211,7 @@ fn turn_ends_one(rt: &impl Abort, state: &mut State) {
     turns(rt, state, Turned::Begun(1, 1));
     stays(rt, state, Fault::Running);
     assert!(rt; 0 < state.cpus());
-    assert!(rt; state.hear(0) == Answer::Last);
+    assert_eq!(rt; state.hear(0), Answer::Last);
     turns(rt, state, Turned::Ended(4));
     turns(rt, state, Turned::Nothing);
 }
@@ -223,7 +224,7 @@ fn needed_numbers_across_epochs(rt: HostRuntime) {
     state.start_poll();
     turn_ends_one(&rt, &mut state);
     state.start_poll();
-    assert!(rt; state.turn() == Err(Fault::Exhausted));
+    assert_eq!(rt; state.turn(), Err(Fault::Exhausted));
     starts_anew(&rt, &mut state, 1, true);
     turn_ends_one(&rt, &mut state);
     starts_anew(&rt, &mut state, 2, false);
@@ -238,17 +239,15 @@ fn first_begin(rt: &impl Abort, alloc: Global, last: u64) -> Result<(u64, u32), 
 /// A state opens with this last number, and begins.
 fn opens(rt: &impl Abort, alloc: Global, last: u64) {
     match first_begin(rt, alloc, last) {
-        Ok((number, awaited)) => assert!(rt; number == 1 && awaited == 1, "{last}"),
+        Ok(begun) => assert_eq!(rt; (last, begun), (last, (1, 1))),
         Err(fault) => refused(rt, fault),
     }
 }
 
 /// No state opens, since this is no last number.
 fn refuses(rt: &impl Abort, alloc: Global, last: u64) {
-    assert!(rt;
-        first_begin(rt, alloc, last).err() == Some(Fault::BadLast),
-        "{last}"
-    );
+    let found = first_begin(rt, alloc, last);
+    assert_eq!(rt; (last, found), (last, Err(Fault::BadLast)));
 }
 
 /// States open with the least and the greatest last number, and with none beyond.
@@ -263,8 +262,8 @@ fn last_numbers(rt: HostRuntime) {
 
 /// Compares the size of a state.
 fn has_size(rt: &impl Abort, state: &mut State, cpus: u32) {
-    assert!(rt; state.cpus() == cpus);
-    assert!(rt; state.arrive(cpus) == Err(Fault::BadCpu));
+    assert_eq!(rt; state.cpus(), cpus);
+    assert_eq!(rt; state.arrive(cpus), Err(Fault::BadCpu));
 }
 
 /// A state of so many processors opens.

@@ -130,7 +130,7 @@ fn refused_events_change_nothing(rt: HostRuntime) {
 /// No machine opens, since this is no last number.
 fn refuses(rt: &impl Abort, alloc: Global, last: u64) {
     let opened = Core::<_, u64>::new(alloc, flat(rt, alloc, 2), last);
-    assert!(rt; opened.err() == Some(Fault::BadLast));
+    assert_eq!(rt; (last, opened.err()), (last, Some(Fault::BadLast)));
 }
 
 /// A machine opens with this last number, and begins.

@@ -1,15 +1,16 @@
 //! The masks of trees, node by node, and each call of a tree beside the same call of a flat set.
 ghost use Rattle.std.specs.Prelude.{◌<◌};
 
-use super::{begin, insert, is_word, report};
+use super::{begin, insert, report};
 use crate::draw::Draw;
-use crate::made::{empty_set, flat, is_said, tree};
+use crate::made::{empty_set, flat, is_answer, tree};
 use rcu_geometry::geometry::Geometry;
 use rcu_node::answer::Answer;
 use rcu_node::awaited::Awaited;
 use rcu_node::cpu_set::CpuSet;
 use rcu_node::flat::Flat;
 use rcu_node::tree::Tree;
+use rcu_report::report::Report;
 use rcu_seq::tag::Tag;
 use std::alloc::Global;
 use std::process::Abort;
@@ -19,32 +20,26 @@ const MOST_NODES: usize = 65;
 
 /// What awaits processors, and may show masks.
 trait Shown {
-    /// The first node whose masks are not what the definition says of these sets, if there is one.
-    fn wrong_node(&self, awaited: &CpuSet, start: &CpuSet) -> Option<u32>;
+    /// Compares the masks of each node with what the definition says of these sets.
+    fn compare_nodes<R: Abort>(&self, rt: &R, awaited: &CpuSet, start: &CpuSet);
 }
 
 impl Shown for Flat {
-    fn wrong_node(&self, _awaited: &CpuSet, _start: &CpuSet) -> Option<u32> {
-        None
-    }
+    fn compare_nodes<R: Abort>(&self, _rt: &R, _awaited: &CpuSet, _start: &CpuSet) {}
 }
 
 impl<const LEAF: u32, const FAN: u32> Shown for Tree<LEAF, FAN> {
-    fn wrong_node(&self, awaited: &CpuSet, start: &CpuSet) -> Option<u32> {
-        let Ok(geometry) = Geometry::<LEAF, FAN>::new(self.cpus()) else {
-            return Some(0);
-        };
+    fn compare_nodes<R: Abort>(&self, rt: &R, awaited: &CpuSet, start: &CpuSet) {
+        let geometry = Geometry::<LEAF, FAN>::new(self.cpus()).expect(rt, "there is such a tree");
+        assert_eq!(rt; self.nodes(), geometry.nodes());
         let (now, first) = (masks_of(&geometry, awaited), masks_of(&geometry, start));
         for node in 0..self.nodes() {
-            if node >= self.nodes()
-                || self.qsmask(node) != mask_at(&now, node)
-                || self.qsmaskinit(node) != mask_at(&first, node)
-                || self.grpmask(node) != own_bit(&geometry, node)
-            {
-                return Some(node);
-            }
+            assert!(rt; node < self.nodes());
+            let found = (self.qsmask(node), self.qsmaskinit(node), self.grpmask(node));
+            let (current, initial) = (mask_at(&now, node), mask_at(&first, node));
+            let wanted = (current, initial, own_bit(&geometry, node));
+            assert_eq!(rt; (node, found), (node, wanted));
         }
-        (self.nodes() != geometry.nodes()).then_some(self.nodes())
     }
 }
 
@@ -105,22 +100,13 @@ fn drawn_set<R: Abort>(rt: &R, alloc: Global, draw: &mut Draw, cpus: u32) -> Cpu
     set
 }
 
-/// Whether there is such a processor in both, and both say the same of it.
-fn says_alike<A: Awaited>(shown: &A, flat: &Flat, cpu: u32) -> bool {
-    cpu < flat.cpus()
-        && cpu < shown.cpus()
-        && shown.awaits(cpu) == flat.awaits(cpu)
-        && shown.starts(cpu) == flat.starts(cpu)
-}
-
-/// The first processor of which not both say the same, if there is one.
-fn wrong_cpu<A: Awaited>(shown: &A, flat: &Flat) -> Option<u32> {
+/// Compares what both say of each processor.
+fn compare_each<A: Awaited, R: Abort>(rt: &R, shown: &A, flat: &Flat) {
     for cpu in 0..flat.cpus() {
-        if !says_alike(shown, flat, cpu) {
-            return Some(cpu);
-        }
+        assert!(rt; cpu < flat.cpus() && cpu < shown.cpus());
+        let found = (shown.awaits(cpu), shown.starts(cpu));
+        assert_eq!(rt; (cpu, found), (cpu, (flat.awaits(cpu), flat.starts(cpu))));
     }
-    None
 }
 
 /// Puts a processor in, where that is wanted.
@@ -145,25 +131,19 @@ fn sets_of<R: Abort>(rt: &R, alloc: Global, flat: &Flat) -> (CpuSet, CpuSet) {
 
 /// Compares all that is said of each processor with what the flat set says, and then the masks.
 fn compare<A: Awaited + Shown, R: Abort>(rt: &R, alloc: Global, shown: &A, flat: &Flat) {
-    assert!(rt; shown.cpus() == flat.cpus());
-    assert!(rt; shown.tag() == flat.tag());
-    assert!(rt; shown.count() == flat.count());
-    assert!(rt; shown.is_empty() == flat.is_empty());
-    is_none(rt, wrong_cpu(shown, flat));
+    assert_eq!(rt; (shown.cpus(), shown.tag()), (flat.cpus(), flat.tag()));
+    assert_eq!(rt;
+        (shown.count(), shown.is_empty()),
+        (flat.count(), flat.is_empty())
+    );
+    compare_each(rt, shown, flat);
     compare_masks(rt, alloc, shown, flat);
 }
 
 /// Compares the masks with what the flat set says.
 fn compare_masks<A: Shown, R: Abort>(rt: &R, alloc: Global, shown: &A, flat: &Flat) {
     let (awaited, start) = sets_of(rt, alloc, flat);
-    is_none(rt, shown.wrong_node(&awaited, &start));
-}
-
-/// There is no wrong processor, or no wrong node.
-fn is_none<R: Abort>(rt: &R, wrong: Option<u32>) {
-    if let Some(place) = wrong {
-        panic!(rt; "at {place}");
-    }
+    shown.compare_nodes(rt, &awaited, &start);
 }
 
 /// Begins a grace period in both, where the set and the number are fit for it.
@@ -176,9 +156,23 @@ fn begin_both<A: Awaited>(shown: &mut A, flat: &mut Flat, now: Tag, set: &CpuSet
     true
 }
 
-/// Reports a processor to both. Whether there is one, and both answer the same.
-fn answer_alike<A: Awaited>(shown: &mut A, flat: &mut Flat, cpu: u32, noted: Tag) -> bool {
-    cpu < flat.cpus() && cpu < shown.cpus() && shown.report(cpu, noted) == flat.report(cpu, noted)
+/// Makes the report of a row to both, and compares the answers.
+fn answer_alike<A: Awaited, R: Abort>(
+    rt: &R,
+    row: usize,
+    shown: &mut A,
+    flat: &mut Flat,
+    report: Report,
+) {
+    assert!(rt; report.cpu < flat.cpus() && report.cpu < shown.cpus());
+    let wanted = flat.report(report.cpu, report.tag);
+    is_answer(
+        rt,
+        row,
+        report,
+        shown.report(report.cpu, report.tag),
+        wanted,
+    );
 }
 
 /// The tag of the latest grace period.
@@ -219,12 +213,8 @@ fn beside_flat<A: Awaited + Shown, R: Abort>(rt: &R, alloc: Global, mut shown: A
         period_beside(rt, alloc, &mut shown, &mut flat, &mut draw, *now, reports);
     }
     for cpu in 0..cpus {
-        is_said(
-            rt,
-            cpu,
-            answer_alike(&mut shown, &mut flat, cpu, LATEST),
-            true,
-        );
+        let report = Report { cpu, tag: LATEST };
+        answer_alike(rt, cpu as usize, &mut shown, &mut flat, report);
     }
     compare(rt, alloc, &shown, &flat);
     assert!(rt; shown.is_empty());
@@ -243,8 +233,8 @@ fn period_beside<A: Awaited + Shown, R: Abort>(
     let set = drawn_set(rt, alloc, draw, shown.cpus());
     assert!(rt; begin_both(shown, flat, now, &set));
     compare(rt, alloc, shown, flat);
-    for _ in 0..reports {
-        report_both(rt, shown, flat, draw, now);
+    for row in 0..reports {
+        report_both(rt, row as usize, shown, flat, draw, now);
         compare(rt, alloc, shown, flat);
     }
 }
@@ -253,6 +243,7 @@ fn period_beside<A: Awaited + Shown, R: Abort>(
 /// which have to answer the same.
 fn report_both<A: Awaited, R: Abort>(
     rt: &R,
+    row: usize,
     shown: &mut A,
     flat: &mut Flat,
     draw: &mut Draw,
@@ -261,11 +252,11 @@ fn report_both<A: Awaited, R: Abort>(
     let cpus = shown.cpus();
     assert!(rt; cpus > 0);
     let cpu = draw.below(u64::from(cpus)) as u32;
-    let noted = Tag {
+    let tag = Tag {
         epoch: now.epoch ^ (draw.below(8) / 7),
         number: now.number.saturating_add(4 * (draw.below(4) / 3)),
     };
-    is_said(rt, cpu, answer_alike(shown, flat, cpu, noted), true);
+    answer_alike(rt, row, shown, flat, Report { cpu, tag });
 }
 
 #[test]
@@ -307,13 +298,15 @@ static GROUP: [u64; 6] = [0, 1, 2, 1, 2, 1];
 
 /// Compares the masks of six nodes: those of now, and those that stay.
 fn masks<R: Abort>(rt: &R, tree: &Tree<2, 2>, wanted: &[u64; 6]) {
-    assert!(rt; tree.nodes() == 6);
+    assert_eq!(rt; tree.nodes(), 6);
     for node in 0..6u32 {
         assert!(rt; node < tree.nodes());
         let place = node as usize;
-        is_word(rt, node, tree.qsmask(node), wanted[place]);
-        is_word(rt, node, tree.qsmaskinit(node), START[place]);
-        is_word(rt, node, tree.grpmask(node), GROUP[place]);
+        let found = (tree.qsmask(node), tree.qsmaskinit(node), tree.grpmask(node));
+        assert_eq!(rt;
+            (node, found),
+            (node, (wanted[place], START[place], GROUP[place]))
+        );
     }
 }
 

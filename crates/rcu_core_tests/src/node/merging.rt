@@ -17,7 +17,7 @@ fn merges<A: Awaited, B: Awaited>(
     second: &B,
     wanted: Result<(), Fault>,
 ) {
-    assert!(rt; merge(first, second) == wanted);
+    assert_eq!(rt; merge(first, second), wanted);
 }
 
 /// Of five processors whether each was in the start set, and whether it is awaited after a merge.
@@ -53,14 +53,14 @@ fn hear_and_merge<A: Awaited, B: Awaited>(rt: &impl Abort, first: &mut A, second
     report(rt, first, &FIRST_HEARD);
     report(rt, second, &SECOND_HEARD);
     merges(rt, first, second, Ok(()));
-    assert!(rt; first.count() == 2 && first.tag() == Tag::of_first_epoch(1));
-    assert!(rt; second.count() == 3);
+    assert_eq!(rt; (first.count(), first.tag()), (2, Tag::of_first_epoch(1)));
+    assert_eq!(rt; second.count(), 3);
     merges(rt, second, first, Ok(()));
-    assert!(rt; second.count() == 2 && second.tag() == Tag::of_first_epoch(1));
+    assert_eq!(rt; (second.count(), second.tag()), (2, Tag::of_first_epoch(1)));
     awaits(rt, first, LEFT.as_slice());
     awaits(rt, second, LEFT.as_slice());
     merges(rt, first, second, Ok(()));
-    assert!(rt; first.count() == 2);
+    assert_eq!(rt; first.count(), 2);
 }
 
 /// Nothing changes where the tag, the start set or the number of processors differ.
@@ -116,8 +116,7 @@ fn merge_unlike_sets<A: Awaited, B: Awaited>(
     merges(rt, second, first, Err(Fault::NotAlike));
     awaits(rt, first, &FIRST_LEFT);
     awaits(rt, second, &SECOND_LEFT);
-    assert!(rt; first.count() == 2);
-    assert!(rt; second.count() == 1);
+    assert_eq!(rt; (first.count(), second.count()), (2, 1));
 }
 
 /// Of three processors whether each was in the first's start set, and whether it is awaited.
@@ -136,14 +135,16 @@ fn hear<A: Awaited>(rt: &impl Abort, awaited: &mut A, left: u32) {
     }
 }
 
-/// Whether those of five processors are awaited whose bits are set.
-fn awaits_those<A: Awaited>(awaited: &A, left: u32) -> bool {
-    for cpu in 0..5 {
-        if cpu >= awaited.cpus() || awaited.awaits(cpu) != ((left >> cpu) & 1 == 1) {
-            return false;
+/// Which of five processors are awaited, by their bits.
+fn bits_awaited<A: Awaited>(rt: &impl Abort, awaited: &A) -> u32 {
+    let mut bits = 0;
+    for cpu in 0..5u32 {
+        assert!(rt; cpu < awaited.cpus());
+        if awaited.awaits(cpu) {
+            bits |= 1 << cpu;
         }
     }
-    true
+    bits
 }
 
 /// Of every two sets of five processors left to await, those in both are left.
@@ -174,7 +175,10 @@ fn merge_left<A: Awaited, B: Awaited>(
     hear(rt, first, left);
     hear(rt, second, other);
     merges(rt, first, second, Ok(()));
-    assert!(rt; awaits_those(first, left & other), "{left} with {other}");
+    assert_eq!(rt;
+        (left, other, bits_awaited(rt, first)),
+        (left, other, left & other)
+    );
 }
 
 /// Two trees of five processors.

@@ -42,9 +42,9 @@ fn begin<A: Awaited>(
     set: &CpuSet,
     wanted: Result<u64, Fault>,
 ) {
-    assert!(rt; set.cpus() == replica.awaited().cpus());
+    assert_eq!(rt; set.cpus(), replica.awaited().cpus());
     let result = replica.begin(set);
-    assert!(rt; result == wanted);
+    assert_eq!(rt; result, wanted);
 }
 
 /// Makes reports, each of a processor and a number, and compares the answers.
@@ -53,8 +53,8 @@ fn report<A: Awaited>(
     replica: &mut Replica<A>,
     reports: &[(u32, u64, Result<Answer, Fault>)],
 ) {
-    for (cpu, tag, wanted) in reports {
-        is_said(rt, *cpu, replica.report(*cpu, *tag) == *wanted, true);
+    for (row, (cpu, tag, wanted)) in reports.iter().enumerate() {
+        assert_eq!(rt; (row, replica.report(*cpu, *tag)), (row, *wanted));
     }
 }
 
@@ -65,18 +65,17 @@ fn depart<A: Awaited>(
     cpu: u32,
     wanted: Result<(), Fault>,
 ) {
-    assert!(rt; replica.depart(cpu) == wanted);
+    assert_eq!(rt; (cpu, replica.depart(cpu)), (cpu, wanted));
 }
 
 /// Ends, and compares the result.
 fn end<A: Awaited>(rt: &impl Abort, replica: &mut Replica<A>, wanted: Result<u64, Fault>) {
-    assert!(rt; replica.end() == wanted);
+    assert_eq!(rt; replica.end(), wanted);
 }
 
 /// Compares the number, and whether a grace period runs.
 fn is_at<A: Awaited>(rt: &impl Abort, replica: &Replica<A>, value: u64, running: bool) {
-    assert!(rt; replica.value() == value);
-    assert!(rt; replica.is_running() == running);
+    assert_eq!(rt; (replica.value(), replica.is_running()), (value, running));
 }
 
 /// Takes in what the second has heard, and compares the result.
@@ -86,7 +85,7 @@ fn merge<A: Awaited, B: Awaited>(
     second: &Replica<B>,
     wanted: Result<(), Fault>,
 ) {
-    assert!(rt; first.merge_from(second) == wanted);
+    assert_eq!(rt; first.merge_from(second), wanted);
 }
 
 /// Compares which processors are awaited.
@@ -95,7 +94,7 @@ fn awaits<A: Awaited>(rt: &impl Abort, replica: &Replica<A>, wanted: &[u32]) {
     for cpu in 0..awaited.cpus() {
         is_said(rt, cpu, awaited.awaits(cpu), wanted.contains(&cpu));
     }
-    assert!(rt; awaited.count() as usize == wanted.len());
+    assert_eq!(rt; awaited.count() as usize, wanted.len());
 }
 
 /// Two replicas of five processors that heard different ones, and take in each other.
@@ -291,7 +290,7 @@ fn opens(rt: &impl Abort, alloc: Global, all: &CpuSet, last: u64) {
 /// No replica opens, since this is no last number.
 fn refuses(rt: &impl Abort, alloc: Global, last: u64) {
     let opened = Replica::new(flat(rt, alloc, 2), last);
-    assert!(rt; opened.err() == Some(Fault::BadLast), "{last}");
+    assert_eq!(rt; (last, opened.err()), (last, Some(Fault::BadLast)));
 }
 
 /// Replicas open with the least and the greatest last number, and with none beyond.

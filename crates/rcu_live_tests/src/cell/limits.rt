@@ -1,20 +1,20 @@
 //! The limits of a service, as a value in a cell.
 use rcu_cell::cell::Cell;
 use rcu_cell::keeper::Retired;
-use rcu_cell::slots::Fits;
+use rcu_cell::rule::Invariant;
 use rcu_cell::value::Value;
 
 /// How many requests a second are answered, and how many more at once: at least as many.
-#[derive(Clone, Copy, PartialEq, Eq)]
+#[derive(Clone, Copy, Debug, PartialEq, Eq)]
 pub(crate) struct Limits {
     pub(crate) rate: u32,
     pub(crate) burst: u32,
 }
 
-impl Fits for Limits {
+impl Invariant for Limits {
     ghost use Rattle.std.specs.Prelude.{◌≤◌, ◌<◌, ◌^◌, slice_index};
 
-    ghost fits = { λ words. (slice_index words 0 ≤ slice_index words 1)
+    ghost holds = { λ words. (slice_index words 0 ≤ slice_index words 1)
         × (slice_index words 1 < 2 ^ 32) };
 }
 
@@ -22,11 +22,11 @@ impl Value<2> for Limits {
     ghost use Rattle.std.specs.Prelude.{◌≤◌, [], ◌∷◌, slice_index};
     ghost use Rattle.std.proofs.Common.{rules};
 
-    ghost holds = { λ limits. limits.rate ≤ limits.burst };
+    ghost valid = { λ limits. limits.rate ≤ limits.burst };
 
     ghost in_words = { λ limits. limits.rate ∷ limits.burst ∷ [] };
 
-    ghost told_by = { λ words. record {
+    ghost decode = { λ words. record {
       rate = slice_index words 0;
       burst = slice_index words 1;
     } };
@@ -56,13 +56,16 @@ fn limits_are_replaced(rt: HostRuntime) {
         burst: 30,
     };
     let words = first.to_words();
-    assert!(rt; words == [10, 20]);
+    assert_eq!(rt; words, [10, 20]);
     let opened = Cell::<4, 4, u64, Limits, 2, 2>::open(rt.alloc(), 1, 8, &words);
     let Ok((cell, mut seats, _, mut keeper)) = opened else {
         return;
     };
     let mut seat = seats.pop().unwrap();
-    assert!(rt; cell.value_section(&mut seat) == Ok(first));
-    assert!(rt; keeper.update_value(&cell, second) == Ok(Retired { slot: 0, by: 1 }));
-    assert!(rt; cell.value_section(&mut seat) == Ok(second));
+    assert_eq!(rt; cell.value_section(&mut seat), Ok(first));
+    assert_eq!(rt;
+        keeper.update_value(&cell, second),
+        Ok(Retired { slot: 0, by: 1 })
+    );
+    assert_eq!(rt; cell.value_section(&mut seat), Ok(second));
 }

@@ -4,18 +4,16 @@ ghost use Rattle.rcu_cell.specs.Cell.{IsSeatOf, IsWatcherOf};
 
 use rcu_cell::cell::Cell;
 use rcu_cell::keeper::Keeper;
-use rcu_cell::known::Known;
-use rcu_cell::slots::Fits;
-use rcu_live::cpu_seat::CpuSeat;
+use rcu_cell::rule::{CellSeat, Invariant};
 use std::process::Abort;
 use std::sync::Wait;
 
 /// The seat of the last processor that is left.
-pub(crate) fn next_seat<R: Abort, F: Fits, const W: usize, const N: usize>(
+pub(crate) fn next_seat<R: Abort, F: Invariant, const W: usize, const N: usize>(
     rt: &R,
     cell: &Cell<4, 4, u64, F, W, N>,
-    seats: &mut Vec<CpuSeat<(), Known>>,
-) -> CpuSeat<(), Known>
+    seats: &mut Vec<CellSeat<F, W, N>>,
+) -> CellSeat<F, W, N>
     requires seats { All (IsSeatOf cell.now) seats.old.items }
     requires outside { All (λ seat. seat.depth ≡ 0) seats.old.items }
     ensures seats { All (IsSeatOf cell.now) seats.new.items }
@@ -27,11 +25,11 @@ pub(crate) fn next_seat<R: Abort, F: Fits, const W: usize, const N: usize>(
 }
 
 /// The same, of a processor that is online from now on.
-pub(crate) fn next_online<R: Abort + Wait, F: Fits, const W: usize, const N: usize>(
+pub(crate) fn next_online<R: Abort + Wait, F: Invariant, const W: usize, const N: usize>(
     rt: &R,
     cell: &Cell<4, 4, u64, F, W, N>,
-    seats: &mut Vec<CpuSeat<(), Known>>,
-) -> CpuSeat<(), Known>
+    seats: &mut Vec<CellSeat<F, W, N>>,
+) -> CellSeat<F, W, N>
     requires seats { All (IsSeatOf cell.now) seats.old.items }
     requires outside { All (λ seat. seat.depth ≡ 0) seats.old.items }
     ensures seats { All (IsSeatOf cell.now) seats.new.items }
@@ -40,18 +38,18 @@ pub(crate) fn next_online<R: Abort + Wait, F: Fits, const W: usize, const N: usi
     ensures shut { result.depth ≡ 0 }
 {
     let mut seat = next_seat(rt, cell, seats);
-    assert!(rt; cell.live().online(rt, &mut seat) == Ok(()));
+    assert_eq!(rt; cell.live().online(rt, &mut seat), Ok(()));
     seat
 }
 
 /// Moves a grace period of so many processors on, from the processor 0, and looks which slots are
 /// free. A callback asks for the grace period; where its queueing is refused memory, a later call
 /// does.
-pub(crate) fn drive<R: Wait, F: Fits, const W: usize, const N: usize>(
+pub(crate) fn drive<R: Wait, F: Invariant, const W: usize, const N: usize>(
     rt: &R,
     cell: &Cell<4, 4, u64, F, W, N>,
-    keeper: &mut Keeper<W, N>,
-    seat: &mut CpuSeat<(), Known>,
+    keeper: &mut Keeper<F, W, N>,
+    seat: &mut CellSeat<F, W, N>,
     cpus: u32,
 )
     requires keeper { IsWatcherOf cell.now keeper.old }

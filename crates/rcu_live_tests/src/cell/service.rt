@@ -8,9 +8,8 @@ use crate::cell::limits::Limits;
 use crate::cell::parts::{drive, next_online, next_seat};
 use rcu_cell::cell::Cell;
 use rcu_cell::keeper::Keeper;
-use rcu_cell::known::Known;
+use rcu_cell::rule::CellSeat;
 use rcu_cell::value::Value;
-use rcu_live::cpu_seat::CpuSeat;
 use rcu_seq::fault::Fault;
 use std::process::Abort;
 use std::sync::Wait;
@@ -30,7 +29,7 @@ const CHANGES: u32 = 1_000;
 #[derive(Drop)]
 struct Server<'a> {
     cell: &'a Shared,
-    seat: CpuSeat<(), Known>,
+    seat: CellSeat<Limits, 2, 4>,
     ghost seat_of: { IsSeatOf cell.now seat },
     ghost outside: { seat.depth ≡ 0 },
 }
@@ -63,8 +62,8 @@ impl<'a> Server<'a> {
 #[derive(Drop)]
 struct Control<'a> {
     cell: &'a Shared,
-    keeper: Keeper<2, 4>,
-    seat: CpuSeat<(), Known>,
+    keeper: Keeper<Limits, 2, 4>,
+    seat: CellSeat<Limits, 2, 4>,
     ghost keeper_of: { IsWatcherOf cell.now keeper },
     ghost seat_of: { IsSeatOf cell.now seat },
 }
@@ -96,8 +95,8 @@ impl<'a> Control<'a> {
 fn run_service<R: Abort + Threads + Wait + Sync>(
     rt: &R,
     cell: &Shared,
-    mut seats: Vec<CpuSeat<(), Known>>,
-    keeper: Keeper<2, 4>,
+    mut seats: Vec<CellSeat<Limits, 2, 4>>,
+    keeper: Keeper<Limits, 2, 4>,
 ) -> u32
     requires seats { All (IsSeatOf cell.now) seats.items }
     requires outside { All (λ seat. seat.depth ≡ 0) seats.items }
@@ -118,5 +117,5 @@ fn limits_are_replaced_while_requests_are_answered(rt: HostRuntime) {
     let Ok((cell, seats, _, keeper)) = opened else {
         return;
     };
-    assert!(rt; run_service(&rt, &cell, seats, keeper) == REQUESTS);
+    assert_eq!(rt; run_service(&rt, &cell, seats, keeper), REQUESTS);
 }

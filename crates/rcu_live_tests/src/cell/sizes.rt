@@ -3,7 +3,6 @@ use crate::cell::Any;
 use rcu_cell::cell::Cell;
 use rcu_seq::fault::Fault;
 use std::alloc::Global;
-use std::process::Abort;
 
 /// Opens a cell of so many processors. Answers for how many it deals seats, by a second call where
 /// the first is refused a growth.
@@ -16,17 +15,20 @@ fn opens(alloc: Global, cpus: u32, last: u64) -> Result<usize, Fault> {
     Ok(seats.len())
 }
 
-/// Compares what comes of opening a cell.
-fn has_size(rt: &impl Abort, alloc: Global, cpus: u32, last: u64, wanted: Result<usize, Fault>) {
-    assert!(rt; opens(alloc, cpus, last) == wanted);
-}
+/// Numbers of processors and last numbers, and what comes of opening a cell of them.
+static SIZES: [(u32, u64, Result<usize, Fault>); 6] = [
+    (1, 4, Ok(1)),
+    (4096, 1 << 62, Ok(4096)),
+    (0, 6, Err(Fault::TooManyCpus)),
+    (4097, 4, Err(Fault::TooManyCpus)),
+    (4096, 6, Err(Fault::BadLast)),
+    (4096, (1 << 62) + 4, Err(Fault::BadLast)),
+];
 
 #[test]
 fn sizes(rt: HostRuntime) {
-    has_size(&rt, rt.alloc(), 1, 4, Ok(1));
-    has_size(&rt, rt.alloc(), 4096, 1 << 62, Ok(4096));
-    has_size(&rt, rt.alloc(), 0, 6, Err(Fault::TooManyCpus));
-    has_size(&rt, rt.alloc(), 4097, 4, Err(Fault::TooManyCpus));
-    has_size(&rt, rt.alloc(), 4096, 6, Err(Fault::BadLast));
-    has_size(&rt, rt.alloc(), 4096, (1 << 62) + 4, Err(Fault::BadLast));
+    for (cpus, last, wanted) in &SIZES {
+        let found = opens(rt.alloc(), *cpus, *last);
+        assert_eq!(rt; (*cpus, *last, found), (*cpus, *last, *wanted));
+    }
 }

@@ -7,9 +7,7 @@ ghost use Rattle.rcu_cell.specs.Cell.{IsSeatOf, IsWatcherOf};
 use crate::cell::parts::{drive, next_online, next_seat};
 use rcu_cell::cell::Cell;
 use rcu_cell::keeper::Keeper;
-use rcu_cell::known::Known;
-use rcu_cell::slots::Fits;
-use rcu_live::cpu_seat::CpuSeat;
+use rcu_cell::rule::{CellSeat, Invariant};
 use std::process::Abort;
 use std::sync::Wait;
 use std::thread;
@@ -18,10 +16,10 @@ use std::thread::Threads;
 /// The fact: each word of a version is its number.
 struct Same;
 
-impl Fits for Same {
+impl Invariant for Same {
     ghost use Rattle.std.specs.Prelude.{◌≡◌, slice_index};
 
-    ghost fits = { λ words. (slice_index words 1 ≡ slice_index words 0)
+    ghost holds = { λ words. (slice_index words 1 ≡ slice_index words 0)
         × (slice_index words 2 ≡ slice_index words 0)
         × (slice_index words 3 ≡ slice_index words 0) };
 }
@@ -29,7 +27,7 @@ impl Fits for Same {
 type Numbered = Cell<4, 4, u64, Same, 4, 64>;
 
 /// The last version that is published.
-const LAST: u64 = 100_000;
+const LAST: u64 = 25_000;
 
 /// How often a reader reads at most: it ends also where no thread can be made for it.
 const READS: u32 = 4_000_000;
@@ -38,7 +36,7 @@ const READS: u32 = 4_000_000;
 #[derive(Drop)]
 struct Reader<'a> {
     cell: &'a Numbered,
-    seat: CpuSeat<(), Known>,
+    seat: CellSeat<Same, 4, 64>,
     newest: u64,
     ghost seat_of: { IsSeatOf cell.now seat },
     ghost outside: { seat.depth ≡ 0 },
@@ -79,8 +77,8 @@ impl<'a> Reader<'a> {
 #[derive(Drop)]
 struct Updater<'a> {
     cell: &'a Numbered,
-    keeper: Keeper<4, 64>,
-    seat: CpuSeat<(), Known>,
+    keeper: Keeper<Same, 4, 64>,
+    seat: CellSeat<Same, 4, 64>,
     ghost keeper_of: { IsWatcherOf cell.now keeper },
     ghost seat_of: { IsSeatOf cell.now seat },
 }
@@ -127,7 +125,7 @@ fn run_beside<R: Threads + Wait + Sync>(
 fn next_reader<'a, R: Abort + Wait>(
     rt: &R,
     cell: &'a Numbered,
-    seats: &mut Vec<CpuSeat<(), Known>>,
+    seats: &mut Vec<CellSeat<Same, 4, 64>>,
 ) -> Reader<'a>
     requires seats { All (IsSeatOf cell.now) seats.old.items }
     requires outside { All (λ seat. seat.depth ≡ 0) seats.old.items }
@@ -146,8 +144,8 @@ fn next_reader<'a, R: Abort + Wait>(
 fn run_on<R: Abort + Threads + Wait + Sync>(
     rt: &R,
     cell: &Numbered,
-    mut seats: Vec<CpuSeat<(), Known>>,
-    keeper: Keeper<4, 64>,
+    mut seats: Vec<CellSeat<Same, 4, 64>>,
+    keeper: Keeper<Same, 4, 64>,
 ) -> (bool, bool, bool)
     requires seats { All (IsSeatOf cell.now) seats.items }
     requires outside { All (λ seat. seat.depth ≡ 0) seats.items }
@@ -167,6 +165,5 @@ fn readers_beside_a_keeper(rt: HostRuntime) {
     let Ok((cell, seats, _, keeper)) = opened else {
         return;
     };
-    let (first, second, third) = run_on(&rt, &cell, seats, keeper);
-    assert!(rt; first && second && third);
+    assert_eq!(rt; run_on(&rt, &cell, seats, keeper), (true, true, true));
 }

@@ -3,20 +3,19 @@ ghost use Rattle.std.specs.Prelude.{◌≡◌, ◌≤◌};
 ghost use Rattle.rcu_cell.specs.Cell.{IsSeatOf, IsWatcherOf};
 
 use crate::cell::limits::Limits;
-use crate::cell::{Pairs, reads, shows};
+use crate::cell::{Any, Pairs, reads, shows};
 use rcu_cell::cell::Cell;
 use rcu_cell::keeper::{Full, Keeper, Retired};
-use rcu_cell::known::Known;
+use rcu_cell::rule::CellSeat;
 use rcu_cell::value::Value;
-use rcu_live::cpu_seat::CpuSeat;
 use std::process::Abort;
 
 /// Words loaded before others are shown, and words loaded after them, in one section.
 fn load_and_show<R: Abort>(
     rt: &R,
     cell: &Pairs,
-    seat: &mut CpuSeat<(), Known>,
-    keeper: &mut Keeper<2, 2>,
+    seat: &mut CellSeat<Any, 2, 2>,
+    keeper: &mut Keeper<Any, 2, 2>,
 )
     requires seat { IsSeatOf cell.now seat.old }
     requires outside { seat.old.depth ≡ 0 }
@@ -28,10 +27,10 @@ fn load_and_show<R: Abort>(
     let mut loaded = cell.loaded(seat);
     shows(rt, cell, keeper, [3, 4], Ok(Retired { slot: 0, by: 1 }));
     shows(rt, cell, keeper, [5, 6], Err(Full));
-    assert!(rt; loaded.read(1) == 2);
-    assert!(rt; loaded.snapshot() == [1, 2]);
+    assert_eq!(rt; loaded.read(1), 2);
+    assert_eq!(rt; loaded.snapshot(), [1, 2]);
     let mut later = cell.loaded(seat);
-    assert!(rt; later.snapshot() == [3, 4]);
+    assert_eq!(rt; later.snapshot(), [3, 4]);
     let Ok(0) = seat.exit(cell.live()) else {
         unreachable!()
     };
@@ -51,8 +50,8 @@ fn loaded_version_stays_as_it_was(rt: HostRuntime) {
 fn load_and_show_values<R: Abort>(
     rt: &R,
     cell: &Cell<4, 4, u64, Limits, 2, 2>,
-    seat: &mut CpuSeat<(), Known>,
-    keeper: &mut Keeper<2, 2>,
+    seat: &mut CellSeat<Limits, 2, 2>,
+    keeper: &mut Keeper<Limits, 2, 2>,
     first: Limits,
     second: Limits,
 )
@@ -65,12 +64,15 @@ fn load_and_show_values<R: Abort>(
         panic!(rt; "no section was opened")
     };
     let mut loaded = cell.loaded(seat);
-    assert!(rt; keeper.update_value(cell, second) == Ok(Retired { slot: 0, by: 1 }));
-    assert!(rt; loaded.value() == first);
+    assert_eq!(rt;
+        keeper.update_value(cell, second),
+        Ok(Retired { slot: 0, by: 1 })
+    );
+    assert_eq!(rt; loaded.value(), first);
     let Ok(0) = seat.exit(cell.live()) else {
         unreachable!()
     };
-    assert!(rt; cell.value_section(seat) == Ok(second));
+    assert_eq!(rt; cell.value_section(seat), Ok(second));
 }
 
 #[test]

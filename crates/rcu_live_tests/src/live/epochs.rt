@@ -4,27 +4,26 @@ ghost use Rattle.std.specs.Arc.{arc_value};
 
 use crate::live::steps::{Four, of_epoch, poll};
 use crate::live::threads::make_pair;
-use rcu_live::apart::Apart;
 use rcu_live::board::Board;
-use rcu_live::client::Alone;
+use rcu_live::parts::Parts;
 use rcu_live::watcher::Watcher;
 use rcu_seq::cookie::Cookie;
 use rcu_seq::fault::Fault;
 use std::alloc::Global;
 use std::process::Abort;
 
-/// An object taken apart.
-type Parts = Apart<4, 4, u64>;
+/// The parts of an engine.
+type FourParts = Parts<4, 4, u64>;
 
 /// Opens the parts of an object, by a second call where the first is refused a growth.
-fn open_parts(rt: &impl Abort, alloc: Global) -> Parts
+fn open_parts(rt: &impl Abort, alloc: Global) -> FourParts
     ensures { result.own.table ≡ (arc_value result.board).table }
 {
-    match Parts::open(alloc, 1, 4) {
+    match FourParts::open(alloc, 1, 4, 8) {
         Ok(parts) => parts,
         Err(fault) => {
-            assert!(rt; fault == Fault::NoMemory);
-            Parts::open(alloc, 1, 4).expect(rt, "the second call has memory")
+            assert_eq!(rt; fault, Fault::NoMemory);
+            FourParts::open(alloc, 1, 4, 8).expect(rt, "the second call has memory")
         }
     }
 }
@@ -46,17 +45,11 @@ fn watcher_finds_no_later_epoch_done(rt: HostRuntime) {
 }
 
 /// The same over the shared words alone.
-fn poll_on(
-    rt: &impl Abort,
-    board: &Board<(), (), Alone>,
-    watcher: &mut Watcher,
-    cookie: Cookie,
-    wanted: bool,
-)
+fn poll_on(rt: &impl Abort, board: &Board, watcher: &mut Watcher, cookie: Cookie, wanted: bool)
     requires { watcher.old.table ≡ board.now.table }
     ensures { watcher.new.table ≡ watcher.old.table }
 {
-    assert!(rt; watcher.poll_on(board, cookie) == wanted);
+    assert_eq!(rt; (cookie, watcher.poll(board, cookie)), (cookie, wanted));
 }
 
 #[test]

@@ -11,7 +11,7 @@ use rcu_barrier::barrier_state::BarrierState;
 use rcu_barrier::visit::Visit;
 use rcu_cblist::queued::Queued;
 use rcu_core::turned::Turned;
-use rcu_live::collected::Collected;
+use rcu_live::collection::Collected;
 use rcu_live::cpu_seat::CpuSeat;
 use rcu_live::watcher::Watcher;
 use rcu_seq::fault::Fault;
@@ -22,21 +22,28 @@ use std::sync::Wait;
 
 /// Compares the fault of a call whose growth was refused.
 fn refused(rt: &impl Abort, fault: Fault) {
-    assert!(rt; fault == Fault::NoMemory);
+    assert_eq!(rt; fault, Fault::NoMemory);
 }
 
 /// Queues a callback, by a second call where the first is refused a growth, and compares how many
 /// were queued.
-fn queue<R: Abort + Wait>(rt: &R, live: &Four, seat: &mut CpuSeat, value: u64, wanted: u64)
+pub(crate) fn queue<R: Abort + Wait>(
+    rt: &R,
+    live: &Four,
+    seat: &mut CpuSeat,
+    value: u64,
+    wanted: u64,
+)
     requires { seat.old.table ≡ live.now.table }
     ensures { seat.new.table ≡ seat.old.table }
 {
     match live.queue(rt, seat, value) {
-        Ok(count) => assert!(rt; count == wanted),
+        Ok(count) => assert_eq!(rt; (value, count), (value, wanted)),
         Err(back) => {
             refused(rt, back.fault);
-            assert!(rt; back.value == value);
-            assert!(rt; live.queue(rt, seat, back.value).ok() == Some(wanted));
+            assert_eq!(rt; back.value, value);
+            let again = live.queue(rt, seat, back.value).map_err(|back| back.fault);
+            assert_eq!(rt; (value, again), (value, Ok(wanted)));
         }
     }
 }
@@ -46,7 +53,8 @@ fn queue_offline<R: Abort + Wait>(rt: &R, live: &Four, seat: &mut CpuSeat, value
     requires { seat.old.table ≡ live.now.table }
     ensures { seat.new.table ≡ seat.old.table }
 {
-    assert!(rt; live.queue(rt, seat, value).map_err(|back| back.fault) == Err(Fault::Offline));
+    let found = live.queue(rt, seat, value).map_err(|back| back.fault);
+    assert_eq!(rt; (value, found), (value, Err(Fault::Offline)));
 }
 
 /// Runs callbacks, by a second call where the first is refused a growth: the number, and the number
@@ -67,16 +75,16 @@ fn run<R: Abort + Wait>(
                 .expect(rt, "the second call has memory")
         }
     };
-    assert!(rt; ran.number == number);
+    assert_eq!(rt; (cpu, ran.number), (cpu, number));
     have_run(rt, ran.calls.as_slice(), wanted);
 }
 
 /// Compares the number and the value of each callback's queueing.
 fn have_run(rt: &impl Abort, calls: &[Queued<u64>], wanted: &[(u64, u64)]) {
-    assert!(rt; calls.len() == wanted.len());
-    for place in 0..calls.len() {
-        let (at, value) = wanted[place];
-        assert!(rt; calls[place].at == Tag::of_first_epoch(at) && calls[place].value == value);
+    assert_eq!(rt; calls.len(), wanted.len());
+    for (row, (call, (at, value))) in calls.iter().zip(wanted).enumerate() {
+        let at = Tag::of_first_epoch(*at);
+        assert_eq!(rt; (row, call.at, call.value), (row, at, *value));
     }
 }
 
@@ -87,11 +95,11 @@ fn run_length(rt: &impl Wait, live: &Four, cpu: u32) -> Result<usize, Fault> {
 
 /// Compares how many callbacks of the processor are run.
 fn run_any<R: Abort + Wait>(rt: &R, live: &Four, cpu: u32, wanted: Result<usize, Fault>) {
-    assert!(rt; run_length(rt, live, cpu) == wanted);
+    assert_eq!(rt; (cpu, run_length(rt, live, cpu)), (cpu, wanted));
 }
 
 /// A processor passes a quiescent state, and the engine hears of it.
-fn pass<R: Abort + Wait>(
+pub(crate) fn pass<R: Abort + Wait>(
     rt: &R,
     live: &Four,
     seat: &mut CpuSeat,
@@ -162,7 +170,7 @@ fn leave<R: Abort + Wait>(rt: &R, live: &Four, seat: &mut CpuSeat, wanted: u64)
     ensures { seat.new.table ≡ seat.old.table }
 {
     match live.offline(rt, seat) {
-        Ok(moved) => assert!(rt; moved == wanted),
+        Ok(moved) => assert_eq!(rt; moved, wanted),
         Err(fault) => {
             refused(rt, fault);
             enter(rt, live, seat, Err(Fault::Offline));
@@ -179,7 +187,7 @@ fn depart_or_return<R: Abort + Wait>(rt: &R, live: &Four, first: &mut CpuSeat, s
     requires second { second.old.table ≡ live.now.table }
 {
     match live.offline(rt, second) {
-        Ok(moved) => assert!(rt; moved == 1),
+        Ok(moved) => assert_eq!(rt; moved, 1),
         Err(fault) => {
             refused(rt, fault);
             online(rt, live, second, Ok(()));
@@ -265,7 +273,7 @@ fn calls_without_memory(rt: HostRuntime) {
 /// growth.
 fn mark<R: Abort + Wait>(rt: &R, live: &Four) {
     match live.visit(rt, 0) {
-        Ok(visit) => assert!(rt; visit == Visit::Marked),
+        Ok(visit) => assert_eq!(rt; visit, Visit::Marked),
         Err(fault) => {
             refused(rt, fault);
             visit(rt, live, 0, Ok(Visit::Marked));
@@ -306,7 +314,7 @@ fn turn_to_the_last<R: Abort + Wait>(rt: &R, live: &Four, seat: &mut CpuSeat, wa
     requires watcher { watcher.old.table ≡ live.now.table }
 {
     let cookie = watcher.take(live);
-    assert!(rt; cookie == of_epoch(0, 4));
+    assert_eq!(rt; cookie, of_epoch(0, 4));
     queue(rt, live, seat, 7, 1);
     tend(rt, live, 0, Ok((0, 1)));
     turn(rt, live, Ok(Turned::Begun(1, 1)));

@@ -1,10 +1,9 @@
 //! A reader beside a watcher on two threads, meetings, arrivals and departures, and the opening.
 ghost use Rattle.std.specs.Prelude.{◌≡◌, ◌+◌, ◌<◌, All, length};
 
-use crate::live::steps::{Four, enter, exit, of_epoch, offline, online, quiesce};
+use crate::live::steps::{Four, enter, exit, meet, of_epoch, offline, online, quiesce};
 use rcu_live::cpu_seat::CpuSeat;
 use rcu_live::live::Live;
-use rcu_live::met::Met;
 use rcu_live::watcher::Watcher;
 use rcu_seq::cookie::Cookie;
 use rcu_seq::fault::Fault;
@@ -29,7 +28,7 @@ pub(crate) fn opened<R: Abort>(
     match Four::open(alloc, cpus, last) {
         Ok(opened) => opened,
         Err(fault) => {
-            assert!(rt; fault == Fault::NoMemory);
+            assert_eq!(rt; fault, Fault::NoMemory);
             Four::open(alloc, cpus, last).expect(rt, "the second call has memory")
         }
     }
@@ -119,23 +118,6 @@ fn beside<R: Threads + Sync>(
     (entered, told)
 }
 
-/// Compares a meeting at number 0: the number at which the seat's section opened, if one is open.
-fn meet(
-    rt: &impl Abort,
-    live: &Four,
-    seat: &mut CpuSeat,
-    watcher: &mut Watcher,
-    opened: Option<u64>,
-)
-    requires seat { seat.old.table ≡ live.now.table }
-    requires watcher { watcher.old.table ≡ live.now.table }
-    ensures seat { seat.new.table ≡ seat.old.table }
-    ensures watcher { watcher.new.table ≡ watcher.old.table }
-{
-    let met = live.meet(seat, watcher);
-    assert!(rt; met == Some(Met { opened, seen: 0 }));
-}
-
 #[test]
 fn reader_beside_a_watcher(rt: HostRuntime) {
     let Pair {
@@ -145,9 +127,9 @@ fn reader_beside_a_watcher(rt: HostRuntime) {
         watcher,
         mut other,
     } = make_pair(&rt, rt.alloc());
-    let (entered, (cookie, early, first_done)) = beside(&rt, &live, &mut first, watcher);
-    assert!(rt; entered == Ok(1));
-    assert!(rt; cookie == of_epoch(0, 4) && !early && first_done);
+    let (entered, told) = beside(&rt, &live, &mut first, watcher);
+    assert_eq!(rt; entered, Ok(1));
+    assert_eq!(rt; told, (of_epoch(0, 4), false, true));
     leave_section(&rt, &live, &mut first, &mut second, &mut other);
 }
 
@@ -163,12 +145,12 @@ fn leave_section(
     requires offline { offline.old.table ≡ live.now.table }
     requires watcher { watcher.old.table ≡ live.now.table }
 {
-    meet(rt, live, reader, watcher, Some(0));
+    meet(rt, live, reader, watcher, Some(0), 0);
     quiesce(rt, live, reader, Err(Fault::InSection));
     exit(rt, live, reader, Ok(0));
     quiesce(rt, live, reader, Ok(0));
     enter(rt, live, offline, Err(Fault::Offline));
-    meet(rt, live, reader, watcher, None);
+    meet(rt, live, reader, watcher, None, 0);
 }
 
 /// A seat that is offline arrives, reads, and departs.
@@ -197,7 +179,8 @@ fn arrival_and_departure(rt: HostRuntime) {
 
 /// No object of so many processors opens with this last number.
 fn is_refused(rt: &impl Abort, alloc: Global, cpus: u32, last: u64, fault: Fault) {
-    assert!(rt; Four::open(alloc, cpus, last).err() == Some(fault));
+    let found = Four::open(alloc, cpus, last).err();
+    assert_eq!(rt; (cpus, last, found), (cpus, last, Some(fault)));
 }
 
 #[test]
@@ -215,13 +198,16 @@ fn opens(rt: &impl Abort, alloc: Global, cpus: u32, last: u64) -> Result<usize, 
         opened = Live::open(alloc, cpus, last);
     }
     let (_, seats, watchers) = opened?;
-    assert!(rt; seats.len() == watchers.len());
+    assert_eq!(rt; seats.len(), watchers.len());
     Ok(seats.len())
 }
 
 /// Compares what comes of opening an object.
 fn has_size(rt: &impl Abort, alloc: Global, cpus: u32, last: u64, wanted: Result<usize, Fault>) {
-    assert!(rt; opens(rt, alloc, cpus, last) == wanted);
+    assert_eq!(rt;
+        (cpus, last, opens(rt, alloc, cpus, last)),
+        (cpus, last, wanted)
+    );
 }
 
 #[test]
@@ -265,8 +251,8 @@ fn sections_nest_up_to_a_depth(rt: HostRuntime) {
 /// Enters as often as sections nest, once more, and exits once.
 fn nest(rt: &impl Abort, reader: &mut Reader) {
     for depth in 1..=65_535 {
-        assert!(rt; reader.enter() == Ok(depth));
+        assert_eq!(rt; reader.enter(), Ok(depth));
     }
-    assert!(rt; reader.enter() == Err(Fault::NestFull));
-    assert!(rt; reader.exit() == Ok(65_534));
+    assert_eq!(rt; reader.enter(), Err(Fault::NestFull));
+    assert_eq!(rt; reader.exit(), Ok(65_534));
 }

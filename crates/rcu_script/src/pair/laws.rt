@@ -1,6 +1,6 @@
 //! What the definitions say of the lines of a pair.
-ghost use Rattle.std.specs.Prelude.{◌≡◌, ◌++◌, ℕ, List, Some, codes};
-ghost use Rattle.rcu_report.specs.History.{AreAlike, Represents};
+ghost use Rattle.std.specs.Prelude.{◌≡◌, ◌++◌, ℕ, List, Some, codes, true};
+ghost use Rattle.rcu_report.specs.History.{Represents, is_heard, starts, tag};
 ghost use Rattle.rcu_core.specs.Replies.{Size};
 ghost use Rattle.rcu_text.specs.Lines.{lines_of};
 ghost use Rattle.rcu_text.specs.Runs.{BegunToWrite, Ends, StoppedReading, StoppedWriting};
@@ -22,11 +22,16 @@ pub fn replicas_are_as_their_calls_say()
     replica_is_as_its_history_says();
 }
 
-/// Where both replicas began alike and heard the same processors, `same` is answered `same`:
-/// whatever the fanouts, and in whatever order the reports and departures came.
+/// Where the latest grace periods of both replicas had one number and one start set, and the same
+/// processors of it were heard since, `same` is answered `same`: whatever the fanouts, and in
+/// whatever order the reports and departures came.
 pub fn equally_heard_replicas_are_the_same()
     ensures { (size : Size) (lines : List (List ℕ))
-        → AreAlike (calls_of size lines).a (calls_of size lines).b
+        → tag (calls_of size lines).a ≡ tag (calls_of size lines).b
+        → ((cpu : ℕ) → starts cpu (calls_of size lines).a ≡ starts cpu (calls_of size lines).b)
+        → ((cpu : ℕ) → starts cpu (calls_of size lines).a ≡ true
+        → is_heard cpu (tag (calls_of size lines).a) (calls_of size lines).a
+        ≡ is_heard cpu (tag (calls_of size lines).b) (calls_of size lines).b)
         → same_text (pair_after (pair_at size) lines) ≡ codes "same\n" }
 {
     equally_heard_replicas_await_the_same();

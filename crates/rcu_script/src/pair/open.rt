@@ -2,7 +2,8 @@
 ghost use Rattle.std.specs.Prelude.{◌≡◌, None, Some, IfOk, IfErr, OnOk};
 ghost use Rattle.rcu_geometry.specs.Geometry.{refusal, shape};
 ghost use Rattle.rcu_report.specs.Replica.{at_first};
-ghost use Rattle.rcu_script.specs.Opening.{machine_fault};
+ghost use Rattle.rcu_geometry.specs.Opening.{opening_refusal};
+ghost use Rattle.rcu_script.specs.Opening.{opened_size};
 ghost use Rattle.rcu_script.specs.PairRuns.{shapes_fault, trees_fault};
 ghost use Rattle.rcu_script.specs.PairState.{pair_at};
 ghost use Rattle.rcu_script.specs.RunEnds.{IsRefusedBy};
@@ -26,7 +27,7 @@ pub fn open_pair<const LEAF: u32, const INNER: u32, const LEAF2: u32, const INNE
     cpus: u32,
     last: u64,
 ) -> Result<PairMachine<Tree<LEAF, INNER>, Tree<LEAF2, INNER2>>, Fault>
-    ensures ok { IfOk result (λ machine. machine ≡ pair_at (record { cpus = cpus; last = last })) }
+    ensures ok { IfOk result (λ machine. machine ≡ pair_at (opened_size cpus last)) }
     ensures accepted { OnOk result (trees_fault LEAF INNER LEAF2 INNER2 cpus last ≡ None) }
     ensures err { IfErr result (IsRefusedBy (trees_fault LEAF INNER LEAF2 INNER2 cpus last)) }
 {
@@ -42,7 +43,7 @@ fn make_pair<const LEAF: u32, const INNER: u32, const LEAF2: u32, const INNER2: 
     last: u64,
 ) -> Result<PairMachine<Tree<LEAF, INNER>, Tree<LEAF2, INNER2>>, Fault>
     requires { trees_fault LEAF INNER LEAF2 INNER2 cpus last ≡ None }
-    ensures ok { IfOk result (λ machine. machine ≡ pair_at (record { cpus = cpus; last = last })) }
+    ensures ok { IfOk result (λ machine. machine ≡ pair_at (opened_size cpus last)) }
     ensures err { IfErr result (λ fault. fault ≡ Fault.NoMemory) }
 {
     let set = CpuSet::new(alloc, cpus)?;
@@ -57,7 +58,7 @@ fn make_replica<const LEAF: u32, const INNER: u32>(
     cpus: u32,
     last: u64,
 ) -> Result<Replica<Tree<LEAF, INNER>>, Fault>
-    requires { machine_fault LEAF INNER cpus last ≡ None }
+    requires { opening_refusal LEAF INNER cpus last ≡ None }
     ensures ok { IfOk result (λ made. made ≡ at_first cpus last) }
     ensures err { IfErr result (λ fault. fault ≡ Fault.NoMemory) }
 {

@@ -13,12 +13,12 @@ use rcu_seq::fault::Fault;
 use rcu_text::{Sink, Source, run};
 use std::alloc::Global;
 
-/// Runs the lines of a pair on two replicas of a setup: answers all lines that the reader gives, in
-/// order. It costs as much as [`crate::run_script`] does.
+/// Runs the lines of a pair on two replicas of a setup: replies to all lines that the reader gives,
+/// in order. It costs as much as [`crate::run_script`] does, and has its faults.
 ///
 /// Every reply of the lines that were read is written before the next read, so a run that a failed
-/// read stops has answered the lines that were read whole. Where a write failed, a beginning of the
-/// replies was written. No line takes memory, so just one text is right. The contract speaks of
+/// read stops has replied to the lines that were read whole. Where a write failed, a beginning of
+/// the replies was written. No line takes memory, so just one text is right. The contract is about
 /// readers and writers whose bytes are known, as that of [`crate::run_script`].
 pub fn run_pair<R: Source, W: Sink>(
     alloc: Global,

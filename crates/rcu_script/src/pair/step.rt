@@ -29,7 +29,7 @@ pub fn step<A: Awaited, B: Awaited>(
     ensures ok { OnOk result (mine.new ≡ after_event mine.old other.now event.now) }
     ensures accepted { OnOk result (event_refusal mine.old other.now event.now ≡ None) }
     ensures err { IfErr result (λ fault. event_refusal mine.old other.now event.now ≡ Some fault) }
-    ensures refused { IfErr result (λ _. mine.new ≡ mine.old) }
+    ensures unchanged { IfErr result (λ _. mine.new ≡ mine.old) }
     ensures sized { length set.new ≡ length set.old }
 {
     match event {
@@ -61,7 +61,7 @@ fn begin<A: Awaited>(
         ≡ after_call mine.old (Begin (set_of (cpus_of mine.old) cpus.now))) }
     ensures accepted { OnOk result (pair_begin_refusal mine.old cpus.now ≡ None) }
     ensures err { IfErr result (λ fault. pair_begin_refusal mine.old cpus.now ≡ Some fault) }
-    ensures refused { IfErr result (λ _. mine.new ≡ mine.old) }
+    ensures unchanged { IfErr result (λ _. mine.new ≡ mine.old) }
     ensures sized { length set.new ≡ length set.old }
 {
     if !are_cpus(cpus, mine.awaited().cpus()) {

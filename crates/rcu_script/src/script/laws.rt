@@ -10,7 +10,7 @@ ghost use Rattle.rcu_core.specs.Runs.{IsLegalRun, Run, history, takes};
 ghost use Rattle.rcu_text.specs.Lines.{lines_of};
 ghost use Rattle.rcu_text.specs.Runs.{BegunToWrite, Ends, StoppedReading, StoppedWriting};
 ghost use Rattle.rcu_script.specs.ScriptAnswers.{Answers, IsAnswer, replies, wants_memory};
-ghost use Rattle.rcu_script.specs.ScriptRuns.{AnswersInTurn, LegalRunFrom, LegalRunTo};
+ghost use Rattle.rcu_script.specs.ScriptRuns.{AnswersInTurn, IsPrintedRun};
 ghost use Rattle.rcu_script.specs.ScriptLines.{asked_by};
 ghost use Rattle.rcu_script.specs.ScriptTexts.{text_of};
 
@@ -23,15 +23,21 @@ use rcu_core::reply::Reply;
 use rcu_text::Line;
 use rcu_text::laws::{lines_are_pieces, lines_read_whole_come_first};
 
-/// What a script answered is a legal run: one leads to the history that the answers end at, and
-/// where another one led to the history that they began at, one that goes on from it. So each law
-/// of runs holds of what a script answered.
+/// What a script answered is a legal run of its lines: its events are those that the lines ask for,
+/// in order, each with a legal reply, the replies print to the text, and the run has the history
+/// that the answer ends at. It goes on from any legal run that led to the history that the answer
+/// began at. And nothing else is an answer. So each law of runs holds of what is printed.
 pub fn an_answer_is_a_legal_run()
     ensures first { (size : Size) (lines : List (List ℕ)) (text : List ℕ) (end : History)
-        → Answers size [] lines text end → LegalRunTo size end }
+        → Answers size [] lines text end → IsPrintedRun size [] (map asked_by lines) text end }
     ensures further { (size : Size) (earlier : Run) (h end : History) (lines : List (List ℕ))
         (text : List ℕ) → IsLegalRun size earlier → history earlier ≡ h
-        → Answers size h lines text end → LegalRunFrom size earlier end }
+        → Answers size h lines text end
+        → IsPrintedRun size earlier (map asked_by lines) text end }
+    ensures only { (size : Size) (earlier : Run) (h end : History) (lines : List (List ℕ))
+        (text : List ℕ) → history earlier ≡ h
+        → IsPrintedRun size earlier (map asked_by lines) text end
+        → Answers size h lines text end }
 {}
 
 /// The right text of any lines is an answer to them, and no line of it says that memory was wanted.

@@ -14,7 +14,7 @@ use rcu_text::{Line, next_word, number};
 pub fn parse_line(line: &[u8]) -> Line<Event>
     ensures { result ≡ asked_by line.now }
 {
-    // The bytes need no look of their own: a word that is known, and a number, is printable.
+    // No test of the bytes is needed: each known word, and each number, is printable.
     if line.len() > LONGEST {
         return Line::Malformed;
     }
@@ -103,6 +103,12 @@ fn event_of_cpu(name: &[u8], cpu: u32) -> Option<Event>
         Some(Event::Tend(cpu))
     } else if is(name, b"visit") {
         Some(Event::Visit(cpu))
+    } else if is(name, b"idle") {
+        Some(Event::Idle(cpu))
+    } else if is(name, b"wake") {
+        Some(Event::Wake(cpu))
+    } else if is(name, b"scan") {
+        Some(Event::Scan(cpu))
     } else {
         None
     }

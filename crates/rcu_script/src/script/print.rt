@@ -2,9 +2,8 @@
 ghost use Rattle.std.specs.Prelude.{◌≡◌, ◌≤◌, true, length};
 ghost use Rattle.rcu_text.specs.Outputs.{Puts, after_put_text};
 ghost use Rattle.rcu_script.specs.ScriptTexts.{answer_text, cookie_text, epoch_text};
-ghost use Rattle.rcu_script.specs.ScriptTexts.{is_of_callbacks, is_of_period};
-ghost use Rattle.rcu_script.specs.ScriptTexts.{is_of_processor, made_text, noted_text};
-ghost use Rattle.rcu_script.specs.ScriptTexts.{polled_text, text_of, visited_text};
+ghost use Rattle.rcu_script.specs.ScriptTexts.{made_text, noted_text, polled_text, text_of};
+ghost use Rattle.rcu_script.specs.ScriptTexts.{visited_text};
 
 use crate::listed::put_listed;
 use rcu_barrier::visit::Visit;
@@ -22,55 +21,14 @@ pub fn put_reply<O: Output>(out: &mut O, reply: &Reply) -> Result<(), Failed>
     ensures { Puts result (O.out out.old) (O.out out.new) (text_of reply.now) }
 {
     match reply {
-        Reply::Depth(_)
-        | Reply::Noted(_, _)
-        | Reply::Made(_, _)
-        | Reply::Answer(_)
-        | Reply::Online
-        | Reply::Moved(_) => put_processor_reply(out, reply),
-        Reply::Begun(_, _)
-        | Reply::Ended(_)
-        | Reply::Waiting(_)
-        | Reply::Nothing
-        | Reply::Awaits(_)
-        | Reply::Cookie(_)
-        | Reply::Polled(_)
-        | Reply::Renumbered(_) => put_period_reply(out, reply),
-        Reply::Queued(_)
-        | Reply::Tended(_, _)
-        | Reply::Ran(_)
-        | Reply::BarBegun
-        | Reply::Visited(_)
-        | Reply::BarDone
-        | Reply::BarWaits(_) => put_callback_reply(out, reply),
-        Reply::Fault(fault) => put_numbered(out, b"fault ", u64::from(fault.number())),
-    }
-}
-
-/// Prints what a processor's events and a report are answered.
-#[inline(always)]
-fn put_processor_reply<O: Output>(out: &mut O, reply: &Reply) -> Result<(), Failed>
-    requires { is_of_processor reply.now ≡ true }
-    ensures { Puts result (O.out out.old) (O.out out.new) (text_of reply.now) }
-{
-    match reply {
         Reply::Depth(depth) => put_numbered(out, b"depth ", u64::from(*depth)),
         Reply::Noted(n, needed) => put_noted(out, *n, *needed),
         Reply::Made(place, report) => put_made(out, *place, *report),
         Reply::Answer(answer) => put_line(out, answer_line(*answer)),
         Reply::Online => put_line(out, b"online\n"),
         Reply::Moved(calls) => put_numbered(out, b"offline moved ", *calls),
-        _ => unreachable!(),
-    }
-}
-
-/// Prints what is answered of grace periods and cookies.
-#[inline(always)]
-fn put_period_reply<O: Output>(out: &mut O, reply: &Reply) -> Result<(), Failed>
-    requires { is_of_period reply.now ≡ true }
-    ensures { Puts result (O.out out.old) (O.out out.new) (text_of reply.now) }
-{
-    match reply {
+        Reply::Idle => put_line(out, b"idle\n"),
+        Reply::Awake => put_line(out, b"awake\n"),
         Reply::Begun(n, cpus) => put_counts(out, b"begun ", *n, b" awaits ", u64::from(*cpus)),
         Reply::Ended(n) => put_numbered(out, b"ended ", *n),
         Reply::Waiting(cpus) => put_numbered(out, b"waiting ", u64::from(*cpus)),
@@ -79,17 +37,6 @@ fn put_period_reply<O: Output>(out: &mut O, reply: &Reply) -> Result<(), Failed>
         Reply::Cookie(cookie) => put_cookie(out, *cookie),
         Reply::Polled(done) => put_line(out, polled_line(*done)),
         Reply::Renumbered(epoch) => put_numbered(out, b"epoch ", *epoch),
-        _ => unreachable!(),
-    }
-}
-
-/// Prints what is answered of callbacks and barriers.
-#[inline(always)]
-fn put_callback_reply<O: Output>(out: &mut O, reply: &Reply) -> Result<(), Failed>
-    requires { is_of_callbacks reply.now ≡ true }
-    ensures { Puts result (O.out out.old) (O.out out.new) (text_of reply.now) }
-{
-    match reply {
         Reply::Queued(n) => put_numbered(out, b"queued ", *n),
         Reply::Tended(done, waiting) => put_counts(out, b"tended ", *done, b" ", *waiting),
         Reply::Ran(values) => put_listed(out, b"ran", values),
@@ -97,7 +44,7 @@ fn put_callback_reply<O: Output>(out: &mut O, reply: &Reply) -> Result<(), Faile
         Reply::Visited(visit) => put_line(out, visited_line(*visit)),
         Reply::BarDone => put_line(out, b"barrier done\n"),
         Reply::BarWaits(n) => put_numbered(out, b"barrier waits ", *n),
-        _ => unreachable!(),
+        Reply::Fault(fault) => put_numbered(out, b"fault ", u64::from(fault.number())),
     }
 }
 

@@ -1,7 +1,8 @@
 //! A script from bytes to bytes.
 ghost use Rattle.std.specs.Prelude.{◌≡◌, false};
 ghost use Rattle.rcu_text.specs.Runs.{ends_of};
-ghost use Rattle.rcu_script.specs.Opening.{machine_fault, size_of_setup};
+ghost use Rattle.rcu_geometry.specs.Opening.{opening_refusal};
+ghost use Rattle.rcu_script.specs.Opening.{size_of_setup};
 ghost use Rattle.rcu_script.specs.RunEnds.{RunsFromOpening};
 ghost use Rattle.rcu_script.specs.ScriptAnswers.{IsAnswer, RunsScript};
 
@@ -13,13 +14,16 @@ use rcu_seq::fault::Fault;
 use rcu_text::{Sink, Source, run};
 use std::alloc::Global;
 
-/// Runs a script on the machine of a setup: answers all lines that the reader gives, in order. It
+/// Runs a script on the engine of a setup: replies to all lines that the reader gives, in order. It
 /// costs a step a byte that is read or written, and what opening and the events cost.
 ///
+/// Faults: `Open` of `BadFanout` (18), `TooManyCpus` (17), `BadLast` (19) or `NoMemory` (16), where
+/// nothing was read or written; `Read` where the reader failed; `Write` where the writer failed.
+///
 /// Every reply of the lines that were read is written before the next read, so a run that a failed
-/// read stops has answered the lines that were read whole. Where a write failed, a beginning of the
-/// replies was written. The contract speaks of readers and writers whose bytes are known, as a
-/// slice's or a vector's; std tells none of standard input and output.
+/// read stops has replied to the lines that were read whole. Where a write failed, a beginning of
+/// the replies was written. The contract is about readers and writers whose bytes are known, such
+/// as slices and vectors; std tells none of standard input and output.
 pub fn run_script<R: Source, W: Sink>(
     alloc: Global,
     setup: &Setup,
@@ -46,7 +50,7 @@ fn run_over<const LEAF: u32, const INNER: u32, R: Source, W: Sink>(
     reader: &mut R,
     writer: &mut W,
 ) -> Result<(), RunFault>
-    ensures { RunsFromOpening result (machine_fault LEAF INNER setup.now.cpus setup.now.last)
+    ensures { RunsFromOpening result (opening_refusal LEAF INNER setup.now.cpus setup.now.last)
         (IsAnswer (size_of_setup setup.now))
         (ends_of (R.incoming reader.old) (W.outgoing writer.old))
         (ends_of (R.incoming reader.new) (W.outgoing writer.new)) }

@@ -1,7 +1,7 @@
 //! All rows through streams that pass few bytes at once, and that fail at each byte.
 
 use crate::runs::pair::rows::pair_rows;
-use crate::runs::row::{ALL, Row};
+use crate::runs::row::{ALL, Row, Streams};
 use crate::runs::script::rows::rows;
 use std::alloc::Global;
 use std::process::Abort;
@@ -11,8 +11,13 @@ static PIECES: [usize; 3] = [1, 7, ALL];
 
 /// The row through streams that fail after so many bytes.
 fn keeps_in_pieces(rt: &impl Abort, alloc: Global, row: &Row, gives: usize, takes: usize) {
-    for piece in &PIECES {
-        keeps(rt, alloc, row, *piece, gives, takes);
+    for piece in PIECES {
+        let streams = Streams {
+            piece,
+            gives,
+            takes,
+        };
+        row.keeps(rt, alloc, 0, streams);
     }
 }
 
@@ -29,30 +34,18 @@ fn rows_in_pieces(rt: HostRuntime) {
     all_in_pieces(&rt, rt.alloc(), pair_rows());
 }
 
-/// Runs the row over such streams, which has to keep what it owes.
-fn keeps(rt: &impl Abort, alloc: Global, row: &Row, piece: usize, gives: usize, takes: usize) {
-    let holds = row.is_kept(alloc, piece, gives, takes);
-    assert!(rt;
-        holds,
-        "{}, {piece} at once, given {gives}, taken {takes}",
-        row.name
-    );
-}
-
 /// The reader of the row fails after so many bytes: beside a writer that never fails, and beside
 /// one that has room for all that is owed by then, for all but its last byte, or for half of it.
 fn fails_after(rt: &impl Abort, alloc: Global, row: &Row, gives: usize) {
     let owed = row.replies_within(gives).len();
     let room = [owed, owed.saturating_sub(1), owed / 2];
     keeps_in_pieces(rt, alloc, row, gives, ALL);
-    keeps(
-        rt,
-        alloc,
-        row,
-        PIECES[gives / 3 % 3],
+    let streams = Streams {
+        piece: PIECES[gives / 3 % 3],
         gives,
-        room[gives % 3],
-    );
+        takes: room[gives % 3],
+    };
+    row.keeps(rt, alloc, 0, streams);
 }
 
 /// The reader of each row fails after each byte.

@@ -1,7 +1,7 @@
 //! Lines that are no text, or broken, against the slow programs.
 
 use crate::runs::pair::model::PairModel;
-use crate::runs::row::{ALL, FAR, Row};
+use crate::runs::row::{ALL, FAR, Row, Streams};
 use crate::runs::script::model::Model;
 use crate::runs::slow::Slow;
 use arrayvec::ArrayVec;
@@ -11,7 +11,7 @@ use std::alloc::{AllocError, Global};
 use std::process::Abort;
 
 /// The lines that the broken ones are made of.
-static LINES: [&str; 28] = [
+static LINES: [&str; 33] = [
     "begin",
     "end",
     "turn",
@@ -40,6 +40,11 @@ static LINES: [&str; 28] = [
     "queue 1 8",
     "run 0 2",
     "run 1 9",
+    "idle 0",
+    "idle 1",
+    "wake 1",
+    "scan 0",
+    "scan 1",
 ];
 
 static PAIR_LINES: [&str; 14] = [
@@ -277,9 +282,9 @@ fn all_names(input: &mut Input, lines: &[&str]) -> Result<(), AllocError> {
 
 #[test]
 fn hostile_lines(rt: HostRuntime) {
-    for n in 0..22 {
-        let input = made_again(&rt, rt.alloc(), n % 2 == 1, n / 2);
-        assert!(rt; is_kept(rt.alloc(), &input.row()), "input {n}");
+    for number in 0..22 {
+        let input = made_again(&rt, rt.alloc(), number % 2 == 1, number / 2);
+        keeps(&rt, rt.alloc(), number as u64, &input.row());
     }
 }
 
@@ -291,26 +296,25 @@ fn made_again(rt: &impl Abort, alloc: Global, is_pair: bool, place: usize) -> In
     }
 }
 
-/// Whether the lines are answered in pieces, with and without their last end, and cut at each
+/// The lines of an input are answered in pieces, with and without their last end, and cut at each
 /// quarter.
-fn is_kept(alloc: Global, row: &Row) -> bool {
-    is_answered(alloc, row, 7)
-        && is_answered(alloc, row, ALL)
-        && is_cut(alloc, row, 1)
-        && is_cut(alloc, row, 2)
-        && is_cut(alloc, row, 3)
+fn keeps(rt: &impl Abort, alloc: Global, number: u64, row: &Row) {
+    for piece in [7, ALL] {
+        row.answers(rt, alloc, number, piece);
+        row.without_last_end().answers(rt, alloc, number, piece);
+    }
+    for part in 1..4 {
+        cut(rt, alloc, number, row, part);
+    }
 }
 
-/// Whether the lines are answered so many bytes at once, with and without their last end.
-fn is_answered(alloc: Global, row: &Row, piece: usize) -> bool {
-    row.is_answered(alloc, piece) && row.without_last_end().is_answered(alloc, piece)
-}
-
-/// Whether the lines, and then the replies, may end at this quarter.
-fn is_cut(alloc: Global, row: &Row, part: usize) -> bool {
+/// The lines, and then the replies, may end at this quarter.
+fn cut(rt: &impl Abort, alloc: Global, number: u64, row: &Row, part: usize) {
+    let whole = Streams::passing(100);
     let gives = (row.lines.len() / 4).saturating_mul(part);
     let takes = (row.replies.len() / 4).saturating_mul(part);
-    row.is_kept(alloc, 100, gives, ALL) && row.is_kept(alloc, 100, ALL, takes)
+    row.keeps(rt, alloc, number, Streams { gives, ..whole });
+    row.keeps(rt, alloc, number, Streams { takes, ..whole });
 }
 
 /// A legal line, broken at a place drawn at random, or bytes drawn at random.
@@ -357,10 +361,7 @@ fn drawn_bytes_get_the_replies_of_the_slow_programs(rt: HostRuntime) {
     for seed in 0..4_000u64 {
         let is_pair = seed % 2 == 1;
         let input = drawn(&rt, rt.alloc(), is_pair, seed);
-        assert!(rt;
-            is_kept_anyhow(rt.alloc(), &input.row(), seed),
-            "seed {seed}"
-        );
+        keeps_anyhow(&rt, rt.alloc(), seed, &input.row());
     }
 }
 
@@ -372,15 +373,20 @@ fn drawn(rt: &impl Abort, alloc: Global, is_pair: bool, seed: u64) -> Input {
     }
 }
 
-/// Whether the lines are answered so many bytes at once as are drawn, through streams of which
-/// none, one, the other and both fail after a drawn number of bytes.
-fn is_kept_anyhow(alloc: Global, row: &Row, seed: u64) -> bool {
+/// The lines are answered so many bytes at once as are drawn, through streams of which none, one,
+/// the other and both fail after a drawn number of bytes.
+fn keeps_anyhow(rt: &impl Abort, alloc: Global, seed: u64, row: &Row) {
     let mut rng = Pcg32::seed_from_u64(seed);
-    let piece = 1 + rng.next_u32() as usize % 40;
+    let whole = Streams::passing(1 + rng.next_u32() as usize % 40);
     let gives = rng.next_u32() as usize % row.lines.len().saturating_add(9).max(1);
     let takes = rng.next_u32() as usize % row.replies.len().saturating_add(40).max(1);
-    row.is_kept(alloc, piece, ALL, ALL)
-        && row.is_kept(alloc, piece, gives, ALL)
-        && row.is_kept(alloc, piece, ALL, takes)
-        && row.is_kept(alloc, piece, gives, takes)
+    row.keeps(rt, alloc, seed, whole);
+    row.keeps(rt, alloc, seed, Streams { gives, ..whole });
+    row.keeps(rt, alloc, seed, Streams { takes, ..whole });
+    let both = Streams {
+        gives,
+        takes,
+        ..whole
+    };
+    row.keeps(rt, alloc, seed, both);
 }

@@ -77,9 +77,25 @@ static LINES_OF_EPOCHS: [(&str, Line<Event>); 12] = [
     ("poll 4 1 1", Line::Malformed),
 ];
 
+/// Lines of idle processors, and what they ask for.
+static LINES_OF_IDLENESS: [(&str, Line<Event>); 12] = [
+    ("idle 3", Line::Ask(Event::Idle(3))),
+    ("  wake  007 ", Line::Ask(Event::Wake(7))),
+    ("scan 4294967295", Line::Ask(Event::Scan(u32::MAX))),
+    ("scan 4294967296", Line::Ask(Event::Scan(u32::MAX))),
+    ("idle", Line::Malformed),
+    ("wake", Line::Malformed),
+    ("scan", Line::Malformed),
+    ("idle 0 0", Line::Malformed),
+    ("wake x", Line::Malformed),
+    ("scan 18446744073709551616", Line::Malformed),
+    ("idles 0", Line::Malformed),
+    ("Wake 0", Line::Malformed),
+];
+
 /// Compares what a line asks for.
 fn asks(rt: &impl Abort, line: &str, asked: &Line<Event>) {
-    assert!(rt; parse_line(line.as_bytes()) == *asked, "{line}");
+    assert_eq!(rt; parse_line(line.as_bytes()), *asked, "{line}");
 }
 
 #[test]
@@ -99,6 +115,13 @@ fn lines_of_lists(rt: HostRuntime) {
 #[test]
 fn lines_of_epochs(rt: HostRuntime) {
     for (line, asked) in &LINES_OF_EPOCHS {
+        asks(&rt, line, asked);
+    }
+}
+
+#[test]
+fn lines_of_idleness(rt: HostRuntime) {
+    for (line, asked) in &LINES_OF_IDLENESS {
         asks(&rt, line, asked);
     }
 }

@@ -1,9 +1,9 @@
 //! Replies that are longer than a block, to a writer that fails beside a border of blocks.
 ghost use Rattle.std.specs.Prelude.{◌≡◌, None, false};
 
-use crate::runs::row::FAR;
+use crate::runs::row::{End, FAR};
 use arrayvec::ArrayVec;
-use rcu_script::{RunFault, Setup, run_script};
+use rcu_script::{Setup, run_script};
 use rcu_text::{Failed, Marked, Sink, Source};
 use std::alloc::{AllocError, Global};
 use std::process::Abort;
@@ -58,6 +58,15 @@ impl Sink for Matching<'_> {
         self.left -= n;
         Ok(n)
     }
+}
+
+/// What came of a run: how it ended, whether it wrote other bytes than the replies, and how many
+/// bytes it wrote.
+#[derive(Clone, Copy, Debug, PartialEq, Eq)]
+struct Outcome {
+    end: End,
+    differs: bool,
+    written: usize,
 }
 
 /// A script with a long reply at its end, and its replies.
@@ -138,9 +147,9 @@ impl Long {
         })
     }
 
-    /// Whether a run through a writer that takes so many bytes writes just these. It tells how many
-    /// bytes of the replies were left at each write.
-    fn run(&self, alloc: Global, takes: usize) -> (bool, ArrayVec<usize, WRITES>) {
+    /// What comes of a run through a writer that takes so many bytes. It tells how many bytes of
+    /// the replies were left at each write.
+    fn run(&self, alloc: Global, takes: usize) -> (Outcome, ArrayVec<usize, WRITES>) {
         let setup = Setup {
             leaf: 64,
             inner: 64,
@@ -152,51 +161,61 @@ impl Long {
         let replies = self.replies.as_str().as_bytes();
         let mut reader = Marked::new(self.lines.as_str().as_bytes());
         let mut writer = Matching::new(replies, takes);
-        let is_end = match run_script(alloc, &setup, &mut reader, &mut writer) {
-            Ok(()) => takes >= replies.len(),
-            Err(RunFault::Write) => takes < replies.len() && writer.left == 0,
-            Err(_) => false,
+        let end = End::of(run_script(alloc, &setup, &mut reader, &mut writer));
+        let outcome = Outcome {
+            end,
+            differs: writer.differs,
+            written: replies.len().saturating_sub(writer.rest.len()),
         };
-        let are_all = takes < replies.len() || writer.rest.is_empty();
-        (is_end && are_all && !writer.differs, writer.writes)
+        (outcome, writer.writes)
     }
 
-    /// Whether it is answered through a writer that never fails, and through ones that fail beside
-    /// the border of two writes of the last reply. (Each run is made once more where it goes wrong,
-    /// since one growth may be refused.)
-    fn is_answered(&self, alloc: Global) -> bool {
+    /// What has to come of it: the writer takes all of the replies, or as many bytes as it takes.
+    fn owed(&self, takes: usize) -> Outcome {
         let length = self.replies.len();
-        let first = self.run(alloc, length);
-        let (holds, writes) = if first.0 {
-            first
-        } else {
-            self.run(alloc, length)
-        };
-        let mut holds = holds && writes.len() > 4;
-        let mut borders = 0;
-        for left in writes.as_slice() {
-            if *left < self.last && borders < 3 {
-                borders += 1;
-                holds = holds && self.is_cut(alloc, length.saturating_sub(*left));
+        Outcome {
+            end: if takes < length {
+                End::NotWritten
+            } else {
+                End::Done
+            },
+            differs: false,
+            written: takes.min(length),
+        }
+    }
+
+    /// Compares what comes of a run through a writer that takes so many bytes with what has to
+    /// come. It tells how many bytes of the replies were left at each write. (A run is made once
+    /// more where it goes wrong, since one growth may be refused.)
+    fn answers(&self, rt: &impl Abort, alloc: Global, takes: usize) -> ArrayVec<usize, WRITES> {
+        let wanted = self.owed(takes);
+        let (mut outcome, mut writes) = self.run(alloc, takes);
+        if outcome != wanted {
+            (outcome, writes) = self.run(alloc, takes);
+        }
+        assert_eq!(rt; (self.cpus, takes, outcome), (self.cpus, takes, wanted));
+        writes
+    }
+
+    /// It is answered through a writer that never fails, and through ones that fail beside the
+    /// border of two writes of the last reply.
+    fn keeps(&self, rt: &impl Abort, alloc: Global) {
+        let length = self.replies.len();
+        let writes = self.answers(rt, alloc, length);
+        assert!(rt; writes.len() > 4, "{} writes", writes.len());
+        for left in writes.iter().filter(|left| **left < self.last).take(3) {
+            let border = length.saturating_sub(*left);
+            for takes in border.saturating_sub(8)..border.saturating_add(9) {
+                self.answers(rt, alloc, takes);
             }
         }
-        holds
-    }
-
-    /// Whether it is answered through writers that fail beside a border.
-    fn is_cut(&self, alloc: Global, border: usize) -> bool {
-        let mut holds = true;
-        for takes in border.saturating_sub(8)..border.saturating_add(9) {
-            holds = holds && (self.run(alloc, takes).0 || self.run(alloc, takes).0);
-        }
-        holds
     }
 }
 
 #[test]
 fn long_replies(rt: HostRuntime) {
-    assert!(rt; awaits(&rt, rt.alloc()).is_answered(rt.alloc()), "awaits");
-    assert!(rt; runs(&rt, rt.alloc()).is_answered(rt.alloc()), "ran");
+    awaits(&rt, rt.alloc()).keeps(&rt, rt.alloc());
+    runs(&rt, rt.alloc()).keeps(&rt, rt.alloc());
 }
 
 /// All processors are awaited, made by a second call where the first is refused a growth.

@@ -1,9 +1,8 @@
 //! What a refused growth may do.
 
 use crate::runs::pair::rows::pair_rows;
-use crate::runs::row::{ALL, FAR, Row, Run};
+use crate::runs::row::{ALL, End, FAR, Row, Run, Streams};
 use arrayvec::{ArrayVec, CapacityError};
-use rcu_script::RunFault;
 use rcu_seq::fault::Fault;
 use std::alloc::Global;
 use std::io::Print;
@@ -16,12 +15,12 @@ const REFUSED: &[u8] = b"fault 16";
 /// Whether a run shows want of memory: it was not opened, or a line of its text says so, of which a
 /// writer that failed may have taken only a beginning.
 pub fn wants_memory(run: &Run) -> bool {
-    let is_cut = matches!(&run.end, Err(RunFault::Write));
+    let is_cut = run.end == End::NotWritten;
     let says_so = |line: &[u8]| {
         line == REFUSED || (is_cut && !line.is_empty() && REFUSED.starts_with(line))
     };
-    match &run.end {
-        Err(RunFault::Open(fault)) => *fault == Fault::NoMemory,
+    match run.end {
+        End::NotOpened(fault) => fault == Fault::NoMemory,
         _ => run.written.as_slice().split(|b| *b == b'\n').any(says_so),
     }
 }
@@ -69,15 +68,17 @@ impl Kept {
         self.replies.try_extend_from_slice(b"\n")
     }
 
-    /// Whether the lines alone get these replies.
-    fn is_answered(&self, alloc: Global) -> bool {
+    /// Compares the replies that the lines alone get with these.
+    fn answers(&self, rt: &impl Abort, alloc: Global) {
         let row = Row {
+            name: "those not refused",
             lines: self.lines.as_slice(),
             replies: self.replies.as_slice(),
             ..GROWING
         };
-        let again = row.run(alloc, ALL, ALL, ALL);
-        !wants_memory(&again) && again.came_to(&Ok(()), row.replies)
+        let again = row.run(alloc, Streams::passing(ALL));
+        assert!(rt; !wants_memory(&again), "no second growth is refused");
+        again.compare(rt, &row.name, End::Done, row.replies);
     }
 }
 
@@ -95,15 +96,15 @@ fn tell<R: Print + Abort>(rt: &R, line: &[u8]) -> Result<(), Fail> {
 /// lines, among them the same one again, as if it had not been.
 #[test]
 fn growths_are_refused(rt: HostRuntime) -> Result<(), Fail> {
-    let first = GROWING.run(rt.alloc(), ALL, ALL, ALL);
+    let first = GROWING.run(rt.alloc(), Streams::passing(ALL));
     if !wants_memory(&first) {
-        assert!(rt; first.came_to(&Ok(()), GROWING.replies));
+        first.compare(&rt, &GROWING.name, End::Done, GROWING.replies);
         return Ok(());
     }
-    if first.end.is_err() {
+    if first.end != End::Done {
         println!(rt; "a growth was refused at the opening")?;
-        assert!(rt; is_refused_opening(&first));
-        assert!(rt; GROWING.is_answered(rt.alloc(), ALL));
+        is_refused_opening(&rt, &first);
+        GROWING.answers(&rt, rt.alloc(), 0, ALL);
         return Ok(());
     }
     let mut kept = Kept {
@@ -111,7 +112,7 @@ fn growths_are_refused(rt: HostRuntime) -> Result<(), Fail> {
         replies: ArrayVec::new(),
     };
     keep(&rt, &mut kept, first.written.as_slice())?;
-    assert!(rt; kept.is_answered(rt.alloc()));
+    kept.answers(&rt, rt.alloc());
     Ok(())
 }
 
@@ -133,23 +134,19 @@ fn keep<R: Print + Abort>(rt: &R, kept: &mut Kept, written: &[u8]) -> Result<(),
 #[test]
 fn growths_of_a_pair_are_refused(rt: HostRuntime) -> Result<(), Fail> {
     let row = pair_rows().first().expect(&rt, "there are rows");
-    let first = row.run(rt.alloc(), ALL, ALL, ALL);
+    let first = row.run(rt.alloc(), Streams::passing(ALL));
     if !wants_memory(&first) {
-        assert!(rt; first.came_to(&Ok(()), row.replies));
+        first.compare(&rt, &row.name, End::Done, row.replies);
         return Ok(());
     }
     println!(rt; "a growth was refused")?;
-    assert!(rt; is_refused_opening(&first));
-    assert!(rt; gets_replies(rt.alloc(), row));
+    is_refused_opening(&rt, &first);
+    let again = row.run(rt.alloc(), Streams::passing(ALL));
+    again.compare(&rt, &row.name, End::Done, row.replies);
     Ok(())
 }
 
-/// Whether a run was refused a growth as it opened, and wrote nothing.
-fn is_refused_opening(run: &Run) -> bool {
-    run.came_to(&Err(RunFault::Open(Fault::NoMemory)), b"")
-}
-
-/// Whether a run of the row, which is not made once more, comes to its replies.
-fn gets_replies(alloc: Global, row: &Row) -> bool {
-    row.run(alloc, ALL, ALL, ALL).came_to(&Ok(()), row.replies)
+/// A run was refused a growth as it opened, and wrote nothing.
+fn is_refused_opening(rt: &impl Abort, run: &Run) {
+    run.compare(rt, &"at the opening", End::NotOpened(Fault::NoMemory), b"");
 }

@@ -4,8 +4,11 @@ use crate::runs::memory::wants_memory;
 use crate::runs::streams::{Narrow, ROOM, Slow};
 use arrayvec::ArrayVec;
 use rcu_script::{RunFault, Setup, run_pair, run_script};
+use rcu_seq::fault::Fault;
 use std::alloc::Global;
 use std::cell::Cell;
+use std::fmt::Debug;
+use std::process::Abort;
 
 /// The last number where a row names none.
 pub const FAR: u64 = 1 << 62;
@@ -30,10 +33,52 @@ pub struct Row<'a> {
     pub replies: &'a [u8],
 }
 
+/// How a run ended.
+#[derive(Clone, Copy, Debug, PartialEq, Eq)]
+pub enum End {
+    Done,
+    NotOpened(Fault),
+    NotRead,
+    NotWritten,
+}
+
+impl End {
+    pub fn of(end: Result<(), RunFault>) -> End {
+        match end {
+            Ok(()) => End::Done,
+            Err(RunFault::Open(fault)) => End::NotOpened(fault),
+            Err(RunFault::Read) => End::NotRead,
+            Err(RunFault::Write) => End::NotWritten,
+        }
+    }
+}
+
+/// What the streams of a run do.
+#[derive(Clone, Copy, Debug)]
+pub struct Streams {
+    /// The most bytes that they pass at once.
+    pub piece: usize,
+    /// Once the reader gave so many bytes, it fails.
+    pub gives: usize,
+    /// Once the writer took so many bytes, it fails.
+    pub takes: usize,
+}
+
+impl Streams {
+    /// Streams that pass at most so many bytes at once, and never fail.
+    pub fn passing(piece: usize) -> Streams {
+        Streams {
+            piece,
+            gives: ALL,
+            takes: ALL,
+        }
+    }
+}
+
 /// How a run ended, and what it wrote.
 #[derive(Drop)]
 pub struct Run {
-    pub end: Result<(), RunFault>,
+    pub end: End,
     pub written: ArrayVec<u8, ROOM>,
     /// Whether the reader was read, or the writer written to, at another time than is owed.
     pub is_untimely: bool,
@@ -41,23 +86,25 @@ pub struct Run {
 
 impl Run {
     /// Whether it ended so, wrote this text, and read and wrote in turn.
-    pub fn came_to(&self, end: &Result<(), RunFault>, text: &[u8]) -> bool {
-        let is_end = match (&self.end, end) {
-            (Ok(()), Ok(())) => true,
-            (Err(fault), Err(wanted)) => is_fault(fault, wanted),
-            _ => false,
-        };
-        is_end && !self.is_untimely && self.written.as_slice() == text
+    fn came_to(&self, end: End, text: &[u8]) -> bool {
+        self.end == end && !self.is_untimely && self.written.as_slice() == text
+    }
+
+    /// Compares how the run of a row ended, that it read and wrote in turn, and what it wrote, line
+    /// by line.
+    pub fn compare<C: Debug>(&self, rt: &impl Abort, row: &C, end: End, text: &[u8]) {
+        assert_eq!(rt; (self.end, self.is_untimely), (end, false), "{row:?}");
+        let (found, wanted) = (text_of(self.written.as_slice()), text_of(text));
+        for (line, (found, wanted)) in found.split('\n').zip(wanted.split('\n')).enumerate() {
+            assert_eq!(rt; (line, found), (line, wanted), "{row:?}");
+        }
+        assert_eq!(rt; self.written.as_slice(), text, "{row:?}");
     }
 }
 
-/// Whether two faults are the same.
-fn is_fault(fault: &RunFault, wanted: &RunFault) -> bool {
-    match fault {
-        RunFault::Open(fault) => matches!(wanted, RunFault::Open(wanted) if fault == wanted),
-        RunFault::Read => matches!(wanted, RunFault::Read),
-        RunFault::Write => matches!(wanted, RunFault::Write),
-    }
+/// Bytes as a text. What is not UTF-8 is none.
+fn text_of(bytes: &[u8]) -> &str {
+    str::from_utf8(bytes).unwrap_or("")
 }
 
 /// Goes over the bytes of lines, and tells how much of the replies is owed by then: each line that
@@ -105,59 +152,68 @@ impl<'a> Owed<'a> {
 }
 
 impl Row<'_> {
-    /// Runs the lines. The streams pass at most so many bytes at once; the reader fails once it
-    /// gave so many, and the writer once it took so many. A stream is used for one run alone.
-    pub fn run(&self, alloc: Global, piece: usize, gives: usize, takes: usize) -> Run {
+    /// What is opened. A script has one tree twice.
+    fn setup(&self) -> Setup {
         let second = self.second.unwrap_or(self.fanouts);
-        let setup = Setup {
+        Setup {
             leaf: self.fanouts.0,
             inner: self.fanouts.1,
             leaf2: second.0,
             inner2: second.1,
             cpus: self.cpus,
             last: self.last,
-        };
+        }
+    }
+
+    /// Runs the lines through such streams. A stream is used for one run alone.
+    pub fn run(&self, alloc: Global, streams: Streams) -> Run {
+        let piece = streams.piece.max(1);
+        let setup = self.setup();
         let taken = Cell::new(0);
         let owed = Owed::new(self.replies);
-        let mut reader = Slow::failing_after(self.lines, piece.max(1), gives, owed, &taken);
-        let mut writer = Narrow::failing_after(piece.max(1), takes, &taken);
+        let mut reader = Slow::failing_after(self.lines, piece, streams.gives, owed, &taken);
+        let mut writer = Narrow::failing_after(piece, streams.takes, &taken);
         let end = match self.second {
             None => run_script(alloc, &setup, &mut reader, &mut writer),
             Some(_) => run_pair(alloc, &setup, &mut reader, &mut writer),
         };
         let is_untimely = reader.is_misread() || writer.is_miswritten();
         Run {
-            end,
+            end: End::of(end),
             written: writer.into_bytes(),
             is_untimely,
         }
     }
 
-    /// Whether a run through streams that pass at most so many bytes at once, and fail after so
-    /// many, comes to what it owes. One that shows want of memory is made once more from the
-    /// start, since a test may be refused one growth; that one growth is not refused again.
-    pub fn is_kept(&self, alloc: Global, piece: usize, gives: usize, takes: usize) -> bool {
-        let (end, text) = self.owed(gives, takes);
-        let first = self.run(alloc, piece, gives, takes);
-        first.came_to(&end, text)
-            || (wants_memory(&first) && self.run(alloc, piece, gives, takes).came_to(&end, text))
+    /// Compares what a run through such streams comes to with what it owes. One that shows want of
+    /// memory is made once more from the start, since a test may be refused one growth; that one
+    /// growth is not refused again. A failure names the row, and the number of what was drawn.
+    pub fn keeps(&self, rt: &impl Abort, alloc: Global, number: u64, streams: Streams) {
+        let (end, text) = self.owed(streams.gives, streams.takes);
+        let mut run = self.run(alloc, streams);
+        if !run.came_to(end, text) && wants_memory(&run) {
+            run = self.run(alloc, streams);
+        }
+        if !run.came_to(end, text) {
+            run.compare(rt, &(self.name, number, self.setup(), streams), end, text);
+        }
     }
 
-    /// Whether the lines get the replies through streams that pass at most so many bytes at once.
-    pub fn is_answered(&self, alloc: Global, piece: usize) -> bool {
-        self.is_kept(alloc, piece, ALL, ALL)
+    /// Compares the replies to the lines through streams that pass at most so many bytes at once.
+    pub fn answers(&self, rt: &impl Abort, alloc: Global, number: u64, piece: usize) {
+        self.keeps(rt, alloc, number, Streams::passing(piece));
     }
 
     /// What is owed where the reader fails once it gave so many bytes, and the writer once it took
     /// so many: how the run ends, and what it wrote.
-    fn owed(&self, gives: usize, takes: usize) -> (Result<(), RunFault>, &[u8]) {
+    fn owed(&self, gives: usize, takes: usize) -> (End, &[u8]) {
         let (end, replies) = if gives > self.lines.len() {
-            (Ok(()), self.replies)
+            (End::Done, self.replies)
         } else {
-            (Err(RunFault::Read), self.replies_within(gives))
+            (End::NotRead, self.replies_within(gives))
         };
         if takes < replies.len() {
-            (Err(RunFault::Write), replies.split_at(takes).0)
+            (End::NotWritten, replies.split_at(takes).0)
         } else {
             (end, replies)
         }

@@ -32,6 +32,6 @@ fn more_than_a_block(rt: HostRuntime) -> Result<(), Fail> {
     let mut wanted = ArrayVec::<u8, MANY>::new();
     let mut sink = Marked::new(room(rt.alloc())?);
     write_many(&mut BlockWriter::new(&mut sink), &mut wanted)?;
-    assert!(rt; sink.into_inner().as_slice() == wanted.as_slice());
+    assert_eq!(rt; sink.into_inner().as_slice(), wanted.as_slice());
     Ok(())
 }

@@ -25,8 +25,8 @@ impl Write for Broken {
 
 /// Compares what a read into 4 bytes answers. The source has failed where the read does.
 fn read_four<R: Source>(rt: &impl Abort, source: &mut R, wanted: Result<usize, Failed>) {
-    assert!(rt; source.read(&mut [0; 4]) == wanted);
-    assert!(rt; source.has_failed() == wanted.is_err());
+    assert_eq!(rt; source.read(&mut [0; 4]), wanted);
+    assert_eq!(rt; source.has_failed(), wanted.is_err());
 }
 
 /// Compares what a write answers, and whether the sink has failed then.
@@ -37,8 +37,8 @@ fn write_to<W: Sink>(
     wanted: Result<usize, Failed>,
     has_failed: bool,
 ) {
-    assert!(rt; sink.write(bytes) == wanted);
-    assert!(rt; sink.has_failed() == has_failed);
+    assert_eq!(rt; sink.write(bytes), wanted);
+    assert_eq!(rt; sink.has_failed(), has_failed);
 }
 
 #[test]

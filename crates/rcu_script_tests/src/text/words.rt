@@ -20,7 +20,7 @@ static NUMBERS: [(&str, Option<u64>); 11] = [
 
 /// Compares the number that a word is.
 fn is_number(rt: &impl Abort, word: &str, wanted: Option<u64>) {
-    assert!(rt; number(word.as_bytes()) == wanted, "{word}");
+    assert_eq!(rt; (word, number(word.as_bytes())), (word, wanted));
 }
 
 #[test]
@@ -32,13 +32,8 @@ fn numbers(rt: HostRuntime) {
 
 #[test]
 fn words(rt: HostRuntime) {
-    assert!(rt; next_word(b"").is_none());
-    assert!(rt; next_word(b"   ").is_none());
-    match next_word(b"  note  3 ") {
-        Some((word, rest)) => {
-            assert!(rt; word == b"note".as_slice());
-            assert!(rt; rest == b"  3 ".as_slice());
-        }
-        None => assert!(rt; false),
-    }
+    assert_eq!(rt; next_word(b""), None);
+    assert_eq!(rt; next_word(b"   "), None);
+    let (word, rest) = (b"note".as_slice(), b"  3 ".as_slice());
+    assert_eq!(rt; next_word(b"  note  3 "), Some((word, rest)));
 }

@@ -1,11 +1,10 @@
 //! The command line, as `clap` is told of it.
 ghost use Rattle.std.specs.Prelude.{◌≡◌, false, IfOk, codes};
-ghost use Rattle.clap.specs.Words.{App, app_of, new_app, rule_of, with_rule, with_subcommand};
+ghost use Rattle.clap.specs.Words.{app_of, new_app, rule_of};
 ghost use Rattle.clap.specs.declared.builder.command.Command.TheViews.{out-Command as fields_of};
-ghost use Rattle.rcu_torture.specs.CommandLine.{any_u32, any_u64, last_rule, number_rule};
-ghost use Rattle.rcu_torture.specs.CommandLine.{option_rule, pair, rcu, rcu_alone, rcu_with_pair};
-ghost use Rattle.rcu_torture.specs.CommandLine.{rcu_with_script, required_rule, script, shapes};
-ghost use Rattle.rcu_torture.specs.CommandLine.{torture, u32_from_1_to};
+ghost use Rattle.rcu_torture.specs.CommandLine.{any_u32, last_rule, number_rule, option_rule};
+ghost use Rattle.rcu_torture.specs.CommandLine.{pair, rcu, required_rule, script, torture};
+ghost use Rattle.rcu_torture.specs.CommandLine.{u32_from_1_to};
 ghost use Rattle.rcu_torture.specs.Ledger.{most_rounds, most_workers};
 
 use crate::command::help;
@@ -16,157 +15,58 @@ use std::alloc::{AllocError, Global};
 /// The greatest last number, 2^62.
 const GREATEST_LAST: &str = "4611686018427387904";
 
-/// The program with its subcommands.
+/// The program with its subcommands, of which one has to be given.
 pub fn rcu_command<'a>(alloc: Global) -> Result<Command<'a>, AllocError>
     ensures { IfOk result (λ command. app_of command ≡ rcu) }
-{
-    joined(rcu_with_pair(alloc)?, torture_command(alloc))
-}
-
-fn rcu_with_pair<'a>(alloc: Global) -> Result<Command<'a>, AllocError>
-    ensures { IfOk result (λ command. app_of command ≡ rcu_with_pair) }
-{
-    joined(rcu_with_script(alloc)?, pair_command(alloc))
-}
-
-fn rcu_with_script<'a>(alloc: Global) -> Result<Command<'a>, AllocError>
-    ensures { IfOk result (λ command. app_of command ≡ rcu_with_script) }
-{
-    joined(rcu_alone(alloc)?, script_command(alloc))
-}
-
-/// The command with this subcommand, where that was made.
-fn joined<'a>(
-    command: Command<'a>,
-    below: Result<Command<'a>, AllocError>,
-) -> Result<Command<'a>, AllocError>
-    ghost sub: { App }
-    requires app { IfOk below (λ met. app_of met ≡ sub) }
-    requires local { IfOk below (λ met. (fields_of met).has_globals ≡ false) }
-    ensures { IfOk result (λ more. app_of more ≡ with_subcommand (app_of command.entry) sub.top) }
-{
-    command.subcommand(below?)
-}
-
-/// The program before it has subcommands, of which one has to be given.
-fn rcu_alone<'a>(alloc: Global) -> Result<Command<'a>, AllocError>
-    ensures { IfOk result (λ command. app_of command ≡ rcu_alone) }
 {
     let about = "Drives a grace-period engine of read-copy-update (RCU)";
     described(alloc, "rcu", about, help::PROGRAM)
         .no_binary_name(true)
         .subcommand_required(true)
         .disable_help_subcommand(true)
-        .bin_name("rcu")
+        .bin_name("rcu")?
+        .subcommand(script_command(alloc)?)?
+        .subcommand(pair_command(alloc)?)?
+        .subcommand(torture_command(alloc)?)
 }
 
 fn script_command<'a>(alloc: Global) -> Result<Command<'a>, AllocError>
     ensures app { IfOk result (λ command. app_of command ≡ script) }
     ensures local { IfOk result (λ command. (fields_of command).has_globals ≡ false) }
 {
-    let about = "Answers a script on standard input, a line for each event";
-    let command = described(alloc, "script", about, help::SCRIPT);
-    let leaf = "Processors that a leaf of the tree holds";
-    let shaped = with_shape(alloc, command, leaf, "Children that an inner node holds")?;
-    with_cpus_and_last(alloc, shaped, "Number of processors, from 1")
+    let about = "Replies to a script on standard input, line by line";
+    described(alloc, "script", about, help::SCRIPT)
+        .arg(u32_option(alloc, "leaf", "Processors that a leaf of the tree holds"))?
+        .arg(u32_option(alloc, "inner", "Children that an inner node holds"))?
+        .arg(u32_option(alloc, "cpus", "Number of processors, from 1"))?
+        .arg(last_option(alloc))
 }
 
 fn pair_command<'a>(alloc: Global) -> Result<Command<'a>, AllocError>
     ensures app { IfOk result (λ command. app_of command ≡ pair) }
     ensures local { IfOk result (λ command. (fields_of command).has_globals ≡ false) }
 {
-    let shaped = shapes_command(alloc)?;
-    with_cpus_and_last(
-        alloc,
-        shaped,
-        "Number of processors of each replica, from 1",
-    )
-}
-
-/// The subcommand `pair` with the options of both shapes.
-fn shapes_command<'a>(alloc: Global) -> Result<Command<'a>, AllocError>
-    ensures app { IfOk result (λ command. app_of command ≡ shapes) }
-    ensures local { IfOk result (λ command. (fields_of command).has_globals ≡ false) }
-{
-    let about = "Answers the lines of two replicas, a and b, on standard input";
-    let command = described(alloc, "pair", about, help::PAIR);
-    let leaf = "Processors that a leaf of a holds";
-    let shaped = with_shape(
-        alloc,
-        command,
-        leaf,
-        "Children that an inner node of a holds",
-    )?;
-    with_second_shape(alloc, shaped)
+    let about = "Replies to the lines of two replicas, a and b, on standard input";
+    let cpus = "Number of processors of each replica, from 1";
+    described(alloc, "pair", about, help::PAIR)
+        .arg(u32_option(alloc, "leaf", "Processors that a leaf of a holds"))?
+        .arg(u32_option(alloc, "inner", "Children that an inner node of a holds"))?
+        .arg(u32_option(alloc, "leaf2", "Processors that a leaf of b holds"))?
+        .arg(u32_option(alloc, "inner2", "Children that an inner node of b holds"))?
+        .arg(u32_option(alloc, "cpus", cpus))?
+        .arg(last_option(alloc))
 }
 
 fn torture_command<'a>(alloc: Global) -> Result<Command<'a>, AllocError>
     ensures app { IfOk result (λ command. app_of command ≡ torture) }
     ensures local { IfOk result (λ command. (fields_of command).has_globals ≡ false) }
 {
-    let about = "Works the engine for threads hard, and prints what came of it";
-    let command = described(alloc, "torture", about, help::TORTURE);
-    with_workers_and_rounds(alloc, command)?.arg(seed_option(alloc))
-}
-
-/// The command with the options `--leaf` and `--inner`, of which help says this.
-fn with_shape<'a>(
-    alloc: Global,
-    command: Command<'a>,
-    leaf: &'a str,
-    inner: &'a str,
-) -> Result<Command<'a>, AllocError>
-    requires { (fields_of command).has_globals ≡ false }
-    ensures app { IfOk result (λ more. app_of more ≡ with_rule
-        (with_rule (app_of command.entry) (required_rule (number_rule (codes "leaf") any_u32)))
-        (required_rule (number_rule (codes "inner") any_u32))) }
-    ensures local { IfOk result (λ more. (fields_of more).has_globals ≡ false) }
-{
-    let more = command.arg(u32_option(alloc, "leaf", leaf))?;
-    more.arg(u32_option(alloc, "inner", inner))
-}
-
-/// The command with the options `--cpus`, of which help says this, and `--last`.
-fn with_cpus_and_last<'a>(
-    alloc: Global,
-    command: Command<'a>,
-    cpus: &'a str,
-) -> Result<Command<'a>, AllocError>
-    requires { (fields_of command).has_globals ≡ false }
-    ensures app { IfOk result (λ more. app_of more ≡ with_rule
-        (with_rule (app_of command.entry) (required_rule (number_rule (codes "cpus") any_u32)))
-        last_rule) }
-    ensures local { IfOk result (λ more. (fields_of more).has_globals ≡ false) }
-{
-    let more = command.arg(cpus_option(alloc, cpus))?;
-    more.arg(last_option(alloc))
-}
-
-/// The command with the options `--leaf2` and `--inner2`.
-fn with_second_shape<'a>(alloc: Global, command: Command<'a>) -> Result<Command<'a>, AllocError>
-    requires { (fields_of command).has_globals ≡ false }
-    ensures app { IfOk result (λ more. app_of more ≡ with_rule
-        (with_rule (app_of command.entry) (required_rule (number_rule (codes "leaf2") any_u32)))
-        (required_rule (number_rule (codes "inner2") any_u32))) }
-    ensures local { IfOk result (λ more. (fields_of more).has_globals ≡ false) }
-{
-    let more = command.arg(leaf2_option(alloc))?;
-    more.arg(inner2_option(alloc))
-}
-
-/// The command with the options `--workers` and `--rounds`.
-fn with_workers_and_rounds<'a>(
-    alloc: Global,
-    command: Command<'a>,
-) -> Result<Command<'a>, AllocError>
-    requires { (fields_of command).has_globals ≡ false }
-    ensures app { IfOk result (λ more. app_of more ≡ with_rule (with_rule (app_of command.entry)
-        (required_rule (number_rule (codes "workers") (u32_from_1_to most_workers))))
-        (required_rule (number_rule (codes "rounds") (u32_from_1_to most_rounds)))) }
-    ensures local { IfOk result (λ more. (fields_of more).has_globals ≡ false) }
-{
-    let more = command.arg(workers_option(alloc))?;
-    more.arg(rounds_option(alloc))
+    let about = "Stress-tests the engine for threads, and prints a summary";
+    let seed = "Seed of the workers' random words";
+    described(alloc, "torture", about, help::TORTURE)
+        .arg(workers_option(alloc))?
+        .arg(rounds_option(alloc))?
+        .arg(required_option(alloc, "seed", seed, value_parser!(u64)))
 }
 
 /// A command of this name, and what help says of it: before its options, and behind them.
@@ -175,30 +75,6 @@ fn described<'a>(alloc: Global, name: &'a str, about: &'a str, more: &'a str) ->
     ensures local { (fields_of result).has_globals ≡ false }
 {
     Command::new(alloc, name).about(about).after_help(more)
-}
-
-/// The option `--cpus`.
-fn cpus_option<'a>(alloc: Global, help: &'a str) -> Arg<'a>
-    ensures rule { rule_of result ≡ required_rule (number_rule (codes "cpus") any_u32) }
-    ensures local { result.global ≡ false }
-{
-    u32_option(alloc, "cpus", help)
-}
-
-/// The option `--leaf2`, of the second replica.
-fn leaf2_option<'a>(alloc: Global) -> Arg<'a>
-    ensures rule { rule_of result ≡ required_rule (number_rule (codes "leaf2") any_u32) }
-    ensures local { result.global ≡ false }
-{
-    u32_option(alloc, "leaf2", "Processors that a leaf of b holds")
-}
-
-/// The option `--inner2`, of the second replica.
-fn inner2_option<'a>(alloc: Global) -> Arg<'a>
-    ensures rule { rule_of result ≡ required_rule (number_rule (codes "inner2") any_u32) }
-    ensures local { result.global ≡ false }
-{
-    u32_option(alloc, "inner2", "Children that an inner node of b holds")
 }
 
 /// The option `--workers`, whose range is that of a torture run.
@@ -211,7 +87,7 @@ fn workers_option<'a>(alloc: Global) -> Arg<'a>
     required_option(alloc, "workers", "Number of workers, 1 to 64", range)
 }
 
-/// The same of `--rounds`.
+/// The option `--rounds`, whose range is that of a torture run.
 fn rounds_option<'a>(alloc: Global) -> Arg<'a>
     ensures rule { rule_of result
         ≡ required_rule (number_rule (codes "rounds") (u32_from_1_to most_rounds)) }
@@ -219,15 +95,6 @@ fn rounds_option<'a>(alloc: Global) -> Arg<'a>
 {
     let range = value_parser!(u32).range(1..=10_000);
     required_option(alloc, "rounds", "Rounds of each worker, 1 to 10000", range)
-}
-
-/// The option `--seed`.
-fn seed_option<'a>(alloc: Global) -> Arg<'a>
-    ensures rule { rule_of result ≡ required_rule (number_rule (codes "seed") any_u64) }
-    ensures local { result.global ≡ false }
-{
-    let help = "Seed of the workers' random words";
-    required_option(alloc, "seed", help, value_parser!(u64))
 }
 
 /// A required option whose value is a u32.
@@ -258,7 +125,7 @@ fn last_option<'a>(alloc: Global) -> Arg<'a>
     ensures rule { rule_of result ≡ last_rule }
     ensures local { result.global ≡ false }
 {
-    let help = "Number at which no further grace period begins, a multiple of 4 in 4..=2^62";
+    let help = "Last number, a multiple of 4 from 4 to 2^62";
     option(alloc, "last", help)
         .value_parser(value_parser!(u64))
         .default_value(GREATEST_LAST)

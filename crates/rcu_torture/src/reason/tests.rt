@@ -65,12 +65,12 @@ static WANTING: [(Order, RunFault, &str); 2] = [
     (
         SCRIPT,
         RunFault::Open(Fault::NoMemory),
-        "rcu: no memory is left",
+        "rcu: out of memory",
     ),
     (
         Order::Torture(1, 1, 1),
         RunFault::Open(Fault::NoMemory),
-        "rcu: no memory is left",
+        "rcu: out of memory",
     ),
 ];
 

@@ -17,7 +17,7 @@ pub trait Gate: Sync {
     fn pass(&self, worker: u32, point: Point) -> bool;
 }
 
-/// The gate of the program, which answers true at once.
+/// The gate of the program, which returns true at once.
 pub struct Open;
 
 impl Gate for Open {

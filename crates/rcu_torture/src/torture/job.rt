@@ -3,20 +3,20 @@ ghost use Rattle.std.specs.Prelude.{◌≡◌, ◌+◌, ◌*◌, ◌%◌, ◌<�
 ghost use Rattle.std.specs.Prelude.{length, true};
 ghost use Rattle.rand_pcg.specs.Pcg.{pcg32};
 ghost use Rattle.rcu_seq.specs.Tags.{is_done_first};
-ghost use Rattle.rcu_live.specs.CpuSeat.{after_depart, after_quiesce};
+ghost use Rattle.rcu_live.specs.CpuSeat.{after_depart, after_idle, after_quiesce};
 ghost use Rattle.rcu_live.specs.EngineLists.{is_run_fault};
 ghost use Rattle.rcu_live.specs.Watcher.{after_watch};
 ghost use Rattle.rcu_torture.specs.Draws.{generator_of};
 ghost use Rattle.rcu_torture.specs.Ledger.{IsOfRounds, after_poll, after_run, most_in_round};
 ghost use Rattle.rcu_torture.specs.Ledger.{most_rounds};
-ghost use Rattle.rcu_torture.specs.Worker.{id_of, leaves_by, other_by};
+ghost use Rattle.rcu_torture.specs.Worker.{id_of, leaves_by, other_by, sleeps_by, stores_by};
 
 use crate::torture::draws::Draws;
 use crate::torture::gate::{Gate, Point};
 use crate::torture::share::Share;
 use rcu_live::cpu_seat::CpuSeat;
 use rcu_live::live::Live;
-use rcu_live::ran::Ran;
+use rcu_live::run::Ran;
 use rcu_live::watcher::Watcher;
 use rcu_seq::cookie::Cookie;
 use rcu_seq::fault::Fault;
@@ -57,10 +57,10 @@ fn close(live: &Engine, seat: &mut CpuSeat)
     'exits: while seat.exit(live).is_ok() {}
 }
 
-/// Hands out callbacks of a processor, at most so many, to this share, and answers them. Room for
+/// Hands out callbacks of a processor, at most so many, to this share, and returns them. Room for
 /// them is made before it: a refused call hands out none.
 ///
-/// Faults: 1 where there is no such processor; 16.
+/// Faults: `BadCpu` (1) where there is no such processor; `NoMemory` (16).
 fn hand_out<R: Wait>(
     rt: &R,
     live: &Engine,
@@ -72,7 +72,7 @@ fn hand_out<R: Wait>(
         record (after_run share.old ran.number ran.calls.items) { room = share.new.room }) }
     ensures most { IfOk result (λ ran. length ran.calls.items ≤ most) }
     ensures none_early { share.new.early ≡ share.old.early }
-    ensures refused { OnErr result (share.new ≡ record share.old { room = share.new.room }) }
+    ensures unchanged { OnErr result (share.new ≡ record share.old { room = share.new.room }) }
     ensures fault { IfErr result (λ fault. is_run_fault fault ≡ true) }
 {
     if share.make_room(most as usize).is_err() {
@@ -231,7 +231,7 @@ impl<'a> Job<'a> {
         Ok(())
     }
 
-    /// One round, on one word. Answers whether the gate let the worker pass.
+    /// One round, on one word. Returns whether the gate let the worker pass.
     fn run_round<R: Wait, G: Gate>(
         &mut self,
         rt: &R,
@@ -283,19 +283,23 @@ impl<'a> Job<'a> {
     }
 
     /// What a round does when its callback is queued: it moves the grace periods on, hands out
-    /// callbacks, and goes offline and online again where the word says so.
+    /// callbacks, and where the word says so goes offline and online again, and gets idle and
+    /// wakes.
     fn settle<R: Wait>(&mut self, rt: &R, word: u32, share: &mut Share) -> Result<(), Fault>
         ensures queued { share.new.queued ≡ share.old.queued }
         ensures early { share.new.early ≡ share.old.early }
         ensures ran { length share.new.ids ≤ length share.old.ids + most_in_round }
+        ensures stored { OnOk result (self.new.seat.view.stores
+            ≡ self.old.seat.view.stores + stores_by self.old.worker word) }
         ensures rest { self.new ≡ record self.old { seat = self.new.seat } }
     {
         self.drive(rt, word)?;
         hand_out(rt, self.live, self.worker, MOST_IN_ROUND, share)?;
-        self.leave_and_return(rt, word)
+        self.leave_and_return(rt, word)?;
+        self.sleep_and_wake(word)
     }
 
-    /// A read section with a cookie that is polled inside, and a quiescent state. Answers whether
+    /// A read section with a cookie that is polled inside, and a quiescent state. Returns whether
     /// the gate let the worker pass; where it did not, the section is open.
     fn read<G: Gate>(&mut self, gate: &G, word: u32, share: &mut Share) -> Result<bool, Fault>
         requires { share.old.early < most_rounds + length share.old.ids }
@@ -310,17 +314,18 @@ impl<'a> Job<'a> {
             record self.old { seat = self.new.seat; watcher = self.new.watcher } }
     {
         open(self.live, &mut self.seat, word)?;
-        if !gate.pass(self.worker, Point::Entered) {
+        if !self.pass(gate, Point::Entered) {
             return Ok(false);
         }
         self.poll_inside(gate, share)
     }
 
     /// Polls a cookie inside of the section in which it is taken, and then ends the section at a
-    /// quiescent state. Answers whether the gate let the worker pass; where it did not, the section
+    /// quiescent state. Returns whether the gate let the worker pass; where it did not, the section
     /// is open.
     fn poll_inside<G: Gate>(&mut self, gate: &G, share: &mut Share) -> Result<bool, Fault>
-        requires { share.old.early < most_rounds + length share.old.ids }
+        requires early { share.old.early < most_rounds + length share.old.ids }
+        requires inside { 0 < self.old.seat.depth }
         ensures share { share.new ≡ record share.old { early = share.new.early } }
         ensures early { share.new.early ≤ share.old.early + 1 }
         ensures open { IfOk result (λ passed. passed ≡ false → self.new.seat ≡ self.old.seat) }
@@ -331,12 +336,19 @@ impl<'a> Job<'a> {
     {
         let cookie = self.watcher.take(self.live);
         self.poll(cookie, share);
-        if !gate.pass(self.worker, Point::Polled) {
+        if !self.pass(gate, Point::Polled) {
             return Ok(false);
         }
         close(self.live, &mut self.seat);
         self.seat.quiesce(self.live)?;
         Ok(true)
+    }
+
+    /// Whether the gate lets the worker go on, inside its section.
+    fn pass<G: Gate>(&self, gate: &G, point: Point) -> bool
+        requires inside { 0 < self.now.seat.depth }
+    {
+        gate.pass(self.worker, point)
     }
 
     /// Polls the cookie, and counts it where it is done.
@@ -406,6 +418,20 @@ impl<'a> Job<'a> {
     {
         self.live.offline(rt, &mut self.seat)?;
         self.live.online(rt, &mut self.seat)
+    }
+
+    /// Where the word says so, gets the processor idle, and wakes it.
+    fn sleep_and_wake(&mut self, word: u32) -> Result<(), Fault>
+        ensures stayed { sleeps_by word ≡ false → self.new ≡ self.old }
+        ensures woken { OnOk result (sleeps_by word ≡ true →
+            self.new.seat ≡ after_quiesce (after_idle self.old.seat) self.new.seat.view.seen) }
+        ensures rest { self.new ≡ record self.old { seat = self.new.seat } }
+    {
+        if word / 64 % 4 == 0 {
+            self.seat.idle(self.live)?;
+            self.seat.wake(self.live)?;
+        }
+        Ok(())
     }
 
     /// One grace period, which nobody else's processor holds up.

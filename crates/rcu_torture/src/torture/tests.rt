@@ -11,7 +11,7 @@ use std::sync::atomic::{AtomicBool, AtomicU64, Ordering};
 use std::thread;
 use std::time::Duration;
 
-/// How often a worker looks for a flag before the test fails.
+/// How often a worker looks for another one before the test fails.
 const MOST_LOOKS: u32 = 200_000;
 
 /// What was queued, handed out, early and twice.
@@ -89,24 +89,24 @@ fn all_are_handed_out<R: Threads + Wait + Sync + Abort + Print>(
 #[derive(Drop)]
 struct Overlap<'a, R: Clock + Sync> {
     clock: &'a R,
-    entered: AtomicBool,
-    polled: AtomicBool,
+    entered: AtomicU64,
+    polled: AtomicU64,
 }
 
 impl<'a, R: Clock + Sync> Overlap<'a, R> {
     fn new(clock: &'a R) -> Overlap<'a, R> {
         Overlap {
             clock,
-            entered: AtomicBool::new(false),
-            polled: AtomicBool::new(false),
+            entered: AtomicU64::new(0),
+            polled: AtomicU64::new(0),
         }
     }
 }
 
-/// Whether the flag is set within so many looks, with a microsecond's sleep between two.
-fn is_set_in_time(clock: &impl Clock, flag: &AtomicBool) -> bool {
-    for _ in 0..MOST_LOOKS {
-        if flag.load(Ordering::SeqCst) {
+/// Whether the count comes to so many within so many looks, with a microsecond's sleep between two.
+fn reaches_in_time(clock: &impl Clock, count: &AtomicU64, wanted: u64, most_looks: u32) -> bool {
+    for _ in 0..most_looks {
+        if count.load(Ordering::SeqCst) >= wanted {
             return true;
         }
         thread::sleep(clock, Duration::from_micros(1));
@@ -118,12 +118,12 @@ impl<R: Clock + Sync> Gate for Overlap<'_, R> {
     fn pass(&self, worker: u32, point: Point) -> bool {
         match (worker, point) {
             (0, Point::Entered) => {
-                self.entered.store(true, Ordering::SeqCst);
-                is_set_in_time(self.clock, &self.polled)
+                self.entered.store(1, Ordering::SeqCst);
+                reaches_in_time(self.clock, &self.polled, 1, MOST_LOOKS)
             }
-            (1, Point::Entered) => is_set_in_time(self.clock, &self.entered),
+            (1, Point::Entered) => reaches_in_time(self.clock, &self.entered, 1, MOST_LOOKS),
             (1, Point::Polled) => {
-                self.polled.store(true, Ordering::SeqCst);
+                self.polled.store(1, Ordering::SeqCst);
                 true
             }
             _ => true,
@@ -184,6 +184,69 @@ fn torture_ledger(rt: HostRuntime) {
     for seed in 1..4 {
         all_are_handed_out(&rt, rt.alloc(), 4, 100, seed);
     }
+}
+
+/// How often a worker in lock step looks for the others: fewer times, since it waits in vain
+/// wherever a growth was refused to one of them.
+const MOST_LOOKS_IN_STEP: u32 = 20_000;
+
+/// Lets no worker into a round before each of them has entered it, so that none runs ahead of the
+/// others. Once one of them waited in vain, it lets none pass.
+#[derive(Drop)]
+struct LockStep<'a, R: Clock + Sync> {
+    clock: &'a R,
+    workers: u64,
+    entered: AtomicU64,
+    in_vain: AtomicBool,
+}
+
+impl<'a, R: Clock + Sync> LockStep<'a, R> {
+    fn new(clock: &'a R, workers: u32) -> LockStep<'a, R> {
+        LockStep {
+            clock,
+            workers: u64::from(workers),
+            entered: AtomicU64::new(0),
+            in_vain: AtomicBool::new(false),
+        }
+    }
+}
+
+impl<R: Clock + Sync> Gate for LockStep<'_, R> {
+    fn pass(&self, _worker: u32, point: Point) -> bool {
+        if point != Point::Entered {
+            return true;
+        }
+        if self.in_vain.load(Ordering::SeqCst) {
+            return false;
+        }
+        let before = self.entered.fetch_add(1, Ordering::SeqCst);
+        let others = before.checked_rem(self.workers).unwrap_or(0);
+        let whole = before.wrapping_sub(others).wrapping_add(self.workers);
+        let are_there = reaches_in_time(self.clock, &self.entered, whole, MOST_LOOKS_IN_STEP);
+        if !are_there {
+            self.in_vain.store(true, Ordering::SeqCst);
+        }
+        are_there
+    }
+}
+
+/// Whether workers handed out callbacks in a run in lock step, so that not all were left to the
+/// program in the end: some of them on another thread than the program's. A run that was refused a
+/// growth tells nothing.
+fn workers_hand_out<R: Threads + Wait + Clock + Sync>(rt: &R, alloc: Global) -> bool {
+    let Ok(ledger) = torture(alloc, rt, 4, 64, 1, &LockStep::new(rt, 4)) else {
+        return false;
+    };
+    let others = ledger.shares().iter().skip(1);
+    ledger.own().ran() < ledger.ran() && others.map(Share::ran).any(|ran| ran > 0)
+}
+
+/// Grace periods end beside the readers. Where the growth was refused to the run or to a thread of
+/// it, a second run is looked at.
+#[test]
+fn workers_hand_out_callbacks(rt: HostRuntime) {
+    let found = workers_hand_out(&rt, rt.alloc()) || workers_hand_out(&rt, rt.alloc());
+    assert!(rt; found);
 }
 
 #[test]

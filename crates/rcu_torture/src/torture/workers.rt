@@ -90,7 +90,7 @@ fn last_job<'a>(
 /// The jobs of a run: that of worker 0, and those of the others in order, whose processors are
 /// brought online.
 ///
-/// Fault 16. It passes on fault 3, which it never meets.
+/// Faults: `NoMemory` (16). It passes on `AlreadyOnline` (3), which it never meets.
 pub(crate) fn deal_jobs<'a, R: Wait>(
     rt: &R,
     alloc: Global,

@@ -1,6 +1,6 @@
 use Rattle.std.proofs.Common.{◌<◌, Result, Ok, Err, OnOk, OnErr, length, ap, ◌∙◌, arith}
 use Rattle.rcu_cblist.specs.SegList.{as_it_leaves}
-use Rattle.rcu_barrier.proofs.Rooms.{first_read, first_room, other_read, two_moved, two_same}
+use Rattle.rcu_barrier.proofs.Rooms.{first_read, first_room, other_read, two_moved, two_rooms, two_same}
 use Rattle.rcu_barrier.proofs.moving.move_to_first.Goals as goal
 
 -- what follows where a result is one of success
@@ -53,3 +53,11 @@ returns-clause-unchanged g c =
     c.index-first-0.result c.index-others-from.result halves.ensures.front halves.ensures.back c.requires.other
     c.requires.there)
     moved.ensures.target moved.ensures.unchanged
+
+pub returns-clause-others : goal.returns-clause-others
+returns-clause-others g c =
+    let halves = c.split_at_mut-first in
+    let moved = c.move_behind in
+    two_rooms c.args.lists.now halves.result.0.now halves.result.1.now c.args.from moved.new.target moved.new.list
+    c.index-others-from.result halves.ensures.front halves.ensures.back c.requires.other c.requires.there
+    moved.ensures.room

@@ -1,5 +1,6 @@
 use Rattle.std.proofs.Common.{◌≡◌, ◌≤◌, ◌<◌, ◌+◌, ◌-◌, ◌^◌, ◌++◌, take, drop, length, vec_len}
 use Rattle.std.specs.Vec.{vec_capacity}
+use Rattle.std.specs.VecDeque.{deque_capacity}
 use Rattle.rcu_cblist.specs.SegList.{callbacks, markers, from_callback}
 use Rattle.rcu_cblist.specs.Kept.{unmarked}
 use Rattle.rcu_cblist.proofs.walks.take_first.Given as goal
@@ -15,6 +16,7 @@ invariant-loop-items g l =
     ≡ l.calls.items ++ take l.left (callbacks (unmarked l.items.items)))
     × (from_callback l.most (unmarked l.initial.items.items) ≡ from_callback l.left (unmarked l.items.items))
     × (l.markers + markers (unmarked l.items.items) ≡ markers (unmarked l.initial.items.items))
+    × (deque_capacity l.items ≡ deque_capacity l.initial.items)
 
 -- each turn takes an item
 abbrev pub decreases-loop-items : goal.decreases-loop-items

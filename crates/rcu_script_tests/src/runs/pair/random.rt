@@ -157,8 +157,8 @@ fn drawn_pairs_get_the_replies_of_the_model(rt: HostRuntime) {
     let mut found = [0u64; SHOWN.len()];
     for (cpus, last, seed) in &SEEDS {
         let (lines, replies) = drawn(&rt, rt.alloc(), *cpus, *last, *seed);
-        let holds = is_answered(rt.alloc(), *cpus, *last, lines.as_str(), replies.as_str());
-        assert!(rt; holds, "seed {seed}");
+        let row = row_of(*cpus, *last, lines.as_str(), replies.as_str());
+        row.answers(&rt, rt.alloc(), *seed, ALL);
         count_shown(&SHOWN, replies.as_str(), &mut found);
     }
     are_shown(&rt, &SHOWN, &found);
@@ -172,9 +172,9 @@ fn drawn(rt: &impl Abort, alloc: Global, cpus: u32, last: u64, seed: u64) -> (St
     }
 }
 
-/// Whether drawn lines get the replies of the model.
-fn is_answered(alloc: Global, cpus: u32, last: u64, lines: &str, replies: &str) -> bool {
-    let row = Row {
+/// Drawn lines, with the replies of the model.
+fn row_of<'a>(cpus: u32, last: u64, lines: &'a str, replies: &'a str) -> Row<'a> {
+    Row {
         name: "drawn",
         fanouts: (2, 2),
         second: Some((2, 3)),
@@ -182,6 +182,5 @@ fn is_answered(alloc: Global, cpus: u32, last: u64, lines: &str, replies: &str) 
         last,
         lines: lines.as_bytes(),
         replies: replies.as_bytes(),
-    };
-    row.is_answered(alloc, ALL)
+    }
 }

@@ -1,7 +1,6 @@
 //! Worked rows of two replicas: lines with the replies that the rules give, worked out by hand.
 
-use crate::runs::row::{ALL, FAR, OFFERED, Row};
-use rcu_script::RunFault;
+use crate::runs::row::{ALL, End, FAR, OFFERED, Row, Streams};
 use rcu_seq::fault::Fault;
 use std::alloc::Global;
 use std::process::Abort;
@@ -97,22 +96,10 @@ fn fanouts_have_no_part_in_the_replies(rt: HostRuntime) {
                     second: Some(*second),
                     ..*row
                 };
-                is_answered(&rt, rt.alloc(), &row);
+                row.answers(&rt, rt.alloc(), 0, ALL);
             }
         }
     }
-}
-
-/// A pair gets its replies.
-fn is_answered(rt: &impl Abort, alloc: Global, row: &Row) {
-    let (leaf, inner) = row.fanouts;
-    let (leaf2, inner2) = row.second.unwrap_or((0, 0));
-    let holds = row.is_answered(alloc, ALL);
-    assert!(rt;
-        holds,
-        "{} over {leaf} {inner} and {leaf2} {inner2}",
-        row.name
-    );
 }
 
 /// A pair of these fanouts, so many processors and this last number is refused with this fault.
@@ -134,9 +121,9 @@ fn is_refused(
         lines: b"same\n",
         replies: b"",
     };
-    let run = row.run(alloc, ALL, ALL, ALL);
-    let holds = run.came_to(&Err(RunFault::Open(fault)), row.replies);
-    assert!(rt; holds, "{cpus} processors, last {last}");
+    let run = row.run(alloc, Streams::passing(ALL));
+    let case = (fanouts, second, cpus, last);
+    run.compare(rt, &case, End::NotOpened(fault), row.replies);
 }
 
 /// Pairs of fanouts, numbers of processors and last numbers, with the fault of each.
@@ -184,6 +171,6 @@ fn full_openings(rt: HostRuntime) {
             lines: b"b begin 0\nb report 0 1\nb end\nsame\n",
             replies: b"begun 1 awaits 1\nlast\nended 4\nsame\n",
         };
-        is_answered(&rt, rt.alloc(), &row);
+        row.answers(&rt, rt.alloc(), 0, ALL);
     }
 }

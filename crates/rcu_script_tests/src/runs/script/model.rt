@@ -166,6 +166,21 @@ pub fn is_online(past: &[Event], cpu: u32) -> bool {
     came
 }
 
+/// Whether the processor went idle, and did neither wake nor depart nor arrive since.
+pub fn is_idle(past: &[Event], cpu: u32) -> bool {
+    let mut sleeps = false;
+    for event in past {
+        match event {
+            Event::Idle(slept) if *slept == cpu => sleeps = true,
+            Event::Wake(up) | Event::Offline(up) | Event::Online(up) if *up == cpu => {
+                sleeps = false;
+            }
+            _ => {}
+        }
+    }
+    sleeps
+}
+
 pub fn depth(past: &[Event], cpu: u32) -> u64 {
     count(past, Event::Enter(cpu)).saturating_sub(count(past, Event::Exit(cpu)))
 }
@@ -196,7 +211,7 @@ fn report(past: &[Event], place: u64) -> Option<(u32, Tag)> {
 }
 
 /// Whether a grace period runs whose begin the processor was online at, and since which neither a
-/// report of it with the number was delivered nor did it depart.
+/// report of it with the number was delivered nor did it depart nor did a scan find it idle.
 pub fn is_awaited(past: &[Event], cpu: u32) -> bool {
     let mut begun = 0;
     for (i, event) in past.iter().enumerate() {
@@ -211,7 +226,7 @@ pub fn is_awaited(past: &[Event], cpu: u32) -> bool {
             if report(past, *place) == Some((cpu, tag(past))) {
                 is_heard = true;
             }
-        } else if *event == Event::Offline(cpu) {
+        } else if *event == Event::Offline(cpu) || *event == Event::Scan(cpu) {
             is_heard = true;
         }
     }
@@ -246,7 +261,10 @@ fn named(event: Event) -> Option<u32> {
         | Event::Queue(cpu, _)
         | Event::Tend(cpu)
         | Event::Run(cpu, _)
-        | Event::Visit(cpu) => Some(cpu),
+        | Event::Visit(cpu)
+        | Event::Idle(cpu)
+        | Event::Wake(cpu)
+        | Event::Scan(cpu) => Some(cpu),
         _ => None,
     }
 }
@@ -266,9 +284,14 @@ fn fault(cpus: u32, last: u64, past: &[Event], event: Event) -> u32 {
         | Event::Quiesce(cpu)
         | Event::Offline(cpu)
         | Event::Queue(cpu, _)
+        | Event::Idle(cpu)
+        | Event::Wake(cpu)
+        | Event::Scan(cpu)
             if !is_online(past, cpu) => { 2 }
         Event::Online(cpu) if is_online(past, cpu) => 3,
-        Event::Quiesce(cpu) | Event::Offline(cpu) if depth(past, cpu) > 0 => 4,
+        Event::Enter(cpu) | Event::Quiesce(cpu) | Event::Idle(cpu) if is_idle(past, cpu) => 23,
+        Event::Wake(cpu) | Event::Scan(cpu) if !is_idle(past, cpu) => 24,
+        Event::Quiesce(cpu) | Event::Offline(cpu) | Event::Idle(cpu) if depth(past, cpu) > 0 => 4,
         Event::Exit(cpu) if depth(past, cpu) == 0 => 5,
         Event::Enter(cpu) if depth(past, cpu) == 65_535 => 6,
         Event::Deliver(place) if report(past, place).is_none() => 7,
@@ -298,16 +321,21 @@ fn meant(cpus: u32, past: &[Event], event: Event) -> Event {
 /// What a delivered report does.
 fn delivered(cpus: u32, past: &[Event], place: u64) -> &'static str {
     match report(past, place) {
-        Some((cpu, noted)) if is_running(past) && noted == tag(past) => {
-            if !is_awaited(past, cpu) {
-                "repeat"
-            } else if awaited(cpus, past).len() == 1 {
-                "last"
-            } else {
-                "taken"
-            }
-        }
+        Some((cpu, noted)) if noted == tag(past) => heard(cpus, past, cpu),
         _ => "stale",
+    }
+}
+
+/// What a report of the processor with the tag of now does, or a scan that finds it idle.
+fn heard(cpus: u32, past: &[Event], cpu: u32) -> &'static str {
+    if !is_running(past) {
+        "stale"
+    } else if !is_awaited(past, cpu) {
+        "repeat"
+    } else if awaited(cpus, past).len() == 1 {
+        "last"
+    } else {
+        "taken"
     }
 }
 
@@ -325,6 +353,9 @@ fn write_reply(
         Event::Quiesce(cpu) => write_report(text, made(now).0, cpu, noted(past, cpu)),
         Event::Deliver(place) => text.push_str(delivered(cpus, past, place)),
         Event::Online(_) => text.push_str("online"),
+        Event::Idle(_) => text.push_str("idle"),
+        Event::Wake(_) => text.push_str("awake"),
+        Event::Scan(cpu) => text.push_str(heard(cpus, past, cpu)),
         Event::Begin => write_begun(text, number(now), count_awaited(cpus, now)),
         Event::End => write_number(text, "ended", number(now)),
         Event::Turn if is_running(now) => write_number(text, "waiting", count_awaited(cpus, now)),

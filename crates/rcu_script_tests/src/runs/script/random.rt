@@ -1,7 +1,9 @@
 //! Scripts drawn at random, and their replies against the model's.
 
 use crate::runs::row::{ALL, Row};
-use crate::runs::script::model::{Model, depth, epoch, is_awaited, is_running, made, number};
+use crate::runs::script::model::{
+    Model, depth, epoch, is_awaited, is_idle, is_running, made, number,
+};
 use rand_core::{Rng, SeedableRng};
 use rand_pcg::Pcg32;
 use rcu_core::event::Event;
@@ -42,7 +44,7 @@ static SEEDS: [(u32, u64, u64); 26] = [
 ];
 
 /// Lines outside the grammar, and one that is too long.
-static MALFORMED: [&str; 10] = [
+static MALFORMED: [&str; 12] = [
     "frob",
     "enter",
     "note x",
@@ -52,11 +54,13 @@ static MALFORMED: [&str; 10] = [
     "begin 0",
     "queue 1",
     "Turn",
+    "idle",
+    "scan 0 1",
     "tend 0                                                                            ",
 ];
 
 /// What the replies have to show, by how they begin and what they are not, and at least how often.
-static SHOWN: [(&str, &str, u64); 14] = [
+static SHOWN: [(&str, &str, u64); 18] = [
     ("ended", "", 80),
     ("ran", "ran none", 30),
     ("barrier done", "", 20),
@@ -71,11 +75,16 @@ static SHOWN: [(&str, &str, u64); 14] = [
     ("cookie 4 epoch", "", 20),
     ("fault 11", "", 10),
     ("fault 22", "", 15),
+    ("idle", "", 40),
+    ("awake", "", 40),
+    ("fault 23", "", 12),
+    ("fault 24", "", 40),
 ];
 
 /// What leads an event on: from a note to the delivery of the report; from some callbacks to a
 /// departure that moves them; from an end to a tend and a run of each list; from a barrier's begin
-/// to a visit of each processor, and at last to a test; and from a renumbering to a taking.
+/// to a visit of each processor, and at last to a test; from a renumbering to a taking; and from
+/// falling idle to a scan, and on to a waking, or to a quiescent state, which is refused.
 fn next_of(event: Event, cpus: u32, reports: u64) -> Option<Event> {
     match event {
         Event::Note(cpu) => Some(Event::Quiesce(cpu)),
@@ -88,17 +97,25 @@ fn next_of(event: Event, cpus: u32, reports: u64) -> Option<Event> {
         Event::Visit(0) => Some(Event::BarTest),
         Event::Visit(cpu) => Some(Event::Visit(cpu - 1)),
         Event::Renumber => Some(Event::Take),
+        Event::Idle(cpu) => Some(Event::Scan(cpu)),
+        Event::Scan(cpu) if cpu % 2 == 0 => Some(Event::Wake(cpu)),
+        Event::Scan(cpu) => Some(Event::Quiesce(cpu)),
         _ => None,
     }
 }
 
-/// An event that leads the grace period on: of the first processor that is awaited, or else a turn
-/// or a begin; at the last number a renumbering, and at times a begin, which is refused there.
+/// An event that leads the grace period on: of the first processor that is awaited, which at times
+/// falls idle, or else a turn or a begin; at the last number a renumbering, and at times a begin,
+/// which is refused there.
 fn useful(cpus: u32, last: u64, past: &[Event]) -> Event {
     for cpu in 0..cpus {
         if is_awaited(past, cpu) {
             return if depth(past, cpu) > 0 {
                 Event::Exit(cpu)
+            } else if is_idle(past, cpu) {
+                Event::Scan(cpu)
+            } else if past.len() % 4 == 1 {
+                Event::Idle(cpu)
             } else {
                 Event::Note(cpu)
             };
@@ -123,7 +140,7 @@ fn any_event(rng: &mut Pcg32, cpus: u32, reports: u64, epoch: u64) -> Event {
     let number = u64::from(rng.next_u32() % 40);
     let cpu = rng.next_u32() % cpus.saturating_add(1).max(1);
     let later = epoch.saturating_add(1);
-    match rng.next_u32() % 35 {
+    match rng.next_u32() % 41 {
         0 => Event::Begin,
         1 => Event::End,
         2 => Event::Turn,
@@ -138,14 +155,17 @@ fn any_event(rng: &mut Pcg32, cpus: u32, reports: u64, epoch: u64) -> Event {
         15 => Event::Note(cpu),
         16 => Event::Quiesce(cpu),
         17..=18 => Event::Deliver(number % reports.saturating_add(2).max(1)),
-        19..=24 => Event::Queue(cpu, number),
-        25 => Event::Tend(cpu),
-        26 => Event::Run(cpu, number % 8),
-        27..=28 => Event::BarBegin,
-        29 => Event::Visit(cpu),
-        30..=31 => Event::BarTest,
-        32..=33 => Event::Poll(number / 8 * 4, later.saturating_sub(number % 4)),
-        _ => Event::Renumber,
+        19..=25 => Event::Queue(cpu, number),
+        26 => Event::Tend(cpu),
+        27 => Event::Run(cpu, number % 8),
+        28..=29 => Event::BarBegin,
+        30 => Event::Visit(cpu),
+        31..=32 => Event::BarTest,
+        33..=34 => Event::Poll(number / 8 * 4, later.saturating_sub(number % 4)),
+        35 => Event::Renumber,
+        36..=37 => Event::Idle(cpu),
+        38..=39 => Event::Wake(cpu),
+        _ => Event::Scan(cpu),
     }
 }
 
@@ -173,6 +193,9 @@ fn write_line(text: &mut String, event: Event) -> Result<(), AllocError> {
         Event::Visit(cpu) => write_one(text, "visit", u64::from(cpu)),
         Event::BarTest => text.push_str("bartest\n"),
         Event::Renumber => text.push_str("renumber\n"),
+        Event::Idle(cpu) => write_one(text, "idle", u64::from(cpu)),
+        Event::Wake(cpu) => write_one(text, "wake", u64::from(cpu)),
+        Event::Scan(cpu) => write_one(text, "scan", u64::from(cpu)),
     }
 }
 
@@ -244,9 +267,9 @@ fn count_lines(text: &str, front: &str, but: &str) -> u64 {
     found
 }
 
-/// Whether a drawn script gets the replies of the model.
-fn is_answered(alloc: Global, cpus: u32, last: u64, script: &str, replies: &str) -> bool {
-    let row = Row {
+/// A drawn script, with the replies of the model.
+fn row_of<'a>(cpus: u32, last: u64, script: &'a str, replies: &'a str) -> Row<'a> {
+    Row {
         name: "drawn",
         fanouts: (2, 2),
         second: None,
@@ -254,8 +277,7 @@ fn is_answered(alloc: Global, cpus: u32, last: u64, script: &str, replies: &str)
         last,
         lines: script.as_bytes(),
         replies: replies.as_bytes(),
-    };
-    row.is_answered(alloc, ALL)
+    }
 }
 
 /// Counts the lines of each kind that is to be shown.
@@ -270,8 +292,8 @@ fn drawn_scripts_get_the_replies_of_the_model(rt: HostRuntime) {
     let mut found = [0u64; SHOWN.len()];
     for (cpus, last, seed) in &SEEDS {
         let (script, replies) = drawn(&rt, rt.alloc(), *cpus, *last, *seed);
-        let holds = is_answered(rt.alloc(), *cpus, *last, script.as_str(), replies.as_str());
-        assert!(rt; holds, "seed {seed}");
+        let row = row_of(*cpus, *last, script.as_str(), replies.as_str());
+        row.answers(&rt, rt.alloc(), *seed, ALL);
         count_shown(&SHOWN, replies.as_str(), &mut found);
     }
     are_shown(&rt, &SHOWN, &found);
@@ -287,9 +309,11 @@ fn drawn(rt: &impl Abort, alloc: Global, cpus: u32, last: u64, seed: u64) -> (St
 
 /// Each kind of line was shown as often as it has to be.
 pub fn are_shown(rt: &impl Abort, shown: &[(&str, &str, u64)], found: &[u64]) {
-    assert!(rt; found.len() == shown.len());
-    for place in 0..found.len() {
-        let (front, _, least) = shown[place];
-        assert!(rt; found[place] >= least, "{front}");
+    assert_eq!(rt; found.len(), shown.len());
+    for (found, (front, _, least)) in found.iter().zip(shown) {
+        assert!(rt;
+            found >= least,
+            "{front}: {found}, and not {least} at least"
+        );
     }
 }

@@ -1,7 +1,7 @@
 //! Worked rows: scripts with the replies that the rules give, worked out by hand.
 
-use crate::runs::row::{ALL, FAR, Row};
-use rcu_script::{RunFault, Setup, run_script};
+use crate::runs::row::{ALL, End, FAR, Row, Streams};
+use rcu_script::{Setup, run_script};
 use rcu_seq::fault::Fault;
 use rcu_text::Marked;
 use std::alloc::{AllocError, Global};
@@ -13,7 +13,7 @@ pub fn rows() -> &'static [Row<'static>] {
 }
 
 /// The scripts.
-static ROWS: [Row; 38] = [
+static ROWS: [Row; 43] = [
     Row {
         name: "one grace period",
         fanouts: (2, 2),
@@ -361,6 +361,75 @@ static ROWS: [Row; 38] = [
             fault 22\nbegun 1 awaits 1\nfault 8\nfault 21\nfault 21\nnot yet\nnot yet\ndone\n\
             not yet\nfault 21\nfault 21\nfault 21\nfault 21\ndone\nfault 21\n",
     },
+    // A scan of an idle processor is a report of it with the number of now.
+    Row {
+        name: "a sleeper is not waited for",
+        fanouts: (2, 2),
+        second: None,
+        cpus: 2,
+        last: FAR,
+        lines: b"\
+            online 1\nidle 1\nenter 1\nbegin\nscan 1\nscan 1\nawaits\nscan 0\nwake 1\nenter 1\n\
+            wake 1\nidle 1\n",
+        replies: b"\
+            online\nidle\nfault 23\nbegun 1 awaits 2\ntaken\nrepeat\nawaits 0\nfault 24\nawake\n\
+            depth 1\nfault 24\nfault 4\n",
+    },
+    Row {
+        name: "scan of an idle processor while none runs",
+        fanouts: (2, 2),
+        second: None,
+        cpus: 2,
+        last: FAR,
+        lines: b"idle 0\nscan 0\nquiet 0\nidle 0\n",
+        replies: b"idle\nstale\nfault 23\nfault 23\n",
+    },
+    // Processor 0, which can not depart, holds nobody up while it sleeps: the scan of it is the
+    // last report. What it queued goes on, as does a note.
+    Row {
+        name: "callback of a sleeper",
+        fanouts: (2, 2),
+        second: None,
+        cpus: 1,
+        last: FAR,
+        lines: b"\
+            idle 0\nqueue 0 7\ntend 0\nturn\nnote 0\nscan 0\nscan 0\nturn\ntend 0\nrun 0 9\n\
+            bar\nvisit 0\nbartest\nwake 0\nquiet 0\n",
+        replies: b"\
+            idle\nqueued 1\ntended 0 1\nbegun 1 awaits 1\nnoted 1 needed\nlast\nrepeat\nended 4\n\
+            tended 1 0\nran 7\nbarrier begun\nempty\nbarrier done\nawake\nreport 1 cpu 0 tag 1\n",
+    },
+    // A departure ends the idleness, and an arrival comes awake. A late arrival is not awaited.
+    Row {
+        name: "departure of a sleeper",
+        fanouts: (2, 2),
+        second: None,
+        cpus: 2,
+        last: FAR,
+        lines: b"\
+            online 1\nidle 1\nbegin\noffline 1\nawaits\nscan 1\nwake 1\nidle 1\nonline 1\nscan 1\n\
+            wake 1\nquiet 1\nidle 1\nonline 1\nscan 1\n",
+        replies: b"\
+            online\nidle\nbegun 1 awaits 2\noffline moved 0\nawaits 0\nfault 2\nfault 2\nfault 2\n\
+            online\nfault 24\nfault 24\nreport 1 cpu 1 tag 1\nidle\nfault 3\nrepeat\n",
+    },
+    // The faults of these lines in the order of their tests, and the ways to be outside the
+    // grammar.
+    Row {
+        name: "refused lines of idle processors",
+        fanouts: (2, 2),
+        second: None,
+        cpus: 2,
+        last: FAR,
+        lines: b"\
+            idle 2\nwake 2\nscan 4294967296\nidle 1\nwake 1\nscan 1\nwake 0\nscan 0\nenter 0\n\
+            idle 0\nexit 0\nidle 0\nenter 0\nquiet 0\nidle 0\nexit 0\noffline 0\nidle\nidle 0 0\n\
+            wake\nwake x\nscan\nscan 0 1\n",
+        replies: b"\
+            fault 1\nfault 1\nfault 1\nfault 2\nfault 2\nfault 2\nfault 24\nfault 24\ndepth 1\n\
+            fault 4\ndepth 0\nidle\nfault 23\nfault 23\nfault 23\nfault 5\nfault 12\nfault 21\n\
+            fault 21\nfault 21\nfault 21\nfault 21\nfault 21\n",
+    },
     Row {
         name: "same bytes over 2 2",
         fanouts: (2, 2),
@@ -508,9 +577,13 @@ fn is_refused(
         lines: b"begin\n",
         replies: b"",
     };
-    let run = row.run(alloc, ALL, ALL, ALL);
-    let holds = run.came_to(&Err(RunFault::Open(fault)), row.replies);
-    assert!(rt; holds, "{cpus} processors, last {last}");
+    let run = row.run(alloc, Streams::passing(ALL));
+    run.compare(
+        rt,
+        &(fanouts, cpus, last),
+        End::NotOpened(fault),
+        row.replies,
+    );
 }
 
 /// The replies to 65,536 enters, written to a place that has room for them.
@@ -544,6 +617,8 @@ fn full_nesting_depth(rt: HostRuntime) {
 
 /// Compares the last lines, and how many there are.
 fn is_nested(rt: &impl Abort, text: &[u8]) {
-    assert!(rt; text.ends_with(b"\ndepth 65534\ndepth 65535\nfault 6\n"));
-    assert!(rt; text.iter().filter(|b| **b == b'\n').count() == 65_536);
+    let end = b"\ndepth 65534\ndepth 65535\nfault 6\n".as_slice();
+    let (_, last) = text.split_at(text.len().saturating_sub(end.len()));
+    assert_eq!(rt; last, end);
+    assert_eq!(rt; text.iter().filter(|b| **b == b'\n').count(), 65_536);
 }

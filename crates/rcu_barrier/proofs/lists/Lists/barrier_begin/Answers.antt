@@ -20,6 +20,8 @@ invariant_of-self g c =
         within = omega arith;
         idle = λ off. cc;
         counted = k.1.counted;
+        most_some = k.1.most_some;
+        most_few = k.1.most_few;
         fours = k.1.fours;
       },
     )

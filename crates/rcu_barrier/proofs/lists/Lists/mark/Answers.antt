@@ -4,7 +4,7 @@ use Rattle.rcu_cblist.specs.SegList.{after_entrain, is_empty, markers}
 use Rattle.rcu_barrier.specs.Tending.{AreFours}
 use Rattle.rcu_barrier.specs.Lists.{IsSound, is_visited, items_in, markers_in, unvisited}
 use Rattle.rcu_barrier.proofs.Fours.{fours_leaving}
-use Rattle.rcu_barrier.proofs.Rooms.{changed_items, relisted_in, same_items}
+use Rattle.rcu_barrier.proofs.Rooms.{changed_items, other_rooms, relisted_in, rooms_rise, same_items}
 use Rattle.rcu_barrier.proofs.Markers.{unvisited_set}
 use Rattle.rcu_cblist.proofs.SegListLemmas.{entrained_empty, marked_some, markers_entrained, unmarked_none}
 use Rattle.std.proofs.lemmas.Result.{err_from_is_err_and}
@@ -27,7 +27,7 @@ invariant_of-self-then-not-marked g c =
     let same = ap markers (after.ok ∙ entrained_empty old.items none) in
     let flags = ap unvisited c.insert.ensures in
     relisted_in i.lists.items i.visits c.insert.new.self i.running i.queued i.markers i.markers
-    i.queued c.args.cpu old c.entrain.new.self k.0 k.1 inside c.index_mut-list.ensures.value
+    i.queued i.most c.args.cpu old c.entrain.new.self k.0 k.1 inside c.index_mut-list.ensures.value
     (ap length c.insert.ensures ∙ length-set i.visits c.args.cpu true) (omega arith) (omega arith) k.1.counted
     (λ fours. subst AreFours (sym after.ok) (fours_leaving true old.items fours))
 
@@ -48,7 +48,7 @@ invariant_of-self-2 g c =
     let more = ap markers after.ok ∙ markers_entrained old.items some in
     let flags = ap unvisited c.insert.ensures in
     relisted_in i.lists.items i.visits c.insert.new.self i.running i.queued i.markers
-    (i.markers + 1) i.queued c.args.cpu old c.entrain.new.self k.0 k.1 inside c.index_mut-list.ensures.value
+    (i.markers + 1) i.queued i.most c.args.cpu old c.entrain.new.self k.0 k.1 inside c.index_mut-list.ensures.value
     (ap length c.insert.ensures ∙ length-set i.visits c.args.cpu true) (omega arith) (omega arith) k.1.counted
     (λ fours. subst AreFours (sym after.ok) (fours_leaving true old.items fours))
 
@@ -58,7 +58,7 @@ invariant_of-self g c =
     let same = same_items i.lists.items c.args.cpu c.index_mut-list.result.now c.entrain.new.self
     c.index_mut-list.ensures.value c.in_err-marked.ensures.unchanged in
     subst (λ l. (i.markers ≡ markers_in l)
-    × IsSound (record { lists = l; visited = i.visits; running = i.running; queued = i.queued })) (sym same) c.self.invariant
+    × IsSound (record { lists = l; visited = i.visits; running = i.running; queued = i.queued; most = i.most })) (sym same) c.self.invariant
 
 pub returns-in_err-marked-clause-unchanged : goal.returns-in_err-marked-clause-unchanged
 returns-in_err-marked-clause-unchanged g c =
@@ -66,7 +66,7 @@ returns-in_err-marked-clause-unchanged g c =
     let same = same_items i.lists.items c.args.cpu c.index_mut-list.result.now c.entrain.new.self
     c.index_mut-list.ensures.value c.in_err-marked.ensures.unchanged in
     let p = err_from_is_err_and c.from_residual.result c.from_residual.ensures.1 in
-    rw (p.1) (ap (λ l. record { lists = l; visited = i.visits; running = i.running; queued = i.queued }) same ∙ ap (λ v. v.all) c.self.view_is)
+    rw (p.1) (ap (λ l. record { lists = l; visited = i.visits; running = i.running; queued = i.queued; most = i.most }) same ∙ ap (λ v. v.all) c.self.view_is)
 
 pub returns-then-not-marked-clause-ok : goal.returns-then-not-marked-clause-ok
 returns-then-not-marked-clause-ok g c =
@@ -91,3 +91,51 @@ returns-clause-ok g c =
     subst (λ v. is_visited v.all c.args.cpu ≡ false) (sym c.self.view_is) c.requires.unvisited in
     let flags = c.insert.ensures in
     rw (← c.self.view_is, off, put, flags) refl
+
+pub returns-in_err-marked-clause-room : goal.returns-in_err-marked-clause-room
+returns-in_err-marked-clause-room g c =
+    let i = c.self.inside in
+    let inside : c.args.cpu < length (items_in i.lists.items) =
+    subst (λ v. c.args.cpu < length v.all.lists) (sym c.self.view_is) c.requires.cpu in
+    rw (← c.self.view_is)
+    (rooms_rise i.lists.items c.args.cpu c.index_mut-list.result.now c.entrain.new.self inside c.index_mut-list.ensures.value
+    c.entrain.ensures.room)
+
+pub returns-in_err-marked-clause-others : goal.returns-in_err-marked-clause-others
+returns-in_err-marked-clause-others g c =
+    let i = c.self.inside in
+    let inside : c.args.cpu < length (items_in i.lists.items) =
+    subst (λ v. c.args.cpu < length v.all.lists) (sym c.self.view_is) c.requires.cpu in
+    rw (← c.self.view_is) (other_rooms i.lists.items c.args.cpu c.entrain.new.self inside)
+
+pub returns-then-not-marked-clause-room : goal.returns-then-not-marked-clause-room
+returns-then-not-marked-clause-room g c =
+    let i = c.self.inside in
+    let inside : c.args.cpu < length (items_in i.lists.items) =
+    subst (λ v. c.args.cpu < length v.all.lists) (sym c.self.view_is) c.requires.cpu in
+    rw (← c.self.view_is)
+    (rooms_rise i.lists.items c.args.cpu c.index_mut-list.result.now c.entrain.new.self inside c.index_mut-list.ensures.value
+    c.entrain.ensures.room)
+
+pub returns-then-not-marked-clause-others : goal.returns-then-not-marked-clause-others
+returns-then-not-marked-clause-others g c =
+    let i = c.self.inside in
+    let inside : c.args.cpu < length (items_in i.lists.items) =
+    subst (λ v. c.args.cpu < length v.all.lists) (sym c.self.view_is) c.requires.cpu in
+    rw (← c.self.view_is) (other_rooms i.lists.items c.args.cpu c.entrain.new.self inside)
+
+pub returns-clause-room : goal.returns-clause-room
+returns-clause-room g c =
+    let i = c.self.inside in
+    let inside : c.args.cpu < length (items_in i.lists.items) =
+    subst (λ v. c.args.cpu < length v.all.lists) (sym c.self.view_is) c.requires.cpu in
+    rw (← c.self.view_is)
+    (rooms_rise i.lists.items c.args.cpu c.index_mut-list.result.now c.entrain.new.self inside c.index_mut-list.ensures.value
+    c.entrain.ensures.room)
+
+pub returns-clause-others : goal.returns-clause-others
+returns-clause-others g c =
+    let i = c.self.inside in
+    let inside : c.args.cpu < length (items_in i.lists.items) =
+    subst (λ v. c.args.cpu < length v.all.lists) (sym c.self.view_is) c.requires.cpu in
+    rw (← c.self.view_is) (other_rooms i.lists.items c.args.cpu c.entrain.new.self inside)

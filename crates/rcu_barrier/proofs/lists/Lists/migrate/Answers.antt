@@ -27,7 +27,7 @@ invariant_of-self-2 g c =
     let k = c.self.invariant in
     let cpu = c.args.cpu in
     let old : AllLists g.row.T.Denot =
-    record { lists = items_in i.lists.items; visited = i.visits; running = i.running; queued = i.queued } in
+    record { lists = items_in i.lists.items; visited = i.visits; running = i.running; queued = i.queued; most = i.most } in
     let inside : cpu < length (items_in i.lists.items) =
     subst (λ v. cpu < length v.all.lists) (sym c.self.view_is) c.requires.cpu in
     let owed = c.owes_visit-owed.result in
@@ -48,10 +48,10 @@ invariant_of-self-2 g c =
     let more : i.markers + c.from.result ≡ i.markers + one_if (owed && not (is_empty (list_of old cpu))) =
     ap (λ n. i.markers + n) (c.from.ensures ∙ (byte_is c.in_ok-moved.marked ∙ ap one_if marked)) in
     let Sound : Inside g.row.T.Denot → Type 0 = λ s. (s.markers + c.from.result ≡ markers_in (items_in s.lists.items))
-    × IsSound (record { lists = items_in s.lists.items; visited = s.visits; running = s.running; queued = s.queued }) in
+    × IsSound (record { lists = items_in s.lists.items; visited = s.visits; running = s.running; queued = s.queued; most = s.most }) in
     let Kept : List Bool → List (List (Item g.row.T.Denot)) → Type 0 = λ flags lists.
     (i.markers + c.from.result ≡ markers_in lists)
-    × IsSound (record { lists = lists; visited = flags; running = i.running; queued = i.queued }) in
+    × IsSound (record { lists = lists; visited = flags; running = i.running; queued = i.queued; most = i.most }) in
     elim c.if-owed.branch [
       | then-owed w ↦
           let sized = k.1.sized in

@@ -4,7 +4,7 @@ use Rattle.rcu_barrier.specs.Tending.{AreFours}
 use Rattle.rcu_barrier.proofs.Fours.{fours_untaken}
 use Rattle.rcu_barrier.specs.Lists.{IsSound, items_in, markers_in}
 use Rattle.rcu_barrier.proofs.Markers.{markers_set}
-use Rattle.rcu_barrier.proofs.Rooms.{changed_items, read_items, relisted_in, same_items}
+use Rattle.rcu_barrier.proofs.Rooms.{changed_items, read_items, relisted_in, same_items, same_rooms}
 use Rattle.rcu_cblist.proofs.SegListLemmas.{markers_untaken}
 use Rattle.std.proofs.lemmas.Result.{err_from_is_err_and}
 use Rattle.rcu_barrier.proofs.lists.Lists.run.Goals as goal
@@ -38,7 +38,7 @@ invariant_of-self-2 g c =
     let left = ap markers after in
     let counted = c.in_ok-calls.ensures.markers in
     relisted_in i.lists.items i.visits i.visits i.running i.queued i.markers
-    (i.markers - c.in_ok-calls.field-0.markers) i.queued c.args.cpu old c.take_done.new.self k.0 k.1 inside
+    (i.markers - c.in_ok-calls.field-0.markers) i.queued i.most c.args.cpu old c.take_done.new.self k.0 k.1 inside
     c.index_mut-list.ensures.value refl (omega arith) (omega arith) k.1.counted
     (λ fours. subst AreFours (sym after) (fours_untaken c.args.max old.items fours))
 
@@ -48,7 +48,7 @@ invariant_of-self g c =
     let same = same_items i.lists.items c.args.cpu c.index_mut-list.result.now c.take_done.new.self
     c.index_mut-list.ensures.value c.in_err-calls.ensures.unchanged in
     subst (λ l. (i.markers ≡ markers_in l)
-    × IsSound (record { lists = l; visited = i.visits; running = i.running; queued = i.queued })) (sym same) c.self.invariant
+    × IsSound (record { lists = l; visited = i.visits; running = i.running; queued = i.queued; most = i.most })) (sym same) c.self.invariant
 
 pub returns-in_err-calls-clause-unchanged : goal.returns-in_err-calls-clause-unchanged
 returns-in_err-calls-clause-unchanged g c =
@@ -56,7 +56,7 @@ returns-in_err-calls-clause-unchanged g c =
     let same = same_items i.lists.items c.args.cpu c.index_mut-list.result.now c.take_done.new.self
     c.index_mut-list.ensures.value c.in_err-calls.ensures.unchanged in
     let p = err_from_is_err_and c.from_residual.result c.from_residual.ensures.1 in
-    rw (p.1) (ap (λ l. record { lists = l; visited = i.visits; running = i.running; queued = i.queued }) same ∙ ap (λ v. v.all) c.self.view_is)
+    rw (p.1) (ap (λ l. record { lists = l; visited = i.visits; running = i.running; queued = i.queued; most = i.most }) same ∙ ap (λ v. v.all) c.self.view_is)
 
 pub returns-clause-ok : goal.returns-clause-ok
 returns-clause-ok g c =
@@ -66,4 +66,14 @@ returns-clause-ok g c =
     let less = changed_items (λ xs. after_take xs c.args.max) i.lists.items c.args.cpu c.index_mut-list.result.now
     c.take_done.new.self inside c.index_mut-list.ensures.value c.in_ok-calls.ensures.left in
     rw (← c.self.view_is)
-    (ap (λ l. record { lists = l; visited = i.visits; running = i.running; queued = i.queued }) less)
+    (ap (λ l. record { lists = l; visited = i.visits; running = i.running; queued = i.queued; most = i.most }) less)
+
+pub returns-in_err-calls-clause-rooms : goal.returns-in_err-calls-clause-rooms
+returns-in_err-calls-clause-rooms g c =
+    same_rooms c.self.inside.lists.items c.args.cpu c.index_mut-list.result.now c.take_done.new.self
+    c.index_mut-list.ensures.value c.take_done.ensures.room ∙ ap (λ v. v.rooms) c.self.view_is
+
+pub returns-clause-rooms : goal.returns-clause-rooms
+returns-clause-rooms g c =
+    same_rooms c.self.inside.lists.items c.args.cpu c.index_mut-list.result.now c.take_done.new.self
+    c.index_mut-list.ensures.value c.take_done.ensures.room ∙ ap (λ v. v.rooms) c.self.view_is

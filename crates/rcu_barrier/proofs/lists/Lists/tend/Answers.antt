@@ -3,7 +3,7 @@ use Rattle.rcu_cblist.specs.SegList.{IsAtMost, behind, callbacks, front, markers
 use Rattle.rcu_barrier.specs.Tending.{AreFours, after_tend}
 use Rattle.rcu_seq.specs.Numbers.{snapshot}
 use Rattle.rcu_barrier.proofs.Fours.{fours_get, fours_tended, most_advanced, tend_is}
-use Rattle.rcu_barrier.proofs.Rooms.{read_items, relisted_in, set_items}
+use Rattle.rcu_barrier.proofs.Rooms.{read_items, relisted_in, same_rooms, set_items}
 use Rattle.rcu_barrier.specs.Lists.{items_in}
 use Rattle.rcu_cblist.proofs.SegListLemmas.{markers_remarked}
 use Rattle.rcu_barrier.proofs.lists.Lists.tend.Goals as goal
@@ -19,7 +19,7 @@ accelerate-requires g c =
     subst (λ v. IsAtMost (snapshot number) (get_or v.all.lists c.args.cpu [])) (sym c.self.view_is) c.requires.within in
     let snap = c.snapshot.ensures in
     let is = read_items i.lists.items c.args.cpu old inside c.index_mut-list.ensures.value in
-    rw (snap, c.advance.ensures) (most_advanced number (snapshot number) old.items (subst (IsAtMost (snapshot number)) (sym is) within))
+    rw (snap, c.advance.ensures.items) (most_advanced number (snapshot number) old.items (subst (IsAtMost (snapshot number)) (sym is) within))
 
 pub invariant_of-self : goal.invariant_of-self
 invariant_of-self g c =
@@ -34,10 +34,10 @@ invariant_of-self g c =
     subst AreFours (sym is) (fours_get (items_in i.lists.items) c.args.cpu k.1.fours) in
     let snap = c.snapshot.ensures in
     let after : c.accelerate.new.self.items ≡ after_tend old.items number =
-    c.accelerate.ensures ∙ (rw (snap, c.advance.ensures) (tend_is number old.items c.requires.state fours)) in
+    c.accelerate.ensures.items ∙ (rw (snap, c.advance.ensures.items) (tend_is number old.items c.requires.state fours)) in
     let same = ap markers after ∙ markers_remarked _ old.items in
     relisted_in i.lists.items i.visits i.visits i.running i.queued i.markers i.markers
-    i.queued c.args.cpu old c.accelerate.new.self k.0 k.1 inside c.index_mut-list.ensures.value refl (omega arith)
+    i.queued i.most c.args.cpu old c.accelerate.new.self k.0 k.1 inside c.index_mut-list.ensures.value refl (omega arith)
     (omega arith) k.1.counted (λ _. subst AreFours (sym after) (fours_tended number old.items fours))
 
 pub returns-clause-state : goal.returns-clause-state
@@ -53,9 +53,9 @@ returns-clause-state g c =
     subst AreFours (sym is) (fours_get (items_in i.lists.items) c.args.cpu k.1.fours) in
     let snap = c.snapshot.ensures in
     let after : c.accelerate.new.self.items ≡ after_tend (get_or (items_in i.lists.items) c.args.cpu []) number =
-    c.accelerate.ensures ∙ (rw (snap, c.advance.ensures) (tend_is number old.items c.requires.state fours) ∙ ap (λ l. after_tend l number) is) in
+    c.accelerate.ensures.items ∙ (rw (snap, c.advance.ensures.items) (tend_is number old.items c.requires.state fours) ∙ ap (λ l. after_tend l number) is) in
     rw (← c.self.view_is)
-    (ap (λ l. record { lists = l; visited = i.visits; running = i.running; queued = i.queued })
+    (ap (λ l. record { lists = l; visited = i.visits; running = i.running; queued = i.queued; most = i.most })
     (set_items i.lists.items c.args.cpu c.accelerate.new.self ∙ ap (λ l. set (items_in i.lists.items) c.args.cpu l) after))
 
 pub returns-clause-done : goal.returns-clause-done
@@ -71,7 +71,7 @@ returns-clause-done g c =
     subst AreFours (sym is) (fours_get (items_in i.lists.items) c.args.cpu k.1.fours) in
     let snap = c.snapshot.ensures in
     let after : c.accelerate.new.self.items ≡ after_tend (get_or (items_in i.lists.items) c.args.cpu []) number =
-    c.accelerate.ensures ∙ (rw (snap, c.advance.ensures) (tend_is number old.items c.requires.state fours) ∙ ap (λ l. after_tend l number) is) in
+    c.accelerate.ensures.items ∙ (rw (snap, c.advance.ensures.items) (tend_is number old.items c.requires.state fours) ∙ ap (λ l. after_tend l number) is) in
     rw (← c.self.view_is, c.done_count.ensures ∙ ap (λ l. length (callbacks (front l))) after) refl
 
 pub returns-clause-waiting : goal.returns-clause-waiting
@@ -87,5 +87,10 @@ returns-clause-waiting g c =
     subst AreFours (sym is) (fours_get (items_in i.lists.items) c.args.cpu k.1.fours) in
     let snap = c.snapshot.ensures in
     let after : c.accelerate.new.self.items ≡ after_tend (get_or (items_in i.lists.items) c.args.cpu []) number =
-    c.accelerate.ensures ∙ (rw (snap, c.advance.ensures) (tend_is number old.items c.requires.state fours) ∙ ap (λ l. after_tend l number) is) in
+    c.accelerate.ensures.items ∙ (rw (snap, c.advance.ensures.items) (tend_is number old.items c.requires.state fours) ∙ ap (λ l. after_tend l number) is) in
     rw (← c.self.view_is, c.waiting_count.ensures ∙ ap (λ l. length (callbacks (behind l))) after) refl
+
+pub returns-clause-rooms : goal.returns-clause-rooms
+returns-clause-rooms g c =
+    same_rooms c.self.inside.lists.items c.args.cpu c.index_mut-list.result.now c.accelerate.new.self
+    c.index_mut-list.ensures.value (c.accelerate.ensures.room ∙ c.advance.ensures.room) ∙ ap (λ v. v.rooms) c.self.view_is

@@ -1,8 +1,8 @@
 use Rattle.std.proofs.Common.{ℕ, ◌∙◌, List, ap, arith, length-set, refl, set}
 use Rattle.std.specs.Prelude.{slice_index}
-use Rattle.rcu_live.specs.Watcher.{after_use}
+use Rattle.rcu_live.specs.Watcher.{after_word_step}
 use Rattle.rcu_cell.specs.Versions.{filled, slot_in, slots_in, version_at}
-use Rattle.rcu_cell.specs.declared.known.Known.TheVariants.{Keeps}
+use Rattle.rcu_cell.specs.declared.known.Known.TheVariants.{Keeper}
 use Rattle.rcu_cell.proofs.Filling.{fill_more, filled_first, ready, stored_all, stored_more}
 use Rattle.rcu_cell.proofs.cell.Cell.fill.Goals as goal
 
@@ -11,7 +11,7 @@ store-requires g c =
     let r = c.requires in
     let i = c.loop-word.invariant in
     let at = ready _ c.args.seat.now c.loop-word.seat _ _ _ _ i.1 r.seat r.role r.inside in
-    (omega arith, (at.seat_of, (at.role, (at.keeps, (r.slot, (at.inside, (at.free, c.loop-word-test.true)))))))
+    (omega arith, (omega arith, (at.seat_of, (at.role, (at.keeps, (r.slot, (at.inside, (at.free, c.loop-word-test.true))))))))
 
 pub loop-word-init : goal.loop-word-init
 loop-word-init g c =
@@ -39,4 +39,4 @@ returns g c =
     let all =
     stored_all i.0 c.args.words.now _ (i.2 ∙ r.words) r.words
     (λ j low. i.3 j (omega (arith, low, c.loop-word-test.false))) in
-    i.1 ∙ ap (λ (l : List ℕ). after_use c.args.seat.now (Keeps (slot_in c.args.seat.now.view.client) (filled slots c.args.slot l))) all
+    i.1 ∙ ap (λ (l : List ℕ). after_word_step c.args.seat.now (Keeper (slot_in c.args.seat.now.view.client) (filled slots c.args.slot l))) all

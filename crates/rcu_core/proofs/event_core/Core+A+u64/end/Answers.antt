@@ -9,7 +9,7 @@ pub returns-in_err-end-clause-err : goal.returns-in_err-end-clause-err
 returns-in_err-end-clause-err g c =
     let p = err_from_is_err_and c.from_residual.result c.from_residual.ensures.1 in
     let kept = c.in_err-end.ensures.unchanged in
-    rw (p.1, p.2) (along _ _ _ _ _ c.self.view_is (refuses_end _ _ _ c.in_err-end.ensures.refused (rw kept refl)))
+    rw (p.1, p.2) (along _ _ _ _ _ c.self.view_is (refuses_end _ _ _ c.in_err-end.ensures.fault (rw kept refl)))
 
 pub returns-clause-ok : goal.returns-clause-ok
 returns-clause-ok g c =

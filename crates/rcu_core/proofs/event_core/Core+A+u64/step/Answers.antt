@@ -7,12 +7,12 @@ pub returns-in-Ok-clause-follows : goal.returns-in-Ok-clause-follows
 returns-in-Ok-clause-follows g c = λ h has.
     goes _ _ h _ _ (subst (λ (v : State ℕ). IsSound v) c.self.view_is c.self.invariant.sound) has c.in-Ok.ensures.ok
 
-pub returns-in-Ok-clause-refused : goal.returns-in-Ok-clause-refused
-returns-in-Ok-clause-refused g c = λ fault p. refused_stays _ _ _ _ fault c.in-Ok.ensures.ok p
+pub returns-in-Ok-clause-unchanged : goal.returns-in-Ok-clause-unchanged
+returns-in-Ok-clause-unchanged g c = λ fault p. refused_stays _ _ _ _ fault c.in-Ok.ensures.ok p
 
 pub returns-in-Err-clause-follows : goal.returns-in-Err-clause-follows
 returns-in-Err-clause-follows g c = λ h has.
     goes _ _ h _ _ (subst (λ (v : State ℕ). IsSound v) c.self.view_is c.self.invariant.sound) has c.in-Err.ensures.err
 
-pub returns-in-Err-clause-refused : goal.returns-in-Err-clause-refused
-returns-in-Err-clause-refused g c = λ fault p. refused_stays _ _ _ _ fault c.in-Err.ensures.err p
+pub returns-in-Err-clause-unchanged : goal.returns-in-Err-clause-unchanged
+returns-in-Err-clause-unchanged g c = λ fault p. refused_stays _ _ _ _ fault c.in-Err.ensures.err p

@@ -13,4 +13,4 @@ invariant_of-self-2 g c =
     } in
     let started = c.in_ok-epoch.ensures in
     renumbered_kept old c.renumber.new.self c.if-is_needed.self c.renumber-2.new.self.all c.self.invariant started.idle
-    started.renumbered c.renumber-2.ensures
+    started.renumbered c.renumber-2.ensures.state

@@ -4,20 +4,20 @@ use Rattle.rcu_live.specs.Words.{base_of}
 use Rattle.rcu_live.proofs.ClientSteps.{stores_word}
 use Rattle.rcu_live.proofs.board.Board.store_word.Goals as goal
 
-pub overflow_add-place : goal.overflow_add-place
-overflow_add-place g c =
+pub overflow_add-own_word_index : goal.overflow_add-own_word_index
+overflow_add-own_word_index g c =
     let inside =
     subst (λ (o : Object). base_of o.cpus + c.args.word < o.table.words)
     (sym c.self.view_is) c.requires.inside in
-    omega (arith, c.place.ensures, inside, c.self.invariant.long)
+    omega (arith, c.own_word_index.ensures, inside, c.self.invariant.long)
 
 pub store-requires : goal.store-requires
 store-requires g c =
     let inside =
     subst (λ (o : Object). base_of o.cpus + c.args.word < o.table.words)
     (sym c.self.view_is) c.requires.inside in
-    let there = ap (λ (n : ℕ). n + c.args.word) c.place.ensures in (
+    let there = ap (λ (n : ℕ). n + c.args.word) c.own_word_index.ensures in (
       search rules,
-      omega (arith, c.place.ensures, inside),
-      stores_word g.P.Client.holds _ _ _ _ _ _ _ _ g.M.Outcome.then c.self.invariant.key c.self.invariant.some there c.requires.allowed,
+      omega (arith, c.own_word_index.ensures, inside),
+      stores_word g.P.Client.holds _ _ _ _ _ _ _ _ g.M.WordStep.then c.self.invariant.key c.self.invariant.some there c.requires.allowed,
     )

@@ -1,5 +1,5 @@
 use Rattle.std.proofs.Common.{Some, subst, sym}
-use Rattle.rcu_live.specs.Client.{Uses}
+use Rattle.rcu_live.specs.Client.{AllowsWord}
 use Rattle.rcu_live.specs.CpuSeat.{Seated}
 use Rattle.rcu_live.proofs.ClientSteps.{uses_of_cpu}
 use Rattle.rcu_live.proofs.cpu_seat.CpuSeat.load_word.Goals as goal
@@ -8,5 +8,5 @@ pub load_word-requires-clause-allowed : goal.load_word-requires-clause-allowed
 load_word-requires-clause-allowed g c =
     let holds = g.P.Client.holds in
     let p = c.args.word in
-    let allowed = subst (λ (s : Seated g.row.C.Denot). Uses holds (Some s.cpu) s.view.section s.view.client p (λ n. n) (g.M.Outcome.then p s.view.client)) (sym c.self.view_is) c.requires.allowed in
-    uses_of_cpu holds _ _ _ _ _ p (λ n. n) (g.M.Outcome.then p c.self.inside.seat.me.0.client) c.self.invariant.role c.self.invariant.own allowed
+    let allowed = subst (λ (s : Seated g.row.P-Known.Denot). AllowsWord holds (Some s.cpu) s.view.section s.view.client p (λ n. n) (g.M.WordStep.then p s.view.client)) (sym c.self.view_is) c.requires.allowed in
+    uses_of_cpu holds _ _ _ _ _ p (λ n. n) (g.M.WordStep.then p c.self.inside.seat.me.0.client) c.self.invariant.role c.self.invariant.own allowed

@@ -1,4 +1,4 @@
-use Rattle.std.proofs.Common.{arith, ◌≤◌, List, Result, Ok, Err, OnErr, length, subst, sym, length-take}
+use Rattle.std.proofs.Common.{arith, rules, ◌≤◌, List, Result, Ok, Err, OnErr, length, subst, sym, length-take}
 use Rattle.std.specs.Arc.{arc_value}
 use Rattle.rcu_cblist.specs.declared.queued.Queued.{Queued}
 use Rattle.rcu_live.proofs.Waits.{waited_first}
@@ -23,12 +23,14 @@ returns-clause-state g c = rw (← c.self.view_is) (λ i. record {
   grace = c.in_ok-calls.ensures.state i;
 })
 
-pub returns-clause-most : goal.returns-clause-most
-returns-clause-most g c =
-    subst (λ (calls : List (Queued g.row.T.Denot)). length calls ≤ c.args.max) (sym c.in_ok-calls.ensures.ok)
-    (subst (λ n. n ≤ c.args.max) (sym (length-take c.args.max _)) (omega arith))
-
-pub returns-clause-waited : goal.returns-clause-waited
-returns-clause-waited g c =
-    waited_first c.self.inside.gp.seq c.value-number.result c.in_ok-calls.calls.items c.self.invariant.epoch
-    c.value-number.ensures.value c.in_ok-calls.ensures.waited
+pub returns-clause-due : goal.returns-clause-due
+returns-clause-due g c = record {
+  waited =
+      waited_first c.self.inside.gp.seq c.value-number.result c.in_ok-calls.calls.items c.self.invariant.epoch
+      c.value-number.ensures.value c.in_ok-calls.ensures.waited;
+  few =
+      subst (λ (calls : List (Queued g.row.T.Denot)). length calls ≤ c.args.max) (sym c.in_ok-calls.ensures.ok)
+      (subst (λ n. n ≤ c.args.max) (sym (length-take c.args.max _)) (omega arith));
+  bounded = omega (arith, c.value-number.ensures.bounded);
+  word = search rules;
+}

@@ -1,5 +1,5 @@
 use Rattle.std.proofs.Common.{None, subst, sym}
-use Rattle.rcu_live.specs.Client.{Uses}
+use Rattle.rcu_live.specs.Client.{AllowsWord}
 use Rattle.rcu_live.specs.View.{IsOfWatcher}
 use Rattle.rcu_live.specs.Watcher.{Watching}
 use Rattle.rcu_live.proofs.ClientSteps.{uses_of_watcher}
@@ -9,6 +9,6 @@ pub load_word-requires-clause-allowed : goal.load_word-requires-clause-allowed
 load_word-requires-clause-allowed g c =
     let holds = g.P.Client.holds in
     let p = c.args.word in
-    let role = subst (λ (w : Watching g.row.C.Denot). IsOfWatcher w.view) (sym c.self.view_is) c.requires.role in
-    let allowed = subst (λ (w : Watching g.row.C.Denot). Uses holds None None w.view.client p (λ n. n) (g.M.Outcome.then p w.view.client)) (sym c.self.view_is) c.requires.allowed in
-    uses_of_watcher holds _ _ _ _ p (λ n. n) (g.M.Outcome.then p c.self.inside.seat.me.0.client) role allowed
+    let role = subst (λ (w : Watching g.row.P-Known.Denot). IsOfWatcher w.view) (sym c.self.view_is) c.requires.role in
+    let allowed = subst (λ (w : Watching g.row.P-Known.Denot). AllowsWord holds None None w.view.client p (λ n. n) (g.M.WordStep.then p w.view.client)) (sym c.self.view_is) c.requires.allowed in
+    uses_of_watcher holds _ _ _ _ p (λ n. n) (g.M.WordStep.then p c.self.inside.seat.me.0.client) role allowed

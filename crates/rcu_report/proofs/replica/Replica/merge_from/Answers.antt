@@ -15,7 +15,7 @@ invariant_of-self g c =
     → IsMerged old other now) [
       | Ok done ↦ λ ok err. inl ok
       | Err fault ↦ λ ok err. inr (ap (λ a. g.A.Awaited.awaited a) err)
-    ] c.merge.ensures.awaited c.merge.ensures.refused in
+    ] c.merge.ensures.awaited c.merge.ensures.unchanged in
     let sized = length-merged old other now either in
     record {
       latest = c.merge.ensures.tag ∙ c.self.invariant.latest;

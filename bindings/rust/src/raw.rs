@@ -1,0 +1,154 @@
+//! The calls of `include/rcu.h`, as they are in C. Each is unsafe: the header says what its caller
+//! owes, and nothing checks it.
+
+#![allow(non_camel_case_types)]
+
+use std::sync::atomic::{fence, Ordering::SeqCst};
+
+/// An engine's handle. Null while it is closed.
+#[repr(C)]
+pub struct rcu_t {
+    pub at: *mut u8,
+}
+
+/// A seat's handle. Null while it is closed.
+#[repr(C)]
+pub struct rcu_seat_t {
+    pub at: *mut u8,
+}
+
+/// What a turn did.
+#[repr(C)]
+#[derive(Clone, Copy, Debug, Default, PartialEq, Eq)]
+pub struct rcu_turn_t {
+    pub what: u32,
+    pub awaited: u32,
+    pub number: u64,
+}
+
+/// A read section is open on the processor.
+pub const RCU_IN_SECTION: u32 = 4;
+/// No memory is left.
+pub const RCU_NO_MEMORY: u32 = 16;
+/// No processor, or more than 4,096.
+pub const RCU_TOO_MANY_CPUS: u32 = 17;
+extern "C" {
+    pub fn rcu_open(cpus: u32, last: u64, rcu: *mut rcu_t) -> u32;
+    pub fn rcu_close(rcu: rcu_t);
+    pub fn rcu_seat_open(rcu: *mut rcu_t, cpu: u32, seat: *mut rcu_seat_t) -> u32;
+    pub fn rcu_has_seat(rcu: *mut rcu_t, cpu: u32) -> bool;
+    pub fn rcu_seat_return(rcu: *mut rcu_t, seat: rcu_seat_t);
+    pub fn rcu_seat_close(seat: rcu_seat_t);
+    pub fn rcu_begin(rcu: *mut rcu_t, number: *mut u64, awaited: *mut u32) -> u32;
+    pub fn rcu_end_unfenced(rcu: *mut rcu_t, number: *mut u64) -> u32;
+    pub fn rcu_turn_unfenced(rcu: *mut rcu_t, turn: *mut rcu_turn_t) -> u32;
+    pub fn rcu_collect(rcu: *mut rcu_t, cpu: u32, found: *mut u32) -> u32;
+    pub fn rcu_arrive_unfenced(rcu: *mut rcu_t, seat: *mut rcu_seat_t) -> u32;
+    pub fn rcu_depart(rcu: *mut rcu_t, seat: *mut rcu_seat_t, moved: *mut u64) -> u32;
+    pub fn rcu_cpus(rcu: *mut rcu_t) -> u32;
+    pub fn rcu_number(rcu: *mut rcu_t) -> u64;
+    pub fn rcu_running(rcu: *mut rcu_t) -> bool;
+    pub fn rcu_online(rcu: *mut rcu_t, cpu: u32) -> bool;
+    pub fn rcu_awaits(rcu: *mut rcu_t, cpu: u32) -> bool;
+    pub fn rcu_awaited(rcu: *mut rcu_t) -> u32;
+    pub fn rcu_take(rcu: *mut rcu_t) -> u64;
+    pub fn rcu_poll(rcu: *mut rcu_t, cookie: u64) -> bool;
+    pub fn rcu_queue(rcu: *mut rcu_t, cpu: u32, value: u64, place: *mut u64) -> u32;
+    pub fn rcu_tend(rcu: *mut rcu_t, cpu: u32, done: *mut u64, waiting: *mut u64) -> u32;
+    pub fn rcu_run(
+        rcu: *mut rcu_t,
+        cpu: u32,
+        values: *mut u64,
+        room: usize,
+        count: *mut u64,
+    ) -> u32;
+    pub fn rcu_barrier_begin(rcu: *mut rcu_t) -> u32;
+    pub fn rcu_barrier_visit(rcu: *mut rcu_t, cpu: u32, did: *mut u32) -> u32;
+    pub fn rcu_barrier_test(rcu: *mut rcu_t, left: *mut u64) -> u32;
+    pub fn rcu_seat_cpu(seat: *mut rcu_seat_t) -> u32;
+    pub fn rcu_seat_depth(seat: *mut rcu_seat_t) -> u32;
+    pub fn rcu_seat_is_online(seat: *mut rcu_seat_t) -> bool;
+    pub fn rcu_seat_is_idle(seat: *mut rcu_seat_t) -> bool;
+    pub fn rcu_seat_enter(seat: *mut rcu_seat_t, depth: *mut u32) -> u32;
+    pub fn rcu_seat_exit(seat: *mut rcu_seat_t, depth: *mut u32) -> u32;
+    pub fn rcu_seat_quiesce_unfenced(seat: *mut rcu_seat_t, number: *mut u64) -> u32;
+    pub fn rcu_seat_idle(seat: *mut rcu_seat_t) -> u32;
+    pub fn rcu_seat_wake_unfenced(seat: *mut rcu_seat_t, number: *mut u64) -> u32;
+    pub fn rcu_seat_take_unfenced(seat: *mut rcu_seat_t) -> u64;
+    pub fn rcu_seat_poll_unfenced(seat: *mut rcu_seat_t, cookie: u64) -> bool;
+}
+
+// The archive makes no fence: around seven calls the header does, and here these functions do.
+
+/// As in the header.
+///
+/// # Safety
+/// As in the header.
+pub unsafe fn rcu_end(rcu: *mut rcu_t, number: *mut u64) -> u32 {
+    let fault = rcu_end_unfenced(rcu, number);
+    fence(SeqCst);
+    fault
+}
+
+/// As in the header.
+///
+/// # Safety
+/// As in the header.
+pub unsafe fn rcu_turn(rcu: *mut rcu_t, turn: *mut rcu_turn_t) -> u32 {
+    let fault = rcu_turn_unfenced(rcu, turn);
+    fence(SeqCst);
+    fault
+}
+
+/// As in the header.
+///
+/// # Safety
+/// As in the header.
+pub unsafe fn rcu_arrive(rcu: *mut rcu_t, seat: *mut rcu_seat_t) -> u32 {
+    let fault = rcu_arrive_unfenced(rcu, seat);
+    fence(SeqCst);
+    fault
+}
+
+/// As in the header.
+///
+/// # Safety
+/// As in the header.
+pub unsafe fn rcu_seat_quiesce(seat: *mut rcu_seat_t, number: *mut u64) -> u32 {
+    fence(SeqCst);
+    let fault = rcu_seat_quiesce_unfenced(seat, number);
+    fence(SeqCst);
+    fault
+}
+
+/// As in the header.
+///
+/// # Safety
+/// As in the header.
+pub unsafe fn rcu_seat_wake(seat: *mut rcu_seat_t, number: *mut u64) -> u32 {
+    let fault = rcu_seat_wake_unfenced(seat, number);
+    fence(SeqCst);
+    fault
+}
+
+/// As in the header.
+///
+/// # Safety
+/// As in the header.
+pub unsafe fn rcu_seat_take(seat: *mut rcu_seat_t) -> u64 {
+    fence(SeqCst);
+    rcu_seat_take_unfenced(seat)
+}
+
+/// As in the header.
+///
+/// # Safety
+/// As in the header.
+pub unsafe fn rcu_seat_poll(seat: *mut rcu_seat_t, cookie: u64) -> bool {
+    fence(SeqCst);
+    let done = rcu_seat_poll_unfenced(seat, cookie);
+    if done {
+        fence(SeqCst);
+    }
+    done
+}

@@ -1,0 +1,31 @@
+//! What a handle holds.
+ghost use Rattle.std.specs.Prelude.{◌≡◌, Some};
+ghost use Rattle.rcu_c.specs.Holding.{HoldsSeat, seat_of};
+
+use crate::open_engine::OpenEngine;
+use crate::seat_parts::SeatParts;
+use std::mem;
+
+/// What an open handle holds.
+#[derive(Drop)]
+pub enum Contents {
+    /// The engine.
+    Engine(OpenEngine),
+    /// The seat of a processor.
+    Seat(SeatParts),
+    /// Room for a seat, until it is dealt, and once it is handed back. C never sees it.
+    Room,
+}
+
+impl Contents {
+    /// Takes the seat out, of which the room is left.
+    pub(crate) fn take_seat(&mut self) -> SeatParts
+        requires { HoldsSeat (Some self.old) }
+        ensures { result ≡ seat_of (Some self.old) }
+    {
+        match mem::replace(self, Contents::Room) {
+            Contents::Seat(seat) => seat,
+            Contents::Engine(_) | Contents::Room => unreachable!(),
+        }
+    }
+}

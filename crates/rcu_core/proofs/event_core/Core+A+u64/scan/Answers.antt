@@ -1,0 +1,23 @@
+use Rattle.std.proofs.Common.{◌<◌, ℕ, refl, sym, subst, ap, ◌∙◌, slice_index_or}
+use Rattle.rcu_hotplug.specs.Hotplug.{cpus_of}
+use Rattle.rcu_core.specs.Core.{State}
+use Rattle.rcu_core.proofs.Sound.{at_place}
+use Rattle.rcu_core.proofs.Steps.{along, does_scan, scan_accepted}
+use Rattle.rcu_core.proofs.event_core.Core+A+u64.scan.Goals as goal
+
+pub returns-clause-ok : goal.returns-clause-ok
+returns-clause-ok g c =
+    let v : State ℕ = record {
+      grace = c.self.inside.gp;
+      cpus = c.self.inside.cpus.items;
+      made = c.self.inside.reports.items;
+    } in
+    let place = c.in_ok-place.ensures in
+    let at = ap (λ n. slice_index_or c.self.inside.cpus.items n c.index.result.now) place.place in
+    let there = subst (λ (u : State ℕ). c.args.cpu < cpus_of u.grace.processors) (sym c.self.view_is) place.there in
+    let here = at_place v c.args.cpu c.index.result.now c.self.invariant.sound there (c.index.ensures ∙ at) in
+    let online = sym c.online.ensures ∙ c.if-not-online.false in
+    let idle = sym c.is_idle.ensures.value ∙ c.if-not-is_idle.false in
+    along _ _ _ _ _ c.self.view_is (does_scan v _ c.args.cpu _
+    (scan_accepted v c.args.cpu c.index.result.now there online here idle)
+    c.hear.ensures.answer (rw c.hear.ensures.state refl))

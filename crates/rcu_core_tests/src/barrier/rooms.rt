@@ -1,0 +1,66 @@
+//! What room the lists of two processors keep, and how one gives room back.
+
+use super::{Step, lists, make_each};
+use rcu_barrier::lists::Lists;
+use std::process::Abort;
+
+/// How many callbacks a list has once it is long.
+const MANY: u64 = 50;
+
+/// For how many items a processor's list has room.
+fn room(rt: &impl Abort, lists: &Lists<u64>, cpu: u32) -> u64 {
+    assert!(rt; cpu < lists.cpus());
+    lists.room(cpu)
+}
+
+/// Gives room of a processor's list back.
+fn shrink(rt: &impl Abort, lists: &mut Lists<u64>, cpu: u32) {
+    assert!(rt; cpu < lists.cpus());
+    lists.shrink(cpu);
+}
+
+#[test]
+fn each_list_keeps_its_room(rt: HostRuntime) {
+    let mut lists = lists(&rt, rt.alloc());
+    for count in 1..=MANY {
+        make_each(&rt, &mut lists, &[Step::Queue(1, 7, count)]);
+    }
+    let most = room(&rt, &lists, 1);
+    assert!(rt; most >= MANY);
+    make_each(
+        &rt,
+        &mut lists,
+        &[
+            Step::Tend(1, 0, 0, MANY),
+            Step::Tend(1, 4, MANY, 0),
+            Step::Renumber,
+            Step::Begin(Ok(())),
+        ],
+    );
+    assert_eq!(rt; room(&rt, &lists, 1), most);
+    make_each(&rt, &mut lists, &[Step::Run(1, 2, &[7, 7])]);
+    assert_eq!(rt; room(&rt, &lists, 1), most);
+}
+
+#[test]
+fn one_list_gives_its_room_back(rt: HostRuntime) {
+    let mut lists = lists(&rt, rt.alloc());
+    make_each(&rt, &mut lists, &[Step::Queue(0, 6, 1)]);
+    for count in 1..=MANY {
+        make_each(&rt, &mut lists, &[Step::Queue(1, 7, count + 1)]);
+    }
+    let (before, second) = (room(&rt, &lists, 0), room(&rt, &lists, 1));
+    make_each(&rt, &mut lists, &[Step::Migrate(MANY)]);
+    let first = room(&rt, &lists, 0);
+    assert!(rt; first > before.max(MANY), "{first}, and {before} before");
+    assert_eq!(rt; room(&rt, &lists, 1), second);
+    shrink(&rt, &mut lists, 1);
+    assert_eq!(rt; (room(&rt, &lists, 0), room(&rt, &lists, 1)), (first, 0));
+    shrink(&rt, &mut lists, 0);
+    let now = room(&rt, &lists, 0);
+    assert!(rt;
+        now == MANY + 1 || now == first,
+        "{now}, not {first} or one more than {MANY}"
+    );
+    assert_eq!(rt; room(&rt, &lists, 1), 0);
+}

@@ -1,0 +1,56 @@
+//! What room the lists of a state keep, and how one gives room back.
+use super::{State, queue, run, state, tend, turns};
+use rcu_core::turned::Turned;
+use rcu_node::answer::Answer;
+use std::process::Abort;
+
+/// How many callbacks are queued.
+const MANY: u64 = 9;
+
+/// For how many items processor 0's list has room.
+fn room(rt: &impl Abort, state: &State) -> u64 {
+    let lists = state.lists();
+    assert!(rt; 0 < lists.cpus());
+    lists.room(0)
+}
+
+/// Gives room of processor 0's list back: all that is not needed, or none where the smaller block
+/// was refused.
+fn shrink(rt: &impl Abort, state: &mut State, items: u64) {
+    let before = room(rt, state);
+    assert!(rt; 0 < state.cpus());
+    state.shrink(0);
+    let now = room(rt, state);
+    assert!(rt;
+        now == items || now == before,
+        "{now}, not {items} or {before}"
+    );
+}
+
+/// A grace period, which the callbacks wait for, begins, is reported and ends.
+fn passes(rt: &impl Abort, state: &mut State) {
+    tend(rt, state, (0, MANY));
+    turns(rt, state, Turned::Begun(1, 1));
+    assert!(rt; 0 < state.cpus());
+    assert_eq!(rt; state.hear(0), Answer::Last);
+    turns(rt, state, Turned::Ended(4));
+    tend(rt, state, (MANY, 0));
+}
+
+#[test]
+fn a_list_keeps_its_room_until_a_shrinking(rt: HostRuntime) {
+    let mut state = state(&rt, rt.alloc(), 8);
+    assert_eq!(rt; state.lists().most(), 1_000_000);
+    for count in 0..MANY {
+        queue(&rt, &mut state, 0, 7, count + 1);
+    }
+    shrink(&rt, &mut state, MANY);
+    let most = room(&rt, &state);
+    assert!(rt; most >= MANY);
+    passes(&rt, &mut state);
+    assert_eq!(rt; room(&rt, &state), most);
+    run(&rt, &mut state, MANY as usize);
+    assert_eq!(rt; room(&rt, &state), most);
+    shrink(&rt, &mut state, 0);
+    assert_eq!(rt; room(&rt, &state), 0);
+}

@@ -1,0 +1,18 @@
+use Rattle.std.proofs.Common.{◌≡◌, ◌<◌, ◌==◌, not, nat_lt, length, ℕ}
+use Rattle.rcu_node.specs.CpuSet.{is_in}
+use Rattle.rcu_hotplug.specs.Hotplug.{cpus_of}
+use Rattle.rcu_live.specs.Engine.{after_own_word_loads, loaded_word}
+use Rattle.rcu_live.proofs.begin.load_own_words.Given as goal
+
+abbrev pub invariant-loop-cpu : goal.invariant-loop-cpu
+invariant-loop-cpu g l =
+    (l.seat.table_id ≡ l.initial.seat.table_id)
+    × (l.seat.me.0 ≡ after_own_word_loads l.initial.seat.me.0 (loaded_word l.seat.me.0.own_word_loads) l.cpu)
+    × (length l.gp.processors.online ≡ l.board.cpus)
+    × ((c : ℕ) → c < l.cpu → is_in l.gp.processors.online c ≡ not (loaded_word l.seat.me.0.own_word_loads c == 0))
+    × (length l.already_quiescent ≡ l.board.cpus)
+    × ((c : ℕ) → c < l.cpu → is_in l.already_quiescent c ≡ nat_lt l.number (loaded_word l.seat.me.0.own_word_loads c))
+    × (cpus_of l.gp.processors ≡ cpus_of l.initial.gp.processors)
+    × (l.gp.seq ≡ l.initial.gp.seq)
+    × (l.gp.needed ≡ l.initial.gp.needed)
+    × (l.gp.lists ≡ l.initial.gp.lists)

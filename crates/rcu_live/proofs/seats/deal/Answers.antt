@@ -1,0 +1,21 @@
+use Rattle.std.proofs.Common.{◌≡◌, ℕ, ◌+◌, ap, length, refl, sym, ◌∙◌, arith}
+use Rattle.std.proofs.lemmas.List.FromFn.{length-map-range_with_len}
+use Rattle.rcu_live.specs.CpuSeat.{Seated, at_first}
+use Rattle.rcu_live.specs.View.{engine_seat}
+use Rattle.rcu_live.specs.Watcher.{Watching, watcher_at_first}
+use Rattle.rcu_live.specs.Words.{base_of}
+use Rattle.rcu_live.proofs.RowLemmas.{each_made, one_more}
+use Rattle.rcu_live.proofs.seats.deal.Goals as goal
+
+pub loop-cpu-preserved : goal.loop-cpu-preserved
+loop-cpu-preserved g c =
+    let i = c.loop-cpu.invariant in
+    let d = c.deal_next-seat.ensures in
+    let cpus = sym c.requires.cpus in
+    let table = c.args.board.now.table in
+    let idle = g.P.Client.idle in (
+      d.table ∙ i.0,
+      d.engine ∙ ap (λ (n : ℕ). engine_seat n (c.loop-cpu.cpu + 1) g.P.Client.first) cpus,
+      one_more _ _ _ _ _ i.2 c.in_ok-push.ensures.items (d.seat ∙ ap (λ (n : ℕ). at_first table (base_of n) idle c.loop-cpu.cpu) cpus),
+      one_more _ _ _ _ _ i.3 c.in_ok-push-2.ensures.items (d.watcher ∙ ap (λ (n : ℕ). watcher_at_first table (base_of n) idle) cpus),
+    )

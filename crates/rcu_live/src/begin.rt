@@ -1,0 +1,92 @@
+//! What a begin loads, and what it makes of it.
+ghost use Rattle.std.specs.Prelude.{◌≡◌, ◌<◌, ◌==◌, [], not, true, nat_lt, length, slice_set};
+ghost use Rattle.rcu_node.specs.CpuSet.{is_in, listed, unheard};
+ghost use Rattle.rcu_hotplug.specs.Hotplug.{cpus_of};
+ghost use Rattle.rcu_core.specs.GpState.{with_awaited};
+ghost use Rattle.rcu_live.specs.Engine.{after_own_word_loads, loaded_word};
+ghost use Rattle.rcu_live.specs.View.{IsOfEngine};
+
+use crate::board::{Board, TableSeat};
+use crate::client::Client;
+use rcu_core::gp_state::GpState;
+use rcu_node::awaited::Awaited;
+use rcu_node::cpu_set::CpuSet;
+
+/// The processor is online from now on exactly where it is here. Processor 0 is.
+fn set_online<A: Awaited, T: Drop>(gp: &mut GpState<A, T>, cpu: u32, is_here: bool)
+    requires cpu { cpu < cpus_of gp.old.processors }
+    requires boot { cpu ≡ 0 → is_here ≡ true }
+    ensures online { gp.new.processors.online ≡ slice_set gp.old.processors.online cpu is_here }
+    ensures cpus { cpus_of gp.new.processors ≡ cpus_of gp.old.processors }
+    ensures seq { gp.new.seq ≡ gp.old.seq }
+    ensures needed { gp.new.needed ≡ gp.old.needed }
+    ensures lists { gp.new.lists ≡ gp.old.lists }
+{
+    // The call is refused where the processor is so already. Then nothing has to change.
+    let _ = if is_here {
+        gp.arrive(cpu)
+    } else {
+        gp.depart(cpu)
+    };
+}
+
+/// The processor is in the set from now on exactly where it is already quiescent.
+fn mark(already_quiescent: &mut CpuSet, cpu: u32, is_already_quiescent: bool)
+    requires { cpu < length already_quiescent.old }
+    ensures { already_quiescent.new ≡ slice_set already_quiescent.old cpu is_already_quiescent }
+{
+    if is_already_quiescent {
+        already_quiescent.insert(cpu);
+    } else {
+        already_quiescent.remove(cpu);
+    }
+}
+
+/// Loads each own word, in turn. Online are the processors whose word is not 0, and already
+/// quiescent those whose word is above the number.
+pub(crate) fn load_own_words<A: Awaited, T: Drop, P: Client>(
+    board: &Board<P>,
+    seat: &mut TableSeat<P>,
+    gp: &mut GpState<A, T>,
+    already_quiescent: &mut CpuSet,
+    number: u64,
+)
+    requires table { seat.old.table_id ≡ board.now.table }
+    requires engine { IsOfEngine seat.old.me.0 }
+    requires begun { seat.old.me.0.own_word_loads ≡ [] }
+    requires cpus { cpus_of gp.old.processors ≡ board.now.cpus }
+    requires already_quiescent { length already_quiescent.old ≡ board.now.cpus }
+    ensures table { seat.new.table_id ≡ seat.old.table_id }
+    ensures view { seat.new.me.0
+        ≡ after_own_word_loads seat.old.me.0 (loaded_word seat.new.me.0.own_word_loads)
+        board.now.cpus }
+    ensures online { gp.new.processors.online
+        ≡ listed board.now.cpus (λ cpu. not (loaded_word seat.new.me.0.own_word_loads cpu == 0)) }
+    ensures already_quiescent { already_quiescent.new
+        ≡ listed board.now.cpus
+        (λ cpu. nat_lt number (loaded_word seat.new.me.0.own_word_loads cpu)) }
+    ensures cpus { cpus_of gp.new.processors ≡ cpus_of gp.old.processors }
+    ensures seq { gp.new.seq ≡ gp.old.seq }
+    ensures needed { gp.new.needed ≡ gp.old.needed }
+    ensures lists { gp.new.lists ≡ gp.old.lists }
+{
+    for cpu in 0..gp.cpus() {
+        let word = board.load_own(seat, cpu);
+        set_online(gp, cpu, word != 0);
+        mark(already_quiescent, cpu, word > number);
+    }
+}
+
+/// Reports each processor of the set with the number of the running grace period.
+pub(crate) fn hear_all<A: Awaited, T: Drop>(gp: &mut GpState<A, T>, already_quiescent: &CpuSet)
+    requires running { gp.old.seq.running ≡ true }
+    requires already_quiescent { length already_quiescent.now ≡ cpus_of gp.old.processors }
+    ensures { gp.new
+        ≡ with_awaited gp.old (unheard gp.old.processors.awaited (is_in already_quiescent.now)) }
+{
+    for cpu in 0..already_quiescent.cpus() {
+        if already_quiescent.contains(cpu) {
+            gp.report_current(cpu);
+        }
+    }
+}

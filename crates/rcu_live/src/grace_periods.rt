@@ -1,0 +1,124 @@
+//! The grace periods of an engine: their begins, their ends, and what is heard of processors.
+ghost use Rattle.std.specs.Prelude.{◌≡◌, IfOk, OnErr, OnOk};
+ghost use Rattle.std.specs.Result.{result_err};
+ghost use Rattle.rcu_seq.specs.Seq.{number_of};
+ghost use Rattle.rcu_core.specs.GpState as grace;
+ghost use Rattle.rcu_live.specs.Engine.{after_begin, after_collect, after_end, after_turn};
+ghost use Rattle.rcu_live.specs.Engine.{collect_answer, latest_words, latest_word, turn_answer};
+ghost use Rattle.rcu_live.specs.Engine.{collected_by, cpu_refusal};
+
+use crate::begin::{hear_all, load_own_words};
+use crate::client::Client;
+use crate::collection::Collected;
+use crate::engine::Engine;
+use rcu_core::current_answer::CurrentAnswer;
+use rcu_core::turned::Turned;
+use rcu_node::awaited::Awaited;
+use rcu_seq::fault::Fault;
+
+/// What a collection tells by the answer to the report.
+fn collected(answer: CurrentAnswer) -> Collected
+    ensures { result ≡ collected_by answer }
+{
+    match answer {
+        CurrentAnswer::Taken => Collected::Taken,
+        CurrentAnswer::Last => Collected::Last,
+        CurrentAnswer::Repeat => Collected::Repeat,
+    }
+}
+
+impl<A: Awaited, T: Drop, P: Client> Engine<A, T, P> {
+    /// A grace period begins: stores its number, and then loads each processor's own word once.
+    /// Online are the processors whose word is not 0, and awaited those of them whose word is at
+    /// most the number. Returns the number, and how many it awaits.
+    ///
+    /// Faults: `Running` (8) where one runs; `Exhausted` (11) where the number is the last one.
+    pub fn begin(&mut self) -> Result<(u64, u32), Fault>
+        ensures number { IfOk result (λ began. began.0 ≡ number_of self.new.grace.seq) }
+        ensures awaited { IfOk result (λ began. began.1 ≡ grace.awaited_in self.new.grace) }
+        ensures fault { result_err result ≡ grace.begin_refusal self.old.grace }
+        ensures state { OnOk result
+            (self.new ≡ after_begin self.old (latest_words self.new)) }
+        ensures unchanged { OnErr result (self.new ≡ self.old) }
+    {
+        let number = self.gp.next_number()?;
+        self.board.begin(&mut self.seat, number);
+        load_own_words(
+            &self.board,
+            &mut self.seat,
+            &mut self.gp,
+            &mut self.already_quiescent,
+            number,
+        );
+        let Ok((number, _)) = self.gp.begin() else {
+            unreachable!()
+        };
+        hear_all(&mut self.gp, &self.already_quiescent);
+        Ok((number, self.gp.awaited().count()))
+    }
+
+    /// The grace period ends: stores the number that it leaves, and returns it.
+    ///
+    /// Faults: `Idle` (9) where none runs; `Waiting` (10) where a processor is awaited.
+    pub fn end(&mut self) -> Result<u64, Fault>
+        ensures number { IfOk result (λ number. number ≡ number_of self.new.grace.seq) }
+        ensures fault { result_err result ≡ grace.end_refusal self.old.grace }
+        ensures state { OnOk result (self.new ≡ after_end self.old) }
+        ensures unchanged { OnErr result (self.new ≡ self.old) }
+    {
+        let number = self.gp.end()?;
+        self.board.end(&mut self.seat, number);
+        Ok(number)
+    }
+
+    /// The running grace period ends where nobody is awaited. Where none runs, one begins if the
+    /// needed number is above the number.
+    ///
+    /// Fault `Exhausted` (11): one would begin, and the number is the last one.
+    pub fn turn(&mut self) -> Result<Turned, Fault>
+        ensures answer { IfOk result (λ turned.
+            turned ≡ turn_answer self.old (latest_words self.new)) }
+        ensures fault { result_err result ≡ grace.turn_refusal self.old.grace }
+        ensures state { OnOk result
+            (self.new ≡ after_turn self.old (latest_words self.new)) }
+        ensures unchanged { OnErr result (self.new ≡ self.old) }
+    {
+        if self.gp.is_running() {
+            let awaited = self.gp.awaited().count();
+            if awaited > 0 {
+                return Ok(Turned::Waiting(awaited));
+            }
+            return Ok(Turned::Ended(self.end()?));
+        }
+        if !self.gp.wants_begin() {
+            return Ok(Turned::Nothing);
+        }
+        let (number, awaited) = self.begin()?;
+        Ok(Turned::Begun(number, awaited))
+    }
+
+    /// Loads the processor's own word, while a grace period runs, and reports the processor where
+    /// its word is 0 or above the number.
+    ///
+    /// Fault `BadCpu` (1): there is no such processor.
+    pub fn collect(&mut self, cpu: u32) -> Result<Collected, Fault>
+        ensures answer { IfOk result (λ collected.
+            collected ≡ collect_answer self.old cpu (latest_word self.new)) }
+        ensures state { OnOk result
+            (self.new ≡ after_collect self.old cpu (latest_word self.new)) }
+        ensures fault { result_err result ≡ cpu_refusal self.old cpu }
+        ensures unchanged { OnErr result (self.new ≡ self.old) }
+    {
+        if cpu >= self.cpus() {
+            return Err(Fault::BadCpu);
+        }
+        if !self.gp.is_running() {
+            return Ok(Collected::Idle);
+        }
+        let word = self.board.load_own(&mut self.seat, cpu);
+        if word != 0 && word <= self.gp.value() {
+            return Ok(Collected::NotYet);
+        }
+        Ok(collected(self.gp.report_current(cpu)))
+    }
+}

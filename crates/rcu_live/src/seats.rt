@@ -1,0 +1,114 @@
+//! The seats of an engine as it is opened: a processor's and a watcher's for each processor.
+ghost use Rattle.std.specs.Prelude.{◌≡◌, ◌+◌, ◌<◌, ◌≤◌, [], ◌∷◌, IfOk, None, OnOk};
+ghost use Rattle.std.specs.Prelude.{length, map};
+ghost use Rattle.std.specs.Arc.{arc_value};
+ghost use mathlib.Core.Option.{some};
+ghost use Rattle.std.specs.List.{range_with_len};
+ghost use Rattle.rcu_live.specs.CpuSeat.{at_first};
+ghost use Rattle.rcu_live.specs.Opening.{AreDealt};
+ghost use Rattle.rcu_live.specs.View.{engine_seat, watcher_seat};
+ghost use Rattle.rcu_live.specs.Watcher.{watcher_at_first};
+ghost use Rattle.rcu_live.specs.Words.{base_of};
+
+use crate::board::{Board, TableSeat};
+use crate::client::Client;
+use crate::cpu_seat::CpuSeat;
+use crate::watcher::Watcher;
+use std::alloc::{AllocError, Global};
+use std::sync::Arc;
+
+/// The shared words of an engine, and what is dealt of them.
+#[derive(Drop)]
+pub(crate) struct BoardParts<P: Client> {
+    /// The words.
+    pub board: Arc<Board<P>, Global>,
+    /// The engine's seat.
+    pub engine_seat: TableSeat<P>,
+    /// A seat a processor, in order.
+    pub seats: Vec<CpuSeat<P>>,
+    /// A watcher a processor.
+    pub watchers: Vec<Watcher<P>>,
+    /// The client's own watcher, which knows what the client knows first.
+    pub own: Watcher<P>,
+}
+
+/// The shared words of an engine whose size was tested, with these words and slots of a client, and
+/// all seats.
+pub(crate) fn open_board<P: Client>(
+    alloc: Global,
+    cpus: u32,
+    behind: &[u64],
+    slots: Vec<P::Slot>,
+) -> Result<BoardParts<P>, AllocError>
+    requires some { 0 < cpus }
+    requires few { cpus ≤ 4096 }
+    requires client { P.holds behind.now (map some slots.items) ((None, None, P.first) ∷ []) }
+    ensures dealt { IfOk result (λ dealt. AreDealt cpus (length behind.now) (length slots.items)
+        P.idle (arc_value dealt.board) dealt.seats.items dealt.watchers.items) }
+    ensures own { IfOk result (λ dealt.
+        dealt.own ≡ watcher_at_first (arc_value dealt.board).table (base_of cpus) P.first) }
+    ensures table { IfOk result (λ dealt.
+        dealt.engine_seat.table_id ≡ (arc_value dealt.board).table) }
+    ensures engine { IfOk result (λ dealt.
+        dealt.engine_seat.me.0 ≡ engine_seat cpus cpus P.idle) }
+{
+    let (board, mut engine_seat) = Board::open(alloc, cpus, behind, slots)?;
+    let board = Arc::new(alloc, board)?;
+    let (seats, watchers) = deal(alloc, &board, &mut engine_seat, cpus)?;
+    let own = Watcher::new(board.hand_over(&mut engine_seat));
+    Ok(BoardParts {
+        board,
+        engine_seat,
+        seats,
+        watchers,
+        own,
+    })
+}
+
+/// The next processor's seat, and a watcher.
+fn deal_next<P: Client>(
+    board: &Board<P>,
+    engine: &mut TableSeat<P>,
+    cpu: u32,
+) -> (CpuSeat<P>, Watcher<P>)
+    requires inside { cpu < board.now.cpus }
+    requires table { engine.old.table_id ≡ board.now.table }
+    requires engine { engine.old.me.0 ≡ engine_seat board.now.cpus cpu P.first }
+    ensures seat { result.0 ≡ at_first board.now.table (base_of board.now.cpus) P.idle cpu }
+    ensures watcher { result.1 ≡
+        watcher_at_first board.now.table (base_of board.now.cpus) P.idle }
+    ensures table { engine.new.table_id ≡ engine.old.table_id }
+    ensures engine { engine.new.me.0 ≡ engine_seat board.now.cpus (cpu + 1) P.first }
+{
+    let seat = board.deal_cpu(engine);
+    let seat = CpuSeat::new(seat, cpu);
+    (seat, Watcher::new(board.deal_watcher(engine)))
+}
+
+/// A seat and a watcher for each processor, in order, from the first seat of all. The engine's is
+/// left.
+fn deal<P: Client>(
+    alloc: Global,
+    board: &Board<P>,
+    engine: &mut TableSeat<P>,
+    cpus: u32,
+) -> Result<(Vec<CpuSeat<P>>, Vec<Watcher<P>>), AllocError>
+    requires cpus { cpus ≡ board.now.cpus }
+    requires table { engine.old.table_id ≡ board.now.table }
+    requires first { engine.old.me.0 ≡ engine_seat cpus 0 P.first }
+    ensures seats { IfOk result (λ dealt. dealt.0.items ≡
+        map (at_first board.now.table (base_of cpus) P.idle) (range_with_len 0 cpus)) }
+    ensures watchers { IfOk result (λ dealt. dealt.1.items ≡
+        map (λ _. watcher_at_first board.now.table (base_of cpus) P.idle) (range_with_len 0 cpus)) }
+    ensures table { engine.new.table_id ≡ engine.old.table_id }
+    ensures engine { OnOk result (engine.new.me.0 ≡ engine_seat cpus cpus P.first) }
+{
+    let mut seats = Vec::new(alloc);
+    let mut watchers = Vec::new(alloc);
+    for cpu in 0..cpus {
+        let (seat, watcher) = deal_next(board, engine, cpu);
+        seats.push(seat)?;
+        watchers.push(watcher)?;
+    }
+    Ok((seats, watchers))
+}

@@ -1,0 +1,27 @@
+//! What the shared words are reached through.
+use crate::board::Board;
+use crate::client::Client;
+
+/// What has an engine's shared words: the words alone, or the engine that threads share.
+///
+/// The calls of seats take it, and have no more of the engine than the words: none of them has a
+/// way to the lock.
+pub trait Shared<P: Client> {
+    ghost use Rattle.std.specs.Prelude.{◌≡◌};
+    ghost use Rattle.rcu_live.specs.Board.{Object};
+
+    /// Which engine it is, and how many processors it has.
+    ghost object: { Self → Object };
+
+    /// The shared words.
+    fn board(&self) -> &Board<P>
+        ensures { result.now ≡ object self.now };
+}
+
+impl<P: Client> Shared<P> for Board<P> {
+    ghost object = { λ board. board };
+
+    fn board(&self) -> &Board<P> {
+        self
+    }
+}

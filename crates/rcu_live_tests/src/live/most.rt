@@ -1,0 +1,44 @@
+//! How many callbacks may be queued is the opening's choice.
+ghost use Rattle.std.specs.Prelude.{◌≡◌};
+
+use crate::live::locked::queue;
+use crate::live::steps::Four;
+use crate::live::threads::last_seat;
+use rcu_live::cpu_seat::CpuSeat;
+use rcu_seq::fault::Fault;
+use std::alloc::Global;
+use std::process::Abort;
+use std::sync::Wait;
+
+/// Opens an engine of one processor in which three callbacks may be queued, by a second call where
+/// the first is refused a growth.
+fn open_for_three(rt: &impl Abort, alloc: Global) -> (Four, CpuSeat)
+    ensures { result.1.table ≡ result.0.table }
+{
+    let mut opened = Four::open_with_most(alloc, 1, 8, 3);
+    if matches!(opened, Err(Fault::NoMemory)) {
+        opened = Four::open_with_most(alloc, 1, 8, 3);
+    }
+    let (live, mut seats, _) = opened.expect(rt, "the second call has memory");
+    let seat = last_seat(&live, &mut seats);
+    (live, seat)
+}
+
+/// The fourth callback is refused, and comes back.
+fn queue_three<R: Abort + Wait>(rt: &R, live: &Four, seat: &mut CpuSeat)
+    requires { seat.old.table ≡ live.now.table }
+{
+    queue(rt, live, seat, 5, 1);
+    queue(rt, live, seat, 6, 2);
+    queue(rt, live, seat, 7, 3);
+    let Err(back) = live.queue(rt, seat, 8) else {
+        panic!(rt; "a fourth callback was queued")
+    };
+    assert_eq!(rt; (back.fault, back.value), (Fault::CallbacksFull, 8));
+}
+
+#[test]
+fn no_more_callbacks_than_the_opening_chose(rt: HostRuntime) {
+    let (live, mut seat) = open_for_three(&rt, rt.alloc());
+    queue_three(&rt, &live, &mut seat);
+}

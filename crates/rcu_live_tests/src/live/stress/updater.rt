@@ -1,0 +1,198 @@
+//! The updaters of a hard run: one drives the engine, and one waits for barriers and cookies.
+ghost use Rattle.std.specs.Prelude.{◌≡◌};
+
+use crate::live::steps::Four;
+use crate::live::stress::calls::Calls;
+use crate::live::stress::scene::Scene;
+use crate::live::stress::stop::{Stop, compare, hold_to};
+use rcu_core::turned::Turned;
+use rcu_live::cpu_seat::CpuSeat;
+use rcu_live::watcher::Watcher;
+use rcu_seq::cookie::Cookie;
+use std::sync::Wait;
+use std::thread::yield_now;
+
+/// How many processors the engine has. Threads run on the first four: a begin that looks at all of
+/// them gives a reader time to wake in between.
+pub(crate) const ALL_CPUS: u32 = 64;
+
+/// How many processors have a thread.
+pub(crate) const CPUS: u32 = 4;
+
+/// How often the driver goes round.
+const ROUNDS: u64 = 4_000;
+
+/// How many callbacks a processor hands out in a round of the driver at most: few, so that a
+/// barrier is tested between two of them.
+const MOST_IN_ROUND: u64 = 2;
+
+/// The same where the run is over.
+const MOST_AT_END: u64 = 1_000_000;
+
+/// The updater that drives the engine, with the seat of processor 0.
+#[derive(Drop)]
+pub(crate) struct Driver<'a> {
+    pub(crate) live: &'a Four,
+    pub(crate) scene: &'a Scene,
+    pub(crate) calls: &'a Calls,
+    pub(crate) seat: CpuSeat,
+    /// How often the reader that sleeps had gone to sleep at the last pause.
+    pub(crate) sleeps: u64,
+    pub(crate) ghost seat_of: { seat.table ≡ live.now.table },
+}
+
+impl<'a> Driver<'a> {
+    /// Looks at each processor, and ends a grace period or begins one. Answers whether the next
+    /// turn may begin one.
+    fn turn<R: Wait>(&self, rt: &R, may_begin: bool) -> Result<bool, Stop> {
+        for cpu in 0..CPUS {
+            self.live.collect(rt, cpu)?;
+        }
+        if may_begin {
+            self.scene.begin.give();
+        }
+        let turned = self.live.turn(rt)?;
+        Ok(matches!(turned, Turned::Ended(_) | Turned::Nothing))
+    }
+
+    /// No grace period runs: waits for the reader that sleeps to wake and read, where it went to
+    /// sleep since the last pause.
+    fn pause(&mut self) {
+        let sleeps = self.scene.sleep.count();
+        if self.sleeps != sleeps {
+            self.sleeps = sleeps;
+            let since = self.scene.wake.count();
+            self.scene.pause.give();
+            self.scene.wait_shortly(&self.scene.wake, since);
+        }
+    }
+
+    /// Brings each list up to date, and hands out at most so many callbacks of it.
+    fn hand_out<R: Wait>(&self, rt: &R, most: u64) -> Result<(), Stop> {
+        for cpu in 0..CPUS {
+            self.live.tend(rt, cpu)?;
+            self.calls.hand_out(rt, self.scene, self.live, cpu, most)?;
+        }
+        Ok(())
+    }
+
+    /// One round. Where a grace period ended, a callback asks for the next one.
+    fn go_round<R: Wait>(&mut self, rt: &R, may_begin: bool) -> Result<bool, Stop> {
+        let may_begin = self.turn(rt, may_begin)?;
+        if may_begin {
+            self.pause();
+            self.calls.queue(rt, self.scene, self.live, &mut self.seat)?;
+        }
+        self.hand_out(rt, MOST_IN_ROUND)?;
+        self.seat.quiesce(self.live)?;
+        self.scene.round.give();
+        Ok(may_begin)
+    }
+
+    /// All rounds, or as many as there are until the run ends.
+    fn drive<R: Wait>(&mut self, rt: &R) -> Result<(), Stop> {
+        self.scene.gather()?;
+        let mut may_begin = true;
+        for _ in 0..ROUNDS {
+            if self.scene.is_ended() {
+                break;
+            }
+            may_begin = self.go_round(rt, may_begin)?;
+        }
+        Ok(())
+    }
+
+    /// The driver's thread.
+    pub(crate) fn run<R: Wait>(&mut self, rt: &R) {
+        let result = self.drive(rt);
+        self.scene.end(rt, result);
+    }
+
+    /// Hands out what is left, when nobody else works the engine: each callback was handed out
+    /// then.
+    pub(crate) fn finish<R: Wait>(&mut self, rt: &R) -> Result<(), Stop> {
+        for _ in 0..8 {
+            self.turn(rt, false)?;
+            self.hand_out(rt, MOST_AT_END)?;
+            self.seat.quiesce(self.live)?;
+        }
+        self.calls.are_handed_out(rt)
+    }
+}
+
+/// The updater that waits, with the seat of an idle processor and a watcher.
+#[derive(Drop)]
+pub(crate) struct Waiter<'a> {
+    pub(crate) live: &'a Four,
+    pub(crate) scene: &'a Scene,
+    pub(crate) calls: &'a Calls,
+    pub(crate) seat: CpuSeat,
+    pub(crate) watcher: Watcher,
+    pub(crate) ghost seat_of: { seat.table ≡ live.now.table },
+    pub(crate) ghost watcher_of: { watcher.table ≡ live.now.table },
+}
+
+impl<'a> Waiter<'a> {
+    /// Where a cookie that was taken at this stamp is done, no section is open that was open then.
+    fn poll(&mut self, cookie: Cookie, stamp: u64) -> Result<(), Stop> {
+        let is_done = self.watcher.poll(self.live, cookie);
+        hold_to(
+            !is_done || !self.scene.is_open_since(stamp),
+            Stop::EarlyCookie,
+        )
+    }
+
+    /// Begins a barrier once the processor that departs has callbacks, and visits that one once it
+    /// departed. Answers how many callbacks were queued before.
+    fn begin_barrier<R: Wait>(&mut self, rt: &R) -> Result<usize, Stop> {
+        let queued = self.scene.queued.count();
+        self.scene.wait(&self.scene.queued, queued, 1);
+        let departures = self.scene.departure.count();
+        let before = self.calls.begin_barrier(rt, self.live)?;
+        self.live.visit(rt, 0)?;
+        self.scene.barrier.give();
+        self.scene.wait(&self.scene.departure, departures, 1);
+        for cpu in 1..ALL_CPUS {
+            self.live.visit(rt, cpu)?;
+        }
+        Ok(before)
+    }
+
+    /// A cookie is polled while a barrier runs.
+    fn go_round<R: Wait>(&mut self, rt: &R) -> Result<(), Stop> {
+        let stamp = self.scene.stamp();
+        let cookie = self.watcher.take(self.live);
+        let before = self.begin_barrier(rt)?;
+        for _ in 0..u64::MAX {
+            self.poll(cookie, stamp)?;
+            if self.scene.is_ended() || self.calls.test_barrier(rt, self.live, before)? {
+                break;
+            }
+            yield_now();
+        }
+        Ok(())
+    }
+
+    /// Begins barriers until the run ends, and queues a callback now and then.
+    fn wait<R: Wait>(&mut self, rt: &R) -> Result<(), Stop> {
+        self.scene.gather()?;
+        self.seat.idle(self.live)?;
+        for round in 0..u64::MAX {
+            if self.scene.is_ended() {
+                break;
+            }
+            if round % 4 == 3 {
+                self.calls.queue(rt, self.scene, self.live, &mut self.seat)?;
+            }
+            self.go_round(rt)?;
+        }
+        self.live.offline(rt, &mut self.seat)?;
+        compare(self.live.tend(rt, self.seat.cpu()), Ok((0, 0)))
+    }
+
+    /// The waiter's thread.
+    pub(crate) fn run<R: Wait>(mut self, rt: &R) {
+        let result = self.wait(rt);
+        self.scene.end(rt, result);
+    }
+}
