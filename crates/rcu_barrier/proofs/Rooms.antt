@@ -5,7 +5,6 @@ use Rattle.std.proofs.lemmas.List.{get_or-map, get_or-set_same, get_or_default, 
 use Rattle.std.proofs.Math.Seq.{map-set_same}
 use Rattle.rcu_cblist.specs.SegList.{Item, Segmented, after_migrate, as_it_leaves, markers}
 use Rattle.rcu_barrier.specs.Tending.{AreFours}
-use Rattle.std.specs.Prelude.{slice_index_or}
 use Rattle.rcu_barrier.specs.Lists.{IsSound, items_in, list_at, lists_after_move, markers_in, rooms_in, unvisited}
 use Rattle.rcu_barrier.proofs.Kept.{relisted}
 
@@ -95,19 +94,13 @@ module _ {X : Type 0} where
       ap (λ l. set (items_in lists) cpu l) (after ∙ ap change (read_items lists cpu old inside read))
 
   -- the first list, read off the front one
-  pub first_read : (lists front : List (Segmented X)) (d : Segmented X) → front ≡ take 1 lists → 0 < length lists →
+  first_read : (lists front : List (Segmented X)) (d : Segmented X) → front ≡ take 1 lists → 0 < length lists →
       (get_or front 0 d).items ≡ list_at (items_in lists) 0
   first_read [] front d is some = absurd (omega arith)
   first_read (x ∷ xs) front d is some = ap (λ l. (get_or l 0 d).items) is
 
-  -- the first list has the room of its place
-  pub first_room : (lists front : List (Segmented X)) (d : Segmented X) → front ≡ take 1 lists → 0 < length lists →
-      (get_or front 0 d).room ≡ slice_index_or (rooms_in lists) 0 0
-  first_room [] front d is some = absurd (omega arith)
-  first_room (x ∷ xs) front d is some = ap (λ l. (get_or l 0 d).room) is
-
   -- another list, read off the lists behind the first
-  pub other_read : (lists back : List (Segmented X)) (from : ℕ) (d : Segmented X) → back ≡ drop 1 lists → 0 < from →
+  other_read : (lists back : List (Segmented X)) (from : ℕ) (d : Segmented X) → back ≡ drop 1 lists → 0 < from →
       from < length lists → (get_or back (from - 1) d).items ≡ list_at (items_in lists) from
   other_read [] back from d is above inside = absurd (omega arith)
   other_read (x ∷ xs) back zero d is above inside = absurd (omega arith)

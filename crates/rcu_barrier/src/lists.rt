@@ -290,25 +290,6 @@ impl<T: Drop> Lists<T> {
         if self.visits.contains(cpu) {
             return Ok(Visit::Already);
         }
-        self.mark(cpu)
-    }
-
-    /// Visits an unvisited processor: a marker goes behind its list, if that is not empty.
-    ///
-    /// Fault `NoMemory` (16), only where it would put a marker, for which there is no room.
-    fn mark(&mut self, cpu: u32) -> Result<Visit, Fault>
-        requires cpu { cpu < cpus_of self.old.all }
-        requires busy { self.old.all.running ≡ true }
-        requires unvisited { is_visited self.old.all cpu ≡ false }
-        ensures answer { IfOk result (λ visit. visit ≡ visit_answer self.old.all cpu) }
-        ensures ok { OnOk result (self.new.all ≡ lists_after_visit self.old.all cpu) }
-        ensures err { IfErr result (λ fault. fault ≡ Fault.NoMemory) }
-        ensures memory { OnErr result (visit_answer self.old.all cpu ≡ Visit.Marked) }
-        ensures succeeds { HasRoomIn self.old cpu 1 → IsOk result }
-        ensures unchanged { OnErr result (self.new.all ≡ self.old.all) }
-        ensures room { room_of self.old cpu ≤ room_of self.new cpu }
-        ensures others { KeepsOtherRooms self.old cpu self.new }
-    {
         let list = &mut self.lists[cpu as usize];
         let marked = list.entrain()?;
         self.visits.insert(cpu);

@@ -2,9 +2,7 @@
 ghost use Rattle.std.specs.Prelude.{◌≡◌, ◌<◌, ◌≤◌, ◌≢◌, ◌&&◌, [], map, not, length, replicate};
 ghost use Rattle.std.specs.Prelude.{slice_index_or, slice_set};
 ghost use Rattle.std.specs.Prelude.{IsOk, IfOk, IfErr, OnOk, OnErr};
-ghost use Rattle.rcu_cblist.specs.SegList.{HasRoom, after_migrate, after_renumber, as_it_leaves};
-ghost use Rattle.rcu_cblist.specs.SegList.{callbacks};
-ghost use Rattle.rcu_cblist.specs.SegList.{is_empty};
+ghost use Rattle.rcu_cblist.specs.SegList.{after_renumber, as_it_leaves, callbacks, is_empty};
 ghost use Rattle.rcu_barrier.specs.Lists.{HasRoomAt, items_in, list_at, lists_after_move};
 ghost use Rattle.rcu_barrier.specs.Lists.{rooms_in};
 
@@ -69,38 +67,9 @@ pub(crate) fn move_to_first<T: Drop>(
         ≡ slice_set (rooms_in lists.old) 0 (slice_index_or (rooms_in lists.new) 0 0) }
 {
     let (first, others) = lists.split_at_mut(1);
-    move_behind(&mut first[0], &mut others[from - 1], owed)
-}
-
-/// Moves a list to the end of a target, with a marker behind it where a visit is owed. Returns how
-/// many callbacks moved, and whether a marker did.
-///
-/// Fault `NoMemory` (16), only where the list is not empty, and the target has no room for it.
-fn move_behind<T: Drop>(
-    target: &mut SegList<T>,
-    list: &mut SegList<T>,
-    owed: bool,
-) -> Result<(u64, bool), Fault>
-    ensures moved { IfOk result (λ n. n.0 ≡ length (callbacks list.old.items)) }
-    ensures marked { IfOk result (λ n. n.1 ≡ (owed && not (is_empty list.old.items))) }
-    ensures ok { OnOk result (target.new.items
-        ≡ after_migrate target.old.items (as_it_leaves list.old.items owed)) }
-    ensures emptied { OnOk result (list.new.items ≡ []) }
-    ensures err { IfErr result (λ fault. fault ≡ Fault.NoMemory) }
-    ensures memory { OnErr result (list.old.items ≢ []) }
-    ensures succeeds { HasRoom target.old (length (as_it_leaves list.old.items owed))
-        → IsOk result }
-    ensures unchanged { OnErr result (list.new.items ≡ list.old.items) }
-    ensures target { OnErr result (target.new.items ≡ target.old.items) }
-    ensures room { list.new.room ≡ list.old.room }
-    ensures target_room { target.old.room ≤ target.new.room }
-{
+    let list = &mut others[from - 1];
     let count = list.count();
     let marked = owed && !list.is_empty();
-    if owed {
-        list.migrate_marked_into(target)?;
-    } else {
-        list.migrate_into(target)?;
-    }
+    list.move_into(&mut first[0], owed)?;
     Ok((count, marked))
 }

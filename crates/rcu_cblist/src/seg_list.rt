@@ -177,33 +177,13 @@ impl<T: Drop> SegList<T> {
         Ok(true)
     }
 
-    /// Moves all to a target, with a marker put behind it first where it is not empty: what
-    /// `entrain` and then `migrate_into` leave, all or nothing. Costs as [`SegList::migrate_into`].
+    /// Moves all to a target as [`SegList::migrate_into`], with a marker put behind it first where
+    /// that is wanted and it is not empty: what `entrain` and then `migrate_into` leave, all or
+    /// nothing. Room for both is made before either. Costs as that.
     ///
     /// Fault `NoMemory` (16), only where there is something to move, for which the target has no
     /// room.
-    pub fn migrate_marked_into(&mut self, target: &mut SegList<T>) -> Result<(), Fault>
-        ensures ok { OnOk result (target.new.items
-            ≡ after_migrate target.old.items (after_entrain self.old.items)) }
-        ensures emptied { OnOk result (self.new.items ≡ []) }
-        ensures err { IfErr result (λ fault. fault ≡ Fault.NoMemory) }
-        ensures memory { OnErr result (self.old.items ≢ []) }
-        ensures succeeds { HasRoom target.old (length (after_entrain self.old.items))
-            → IsOk result }
-        ensures unchanged { OnErr result (self.new.items ≡ self.old.items) }
-        ensures target { OnErr result (target.new.items ≡ target.old.items) }
-        ensures room { self.new.room ≡ self.old.room }
-        ensures target_room { target.old.room ≤ target.new.room }
-    {
-        self.move_into(target, true)
-    }
-
-    /// Moves all to a target, with a marker put behind it first where that is wanted and it is not
-    /// empty. Room for both is made before either.
-    ///
-    /// Fault `NoMemory` (16), only where there is something to move, for which the target has no
-    /// room.
-    fn move_into(&mut self, target: &mut SegList<T>, marked: bool) -> Result<(), Fault>
+    pub fn move_into(&mut self, target: &mut SegList<T>, marked: bool) -> Result<(), Fault>
         ensures ok { OnOk result (target.new.items
             ≡ after_migrate target.old.items (as_it_leaves self.old.items marked)) }
         ensures emptied { OnOk result (self.new.items ≡ []) }

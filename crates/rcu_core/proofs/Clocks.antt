@@ -120,20 +120,21 @@ done_ticks s g h p q d =
       | inr l ↦ first_done s.last (tag_now g) (tag_now h) (i.alone l) (j.alone l) d
     ])
 
+-- the number while a grace period runs is one at which one runs
+pub running_number : (ends : ℕ) (running : Bool) → running ≡ true → is_running (number_at ends running) ≡ true
+running_number ends running runs = grind (arith, nat_tests, runs)
+
 -- a tag is before that of a running grace period where the clock was lower
 pub before_ticks : (s : Size) (g h : History) → AreAccepted s g → AreAccepted s h → running h ≡ true
     → is_before (tag_now g) (tag_now h) ≡ nat_lt (clock g) (clock h)
 before_ticks s g h p q r =
     let i = in_epoch s g p in let j = in_epoch s h q in
     (elim (cases_Bool (is_last s.last)) [
-      | inl l ↦ before_by_clock s.last (tag_now g) (tag_now h) (i.within l) (runs (ends_in_epoch h) (running h) r) (j.within l)
+      | inl l ↦ before_by_clock s.last (tag_now g) (tag_now h) (i.within l) (running_number (ends_in_epoch h) (running h) r) (j.within l)
       | inr l ↦ before_same (epoch g * s.last) (tag_now g) (tag_now h) (i.alone l ∙ sym (j.alone l))
           ∙ ap (λ n. nat_lt (epoch g * s.last + number g) (n * s.last + number h)) (i.alone l ∙ sym (j.alone l))
     ])
     ∙ ap₂ (λ a b. nat_lt a b) (sym i.ticks) (sym j.ticks)
-  where
-    runs : (n : ℕ) (b : Bool) → b ≡ true → is_running (number_at n b) ≡ true
-    runs n b e = grind (arith, nat_tests, e)
 
 -- a lower clock is that of a tag before
 pub before_where_lower : (s : Size) (t : Tag) (h : History) → AreAccepted s h → (is_last s.last ≡ false → t.epoch ≡ 0)

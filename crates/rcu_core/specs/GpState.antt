@@ -16,7 +16,7 @@ use Rattle.rcu_hotplug.specs.Hotplug as hotplug
 use Rattle.rcu_hotplug.specs.Hotplug.{Processors, Call, Begin}
 use Rattle.rcu_cblist.specs.SegList.{Item, Mark, Of, Marker, Unmarked, Until, Done, numbers}
 use Rattle.rcu_barrier.specs.Lists as lists
-use Rattle.rcu_barrier.specs.Lists.{AllLists}
+use Rattle.rcu_barrier.specs.Lists.{AllLists, ListsWithRooms}
 use Rattle.rcu_core.specs.Callbacks.{greatest_from}
 use Rattle.rcu_core.specs.Situation.{PeriodSituation, wants_begin}
 use Rattle.rcu_core.specs.declared.current_answer.CurrentAnswer.{CurrentAnswer}
@@ -31,6 +31,11 @@ pub record Grace (X : Type 0) : Type 0 where
   pub needed : Number
   pub processors : Processors
   pub lists : AllLists X
+
+-- what contracts see of the state: what it says, and for how many items each list has room before it grows
+pub record GraceWithRooms (X : Type 0) : Type 0 where
+  pub grace : Grace X
+  pub rooms : List ℕ
 
 -- a callback was queued no later than now
 abbrev pub IsNoLater : Tag → Tag → Type 0
@@ -53,6 +58,10 @@ abbrev pub HasWaited : Tag → Tag → Type 0
 HasWaited now at = (at.epoch ≤ now.epoch) × IsDue now at now.number
 
 module _ {X : Type 0} where
+  -- the lists, with their rooms
+  abbrev pub lists_of : GraceWithRooms X → ListsWithRooms X
+  lists_of g = record { all = g.grace.lists; rooms = g.rooms }
+
   -- before any call nothing ran, nothing is needed, processor 0 alone is online, and the lists are empty
   abbrev pub at_first : ℕ → Number → ℕ → Grace X
   at_first cpus last most = record {

@@ -49,10 +49,14 @@ impl<A: Awaited, T: Drop> Model for Core<A, T> {
 
     ghost Value = { State T };
 
-    ghost view = { λ m. record { grace = m.gp; cpus = m.cpus.items; made = m.reports.items } };
+    ghost view = { λ m. record {
+      grace = m.gp.grace;
+      cpus = m.cpus.items;
+      made = m.reports.items;
+    } };
 
     ghost invariant = { λ m. record {
-      sound : IsSound (record { grace = m.gp; cpus = m.cpus.items; made = m.reports.items });
+      sound : IsSound (record { grace = m.gp.grace; cpus = m.cpus.items; made = m.reports.items });
     } };
 }
 

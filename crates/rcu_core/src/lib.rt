@@ -7,6 +7,7 @@ pub mod current_answer;
 pub mod definition_laws;
 pub mod event;
 pub mod event_core;
+pub mod gp_lists;
 pub mod gp_state;
 pub mod laws;
 pub mod reply;

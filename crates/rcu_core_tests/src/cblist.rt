@@ -122,10 +122,10 @@ fn migrate(rt: &impl Abort, row: usize, list: &mut SegList<u64>, target: &mut Se
 /// growth.
 fn migrate_marked(rt: &impl Abort, row: usize, list: &mut SegList<u64>, target: &mut SegList<u64>) {
     let (before, there) = (ask(list), ask(target));
-    if let Err(fault) = list.migrate_marked_into(target) {
+    if let Err(fault) = list.move_into(target, true) {
         refused(rt, row, fault, ask(list), before);
         refused(rt, row, fault, ask(target), there);
-        assert_eq!(rt; (row, list.migrate_marked_into(target)), (row, Ok(())));
+        assert_eq!(rt; (row, list.move_into(target, true)), (row, Ok(())));
     }
 }
 
@@ -439,7 +439,7 @@ fn markers_passed(list: &mut SegList<u64>, max: u64) -> Result<u64, Fault> {
 fn call_without_memory(rt: &impl Abort, list: &mut SegList<u64>, empty: &mut SegList<u64>) {
     assert_eq!(rt; empty.entrain(), Ok(false));
     assert_eq!(rt; empty.migrate_into(list), Ok(()));
-    assert_eq!(rt; empty.migrate_marked_into(list), Ok(()));
+    assert_eq!(rt; empty.move_into(list, true), Ok(()));
     accelerate(rt, list, 4);
     list.advance(0);
     list.renumber();

@@ -1,27 +1,20 @@
 -- An old section lies on a processor that is awaited.
-use Rattle.std.proofs.Common.{◌≡◌, ℕ, ◌<◌, ◌≤◌, Bool, true, List, Some, get_or, sym, ap, ◌∙◌, subst, arith, inl, inr}
+use Rattle.std.proofs.Common.{◌≡◌, ℕ, ◌<◌, ◌≤◌, true, List, Some, get_or, sym, ◌∙◌, subst, arith, inl, inr}
 use Rattle.std.proofs.lemmas.Bool.{cases_Bool}
-use Rattle.std.proofs.lemmas.Bool.Decides.{nat_tests}
 use mathlib.Core.Option.{some}
 use lib.ListN.{get_elem?}
 use Rattle.atomic_table.specs.Table.{State}
-use Rattle.rcu_seq.specs.Numbers.{Number, is_running, number_at}
+use Rattle.rcu_seq.specs.Numbers.{Number, is_running}
 use Rattle.rcu_seq.specs.Seq.{number_of}
 use Rattle.rcu_node.specs.CpuSet.{is_in}
 use Rattle.rcu_core.specs.GpState.{Grace}
+use Rattle.rcu_core.proofs.Clocks.{running_number}
 use Rattle.rcu_live.specs.Client.{Slots, Views}
 use Rattle.rcu_live.specs.Engine.{AwaitsTheOthers}
 use Rattle.rcu_live.specs.Rule.{Fits, IsKept, is_cleared}
 use Rattle.rcu_live.specs.View.{IsOfEngine}
 use Rattle.rcu_live.specs.declared.view.Role.TheVariants.{Cpu}
 use Rattle.rcu_live.specs.declared.view.View.{View}
-
--- the number of a counter while a grace period runs
-running_number : (ends : ℕ) (running : Bool) → running ≡ true → is_running (number_at ends running) ≡ true
-running_number ends running runs = ap (λ (b : Bool). is_running (number_at ends b)) runs ∙ one ends
-  where
-    one : (ends : ℕ) → is_running (number_at ends true) ≡ true
-    one ends = grind (arith, nat_tests)
 
 pub old_awaited : {S C X : Type 0} (holds : List ℕ → Slots S → Views C → Type 0) (cpus : ℕ) (s : State S (View C))
     (i j : ℕ) (e v : View C) (g : Grace X) (at : Number)

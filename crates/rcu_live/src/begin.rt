@@ -14,13 +14,14 @@ use rcu_node::cpu_set::CpuSet;
 
 /// The processor is online from now on exactly where it is here. Processor 0 is.
 fn set_online<A: Awaited, T: Drop>(gp: &mut GpState<A, T>, cpu: u32, is_here: bool)
-    requires cpu { cpu < cpus_of gp.old.processors }
+    requires cpu { cpu < cpus_of gp.old.grace.processors }
     requires boot { cpu ≡ 0 → is_here ≡ true }
-    ensures online { gp.new.processors.online ≡ slice_set gp.old.processors.online cpu is_here }
-    ensures cpus { cpus_of gp.new.processors ≡ cpus_of gp.old.processors }
-    ensures seq { gp.new.seq ≡ gp.old.seq }
-    ensures needed { gp.new.needed ≡ gp.old.needed }
-    ensures lists { gp.new.lists ≡ gp.old.lists }
+    ensures online { gp.new.grace.processors.online
+        ≡ slice_set gp.old.grace.processors.online cpu is_here }
+    ensures cpus { cpus_of gp.new.grace.processors ≡ cpus_of gp.old.grace.processors }
+    ensures seq { gp.new.grace.seq ≡ gp.old.grace.seq }
+    ensures needed { gp.new.grace.needed ≡ gp.old.grace.needed }
+    ensures lists { gp.new.grace.lists ≡ gp.old.grace.lists }
 {
     // The call is refused where the processor is so already. Then nothing has to change.
     let _ = if is_here {
@@ -54,21 +55,21 @@ pub(crate) fn load_own_words<A: Awaited, T: Drop, P: Client>(
     requires table { seat.old.table_id ≡ board.now.table }
     requires engine { IsOfEngine seat.old.me.0 }
     requires begun { seat.old.me.0.own_word_loads ≡ [] }
-    requires cpus { cpus_of gp.old.processors ≡ board.now.cpus }
+    requires cpus { cpus_of gp.old.grace.processors ≡ board.now.cpus }
     requires already_quiescent { length already_quiescent.old ≡ board.now.cpus }
     ensures table { seat.new.table_id ≡ seat.old.table_id }
     ensures view { seat.new.me.0
         ≡ after_own_word_loads seat.old.me.0 (loaded_word seat.new.me.0.own_word_loads)
         board.now.cpus }
-    ensures online { gp.new.processors.online
+    ensures online { gp.new.grace.processors.online
         ≡ listed board.now.cpus (λ cpu. not (loaded_word seat.new.me.0.own_word_loads cpu == 0)) }
     ensures already_quiescent { already_quiescent.new
         ≡ listed board.now.cpus
         (λ cpu. nat_lt number (loaded_word seat.new.me.0.own_word_loads cpu)) }
-    ensures cpus { cpus_of gp.new.processors ≡ cpus_of gp.old.processors }
-    ensures seq { gp.new.seq ≡ gp.old.seq }
-    ensures needed { gp.new.needed ≡ gp.old.needed }
-    ensures lists { gp.new.lists ≡ gp.old.lists }
+    ensures cpus { cpus_of gp.new.grace.processors ≡ cpus_of gp.old.grace.processors }
+    ensures seq { gp.new.grace.seq ≡ gp.old.grace.seq }
+    ensures needed { gp.new.grace.needed ≡ gp.old.grace.needed }
+    ensures lists { gp.new.grace.lists ≡ gp.old.grace.lists }
 {
     for cpu in 0..gp.cpus() {
         let word = board.load_own(seat, cpu);
@@ -79,10 +80,10 @@ pub(crate) fn load_own_words<A: Awaited, T: Drop, P: Client>(
 
 /// Reports each processor of the set with the number of the running grace period.
 pub(crate) fn hear_all<A: Awaited, T: Drop>(gp: &mut GpState<A, T>, already_quiescent: &CpuSet)
-    requires running { gp.old.seq.running ≡ true }
-    requires already_quiescent { length already_quiescent.now ≡ cpus_of gp.old.processors }
-    ensures { gp.new
-        ≡ with_awaited gp.old (unheard gp.old.processors.awaited (is_in already_quiescent.now)) }
+    requires running { gp.old.grace.seq.running ≡ true }
+    requires already_quiescent { length already_quiescent.now ≡ cpus_of gp.old.grace.processors }
+    ensures { gp.new.grace ≡ with_awaited gp.old.grace
+        (unheard gp.old.grace.processors.awaited (is_in already_quiescent.now)) }
 {
     for cpu in 0..already_quiescent.cpus() {
         if already_quiescent.contains(cpu) {

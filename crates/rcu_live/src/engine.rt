@@ -42,17 +42,17 @@ impl<A: Awaited, T: Drop, P: Client> Model for Engine<A, T, P> {
       table = (arc_value e.board).table;
       cpus = (arc_value e.board).cpus;
       view = e.seat.me.0;
-      grace = e.gp;
+      grace = e.gp.grace;
     } };
 
     ghost invariant = { λ e. record {
       fits : e.seat.table_id ≡ (arc_value e.board).table;
       role : IsOfEngine e.seat.me.0;
-      number : e.seat.me.0.seen ≡ number_of e.gp.seq;
-      epoch : e.gp.seq.epoch ≡ 0;
-      cpus : cpus_of e.gp.processors ≡ (arc_value e.board).cpus;
+      number : e.seat.me.0.seen ≡ number_of e.gp.grace.seq;
+      epoch : e.gp.grace.seq.epoch ≡ 0;
+      cpus : cpus_of e.gp.grace.processors ≡ (arc_value e.board).cpus;
       already_quiescent : length e.already_quiescent ≡ (arc_value e.board).cpus;
-      awaited : AwaitsTheOthers (arc_value e.board).cpus e.seat.me.0.own_word_loads e.gp;
+      awaited : AwaitsTheOthers (arc_value e.board).cpus e.seat.me.0.own_word_loads e.gp.grace;
     } };
 }
 
@@ -66,15 +66,15 @@ impl<A: Awaited, T: Drop, P: Client> Engine<A, T, P> {
     ) -> Self
         requires fits { seat.table_id ≡ (arc_value board).table }
         requires role { IsOfEngine seat.me.0 }
-        requires number { seat.me.0.seen ≡ number_of gp.seq }
-        requires epoch { gp.seq.epoch ≡ 0 }
-        requires idle { gp.seq.running ≡ false }
-        requires cpus { cpus_of gp.processors ≡ (arc_value board).cpus }
+        requires number { seat.me.0.seen ≡ number_of gp.grace.seq }
+        requires epoch { gp.grace.seq.epoch ≡ 0 }
+        requires idle { gp.grace.seq.running ≡ false }
+        requires cpus { cpus_of gp.grace.processors ≡ (arc_value board).cpus }
         requires already_quiescent { length already_quiescent ≡ (arc_value board).cpus }
         ensures table { result.table ≡ (arc_value board).table }
         ensures cpus { result.cpus ≡ (arc_value board).cpus }
         ensures view { result.view ≡ seat.me.0 }
-        ensures grace { result.grace ≡ gp }
+        ensures grace { result.grace ≡ gp.grace }
     {
         Engine {
             board,
@@ -93,9 +93,9 @@ impl<A: Awaited, T: Drop, P: Client> Engine<A, T, P> {
 
     /// The state of the grace periods and the callbacks, to be read.
     pub fn grace(&self) -> &GpState<A, T>
-        ensures value { result.now ≡ self.now.grace }
-        ensures cpus { cpus_of result.now.processors ≡ self.now.cpus }
-        ensures epoch { result.now.seq.epoch ≡ 0 }
+        ensures value { result.now.grace ≡ self.now.grace }
+        ensures cpus { cpus_of result.now.grace.processors ≡ self.now.cpus }
+        ensures epoch { result.now.grace.seq.epoch ≡ 0 }
     {
         &self.gp
     }

@@ -138,4 +138,22 @@ impl<A: Awaited, T: Drop, P: Client> Engine<A, T, P> {
     {
         self.gp.barrier_test()
     }
+
+    /// Gives back the memory that a processor's list does not need, as
+    /// [`GpState::shrink`](rcu_core::gp_state::GpState::shrink), and returns for how many items,
+    /// callbacks and markers, it has room then. An empty list keeps none. Costs a step an item.
+    ///
+    /// Fault `BadCpu` (1): there is no such processor.
+    pub fn shrink(&mut self, cpu: u32) -> Result<u64, Fault>
+        ensures fault { result_err result ≡ cpu_refusal self.old cpu }
+        ensures fits { IfOk result (λ room. length (list_of self.old.grace.lists cpu) ≤ room) }
+        ensures empty { IfOk result (λ room. list_of self.old.grace.lists cpu ≡ [] → room ≡ 0) }
+        ensures unchanged { self.new ≡ self.old }
+    {
+        if cpu >= self.cpus() {
+            return Err(Fault::BadCpu);
+        }
+        self.gp.shrink(cpu);
+        Ok(self.gp.lists().room(cpu))
+    }
 }

@@ -55,17 +55,13 @@ impl<const LEAF: u32, const FAN: u32, T: Drop, P: Client> Live<LEAF, FAN, T, P> 
         ensures unchanged { OnErr result (seat.new ≡ seat.old) }
     {
         seat.arrive(self)?;
-        self.join(rt, seat.cpu());
-        Ok(())
-    }
-
-    /// The processor joins the engine, under the lock.
-    fn join(&self, rt: &impl Wait, cpu: u32) {
+        let cpu = seat.cpu();
         let mut engine = self.engine.lock(rt);
         // A seat's processor is one of the engine's, which no clause can say across the lock.
         if cpu < engine.cpus() {
             engine.join(cpu);
         }
+        Ok(())
     }
 
     /// Takes the processor offline: its own word becomes 0, also where it is; then, under the lock,
@@ -89,14 +85,7 @@ impl<const LEAF: u32, const FAN: u32, T: Drop, P: Client> Live<LEAF, FAN, T, P> 
             fault ≡ Fault.Offline → seat.old.view.own_word ≡ 0) }
     {
         let again = seat.depart(self)?;
-        self.leave(rt, seat.cpu(), again)
-    }
-
-    /// The processor leaves the engine, under the lock. Returns how many callbacks moved.
-    fn leave(&self, rt: &impl Wait, cpu: u32, again: bool) -> Result<u64, Fault>
-        ensures fault { IfErr result (λ fault. is_leave_fault fault ≡ true) }
-        ensures again { IfErr result (λ fault. fault ≡ Fault.Offline → again ≡ true) }
-    {
+        let cpu = seat.cpu();
         let mut engine = self.engine.lock(rt);
         // A seat's processor is one of the engine's, which no clause can say across the lock.
         if cpu < engine.cpus() {

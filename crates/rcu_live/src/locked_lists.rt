@@ -87,4 +87,14 @@ impl<const LEAF: u32, const FAN: u32, T: Drop, P: Client> Live<LEAF, FAN, T, P> 
     {
         self.engine.lock(rt).barrier_test()
     }
+
+    /// Gives back the memory that a processor's list does not need, and returns for how many items
+    /// it has room then, as [`Engine::shrink`](crate::engine::Engine).
+    ///
+    /// Fault `BadCpu` (1): there is no such processor.
+    pub fn shrink(&self, rt: &impl Wait, cpu: u32) -> Result<u64, Fault>
+        ensures { IfErr result (λ fault. fault ≡ Fault.BadCpu) }
+    {
+        self.engine.lock(rt).shrink(cpu)
+    }
 }

@@ -230,7 +230,7 @@ fn make_state<const LEAF: u32, const FAN: u32, T: Drop>(
     most: u64,
 ) -> Result<(GpState<Tree<LEAF, FAN>, T>, CpuSet), AllocError>
     requires { (1 ≤ most) × (most ≤ 2 ^ 62) }
-    ensures state { IfOk result (λ made. made.0 ≡ grace.at_first cpus last most) }
+    ensures state { IfOk result (λ made. made.0.grace ≡ grace.at_first cpus last most) }
     ensures already_quiescent { IfOk result (λ made. length made.1 ≡ cpus) }
 {
     let (Ok(tree), Ok(already_quiescent)) = (Tree::new(alloc, cpus), CpuSet::new(alloc, cpus))

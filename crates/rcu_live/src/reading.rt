@@ -1,6 +1,5 @@
 //! A watcher that meets an open section, with no handle: nothing here waits or takes memory.
-ghost use Rattle.std.specs.Prelude.{◌≡◌, ◌+◌, IfErr, IfOk, IsOk, IsSome, None, OnErr, OnOk};
-ghost use Rattle.std.specs.Prelude.{false};
+ghost use Rattle.std.specs.Prelude.{◌≡◌, ◌+◌, IfOk, IsSome, OnErr, OnOk, false};
 ghost use Rattle.std.specs.Result.{result_err};
 ghost use Rattle.rcu_live.specs.CpuSeat.{quiesce_refusal};
 
@@ -59,32 +58,9 @@ pub fn read_beside<const LEAF: u32, const FAN: u32, T: Drop, P: Client>(
     ensures never { IfOk result (λ is_done. is_done ≡ false) }
 {
     seat.quiesce(live)?;
-    let is_done = read_once(live, seat, watcher)?;
-    seat.quiesce(live)?;
-    Ok(is_done)
-}
-
-/// The processor, which is online and awake with no open section, reads beside the watcher in a
-/// section of its own. No fault comes.
-fn read_once<const LEAF: u32, const FAN: u32, T: Drop, P: Client>(
-    live: &Live<LEAF, FAN, T, P>,
-    seat: &mut CpuSeat<P>,
-    watcher: &mut Watcher<P>,
-) -> Result<bool, Fault>
-    requires seat { seat.old.table ≡ live.now.table }
-    requires watcher { watcher.old.table ≡ live.now.table }
-    requires quiet { quiesce_refusal seat.old ≡ None }
-    ensures seat { seat.new.table ≡ seat.old.table }
-    ensures watcher { watcher.new.table ≡ watcher.old.table }
-    ensures quiet { quiesce_refusal seat.new ≡ None }
-    ensures looked { seat.new.view.loads ≡ seat.old.view.loads + 4 }
-    ensures stored { seat.new.view.stores ≡ seat.old.view.stores }
-    ensures watched { watcher.new.view.loads ≡ watcher.old.view.loads + 4 }
-    ensures ok { IsOk result }
-    ensures never { IfOk result (λ is_done. is_done ≡ false) }
-{
     seat.enter(live)?;
     let is_done = is_done_beside(live, seat, watcher);
     seat.exit(live)?;
+    seat.quiesce(live)?;
     Ok(is_done)
 }

@@ -104,13 +104,13 @@ fn migrate(
         return;
     }
     let mut moved = if marked {
-        list.migrate_marked_into(target)
+        list.move_into(target, true)
     } else {
         list.migrate_into(target)
     };
     if moved.is_err() {
         moved = if marked {
-            list.migrate_marked_into(target)
+            list.move_into(target, true)
         } else {
             list.migrate_into(target)
         };

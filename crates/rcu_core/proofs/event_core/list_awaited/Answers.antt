@@ -1,4 +1,4 @@
-use Rattle.std.proofs.Common.{rules, ◌<◌, ap, arith, ◌∙◌, length, sym, vec_capacity, vec_len}
+use Rattle.std.proofs.Common.{rules, ◌<◌, ap, arith, ◌∙◌, length, sym}
 use Rattle.rcu_core.proofs.Counting.{has_room, which_no, which_yes}
 use Rattle.rcu_core.proofs.event_core.list_awaited.Goals as goal
 use Rattle.rcu_core.proofs.event_core.list_awaited.Goals.{else-awaits, then-awaits}

@@ -7,5 +7,5 @@ use Rattle.rcu_live.proofs.begin.hear_all.Given as goal
 
 abbrev pub invariant-loop-cpu : goal.invariant-loop-cpu
 invariant-loop-cpu g l =
-    (l.gp ≡ with_awaited l.initial.gp (unheard l.initial.gp.processors.awaited (below l.cpu l.already_quiescent)))
-    × (cpus_of l.gp.processors ≡ length l.already_quiescent)
+    (l.gp.grace ≡ with_awaited l.initial.gp.grace (unheard l.initial.gp.grace.processors.awaited (below l.cpu l.already_quiescent)))
+    × (cpus_of l.gp.grace.processors ≡ length l.already_quiescent)

@@ -1,10 +1,9 @@
-use Rattle.std.proofs.Common.{◌≡◌, ℕ, ◌+◌, ap, length, refl, sym, ◌∙◌, arith}
-use Rattle.std.proofs.lemmas.List.FromFn.{length-map-range_with_len}
-use Rattle.rcu_live.specs.CpuSeat.{Seated, at_first}
+use Rattle.std.proofs.Common.{ℕ, ◌+◌, ap, sym, ◌∙◌}
+use Rattle.rcu_live.specs.CpuSeat.{at_first}
 use Rattle.rcu_live.specs.View.{engine_seat}
-use Rattle.rcu_live.specs.Watcher.{Watching, watcher_at_first}
+use Rattle.rcu_live.specs.Watcher.{watcher_at_first}
 use Rattle.rcu_live.specs.Words.{base_of}
-use Rattle.rcu_live.proofs.RowLemmas.{each_made, one_more}
+use Rattle.rcu_live.proofs.RowLemmas.{one_more}
 use Rattle.rcu_live.proofs.seats.deal.Goals as goal
 
 pub loop-cpu-preserved : goal.loop-cpu-preserved

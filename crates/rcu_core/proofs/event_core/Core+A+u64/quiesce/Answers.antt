@@ -7,7 +7,7 @@ use Rattle.rcu_core.proofs.event_core.Core+A+u64.quiesce.Goals as goal
 
 pub invariant_of-self-2 : goal.invariant_of-self-2
 invariant_of-self-2 g c =
-    let within : c.args.cpu < cpus_of c.self.inside.gp.processors = search rules in
+    let within : c.args.cpu < cpus_of c.self.inside.gp.grace.processors = search rules in
     let here : c.index.result.now ≡ processor c.self.inside.cpus.items c.args.cpu =
     at_place _ _ _ c.self.invariant.sound within (rw c.in_ok-place.ensures.place at c.index.ensures) in
     let made : c.in_ok-report.report ≡ report_of (processor c.self.inside.cpus.items c.args.cpu) =

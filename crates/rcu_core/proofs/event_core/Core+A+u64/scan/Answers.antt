@@ -8,7 +8,7 @@ use Rattle.rcu_core.proofs.event_core.Core+A+u64.scan.Goals as goal
 pub returns-clause-ok : goal.returns-clause-ok
 returns-clause-ok g c =
     let v : State ℕ = record {
-      grace = c.self.inside.gp;
+      grace = c.self.inside.gp.grace;
       cpus = c.self.inside.cpus.items;
       made = c.self.inside.reports.items;
     } in

@@ -20,13 +20,13 @@ pub invariant_of-self : goal.invariant_of-self
 invariant_of-self g c =
     let i = c.self.invariant in
     let f = c.load_own_words.ensures in
-    let old = c.self.inside.gp in
+    let old = c.self.inside.gp.grace in
     let own_word_loads = c.load_own_words.new.seat.me.0.own_word_loads in
     let cpus = c.deref-2.result.now.cpus in
     let same : cpus ≡ (arc_value c.self.inside.board).cpus = ap (λ (o : Object). o.cpus) c.deref-2.ensures in
     let number = c.in_ok-number.ensures.number in
-    let state : c.hear_all.new.gp ≡ begun_from cpus (loaded_word own_word_loads) old =
-    begun_is old c.load_own_words.new.gp c.begin-2.new.self c.hear_all.new.gp cpus
+    let state : c.hear_all.new.gp.grace ≡ begun_from cpus (loaded_word own_word_loads) old =
+    begun_is old c.load_own_words.new.gp.grace c.begin-2.new.self.grace c.hear_all.new.gp.grace cpus
     (loaded_word own_word_loads) c.load_own_words.new.already_quiescent c.in_ok-number.number
     f.seq f.needed f.lists f.online f.already_quiescent number c.in-Ok.ensures.state c.hear_all.ensures in
     let view : c.load_own_words.new.seat.me.0
@@ -42,7 +42,7 @@ invariant_of-self g c =
       cpus = ap (λ (y : Grace g.row.T.Denot). length y.processors.awaited) state ∙ length-listed _ _ ∙ same;
       already_quiescent = ap (λ (l : List Bool). length l) f.already_quiescent ∙ length-listed _ _ ∙ same;
       awaited =
-          λ runs d low none. begun_awaits old c.hear_all.new.gp cpus (loaded_word own_word_loads) own_word_loads state
+          λ runs d low none. begun_awaits old c.hear_all.new.gp.grace cpus (loaded_word own_word_loads) own_word_loads state
           (ap (λ (v : View g.row.P-Known.Denot). v.own_word_loads) view) runs d
           (subst (λ (n : ℕ). d < n) (sym same) low) none;
     }
@@ -50,14 +50,14 @@ invariant_of-self g c =
 pub returns-clause-state : goal.returns-clause-state
 returns-clause-state g c =
     let f = c.load_own_words.ensures in
-    let old = c.self.inside.gp in
+    let old = c.self.inside.gp.grace in
     let v = c.self.inside.seat.me.0 in
     let own_word_loads = c.load_own_words.new.seat.me.0.own_word_loads in
     let cpus = c.deref-2.result.now.cpus in
     let same : cpus ≡ (arc_value c.self.inside.board).cpus = ap (λ (o : Object). o.cpus) c.deref-2.ensures in
     let number = c.in_ok-number.ensures.number in
-    let state : c.hear_all.new.gp ≡ begun_from cpus (loaded_word own_word_loads) old =
-    begun_is old c.load_own_words.new.gp c.begin-2.new.self c.hear_all.new.gp cpus
+    let state : c.hear_all.new.gp.grace ≡ begun_from cpus (loaded_word own_word_loads) old =
+    begun_is old c.load_own_words.new.gp.grace c.begin-2.new.self.grace c.hear_all.new.gp.grace cpus
     (loaded_word own_word_loads) c.load_own_words.new.already_quiescent c.in_ok-number.number
     f.seq f.needed f.lists f.online f.already_quiescent number c.in-Ok.ensures.state c.hear_all.ensures in
     let view : c.load_own_words.new.seat.me.0 ≡ after_own_word_loads (after_begin_store v (next_number old)) (loaded_word own_word_loads) cpus =

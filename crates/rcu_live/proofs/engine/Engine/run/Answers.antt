@@ -26,7 +26,7 @@ returns-clause-state g c = rw (← c.self.view_is) (λ i. record {
 pub returns-clause-due : goal.returns-clause-due
 returns-clause-due g c = record {
   waited =
-      waited_first c.self.inside.gp.seq c.value-number.result c.in_ok-calls.calls.items c.self.invariant.epoch
+      waited_first c.self.inside.gp.grace.seq c.value-number.result c.in_ok-calls.calls.items c.self.invariant.epoch
       c.value-number.ensures.value c.in_ok-calls.ensures.waited;
   few =
       subst (λ (calls : List (Queued g.row.T.Denot)). length calls ≤ c.args.max) (sym c.in_ok-calls.ensures.ok)

@@ -2,13 +2,13 @@ use Rattle.std.proofs.Common.{◌≡◌, ◌+◌, ◌<◌, true, false, length, 
 use Rattle.std.proofs.lemmas.List.{length-set}
 use Rattle.rcu_cblist.specs.SegList.{after_entrain, is_empty, markers}
 use Rattle.rcu_barrier.specs.Tending.{AreFours}
-use Rattle.rcu_barrier.specs.Lists.{IsSound, is_visited, items_in, markers_in, unvisited}
+use Rattle.rcu_barrier.specs.Lists.{IsSound, items_in, markers_in, unvisited}
 use Rattle.rcu_barrier.proofs.Fours.{fours_leaving}
 use Rattle.rcu_barrier.proofs.Rooms.{changed_items, other_rooms, relisted_in, rooms_rise, same_items}
 use Rattle.rcu_barrier.proofs.Markers.{unvisited_set}
 use Rattle.rcu_cblist.proofs.SegListLemmas.{entrained_empty, marked_some, markers_entrained, unmarked_none}
 use Rattle.std.proofs.lemmas.Result.{err_from_is_err_and}
-use Rattle.rcu_barrier.proofs.lists.Lists.mark.Goals as goal
+use Rattle.rcu_barrier.proofs.lists.Lists.visit.Goals as goal
 
 pub invariant_of-self-then-not-marked : goal.invariant_of-self-then-not-marked
 invariant_of-self-then-not-marked g c =
@@ -16,10 +16,9 @@ invariant_of-self-then-not-marked g c =
     let k = c.self.invariant in
     let old = c.index_mut-list.result.now in
     let inside : c.args.cpu < length (items_in i.lists.items) =
-    subst (λ v. c.args.cpu < length v.all.lists) (sym c.self.view_is) c.requires.cpu in
+    subst (λ v. c.args.cpu < length v.all.lists) (sym c.self.view_is) c.requires in
     let sized = k.1.sized in
-    let off : get_or i.visits c.args.cpu false ≡ false =
-    subst (λ v. is_visited v.all c.args.cpu ≡ false) (sym c.self.view_is) c.requires.unvisited in
+    let off : get_or i.visits c.args.cpu false ≡ false = sym c.contains.ensures ∙ c.if-contains.false in
     let fewer = unvisited_set i.visits c.args.cpu (omega arith) off in
     let after = c.in_ok-marked.ensures in
     let none : is_empty old.items ≡ true =
@@ -37,10 +36,9 @@ invariant_of-self-2 g c =
     let k = c.self.invariant in
     let old = c.index_mut-list.result.now in
     let inside : c.args.cpu < length (items_in i.lists.items) =
-    subst (λ v. c.args.cpu < length v.all.lists) (sym c.self.view_is) c.requires.cpu in
+    subst (λ v. c.args.cpu < length v.all.lists) (sym c.self.view_is) c.requires in
     let sized = k.1.sized in
-    let off : get_or i.visits c.args.cpu false ≡ false =
-    subst (λ v. is_visited v.all c.args.cpu ≡ false) (sym c.self.view_is) c.requires.unvisited in
+    let off : get_or i.visits c.args.cpu false ≡ false = sym c.contains.ensures ∙ c.if-contains.false in
     let fewer = unvisited_set i.visits c.args.cpu (omega arith) off in
     let after = c.in_ok-marked.ensures in
     let some : is_empty old.items ≡ false =
@@ -72,11 +70,10 @@ pub returns-then-not-marked-clause-ok : goal.returns-then-not-marked-clause-ok
 returns-then-not-marked-clause-ok g c =
     let i = c.self.inside in
     let inside : c.args.cpu < length (items_in i.lists.items) =
-    subst (λ v. c.args.cpu < length v.all.lists) (sym c.self.view_is) c.requires.cpu in
+    subst (λ v. c.args.cpu < length v.all.lists) (sym c.self.view_is) c.requires in
     let put = changed_items after_entrain i.lists.items c.args.cpu c.index_mut-list.result.now c.entrain.new.self inside
     c.index_mut-list.ensures.value c.in_ok-marked.ensures.ok in
-    let off : get_or i.visits c.args.cpu false ≡ false =
-    subst (λ v. is_visited v.all c.args.cpu ≡ false) (sym c.self.view_is) c.requires.unvisited in
+    let off : get_or i.visits c.args.cpu false ≡ false = sym c.contains.ensures ∙ c.if-contains.false in
     let flags = c.insert.ensures in
     rw (← c.self.view_is, off, put, flags) refl
 
@@ -84,11 +81,10 @@ pub returns-clause-ok : goal.returns-clause-ok
 returns-clause-ok g c =
     let i = c.self.inside in
     let inside : c.args.cpu < length (items_in i.lists.items) =
-    subst (λ v. c.args.cpu < length v.all.lists) (sym c.self.view_is) c.requires.cpu in
+    subst (λ v. c.args.cpu < length v.all.lists) (sym c.self.view_is) c.requires in
     let put = changed_items after_entrain i.lists.items c.args.cpu c.index_mut-list.result.now c.entrain.new.self inside
     c.index_mut-list.ensures.value c.in_ok-marked.ensures.ok in
-    let off : get_or i.visits c.args.cpu false ≡ false =
-    subst (λ v. is_visited v.all c.args.cpu ≡ false) (sym c.self.view_is) c.requires.unvisited in
+    let off : get_or i.visits c.args.cpu false ≡ false = sym c.contains.ensures ∙ c.if-contains.false in
     let flags = c.insert.ensures in
     rw (← c.self.view_is, off, put, flags) refl
 
@@ -96,7 +92,7 @@ pub returns-in_err-marked-clause-room : goal.returns-in_err-marked-clause-room
 returns-in_err-marked-clause-room g c =
     let i = c.self.inside in
     let inside : c.args.cpu < length (items_in i.lists.items) =
-    subst (λ v. c.args.cpu < length v.all.lists) (sym c.self.view_is) c.requires.cpu in
+    subst (λ v. c.args.cpu < length v.all.lists) (sym c.self.view_is) c.requires in
     rw (← c.self.view_is)
     (rooms_rise i.lists.items c.args.cpu c.index_mut-list.result.now c.entrain.new.self inside c.index_mut-list.ensures.value
     c.entrain.ensures.room)
@@ -105,14 +101,14 @@ pub returns-in_err-marked-clause-others : goal.returns-in_err-marked-clause-othe
 returns-in_err-marked-clause-others g c =
     let i = c.self.inside in
     let inside : c.args.cpu < length (items_in i.lists.items) =
-    subst (λ v. c.args.cpu < length v.all.lists) (sym c.self.view_is) c.requires.cpu in
+    subst (λ v. c.args.cpu < length v.all.lists) (sym c.self.view_is) c.requires in
     rw (← c.self.view_is) (other_rooms i.lists.items c.args.cpu c.entrain.new.self inside)
 
 pub returns-then-not-marked-clause-room : goal.returns-then-not-marked-clause-room
 returns-then-not-marked-clause-room g c =
     let i = c.self.inside in
     let inside : c.args.cpu < length (items_in i.lists.items) =
-    subst (λ v. c.args.cpu < length v.all.lists) (sym c.self.view_is) c.requires.cpu in
+    subst (λ v. c.args.cpu < length v.all.lists) (sym c.self.view_is) c.requires in
     rw (← c.self.view_is)
     (rooms_rise i.lists.items c.args.cpu c.index_mut-list.result.now c.entrain.new.self inside c.index_mut-list.ensures.value
     c.entrain.ensures.room)
@@ -121,14 +117,14 @@ pub returns-then-not-marked-clause-others : goal.returns-then-not-marked-clause-
 returns-then-not-marked-clause-others g c =
     let i = c.self.inside in
     let inside : c.args.cpu < length (items_in i.lists.items) =
-    subst (λ v. c.args.cpu < length v.all.lists) (sym c.self.view_is) c.requires.cpu in
+    subst (λ v. c.args.cpu < length v.all.lists) (sym c.self.view_is) c.requires in
     rw (← c.self.view_is) (other_rooms i.lists.items c.args.cpu c.entrain.new.self inside)
 
 pub returns-clause-room : goal.returns-clause-room
 returns-clause-room g c =
     let i = c.self.inside in
     let inside : c.args.cpu < length (items_in i.lists.items) =
-    subst (λ v. c.args.cpu < length v.all.lists) (sym c.self.view_is) c.requires.cpu in
+    subst (λ v. c.args.cpu < length v.all.lists) (sym c.self.view_is) c.requires in
     rw (← c.self.view_is)
     (rooms_rise i.lists.items c.args.cpu c.index_mut-list.result.now c.entrain.new.self inside c.index_mut-list.ensures.value
     c.entrain.ensures.room)
@@ -137,5 +133,5 @@ pub returns-clause-others : goal.returns-clause-others
 returns-clause-others g c =
     let i = c.self.inside in
     let inside : c.args.cpu < length (items_in i.lists.items) =
-    subst (λ v. c.args.cpu < length v.all.lists) (sym c.self.view_is) c.requires.cpu in
+    subst (λ v. c.args.cpu < length v.all.lists) (sym c.self.view_is) c.requires in
     rw (← c.self.view_is) (other_rooms i.lists.items c.args.cpu c.entrain.new.self inside)
