@@ -2,11 +2,11 @@
  * build and link with it, how a program publishes and unlinks its own data, and what is proved.
  *
  * What a caller owes, and nothing checks:
- * - A handle is all zero bits before it is opened, as in `rcu_t rcu = {0};`. One that is open is
- *   not opened, nor read or written otherwise than by these calls. Once it is closed it is not used
- *   again, unless it is set to zero, and then opened anew. Between calls its bits may be moved, as
- *   memcpy, realloc or a move constructor does: from then on the new place is the handle, and the
- *   old one is used no more.
+ * - A handle is all zero bits before it is opened, as in `rcu_t rcu = {0};`, and once it is closed.
+ *   One that is open is not opened, nor read or written otherwise than by these calls. No call tests
+ *   that a handle is open: on a closed one it reads at address 0. Between calls its bits may be
+ *   moved, as memcpy, realloc or a move constructor does: from then on the new place is the handle,
+ *   and the old one is used no more.
  * - One call at a time on each handle, and whatever one thread did to it comes before what the
  *   next one does: by a lock, by a sequentially consistent atomic, or by starting and joining
  *   threads. Calls on different handles need no order among them. (What orders the caller's own
@@ -58,7 +58,7 @@ extern "C" {
 
 /* Why a call is refused. */
 enum rcu_fault {
-    RCU_BAD_CPU = 1,         /* there is no such processor, or its seat is dealt */
+    RCU_BAD_CPU = 1,         /* there is no such processor */
     RCU_OFFLINE = 2,         /* the processor is offline */
     RCU_ALREADY_ONLINE = 3,  /* the processor is online */
     RCU_IN_SECTION = 4,      /* a read section is open on the processor */
@@ -76,14 +76,16 @@ enum rcu_fault {
     RCU_TOO_MANY_CPUS = 17,  /* no processor, or more than 4,096 */
     RCU_BAD_LAST = 19,       /* the last number is no multiple of 4 from 4 to 2^62 */
     RCU_CPU_IDLE = 23,       /* the processor is idle */
-    RCU_NOT_IDLE = 24        /* the processor is awake */
+    RCU_NOT_IDLE = 24,       /* the processor is awake */
+    RCU_SEAT_DEALT = 25,     /* the seat of the processor is dealt */
+    RCU_OTHER_ENGINE = 26    /* the seat is of another engine */
 };
 
 /* A sentence for a fault, without a full stop. At 0 it says that there is none. */
 static inline const char *rcu_fault_text(uint32_t fault) {
     switch (fault) {
     case 0: return "no fault";
-    case RCU_BAD_CPU: return "there is no processor of this number, or its seat is dealt";
+    case RCU_BAD_CPU: return "there is no processor of this number";
     case RCU_OFFLINE: return "the processor is offline";
     case RCU_ALREADY_ONLINE: return "the processor is online already";
     case RCU_IN_SECTION: return "a read section is open on the processor";
@@ -102,6 +104,8 @@ static inline const char *rcu_fault_text(uint32_t fault) {
     case RCU_BAD_LAST: return "the last number is not a multiple of 4 from 4 to 2^62";
     case RCU_CPU_IDLE: return "the processor is idle";
     case RCU_NOT_IDLE: return "the processor is not idle";
+    case RCU_SEAT_DEALT: return "the seat of the processor is dealt";
+    case RCU_OTHER_ENGINE: return "the seat is of another engine";
     default: return "no fault has this number";
     }
 }
@@ -115,6 +119,12 @@ typedef struct rcu {
 typedef struct rcu_seat {
     unsigned char *at;
 } rcu_seat_t;
+
+/* What tells an engine from any other; its seats have it too. */
+typedef struct rcu_identity {
+    uint64_t place;
+    uint64_t count;
+} rcu_identity_t;
 
 /* What a turn did. */
 enum rcu_turned {
@@ -168,18 +178,31 @@ static inline void rcu_fence(void) {
 /* ---- opening and closing */
 
 /* Opens an engine of 1 to 4,096 processors at number 0, of which 0 alone is online. No grace period
- * begins at `last`, a multiple of 4 from 4 to 2^62. Needs: `rcu` is closed. 17, 19, 16. */
-uint32_t rcu_open(uint32_t cpus, uint64_t last, rcu_t *rcu);
+ * begins at `last`, a multiple of 4 from 4 to 2^62. Needs: `rcu` is closed. 17, 19, 16.
+ * An engine takes no seat of another one (26): it compares identities. rcu_open makes one that no
+ * other engine of the process has, of a counter and the place of that. Who calls rcu_open_as, as a
+ * program in another language does, gives each engine one of its own. */
+uint32_t rcu_open_as(uint32_t cpus, uint64_t last, rcu_identity_t identity, rcu_t *rcu);
+static inline uint32_t rcu_open(uint32_t cpus, uint64_t last, rcu_t *rcu) {
+#ifdef __cplusplus
+    static std::atomic<std::uint64_t> opened(0);
+    rcu_identity_t identity = {(std::uint64_t)(std::uintptr_t)&opened, opened.fetch_add(1)};
+#else
+    static _Atomic uint64_t opened;
+    rcu_identity_t identity = {(uintptr_t)&opened, atomic_fetch_add(&opened, 1)};
+#endif
+    return rcu_open_as(cpus, last, identity, rcu);
+}
 
 /* Closes an engine, and frees all that it has; values that are still queued are not handed out.
  * Seats that are open go on, and are closed in turn. Needs: `rcu` is open, under the caller's
  * lock. */
-void rcu_close(rcu_t rcu);
+void rcu_close(rcu_t *rcu);
 
 /* Deals the seat of a processor; each has one. Of processor 0 it is online at first, of any other
  * offline; one that was handed back is as it was then. Processor 0 is awaited like any other: where
  * no thread reads on it, make its seat idle once. Needs: `rcu` is open, under the caller's lock, and
- * `seat` is closed. 1, 16. */
+ * `seat` is closed. 1, 25, 16. */
 uint32_t rcu_seat_open(rcu_t *rcu, uint32_t cpu, rcu_seat_t *seat);
 
 /* Whether rcu_seat_open can deal the seat of the processor: there is such a processor, and its seat
@@ -189,13 +212,13 @@ bool rcu_has_seat(rcu_t *rcu, uint32_t cpu);
 /* Hands a seat back to its engine, which can deal it again, and closes it: for a thread that ends.
  * Its processor stays as it is: depart first, or, where it is processor 0, make it idle. Else each
  * grace period waits until another thread has the seat. Needs: `rcu` is open, under the caller's
- * lock; `seat` is open, was dealt by it, and is in no other call. */
-void rcu_seat_return(rcu_t *rcu, rcu_seat_t seat);
+ * lock; `seat` is open, and is in no other call. 26. */
+uint32_t rcu_seat_return(rcu_t *rcu, rcu_seat_t *seat);
 
 /* Closes a seat, which its engine does not deal again: for when the engine goes. Its processor stays
  * as it is: one that is online is awaited by each grace period that begins, for good. Needs: `seat`
  * is open. */
-void rcu_seat_close(rcu_seat_t seat);
+void rcu_seat_close(rcu_seat_t *seat);
 
 /* ---- grace periods: `rcu` is open, under the caller's lock */
 
@@ -235,10 +258,9 @@ static inline uint32_t rcu_turn(rcu_t *rcu, rcu_turn_t *turn) {
  * whether one is awaited, rcu_awaits tells. */
 uint32_t rcu_collect(rcu_t *rcu, uint32_t cpu, uint32_t *found);
 
-/* ---- processors: `rcu` is open, under the caller's lock; `seat` is open, was dealt by it, and is
- * in no other call */
+/* ---- processors: `rcu` is open, under the caller's lock; `seat` is open, and is in no other call */
 
-/* The seat's processor comes online. 3.
+/* The seat's processor comes online. 26, 3.
  * A section may open once it returns. A grace period that begins later awaits the processor. Of one
  * that runs already the section sees what came before its begin, and what a thread did before it
  * took a cookie that is done at its end. Unfenced, what came before an rcu_seat_take is sure to be
@@ -250,8 +272,8 @@ static inline uint32_t rcu_arrive(rcu_t *rcu, rcu_seat_t *seat) {
     return fault;
 }
 
-/* The seat's processor goes offline, and its callbacks move to processor 0. Writes how many. 12, 4,
- * 2 (where it was offline, and has no callback), 16. At 2 nothing has changed that a call tells. At
+/* The seat's processor goes offline, and its callbacks move to processor 0. Writes how many. 26, 12,
+ * 4, 2 (where it was offline, and has no callback), 16. At 2 nothing has changed that a call tells. At
  * 16 the processor is offline, and its callbacks stay: the same call again moves them.
  * What the thread did before comes before what follows the collection or the begin that finds it
  * offline. */
@@ -401,6 +423,20 @@ static inline bool rcu_seat_poll(rcu_seat_t *seat, uint64_t cookie) {
     bool done = rcu_seat_poll_unfenced(seat, cookie);
     if (done) rcu_fence();
     return done;
+}
+
+/* Passes a quiescent state by a load alone, where the last one still serves. `number` has what the
+ * seat's last rcu_seat_quiesce, rcu_seat_wake or call of this wrote, or 0. Where that is the number
+ * still, this call stores nothing, makes no fence and is not refused: no grace period began or ended
+ * since, so the processor is quiet for as much as it would be. Else it is as rcu_seat_quiesce, and
+ * writes the number that it saw. 2, 23, 4.
+ * The sections that follow see the same as after rcu_seat_quiesce. No fence stands before the look:
+ * its number tests no cookie for a thread that stored a wish to be woken. */
+static inline uint32_t rcu_seat_quiesce_since(rcu_seat_t *seat, uint64_t *number) {
+    if (!rcu_seat_poll_unfenced(seat, *number + 1)) return 0;
+    uint32_t fault = rcu_seat_quiesce_unfenced(seat, number);
+    rcu_fence();
+    return fault;
 }
 
 #ifdef __cplusplus

@@ -10,11 +10,12 @@ NOTED = re.compile(r"/\*((?:(?!\*/).)*?)\*/\n(?:static inline )?(?:\w[\w ]*?) \*
 EXPORT = re.compile(r"((?:^ *///[^\n]*\n)+)#\[unsafe\(no_mangle\)\]\n"
                     r"(?:pub )?extern \"C\" fn (\w+)\((.*?)^\{", re.DOTALL | re.MULTILINE)
 NUMBERS = re.compile(r"(?:^|(?<=[.:] ))(\d+(?: \([^)]*\))?(?:, \d+(?: \([^)]*\))?)*)\.(?= |$)")
+# The header's own functions, which no export stands behind by name.
+WITHOUT_EXPORT = {"rcu_fence", "rcu_seat_quiesce_since"}
 # What a `requires` says, by its text, and what the header says for it.
 NEEDS = [(r"HoldsEngine rcu\b[\w.]*", "`rcu` is open"),
          (r"HoldsSeat seat\b[\w.]*", "`seat` is open"),
-         (r"IsNone rcu\b[\w.]*", "`rcu` is closed"), (r"IsNone seat\b[\w.]*", "`seat` is closed"),
-         (r"IsSeatOf seat\b[\w.]* rcu\b[\w.]*", "was dealt by it")]
+         (r"IsNone rcu\b[\w.]*", "`rcu` is closed"), (r"IsNone seat\b[\w.]*", "`seat` is closed")]
 
 
 def words_of(note):
@@ -60,7 +61,7 @@ def notes(header):
     for title, text in zip(parts[1::2], parts[2::2]):
         for note, name in NOTED.findall(text):
             note = words_of(note)
-            if name != "rcu_fence":
+            if name not in WITHOUT_EXPORT:
                 yield name, (faults_in_note(note), needs_in_note(words_of(title), note))
 
 
@@ -84,10 +85,13 @@ def unlike_notes(header, code):
 
 
 def unlike_sentences(header, faults):
-    """The faults whose sentence in C is not that of the crate, or its beginning and more."""
+    """The faults whose sentence in C is not that of the crate, or its beginning and more. Of C's own
+    the crate has it as documentation."""
     given = dict(re.findall(r'case (RCU_\w+): return "(.*?)";', header))
     meant = {f"RCU_{re.sub(r'(?<!^)(?=[A-Z])', '_', name).upper()}": text for text, name in
              re.findall(r'#\[error\("(.*?)"\)\]\n    (\w+) = ', faults)}
+    meant |= {f"RCU_{re.sub(r'(?<!^)(?=[A-Z])', '_', name).upper()}": text[0].lower() + text[1:]
+              for text, name in re.findall(r"/// (.*?)\.\n    (\w+),$", faults, re.MULTILINE)}
     listed = re.search(r"enum rcu_fault \{(.*?)\};", header, re.DOTALL)[1]
     for name in re.findall(r"(RCU_\w+) = \d+", listed):
         if not given.get(name, "").startswith(meant.get(name, "?")):

@@ -151,8 +151,8 @@ int main(void) {
         free(atomic_load_explicit(&slots[i].shown, memory_order_relaxed));
         sem_destroy(&slots[i].woken);
     }
-    rcu_close(rcu);
-    for (uint32_t cpu = 0; cpu < CPUS; cpu++) rcu_seat_close(seats[cpu]);
+    rcu_close(&rcu);
+    for (uint32_t cpu = 0; cpu < CPUS; cpu++) rcu_seat_close(&seats[cpu]);
     printf("freed %d, read wrong %u\n", UPDATERS * UPDATES, atomic_load(&wrong));
     return 0;
 }

@@ -137,8 +137,8 @@ static void driver_close(void) {
     pthread_cond_signal(&queued);
     pthread_mutex_unlock(&lock);
     pthread_join(thread, 0);
-    for (uint32_t cpu = 0; cpu < CPUS; cpu++) rcu_seat_close(places[cpu].seat);
-    rcu_close(rcu);
+    for (uint32_t cpu = 0; cpu < CPUS; cpu++) rcu_seat_close(&places[cpu].seat);
+    rcu_close(&rcu);
 }
 
 static void driver_arrive(struct place *place) {

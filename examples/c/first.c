@@ -106,7 +106,7 @@ int main(void) {
     printf("replaced %d, freed %" PRIu64 ", read well: %s\n", VALUES, freed,
            last <= VALUES ? "yes" : "no");
     free(atomic_load(&shown));
-    for (uint32_t cpu = 0; cpu < CPUS; cpu++) rcu_seat_close(seats[cpu]);
-    rcu_close(rcu);
+    for (uint32_t cpu = 0; cpu < CPUS; cpu++) rcu_seat_close(&seats[cpu]);
+    rcu_close(&rcu);
     return 0;
 }

@@ -154,7 +154,7 @@ int main(void) {
     free(atomic_load_explicit(&shown, memory_order_relaxed));
     for (uint32_t cpu = 0; cpu < CPUS; cpu++) sem_destroy(&asked[cpu]);
     sem_destroy(&answered);
-    rcu_close(rcu);
-    for (uint32_t cpu = 0; cpu < CPUS; cpu++) rcu_seat_close(seats[cpu]);
+    rcu_close(&rcu);
+    for (uint32_t cpu = 0; cpu < CPUS; cpu++) rcu_seat_close(&seats[cpu]);
     return 0;
 }

@@ -142,7 +142,7 @@ int main(void) {
         next = follow(&node->next);
         free(node);
     }
-    rcu_close(rcu);
-    for (uint32_t cpu = 0; cpu < CPUS; cpu++) rcu_seat_close(seats[cpu]);
+    rcu_close(&rcu);
+    for (uint32_t cpu = 0; cpu < CPUS; cpu++) rcu_seat_close(&seats[cpu]);
     return 0;
 }

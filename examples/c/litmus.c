@@ -601,8 +601,8 @@ int main(int count, char **words) {
         over = true;
         meet();
         for (unsigned i = UPDATER; i < THREADS; i++) pthread_join(threads[i], 0);
-        rcu_close(rcu);
-        for (uint32_t cpu = 0; cpu < THREADS; cpu++) rcu_seat_close(seats[cpu]);
+        rcu_close(&rcu);
+        for (uint32_t cpu = 0; cpu < THREADS; cpu++) rcu_seat_close(&seats[cpu]);
     }
     return !well;
 }

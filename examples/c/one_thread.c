@@ -35,7 +35,8 @@ static void open_all(void) {
     for (uint32_t cpu = 0; cpu < 2; cpu++)
         must("seat", rcu_seat_open(&rcu, cpu, &seats[cpu]), 0);
     rcu_seat_t third = {0};
-    must("a seat again", rcu_seat_open(&rcu, 1, &third), RCU_BAD_CPU);
+    must("a seat again", rcu_seat_open(&rcu, 1, &third), RCU_SEAT_DEALT);
+    must("a seat of no processor", rcu_seat_open(&rcu, 2, &third), RCU_BAD_CPU);
     must("arrive", rcu_arrive(&rcu, &seats[1]), 0);
     must("arrive again", rcu_arrive(&rcu, &seats[1]), RCU_ALREADY_ONLINE);
     printf("open: %" PRIu32 " processors, number %" PRIu64 "\n", rcu_cpus(&rcu), rcu_number(&rcu));
@@ -104,12 +105,35 @@ static void callbacks(void) {
     printf("the barrier waits for %" PRIu64 "\n", left);
 }
 
+/* An engine takes no seat of another one, also where that is closed, and it lies in its place. */
+static void another_engine(void) {
+    rcu_t other = {0};
+    rcu_seat_t seat = {0};
+    uint64_t moved;
+    must("open another", rcu_open(2, 8, &other), 0);
+    must("arrive elsewhere", rcu_arrive(&other, &seats[1]), RCU_OTHER_ENGINE);
+    must("depart elsewhere", rcu_depart(&other, &seats[1], &moved), RCU_OTHER_ENGINE);
+    must("return elsewhere", rcu_seat_return(&other, &seats[1]), RCU_OTHER_ENGINE);
+    must("online elsewhere", rcu_online(&other, 1), false);
+    must("its own seat", rcu_seat_open(&other, 1, &seat), 0);
+    rcu_close(&other);
+    must("open again", rcu_open(2, 8, &other), 0);
+    must("arrive too late", rcu_arrive(&other, &seat), RCU_OTHER_ENGINE);
+    rcu_seat_close(&seat);
+    must("its seat now", rcu_seat_open(&other, 1, &seat), 0);
+    must("arrive at its own", rcu_arrive(&other, &seat), 0);
+    must("return", rcu_seat_return(&other, &seat), 0);
+    rcu_close(&other);
+    printf("closed: %s\n", yes_or_no(!other.at && !seat.at));
+}
+
 int main(void) {
     open_all();
+    another_engine();
     a_grace_period();
     callbacks();
-    rcu_close(rcu);
-    rcu_seat_close(seats[0]);
-    rcu_seat_close(seats[1]);
+    rcu_close(&rcu);
+    rcu_seat_close(&seats[0]);
+    rcu_seat_close(&seats[1]);
     return 0;
 }

@@ -110,7 +110,7 @@ int main(void) {
     tell("depart", refuse_each("depart", depart));
     printf("%" PRIu64 " moved\n", out.moved);
     printf("the same again: fault %" PRIu32 "\n", depart());
-    rcu_close(rcu);
-    for (at = 0; at < CPUS; at++) rcu_seat_close(seats[at]);
+    rcu_close(&rcu);
+    for (at = 0; at < CPUS; at++) rcu_seat_close(&seats[at]);
     return 0;
 }

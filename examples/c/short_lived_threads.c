@@ -57,7 +57,7 @@ static void go(rcu_seat_t seat) {
     uint64_t moved;
     pthread_mutex_lock(&lock);
     must("depart", rcu_depart(&rcu, &seat, &moved), 0);
-    rcu_seat_return(&rcu, seat);
+    must("return", rcu_seat_return(&rcu, &seat), 0);
     pthread_cond_signal(&returned);
     pthread_mutex_unlock(&lock);
 }
@@ -116,7 +116,7 @@ int main(void) {
     must("seat", rcu_seat_open(&rcu, 0, &boot), 0);
     must("idle", rcu_seat_idle(&boot), 0);
     must("idle", rcu_seat_is_idle(&boot), true);
-    rcu_seat_return(&rcu, boot);
+    must("return", rcu_seat_return(&rcu, &boot), 0);
     must("seat that came back", rcu_has_seat(&rcu, 0), true);
     atomic_store_explicit(&shown, new_node(0), memory_order_release);
     for (uint64_t wave = 1; wave <= WAVES; wave++) {
@@ -131,6 +131,6 @@ int main(void) {
     printf("visitors %d, freed %" PRIu64 ", read wrong %u\n", WAVES * AT_ONCE, freed,
            atomic_load(&wrong));
     free(atomic_load_explicit(&shown, memory_order_relaxed));
-    rcu_close(rcu);
+    rcu_close(&rcu);
     return 0;
 }

@@ -20,6 +20,7 @@ enum { BATCH = 64, MOST_GROWN = KEPT + (16 << 20) };
 
 static rcu_t rcu;
 static rcu_seat_t seat;
+static uint64_t quiet_at;
 
 static void must(const char *call, uint32_t answer, uint32_t wanted) {
     if (answer != wanted) {
@@ -39,12 +40,14 @@ static int64_t resident(void) {
 
 /* One grace period, and what it makes done is handed out. */
 static uint64_t pass(void) {
-    uint64_t done, waiting, number, count, values[BATCH];
+    uint64_t done, waiting, count, values[BATCH];
     uint32_t found;
     rcu_turn_t turn;
     must("tend", rcu_tend(&rcu, 0, &done, &waiting), 0);
     must("turn", rcu_turn(&rcu, &turn), 0);
-    must("quiesce", rcu_seat_quiesce(&seat, &number), 0);
+    must("quiesce", rcu_seat_quiesce_since(&seat, &quiet_at), 0);
+    must("number", quiet_at == rcu_number(&rcu), true);
+    must("quiet still", rcu_seat_quiesce_since(&seat, &quiet_at), 0);
     must("collect", rcu_collect(&rcu, 0, &found), 0);
     must("turn", rcu_turn(&rcu, &turn), 0);
     must("run", rcu_run(&rcu, 0, values, BATCH, &count), 0);
@@ -74,7 +77,7 @@ int main(int count, char **words) {
     printf("handed out %s, %s\n", handed >= 2 * half ? "all" : "too few",
            grown < MOST_GROWN ? "memory is steady" : "memory grows");
     if (count > 1) printf("%" PRIu64 " values, grown by %" PRId64 " bytes\n", handed, grown);
-    rcu_close(rcu);
-    rcu_seat_close(seat);
+    rcu_close(&rcu);
+    rcu_seat_close(&seat);
     return 0;
 }

@@ -343,13 +343,12 @@ impl Drop for Inner {
     fn drop(&mut self) {
         while self.run_deferred() > 0 {}
         let locked = self.locked.get_mut().expect(PANICKED);
-        for seat in locked.free.drain(..).chain(locked.boot.take()) {
-            // SAFETY: it is open, and not used again.
-            unsafe { raw::rcu_seat_close(seat.raw) };
+        for mut seat in locked.free.drain(..).chain(locked.boot.take()) {
+            // SAFETY: it is open.
+            unsafe { raw::rcu_seat_close(&mut seat.raw) };
         }
-        let handle = mem::replace(&mut locked.handle.0, raw::rcu_t { at: null_mut() });
-        // SAFETY: it is open, and not used again.
-        unsafe { raw::rcu_close(handle) };
+        // SAFETY: it is open.
+        unsafe { raw::rcu_close(&mut locked.handle.0) };
     }
 }
 

@@ -3,7 +3,7 @@
 
 #![allow(non_camel_case_types)]
 
-use std::sync::atomic::{fence, Ordering::SeqCst};
+use std::sync::atomic::{fence, AtomicU64, Ordering::SeqCst};
 
 /// An engine's handle. Null while it is closed.
 #[repr(C)]
@@ -15,6 +15,14 @@ pub struct rcu_t {
 #[repr(C)]
 pub struct rcu_seat_t {
     pub at: *mut u8,
+}
+
+/// What tells an engine from any other.
+#[repr(C)]
+#[derive(Clone, Copy, Debug, PartialEq, Eq)]
+pub struct rcu_identity_t {
+    pub place: u64,
+    pub count: u64,
 }
 
 /// What a turn did.
@@ -33,12 +41,17 @@ pub const RCU_NO_MEMORY: u32 = 16;
 /// No processor, or more than 4,096.
 pub const RCU_TOO_MANY_CPUS: u32 = 17;
 extern "C" {
-    pub fn rcu_open(cpus: u32, last: u64, rcu: *mut rcu_t) -> u32;
-    pub fn rcu_close(rcu: rcu_t);
+    pub fn rcu_open_as(
+        cpus: u32,
+        last: u64,
+        identity: rcu_identity_t,
+        rcu: *mut rcu_t,
+    ) -> u32;
+    pub fn rcu_close(rcu: *mut rcu_t);
     pub fn rcu_seat_open(rcu: *mut rcu_t, cpu: u32, seat: *mut rcu_seat_t) -> u32;
     pub fn rcu_has_seat(rcu: *mut rcu_t, cpu: u32) -> bool;
-    pub fn rcu_seat_return(rcu: *mut rcu_t, seat: rcu_seat_t);
-    pub fn rcu_seat_close(seat: rcu_seat_t);
+    pub fn rcu_seat_return(rcu: *mut rcu_t, seat: *mut rcu_seat_t) -> u32;
+    pub fn rcu_seat_close(seat: *mut rcu_seat_t);
     pub fn rcu_begin(rcu: *mut rcu_t, number: *mut u64, awaited: *mut u32) -> u32;
     pub fn rcu_end_unfenced(rcu: *mut rcu_t, number: *mut u64) -> u32;
     pub fn rcu_turn_unfenced(rcu: *mut rcu_t, turn: *mut rcu_turn_t) -> u32;
@@ -76,6 +89,20 @@ extern "C" {
     pub fn rcu_seat_wake_unfenced(seat: *mut rcu_seat_t, number: *mut u64) -> u32;
     pub fn rcu_seat_take_unfenced(seat: *mut rcu_seat_t) -> u64;
     pub fn rcu_seat_poll_unfenced(seat: *mut rcu_seat_t, cookie: u64) -> bool;
+}
+
+/// As in the header.
+///
+/// # Safety
+/// As in the header.
+pub unsafe fn rcu_open(cpus: u32, last: u64, rcu: *mut rcu_t) -> u32 {
+    static OPENED: AtomicU64 = AtomicU64::new(0);
+    let place = &OPENED as *const AtomicU64;
+    let identity = rcu_identity_t {
+        place: place as u64,
+        count: OPENED.fetch_add(1, SeqCst),
+    };
+    rcu_open_as(cpus, last, identity, rcu)
 }
 
 // The archive makes no fence: around seven calls the header does, and here these functions do.
@@ -116,6 +143,19 @@ pub unsafe fn rcu_arrive(rcu: *mut rcu_t, seat: *mut rcu_seat_t) -> u32 {
 /// As in the header.
 pub unsafe fn rcu_seat_quiesce(seat: *mut rcu_seat_t, number: *mut u64) -> u32 {
     fence(SeqCst);
+    let fault = rcu_seat_quiesce_unfenced(seat, number);
+    fence(SeqCst);
+    fault
+}
+
+/// As in the header.
+///
+/// # Safety
+/// As in the header.
+pub unsafe fn rcu_seat_quiesce_since(seat: *mut rcu_seat_t, number: *mut u64) -> u32 {
+    if !rcu_seat_poll_unfenced(seat, *number + 1) {
+        return 0;
+    }
     let fault = rcu_seat_quiesce_unfenced(seat, number);
     fence(SeqCst);
     fault

@@ -11,11 +11,24 @@ use Rattle.rcu_core.specs.declared.turned.Turned.TheVariants as turned
 use Rattle.rcu_live.specs.declared.collection.Collected.{Collected}
 use Rattle.rcu_live.specs.declared.collection.Collected.TheVariants as collected
 use Rattle.rcu_c.specs.declared.grace_periods.Turn.{Turn}
+use Rattle.rcu_c.specs.declared.refusal.Refusal.{Refusal}
+use Rattle.rcu_c.specs.declared.refusal.Refusal.TheVariants.{Engine, SeatDealt, OtherEngine}
 
 -- the number of a refusal, 0 where there is none
 abbrev pub number_for : Option Fault → ℕ
 number_for None = 0
 number_for (Some fault) = fault_number fault
+
+-- the number of a refusal of C's own, or of the engine's fault
+abbrev pub refusal_number : Refusal → ℕ
+refusal_number (Engine fault) = fault_number fault
+refusal_number SeatDealt = 25
+refusal_number OtherEngine = 26
+
+-- the number of such a refusal, 0 where there is none
+abbrev pub number_in_c : Option Refusal → ℕ
+number_in_c None = 0
+number_in_c (Some refusal) = refusal_number refusal
 
 -- what a turn did: 0 nothing, 1 begun, 2 ended, 3 waiting; how many are awaited; and a number
 abbrev pub turn_of : Turned → Turn

@@ -1,16 +1,26 @@
 -- The engine of an open handle, as contracts see it.
-use Rattle.std.specs.Prelude.{ℕ, ◌^◌, List, map, Option, Some, None, slice_index_or, slice_set}
+use Rattle.std.specs.Prelude.{ℕ, ◌^◌, ◌==◌, ◌&&◌, Bool, nat_lt, List, map, Option, Some, None, slice_index_or, slice_set}
 use Rattle.std.specs.List.{range_with_len}
 use Rattle.atomic_table.specs.Seated.{TableId}
 use Rattle.rcu_seq.specs.Numbers.{Number}
 use Rattle.rcu_live.specs.Engine.{Locked}
 use Rattle.rcu_live.specs.Opening.{engine_at_first}
 use Rattle.rcu_c.specs.Seats.{Seat, seat_at_first}
+use Rattle.rcu_c.specs.declared.identity.Identity.{Identity}
 
--- the running engine, and the seat of each processor, none where it is dealt
+-- whether two identities are the same
+abbrev pub is_same : Identity → Identity → Bool
+is_same a b = (a.place == b.place) && (a.count == b.count)
+
+-- the running engine, the seat of each processor, none where it is dealt, and what tells the engine from others
 pub record EngineAndSeats : Type 0 where
   pub engine : Locked (Unit {0}) ℕ
   pub seats : List (Option Seat)
+  pub identity : Identity
+
+-- whether an engine takes a seat as one that it dealt: its identity is the engine's, and its processor is one of those
+abbrev pub is_own : EngineAndSeats → Seat → Bool
+is_own o s = is_same o.identity s.identity && nat_lt s.cpu.cpu o.engine.cpus
 
 -- the seat of a processor, where there is such a processor and its seat is not dealt yet
 abbrev pub seat_at : EngineAndSeats → ℕ → Option Seat
@@ -29,8 +39,9 @@ abbrev pub most_in_c : ℕ
 most_in_c = 2 ^ 62
 
 -- an engine of so many processors as it is opened, with a seat for each
-abbrev pub opened_at_first : TableId → ℕ → Number → EngineAndSeats
-opened_at_first table cpus last = record {
+abbrev pub opened_at_first : Identity → TableId → ℕ → Number → EngineAndSeats
+opened_at_first identity table cpus last = record {
   engine = engine_at_first table cpus last most_in_c tt;
-  seats = map (λ cpu. Some (seat_at_first table cpus cpu)) (range_with_len 0 cpus);
+  seats = map (λ cpu. Some (seat_at_first identity table cpus cpu)) (range_with_len 0 cpus);
+  identity = identity;
 }

@@ -8,6 +8,7 @@ use Rattle.rcu_live.specs.Watcher.{Watching}
 use Rattle.rcu_c.specs.Engines.{EngineAndSeats, opened_at_first}
 use Rattle.rcu_c.specs.Seats.{Seat, seat_at_first}
 use Rattle.rcu_c.specs.declared.contents.Contents.{Contents}
+use Rattle.rcu_c.specs.declared.identity.Identity.{Identity}
 use Rattle.rcu_c.specs.declared.contents.Contents.TheVariants as contents
 
 -- the handle is an open engine's
@@ -28,12 +29,16 @@ HoldsSeat (Some contents.Room) = ⊥
 abbrev pub no_table : TableId
 no_table = record { words = 0; slots = 0; views_name = 0; atom = 0; block = 0; offset = 0; slot_names = [] }
 
+-- no identity: it stands for that of a handle that holds none
+abbrev pub no_identity : Identity
+no_identity = record { place = 0; count = 0 }
+
 -- the engine of an engine's handle; of another nothing is said by it
 abbrev pub opened_of : Option Contents → EngineAndSeats
-opened_of None = opened_at_first no_table 0 0
+opened_of None = opened_at_first no_identity no_table 0 0
 opened_of (Some (contents.Engine o)) = o
-opened_of (Some (contents.Seat _)) = opened_at_first no_table 0 0
-opened_of (Some contents.Room) = opened_at_first no_table 0 0
+opened_of (Some (contents.Seat _)) = opened_at_first no_identity no_table 0 0
+opened_of (Some contents.Room) = opened_at_first no_identity no_table 0 0
 
 -- the running engine of an engine's handle
 abbrev pub engine_of : Option Contents → Locked (Unit {0}) ℕ
@@ -45,10 +50,10 @@ grace_of h = (engine_of h).grace
 
 -- the seat of a seat's handle; of another nothing is said by it
 abbrev pub seat_of : Option Contents → Seat
-seat_of None = seat_at_first no_table 0 0
-seat_of (Some (contents.Engine _)) = seat_at_first no_table 0 0
+seat_of None = seat_at_first no_identity no_table 0 0
+seat_of (Some (contents.Engine _)) = seat_at_first no_identity no_table 0 0
 seat_of (Some (contents.Seat s)) = s
-seat_of (Some contents.Room) = seat_at_first no_table 0 0
+seat_of (Some contents.Room) = seat_at_first no_identity no_table 0 0
 
 -- its processor's seat
 abbrev pub cpu_of : Option Contents → Seated (Unit {0})

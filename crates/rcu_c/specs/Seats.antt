@@ -5,17 +5,20 @@ use Rattle.rcu_live.specs.Board.{Object}
 use Rattle.rcu_live.specs.CpuSeat.{Seated, at_first}
 use Rattle.rcu_live.specs.Watcher.{Watching, watcher_at_first}
 use Rattle.rcu_live.specs.Words.{base_of}
+use Rattle.rcu_c.specs.declared.identity.Identity.{Identity}
 
--- of which object it is, what its processor's seat is, and what its watcher has seen
+-- of which object it is, what its processor's seat is, what its watcher has seen, and what tells its engine from others
 pub record Seat : Type 0 where
   pub object : Object
   pub cpu : Seated (Unit {0})
   pub watcher : Watching (Unit {0})
+  pub identity : Identity
 
 -- the seat of a processor as it is opened
-abbrev pub seat_at_first : TableId → ℕ → ℕ → Seat
-seat_at_first table cpus cpu = record {
+abbrev pub seat_at_first : Identity → TableId → ℕ → ℕ → Seat
+seat_at_first identity table cpus cpu = record {
   object = record { table = table; cpus = cpus };
   cpu = at_first table (base_of cpus) tt cpu;
   watcher = watcher_at_first table (base_of cpus) tt;
+  identity = identity;
 }

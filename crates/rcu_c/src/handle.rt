@@ -11,6 +11,7 @@ use crate::raw_box::RawBox;
 use crate::seat_parts::SeatParts;
 use std::alloc::Global;
 use std::marker::Model;
+use std::{mem, ptr};
 
 /// A handle: a pointer, behind which an open one has what it holds. C keeps it, and reads nothing
 /// of it.
@@ -41,6 +42,16 @@ impl Handle {
         let RawBox { at, alloc } = contents;
         Handle {
             at: at as *mut u8,
+            alloc,
+        }
+    }
+
+    /// A closed handle: no place.
+    pub(crate) fn closed(alloc: Global) -> Handle
+        ensures { IsNone result.contents }
+    {
+        Handle {
+            at: ptr::null_mut(),
             alloc,
         }
     }
@@ -76,6 +87,15 @@ impl Handle {
             Contents::Seat(seat) => seat,
             Contents::Engine(_) | Contents::Room => unreachable!(),
         }
+    }
+
+    /// Closes an open handle. What it held is to be put into a box again.
+    pub(crate) fn close(&mut self, alloc: Global) -> RawBox<Contents, Global>
+        requires { IsSome self.old.contents }
+        ensures value { self.old.contents ≡ Some result.value }
+        ensures closed { IsNone self.new.contents }
+    {
+        mem::replace(self, Handle::closed(alloc)).into_raw_box()
     }
 
     /// What an open handle holds, to be put into a box again.

@@ -1,7 +1,8 @@
 //! The engine of an open handle.
 ghost use Rattle.std.specs.Prelude.{◌≡◌, is_some};
-ghost use Rattle.rcu_c.specs.Engines.{seat_at, with_seat, without_seat};
+ghost use Rattle.rcu_c.specs.Engines.{is_own, seat_at, with_seat, without_seat};
 
+use crate::identity::Identity;
 use crate::seat_parts::SeatParts;
 use rcu_live::engine::Engine;
 use rcu_node::tree::Tree;
@@ -16,6 +17,7 @@ pub struct OpenEngine {
     pub(crate) inner: TreeEngine,
     /// The seats that are not dealt yet, each at its processor's place.
     pub(crate) seats: Vec<Option<SeatParts>>,
+    identity: Identity,
 }
 
 impl Model for OpenEngine {
@@ -23,15 +25,41 @@ impl Model for OpenEngine {
 
     ghost Value = { EngineAndSeats };
 
-    ghost view = { λ o. record { engine = o.inner; seats = o.seats.items } };
+    ghost view = { λ o. record {
+      engine = o.inner;
+      seats = o.seats.items;
+      identity = o.identity;
+    } };
 }
 
 impl OpenEngine {
     /// The engine with the seats of its processors.
-    pub(crate) fn new(inner: TreeEngine, seats: Vec<Option<SeatParts>>) -> OpenEngine
-        ensures { result ≡ record { engine = inner; seats = seats.items } }
+    pub(crate) fn new(
+        inner: TreeEngine,
+        seats: Vec<Option<SeatParts>>,
+        identity: Identity,
+    ) -> OpenEngine
+        ensures { result ≡ record { engine = inner; seats = seats.items; identity = identity } }
     {
-        OpenEngine { inner, seats }
+        OpenEngine {
+            inner,
+            seats,
+            identity,
+        }
+    }
+
+    /// The number of processors.
+    pub(crate) fn cpus(&self) -> u32
+        ensures { result ≡ self.now.engine.cpus }
+    {
+        self.inner.cpus()
+    }
+
+    /// Whether it dealt the seat.
+    pub(crate) fn owns(&self, seat: &SeatParts) -> bool
+        ensures { result ≡ is_own self.now seat.now }
+    {
+        self.identity.is(seat.identity) && seat.cpu.cpu() < self.cpus()
     }
 
     /// Whether the processor's seat is not dealt yet.

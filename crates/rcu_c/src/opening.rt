@@ -9,17 +9,20 @@ ghost use Rattle.rcu_live.specs.Opening.{AreDealt};
 ghost use Rattle.rcu_seq.specs.Memory.{tested_fault};
 ghost use Rattle.rcu_live.specs.Watcher.{watcher_at_first};
 ghost use Rattle.rcu_live.specs.Words.{base_of};
-ghost use Rattle.rcu_c.specs.Answers.{number_for};
+ghost use Rattle.rcu_c.specs.Answers.{number_for, number_in_c};
 ghost use Rattle.rcu_c.specs.Engines.{opened_at_first, seat_at, with_seat, without_seat};
-ghost use Rattle.rcu_c.specs.Holding.{HoldsEngine, HoldsSeat, IsSeatOf, engine_of, on_opened};
-ghost use Rattle.rcu_c.specs.Holding.{opened_of, seat_of};
+ghost use Rattle.rcu_c.specs.Holding.{HoldsEngine, HoldsSeat, engine_of, on_opened, opened_of};
+ghost use Rattle.rcu_c.specs.Holding.{seat_of};
+ghost use Rattle.rcu_c.specs.Refusals.{deal_refusal, return_refusal};
 ghost use Rattle.rcu_c.specs.Seats.{seat_at_first};
 
 use crate::codes::code;
 use crate::contents::Contents;
 use crate::handle::{Handle, Rcu, RcuSeat};
+use crate::identity::Identity;
 use crate::open_engine::OpenEngine;
 use crate::raw_box::RawBox;
+use crate::refusal::Refusal;
 use crate::seat_parts::SeatParts;
 use rcu_live::board::Board;
 use rcu_live::cpu_seat::CpuSeat;
@@ -34,6 +37,7 @@ const MOST: u64 = 1 << 62;
 
 /// The seat of a processor, with its share of the words.
 fn make_seat(
+    identity: Identity,
     board: &Arc<Board, Global>,
     cpu: u32,
     seat: CpuSeat,
@@ -45,14 +49,16 @@ fn make_seat(
     requires watcher { watcher ≡ watcher_at_first (arc_value board.now).table
         (base_of (arc_value board.now).cpus) tt }
     ensures { IfOk result (λ made. made ≡
-        seat_at_first (arc_value board.now).table (arc_value board.now).cpus cpu) }
+        seat_at_first identity (arc_value board.now).table (arc_value board.now).cpus cpu) }
 {
-    Ok(SeatParts::new(Arc::try_clone(board)?, seat, watcher))
+    let board = Arc::try_clone(board)?;
+    Ok(SeatParts::new(board, seat, watcher, identity))
 }
 
 /// The seats of all processors, in order.
 fn make_seats(
     alloc: Global,
+    identity: Identity,
     board: &Arc<Board, Global>,
     cpus: u32,
     seats: Vec<CpuSeat>,
@@ -60,7 +66,7 @@ fn make_seats(
 ) -> Result<Vec<Option<SeatParts>>, AllocError>
     requires dealt { AreDealt cpus 0 0 tt (arc_value board.now) seats.items watchers.items }
     ensures { IfOk result (λ made. made.items ≡ map
-        (λ cpu. Some (seat_at_first (arc_value board.now).table cpus cpu))
+        (λ cpu. Some (seat_at_first identity (arc_value board.now).table cpus cpu))
         (range_with_len 0 cpus)) }
 {
     let mut made = Vec::new(alloc);
@@ -72,15 +78,15 @@ fn make_seats(
         let Some(watcher) = watchers.next() else {
             unreachable!()
         };
-        made.push(Some(make_seat(board, cpu, seat, watcher)?))?;
+        made.push(Some(make_seat(identity, board, cpu, seat, watcher)?))?;
     }
     Ok(made)
 }
 
 /// The engine, with a seat for each processor.
-fn make_engine(alloc: Global, cpus: u32, last: u64) -> Result<OpenEngine, Fault>
+fn make_engine(alloc: Global, cpus: u32, last: u64, identity: Identity) -> Result<OpenEngine, Fault>
     ensures ok { IfOk result (λ made.
-        made ≡ opened_at_first made.engine.table cpus last) }
+        made ≡ opened_at_first identity made.engine.table cpus last) }
     ensures fault { tested_fault result ≡ opening_refusal 16 64 cpus last }
 {
     let Parts {
@@ -90,20 +96,25 @@ fn make_engine(alloc: Global, cpus: u32, last: u64) -> Result<OpenEngine, Fault>
         watchers,
         own: _,
     } = Parts::open(alloc, cpus, last, MOST)?;
-    let Ok(seats) = make_seats(alloc, &board, cpus, seats, watchers) else {
+    let Ok(seats) = make_seats(alloc, identity, &board, cpus, seats, watchers) else {
         return Err(Fault::NoMemory);
     };
-    Ok(OpenEngine::new(engine, seats))
+    Ok(OpenEngine::new(engine, seats, identity))
 }
 
 /// The engine, with a seat for each processor, in a box.
-fn box_engine(alloc: Global, cpus: u32, last: u64) -> Result<Box<Contents, Global>, Fault>
+fn box_engine(
+    alloc: Global,
+    cpus: u32,
+    last: u64,
+    identity: Identity,
+) -> Result<Box<Contents, Global>, Fault>
     ensures open { IfOk result (λ contents. HoldsEngine (Some contents.value)) }
     ensures state { IfOk result (λ contents. opened_of (Some contents.value)
-        ≡ opened_at_first (engine_of (Some contents.value)).table cpus last) }
+        ≡ opened_at_first identity (engine_of (Some contents.value)).table cpus last) }
     ensures fault { tested_fault result ≡ opening_refusal 16 64 cpus last }
 {
-    let made = make_engine(alloc, cpus, last)?;
+    let made = make_engine(alloc, cpus, last, identity)?;
     Ok(Box::new(alloc, Contents::Engine(made))?)
 }
 
@@ -116,21 +127,27 @@ fn put(handle: &mut Handle, contents: Box<Contents, Global>)
 }
 
 /// Opens a closed handle: the number is 0, no grace period runs, processor 0 alone is online, no
-/// callback is queued, and no seat is dealt.
+/// callback is queued, and no seat is dealt. The engine and its seats have the identity.
 ///
 /// Faults: 17 for no processor or more than 4,096; 19 where `last` is no last number; 16. The
 /// handle then stays closed.
 #[unsafe(no_mangle)]
-pub extern "C" fn rcu_open(alloc: Global, cpus: u32, last: u64, rcu: &mut Rcu) -> u32
+pub extern "C" fn rcu_open_as(
+    alloc: Global,
+    cpus: u32,
+    last: u64,
+    identity: Identity,
+    rcu: &mut Rcu,
+) -> u32
     requires closed { IsNone rcu.old.contents }
     ensures fault { result ≢ 16 → result ≡ number_for (opening_refusal 16 64 cpus last) }
     ensures memory { result ≡ 16 → opening_refusal 16 64 cpus last ≡ None }
     ensures open { result ≡ 0 → HoldsEngine rcu.new.contents }
     ensures state { result ≡ 0 → opened_of rcu.new.contents ≡
-        opened_at_first (engine_of rcu.new.contents).table cpus last }
+        opened_at_first identity (engine_of rcu.new.contents).table cpus last }
     ensures unchanged { result ≢ 0 → rcu.new.contents ≡ rcu.old.contents }
 {
-    let contents = match box_engine(alloc, cpus, last) {
+    let contents = match box_engine(alloc, cpus, last, identity) {
         Ok(contents) => contents,
         Err(fault) => return code(fault),
     };
@@ -141,10 +158,11 @@ pub extern "C" fn rcu_open(alloc: Global, cpus: u32, last: u64, rcu: &mut Rcu) -
 /// Closes an engine's handle, and frees all that it has, beside what its seats that are still open
 /// read.
 #[unsafe(no_mangle)]
-pub extern "C" fn rcu_close(rcu: Rcu)
-    requires open { HoldsEngine rcu.contents }
+pub extern "C" fn rcu_close(alloc: Global, rcu: &mut Rcu)
+    requires open { HoldsEngine rcu.old.contents }
+    ensures closed { IsNone rcu.new.contents }
 {
-    drop(rcu.into_raw_box().into_box());
+    drop(rcu.close(alloc).into_box());
 }
 
 /// Takes the seat of a processor out of the engine, and puts it into a box.
@@ -152,19 +170,23 @@ fn deal_seat(
     alloc: Global,
     opened: &mut OpenEngine,
     cpu: u32,
-) -> Result<Box<Contents, Global>, Fault>
+) -> Result<Box<Contents, Global>, Refusal>
     ensures open { IfOk result (λ contents. HoldsSeat (Some contents.value)) }
     ensures seat { IfOk result (λ contents.
         seat_at opened.old cpu ≡ Some (seat_of (Some contents.value))) }
     ensures left { OnOk result (opened.new ≡ without_seat opened.old cpu) }
-    ensures bad { IfErr result (λ fault.
-        seat_at opened.old cpu ≡ None → fault ≡ Fault.BadCpu) }
-    ensures memory { IfErr result (λ fault.
-        seat_at opened.old cpu ≢ None → fault ≡ Fault.NoMemory) }
+    ensures dealt { OnOk result (deal_refusal opened.old cpu ≡ None) }
+    ensures refused { IfErr result (λ refusal. deal_refusal opened.old cpu ≢ None →
+        deal_refusal opened.old cpu ≡ Some refusal) }
+    ensures memory { IfErr result (λ refusal. deal_refusal opened.old cpu ≡ None →
+        refusal ≡ Refusal.Engine Fault.NoMemory) }
     ensures unchanged { OnErr result (opened.new ≡ opened.old) }
 {
+    if cpu >= opened.cpus() {
+        return Err(Refusal::Engine(Fault::BadCpu));
+    }
     if !opened.has_seat(cpu) {
-        return Err(Fault::BadCpu);
+        return Err(Refusal::SeatDealt);
     }
     let mut room = Box::new(alloc, Contents::Room)?;
     deal_into(&mut room, opened, cpu);
@@ -187,15 +209,15 @@ fn deal_into(contents: &mut Contents, opened: &mut OpenEngine, cpu: u32)
 /// Deals the seat of a processor to a closed handle. Each processor has one, and a new engine deals
 /// each as it is at first; one that was handed back is dealt as it was then.
 ///
-/// Faults: 1 where there is no such processor, or its seat is dealt; 16. The handles then stay as
-/// they were.
+/// Faults: 1 where there is no such processor; 25 where its seat is dealt; 16. Each leaves the
+/// handles as they were.
 #[unsafe(no_mangle)]
 pub extern "C" fn rcu_seat_open(alloc: Global, rcu: &mut Rcu, cpu: u32, seat: &mut RcuSeat) -> u32
     requires open { HoldsEngine rcu.old.contents }
     requires closed { IsNone seat.old.contents }
-    ensures fault { result ≢ 0 → result ≢ 16 → result ≡ 1 }
-    ensures bad { result ≡ 1 → seat_at (opened_of rcu.old.contents) cpu ≡ None }
-    ensures memory { result ≡ 16 → seat_at (opened_of rcu.old.contents) cpu ≢ None }
+    ensures fault { result ≢ 16 →
+        result ≡ number_in_c (deal_refusal (opened_of rcu.old.contents) cpu) }
+    ensures memory { result ≡ 16 → deal_refusal (opened_of rcu.old.contents) cpu ≡ None }
     ensures open { result ≡ 0 → HoldsSeat seat.new.contents }
     ensures seat { result ≡ 0 →
         seat_at (opened_of rcu.old.contents) cpu ≡ Some (seat_of seat.new.contents) }
@@ -209,7 +231,7 @@ pub extern "C" fn rcu_seat_open(alloc: Global, rcu: &mut Rcu, cpu: u32, seat: &m
             put(seat, contents);
             0
         }
-        Err(fault) => code(fault),
+        Err(refusal) => refusal.number(),
     }
 }
 
@@ -226,23 +248,34 @@ pub extern "C" fn rcu_has_seat(rcu: &mut Rcu, cpu: u32) -> bool
 
 /// Hands a seat back to the engine that dealt it, which deals it again as it stands, and closes its
 /// handle. Its processor goes on as it stands.
+///
+/// Fault 26: the seat is of another engine. The handles then stay as they were.
 #[unsafe(no_mangle)]
-pub extern "C" fn rcu_seat_return(rcu: &mut Rcu, seat: RcuSeat)
+pub extern "C" fn rcu_seat_return(alloc: Global, rcu: &mut Rcu, seat: &mut RcuSeat) -> u32
     requires open { HoldsEngine rcu.old.contents }
-    requires seat { HoldsSeat seat.contents }
-    requires dealt { IsSeatOf seat.contents rcu.old.contents }
-    ensures state { rcu.new.contents ≡
-        on_opened (λ o. with_seat o (seat_of seat.contents)) rcu.old.contents }
+    requires seat { HoldsSeat seat.old.contents }
+    ensures fault { result ≡ number_in_c (return_refusal rcu.old.contents seat.old.contents) }
+    ensures state { result ≡ 0 → rcu.new.contents ≡
+        on_opened (λ o. with_seat o (seat_of seat.old.contents)) rcu.old.contents }
+    ensures closed { result ≡ 0 → IsNone seat.new.contents }
+    ensures unchanged { result ≢ 0 → rcu.new.contents ≡ rcu.old.contents }
+    ensures unchanged_seat { result ≢ 0 → seat.new.contents ≡ seat.old.contents }
 {
-    let mut contents = seat.into_raw_box().into_box();
-    rcu.engine().take_back(contents.take_seat());
+    let opened = rcu.engine();
+    if !opened.owns(seat.seat()) {
+        return Refusal::OtherEngine.number();
+    }
+    let mut contents = seat.close(alloc).into_box();
+    opened.take_back(contents.take_seat());
+    0
 }
 
 /// Closes a seat's handle: nobody has its seat any more. Its processor goes on as it stands: an
 /// online one is awaited by the next grace period, and passes no quiescent state any more.
 #[unsafe(no_mangle)]
-pub extern "C" fn rcu_seat_close(seat: RcuSeat)
-    requires open { HoldsSeat seat.contents }
+pub extern "C" fn rcu_seat_close(alloc: Global, seat: &mut RcuSeat)
+    requires open { HoldsSeat seat.old.contents }
+    ensures closed { IsNone seat.new.contents }
 {
-    drop(seat.into_raw_box().into_box());
+    drop(seat.close(alloc).into_box());
 }

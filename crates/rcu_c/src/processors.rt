@@ -2,28 +2,28 @@
 ghost use Rattle.std.specs.Prelude.{◌≡◌, ◌≢◌, ◌<◌, ◌≤◌, ◌==◌, None, Some, false, length};
 ghost use Rattle.rcu_cblist.specs.SegList.{callbacks, is_empty};
 ghost use Rattle.rcu_barrier.specs.Lists.{list_of};
-ghost use Rattle.rcu_live.specs.CpuSeat.{after_depart, after_quiesce, arrive_refusal};
-ghost use Rattle.rcu_live.specs.CpuSeat.{depart_refusal};
+ghost use Rattle.rcu_live.specs.CpuSeat.{after_depart, after_quiesce};
 ghost use Rattle.rcu_live.specs.Engine.{latest_word};
 ghost use Rattle.rcu_live.specs.EngineLists as live;
 ghost use Rattle.rcu_live.specs.EngineLists.{leave_refusal};
-ghost use Rattle.rcu_c.specs.Answers.{number_for};
-ghost use Rattle.rcu_c.specs.Holding.{HoldsEngine, HoldsSeat, IsSeatOf, cpu_of, engine_of};
-ghost use Rattle.rcu_c.specs.Holding.{grace_of, on_cpu, on_engine, on_grace};
+ghost use Rattle.rcu_c.specs.Answers.{number_for, number_in_c};
+ghost use Rattle.rcu_c.specs.Holding.{HoldsEngine, HoldsSeat, cpu_of, engine_of, grace_of, on_cpu};
+ghost use Rattle.rcu_c.specs.Holding.{on_engine, on_grace};
+ghost use Rattle.rcu_c.specs.Refusals.{coming_refusal, going_refusal};
 
 use crate::codes::{code, status, write_out};
 use crate::handle::{Rcu, RcuSeat};
+use crate::refusal::Refusal;
 
 /// The seat's processor comes online: one load of the number, and one more than it in the own word;
 /// then as `Engine::join`.
 ///
-/// Fault 3: the processor is online.
+/// Faults: 26 where the seat is of another engine; 3 where the processor is online.
 #[unsafe(no_mangle)]
 pub extern "C" fn rcu_arrive_unfenced(rcu: &mut Rcu, seat: &mut RcuSeat) -> u32
     requires open { HoldsEngine rcu.old.contents }
     requires seat { HoldsSeat seat.old.contents }
-    requires dealt { IsSeatOf seat.old.contents rcu.old.contents }
-    ensures fault { result ≡ number_for (arrive_refusal (cpu_of seat.old.contents)) }
+    ensures fault { result ≡ number_in_c (coming_refusal rcu.old.contents seat.old.contents) }
     ensures state { result ≡ 0 → rcu.new.contents ≡
         on_grace (λ g. live.with_arrival g (cpu_of seat.old.contents).cpu) rcu.old.contents }
     ensures seat { result ≡ 0 → seat.new.contents ≡
@@ -33,10 +33,13 @@ pub extern "C" fn rcu_arrive_unfenced(rcu: &mut Rcu, seat: &mut RcuSeat) -> u32
     ensures unchanged { result ≢ 0 → rcu.new.contents ≡ rcu.old.contents }
     ensures unchanged_seat { result ≢ 0 → seat.new.contents ≡ seat.old.contents }
 {
-    let seat = seat.seat();
+    let (engine, seat) = (rcu.engine(), seat.seat());
+    if !engine.owns(seat) {
+        return Refusal::OtherEngine.number();
+    }
     let arrived = seat.cpu.arrive(&*seat.board);
     if arrived.is_ok() {
-        rcu.engine().inner.join(seat.cpu.cpu());
+        engine.inner.join(seat.cpu.cpu());
     }
     status(arrived)
 }
@@ -44,21 +47,20 @@ pub extern "C" fn rcu_arrive_unfenced(rcu: &mut Rcu, seat: &mut RcuSeat) -> u32
 /// The seat's processor goes offline: its own word becomes 0, also where it is; then as
 /// `Engine::leave`. Writes how many callbacks moved to processor 0's list.
 ///
-/// Faults: 12 for processor 0; 4 where a section is open; both change nothing. 2 where it was
-/// offline and its list is empty. 16, where it is offline from now on, and the same call again
-/// finishes that. 3 is never met.
+/// Faults: 26 where the seat is of another engine; 12 for processor 0; 4 where a section is open;
+/// these change nothing. 2 where it was offline and its list is empty. 16, where it is offline from
+/// now on, and the same call again finishes that. 3 is never met.
 #[unsafe(no_mangle)]
 pub extern "C" fn rcu_depart(rcu: &mut Rcu, seat: &mut RcuSeat, moved: &mut u64) -> u32
     requires open { HoldsEngine rcu.old.contents }
     requires seat { HoldsSeat seat.old.contents }
-    requires dealt { IsSeatOf seat.old.contents rcu.old.contents }
-    ensures seat_fault { depart_refusal (cpu_of seat.old.contents) ≢ None →
-        result ≡ number_for (depart_refusal (cpu_of seat.old.contents)) }
-    ensures unchanged { depart_refusal (cpu_of seat.old.contents) ≢ None →
+    ensures seat_fault { going_refusal rcu.old.contents seat.old.contents ≢ None →
+        result ≡ number_in_c (going_refusal rcu.old.contents seat.old.contents) }
+    ensures unchanged { going_refusal rcu.old.contents seat.old.contents ≢ None →
         rcu.new.contents ≡ rcu.old.contents }
-    ensures unchanged_seat { depart_refusal (cpu_of seat.old.contents) ≢ None →
+    ensures unchanged_seat { going_refusal rcu.old.contents seat.old.contents ≢ None →
         seat.new.contents ≡ seat.old.contents }
-    ensures stored { depart_refusal (cpu_of seat.old.contents) ≡ None →
+    ensures stored { going_refusal rcu.old.contents seat.old.contents ≡ None →
         seat.new.contents ≡ on_cpu after_depart seat.old.contents }
     ensures state { result ≡ 0 → rcu.new.contents ≡ on_engine
         (λ e. live.after_leave e (cpu_of seat.old.contents).cpu
@@ -66,13 +68,14 @@ pub extern "C" fn rcu_depart(rcu: &mut Rcu, seat: &mut RcuSeat, moved: &mut u64)
     ensures moved { result ≡ 0 → moved.new ≡
         length (callbacks (list_of (grace_of rcu.old.contents).lists
         (cpu_of seat.old.contents).cpu)) }
-    ensures leave_fault { depart_refusal (cpu_of seat.old.contents) ≡ None → result ≢ 16 →
+    ensures leave_fault { going_refusal rcu.old.contents seat.old.contents ≡ None → result ≢ 16 →
         result ≡ number_for (leave_refusal (engine_of rcu.old.contents)
         (cpu_of seat.old.contents).cpu
         ((cpu_of seat.old.contents).view.own_word == 0)
         (latest_word (engine_of rcu.new.contents))) }
-    ensures looked { depart_refusal (cpu_of seat.old.contents) ≡ None → result ≢ 16 → result ≢ 0 →
-        rcu.new.contents ≡ on_engine (λ e. live.after_load_own e (cpu_of seat.old.contents).cpu
+    ensures looked { going_refusal rcu.old.contents seat.old.contents ≡ None →
+        result ≢ 16 → result ≢ 0 → rcu.new.contents ≡ on_engine
+        (λ e. live.after_load_own e (cpu_of seat.old.contents).cpu
         (latest_word (engine_of rcu.new.contents))) rcu.old.contents }
     ensures alone { result ≡ 16 → leave_refusal (engine_of rcu.old.contents)
         (cpu_of seat.old.contents).cpu ((cpu_of seat.old.contents).view.own_word == 0)
@@ -84,10 +87,13 @@ pub extern "C" fn rcu_depart(rcu: &mut Rcu, seat: &mut RcuSeat, moved: &mut u64)
         (latest_word (engine_of rcu.new.contents))) rcu.old.contents }
     ensures unchanged_moved { result ≢ 0 → moved.new ≡ moved.old }
 {
-    let seat = seat.seat();
+    let (opened, seat) = (rcu.engine(), seat.seat());
+    if !opened.owns(seat) {
+        return Refusal::OtherEngine.number();
+    }
     let again = match seat.cpu.depart(&*seat.board) {
         Ok(again) => again,
         Err(fault) => return code(fault),
     };
-    write_out(rcu.engine().inner.leave(seat.cpu.cpu(), again), moved)
+    write_out(opened.inner.leave(seat.cpu.cpu(), again), moved)
 }

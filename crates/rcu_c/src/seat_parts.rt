@@ -2,6 +2,7 @@
 ghost use Rattle.std.specs.Prelude.{◌≡◌, ◌<◌};
 ghost use Rattle.std.specs.Arc.{arc_value};
 
+use crate::identity::Identity;
 use rcu_live::board::Board;
 use rcu_live::cpu_seat::CpuSeat;
 use rcu_live::watcher::Watcher;
@@ -15,6 +16,7 @@ pub struct SeatParts {
     pub(crate) board: Arc<Board, Global>,
     pub(crate) cpu: CpuSeat,
     pub(crate) watcher: Watcher,
+    pub(crate) identity: Identity,
 }
 
 impl Model for SeatParts {
@@ -24,7 +26,12 @@ impl Model for SeatParts {
 
     ghost Value = { Seat };
 
-    ghost view = { λ s. record { object = arc_value s.board; cpu = s.cpu; watcher = s.watcher } };
+    ghost view = { λ s. record {
+      object = arc_value s.board;
+      cpu = s.cpu;
+      watcher = s.watcher;
+      identity = s.identity;
+    } };
 
     ghost invariant = { λ s. record {
       cpu : s.cpu.table ≡ (arc_value s.board).table;
@@ -35,16 +42,27 @@ impl Model for SeatParts {
 
 impl SeatParts {
     /// The seat of these parts.
-    pub(crate) fn new(board: Arc<Board, Global>, cpu: CpuSeat, watcher: Watcher) -> SeatParts
+    pub(crate) fn new(
+        board: Arc<Board, Global>,
+        cpu: CpuSeat,
+        watcher: Watcher,
+        identity: Identity,
+    ) -> SeatParts
         requires cpu { cpu.table ≡ (arc_value board).table }
         requires watcher { watcher.table ≡ (arc_value board).table }
         requires inside { cpu.cpu < (arc_value board).cpus }
-        ensures { result ≡ record { object = arc_value board; cpu = cpu; watcher = watcher } }
+        ensures { result ≡ record {
+          object = arc_value board;
+          cpu = cpu;
+          watcher = watcher;
+          identity = identity;
+        } }
     {
         SeatParts {
             board,
             cpu,
             watcher,
+            identity,
         }
     }
 }

@@ -1,0 +1,37 @@
+-- Why a call that names a seat, or the seat of a processor, is refused.
+use Rattle.std.specs.Prelude.{ℕ, Option, Some, None, if◌then◌else◌, is_none, nat_le}
+use Rattle.rcu_seq.specs.declared.fault.Fault.{Fault}
+use Rattle.rcu_seq.specs.declared.fault.Fault.TheVariants.{BadCpu}
+use Rattle.rcu_live.specs.CpuSeat.{arrive_refusal, depart_refusal}
+use Rattle.rcu_c.specs.Engines.{EngineAndSeats, is_own, seat_at}
+use Rattle.rcu_c.specs.Holding.{cpu_of, opened_of, seat_of}
+use Rattle.rcu_c.specs.declared.contents.Contents.{Contents}
+use Rattle.rcu_c.specs.declared.refusal.Refusal.{Refusal}
+use Rattle.rcu_c.specs.declared.refusal.Refusal.TheVariants.{Engine, SeatDealt, OtherEngine}
+
+-- the engine's fault, where it has one
+abbrev pub by_engine : Option Fault → Option Refusal
+by_engine None = None
+by_engine (Some fault) = Some (Engine fault)
+
+-- an engine refuses a seat of another first, and else for this
+abbrev pub if_own : Option Contents → Option Contents → Option Fault → Option Refusal
+if_own rcu seat fault = if is_own (opened_of rcu) (seat_of seat) then by_engine fault else Some OtherEngine
+
+-- why a seat's processor does not come online
+abbrev pub coming_refusal : Option Contents → Option Contents → Option Refusal
+coming_refusal rcu seat = if_own rcu seat (arrive_refusal (cpu_of seat))
+
+-- why a seat does not go offline
+abbrev pub going_refusal : Option Contents → Option Contents → Option Refusal
+going_refusal rcu seat = if_own rcu seat (depart_refusal (cpu_of seat))
+
+-- why a seat is not taken back
+abbrev pub return_refusal : Option Contents → Option Contents → Option Refusal
+return_refusal rcu seat = if_own rcu seat None
+
+-- why the seat of a processor is not dealt: there is no such processor; it is dealt
+abbrev pub deal_refusal : EngineAndSeats → ℕ → Option Refusal
+deal_refusal o cpu =
+    if nat_le o.engine.cpus cpu then Some (Engine BadCpu)
+    else (if is_none (seat_at o cpu) then Some SeatDealt else None)

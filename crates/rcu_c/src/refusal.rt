@@ -1,0 +1,53 @@
+//! Why a call is refused in C.
+ghost use Rattle.std.specs.Prelude.{◌≡◌};
+ghost use Rattle.rcu_c.specs.Answers.{refusal_number};
+
+use rcu_seq::fault::Fault;
+use std::alloc::AllocFailed;
+
+/// Why a call is refused in C.
+#[derive(Clone, Copy)]
+pub enum Refusal {
+    /// The engine or the seat refuses it.
+    Engine(Fault),
+    /// The seat of the processor is dealt.
+    SeatDealt,
+    /// The seat is of another engine.
+    OtherEngine,
+}
+
+impl Refusal {
+    /// The number that C is told: no fault of the engine has one of the last two.
+    pub(crate) fn number(self) -> u32
+        ensures { result ≡ refusal_number self }
+    {
+        match self {
+            Refusal::Engine(fault) => fault.number(),
+            Refusal::SeatDealt => 25,
+            Refusal::OtherEngine => 26,
+        }
+    }
+}
+
+impl From<Fault> for Refusal {
+    ghost use Rattle.std.specs.Prelude.{◌≡◌};
+    ghost use Rattle.rcu_c.specs.declared.refusal.Refusal.TheVariants as refusal;
+
+    ghost from_gives = { λ fault r. r ≡ refusal.Engine fault };
+
+    fn from(fault: Fault) -> Refusal {
+        Refusal::Engine(fault)
+    }
+}
+
+impl<T: Drop> From<AllocFailed<T>> for Refusal {
+    ghost use Rattle.std.specs.Prelude.{◌≡◌};
+    ghost use Rattle.rcu_c.specs.declared.refusal.Refusal.TheVariants as refusal;
+    ghost use Rattle.rcu_seq.specs.declared.fault.Fault.TheVariants as fault;
+
+    ghost from_gives = { λ _ r. r ≡ refusal.Engine fault.NoMemory };
+
+    fn from(_error: AllocFailed<T>) -> Refusal {
+        Refusal::Engine(Fault::NoMemory)
+    }
+}
