@@ -1,8 +1,8 @@
 -- What is tested when a run opens.
-use Rattle.std.specs.Prelude.{ℕ, ◌==◌, ◌&&◌, ◌||◌, not, Bool, Option, Some, None, if◌then◌else◌}
-use Rattle.rcu_seq.specs.Numbers.{Number, is_last}
+use Rattle.std.specs.Prelude.{ℕ, ◌==◌, ◌&&◌, ◌||◌, not, Bool, Option, Some, if◌then◌else◌}
+use Rattle.rcu_seq.specs.Numbers.{Number}
 use Rattle.rcu_seq.specs.declared.fault.Fault.{Fault}
-use Rattle.rcu_seq.specs.declared.fault.Fault.TheVariants.{BadFanout, BadLast}
+use Rattle.rcu_seq.specs.declared.fault.Fault.TheVariants.{BadFanout}
 use Rattle.rcu_geometry.specs.Opening.{opening_refusal}
 use Rattle.rcu_barrier.specs.Lists.{most_queued}
 use Rattle.rcu_core.specs.Replies.{Size}
@@ -12,11 +12,6 @@ use Rattle.rcu_script.specs.declared.runs.Setup.{Setup}
 abbrev pub is_offered : ℕ → ℕ → Bool
 is_offered leaf inner = (leaf == 2 && inner == 2) || ((leaf == 2 && inner == 3) || ((leaf == 4 && inner == 4)
     || ((leaf == 16 && inner == 64) || (leaf == 64 && inner == 64))))
-
--- the first fault, or else whether the last number can be one
-abbrev pub or_last_fault : Option Fault → Number → Option Fault
-or_last_fault (Some fault) last = Some fault
-or_last_fault None last = if not (is_last last) then Some BadLast else None
 
 -- the first fault of a setup
 abbrev pub opening_fault : Setup → Option Fault

@@ -1,10 +1,10 @@
 -- What a run of a pair answers and leaves, and what is tested when it opens.
 use Rattle.std.specs.Prelude.{ℕ, not, Option, Some, None, Result, if◌then◌else◌}
-use Rattle.rcu_seq.specs.Numbers.{Number}
+use Rattle.rcu_seq.specs.Numbers.{Number, is_last}
 use Rattle.rcu_seq.specs.declared.fault.Fault.{Fault}
-use Rattle.rcu_seq.specs.declared.fault.Fault.TheVariants.{BadFanout}
+use Rattle.rcu_seq.specs.declared.fault.Fault.TheVariants.{BadFanout, BadLast}
 use Rattle.rcu_geometry.specs.Geometry.{refusal, shape}
-use Rattle.rcu_script.specs.Opening.{is_offered, or_last_fault, size_of_setup}
+use Rattle.rcu_script.specs.Opening.{is_offered, size_of_setup}
 use Rattle.rcu_script.specs.PairTexts.{IsPairText}
 use Rattle.rcu_text.specs.Runs.{Ends}
 use Rattle.rcu_script.specs.RunEnds.{RunsFromOpening}
@@ -22,6 +22,11 @@ first_of_both first second = second
 abbrev pub shapes_fault : ℕ → ℕ → ℕ → ℕ → ℕ → Option Fault
 shapes_fault leaf inner leaf2 inner2 cpus =
     first_of_both (refusal (shape leaf inner cpus)) (refusal (shape leaf2 inner2 cpus))
+
+-- the first fault, or else whether the last number can be one
+abbrev pub or_last_fault : Option Fault → Number → Option Fault
+or_last_fault (Some fault) last = Some fault
+or_last_fault None last = if not (is_last last) then Some BadLast else None
 
 -- the first fault of a pair over the trees of these fanouts
 abbrev pub trees_fault : ℕ → ℕ → ℕ → ℕ → ℕ → Number → Option Fault
