@@ -186,7 +186,7 @@ uint32_t rcu_open_as(uint32_t cpus, uint64_t last, rcu_identity_t identity, rcu_
 static inline uint32_t rcu_open(uint32_t cpus, uint64_t last, rcu_t *rcu) {
 #ifdef __cplusplus
     static std::atomic<std::uint64_t> opened(0);
-    rcu_identity_t identity = {(std::uint64_t)(std::uintptr_t)&opened, opened.fetch_add(1)};
+    rcu_identity_t identity = {reinterpret_cast<std::uintptr_t>(&opened), opened.fetch_add(1)};
 #else
     static _Atomic uint64_t opened;
     rcu_identity_t identity = {(uintptr_t)&opened, atomic_fetch_add(&opened, 1)};

@@ -16,10 +16,11 @@ struct head {
     void (*run)(struct head *head);
 };
 
-/* A processor, for one thread at a time; and whether the maker sleeps until it is quiet. Each has a
- * cache line of its own. */
+/* A processor, for one thread at a time; the number of its latest quiescent state; and whether the
+ * maker sleeps until it is quiet. Each has a cache line of its own. */
 static struct place {
     _Alignas(64) rcu_seat_t seat;
+    uint64_t quiet_at;
     atomic_bool wanted;
 } places[CPUS];
 
@@ -41,8 +42,9 @@ static void must(const char *call, uint32_t fault) {
 }
 
 /* Whether the maker sleeps for this place, and for no other one any more. The maker stores a wish,
- * and then looks at the processor; a thread gets quiet, and then looks for the wish. All four steps
- * are sequentially consistent, so one of the two sees the other. */
+ * and then looks at the processor; a thread gets quiet, and then looks for the wish, each time that
+ * it is quiet still. All four steps are sequentially consistent, so one of the two sees the
+ * other. */
 static bool is_last(struct place *place) {
     return atomic_load(&place->wanted) && atomic_exchange(&place->wanted, false) &&
            atomic_fetch_sub(&missing, 1) == 1;
@@ -157,9 +159,8 @@ static void driver_depart(struct place *place) {
 }
 
 static void driver_quiesce(struct place *place) {
-    uint64_t seen;
     __tsan_release(place);
-    wake_maker(place, rcu_seat_quiesce(&place->seat, &seen));
+    wake_maker(place, rcu_seat_quiesce_since(&place->seat, &place->quiet_at));
 }
 
 static void driver_idle(struct place *place) {

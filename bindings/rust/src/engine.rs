@@ -47,6 +47,8 @@ impl std::error::Error for Error {}
 pub(crate) struct Seat {
     pub(crate) raw: raw::rcu_seat_t,
     pub(crate) cpu: usize,
+    /// The number of its latest quiescent state.
+    pub(crate) quiet_at: u64,
 }
 
 // SAFETY: the header lets a handle pass between threads.
@@ -271,6 +273,7 @@ impl Inner {
             let mut seat = Seat {
                 raw,
                 cpu: cpu as usize,
+                quiet_at: 0,
             };
             if cpu == 0 {
                 must("idle", unsafe { raw::rcu_seat_idle(&mut seat.raw) });

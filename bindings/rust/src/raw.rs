@@ -34,8 +34,6 @@ pub struct rcu_turn_t {
     pub number: u64,
 }
 
-/// A read section is open on the processor.
-pub const RCU_IN_SECTION: u32 = 4;
 /// No memory is left.
 pub const RCU_NO_MEMORY: u32 = 16;
 /// No processor, or more than 4,096.

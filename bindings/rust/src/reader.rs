@@ -85,16 +85,21 @@ impl Reader {
         Guard { reader: self }
     }
 
-    /// Passes a quiescent state: two fences, a load and a store.
+    /// Passes a quiescent state: a load, and, where a grace period began or ended since the last
+    /// one, a store and a fence.
     pub fn quiesce(&mut self) {
-        let mut number = 0;
-        self.leave_sections(|it| unsafe { raw::rcu_seat_quiesce(it, &mut number) });
+        self.leave_sections();
+        let seat = self.seat.get_mut();
+        must("quiescent state", unsafe {
+            raw::rcu_seat_quiesce_since(&mut seat.raw, &mut seat.quiet_at)
+        });
         self.inner.was_quiet(self.cpu());
     }
 
     /// Calls what may block. Meanwhile the reader is idle, and no grace period waits for it.
     pub fn while_idle<R>(&mut self, block: impl FnOnce() -> R) -> R {
-        self.leave_sections(|it| unsafe { raw::rcu_seat_idle(it) });
+        self.leave_sections();
+        must("idle", unsafe { raw::rcu_seat_idle(self.raw()) });
         self.inner.was_quiet(self.cpu());
         let _awake = Awake(self);
         block()
@@ -117,20 +122,14 @@ impl Reader {
         unsafe { (*self.seat.get()).cpu }
     }
 
-    /// Makes a call that is refused in a section. A section that is open now is one of a forgotten
-    /// guard: no guard borrows the reader.
-    fn leave_sections(&mut self, mut call: impl FnMut(*mut raw::rcu_seat_t) -> u32) {
-        let mut fault = call(self.raw());
-        if fault == raw::RCU_IN_SECTION {
-            let mut depth = 1;
-            while depth > 0 {
-                must("exit", unsafe {
-                    raw::rcu_seat_exit(self.raw(), &mut depth)
-                });
-            }
-            fault = call(self.raw());
+    /// Ends the sections that are open. They are of forgotten guards: no guard borrows the reader.
+    fn leave_sections(&mut self) {
+        let mut depth = unsafe { raw::rcu_seat_depth(self.raw()) };
+        while depth > 0 {
+            must("exit", unsafe {
+                raw::rcu_seat_exit(self.raw(), &mut depth)
+            });
         }
-        must("quiescent state", fault);
     }
 }
 
@@ -140,6 +139,7 @@ impl Drop for Reader {
         let none = Seat {
             raw: raw::rcu_seat_t { at: null_mut() },
             cpu: 0,
+            quiet_at: 0,
         };
         let seat = mem::replace(self.seat.get_mut(), none);
         self.inner.give_back(seat);

@@ -1,5 +1,5 @@
 -- The numbers that C is told.
-use Rattle.std.specs.Prelude.{ℕ, Option, Some, None}
+use Rattle.std.specs.Prelude.{ℕ, ◌==◌, if◌then◌else◌, Option, Some, None}
 use Rattle.rcu_seq.specs.Fault.{fault_number}
 use Rattle.rcu_seq.specs.declared.fault.Fault.{Fault}
 use Rattle.rcu_barrier.specs.declared.barrier_state.BarrierState.{BarrierState}
@@ -18,6 +18,10 @@ use Rattle.rcu_c.specs.declared.refusal.Refusal.TheVariants.{Engine, SeatDealt, 
 abbrev pub number_for : Option Fault → ℕ
 number_for None = 0
 number_for (Some fault) = fault_number fault
+
+-- the number that a call returned, but 0 where memory was refused: what all other causes determine
+abbrev pub tested_number : ℕ → ℕ
+tested_number result = if result == 16 then 0 else result
 
 -- the number of a refusal of C's own, or of the engine's fault
 abbrev pub refusal_number : Refusal → ℕ

@@ -6,3 +6,4 @@ pub mod Holding
 pub mod Lending
 pub mod Refusals
 pub mod Seats
+pub mod Staying

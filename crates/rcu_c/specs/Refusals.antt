@@ -1,13 +1,21 @@
 -- Why a call that names a seat, or the seat of a processor, is refused.
-use Rattle.std.specs.Prelude.{ℕ, Option, Some, None, if◌then◌else◌, is_none, nat_le}
+use Rattle.std.specs.Prelude.{◌≡◌, ◌<◌, true, ℕ, Option, Some, None, if◌then◌else◌, is_none, nat_le}
 use Rattle.rcu_seq.specs.declared.fault.Fault.{Fault}
 use Rattle.rcu_seq.specs.declared.fault.Fault.TheVariants.{BadCpu}
+use Rattle.rcu_node.specs.CpuSet.{is_in}
 use Rattle.rcu_live.specs.CpuSeat.{arrive_refusal, depart_refusal}
+use Rattle.rcu_live.specs.Engine.{Locked}
 use Rattle.rcu_c.specs.Engines.{EngineAndSeats, is_own, seat_at}
 use Rattle.rcu_c.specs.Holding.{cpu_of, opened_of, seat_of}
 use Rattle.rcu_c.specs.declared.contents.Contents.{Contents}
 use Rattle.rcu_c.specs.declared.refusal.Refusal.{Refusal}
 use Rattle.rcu_c.specs.declared.refusal.Refusal.TheVariants.{Engine, SeatDealt, OtherEngine}
+
+-- where a processor's callback is queued: there is such a processor, it is online in the engine, and there is room
+pub record CanQueue (e : Locked (Unit {0}) ℕ) (cpu : ℕ) : Type 0 where
+  pub inside : cpu < e.cpus
+  pub online : is_in e.grace.processors.online cpu ≡ true
+  pub room : e.grace.lists.queued < e.grace.lists.most
 
 -- the engine's fault, where it has one
 abbrev pub by_engine : Option Fault → Option Refusal

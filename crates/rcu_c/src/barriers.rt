@@ -1,10 +1,11 @@
 //! The barrier over callbacks.
-ghost use Rattle.std.specs.Prelude.{◌≡◌, ◌≢◌, ◌<◌, ◌≤◌, if◌then◌else◌, true};
-ghost use Rattle.rcu_seq.specs.Fault.{fault_number};
-ghost use Rattle.rcu_barrier.specs.Lists.{barrier_test_answer, visit_answer, visit_fault};
+ghost use Rattle.std.specs.Prelude.{◌≡◌, ◌≢◌, if◌then◌else◌};
+ghost use Rattle.rcu_barrier.specs.Lists.{barrier_test_answer, visit_answer};
 ghost use Rattle.rcu_core.specs.GpState as grace;
-ghost use Rattle.rcu_c.specs.Answers.{left_of, visit_number};
+ghost use Rattle.rcu_live.specs.EngineLists.{visit_refusal};
+ghost use Rattle.rcu_c.specs.Answers.{left_of, number_for, tested_number, visit_number};
 ghost use Rattle.rcu_c.specs.Holding.{HoldsEngine, engine_of, grace_of, on_grace};
+ghost use Rattle.rcu_c.specs.Staying.{BothStay};
 
 use crate::codes::{status, write_out};
 use crate::handle::Rcu;
@@ -41,19 +42,15 @@ fn visit_in_c(visit: Visit) -> u32
 #[unsafe(no_mangle)]
 pub extern "C" fn rcu_barrier_visit(rcu: &mut Rcu, cpu: u32, did: &mut u32) -> u32
     requires open { HoldsEngine rcu.old.contents }
-    ensures accepted { result ≡ 0 → cpu < (engine_of rcu.old.contents).cpus }
-    ensures running { result ≡ 0 → (grace_of rcu.old.contents).lists.running ≡ true }
+    ensures fault { tested_number result ≡
+        number_for (visit_refusal (engine_of rcu.old.contents) cpu) }
     ensures visit { result ≡ 0 →
         did.new ≡ visit_number (visit_answer (grace_of rcu.old.contents).lists cpu) }
     ensures state { result ≡ 0 → rcu.new.contents ≡
         on_grace (λ g. grace.after_visit g cpu) rcu.old.contents }
-    ensures bad { (engine_of rcu.old.contents).cpus ≤ cpu → result ≡ 1 }
-    ensures fault { result ≢ 0 → cpu < (engine_of rcu.old.contents).cpus →
-        result ≡ fault_number (visit_fault (grace_of rcu.old.contents).lists) }
     ensures memory { result ≡ 16 →
         visit_answer (grace_of rcu.old.contents).lists cpu ≡ Visit.Marked }
-    ensures unchanged { result ≢ 0 → rcu.new.contents ≡ rcu.old.contents }
-    ensures unchanged_did { result ≢ 0 → did.new ≡ did.old }
+    ensures unchanged { result ≢ 0 → BothStay rcu.old.contents rcu.new.contents did.old did.new }
 {
     let visited = rcu.engine().inner.visit(cpu);
     write_out(visited.map(visit_in_c), did)
@@ -79,8 +76,7 @@ pub extern "C" fn rcu_barrier_test(rcu: &mut Rcu, left: &mut u64) -> u32
         on_grace (λ g. grace.after_barrier_test g) rcu.old.contents }
     ensures left { result ≡ 0 →
         left.new ≡ left_of (barrier_test_answer (grace_of rcu.old.contents).lists) }
-    ensures unchanged { result ≢ 0 → rcu.new.contents ≡ rcu.old.contents }
-    ensures unchanged_left { result ≢ 0 → left.new ≡ left.old }
+    ensures unchanged { result ≢ 0 → BothStay rcu.old.contents rcu.new.contents left.old left.new }
 {
     let tested = rcu.engine().inner.barrier_test();
     write_out(tested.map(left_in_c), left)

@@ -1,15 +1,17 @@
 //! Callbacks.
 ghost use Rattle.std.specs.Prelude.{◌≡◌, ◌≢◌, ◌<◌, ◌≤◌, All, [], drop, length, map};
-ghost use Rattle.std.specs.Prelude.{take, true};
+ghost use Rattle.std.specs.Prelude.{take};
 ghost use Rattle.rcu_seq.specs.Fault.{fault_number};
 ghost use Rattle.rcu_seq.specs.Seq.{number_of};
-ghost use Rattle.rcu_node.specs.CpuSet.{is_in};
 ghost use Rattle.rcu_cblist.specs.SegList.{behind, callbacks, front, take_answer};
 ghost use Rattle.rcu_barrier.specs.Lists.{list_of};
 ghost use Rattle.rcu_core.specs.GpState as grace;
-ghost use Rattle.rcu_live.specs.Engine.{HasWaited};
+ghost use Rattle.rcu_live.specs.Engine.{HasWaited, cpu_refusal};
 ghost use Rattle.rcu_live.specs.EngineLists.{queue_refusal};
+ghost use Rattle.rcu_c.specs.Answers.{number_for, tested_number};
 ghost use Rattle.rcu_c.specs.Holding.{HoldsEngine, engine_of, grace_of, on_grace};
+ghost use Rattle.rcu_c.specs.Refusals.{CanQueue};
+ghost use Rattle.rcu_c.specs.Staying.{AllStay, BothStay};
 
 use crate::codes::{code, write_out};
 use crate::handle::Rcu;
@@ -23,18 +25,15 @@ use rcu_seq::fault::Fault;
 #[unsafe(no_mangle)]
 pub extern "C" fn rcu_queue(rcu: &mut Rcu, cpu: u32, value: u64, place: &mut u64) -> u32
     requires open { HoldsEngine rcu.old.contents }
-    ensures accepted { result ≡ 0 → cpu < (engine_of rcu.old.contents).cpus }
-    ensures online { result ≡ 0 → is_in (grace_of rcu.old.contents).processors.online cpu ≡ true }
-    ensures room { result ≡ 0 → (grace_of rcu.old.contents).lists.queued
-        < (grace_of rcu.old.contents).lists.most }
+    ensures accepted { result ≡ 0 → CanQueue (engine_of rcu.old.contents) cpu }
     ensures state { result ≡ 0 → rcu.new.contents ≡
         on_grace (λ g. grace.after_queue g cpu value) rcu.old.contents }
     ensures place { result ≡ 0 → place.new ≡ (grace_of rcu.new.contents).lists.queued }
     ensures bad { (engine_of rcu.old.contents).cpus ≤ cpu → result ≡ 1 }
     ensures fault { cpu < (engine_of rcu.old.contents).cpus → result ≢ 0 →
         result ≡ fault_number (queue_refusal (engine_of rcu.old.contents) cpu) }
-    ensures unchanged { result ≢ 0 → rcu.new.contents ≡ rcu.old.contents }
-    ensures unchanged_place { result ≢ 0 → place.new ≡ place.old }
+    ensures unchanged { result ≢ 0 →
+        BothStay rcu.old.contents rcu.new.contents place.old place.new }
 {
     let engine = &mut rcu.engine().inner;
     if cpu >= engine.cpus() {
@@ -51,18 +50,15 @@ pub extern "C" fn rcu_queue(rcu: &mut Rcu, cpu: u32, value: u64, place: &mut u64
 #[unsafe(no_mangle)]
 pub extern "C" fn rcu_tend(rcu: &mut Rcu, cpu: u32, done: &mut u64, waiting: &mut u64) -> u32
     requires open { HoldsEngine rcu.old.contents }
-    ensures fault { result ≢ 0 → result ≡ 1 }
-    ensures accepted { result ≡ 0 → cpu < (engine_of rcu.old.contents).cpus }
-    ensures bad { result ≢ 0 → (engine_of rcu.old.contents).cpus ≤ cpu }
+    ensures fault { result ≡ number_for (cpu_refusal (engine_of rcu.old.contents) cpu) }
     ensures state { result ≡ 0 → rcu.new.contents ≡
         on_grace (λ g. grace.after_tend g cpu) rcu.old.contents }
     ensures done { result ≡ 0 → done.new ≡
         length (callbacks (front (list_of (grace_of rcu.new.contents).lists cpu))) }
     ensures waiting { result ≡ 0 → waiting.new ≡
         length (callbacks (behind (list_of (grace_of rcu.new.contents).lists cpu))) }
-    ensures unchanged { result ≢ 0 → rcu.new.contents ≡ rcu.old.contents }
-    ensures unchanged_done { result ≢ 0 → done.new ≡ done.old }
-    ensures unchanged_waiting { result ≢ 0 → waiting.new ≡ waiting.old }
+    ensures unchanged { result ≢ 0 →
+        AllStay rcu.old.contents rcu.new.contents done.old done.new waiting.old waiting.new }
 {
     match rcu.engine().inner.tend(cpu) {
         Ok((ready, waits)) => {
@@ -96,7 +92,8 @@ fn put_values(calls: &[Queued<u64>], values: &mut [u64]) -> u64
 #[unsafe(no_mangle)]
 pub extern "C" fn rcu_run(rcu: &mut Rcu, cpu: u32, values: &mut [u64], count: &mut u64) -> u32
     requires open { HoldsEngine rcu.old.contents }
-    ensures accepted { result ≡ 0 → cpu < (engine_of rcu.old.contents).cpus }
+    ensures fault { tested_number result ≡
+        number_for (cpu_refusal (engine_of rcu.old.contents) cpu) }
     ensures state { result ≡ 0 → rcu.new.contents ≡
         on_grace (λ g. grace.after_run g cpu (length values.old)) rcu.old.contents }
     ensures count { result ≡ 0 → count.new ≡
@@ -108,13 +105,10 @@ pub extern "C" fn rcu_run(rcu: &mut Rcu, cpu: u32, values: &mut [u64], count: &m
     ensures waited { result ≡ 0 →
         All (λ call. HasWaited (number_of (grace_of rcu.old.contents).seq) call.at)
         (take_answer (list_of (grace_of rcu.old.contents).lists cpu) (length values.old)) }
-    ensures bad { (engine_of rcu.old.contents).cpus ≤ cpu → result ≡ 1 }
-    ensures fault { result ≢ 0 → cpu < (engine_of rcu.old.contents).cpus → result ≡ 16 }
     ensures memory { result ≡ 16 →
         take_answer (list_of (grace_of rcu.old.contents).lists cpu) (length values.old) ≢ [] }
-    ensures unchanged { result ≢ 0 → rcu.new.contents ≡ rcu.old.contents }
-    ensures unchanged_values { result ≢ 0 → values.new ≡ values.old }
-    ensures unchanged_count { result ≢ 0 → count.new ≡ count.old }
+    ensures unchanged { result ≢ 0 →
+        AllStay rcu.old.contents rcu.new.contents values.old values.new count.old count.new }
 {
     match rcu.engine().inner.run(cpu, values.len() as u64) {
         Ok(ran) => {

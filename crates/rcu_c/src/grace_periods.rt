@@ -1,11 +1,12 @@
 //! Grace periods.
-ghost use Rattle.std.specs.Prelude.{◌≡◌, ◌≢◌, ◌<◌, ◌≤◌};
+ghost use Rattle.std.specs.Prelude.{◌≡◌, ◌≢◌};
 ghost use Rattle.rcu_seq.specs.Seq.{number_of};
 ghost use Rattle.rcu_core.specs.GpState as grace;
 ghost use Rattle.rcu_live.specs.Engine as live;
-ghost use Rattle.rcu_live.specs.Engine.{latest_words, latest_word};
+ghost use Rattle.rcu_live.specs.Engine.{cpu_refusal, latest_words, latest_word};
 ghost use Rattle.rcu_c.specs.Answers.{collected_number, number_for, turn_of};
 ghost use Rattle.rcu_c.specs.Holding.{HoldsEngine, engine_of, grace_of, on_engine};
+ghost use Rattle.rcu_c.specs.Staying.{AllStay, BothStay};
 
 use crate::codes::{code, write_out};
 use crate::handle::Rcu;
@@ -66,9 +67,8 @@ pub extern "C" fn rcu_begin(rcu: &mut Rcu, number: &mut u64, awaited: &mut u32) 
         (λ e. live.after_begin e (latest_words (engine_of rcu.new.contents))) rcu.old.contents }
     ensures number { result ≡ 0 → number.new ≡ number_of (grace_of rcu.new.contents).seq }
     ensures awaited { result ≡ 0 → awaited.new ≡ grace.awaited_in (grace_of rcu.new.contents) }
-    ensures unchanged { result ≢ 0 → rcu.new.contents ≡ rcu.old.contents }
-    ensures unchanged_number { result ≢ 0 → number.new ≡ number.old }
-    ensures unchanged_awaited { result ≢ 0 → awaited.new ≡ awaited.old }
+    ensures unchanged { result ≢ 0 →
+        AllStay rcu.old.contents rcu.new.contents number.old number.new awaited.old awaited.new }
 {
     match rcu.engine().inner.begin() {
         Ok((begun, waits)) => {
@@ -91,8 +91,8 @@ pub extern "C" fn rcu_end_unfenced(rcu: &mut Rcu, number: &mut u64) -> u32
     ensures state { result ≡ 0 →
         rcu.new.contents ≡ on_engine (λ e. live.after_end e) rcu.old.contents }
     ensures number { result ≡ 0 → number.new ≡ number_of (grace_of rcu.new.contents).seq }
-    ensures unchanged { result ≢ 0 → rcu.new.contents ≡ rcu.old.contents }
-    ensures unchanged_number { result ≢ 0 → number.new ≡ number.old }
+    ensures unchanged { result ≢ 0 →
+        BothStay rcu.old.contents rcu.new.contents number.old number.new }
 {
     write_out(rcu.engine().inner.end(), number)
 }
@@ -111,8 +111,7 @@ pub extern "C" fn rcu_turn_unfenced(rcu: &mut Rcu, turn: &mut Turn) -> u32
     ensures turn { result ≡ 0 → turn.new ≡ turn_of
         (live.turn_answer (engine_of rcu.old.contents)
         (latest_words (engine_of rcu.new.contents))) }
-    ensures unchanged { result ≢ 0 → rcu.new.contents ≡ rcu.old.contents }
-    ensures unchanged_turn { result ≢ 0 → turn.new ≡ turn.old }
+    ensures unchanged { result ≢ 0 → BothStay rcu.old.contents rcu.new.contents turn.old turn.new }
 {
     let turned = rcu.engine().inner.turn();
     write_out(turned.map(turn_in_c), turn)
@@ -126,17 +125,15 @@ pub extern "C" fn rcu_turn_unfenced(rcu: &mut Rcu, turn: &mut Turn) -> u32
 pub extern "C" fn rcu_collect(rcu: &mut Rcu, cpu: u32, found: &mut u32) -> u32
     requires open { HoldsEngine rcu.old.contents }
     ensures open { HoldsEngine rcu.new.contents }
-    ensures fault { result ≢ 0 → result ≡ 1 }
-    ensures accepted { result ≡ 0 → cpu < (engine_of rcu.old.contents).cpus }
-    ensures bad { result ≢ 0 → (engine_of rcu.old.contents).cpus ≤ cpu }
+    ensures fault { result ≡ number_for (cpu_refusal (engine_of rcu.old.contents) cpu) }
     ensures state { result ≡ 0 → rcu.new.contents ≡ on_engine
         (λ e. live.after_collect e cpu (latest_word (engine_of rcu.new.contents)))
         rcu.old.contents }
     ensures found { result ≡ 0 → found.new ≡ collected_number
         (live.collect_answer (engine_of rcu.old.contents) cpu
         (latest_word (engine_of rcu.new.contents))) }
-    ensures unchanged { result ≢ 0 → rcu.new.contents ≡ rcu.old.contents }
-    ensures unchanged_found { result ≢ 0 → found.new ≡ found.old }
+    ensures unchanged { result ≢ 0 →
+        BothStay rcu.old.contents rcu.new.contents found.old found.new }
 {
     let collected = rcu.engine().inner.collect(cpu);
     write_out(collected.map(collected_in_c), found)

@@ -9,12 +9,13 @@ ghost use Rattle.rcu_live.specs.Opening.{AreDealt};
 ghost use Rattle.rcu_seq.specs.Memory.{tested_fault};
 ghost use Rattle.rcu_live.specs.Watcher.{watcher_at_first};
 ghost use Rattle.rcu_live.specs.Words.{base_of};
-ghost use Rattle.rcu_c.specs.Answers.{number_for, number_in_c};
+ghost use Rattle.rcu_c.specs.Answers.{number_for, number_in_c, tested_number};
 ghost use Rattle.rcu_c.specs.Engines.{opened_at_first, seat_at, with_seat, without_seat};
 ghost use Rattle.rcu_c.specs.Holding.{HoldsEngine, HoldsSeat, engine_of, on_opened, opened_of};
 ghost use Rattle.rcu_c.specs.Holding.{seat_of};
 ghost use Rattle.rcu_c.specs.Refusals.{deal_refusal, return_refusal};
 ghost use Rattle.rcu_c.specs.Seats.{seat_at_first};
+ghost use Rattle.rcu_c.specs.Staying.{BothStay};
 
 use crate::codes::code;
 use crate::contents::Contents;
@@ -140,8 +141,7 @@ pub extern "C" fn rcu_open_as(
     rcu: &mut Rcu,
 ) -> u32
     requires closed { IsNone rcu.old.contents }
-    ensures fault { result ≢ 16 → result ≡ number_for (opening_refusal 16 64 cpus last) }
-    ensures memory { result ≡ 16 → opening_refusal 16 64 cpus last ≡ None }
+    ensures fault { tested_number result ≡ number_for (opening_refusal 16 64 cpus last) }
     ensures open { result ≡ 0 → HoldsEngine rcu.new.contents }
     ensures state { result ≡ 0 → opened_of rcu.new.contents ≡
         opened_at_first identity (engine_of rcu.new.contents).table cpus last }
@@ -215,16 +215,15 @@ fn deal_into(contents: &mut Contents, opened: &mut OpenEngine, cpu: u32)
 pub extern "C" fn rcu_seat_open(alloc: Global, rcu: &mut Rcu, cpu: u32, seat: &mut RcuSeat) -> u32
     requires open { HoldsEngine rcu.old.contents }
     requires closed { IsNone seat.old.contents }
-    ensures fault { result ≢ 16 →
-        result ≡ number_in_c (deal_refusal (opened_of rcu.old.contents) cpu) }
-    ensures memory { result ≡ 16 → deal_refusal (opened_of rcu.old.contents) cpu ≡ None }
+    ensures fault { tested_number result ≡
+        number_in_c (deal_refusal (opened_of rcu.old.contents) cpu) }
     ensures open { result ≡ 0 → HoldsSeat seat.new.contents }
     ensures seat { result ≡ 0 →
         seat_at (opened_of rcu.old.contents) cpu ≡ Some (seat_of seat.new.contents) }
     ensures state { result ≡ 0 →
         rcu.new.contents ≡ on_opened (λ o. without_seat o cpu) rcu.old.contents }
-    ensures unchanged { result ≢ 0 → rcu.new.contents ≡ rcu.old.contents }
-    ensures unchanged_seat { result ≢ 0 → seat.new.contents ≡ seat.old.contents }
+    ensures unchanged { result ≢ 0 →
+        BothStay rcu.old.contents rcu.new.contents seat.old.contents seat.new.contents }
 {
     match deal_seat(alloc, rcu.engine(), cpu) {
         Ok(contents) => {
@@ -258,8 +257,8 @@ pub extern "C" fn rcu_seat_return(alloc: Global, rcu: &mut Rcu, seat: &mut RcuSe
     ensures state { result ≡ 0 → rcu.new.contents ≡
         on_opened (λ o. with_seat o (seat_of seat.old.contents)) rcu.old.contents }
     ensures closed { result ≡ 0 → IsNone seat.new.contents }
-    ensures unchanged { result ≢ 0 → rcu.new.contents ≡ rcu.old.contents }
-    ensures unchanged_seat { result ≢ 0 → seat.new.contents ≡ seat.old.contents }
+    ensures unchanged { result ≢ 0 →
+        BothStay rcu.old.contents rcu.new.contents seat.old.contents seat.new.contents }
 {
     let opened = rcu.engine();
     if !opened.owns(seat.seat()) {

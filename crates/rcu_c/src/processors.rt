@@ -10,6 +10,7 @@ ghost use Rattle.rcu_c.specs.Answers.{number_for, number_in_c};
 ghost use Rattle.rcu_c.specs.Holding.{HoldsEngine, HoldsSeat, cpu_of, engine_of, grace_of, on_cpu};
 ghost use Rattle.rcu_c.specs.Holding.{on_engine, on_grace};
 ghost use Rattle.rcu_c.specs.Refusals.{coming_refusal, going_refusal};
+ghost use Rattle.rcu_c.specs.Staying.{BothStay};
 
 use crate::codes::{code, status, write_out};
 use crate::handle::{Rcu, RcuSeat};
@@ -30,8 +31,8 @@ pub extern "C" fn rcu_arrive_unfenced(rcu: &mut Rcu, seat: &mut RcuSeat) -> u32
         on_cpu (λ s. after_quiesce s (cpu_of seat.new.contents).view.seen) seat.old.contents }
     ensures later { result ≡ 0 →
         (cpu_of seat.old.contents).view.seen ≤ (cpu_of seat.new.contents).view.seen }
-    ensures unchanged { result ≢ 0 → rcu.new.contents ≡ rcu.old.contents }
-    ensures unchanged_seat { result ≢ 0 → seat.new.contents ≡ seat.old.contents }
+    ensures unchanged { result ≢ 0 →
+        BothStay rcu.old.contents rcu.new.contents seat.old.contents seat.new.contents }
 {
     let (engine, seat) = (rcu.engine(), seat.seat());
     if !engine.owns(seat) {
@@ -57,9 +58,7 @@ pub extern "C" fn rcu_depart(rcu: &mut Rcu, seat: &mut RcuSeat, moved: &mut u64)
     ensures seat_fault { going_refusal rcu.old.contents seat.old.contents ≢ None →
         result ≡ number_in_c (going_refusal rcu.old.contents seat.old.contents) }
     ensures unchanged { going_refusal rcu.old.contents seat.old.contents ≢ None →
-        rcu.new.contents ≡ rcu.old.contents }
-    ensures unchanged_seat { going_refusal rcu.old.contents seat.old.contents ≢ None →
-        seat.new.contents ≡ seat.old.contents }
+        BothStay rcu.old.contents rcu.new.contents seat.old.contents seat.new.contents }
     ensures stored { going_refusal rcu.old.contents seat.old.contents ≡ None →
         seat.new.contents ≡ on_cpu after_depart seat.old.contents }
     ensures state { result ≡ 0 → rcu.new.contents ≡ on_engine

@@ -9,6 +9,7 @@ ghost use Rattle.rcu_live.specs.Numbers.{idle_word};
 ghost use Rattle.rcu_live.specs.Watcher.{after_watch};
 ghost use Rattle.rcu_c.specs.Answers.{number_for};
 ghost use Rattle.rcu_c.specs.Holding.{HoldsSeat, cpu_of, on_cpu, on_watcher, watcher_of};
+ghost use Rattle.rcu_c.specs.Staying.{BothStay};
 
 use crate::codes::{status, write_out};
 use crate::handle::RcuSeat;
@@ -67,8 +68,8 @@ pub extern "C" fn rcu_seat_enter(seat: &mut RcuSeat, depth: &mut u32) -> u32
         on_cpu (λ s. after_enter s (cpu_of seat.new.contents).view.seen) seat.old.contents }
     ensures later { result ≡ 0 →
         (cpu_of seat.old.contents).view.seen ≤ (cpu_of seat.new.contents).view.seen }
-    ensures unchanged { result ≢ 0 → seat.new.contents ≡ seat.old.contents }
-    ensures unchanged_depth { result ≢ 0 → depth.new ≡ depth.old }
+    ensures unchanged { result ≢ 0 →
+        BothStay seat.old.contents seat.new.contents depth.old depth.new }
 {
     let seat_parts = seat.seat();
     write_out(seat_parts.cpu.enter(&*seat_parts.board), depth)
@@ -87,8 +88,8 @@ pub extern "C" fn rcu_seat_exit(seat: &mut RcuSeat, depth: &mut u32) -> u32
         on_cpu (λ s. after_exit (λ c. c) s (cpu_of seat.new.contents).view.seen) seat.old.contents }
     ensures later { result ≡ 0 →
         (cpu_of seat.old.contents).view.seen ≤ (cpu_of seat.new.contents).view.seen }
-    ensures unchanged { result ≢ 0 → seat.new.contents ≡ seat.old.contents }
-    ensures unchanged_depth { result ≢ 0 → depth.new ≡ depth.old }
+    ensures unchanged { result ≢ 0 →
+        BothStay seat.old.contents seat.new.contents depth.old depth.new }
 {
     let seat_parts = seat.seat();
     write_out(seat_parts.cpu.exit(&*seat_parts.board), depth)
@@ -105,8 +106,8 @@ pub extern "C" fn rcu_seat_quiesce_unfenced(seat: &mut RcuSeat, number: &mut u64
     ensures state { result ≡ 0 → seat.new.contents ≡
         on_cpu (λ s. after_quiesce s number.new) seat.old.contents }
     ensures later { result ≡ 0 → (cpu_of seat.old.contents).view.seen ≤ number.new }
-    ensures unchanged { result ≢ 0 → seat.new.contents ≡ seat.old.contents }
-    ensures unchanged_number { result ≢ 0 → number.new ≡ number.old }
+    ensures unchanged { result ≢ 0 →
+        BothStay seat.old.contents seat.new.contents number.old number.new }
 {
     let seat_parts = seat.seat();
     write_out(seat_parts.cpu.quiesce(&*seat_parts.board), number)
@@ -137,8 +138,8 @@ pub extern "C" fn rcu_seat_wake_unfenced(seat: &mut RcuSeat, number: &mut u64) -
     ensures state { result ≡ 0 → seat.new.contents ≡
         on_cpu (λ s. after_quiesce s number.new) seat.old.contents }
     ensures later { result ≡ 0 → (cpu_of seat.old.contents).view.seen ≤ number.new }
-    ensures unchanged { result ≢ 0 → seat.new.contents ≡ seat.old.contents }
-    ensures unchanged_number { result ≢ 0 → number.new ≡ number.old }
+    ensures unchanged { result ≢ 0 →
+        BothStay seat.old.contents seat.new.contents number.old number.new }
 {
     let seat_parts = seat.seat();
     write_out(seat_parts.cpu.wake(&*seat_parts.board), number)
