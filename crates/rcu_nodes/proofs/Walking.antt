@@ -1,0 +1,65 @@
+-- A section that walks a graph goes on from node to node.
+use Rattle.std.proofs.Common.{◌≡◌, ℕ, suc, ◌<◌, List, refl, sym, ◌∙◌, subst, inl, inr, arith}
+use Rattle.std.specs.Prelude.{slice_index}
+use Rattle.rcu_live.specs.Board.{Object}
+use Rattle.rcu_live.specs.CpuSeat.{Seated, after_word_step}
+use Rattle.rcu_nodes.specs.Graph.{IsAt, IsWalking}
+use Rattle.rcu_nodes.specs.Nodes.{IsHeld, IsOn, IsReader}
+use Rattle.rcu_nodes.specs.Search.{IsFound}
+use Rattle.rcu_nodes.specs.Steps.{Came, Followed}
+use Rattle.rcu_nodes.specs.declared.known.Known.{Known}
+
+the_same : (a b : ℕ) → suc a ≡ suc b → a ≡ b
+the_same a b e = omega (arith, e)
+
+module _ (fits joins : List ℕ → Type 0) (width count : ℕ) (was : Known) where
+  pub came_to : (j : ℕ) (now : Known) → Followed fits joins width count was (suc j) now
+      → Came fits joins width count was j now
+  came_to j now (inl none) = absurd (omega (arith, none.0))
+  came_to j now (inr some) =
+      subst (λ (n : ℕ). Came fits joins width count was n now) (sym (the_same j some.0 some.1)) some.2
+
+  came_reads : (j : ℕ) (now : Known) → Came fits joins width count was j now → IsReader now
+  came_reads j now c = subst IsReader (sym c.is) tt
+
+  still_reads : (x : ℕ) (now : Known) → IsReader was → Followed fits joins width count was x now → IsReader now
+  still_reads x now reads (inl none) = subst IsReader (sym none.1) reads
+  still_reads x now reads (inr some) = came_reads some.0 now some.2
+
+  pub came_holds : (j : ℕ) (now : Known) (c : Came fits joins width count was j now) → IsHeld now j c.words
+  came_holds j now c = subst (λ (k : Known). IsHeld k j c.words) (sym c.is) (0, refl)
+
+  pub found_it : (key found j : ℕ) (now : Known) (c : Came fits joins width count was j now)
+      → found ≡ slice_index c.words 0 → found ≡ key → IsFound fits key now j
+  found_it key found j now c told is =
+      record { words = c.words; held = came_holds j now c; whole = c.whole; is = sym told ∙ is }
+
+-- a seat whose section knows something else of the graph
+pub walks_on : (graph : Object) (old new : Seated Known) → new ≡ after_word_step old new.view.client
+    → IsWalking graph old → IsReader new.view.client → IsWalking graph new
+walks_on graph old new same w reads =
+    subst (IsWalking graph) (sym same) (record { seat_of = w.seat_of; is_open = w.is_open; reads = reads })
+
+module _ (fits joins : List ℕ → Type 0) (width count : ℕ) (graph : Object) (old new : Seated Known) where
+  pub followed_walks : (x : ℕ) → new ≡ after_word_step old new.view.client → IsWalking graph old
+      → Followed fits joins width count old.view.client x new.view.client → IsWalking graph new
+  followed_walks x same w f =
+      walks_on graph old new same w (still_reads fits joins width count old.view.client x new.view.client w.reads f)
+
+  pub followed_at : (first : ℕ → List ℕ) (roots j : ℕ) → new ≡ after_word_step old new.view.client
+      → IsWalking graph old → Followed fits joins width count old.view.client (suc j) new.view.client
+      → IsAt first roots count graph new j
+  followed_at first roots j same w f =
+      let c = came_to fits joins width count old.view.client j new.view.client f in record {
+        walking = followed_walks (suc j) same w f;
+        words = c.words;
+        on = inr (came_holds fits joins width count old.view.client j new.view.client c);
+        inside = c.inside;
+      }
+
+-- where the section is on a node still
+pub walks_at : (first : ℕ → List ℕ) (roots count : ℕ) (graph : Object) (old new : Seated Known) (i : ℕ) (words : List ℕ)
+    → new ≡ after_word_step old new.view.client → IsWalking graph old → IsReader new.view.client
+    → IsOn first roots new.view.client i words → i < count → IsAt first roots count graph new i
+walks_at first roots count graph old new i words same w reads on low =
+    record { walking = walks_on graph old new same w reads; words = words; on = on; inside = low }

@@ -1,0 +1,76 @@
+use Rattle.std.proofs.Common.{◌≡◌, ℕ, ◌<◌, List, refl, sym, subst, inl, inr, arith}
+use Rattle.std.specs.Prelude.{slice_index}
+use Rattle.rcu_live.specs.CpuSeat.{Seated}
+use Rattle.rcu_nodes.specs.Graph.{IsAt, IsWalking}
+use Rattle.rcu_nodes.specs.Nodes.{IsOn, IsReader}
+use Rattle.rcu_nodes.specs.Search.{IsFound}
+use Rattle.rcu_nodes.specs.declared.known.Known.{Known}
+use Rattle.rcu_nodes.proofs.Walking.{came_holds, came_to, found_it, walks_at}
+use Rattle.rcu_nodes.proofs.graph.Graph.find.Goals as goal
+
+pub key_of-least-requires : goal.key_of-least-requires
+key_of-least-requires g c =
+    let inside : c.args.root < g.row.N = omega (arith, c.requires.root, c.self.invariant.roots) in
+    (omega arith, (omega arith, record { walking = c.requires.walking; words = g.F.Shape.first c.args.root; on = inl (c.requires.root, refl); inside = inside }))
+
+pub chain-init : goal.chain-init
+chain-init g c = record {
+  same = refl;
+  reader = subst (λ (s : Seated Known). IsReader s.view.client) (sym c.key_of-least.ensures.same) c.requires.walking.reads;
+  inside = omega (arith, c.requires.root, c.self.invariant.roots);
+  on = (
+    g.F.Shape.first c.args.root,
+    inl (c.requires.root, refl),
+    sym (c.key_of-least.ensures.told (g.F.Shape.first c.args.root) (inl (c.requires.root, refl))),
+  );
+}
+
+pub follow-requires : goal.follow-requires
+follow-requires g c =
+    let i = c.chain.invariant in
+    let first = subst (IsWalking _) (sym c.key_of-least.ensures.same) c.requires.walking in
+    (omega arith, (omega arith, (walks_at _ _ _ _ _ c.chain.seat _ i.on.0 i.same first i.reader i.on.1 i.inside, c.requires.link)))
+
+pub key_of-found-requires : goal.key_of-found-requires
+key_of-found-requires g c = (omega arith, (omega arith, c.in-Some.ensures.on))
+
+pub returns-then-found-key-clause-walking : goal.returns-then-found-key-clause-walking
+returns-then-found-key-clause-walking g c =
+    subst (IsWalking _) (sym c.key_of-found.ensures.same) c.in-Some.ensures.walking
+
+pub returns-then-found-key-clause-on : goal.returns-then-found-key-clause-on
+returns-then-found-key-clause-on g c =
+    subst (λ (s : Seated Known). IsAt g.F.Shape.first g.row.K g.row.N c.args.self.now s c.in-Some.next) (sym c.key_of-found.ensures.same) c.in-Some.ensures.on
+
+pub returns-then-found-key-clause-found : goal.returns-then-found-key-clause-found
+returns-then-found-key-clause-found g c =
+    let on = c.chain.invariant.on in
+    let came = came_to _ _ _ _ _ _ _ (c.in-Some.ensures.came on.0 on.1) in
+    let held = came_holds _ _ _ _ _ _ _ came in
+    subst (λ (s : Seated Known). IsFound g.F.Shape.fits c.args.key s.view.client c.in-Some.next) (sym c.key_of-found.ensures.same)
+    (found_it _ _ _ _ _ _ _ _ _ came (c.key_of-found.ensures.told came.words (inr held)) c.if-found-key.true)
+
+pub returns-then-found-key-2-clause-walking : goal.returns-then-found-key-2-clause-walking
+returns-then-found-key-2-clause-walking g c =
+    subst (IsWalking _) (sym c.key_of-found.ensures.same) c.in-Some.ensures.walking
+
+pub chain-smaller : goal.chain-smaller
+chain-smaller g c =
+    let on = c.chain.invariant.on in
+    let came = came_to _ _ _ _ _ _ _ (c.in-Some.ensures.came on.0 on.1) in
+    let held = came_holds _ _ _ _ _ _ _ came in
+    let up : slice_index on.0 0 < slice_index came.words 0 = c.requires.ascends on.0 came.words came.joined in
+    let told = c.key_of-found.ensures.told came.words (inr held) in
+    omega (arith, up, told, on.2, c.if-found-key.false, c.if-found-key-2.false)
+
+pub chain-preserved : goal.chain-preserved
+chain-preserved g c =
+    let i = c.chain.invariant in
+    let came = came_to _ _ _ _ _ _ _ (c.in-Some.ensures.came i.on.0 i.on.1) in
+    let held = came_holds _ _ _ _ _ _ _ came in record {
+      same = rw (c.key_of-found.ensures.same, c.in-Some.ensures.same, i.same) refl;
+      reader = subst (λ (s : Seated Known). IsReader s.view.client) (sym c.key_of-found.ensures.same) c.in-Some.ensures.walking.reads;
+      inside = came.inside;
+      on = subst (λ (s : Seated Known). (words : List ℕ) × IsOn g.F.Shape.first g.row.K s.view.client c.in-Some.next words × (slice_index words 0 ≡ c.key_of-found.result)) (sym c.key_of-found.ensures.same)
+          (came.words, inr held, sym (c.key_of-found.ensures.told came.words (inr held)));
+    }

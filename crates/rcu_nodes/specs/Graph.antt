@@ -1,0 +1,34 @@
+-- A graph of nodes and the seats that belong to it.
+use Rattle.std.specs.Prelude.{◌≡◌, ◌<◌, ℕ, suc, IsSome, List, Option, Some, None}
+use Rattle.rcu_live.specs.Board.{Object}
+use Rattle.rcu_live.specs.CpuSeat.{Seated}
+use Rattle.rcu_live.specs.Watcher.{Watching}
+use Rattle.rcu_live.specs.Words.{base_of}
+use Rattle.rcu_nodes.specs.Nodes.{IsOn, IsReader}
+use Rattle.rcu_nodes.specs.declared.known.Known.{Known}
+
+-- a processor's seat of the graph's engine, and a watcher's
+abbrev pub IsSeatOf : Object → Seated Known → Type 0
+IsSeatOf graph seat = (seat.table ≡ graph.table) × (seat.view.base ≡ base_of graph.cpus)
+
+abbrev pub IsWatcherOf : Object → Watching Known → Type 0
+IsWatcherOf graph watcher = (watcher.table ≡ graph.table) × (watcher.view.base ≡ base_of graph.cpus)
+
+-- the word of a link that leads to this node, and of one that leads nowhere
+abbrev pub word_to : Option ℕ → ℕ
+word_to None = 0
+word_to (Some node) = suc node
+
+-- a processor's seat of the graph, whose open section may walk it
+pub record IsWalking (graph : Object) (seat : Seated Known) : Type 0 where
+  pub seat_of : IsSeatOf graph seat
+  pub is_open : IsSome seat.view.section
+  pub reads : IsReader seat.view.client
+
+-- of so many nodes, the first ones roots with their first words: the section is on this one, a root or a node that it
+-- came to
+pub record IsAt (first : ℕ → List ℕ) (roots count : ℕ) (graph : Object) (seat : Seated Known) (node : ℕ) : Type 0 where
+  pub walking : IsWalking graph seat
+  pub words : List ℕ
+  pub on : IsOn first roots seat.view.client node words
+  pub inside : node < count

@@ -1,0 +1,11 @@
+-- The words of a graph at first.
+use Rattle.std.specs.Prelude.{◌≡◌, ℕ, ◌+◌, ◌<◌, ◌≤◌, List, [], length, slice_index, slice_index_or}
+use Rattle.rcu_nodes.specs.Nodes.{place_of}
+
+-- so many first nodes have these words, one row each, and each link and each other word is 0
+pub record AreFirst (rows : List (List ℕ)) (roots links width : ℕ) (words : List ℕ) : Type 0 where
+  pub sized : (i : ℕ) → i < roots → length (slice_index_or rows i []) ≡ width
+  pub no_links : (i l : ℕ) → l < links → slice_index words (place_of (links + width) i l) ≡ 0
+  pub stored : (i k : ℕ) → i < roots → k < width
+      → slice_index words (place_of (links + width) i (links + k)) ≡ slice_index (slice_index_or rows i []) k
+  pub rest : (i k : ℕ) → roots ≤ i → k < width → slice_index words (place_of (links + width) i (links + k)) ≡ 0

@@ -1,0 +1,67 @@
+-- What each step on the nodes tells.
+use Rattle.std.specs.Prelude.{◌≡◌, ◌⊎◌, ℕ, suc, ◌+◌, ◌<◌, List, ◌∷◌, length, slice_index, max}
+use Rattle.rcu_seq.specs.Numbers.{Number}
+use Rattle.rcu_nodes.specs.Nodes.{IsOn, aged, first_nodes, held_in, in_state, latest_in, linked_to, nodes_in, place_of}
+use Rattle.rcu_nodes.specs.Nodes.{renewed, worded}
+use Rattle.rcu_nodes.specs.declared.known.Known.{Known}
+use Rattle.rcu_nodes.specs.declared.known.Known.TheVariants.{Reader, Keeper}
+use Rattle.rcu_nodes.specs.declared.node_state.NodeState.TheVariants.{Left, Live}
+
+-- the section came to the node j, by a link that may lead there: the node is whole, and the section holds it beside all
+-- that it held
+pub record Came (fits joins : List ℕ → Type 0) (width count : ℕ) (was : Known) (j : ℕ) (now : Known) : Type 0 where
+  pub words : List ℕ
+  pub is : now ≡ Reader (record { node = j; words = words } ∷ held_in was)
+  pub inside : j < count
+  pub size : length words ≡ width
+  pub whole : fits words
+  pub joined : joins words
+
+-- a link was loaded: it leads nowhere, and the section holds what it held; or the section came to a node
+abbrev pub Followed : (List ℕ → Type 0) → (List ℕ → Type 0) → ℕ → ℕ → Known → ℕ → Known → Type 0
+Followed fits joins width count was x now =
+    ((x ≡ 0) × (now ≡ was)) ⊎ ((j : ℕ) × (x ≡ suc j) × Came fits joins width count was j now)
+
+abbrev pub IsFollowed : (List ℕ → Type 0) → (ℕ → List ℕ → List ℕ → Type 0) → (ℕ → List ℕ) → ℕ → ℕ → ℕ → ℕ → ℕ → Known
+    → ℕ → Known → Type 0
+IsFollowed fits joins first roots links width count place was x now =
+    (i l : ℕ) (words : List ℕ) → l < links → place ≡ place_of (links + width) i l → IsOn first roots was i words
+    → Followed fits (joins l words) width count was x now
+
+-- a word of a node was loaded: the one that it had when the section came to it
+abbrev pub IsRead : (ℕ → List ℕ) → ℕ → ℕ → ℕ → ℕ → Known → ℕ → Known → Type 0
+IsRead first roots links width place was x now =
+    (now ≡ was)
+    × ((i k : ℕ) (words : List ℕ) → k < width → place ≡ place_of (links + width) i (links + k) → IsOn first roots was i words → x ≡ slice_index words k)
+
+-- the nodes are kept from now on, as they were at first
+abbrev pub IsClaimed : (ℕ → List ℕ) → ℕ → ℕ → ℕ → ℕ → Known → Type 0
+IsClaimed first roots links width count now = now ≡ Keeper 0 (first_nodes links width first roots count)
+
+-- a word was stored, and a link
+abbrev pub IsWritten : ℕ → ℕ → ℕ → Known → ℕ → Known → Type 0
+IsWritten links width place was x now =
+    (i k : ℕ) → k < width → place ≡ place_of (links + width) i (links + k)
+    → now ≡ Keeper (latest_in was) (renewed (nodes_in was) i (worded k x))
+
+abbrev pub IsLinked : ℕ → ℕ → ℕ → Known → ℕ → Known → Type 0
+IsLinked links width place was x now =
+    (i l : ℕ) → l < links → place ≡ place_of (links + width) i l
+    → now ≡ Keeper (latest_in was) (renewed (nodes_in was) i (linked_to l x))
+
+-- a link was stored that leads to a node which is live from now on
+abbrev pub IsPublished : ℕ → ℕ → ℕ → Known → ℕ → Known → Type 0
+IsPublished links width place was x now =
+    (i l j : ℕ) → l < links → place ≡ place_of (links + width) i l → x ≡ suc j
+    → now ≡ Keeper (latest_in was) (renewed (renewed (nodes_in was) j (in_state Live)) i (linked_to l x))
+
+-- a node was left
+abbrev pub IsLeft : ℕ → ℕ → ℕ → Known → ℕ → Known → Type 0
+IsLeft links width place was x now =
+    (i k : ℕ) → k < links + width → place ≡ place_of (links + width) i k
+    → now ≡ Keeper (latest_in was) (renewed (nodes_in was) i (in_state Left))
+
+-- the nodes are a look at the number older
+abbrev pub IsAged : Known → Number → Known → Type 0
+IsAged was number now =
+    now ≡ Keeper (max number (latest_in was)) (aged number (max number (latest_in was)) (nodes_in was))
