@@ -1,5 +1,4 @@
 pub mod Filling
-pub mod Rows
 pub mod Keeping
 pub mod Moves
 pub mod States

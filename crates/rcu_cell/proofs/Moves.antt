@@ -1,10 +1,9 @@
 -- Each step on a cell keeps its rule, and tells what it is to tell.
-use Rattle.std.proofs.Common.{◌≡◌, ◌≢◌, ℕ, zero, suc, ◌+◌, ◌*◌, ◌<◌, ◌≤◌, List, [], ◌∷◌, length, get_or, set, Some}
+use Rattle.std.proofs.Common.{◌≡◌, ◌≢◌, ℕ, ◌+◌, ◌*◌, ◌<◌, List, length, get_or, set, Some}
 use Rattle.std.proofs.Common.{None, Option, refl, sym, ap, ◌∙◌, subst, ⊎_elim, arith, length-set, Bool, true, false}
 use Rattle.std.specs.Prelude.{IsSome, slice_index, if◌then◌else◌}
-use Rattle.std.proofs.lemmas.Bool.Decides.{nat_tests}
 use Rattle.std.proofs.lemmas.List.{get_or-set_same, get_or-set_other, set-get_or}
-use mathlib.Core.Option.{some, some-injective, some-ne-none}
+use mathlib.Core.Option.{some, some-injective}
 use mathlib.Core.Logic.{dite}
 use native.Mathlib.Decide.{ℕ_discrete}
 use lib.ListN.{get_elem?, length-map}
@@ -13,8 +12,10 @@ use Rattle.rcu_seq.specs.Numbers.{Number}
 use Rattle.rcu_live.specs.Client.{Slots, Views, AllowsNumber, AllowsWord}
 use Rattle.rcu_live.specs.Numbers.{is_open_at, is_past}
 use Rattle.rcu_live.proofs.ClientLemmas.{at_map_back, not_open_past}
+use Rattle.rcu_live.proofs.ClientRows.{at_inside, inside, open_began, place_inside, places_differ, reseat, row_told}
+use Rattle.rcu_live.proofs.ClientRows.{word_told}
 use Rattle.rcu_cell.specs.Rule.{IsKept, Knows, Reading}
-use Rattle.rcu_cell.specs.Stability.{SeatKnows, one_changes, reseat}
+use Rattle.rcu_cell.specs.Stability.{SeatKnows, one_changes}
 use Rattle.rcu_cell.specs.Steps.{IsAged, IsClaimed, IsLoaded, IsPublished, IsRead, IsWritten}
 use Rattle.rcu_cell.specs.Versions.{IsKeeping, IsReading, IsWhole, MayRead, aged, aged_state, aged_version, first_place}
 use Rattle.rcu_cell.specs.Versions.{first_slots, no_version, published, slot_in, slots_in, version_at, with_word}
@@ -24,18 +25,6 @@ use Rattle.rcu_cell.specs.declared.known.Known.TheVariants.{Idle, Owner, Reader,
 use Rattle.rcu_cell.specs.declared.known.Version.{Version}
 use Rattle.rcu_cell.specs.declared.slot_state.SlotState.{SlotState}
 use Rattle.rcu_cell.specs.declared.slot_state.SlotState.TheVariants.{Free, Shown, Replaced, Retired}
-use Rattle.rcu_cell.proofs.Rows.{place_inside, places_differ, slot_told, word_told}
-
-pub inside : {A : Type 0} (l : List A) (i : ℕ) (a : A) → get_elem? l i ≡ some a → i < length l
-inside [] i a e = absurd (some-ne-none a (sym e))
-inside (x ∷ xs) zero a e = omega arith
-inside (x ∷ xs) (suc i) a e = let h = inside xs i a e in omega (arith, h)
-
--- an element inside a list is the one that is read there with a default
-pub at_inside : {A : Type 0} (l : List A) (i : ℕ) (d : A) → i < length l → get_elem? l i ≡ some (get_or l i d)
-at_inside [] i d low = absurd (omega (arith, low))
-at_inside (x ∷ xs) zero d low = refl
-at_inside (x ∷ xs) (suc i) d low = at_inside xs i d (omega (arith, low))
 
 not_both : (st : SlotState) → st ≡ Shown → st ≡ Free → ⊥
 not_both st a b = cc
@@ -115,7 +104,7 @@ module _ (holds : List ℕ → Type 0) (width count : ℕ) where
         w,
         subst (λ (l : List ℕ). IsKept holds width count l homes (set xs id (cpu, section, w)))
             (sym (set-get_or ws p 0)) after,
-        (refl, λ l high is. found ∙ ap (λ (m : ℕ). slice_index words m) (word_told width i i k l refl is)),
+        (refl, λ l high is. found ∙ ap (λ (m : ℕ). slice_index words m) (word_told first_place width i i k l refl is)),
       )
 
   -- the load by which the slots are kept from now on
@@ -158,7 +147,7 @@ module _ (holds : List ℕ → Type 0) (width count : ℕ) where
       (λ z. (sym same z, sym mine.0 z)) h.current in
       let apart : c ≢ i = λ e. not_both u.state (ap (λ (v : Version). v.state) (some-injective _ _ (sym there ∙ ap (λ (m : ℕ). get_elem? s m) (sym e) ∙ now))) free in
       let within : p < length ws =
-      let q = place_inside width count i k (omega (arith, bound, few)) low in omega (arith, q, long) in (
+      let q = place_inside first_place width count i k (omega (arith, bound, few)) low in omega (arith, q, long) in (
         w,
         rekeep ws (set ws p x) homes xs h id cpu section (Keeper c s) at mine.2 c s' (length-set s i new ∙ few)
             (length-set ws p x ∙ long)
@@ -172,8 +161,8 @@ module _ (holds : List ℕ → Type 0) (width count : ℕ) where
             (dite (ℕ_discrete k' k)
             (λ (is : k' ≡ k). subst (λ (m : ℕ). get_or (set ws p x) (word_of width i m) 0 ≡ get_or (set u.words k x) m 0) (sym is)
             (get_or-set_same ws p x 0 within ∙ sym (get_or-set_same u.words k x 0 (omega (arith, low, many)))))
-            (λ (ne : k' ≢ k). get_or-set_other ws p (word_of width i k') x 0 (λ e'. ne (word_told width i i k' k refl e')) ∙ (h.written i u (in_h i u there) k' low' ∙ sym (get_or-set_other u.words k k' x 0 ne)))))
-            (λ (t : (j ≢ i) × (get_elem? s j ≡ some v)). get_or-set_other ws p (word_of width j k') x 0 (places_differ width j i k' k t.0 low' low) ∙ h.written j v (in_h j v t.1) k' low')
+            (λ (ne : k' ≢ k). get_or-set_other ws p (word_of width i k') x 0 (λ e'. ne (word_told first_place width i i k' k refl e')) ∙ (h.written i u (in_h i u there) k' low' ∙ sym (get_or-set_other u.words k k' x 0 ne)))))
+            (λ (t : (j ≢ i) × (get_elem? s j ≡ some v)). get_or-set_other ws p (word_of width j k') x 0 (places_differ first_place width j i k' k t.0 low' low) ∙ h.written j v (in_h j v t.1) k' low')
             (at_set s i j new v e))
             (λ j v e. ⊎_elim (λ (t : (j ≡ i) × (new ≡ v)). subst (λ (y : Version). IsWhole holds y.state y.words) t.1 tt)
             (λ (t : (j ≢ i) × (get_elem? s j ≡ some v)). h.whole j v (in_h j v t.1)) (at_set s i j new v e))
@@ -184,15 +173,12 @@ module _ (holds : List ℕ → Type 0) (width count : ℕ) where
             absurd (subst (MayRead a) (sym (ap (λ (y : Version). y.state) both) ∙ free) may))
             (λ (ne : q ≢ i). (st, set_else s i q new ne ∙ (ap (λ (l : List Version). get_elem? l q) same ∙ here), may))),
         λ i' k' low' is.
-            let one : i ≡ i' = slot_told width i i' k k' low low' is in
-            let two : k ≡ k' = word_told width i i' k k' one is in
+            let one : i ≡ i' = row_told first_place width i i' k k' low low' is in
+            let two : k ≡ k' = word_told first_place width i i' k k' one is in
             ap (λ (y : ℕ × ℕ). Keeper c (with_word s y.0 y.1 x)) (λ z. (one z, two z)),
       )
 
   -- who has an open section may read the slot after a look at the number, if it might before
-  open_began : (n at : Number) → is_open_at n at ≡ true → at ≤ n
-  open_began n at o = grind (arith, nat_tests)
-
   ages_state : (at n : Number) (st : SlotState) → is_open_at n at ≡ true → MayRead at st → MayRead at (aged_state n st)
   ages_state at n Free o may = may
   ages_state at n Shown o may = tt

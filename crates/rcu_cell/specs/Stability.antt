@@ -4,9 +4,9 @@ use Rattle.std.specs.Prelude.{◌≡◌, ◌≢◌, ℕ, List, [], ◌∷◌, �
 use Rattle.std.proofs.Common.{refl, sym, ◌∙◌, subst, ⊎_elim}
 use mathlib.Core.Option.{some}
 use lib.ListN.{get_elem?}
-use Rattle.atomic_table.proofs.Lists.{at_set}
 use Rattle.rcu_seq.specs.Numbers.{Number}
 use Rattle.rcu_live.specs.Client.{Slots, IsStable, Views, ClientView}
+use Rattle.rcu_live.proofs.ClientRows.{reseat}
 use Rattle.rcu_live.proofs.Deals.{at_end}
 use Rattle.rcu_cell.specs.Rule.{IsKept, Knows}
 use Rattle.rcu_cell.specs.Versions.{closed}
@@ -20,15 +20,6 @@ IsNone (Some number) = ⊥
 
 no_section : (number : Number) → None ≡ Some number → ⊥
 no_section number e = subst IsNone e tt
-
--- one element changes, and what holds of the others stays
-pub reseat : {A : Type 0} (K : ℕ → A → Type 0) (xs : List A) (id : ℕ) (p : A) → K id p
-    → ((j : ℕ) (q : A) → j ≢ id → get_elem? xs j ≡ some q → K j q)
-    → (j : ℕ) (q : A) → get_elem? (slice_set xs id p) j ≡ some q → K j q
-reseat {A} K xs id p mine others j q e = ⊎_elim
-    (λ (t : (j ≡ id) × (p ≡ q)). subst (λ (y : ℕ × A). K y.0 y.1) (λ i. (sym t.0 i, t.1 i)) mine)
-    (λ (t : (j ≢ id) × (get_elem? xs j ≡ some q)). others j q t.0 t.1)
-    (at_set xs id j p q e)
 
 module _ (width count : ℕ) (slots : List Version) (shown : ℕ) where
   -- what a seat of the picture knows

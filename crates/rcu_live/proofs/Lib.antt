@@ -1,5 +1,6 @@
 pub mod Begins
 pub mod ClientLemmas
+pub mod ClientRows
 pub mod ClientSteps
 pub mod Deals
 pub mod Departures

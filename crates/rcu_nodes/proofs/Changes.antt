@@ -10,9 +10,7 @@ use native.Mathlib.Decide.{ℕ_discrete}
 use lib.ListN.{get_elem?, length-map}
 use Rattle.atomic_table.proofs.Lists.{at_map, set_here, set_else}
 use Rattle.rcu_live.proofs.ClientLemmas.{at_map_back}
-use Rattle.rcu_nodes.proofs.Rows.{inside}
-use Rattle.rcu_nodes.proofs.Rows.{place_inside, places_differ, word_told}
-use Rattle.rcu_nodes.specs.Stability.{reseat}
+use Rattle.rcu_live.proofs.ClientRows.{inside, place_inside, places_differ, reseat, word_told}
 use Rattle.rcu_nodes.specs.Nodes.{IsBy, IsTarget, IsUnlinked, IsUsed, Outlives, aged, aged_node, aged_state, first_place, in_state}
 use Rattle.rcu_nodes.specs.Nodes.{linked_to, place_of, row_of, worded}
 use Rattle.rcu_nodes.specs.Rule.{AreKept, IsLed, Leads}
@@ -37,8 +35,8 @@ stored_row : (row count i q x : ℕ) (ws cells : List ℕ) → i < count → q <
     → (k : ℕ) → k < row → slice_index (set ws (place_of row i q) x) (place_of row i k) ≡ slice_index (set cells q x) k
 stored_row row count i q x ws cells low small size long same k high = dite (ℕ_discrete k q)
     (λ (e : k ≡ q). subst (λ (m : ℕ). get_or (set ws (place_of row i q) x) (place_of row i m) 0 ≡ get_or (set cells q x) m 0) (sym e)
-    (get_or-set_same ws (place_of row i q) x 0 (let p = place_inside row count i q low small in omega (arith, p, long)) ∙ sym (get_or-set_same cells q x 0 (omega (arith, small, size)))))
-    (λ (ne : k ≢ q). get_or-set_other ws (place_of row i q) (place_of row i k) x 0 (λ e. ne (word_told row i i k q refl e))
+    (get_or-set_same ws (place_of row i q) x 0 (let p = place_inside first_place row count i q low small in omega (arith, p, long)) ∙ sym (get_or-set_same cells q x 0 (omega (arith, small, size)))))
+    (λ (ne : k ≢ q). get_or-set_other ws (place_of row i q) (place_of row i k) x 0 (λ e. ne (word_told first_place row i i k q refl e))
     ∙ (same k high ∙ sym (get_or-set_other cells q k x 0 ne)))
 
 module _ (fits : List ℕ → Type 0) (joins : ℕ → List ℕ → List ℕ → Type 0) (first : ℕ → List ℕ)
@@ -139,7 +137,7 @@ module _ (fits : List ℕ → Type 0) (joins : ℕ → List ℕ → List ℕ →
       (λ r. (root_is ws s t i v h at r, refl))
       (length-set v.links l x ∙ many) (h.sized i v at)
       (λ k high. stored_row row count i l x ws (row_of v) (omega (arith, bound, h.few)) (omega (arith, low)) (row_long ws s t i v h at) h.long (h.written i v at) k high ∙ ap (λ (cells : List ℕ). slice_index cells k) is_row)
-      (λ j k ne high. get_or-set_other ws p (place_of row j k) x 0 (places_differ row j i k l ne high (omega (arith, low))))
+      (λ j k ne high. get_or-set_other ws p (place_of row j k) x 0 (places_differ first_place row j i k l ne high (omega (arith, low))))
       (h.whole i v at) (h.by i v at)
       (λ used m k small link. dite (ℕ_discrete m l)
       (λ (is : m ≡ l). to_target used m k small is link may)
@@ -182,7 +180,7 @@ module _ (fits : List ℕ → Type 0) (joins : ℕ → List ℕ → List ℕ →
       (λ r. absurd (not_both v.state (root_is ws s t i v h at r) free))
       many (length-set v.words k x ∙ h.sized i v at)
       (λ m high. stored_row row count i q x ws (row_of v) (omega (arith, bound, h.few)) (omega (arith, low)) (row_long ws s t i v h at) h.long (h.written i v at) m high ∙ ap (λ (cells : List ℕ). slice_index cells m) is_row)
-      (λ j m ne high. get_or-set_other ws p (place_of row j m) x 0 (places_differ row j i m q ne high (omega (arith, low))))
+      (λ j m ne high. get_or-set_other ws p (place_of row j m) x 0 (places_differ first_place row j i m q ne high (omega (arith, low))))
       (λ used. absurd (subst IsUsed free used)) (h.by i v at)
       (λ used. absurd (subst IsUsed free used))
       (λ j l u e used lasts joined small link. absurd (none_outlives u.state used (subst (Outlives u.state) free lasts)))

@@ -1,4 +1,3 @@
-pub mod Rows
 pub mod States
 pub mod Changes
 pub mod Moves

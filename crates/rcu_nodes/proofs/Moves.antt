@@ -10,11 +10,9 @@ use native.Mathlib.Decide.{ℕ_discrete}
 use lib.ListN.{get_elem?}
 use Rattle.atomic_table.proofs.Lists.{at_map, set_here, set_else}
 use Rattle.rcu_live.specs.Client.{Slots, Views, AllowsNumber, AllowsWord}
-use Rattle.rcu_nodes.proofs.Rows.{at_inside, inside}
-use Rattle.rcu_nodes.proofs.Rows.{slot_told, word_told}
-use Rattle.rcu_nodes.specs.Stability.{reseat}
+use Rattle.rcu_live.proofs.ClientRows.{at_inside, inside, reseat, row_told, word_told}
 use Rattle.rcu_nodes.specs.Nodes.{IsOn, IsReader, IsTarget, IsUnlinked, MayRead, aged, aged_node, first_nodes, held_in}
-use Rattle.rcu_nodes.specs.Nodes.{in_state, linked_to, no_node, node_at, place_of, renewed, row_of, worded}
+use Rattle.rcu_nodes.specs.Nodes.{first_place, in_state, linked_to, no_node, node_at, place_of, renewed, row_of, worded}
 use Rattle.rcu_nodes.specs.Rule.{AreKept, IsKept, Knows, Leads, Reading}
 use Rattle.rcu_nodes.specs.Stability.{SeatKnows, one_changes}
 use Rattle.rcu_nodes.specs.Steps.{Followed, IsAged, IsClaimed, IsFollowed, IsLeft, IsLinked, IsPublished, IsRead}
@@ -136,8 +134,8 @@ module _ (fits : List ℕ → Type 0) (joins : ℕ → List ℕ → List ℕ →
         subst (λ (cells : List ℕ). IsKept fits joins first roots links width count cells homes (set xs id (cpu, Some at, t.0)))
             (sym (set-get_or ws p 0)) t.1,
         λ i' l' words' low' e on'.
-            let one : i ≡ i' = slot_told (links + width) i i' l l' (omega (arith, low)) (omega (arith, low')) e in
-            let two : l ≡ l' = word_told (links + width) i i' l l' one e in
+            let one : i ≡ i' = row_told first_place (links + width) i i' l l' (omega (arith, low)) (omega (arith, low')) e in
+            let two : l ≡ l' = word_told first_place (links + width) i i' l l' one e in
             let o' = is_on ws h.nodes h.latest h.keeper id at i' was words' h.kept reads (h.seats id cpu (Some at) was there) on' in
             let node : o.0 ≡ o'.0 = some-injective _ _ (sym o.1 ∙ (ap (λ (m : ℕ). get_elem? h.nodes m) one ∙ o'.1)) in
             let three : words ≡ words' = sym o.2 ∙ (ap (λ (x : Node). x.words) node ∙ o'.2) in
@@ -158,8 +156,8 @@ module _ (fits : List ℕ → Type 0) (joins : ℕ → List ℕ → List ℕ →
         (
           refl,
           λ i' k' words' low' e on'.
-              let one : i ≡ i' = slot_told (links + width) i i' (links + k) (links + k') (omega (arith, low)) (omega (arith, low')) e in
-              let two : links + k ≡ links + k' = word_told (links + width) i i' (links + k) (links + k') one e in
+              let one : i ≡ i' = row_told first_place (links + width) i i' (links + k) (links + k') (omega (arith, low)) (omega (arith, low')) e in
+              let two : links + k ≡ links + k' = word_told first_place (links + width) i i' (links + k) (links + k') one e in
               let o = is_on ws h.nodes h.latest h.keeper id at i' was words' h.kept reads knows on' in
               let many : length o.0.links ≡ links = h.kept.linked i' o.0 o.1 in
               let here : slice_index ws p ≡ slice_index (row_of o.0) (links + k') =
@@ -232,8 +230,8 @@ module _ (fits : List ℕ → Type 0) (joins : ℕ → List ℕ → List ℕ →
             (λ was. word_stored fits joins first roots links width count ws s t i k x v was at low free)
             (λ a may. absurd (subst (MayRead a) free may)),
         λ i' k' low' e.
-            let one : i ≡ i' = slot_told (links + width) i i' (links + k) (links + k') (omega (arith, low)) (omega (arith, low')) e in
-            let both : links + k ≡ links + k' = word_told (links + width) i i' (links + k) (links + k') one e in
+            let one : i ≡ i' = row_told first_place (links + width) i i' (links + k) (links + k') (omega (arith, low)) (omega (arith, low')) e in
+            let both : links + k ≡ links + k' = word_told first_place (links + width) i i' (links + k) (links + k') one e in
             let two : k ≡ k' = omega (arith, both) in
             ap (λ (y : ℕ × ℕ). Keeper t (renewed s y.0 (worded y.1 x))) (λ z. (one z, two z)),
       )
@@ -251,8 +249,8 @@ module _ (fits : List ℕ → Type 0) (joins : ℕ → List ℕ → List ℕ →
             (λ was. link_stored fits joins first roots links width count ws s t i l x v was at low allowed)
             (λ a may. (refl, may)),
         λ i' l' low' e.
-            let one : i ≡ i' = slot_told (links + width) i i' l l' (omega (arith, low)) (omega (arith, low')) e in
-            let two : l ≡ l' = word_told (links + width) i i' l l' one e in
+            let one : i ≡ i' = row_told first_place (links + width) i i' l l' (omega (arith, low)) (omega (arith, low')) e in
+            let two : l ≡ l' = word_told first_place (links + width) i i' l l' one e in
             ap (λ (y : ℕ × ℕ). Keeper t (renewed s y.0 (linked_to y.1 x))) (λ z. (one z, two z)),
       )
 
@@ -296,8 +294,8 @@ module _ (fits : List ℕ → Type 0) (joins : ℕ → List ℕ → List ℕ →
         subst (λ (l : Views Known). IsKept fits joins first roots links width count (set ws p (suc j)) homes l)
             (set-set xs id (cpu, section, Keeper t s₁) (cpu, section, Keeper t (set s₁ i w))) after,
         λ i' l' j' low' e f.
-            let one : i ≡ i' = slot_told (links + width) i i' l l' (omega (arith, low)) (omega (arith, low')) e in
-            let two : l ≡ l' = word_told (links + width) i i' l l' one e in
+            let one : i ≡ i' = row_told first_place (links + width) i i' l l' (omega (arith, low)) (omega (arith, low')) e in
+            let two : l ≡ l' = word_told first_place (links + width) i i' l l' one e in
             let three : j ≡ j' = the_same j j' f in
             ap (λ (y : ℕ × ℕ × ℕ). Keeper t (renewed (renewed s y.2 (in_state Live)) y.0 (linked_to y.1 (suc j)))) (λ z. (one z, two z, three z)),
       )
@@ -317,7 +315,7 @@ module _ (fits : List ℕ → Type 0) (joins : ℕ → List ℕ → List ℕ →
             (renews ws ws homes xs h id cpu section t s i v (in_state Left v) there at
             (λ was. node_left fits joins first roots links width count ws s t i v was at live past unlinked)
             (λ a may. (refl, tt))),
-        λ i' k' low' e. ap (λ (m : ℕ). Keeper t (renewed s m (in_state Left))) (slot_told (links + width) i i' k k' low low' e),
+        λ i' k' low' e. ap (λ (m : ℕ). Keeper t (renewed s m (in_state Left))) (row_told first_place (links + width) i i' k k' low low' e),
       )
 
   -- the keeper's look: what no section may be on any more is free

@@ -13,7 +13,7 @@ use lib.ListN.{get_elem?}
 use Rattle.atomic_table.proofs.Lists.{at_map}
 use Rattle.rcu_live.specs.Client.{Slots, ClientView}
 use Rattle.rcu_live.proofs.ClientLemmas.{at_map_back}
-use Rattle.rcu_nodes.proofs.Rows.{at_inside, inside, slot_told, word_told}
+use Rattle.rcu_live.proofs.ClientRows.{at_inside, inside, row_told, word_told}
 use Rattle.rcu_nodes.specs.Nodes.{IsBy, IsUsed, first_node, first_place, first_nodes, free_node, place_of, root, row_of}
 use Rattle.rcu_nodes.specs.Opening.{AreFirst}
 use Rattle.rcu_nodes.specs.Rule.{IsKept, IsLed, Knows}
@@ -183,11 +183,11 @@ one_stored rows r links width place old new h is size mine others = record {
 
     link_apart : (i l k : ℕ) → l < links → k < width → place_of (links + width) i l ≢ place_of (links + width) r (links + k)
     link_apart i l k low small e =
-        let same : i ≡ r = slot_told (links + width) i r l (links + k) (omega (arith, low)) (omega (arith, small)) e in
-        let at : l ≡ links + k = word_told (links + width) i r l (links + k) same e in
+        let same : i ≡ r = row_told first_place (links + width) i r l (links + k) (omega (arith, low)) (omega (arith, small)) e in
+        let at : l ≡ links + k = word_told first_place (links + width) i r l (links + k) same e in
         omega (arith, at, low)
 
     word_apart : (i k m : ℕ) → i ≢ r → k < width → m < width
         → place_of (links + width) i (links + k) ≢ place_of (links + width) r (links + m)
     word_apart i k m ne small little e =
-        ne (slot_told (links + width) i r (links + k) (links + m) (omega (arith, small)) (omega (arith, little)) e)
+        ne (row_told first_place (links + width) i r (links + k) (links + m) (omega (arith, small)) (omega (arith, little)) e)

@@ -5,6 +5,7 @@ use Rattle.std.proofs.lemmas.Bool.Decides.{nat_tests}
 use Rattle.rcu_seq.specs.Numbers.{Number}
 use Rattle.rcu_live.specs.Numbers.{is_open_at, is_past}
 use Rattle.rcu_live.proofs.ClientLemmas.{not_open_past}
+use Rattle.rcu_live.proofs.ClientRows.{open_began}
 use Rattle.rcu_nodes.specs.Nodes.{IsBy, IsUsed, MayRead, Outlives, aged_state}
 use Rattle.rcu_nodes.specs.declared.node_state.NodeState.{NodeState}
 use Rattle.rcu_nodes.specs.declared.node_state.NodeState.TheVariants.{Free, Live, Left, Retired}
@@ -105,9 +106,6 @@ outlives_aged n m latest (Retired a) (Retired b) up by o used = past (is_past a 
     past true y e f used = absurd used
     past false true e f used = absurd (true_false (sym (past_before a b n o f) ∙ e))
     past false false e f used = o
-
-open_began : (n at : Number) → is_open_at n at ≡ true → at ≤ n
-open_began n at o = grind (arith, nat_tests)
 
 -- who has an open section may be on a node after a look at the number, if it might before
 pub may_aged : (at n m : Number) (st : NodeState) → n ≤ m → is_open_at n at ≡ true → MayRead at st

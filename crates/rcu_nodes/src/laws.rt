@@ -28,7 +28,7 @@ pub fn held_nodes_keep_their_words<
         get_elem? xs seat ≡ some (cpu, section, was) → get_elem? ys seat ≡ some (here, later, now) →
         IsReader was → IsReader now → IsHeld was node words → IsHeld now node words → word < W →
         slice_index after (place_of (L + W) node (L + word))
-            ≡ slice_index before (place_of (L + W) node (L + word)) }
+        ≡ slice_index before (place_of (L + W) node (L + word)) }
 {}
 
 /// No node that the keeper knows as free, so that it may write there, is held by a seat.
