@@ -312,7 +312,7 @@ bool rcu_poll(rcu_t *rcu, uint64_t cookie);
 /* ---- callbacks, which are values of 64 bits: `rcu` is open, under the caller's lock */
 
 /* Queues a value on an online processor. Writes how many were queued since opening. 1, 2, 15, 16.
- * The room that a list ever had stays its own until rcu_close.
+ * A list keeps the room that it ever had, until rcu_shrink or rcu_close.
  * Of each section one of two holds: all of it comes before what follows the rcu_run that hands the
  * value out, or it sees what the thread did before this call. */
 uint32_t rcu_queue(rcu_t *rcu, uint32_t cpu, uint64_t value, uint64_t *place);
@@ -327,6 +327,11 @@ uint32_t rcu_tend(rcu_t *rcu, uint32_t cpu, uint64_t *done, uint64_t *waiting);
  * grace period has passed since each was queued, and none is handed out again. 1, 16 (only where
  * there is one). */
 uint32_t rcu_run(rcu_t *rcu, uint32_t cpu, uint64_t *values, size_t room, uint64_t *count);
+
+/* Gives back the memory that the processor's list does not need, at a step for each item that stays.
+ * Writes for how many items, callbacks and markers, it has room then: for none where it is empty.
+ * 1. */
+uint32_t rcu_shrink(rcu_t *rcu, uint32_t cpu, uint64_t *room);
 
 /* ---- the barrier over callbacks: `rcu` is open, under the caller's lock */
 

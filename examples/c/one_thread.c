@@ -103,6 +103,12 @@ static void callbacks(void) {
     printf("ran %" PRIu64 ": %" PRIu64 "\n", count, values[0]);
     must("test", rcu_barrier_test(&rcu, &left), 0);
     printf("the barrier waits for %" PRIu64 "\n", left);
+    must("shrink nowhere", rcu_shrink(&rcu, 2, &left), RCU_BAD_CPU);
+    must("queue", rcu_queue(&rcu, 0, 79, &place), 0);
+    must("shrink", rcu_shrink(&rcu, 0, &left), 0);
+    printf("room for what is queued: %s\n", yes_or_no(left >= 1));
+    must("shrink", rcu_shrink(&rcu, 1, &left), 0);
+    printf("room of an empty list: %" PRIu64 "\n", left);
 }
 
 /* An engine takes no seat of another one, also where that is closed, and it lies in its place. */

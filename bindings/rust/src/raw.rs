@@ -73,6 +73,7 @@ extern "C" {
         room: usize,
         count: *mut u64,
     ) -> u32;
+    pub fn rcu_shrink(rcu: *mut rcu_t, cpu: u32, room: *mut u64) -> u32;
     pub fn rcu_barrier_begin(rcu: *mut rcu_t) -> u32;
     pub fn rcu_barrier_visit(rcu: *mut rcu_t, cpu: u32, did: *mut u32) -> u32;
     pub fn rcu_barrier_test(rcu: *mut rcu_t, left: *mut u64) -> u32;

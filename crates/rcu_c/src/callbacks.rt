@@ -118,3 +118,20 @@ pub extern "C" fn rcu_run(rcu: &mut Rcu, cpu: u32, values: &mut [u64], count: &m
         Err(fault) => code(fault),
     }
 }
+
+/// Gives back the memory that a processor's list does not need, as `Engine::shrink`. Writes for how
+/// many items, callbacks and markers, the list has room then. An empty one keeps none.
+///
+/// Fault 1: there is no such processor.
+#[unsafe(no_mangle)]
+pub extern "C" fn rcu_shrink(rcu: &mut Rcu, cpu: u32, room: &mut u64) -> u32
+    requires open { HoldsEngine rcu.old.contents }
+    ensures fault { result ≡ number_for (cpu_refusal (engine_of rcu.old.contents) cpu) }
+    ensures fits { result ≡ 0 → length (list_of (grace_of rcu.old.contents).lists cpu) ≤ room.new }
+    ensures empty { result ≡ 0 → list_of (grace_of rcu.old.contents).lists cpu ≡ [] →
+        room.new ≡ 0 }
+    ensures state { rcu.new.contents ≡ rcu.old.contents }
+    ensures unchanged { result ≢ 0 → room.new ≡ room.old }
+{
+    write_out(rcu.engine().inner.shrink(cpu), room)
+}
