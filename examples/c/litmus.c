@@ -210,6 +210,18 @@ static void reader_finds_the_begin(void) {
     reader_loads();
 }
 
+/* The same by the call that looks first, and does nothing where the number is as it was. */
+static uint64_t quiet_at;
+
+static void reader_looks_for_the_begin(void) {
+    unsigned spins = 0;
+    do {
+        turn_round(&spins);
+        must("quiesce", rcu_seat_quiesce_since(&seats[READER], &quiet_at));
+    } while (quiet_at % 4 != 1);
+    reader_loads();
+}
+
 /* ---- an unlink before a taking without the lock */
 
 /* The number is in the cache of the processor that looks. */
@@ -490,6 +502,10 @@ static const struct test {
     {"an unlink before a taking", judge_taking,
      {[READY] = {take_lines, updater_looks, 0},
       [ACT] = {driver_begins, updater_unlinks_and_takes, reader_finds_the_begin},
+      [LEAVE] = {0, 0, reader_leaves}}},
+    {"an unlink before a taking, for a reader that looks first", judge_taking,
+     {[READY] = {take_lines, updater_looks, 0},
+      [ACT] = {driver_begins, updater_unlinks_and_takes, reader_looks_for_the_begin},
       [LEAVE] = {0, 0, reader_leaves}}},
     {"an unlink before a taking, for a reader that arrives", judge_taking,
      {[READY] = {take_lines, updater_looks, reader_departs},
