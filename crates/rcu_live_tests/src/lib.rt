@@ -1,7 +1,9 @@
-//! Tests of the running engine and of cells.
+//! Tests of the running engine, of cells and of graphs.
 #![tactic(auto)]
 
 #[cfg(test)]
 mod cell;
 #[cfg(test)]
 mod live;
+#[cfg(test)]
+mod nodes;

@@ -1,0 +1,158 @@
+//! Two readers search a chain beside who keeps it, each on a thread of its own: a node that they
+//! find is whole, whatever is linked meanwhile.
+ghost use Rattle.std.specs.Prelude.{◌≡◌, [], ◌∷◌, All, IfSome};
+ghost use Rattle.std.specs.Thread.{IsSync};
+ghost use Rattle.rcu_nodes.specs.Graph.{IsAt, IsSeatOf};
+ghost use Rattle.rcu_nodes.specs.Keeper.{IsKeeperOf};
+ghost use Rattle.rcu_nodes.specs.Nodes.{first_nodes, nodes_in};
+ghost use Rattle.rcu_nodes.specs.declared.known.Known.TheVariants.{Idle};
+
+use rcu_nodes::graph::Graph;
+use rcu_nodes::rule::{GraphSeat, GraphWatcher, Shape};
+use std::process::Abort;
+use std::sync::Wait;
+use std::thread;
+use std::thread::Threads;
+
+/// Keys go up along a chain.
+struct Sorted;
+
+impl Shape for Sorted {
+    ghost use Rattle.std.specs.Prelude.{◌<◌, [], ◌∷◌, slice_index};
+
+    ghost fits = { λ _. Unit {0} };
+
+    ghost joins = { λ _ from to. slice_index from 0 < slice_index to 0 };
+
+    ghost first = { λ _. 0 ∷ 0 ∷ [] };
+}
+
+type Chain = Graph<4, 4, u64, Sorted, 1, 1, 2, 2>;
+
+type Seat = GraphSeat<Sorted, 1, 1, 2, 2>;
+
+/// How often each reader searches.
+const SEARCHES: u32 = 200_000;
+
+/// Whether a node that was found has both its words.
+fn is_whole(chain: &Chain, seat: &mut Seat, found: Option<usize>) -> bool
+    requires { IfSome found (λ node.
+        IsAt (λ _. 0 ∷ 0 ∷ []) 1 2 chain.now seat.old node) }
+    ensures { seat.new ≡ seat.old }
+{
+    match found {
+        Some(node) => chain.read(seat, node, 0) == 5 && chain.read(seat, node, 1) == 7,
+        None => true,
+    }
+}
+
+/// Searches the chain for the key 5 in a section of its own. Returns whether a node that was found
+/// has both its words.
+fn search(chain: &Chain, seat: &mut Seat) -> bool
+    requires seat { IsSeatOf chain.now seat.old }
+    requires outside { seat.old.depth ≡ 0 }
+    requires idle { seat.old.view.client ≡ Idle }
+    ensures seat { IsSeatOf chain.now seat.new }
+    ensures outside { seat.new.depth ≡ 0 }
+    ensures idle { seat.new.view.client ≡ Idle }
+{
+    if seat.enter(chain.live()).is_err() {
+        return false;
+    }
+    let found = chain.find(seat, 0, 5);
+    let right = is_whole(chain, seat, found);
+    let Ok(_) = seat.exit(chain.live()) else {
+        unreachable!()
+    };
+    right
+}
+
+/// A reader, with its processor's seat.
+#[derive(Drop)]
+struct Reader<'a> {
+    chain: &'a Chain,
+    seat: Seat,
+    ghost seat_of: { IsSeatOf chain.now seat },
+    ghost outside: { seat.depth ≡ 0 },
+    ghost idle: { seat.view.client ≡ Idle },
+}
+
+impl<'a> Reader<'a> {
+    /// Searches, and passes a quiescent state.
+    fn search(&mut self) -> bool {
+        let right = search(self.chain, &mut self.seat);
+        let quiet = self.seat.quiesce(self.chain.live());
+        right && quiet.is_ok()
+    }
+
+    /// Searches many times, and takes the processor offline.
+    fn search_all<R: Wait>(mut self, rt: &R) -> bool {
+        let mut right = true;
+        for _ in 0..SEARCHES {
+            right = self.search() && right;
+        }
+        let Reader {
+            chain,
+            mut seat,
+            ..
+        } = self;
+        let _ = chain.live().offline(rt, &mut seat);
+        right
+    }
+}
+
+/// Publishes a node with the key 5, unlinks it, leaves it, and looks at the number.
+fn publish_and_leave(chain: &Chain, keeper: &mut GraphWatcher<Sorted, 1, 1, 2, 2>)
+    requires keeper { IsKeeperOf 2 chain.now keeper.old }
+    requires first { nodes_in keeper.old.view.client ≡ first_nodes 1 2 (λ _. 0 ∷ 0 ∷ []) 1 2 }
+{
+    chain.write(keeper, 1, 0, 5);
+    chain.write(keeper, 1, 1, 7);
+    chain.publish(keeper, 0, 0, 1);
+    chain.link(keeper, 0, 0, 0);
+    chain.leave(keeper, 1);
+    chain.look(keeper);
+}
+
+/// The seat of the last processor that is left, which is online from now on.
+fn next_reader<'a, R: Abort + Wait>(rt: &R, chain: &'a Chain, seats: &mut Vec<Seat>) -> Reader<'a>
+    requires seats { All (IsSeatOf chain.now) seats.old.items }
+    requires outside { All (λ seat. seat.depth ≡ 0) seats.old.items }
+    requires idle { All (λ seat. seat.view.client ≡ Idle) seats.old.items }
+    ensures seats { All (IsSeatOf chain.now) seats.new.items }
+    ensures outside { All (λ seat. seat.depth ≡ 0) seats.new.items }
+    ensures idle { All (λ seat. seat.view.client ≡ Idle) seats.new.items }
+{
+    let mut seat = seats.pop().expect(rt, "a processor is left");
+    assert_eq!(rt; chain.live().online(rt, &mut seat), Ok(()));
+    Reader { chain, seat }
+}
+
+/// Runs two readers beside the keeper. Returns whether what each reader saw was right.
+fn run_beside<R: Threads + Wait + Sync>(
+    rt: &R,
+    chain: &Chain,
+    mut keeper: GraphWatcher<Sorted, 1, 1, 2, 2>,
+    a: Reader<'_>,
+    b: Reader<'_>,
+) -> (bool, bool)
+    requires keeper { IsKeeperOf 2 chain.now keeper }
+    requires first { nodes_in keeper.view.client ≡ first_nodes 1 2 (λ _. 0 ∷ 0 ∷ []) 1 2 }
+{
+    let readers = move || -> (bool, bool)
+        requires { IsSync R.row }
+    { thread::join(rt, move || a.search_all(rt), move || b.search_all(rt)) };
+    let ((), right) = thread::join(rt, move || publish_and_leave(chain, &mut keeper), readers);
+    right
+}
+
+#[test]
+fn readers_beside_a_published_node(rt: HostRuntime) {
+    let opened = Chain::open(rt.alloc(), 3, 4_000_000, &[[0, 0]]);
+    let Ok((chain, mut seats, _, keeper)) = opened else {
+        return;
+    };
+    let a = next_reader(&rt, &chain, &mut seats);
+    let b = next_reader(&rt, &chain, &mut seats);
+    assert_eq!(rt; run_beside(&rt, &chain, keeper, a, b), (true, true));
+}
