@@ -4,6 +4,7 @@ ghost use Rattle.std.specs.Prelude.{length, vec_capacity, vec_len};
 ghost use Rattle.rcu_torture.specs.Ledger.{most_rounds, most_workers};
 
 pub mod draws;
+mod engine;
 pub mod gate;
 mod job;
 pub mod ledger;
@@ -13,8 +14,9 @@ mod tests;
 mod workers;
 
 pub use draws::Draws;
+use engine::Engine;
 pub use gate::{Gate, Open, Point};
-use job::{Engine, Job, Plan};
+use job::{Job, Plan};
 pub use ledger::Ledger;
 use rcu_seq::fault::Fault;
 pub use share::Share;
@@ -66,8 +68,8 @@ fn work<R: Threads + Wait + Sync, G: Gate>(
     rt: &R,
     alloc: Global,
     gate: &G,
-    mut first: Job<'_>,
-    others: Vec<Job<'_>>,
+    mut first: Job<'_, Engine>,
+    others: Vec<Job<'_, Engine>>,
     gathered: Gathered,
 ) -> Result<Ledger, Fault>
     requires few { vec_len others + 1 ≤ most_workers }

@@ -2,8 +2,8 @@
 ghost use Rattle.std.specs.Prelude.{◌≡◌};
 ghost use Rattle.std.specs.Arc.{arc_value};
 
-use crate::live::steps::{Four, of_epoch, poll};
-use crate::live::threads::make_pair;
+use crate::live::steps::{Script, of_epoch};
+use crate::live::threads::{Pair, make_pair};
 use rcu_live::board::Board;
 use rcu_live::parts::Parts;
 use rcu_live::watcher::Watcher;
@@ -11,6 +11,7 @@ use rcu_seq::cookie::Cookie;
 use rcu_seq::fault::Fault;
 use std::alloc::Global;
 use std::process::Abort;
+use std::sync::Wait;
 
 /// The parts of an engine.
 type FourParts = Parts<4, 4, u64>;
@@ -29,19 +30,25 @@ fn open_parts(rt: &impl Abort, alloc: Global) -> FourParts
 }
 
 /// Polls cookies at number 0: one of a later epoch is done by the number 1 alone.
-fn poll_later(rt: &impl Abort, live: &Four, watcher: &mut Watcher)
-    requires { watcher.old.table ≡ live.now.table }
+fn poll_later<R: Abort + Wait>(script: &Script<'_, R>, watcher: &mut Watcher)
+    requires { watcher.old.table ≡ script.now.live.now.table }
 {
-    poll(rt, live, watcher, of_epoch(0, 0), true);
-    poll(rt, live, watcher, of_epoch(1, 0), false);
-    poll(rt, live, watcher, of_epoch(1, 1), true);
-    poll(rt, live, watcher, of_epoch(4_294_967_295, 0), false);
+    script.poll(watcher, of_epoch(0, 0), true);
+    script.poll(watcher, of_epoch(1, 0), false);
+    script.poll(watcher, of_epoch(1, 1), true);
+    script.poll(watcher, of_epoch(4_294_967_295, 0), false);
 }
 
 #[test]
 fn watcher_finds_no_later_epoch_done(rt: HostRuntime) {
-    let mut pair = make_pair(&rt, rt.alloc());
-    poll_later(&rt, &pair.live, &mut pair.watcher);
+    let Pair {
+        live,
+        first: _,
+        second: _,
+        mut watcher,
+        other: _,
+    } = make_pair(&rt, rt.alloc());
+    poll_later(&Script::new(&rt, &live), &mut watcher);
 }
 
 /// The same over the shared words alone.

@@ -1,8 +1,7 @@
 //! How many callbacks may be queued is the opening's choice.
 ghost use Rattle.std.specs.Prelude.{◌≡◌};
 
-use crate::live::locked::queue;
-use crate::live::steps::Four;
+use crate::live::steps::{Four, Script};
 use crate::live::threads::last_seat;
 use rcu_live::cpu_seat::CpuSeat;
 use rcu_seq::fault::Fault;
@@ -25,20 +24,17 @@ fn open_for_three(rt: &impl Abort, alloc: Global) -> (Four, CpuSeat)
 }
 
 /// The fourth callback is refused, and comes back.
-fn queue_three<R: Abort + Wait>(rt: &R, live: &Four, seat: &mut CpuSeat)
-    requires { seat.old.table ≡ live.now.table }
+fn queue_three<R: Abort + Wait>(script: &Script<'_, R>, seat: &mut CpuSeat)
+    requires { seat.old.table ≡ script.now.live.now.table }
 {
-    queue(rt, live, seat, 5, 1);
-    queue(rt, live, seat, 6, 2);
-    queue(rt, live, seat, 7, 3);
-    let Err(back) = live.queue(rt, seat, 8) else {
-        panic!(rt; "a fourth callback was queued")
-    };
-    assert_eq!(rt; (back.fault, back.value), (Fault::CallbacksFull, 8));
+    script.queue(seat, 5, 1);
+    script.queue(seat, 6, 2);
+    script.queue(seat, 7, 3);
+    script.queue_refused(seat, 8, Fault::CallbacksFull);
 }
 
 #[test]
 fn no_more_callbacks_than_the_opening_chose(rt: HostRuntime) {
     let (live, mut seat) = open_for_three(&rt, rt.alloc());
-    queue_three(&rt, &live, &mut seat);
+    queue_three(&Script::new(&rt, &live), &mut seat);
 }

@@ -1,173 +1,293 @@
-//! Calls of an object, each compared with the answer that is wanted.
+//! Scripts of calls of an object, each compared with the answer that is wanted.
 ghost use Rattle.std.specs.Prelude.{◌≡◌};
 
 use rcu_barrier::barrier_state::BarrierState;
 use rcu_barrier::visit::Visit;
+use rcu_cblist::queued::Queued;
 use rcu_core::turned::Turned;
 use rcu_live::collection::Collected;
 use rcu_live::cpu_seat::CpuSeat;
 use rcu_live::live::Live;
 use rcu_live::meeting::Met;
+use rcu_live::run::Ran;
 use rcu_live::watcher::Watcher;
 use rcu_seq::cookie::Cookie;
 use rcu_seq::fault::Fault;
+use rcu_seq::tag::Tag;
+use std::cell::Cell;
+use std::fmt::Debug;
 use std::process::Abort;
 use std::sync::Wait;
 
 /// An object of a small tree, with numbers as callbacks.
 pub(crate) type Four = Live<4, 4, u64>;
 
-/// Compares the answer to an enter.
-pub(crate) fn enter(rt: &impl Abort, live: &Four, seat: &mut CpuSeat, wanted: Result<u32, Fault>)
-    requires { seat.old.table ≡ live.now.table }
-    ensures { seat.new.table ≡ seat.old.table }
-{
-    let cpu = seat.cpu();
-    assert_eq!(rt; (cpu, seat.enter(live)), (cpu, wanted));
-}
-
-/// Compares the answer to an exit.
-pub(crate) fn exit(rt: &impl Abort, live: &Four, seat: &mut CpuSeat, wanted: Result<u32, Fault>)
-    requires { seat.old.table ≡ live.now.table }
-    ensures { seat.new.table ≡ seat.old.table }
-{
-    let cpu = seat.cpu();
-    assert_eq!(rt; (cpu, seat.exit(live)), (cpu, wanted));
-}
-
-/// Compares the answer to a quiescent state.
-pub(crate) fn quiesce(rt: &impl Abort, live: &Four, seat: &mut CpuSeat, wanted: Result<u64, Fault>)
-    requires { seat.old.table ≡ live.now.table }
-    ensures { seat.new.table ≡ seat.old.table }
-{
-    let cpu = seat.cpu();
-    assert_eq!(rt; (cpu, seat.quiesce(live)), (cpu, wanted));
-}
-
-/// Compares the answer to a processor that gets idle.
-pub(crate) fn idle(rt: &impl Abort, live: &Four, seat: &mut CpuSeat, wanted: Result<(), Fault>)
-    requires { seat.old.table ≡ live.now.table }
-    ensures { seat.new.table ≡ seat.old.table }
-{
-    let cpu = seat.cpu();
-    assert_eq!(rt; (cpu, seat.idle(live)), (cpu, wanted));
-}
-
-/// Compares the answer to a wake.
-pub(crate) fn wake(rt: &impl Abort, live: &Four, seat: &mut CpuSeat, wanted: Result<u64, Fault>)
-    requires { seat.old.table ≡ live.now.table }
-    ensures { seat.new.table ≡ seat.old.table }
-{
-    let cpu = seat.cpu();
-    assert_eq!(rt; (cpu, seat.wake(live)), (cpu, wanted));
-}
-
-/// Compares a meeting: the number at which the seat's section opened, if one is open, and the
-/// number that the watcher saw.
-pub(crate) fn meet(
-    rt: &impl Abort,
-    live: &Four,
-    seat: &mut CpuSeat,
-    watcher: &mut Watcher,
-    opened: Option<u64>,
-    seen: u64,
-)
-    requires seat { seat.old.table ≡ live.now.table }
-    requires watcher { watcher.old.table ≡ live.now.table }
-    ensures seat { seat.new.table ≡ seat.old.table }
-    ensures watcher { watcher.new.table ≡ watcher.old.table }
-{
-    let met = live.meet(seat, watcher);
-    assert_eq!(rt; met, Some(Met { opened, seen }));
-}
-
-/// Compares the answer to an arrival.
-pub(crate) fn online<R: Abort + Wait>(
-    rt: &R,
-    live: &Four,
-    seat: &mut CpuSeat,
-    wanted: Result<(), Fault>,
-)
-    requires { seat.old.table ≡ live.now.table }
-    ensures { seat.new.table ≡ seat.old.table }
-{
-    let cpu = seat.cpu();
-    assert_eq!(rt; (cpu, live.online(rt, seat)), (cpu, wanted));
-}
-
-/// Compares the answer to a departure.
-pub(crate) fn offline<R: Abort + Wait>(
-    rt: &R,
-    live: &Four,
-    seat: &mut CpuSeat,
-    wanted: Result<u64, Fault>,
-)
-    requires { seat.old.table ≡ live.now.table }
-    ensures { seat.new.table ≡ seat.old.table }
-{
-    let cpu = seat.cpu();
-    assert_eq!(rt; (cpu, live.offline(rt, seat)), (cpu, wanted));
-}
-
 /// The cookie of this epoch that waits for this number.
 pub(crate) fn of_epoch(epoch: u64, number: u64) -> Cookie {
     Cookie { epoch, number }
 }
 
-/// Compares whether a cookie is done.
-pub(crate) fn poll(
-    rt: &impl Abort,
-    live: &Four,
-    watcher: &mut Watcher,
-    cookie: Cookie,
-    wanted: bool,
-)
-    requires { watcher.old.table ≡ live.now.table }
-    ensures { watcher.new.table ≡ watcher.old.table }
-{
-    assert_eq!(rt; (cookie, watcher.poll(live, cookie)), (cookie, wanted));
+/// A script of calls of an object. Each call is a row, and they count from 1. Where an answer is
+/// not the one that is wanted, the test fails with the row, the call, what came and what was
+/// wanted.
+#[derive(Drop)]
+pub(crate) struct Script<'a, R: Abort + Wait> {
+    rt: &'a R,
+    pub(crate) live: &'a Four,
+    rows: Cell<u32>,
 }
 
-/// Compares what a turn did.
-pub(crate) fn turn<R: Abort + Wait>(rt: &R, live: &Four, wanted: Result<Turned, Fault>) {
-    assert_eq!(rt; live.turn(rt), wanted);
-}
+impl<'a, R: Abort + Wait> Script<'a, R> {
+    pub(crate) fn new(rt: &'a R, live: &'a Four) -> Script<'a, R>
+        ensures { result.live.now ≡ live.now }
+    {
+        Script {
+            rt,
+            live,
+            rows: Cell::new(0),
+        }
+    }
 
-/// Compares what a collection found.
-pub(crate) fn collect<R: Abort + Wait>(
-    rt: &R,
-    live: &Four,
-    cpu: u32,
-    wanted: Result<Collected, Fault>,
-) {
-    assert_eq!(rt; (cpu, live.collect(rt, cpu)), (cpu, wanted));
-}
+    /// Compares the answer to the next call.
+    fn compare<T: PartialEq + Debug + Drop>(&self, call: &str, found: T, wanted: T) {
+        let row = self.rows.get().wrapping_add(1);
+        self.rows.set(row);
+        assert_eq!(self.rt; (row, call, found), (row, call, wanted));
+    }
 
-/// Compares how many callbacks of a processor are done, and how many wait.
-pub(crate) fn tend<R: Abort + Wait>(
-    rt: &R,
-    live: &Four,
-    cpu: u32,
-    wanted: Result<(u64, u64), Fault>,
-) {
-    assert_eq!(rt; (cpu, live.tend(rt, cpu)), (cpu, wanted));
-}
+    /// Compares the answer to the next call of a processor.
+    fn compare_of<T: PartialEq + Debug + Drop>(&self, call: &str, cpu: u32, found: T, wanted: T) {
+        self.compare(call, (cpu, found), (cpu, wanted));
+    }
 
-/// Compares the answer to the begin of a barrier.
-pub(crate) fn barrier_begin<R: Abort + Wait>(rt: &R, live: &Four, wanted: Result<(), Fault>) {
-    assert_eq!(rt; live.barrier_begin(rt), wanted);
-}
+    /// Compares the answer to an enter.
+    pub(crate) fn enter(&self, seat: &mut CpuSeat, wanted: Result<u32, Fault>)
+        requires { seat.old.table ≡ self.now.live.now.table }
+        ensures { seat.new.table ≡ seat.old.table }
+    {
+        let found = seat.enter(self.live);
+        self.compare_of("enter", seat.cpu(), found, wanted);
+    }
 
-/// Compares what a barrier's visit of a processor did.
-pub(crate) fn visit<R: Abort + Wait>(rt: &R, live: &Four, cpu: u32, wanted: Result<Visit, Fault>) {
-    assert_eq!(rt; (cpu, live.visit(rt, cpu)), (cpu, wanted));
-}
+    /// Compares the answer to an exit.
+    pub(crate) fn exit(&self, seat: &mut CpuSeat, wanted: Result<u32, Fault>)
+        requires { seat.old.table ≡ self.now.live.now.table }
+        ensures { seat.new.table ≡ seat.old.table }
+    {
+        let found = seat.exit(self.live);
+        self.compare_of("exit", seat.cpu(), found, wanted);
+    }
 
-/// Compares how far a barrier is.
-pub(crate) fn barrier_test<R: Abort + Wait>(
-    rt: &R,
-    live: &Four,
-    wanted: Result<BarrierState, Fault>,
-) {
-    assert_eq!(rt; live.barrier_test(rt), wanted);
+    /// Compares the answer to a quiescent state.
+    pub(crate) fn quiesce(&self, seat: &mut CpuSeat, wanted: Result<u64, Fault>)
+        requires { seat.old.table ≡ self.now.live.now.table }
+        ensures { seat.new.table ≡ seat.old.table }
+    {
+        let found = seat.quiesce(self.live);
+        self.compare_of("quiesce", seat.cpu(), found, wanted);
+    }
+
+    /// Compares the answer to a processor that gets idle.
+    pub(crate) fn idle(&self, seat: &mut CpuSeat, wanted: Result<(), Fault>)
+        requires { seat.old.table ≡ self.now.live.now.table }
+        ensures { seat.new.table ≡ seat.old.table }
+    {
+        let found = seat.idle(self.live);
+        self.compare_of("idle", seat.cpu(), found, wanted);
+    }
+
+    /// Compares the answer to a wake.
+    pub(crate) fn wake(&self, seat: &mut CpuSeat, wanted: Result<u64, Fault>)
+        requires { seat.old.table ≡ self.now.live.now.table }
+        ensures { seat.new.table ≡ seat.old.table }
+    {
+        let found = seat.wake(self.live);
+        self.compare_of("wake", seat.cpu(), found, wanted);
+    }
+
+    /// Compares how a seat stands: how deep its sections nest, and whether its processor is online
+    /// and idle.
+    pub(crate) fn stands(&self, seat: &CpuSeat, depth: u32, is_online: bool, is_idle: bool) {
+        let found = (seat.depth(), seat.is_online(), seat.is_idle());
+        self.compare_of("stands", seat.cpu(), found, (depth, is_online, is_idle));
+    }
+
+    /// Compares a meeting: the number at which the seat's section opened, if one is open, and the
+    /// number that the watcher saw.
+    pub(crate) fn meet(
+        &self,
+        seat: &mut CpuSeat,
+        watcher: &mut Watcher,
+        opened: Option<u64>,
+        seen: u64,
+    )
+        requires seat { seat.old.table ≡ self.now.live.now.table }
+        requires watcher { watcher.old.table ≡ self.now.live.now.table }
+        ensures seat { seat.new.table ≡ seat.old.table }
+        ensures watcher { watcher.new.table ≡ watcher.old.table }
+    {
+        let found = self.live.meet(seat, watcher);
+        self.compare_of("meet", seat.cpu(), found, Some(Met { opened, seen }));
+    }
+
+    /// Compares the cookie that a watcher takes.
+    pub(crate) fn take(&self, watcher: &mut Watcher, wanted: Cookie)
+        requires { watcher.old.table ≡ self.now.live.now.table }
+        ensures { watcher.new.table ≡ watcher.old.table }
+    {
+        self.compare("take", watcher.take(self.live), wanted);
+    }
+
+    /// Compares whether a cookie is done.
+    pub(crate) fn poll(&self, watcher: &mut Watcher, cookie: Cookie, wanted: bool)
+        requires { watcher.old.table ≡ self.now.live.now.table }
+        ensures { watcher.new.table ≡ watcher.old.table }
+    {
+        let found = watcher.poll(self.live, cookie);
+        self.compare("poll", (cookie, found), (cookie, wanted));
+    }
+
+    /// Compares the answer to an arrival.
+    pub(crate) fn online(&self, seat: &mut CpuSeat, wanted: Result<(), Fault>)
+        requires { seat.old.table ≡ self.now.live.now.table }
+        ensures { seat.new.table ≡ seat.old.table }
+    {
+        let found = self.live.online(self.rt, seat);
+        self.compare_of("online", seat.cpu(), found, wanted);
+    }
+
+    /// Compares the answer to a departure.
+    pub(crate) fn offline(&self, seat: &mut CpuSeat, wanted: Result<u64, Fault>)
+        requires { seat.old.table ≡ self.now.live.now.table }
+        ensures { seat.new.table ≡ seat.old.table }
+    {
+        let found = self.live.offline(self.rt, seat);
+        self.compare_of("offline", seat.cpu(), found, wanted);
+    }
+
+    /// Compares the answer to a departure that takes memory. Returns whether it was refused that.
+    pub(crate) fn leaves(&self, seat: &mut CpuSeat, wanted: u64) -> bool
+        requires { seat.old.table ≡ self.now.live.now.table }
+        ensures { seat.new.table ≡ seat.old.table }
+    {
+        let found = self.live.offline(self.rt, seat);
+        let is_refused = found == Err(Fault::NoMemory);
+        let wanted = if is_refused { found } else { Ok(wanted) };
+        self.compare_of("offline", seat.cpu(), found, wanted);
+        is_refused
+    }
+
+    /// Compares what a turn did.
+    pub(crate) fn turn(&self, wanted: Result<Turned, Fault>) {
+        self.compare("turn", self.live.turn(self.rt), wanted);
+    }
+
+    /// Compares what a collection found.
+    pub(crate) fn collect(&self, cpu: u32, wanted: Result<Collected, Fault>) {
+        self.compare_of("collect", cpu, self.live.collect(self.rt, cpu), wanted);
+    }
+
+    /// A processor passes a quiescent state, and the engine hears of it.
+    pub(crate) fn pass(&self, seat: &mut CpuSeat, cpu: u32, number: u64, wanted: Collected)
+        requires { seat.old.table ≡ self.now.live.now.table }
+        ensures { seat.new.table ≡ seat.old.table }
+    {
+        self.quiesce(seat, Ok(number));
+        self.collect(cpu, Ok(wanted));
+    }
+
+    /// Compares whether processors 0 and 1 are awaited. No other one is: there are two.
+    pub(crate) fn awaits(&self, wanted: [bool; 2]) {
+        let others = [2, u32::MAX].map(|cpu| self.live.awaits(self.rt, cpu));
+        let found = [0, 1].map(|cpu| self.live.awaits(self.rt, cpu));
+        self.compare("awaits", (found, others), (wanted, [false, false]));
+    }
+
+    /// Compares how many callbacks of a processor are done, and how many wait.
+    pub(crate) fn tend(&self, cpu: u32, wanted: Result<(u64, u64), Fault>) {
+        self.compare_of("tend", cpu, self.live.tend(self.rt, cpu), wanted);
+    }
+
+    /// Queues a callback, by a second call where the first is refused a growth, and compares how
+    /// many were queued.
+    pub(crate) fn queue(&self, seat: &mut CpuSeat, value: u64, wanted: u64)
+        requires { seat.old.table ≡ self.now.live.now.table }
+        ensures { seat.new.table ≡ seat.old.table }
+    {
+        let mut found = self.live.queue(self.rt, seat, value);
+        if let Err(back) = &found
+            && back.fault == Fault::NoMemory
+        {
+            self.compare("queue, which hands back", back.value, value);
+            found = self.live.queue(self.rt, seat, value);
+        }
+        let found = found.map_err(|back| back.fault);
+        self.compare_of("queue", seat.cpu(), (value, found), (value, Ok(wanted)));
+    }
+
+    /// Compares the fault of a queueing that is refused, which hands the callback back.
+    pub(crate) fn queue_refused(&self, seat: &mut CpuSeat, value: u64, wanted: Fault)
+        requires { seat.old.table ≡ self.now.live.now.table }
+        ensures { seat.new.table ≡ seat.old.table }
+    {
+        let found = self.live.queue(self.rt, seat, value);
+        let found = found.map_err(|back| (back.fault, back.value));
+        self.compare_of("queue", seat.cpu(), found, Err((wanted, value)));
+    }
+
+    /// Runs callbacks, by a second call where the first is refused a growth: the number, and the
+    /// number and the value of each callback's queueing.
+    pub(crate) fn run(&self, cpu: u32, max: u64, number: u64, wanted: &[(u64, u64)]) {
+        let mut found = self.live.run(self.rt, cpu, max);
+        if matches!(found, Err(Fault::NoMemory)) {
+            found = self.live.run(self.rt, cpu, max);
+        }
+        match found {
+            Ok(Ran { number: at, calls }) => {
+                self.compare_of("run", cpu, (at, calls.len()), (number, wanted.len()));
+                self.have_run(calls.as_slice(), wanted);
+            }
+            Err(fault) => self.compare_of("run", cpu, Some(fault), None),
+        }
+    }
+
+    /// Compares the number and the value of each callback's queueing, by its place.
+    fn have_run(&self, calls: &[Queued<u64>], wanted: &[(u64, u64)]) {
+        for (place, (call, (at, value))) in calls.iter().zip(wanted).enumerate() {
+            let at = Tag::of_first_epoch(*at);
+            let found = (place, call.at, call.value);
+            self.compare("callback of the run", found, (place, at, *value));
+        }
+    }
+
+    /// Compares how many callbacks of a processor are run, of at most nine.
+    pub(crate) fn run_any(&self, cpu: u32, wanted: Result<usize, Fault>) {
+        let found = self.live.run(self.rt, cpu, 9).map(|ran| ran.calls.len());
+        self.compare_of("run", cpu, found, wanted);
+    }
+
+    /// Compares the answer to the begin of a barrier.
+    pub(crate) fn barrier_begin(&self, wanted: Result<(), Fault>) {
+        self.compare("barrier_begin", self.live.barrier_begin(self.rt), wanted);
+    }
+
+    /// Compares what a barrier's visit of a processor did.
+    pub(crate) fn visit(&self, cpu: u32, wanted: Result<Visit, Fault>) {
+        self.compare_of("visit", cpu, self.live.visit(self.rt, cpu), wanted);
+    }
+
+    /// A barrier visits a processor with a callback, by a second call where the first is refused a
+    /// growth.
+    pub(crate) fn mark(&self, cpu: u32) {
+        let mut found = self.live.visit(self.rt, cpu);
+        if found == Err(Fault::NoMemory) {
+            found = self.live.visit(self.rt, cpu);
+        }
+        self.compare_of("visit", cpu, found, Ok(Visit::Marked));
+    }
+
+    /// Compares how far a barrier is.
+    pub(crate) fn barrier_test(&self, wanted: Result<BarrierState, Fault>) {
+        self.compare("barrier_test", self.live.barrier_test(self.rt), wanted);
+    }
 }

@@ -18,7 +18,6 @@ mod scene;
 mod stop;
 mod updater;
 
-use crate::live::steps::{Four, online};
 use crate::live::stress::calls::Calls;
 use crate::live::stress::parts::Parts;
 use crate::live::stress::reader::Reader;
@@ -76,10 +75,9 @@ fn try_hard<R: Abort + Threads + Wait + Sync>(rt: &R, alloc: Global) -> Option<S
         scene: &scene,
         calls: &calls,
     };
-    let waiter = parts.waiter(rt, &mut seats, &mut watchers);
+    let waiter = parts.waiter(&mut seats, &mut watchers);
     let leaver = parts.reader(scene.leaver(), &mut seats, &mut watchers);
-    let mut sleeper = parts.reader(scene.sleeper(), &mut seats, &mut watchers);
-    online(rt, &live, &mut sleeper.seat, Ok(()));
+    let sleeper = parts.reader(scene.sleeper(), &mut seats, &mut watchers);
     let mut driver = parts.driver(&mut seats);
     run_all(rt, &mut driver, waiter, sleeper, leaver);
     scene.stop(rt).or_else(|| driver.finish(rt).err())

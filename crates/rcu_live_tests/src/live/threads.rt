@@ -1,7 +1,7 @@
 //! A reader beside a watcher on two threads, meetings, arrivals and departures, and the opening.
 ghost use Rattle.std.specs.Prelude.{◌≡◌, ◌+◌, ◌<◌, All, length};
 
-use crate::live::steps::{Four, enter, exit, meet, of_epoch, offline, online, quiesce};
+use crate::live::steps::{Four, Script, of_epoch};
 use rcu_live::cpu_seat::CpuSeat;
 use rcu_live::live::Live;
 use rcu_live::watcher::Watcher;
@@ -130,51 +130,62 @@ fn reader_beside_a_watcher(rt: HostRuntime) {
     let (entered, told) = beside(&rt, &live, &mut first, watcher);
     assert_eq!(rt; entered, Ok(1));
     assert_eq!(rt; told, (of_epoch(0, 4), false, true));
-    leave_section(&rt, &live, &mut first, &mut second, &mut other);
+    leave_section(
+        &Script::new(&rt, &live),
+        &mut first,
+        &mut second,
+        &mut other,
+    );
 }
 
 /// The reader's section, as another watcher meets it, ends.
-fn leave_section(
-    rt: &impl Abort,
-    live: &Four,
+fn leave_section<R: Abort + Wait>(
+    script: &Script<'_, R>,
     reader: &mut CpuSeat,
     offline: &mut CpuSeat,
     watcher: &mut Watcher,
 )
-    requires reader { reader.old.table ≡ live.now.table }
-    requires offline { offline.old.table ≡ live.now.table }
-    requires watcher { watcher.old.table ≡ live.now.table }
+    requires reader { reader.old.table ≡ script.now.live.now.table }
+    requires offline { offline.old.table ≡ script.now.live.now.table }
+    requires watcher { watcher.old.table ≡ script.now.live.now.table }
 {
-    meet(rt, live, reader, watcher, Some(0), 0);
-    quiesce(rt, live, reader, Err(Fault::InSection));
-    exit(rt, live, reader, Ok(0));
-    quiesce(rt, live, reader, Ok(0));
-    enter(rt, live, offline, Err(Fault::Offline));
-    meet(rt, live, reader, watcher, None, 0);
+    script.meet(reader, watcher, Some(0), 0);
+    script.quiesce(reader, Err(Fault::InSection));
+    script.exit(reader, Ok(0));
+    script.quiesce(reader, Ok(0));
+    script.enter(offline, Err(Fault::Offline));
+    script.meet(reader, watcher, None, 0);
 }
 
 /// A seat that is offline arrives, reads, and departs.
-fn come_and_go<R: Abort + Wait>(rt: &R, live: &Four, seat: &mut CpuSeat)
-    requires { seat.old.table ≡ live.now.table }
+fn come_and_go<R: Abort + Wait>(script: &Script<'_, R>, seat: &mut CpuSeat)
+    requires { seat.old.table ≡ script.now.live.now.table }
 {
-    offline(rt, live, seat, Err(Fault::Offline));
-    online(rt, live, seat, Ok(()));
-    online(rt, live, seat, Err(Fault::AlreadyOnline));
-    enter(rt, live, seat, Ok(1));
-    enter(rt, live, seat, Ok(2));
-    offline(rt, live, seat, Err(Fault::InSection));
-    exit(rt, live, seat, Ok(1));
-    exit(rt, live, seat, Ok(0));
-    exit(rt, live, seat, Err(Fault::NotOpen));
-    offline(rt, live, seat, Ok(0));
-    quiesce(rt, live, seat, Err(Fault::Offline));
+    script.offline(seat, Err(Fault::Offline));
+    script.online(seat, Ok(()));
+    script.online(seat, Err(Fault::AlreadyOnline));
+    script.enter(seat, Ok(1));
+    script.enter(seat, Ok(2));
+    script.offline(seat, Err(Fault::InSection));
+    script.exit(seat, Ok(1));
+    script.exit(seat, Ok(0));
+    script.exit(seat, Err(Fault::NotOpen));
+    script.offline(seat, Ok(0));
+    script.quiesce(seat, Err(Fault::Offline));
 }
 
 #[test]
 fn arrival_and_departure(rt: HostRuntime) {
-    let mut pair = make_pair(&rt, rt.alloc());
-    come_and_go(&rt, &pair.live, &mut pair.second);
-    offline(&rt, &pair.live, &mut pair.first, Err(Fault::BootStays));
+    let Pair {
+        live,
+        mut first,
+        mut second,
+        watcher: _,
+        other: _,
+    } = make_pair(&rt, rt.alloc());
+    let script = Script::new(&rt, &live);
+    come_and_go(&script, &mut second);
+    script.offline(&mut first, Err(Fault::BootStays));
 }
 
 /// No object of so many processors opens with this last number.

@@ -1,6 +1,6 @@
 //! A worker's job.
-ghost use Rattle.std.specs.Prelude.{◌≡◌, ◌+◌, ◌*◌, ◌%◌, ◌<◌, ◌≤◌, IfErr, IfOk, OnErr, OnOk, false};
-ghost use Rattle.std.specs.Prelude.{length, true};
+ghost use Rattle.std.specs.Prelude.{◌≡◌, ◌+◌, ◌%◌, ◌<◌, ◌≤◌, ◌⊎◌, ℕ, IfErr, IfNone, IfOk, IfSome};
+ghost use Rattle.std.specs.Prelude.{OnErr, OnOk, false, length, true};
 ghost use Rattle.rand_pcg.specs.Pcg.{pcg32};
 ghost use Rattle.rcu_seq.specs.Tags.{is_done_first};
 ghost use Rattle.rcu_live.specs.CpuSeat.{after_depart, after_idle, after_quiesce};
@@ -9,13 +9,14 @@ ghost use Rattle.rcu_live.specs.Watcher.{after_watch};
 ghost use Rattle.rcu_torture.specs.Draws.{generator_of};
 ghost use Rattle.rcu_torture.specs.Ledger.{IsOfRounds, after_poll, after_run, most_in_round};
 ghost use Rattle.rcu_torture.specs.Ledger.{most_rounds};
-ghost use Rattle.rcu_torture.specs.Worker.{id_of, leaves_by, other_by, sleeps_by, stores_by};
+ghost use Rattle.rcu_torture.specs.Worker.{IsStopped, id_of, leaves_by, looks_by, other_by};
+ghost use Rattle.rcu_torture.specs.Worker.{sleeps_by, stores_by};
 
 use crate::torture::draws::Draws;
+use crate::torture::engine::{Driven, Locked, Told};
 use crate::torture::gate::{Gate, Point};
 use crate::torture::share::Share;
 use rcu_live::cpu_seat::CpuSeat;
-use rcu_live::live::Live;
 use rcu_live::run::Ran;
 use rcu_live::watcher::Watcher;
 use rcu_seq::cookie::Cookie;
@@ -23,9 +24,6 @@ use rcu_seq::fault::Fault;
 use std::alloc::Global;
 use std::marker::Model;
 use std::sync::Wait;
-
-/// The engine that workers work: a callback carries its id.
-pub(crate) type Engine = Live<4, 4, u64>;
 
 /// How many callbacks a round hands out at most.
 const MOST_IN_ROUND: u64 = 8;
@@ -35,11 +33,12 @@ const MOST_AT_END: u64 = 1_000_000;
 
 /// Opens a section of the seat, or nests deeper in it: once, twice or three times, as the word
 /// says.
-fn open(live: &Engine, seat: &mut CpuSeat, word: u32) -> Result<(), Fault>
-    requires { seat.old.table ≡ live.now.table }
+fn open<E: Locked>(live: &E, seat: &mut CpuSeat, word: u32) -> Result<(), Fault>
+    requires { seat.old.table ≡ (E.object live.now).table }
     ensures table { seat.new.table ≡ seat.old.table }
     ensures cpu { seat.new.cpu ≡ seat.old.cpu }
     ensures depth { OnOk result (seat.new.depth ≡ seat.old.depth + 1 + word % 3) }
+    ensures stores { seat.new.view.stores ≡ seat.old.view.stores }
 {
     for _ in 0..1 + word % 3 {
         seat.enter(live)?;
@@ -48,11 +47,12 @@ fn open(live: &Engine, seat: &mut CpuSeat, word: u32) -> Result<(), Fault>
 }
 
 /// Closes the section of the seat, however deep it nests.
-fn close(live: &Engine, seat: &mut CpuSeat)
-    requires { seat.old.table ≡ live.now.table }
+fn close<E: Locked>(live: &E, seat: &mut CpuSeat)
+    requires { seat.old.table ≡ (E.object live.now).table }
     ensures table { seat.new.table ≡ seat.old.table }
     ensures cpu { seat.new.cpu ≡ seat.old.cpu }
     ensures closed { seat.new.depth ≡ 0 }
+    ensures stores { seat.new.view.stores ≡ seat.old.view.stores }
 {
     'exits: while seat.exit(live).is_ok() {}
 }
@@ -61,9 +61,9 @@ fn close(live: &Engine, seat: &mut CpuSeat)
 /// them is made before it: a refused call hands out none.
 ///
 /// Faults: `BadCpu` (1) where there is no such processor; `NoMemory` (16).
-fn hand_out<R: Wait>(
+fn hand_out<R: Wait, E: Locked>(
     rt: &R,
-    live: &Engine,
+    live: &E,
     cpu: u32,
     most: u64,
     share: &mut Share,
@@ -71,6 +71,7 @@ fn hand_out<R: Wait>(
     ensures taken { IfOk result (λ ran. share.new ≡
         record (after_run share.old ran.number ran.calls.items) { room = share.new.room }) }
     ensures most { IfOk result (λ ran. length ran.calls.items ≤ most) }
+    ensures told { IfOk result (λ ran. E.handed_out cpu most ran.number ran.calls.items) }
     ensures none_early { share.new.early ≡ share.old.early }
     ensures unchanged { OnErr result (share.new ≡ record share.old { room = share.new.room }) }
     ensures fault { IfErr result (λ fault. is_run_fault fault ≡ true) }
@@ -100,9 +101,9 @@ pub(crate) struct End {
 
 /// A worker's job, with its seat and its watcher.
 #[derive(Drop)]
-pub(crate) struct Job<'a> {
+pub(crate) struct Job<'a, E: Locked> {
     alloc: Global,
-    live: &'a Engine,
+    live: &'a E,
     seat: CpuSeat,
     watcher: Watcher,
     draws: Draws,
@@ -110,7 +111,7 @@ pub(crate) struct Job<'a> {
     plan: Plan,
 }
 
-impl<'a> Model for Job<'a> {
+impl<'a, E: Locked> Model for Job<'a, E> {
     ghost use Rattle.std.specs.Prelude.{◌≡◌, ◌<◌, ◌≤◌};
     ghost use Rattle.rcu_torture.specs.Ledger.{most_rounds};
     ghost use Rattle.rcu_torture.specs.Worker.{Worker};
@@ -126,26 +127,26 @@ impl<'a> Model for Job<'a> {
     } };
 
     ghost invariant = { λ job. record {
-      seat_of : job.seat.table ≡ job.live.now.table;
-      watcher_of : job.watcher.table ≡ job.live.now.table;
+      seat_of : job.seat.table ≡ (E.object job.live.now).table;
+      watcher_of : job.watcher.table ≡ (E.object job.live.now).table;
       own : job.seat.cpu ≡ job.worker;
       some : job.worker < job.plan.workers;
       few : job.plan.rounds ≤ most_rounds;
     } };
 }
 
-impl<'a> Job<'a> {
+impl<'a, E: Locked> Job<'a, E> {
     /// The job of the worker whose number is this seat's processor, on this watcher.
     pub(crate) fn new(
         alloc: Global,
-        live: &'a Engine,
+        live: &'a E,
         seat: CpuSeat,
         watcher: Watcher,
         plan: Plan,
-    ) -> Job<'a>
-        requires seat { seat.table ≡ live.now.table }
+    ) -> Job<'a, E>
+        requires seat { seat.table ≡ (E.object live.now).table }
         requires worker { seat.cpu < plan.workers }
-        requires watcher { watcher.table ≡ live.now.table }
+        requires watcher { watcher.table ≡ (E.object live.now).table }
         requires rounds { plan.rounds ≤ most_rounds }
         ensures { result ≡ record {
           worker = seat.cpu;
@@ -179,7 +180,9 @@ impl<'a> Job<'a> {
 
     /// Runs the rounds, and takes the processor offline. A fault there counts as met.
     pub(crate) fn run<R: Wait, G: Gate>(mut self, rt: &R, gate: &G) -> End
-        ensures { IsOfRounds self.entry.plan.rounds result.share }
+        ensures share { IsOfRounds self.entry.plan.rounds result.share }
+        ensures whole { IfNone result.fault ((result.share.queued ≡ self.entry.plan.rounds)
+            ⊎ IsStopped G.answers self.entry.worker) }
     {
         let End { share, fault } = self.work(rt, gate);
         let left = self.live.offline(rt, &mut self.seat);
@@ -193,6 +196,8 @@ impl<'a> Job<'a> {
     /// met. No section is open then.
     pub(crate) fn work<R: Wait, G: Gate>(&mut self, rt: &R, gate: &G) -> End
         ensures share { IsOfRounds self.old.plan.rounds result.share }
+        ensures whole { IfNone result.fault ((result.share.queued ≡ self.old.plan.rounds)
+            ⊎ IsStopped G.answers self.old.worker) }
         ensures closed { self.new.seat.depth ≡ 0 }
         ensures rest { self.new ≡ record self.old {
           draws = self.new.draws;
@@ -209,14 +214,19 @@ impl<'a> Job<'a> {
         }
     }
 
+    /// Runs the rounds. Returns whether the gate let the worker pass in each.
     fn run_rounds<R: Wait, G: Gate>(
         &mut self,
         rt: &R,
         gate: &G,
         share: &mut Share,
-    ) -> Result<(), Fault>
+    ) -> Result<bool, Fault>
         requires { IsOfRounds 0 share.old }
         ensures share { IsOfRounds self.old.plan.rounds share.new }
+        ensures whole { IfOk result (λ passed. passed ≡ true →
+            share.new.queued ≡ self.old.plan.rounds) }
+        ensures stopped { IfOk result (λ passed. passed ≡ false →
+            IsStopped G.answers self.old.worker) }
         ensures rest { self.new ≡ record self.old {
           draws = self.new.draws;
           seat = self.new.seat;
@@ -224,28 +234,45 @@ impl<'a> Job<'a> {
         } }
     {
         for round in 0..self.plan.rounds {
-            if !self.run_round(rt, gate, round, share)? {
-                break;
+            if self.run_round(rt, gate, round, share)?.is_none() {
+                return Ok(false);
             }
         }
-        Ok(())
+        Ok(true)
     }
 
-    /// One round, on one word. Returns whether the gate let the worker pass.
+    /// One round, on one word. Returns what the engine told, or none where the gate did not let the
+    /// worker pass: its section is open then.
     fn run_round<R: Wait, G: Gate>(
         &mut self,
         rt: &R,
         gate: &G,
         round: u32,
         share: &mut Share,
-    ) -> Result<bool, Fault>
+    ) -> Result<Option<Told>, Fault>
         requires round { round < most_rounds }
         requires share { IsOfRounds round share.old }
         ensures share { IsOfRounds (round + 1) share.new }
-        ensures passed { IfOk result (λ passed. passed ≡ true →
-            share.new.queued ≡ share.old.queued + 1) }
-        ensures stopped { IfOk result (λ passed. passed ≡ false →
-            share.new ≡ record share.old { early = share.new.early }) }
+        ensures counted { IfOk result (λ passed. IfSome passed (λ _.
+            share.new.queued ≡ share.old.queued + 1)) }
+        ensures stopped { IfOk result (λ passed. IfNone passed
+            (IsStopped G.answers self.old.worker)) }
+        ensures kept { IfOk result (λ passed. IfNone passed
+            (share.new ≡ record share.old { early = share.new.early })) }
+        ensures looked { IfOk result (λ passed. IfSome passed (λ _.
+            self.new.watcher.view.loads ≡ self.old.watcher.view.loads + 2)) }
+        ensures queued { IfOk result (λ passed. IfSome passed (λ told. E.queued self.old.worker
+            (id_of self.old.worker self.old.plan.rounds round) told.queued)) }
+        ensures collected { IfOk result (λ passed. IfSome passed (λ told. E.collected
+            (other_by self.old.plan.workers (pcg32 self.old.draws).0) told.driven.collected)) }
+        ensures turned { IfOk result (λ passed. IfSome passed (λ told.
+            E.turned told.driven.turned)) }
+        ensures tended { IfOk result (λ passed. IfSome passed (λ told.
+            E.tended self.old.worker told.driven.tended)) }
+        ensures handed_out { IfOk result (λ passed. IfSome passed (λ told.
+            E.handed_out self.old.worker most_in_round told.ran.number told.ran.calls.items)) }
+        ensures stored { IfOk result (λ passed. IfSome passed (λ _. self.new.seat.view.stores ≡
+            self.old.seat.view.stores + stores_by self.old.worker (pcg32 self.old.draws).0)) }
         ensures draws { self.new.draws ≡ (pcg32 self.old.draws).1 }
         ensures rest { self.new ≡ record self.old {
           draws = self.new.draws;
@@ -255,61 +282,41 @@ impl<'a> Job<'a> {
     {
         let word = self.draws.next();
         if !self.read(gate, word, share)? {
-            return Ok(false);
+            return Ok(None);
         }
-        self.update(rt, round, word, share)?;
-        Ok(true)
-    }
-
-    /// What a round does behind its read section: it queues its callback, and settles.
-    fn update<R: Wait>(
-        &mut self,
-        rt: &R,
-        round: u32,
-        word: u32,
-        share: &mut Share,
-    ) -> Result<(), Fault>
-        requires { share.old.queued < most_rounds }
-        ensures counted { OnOk result (share.new.queued ≡ share.old.queued + 1) }
-        ensures queued { share.new.queued ≤ share.old.queued + 1 }
-        ensures early { share.new.early ≡ share.old.early }
-        ensures ran { length share.new.ids + most_in_round * share.old.queued
-            ≤ length share.old.ids + most_in_round * share.new.queued }
-        ensures rest { self.new ≡ record self.old { seat = self.new.seat } }
-    {
-        self.queue(rt, round)?;
+        let queued = self.queue(rt, round)?;
         share.note_queued();
-        self.settle(rt, word, share)
-    }
-
-    /// What a round does when its callback is queued: it moves the grace periods on, hands out
-    /// callbacks, and where the word says so goes offline and online again, and gets idle and
-    /// wakes.
-    fn settle<R: Wait>(&mut self, rt: &R, word: u32, share: &mut Share) -> Result<(), Fault>
-        ensures queued { share.new.queued ≡ share.old.queued }
-        ensures early { share.new.early ≡ share.old.early }
-        ensures ran { length share.new.ids ≤ length share.old.ids + most_in_round }
-        ensures stored { OnOk result (self.new.seat.view.stores
-            ≡ self.old.seat.view.stores + stores_by self.old.worker word) }
-        ensures rest { self.new ≡ record self.old { seat = self.new.seat } }
-    {
-        self.drive(rt, word)?;
-        hand_out(rt, self.live, self.worker, MOST_IN_ROUND, share)?;
+        let driven = self.drive(rt, word)?;
+        let ran = hand_out(rt, self.live, self.worker, MOST_IN_ROUND, share)?;
         self.leave_and_return(rt, word)?;
-        self.sleep_and_wake(word)
+        self.sleep_and_wake(word)?;
+        Ok(Some(Told {
+            queued,
+            driven,
+            ran,
+        }))
     }
 
     /// A read section with a cookie that is polled inside, and a quiescent state. Returns whether
     /// the gate let the worker pass; where it did not, the section is open.
     fn read<G: Gate>(&mut self, gate: &G, word: u32, share: &mut Share) -> Result<bool, Fault>
-        requires { share.old.early < most_rounds + length share.old.ids }
+        ghost looks: { ℕ }
+        requires early { share.old.early < most_rounds + length share.old.ids }
+        requires looks { self.old.watcher.view.loads ≡ looks }
         ensures share { share.new ≡ record share.old { early = share.new.early } }
         ensures early { share.new.early ≤ share.old.early + 1 }
+        ensures asked { IfOk result (λ passed. passed ≡ true →
+            G.answers self.old.worker Point.Entered true
+            × G.answers self.old.worker Point.Polled true) }
+        ensures stopped { IfOk result (λ passed. passed ≡ false →
+            IsStopped G.answers self.old.worker) }
         ensures open { IfOk result (λ passed. passed ≡ false →
             self.new.seat.depth ≡ self.old.seat.depth + 1 + word % 3) }
-        ensures polled { IfOk result (λ passed. passed ≡ true →
-            self.new.watcher.view.loads ≡ self.old.watcher.view.loads + 2) }
+        ensures looked { IfOk result (λ passed. passed ≡ true →
+            self.new.watcher.view.loads ≡ looks + 2) }
         ensures closed { IfOk result (λ passed. passed ≡ true → self.new.seat.depth ≡ 0) }
+        ensures stored { IfOk result (λ passed. passed ≡ true →
+            self.new.seat.view.stores ≡ self.old.seat.view.stores + 1) }
         ensures rest { self.new ≡
             record self.old { seat = self.new.seat; watcher = self.new.watcher } }
     {
@@ -317,23 +324,6 @@ impl<'a> Job<'a> {
         if !self.pass(gate, Point::Entered) {
             return Ok(false);
         }
-        self.poll_inside(gate, share)
-    }
-
-    /// Polls a cookie inside of the section in which it is taken, and then ends the section at a
-    /// quiescent state. Returns whether the gate let the worker pass; where it did not, the section
-    /// is open.
-    fn poll_inside<G: Gate>(&mut self, gate: &G, share: &mut Share) -> Result<bool, Fault>
-        requires early { share.old.early < most_rounds + length share.old.ids }
-        requires inside { 0 < self.old.seat.depth }
-        ensures share { share.new ≡ record share.old { early = share.new.early } }
-        ensures early { share.new.early ≤ share.old.early + 1 }
-        ensures open { IfOk result (λ passed. passed ≡ false → self.new.seat ≡ self.old.seat) }
-        ensures polled { self.new.watcher.view.loads ≡ self.old.watcher.view.loads + 2 }
-        ensures closed { IfOk result (λ passed. passed ≡ true → self.new.seat.depth ≡ 0) }
-        ensures rest { self.new ≡
-            record self.old { seat = self.new.seat; watcher = self.new.watcher } }
-    {
         let cookie = self.watcher.take(self.live);
         self.poll(cookie, share);
         if !self.pass(gate, Point::Polled) {
@@ -344,9 +334,14 @@ impl<'a> Job<'a> {
         Ok(true)
     }
 
-    /// Whether the gate lets the worker go on, inside its section.
+    /// Whether the gate lets the worker go on at a place inside its section: when it has entered,
+    /// and has looked no more often than before; or when it has looked twice more, to take its
+    /// cookie and to poll it.
     fn pass<G: Gate>(&self, gate: &G, point: Point) -> bool
+        ghost looks: { ℕ }
         requires inside { 0 < self.now.seat.depth }
+        requires looked { self.now.watcher.view.loads ≡ looks + looks_by point }
+        ensures { G.answers self.now.worker point result }
     {
         gate.pass(self.worker, point)
     }
@@ -374,7 +369,9 @@ impl<'a> Job<'a> {
 
     /// Queues the callback of the round.
     fn queue<R: Wait>(&mut self, rt: &R, round: u32) -> Result<u64, Fault>
-        ensures { self.new ≡ self.old }
+        ensures told { IfOk result (λ count. E.queued self.old.worker
+            (id_of self.old.worker self.old.plan.rounds round) count) }
+        ensures rest { self.new ≡ self.old }
     {
         let id = self.id(round);
         self.live
@@ -389,12 +386,22 @@ impl<'a> Job<'a> {
         word / 8 % self.plan.workers
     }
 
-    /// Moves the grace periods on: by a processor that the word names, and by its own callbacks.
-    fn drive<R: Wait>(&self, rt: &R, word: u32) -> Result<(), Fault> {
-        self.live.collect(rt, self.other(word))?;
-        self.live.turn(rt)?;
-        self.live.tend(rt, self.worker)?;
-        Ok(())
+    /// Moves the grace periods on: collects of a processor that the word names, turns, and tends
+    /// its own callbacks. Returns what the engine told.
+    fn drive<R: Wait>(&self, rt: &R, word: u32) -> Result<Driven, Fault>
+        ensures collected { IfOk result (λ driven.
+            E.collected (other_by self.now.plan.workers word) driven.collected) }
+        ensures turned { IfOk result (λ driven. E.turned driven.turned) }
+        ensures tended { IfOk result (λ driven. E.tended self.now.worker driven.tended) }
+    {
+        let collected = self.live.collect(rt, self.other(word))?;
+        let turned = self.live.turn(rt)?;
+        let tended = self.live.tend(rt, self.worker)?;
+        Ok(Driven {
+            collected,
+            turned,
+            tended,
+        })
     }
 
     /// Where the word says so, takes another processor than 0 offline and online again.
@@ -405,19 +412,10 @@ impl<'a> Job<'a> {
         ensures rest { self.new ≡ record self.old { seat = self.new.seat } }
     {
         if self.worker != 0 && word / 4 % 8 == 0 {
-            self.return_from_offline(rt)?;
+            self.live.offline(rt, &mut self.seat)?;
+            self.live.online(rt, &mut self.seat)?;
         }
         Ok(())
-    }
-
-    /// Takes the processor offline and online again.
-    fn return_from_offline<R: Wait>(&mut self, rt: &R) -> Result<(), Fault>
-        ensures returned { OnOk result
-            (self.new.seat ≡ after_quiesce (after_depart self.old.seat) self.new.seat.view.seen) }
-        ensures rest { self.new ≡ record self.old { seat = self.new.seat } }
-    {
-        self.live.offline(rt, &mut self.seat)?;
-        self.live.online(rt, &mut self.seat)
     }
 
     /// Where the word says so, gets the processor idle, and wakes it.

@@ -6,8 +6,9 @@ ghost use Rattle.std.specs.Thread.{IsSync};
 ghost use Rattle.rcu_torture.specs.Draws.{generator_of};
 ghost use Rattle.rcu_torture.specs.Ledger.{most_rounds};
 
+use crate::torture::engine::Engine;
 use crate::torture::gate::Gate;
-use crate::torture::job::{End, Engine, Job, Plan};
+use crate::torture::job::{End, Job, Plan};
 use crate::torture::share::Share;
 use rcu_live::cpu_seat::CpuSeat;
 use rcu_live::watcher::Watcher;
@@ -60,7 +61,7 @@ fn last_job<'a>(
     seats: &mut Vec<CpuSeat>,
     watchers: &mut Vec<Watcher>,
     plan: Plan,
-) -> Job<'a>
+) -> Job<'a, Engine>
     requires rounds { plan.rounds ≤ most_rounds }
     requires some_seat { 0 < length seats.old.items }
     requires some_watcher { 0 < length watchers.old.items }
@@ -98,7 +99,7 @@ pub(crate) fn deal_jobs<'a, R: Wait>(
     mut seats: Vec<CpuSeat>,
     mut watchers: Vec<Watcher>,
     plan: Plan,
-) -> Result<(Job<'a>, Vec<Job<'a>>), Fault>
+) -> Result<(Job<'a, Engine>, Vec<Job<'a, Engine>>), Fault>
     requires some { 0 < plan.workers }
     requires rounds { plan.rounds ≤ most_rounds }
     requires seat_count { length seats.items ≡ plan.workers }
@@ -127,8 +128,8 @@ pub(crate) fn deal_jobs<'a, R: Wait>(
 pub(crate) fn run_all<R: Threads + Wait + Sync, G: Gate>(
     rt: &R,
     gate: &G,
-    first: &mut Job<'_>,
-    mut others: Vec<Job<'_>>,
+    first: &mut Job<'_, Engine>,
+    mut others: Vec<Job<'_, Engine>>,
     mut gathered: Gathered,
 ) -> Gathered
     requires { vec_len gathered.shares + vec_len others + 1 ≤ vec_capacity gathered.shares }

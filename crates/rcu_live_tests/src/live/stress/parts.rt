@@ -1,15 +1,15 @@
 //! What all threads of a hard run have, and the threads that are made of it.
 ghost use Rattle.std.specs.Prelude.{◌≡◌, ◌+◌, ◌≤◌, All, length};
 
-use crate::live::steps::{Four, online};
+use crate::live::steps::Four;
 use crate::live::stress::calls::Calls;
 use crate::live::stress::reader::Reader;
 use crate::live::stress::scene::{Scene, Section};
+use crate::live::stress::stop::{Stop, compare};
 use crate::live::stress::updater::{Driver, Waiter};
 use crate::live::threads::{last_seat, last_watcher};
 use rcu_live::cpu_seat::CpuSeat;
 use rcu_live::watcher::Watcher;
-use std::process::Abort;
 use std::sync::Wait;
 
 /// The engine, what its threads share beside it, and its callbacks.
@@ -20,19 +20,63 @@ pub(crate) struct Parts<'a> {
     pub(crate) calls: &'a Calls,
 }
 
+/// A thread's place in a run: all that the threads share, and a processor's seat of its own.
+#[derive(Drop)]
+pub(crate) struct Place<'a> {
+    pub(crate) live: &'a Four,
+    pub(crate) scene: &'a Scene,
+    pub(crate) calls: &'a Calls,
+    pub(crate) seat: CpuSeat,
+}
+
+impl Place<'_> {
+    /// Queues a callback, as long as there is room.
+    pub(crate) fn queue<R: Wait>(&mut self, rt: &R) -> Result<(), Stop>
+        requires { self.old.seat.table ≡ self.old.live.now.table }
+        ensures seat { self.new.seat ≡ self.old.seat }
+        ensures live { self.new.live ≡ self.old.live }
+    {
+        self.calls.queue(rt, self.scene, self.live, &mut self.seat)
+    }
+
+    /// Takes the processor offline. Its list is empty then.
+    pub(crate) fn depart<R: Wait>(&mut self, rt: &R) -> Result<(), Stop>
+        requires { self.old.seat.table ≡ self.old.live.now.table }
+        ensures seat { self.new.seat.table ≡ self.old.seat.table }
+        ensures live { self.new.live ≡ self.old.live }
+    {
+        self.live.offline(rt, &mut self.seat)?;
+        compare(self.live.tend(rt, self.seat.cpu()), Ok((0, 0)))
+    }
+}
+
 impl<'a> Parts<'a> {
+    /// A place, with the last seat.
+    fn place(&self, seats: &mut Vec<CpuSeat>) -> Place<'a>
+        requires some { 1 ≤ length seats.old.items }
+        requires each { All (λ seat. seat.table ≡ self.now.live.now.table) seats.old.items }
+        ensures each { All (λ seat. seat.table ≡ self.now.live.now.table) seats.new.items }
+        ensures count { length seats.new.items + 1 ≡ length seats.old.items }
+        ensures live { result.live ≡ self.now.live }
+        ensures seat { result.seat.table ≡ self.now.live.now.table }
+    {
+        let Parts { live, scene, calls } = *self;
+        let seat = last_seat(live, seats);
+        Place {
+            live,
+            scene,
+            calls,
+            seat,
+        }
+    }
+
     /// The driver, with the last seat.
     pub(crate) fn driver(&self, seats: &mut Vec<CpuSeat>) -> Driver<'a>
         requires some { 1 ≤ length seats.old.items }
         requires each { All (λ seat. seat.table ≡ self.now.live.now.table) seats.old.items }
     {
-        let Parts { live, scene, calls } = *self;
-        let seat = last_seat(live, seats);
         Driver {
-            live,
-            scene,
-            calls,
-            seat,
+            place: self.place(seats),
             sleeps: 0,
         }
     }
@@ -54,28 +98,19 @@ impl<'a> Parts<'a> {
             watchers.new.items }
         ensures seat_count { length seats.new.items + 1 ≡ length seats.old.items }
         ensures watcher_count { length watchers.new.items + 1 ≡ length watchers.old.items }
-        ensures live { result.live ≡ self.now.live }
+        ensures live { result.place.live ≡ self.now.live }
     {
-        let Parts { live, scene, calls } = *self;
-        let seat = last_seat(live, seats);
-        let watcher = last_watcher(live, watchers);
+        let place = self.place(seats);
+        let watcher = last_watcher(self.live, watchers);
         Reader {
-            live,
-            scene,
-            calls,
+            place,
             section,
-            seat,
             watcher,
         }
     }
 
-    /// The waiter, with the last seat, whose processor is online from now on, and the last watcher.
-    pub(crate) fn waiter<R: Abort + Wait>(
-        &self,
-        rt: &R,
-        seats: &mut Vec<CpuSeat>,
-        watchers: &mut Vec<Watcher>,
-    ) -> Waiter<'a>
+    /// The waiter, with the last seat and the last watcher.
+    pub(crate) fn waiter(&self, seats: &mut Vec<CpuSeat>, watchers: &mut Vec<Watcher>) -> Waiter<'a>
         requires some_seat { 1 ≤ length seats.old.items }
         requires some_watcher { 1 ≤ length watchers.old.items }
         requires each_seat { All (λ seat. seat.table ≡ self.now.live.now.table) seats.old.items }
@@ -87,16 +122,8 @@ impl<'a> Parts<'a> {
         ensures seat_count { length seats.new.items + 1 ≡ length seats.old.items }
         ensures watcher_count { length watchers.new.items + 1 ≡ length watchers.old.items }
     {
-        let Parts { live, scene, calls } = *self;
-        let mut seat = last_seat(live, seats);
-        online(rt, live, &mut seat, Ok(()));
-        let watcher = last_watcher(live, watchers);
-        Waiter {
-            live,
-            scene,
-            calls,
-            seat,
-            watcher,
-        }
+        let place = self.place(seats);
+        let watcher = last_watcher(self.live, watchers);
+        Waiter { place, watcher }
     }
 }

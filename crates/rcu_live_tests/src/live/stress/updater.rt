@@ -1,12 +1,9 @@
 //! The updaters of a hard run: one drives the engine, and one waits for barriers and cookies.
 ghost use Rattle.std.specs.Prelude.{◌≡◌};
 
-use crate::live::steps::Four;
-use crate::live::stress::calls::Calls;
-use crate::live::stress::scene::Scene;
-use crate::live::stress::stop::{Stop, compare, hold_to};
+use crate::live::stress::parts::Place;
+use crate::live::stress::stop::{Stop, hold_to};
 use rcu_core::turned::Turned;
-use rcu_live::cpu_seat::CpuSeat;
 use rcu_live::watcher::Watcher;
 use rcu_seq::cookie::Cookie;
 use std::sync::Wait;
@@ -32,13 +29,10 @@ const MOST_AT_END: u64 = 1_000_000;
 /// The updater that drives the engine, with the seat of processor 0.
 #[derive(Drop)]
 pub(crate) struct Driver<'a> {
-    pub(crate) live: &'a Four,
-    pub(crate) scene: &'a Scene,
-    pub(crate) calls: &'a Calls,
-    pub(crate) seat: CpuSeat,
+    pub(crate) place: Place<'a>,
     /// How often the reader that sleeps had gone to sleep at the last pause.
     pub(crate) sleeps: u64,
-    pub(crate) ghost seat_of: { seat.table ≡ live.now.table },
+    pub(crate) ghost seat_of: { place.seat.table ≡ place.live.now.table },
 }
 
 impl<'a> Driver<'a> {
@@ -46,32 +40,34 @@ impl<'a> Driver<'a> {
     /// turn may begin one.
     fn turn<R: Wait>(&self, rt: &R, may_begin: bool) -> Result<bool, Stop> {
         for cpu in 0..CPUS {
-            self.live.collect(rt, cpu)?;
+            self.place.live.collect(rt, cpu)?;
         }
         if may_begin {
-            self.scene.begin.give();
+            self.place.scene.begin.give();
         }
-        let turned = self.live.turn(rt)?;
+        let turned = self.place.live.turn(rt)?;
         Ok(matches!(turned, Turned::Ended(_) | Turned::Nothing))
     }
 
     /// No grace period runs: waits for the reader that sleeps to wake and read, where it went to
     /// sleep since the last pause.
     fn pause(&mut self) {
-        let sleeps = self.scene.sleep.count();
+        let sleeps = self.place.scene.sleep.count();
         if self.sleeps != sleeps {
             self.sleeps = sleeps;
-            let since = self.scene.wake.count();
-            self.scene.pause.give();
-            self.scene.wait_shortly(&self.scene.wake, since);
+            let since = self.place.scene.wake.count();
+            self.place.scene.pause.give();
+            self.place.scene.wait_shortly(&self.place.scene.wake, since);
         }
     }
 
     /// Brings each list up to date, and hands out at most so many callbacks of it.
     fn hand_out<R: Wait>(&self, rt: &R, most: u64) -> Result<(), Stop> {
         for cpu in 0..CPUS {
-            self.live.tend(rt, cpu)?;
-            self.calls.hand_out(rt, self.scene, self.live, cpu, most)?;
+            self.place.live.tend(rt, cpu)?;
+            self.place
+                .calls
+                .hand_out(rt, self.place.scene, self.place.live, cpu, most)?;
         }
         Ok(())
     }
@@ -81,20 +77,21 @@ impl<'a> Driver<'a> {
         let may_begin = self.turn(rt, may_begin)?;
         if may_begin {
             self.pause();
-            self.calls.queue(rt, self.scene, self.live, &mut self.seat)?;
+            self.place.queue(rt)?;
         }
         self.hand_out(rt, MOST_IN_ROUND)?;
-        self.seat.quiesce(self.live)?;
-        self.scene.round.give();
+        let live = self.place.live;
+        self.place.seat.quiesce(live)?;
+        self.place.scene.round.give();
         Ok(may_begin)
     }
 
     /// All rounds, or as many as there are until the run ends.
     fn drive<R: Wait>(&mut self, rt: &R) -> Result<(), Stop> {
-        self.scene.gather()?;
+        self.place.scene.gather()?;
         let mut may_begin = true;
         for _ in 0..ROUNDS {
-            if self.scene.is_ended() {
+            if self.place.scene.is_ended() {
                 break;
             }
             may_begin = self.go_round(rt, may_begin)?;
@@ -105,7 +102,7 @@ impl<'a> Driver<'a> {
     /// The driver's thread.
     pub(crate) fn run<R: Wait>(&mut self, rt: &R) {
         let result = self.drive(rt);
-        self.scene.end(rt, result);
+        self.place.scene.end(rt, result);
     }
 
     /// Hands out what is left, when nobody else works the engine: each callback was handed out
@@ -114,30 +111,28 @@ impl<'a> Driver<'a> {
         for _ in 0..8 {
             self.turn(rt, false)?;
             self.hand_out(rt, MOST_AT_END)?;
-            self.seat.quiesce(self.live)?;
+            let live = self.place.live;
+            self.place.seat.quiesce(live)?;
         }
-        self.calls.are_handed_out(rt)
+        self.place.calls.are_handed_out(rt)
     }
 }
 
 /// The updater that waits, with the seat of an idle processor and a watcher.
 #[derive(Drop)]
 pub(crate) struct Waiter<'a> {
-    pub(crate) live: &'a Four,
-    pub(crate) scene: &'a Scene,
-    pub(crate) calls: &'a Calls,
-    pub(crate) seat: CpuSeat,
+    pub(crate) place: Place<'a>,
     pub(crate) watcher: Watcher,
-    pub(crate) ghost seat_of: { seat.table ≡ live.now.table },
-    pub(crate) ghost watcher_of: { watcher.table ≡ live.now.table },
+    pub(crate) ghost seat_of: { place.seat.table ≡ place.live.now.table },
+    pub(crate) ghost watcher_of: { watcher.table ≡ place.live.now.table },
 }
 
 impl<'a> Waiter<'a> {
     /// Where a cookie that was taken at this stamp is done, no section is open that was open then.
     fn poll(&mut self, cookie: Cookie, stamp: u64) -> Result<(), Stop> {
-        let is_done = self.watcher.poll(self.live, cookie);
+        let is_done = self.watcher.poll(self.place.live, cookie);
         hold_to(
-            !is_done || !self.scene.is_open_since(stamp),
+            !is_done || !self.place.scene.is_open_since(stamp),
             Stop::EarlyCookie,
         )
     }
@@ -145,27 +140,31 @@ impl<'a> Waiter<'a> {
     /// Begins a barrier once the processor that departs has callbacks, and visits that one once it
     /// departed. Answers how many callbacks were queued before.
     fn begin_barrier<R: Wait>(&mut self, rt: &R) -> Result<usize, Stop> {
-        let queued = self.scene.queued.count();
-        self.scene.wait(&self.scene.queued, queued, 1);
-        let departures = self.scene.departure.count();
-        let before = self.calls.begin_barrier(rt, self.live)?;
-        self.live.visit(rt, 0)?;
-        self.scene.barrier.give();
-        self.scene.wait(&self.scene.departure, departures, 1);
+        let queued = self.place.scene.queued.count();
+        self.place.scene.wait(&self.place.scene.queued, queued, 1);
+        let departures = self.place.scene.departure.count();
+        let before = self.place.calls.begin_barrier(rt, self.place.live)?;
+        self.place.live.visit(rt, 0)?;
+        self.place.scene.barrier.give();
+        self.place
+            .scene
+            .wait(&self.place.scene.departure, departures, 1);
         for cpu in 1..ALL_CPUS {
-            self.live.visit(rt, cpu)?;
+            self.place.live.visit(rt, cpu)?;
         }
         Ok(before)
     }
 
     /// A cookie is polled while a barrier runs.
     fn go_round<R: Wait>(&mut self, rt: &R) -> Result<(), Stop> {
-        let stamp = self.scene.stamp();
-        let cookie = self.watcher.take(self.live);
+        let stamp = self.place.scene.stamp();
+        let cookie = self.watcher.take(self.place.live);
         let before = self.begin_barrier(rt)?;
         for _ in 0..u64::MAX {
             self.poll(cookie, stamp)?;
-            if self.scene.is_ended() || self.calls.test_barrier(rt, self.live, before)? {
+            if self.place.scene.is_ended()
+                || self.place.calls.test_barrier(rt, self.place.live, before)?
+            {
                 break;
             }
             yield_now();
@@ -173,26 +172,27 @@ impl<'a> Waiter<'a> {
         Ok(())
     }
 
-    /// Begins barriers until the run ends, and queues a callback now and then.
+    /// Arrives, and then begins barriers until the run ends, and queues a callback now and then.
     fn wait<R: Wait>(&mut self, rt: &R) -> Result<(), Stop> {
-        self.scene.gather()?;
-        self.seat.idle(self.live)?;
+        let live = self.place.live;
+        live.online(rt, &mut self.place.seat)?;
+        self.place.scene.gather()?;
+        self.place.seat.idle(live)?;
         for round in 0..u64::MAX {
-            if self.scene.is_ended() {
+            if self.place.scene.is_ended() {
                 break;
             }
             if round % 4 == 3 {
-                self.calls.queue(rt, self.scene, self.live, &mut self.seat)?;
+                self.place.queue(rt)?;
             }
             self.go_round(rt)?;
         }
-        self.live.offline(rt, &mut self.seat)?;
-        compare(self.live.tend(rt, self.seat.cpu()), Ok((0, 0)))
+        self.place.depart(rt)
     }
 
     /// The waiter's thread.
     pub(crate) fn run<R: Wait>(mut self, rt: &R) {
         let result = self.wait(rt);
-        self.scene.end(rt, result);
+        self.place.scene.end(rt, result);
     }
 }

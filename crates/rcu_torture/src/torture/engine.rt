@@ -1,0 +1,136 @@
+//! The engine that workers work, and what its answers show.
+ghost use Rattle.std.specs.Prelude.{◌≡◌, ℕ, List, IfErr, IfOk, OnErr, OnOk, true};
+ghost use Rattle.rcu_cblist.specs.declared.queued.Queued.{Queued};
+ghost use Rattle.rcu_live.specs.CpuSeat.{after_depart, after_quiesce};
+ghost use Rattle.rcu_live.specs.EngineLists.{AreDue, is_run_fault};
+ghost use Rattle.rcu_core.specs.declared.turned.Turned.{Turned};
+ghost use Rattle.rcu_live.specs.declared.collection.Collected.{Collected};
+
+use rcu_cblist::refused::Refused;
+use rcu_core::turned::Turned;
+use rcu_live::client::NoClient;
+use rcu_live::collection::Collected;
+use rcu_live::cpu_seat::CpuSeat;
+use rcu_live::live::Live;
+use rcu_live::run::Ran;
+use rcu_live::shared::Shared;
+use rcu_seq::fault::Fault;
+use std::sync::Wait;
+
+/// The engine of a run: a callback carries its id.
+pub(crate) type Engine = Live<4, 4, u64>;
+
+/// The calls of an engine that take its lock, as workers make them.
+///
+/// Each answer counts as told: by that of a collection of this processor, of a turn, and so on.
+/// Nothing else is known of the answers here. So a function that has to return what was told has
+/// to make the call.
+pub(crate) trait Locked: Shared<NoClient> + Drop {
+    // Of a collection the processor; of a queueing the processor, and the value.
+    ghost collected: { ℕ → Collected → Type 0 };
+
+    ghost turned: { Turned → Type 0 };
+
+    ghost tended: { ℕ → (ℕ × ℕ) → Type 0 };
+
+    ghost queued: { ℕ → ℕ → ℕ → Type 0 };
+
+    // Of a run the processor, how many it was to hand out at most, the number and what it did.
+    ghost handed_out: { ℕ → ℕ → ℕ → List (Queued ℕ) → Type 0 };
+
+    /// As [`Live::collect`].
+    fn collect<R: Wait>(&self, rt: &R, cpu: u32) -> Result<Collected, Fault>
+        ensures told { IfOk result (λ found. collected cpu found) };
+
+    /// As [`Live::turn`].
+    fn turn<R: Wait>(&self, rt: &R) -> Result<Turned, Fault>
+        ensures told { IfOk result (λ done. turned done) };
+
+    /// As [`Live::tend`].
+    fn tend<R: Wait>(&self, rt: &R, cpu: u32) -> Result<(u64, u64), Fault>
+        ensures told { IfOk result (λ counts. tended cpu counts) };
+
+    /// As [`Live::queue`].
+    fn queue<R: Wait>(&self, rt: &R, seat: &mut CpuSeat, value: u64) -> Result<u64, Refused<u64>>
+        requires { seat.old.table ≡ (Self.object self.now).table }
+        ensures seat { seat.new ≡ seat.old }
+        ensures told { IfOk result (λ count. queued seat.old.cpu value count) };
+
+    /// As [`Live::run`].
+    fn run<R: Wait>(&self, rt: &R, cpu: u32, max: u64) -> Result<Ran<u64>, Fault>
+        ensures due { IfOk result (λ ran. AreDue ran.number max ran.calls.items) }
+        ensures fault { IfErr result (λ fault. is_run_fault fault ≡ true) }
+        ensures told { IfOk result (λ ran. handed_out cpu max ran.number ran.calls.items) };
+
+    /// As [`Live::online`].
+    fn online<R: Wait>(&self, rt: &R, seat: &mut CpuSeat) -> Result<(), Fault>
+        requires { seat.old.table ≡ (Self.object self.now).table }
+        ensures table { seat.new.table ≡ seat.old.table }
+        ensures state { OnOk result (seat.new ≡ after_quiesce seat.old seat.new.view.seen) }
+        ensures unchanged { OnErr result (seat.new ≡ seat.old) };
+
+    /// As [`Live::offline`].
+    fn offline<R: Wait>(&self, rt: &R, seat: &mut CpuSeat) -> Result<u64, Fault>
+        requires { seat.old.table ≡ (Self.object self.now).table }
+        ensures table { seat.new.table ≡ seat.old.table }
+        ensures cpu { seat.new.cpu ≡ seat.old.cpu }
+        ensures stored { OnOk result (seat.new ≡ after_depart seat.old) };
+}
+
+impl Locked for Engine {
+    ghost collected = { λ _ _. Unit {0} };
+
+    ghost turned = { λ _. Unit {0} };
+
+    ghost tended = { λ _ _. Unit {0} };
+
+    ghost queued = { λ _ _ _. Unit {0} };
+
+    ghost handed_out = { λ _ _ _ _. Unit {0} };
+
+    fn collect<R: Wait>(&self, rt: &R, cpu: u32) -> Result<Collected, Fault> {
+        Live::collect(self, rt, cpu)
+    }
+
+    fn turn<R: Wait>(&self, rt: &R) -> Result<Turned, Fault> {
+        Live::turn(self, rt)
+    }
+
+    fn tend<R: Wait>(&self, rt: &R, cpu: u32) -> Result<(u64, u64), Fault> {
+        Live::tend(self, rt, cpu)
+    }
+
+    fn queue<R: Wait>(&self, rt: &R, seat: &mut CpuSeat, value: u64) -> Result<u64, Refused<u64>> {
+        Live::queue(self, rt, seat, value)
+    }
+
+    fn run<R: Wait>(&self, rt: &R, cpu: u32, max: u64) -> Result<Ran<u64>, Fault> {
+        Live::run(self, rt, cpu, max)
+    }
+
+    fn online<R: Wait>(&self, rt: &R, seat: &mut CpuSeat) -> Result<(), Fault> {
+        Live::online(self, rt, seat)
+    }
+
+    fn offline<R: Wait>(&self, rt: &R, seat: &mut CpuSeat) -> Result<u64, Fault> {
+        Live::offline(self, rt, seat)
+    }
+}
+
+/// What the engine told a worker that moved the grace periods on.
+#[derive(Clone, Copy)]
+pub(crate) struct Driven {
+    pub(crate) collected: Collected,
+    pub(crate) turned: Turned,
+    /// How many callbacks are done, and how many wait.
+    pub(crate) tended: (u64, u64),
+}
+
+/// What the engine told a worker in a round.
+#[derive(Drop)]
+pub(crate) struct Told {
+    /// How many callbacks were queued, this one among them.
+    pub(crate) queued: u64,
+    pub(crate) driven: Driven,
+    pub(crate) ran: Ran<u64>,
+}
