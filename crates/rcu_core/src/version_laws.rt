@@ -4,11 +4,28 @@ ghost use Rattle.std.specs.Prelude.{◌≡◌, ◌≢◌, ◌∷◌, ◌++◌, �
 ghost use Rattle.rcu_seq.specs.declared.cookie.Cookie.{Cookie};
 ghost use Rattle.rcu_core.specs.Replies.{Size};
 ghost use Rattle.rcu_core.specs.Runs.{IsLegalRun, takes};
-ghost use Rattle.rcu_core.specs.Stories.{Publish, Replied, Story, holds_version, publishes, run_of};
+ghost use Rattle.rcu_core.specs.Stories.{Load, Publish, Replied, Story, current, holds_version};
+ghost use Rattle.rcu_core.specs.Stories.{is_open, publishes, run_of};
 
 use crate::event::Event;
 use crate::laws::readers_finish_before_done;
 use crate::reply::Reply;
+
+/// A section that loads comes to hold the version that was published last. It holds what it held
+/// until it closes, whatever is published meanwhile, and whoever loads.
+pub fn a_section_holds_what_it_loaded()
+    ensures loaded { (cpu : ℕ) (story : Story) → is_open cpu story ≡ true
+        → holds_version cpu (current story) (Load cpu ∷ story) ≡ true }
+    ensures replied { (cpu version : ℕ) (story : Story) (event : Event) (reply : Reply)
+        → holds_version cpu version story ≡ true → is_open cpu (Replied event reply ∷ story) ≡ true
+        → holds_version cpu version (Replied event reply ∷ story) ≡ true }
+    ensures published { (cpu version new : ℕ) (story : Story)
+        → holds_version cpu version story ≡ true
+        → holds_version cpu version (Publish new ∷ story) ≡ true }
+    ensures beside { (cpu version loader : ℕ) (story : Story)
+        → holds_version cpu version story ≡ true
+        → holds_version cpu version (Load loader ∷ story) ≡ true }
+{}
 
 /// A version was replaced, and then a cookie was taken. When the cookie tests done, no open section
 /// holds the version, unless it was published again.
