@@ -25,6 +25,8 @@ pub trait Client {
 
     ghost closed: { Self.Known → Self.Known };
 
+    // Nothing calls it. Proofs are given the laws of a trait, as `stable`, only where the trait has
+    // a function.
     fn mark() {}
 
     ghost stable: { IsStable holds idle closed };
