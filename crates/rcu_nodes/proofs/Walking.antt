@@ -1,5 +1,5 @@
 -- A section that walks a graph goes on from node to node.
-use Rattle.std.proofs.Common.{◌≡◌, ℕ, suc, ◌<◌, List, refl, sym, ◌∙◌, subst, inl, inr, arith}
+use Rattle.std.proofs.Common.{◌≡◌, ℕ, suc, ◌<◌, List, refl, sym, ap, ◌∙◌, subst, inl, inr, arith}
 use Rattle.std.specs.Prelude.{slice_index}
 use Rattle.rcu_live.specs.Board.{Object}
 use Rattle.rcu_live.specs.CpuSeat.{Seated, after_word_step}
@@ -63,3 +63,10 @@ pub walks_at : (first : ℕ → List ℕ) (roots count : ℕ) (graph : Object) (
     → IsOn first roots new.view.client i words → i < count → IsAt first roots count graph new i
 walks_at first roots count graph old new i words same w reads on low =
     record { walking = walks_on graph old new same w reads; words = words; on = on; inside = low }
+
+-- a hop behind others, and a read
+pub hops_on : (start old mid new : Seated Known) → old ≡ after_word_step start old.view.client
+    → mid ≡ after_word_step old mid.view.client → new ≡ mid → new ≡ after_word_step start new.view.client
+hops_on start old mid new was hop same =
+    subst (λ (s : Seated Known). s ≡ after_word_step start s.view.client) (sym same)
+    (hop ∙ ap (λ (s : Seated Known). after_word_step s mid.view.client) was)

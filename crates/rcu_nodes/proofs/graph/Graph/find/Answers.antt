@@ -5,7 +5,7 @@ use Rattle.rcu_nodes.specs.Graph.{IsAt, IsWalking}
 use Rattle.rcu_nodes.specs.Nodes.{IsOn, IsReader}
 use Rattle.rcu_nodes.specs.Search.{IsFound}
 use Rattle.rcu_nodes.specs.declared.known.Known.{Known}
-use Rattle.rcu_nodes.proofs.Walking.{came_holds, came_to, found_it, walks_at}
+use Rattle.rcu_nodes.proofs.Walking.{came_holds, came_to, found_it, hops_on, walks_at}
 use Rattle.rcu_nodes.proofs.graph.Graph.find.Goals as goal
 
 pub key_of-least-requires : goal.key_of-least-requires
@@ -68,7 +68,7 @@ chain-preserved g c =
     let i = c.chain.invariant in
     let came = came_to _ _ _ _ _ _ _ (c.in-Some.ensures.came i.on.0 i.on.1) in
     let held = came_holds _ _ _ _ _ _ _ came in record {
-      same = rw (c.key_of-found.ensures.same, c.in-Some.ensures.same, i.same) refl;
+      same = hops_on c.key_of-least.new.seat c.chain.seat c.follow.new.seat c.key_of-found.new.seat i.same c.in-Some.ensures.same c.key_of-found.ensures.same;
       reader = subst (λ (s : Seated Known). IsReader s.view.client) (sym c.key_of-found.ensures.same) c.in-Some.ensures.walking.reads;
       inside = came.inside;
       on = subst (λ (s : Seated Known). (words : List ℕ) × IsOn g.F.Shape.first g.row.K s.view.client c.in-Some.next words × (slice_index words 0 ≡ c.key_of-found.result)) (sym c.key_of-found.ensures.same)
