@@ -347,4 +347,21 @@ fn lack_processor<R: Abort + Wait>(rt: &R, live: &Four) {
     tend(rt, live, 2, Err(Fault::BadCpu));
     run_any(rt, live, 2, Err(Fault::BadCpu));
     visit(rt, live, 2, Err(Fault::BadCpu));
+    assert_eq!(rt; live.shrink(rt, 2), Err(Fault::BadCpu));
+}
+
+#[test]
+fn lists_give_room_back(rt: HostRuntime) {
+    let mut pair = make_pair(&rt, rt.alloc());
+    give_room_back(&rt, &pair.live, &mut pair.first);
+}
+
+/// A list with a callback keeps room for it, and an empty one keeps none.
+fn give_room_back<R: Abort + Wait>(rt: &R, live: &Four, seat: &mut CpuSeat)
+    requires { seat.old.table ≡ live.now.table }
+{
+    queue(rt, live, seat, 7, 1);
+    let kept = live.shrink(rt, 0).expect(rt, "there is such a processor");
+    assert!(rt; kept >= 1, "{kept}");
+    assert_eq!(rt; live.shrink(rt, 1), Ok(0));
 }
