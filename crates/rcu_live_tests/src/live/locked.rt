@@ -256,4 +256,26 @@ fn lack_processor<R: Abort + Wait>(script: &Script<'_, R>) {
     script.tend(2, Err(Fault::BadCpu));
     script.run_any(2, Err(Fault::BadCpu));
     script.visit(2, Err(Fault::BadCpu));
+    script.shrink(2, Err(Fault::BadCpu));
+}
+
+#[test]
+fn lists_give_room_back(rt: HostRuntime) {
+    let Pair {
+        live,
+        mut first,
+        second: _,
+        watcher: _,
+        other: _,
+    } = make_pair(&rt, rt.alloc());
+    give_room_back(&Script::new(&rt, &live), &mut first);
+}
+
+/// A list with a callback keeps room for it, and an empty one keeps none.
+fn give_room_back<R: Abort + Wait>(script: &Script<'_, R>, seat: &mut CpuSeat)
+    requires { seat.old.table ≡ script.now.live.now.table }
+{
+    script.queue(seat, 7, 1);
+    script.shrink(0, Ok(true));
+    script.shrink(1, Ok(false));
 }

@@ -208,6 +208,12 @@ impl<'a, R: Abort + Wait> Script<'a, R> {
         self.compare_of("tend", cpu, self.live.tend(self.rt, cpu), wanted);
     }
 
+    /// Compares whether a processor's list keeps any room once it has shrunk.
+    pub(crate) fn shrink(&self, cpu: u32, wanted: Result<bool, Fault>) {
+        let found = self.live.shrink(self.rt, cpu).map(|room| room > 0);
+        self.compare_of("shrink", cpu, found, wanted);
+    }
+
     /// Queues a callback, by a second call where the first is refused a growth, and compares how
     /// many were queued.
     pub(crate) fn queue(&self, seat: &mut CpuSeat, value: u64, wanted: u64)
