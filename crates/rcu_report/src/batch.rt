@@ -119,7 +119,8 @@ impl Batch {
     }
 
     /// Makes each of the reports, and returns how many processors they cleared. There are as many
-    /// processors in the batch as in the awaited set.
+    /// processors in the batch as in the awaited set. It costs a step a processor, and a report of
+    /// each that is in the batch.
     pub fn apply<A: Awaited>(&self, to: &mut A) -> u32
         requires { length (A.awaited to.old) ≡ length self.now.set }
         ensures count { result ≡ size_of (difference (A.awaited to.old) (A.awaited to.new)) }
