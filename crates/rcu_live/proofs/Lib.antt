@@ -2,7 +2,9 @@ pub mod Begins
 pub mod ClientLemmas
 pub mod ClientRows
 pub mod ClientSteps
+pub mod Collections
 pub mod Deals
+pub mod Dealt
 pub mod Departures
 pub mod DoneCookies
 pub mod OwnWordLoads
@@ -17,4 +19,5 @@ pub mod Openings
 pub mod RowLemmas
 pub mod Stores
 pub mod Turns
+pub mod WaitLemmas
 pub mod Waits

@@ -1,5 +1,5 @@
 -- A processor's seat: its calls, where each is accepted, and what it leaves.
-use Rattle.std.specs.Prelude.{ℕ, ◌+◌, ◌-◌, ◌==◌, nat_lt, not, if◌then◌else◌, [], ◌∷◌, Option}
+use Rattle.std.specs.Prelude.{◌≡◌, ℕ, ◌+◌, ◌-◌, ◌≤◌, ◌^◌, ◌==◌, nat_lt, not, if◌then◌else◌, [], ◌∷◌, Option}
 use Rattle.atomic_table.specs.Seated.{TableId}
 use Rattle.rcu_seq.specs.Fault.{first_fault}
 use Rattle.rcu_seq.specs.Numbers.{Number}
@@ -7,8 +7,10 @@ use Rattle.rcu_seq.specs.declared.fault.Fault.{Fault}
 use Rattle.rcu_seq.specs.declared.fault.Fault.TheVariants.{AlreadyOnline, BootStays, CpuIdle, InSection, NestFull, NotIdle}
 use Rattle.rcu_seq.specs.declared.fault.Fault.TheVariants.{NotOpen, Offline}
 use Rattle.rcu_cpu.specs.CpuData.{Processor, deepest}
+use Rattle.rcu_live.specs.Board.{Object}
 use Rattle.rcu_live.specs.Numbers.{idle_word}
 use Rattle.rcu_live.specs.View.{after_close, after_load, after_open, after_store, cpu_seat, with_client}
+use Rattle.rcu_live.specs.Words.{base_of}
 use Rattle.rcu_live.specs.declared.view.View.{View}
 
 -- a processor's seat: of which object, of which processor, how deep its sections nest, and what it has seen
@@ -24,6 +26,27 @@ abbrev pub own_word_of : Processor → ℕ
 own_word_of p = if not p.online then 0 else if p.idle then idle_word else p.noted.number + 1
 
 module _ {C : Type 0} where
+  -- a processor's seat of this engine: it reads the engine's words, and knows where the client's begin
+  abbrev pub IsSeatOf : Object → Seated C → Type 0
+  IsSeatOf engine seat = (seat.table ≡ engine.table) × (seat.view.base ≡ base_of engine.cpus)
+
+  -- the call was accepted at the number n, which is at least all that the seat saw before: this is what it leaves
+  pub record AcceptedAt (after : Seated C → Number → Seated C) (s : Seated C) (n : Number) (t : Seated C) : Type 0 where
+    pub state : t ≡ after s n
+    pub later : s.view.seen ≤ n
+
+  -- the same of a call that notes the number, which is at most 2^62
+  pub record NotedAt (after : Seated C → Number → Seated C) (s : Seated C) (n : Number) (t : Seated C) : Type 0 where
+    pub state : t ≡ after s n
+    pub later : s.view.seen ≤ n
+    pub bounded : n ≤ 2 ^ 62
+
+  -- the seat is of the same object, and made so many loads and stores more
+  pub record HasMade (loads stores : ℕ) (s t : Seated C) : Type 0 where
+    pub table : t.table ≡ s.table
+    pub looked : t.view.loads ≡ s.view.loads + loads
+    pub stored : t.view.stores ≡ s.view.stores + stores
+
   -- the seat of a processor as it is opened: no section is open
   abbrev pub at_first : TableId → ℕ → C → ℕ → Seated C
   at_first table base c cpu = record { table = table; cpu = cpu; depth = 0; view = cpu_seat base cpu c }
@@ -64,6 +87,15 @@ module _ {C : Type 0} where
   abbrev pub after_quiesce : Seated C → Number → Seated C
   after_quiesce s n = record s { view = after_store (after_load s.view n) (n + 1) }
 
+  -- after a quiescent state that stores only where that changes the own word: all is as after one that stores, but for how
+  -- often it stored
+  abbrev pub after_quiesce_since : Seated C → Number → Seated C
+  after_quiesce_since s n = record s {
+    view = record (after_store (after_load s.view n) (n + 1)) {
+      stores = if s.view.own_word == n + 1 then s.view.stores else s.view.stores + 1;
+    };
+  }
+
   -- a number load more, which saw n
   abbrev pub after_look : Seated C → Number → Seated C
   after_look s n = record s { view = after_load s.view n }
@@ -71,6 +103,11 @@ module _ {C : Type 0} where
   -- after a client's step, by which it knows this
   abbrev pub after_word_step : Seated C → C → Seated C
   after_word_step s c = record s { view = with_client s.view c }
+
+  -- a client's step, which tells this of what the seat knew and knows then: nothing else of the seat changes
+  pub record KnowsBy (tells : C → C → Type 0) (s t : Seated C) : Type 0 where
+    pub state : t ≡ after_word_step s t.view.client
+    pub told : tells s.view.client t.view.client
 
   -- why an arrival is refused
   abbrev pub arrive_refusal : Seated C → Option Fault

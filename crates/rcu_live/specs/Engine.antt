@@ -1,5 +1,5 @@
 -- The engine, which lies under a lock: what it keeps, and what each call leaves and answers.
-use Rattle.std.specs.Prelude.{◌≡◌, ℕ, zero, suc, ◌+◌, ◌<◌, ◌≤◌, ◌==◌, true, false, not, nat_le, if◌then◌else◌, List, [], ◌∷◌, Option}
+use Rattle.std.specs.Prelude.{◌≡◌, ℕ, zero, suc, ◌+◌, ◌<◌, ◌≤◌, ◌==◌, true, false, not, nat_le, if◌then◌else◌, Bool, List, [], ◌∷◌, Option}
 use Rattle.atomic_table.specs.Seated.{TableId}
 use Rattle.rcu_seq.specs.Fault.{first_fault}
 use Rattle.rcu_seq.specs.Numbers.{Number, snapshot}
@@ -8,6 +8,7 @@ use Rattle.rcu_seq.specs.declared.fault.Fault.{Fault}
 use Rattle.rcu_seq.specs.declared.fault.Fault.TheVariants.{BadCpu}
 use Rattle.rcu_seq.specs.declared.tag.Tag.{Tag}
 use Rattle.rcu_node.specs.CpuSet.{is_in, listed}
+use Rattle.rcu_hotplug.specs.Hotplug.{cpus_of}
 use Rattle.rcu_core.specs.GpState as grace
 use Rattle.rcu_core.specs.GpState.{Grace, after_current_report, awaited_in, current_answer, periods_of}
 use Rattle.rcu_core.specs.Situation.{wants_begin}
@@ -17,7 +18,7 @@ use Rattle.rcu_core.specs.declared.turned.Turned.{Turned}
 use Rattle.rcu_core.specs.declared.turned.Turned.TheVariants as turned
 use Rattle.rcu_live.specs.Numbers.{reports_quiescence}
 use Rattle.rcu_live.specs.Rule.{is_cleared}
-use Rattle.rcu_live.specs.View.{after_begin_store, after_end_store, after_own_word_load}
+use Rattle.rcu_live.specs.View.{IsOfEngine, after_begin_store, after_end_store, after_own_word_load}
 use Rattle.rcu_live.specs.Words.{own_word_index}
 use Rattle.rcu_live.specs.declared.collection.Collected.{Collected}
 use Rattle.rcu_live.specs.declared.collection.Collected.TheVariants as collected
@@ -73,12 +74,30 @@ abbrev pub AwaitsTheOthers : {X : Type 0} → ℕ → List (ℕ × ℕ) → Grac
 AwaitsTheOthers cpus own_word_loads g = g.seq.running ≡ true → (cpu : ℕ) → cpu < cpus → is_in g.processors.awaited cpu ≡ false
     → is_cleared (number_of g.seq) cpu own_word_loads ≡ true
 
+-- pieces of which an engine of so many processors is made, with room for so many that a begin finds quiescent: its seat,
+-- and a state of the first epoch in which no grace period runs, at the number that the seat sees
+pub record ArePieces {C X : Type 0} (cpus : ℕ) (view : View C) (grace : Grace X) (room : ℕ) : Type 0 where
+  pub role : IsOfEngine view
+  pub number : view.seen ≡ number_of grace.seq
+  pub epoch : grace.seq.epoch ≡ 0
+  pub idle : grace.seq.running ≡ false
+  pub processors : cpus_of grace.processors ≡ cpus
+  pub already_quiescent : room ≡ cpus
+
 module _ {C : Type 0} where
   -- after loads of the own words of the first n processors, in turn, which found these words; none was found before
   abbrev pub after_own_word_loads : View C → (ℕ → ℕ) → ℕ → View C
   after_own_word_loads v word n = record v { loads = v.loads + n; own_word_loads = loads_in_turn word n }
 
 module _ {X : Type 0} where
+  -- online are these processors now. There are as many as before, and the number, what is needed and the callbacks stay
+  pub record OnlineBecomes (online : List Bool) (old new : Grace X) : Type 0 where
+    pub these : new.processors.online ≡ online
+    pub cpus : cpus_of new.processors ≡ cpus_of old.processors
+    pub seq : new.seq ≡ old.seq
+    pub needed : new.needed ≡ old.needed
+    pub lists : new.lists ≡ old.lists
+
   -- the number of the grace period that begins next
   abbrev pub next_number : Grace X → Number
   next_number g = number_of (record g.seq { running = true })

@@ -1,12 +1,15 @@
 pub mod Board
 pub mod Client
 pub mod CpuSeat
+pub mod Drive
 pub mod Engine
 pub mod EngineLists
 pub mod Met
 pub mod Numbers
 pub mod Opening
 pub mod Rule
+pub mod TableSeat
 pub mod View
+pub mod Waits
 pub mod Watcher
 pub mod Words

@@ -1,15 +1,22 @@
 -- What an opening deals.
-use Rattle.std.specs.Prelude.{◌≡◌, ℕ, ◌+◌, List, map}
+use Rattle.std.specs.Prelude.{◌≡◌, ℕ, ◌≤◌, All, List, length, map}
 use Rattle.std.specs.List.{range_with_len}
 use Rattle.atomic_table.specs.Seated.{TableId}
 use Rattle.rcu_seq.specs.Numbers.{Number}
 use Rattle.rcu_core.specs.GpState as grace
-use Rattle.rcu_live.specs.Board.{Object}
+use Rattle.rcu_live.specs.Board.{IsSized, Object}
 use Rattle.rcu_live.specs.Engine.{Locked}
-use Rattle.rcu_live.specs.CpuSeat.{Seated, at_first}
+use Rattle.rcu_live.specs.CpuSeat.{IsSeatOf, Seated, at_first}
 use Rattle.rcu_live.specs.View.{engine_seat}
-use Rattle.rcu_live.specs.Watcher.{Watching, watcher_at_first}
+use Rattle.rcu_live.specs.Watcher.{IsWatcherOf, Watching, watcher_at_first}
 use Rattle.rcu_live.specs.Words.{base_of}
+
+-- fanouts of an engine's tree: 2 to 64 each
+pub record AreFanouts (leaf fan : ℕ) : Type 0 where
+  pub leaf_least : 2 ≤ leaf
+  pub leaf_most : leaf ≤ 64
+  pub fan_least : 2 ≤ fan
+  pub fan_most : fan ≤ 64
 
 -- the state of an engine of so many processors as it is opened, in which so many callbacks may be queued: idle at number
 -- 0, with processor 0 alone online
@@ -22,11 +29,17 @@ module _ {C : Type 0} where
   -- many slots: a seat and a watcher a processor, in order, as they are at first
   pub record AreDealt (cpus behind slots : ℕ) (idle : C) (engine : Object) (seats : List (Seated C))
       (watchers : List (Watching C)) : Type 0 where
-    pub count : engine.cpus ≡ cpus
-    pub words : engine.table.words ≡ base_of cpus + behind
-    pub homes : engine.table.slots ≡ slots
+    pub size : IsSized cpus behind slots engine
     pub each_seat : seats ≡ map (at_first engine.table (base_of cpus) idle) (range_with_len 0 cpus)
     pub each_watcher : watchers ≡ map (λ _. watcher_at_first engine.table (base_of cpus) idle) (range_with_len 0 cpus)
+    -- so there are so many, each reads this engine's words and is of it, and no section is open
+    pub seat_count : length seats ≡ cpus
+    pub watcher_count : length watchers ≡ cpus
+    pub seats_read : All (λ seat. seat.table ≡ engine.table) seats
+    pub watchers_read : All (λ watcher. watcher.table ≡ engine.table) watchers
+    pub are_seats : All (IsSeatOf engine) seats
+    pub are_watchers : All (IsWatcherOf engine) watchers
+    pub outside : All (λ seat. seat.depth ≡ 0) seats
 
   -- all parts of an engine as it is opened: its words and seats, its state, and the client's own watcher
   pub record IsOpened {X : Type 0} (cpus : ℕ) (last : Number) (most behind slots : ℕ) (first idle : C) (engine : Object)

@@ -3,7 +3,7 @@ ghost use Rattle.std.specs.Prelude.{◌≡◌, ◌<◌, ◌==◌, [], not, true,
 ghost use Rattle.rcu_node.specs.CpuSet.{is_in, listed, unheard};
 ghost use Rattle.rcu_hotplug.specs.Hotplug.{cpus_of};
 ghost use Rattle.rcu_core.specs.GpState.{with_awaited};
-ghost use Rattle.rcu_live.specs.Engine.{after_own_word_loads, loaded_word};
+ghost use Rattle.rcu_live.specs.Engine.{OnlineBecomes, after_own_word_loads, loaded_word};
 ghost use Rattle.rcu_live.specs.View.{IsOfEngine};
 
 use crate::board::{Board, TableSeat};
@@ -16,12 +16,8 @@ use rcu_node::cpu_set::CpuSet;
 fn set_online<A: Awaited, T: Drop>(gp: &mut GpState<A, T>, cpu: u32, is_here: bool)
     requires cpu { cpu < cpus_of gp.old.grace.processors }
     requires boot { cpu ≡ 0 → is_here ≡ true }
-    ensures online { gp.new.grace.processors.online
-        ≡ slice_set gp.old.grace.processors.online cpu is_here }
-    ensures cpus { cpus_of gp.new.grace.processors ≡ cpus_of gp.old.grace.processors }
-    ensures seq { gp.new.grace.seq ≡ gp.old.grace.seq }
-    ensures needed { gp.new.grace.needed ≡ gp.old.grace.needed }
-    ensures lists { gp.new.grace.lists ≡ gp.old.grace.lists }
+    ensures { OnlineBecomes (slice_set gp.old.grace.processors.online cpu is_here)
+        gp.old.grace gp.new.grace }
 {
     // The call is refused where the processor is so already. Then nothing has to change.
     let _ = if is_here {
@@ -61,15 +57,12 @@ pub(crate) fn load_own_words<A: Awaited, T: Drop, P: Client>(
     ensures view { seat.new.me.0
         ≡ after_own_word_loads seat.old.me.0 (loaded_word seat.new.me.0.own_word_loads)
         board.now.cpus }
-    ensures online { gp.new.grace.processors.online
-        ≡ listed board.now.cpus (λ cpu. not (loaded_word seat.new.me.0.own_word_loads cpu == 0)) }
+    ensures state { OnlineBecomes
+        (listed board.now.cpus (λ cpu. not (loaded_word seat.new.me.0.own_word_loads cpu == 0)))
+        gp.old.grace gp.new.grace }
     ensures already_quiescent { already_quiescent.new
         ≡ listed board.now.cpus
         (λ cpu. nat_lt number (loaded_word seat.new.me.0.own_word_loads cpu)) }
-    ensures cpus { cpus_of gp.new.grace.processors ≡ cpus_of gp.old.grace.processors }
-    ensures seq { gp.new.grace.seq ≡ gp.old.grace.seq }
-    ensures needed { gp.new.grace.needed ≡ gp.old.grace.needed }
-    ensures lists { gp.new.grace.lists ≡ gp.old.grace.lists }
 {
     for cpu in 0..gp.cpus() {
         let word = board.load_own(seat, cpu);

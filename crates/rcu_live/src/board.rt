@@ -1,15 +1,13 @@
 //! The shared words, and each kind of step on them in plain words.
-ghost use Rattle.std.specs.Prelude.{◌≡◌, ◌+◌, ◌^◌, ◌<◌, ◌≤◌, ◌∷◌, [], IfOk, None};
-ghost use Rattle.std.specs.Prelude.{length, map, true, false};
+ghost use Rattle.std.specs.Prelude.{◌≡◌, ◌<◌, ◌∷◌, [], IfOk, None, length, map};
 ghost use mathlib.Core.Option.{some};
-ghost use Rattle.rcu_seq.specs.Numbers.{is_running};
-ghost use Rattle.rcu_live.specs.Numbers.{is_own_word, may_open};
-ghost use Rattle.rcu_live.specs.Rule.{AreCleared};
-ghost use Rattle.rcu_live.specs.View.{Closed, Loaded, Opened, OwnWordLoaded};
+ghost use Rattle.rcu_live.specs.Board.{IsCpuCount, IsSized};
+ghost use Rattle.rcu_live.specs.TableSeat.{IsAt, IsSplit, MayBegin, MayEnd, MayOpen};
+ghost use Rattle.rcu_live.specs.TableSeat.{MayStore, Stepped};
+ghost use Rattle.rcu_live.specs.View.{Closed, IsOfEngine, Loaded, Opened, OwnWordLoaded};
 ghost use Rattle.rcu_live.specs.View.{after_begin_store, after_deal, after_end_store, after_store};
 ghost use Rattle.rcu_live.specs.View.{engine_seat, next_cpu_seat, watcher_seat};
-ghost use Rattle.rcu_live.specs.Words.{base_of, own_word_index};
-ghost use Rattle.rcu_live.specs.declared.view.Role.TheVariants.{Cpu, Engine};
+ghost use Rattle.rcu_live.specs.Words.{own_word_index};
 
 use crate::client::{Client, NoClient};
 use crate::rule::{Begin, Close, DealCpu, DealWatcher, End, Load, LoadOwn, Open, Store, Words};
@@ -55,15 +53,11 @@ impl<P: Client> Board<P> {
         behind: &[u64],
         slots: Vec<P::Slot>,
     ) -> Result<(Board<P>, TableSeat<P>), AllocError>
-        requires some { 0 < cpus }
-        requires few { cpus ≤ 4096 }
+        requires cpus { IsCpuCount cpus }
         requires client { P.holds behind.now (map some slots.items) ((None, None, P.first) ∷ []) }
-        ensures cpus { IfOk result (λ r. r.0.cpus ≡ cpus) }
-        ensures room { IfOk result (λ r.
-            r.0.table.words ≡ base_of cpus + length behind.now) }
-        ensures slots { IfOk result (λ r. r.0.table.slots ≡ length slots.items) }
-        ensures table { IfOk result (λ r. r.1.table_id ≡ r.0.table) }
-        ensures view { IfOk result (λ r. r.1.me.0 ≡ engine_seat cpus 0 P.first) }
+        ensures size { IfOk result (λ r.
+            IsSized cpus (length behind.now) (length slots.items) r.0) }
+        ensures seat { IfOk result (λ r. IsAt r.0.table (engine_seat cpus 0 P.first) r.1) }
         ensures hand { IfOk result (λ r. r.1.me.1 ≡ []) }
     {
         let mut words = first_words(alloc, cpus)?;
@@ -84,24 +78,20 @@ impl<P: Client> Board<P> {
     /// Seat split: the next processor's seat.
     pub fn deal_cpu(&self, seat: &mut TableSeat<P>) -> TableSeat<P>
         requires table { seat.old.table_id ≡ self.now.table }
-        requires engine { seat.old.me.0.role ≡ Engine }
+        requires engine { IsOfEngine seat.old.me.0 }
         requires left { seat.old.me.0.cpu < self.now.cpus }
-        ensures table { seat.new.table_id ≡ seat.old.table_id }
-        ensures left { seat.new.me.0 ≡ after_deal seat.old.me.0 }
+        ensures dealt { IsSplit (after_deal seat.old.me.0) (next_cpu_seat P.idle seat.old.me.0)
+            seat.old seat.new result }
         ensures inside { own_word_index seat.old.me.0.cpu < seat.old.table_id.words }
-        ensures view { result.me.0 ≡ next_cpu_seat P.idle seat.old.me.0 }
-        ensures seat { result.table_id ≡ seat.old.table_id }
     {
         self.table.shared.split_seat::<DealCpu<P>>(seat)
     }
 
     /// Seat split: a watcher's seat.
     pub fn deal_watcher(&self, seat: &mut TableSeat<P>) -> TableSeat<P>
-        requires table { seat.old.table_id ≡ self.now.table }
-        ensures table { seat.new.table_id ≡ seat.old.table_id }
-        ensures left { seat.new.me.0 ≡ seat.old.me.0 }
-        ensures view { result.me.0 ≡ watcher_seat seat.old.me.0.base P.idle }
-        ensures seat { result.table_id ≡ seat.old.table_id }
+        requires { seat.old.table_id ≡ self.now.table }
+        ensures { IsSplit seat.old.me.0 (watcher_seat seat.old.me.0.base P.idle)
+            seat.old seat.new result }
     {
         self.table.shared.split_seat::<DealWatcher<P>>(seat)
     }
@@ -109,9 +99,7 @@ impl<P: Client> Board<P> {
     /// Number load: returns the number.
     pub fn load(&self, seat: &mut TableSeat<P>) -> u64
         requires { seat.old.table_id ≡ self.now.table }
-        ensures table { seat.new.table_id ≡ seat.old.table_id }
-        ensures told { Loaded seat.old.me.0 result seat.new.me.0 }
-        ensures hand { seat.new.me.1 ≡ seat.old.me.1 }
+        ensures { Stepped (λ old new. Loaded old result new) seat.old seat.new }
     {
         self.table.shared.load::<Load>(seat, NUMBER)
     }
@@ -119,12 +107,8 @@ impl<P: Client> Board<P> {
     /// Section-opening load: returns the number at which the section began.
     pub fn open_section(&self, seat: &mut TableSeat<P>) -> u64
         requires table { seat.old.table_id ≡ self.now.table }
-        requires cpu { seat.old.me.0.role ≡ Cpu }
-        requires online { may_open seat.old.me.0.own_word ≡ true }
-        requires shut { seat.old.me.0.section ≡ None }
-        ensures table { seat.new.table_id ≡ seat.old.table_id }
-        ensures told { Opened seat.old.me.0 result seat.new.me.0 }
-        ensures hand { seat.new.me.1 ≡ seat.old.me.1 }
+        requires allowed { MayOpen seat.old.me.0 }
+        ensures { Stepped (λ old new. Opened old result new) seat.old seat.new }
     {
         self.table.shared.load::<Open>(seat, NUMBER)
     }
@@ -132,9 +116,7 @@ impl<P: Client> Board<P> {
     /// Section-closing load: returns the number.
     pub fn close_section(&self, seat: &mut TableSeat<P>) -> u64
         requires { seat.old.table_id ≡ self.now.table }
-        ensures table { seat.new.table_id ≡ seat.old.table_id }
-        ensures told { Closed P.closed seat.old.me.0 result seat.new.me.0 }
-        ensures hand { seat.new.me.1 ≡ seat.old.me.1 }
+        ensures { Stepped (λ old new. Closed P.closed old result new) seat.old seat.new }
     {
         self.table.shared.load::<Close<P>>(seat, NUMBER)
     }
@@ -142,15 +124,9 @@ impl<P: Client> Board<P> {
     /// Own-word store.
     pub fn store(&self, seat: &mut TableSeat<P>, cpu: u32, word: u64)
         requires table { seat.old.table_id ≡ self.now.table }
-        requires cpu { seat.old.me.0.role ≡ Cpu }
-        requires own { seat.old.me.0.cpu ≡ cpu }
         requires inside { own_word_index cpu < seat.old.table_id.words }
-        requires shut { seat.old.me.0.section ≡ None }
-        requires bounded { is_own_word seat.old.me.0.seen word ≡ true }
-        requires boot { cpu ≡ 0 → 0 < word }
-        ensures table { seat.new.table_id ≡ seat.old.table_id }
-        ensures told { seat.new.me.0 ≡ after_store seat.old.me.0 word }
-        ensures hand { seat.new.me.1 ≡ seat.old.me.1 }
+        requires allowed { MayStore cpu word seat.old.me.0 }
+        ensures { Stepped (λ old new. new ≡ after_store old word) seat.old seat.new }
     {
         self.table
             .shared
@@ -160,11 +136,10 @@ impl<P: Client> Board<P> {
     /// Processor-word load: returns the processor's own word.
     pub fn load_own(&self, seat: &mut TableSeat<P>, cpu: u32) -> u64
         requires table { seat.old.table_id ≡ self.now.table }
-        requires engine { seat.old.me.0.role ≡ Engine }
+        requires engine { IsOfEngine seat.old.me.0 }
         requires inside { cpu < self.now.cpus }
-        ensures table { seat.new.table_id ≡ seat.old.table_id }
-        ensures told { OwnWordLoaded (own_word_index cpu) seat.old.me.0 result seat.new.me.0 }
-        ensures hand { seat.new.me.1 ≡ seat.old.me.1 }
+        ensures { Stepped (λ old new. OwnWordLoaded (own_word_index cpu) old result new)
+            seat.old seat.new }
     {
         self.table.shared.load::<LoadOwn>(seat, own_word_index(cpu))
     }
@@ -172,13 +147,8 @@ impl<P: Client> Board<P> {
     /// Begin store: the number becomes the next one, at which a grace period runs.
     pub fn begin(&self, seat: &mut TableSeat<P>, number: u64)
         requires table { seat.old.table_id ≡ self.now.table }
-        requires engine { seat.old.me.0.role ≡ Engine }
-        requires idle { is_running seat.old.me.0.seen ≡ false }
-        requires next { number ≡ seat.old.me.0.seen + 1 }
-        requires bounded { number ≤ 2 ^ 62 }
-        ensures table { seat.new.table_id ≡ seat.old.table_id }
-        ensures told { seat.new.me.0 ≡ after_begin_store seat.old.me.0 number }
-        ensures hand { seat.new.me.1 ≡ seat.old.me.1 }
+        requires allowed { MayBegin number seat.old.me.0 }
+        ensures { Stepped (λ old new. new ≡ after_begin_store old number) seat.old seat.new }
     {
         self.table.shared.store::<Begin>(seat, NUMBER, number)
     }
@@ -186,14 +156,8 @@ impl<P: Client> Board<P> {
     /// End store: the number becomes the next one, at which none runs.
     pub fn end(&self, seat: &mut TableSeat<P>, number: u64)
         requires table { seat.old.table_id ≡ self.now.table }
-        requires engine { seat.old.me.0.role ≡ Engine }
-        requires running { is_running seat.old.me.0.seen ≡ true }
-        requires cleared { AreCleared self.now.cpus seat.old.me.0.seen
-            seat.old.me.0.own_word_loads }
-        requires next { number ≡ seat.old.me.0.seen + 3 }
-        ensures table { seat.new.table_id ≡ seat.old.table_id }
-        ensures told { seat.new.me.0 ≡ after_end_store seat.old.me.0 number }
-        ensures hand { seat.new.me.1 ≡ seat.old.me.1 }
+        requires allowed { MayEnd self.now.cpus number seat.old.me.0 }
+        ensures { Stepped (λ old new. new ≡ after_end_store old number) seat.old seat.new }
     {
         self.table.shared.store::<End>(seat, NUMBER, number)
     }

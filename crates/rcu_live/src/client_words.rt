@@ -1,6 +1,8 @@
 //! A client's steps on its own words, which stand behind the engine's.
-ghost use Rattle.std.specs.Prelude.{◌≡◌, ◌+◌, ◌<◌, None, Some};
+ghost use Rattle.std.specs.Prelude.{◌≡◌, ◌+◌, Some};
+ghost use Rattle.rcu_live.specs.Board.{HasWord};
 ghost use Rattle.rcu_live.specs.Client.{AllowsNumber, AllowsWord};
+ghost use Rattle.rcu_live.specs.TableSeat.{IsSplit, Stepped};
 ghost use Rattle.rcu_live.specs.View.{IsOfEngine, SteppedOnNumber, SteppedOnWord};
 ghost use Rattle.rcu_live.specs.View.{after_hand, handed_seat, if_cpu};
 ghost use Rattle.rcu_live.specs.Words.{base_of};
@@ -15,10 +17,8 @@ impl<P: Client> Board<P> {
     pub fn hand_over(&self, seat: &mut TableSeat<P>) -> TableSeat<P>
         requires table { seat.old.table_id ≡ self.now.table }
         requires engine { IsOfEngine seat.old.me.0 }
-        ensures table { seat.new.table_id ≡ seat.old.table_id }
-        ensures left { seat.new.me.0 ≡ after_hand P.idle seat.old.me.0 }
-        ensures view { result.me.0 ≡ handed_seat seat.old.me.0 }
-        ensures seat { result.table_id ≡ seat.old.table_id }
+        ensures { IsSplit (after_hand P.idle seat.old.me.0) (handed_seat seat.old.me.0)
+            seat.old seat.new result }
     {
         self.table.shared.split_seat::<HandOver<P>>(seat)
     }
@@ -26,14 +26,13 @@ impl<P: Client> Board<P> {
     /// Loads the client's word of this place.
     pub fn load_word<M: WordStep<P::Known>>(&self, seat: &mut TableSeat<P>, word: usize) -> u64
         requires table { seat.old.table_id ≡ self.now.table }
-        requires inside { base_of self.now.cpus + word < self.now.table.words }
+        requires inside { HasWord self.now word }
         requires allowed { AllowsWord P.holds (if_cpu seat.old.me.0.role (Some seat.old.me.0.cpu))
             (if_cpu seat.old.me.0.role seat.old.me.0.section) seat.old.me.0.client word (λ n. n)
             (M.then word seat.old.me.0.client) }
-        ensures table { seat.new.table_id ≡ seat.old.table_id }
-        ensures told { SteppedOnWord M.then (base_of self.now.cpus + word) seat.old.me.0 result
-            seat.new.me.0 }
-        ensures hand { seat.new.me.1 ≡ seat.old.me.1 }
+        ensures { Stepped
+            (λ old new. SteppedOnWord M.then (base_of self.now.cpus + word) old result new)
+            seat.old seat.new }
     {
         self.table
             .shared
@@ -48,14 +47,13 @@ impl<P: Client> Board<P> {
         value: u64,
     )
         requires table { seat.old.table_id ≡ self.now.table }
-        requires inside { base_of self.now.cpus + word < self.now.table.words }
+        requires inside { HasWord self.now word }
         requires allowed { AllowsWord P.holds (if_cpu seat.old.me.0.role (Some seat.old.me.0.cpu))
             (if_cpu seat.old.me.0.role seat.old.me.0.section) seat.old.me.0.client word
             (λ _. value) (λ _. M.then word seat.old.me.0.client value) }
-        ensures table { seat.new.table_id ≡ seat.old.table_id }
-        ensures told { SteppedOnWord M.then (base_of self.now.cpus + word) seat.old.me.0 value
-            seat.new.me.0 }
-        ensures hand { seat.new.me.1 ≡ seat.old.me.1 }
+        ensures { Stepped
+            (λ old new. SteppedOnWord M.then (base_of self.now.cpus + word) old value new)
+            seat.old seat.new }
     {
         self.table
             .shared
@@ -68,9 +66,8 @@ impl<P: Client> Board<P> {
         requires allowed { AllowsNumber P.holds (if_cpu seat.old.me.0.role (Some seat.old.me.0.cpu))
             (if_cpu seat.old.me.0.role seat.old.me.0.section) seat.old.me.0.client
             (M.then seat.old.me.0.client) }
-        ensures table { seat.new.table_id ≡ seat.old.table_id }
-        ensures told { SteppedOnNumber M.then seat.old.me.0 result seat.new.me.0 }
-        ensures hand { seat.new.me.1 ≡ seat.old.me.1 }
+        ensures { Stepped (λ old new. SteppedOnNumber M.then old result new)
+            seat.old seat.new }
     {
         self.table.shared.load::<OnNumber<M>>(seat, NUMBER)
     }

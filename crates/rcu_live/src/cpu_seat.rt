@@ -1,16 +1,17 @@
 //! A processor's seat: its read sections, its quiescent states and its idleness.
-ghost use Rattle.std.specs.Prelude.{◌≡◌, ◌+◌, ◌^◌, ◌<◌, ◌≤◌, ◌==◌, ℕ, IfErr, IfOk, None, OnErr};
-ghost use Rattle.std.specs.Prelude.{OnOk, Some, false, not};
+ghost use Rattle.std.specs.Prelude.{◌≡◌, ◌<◌, ◌≤◌, ◌==◌, ℕ, IfOk, None, OnErr, OnOk, Some};
+ghost use Rattle.std.specs.Prelude.{false, not};
 ghost use Rattle.std.specs.Result.{result_err};
-ghost use Rattle.rcu_live.specs.CpuSeat.{after_depart, after_enter, after_exit, after_idle};
-ghost use Rattle.rcu_live.specs.CpuSeat.{after_look, after_quiesce, after_word_step};
-ghost use Rattle.rcu_live.specs.CpuSeat.{arrive_refusal, at_first, depart_refusal};
+ghost use Rattle.rcu_live.specs.Board.{HasWord};
 ghost use Rattle.rcu_live.specs.Client.{AllowsWord};
-ghost use Rattle.rcu_live.specs.CpuSeat.{enter_refusal, exit_refusal, quiesce_refusal};
-ghost use Rattle.rcu_live.specs.CpuSeat.{wake_refusal};
+ghost use Rattle.rcu_live.specs.CpuSeat.{AcceptedAt, IsSeatOf, KnowsBy, NotedAt, after_depart};
+ghost use Rattle.rcu_live.specs.CpuSeat.{after_enter, after_exit, after_idle, after_look};
+ghost use Rattle.rcu_live.specs.CpuSeat.{after_quiesce, after_quiesce_since, arrive_refusal};
+ghost use Rattle.rcu_live.specs.CpuSeat.{at_first, depart_refusal, enter_refusal, exit_refusal};
+ghost use Rattle.rcu_live.specs.CpuSeat.{quiesce_refusal, wake_refusal};
 ghost use Rattle.rcu_live.specs.Numbers.{idle_word, is_past};
 ghost use Rattle.rcu_live.specs.View.{cpu_seat};
-ghost use Rattle.rcu_live.specs.Words.{base_of, own_word_index};
+ghost use Rattle.rcu_live.specs.Words.{own_word_index};
 
 use crate::board::{Board, TableSeat};
 use crate::client::{Client, NoClient, WordStep};
@@ -124,8 +125,8 @@ impl<P: Client> CpuSeat<P> {
         ensures table { self.new.table ≡ self.old.table }
         ensures fault { result_err result ≡ enter_refusal self.old }
         ensures depth { IfOk result (λ depth. depth ≡ self.new.depth) }
-        ensures state { OnOk result (self.new ≡ after_enter self.old self.new.view.seen) }
-        ensures later { OnOk result (self.old.view.seen ≤ self.new.view.seen) }
+        ensures state { OnOk result
+            (AcceptedAt after_enter self.old self.new.view.seen self.new) }
         ensures unchanged { OnErr result (self.new ≡ self.old) }
     {
         let depth = self.data.enter()?;
@@ -143,8 +144,8 @@ impl<P: Client> CpuSeat<P> {
         ensures table { self.new.table ≡ self.old.table }
         ensures fault { result_err result ≡ exit_refusal self.old }
         ensures depth { IfOk result (λ depth. depth ≡ self.new.depth) }
-        ensures state { OnOk result (self.new ≡ after_exit P.closed self.old self.new.view.seen) }
-        ensures later { OnOk result (self.old.view.seen ≤ self.new.view.seen) }
+        ensures state { OnOk result
+            (AcceptedAt (after_exit P.closed) self.old self.new.view.seen self.new) }
         ensures unchanged { OnErr result (self.new ≡ self.old) }
     {
         let depth = self.data.exit()?;
@@ -164,9 +165,8 @@ impl<P: Client> CpuSeat<P> {
         requires { self.old.table ≡ (L.object live.now).table }
         ensures table { self.new.table ≡ self.old.table }
         ensures fault { result_err result ≡ quiesce_refusal self.old }
-        ensures state { IfOk result (λ number. self.new ≡ after_quiesce self.old number) }
-        ensures later { IfOk result (λ number. self.old.view.seen ≤ number) }
-        ensures bounded { IfOk result (λ number. number ≤ 2 ^ 62) }
+        ensures state { IfOk result (λ number.
+            NotedAt after_quiesce self.old number self.new) }
         ensures unchanged { OnErr result (self.new ≡ self.old) }
     {
         self.data.quiesce()?;
@@ -175,6 +175,30 @@ impl<P: Client> CpuSeat<P> {
         self.data.note(Tag::of_first_epoch(number))?;
         board.store(&mut self.seat, self.data.cpu(), number + 1);
         Ok(number)
+    }
+
+    /// Passes a quiescent state, as [`quiesce`](Self::quiesce), and leaves the store out where the
+    /// processor's own word is the number and one more already: then no grace period began or ended
+    /// since it was stored. A thread that passes many does so by a load alone.
+    ///
+    /// Faults: `Offline` (2) where the processor is offline; `CpuIdle` (23) where it is idle;
+    /// `InSection` (4) where a section is open.
+    pub fn quiesce_since<L: Shared<P>>(&mut self, live: &L) -> Result<u64, Fault>
+        requires { self.old.table ≡ (L.object live.now).table }
+        ensures table { self.new.table ≡ self.old.table }
+        ensures fault { result_err result ≡ quiesce_refusal self.old }
+        ensures state { IfOk result (λ number.
+            NotedAt after_quiesce_since self.old number self.new) }
+        ensures unchanged { OnErr result (self.new ≡ self.old) }
+    {
+        let noted = self.data.quiesce()?.tag;
+        let board = live.board();
+        let now = board.load(&mut self.seat);
+        if noted.number != now {
+            self.data.note(Tag::of_first_epoch(now))?;
+            board.store(&mut self.seat, self.data.cpu(), now + 1);
+        }
+        Ok(now)
     }
 
     /// The processor is idle from now on, until it wakes or departs: one store of 2^63 in its own
@@ -203,9 +227,8 @@ impl<P: Client> CpuSeat<P> {
         requires { self.old.table ≡ (L.object live.now).table }
         ensures table { self.new.table ≡ self.old.table }
         ensures fault { result_err result ≡ wake_refusal self.old }
-        ensures state { IfOk result (λ number. self.new ≡ after_quiesce self.old number) }
-        ensures later { IfOk result (λ number. self.old.view.seen ≤ number) }
-        ensures bounded { IfOk result (λ number. number ≤ 2 ^ 62) }
+        ensures state { IfOk result (λ number.
+            NotedAt after_quiesce self.old number self.new) }
         ensures unchanged { OnErr result (self.new ≡ self.old) }
     {
         self.data.wake()?;
@@ -224,8 +247,7 @@ impl<P: Client> CpuSeat<P> {
         requires { self.old.table ≡ (L.object live.now).table }
         ensures table { self.new.table ≡ self.old.table }
         ensures fault { result_err result ≡ arrive_refusal self.old }
-        ensures state { OnOk result (self.new ≡ after_quiesce self.old self.new.view.seen) }
-        ensures later { OnOk result (self.old.view.seen ≤ self.new.view.seen) }
+        ensures state { OnOk result (NotedAt after_quiesce self.old self.new.view.seen self.new) }
         ensures unchanged { OnErr result (self.new ≡ self.old) }
     {
         if self.data.online() {
@@ -265,9 +287,7 @@ impl<P: Client> CpuSeat<P> {
     /// One load of the number.
     pub(crate) fn look(&mut self, board: &Board<P>) -> u64
         requires { self.old.table ≡ board.now.table }
-        ensures table { self.new.table ≡ self.old.table }
-        ensures look { self.new ≡ after_look self.old result }
-        ensures later { self.old.view.seen ≤ result }
+        ensures look { AcceptedAt after_look self.old result self.new }
         ensures began { (at : ℕ) → self.old.view.section ≡ Some at → at ≤ self.old.view.seen }
         ensures current { (at : ℕ) → self.old.view.section ≡ Some at → is_past at result ≡ false }
         ensures idle { self.old.view.own_word ≡ idle_word → self.old.view.section ≡ None }
@@ -277,14 +297,11 @@ impl<P: Client> CpuSeat<P> {
 
     /// Loads the client's word of this place. A client's rule may look at the open section.
     pub fn load_word<L: Shared<P>, M: WordStep<P::Known>>(&mut self, live: &L, word: usize) -> u64
-        requires table { self.old.table ≡ (L.object live.now).table }
-        requires base { self.old.view.base ≡ base_of (L.object live.now).cpus }
-        requires inside { base_of (L.object live.now).cpus + word
-            < (L.object live.now).table.words }
+        requires seat { IsSeatOf (L.object live.now) self.old }
+        requires inside { HasWord (L.object live.now) word }
         requires allowed { AllowsWord P.holds (Some self.old.cpu) self.old.view.section
             self.old.view.client word (λ n. n) (M.then word self.old.view.client) }
-        ensures state { self.new ≡ after_word_step self.old self.new.view.client }
-        ensures told { M.then word self.old.view.client result self.new.view.client }
+        ensures { KnowsBy (λ was now. M.then word was result now) self.old self.new }
     {
         live.board().load_word::<M>(&mut self.seat, word)
     }

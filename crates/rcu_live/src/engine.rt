@@ -1,9 +1,8 @@
 //! What lies under the engine's lock.
-ghost use Rattle.std.specs.Prelude.{◌≡◌, false, length};
+ghost use Rattle.std.specs.Prelude.{◌≡◌, length};
 ghost use Rattle.std.specs.Arc.{arc_value};
-ghost use Rattle.rcu_seq.specs.Seq.{number_of};
 ghost use Rattle.rcu_hotplug.specs.Hotplug.{cpus_of};
-ghost use Rattle.rcu_live.specs.View.{IsOfEngine};
+ghost use Rattle.rcu_live.specs.Engine.{ArePieces};
 
 use crate::board::{Board, TableSeat};
 use crate::client::{Client, NoClient};
@@ -64,17 +63,15 @@ impl<A: Awaited, T: Drop, P: Client> Engine<A, T, P> {
         gp: GpState<A, T>,
         already_quiescent: CpuSet,
     ) -> Self
-        requires fits { seat.table_id ≡ (arc_value board).table }
-        requires role { IsOfEngine seat.me.0 }
-        requires number { seat.me.0.seen ≡ number_of gp.grace.seq }
-        requires epoch { gp.grace.seq.epoch ≡ 0 }
-        requires idle { gp.grace.seq.running ≡ false }
-        requires cpus { cpus_of gp.grace.processors ≡ (arc_value board).cpus }
-        requires already_quiescent { length already_quiescent ≡ (arc_value board).cpus }
-        ensures table { result.table ≡ (arc_value board).table }
-        ensures cpus { result.cpus ≡ (arc_value board).cpus }
-        ensures view { result.view ≡ seat.me.0 }
-        ensures grace { result.grace ≡ gp.grace }
+        requires table { seat.table_id ≡ (arc_value board).table }
+        requires pieces { ArePieces (arc_value board).cpus seat.me.0 gp.grace
+            (length already_quiescent) }
+        ensures { result ≡ record {
+          table = (arc_value board).table;
+          cpus = (arc_value board).cpus;
+          view = seat.me.0;
+          grace = gp.grace;
+        } }
     {
         Engine {
             board,

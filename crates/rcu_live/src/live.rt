@@ -1,11 +1,11 @@
 //! The shared object.
-ghost use Rattle.std.specs.Prelude.{◌≡◌, ◌≤◌, ℕ, IfSome, None, Some};
+ghost use Rattle.std.specs.Prelude.{◌≡◌, ℕ, IfSome, None, Some};
 ghost use Rattle.std.specs.Arc.{arc_value};
-ghost use Rattle.rcu_live.specs.CpuSeat.{after_look};
+ghost use Rattle.rcu_live.specs.CpuSeat.{AcceptedAt, after_look};
 ghost use Rattle.rcu_live.specs.Met.{MeetsSection, meet_answer};
 ghost use Rattle.rcu_live.specs.Numbers.{idle_word};
 ghost use Rattle.rcu_live.specs.Opening.{engine_at_first};
-ghost use Rattle.rcu_live.specs.Watcher.{after_watch};
+ghost use Rattle.rcu_live.specs.Watcher.{WatchedAt};
 
 use crate::board::Board;
 use crate::client::{Client, NoClient};
@@ -58,12 +58,8 @@ impl<const LEAF: u32, const FAN: u32, T: Drop, P: Client> Live<LEAF, FAN, T, P> 
     pub fn meet(&self, seat: &mut CpuSeat<P>, watcher: &mut Watcher<P>) -> Option<Met>
         requires seat { seat.old.table ≡ self.now.table }
         requires watcher { watcher.old.table ≡ self.now.table }
-        ensures seat_table { seat.new.table ≡ seat.old.table }
-        ensures watcher_table { watcher.new.table ≡ watcher.old.table }
-        ensures watcher { watcher.new ≡ after_watch watcher.old watcher.new.view.seen }
-        ensures watcher_later { watcher.old.view.seen ≤ watcher.new.view.seen }
-        ensures seat { seat.new ≡ after_look seat.old seat.new.view.seen }
-        ensures seat_later { seat.old.view.seen ≤ seat.new.view.seen }
+        ensures watcher { WatchedAt watcher.old watcher.new.view.seen watcher.new }
+        ensures seat { AcceptedAt after_look seat.old seat.new.view.seen seat.new }
         ensures answer { result ≡
             meet_answer seat.old.view.section watcher.new.view.seen seat.new.view.seen }
         ensures open { IfSome result (λ met. (at : ℕ) → met.opened ≡ Some at →

@@ -1,9 +1,9 @@
 //! The calls that take the engine's lock. What each does to the engine is said where it is lent
 //! the engine: no clause here can name what a lock was found to keep.
-ghost use Rattle.std.specs.Prelude.{◌≡◌, ◌≤◌, Err, IfErr, None, OnErr, OnOk, Some, true};
+ghost use Rattle.std.specs.Prelude.{◌≡◌, Err, IfErr, None, OnErr, OnOk, Some, true};
 ghost use Rattle.std.specs.Result.{result_err};
 ghost use Rattle.rcu_seq.specs.declared.fault.Fault.{Fault};
-ghost use Rattle.rcu_live.specs.CpuSeat.{after_depart, after_quiesce, arrive_refusal};
+ghost use Rattle.rcu_live.specs.CpuSeat.{NotedAt, after_depart, after_quiesce, arrive_refusal};
 ghost use Rattle.rcu_live.specs.CpuSeat.{depart_refusal};
 ghost use Rattle.rcu_live.specs.EngineLists.{is_leave_fault};
 
@@ -50,8 +50,7 @@ impl<const LEAF: u32, const FAN: u32, T: Drop, P: Client> Live<LEAF, FAN, T, P> 
         requires { seat.old.table ≡ self.now.table }
         ensures table { seat.new.table ≡ seat.old.table }
         ensures fault { result_err result ≡ arrive_refusal seat.old }
-        ensures state { OnOk result (seat.new ≡ after_quiesce seat.old seat.new.view.seen) }
-        ensures later { OnOk result (seat.old.view.seen ≤ seat.new.view.seen) }
+        ensures state { OnOk result (NotedAt after_quiesce seat.old seat.new.view.seen seat.new) }
         ensures unchanged { OnErr result (seat.new ≡ seat.old) }
     {
         seat.arrive(self)?;

@@ -1,11 +1,11 @@
 //! The opening of an engine.
-ghost use Rattle.std.specs.Prelude.{◌≡◌, ◌<◌, ◌≤◌, ◌^◌, [], ◌∷◌, All, IfOk, None};
-ghost use Rattle.std.specs.Prelude.{length, map};
+ghost use Rattle.std.specs.Prelude.{◌≡◌, ◌≤◌, ◌^◌, [], ◌∷◌, IfOk, None, length, map};
 ghost use Rattle.std.specs.Arc.{arc_value};
 ghost use mathlib.Core.Option.{some};
 ghost use Rattle.rcu_core.specs.GpState as grace;
 ghost use Rattle.rcu_geometry.specs.Opening.{opening_refusal};
-ghost use Rattle.rcu_live.specs.Opening.{AreDealt, IsOpened};
+ghost use Rattle.rcu_live.specs.Board.{IsCpuCount};
+ghost use Rattle.rcu_live.specs.Opening.{AreDealt, AreFanouts, IsOpened};
 ghost use Rattle.rcu_seq.specs.Memory.{tested_fault};
 ghost use Rattle.rcu_live.specs.Watcher.{watcher_at_first};
 ghost use Rattle.rcu_live.specs.Words.{base_of};
@@ -41,8 +41,7 @@ impl<const LEAF: u32, const FAN: u32, T: Drop, P: Client> Parts<LEAF, FAN, T, P>
         behind: &[u64],
         slots: Vec<P::Slot>,
     ) -> Result<Parts<LEAF, FAN, T, P>, Fault>
-        requires leaf { (2 ≤ LEAF) × (LEAF ≤ 64) }
-        requires fan { (2 ≤ FAN) × (FAN ≤ 64) }
+        requires fanouts { AreFanouts LEAF FAN }
         requires most { (1 ≤ most) × (most ≤ 2 ^ 62) }
         requires client { P.holds behind.now (map some slots.items)
             ((None, None, P.first) ∷ []) }
@@ -67,8 +66,7 @@ impl<const LEAF: u32, const FAN: u32, T: Drop, P: Client> Parts<LEAF, FAN, T, P>
         behind: &[u64],
         slots: Vec<P::Slot>,
     ) -> Result<Parts<LEAF, FAN, T, P>, AllocError>
-        requires some { 0 < cpus }
-        requires few { cpus ≤ 4096 }
+        requires cpus { IsCpuCount cpus }
         requires most { (1 ≤ most) × (most ≤ 2 ^ 62) }
         requires client { P.holds behind.now (map some slots.items)
             ((None, None, P.first) ∷ []) }
@@ -107,8 +105,7 @@ impl<const LEAF: u32, const FAN: u32, T: Drop> Parts<LEAF, FAN, T> {
         last: u64,
         most: u64,
     ) -> Result<Parts<LEAF, FAN, T>, Fault>
-        requires leaf { (2 ≤ LEAF) × (LEAF ≤ 64) }
-        requires fan { (2 ≤ FAN) × (FAN ≤ 64) }
+        requires fanouts { AreFanouts LEAF FAN }
         requires most { (1 ≤ most) × (most ≤ 2 ^ 62) }
         ensures fault { tested_fault result ≡ opening_refusal LEAF FAN cpus last }
         ensures opened { IfOk result (λ parts. IsOpened cpus last most 0 0 tt tt
@@ -134,17 +131,10 @@ impl<const LEAF: u32, const FAN: u32, T: Drop> Live<LEAF, FAN, T> {
     /// Faults: `TooManyCpus` (17) for no processor, more than 4,096, or more than four levels hold;
     /// `BadLast` (19) where `last` is no last number; `NoMemory` (16).
     pub fn open(alloc: Global, cpus: u32, last: u64) -> Result<Dealt<LEAF, FAN, T>, Fault>
-        requires leaf { (2 ≤ LEAF) × (LEAF ≤ 64) }
-        requires fan { (2 ≤ FAN) × (FAN ≤ 64) }
+        requires { AreFanouts LEAF FAN }
         ensures fault { tested_fault result ≡ opening_refusal LEAF FAN cpus last }
         ensures dealt { IfOk result (λ opened.
             AreDealt cpus 0 0 tt opened.0 opened.1.items opened.2.items) }
-        ensures seat_count { IfOk result (λ opened. length opened.1.items ≡ cpus) }
-        ensures watcher_count { IfOk result (λ opened. length opened.2.items ≡ cpus) }
-        ensures each_seat { IfOk result (λ opened.
-            All (λ seat. seat.table ≡ opened.0.table) opened.1.items) }
-        ensures each_watcher { IfOk result (λ opened.
-            All (λ watcher. watcher.table ≡ opened.0.table) opened.2.items) }
     {
         Live::open_with_most(alloc, cpus, last, MOST_QUEUED)
     }
@@ -159,18 +149,11 @@ impl<const LEAF: u32, const FAN: u32, T: Drop> Live<LEAF, FAN, T> {
         last: u64,
         most: u64,
     ) -> Result<Dealt<LEAF, FAN, T>, Fault>
-        requires leaf { (2 ≤ LEAF) × (LEAF ≤ 64) }
-        requires fan { (2 ≤ FAN) × (FAN ≤ 64) }
+        requires fanouts { AreFanouts LEAF FAN }
         requires most { (1 ≤ most) × (most ≤ 2 ^ 62) }
         ensures fault { tested_fault result ≡ opening_refusal LEAF FAN cpus last }
         ensures dealt { IfOk result (λ opened.
             AreDealt cpus 0 0 tt opened.0 opened.1.items opened.2.items) }
-        ensures seat_count { IfOk result (λ opened. length opened.1.items ≡ cpus) }
-        ensures watcher_count { IfOk result (λ opened. length opened.2.items ≡ cpus) }
-        ensures each_seat { IfOk result (λ opened.
-            All (λ seat. seat.table ≡ opened.0.table) opened.1.items) }
-        ensures each_watcher { IfOk result (λ opened.
-            All (λ watcher. watcher.table ≡ opened.0.table) opened.2.items) }
     {
         let slots = Vec::new(alloc);
         let (live, seats, watchers, _) = Live::open_for(alloc, cpus, last, most, &[], slots)?;
@@ -200,8 +183,7 @@ impl<const LEAF: u32, const FAN: u32, T: Drop, P: Client> Live<LEAF, FAN, T, P> 
         behind: &[u64],
         slots: Vec<P::Slot>,
     ) -> Result<Opened<LEAF, FAN, T, P>, Fault>
-        requires leaf { (2 ≤ LEAF) × (LEAF ≤ 64) }
-        requires fan { (2 ≤ FAN) × (FAN ≤ 64) }
+        requires fanouts { AreFanouts LEAF FAN }
         requires most { (1 ≤ most) × (most ≤ 2 ^ 62) }
         requires client { P.holds behind.now (map some slots.items)
             ((None, None, P.first) ∷ []) }

@@ -1,7 +1,8 @@
 //! A watcher that meets an open section, with no handle: nothing here waits or takes memory.
-ghost use Rattle.std.specs.Prelude.{◌≡◌, ◌+◌, IfOk, IsSome, OnErr, OnOk, false};
+ghost use Rattle.std.specs.Prelude.{◌≡◌, IfOk, IsSome, OnErr, OnOk, false};
 ghost use Rattle.std.specs.Result.{result_err};
-ghost use Rattle.rcu_live.specs.CpuSeat.{quiesce_refusal};
+ghost use Rattle.rcu_live.specs.CpuSeat.{HasMade, quiesce_refusal};
+ghost use Rattle.rcu_live.specs.Watcher.{HasWatched};
 
 use crate::client::Client;
 use crate::cpu_seat::CpuSeat;
@@ -19,14 +20,11 @@ pub fn is_done_beside<const LEAF: u32, const FAN: u32, T: Drop, P: Client>(
     requires seat { seat.old.table ≡ live.now.table }
     requires watcher { watcher.old.table ≡ live.now.table }
     requires open { IsSome seat.old.view.section }
-    ensures seat { seat.new.table ≡ seat.old.table }
-    ensures watcher { watcher.new.table ≡ watcher.old.table }
+    ensures seat { HasMade 2 0 seat.old seat.new }
+    ensures watcher { HasWatched 4 watcher.old watcher.new }
     ensures cpu { seat.new.cpu ≡ seat.old.cpu }
     ensures depth { seat.new.depth ≡ seat.old.depth }
     ensures own_word { seat.new.view.own_word ≡ seat.old.view.own_word }
-    ensures looked { seat.new.view.loads ≡ seat.old.view.loads + 2 }
-    ensures stored { seat.new.view.stores ≡ seat.old.view.stores }
-    ensures watched { watcher.new.view.loads ≡ watcher.old.view.loads + 4 }
     ensures never { result ≡ false }
 {
     let first = live.meet(seat, watcher).is_some();
@@ -47,11 +45,8 @@ pub fn read_beside<const LEAF: u32, const FAN: u32, T: Drop, P: Client>(
 ) -> Result<bool, Fault>
     requires seat { seat.old.table ≡ live.now.table }
     requires watcher { watcher.old.table ≡ live.now.table }
-    ensures seat { seat.new.table ≡ seat.old.table }
-    ensures watcher { watcher.new.table ≡ watcher.old.table }
-    ensures looked { OnOk result (seat.new.view.loads ≡ seat.old.view.loads + 6) }
-    ensures stored { OnOk result (seat.new.view.stores ≡ seat.old.view.stores + 2) }
-    ensures watched { OnOk result (watcher.new.view.loads ≡ watcher.old.view.loads + 4) }
+    ensures seat { OnOk result (HasMade 6 2 seat.old seat.new) }
+    ensures watcher { OnOk result (HasWatched 4 watcher.old watcher.new) }
     ensures fault { result_err result ≡ quiesce_refusal seat.old }
     ensures unchanged { OnErr result (seat.new ≡ seat.old) }
     ensures unwatched { OnErr result (watcher.new ≡ watcher.old) }

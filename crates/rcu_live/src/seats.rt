@@ -1,12 +1,14 @@
 //! The seats of an engine as it is opened: a processor's and a watcher's for each processor.
-ghost use Rattle.std.specs.Prelude.{◌≡◌, ◌+◌, ◌<◌, ◌≤◌, [], ◌∷◌, IfOk, None, OnOk};
+ghost use Rattle.std.specs.Prelude.{◌≡◌, ◌+◌, ◌<◌, [], ◌∷◌, IfOk, None, OnOk};
 ghost use Rattle.std.specs.Prelude.{length, map};
 ghost use Rattle.std.specs.Arc.{arc_value};
 ghost use mathlib.Core.Option.{some};
 ghost use Rattle.std.specs.List.{range_with_len};
+ghost use Rattle.rcu_live.specs.Board.{IsCpuCount};
 ghost use Rattle.rcu_live.specs.CpuSeat.{at_first};
 ghost use Rattle.rcu_live.specs.Opening.{AreDealt};
-ghost use Rattle.rcu_live.specs.View.{engine_seat, watcher_seat};
+ghost use Rattle.rcu_live.specs.TableSeat.{IsAt};
+ghost use Rattle.rcu_live.specs.View.{engine_seat};
 ghost use Rattle.rcu_live.specs.Watcher.{watcher_at_first};
 ghost use Rattle.rcu_live.specs.Words.{base_of};
 
@@ -40,17 +42,14 @@ pub(crate) fn open_board<P: Client>(
     behind: &[u64],
     slots: Vec<P::Slot>,
 ) -> Result<BoardParts<P>, AllocError>
-    requires some { 0 < cpus }
-    requires few { cpus ≤ 4096 }
+    requires cpus { IsCpuCount cpus }
     requires client { P.holds behind.now (map some slots.items) ((None, None, P.first) ∷ []) }
     ensures dealt { IfOk result (λ dealt. AreDealt cpus (length behind.now) (length slots.items)
         P.idle (arc_value dealt.board) dealt.seats.items dealt.watchers.items) }
     ensures own { IfOk result (λ dealt.
         dealt.own ≡ watcher_at_first (arc_value dealt.board).table (base_of cpus) P.first) }
-    ensures table { IfOk result (λ dealt.
-        dealt.engine_seat.table_id ≡ (arc_value dealt.board).table) }
-    ensures engine { IfOk result (λ dealt.
-        dealt.engine_seat.me.0 ≡ engine_seat cpus cpus P.idle) }
+    ensures engine { IfOk result (λ dealt. IsAt (arc_value dealt.board).table
+        (engine_seat cpus cpus P.idle) dealt.engine_seat) }
 {
     let (board, mut engine_seat) = Board::open(alloc, cpus, behind, slots)?;
     let board = Arc::new(alloc, board)?;
@@ -72,13 +71,12 @@ fn deal_next<P: Client>(
     cpu: u32,
 ) -> (CpuSeat<P>, Watcher<P>)
     requires inside { cpu < board.now.cpus }
-    requires table { engine.old.table_id ≡ board.now.table }
-    requires engine { engine.old.me.0 ≡ engine_seat board.now.cpus cpu P.first }
+    requires engine { IsAt board.now.table (engine_seat board.now.cpus cpu P.first) engine.old }
     ensures seat { result.0 ≡ at_first board.now.table (base_of board.now.cpus) P.idle cpu }
     ensures watcher { result.1 ≡
         watcher_at_first board.now.table (base_of board.now.cpus) P.idle }
-    ensures table { engine.new.table_id ≡ engine.old.table_id }
-    ensures engine { engine.new.me.0 ≡ engine_seat board.now.cpus (cpu + 1) P.first }
+    ensures engine { IsAt board.now.table (engine_seat board.now.cpus (cpu + 1) P.first)
+        engine.new }
 {
     let seat = board.deal_cpu(engine);
     let seat = CpuSeat::new(seat, cpu);
@@ -94,14 +92,13 @@ fn deal<P: Client>(
     cpus: u32,
 ) -> Result<(Vec<CpuSeat<P>>, Vec<Watcher<P>>), AllocError>
     requires cpus { cpus ≡ board.now.cpus }
-    requires table { engine.old.table_id ≡ board.now.table }
-    requires first { engine.old.me.0 ≡ engine_seat cpus 0 P.first }
+    requires first { IsAt board.now.table (engine_seat cpus 0 P.first) engine.old }
     ensures seats { IfOk result (λ dealt. dealt.0.items ≡
         map (at_first board.now.table (base_of cpus) P.idle) (range_with_len 0 cpus)) }
     ensures watchers { IfOk result (λ dealt. dealt.1.items ≡
         map (λ _. watcher_at_first board.now.table (base_of cpus) P.idle) (range_with_len 0 cpus)) }
-    ensures table { engine.new.table_id ≡ engine.old.table_id }
-    ensures engine { OnOk result (engine.new.me.0 ≡ engine_seat cpus cpus P.first) }
+    ensures engine { OnOk result
+        (IsAt board.now.table (engine_seat cpus cpus P.first) engine.new) }
 {
     let mut seats = Vec::new(alloc);
     let mut watchers = Vec::new(alloc);

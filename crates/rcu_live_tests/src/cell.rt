@@ -1,6 +1,7 @@
 //! A version's slot over one grace period.
 ghost use Rattle.std.specs.Prelude.{◌≡◌};
-ghost use Rattle.rcu_cell.specs.Cell.{IsSeatOf, IsWatcherOf};
+ghost use Rattle.rcu_live.specs.CpuSeat.{IsSeatOf};
+ghost use Rattle.rcu_live.specs.Watcher.{IsWatcherOf};
 
 mod limits;
 mod parts;
@@ -8,6 +9,7 @@ mod service;
 mod sizes;
 mod threads;
 mod versions;
+mod waits;
 
 use rcu_cell::cell::Cell;
 use rcu_cell::keeper::{Full, Keeper, Retired};

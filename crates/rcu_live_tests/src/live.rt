@@ -8,3 +8,4 @@ mod states;
 mod steps;
 mod stress;
 mod threads;
+mod waits;

@@ -1,8 +1,9 @@
 //! Two readers search a chain beside who keeps it, each on a thread of its own: a node that they
 //! find is whole, whatever is linked meanwhile.
-ghost use Rattle.std.specs.Prelude.{◌≡◌, [], ◌∷◌, All, IfSome};
+ghost use Rattle.std.specs.Prelude.{◌≡◌, [], ◌∷◌, All};
 ghost use Rattle.std.specs.Thread.{IsSync};
-ghost use Rattle.rcu_nodes.specs.Graph.{IsAt, IsSeatOf};
+ghost use Rattle.rcu_live.specs.CpuSeat.{IsSeatOf, after_word_step};
+ghost use Rattle.rcu_nodes.specs.Graph.{IsWalking};
 ghost use Rattle.rcu_nodes.specs.Keeper.{IsKeeperOf};
 ghost use Rattle.rcu_nodes.specs.Nodes.{first_nodes, nodes_in};
 ghost use Rattle.rcu_nodes.specs.declared.known.Known.TheVariants.{Idle};
@@ -34,14 +35,15 @@ type Seat = GraphSeat<Sorted, 1, 1, 2, 2>;
 /// How often each reader searches.
 const SEARCHES: u32 = 200_000;
 
-/// Whether a node that was found has both its words.
-fn is_whole(chain: &Chain, seat: &mut Seat, found: Option<usize>) -> bool
-    requires { IfSome found (λ node.
-        IsAt (λ _. 0 ∷ 0 ∷ []) 1 2 chain.now seat.old node) }
-    ensures { seat.new ≡ seat.old }
+/// Searches the chain for the key 5. Returns whether a node that was found has both its words.
+fn finds_it_whole(chain: &Chain, seat: &mut Seat) -> bool
+    requires { IsWalking chain.now seat.old }
+    ensures state { seat.new ≡ after_word_step seat.old seat.new.view.client }
+    ensures walking { IsWalking chain.now seat.new }
 {
-    match found {
-        Some(node) => chain.read(seat, node, 0) == 5 && chain.read(seat, node, 1) == 7,
+    let mut walk = chain.walk(seat);
+    match walk.find(0, 5) {
+        Some(node) => walk.read(node, 0) == 5 && walk.read(node, 1) == 7,
         None => true,
     }
 }
@@ -59,8 +61,7 @@ fn search(chain: &Chain, seat: &mut Seat) -> bool
     if seat.enter(chain.live()).is_err() {
         return false;
     }
-    let found = chain.find(seat, 0, 5);
-    let right = is_whole(chain, seat, found);
+    let right = finds_it_whole(chain, seat);
     let Ok(_) = seat.exit(chain.live()) else {
         unreachable!()
     };

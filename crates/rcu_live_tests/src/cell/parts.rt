@@ -1,6 +1,7 @@
 //! Parts of tests with threads: the seats, and what moves the grace periods on.
 ghost use Rattle.std.specs.Prelude.{◌≡◌, All};
-ghost use Rattle.rcu_cell.specs.Cell.{IsSeatOf, IsWatcherOf};
+ghost use Rattle.rcu_live.specs.CpuSeat.{IsSeatOf};
+ghost use Rattle.rcu_live.specs.Watcher.{IsWatcherOf};
 
 use rcu_cell::cell::Cell;
 use rcu_cell::keeper::Keeper;

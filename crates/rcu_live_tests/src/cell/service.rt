@@ -2,7 +2,8 @@
 //! opening to the shutdown.
 ghost use Rattle.std.specs.Prelude.{◌≡◌, ◌≤◌, All};
 ghost use Rattle.std.specs.Thread.{IsSync};
-ghost use Rattle.rcu_cell.specs.Cell.{IsSeatOf, IsWatcherOf};
+ghost use Rattle.rcu_live.specs.CpuSeat.{IsSeatOf};
+ghost use Rattle.rcu_live.specs.Watcher.{IsWatcherOf};
 
 use crate::cell::limits::Limits;
 use crate::cell::parts::{drive, next_online, next_seat};

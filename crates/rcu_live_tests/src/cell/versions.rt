@@ -1,6 +1,7 @@
 //! A version that a section has loaded, while the keeper shows others.
 ghost use Rattle.std.specs.Prelude.{◌≡◌, ◌≤◌};
-ghost use Rattle.rcu_cell.specs.Cell.{IsSeatOf, IsWatcherOf};
+ghost use Rattle.rcu_live.specs.CpuSeat.{IsSeatOf};
+ghost use Rattle.rcu_live.specs.Watcher.{IsWatcherOf};
 
 use crate::cell::limits::Limits;
 use crate::cell::{Any, Pairs, reads, shows};

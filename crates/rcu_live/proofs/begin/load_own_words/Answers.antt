@@ -18,13 +18,13 @@ loop-cpu-preserved g c =
     let inside : n < c.args.board.now.cpus = omega (arith, c.loop-cpu-test.true, c.cpus-cpu-end.ensures.value, c.requires.cpus, c.loop-cpu.auto.cpu-end) in
     let online =
     subst (λ (flags : List Bool). (d : ℕ) → d < n + 1 → is_in flags d ≡ not (loaded_word w.own_word_loads d == 0))
-    (sym s.online)
+    (sym s.these)
     (found_of (λ (x : ℕ). not (x == 0)) _ v w n word told.view (flags_more (λ (x : ℕ). not (x == 0)) c.loop-cpu.gp.grace.processors.online v.own_word_loads n word _ (omega (arith, inside, i.2)) (search rules) i.3)) in
     let already_quiescent = subst (λ (flags : List Bool). (d : ℕ) → d < n + 1 → is_in flags d ≡ nat_lt c.args.number (loaded_word w.own_word_loads d)) (sym c.mark.ensures)
     (found_of (nat_lt c.args.number) _ v w n word told.view (flags_more (nat_lt c.args.number) c.loop-cpu.already_quiescent v.own_word_loads n word _ (omega (arith, inside, i.4)) (search rules) i.5)) in (
       c.load_own-word.ensures.table ∙ i.0,
       one_more c.args.seat.now.me.0 v w n word i.1 told.view,
-      ap (λ (l : List Bool). length l) s.online ∙ length-set c.loop-cpu.gp.grace.processors.online n _ ∙ i.2,
+      ap (λ (l : List Bool). length l) s.these ∙ length-set c.loop-cpu.gp.grace.processors.online n _ ∙ i.2,
       online,
       ap (λ (l : List Bool). length l) c.mark.ensures ∙ length-set c.loop-cpu.already_quiescent n _ ∙ i.4,
       already_quiescent,
@@ -34,11 +34,17 @@ loop-cpu-preserved g c =
       s.lists ∙ i.9,
     )
 
-pub returns-clause-online : goal.returns-clause-online
-returns-clause-online g c =
-    let i = c.loop-cpu.invariant in
-    sym (listed_same _ _ c.loop-cpu.gp.grace.processors.online i.2
-    (λ d low. sym (i.3 d (omega (arith, low, c.loop-cpu-test.false, c.cpus-cpu-end.ensures.value, c.requires.cpus, c.loop-cpu.auto.cpu-end)))))
+pub returns-clause-state : goal.returns-clause-state
+returns-clause-state g c =
+    let i = c.loop-cpu.invariant in record {
+      these =
+          sym (listed_same _ _ c.loop-cpu.gp.grace.processors.online i.2
+          (λ d low. sym (i.3 d (omega (arith, low, c.loop-cpu-test.false, c.cpus-cpu-end.ensures.value, c.requires.cpus, c.loop-cpu.auto.cpu-end)))));
+      cpus = i.6;
+      seq = i.7;
+      needed = i.8;
+      lists = i.9;
+    }
 
 pub returns-clause-already_quiescent : goal.returns-clause-already_quiescent
 returns-clause-already_quiescent g c =

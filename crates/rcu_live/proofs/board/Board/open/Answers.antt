@@ -11,7 +11,7 @@ new-requires g c =
     c.as_slice.ensures.value ∙ c.in_ok-extend_from_slice.ensures.items
     ∙ ap (λ (front : List ℕ). front ++ c.args.behind.now) c.in_ok-words.ensures in
     subst (λ (words : List ℕ). IsKept g.P.Client.holds c.args.cpus (opening words c.args.slots.items (engine_seat c.args.cpus 0 g.P.Client.first))) (sym words)
-    (starts g.P.Client.holds c.args.cpus c.args.behind.now c.args.slots.items g.P.Client.first c.requires.some c.requires.client)
+    (starts g.P.Client.holds c.args.cpus c.args.behind.now c.args.slots.items g.P.Client.first c.requires.cpus.some c.requires.client)
 
 pub invariant_of-result : goal.invariant_of-result
 invariant_of-result g c =
@@ -23,6 +23,6 @@ invariant_of-result g c =
       key = c.in-Ok.ensures.ok.5;
       room = omega (arith, room, c.in-Ok.ensures.ok.0);
       long = omega (arith, v.ok.0, v.ok.1, v.small, c.as_slice.ensures.len, c.in-Ok.ensures.ok.0);
-      some = c.requires.some;
-      few = c.requires.few;
+      some = c.requires.cpus.some;
+      few = c.requires.cpus.few;
     }

@@ -14,7 +14,7 @@ pub hear_all-requires-clause-already_quiescent : goal.hear_all-requires-clause-a
 hear_all-requires-clause-already_quiescent g c =
     let f = c.load_own_words.ensures in
     ap (λ (l : List Bool). length l) f.already_quiescent ∙ length-listed _ _
-    ∙ sym (ap (λ (y : Grace g.row.T.Denot). length y.processors.awaited) c.in-Ok.ensures.state ∙ ap (λ (l : List Bool). length l) f.online ∙ length-listed _ _)
+    ∙ sym (ap (λ (y : Grace g.row.T.Denot). length y.processors.awaited) c.in-Ok.ensures.state ∙ ap (λ (l : List Bool). length l) f.state.these ∙ length-listed _ _)
 
 pub invariant_of-self : goal.invariant_of-self
 invariant_of-self g c =
@@ -28,7 +28,7 @@ invariant_of-self g c =
     let state : c.hear_all.new.gp.grace ≡ begun_from cpus (loaded_word own_word_loads) old =
     begun_is old c.load_own_words.new.gp.grace c.begin-2.new.self.grace c.hear_all.new.gp.grace cpus
     (loaded_word own_word_loads) c.load_own_words.new.already_quiescent c.in_ok-number.number
-    f.seq f.needed f.lists f.online f.already_quiescent number c.in-Ok.ensures.state c.hear_all.ensures in
+    f.state.seq f.state.needed f.state.lists f.state.these f.already_quiescent number c.in-Ok.ensures.state c.hear_all.ensures in
     let view : c.load_own_words.new.seat.me.0
     ≡ after_own_word_loads (after_begin_store c.self.inside.seat.me.0 c.in_ok-number.number) (loaded_word own_word_loads) cpus =
     f.view ∙ ap (λ (v : View g.row.P-Known.Denot). after_own_word_loads v (loaded_word own_word_loads) cpus) c.begin.ensures.told in
@@ -59,7 +59,7 @@ returns-clause-state g c =
     let state : c.hear_all.new.gp.grace ≡ begun_from cpus (loaded_word own_word_loads) old =
     begun_is old c.load_own_words.new.gp.grace c.begin-2.new.self.grace c.hear_all.new.gp.grace cpus
     (loaded_word own_word_loads) c.load_own_words.new.already_quiescent c.in_ok-number.number
-    f.seq f.needed f.lists f.online f.already_quiescent number c.in-Ok.ensures.state c.hear_all.ensures in
+    f.state.seq f.state.needed f.state.lists f.state.these f.already_quiescent number c.in-Ok.ensures.state c.hear_all.ensures in
     let view : c.load_own_words.new.seat.me.0 ≡ after_own_word_loads (after_begin_store v (next_number old)) (loaded_word own_word_loads) cpus =
     f.view ∙ ap (λ (u : View g.row.P-Known.Denot). after_own_word_loads u (loaded_word own_word_loads) cpus)
     (c.begin.ensures.told ∙ ap (after_begin_store v) number) in

@@ -1,6 +1,5 @@
 use Rattle.std.proofs.Common.{None, subst, sym}
 use Rattle.rcu_live.specs.Client.{AllowsNumber}
-use Rattle.rcu_live.specs.View.{IsOfWatcher}
 use Rattle.rcu_live.specs.Watcher.{Watching}
 use Rattle.rcu_live.proofs.ClientSteps.{sees_of_watcher}
 use Rattle.rcu_live.proofs.watcher.Watcher.load_number.Goals as goal
@@ -8,8 +7,7 @@ use Rattle.rcu_live.proofs.watcher.Watcher.load_number.Goals as goal
 pub load_number-requires-clause-allowed : goal.load_number-requires-clause-allowed
 load_number-requires-clause-allowed g c =
     let holds = g.P.Client.holds in
-    let role = subst (λ (w : Watching g.row.P-Known.Denot). IsOfWatcher w.view) (sym c.self.view_is) c.requires.role in
     let allowed =
     subst (λ (w : Watching g.row.P-Known.Denot). AllowsNumber holds None None w.view.client (g.M.NumberStep.then w.view.client))
     (sym c.self.view_is) c.requires.allowed in
-    sees_of_watcher holds _ _ _ _ _ role allowed
+    sees_of_watcher holds _ _ _ _ _ c.self.invariant.role allowed

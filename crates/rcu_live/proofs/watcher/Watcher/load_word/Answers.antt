@@ -1,6 +1,5 @@
 use Rattle.std.proofs.Common.{None, subst, sym}
 use Rattle.rcu_live.specs.Client.{AllowsWord}
-use Rattle.rcu_live.specs.View.{IsOfWatcher}
 use Rattle.rcu_live.specs.Watcher.{Watching}
 use Rattle.rcu_live.proofs.ClientSteps.{uses_of_watcher}
 use Rattle.rcu_live.proofs.watcher.Watcher.load_word.Goals as goal
@@ -9,6 +8,5 @@ pub load_word-requires-clause-allowed : goal.load_word-requires-clause-allowed
 load_word-requires-clause-allowed g c =
     let holds = g.P.Client.holds in
     let p = c.args.word in
-    let role = subst (λ (w : Watching g.row.P-Known.Denot). IsOfWatcher w.view) (sym c.self.view_is) c.requires.role in
     let allowed = subst (λ (w : Watching g.row.P-Known.Denot). AllowsWord holds None None w.view.client p (λ n. n) (g.M.WordStep.then p w.view.client)) (sym c.self.view_is) c.requires.allowed in
-    uses_of_watcher holds _ _ _ _ p (λ n. n) (g.M.WordStep.then p c.self.inside.seat.me.0.client) role allowed
+    uses_of_watcher holds _ _ _ _ p (λ n. n) (g.M.WordStep.then p c.self.inside.seat.me.0.client) c.self.invariant.role allowed

@@ -1,6 +1,5 @@
 use Rattle.std.proofs.Common.{None, subst, sym}
 use Rattle.rcu_live.specs.Client.{AllowsWord}
-use Rattle.rcu_live.specs.View.{IsOfWatcher}
 use Rattle.rcu_live.specs.Watcher.{Watching}
 use Rattle.rcu_live.proofs.ClientSteps.{uses_of_watcher}
 use Rattle.rcu_live.proofs.watcher.Watcher.store_word.Goals as goal
@@ -10,6 +9,5 @@ store_word-requires-clause-allowed g c =
     let holds = g.P.Client.holds in
     let p = c.args.word in
     let x = c.args.value in
-    let role = subst (λ (w : Watching g.row.P-Known.Denot). IsOfWatcher w.view) (sym c.self.view_is) c.requires.role in
     let allowed = subst (λ (w : Watching g.row.P-Known.Denot). AllowsWord holds None None w.view.client p (λ _. x) (λ _. g.M.WordStep.then p w.view.client x)) (sym c.self.view_is) c.requires.allowed in
-    uses_of_watcher holds _ _ _ _ p (λ _. x) (λ _. g.M.WordStep.then p c.self.inside.seat.me.0.client x) role allowed
+    uses_of_watcher holds _ _ _ _ p (λ _. x) (λ _. g.M.WordStep.then p c.self.inside.seat.me.0.client x) c.self.invariant.role allowed

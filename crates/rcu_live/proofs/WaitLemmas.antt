@@ -1,0 +1,79 @@
+-- Quiescent states and looks, one after another: for callers whose loops wait.
+use Rattle.std.proofs.Common.{◌≡◌, ℕ, zero, suc, ◌+◌, ◌≤◌, Bool, true, false, if◌then◌else◌, refl, sym, ap, ◌∙◌, subst}
+use Rattle.std.proofs.Common.{arith, inl, inr}
+use Rattle.std.proofs.lemmas.Bool.{cases_Bool}
+use Rattle.rcu_seq.specs.Numbers.{Number}
+use Rattle.rcu_live.specs.CpuSeat.{Seated}
+use Rattle.rcu_live.specs.Numbers.{may_open}
+use Rattle.rcu_live.specs.Waits.{HasLooked, HasRested, after_rests}
+use Rattle.rcu_live.specs.Watcher.{Watching, after_watch}
+
+module _ {C : Type 0} where
+  -- the seat as it is: no quiescent state yet
+  pub rested_none : (s : Seated C) → HasRested s s
+  rested_none s = record { times = 0; table = refl; depth = refl; later = omega arith; state = refl }
+
+  -- what a quiescent state does where the processor may pass one, and where it may not
+  abbrev rests : Seated C → ℕ → Number → Seated C
+  rests s times n = record s {
+    view = record s.view { seen = n; loads = s.view.loads + times; stores = s.view.stores + times; own_word = n + 1 };
+  }
+
+  awake_rests : (s : Seated C) (times : ℕ) (n : Number) → may_open s.view.own_word ≡ true
+      → after_rests s (suc times) n ≡ rests s (suc times) n
+  awake_rests s times n awake = ap (λ (b : Bool). if b then rests s (suc times) n else s) awake
+
+  asleep_rests : (s : Seated C) (times : ℕ) (n : Number) → may_open s.view.own_word ≡ false → after_rests s times n ≡ s
+  asleep_rests s zero n asleep = refl
+  asleep_rests s (suc times) n asleep = ap (λ (b : Bool). if b then rests s (suc times) n else s) asleep
+
+  -- one quiescent state more of a processor that is awake
+  one_rest_more : (s t u : Seated C) (times : ℕ) → may_open t.view.own_word ≡ true → t ≡ after_rests s times t.view.seen
+      → u ≡ after_rests t 1 u.view.seen → u ≡ after_rests s (suc times) u.view.seen
+  one_rest_more s t u zero awake old new = new ∙ ap (λ (y : Seated C). after_rests y 1 u.view.seen) old
+  one_rest_more s t u (suc times) awake old new =
+      let n : Number = u.view.seen in
+      elim (cases_Bool (may_open s.view.own_word)) [
+        | inl up ↦
+            let before : t ≡ rests s (suc times) t.view.seen = old ∙ awake_rests s times t.view.seen up in
+            let loads : s.view.loads + suc times + 1 ≡ s.view.loads + suc (suc times) = omega arith in
+            let stores : s.view.stores + suc times + 1 ≡ s.view.stores + suc (suc times) = omega arith in
+            new ∙ awake_rests t 0 n awake ∙ ap (λ (y : Seated C). rests y 1 n) before
+            ∙ (λ i. record s { view = record s.view { seen = n; loads = loads i; stores = stores i; own_word = n + 1 } })
+            ∙ sym (awake_rests s (suc times) n up)
+        | inr down ↦
+            let same : t ≡ s = old ∙ asleep_rests s (suc times) t.view.seen down in
+            let both : may_open s.view.own_word ≡ true = ap (λ (y : Seated C). may_open y.view.own_word) (sym same) ∙ awake in
+            absurd (cc)
+      ]
+
+  pub rested_more : (s t u : Seated C) → HasRested s t → t.view.seen ≤ u.view.seen → u ≡ after_rests t 1 u.view.seen
+      → HasRested s u
+  rested_more s t u r later new = elim (cases_Bool (may_open t.view.own_word)) [
+    | inl awake ↦ record {
+      times = suc r.times;
+      table = ap (λ (y : Seated C). y.table) (new ∙ awake_rests t 0 u.view.seen awake) ∙ r.table;
+      depth = ap (λ (y : Seated C). y.depth) (new ∙ awake_rests t 0 u.view.seen awake) ∙ r.depth;
+      later = let before = r.later in omega (arith, before, later);
+      state = one_rest_more s t u r.times awake r.state new;
+    }
+    | inr asleep ↦ subst (HasRested s) (sym (new ∙ asleep_rests t 1 u.view.seen asleep)) r
+  ]
+
+  -- a look more
+  pub looked_none : (w : Watching C) → HasLooked w w
+  looked_none w = record { table = refl; later = omega arith; more = omega arith; state = refl }
+
+  pub looked_more : (w v u : Watching C) → HasLooked w v → v.view.seen ≤ u.view.seen → u ≡ after_watch v u.view.seen
+      → HasLooked w u
+  looked_more w v u r later new =
+      let before = r.later in
+      let more = r.more in
+      let loads : u.view.loads ≡ v.view.loads + 1 = ap (λ (y : Watching C). y.view.loads) new in
+      let state : u ≡ record w { view = record w.view { seen = u.view.seen; loads = v.view.loads + 1 } } =
+      new ∙ ap (λ (y : Watching C). after_watch y u.view.seen) r.state in record {
+        table = ap (λ (y : Watching C). y.table) new ∙ r.table;
+        later = omega (arith, before, later);
+        more = omega (arith, more, loads);
+        state = state ∙ ap (λ (k : ℕ). record w { view = record w.view { seen = u.view.seen; loads = k } }) (sym loads);
+      }

@@ -1,0 +1,30 @@
+use Rattle.std.proofs.Common.{subst, sym}
+use Rattle.rcu_live.specs.Waits.{HasRested}
+use Rattle.rcu_live.proofs.WaitLemmas.{looked_more, looked_none, rested_more, rested_none}
+use Rattle.rcu_live.proofs.live.Live.wait_for.Goals as goal
+
+pub loop-init : goal.loop-init
+loop-init g c = record {
+  rested = rested_none c.args.seat.now;
+  looked = looked_none c.args.watcher.now;
+}
+
+pub loop-preserved : goal.loop-preserved
+loop-preserved g c =
+    let i = c.loop.invariant in
+    let w = c.in_ok-wait_once.ensures in record {
+      rested = rested_more c.args.seat.now c.loop.seat c.wait_once.new.seat i.rested w.state.later w.state.state;
+      looked = looked_more c.args.watcher.now c.loop.watcher c.poll.new.self i.looked c.poll.ensures.state.later c.poll.ensures.state.state;
+    }
+
+pub returns-then-poll-clause-looked : goal.returns-then-poll-clause-looked
+returns-then-poll-clause-looked g c =
+    looked_more c.args.watcher.now c.loop.watcher c.poll.new.self c.loop.invariant.looked c.poll.ensures.state.later c.poll.ensures.state.state
+
+pub returns-in_err-wait_once-clause-rested : goal.returns-in_err-wait_once-clause-rested
+returns-in_err-wait_once-clause-rested g c =
+    subst (HasRested c.args.seat.now) (sym c.in_err-wait_once.ensures.unchanged) c.loop.invariant.rested
+
+pub returns-in_err-wait_once-clause-looked : goal.returns-in_err-wait_once-clause-looked
+returns-in_err-wait_once-clause-looked g c =
+    looked_more c.args.watcher.now c.loop.watcher c.poll.new.self c.loop.invariant.looked c.poll.ensures.state.later c.poll.ensures.state.state

@@ -1,0 +1,108 @@
+//! Steps of driving: an engine hears of all whom it awaits, ends a grace period, and begins one.
+ghost use Rattle.std.specs.Prelude.{◌≡◌, ◌<◌, IfOk, OnErr, OnOk, true};
+ghost use Rattle.std.specs.Result.{result_err};
+ghost use Rattle.rcu_node.specs.CpuSet.{is_in};
+ghost use Rattle.rcu_live.specs.Drive.{after_collections, after_drive, drive_answer};
+ghost use Rattle.rcu_live.specs.Drive.{drive_refusal, wants_begin, wants_for};
+ghost use Rattle.rcu_live.specs.Engine.{after_collect, latest_word, latest_words};
+
+use crate::client::Client;
+use crate::engine::Engine;
+use rcu_core::turned::Turned;
+use rcu_node::awaited::Awaited;
+use rcu_seq::cookie::Cookie;
+use rcu_seq::fault::Fault;
+
+impl<A: Awaited, T: Drop, P: Client> Engine<A, T, P> {
+    /// Whether the processor is awaited.
+    fn awaits(&self, cpu: u32) -> bool
+        requires { cpu < self.now.cpus }
+        ensures { result ≡ is_in self.now.grace.processors.awaited cpu }
+    {
+        self.grace().awaited().awaits(cpu)
+    }
+
+    /// Collects from a processor while a grace period runs.
+    fn hear_of(&mut self, cpu: u32)
+        requires cpu { cpu < self.old.cpus }
+        ensures { self.new ≡ after_collect self.old cpu (latest_word self.new) }
+    {
+        let _ = self.collect(cpu);
+    }
+
+    /// Collects from each processor that the running grace period awaits. Costs a load for each of
+    /// them, and a test of its flag for any other one.
+    fn collect_awaited(&mut self)
+        requires { self.old.grace.seq.running ≡ true }
+        ensures { self.new ≡ after_collections self.old (latest_words self.new) }
+    {
+        for cpu in 0..self.grace().cpus() {
+            if self.awaits(cpu) {
+                self.hear_of(cpu);
+            }
+        }
+    }
+
+    /// One step of driving, where a grace period is wanted or is not.
+    fn step(&mut self, is_wanted: bool) -> Result<Turned, Fault>
+        ensures answer { IfOk result (λ turned.
+            turned ≡ drive_answer self.old is_wanted (latest_words self.new)) }
+        ensures fault { result_err result ≡ drive_refusal self.old.grace is_wanted }
+        ensures state { OnOk result
+            (self.new ≡ after_drive self.old is_wanted (latest_words self.new)) }
+        ensures unchanged { OnErr result (self.new ≡ self.old) }
+    {
+        let is_begun = !self.gp.is_running();
+        if is_begun && !is_wanted {
+            return Ok(Turned::Nothing);
+        }
+        if is_begun {
+            self.begin()?;
+        } else {
+            self.collect_awaited();
+        }
+        let awaited = self.gp.awaited().count();
+        if awaited == 0 {
+            return Ok(Turned::Ended(self.end()?));
+        }
+        if is_begun {
+            return Ok(Turned::Begun(self.gp.value(), awaited));
+        }
+        Ok(Turned::Waiting(awaited))
+    }
+
+    /// One step of driving. While a grace period runs, it collects from each processor that is
+    /// awaited. Where none runs, one begins if callbacks need it. A grace period that awaits nobody
+    /// then ends. Costs a load a processor at most, and a step.
+    ///
+    /// Fault `Exhausted` (11): one would begin, and the number is the last one.
+    pub fn drive(&mut self) -> Result<Turned, Fault>
+        ensures answer { IfOk result (λ turned. turned ≡ drive_answer self.old
+            (wants_begin self.old.grace) (latest_words self.new)) }
+        ensures fault { result_err result
+            ≡ drive_refusal self.old.grace (wants_begin self.old.grace) }
+        ensures state { OnOk result (self.new ≡ after_drive self.old
+            (wants_begin self.old.grace) (latest_words self.new)) }
+        ensures unchanged { OnErr result (self.new ≡ self.old) }
+    {
+        let is_wanted = self.gp.wants_begin();
+        self.step(is_wanted)
+    }
+
+    /// The same for who waits for this cookie: where none runs, one begins if the cookie is not
+    /// done yet.
+    ///
+    /// Fault `Exhausted` (11): one would begin, and the number is the last one.
+    pub fn drive_for(&mut self, cookie: Cookie) -> Result<Turned, Fault>
+        ensures answer { IfOk result (λ turned. turned ≡ drive_answer self.old
+            (wants_for cookie self.old.grace) (latest_words self.new)) }
+        ensures fault { result_err result
+            ≡ drive_refusal self.old.grace (wants_for cookie self.old.grace) }
+        ensures state { OnOk result (self.new ≡ after_drive self.old
+            (wants_for cookie self.old.grace) (latest_words self.new)) }
+        ensures unchanged { OnErr result (self.new ≡ self.old) }
+    {
+        let is_wanted = !cookie.is_done_first(self.gp.value());
+        self.step(is_wanted)
+    }
+}

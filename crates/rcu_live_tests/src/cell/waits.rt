@@ -1,0 +1,188 @@
+//! Updates that wait for a free slot: on one thread, and beside a slow reader.
+ghost use Rattle.std.specs.Prelude.{◌≡◌, ◌≤◌};
+ghost use Rattle.rcu_cell.specs.Cell.{IsSeatOf, IsWatcherOf};
+
+use crate::cell::limits::Limits;
+use crate::cell::{Any, Pairs};
+use rcu_cell::cell::Cell;
+use rcu_cell::keeper::{Keeper, Retired};
+use rcu_cell::rule::CellSeat;
+use rcu_cell::value::Value;
+use rcu_seq::fault::Fault;
+use std::process::Abort;
+use std::sync::Wait;
+use std::thread;
+use std::thread::Threads;
+
+/// Has the keeper show these words, and compares what it answers.
+fn shows<R: Abort + Wait>(
+    rt: &R,
+    cell: &Pairs,
+    keeper: &mut Keeper<Any, 2, 2>,
+    seat: &mut CellSeat<Any, 2, 2>,
+    words: [u64; 2],
+    wanted: Result<Retired, Fault>,
+)
+    requires keeper { IsWatcherOf cell.now keeper.old }
+    requires seat { IsSeatOf cell.now seat.old }
+    ensures keeper { IsWatcherOf cell.now keeper.new }
+    ensures seat { IsSeatOf cell.now seat.new }
+    ensures depth { seat.new.depth ≡ seat.old.depth }
+{
+    let found = keeper.update_or_wait(rt, cell, seat, &words);
+    assert_eq!(rt; (words, found), (words, wanted));
+}
+
+/// A second version is shown at once, a third one after a grace period, and no fourth one, since
+/// the last number is reached.
+fn update_up_to_the_last_number<R: Abort + Wait>(
+    rt: &R,
+    cell: &Pairs,
+    keeper: &mut Keeper<Any, 2, 2>,
+    seat: &mut CellSeat<Any, 2, 2>,
+)
+    requires keeper { IsWatcherOf cell.now keeper.old }
+    requires seat { IsSeatOf cell.now seat.old }
+{
+    assert_eq!(rt; seat.enter(cell.live()), Ok(1));
+    shows(rt, cell, keeper, seat, [2, 2], Err(Fault::InSection));
+    assert_eq!(rt; seat.exit(cell.live()), Ok(0));
+    shows(
+        rt,
+        cell,
+        keeper,
+        seat,
+        [2, 2],
+        Ok(Retired { slot: 0, by: 1 }),
+    );
+    shows(
+        rt,
+        cell,
+        keeper,
+        seat,
+        [3, 3],
+        Ok(Retired { slot: 1, by: 0 }),
+    );
+    shows(rt, cell, keeper, seat, [4, 4], Err(Fault::Exhausted));
+    shows(rt, cell, keeper, seat, [4, 4], Err(Fault::Exhausted));
+}
+
+#[test]
+fn updates_wait_up_to_the_last_number(rt: HostRuntime) {
+    let Ok((cell, mut seats, _, mut keeper)) = Pairs::open(rt.alloc(), 1, 4, &[1, 1]) else {
+        return;
+    };
+    let mut seat = seats.pop().unwrap();
+    update_up_to_the_last_number(&rt, &cell, &mut keeper, &mut seat);
+}
+
+/// The limits, in one of two slots: each change but the first waits for a grace period.
+type Shared = Cell<4, 4, u64, Limits, 2, 2>;
+
+/// How often the limits are replaced.
+const CHANGES: u32 = 200;
+
+/// How often the reader reads.
+const READS: u32 = 2_000;
+
+/// A slow reader, with its processor's seat.
+#[derive(Drop)]
+struct Reader<'a> {
+    cell: &'a Shared,
+    seat: CellSeat<Limits, 2, 2>,
+    newest: u32,
+    ghost seat_of: { IsSeatOf cell.now seat },
+    ghost outside: { seat.depth ≡ 0 },
+}
+
+impl<'a> Reader<'a> {
+    /// Reads in a section, and lets other threads run. Returns whether the limits were none older
+    /// than those before.
+    fn read(&mut self) -> bool {
+        let Ok(limits) = self.cell.value_section(&mut self.seat) else {
+            return false;
+        };
+        thread::yield_now();
+        let before = self.newest;
+        self.newest = limits.rate;
+        let quiet = self.seat.quiesce(self.cell.live());
+        before <= limits.rate && quiet.is_ok()
+    }
+
+    /// Reads many times, and takes the processor offline. Returns how many reads were right.
+    fn read_on<R: Wait>(mut self, rt: &R) -> u32 {
+        let mut right = 0u32;
+        for _ in 0..READS {
+            if self.read() {
+                right = right.saturating_add(1);
+            }
+        }
+        let Reader { cell, mut seat, .. } = self;
+        let _ = cell.live().offline(rt, &mut seat);
+        right
+    }
+}
+
+/// Who replaces the limits, with the seat of processor 0.
+#[derive(Drop)]
+struct Control<'a> {
+    cell: &'a Shared,
+    keeper: Keeper<Limits, 2, 2>,
+    seat: CellSeat<Limits, 2, 2>,
+    ghost keeper_of: { IsWatcherOf cell.now keeper },
+    ghost seat_of: { IsSeatOf cell.now seat },
+}
+
+impl<'a> Control<'a> {
+    fn replace<R: Wait>(&mut self, rt: &R, limits: Limits) -> bool
+        requires { limits.rate ≤ limits.burst }
+    {
+        self.keeper
+            .update_value_or_wait(rt, self.cell, &mut self.seat, limits)
+            .is_ok()
+    }
+
+    /// Replaces the limits many times. Returns how often it did.
+    fn work<R: Wait>(mut self, rt: &R) -> u32 {
+        let mut changes = 0u32;
+        for rate in 1..=CHANGES {
+            let burst = rate + 10;
+            if self.replace(rt, Limits { rate, burst }) {
+                changes = changes.saturating_add(1);
+            }
+        }
+        changes
+    }
+}
+
+/// The control beside the reader. Where no thread can be made, the control runs last.
+fn run_beside<R: Threads + Wait + Sync>(
+    rt: &R,
+    control: Control<'_>,
+    reader: Reader<'_>,
+) -> (u32, u32) {
+    thread::join(rt, move || control.work(rt), move || reader.read_on(rt))
+}
+
+#[test]
+fn limits_are_replaced_in_two_slots(rt: HostRuntime) {
+    let first = Limits { rate: 0, burst: 1 };
+    let opened = Shared::open(rt.alloc(), 2, 4_000_000, &first.to_words());
+    let Ok((cell, mut seats, _, keeper)) = opened else {
+        return;
+    };
+    let mut seat = seats.pop().unwrap();
+    assert_eq!(&rt; cell.live().online(&rt, &mut seat), Ok(()));
+    let reader = Reader {
+        cell: &cell,
+        seat,
+        newest: 0,
+    };
+    let seat = seats.pop().unwrap();
+    let control = Control {
+        cell: &cell,
+        keeper,
+        seat,
+    };
+    assert_eq!(&rt; run_beside(&rt, control, reader), (CHANGES, READS));
+}
