@@ -6,9 +6,8 @@ use Rattle.std.proofs.lemmas.List.{ext_get_or, get_or-set_other, get_or-set_same
 use mathlib.Core.Logic.{dite}
 use native.Mathlib.Decide.{ℕ_discrete}
 use Rattle.rcu_live.specs.Board.{Object}
-use Rattle.rcu_live.specs.View.{IsOfWatcher}
-use Rattle.rcu_live.specs.Watcher.{Watching, after_word_step}
-use Rattle.rcu_cell.specs.Cell.{IsWatcherOf}
+use Rattle.rcu_live.specs.Watcher.{IsWatcherOf, Watching, after_word_step}
+use Rattle.rcu_cell.specs.Keeper.{KeepsFree}
 use Rattle.rcu_cell.specs.Versions.{IsKeeping, filled, no_version, slot_in, slots_in, version_at, with_word}
 use Rattle.rcu_cell.specs.declared.known.Known.{Known}
 use Rattle.rcu_cell.specs.declared.known.Known.TheVariants.{Idle, Owner, Reader, Keeper}
@@ -66,20 +65,18 @@ stored_all old words width a b same = ext_get_or 0 old words (a ∙ sym b) (λ j
 -- a seat that is to store one more word of the slot
 pub record IsReady (o : Object) (seat : Watching Known) (i : ℕ) : Type 0 where
   pub seat_of : IsWatcherOf o seat
-  pub role : IsOfWatcher seat.view
-  pub keeps : IsKeeping seat.view.client
-  pub inside : i < length (slots_in seat.view.client)
-  pub free : (version_at (slots_in seat.view.client) i).state ≡ Free
+  pub keeps : KeepsFree seat.view.client i
 
 pub ready : (o : Object) (old now : Watching Known) (c i : ℕ) (s : List Version) (words : List ℕ)
     → now ≡ after_word_step old (Keeper c (filled s i words))
-    → IsWatcherOf o old → IsOfWatcher old.view → i < length s → IsReady o now i
-ready o old now c i s words is seat role low = subst (λ (w : Watching Known). IsReady o w i) (sym is) record {
+    → IsWatcherOf o old → i < length s → IsReady o now i
+ready o old now c i s words is seat low = subst (λ (w : Watching Known). IsReady o w i) (sym is) record {
   seat_of = seat;
-  role = role;
-  keeps = tt;
-  inside = let long = filled_long s i words in omega (arith, long, low);
-  free = ap (λ (v : Version). v.state) (filled_free s i words low);
+  keeps = record {
+    keeps = tt;
+    inside = let long = filled_long s i words in omega (arith, long, low);
+    free = ap (λ (v : Version). v.state) (filled_free s i words low);
+  };
 }
 
 pub fill_more : (old now next : Watching Known) (c i k x : ℕ) (s : List Version) (words : List ℕ)

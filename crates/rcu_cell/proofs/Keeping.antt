@@ -1,7 +1,6 @@
 -- What a keeper has beside its seat is so after each of its calls.
 use Rattle.std.proofs.Common.{◌≡◌, ℕ, List, length, map, set, refl, sym, ap, ◌∙◌, subst}
 use Rattle.rcu_seq.specs.Numbers.{Number}
-use Rattle.rcu_live.specs.View.{IsOfWatcher}
 use Rattle.rcu_live.specs.Watcher.{Watching, after_word_step}
 use Rattle.rcu_cell.specs.Keeper.{IsFirstFree, after_age, after_update}
 use Rattle.rcu_cell.specs.Versions.{AreSized, IsKeeping, aged_state, filled, published, slot_in, slots_in, state_of}
@@ -12,7 +11,6 @@ use Rattle.rcu_cell.specs.declared.slot_state.SlotState.TheVariants.{Shown, Repl
 use Rattle.rcu_cell.proofs.States.{sized_aged, sized_updated, states_aged, states_updated}
 
 pub record IsKeptBeside (width : ℕ) (seat : Watching Known) (items : List SlotState) (shown : ℕ) : Type 0 where
-  pub role : IsOfWatcher seat.view
   pub keeps : IsKeeping seat.view.client
   pub same : slot_in seat.view.client ≡ shown
   pub states : map state_of (slots_in seat.view.client) ≡ items
@@ -29,7 +27,6 @@ kept_updated width old mid next items shown by words k first size is then_is =
     then_is ∙ ap (λ (w : Watching Known). after_word_step w (Keeper by (published (slots_in w.view.client) (slot_in w.view.client) by))) is in
     subst (λ (w : Watching Known). IsKeptBeside width w (set (set items shown Replaced) by Shown) by)
     (sym both) record {
-      role = k.role;
       keeps = tt;
       same = refl;
       states = states_updated (slots_in old.view.client) items (slot_in old.view.client) by words k.states first.free
@@ -42,7 +39,6 @@ pub kept_aged : (width : ℕ) (old next : Watching Known) (items new : List Slot
     → next ≡ after_age old n → new ≡ map (aged_state n) items → IsKeptBeside width next new shown
 kept_aged width old next items new shown n k is now =
     subst (λ (w : Watching Known). IsKeptBeside width w new shown) (sym is) record {
-      role = k.role;
       keeps = tt;
       same = k.same;
       states = states_aged n (slots_in old.view.client) items k.states ∙ sym now;

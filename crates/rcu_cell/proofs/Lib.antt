@@ -4,3 +4,4 @@ pub mod Moves
 pub mod States
 pub mod Starts
 pub mod Loaded
+pub mod Ages

@@ -1,5 +1,5 @@
 -- Versions of a value in slots: what state each slot is in, and what a look at the number makes of it.
-use Rattle.std.specs.Prelude.{◌≡◌, ℕ, ◌+◌, ◌*◌, ◌-◌, ◌<◌, ◌≤◌, if◌then◌else◌, Bool, true, false, List, [], ◌∷◌, length}
+use Rattle.std.specs.Prelude.{◌≡◌, ℕ, ◌+◌, ◌*◌, ◌-◌, ◌^◌, ◌<◌, ◌≤◌, if◌then◌else◌, Bool, true, false, List, [], ◌∷◌, length}
 use Rattle.std.specs.Prelude.{map, replicate, slice_index_or, slice_set}
 use Rattle.rcu_seq.specs.Numbers.{Number}
 use Rattle.rcu_live.specs.Numbers.{is_past}
@@ -12,6 +12,11 @@ use Rattle.rcu_cell.specs.declared.slot_state.SlotState.TheVariants.{Free, Shown
 -- where the words of the slots begin, behind the word that names the shown one: apart, so that they share no cache line
 abbrev pub first_place : ℕ
 first_place = 16
+
+-- so many slots of so many words a cell may have: there is one, and all fit in memory
+pub record AreSizes (width count : ℕ) : Type 0 where
+  pub some : 0 < count
+  pub small : width * count ≤ 2 ^ 32
 
 -- the place of the word k of the slot i, of slots of so many words
 abbrev pub word_of : ℕ → ℕ → ℕ → ℕ

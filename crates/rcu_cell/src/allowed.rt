@@ -1,13 +1,13 @@
 //! Lemmas as functions that do nothing: why a step on a cell is allowed, by whose clauses the rule
 //! is kept, and that a value's words fit in memory.
-ghost use Rattle.std.specs.Prelude.{◌≡◌, ◌<◌, ◌≤◌, ◌^◌, IsSome, None, Some, length};
+ghost use Rattle.std.specs.Prelude.{◌≡◌, ◌<◌, ◌≤◌, ◌^◌, IsSome, None, Some};
 ghost use Rattle.rcu_live.specs.Client.{AllowsNumber, AllowsWord};
 ghost use Rattle.rcu_cell.specs.Cell.{ReadsSlot};
+ghost use Rattle.rcu_cell.specs.Keeper.{KeepsFree};
 ghost use Rattle.rcu_cell.specs.Rule.{IsKept};
 ghost use Rattle.rcu_cell.specs.Steps.{IsAged, IsClaimed, IsLoaded, IsPublished, IsRead, IsWritten};
 ghost use Rattle.rcu_cell.specs.Versions.{IsKeeping, slots_in, version_at, word_of};
 ghost use Rattle.rcu_cell.specs.declared.known.Known.TheVariants.{Owner};
-ghost use Rattle.rcu_cell.specs.declared.slot_state.SlotState.TheVariants.{Free};
 
 use crate::rule::{CellSeat, CellWatcher, Invariant};
 use crate::value::Value;
@@ -52,9 +52,7 @@ pub(crate) fn write_is_allowed<F: Invariant, const W: usize, const N: usize>(
     place: usize,
     value: u64,
 )
-    requires keeps { IsKeeping seat.now.view.client }
-    requires inside { slot < length (slots_in seat.now.view.client) }
-    requires free { (version_at (slots_in seat.now.view.client) slot).state ≡ Free }
+    requires free { KeepsFree seat.now.view.client slot }
     requires word { word < W }
     requires place { place ≡ word_of W slot word }
     ensures { AllowsWord (IsKept F.holds W N) None None seat.now.view.client place (λ _. value)
@@ -66,9 +64,7 @@ pub(crate) fn publish_is_allowed<F: Invariant, const W: usize, const N: usize>(
     seat: &CellWatcher<F, W, N>,
     slot: usize,
 )
-    requires keeps { IsKeeping seat.now.view.client }
-    requires inside { slot < length (slots_in seat.now.view.client) }
-    requires free { (version_at (slots_in seat.now.view.client) slot).state ≡ Free }
+    requires free { KeepsFree seat.now.view.client slot }
     requires whole { F.holds (version_at (slots_in seat.now.view.client) slot).words }
     ensures { AllowsWord (IsKept F.holds W N) None None seat.now.view.client 0 (λ _. slot)
         (λ _ now. IsPublished seat.now.view.client slot now) }

@@ -1,7 +1,7 @@
 //! A cell: what a section reads of it, without a lock, a wait or a store.
-ghost use Rattle.std.specs.Prelude.{◌≡◌, ◌+◌, ◌*◌, ◌<◌, IsSome, length, slice_index};
-ghost use Rattle.rcu_live.specs.CpuSeat.{after_word_step};
-ghost use Rattle.rcu_cell.specs.Cell.{ReadsSlot, IsSeatOf};
+ghost use Rattle.std.specs.Prelude.{◌≡◌, ◌<◌, slice_index};
+ghost use Rattle.rcu_live.specs.CpuSeat.{IsSeatOf, KnowsBy};
+ghost use Rattle.rcu_cell.specs.Cell.{MayLoad, ReadsSlot};
 ghost use Rattle.rcu_cell.specs.Steps.{IsLoaded};
 ghost use Rattle.rcu_cell.specs.Versions.{words_in};
 
@@ -60,10 +60,8 @@ impl<const LEAF: u32, const FAN: u32, T: Drop, F: Invariant, const W: usize, con
     /// Loads which slot is shown, and returns it: the open section reads its version from now on,
     /// as it was published, until it closes or loads again (Linux's `rcu_dereference`).
     pub fn load(&self, seat: &mut CellSeat<F, W, N>) -> u64
-        requires seat { IsSeatOf self.now seat.old }
-        requires open { IsSome seat.old.view.section }
-        ensures same { seat.new ≡ after_word_step seat.old seat.new.view.client }
-        ensures loaded { IsLoaded F.holds W N result seat.new.view.client }
+        requires { MayLoad self.now seat.old }
+        ensures { KnowsBy (λ _ now. IsLoaded F.holds W N result now) seat.old seat.new }
     {
         load_is_allowed::<F, W, N>(seat);
         seat.load_word::<_, Load<F, W, N>>(&self.live, SHOWN)

@@ -1,11 +1,9 @@
 //! The keeper of a cell: it publishes versions, and looks which slots are free.
 ghost use Rattle.std.specs.Prelude.{◌≡◌, ◌<◌, ◌≤◌, ◌^◌, IfOk, IfSome, None, OnErr, map};
-ghost use Rattle.rcu_live.specs.View.{IsOfWatcher};
-ghost use Rattle.rcu_live.specs.Watcher.{after_word_step};
-ghost use Rattle.rcu_cell.specs.Cell.{IsWatcherOf};
-ghost use Rattle.rcu_cell.specs.Keeper.{IsFirstFree, IsFull, after_age, after_update};
+ghost use Rattle.rcu_live.specs.Watcher.{IsWatcherOf, KnowsBy};
+ghost use Rattle.rcu_cell.specs.Keeper.{AgedAt, IsFirstFree, IsFull, Updated};
 ghost use Rattle.rcu_cell.specs.Steps.{IsClaimed};
-ghost use Rattle.rcu_cell.specs.Versions.{aged_state, first_states, slot_in, slots_in};
+ghost use Rattle.rcu_cell.specs.Versions.{aged_state, first_states, slots_in};
 ghost use Rattle.rcu_cell.specs.declared.known.Known.TheVariants.{Owner};
 
 use crate::allowed::words_are_few;
@@ -38,7 +36,6 @@ pub struct Keeper<F: Invariant, const W: usize, const N: usize> {
 
 impl<F: Invariant, const W: usize, const N: usize> Model for Keeper<F, W, N> {
     ghost use Rattle.std.specs.Prelude.{◌≡◌, ◌<◌, length, map};
-    ghost use Rattle.rcu_live.specs.View.{IsOfWatcher};
     ghost use Rattle.rcu_live.specs.Watcher.{Watching};
     ghost use Rattle.rcu_cell.specs.Versions.{AreSized, IsKeeping, slot_in, slots_in, state_of};
     ghost use Rattle.rcu_cell.specs.declared.known.Known.{Known};
@@ -48,7 +45,6 @@ impl<F: Invariant, const W: usize, const N: usize> Model for Keeper<F, W, N> {
     ghost view = { λ k. k.seat };
 
     ghost invariant = { λ k. record {
-      role : IsOfWatcher k.seat.view;
       keeps : IsKeeping k.seat.view.client;
       shown : slot_in k.seat.view.client ≡ k.shown;
       inside : k.shown < N;
@@ -76,13 +72,11 @@ impl<F: Invariant, const W: usize, const N: usize> Keeper<F, W, N> {
         states: Vec<SlotState>,
     ) -> Self
         requires cell { IsWatcherOf cell.now seat }
-        requires role { IsOfWatcher seat.view }
         requires opens { seat.view.client ≡ Owner }
         requires some { 0 < N }
         requires states { states.items ≡ first_states N }
         ensures cell { IsWatcherOf cell.now result }
-        ensures same { result ≡ after_word_step seat result.view.client }
-        ensures claimed { IsClaimed F.holds W N result.view.client }
+        ensures claimed { KnowsBy (λ _ now. IsClaimed F.holds W N now) seat result }
     {
         let mut seat = seat;
         cell.claim(&mut seat);
@@ -117,12 +111,8 @@ impl<F: Invariant, const W: usize, const N: usize> Keeper<F, W, N> {
         requires cell { IsWatcherOf cell.now self.old }
         requires whole { F.holds words.now }
         ensures cell { IsWatcherOf cell.now self.new }
-        ensures slot { IfOk result (λ retired.
-            IsFirstFree (slots_in self.old.view.client) retired.by) }
-        ensures replaced { IfOk result (λ retired.
-            retired.slot ≡ slot_in self.old.view.client) }
         ensures state { IfOk result (λ retired.
-            self.new ≡ after_update self.old retired.by words.now) }
+            Updated self.old words.now retired self.new) }
         ensures full { OnErr result (IsFull (slots_in self.old.view.client)) }
         ensures unchanged { OnErr result (self.new ≡ self.old) }
     {
@@ -146,8 +136,7 @@ impl<F: Invariant, const W: usize, const N: usize> Keeper<F, W, N> {
     ) -> u64
         requires { IsWatcherOf cell.now self.old }
         ensures cell { IsWatcherOf cell.now self.new }
-        ensures state { self.new ≡ after_age self.old result }
-        ensures later { self.old.view.seen ≤ result }
+        ensures state { AgedAt self.old result self.new }
     {
         let number = cell.look(&mut self.seat);
         age_all(&mut self.states, number);
@@ -165,12 +154,8 @@ impl<F: Value<W>, const W: usize, const N: usize> Keeper<F, W, N> {
         requires cell { IsWatcherOf cell.now self.old }
         requires sound { F.valid value }
         ensures cell { IsWatcherOf cell.now self.new }
-        ensures slot { IfOk result (λ retired.
-            IsFirstFree (slots_in self.old.view.client) retired.by) }
-        ensures replaced { IfOk result (λ retired.
-            retired.slot ≡ slot_in self.old.view.client) }
         ensures state { IfOk result (λ retired.
-            self.new ≡ after_update self.old retired.by (F.in_words value)) }
+            Updated self.old (F.in_words value) retired self.new) }
         ensures full { OnErr result (IsFull (slots_in self.old.view.client)) }
         ensures unchanged { OnErr result (self.new ≡ self.old) }
     {

@@ -1,14 +1,12 @@
 //! The steps of a keeper on a cell, by a watcher's seat.
-ghost use Rattle.std.specs.Prelude.{◌≡◌, ◌<◌, ◌≤◌, length, true};
+ghost use Rattle.std.specs.Prelude.{◌≡◌, ◌<◌, length, true};
 ghost use Rattle.rcu_live.specs.Numbers.{is_number_word};
-ghost use Rattle.rcu_live.specs.View.{IsOfWatcher};
-ghost use Rattle.rcu_live.specs.Watcher.{after_number_step, after_word_step};
-ghost use Rattle.rcu_cell.specs.Cell.{IsWatcherOf};
+ghost use Rattle.rcu_live.specs.Watcher.{IsWatcherOf, KnowsBy, after_word_step};
+ghost use Rattle.rcu_cell.specs.Keeper.{AgedAt, KeepsFree};
 ghost use Rattle.rcu_cell.specs.Steps.{IsClaimed};
-ghost use Rattle.rcu_cell.specs.Versions.{IsKeeping, aged, filled, published, slot_in, slots_in};
+ghost use Rattle.rcu_cell.specs.Versions.{IsKeeping, filled, published, slot_in, slots_in};
 ghost use Rattle.rcu_cell.specs.Versions.{version_at, with_word};
 ghost use Rattle.rcu_cell.specs.declared.known.Known.TheVariants.{Keeper, Owner};
-ghost use Rattle.rcu_cell.specs.declared.slot_state.SlotState.TheVariants.{Free};
 
 use crate::allowed::{age_is_allowed, claim_is_allowed, publish_is_allowed, write_is_allowed};
 use crate::cell::Cell;
@@ -26,10 +24,8 @@ impl<const LEAF: u32, const FAN: u32, T: Drop, F: Invariant, const W: usize, con
     /// Loads which slot is shown: the seat keeps the slots from now on.
     pub(crate) fn claim(&self, seat: &mut CellWatcher<F, W, N>)
         requires seat { IsWatcherOf self.now seat.old }
-        requires role { IsOfWatcher seat.old.view }
         requires opens { seat.old.view.client ≡ Owner }
-        ensures same { seat.new ≡ after_word_step seat.old seat.new.view.client }
-        ensures claimed { IsClaimed F.holds W N seat.new.view.client }
+        ensures { KnowsBy (λ _ now. IsClaimed F.holds W N now) seat.old seat.new }
     {
         claim_is_allowed::<F, W, N>(seat);
         seat.load_word::<_, Claim<F, W, N>>(&self.live, SHOWN);
@@ -44,11 +40,8 @@ impl<const LEAF: u32, const FAN: u32, T: Drop, F: Invariant, const W: usize, con
         value: u64,
     )
         requires seat { IsWatcherOf self.now seat.old }
-        requires role { IsOfWatcher seat.old.view }
-        requires keeps { IsKeeping seat.old.view.client }
         requires slot { slot < N }
-        requires inside { slot < length (slots_in seat.old.view.client) }
-        requires free { (version_at (slots_in seat.old.view.client) slot).state ≡ Free }
+        requires free { KeepsFree seat.old.view.client slot }
         requires word { word < W }
         ensures { seat.new ≡ after_word_step seat.old (Keeper (slot_in seat.old.view.client)
             (with_word (slots_in seat.old.view.client) slot word value)) }
@@ -63,10 +56,7 @@ impl<const LEAF: u32, const FAN: u32, T: Drop, F: Invariant, const W: usize, con
     /// Shows a free slot, whose words meet the fact, in place of the shown one.
     pub(crate) fn show(&self, seat: &mut CellWatcher<F, W, N>, slot: usize)
         requires seat { IsWatcherOf self.now seat.old }
-        requires role { IsOfWatcher seat.old.view }
-        requires keeps { IsKeeping seat.old.view.client }
-        requires inside { slot < length (slots_in seat.old.view.client) }
-        requires free { (version_at (slots_in seat.old.view.client) slot).state ≡ Free }
+        requires free { KeepsFree seat.old.view.client slot }
         requires whole { F.holds (version_at (slots_in seat.old.view.client) slot).words }
         ensures { seat.new ≡ after_word_step seat.old (Keeper slot
             (published (slots_in seat.old.view.client) (slot_in seat.old.view.client) slot)) }
@@ -80,12 +70,8 @@ impl<const LEAF: u32, const FAN: u32, T: Drop, F: Invariant, const W: usize, con
     /// grace period ago is free.
     pub(crate) fn look(&self, seat: &mut CellWatcher<F, W, N>) -> u64
         requires seat { IsWatcherOf self.now seat.old }
-        requires role { IsOfWatcher seat.old.view }
         requires keeps { IsKeeping seat.old.view.client }
-        ensures same { seat.new ≡ after_number_step seat.old result
-            (Keeper (slot_in seat.old.view.client)
-            (aged result (slots_in seat.old.view.client))) }
-        ensures later { seat.old.view.seen ≤ result }
+        ensures state { AgedAt seat.old result seat.new }
         ensures number { is_number_word result ≡ true }
     {
         age_is_allowed::<F, W, N>(seat);
@@ -95,11 +81,8 @@ impl<const LEAF: u32, const FAN: u32, T: Drop, F: Invariant, const W: usize, con
     /// Stores all words of a free slot.
     pub(crate) fn fill(&self, seat: &mut CellWatcher<F, W, N>, slot: usize, words: &[u64])
         requires seat { IsWatcherOf self.now seat.old }
-        requires role { IsOfWatcher seat.old.view }
-        requires keeps { IsKeeping seat.old.view.client }
         requires slot { slot < N }
-        requires inside { slot < length (slots_in seat.old.view.client) }
-        requires free { (version_at (slots_in seat.old.view.client) slot).state ≡ Free }
+        requires free { KeepsFree seat.old.view.client slot }
         requires sized { length (version_at (slots_in seat.old.view.client) slot).words ≡ W }
         requires words { length words.now ≡ W }
         ensures { seat.new ≡ after_word_step seat.old (Keeper (slot_in seat.old.view.client)

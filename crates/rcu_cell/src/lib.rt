@@ -6,6 +6,7 @@ mod allowed;
 pub mod cell;
 pub mod keeper;
 mod keeper_steps;
+mod keeper_waits;
 pub mod known;
 pub mod laws;
 mod opening;

@@ -1,16 +1,12 @@
 //! The opening of a cell.
-ghost use Rattle.std.specs.Prelude.{◌≡◌, ◌≢◌, ◌+◌, ◌*◌, ◌<◌, ◌≤◌, ◌^◌, ℕ, All, IfErr, IfOk};
-ghost use Rattle.std.specs.Prelude.{None, OnOk, Some, length, map, slice_index};
-ghost use Rattle.std.specs.List.{range_with_len};
-ghost use Rattle.rcu_live.specs.CpuSeat.{at_first};
+ghost use Rattle.std.specs.Prelude.{◌≡◌, ◌+◌, ◌*◌, ◌<◌, ◌≤◌, ℕ, IfOk, length, slice_index};
 ghost use Rattle.rcu_geometry.specs.Opening.{opening_refusal};
-ghost use Rattle.rcu_live.specs.Opening.{AreDealt};
+ghost use Rattle.rcu_live.specs.Opening.{AreDealt, AreFanouts};
 ghost use Rattle.rcu_seq.specs.Memory.{tested_fault};
-ghost use Rattle.rcu_live.specs.Watcher.{after_word_step, watcher_at_first};
+ghost use Rattle.rcu_live.specs.Watcher.{IsWatcherOf, KnowsBy, watcher_at_first};
 ghost use Rattle.rcu_live.specs.Words.{base_of};
-ghost use Rattle.rcu_cell.specs.Cell.{IsSeatOf, IsWatcherOf};
 ghost use Rattle.rcu_cell.specs.Steps.{IsClaimed};
-ghost use Rattle.rcu_cell.specs.Versions.{first_place, first_states};
+ghost use Rattle.rcu_cell.specs.Versions.{AreSizes, first_place, first_states};
 ghost use Rattle.rcu_cell.specs.declared.known.Known.TheVariants.{Idle, Owner};
 
 use crate::cell::Cell;
@@ -28,8 +24,7 @@ fn first_words<const W: usize, const N: usize>(
     alloc: Global,
     words: &[u64; W],
 ) -> Result<Vec<u64>, AllocError>
-    requires some { 0 < N }
-    requires small { W * N ≤ 2 ^ 32 }
+    requires { AreSizes W N }
     ensures length { IfOk result (λ behind. length behind.items ≡ first_place + W * N) }
     ensures shown { IfOk result (λ behind. slice_index behind.items 0 ≡ 0) }
     ensures copied { IfOk result (λ behind. (k : ℕ) → k < W →
@@ -84,24 +79,15 @@ impl<const LEAF: u32, const FAN: u32, T: Drop, F: Invariant, const W: usize, con
         last: u64,
         words: &[u64; W],
     ) -> Result<Opened<LEAF, FAN, T, F, W, N>, Fault>
-        requires leaf { (2 ≤ LEAF) × (LEAF ≤ 64) }
-        requires fan { (2 ≤ FAN) × (FAN ≤ 64) }
-        requires some { 0 < N }
-        requires small { W * N ≤ 2 ^ 32 }
+        requires fanouts { AreFanouts LEAF FAN }
+        requires sizes { AreSizes W N }
         requires whole { F.holds words.now }
         ensures fault { tested_fault result ≡ opening_refusal LEAF FAN cpus last }
         ensures dealt { IfOk result (λ opened. AreDealt cpus (first_place + W * N) 0 Idle
             opened.0 opened.1.items opened.2.items) }
-        ensures seat_count { IfOk result (λ opened. length opened.1.items ≡ cpus) }
-        ensures watcher_count { IfOk result (λ opened. length opened.2.items ≡ cpus) }
-        ensures each_seat { IfOk result (λ opened. All (IsSeatOf opened.0) opened.1.items) }
-        ensures each_watcher { IfOk result (λ opened. All (IsWatcherOf opened.0) opened.2.items) }
-        ensures outside { IfOk result (λ opened.
-            All (λ seat. seat.depth ≡ 0) opened.1.items) }
         ensures keeper { IfOk result (λ opened. IsWatcherOf opened.0 opened.3) }
-        ensures own { IfOk result (λ opened. opened.3 ≡ after_word_step
-            (watcher_at_first opened.0.table (base_of cpus) Owner) opened.3.view.client) }
-        ensures claimed { IfOk result (λ opened. IsClaimed F.holds W N opened.3.view.client) }
+        ensures claimed { IfOk result (λ opened. KnowsBy (λ _ now. IsClaimed F.holds W N now)
+            (watcher_at_first opened.0.table (base_of cpus) Owner) opened.3) }
     {
         check_size::<LEAF, FAN>(cpus, last)?;
         let (Ok(behind), Ok(states)) = (first_words::<W, N>(alloc, words), first_states(alloc, N))

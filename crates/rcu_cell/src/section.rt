@@ -1,8 +1,8 @@
 //! What a section reads of a cell, and whole sections.
-ghost use Rattle.std.specs.Prelude.{◌≡◌, ◌≤◌, IfOk, IsSome, OnErr, OnOk};
+ghost use Rattle.std.specs.Prelude.{◌≡◌, IfOk, OnErr, OnOk};
 ghost use Rattle.std.specs.Result.{result_err};
-ghost use Rattle.rcu_live.specs.CpuSeat.{after_word_step, enter_refusal};
-ghost use Rattle.rcu_cell.specs.Cell.{IsSeatOf, after_section};
+ghost use Rattle.rcu_live.specs.CpuSeat.{AcceptedAt, after_word_step, enter_refusal};
+ghost use Rattle.rcu_cell.specs.Cell.{IsOutside, MayLoad, after_section};
 ghost use Rattle.rcu_cell.specs.Lent.{lent};
 ghost use Rattle.rcu_cell.specs.Steps.{IsLoaded};
 ghost use Rattle.rcu_cell.specs.Versions.{IsReading, words_in};
@@ -28,8 +28,7 @@ impl<const LEAF: u32, const FAN: u32, T: Drop, F: Invariant, const W: usize, con
         &'a self,
         seat: &'a mut CellSeat<F, W, N>,
     ) -> VersionGuard<'a, LEAF, FAN, T, F, W, N>
-        requires seat { IsSeatOf self.now seat.old }
-        requires open { IsSome seat.old.view.section }
+        requires { MayLoad self.now seat.old }
         ensures cell { (lent result).cell ≡ self.now }
         ensures name { (lent result).name ≡ seat.entry.ghost_name }
         ensures same { (lent result).seat
@@ -47,8 +46,7 @@ impl<const LEAF: u32, const FAN: u32, T: Drop, F: Invariant, const W: usize, con
     /// All words of the version that is shown: one load, and one a word. They are of one version,
     /// which the section reads from now on.
     pub fn snapshot(&self, seat: &mut CellSeat<F, W, N>) -> [u64; W]
-        requires seat { IsSeatOf self.now seat.old }
-        requires open { IsSome seat.old.view.section }
+        requires { MayLoad self.now seat.old }
         ensures state { seat.new ≡ after_word_step seat.old seat.new.view.client }
         ensures held { words_in seat.new.view.client ≡ result }
         ensures reading { IsReading seat.new.view.client }
@@ -62,13 +60,11 @@ impl<const LEAF: u32, const FAN: u32, T: Drop, F: Invariant, const W: usize, con
     ///
     /// Faults: `Offline` (2) where the processor is offline; `CpuIdle` (23) where it is idle.
     pub fn read_section(&self, seat: &mut CellSeat<F, W, N>) -> Result<[u64; W], Fault>
-        requires seat { IsSeatOf self.now seat.old }
-        requires outside { seat.old.depth ≡ 0 }
-        ensures seat { IsSeatOf self.now seat.new }
-        ensures outside { seat.new.depth ≡ 0 }
+        requires { IsOutside self.now seat.old }
+        ensures outside { IsOutside self.now seat.new }
         ensures fault { result_err result ≡ enter_refusal seat.old }
-        ensures state { OnOk result (seat.new ≡ after_section seat.old seat.new.view.seen) }
-        ensures later { OnOk result (seat.old.view.seen ≤ seat.new.view.seen) }
+        ensures state { OnOk result
+            (AcceptedAt after_section seat.old seat.new.view.seen seat.new) }
         ensures whole { IfOk result (λ words. F.holds words) }
         ensures unchanged { OnErr result (seat.new ≡ seat.old) }
     {
@@ -91,8 +87,7 @@ impl<const LEAF: u32, const FAN: u32, T: Drop, F: Value<W>, const W: usize, cons
 > {
     /// The value that is shown, by one load, and one a word, in an open section.
     pub fn value(&self, seat: &mut CellSeat<F, W, N>) -> F
-        requires seat { IsSeatOf self.now seat.old }
-        requires open { IsSome seat.old.view.section }
+        requires { MayLoad self.now seat.old }
         ensures state { seat.new ≡ after_word_step seat.old seat.new.view.client }
         ensures reading { IsReading seat.new.view.client }
         ensures told { result ≡ F.decode (words_in seat.new.view.client) }
@@ -107,13 +102,11 @@ impl<const LEAF: u32, const FAN: u32, T: Drop, F: Value<W>, const W: usize, cons
     ///
     /// Faults: `Offline` (2) where the processor is offline; `CpuIdle` (23) where it is idle.
     pub fn value_section(&self, seat: &mut CellSeat<F, W, N>) -> Result<F, Fault>
-        requires seat { IsSeatOf self.now seat.old }
-        requires outside { seat.old.depth ≡ 0 }
-        ensures seat { IsSeatOf self.now seat.new }
-        ensures outside { seat.new.depth ≡ 0 }
+        requires { IsOutside self.now seat.old }
+        ensures outside { IsOutside self.now seat.new }
         ensures fault { result_err result ≡ enter_refusal seat.old }
-        ensures state { OnOk result (seat.new ≡ after_section seat.old seat.new.view.seen) }
-        ensures later { OnOk result (seat.old.view.seen ≤ seat.new.view.seen) }
+        ensures state { OnOk result
+            (AcceptedAt after_section seat.old seat.new.view.seen seat.new) }
         ensures sound { IfOk result (λ value. F.valid value) }
         ensures unchanged { OnErr result (seat.new ≡ seat.old) }
     {

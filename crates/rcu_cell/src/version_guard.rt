@@ -1,6 +1,6 @@
 //! A loaded version, lent to an open section.
 ghost use Rattle.std.specs.Prelude.{◌≡◌, ◌<◌, length};
-ghost use Rattle.rcu_cell.specs.Cell.{IsSeatOf};
+ghost use Rattle.rcu_live.specs.CpuSeat.{IsSeatOf};
 ghost use Rattle.rcu_cell.specs.Versions.{words_in};
 ghost use Rattle.rcu_cell.specs.declared.known.Known.TheVariants.{Reader};
 

@@ -10,14 +10,14 @@ pub store-requires : goal.store-requires
 store-requires g c =
     let r = c.requires in
     let i = c.loop-word.invariant in
-    let at = ready _ c.args.seat.now c.loop-word.seat _ _ _ _ i.1 r.seat r.role r.inside in
-    (omega arith, (omega arith, (at.seat_of, (at.role, (at.keeps, (r.slot, (at.inside, (at.free, c.loop-word-test.true))))))))
+    let at = ready _ c.args.seat.now c.loop-word.seat _ _ _ _ i.1 r.seat r.free.inside in
+    (omega arith, (omega arith, (at.seat_of, (r.slot, (at.keeps, c.loop-word-test.true)))))
 
 pub loop-word-init : goal.loop-word-init
 loop-word-init g c =
     let r = c.requires in
     let words = (version_at (slots_in c.args.seat.now.view.client) c.args.slot).words in
-    (words, filled_first c.args.seat.now c.args.slot r.keeps r.free, omega (arith, r.sized, r.words), λ j low. absurd (omega (arith, low)))
+    (words, filled_first c.args.seat.now c.args.slot r.free.keeps r.free.free, omega (arith, r.sized, r.words), λ j low. absurd (omega (arith, low)))
 
 pub loop-word-preserved : goal.loop-word-preserved
 loop-word-preserved g c =
@@ -26,7 +26,7 @@ loop-word-preserved g c =
     let k = c.loop-word.word in
     let x = slice_index c.args.words.now k in (
       set i.0 k x,
-      fill_more c.args.seat.now c.loop-word.seat c.store.new.seat _ _ _ _ _ _ i.1 c.store.ensures r.inside,
+      fill_more c.args.seat.now c.loop-word.seat c.store.new.seat _ _ _ _ _ _ i.1 c.store.ensures r.free.inside,
       length-set i.0 k x ∙ i.2,
       stored_more i.0 c.args.words.now k x (omega (arith, i.2, r.words, c.loop-word-test.true)) refl i.3,
     )

@@ -1,7 +1,5 @@
 use Rattle.std.proofs.Common.{List, ap, length, length-set, map, subst, sym, ◌∙◌}
 use Rattle.std.proofs.lemmas.List.{length-replicate}
-use Rattle.rcu_live.specs.View.{IsOfWatcher}
-use Rattle.rcu_live.specs.Watcher.{Watching}
 use Rattle.rcu_cell.specs.Versions.{AreSized, IsKeeping, slot_in, slots_in, state_of}
 use Rattle.rcu_cell.specs.declared.known.Known.{Known}
 use Rattle.rcu_cell.specs.declared.slot_state.SlotState.{SlotState}
@@ -11,9 +9,8 @@ use Rattle.rcu_cell.proofs.keeper.Keeper.new.Goals as goal
 
 pub invariant_of-result : goal.invariant_of-result
 invariant_of-result g c =
-    let t = c.claim.ensures.claimed in
+    let t = c.claim.ensures.told in
     let states = c.requires.states in record {
-      role = subst (λ (w : Watching Known). IsOfWatcher w.view) (sym c.claim.ensures.same) c.requires.role;
       keeps = subst IsKeeping (sym t.is) tt;
       shown = ap slot_in t.is;
       inside = c.requires.some;

@@ -17,9 +17,8 @@ invariant_of-self g c =
     subst (λ (w : Watching Known). IsFirstFree (slots_in w.view.client) c.in-Some.by)
     (sym c.self.view_is) c.in-Some.ensures.first in
     let was : IsKeptBeside _ old items c.self.inside.shown =
-    record { role = k.role; keeps = k.keeps; same = k.shown; states = k.states; sized = k.sized } in
+    record { keeps = k.keeps; same = k.shown; states = k.states; sized = k.sized } in
     let now = kept_updated _ old c.fill.new.seat c.show.new.seat items c.self.inside.shown c.in-Some.by c.args.words.now was first c.told-words c.fill.ensures c.show.ensures in record {
-      role = now.role;
       keeps = now.keeps;
       shown = now.same;
       inside =

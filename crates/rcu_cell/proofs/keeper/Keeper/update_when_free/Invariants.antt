@@ -1,0 +1,17 @@
+use Rattle.std.proofs.Common.{◌≡◌}
+use Rattle.std.specs.Prelude.{IfErr}
+use Rattle.rcu_seq.specs.declared.fault.Fault.TheVariants.{Exhausted}
+use Rattle.rcu_live.specs.Waits.{HasRested}
+use Rattle.rcu_cell.specs.Cell.{IsSeatOf, IsWatcherOf}
+use Rattle.rcu_cell.specs.Waits.{HasAged}
+use Rattle.rcu_cell.proofs.keeper.Keeper.update_when_free.Given as goal
+
+abbrev pub invariant-loop : goal.invariant-loop
+invariant-loop g l = record {
+  cell : IsWatcherOf l.cell l.self;
+  seat : IsSeatOf l.cell l.seat;
+  depth : l.seat.depth ≡ 0;
+  rested : HasRested l.fn.seat l.seat;
+  aged : HasAged l.fn.self l.self;
+  waited : IfErr l.waited (λ fault. fault ≡ Exhausted);
+}

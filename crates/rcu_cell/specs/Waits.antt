@@ -1,0 +1,57 @@
+-- What an update that waits for a free slot leaves.
+use Rattle.std.specs.Prelude.{◌≡◌, ℕ, ◌<◌, ◌≤◌, List}
+use Rattle.rcu_seq.specs.Numbers.{Number}
+use Rattle.rcu_live.specs.Board.{Object}
+use Rattle.rcu_live.specs.CpuSeat.{IsSeatOf, Seated}
+use Rattle.rcu_live.specs.Waits.{HasRested}
+use Rattle.rcu_live.specs.Watcher.{Watching}
+use Rattle.rcu_cell.specs.Keeper.{IsFirstFree, IsFull, Updated}
+use Rattle.rcu_cell.specs.Versions.{aged, slot_in, slots_in}
+use Rattle.rcu_cell.specs.declared.keeper.Retired.{Retired}
+use Rattle.rcu_cell.specs.declared.known.Known.{Known}
+use Rattle.rcu_cell.specs.declared.known.Known.TheVariants.{Keeper}
+
+-- after looks at the number, the first of which saw one number and the last one another, with so many loads made so far
+abbrev pub after_looks : Watching Known → Number → Number → ℕ → Watching Known
+after_looks keeper first last loads = record keeper {
+  view = record keeper.view {
+    seen = last;
+    loads = loads;
+    client = Keeper (slot_in keeper.view.client) (aged last (aged first (slots_in keeper.view.client)));
+  };
+}
+
+-- from one state of the keeper to the other it looked at the number, once or more often, and did nothing else
+pub record HasAged (before after : Watching Known) : Type 0 where
+  pub first : Number
+  pub later : before.view.seen ≤ first
+  pub onward : first ≤ after.view.seen
+  pub state : after ≡ after_looks before first after.view.seen after.view.loads
+
+-- from one state of the keeper to the other it looked at the number, until a slot was free, and then published the words
+-- in the first free one
+pub record HasUpdated (before : Watching Known) (words : List ℕ) (retired : Retired) (after : Watching Known) : Type 0 where
+  pub looked : Watching Known
+  pub ages : HasAged before looked
+  pub updated : Updated looked words retired after
+
+-- the caller's seat after a wait: it is of the cell still, its sections nest as deep, and it passed quiescent states; with a
+-- section open it did nothing
+pub record HasWaited (cell : Object) (before after : Seated Known) : Type 0 where
+  pub seat_of : IsSeatOf cell after
+  pub depth : after.depth ≡ before.depth
+  pub rested : HasRested before after
+  pub in_section : 0 < before.depth → after ≡ before
+
+-- an update replaced the shown slot: at once where a slot was free, and else as soon as one was
+pub record UpdatedInTime (before : Watching Known) (words : List ℕ) (retired : Retired) (after : Watching Known) : Type 0 where
+  pub replaced : retired.slot ≡ slot_in before.view.client
+  pub at_once : (slot : ℕ) → IsFirstFree (slots_in before.view.client) slot → Updated before words retired after
+  pub waited : IsFull (slots_in before.view.client) → HasUpdated before words retired after
+
+-- an update was given up, of a caller whose sections nest this deep: in a section nothing happened, and else no slot became
+-- free at any look
+pub record HasGivenUp (depth : ℕ) (before after : Watching Known) : Type 0 where
+  pub in_section : 0 < depth → after ≡ before
+  pub full : depth ≡ 0 → IsFull (slots_in after.view.client)
+  pub looked : depth ≡ 0 → HasAged before after

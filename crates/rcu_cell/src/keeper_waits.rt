@@ -1,0 +1,115 @@
+//! Updates that wait until a slot is free.
+ghost use Rattle.std.specs.Prelude.{◌≡◌, ◌<◌, IfErr, IfOk, OnErr, OnOk};
+ghost use Rattle.rcu_seq.specs.declared.fault.Fault.{Fault};
+ghost use Rattle.rcu_live.specs.Waits.{wait_fault};
+ghost use Rattle.rcu_cell.specs.Cell.{IsSeatOf, IsWatcherOf};
+ghost use Rattle.rcu_cell.specs.Waits.{HasGivenUp, HasUpdated, HasWaited, UpdatedInTime};
+
+use crate::allowed::words_are_few;
+use crate::cell::Cell;
+use crate::keeper::{Keeper, Retired};
+use crate::rule::{CellSeat, Invariant};
+use crate::value::Value;
+use rcu_seq::cookie::Cookie;
+use rcu_seq::fault::Fault;
+use rcu_seq::tag::Tag;
+use std::sync::Wait;
+
+impl<F: Invariant, const W: usize, const N: usize> Keeper<F, W, N> {
+    /// Publishes a version as soon as a slot is free: looks, and drives the engine until then.
+    fn update_when_free<const LEAF: u32, const FAN: u32, T: Drop>(
+        &mut self,
+        rt: &impl Wait,
+        cell: &Cell<LEAF, FAN, T, F, W, N>,
+        seat: &mut CellSeat<F, W, N>,
+        words: &[u64; W],
+    ) -> Result<Retired, Fault>
+        requires cell { IsWatcherOf cell.now self.old }
+        requires seat { IsSeatOf cell.now seat.old }
+        requires shut { seat.old.depth ≡ 0 }
+        requires whole { F.holds words.now }
+        ensures cell { IsWatcherOf cell.now self.new }
+        ensures seat { HasWaited cell.now seat.old seat.new }
+        ensures updated { IfOk result (λ retired.
+            HasUpdated self.old words.now retired self.new) }
+        ensures fault { IfErr result (λ fault. fault ≡ Fault.Exhausted) }
+        ensures given_up { OnErr result (HasGivenUp 0 self.old self.new) }
+    {
+        let cookie = Cookie::of(Tag::of_first_epoch(self.age(cell)));
+        let mut waited = Ok(());
+        for _ in rt.forever() {
+            if let Ok(retired) = self.update(cell, words) {
+                return Ok(retired);
+            }
+            waited?;
+            waited = cell.live().wait_once(rt, seat, cookie);
+            self.age(cell);
+        }
+        unreachable!()
+    }
+
+    /// Publishes a version, as [`update`](Self::update). Where no slot is free, it looks at the
+    /// number and drives the engine until one is. The caller's processor passes quiescent states
+    /// meanwhile, unless it is offline or idle. There is a second slot, without which none would
+    /// ever be free.
+    ///
+    /// No proof says that it returns. A section that stays open holds it up, and a processor whose
+    /// thread passes no quiescent state and is neither idle nor offline.
+    ///
+    /// Faults: `InSection` (4) where a section is open on the seat, which the caller would wait
+    /// for, and then nothing happened; `Exhausted` (11) where the last number is reached, so that
+    /// no slot becomes free any more.
+    pub fn update_or_wait<const LEAF: u32, const FAN: u32, T: Drop>(
+        &mut self,
+        rt: &impl Wait,
+        cell: &Cell<LEAF, FAN, T, F, W, N>,
+        seat: &mut CellSeat<F, W, N>,
+        words: &[u64; W],
+    ) -> Result<Retired, Fault>
+        requires cell { IsWatcherOf cell.now self.old }
+        requires seat { IsSeatOf cell.now seat.old }
+        requires several { 1 < N }
+        requires whole { F.holds words.now }
+        ensures cell { IsWatcherOf cell.now self.new }
+        ensures seat { HasWaited cell.now seat.old seat.new }
+        ensures outside { OnOk result (seat.old.depth ≡ 0) }
+        ensures updated { IfOk result (λ retired.
+            UpdatedInTime self.old words.now retired self.new) }
+        ensures fault { IfErr result (λ fault. fault ≡ wait_fault seat.old.depth) }
+        ensures given_up { OnErr result (HasGivenUp seat.old.depth self.old self.new) }
+    {
+        if seat.depth() > 0 {
+            return Err(Fault::InSection);
+        }
+        if let Ok(retired) = self.update(cell, words) {
+            return Ok(retired);
+        }
+        self.update_when_free(rt, cell, seat, words)
+    }
+}
+
+impl<F: Value<W>, const W: usize, const N: usize> Keeper<F, W, N> {
+    /// Publishes a value, as [`update_or_wait`](Self::update_or_wait) does its words.
+    pub fn update_value_or_wait<const LEAF: u32, const FAN: u32, T: Drop>(
+        &mut self,
+        rt: &impl Wait,
+        cell: &Cell<LEAF, FAN, T, F, W, N>,
+        seat: &mut CellSeat<F, W, N>,
+        value: F,
+    ) -> Result<Retired, Fault>
+        requires cell { IsWatcherOf cell.now self.old }
+        requires seat { IsSeatOf cell.now seat.old }
+        requires several { 1 < N }
+        requires sound { F.valid value }
+        ensures cell { IsWatcherOf cell.now self.new }
+        ensures seat { HasWaited cell.now seat.old seat.new }
+        ensures outside { OnOk result (seat.old.depth ≡ 0) }
+        ensures updated { IfOk result (λ retired.
+            UpdatedInTime self.old (F.in_words value) retired self.new) }
+        ensures fault { IfErr result (λ fault. fault ≡ wait_fault seat.old.depth) }
+        ensures given_up { OnErr result (HasGivenUp seat.old.depth self.old self.new) }
+    {
+        words_are_few::<F, W>();
+        self.update_or_wait(rt, cell, seat, &value.to_words())
+    }
+}
