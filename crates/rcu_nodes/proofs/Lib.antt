@@ -6,3 +6,14 @@ pub mod HeldNodes
 pub mod Keeping
 pub mod Walking
 pub mod Starts
+pub mod Searching
+pub mod Chains
+pub mod Hindsight
+pub mod Counting
+pub mod FirstNodes
+pub mod Filling
+pub mod Keeps
+pub mod Mirrors
+pub mod Tending
+pub mod Trims
+pub mod Cascade

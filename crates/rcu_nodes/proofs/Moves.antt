@@ -1,5 +1,5 @@
 -- Each step on the nodes keeps the rule, and tells what it is to tell.
-use Rattle.std.proofs.Common.{◌≡◌, ◌≢◌, ◌⊎◌, ℕ, zero, suc, ◌+◌, ◌<◌, ◌≤◌, List, ◌∷◌, length, set}
+use Rattle.std.proofs.Common.{◌≡◌, ◌≢◌, ◌⊎◌, ℕ, zero, suc, ◌+◌, ◌<◌, ◌≤◌, List, [], ◌∷◌, length, set}
 use Rattle.std.proofs.Common.{Some, Option, refl, sym, ap, ◌∙◌, subst, inl, inr, arith, length-set}
 use Rattle.std.specs.Prelude.{slice_index, max}
 use Rattle.std.proofs.Math.Nat.{le-max_left, le-max_right}
@@ -11,13 +11,13 @@ use lib.ListN.{get_elem?}
 use Rattle.atomic_table.proofs.Lists.{at_map, set_here, set_else}
 use Rattle.rcu_live.specs.Client.{Slots, Views, AllowsNumber, AllowsWord}
 use Rattle.rcu_live.proofs.ClientRows.{at_inside, inside, reseat, row_told, word_told}
-use Rattle.rcu_nodes.specs.Nodes.{IsOn, IsReader, IsTarget, IsUnlinked, MayRead, aged, aged_node, first_nodes, held_in}
-use Rattle.rcu_nodes.specs.Nodes.{first_place, in_state, linked_to, no_node, node_at, place_of, renewed, row_of, worded}
+use Rattle.rcu_nodes.specs.Nodes.{IsHeld, IsOn, IsReader, IsTarget, IsUnlinked, MayRead, after_hop, aged, aged_node, first_nodes}
+use Rattle.rcu_nodes.specs.Nodes.{first_place, hops_in, in_state, linked_to, no_node, node_at, place_of, renewed, row_of, worded}
 use Rattle.rcu_nodes.specs.Rule.{AreKept, IsKept, Knows, Leads, Reading}
 use Rattle.rcu_nodes.specs.Stability.{SeatKnows, one_changes}
 use Rattle.rcu_nodes.specs.Steps.{Followed, IsAged, IsClaimed, IsFollowed, IsLeft, IsLinked, IsPublished, IsRead}
 use Rattle.rcu_nodes.specs.Steps.{IsWritten}
-use Rattle.rcu_nodes.specs.declared.known.Held.{Held}
+use Rattle.rcu_nodes.specs.declared.known.Hop.{Hop}
 use Rattle.rcu_nodes.specs.declared.known.Known.{Known}
 use Rattle.rcu_nodes.specs.declared.known.Known.TheVariants.{Idle, Owner, Reader, Keeper}
 use Rattle.rcu_nodes.specs.declared.known.Node.{Node}
@@ -40,17 +40,26 @@ module _ (fits : List ℕ → Type 0) (joins : ℕ → List ℕ → List ℕ →
   -- what a reader knows of each node that it holds
   pub knows_held : (nodes : List Node) (latest keeper id : ℕ) (section : Option ℕ) (known : Known) → IsReader known
       → Knows first roots links width count nodes latest keeper id section known
-      → (k : ℕ) (x : Held) → get_elem? (held_in known) k ≡ some x → Reading nodes section x
-  knows_held nodes latest keeper id section Idle reads k m x e = absurd (some-ne-none x (sym e))
-  knows_held nodes latest keeper id section Owner reads k m x e = absurd reads
-  knows_held nodes latest keeper id section (Reader held) reads k m x e = k m x e
-  knows_held nodes latest keeper id section (Keeper l s) reads k m x e = absurd reads
+      → (i : ℕ) (words : List ℕ) → IsHeld known i words → Reading nodes section i words
+  knows_held nodes latest keeper id section Idle reads k i words h = absurd (some-ne-none h.1 (sym h.2))
+  knows_held nodes latest keeper id section Owner reads k i words h = absurd reads
+  knows_held nodes latest keeper id section (Reader hops) reads k i words h = k i words h
+  knows_held nodes latest keeper id section (Keeper l s) reads k i words h = absurd reads
 
-  one_more : (nodes : List Node) (section : Option ℕ) (y : Held) (held : List Held) → Reading nodes section y
-      → ((k : ℕ) (x : Held) → get_elem? held k ≡ some x → Reading nodes section x)
-      → (k : ℕ) (x : Held) → get_elem? (y ∷ held) k ≡ some x → Reading nodes section x
-  one_more nodes section y held mine others zero x e = subst (Reading nodes section) (some-injective _ _ e) mine
-  one_more nodes section y held mine others (suc k) x e = others k x e
+  -- and after one hop more
+  one_more : (nodes : List Node) (section : Option ℕ) (hop : Hop) (hops : List Hop)
+      → ((j : ℕ) → hop.to ≡ suc j → Reading nodes section j hop.words)
+      → ((i : ℕ) (words : List ℕ) → IsHeld (Reader hops) i words → Reading nodes section i words)
+      → (i : ℕ) (words : List ℕ) → IsHeld (Reader (hop ∷ hops)) i words → Reading nodes section i words
+  one_more nodes section hop hops mine others i words h = at h.0 h.1 h.2 h.3 h.4
+    where
+      at : (k : ℕ) (x : Hop) → get_elem? (hop ∷ hops) k ≡ some x → x.to ≡ suc i → x.words ≡ words
+          → Reading nodes section i words
+      at zero x e to is =
+          let same : hop ≡ x = some-injective _ _ e in
+          subst (Reading nodes section i) (ap (λ (y : Hop). y.words) same ∙ is)
+          (mine i (ap (λ (y : Hop). y.to) same ∙ to))
+      at (suc k) x e to is = others i words (k, x, e, to, is)
 
   -- a node on which a section is, with the words that it has there
   is_on : (ws : List ℕ) (nodes : List Node) (latest keeper id at i : ℕ) (known : Known) (words : List ℕ)
@@ -60,8 +69,7 @@ module _ (fits : List ℕ → Type 0) (joins : ℕ → List ℕ → List ℕ →
   is_on ws nodes latest keeper id at i known words kept reads k (inl on) =
       let r = kept.rooted i on.0 in (r.0, r.1, r.3 ∙ on.1, subst (MayRead at) (sym r.2) tt)
   is_on ws nodes latest keeper id at i known words kept reads k (inr on) =
-      let r : Reading nodes (Some at) (record { node = i; words = words }) =
-      knows_held nodes latest keeper id (Some at) known reads k on.0 (record { node = i; words = words }) on.1 in
+      let r : Reading nodes (Some at) i words = knows_held nodes latest keeper id (Some at) known reads k i words on in
       (r.on, r.here, r.same, subst (λ (n : ℕ). MayRead n r.on.state) (sym (number_of_some at r.opened r.is_open)) r.may)
 
   -- nothing is known anew
@@ -72,14 +80,14 @@ module _ (fits : List ℕ → Type 0) (joins : ℕ → List ℕ → List ℕ →
   stays ws homes xs h id cpu section known at = one_changes fits joins first roots links width count ws homes xs h id
       (cpu, section, known) (h.seats id cpu section known at)
 
-  -- a link of a node on which a section is: the section comes to a node, on which it may be
+  -- a link of a node on which a section is: the section makes a hop, and may be on the node to which it leads
   comes : (ws : List ℕ) (homes : Slots (Unit {0})) (xs : Views Known)
       (h : IsKept fits joins first roots links width count ws homes xs) (id : ℕ) (cpu : Option ℕ) (at : ℕ) (was : Known)
       (i l : ℕ) (v : Node) (words : List ℕ) → get_elem? xs id ≡ some (cpu, Some at, was) → IsReader was
       → get_elem? h.nodes i ≡ some v → v.words ≡ words → MayRead at v.state → l < links
       → (after : Known)
       × IsKept fits joins first roots links width count ws homes (set xs id (cpu, Some at, after))
-      × Followed fits (joins l words) width count was (slice_index ws (place_of (links + width) i l)) after
+      × Followed fits (joins l words) width count was i l (slice_index ws (place_of (links + width) i l)) after
   comes ws homes xs h id cpu at was i l v words there reads here same may low =
       let x : ℕ = slice_index ws (place_of (links + width) i l) in
       let many : length v.links ≡ links = h.kept.linked i v here in
@@ -93,32 +101,44 @@ module _ (fits : List ℕ → Type 0) (joins : ℕ → List ℕ → List ℕ →
       leads : (x : ℕ) → slice_index v.links l ≡ x
           → (after : Known)
           × IsKept fits joins first roots links width count ws homes (set xs id (cpu, Some at, after))
-          × Followed fits (joins l words) width count was x after
-      leads zero is = (was, stays ws homes xs h id cpu (Some at) was there, inl (refl, refl))
+          × Followed fits (joins l words) width count was i l x after
+      leads zero is =
+          let after : Known = after_hop was i l zero [] in (
+            after,
+            one_changes fits joins first roots links width count ws homes xs h id (cpu, Some at, after)
+                (one_more h.nodes (Some at) (record { from = i; link = l; to = zero; words = [] }) (hops_in was)
+                (λ j e. absurd (omega (arith, e)))
+                (knows_held h.nodes h.latest h.keeper id (Some at) was reads k)),
+            record { words = []; is = refl; led = inl (refl, refl) },
+          )
       leads (suc j) is =
           let d : Leads joins h.nodes v l j = h.kept.led i v here (may_is_used at v.state may) l j low is in
           let may_to : MayRead at d.to.state = may_follow at v.state d.to.state d.lasts may in
-          let y : Held = record { node = j; words = d.to.words } in
-          let after : Known = Reader (y ∷ held_in was) in
-          let mine : Reading h.nodes (Some at) y =
+          let hop : Hop = record { from = i; link = l; to = suc j; words = d.to.words } in
+          let after : Known = after_hop was i l (suc j) d.to.words in
+          let mine : Reading h.nodes (Some at) j d.to.words =
           record { opened = at; is_open = refl; on = d.to; here = d.here; same = refl; may = may_to } in
-          let all : (m : ℕ) (z : Held) → get_elem? (y ∷ held_in was) m ≡ some z → Reading h.nodes (Some at) z =
-          one_more h.nodes (Some at) y (held_in was) mine (knows_held h.nodes h.latest h.keeper id (Some at) was reads k) in
+          let all : (i : ℕ) (words : List ℕ) → IsHeld after i words → Reading h.nodes (Some at) i words =
+          one_more h.nodes (Some at) hop (hops_in was)
+          (λ m e. subst (λ (n : ℕ). Reading h.nodes (Some at) n d.to.words) (the_same j m e) mine)
+          (knows_held h.nodes h.latest h.keeper id (Some at) was reads k) in
           let bound : j < length h.nodes = inside h.nodes j d.to d.here in (
             after,
             one_changes fits joins first roots links width count ws homes xs h id (cpu, Some at, after) all,
-            inr (
-              j,
-              refl,
-              record {
-                words = d.to.words;
-                is = refl;
-                inside = omega (arith, bound, h.kept.few);
-                size = h.kept.sized j d.to d.here;
-                whole = h.kept.whole j d.to d.here (may_is_used at d.to.state may_to);
-                joined = subst (λ (ws : List ℕ). joins l ws d.to.words) same d.joined;
-              },
-            ),
+            record {
+              words = d.to.words;
+              is = refl;
+              led = inr (
+                j,
+                refl,
+                record {
+                  inside = omega (arith, bound, h.kept.few);
+                  size = h.kept.sized j d.to d.here;
+                  whole = h.kept.whole j d.to d.here (may_is_used at d.to.state may_to);
+                  joined = subst (λ (ws : List ℕ). joins l ws d.to.words) same d.joined;
+                },
+              );
+            },
           )
 
   -- the load of a link
@@ -139,7 +159,7 @@ module _ (fits : List ℕ → Type 0) (joins : ℕ → List ℕ → List ℕ →
             let o' = is_on ws h.nodes h.latest h.keeper id at i' was words' h.kept reads (h.seats id cpu (Some at) was there) on' in
             let node : o.0 ≡ o'.0 = some-injective _ _ (sym o.1 ∙ (ap (λ (m : ℕ). get_elem? h.nodes m) one ∙ o'.1)) in
             let three : words ≡ words' = sym o.2 ∙ (ap (λ (x : Node). x.words) node ∙ o'.2) in
-            subst (λ (y : ℕ × List ℕ). Followed fits (joins y.0 y.1) width count was (slice_index ws p) t.0) (λ z. (two z, three z)) t.2,
+            subst (λ (y : ℕ × ℕ × List ℕ). Followed fits (joins y.1 y.2) width count was y.0 y.1 (slice_index ws p) t.0) (λ z. (one z, two z, three z)) t.2,
       )
 
   -- the load of a word
@@ -191,10 +211,10 @@ module _ (fits : List ℕ → Type 0) (joins : ℕ → List ℕ → List ℕ →
           → Knows first roots links width count s t id j o d
       other j who o Idle apart e k = tt
       other j who o Owner apart e k = absurd (apart (sym k.2 ∙ is_keeper))
-      other j who o (Reader held) apart e k = λ m x f.
-          let r : Reading h.nodes o x = k m x f in
-          let q = goes j r.opened x.node who (Reader held) r.on
-          (subst (λ (z : Option ℕ). get_elem? xs j ≡ some (who, z, Reader held)) r.is_open e) r.here r.may in
+      other j who o (Reader hops) apart e k = λ i words held.
+          let r : Reading h.nodes o i words = k i words held in
+          let q = goes j r.opened i who (Reader hops) r.on
+          (subst (λ (z : Option ℕ). get_elem? xs j ≡ some (who, z, Reader hops)) r.is_open e) r.here r.may in
           record { opened = r.opened; is_open = r.is_open; on = q.0; here = q.1; same = q.2 ∙ r.same; may = q.3 }
       other j who o (Keeper c l) apart e k = absurd (apart (sym k.2 ∙ is_keeper))
 

@@ -6,33 +6,34 @@ use Rattle.rcu_live.specs.CpuSeat.{Seated, after_word_step}
 use Rattle.rcu_nodes.specs.Graph.{IsAt, IsWalking}
 use Rattle.rcu_nodes.specs.Nodes.{IsHeld, IsOn, IsReader}
 use Rattle.rcu_nodes.specs.Search.{IsFound}
-use Rattle.rcu_nodes.specs.Steps.{Came, Followed}
+use Rattle.rcu_nodes.specs.Steps.{Came, Followed, IsLedTo}
 use Rattle.rcu_nodes.specs.declared.known.Known.{Known}
 
 the_same : (a b : ℕ) → suc a ≡ suc b → a ≡ b
 the_same a b e = omega (arith, e)
 
-module _ (fits joins : List ℕ → Type 0) (width count : ℕ) (was : Known) where
-  pub came_to : (j : ℕ) (now : Known) → Followed fits joins width count was (suc j) now
-      → Came fits joins width count was j now
-  came_to j now (inl none) = absurd (omega (arith, none.0))
-  came_to j now (inr some) =
-      subst (λ (n : ℕ). Came fits joins width count was n now) (sym (the_same j some.0 some.1)) some.2
+module _ (fits joins : List ℕ → Type 0) (width count : ℕ) (was : Known) (i l : ℕ) where
+  pub came_to : (j : ℕ) (now : Known) (f : Followed fits joins width count was i l (suc j) now)
+      → Came fits joins width count j f.words
+  came_to j now f = led f.words f.led
+    where
+      led : (words : List ℕ) → IsLedTo fits joins width count (suc j) words → Came fits joins width count j words
+      led words (inl none) = absurd (omega (arith, none.0))
+      led words (inr some) =
+          subst (λ (n : ℕ). Came fits joins width count n words) (sym (the_same j some.0 some.1)) some.2
 
-  came_reads : (j : ℕ) (now : Known) → Came fits joins width count was j now → IsReader now
-  came_reads j now c = subst IsReader (sym c.is) tt
+  pub still_reads : (x : ℕ) (now : Known) → Followed fits joins width count was i l x now → IsReader now
+  still_reads x now f = subst IsReader (sym f.is) tt
 
-  still_reads : (x : ℕ) (now : Known) → IsReader was → Followed fits joins width count was x now → IsReader now
-  still_reads x now reads (inl none) = subst IsReader (sym none.1) reads
-  still_reads x now reads (inr some) = came_reads some.0 now some.2
+  pub came_holds : (j : ℕ) (now : Known) (f : Followed fits joins width count was i l (suc j) now) → IsHeld now j f.words
+  came_holds j now f = subst (λ (k : Known). IsHeld k j f.words) (sym f.is)
+      (0, record { from = i; link = l; to = suc j; words = f.words }, refl, refl, refl)
 
-  pub came_holds : (j : ℕ) (now : Known) (c : Came fits joins width count was j now) → IsHeld now j c.words
-  came_holds j now c = subst (λ (k : Known). IsHeld k j c.words) (sym c.is) (0, refl)
-
-  pub found_it : (key found j : ℕ) (now : Known) (c : Came fits joins width count was j now)
-      → found ≡ slice_index c.words 0 → found ≡ key → IsFound fits key now j
-  found_it key found j now c told is =
-      record { words = c.words; held = came_holds j now c; whole = c.whole; is = sym told ∙ is }
+  pub found_it : (key found j : ℕ) (now : Known) (f : Followed fits joins width count was i l (suc j) now)
+      → found ≡ slice_index f.words 0 → found ≡ key → IsFound fits key now j
+  found_it key found j now f told is =
+      let c = came_to j now f in
+      record { words = f.words; held = came_holds j now f; whole = c.whole; is = sym told ∙ is }
 
 -- a seat whose section knows something else of the graph
 pub walks_on : (graph : Object) (old new : Seated Known) → new ≡ after_word_step old new.view.client
@@ -40,20 +41,20 @@ pub walks_on : (graph : Object) (old new : Seated Known) → new ≡ after_word_
 walks_on graph old new same w reads =
     subst (IsWalking graph) (sym same) (record { seat_of = w.seat_of; is_open = w.is_open; reads = reads })
 
-module _ (fits joins : List ℕ → Type 0) (width count : ℕ) (graph : Object) (old new : Seated Known) where
+module _ (fits joins : List ℕ → Type 0) (width count : ℕ) (graph : Object) (old new : Seated Known) (i l : ℕ) where
   pub followed_walks : (x : ℕ) → new ≡ after_word_step old new.view.client → IsWalking graph old
-      → Followed fits joins width count old.view.client x new.view.client → IsWalking graph new
+      → Followed fits joins width count old.view.client i l x new.view.client → IsWalking graph new
   followed_walks x same w f =
-      walks_on graph old new same w (still_reads fits joins width count old.view.client x new.view.client w.reads f)
+      walks_on graph old new same w (still_reads fits joins width count old.view.client i l x new.view.client f)
 
   pub followed_at : (first : ℕ → List ℕ) (roots j : ℕ) → new ≡ after_word_step old new.view.client
-      → IsWalking graph old → Followed fits joins width count old.view.client (suc j) new.view.client
+      → IsWalking graph old → Followed fits joins width count old.view.client i l (suc j) new.view.client
       → IsAt first roots count graph new j
   followed_at first roots j same w f =
-      let c = came_to fits joins width count old.view.client j new.view.client f in record {
+      let c = came_to fits joins width count old.view.client i l j new.view.client f in record {
         walking = followed_walks (suc j) same w f;
-        words = c.words;
-        on = inr (came_holds fits joins width count old.view.client j new.view.client c);
+        words = f.words;
+        on = inr (came_holds fits joins width count old.view.client i l j new.view.client f);
         inside = c.inside;
       }
 

@@ -1,18 +1,11 @@
 -- A graph of nodes and the seats that belong to it.
-use Rattle.std.specs.Prelude.{◌≡◌, ◌<◌, ℕ, suc, IsSome, List, Option, Some, None}
+use Rattle.std.specs.Prelude.{◌<◌, ℕ, suc, IsSome, List, Option, Some, None}
 use Rattle.rcu_live.specs.Board.{Object}
+pub use Rattle.rcu_live.specs.CpuSeat.{IsSeatOf}
 use Rattle.rcu_live.specs.CpuSeat.{Seated}
-use Rattle.rcu_live.specs.Watcher.{Watching}
-use Rattle.rcu_live.specs.Words.{base_of}
+pub use Rattle.rcu_live.specs.Watcher.{IsWatcherOf}
 use Rattle.rcu_nodes.specs.Nodes.{IsOn, IsReader}
 use Rattle.rcu_nodes.specs.declared.known.Known.{Known}
-
--- a processor's seat of the graph's engine, and a watcher's
-abbrev pub IsSeatOf : Object → Seated Known → Type 0
-IsSeatOf graph seat = (seat.table ≡ graph.table) × (seat.view.base ≡ base_of graph.cpus)
-
-abbrev pub IsWatcherOf : Object → Watching Known → Type 0
-IsWatcherOf graph watcher = (watcher.table ≡ graph.table) × (watcher.view.base ≡ base_of graph.cpus)
 
 -- the word of a link that leads to this node, and of one that leads nowhere
 abbrev pub word_to : Option ℕ → ℕ

@@ -3,8 +3,7 @@ use Rattle.std.specs.Prelude.{◌≡◌, ◌⊎◌, ◌<◌, ℕ, suc, List, len
 use Rattle.rcu_seq.specs.Numbers.{Number}
 use Rattle.rcu_live.specs.Board.{Object}
 use Rattle.rcu_live.specs.View.{IsOfWatcher}
-use Rattle.rcu_live.specs.Watcher.{Watching, after_number_step, after_word_step}
-use Rattle.rcu_nodes.specs.Graph.{IsWatcherOf}
+use Rattle.rcu_live.specs.Watcher.{IsWatcherOf, Watching, after_number_step, after_word_step}
 use Rattle.rcu_nodes.specs.Nodes.{IsKeeping, IsTarget, aged, in_state, latest_in, linked_to, node_at, nodes_in, renewed}
 use Rattle.rcu_nodes.specs.Nodes.{state_at, worded}
 use Rattle.rcu_nodes.specs.declared.known.Known.{Known}

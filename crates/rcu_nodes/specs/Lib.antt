@@ -1,8 +1,16 @@
+pub mod Absence
+pub mod Counts
+pub mod Filling
 pub mod Graph
 pub mod Keeper
+pub mod Mirror
 pub mod Nodes
 pub mod Opening
 pub mod Rule
 pub mod Search
 pub mod Stability
 pub mod Steps
+pub mod Walks
+pub mod Tended
+pub mod Trimming
+pub mod Updates

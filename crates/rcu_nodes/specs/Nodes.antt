@@ -1,12 +1,13 @@
 -- Nodes that lead to one another: what state each is in, and what a look at the number makes of it.
-use Rattle.std.specs.Prelude.{◌≡◌, ◌≢◌, ℕ, suc, ◌+◌, ◌*◌, ◌⊎◌, ◌<◌, ◌≤◌, if◌then◌else◌, Bool, true, false, List, [], ◌++◌}
+use Rattle.std.specs.Prelude.{◌≡◌, ◌≢◌, ℕ, suc, ◌+◌, ◌*◌, ◌⊎◌, ◌<◌, ◌≤◌, if◌then◌else◌, Bool, true, false, List, [], ◌++◌, ◌∷◌}
 use Rattle.std.specs.Prelude.{map, replicate, slice_index, slice_index_or, slice_set, nat_lt}
+use Rattle.std.specs.Coded.{Unit-prop}
 use Rattle.std.specs.List.{range_with_len}
 use mathlib.Core.Option.{some}
 use lib.ListN.{get_elem?}
 use Rattle.rcu_seq.specs.Numbers.{Number}
 use Rattle.rcu_live.specs.Numbers.{is_past}
-use Rattle.rcu_nodes.specs.declared.known.Held.{Held}
+use Rattle.rcu_nodes.specs.declared.known.Hop.{Hop}
 use Rattle.rcu_nodes.specs.declared.known.Known.{Known}
 use Rattle.rcu_nodes.specs.declared.known.Known.TheVariants.{Idle, Owner, Reader, Keeper}
 use Rattle.rcu_nodes.specs.declared.known.Node.{Node}
@@ -134,41 +135,53 @@ abbrev pub IsTarget : (List ℕ → List ℕ → Type 0) → List ℕ → List N
 IsTarget joins words nodes x =
     (j : ℕ) → x ≡ suc j → (to : Node) × (get_elem? nodes j ≡ some to) × (to.state ≡ Live) × joins words to.words
 
--- what a section came to
-abbrev pub held_in : Known → List Held
-held_in Idle = []
-held_in Owner = []
-held_in (Reader held) = held
-held_in (Keeper latest nodes) = []
+-- the hops of a section, the latest one first
+abbrev pub hops_in : Known → List Hop
+hops_in Idle = []
+hops_in Owner = []
+hops_in (Reader hops) = hops
+hops_in (Keeper latest nodes) = []
+
+-- a section made one hop more: from the node i along the link l it found the word x, and came to these words
+abbrev pub after_hop : Known → ℕ → ℕ → ℕ → List ℕ → Known
+after_hop was i l x words = Reader (record { from = i; link = l; to = x; words = words } ∷ hops_in was)
 
 -- it reads, it keeps the nodes
 abbrev pub IsReader : Known → Type 0
 IsReader Idle = Unit {0}
 IsReader Owner = ⊥
-IsReader (Reader held) = Unit {0}
+IsReader (Reader hops) = Unit {0}
 IsReader (Keeper latest nodes) = ⊥
+
+-- (of which there is one proof at most, as of each fact that a struct keeps)
+pub reader_once : (known : Known) → IsProp (IsReader known)
+reader_once Idle = Unit-prop
+reader_once Owner = λ a b. absurd a
+reader_once (Reader hops) = Unit-prop
+reader_once (Keeper latest nodes) = λ a b. absurd a
 
 abbrev pub IsKeeping : Known → Type 0
 IsKeeping Idle = ⊥
 IsKeeping Owner = ⊥
-IsKeeping (Reader held) = ⊥
+IsKeeping (Reader hops) = ⊥
 IsKeeping (Keeper latest nodes) = Unit {0}
 
 abbrev pub nodes_in : Known → List Node
 nodes_in Idle = []
 nodes_in Owner = []
-nodes_in (Reader held) = []
+nodes_in (Reader hops) = []
 nodes_in (Keeper latest nodes) = nodes
 
 abbrev pub latest_in : Known → Number
 latest_in Idle = 0
 latest_in Owner = 0
-latest_in (Reader held) = 0
+latest_in (Reader hops) = 0
 latest_in (Keeper latest nodes) = latest
 
--- the section came to the node i, which has these words
+-- the section came to the node i, which has these words: one of its hops led there
 abbrev pub IsHeld : Known → ℕ → List ℕ → Type 0
-IsHeld known i words = (k : ℕ) × (get_elem? (held_in known) k ≡ some record { node = i; words = words })
+IsHeld known i words =
+    (k : ℕ) × (h : Hop) × (get_elem? (hops_in known) k ≡ some h) × (h.to ≡ suc i) × (h.words ≡ words)
 
 -- the node i has these words: it is a root, or the section holds it
 abbrev pub IsOn : (ℕ → List ℕ) → ℕ → Known → ℕ → List ℕ → Type 0
@@ -178,5 +191,5 @@ IsOn first roots known i words = ((i < roots) × (first i ≡ words)) ⊎ IsHeld
 abbrev pub closed : Known → Known
 closed Idle = Idle
 closed Owner = Owner
-closed (Reader held) = Idle
+closed (Reader hops) = Idle
 closed (Keeper latest nodes) = Keeper latest nodes

@@ -5,21 +5,20 @@ use mathlib.Core.Option.{some}
 use lib.ListN.{get_elem?}
 use Rattle.rcu_seq.specs.Numbers.{Number}
 use Rattle.rcu_live.specs.Client.{Slots, Views}
-use Rattle.rcu_nodes.specs.Nodes.{IsBy, IsUsed, MayRead, Outlives, first_nodes, first_place, place_of, row_of}
-use Rattle.rcu_nodes.specs.declared.known.Held.{Held}
+use Rattle.rcu_nodes.specs.Nodes.{IsBy, IsHeld, IsUsed, MayRead, Outlives, first_nodes, first_place, place_of, row_of}
 use Rattle.rcu_nodes.specs.declared.known.Known.{Known}
 use Rattle.rcu_nodes.specs.declared.known.Known.TheVariants.{Idle, Owner, Reader, Keeper}
 use Rattle.rcu_nodes.specs.declared.known.Node.{Node}
 use Rattle.rcu_nodes.specs.declared.node_state.NodeState.TheVariants.{Live}
 
--- what a seat whose section is this knows of a node that it came to: the node's words, in a state in which the section
--- may be on it
-pub record Reading (nodes : List Node) (section : Option Number) (held : Held) : Type 0 where
+-- what a seat whose section is this knows of the node i, to which it came: the node has these words, in a state in which
+-- the section may be on it
+pub record Reading (nodes : List Node) (section : Option Number) (i : ℕ) (words : List ℕ) : Type 0 where
   pub opened : Number
   pub is_open : section ≡ Some opened
   pub on : Node
-  pub here : get_elem? nodes held.node ≡ some on
-  pub same : on.words ≡ held.words
+  pub here : get_elem? nodes i ≡ some on
+  pub same : on.words ≡ words
   pub may : MayRead opened on.state
 
 -- what a seat knows is so: of these nodes, which one seat keeps
@@ -27,8 +26,8 @@ abbrev pub Knows : (ℕ → List ℕ) → ℕ → ℕ → ℕ → ℕ → List N
 Knows first roots links width count nodes latest keeper id section Idle = Unit {0}
 Knows first roots links width count nodes latest keeper id section Owner =
     (nodes ≡ first_nodes links width first roots count) × (latest ≡ 0) × (keeper ≡ id)
-Knows first roots links width count nodes latest keeper id section (Reader held) =
-    (k : ℕ) (h : Held) → get_elem? held k ≡ some h → Reading nodes section h
+Knows first roots links width count nodes latest keeper id section (Reader hops) =
+    (i : ℕ) (words : List ℕ) → IsHeld (Reader hops) i words → Reading nodes section i words
 Knows first roots links width count nodes latest keeper id section (Keeper l known) = (l ≡ latest) × (known ≡ nodes) × (keeper ≡ id)
 
 -- a link leads to a node on which whoever may be on the first one may be, and joins the two

@@ -30,8 +30,8 @@ module _ (first : ℕ → List ℕ) (roots links width count : ℕ) (nodes : Lis
       → Knows first roots links width count nodes latest keeper id (Some number) known
   knows_opened keeper id number Idle k = tt
   knows_opened keeper id number Owner k = k
-  knows_opened keeper id number (Reader held) k = λ m h e.
-      let r : Reading nodes None h = k m h e in absurd (no_section r.opened r.is_open)
+  knows_opened keeper id number (Reader hops) k = λ i words held.
+      let r : Reading nodes None i words = k i words held in absurd (no_section r.opened r.is_open)
   knows_opened keeper id number (Keeper s known) k = k
 
   knows_closed : (keeper id : ℕ) (section : Option Number) (known : Known)
@@ -39,14 +39,14 @@ module _ (first : ℕ → List ℕ) (roots links width count : ℕ) (nodes : Lis
       → Knows first roots links width count nodes latest keeper id None (closed known)
   knows_closed keeper id section Idle k = tt
   knows_closed keeper id section Owner k = k
-  knows_closed keeper id section (Reader held) k = tt
+  knows_closed keeper id section (Reader hops) k = tt
   knows_closed keeper id section (Keeper s known) k = k
 
   -- who keeps the slots after they are handed over
   abbrev pub keeper_after : ℕ → ℕ → Known → ℕ
   keeper_after keeper new Idle = keeper
   keeper_after keeper new Owner = new
-  keeper_after keeper new (Reader held) = keeper
+  keeper_after keeper new (Reader hops) = keeper
   keeper_after keeper new (Keeper s known) = new
 
   -- the seat to which it is handed over knows it
@@ -54,7 +54,7 @@ module _ (first : ℕ → List ℕ) (roots links width count : ℕ) (nodes : Lis
       → Knows first roots links width count nodes latest (keeper_after keeper new known) new None known
   knows_handed keeper id new Idle k = tt
   knows_handed keeper id new Owner k = (k.0, k.1, refl)
-  knows_handed keeper id new (Reader held) k = k
+  knows_handed keeper id new (Reader hops) k = k
   knows_handed keeper id new (Keeper s known) k = (k.0, k.1, refl)
 
   -- another seat has kept them only where it is not that one which hands them over
@@ -63,7 +63,7 @@ module _ (first : ℕ → List ℕ) (roots links width count : ℕ) (nodes : Lis
       → keeper_after keeper new known ≡ j
   still_keeps keeper id new j Idle k apart e = e
   still_keeps keeper id new j Owner k apart e = absurd (apart (sym e ∙ k.2))
-  still_keeps keeper id new j (Reader held) k apart e = e
+  still_keeps keeper id new j (Reader hops) k apart e = e
   still_keeps keeper id new j (Keeper s known) k apart e = absurd (apart (sym e ∙ k.2))
 
   knows_still : (keeper id new j : ℕ) (known : Known) (section : Option Number) (other : Known)
@@ -73,7 +73,7 @@ module _ (first : ℕ → List ℕ) (roots links width count : ℕ) (nodes : Lis
   knows_still keeper id new j known section Idle mine apart k = tt
   knows_still keeper id new j known section Owner mine apart k =
       (k.0, k.1, still_keeps keeper id new j known mine apart k.2)
-  knows_still keeper id new j known section (Reader held) mine apart k = k
+  knows_still keeper id new j known section (Reader hops) mine apart k = k
   knows_still keeper id new j known section (Keeper s all) mine apart k =
       (k.0, k.1, still_keeps keeper id new j known mine apart k.2)
 

@@ -1,32 +1,36 @@
 -- What each step on the nodes tells.
-use Rattle.std.specs.Prelude.{◌≡◌, ◌⊎◌, ℕ, suc, ◌+◌, ◌<◌, List, ◌∷◌, length, slice_index, max}
+use Rattle.std.specs.Prelude.{◌≡◌, ◌⊎◌, ℕ, suc, ◌+◌, ◌<◌, List, [], length, slice_index, max}
 use Rattle.rcu_seq.specs.Numbers.{Number}
-use Rattle.rcu_nodes.specs.Nodes.{IsOn, aged, first_nodes, held_in, in_state, latest_in, linked_to, nodes_in, place_of}
+use Rattle.rcu_nodes.specs.Nodes.{IsOn, after_hop, aged, first_nodes, in_state, latest_in, linked_to, nodes_in, place_of}
 use Rattle.rcu_nodes.specs.Nodes.{renewed, worded}
 use Rattle.rcu_nodes.specs.declared.known.Known.{Known}
-use Rattle.rcu_nodes.specs.declared.known.Known.TheVariants.{Reader, Keeper}
+use Rattle.rcu_nodes.specs.declared.known.Known.TheVariants.{Keeper}
 use Rattle.rcu_nodes.specs.declared.node_state.NodeState.TheVariants.{Left, Live}
 
--- the section came to the node j, by a link that may lead there: the node is whole, and the section holds it beside all
--- that it held
-pub record Came (fits joins : List ℕ → Type 0) (width count : ℕ) (was : Known) (j : ℕ) (now : Known) : Type 0 where
-  pub words : List ℕ
-  pub is : now ≡ Reader (record { node = j; words = words } ∷ held_in was)
+-- the section came to the node j, which has these words, by a link that may lead there: the node is whole
+pub record Came (fits joins : List ℕ → Type 0) (width count j : ℕ) (words : List ℕ) : Type 0 where
   pub inside : j < count
   pub size : length words ≡ width
   pub whole : fits words
   pub joined : joins words
 
--- a link was loaded: it leads nowhere, and the section holds what it held; or the section came to a node
-abbrev pub Followed : (List ℕ → Type 0) → (List ℕ → Type 0) → ℕ → ℕ → Known → ℕ → Known → Type 0
-Followed fits joins width count was x now =
-    ((x ≡ 0) × (now ≡ was)) ⊎ ((j : ℕ) × (x ≡ suc j) × Came fits joins width count was j now)
+-- where this word of a link leads: nowhere, where there are no words, or to a node which has these words
+abbrev pub IsLedTo : (List ℕ → Type 0) → (List ℕ → Type 0) → ℕ → ℕ → ℕ → List ℕ → Type 0
+IsLedTo fits joins width count x words =
+    ((x ≡ 0) × (words ≡ [])) ⊎ ((j : ℕ) × (x ≡ suc j) × Came fits joins width count j words)
+
+-- the link l of the node i was loaded, and this word was found there: the hops of the section are those before, and this
+-- one
+pub record Followed (fits joins : List ℕ → Type 0) (width count : ℕ) (was : Known) (i l x : ℕ) (now : Known) : Type 0 where
+  pub words : List ℕ
+  pub is : now ≡ after_hop was i l x words
+  pub led : IsLedTo fits joins width count x words
 
 abbrev pub IsFollowed : (List ℕ → Type 0) → (ℕ → List ℕ → List ℕ → Type 0) → (ℕ → List ℕ) → ℕ → ℕ → ℕ → ℕ → ℕ → Known
     → ℕ → Known → Type 0
 IsFollowed fits joins first roots links width count place was x now =
     (i l : ℕ) (words : List ℕ) → l < links → place ≡ place_of (links + width) i l → IsOn first roots was i words
-    → Followed fits (joins l words) width count was x now
+    → Followed fits (joins l words) width count was i l x now
 
 -- a word of a node was loaded: the one that it had when the section came to it
 abbrev pub IsRead : (ℕ → List ℕ) → ℕ → ℕ → ℕ → ℕ → Known → ℕ → Known → Type 0

@@ -72,9 +72,9 @@ impl<
         &self.live
     }
 
-    /// Loads a link of the node that the section is on, and returns the node that it leads to: the
-    /// section holds that one too until it closes, whole and with its words as they are (Linux's
-    /// `rcu_dereference` of a `next`).
+    /// Loads a link of the node that the section is on, and returns the node that it led to at that
+    /// load: the section holds that one too until it closes, whole and with its words as they are
+    /// (Linux's `rcu_dereference` of a `next`). The seat's view has the load as one hop more.
     pub fn follow(
         &self,
         seat: &mut GraphSeat<F, K, L, W, N>,
@@ -86,8 +86,8 @@ impl<
         ensures same { seat.new ≡ after_word_step seat.old seat.new.view.client }
         ensures walking { IsWalking self.now seat.new }
         ensures came { (words : List ℕ) → IsOn F.first K seat.old.view.client from words →
-            Followed F.fits (F.joins link words) W N seat.old.view.client (word_to result)
-            seat.new.view.client }
+            Followed F.fits (F.joins link words) W N seat.old.view.client from link
+            (word_to result) seat.new.view.client }
         ensures on { IfSome result (λ node. IsAt F.first K N self.now seat.new node) }
     {
         // A borrow of a field shows the prover what the type keeps: that the words fit in memory.

@@ -1,9 +1,7 @@
 //! The steps of who keeps a graph, by a watcher's seat.
 ghost use Rattle.std.specs.Prelude.{◌≡◌, ◌≤◌, ◌<◌, ◌+◌, true};
 ghost use Rattle.rcu_live.specs.Numbers.{is_number_word};
-ghost use Rattle.rcu_live.specs.View.{IsOfWatcher};
-ghost use Rattle.rcu_live.specs.Watcher.{after_word_step};
-ghost use Rattle.rcu_nodes.specs.Graph.{IsWatcherOf};
+ghost use Rattle.rcu_live.specs.Watcher.{IsWatcherOf, after_word_step};
 ghost use Rattle.rcu_nodes.specs.Keeper.{CanLink, IsKeeperOf, IsReady, after_leave, after_link};
 ghost use Rattle.rcu_nodes.specs.Keeper.{after_look, after_publish, after_write};
 ghost use Rattle.rcu_nodes.specs.Nodes.{IsUnlinked, first_nodes, node_at, nodes_in, state_at};
@@ -31,7 +29,6 @@ impl<
     /// Loads a word: the seat keeps the nodes from now on.
     pub(crate) fn claim(&self, seat: &mut GraphWatcher<F, K, L, W, N>)
         requires seat { IsWatcherOf self.now seat.old }
-        requires role { IsOfWatcher seat.old.view }
         requires owner { seat.old.view.client ≡ Owner }
         ensures { seat.new ≡ after_word_step seat.old (Keeper 0 (first_nodes L W F.first K N)) }
     {

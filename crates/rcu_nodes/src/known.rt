@@ -10,9 +10,13 @@ pub struct Node {
     pub words: LinkedList<u64>,
 }
 
-/// A node that a section came to, and the words that it has.
-pub struct Held {
-    pub node: u64,
+/// A load of a link by an open section: of which node and which link, the word that was found (0:
+/// it leads nowhere, else one more than the node that it leads to), and that node's words, none
+/// where it leads nowhere.
+pub struct Hop {
+    pub from: u64,
+    pub link: u64,
+    pub to: u64,
     pub words: LinkedList<u64>,
 }
 
@@ -22,8 +26,8 @@ pub enum Known {
     Idle,
     /// That it is to keep the nodes, which are as at first.
     Owner,
-    /// The nodes that its section came to, the latest one first.
-    Reader(LinkedList<Held>),
+    /// The hops of its section, the latest one first.
+    Reader(LinkedList<Hop>),
     /// A number that no retirement is above, and all nodes.
     Keeper(u64, LinkedList<Node>),
 }

@@ -1,10 +1,22 @@
-//! What the rule says of nodes that open sections hold, over the definitions alone.
-ghost use Rattle.std.specs.Prelude.{◌≡◌, ◌≢◌, ◌<◌, ◌+◌, List, Option, ℕ, slice_index, suc};
+//! What the rule says of nodes that open sections hold, and of what their hops find, over the
+//! definitions alone.
+ghost use Rattle.std.specs.Prelude.{◌≡◌, ◌≢◌, ◌<◌, ◌≤◌, ◌+◌, ◌∷◌, ◌⊎◌, Bool, IsSome, IsTrue};
+ghost use Rattle.std.specs.Prelude.{List, Option, ℕ, slice_index, slice_set, suc, true};
 ghost use mathlib.Core.Option.{some};
 ghost use lib.ListN.{get_elem?};
 ghost use Rattle.rcu_live.specs.Client.{Slots, Views};
-ghost use Rattle.rcu_nodes.specs.Nodes.{IsHeld, IsReader, node_at, place_of};
+ghost use Rattle.rcu_live.specs.Numbers.{is_open_at};
+ghost use Rattle.rcu_live.specs.Watcher.{Watching};
+ghost use Rattle.rcu_nodes.specs.Absence.{AreMadeBy, IsChained, IsHistory, IsKeeperStep};
+ghost use Rattle.rcu_nodes.specs.Absence.{IsLinkedKey, IsOnIfOurs, IsTrueOf};
+ghost use Rattle.rcu_nodes.specs.Keeper.{after_leave, after_link, after_look, after_publish};
+ghost use Rattle.rcu_nodes.specs.Keeper.{after_write};
+ghost use Rattle.rcu_nodes.specs.Nodes.{IsHeld, IsOn, IsReader, hops_in, nodes_in, place_of};
+ghost use Rattle.rcu_nodes.specs.Nodes.{state_at};
 ghost use Rattle.rcu_nodes.specs.Rule.{IsKept};
+ghost use Rattle.rcu_nodes.specs.Search.{Ascends, IsSearched};
+ghost use Rattle.rcu_nodes.specs.Steps.{IsFollowed};
+ghost use Rattle.rcu_nodes.specs.declared.known.Hop.{Hop};
 ghost use Rattle.rcu_nodes.specs.declared.known.Known.{Known};
 ghost use Rattle.rcu_nodes.specs.declared.known.Known.TheVariants.{Keeper};
 ghost use Rattle.rcu_nodes.specs.declared.known.Node.{Node};
@@ -65,4 +77,76 @@ pub fn live_nodes_lead_to_live_nodes<
         slice_index table (place_of (L + W) node link) ≡ suc next →
         (to : Node) × (get_elem? nodes next ≡ some to) × (to.state ≡ Live)
         × F.joins link v.words to.words }
+{}
+
+/// A hop tells where its link led at the load: the word that it found is that of the link, as the
+/// keeper knows the nodes then, and a node to which it came has the words that the hop has. So a
+/// lookup by one hop takes effect at its load, where it finds nothing too.
+pub fn hops_are_true_of_the_nodes<
+    F: Shape,
+    const K: usize,
+    const L: usize,
+    const W: usize,
+    const N: usize,
+>()
+    ensures { (table : List ℕ) (homes : Slots (Unit {0})) (xs : Views Known)
+        (keeper seat node link latest : ℕ) (who own cpu section : Option ℕ) (nodes : List Node)
+        (was now : Known) (words : List ℕ) →
+        IsKept F.fits F.joins F.first K L W N table homes xs →
+        IsKept F.fits F.joins F.first K L W N table homes (slice_set xs seat (cpu, section, now)) →
+        get_elem? xs keeper ≡ some (who, own, Keeper latest nodes) →
+        get_elem? xs seat ≡ some (cpu, section, was) → IsReader was →
+        IsOn F.first K was node words → link < L →
+        IsFollowed F.fits F.joins F.first K L W N (place_of (L + W) node link) was
+        (slice_index table (place_of (L + W) node link)) now →
+        (hop : Hop) × (hops_in now ≡ hop ∷ hops_in was) × (hop.from ≡ node) × (hop.link ≡ link)
+        × IsTrueOf nodes hop }
+{}
+
+/// At each moment the chain of a root is one: a live node leads along its first link to a live one
+/// with a greater key, of the same chain, where the user's facts say so of two joined nodes.
+pub fn chains_go_up<F: Shape, const K: usize, const L: usize, const W: usize, const N: usize>()
+    ensures { (ours : List ℕ → Bool) (root : ℕ) (table : List ℕ) (homes : Slots (Unit {0}))
+        (xs : Views Known) (keeper latest : ℕ) (who own : Option ℕ) (nodes : List Node) →
+        IsKept F.fits F.joins F.first K L W N table homes xs →
+        get_elem? xs keeper ≡ some (who, own, Keeper latest nodes) → Ascends F.joins 0 →
+        ((from to : List ℕ) → F.joins 0 from to → IsTrue (ours from) → IsTrue (ours to)) →
+        root < K → 0 < L → IsTrue (ours (F.first root)) → IsChained ours root nodes }
+{}
+
+/// The keeper's calls make the steps of such histories beside an open section: one of `Graph::link`
+/// or `Graph::publish` where the node whose link is stored is free, or on its chain still.
+pub fn calls_are_keeper_steps()
+    ensures write { (ours : List ℕ → Bool) (opened root node word value : ℕ)
+        (keeper : Watching Known) → state_at (nodes_in keeper.view.client) node ≡ Free →
+        IsKeeperStep ours opened root (nodes_in keeper.view.client)
+        (nodes_in (after_write keeper node word value).view.client) }
+    ensures link { (ours : List ℕ → Bool) (opened root node link value : ℕ)
+        (keeper : Watching Known) → (state_at (nodes_in keeper.view.client) node ≡ Free)
+        ⊎ IsOnIfOurs ours root (nodes_in keeper.view.client) node →
+        IsKeeperStep ours opened root (nodes_in keeper.view.client)
+        (nodes_in (after_link keeper node link value).view.client) }
+    ensures publish { (ours : List ℕ → Bool) (opened root from link to : ℕ)
+        (keeper : Watching Known) → state_at (nodes_in keeper.view.client) from ≡ Live →
+        state_at (nodes_in keeper.view.client) to ≡ Free →
+        IsOnIfOurs ours root (nodes_in keeper.view.client) from →
+        IsKeeperStep ours opened root (nodes_in keeper.view.client)
+        (nodes_in (after_publish keeper from link to).view.client) }
+    ensures leave { (ours : List ℕ → Bool) (opened root node : ℕ) (keeper : Watching Known) →
+        IsKeeperStep ours opened root (nodes_in keeper.view.client)
+        (nodes_in (after_leave keeper node).view.client) }
+    ensures look { (ours : List ℕ → Bool) (opened root number : ℕ) (keeper : Watching Known) →
+        is_open_at number opened ≡ true → IsKeeperStep ours opened root
+        (nodes_in keeper.view.client) (nodes_in (after_look keeper number).view.client) }
+{}
+
+/// A key that is linked at each moment from the section's beginning to the search's end is found.
+/// Meanwhile each step of the keeper is as `IsKeeperStep` says: it stores no link of a node that it
+/// took off the chain.
+pub fn linked_keys_are_found()
+    ensures { (ours : List ℕ → Bool) (opened root key last : ℕ) (nodes : ℕ → List Node)
+        (was now : Known) (found : Option ℕ) (search : IsSearched root key was found now) →
+        IsHistory ours opened root last nodes →
+        ((t : ℕ) → t ≤ last → IsLinkedKey root key (nodes t)) →
+        AreMadeBy nodes last (search.last ∷ search.path) → IsSome found }
 {}

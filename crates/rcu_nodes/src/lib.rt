@@ -3,16 +3,24 @@
 #![tactic(auto)]
 
 mod allowed;
+mod counted_nodes;
 pub mod graph;
+pub mod keeper;
 mod keeper_steps;
 pub mod known;
+mod known_nodes;
 pub mod laws;
+mod mirror;
 pub mod node_state;
 mod opening;
 pub mod places;
 pub mod rule;
 mod search;
+pub mod walk;
+mod walk_steps;
 
 pub use graph::Graph;
+pub use keeper::{Full, Keeper};
 pub use node_state::NodeState;
 pub use rule::{GraphSeat, GraphWatcher, Shape};
+pub use walk::Walk;

@@ -1,16 +1,15 @@
 //! The opening of a graph.
-ghost use Rattle.std.specs.Prelude.{◌≡◌, ◌≢◌, ◌+◌, ◌*◌, ◌<◌, ◌≤◌, ◌^◌, ℕ, All, IfOk, length, map};
+ghost use Rattle.std.specs.Prelude.{◌≡◌, ◌≢◌, ◌+◌, ◌*◌, ◌<◌, ◌≤◌, ℕ, All, IfOk, length, map};
 ghost use Rattle.std.specs.Prelude.{slice_index};
 ghost use Rattle.std.specs.List.{range_with_len};
 ghost use Rattle.rcu_geometry.specs.Opening.{opening_refusal};
-ghost use Rattle.rcu_live.specs.Opening.{AreDealt};
+ghost use Rattle.rcu_live.specs.Opening.{AreDealt, AreFanouts};
 ghost use Rattle.rcu_live.specs.Watcher.{after_word_step, watcher_at_first};
 ghost use Rattle.rcu_live.specs.Words.{base_of};
 ghost use Rattle.rcu_seq.specs.Memory.{tested_fault};
-ghost use Rattle.rcu_nodes.specs.Graph.{IsSeatOf, IsWatcherOf};
 ghost use Rattle.rcu_nodes.specs.Keeper.{IsKeeperOf};
 ghost use Rattle.rcu_nodes.specs.Nodes.{first_nodes, first_place, place_of};
-ghost use Rattle.rcu_nodes.specs.Opening.{AreFirst};
+ghost use Rattle.rcu_nodes.specs.Opening.{AreFirst, AreSizes};
 ghost use Rattle.rcu_nodes.specs.declared.known.Known.TheVariants.{Idle, Keeper, Owner};
 
 use crate::graph::Graph;
@@ -42,10 +41,7 @@ fn first_words<const K: usize, const L: usize, const W: usize, const N: usize>(
     alloc: Global,
     roots: &[[u64; W]; K],
 ) -> Result<Vec<u64>, AllocError>
-    requires words { 0 < W }
-    requires roots { K ≤ N }
-    requires row { L + W ≤ 2 ^ 32 }
-    requires small { (L + W) * N ≤ 2 ^ 32 }
+    requires { AreSizes K L W N }
     ensures length { IfOk result (λ behind. length behind.items ≡ first_place + (L + W) * N) }
     ensures first { IfOk result (λ behind. AreFirst roots.now K L W behind.items) }
 {
@@ -97,23 +93,13 @@ impl<
         last: u64,
         roots: &[[u64; W]; K],
     ) -> Result<Opened<LEAF, FAN, T, F, K, L, W, N>, Fault>
-        requires leaf { (2 ≤ LEAF) × (LEAF ≤ 64) }
-        requires fan { (2 ≤ FAN) × (FAN ≤ 64) }
-        requires words { 0 < W }
-        requires roots { K ≤ N }
-        requires row { L + W ≤ 2 ^ 32 }
-        requires small { (L + W) * N ≤ 2 ^ 32 }
+        requires fanouts { AreFanouts LEAF FAN }
+        requires sizes { AreSizes K L W N }
         requires first { roots.now ≡ map F.first (range_with_len 0 K) }
         requires whole { All F.fits roots.now }
         ensures fault { tested_fault result ≡ opening_refusal LEAF FAN cpus last }
         ensures dealt { IfOk result (λ opened. AreDealt cpus (first_place + (L + W) * N) 0 Idle
             opened.0 opened.1.items opened.2.items) }
-        ensures seat_count { IfOk result (λ opened. length opened.1.items ≡ cpus) }
-        ensures watcher_count { IfOk result (λ opened. length opened.2.items ≡ cpus) }
-        ensures each_seat { IfOk result (λ opened. All (IsSeatOf opened.0) opened.1.items) }
-        ensures each_watcher { IfOk result (λ opened. All (IsWatcherOf opened.0) opened.2.items) }
-        ensures outside { IfOk result (λ opened.
-            All (λ seat. seat.depth ≡ 0) opened.1.items) }
         ensures keeper { IfOk result (λ opened. IsKeeperOf N opened.0 opened.3) }
         ensures own { IfOk result (λ opened. opened.3 ≡ after_word_step
             (watcher_at_first opened.0.table (base_of cpus) Owner)

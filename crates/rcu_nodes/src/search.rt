@@ -4,7 +4,7 @@ ghost use Rattle.std.specs.Prelude.{◌≡◌, ◌<◌, ℕ, IfSome, List, slice
 ghost use Rattle.rcu_live.specs.CpuSeat.{after_word_step};
 ghost use Rattle.rcu_nodes.specs.Graph.{IsAt, IsWalking};
 ghost use Rattle.rcu_nodes.specs.Nodes.{IsOn};
-ghost use Rattle.rcu_nodes.specs.Search.{Ascends, IsFound};
+ghost use Rattle.rcu_nodes.specs.Search.{Ascends, IsFound, IsSearched};
 
 use crate::graph::Graph;
 use crate::rule::{GraphSeat, Shape};
@@ -32,7 +32,8 @@ impl<
     }
 
     /// Searches the chain of a root for a key, by a load a hop, and one a key. The section holds
-    /// each node that it came to; the one that it returns has the key, and is whole.
+    /// each node that it came to; the one that it returns has the key, and is whole. It returns
+    /// none only where a hop led nowhere, or to a greater key.
     pub fn find(&self, seat: &mut GraphSeat<F, K, L, W, N>, root: usize, key: u64) -> Option<usize>
         requires walking { IsWalking self.now seat.old }
         requires root { root < K }
@@ -40,6 +41,8 @@ impl<
         requires ascends { Ascends F.joins 0 }
         ensures same { seat.new ≡ after_word_step seat.old seat.new.view.client }
         ensures walking { IsWalking self.now seat.new }
+        ensures searched { IsSearched root key seat.old.view.client result
+            seat.new.view.client }
         ensures found { IfSome result (λ node. IsFound F.fits key seat.new.view.client node) }
         ensures on { IfSome result (λ node. IsAt F.first K N self.now seat.new node) }
     {

@@ -1,10 +1,11 @@
-use Rattle.std.proofs.Common.{◌≡◌, ℕ, ◌<◌, List, refl, sym, subst, inl, inr, arith}
+use Rattle.std.proofs.Common.{◌≡◌, ℕ, ◌<◌, List, Some, None, refl, sym, subst, inl, inr, arith}
 use Rattle.std.specs.Prelude.{slice_index}
 use Rattle.rcu_live.specs.CpuSeat.{Seated}
 use Rattle.rcu_nodes.specs.Graph.{IsAt, IsWalking}
 use Rattle.rcu_nodes.specs.Nodes.{IsOn, IsReader}
-use Rattle.rcu_nodes.specs.Search.{IsFound}
+use Rattle.rcu_nodes.specs.Search.{IsFound, IsSearched}
 use Rattle.rcu_nodes.specs.declared.known.Known.{Known}
+use Rattle.rcu_nodes.proofs.Searching.{IsOnPath, arrives, goes_on, sets_out}
 use Rattle.rcu_nodes.proofs.Walking.{came_holds, came_to, found_it, hops_on, walks_at}
 use Rattle.rcu_nodes.proofs.graph.Graph.find.Goals as goal
 
@@ -23,6 +24,7 @@ chain-init g c = record {
     inl (c.requires.root, refl),
     sym (c.key_of-least.ensures.told (g.F.Shape.first c.args.root) (inl (c.requires.root, refl))),
   );
+  path = sets_out c.args.root c.args.key c.key_of-least.new.seat.view.client;
 }
 
 pub follow-requires : goal.follow-requires
@@ -45,10 +47,38 @@ returns-then-found-key-clause-on g c =
 pub returns-then-found-key-clause-found : goal.returns-then-found-key-clause-found
 returns-then-found-key-clause-found g c =
     let on = c.chain.invariant.on in
-    let came = came_to _ _ _ _ _ _ _ (c.in-Some.ensures.came on.0 on.1) in
-    let held = came_holds _ _ _ _ _ _ _ came in
+    let f = c.in-Some.ensures.came on.0 on.1 in
+    let held = came_holds _ _ _ _ _ _ _ _ _ f in
     subst (λ (s : Seated Known). IsFound g.F.Shape.fits c.args.key s.view.client c.in-Some.next) (sym c.key_of-found.ensures.same)
-    (found_it _ _ _ _ _ _ _ _ _ came (c.key_of-found.ensures.told came.words (inr held)) c.if-found-key.true)
+    (found_it _ _ _ _ _ _ _ _ _ _ _ f (c.key_of-found.ensures.told f.words (inr held)) c.if-found-key.true)
+
+pub returns-then-found-key-clause-searched : goal.returns-then-found-key-clause-searched
+returns-then-found-key-clause-searched g c =
+    let i = c.chain.invariant in
+    let f = c.in-Some.ensures.came i.on.0 i.on.1 in
+    let held = came_holds _ _ _ _ _ _ _ _ _ f in
+    let told = c.key_of-found.ensures.told f.words (inr held) in
+    subst (λ (s : Seated Known × Seated Known). IsSearched c.args.root c.args.key s.0.view.client (Some c.in-Some.next) s.1.view.client)
+    (λ z. (c.key_of-least.ensures.same z, sym c.key_of-found.ensures.same z))
+    (arrives _ _ _ _ _ _ _ _ _ _ _ (Some c.in-Some.next) i.path f (refl, omega (arith, told, c.if-found-key.true)))
+
+pub returns-then-found-key-2-clause-searched : goal.returns-then-found-key-2-clause-searched
+returns-then-found-key-2-clause-searched g c =
+    let i = c.chain.invariant in
+    let f = c.in-Some.ensures.came i.on.0 i.on.1 in
+    let held = came_holds _ _ _ _ _ _ _ _ _ f in
+    let told = c.key_of-found.ensures.told f.words (inr held) in
+    subst (λ (s : Seated Known × Seated Known). IsSearched c.args.root c.args.key s.0.view.client None s.1.view.client)
+    (λ z. (c.key_of-least.ensures.same z, sym c.key_of-found.ensures.same z))
+    (arrives _ _ _ _ _ _ _ _ _ _ _ None i.path f (inr (omega (arith, told, c.if-found-key-2.true))))
+
+pub returns-in_default-clause-searched : goal.returns-in_default-clause-searched
+returns-in_default-clause-searched g c =
+    let i = c.chain.invariant in
+    let f = c.in_default.ensures.came i.on.0 i.on.1 in
+    subst (λ (s : Seated Known). IsSearched c.args.root c.args.key s.view.client None c.follow.new.seat.view.client)
+    c.key_of-least.ensures.same
+    (arrives _ _ _ _ _ _ _ _ _ _ _ None i.path f (inl refl))
 
 pub returns-then-found-key-2-clause-walking : goal.returns-then-found-key-2-clause-walking
 returns-then-found-key-2-clause-walking g c =
@@ -57,20 +87,25 @@ returns-then-found-key-2-clause-walking g c =
 pub chain-smaller : goal.chain-smaller
 chain-smaller g c =
     let on = c.chain.invariant.on in
-    let came = came_to _ _ _ _ _ _ _ (c.in-Some.ensures.came on.0 on.1) in
-    let held = came_holds _ _ _ _ _ _ _ came in
-    let up : slice_index on.0 0 < slice_index came.words 0 = c.requires.ascends on.0 came.words came.joined in
-    let told = c.key_of-found.ensures.told came.words (inr held) in
+    let f = c.in-Some.ensures.came on.0 on.1 in
+    let came = came_to _ _ _ _ _ _ _ _ _ f in
+    let held = came_holds _ _ _ _ _ _ _ _ _ f in
+    let up : slice_index on.0 0 < slice_index f.words 0 = c.requires.ascends on.0 f.words came.joined in
+    let told = c.key_of-found.ensures.told f.words (inr held) in
     omega (arith, up, told, on.2, c.if-found-key.false, c.if-found-key-2.false)
 
 pub chain-preserved : goal.chain-preserved
 chain-preserved g c =
     let i = c.chain.invariant in
-    let came = came_to _ _ _ _ _ _ _ (c.in-Some.ensures.came i.on.0 i.on.1) in
-    let held = came_holds _ _ _ _ _ _ _ came in record {
+    let f = c.in-Some.ensures.came i.on.0 i.on.1 in
+    let came = came_to _ _ _ _ _ _ _ _ _ f in
+    let held = came_holds _ _ _ _ _ _ _ _ _ f in
+    let told = c.key_of-found.ensures.told f.words (inr held) in record {
       same = hops_on c.key_of-least.new.seat c.chain.seat c.follow.new.seat c.key_of-found.new.seat i.same c.in-Some.ensures.same c.key_of-found.ensures.same;
       reader = subst (λ (s : Seated Known). IsReader s.view.client) (sym c.key_of-found.ensures.same) c.in-Some.ensures.walking.reads;
       inside = came.inside;
       on = subst (λ (s : Seated Known). (words : List ℕ) × IsOn g.F.Shape.first g.row.K s.view.client c.in-Some.next words × (slice_index words 0 ≡ c.key_of-found.result)) (sym c.key_of-found.ensures.same)
-          (came.words, inr held, sym (c.key_of-found.ensures.told came.words (inr held)));
+          (f.words, inr held, sym told);
+      path = subst (λ (s : Seated Known). IsOnPath c.args.root c.args.key c.key_of-least.new.seat.view.client s.view.client c.in-Some.next) (sym c.key_of-found.ensures.same)
+          (goes_on _ _ _ _ _ _ _ _ _ _ _ i.path f (omega (arith, told, c.if-found-key.false, c.if-found-key-2.false)));
     }

@@ -2,6 +2,7 @@ use Rattle.std.proofs.Common.{◌≡◌, ◌<◌, ◌-◌, ℕ, List}
 use Rattle.std.specs.Prelude.{slice_index}
 use Rattle.rcu_live.specs.CpuSeat.{after_word_step}
 use Rattle.rcu_nodes.specs.Nodes.{IsOn, IsReader}
+use Rattle.rcu_nodes.proofs.Searching.{IsOnPath}
 use Rattle.rcu_nodes.proofs.graph.Graph.find.Given as goal
 
 abbrev pub invariant-chain : goal.invariant-chain
@@ -10,6 +11,7 @@ invariant-chain g l = record {
   reader : IsReader l.seat.view.client;
   inside : l.on < g.row.N;
   on : (words : List ℕ) × IsOn g.F.Shape.first g.row.K l.seat.view.client l.on words × (slice_index words 0 ≡ l.least);
+  path : IsOnPath l.root l.key l.initial.seat.view.client l.seat.view.client l.on;
 }
 
 abbrev pub decreases-chain : goal.decreases-chain
