@@ -1,0 +1,13 @@
+use Rattle.std.proofs.Common.{◌≡◌, ◌<◌, ℕ, List, length}
+use Rattle.std.specs.Prelude.{slice_index}
+use Rattle.rcu_nodes.specs.Nodes.{IsOn}
+use Rattle.rcu_map.specs.Keys.{root_words}
+use Rattle.rcu_map.proofs.map.Map.words_at.Given as goal
+
+abbrev pub invariant-loop-word : goal.invariant-loop-word
+invariant-loop-word g l = record {
+  same : l.seat ≡ l.initial.seat;
+  size : length l.words ≡ length l.initial.words;
+  told : (words : List ℕ) → IsOn (root_words g.row.W) g.row.BUCKETS l.initial.seat.view.client l.node words
+      → (j : ℕ) → j < l.word → slice_index l.words j ≡ slice_index words j;
+}

@@ -1,0 +1,11 @@
+//! A hash map of sorted chains, and a sorted list, over nodes that sections walk without a lock.
+#![tactic(auto)]
+
+pub mod entry;
+pub mod map;
+mod section;
+pub mod shape;
+
+pub use entry::Entry;
+pub use map::Map;
+pub use shape::{MapSeat, MapShape, MapWatcher};

@@ -1,0 +1,150 @@
+//! A map: what a section reads of it, without a lock, a wait or a store.
+ghost use Rattle.std.specs.Prelude.{◌≡◌, ◌≤◌, ◌<◌, ℕ, IfSome, List, None, false, is_some};
+ghost use Rattle.rcu_live.specs.CpuSeat.{after_word_step};
+ghost use Rattle.rcu_nodes.specs.Graph.{IsAt, IsWalking};
+ghost use Rattle.rcu_nodes.specs.Nodes.{IsOn};
+ghost use Rattle.rcu_nodes.specs.Search.{IsFound, IsSearched};
+ghost use Rattle.rcu_map.specs.Found.{IsEntryFound, IsLookedUp};
+ghost use Rattle.rcu_map.specs.Keys.{IsWhole, bucket_of, root_words};
+
+use crate::entry::Entry;
+use crate::shape::{MapSeat, MapShape};
+use rcu_live::live::Live;
+use rcu_nodes::graph::Graph;
+use rcu_nodes::rule::GraphRule;
+use std::marker::Model;
+
+/// Entries in up to `N` less `BUCKETS` nodes beside a running engine: a chain a bucket, whose keys
+/// go up.
+#[derive(Drop)]
+pub struct Map<
+    const LEAF: u32,
+    const FAN: u32,
+    T: Drop,
+    E: Entry<W>,
+    const BUCKETS: usize,
+    const W: usize,
+    const N: usize,
+> {
+    pub(crate) graph: Graph<LEAF, FAN, T, MapShape<E, BUCKETS, W>, BUCKETS, 1, W, N>,
+}
+
+impl<
+    const LEAF: u32,
+    const FAN: u32,
+    T: Drop,
+    E: Entry<W>,
+    const BUCKETS: usize,
+    const W: usize,
+    const N: usize,
+> Model for Map<LEAF, FAN, T, E, BUCKETS, W, N> {
+    ghost use Rattle.std.specs.Prelude.{◌<◌};
+    ghost use Rattle.rcu_live.specs.Board.{Object};
+
+    ghost Value = { Object };
+
+    ghost view = { λ map. map.graph };
+
+    ghost invariant = { λ _. 0 < BUCKETS };
+}
+
+impl<
+    const LEAF: u32,
+    const FAN: u32,
+    T: Drop,
+    E: Entry<W>,
+    const BUCKETS: usize,
+    const W: usize,
+    const N: usize,
+> Map<LEAF, FAN, T, E, BUCKETS, W, N> {
+    /// A map over a graph, as `Graph::open` opens it with the words of the roots of all buckets.
+    pub fn over(
+        graph: Graph<LEAF, FAN, T, MapShape<E, BUCKETS, W>, BUCKETS, 1, W, N>,
+    ) -> Map<LEAF, FAN, T, E, BUCKETS, W, N>
+        requires { 0 < BUCKETS }
+        ensures { result ≡ graph }
+    {
+        Map { graph }
+    }
+
+    /// The running engine.
+    pub fn live(&self) -> &Live<LEAF, FAN, T, GraphRule<MapShape<E, BUCKETS, W>, BUCKETS, 1, W, N>>
+        ensures { result.now ≡ self.now }
+    {
+        self.graph.live()
+    }
+
+    /// The nodes, for who keeps them.
+    pub fn graph(&self) -> &Graph<LEAF, FAN, T, MapShape<E, BUCKETS, W>, BUCKETS, 1, W, N>
+        ensures { result.now ≡ self.now }
+    {
+        &self.graph
+    }
+
+    /// The words of the node that the section is on, by a load each.
+    fn words_at(&self, seat: &mut MapSeat<E, BUCKETS, W, N>, node: usize) -> [u64; W]
+        requires at { IsAt (root_words W) BUCKETS N self.now seat.old node }
+        ensures same { seat.new ≡ seat.old }
+        ensures told { (words : List ℕ) →
+            IsOn (root_words W) BUCKETS seat.old.view.client node words →
+            IsWhole E.holds W words → result ≡ words }
+    {
+        let mut words = [0u64; W];
+        for word in 0..W {
+            words[word] = self.graph.read(seat, node, word);
+        }
+        words
+    }
+
+    /// The node that has the entry of this key. No entry has the key 0.
+    fn find(&self, seat: &mut MapSeat<E, BUCKETS, W, N>, key: u64) -> Option<usize>
+        requires walking { IsWalking self.now seat.old }
+        ensures same { seat.new ≡ after_word_step seat.old seat.new.view.client }
+        ensures walking { IsWalking self.now seat.new }
+        ensures searched { 0 < key → IsSearched (bucket_of BUCKETS key) key seat.old.view.client
+            result seat.new.view.client }
+        ensures none { key ≡ 0 → result ≡ None }
+        ensures found { IfSome result (λ node.
+            IsFound (IsWhole E.holds W) key seat.new.view.client node) }
+        ensures keyed { IfSome result (λ _. 0 < key) }
+        ensures on { IfSome result (λ node.
+            IsAt (root_words W) BUCKETS N self.now seat.new node) }
+    {
+        if key == 0 {
+            return None;
+        }
+        // A borrow of a field shows the prover what the type keeps: that there is a bucket.
+        let graph = &self.graph;
+        graph.find(seat, (key % BUCKETS as u64) as usize, key)
+    }
+
+    /// The entry of this key, by two loads for each node of its bucket up to there, and one a word.
+    /// It ends, whatever the keeper does meanwhile. No entry has the key 0.
+    pub fn get(&self, seat: &mut MapSeat<E, BUCKETS, W, N>, key: u64) -> Option<E>
+        requires walking { IsWalking self.now seat.old }
+        ensures same { seat.new ≡ after_word_step seat.old seat.new.view.client }
+        ensures walking { IsWalking self.now seat.new }
+        ensures searched { 0 < key → IsLookedUp BUCKETS key seat.old.view.client (is_some result)
+            seat.new.view.client }
+        ensures none { key ≡ 0 → is_some result ≡ false }
+        ensures found { IfSome result (λ entry.
+            IsEntryFound E.holds E.decode key seat.new.view.client entry) }
+        ensures keyed { IfSome result (λ entry. E.key_of entry ≡ key) }
+        ensures sound { IfSome result (λ entry. E.valid entry) }
+    {
+        let node = self.find(seat, key)?;
+        Some(E::of_words(&self.words_at(seat, node)))
+    }
+
+    /// Whether the section finds an entry of this key, as [`get`](Self::get) does.
+    pub fn contains(&self, seat: &mut MapSeat<E, BUCKETS, W, N>, key: u64) -> bool
+        requires walking { IsWalking self.now seat.old }
+        ensures same { seat.new ≡ after_word_step seat.old seat.new.view.client }
+        ensures walking { IsWalking self.now seat.new }
+        ensures searched { 0 < key → IsLookedUp BUCKETS key seat.old.view.client result
+            seat.new.view.client }
+        ensures none { key ≡ 0 → result ≡ false }
+    {
+        self.find(seat, key).is_some()
+    }
+}

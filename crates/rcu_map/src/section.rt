@@ -1,0 +1,51 @@
+//! Whole sections that read a map.
+ghost use Rattle.std.specs.Prelude.{◌≡◌, ◌≤◌, IfOk, IfSome, OnErr, OnOk};
+ghost use Rattle.std.specs.Result.{result_err};
+ghost use Rattle.rcu_live.specs.CpuSeat.{enter_refusal};
+ghost use Rattle.rcu_nodes.specs.Graph.{IsSeatOf};
+ghost use Rattle.rcu_nodes.specs.Nodes.{IsReader};
+ghost use Rattle.rcu_map.specs.Sections.{after_section};
+
+use crate::entry::Entry;
+use crate::map::Map;
+use crate::shape::MapSeat;
+use rcu_seq::fault::Fault;
+
+impl<
+    const LEAF: u32,
+    const FAN: u32,
+    T: Drop,
+    E: Entry<W>,
+    const BUCKETS: usize,
+    const W: usize,
+    const N: usize,
+> Map<LEAF, FAN, T, E, BUCKETS, W, N> {
+    /// Reads the entry of a key in a section of its own. It takes no lock and waits for nobody.
+    ///
+    /// Faults: `Offline` (2) where the processor is offline; `CpuIdle` (23) where it is idle.
+    pub fn get_section(
+        &self,
+        seat: &mut MapSeat<E, BUCKETS, W, N>,
+        key: u64,
+    ) -> Result<Option<E>, Fault>
+        requires seat { IsSeatOf self.now seat.old }
+        requires outside { seat.old.depth ≡ 0 }
+        requires reader { IsReader seat.old.view.client }
+        ensures seat { IsSeatOf self.now seat.new }
+        ensures outside { seat.new.depth ≡ 0 }
+        ensures fault { result_err result ≡ enter_refusal seat.old }
+        ensures state { OnOk result (seat.new ≡ after_section seat.old seat.new.view.seen) }
+        ensures later { OnOk result (seat.old.view.seen ≤ seat.new.view.seen) }
+        ensures found { IfOk result (λ found. IfSome found (λ entry.
+            E.key_of entry ≡ key)) }
+        ensures sound { IfOk result (λ found. IfSome found (λ entry. E.valid entry)) }
+        ensures unchanged { OnErr result (seat.new ≡ seat.old) }
+    {
+        seat.enter(self.live())?;
+        let found = self.get(seat, key);
+        let Ok(_) = seat.exit(self.live()) else {
+            unreachable!()
+        };
+        Ok(found)
+    }
+}
