@@ -1,8 +1,10 @@
 /* Reads, updates and grace periods a second, here and by liburcu's flavours qsbr and memb, one
- * after the other in each round. bench/c builds it: with examples/c/driver.h for this library, and
- * with liburcu's library calls (not its inline ones). */
+ * after the other in each of many short rounds, which begin with each of them in turn. So what else
+ * the machine does meets all alike: a ratio is that of a round, and the median of all. bench/c builds
+ * it: with examples/c/driver.h for this library, and with liburcu's library calls (not its inline
+ * ones). The first argument is how many rounds are made, 21 where there is none. */
 #define _GNU_SOURCE
-enum { READERS = 3, CPUS = 1 + READERS, ROUNDS = 9, EACH = 16, LIBRARIES = 3 };
+enum { READERS = 3, CPUS = 1 + READERS, MOST = 1000, EACH = 16, LIBRARIES = 3 };
 
 #include "driver.h"
 #include <time.h>
@@ -14,7 +16,8 @@ void urcu_qsbr_call_rcu(struct rcu_head *head, void (*run)(struct rcu_head *head
 void urcu_qsbr_barrier(void);
 
 static const char *const names[LIBRARIES] = {"here", "qsbr", "memb"};
-static const double seconds = 0.25;
+static const double seconds = 0.1;
+static int rounds = 21;
 
 struct node {
     struct head head;
@@ -159,24 +162,35 @@ static int compare(const void *one, const void *other) {
     return (a > b) - (a < b);
 }
 
+/* Sorts the figures of all rounds. Prints the median, and the quartiles around it. */
+static void show_row(const char *name, double *row, int digits) {
+    qsort(row, (size_t)rounds, sizeof *row, compare);
+    printf(" %s %.*f [%.*f..%.*f]", name, digits, row[rounds / 2], digits, row[rounds / 4], digits,
+           row[rounds * 3 / 4]);
+}
+
 static void show(const char *what, enum kind kind, unsigned many) {
-    double seen[LIBRARIES][ROUNDS];
-    for (int round = 0; round < ROUNDS; round++)
-        for (int library = 0; library < LIBRARIES; library++)
+    static double seen[LIBRARIES][MOST], ratios[LIBRARIES][MOST];
+    for (int round = 0; round < rounds; round++) {
+        for (int i = 0; i < LIBRARIES; i++) {
+            int library = (round + i) % LIBRARIES;
             seen[library][round] = measure(kind, library, many);
-    for (int library = 0; library < LIBRARIES; library++)
-        qsort(seen[library], ROUNDS, sizeof(double), compare);
+        }
+        for (int library = 1; library < LIBRARIES; library++)
+            ratios[library][round] = seen[0][round] / seen[library][round];
+    }
     printf("%s, %u+1:", what, many);
     for (int library = 0; library < LIBRARIES; library++) {
-        double *row = seen[library];
-        printf(" %s %.0f [%.0f..%.0f]", names[library], row[ROUNDS / 2], row[0], row[ROUNDS - 1]);
-        if (library) printf(" x%.2g", seen[0][ROUNDS / 2] / row[ROUNDS / 2]);
+        show_row(names[library], seen[library], 0);
+        if (library) show_row("x", ratios[library], 2);
         fputs(library + 1 < LIBRARIES ? "," : "\n", stdout);
     }
     fflush(stdout);
 }
 
-int main(void) {
+int main(int count, char **words) {
+    if (count > 1) rounds = atoi(words[1]);
+    if (rounds < 1 || rounds > MOST) return 2;
     driver_open();
     atomic_store(&shown, new_node(0));
     show("reads a second and reader", READ, 1);

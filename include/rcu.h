@@ -8,9 +8,9 @@
  *   moved, as memcpy, realloc or a move constructor does: from then on the new place is the handle,
  *   and the old one is used no more.
  * - One call at a time on each handle, and whatever one thread did to it comes before what the
- *   next one does: by a lock, by a sequentially consistent atomic, or by starting and joining
- *   threads. Calls on different handles need no order among them. (What orders the caller's own
- *   data stands below.)
+ *   next one does: by a lock, by an atomic store of order release that a load of order acquire
+ *   reads, or by starting and joining threads. Calls on different handles need no order among them.
+ *   (What orders the caller's own data stands below.)
  * - No call is made in a signal handler, nor in the forked child of a process with threads.
  * - Pointers are not null, even to room for no value; what they point to lies apart from the
  *   handles and from one another, and is there for the call alone to read and write while it lasts.
@@ -175,6 +175,28 @@ static inline void rcu_fence(void) {
 #pragma GCC diagnostic pop
 #endif
 
+/* ---- the thread sanitizer */
+
+/* Marks for the thread sanitizer: what came before a release of a place comes before what follows
+ * an acquire of it. It sees neither the archive's steps nor a fence, so a program that is to run
+ * under it tells it of an order that calls make. docs/C.md says where. Else the marks do nothing. */
+#if defined(__SANITIZE_THREAD__)
+#define RCU_THREAD_SANITIZER 1
+#elif defined(__has_feature)
+#if __has_feature(thread_sanitizer)
+#define RCU_THREAD_SANITIZER 1
+#endif
+#endif
+#ifdef RCU_THREAD_SANITIZER
+void __tsan_release(void *place);
+void __tsan_acquire(void *place);
+#define RCU_SANITIZER_RELEASE(place) __tsan_release(place)
+#define RCU_SANITIZER_ACQUIRE(place) __tsan_acquire(place)
+#else
+#define RCU_SANITIZER_RELEASE(place) ((void)(place))
+#define RCU_SANITIZER_ACQUIRE(place) ((void)(place))
+#endif
+
 /* ---- opening and closing */
 
 /* Opens an engine of 1 to 4,096 processors at number 0, of which 0 alone is online. No grace period
@@ -222,8 +244,9 @@ void rcu_seat_close(rcu_seat_t *seat);
 
 /* ---- grace periods: `rcu` is open, under the caller's lock */
 
-/* Begins a grace period: it awaits each online processor that is not idle, and has not passed a
- * quiescent state in it. Writes its number, and how many it awaits. 8, 11.
+/* Begins a grace period: stores its number, and then looks at each processor. It awaits those that
+ * are online, are not idle, and did not pass a quiescent state in between. Writes the number, and
+ * how many it awaits. 8, 11.
  * Of each section one of two holds: all of it comes before what follows the end of this grace
  * period, or it sees what came before this call. */
 uint32_t rcu_begin(rcu_t *rcu, uint64_t *number, uint32_t *awaited);
@@ -272,9 +295,10 @@ static inline uint32_t rcu_arrive(rcu_t *rcu, rcu_seat_t *seat) {
     return fault;
 }
 
-/* The seat's processor goes offline, and its callbacks move to processor 0. Writes how many. 26, 12,
- * 4, 2 (where it was offline, and has no callback), 16. At 2 nothing has changed that a call tells. At
- * 16 the processor is offline, and its callbacks stay: the same call again moves them.
+/* The seat's processor goes offline, and its callbacks move to processor 0, at a step for each.
+ * Writes how many. 26, 12, 4, 2 (where it was offline, and has no callback), 16. At 2 nothing has
+ * changed that a call tells. At 16 the processor is offline, and its callbacks stay: the same call
+ * again moves them.
  * What the thread did before comes before what follows the collection or the begin that finds it
  * offline. */
 uint32_t rcu_depart(rcu_t *rcu, rcu_seat_t *seat, uint64_t *moved);
@@ -430,17 +454,21 @@ static inline bool rcu_seat_poll(rcu_seat_t *seat, uint64_t cookie) {
     return done;
 }
 
-/* Passes a quiescent state by a load alone, where the last one still serves. `number` has what the
- * seat's last rcu_seat_quiesce, rcu_seat_wake or call of this wrote, or 0. Where that is the number
- * still, this call stores nothing, makes no fence and is not refused: no grace period began or ended
- * since, so the processor is quiet for as much as it would be. Else it is as rcu_seat_quiesce, and
- * writes the number that it saw. 2, 23, 4.
- * The sections that follow see the same as after rcu_seat_quiesce. No fence stands before the look:
- * its number tests no cookie for a thread that stored a wish to be woken. */
+/* Passes a quiescent state by a load alone, where the last one still serves: where the number is the
+ * one that the seat's last rcu_seat_quiesce, rcu_seat_wake, rcu_arrive or call of this saw, this call
+ * stores nothing. No grace period began or ended since, so the processor is quiet for as much as it
+ * would be. Else it is as rcu_seat_quiesce. Writes the number that it saw. 2, 23, 4.
+ * `number` has what the seat's last rcu_seat_quiesce, rcu_seat_wake or call of this wrote, or 0.
+ * Where that is the number still, this call makes no fence: the one that wrote it made one, or no
+ * grace period was ever. The sections that follow see the same as after rcu_seat_quiesce. No fence
+ * stands before the look: its number tests no cookie for a thread that stored a wish to be woken.
+ * Unfenced, they are sure to see what came before an rcu_seat_take by sequentially consistent loads
+ * alone. */
+uint32_t rcu_seat_quiesce_since_unfenced(rcu_seat_t *seat, uint64_t *number);
 static inline uint32_t rcu_seat_quiesce_since(rcu_seat_t *seat, uint64_t *number) {
-    if (!rcu_seat_poll_unfenced(seat, *number + 1)) return 0;
-    uint32_t fault = rcu_seat_quiesce_unfenced(seat, number);
-    rcu_fence();
+    uint64_t last = *number;
+    uint32_t fault = rcu_seat_quiesce_since_unfenced(seat, number);
+    if (*number != last) rcu_fence();
     return fault;
 }
 

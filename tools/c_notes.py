@@ -1,8 +1,9 @@
 """What the notes of include/rcu.h say, beside the crate rcu_c: for tools/c_programs.
 
 Of each call the faults in their order, and what it needs: in the header its note and the title of
-its part say it, in the crate its documentation and its `requires`. Further the sentence of each
-fault, the layout of a handle, and the version."""
+its part say it, in the crate its documentation and its `requires`. The faults are those of its
+contract, too: its clauses name them, or definitions of specs/ that say why it is refused. The page
+docs/API.md lists the same. Further the sentence of each fault, and the layout of a handle."""
 import re
 
 NOTED = re.compile(r"/\*((?:(?!\*/).)*?)\*/\n(?:static inline )?(?:\w[\w ]*?) \*?(rcu_\w+)\("
@@ -11,7 +12,14 @@ EXPORT = re.compile(r"((?:^ *///[^\n]*\n)+)#\[unsafe\(no_mangle\)\]\n"
                     r"(?:pub )?extern \"C\" fn (\w+)\((.*?)^\{", re.DOTALL | re.MULTILINE)
 NUMBERS = re.compile(r"(?:^|(?<=[.:] ))(\d+(?: \([^)]*\))?(?:, \d+(?: \([^)]*\))?)*)\.(?= |$)")
 # The header's own functions, which no export stands behind by name.
-WITHOUT_EXPORT = {"rcu_fence", "rcu_seat_quiesce_since"}
+WITHOUT_EXPORT = {"rcu_fence"}
+# A definition whose value is a fault, or has faults in it: its name, and its text.
+DEFINITION = re.compile(r"^ *(?:abbrev )?pub (\w+) : [^\n]*\b(?:Fault|Refusal)\b[^\n]*\n"
+                        r"((?: *\1\b[^\n]*\n(?: +(?!\1\b)(?!--)\S[^\n]*\n)*)+)", re.MULTILINE)
+# Of these the text names the faults in another order than they are tested in.
+OTHER_ORDER = {"if_own", "queue_refusal"}
+# What the contract of a call has, and never comes: the fanouts are 16 and 64; docs/C.md speaks of 3.
+NEVER = {"rcu_open_as": {"18"}, "rcu_depart": {"3"}}
 # What a `requires` says, by its text, and what the header says for it.
 NEEDS = [(r"HoldsEngine rcu\b[\w.]*", "`rcu` is open"),
          (r"HoldsSeat seat\b[\w.]*", "`seat` is open"),
@@ -69,6 +77,80 @@ def documented(code):
     """Of each export: its faults by its documentation, and what its contract requires."""
     for text, name, clauses in EXPORT.findall(code):
         yield name, (faults_in_documentation(words_of(text)), needs_in_clauses(clauses))
+
+
+def definitions(specs):
+    """The definitions of faults by name, and by crate. `specs`: the text of each crate's specs."""
+    found = {}
+    for crate, text in specs.items():
+        for name, body in DEFINITION.findall(text):
+            found.setdefault(name, {})[crate] = body
+    return found
+
+
+def faults_in(text, crate, known, numbers):
+    """The faults that a text of a crate names, and lists of those that it tests in this order."""
+    words = re.findall(r"\w+", text)
+    named = [numbers[it] for it in words if it in numbers]
+    found, lists = set(named), [named]
+    for name in [it for it in words if it in known]:
+        own = crate if crate in known[name] else next(iter(known[name]))
+        # (what stands before '=' is the name itself, which a list's definition calls again)
+        body = re.sub(rf"(?m)^ *{name}\b[^=\n]*=|\b{name}\b", "", known[name][own])
+        below, more = faults_in(body, own, known, numbers)
+        found |= below
+        lists += more[1:] if name in OTHER_ORDER else more
+    return found, lists
+
+
+def faults_in_clauses(clauses, known, numbers):
+    """The faults of a contract, and the lists of those that have an order."""
+    found, lists = set(), []
+    for text in re.findall(r"ensures(?: \w+)? \{ (.*?) \}\n", clauses, re.DOTALL):
+        for name in re.findall(r"\w+_refusal\b", text):
+            below, more = faults_in(name, "rcu_c", known, numbers)
+            found |= below
+            lists += more
+        found |= set(re.findall(r"result ≡ (\d+)\b", text))
+        found |= set(sum(re.findall(r"result ≡ \(if .* then (\d+) else (\d+)\)", text), ()))
+        found |= {"16"} if "tested_number result" in text else set()
+    return found - {"0"}, lists
+
+
+def unlike_contracts(header, code, specs):
+    """The calls whose note lists other faults than the contract has, or in another order."""
+    known = {name: it for name, it in definitions(specs).items() if name != "first_fault"}
+    numbers = dict(re.findall(r"^(?:fault|refusal)_number (\w+) = (\d+)$", "\n".join(specs.values()),
+                              re.MULTILINE))
+    said = dict(notes(header))
+    for _, name, clauses in EXPORT.findall(code):
+        faults = said.get(name, ([], set()))[0]
+        found, lists = faults_in_clauses(clauses, known, numbers)
+        found -= NEVER.get(name, set())
+        if found != set(faults):
+            yield f"{name}: its contract has the faults {sorted(found)}, its note {sorted(faults)}"
+        for ordered in lists:
+            ordered = [it for it in ordered if it in faults]
+            if ordered != [it for it in faults if it in ordered]:
+                yield f"{name}: its contract tests {ordered} in this order, its note has {faults}"
+
+
+def unlike_page(page, header):
+    """The calls whose faults docs/API.md lists otherwise. In an item each call has its own list,
+    and the calls and the lists stand in one order."""
+    part = re.search(r"(?m)^## `rcu_c`.*\n((?:(?!## ).*\n)*)", page)[1]
+    listed = {}
+    for item in re.findall(r"(?m)^- (.*\n(?:  .*\n)*)", part):
+        names = re.findall(r"`(rcu_\w+)`", item)
+        found = re.search(r"Faults?: ((?:none|[\d, ]+)(?:; (?:none|[\d, ]+))*)", words_of(item))
+        lists = found[1].split("; ") if found else ["none"] * len(names)
+        if len(lists) != len(names):
+            yield f"{names} have {len(lists)} lists of faults in docs/API.md"
+        listed |= {name: re.findall(r"\d+", it) for name, it in zip(names, lists)}
+    said = {name: faults for name, (faults, _) in notes(header)}
+    for name in sorted(said.keys() | listed.keys()):
+        if listed.get(name) != said.get(name):
+            yield f"{name}: {listed.get(name)} in docs/API.md, {said.get(name)} in the header"
 
 
 def unlike_notes(header, code):

@@ -1,7 +1,6 @@
 /* Two threads replace nodes, and free the old ones by cookies, with no callback: each takes and
  * polls by its seat, without the lock, and sleeps until it is woken. Two threads read, one drives. */
 #include "rcu.h"
-#include "thread_sanitizer.h"
 #include <inttypes.h>
 #include <pthread.h>
 #include <sched.h>
@@ -49,7 +48,7 @@ static struct node *new_node(uint64_t value) {
 
 static void pass_quiescent_state(uint32_t cpu) {
     uint64_t seen;
-    __tsan_release(&quiet[cpu]);
+    RCU_SANITIZER_RELEASE(&quiet[cpu]);
     must("quiesce", rcu_seat_quiesce(&seats[cpu], &seen));
 }
 
@@ -84,7 +83,7 @@ static void wait_for(uint64_t cookie, struct slot *slot, rcu_seat_t *seat) {
         if (rcu_seat_poll(seat, cookie)) break;
         while (sem_wait(&slot->woken)) continue;
     }
-    for (unsigned cpu = 0; cpu < CPUS; cpu++) __tsan_acquire(&quiet[cpu]);
+    for (unsigned cpu = 0; cpu < CPUS; cpu++) RCU_SANITIZER_ACQUIRE(&quiet[cpu]);
 }
 
 /* An updater's processor is never online: taking and polling need no more than its seat. */

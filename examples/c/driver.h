@@ -1,10 +1,9 @@
-/* A driver that sleeps, for one engine of CPUS processors. Its thread runs what was deferred, as
- * that of call_rcu does. Who waits for a grace period makes it, or sleeps while another one does;
- * who makes it sleeps until the last processor that is awaited is quiet or idle, and wakes it. What
- * is deferred stands in a list of its own, and a cookie tells when it may run: so to defer takes no
- * memory. Processor 0 is nobody's, and idle. */
+/* A driver that sleeps, for one engine of CPUS processors: a constant that stands before this file.
+ * Its thread runs what was deferred, as that of call_rcu does. Who waits for a grace period makes
+ * it, or sleeps while another one does; who makes it sleeps until the last processor that is awaited
+ * is quiet or idle, and wakes it. What is deferred stands in a list of its own, and a cookie tells
+ * when it may run: so to defer takes no memory. Processor 0 is nobody's, and idle. */
 #include "rcu.h"
-#include "thread_sanitizer.h"
 #include <pthread.h>
 #include <stdatomic.h>
 #include <stdio.h>
@@ -16,8 +15,8 @@ struct head {
     void (*run)(struct head *head);
 };
 
-/* A processor, for one thread at a time; the number of its latest quiescent state; and whether the
- * maker sleeps until it is quiet. Each has a cache line of its own. */
+/* A processor, for one thread at a time; the number of its latest quiescent state, or wake; and
+ * whether the maker sleeps until it is quiet. Each has a cache line of its own. */
 static struct place {
     _Alignas(64) rcu_seat_t seat;
     uint64_t quiet_at;
@@ -91,7 +90,7 @@ static void wait_for(uint64_t cookie) {
         for (uint32_t cpu = 1; cpu < CPUS; cpu++) {
             for (unsigned looks = 1; is_awaited(cpu); looks++)
                 if (looks % 100 == 0) sleep_until_quiet();
-            __tsan_acquire(&places[cpu]);
+            RCU_SANITIZER_ACQUIRE(&places[cpu]);
         }
         must("end", rcu_end(&rcu, &number));
         making = false;
@@ -124,7 +123,7 @@ static void *run_deferred(void *it) {
 
 /* ---- what the program calls; a thread that reads opens its sections by its place's seat */
 
-static void driver_open(void) {
+static inline void driver_open(void) {
     must("open", rcu_open(CPUS, UINT64_C(1) << 62, &rcu));
     for (uint32_t cpu = 0; cpu < CPUS; cpu++)
         must("seat", rcu_seat_open(&rcu, cpu, &places[cpu].seat));
@@ -133,7 +132,7 @@ static void driver_open(void) {
 }
 
 /* All that was deferred has run; no place is online. */
-static void driver_close(void) {
+static inline void driver_close(void) {
     pthread_mutex_lock(&lock);
     closing = true;
     pthread_cond_signal(&queued);
@@ -143,40 +142,40 @@ static void driver_close(void) {
     rcu_close(&rcu);
 }
 
-static void driver_arrive(struct place *place) {
+static inline void driver_arrive(struct place *place) {
     pthread_mutex_lock(&lock);
     must("arrive", rcu_arrive(&rcu, &place->seat));
     pthread_mutex_unlock(&lock);
 }
 
-static void driver_depart(struct place *place) {
+static inline void driver_depart(struct place *place) {
     uint64_t moved;
-    __tsan_release(place);
+    RCU_SANITIZER_RELEASE(place);
     pthread_mutex_lock(&lock);
     must("depart", rcu_depart(&rcu, &place->seat, &moved));
     if (is_last(place)) pthread_cond_signal(&quiet);
     pthread_mutex_unlock(&lock);
 }
 
-static void driver_quiesce(struct place *place) {
-    __tsan_release(place);
+static inline void driver_quiesce(struct place *place) {
+    RCU_SANITIZER_RELEASE(place);
     wake_maker(place, rcu_seat_quiesce_since(&place->seat, &place->quiet_at));
 }
 
-static void driver_idle(struct place *place) {
-    __tsan_release(place);
+static inline void driver_idle(struct place *place) {
+    RCU_SANITIZER_RELEASE(place);
     wake_maker(place, rcu_seat_idle(&place->seat));
 }
 
 /* Each section that is open now has ended once this returns. The caller's own place is idle. */
-static void driver_synchronize(void) {
+static inline void driver_synchronize(void) {
     pthread_mutex_lock(&lock);
     wait_for(rcu_take(&rcu));
     pthread_mutex_unlock(&lock);
 }
 
 /* Runs it once each section that is open now has ended. */
-static void driver_defer(struct head *head, void (*run)(struct head *head)) {
+static inline void driver_defer(struct head *head, void (*run)(struct head *head)) {
     head->next = 0;
     head->run = run;
     pthread_mutex_lock(&lock);
@@ -188,7 +187,7 @@ static void driver_defer(struct head *head, void (*run)(struct head *head)) {
 }
 
 /* What was deferred before has run once this returns. The caller's own place is idle. */
-static void driver_barrier(void) {
+static inline void driver_barrier(void) {
     pthread_mutex_lock(&lock);
     for (uint64_t all = deferred; ran < all;) pthread_cond_wait(&ended, &lock);
     pthread_mutex_unlock(&lock);

@@ -1,7 +1,6 @@
 /* A thread reads a setting without a lock, while the main thread replaces it and frees the old
  * ones. (The two marks of the thread sanitizer are for that one alone: else they do nothing.) */
 #include "rcu.h"
-#include "thread_sanitizer.h"
 #include <inttypes.h>
 #include <pthread.h>
 #include <stdatomic.h>
@@ -42,7 +41,7 @@ static void *read_settings(void *last) {
         struct setting *setting = atomic_load_explicit(&shown, memory_order_acquire);
         *(uint64_t *)last = setting->value;
         must("exit", rcu_seat_exit(&seats[1], &depth));
-        __tsan_release(&quiet);
+        RCU_SANITIZER_RELEASE(&quiet);
         must("quiesce", rcu_seat_quiesce(&seats[1], &seen));
     }
     pthread_mutex_lock(&lock);
@@ -64,7 +63,7 @@ static uint64_t drive(void) {
     must("turn", rcu_turn(&rcu, &turn));
     must("run", rcu_run(&rcu, 0, old, ROOM, &count));
     pthread_mutex_unlock(&lock);
-    if (count) __tsan_acquire(&quiet);
+    if (count) RCU_SANITIZER_ACQUIRE(&quiet);
     for (uint64_t i = 0; i < count; i++) free((void *)(uintptr_t)old[i]);
     return count;
 }

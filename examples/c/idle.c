@@ -2,7 +2,6 @@
  * and the driver, which replaces it, sleeps until they have answered. No grace period waits for
  * those that sleep. */
 #include "rcu.h"
-#include "thread_sanitizer.h"
 #include <inttypes.h>
 #include <pthread.h>
 #include <semaphore.h>
@@ -45,7 +44,7 @@ static struct node *new_node(uint64_t value) {
 /* Sleeps until the semaphore is posted. The processor is idle meanwhile. */
 static void wait_for(uint32_t cpu, sem_t *posted) {
     uint64_t seen;
-    __tsan_release(&quiet[cpu]);
+    RCU_SANITIZER_RELEASE(&quiet[cpu]);
     must("idle", rcu_seat_idle(&seats[cpu]), 0);
     while (sem_wait(posted)) continue;
     must("wake", rcu_seat_wake(&seats[cpu], &seen), 0);
@@ -67,7 +66,7 @@ static void *answer(void *it) {
             atomic_fetch_add_explicit(&wrong, 1, memory_order_relaxed);
         must("exit", rcu_seat_exit(&seats[cpu], &depth), 0);
     }
-    __tsan_release(&quiet[cpu]);
+    RCU_SANITIZER_RELEASE(&quiet[cpu]);
     pthread_mutex_lock(&lock);
     must("depart", rcu_depart(&rcu, &seats[cpu], &moved), 0);
     pthread_mutex_unlock(&lock);
@@ -114,11 +113,11 @@ static uint64_t drive(void) {
     for (uint32_t cpu = 0; cpu < CPUS; cpu++) {
         must("collect", rcu_collect(&rcu, cpu, &found), 0);
         if (found == RCU_COLLECTED_TAKEN || found == RCU_COLLECTED_LAST)
-            __tsan_acquire(&quiet[cpu]);
+            RCU_SANITIZER_ACQUIRE(&quiet[cpu]);
     }
     must("turn", rcu_turn(&rcu, &turn), 0);
     if (turn.what == RCU_TURN_BEGUN)
-        for (uint32_t cpu = 0; cpu < CPUS; cpu++) __tsan_acquire(&quiet[cpu]);
+        for (uint32_t cpu = 0; cpu < CPUS; cpu++) RCU_SANITIZER_ACQUIRE(&quiet[cpu]);
     must("run", rcu_run(&rcu, 0, values, ROOM, &count), 0);
     pthread_mutex_unlock(&lock);
     for (uint64_t i = 0; i < count; i++) free((void *)(uintptr_t)values[i]);

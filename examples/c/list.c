@@ -1,7 +1,6 @@
 /* Three threads read a list while a fourth one replaces its nodes. A node that was replaced is a
  * callback, and freed when it is handed out: when nobody reads it any more. */
 #include "rcu.h"
-#include "thread_sanitizer.h"
 #include <inttypes.h>
 #include <pthread.h>
 #include <stdatomic.h>
@@ -56,7 +55,7 @@ static void count_wrong(void) {
 
 static void pass_quiescent_state(uint32_t cpu) {
     uint64_t seen;
-    __tsan_release(&quiet[cpu]);
+    RCU_SANITIZER_RELEASE(&quiet[cpu]);
     must("quiesce", rcu_seat_quiesce(&seats[cpu], &seen));
 }
 
@@ -92,11 +91,12 @@ static uint64_t drive(void) {
     must("tend", rcu_tend(&rcu, 0, &done, &waiting));
     for (uint32_t cpu = 0; cpu < CPUS; cpu++) {
         must("collect", rcu_collect(&rcu, cpu, &found));
-        if (found == RCU_COLLECTED_TAKEN || found == RCU_COLLECTED_LAST) __tsan_acquire(&quiet[cpu]);
+        if (found == RCU_COLLECTED_TAKEN || found == RCU_COLLECTED_LAST)
+            RCU_SANITIZER_ACQUIRE(&quiet[cpu]);
     }
     must("turn", rcu_turn(&rcu, &turn));
     if (turn.what == RCU_TURN_BEGUN)
-        for (uint32_t cpu = 0; cpu < CPUS; cpu++) __tsan_acquire(&quiet[cpu]);
+        for (uint32_t cpu = 0; cpu < CPUS; cpu++) RCU_SANITIZER_ACQUIRE(&quiet[cpu]);
     must("run", rcu_run(&rcu, 0, values, ROOM, &count));
     pthread_mutex_unlock(&lock);
     for (uint64_t i = 0; i < count; i++) free((void *)(uintptr_t)values[i]);

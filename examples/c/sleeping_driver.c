@@ -51,10 +51,9 @@ static void read_both(struct place *place, unsigned round) {
 }
 
 static void be_idle(struct place *place) {
-    uint64_t seen;
     driver_idle(place);
     nap();
-    must("wake", rcu_seat_wake(&place->seat, &seen));
+    must("wake", rcu_seat_wake(&place->seat, &place->quiet_at));
 }
 
 static void *read_and_rest(void *it) {

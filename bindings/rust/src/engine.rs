@@ -1,18 +1,14 @@
 //! The engine under its lock, and what is deferred.
 
-use crate::raw;
+use crate::handles::{EngineHandle, SeatHandle};
 use crate::reader::Reader;
 use std::any::Any;
 use std::collections::VecDeque;
 use std::fmt;
 use std::mem;
 use std::process::abort;
-use std::ptr::null_mut;
 use std::sync::atomic::{AtomicBool, AtomicU32, AtomicU64, Ordering::Relaxed, Ordering::SeqCst};
 use std::sync::{Arc, Condvar, Mutex, MutexGuard};
-
-/// No grace period begins at this number, which none reaches.
-const LAST: u64 = 1 << 62;
 
 /// How often a maker of a grace period looks at a processor before it sleeps.
 const LOOKS: u32 = 100;
@@ -43,22 +39,6 @@ impl fmt::Display for Error {
 
 impl std::error::Error for Error {}
 
-/// The seat of a processor. It is used by its owner.
-pub(crate) struct Seat {
-    pub(crate) raw: raw::rcu_seat_t,
-    pub(crate) cpu: usize,
-    /// The number of its latest quiescent state.
-    pub(crate) quiet_at: u64,
-}
-
-// SAFETY: the header lets a handle pass between threads.
-unsafe impl Send for Seat {}
-
-struct Handle(raw::rcu_t);
-
-// SAFETY: the header lets a handle pass between threads.
-unsafe impl Send for Handle {}
-
 /// What is done once no section can come to it.
 enum Deferred {
     Run(Box<dyn FnOnce() + Send>),
@@ -67,11 +47,11 @@ enum Deferred {
 
 /// What lies under the lock.
 struct Locked {
-    handle: Handle,
+    rcu: EngineHandle,
     /// The seat of processor 0, which is nobody's, and idle.
-    boot: Option<Seat>,
+    _boot: SeatHandle,
     /// Seats that no reader has. Their processors are offline.
-    free: Vec<Seat>,
+    free: Vec<SeatHandle>,
     making: bool,
     stopped: bool,
     /// What is deferred and was not taken yet, each with its cookie.
@@ -97,14 +77,24 @@ pub(crate) struct Inner {
 
 /// An engine, for up to so many readers at a time. Clones are the same engine. It goes when the
 /// last clone and the last reader are gone; then what is deferred is done first.
+///
+/// ```
+/// use std::thread;
+///
+/// # fn main() -> Result<(), rcu::Error> {
+/// let engine = rcu::Engine::new(4)?;
+/// let own = engine.clone();
+/// let driver = thread::spawn(move || own.drive()); // does what is deferred
+/// engine.defer(|| println!("no section is open any more"));
+/// engine.barrier(); // it is done
+/// engine.stop();
+/// driver.join().unwrap();
+/// # Ok(())
+/// # }
+/// ```
 #[derive(Clone)]
 pub struct Engine {
     pub(crate) inner: Arc<Inner>,
-}
-
-/// A call that its caller's state does not allow to be refused.
-pub(crate) fn must(call: &str, fault: u32) {
-    assert!(fault == 0, "{call}: fault {fault}");
 }
 
 /// Ends the process where what is deferred panics: others wait for what comes behind it.
@@ -128,47 +118,7 @@ impl Deferred {
     }
 }
 
-// SAFETY of the calls here and below: the handle is open from the opening to the drop of `Inner`.
-// It lies under the lock, and so does a seat that nobody has. What is pointed to are locals.
 impl Locked {
-    fn rcu(&mut self) -> *mut raw::rcu_t {
-        &mut self.handle.0
-    }
-
-    fn take(&mut self) -> u64 {
-        unsafe { raw::rcu_take(self.rcu()) }
-    }
-
-    fn is_done(&mut self, cookie: u64) -> bool {
-        unsafe { raw::rcu_poll(self.rcu(), cookie) }
-    }
-
-    fn awaits(&mut self, cpu: usize) -> bool {
-        unsafe { raw::rcu_awaits(self.rcu(), cpu as u32) }
-    }
-
-    fn begin(&mut self) {
-        let (mut number, mut awaited) = (0, 0);
-        must("begin", unsafe {
-            raw::rcu_begin(self.rcu(), &mut number, &mut awaited)
-        });
-    }
-
-    fn end(&mut self) {
-        let mut number = 0;
-        must("end", unsafe { raw::rcu_end(self.rcu(), &mut number) });
-    }
-
-    /// Looks at a processor. Returns whether it is awaited still. (What a collection finds does not
-    /// tell: one that woke since the begin is not awaited, and may have passed no quiescent state.)
-    fn is_awaited(&mut self, cpu: usize) -> bool {
-        let mut found = 0;
-        must("collect", unsafe {
-            raw::rcu_collect(self.rcu(), cpu as u32, &mut found)
-        });
-        self.awaits(cpu)
-    }
-
     /// The number, among all that were ever deferred, of the first that was not taken yet.
     fn first(&self) -> u64 {
         self.queued - self.deferred.len() as u64
@@ -183,7 +133,7 @@ impl Locked {
     fn done(&mut self) -> Vec<Deferred> {
         let mut found = Vec::new();
         while let Some(cookie) = self.deferred.front().map(|it| it.0) {
-            if !self.is_done(cookie) {
+            if !self.rcu.is_done(cookie) {
                 break;
             }
             found.extend(self.deferred.pop_front().map(|it| it.1));
@@ -219,11 +169,11 @@ impl Inner {
         mut locked: MutexGuard<'a, Locked>,
     ) -> MutexGuard<'a, Locked> {
         let cpus = self.wanted.len();
-        for cpu in (1..cpus).filter(|&it| locked.awaits(it)) {
+        for cpu in (1..cpus).filter(|&it| locked.rcu.awaits(it)) {
             self.missing.fetch_add(1, SeqCst);
             self.wanted[cpu].store(true, SeqCst);
         }
-        for cpu in (1..cpus).filter(|&it| !locked.is_awaited(it)) {
+        for cpu in (1..cpus).filter(|&it| !locked.rcu.is_awaited(it)) {
             self.is_last(cpu);
         }
         while self.missing.load(SeqCst) > 0 {
@@ -242,52 +192,29 @@ impl Inner {
             while locked.making {
                 locked = self.ended.wait(locked).expect(PANICKED);
             }
-            if locked.is_done(cookie) {
+            if locked.rcu.is_done(cookie) {
                 return locked;
             }
             locked.making = true;
-            locked.begin();
+            locked.rcu.begin();
             for cpu in 1..self.wanted.len() {
                 let mut looks = 1;
-                while locked.is_awaited(cpu) {
+                while locked.rcu.is_awaited(cpu) {
                     if looks % LOOKS == 0 {
                         locked = self.sleep_until_quiet(locked);
                     }
                     looks += 1;
                 }
             }
-            locked.end();
+            locked.rcu.end();
             locked.making = false;
             self.ended.notify_all();
         }
     }
 
-    /// Deals all seats. The engine has no other owner yet.
-    fn deal(&self, cpus: u32) -> Result<(), Error> {
-        let mut locked = self.lock();
-        for cpu in 0..cpus {
-            let mut raw = raw::rcu_seat_t { at: null_mut() };
-            if unsafe { raw::rcu_seat_open(locked.rcu(), cpu, &mut raw) } != 0 {
-                return Err(Error::NoMemory);
-            }
-            let mut seat = Seat {
-                raw,
-                cpu: cpu as usize,
-                quiet_at: 0,
-            };
-            if cpu == 0 {
-                must("idle", unsafe { raw::rcu_seat_idle(&mut seat.raw) });
-                locked.boot = Some(seat);
-            } else {
-                locked.free.push(seat);
-            }
-        }
-        Ok(())
-    }
-
     fn defer(&self, what: Deferred) {
         let mut locked = self.lock();
-        let cookie = locked.take();
+        let cookie = locked.rcu.take();
         locked.deferred.push_back((cookie, what));
         locked.queued += 1;
         self.queued.notify_one();
@@ -316,66 +243,64 @@ impl Inner {
     }
 
     /// A seat whose processor is online from now on.
-    pub(crate) fn seat(&self) -> Result<Seat, Error> {
+    pub(crate) fn seat(&self) -> Result<SeatHandle, Error> {
         let mut locked = self.lock();
-        let mut seat = locked.free.pop().ok_or(Error::AllTaken)?;
-        // SAFETY: the seat was dealt by this engine, and nobody else has it.
-        must("arrive", unsafe {
-            raw::rcu_arrive(locked.rcu(), &mut seat.raw)
-        });
+        let seat = locked.free.pop().ok_or(Error::AllTaken)?;
+        locked.rcu.arrive(&seat);
         Ok(seat)
     }
 
     /// The seat's processor departs, in no section. The next reader gets the seat.
-    pub(crate) fn give_back(&self, mut seat: Seat) {
+    pub(crate) fn give_back(&self, seat: SeatHandle) {
         let mut locked = self.lock();
-        let mut moved = 0;
-        // SAFETY: the seat was dealt by this engine, and nobody else has it.
-        must("depart", unsafe {
-            raw::rcu_depart(locked.rcu(), &mut seat.raw, &mut moved)
-        });
-        if self.is_last(seat.cpu) {
+        locked.rcu.depart(&seat);
+        if self.is_last(seat.cpu()) {
             self.quiet.notify_one();
         }
         locked.free.push(seat);
     }
 }
 
-/// Closes the engine, once all that is deferred is done: no reader is there any more.
+/// Does all that is deferred, before the engine goes with its seats: no reader is there any more,
+/// and nobody who could defer more.
 impl Drop for Inner {
     fn drop(&mut self) {
-        while self.run_deferred() > 0 {}
-        let locked = self.locked.get_mut().expect(PANICKED);
-        for mut seat in locked.free.drain(..).chain(locked.boot.take()) {
-            // SAFETY: it is open.
-            unsafe { raw::rcu_seat_close(&mut seat.raw) };
-        }
-        // SAFETY: it is open.
-        unsafe { raw::rcu_close(&mut locked.handle.0) };
+        self.run_deferred();
+    }
+}
+
+impl fmt::Debug for Engine {
+    fn fmt(&self, to: &mut fmt::Formatter<'_>) -> fmt::Result {
+        to.debug_struct("Engine").finish_non_exhaustive()
     }
 }
 
 impl Engine {
     /// An engine for up to so many readers at a time, from 1 to 4,095.
+    ///
+    /// ```
+    /// assert!(rcu::Engine::new(8).is_ok());
+    /// assert_eq!(rcu::Engine::new(0).unwrap_err(), rcu::Error::BadCount);
+    /// ```
     pub fn new(readers: u32) -> Result<Engine, Error> {
         static IDS: AtomicU64 = AtomicU64::new(0);
         if !(1..4096).contains(&readers) {
             return Err(Error::BadCount);
         }
         let cpus = readers + 1;
-        let mut handle = Handle(raw::rcu_t { at: null_mut() });
-        // SAFETY: the handle is closed.
-        if unsafe { raw::rcu_open(cpus, LAST, &mut handle.0) } != 0 {
-            return Err(Error::NoMemory);
-        }
+        let mut rcu = EngineHandle::open(cpus)?;
+        let boot = rcu.seat(0)?;
+        boot.idle();
+        let free = (1..cpus as usize).map(|it| rcu.seat(it));
+        let free = free.collect::<Result<Vec<_>, _>>()?;
         let inner = Inner {
             id: IDS.fetch_add(1, Relaxed),
             wanted: (0..cpus).map(|_| AtomicBool::new(false)).collect(),
             missing: AtomicU32::new(0),
             locked: Mutex::new(Locked {
-                handle,
-                boot: None,
-                free: Vec::new(),
+                rcu,
+                _boot: boot,
+                free,
                 making: false,
                 stopped: false,
                 deferred: VecDeque::new(),
@@ -386,13 +311,23 @@ impl Engine {
             ended: Condvar::new(),
             queued: Condvar::new(),
         };
-        inner.deal(cpus)?;
         Ok(Engine {
             inner: Arc::new(inner),
         })
     }
 
     /// A reader, for this thread or another one. It takes the engine's lock for a moment.
+    ///
+    /// ```
+    /// # fn main() -> Result<(), rcu::Error> {
+    /// let engine = rcu::Engine::new(1)?;
+    /// let reader = engine.reader()?;
+    /// assert_eq!(engine.reader().unwrap_err(), rcu::Error::AllTaken);
+    /// drop(reader);
+    /// assert!(engine.reader().is_ok());
+    /// # Ok(())
+    /// # }
+    /// ```
     pub fn reader(&self) -> Result<Reader, Error> {
         Reader::of(&self.inner)
     }
@@ -401,9 +336,20 @@ impl Engine {
     ///
     /// A thread that has a section open, or a reader that is not idle, waits for itself for ever:
     /// it calls [`Reader::synchronize`].
+    ///
+    /// ```
+    /// # fn main() -> Result<(), rcu::Error> {
+    /// let engine = rcu::Engine::new(1)?;
+    /// let reader = engine.reader()?;
+    /// drop(reader.enter());
+    /// drop(reader);
+    /// engine.synchronize(); // that section has ended
+    /// # Ok(())
+    /// # }
+    /// ```
     pub fn synchronize(&self) {
         let mut locked = self.inner.lock();
-        let cookie = locked.take();
+        let cookie = locked.rcu.take();
         drop(self.inner.wait_for(locked, cookie));
     }
 
@@ -411,11 +357,33 @@ impl Engine {
     /// [`Engine::run_deferred`] or [`Engine::drive`], or where the engine goes. A callback that
     /// panics ends the process. It may call all of this, but waits for itself by
     /// [`Engine::barrier`]. One that owns a clone of its engine keeps it, until it is called.
+    ///
+    /// ```
+    /// # fn main() -> Result<(), rcu::Error> {
+    /// let engine = rcu::Engine::new(1)?;
+    /// engine.defer(|| println!("no section is open any more"));
+    /// assert_eq!(engine.run_deferred(), 1);
+    /// # Ok(())
+    /// # }
+    /// ```
     pub fn defer(&self, callback: impl FnOnce() + Send + 'static) {
         self.inner.defer(Deferred::Run(Box::new(callback)));
     }
 
     /// Drops the data once each section that is open now has ended, as [`Engine::defer`].
+    ///
+    /// ```
+    /// use std::sync::Arc;
+    ///
+    /// # fn main() -> Result<(), rcu::Error> {
+    /// let engine = rcu::Engine::new(1)?;
+    /// let data = Arc::new(7);
+    /// engine.defer_drop(Arc::clone(&data));
+    /// assert_eq!(engine.run_deferred(), 1);
+    /// assert_eq!(Arc::strong_count(&data), 1);
+    /// # Ok(())
+    /// # }
+    /// ```
     pub fn defer_drop<T: Send + Sync + 'static>(&self, data: Arc<T>) {
         self.inner.defer(Deferred::Drop(data));
     }

@@ -42,6 +42,7 @@
 #![deny(missing_docs)]
 
 mod engine;
+mod handles;
 #[allow(missing_docs)]
 pub mod raw;
 mod reader;

@@ -34,17 +34,82 @@ pub struct rcu_turn_t {
     pub number: u64,
 }
 
-/// No memory is left.
+// Why a call is refused.
+/// There is no such processor.
+pub const RCU_BAD_CPU: u32 = 1;
+/// The processor is offline.
+pub const RCU_OFFLINE: u32 = 2;
+/// The processor is online.
+pub const RCU_ALREADY_ONLINE: u32 = 3;
+/// A read section is open on the processor.
+pub const RCU_IN_SECTION: u32 = 4;
+/// No read section is open on the processor.
+pub const RCU_NOT_OPEN: u32 = 5;
+/// The read section nests 65,535 deep.
+pub const RCU_NEST_FULL: u32 = 6;
+/// A grace period runs.
+pub const RCU_RUNNING: u32 = 8;
+/// No grace period runs.
+pub const RCU_IDLE: u32 = 9;
+/// A processor is still awaited.
+pub const RCU_WAITING: u32 = 10;
+/// The number is the last one.
+pub const RCU_EXHAUSTED: u32 = 11;
+/// Processor 0 never departs.
+pub const RCU_BOOT_STAYS: u32 = 12;
+/// A barrier runs.
+pub const RCU_BARRIER_BUSY: u32 = 13;
+/// No barrier runs.
+pub const RCU_NO_BARRIER: u32 = 14;
+/// 2^62 callbacks were queued since opening.
+pub const RCU_CALLBACKS_FULL: u32 = 15;
+/// Out of memory.
 pub const RCU_NO_MEMORY: u32 = 16;
 /// No processor, or more than 4,096.
 pub const RCU_TOO_MANY_CPUS: u32 = 17;
+/// The last number is no multiple of 4 from 4 to 2^62.
+pub const RCU_BAD_LAST: u32 = 19;
+/// The processor is idle.
+pub const RCU_CPU_IDLE: u32 = 23;
+/// The processor is awake.
+pub const RCU_NOT_IDLE: u32 = 24;
+/// The seat of the processor is dealt.
+pub const RCU_SEAT_DEALT: u32 = 25;
+/// The seat is of another engine.
+pub const RCU_OTHER_ENGINE: u32 = 26;
+
+// What a turn did.
+/// No grace period runs, and none is needed.
+pub const RCU_TURN_NOTHING: u32 = 0;
+/// A grace period began.
+pub const RCU_TURN_BEGUN: u32 = 1;
+/// The grace period ended.
+pub const RCU_TURN_ENDED: u32 = 2;
+/// It awaits a processor.
+pub const RCU_TURN_WAITING: u32 = 3;
+
+// What a collection found.
+/// No grace period runs.
+pub const RCU_COLLECTED_IDLE: u32 = 0;
+/// The processor passed no quiescent state in it yet.
+pub const RCU_COLLECTED_NOT_YET: u32 = 1;
+/// It was awaited, and others still are.
+pub const RCU_COLLECTED_TAKEN: u32 = 2;
+/// It was the only one awaited.
+pub const RCU_COLLECTED_LAST: u32 = 3;
+/// It is not awaited.
+pub const RCU_COLLECTED_REPEAT: u32 = 4;
+
+// What a barrier's visit did.
+/// A marker stands behind its callbacks.
+pub const RCU_VISIT_MARKED: u32 = 0;
+/// It has no callback.
+pub const RCU_VISIT_EMPTY: u32 = 1;
+/// It was visited before.
+pub const RCU_VISIT_ALREADY: u32 = 2;
+
 extern "C" {
-    pub fn rcu_open_as(
-        cpus: u32,
-        last: u64,
-        identity: rcu_identity_t,
-        rcu: *mut rcu_t,
-    ) -> u32;
+    pub fn rcu_open_as(cpus: u32, last: u64, identity: rcu_identity_t, rcu: *mut rcu_t) -> u32;
     pub fn rcu_close(rcu: *mut rcu_t);
     pub fn rcu_seat_open(rcu: *mut rcu_t, cpu: u32, seat: *mut rcu_seat_t) -> u32;
     pub fn rcu_has_seat(rcu: *mut rcu_t, cpu: u32) -> bool;
@@ -84,6 +149,7 @@ extern "C" {
     pub fn rcu_seat_enter(seat: *mut rcu_seat_t, depth: *mut u32) -> u32;
     pub fn rcu_seat_exit(seat: *mut rcu_seat_t, depth: *mut u32) -> u32;
     pub fn rcu_seat_quiesce_unfenced(seat: *mut rcu_seat_t, number: *mut u64) -> u32;
+    pub fn rcu_seat_quiesce_since_unfenced(seat: *mut rcu_seat_t, number: *mut u64) -> u32;
     pub fn rcu_seat_idle(seat: *mut rcu_seat_t) -> u32;
     pub fn rcu_seat_wake_unfenced(seat: *mut rcu_seat_t, number: *mut u64) -> u32;
     pub fn rcu_seat_take_unfenced(seat: *mut rcu_seat_t) -> u64;
@@ -152,11 +218,11 @@ pub unsafe fn rcu_seat_quiesce(seat: *mut rcu_seat_t, number: *mut u64) -> u32 {
 /// # Safety
 /// As in the header.
 pub unsafe fn rcu_seat_quiesce_since(seat: *mut rcu_seat_t, number: *mut u64) -> u32 {
-    if !rcu_seat_poll_unfenced(seat, *number + 1) {
-        return 0;
+    let last = *number;
+    let fault = rcu_seat_quiesce_since_unfenced(seat, number);
+    if *number != last {
+        fence(SeqCst);
     }
-    let fault = rcu_seat_quiesce_unfenced(seat, number);
-    fence(SeqCst);
     fault
 }
 

@@ -1,10 +1,9 @@
 //! A thread that reads, and its sections.
 
-use crate::engine::{must, Engine, Error, Inner, Seat};
-use crate::raw;
-use std::cell::UnsafeCell;
-use std::mem;
-use std::ptr::{addr_of_mut, null_mut};
+use crate::engine::{Engine, Error, Inner};
+use crate::handles::SeatHandle;
+use std::fmt;
+use std::mem::ManuallyDrop;
 use std::sync::Arc;
 
 /// A reader has a processor of the engine, for one thread at a time: it may be sent to another
@@ -14,7 +13,22 @@ use std::sync::Arc;
 /// ever heard of: what is deferred then waits for good. The same holds of a reader that is
 /// forgotten.
 ///
-/// ```compile_fail
+/// ```
+/// # fn main() -> Result<(), rcu::Error> {
+/// let engine = rcu::Engine::new(1)?;
+/// let shared = rcu::Shared::new(&engine, 7);
+/// let mut reader = engine.reader()?;
+/// for _ in 0..3 {
+///     let guard = reader.enter();
+///     assert_eq!(*shared.load(&guard), 7);
+///     drop(guard);
+///     reader.quiesce();
+/// }
+/// # Ok(())
+/// # }
+/// ```
+///
+/// ```compile_fail,E0277
 /// let engine = rcu::Engine::new(1).unwrap();
 /// let reader = engine.reader().unwrap();
 /// std::thread::scope(|scope| {
@@ -23,23 +37,48 @@ use std::sync::Arc;
 /// drop(reader.enter());
 /// ```
 ///
-/// ```compile_fail
+/// ```compile_fail,E0502
 /// let engine = rcu::Engine::new(1).unwrap();
 /// let mut reader = engine.reader().unwrap();
 /// let guard = reader.enter();
 /// reader.quiesce(); // in a section
 /// drop(guard);
 /// ```
+///
+/// ```compile_fail,E0502
+/// let engine = rcu::Engine::new(1).unwrap();
+/// let mut reader = engine.reader().unwrap();
+/// let guard = reader.enter();
+/// reader.while_idle(|| drop(guard)); // in a section
+/// ```
+///
+/// ```compile_fail,E0502
+/// let engine = rcu::Engine::new(1).unwrap();
+/// let mut reader = engine.reader().unwrap();
+/// reader.while_idle(|| drop(reader.enter())); // a section of an idle reader
+/// ```
 pub struct Reader {
     inner: Arc<Inner>,
-    /// Only this thread uses it, as the cell makes the reader not `Sync`.
-    seat: UnsafeCell<Seat>,
+    seat: ManuallyDrop<SeatHandle>,
 }
 
 /// An open section, which ends as the guard is dropped. The section of a guard that is forgotten
-/// ends at the reader's next quiescent state, idleness or drop.
+/// ends at the reader's next quiescent state, idleness or drop. Sections nest.
 ///
-/// ```compile_fail
+/// ```
+/// # fn main() -> Result<(), rcu::Error> {
+/// let engine = rcu::Engine::new(1)?;
+/// let shared = rcu::Shared::new(&engine, String::from("old"));
+/// let reader = engine.reader()?;
+/// let guard = reader.enter();
+/// let seen = shared.load(&guard);
+/// shared.replace(&engine, String::from("new"));
+/// assert_eq!(seen, "old"); // as long as the section is open
+/// # Ok(())
+/// # }
+/// ```
+///
+/// ```compile_fail,E0277
 /// let engine = rcu::Engine::new(1).unwrap();
 /// let reader = engine.reader().unwrap();
 /// let guard = reader.enter();
@@ -47,30 +86,29 @@ pub struct Reader {
 ///     scope.spawn(move || drop(guard)); // a guard of another thread
 /// });
 /// ```
+///
+/// ```compile_fail,E0505
+/// let engine = rcu::Engine::new(1).unwrap();
+/// let reader = engine.reader().unwrap();
+/// let guard = reader.enter();
+/// drop(reader); // in a section
+/// drop(guard);
+/// ```
 #[must_use = "the section ends where the guard is dropped"]
 pub struct Guard<'reader> {
     reader: &'reader Reader,
 }
 
 /// Wakes the reader at its drop, also where its thread panics.
-struct Awake<'reader>(&'reader mut Reader);
+struct Awake<'reader>(&'reader Reader);
 
 impl Reader {
     pub(crate) fn of(inner: &Arc<Inner>) -> Result<Reader, Error> {
-        let seat = UnsafeCell::new(inner.seat()?);
+        let seat = ManuallyDrop::new(inner.seat()?);
         Ok(Reader {
             inner: Arc::clone(inner),
             seat,
         })
-    }
-
-    /// The handle of the seat: open as long as the reader is there.
-    ///
-    /// Each call on it lasts no longer than a method of the reader or of its guard, and both stay
-    /// on one thread meanwhile: so it is in one call at a time.
-    fn raw(&self) -> *mut raw::rcu_seat_t {
-        // SAFETY: the cell's data is there; no reference to it is made.
-        unsafe { addr_of_mut!((*self.seat.get()).raw) }
     }
 
     /// Opens a section, also in one that is open.
@@ -78,10 +116,7 @@ impl Reader {
     /// # Panics
     /// Where 65,535 are open.
     pub fn enter(&self) -> Guard<'_> {
-        let mut depth = 0;
-        must("enter", unsafe {
-            raw::rcu_seat_enter(self.raw(), &mut depth)
-        });
+        self.seat.enter();
         Guard { reader: self }
     }
 
@@ -89,18 +124,25 @@ impl Reader {
     /// one, a store and a fence.
     pub fn quiesce(&mut self) {
         self.leave_sections();
-        let seat = self.seat.get_mut();
-        must("quiescent state", unsafe {
-            raw::rcu_seat_quiesce_since(&mut seat.raw, &mut seat.quiet_at)
-        });
-        self.inner.was_quiet(self.cpu());
+        self.seat.quiesce();
+        self.inner.was_quiet(self.seat.cpu());
     }
 
     /// Calls what may block. Meanwhile the reader is idle, and no grace period waits for it.
+    ///
+    /// ```
+    /// # fn main() -> Result<(), rcu::Error> {
+    /// let engine = rcu::Engine::new(1)?;
+    /// let mut reader = engine.reader()?;
+    /// engine.defer(|| println!("no section is open any more"));
+    /// assert_eq!(reader.while_idle(|| engine.run_deferred()), 1);
+    /// # Ok(())
+    /// # }
+    /// ```
     pub fn while_idle<R>(&mut self, block: impl FnOnce() -> R) -> R {
         self.leave_sections();
-        must("idle", unsafe { raw::rcu_seat_idle(self.raw()) });
-        self.inner.was_quiet(self.cpu());
+        self.seat.idle();
+        self.inner.was_quiet(self.seat.cpu());
         let _awake = Awake(self);
         block()
     }
@@ -113,22 +155,10 @@ impl Reader {
         self.while_idle(|| engine.synchronize());
     }
 
-    pub(crate) fn id(&self) -> u64 {
-        self.inner.id
-    }
-
-    fn cpu(&self) -> usize {
-        // SAFETY: the calls of C write the handle alone.
-        unsafe { (*self.seat.get()).cpu }
-    }
-
     /// Ends the sections that are open. They are of forgotten guards: no guard borrows the reader.
     fn leave_sections(&mut self) {
-        let mut depth = unsafe { raw::rcu_seat_depth(self.raw()) };
-        while depth > 0 {
-            must("exit", unsafe {
-                raw::rcu_seat_exit(self.raw(), &mut depth)
-            });
+        while self.seat.is_in_section() {
+            self.seat.exit();
         }
     }
 }
@@ -136,36 +166,38 @@ impl Reader {
 impl Drop for Reader {
     fn drop(&mut self) {
         self.quiesce();
-        let none = Seat {
-            raw: raw::rcu_seat_t { at: null_mut() },
-            cpu: 0,
-            quiet_at: 0,
-        };
-        let seat = mem::replace(self.seat.get_mut(), none);
+        // SAFETY: the seat is used no more.
+        let seat = unsafe { ManuallyDrop::take(&mut self.seat) };
         self.inner.give_back(seat);
     }
 }
 
 impl Drop for Awake<'_> {
     fn drop(&mut self) {
-        let mut number = 0;
-        must("wake", unsafe {
-            raw::rcu_seat_wake(self.0.raw(), &mut number)
-        });
+        self.0.seat.wake();
     }
 }
 
 impl Guard<'_> {
     pub(crate) fn id(&self) -> u64 {
-        self.reader.id()
+        self.reader.inner.id
     }
 }
 
 impl Drop for Guard<'_> {
     fn drop(&mut self) {
-        let mut depth = 0;
-        must("exit", unsafe {
-            raw::rcu_seat_exit(self.reader.raw(), &mut depth)
-        });
+        self.reader.seat.exit();
+    }
+}
+
+impl fmt::Debug for Reader {
+    fn fmt(&self, to: &mut fmt::Formatter<'_>) -> fmt::Result {
+        to.debug_struct("Reader").finish_non_exhaustive()
+    }
+}
+
+impl fmt::Debug for Guard<'_> {
+    fn fmt(&self, to: &mut fmt::Formatter<'_>) -> fmt::Result {
+        to.debug_struct("Guard").finish_non_exhaustive()
     }
 }

@@ -1,39 +1,15 @@
 //! Threads that read, data that is dropped by what is deferred, and how all of it ends.
 
+mod common;
+
+use common::{none_alive, Counted};
 use rcu::{Engine, Error, Reader, Shared};
-use std::env;
 use std::mem;
 use std::panic::{catch_unwind, AssertUnwindSafe};
-use std::process::Command;
-use std::sync::atomic::{AtomicBool, AtomicUsize, Ordering::SeqCst};
+use std::sync::atomic::{AtomicBool, Ordering::SeqCst};
 use std::sync::{Arc, Barrier};
 use std::thread;
 use std::time::Duration;
-
-/// Data that counts how many there are, and is seen to be whole.
-struct Counted {
-    value: u64,
-    twice: u64,
-    alive: Arc<AtomicUsize>,
-}
-
-impl Counted {
-    fn new(value: u64, alive: &Arc<AtomicUsize>) -> Counted {
-        alive.fetch_add(1, SeqCst);
-        Counted {
-            value,
-            twice: 2 * value,
-            alive: Arc::clone(alive),
-        }
-    }
-}
-
-impl Drop for Counted {
-    fn drop(&mut self) {
-        self.twice = 2 * self.value + 1;
-        self.alive.fetch_sub(1, SeqCst);
-    }
-}
 
 /// An engine and a slot are for all threads; a reader is for any.
 const _: fn() = || {
@@ -43,10 +19,6 @@ const _: fn() = || {
     may_be_shared::<Shared<u64>>();
     may_be_sent::<Reader>();
 };
-
-fn none_alive() -> Arc<AtomicUsize> {
-    Arc::new(AtomicUsize::new(0))
-}
 
 #[test]
 fn all_that_is_replaced_is_dropped_and_none_too_early() {
@@ -292,27 +264,4 @@ fn an_engine_has_1_to_4095_readers() {
     assert_eq!(engine.reader().err(), Some(Error::AllTaken));
     drop(all);
     engine.synchronize();
-}
-
-/// Run by the test below, in a process of its own.
-#[test]
-fn a_callback_panics() {
-    if env::var_os("RCU_PANICS").is_some() {
-        let engine = Engine::new(1).unwrap();
-        engine.defer(|| panic!("in a callback"));
-        let _ = catch_unwind(AssertUnwindSafe(|| engine.run_deferred()));
-        println!("went on");
-    }
-}
-
-#[test]
-fn a_callback_that_panics_ends_the_process() {
-    let ran = Command::new(env::current_exe().unwrap())
-        .args(["a_callback_panics", "--exact", "--nocapture"])
-        .env("RCU_PANICS", "1")
-        .output()
-        .unwrap();
-    assert!(!ran.status.success());
-    assert!(String::from_utf8_lossy(&ran.stderr).contains("what was deferred panicked"));
-    assert!(!String::from_utf8_lossy(&ran.stdout).contains("went on"));
 }

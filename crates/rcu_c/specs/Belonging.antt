@@ -12,12 +12,12 @@ use Rattle.rcu_live.specs.View.{IsOfEngine}
 use Rattle.rcu_live.specs.declared.view.Role.TheVariants.{Cpu}
 use Rattle.rcu_live.specs.declared.view.View.{View}
 use Rattle.rcu_c.specs.Engines.{is_own}
-use Rattle.rcu_c.specs.Holding.{IsSeatOf, cpu_of, engine_of, grace_of, opened_of, seat_of}
+use Rattle.rcu_c.specs.Holding.{ReadsWordsOf, cpu_of, engine_of, grace_of, opened_of, seat_of}
 use Rattle.rcu_c.specs.declared.contents.Contents.{Contents}
 
 -- the seat is one of the engine's: it reads the words that the engine writes, and the engine takes it
 pub record BelongsTo (seat rcu : std.Option Contents) : Type 0 where
-  pub words : IsSeatOf seat rcu
+  pub words : ReadsWordsOf seat rcu
   pub taken : is_own (opened_of rcu) (seat_of seat) ≡ true
 
 -- the one engine is the other: it writes the same words, and has as many processors

@@ -1,10 +1,11 @@
 -- What a handle holds: the engine or the seat of an open one, and what a call changes of it.
-use Rattle.std.specs.Prelude.{◌≡◌, ℕ, [], Option, Some, None, ⊤}
+use Rattle.std.specs.Prelude.{◌≡◌, ℕ, ◌≤◌, [], Option, Some, None, ⊤}
 use Rattle.atomic_table.specs.Seated.{TableId}
 use Rattle.rcu_core.specs.GpState.{Grace}
+use Rattle.rcu_seq.specs.Numbers.{Number}
 use Rattle.rcu_live.specs.CpuSeat.{Seated}
 use Rattle.rcu_live.specs.Engine.{Locked}
-use Rattle.rcu_live.specs.Watcher.{Watching}
+use Rattle.rcu_live.specs.Watcher.{Watching, after_watch}
 use Rattle.rcu_c.specs.Engines.{EngineAndSeats, opened_at_first}
 use Rattle.rcu_c.specs.Seats.{Seat, seat_at_first}
 use Rattle.rcu_c.specs.declared.contents.Contents.{Contents}
@@ -79,10 +80,22 @@ on_grace change = on_engine (λ e. record e { grace = change e.grace })
 abbrev pub on_cpu : (Seated (Unit {0}) → Seated (Unit {0})) → Option Contents → Option Contents
 on_cpu change h = Some (contents.Seat (record (seat_of h) { cpu = change (cpu_of h) }))
 
+-- a call of a seat was accepted at the number n, which is at least all that its processor's seat saw before: this is what
+-- it leaves
+pub record AcceptedAt (after : Seated (Unit {0}) → Number → Seated (Unit {0})) (h : Option Contents) (n : Number)
+    (now : Option Contents) : Type 0 where
+  pub state : now ≡ on_cpu (λ s. after s n) h
+  pub later : (cpu_of h).view.seen ≤ n
+
 -- a seat's handle with its watcher changed
 abbrev pub on_watcher : (Watching (Unit {0}) → Watching (Unit {0})) → Option Contents → Option Contents
 on_watcher change h = Some (contents.Seat (record (seat_of h) { watcher = change (watcher_of h) }))
 
--- the seat is one that this engine dealt: it reads the words that the engine writes
-abbrev pub IsSeatOf : Option Contents → Option Contents → Type 0
-IsSeatOf seat rcu = (seat_of seat).object ≡ record { table = (engine_of rcu).table; cpus = (engine_of rcu).cpus }
+-- one load more of a seat's watcher, which saw n, at least all that it saw before
+pub record WatchedAt (h : Option Contents) (n : Number) (now : Option Contents) : Type 0 where
+  pub look : now ≡ on_watcher (λ w. after_watch w n) h
+  pub later : (watcher_of h).view.seen ≤ n
+
+-- the seat reads the words that this engine writes
+abbrev pub ReadsWordsOf : Option Contents → Option Contents → Type 0
+ReadsWordsOf seat rcu = (seat_of seat).object ≡ record { table = (engine_of rcu).table; cpus = (engine_of rcu).cpus }

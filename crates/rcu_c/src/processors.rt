@@ -1,5 +1,5 @@
 //! Processors that come and go: each call takes the engine and the processor's seat.
-ghost use Rattle.std.specs.Prelude.{◌≡◌, ◌≢◌, ◌<◌, ◌≤◌, ◌==◌, None, Some, false, length};
+ghost use Rattle.std.specs.Prelude.{◌≡◌, ◌≢◌, ◌<◌, ◌==◌, None, Some, false, length};
 ghost use Rattle.rcu_cblist.specs.SegList.{callbacks, is_empty};
 ghost use Rattle.rcu_barrier.specs.Lists.{list_of};
 ghost use Rattle.rcu_live.specs.CpuSeat.{after_depart, after_quiesce};
@@ -7,8 +7,8 @@ ghost use Rattle.rcu_live.specs.Engine.{latest_word};
 ghost use Rattle.rcu_live.specs.EngineLists as live;
 ghost use Rattle.rcu_live.specs.EngineLists.{leave_refusal};
 ghost use Rattle.rcu_c.specs.Answers.{number_for, number_in_c};
-ghost use Rattle.rcu_c.specs.Holding.{HoldsEngine, HoldsSeat, cpu_of, engine_of, grace_of, on_cpu};
-ghost use Rattle.rcu_c.specs.Holding.{on_engine, on_grace};
+ghost use Rattle.rcu_c.specs.Holding.{AcceptedAt, HoldsEngine, HoldsSeat, cpu_of, engine_of};
+ghost use Rattle.rcu_c.specs.Holding.{grace_of, on_cpu, on_engine, on_grace};
 ghost use Rattle.rcu_c.specs.Refusals.{coming_refusal, going_refusal};
 ghost use Rattle.rcu_c.specs.Staying.{BothStay};
 
@@ -27,10 +27,8 @@ pub extern "C" fn rcu_arrive_unfenced(rcu: &mut Rcu, seat: &mut RcuSeat) -> u32
     ensures fault { result ≡ number_in_c (coming_refusal rcu.old.contents seat.old.contents) }
     ensures state { result ≡ 0 → rcu.new.contents ≡
         on_grace (λ g. live.with_arrival g (cpu_of seat.old.contents).cpu) rcu.old.contents }
-    ensures seat { result ≡ 0 → seat.new.contents ≡
-        on_cpu (λ s. after_quiesce s (cpu_of seat.new.contents).view.seen) seat.old.contents }
-    ensures later { result ≡ 0 →
-        (cpu_of seat.old.contents).view.seen ≤ (cpu_of seat.new.contents).view.seen }
+    ensures seat { result ≡ 0 → AcceptedAt after_quiesce seat.old.contents
+        (cpu_of seat.new.contents).view.seen seat.new.contents }
     ensures unchanged { result ≢ 0 →
         BothStay rcu.old.contents rcu.new.contents seat.old.contents seat.new.contents }
 {

@@ -1,14 +1,14 @@
 //! What a thread does by its seat alone: no call here waits, takes memory or needs a lock.
-ghost use Rattle.std.specs.Prelude.{◌≡◌, ◌≢◌, ◌≤◌, ◌==◌, not};
+ghost use Rattle.std.specs.Prelude.{◌≡◌, ◌≢◌, ◌==◌, not};
 ghost use Rattle.rcu_seq.specs.Numbers.{snapshot};
 ghost use Rattle.rcu_seq.specs.Tags.{is_done_first};
 ghost use Rattle.rcu_live.specs.CpuSeat.{after_enter, after_exit, after_idle, after_quiesce};
-ghost use Rattle.rcu_live.specs.CpuSeat.{enter_refusal, exit_refusal, quiesce_refusal};
-ghost use Rattle.rcu_live.specs.CpuSeat.{wake_refusal};
+ghost use Rattle.rcu_live.specs.CpuSeat.{after_quiesce_since, enter_refusal, exit_refusal};
+ghost use Rattle.rcu_live.specs.CpuSeat.{quiesce_refusal, wake_refusal};
 ghost use Rattle.rcu_live.specs.Numbers.{idle_word};
-ghost use Rattle.rcu_live.specs.Watcher.{after_watch};
 ghost use Rattle.rcu_c.specs.Answers.{number_for};
-ghost use Rattle.rcu_c.specs.Holding.{HoldsSeat, cpu_of, on_cpu, on_watcher, watcher_of};
+ghost use Rattle.rcu_c.specs.Holding.{AcceptedAt, HoldsSeat, WatchedAt, cpu_of, on_cpu};
+ghost use Rattle.rcu_c.specs.Holding.{watcher_of};
 ghost use Rattle.rcu_c.specs.Staying.{BothStay};
 
 use crate::codes::{status, write_out};
@@ -64,10 +64,8 @@ pub extern "C" fn rcu_seat_enter(seat: &mut RcuSeat, depth: &mut u32) -> u32
     requires open { HoldsSeat seat.old.contents }
     ensures fault { result ≡ number_for (enter_refusal (cpu_of seat.old.contents)) }
     ensures depth { result ≡ 0 → depth.new ≡ (cpu_of seat.new.contents).depth }
-    ensures state { result ≡ 0 → seat.new.contents ≡
-        on_cpu (λ s. after_enter s (cpu_of seat.new.contents).view.seen) seat.old.contents }
-    ensures later { result ≡ 0 →
-        (cpu_of seat.old.contents).view.seen ≤ (cpu_of seat.new.contents).view.seen }
+    ensures state { result ≡ 0 → AcceptedAt after_enter seat.old.contents
+        (cpu_of seat.new.contents).view.seen seat.new.contents }
     ensures unchanged { result ≢ 0 →
         BothStay seat.old.contents seat.new.contents depth.old depth.new }
 {
@@ -84,10 +82,8 @@ pub extern "C" fn rcu_seat_exit(seat: &mut RcuSeat, depth: &mut u32) -> u32
     requires open { HoldsSeat seat.old.contents }
     ensures fault { result ≡ number_for (exit_refusal (cpu_of seat.old.contents)) }
     ensures depth { result ≡ 0 → depth.new ≡ (cpu_of seat.new.contents).depth }
-    ensures state { result ≡ 0 → seat.new.contents ≡
-        on_cpu (λ s. after_exit (λ c. c) s (cpu_of seat.new.contents).view.seen) seat.old.contents }
-    ensures later { result ≡ 0 →
-        (cpu_of seat.old.contents).view.seen ≤ (cpu_of seat.new.contents).view.seen }
+    ensures state { result ≡ 0 → AcceptedAt (after_exit (λ c. c)) seat.old.contents
+        (cpu_of seat.new.contents).view.seen seat.new.contents }
     ensures unchanged { result ≢ 0 →
         BothStay seat.old.contents seat.new.contents depth.old depth.new }
 {
@@ -103,14 +99,30 @@ pub extern "C" fn rcu_seat_exit(seat: &mut RcuSeat, depth: &mut u32) -> u32
 pub extern "C" fn rcu_seat_quiesce_unfenced(seat: &mut RcuSeat, number: &mut u64) -> u32
     requires open { HoldsSeat seat.old.contents }
     ensures fault { result ≡ number_for (quiesce_refusal (cpu_of seat.old.contents)) }
-    ensures state { result ≡ 0 → seat.new.contents ≡
-        on_cpu (λ s. after_quiesce s number.new) seat.old.contents }
-    ensures later { result ≡ 0 → (cpu_of seat.old.contents).view.seen ≤ number.new }
+    ensures state { result ≡ 0 →
+        AcceptedAt after_quiesce seat.old.contents number.new seat.new.contents }
     ensures unchanged { result ≢ 0 →
         BothStay seat.old.contents seat.new.contents number.old number.new }
 {
     let seat_parts = seat.seat();
     write_out(seat_parts.cpu.quiesce(&*seat_parts.board), number)
+}
+
+/// Passes a quiescent state, as `CpuSeat::quiesce_since`: by one load alone where the own word is
+/// the number that it saw and one more already. Writes the number.
+///
+/// Faults: 2 where the processor is offline; 23 where it is idle; 4 where a section is open.
+#[unsafe(no_mangle)]
+pub extern "C" fn rcu_seat_quiesce_since_unfenced(seat: &mut RcuSeat, number: &mut u64) -> u32
+    requires open { HoldsSeat seat.old.contents }
+    ensures fault { result ≡ number_for (quiesce_refusal (cpu_of seat.old.contents)) }
+    ensures state { result ≡ 0 →
+        AcceptedAt after_quiesce_since seat.old.contents number.new seat.new.contents }
+    ensures unchanged { result ≢ 0 →
+        BothStay seat.old.contents seat.new.contents number.old number.new }
+{
+    let seat_parts = seat.seat();
+    write_out(seat_parts.cpu.quiesce_since(&*seat_parts.board), number)
 }
 
 /// The processor gets idle by one store, as `CpuSeat::idle`.
@@ -135,9 +147,8 @@ pub extern "C" fn rcu_seat_idle(seat: &mut RcuSeat) -> u32
 pub extern "C" fn rcu_seat_wake_unfenced(seat: &mut RcuSeat, number: &mut u64) -> u32
     requires open { HoldsSeat seat.old.contents }
     ensures fault { result ≡ number_for (wake_refusal (cpu_of seat.old.contents)) }
-    ensures state { result ≡ 0 → seat.new.contents ≡
-        on_cpu (λ s. after_quiesce s number.new) seat.old.contents }
-    ensures later { result ≡ 0 → (cpu_of seat.old.contents).view.seen ≤ number.new }
+    ensures state { result ≡ 0 →
+        AcceptedAt after_quiesce seat.old.contents number.new seat.new.contents }
     ensures unchanged { result ≢ 0 →
         BothStay seat.old.contents seat.new.contents number.old number.new }
 {
@@ -149,10 +160,8 @@ pub extern "C" fn rcu_seat_wake_unfenced(seat: &mut RcuSeat, number: &mut u64) -
 #[unsafe(no_mangle)]
 pub extern "C" fn rcu_seat_take_unfenced(seat: &mut RcuSeat) -> u64
     requires open { HoldsSeat seat.old.contents }
-    ensures look { seat.new.contents ≡
-        on_watcher (λ w. after_watch w (watcher_of seat.new.contents).view.seen) seat.old.contents }
-    ensures later { (watcher_of seat.old.contents).view.seen
-        ≤ (watcher_of seat.new.contents).view.seen }
+    ensures look { WatchedAt seat.old.contents (watcher_of seat.new.contents).view.seen
+        seat.new.contents }
     ensures cookie { result ≡ snapshot (watcher_of seat.new.contents).view.seen }
 {
     let seat_parts = seat.seat();
@@ -163,10 +172,8 @@ pub extern "C" fn rcu_seat_take_unfenced(seat: &mut RcuSeat) -> u64
 #[unsafe(no_mangle)]
 pub extern "C" fn rcu_seat_poll_unfenced(seat: &mut RcuSeat, cookie: u64) -> bool
     requires open { HoldsSeat seat.old.contents }
-    ensures look { seat.new.contents ≡
-        on_watcher (λ w. after_watch w (watcher_of seat.new.contents).view.seen) seat.old.contents }
-    ensures later { (watcher_of seat.old.contents).view.seen
-        ≤ (watcher_of seat.new.contents).view.seen }
+    ensures look { WatchedAt seat.old.contents (watcher_of seat.new.contents).view.seen
+        seat.new.contents }
     ensures done { result ≡ is_done_first (record { epoch = 0; number = cookie })
         (watcher_of seat.new.contents).view.seen }
 {
