@@ -25,6 +25,7 @@ PERIODS = 200
 LAST = 4 * PERIODS + 1  # the number of the one after them, which stays open
 HELD = 2                # own processors of each machine that are in a section then
 SECONDS = 600             # a guard against a hang: without one it takes some twenty
+PLANTED_SECONDS = 120     # with a planted fault, which may also bring all to a halt
 KILLED, RESUMED, LEFT, BACK = 60, 61, 110, 150  # after so many grace periods
 LOST, TWICE, LATE, AGAIN = 0.2, 0.2, 0.1, 0.05  # shares of messages, and of readings
 OPENS, CLOSES = 0.1, 0.5  # of readers, a step
@@ -170,7 +171,8 @@ class Cluster:
 
     def __init__(self, room, program, seed, planted):
         self.room, self.program, self.seed, self.planted = room, program, seed, planted
-        self.until = time.monotonic() + SECONDS
+        self.seconds = PLANTED_SECONDS if planted else SECONDS
+        self.until = time.monotonic() + self.seconds
         self.socket, self.workers, self.said = f"{room}/socket", {}, {}
         self.redis = subprocess.Popen(
             ["redis-server", "--port", "0", "--unixsocket", self.socket, "--save", "",
@@ -207,7 +209,7 @@ class Cluster:
     def wait(self, what, holds):
         while not holds():
             if time.monotonic() > self.until:
-                raise Failure(f"not within {SECONDS} seconds: {what}")
+                raise Failure(f"not within {self.seconds} seconds: {what}")
             if self.workers:
                 self.look()
             time.sleep(0.01)
