@@ -6,6 +6,12 @@ ghost use Rattle.rcu_c.specs.Answers.{number_for};
 
 use rcu_seq::fault::Fault;
 
+/// The number of no processor: more than any engine has.
+pub(crate) const NO_CPU: u32 = u32::MAX;
+
+/// A cookie that is never done: no engine's number comes to it.
+pub(crate) const NEVER_DONE: u64 = u64::MAX;
+
 /// The number of a fault. It is never 0, which says that a call was accepted.
 pub(crate) fn code(fault: Fault) -> u32
     ensures number { result ≡ fault_number fault }

@@ -13,7 +13,8 @@ ghost use Rattle.rcu_c.specs.Answers.{number_for, number_in_c, tested_number};
 ghost use Rattle.rcu_c.specs.Engines.{opened_at_first, seat_at, with_seat, without_seat};
 ghost use Rattle.rcu_c.specs.Holding.{HoldsEngine, HoldsSeat, engine_of, on_opened, opened_of};
 ghost use Rattle.rcu_c.specs.Holding.{seat_of};
-ghost use Rattle.rcu_c.specs.Refusals.{deal_refusal, return_refusal};
+ghost use Rattle.rcu_c.specs.Refusals.{deal_refusal, engine_number, engine_refusal};
+ghost use Rattle.rcu_c.specs.Refusals.{return_refusal, seat_refusal};
 ghost use Rattle.rcu_c.specs.Seats.{seat_at_first};
 ghost use Rattle.rcu_c.specs.Staying.{BothStay};
 
@@ -156,13 +157,16 @@ pub extern "C" fn rcu_open_as(
 }
 
 /// Closes an engine's handle, and frees all that it has, beside what its seats that are still open
-/// read.
+/// read. Another handle stays as it is.
 #[unsafe(no_mangle)]
 pub extern "C" fn rcu_close(alloc: Global, rcu: &mut Rcu)
-    requires open { HoldsEngine rcu.old.contents }
-    ensures closed { IsNone rcu.new.contents }
+    ensures closed { engine_refusal rcu.old.contents ≡ None → IsNone rcu.new.contents }
+    ensures kept { engine_refusal rcu.old.contents ≢ None →
+        rcu.new.contents ≡ rcu.old.contents }
 {
-    drop(rcu.close(alloc).into_box());
+    if rcu.holds_engine() {
+        drop(rcu.close(alloc).into_box());
+    }
 }
 
 /// Takes the seat of a processor out of the engine, and puts it into a box.
@@ -213,10 +217,9 @@ fn deal_into(contents: &mut Contents, opened: &mut OpenEngine, cpu: u32)
 /// handles as they were.
 #[unsafe(no_mangle)]
 pub extern "C" fn rcu_seat_open(alloc: Global, rcu: &mut Rcu, cpu: u32, seat: &mut RcuSeat) -> u32
-    requires open { HoldsEngine rcu.old.contents }
     requires closed { IsNone seat.old.contents }
-    ensures fault { tested_number result ≡
-        number_in_c (deal_refusal (opened_of rcu.old.contents) cpu) }
+    ensures fault { tested_number result ≡ engine_number rcu.old.contents
+        (number_in_c (deal_refusal (opened_of rcu.old.contents) cpu)) }
     ensures open { result ≡ 0 → HoldsSeat seat.new.contents }
     ensures seat { result ≡ 0 →
         seat_at (opened_of rcu.old.contents) cpu ≡ Some (seat_of seat.new.contents) }
@@ -225,7 +228,11 @@ pub extern "C" fn rcu_seat_open(alloc: Global, rcu: &mut Rcu, cpu: u32, seat: &m
     ensures unchanged { result ≢ 0 →
         BothStay rcu.old.contents rcu.new.contents seat.old.contents seat.new.contents }
 {
-    match deal_seat(alloc, rcu.engine(), cpu) {
+    let opened = match rcu.engine() {
+        Ok(opened) => opened,
+        Err(refusal) => return refusal.number(),
+    };
+    match deal_seat(alloc, opened, cpu) {
         Ok(contents) => {
             put(seat, contents);
             0
@@ -238,11 +245,13 @@ pub extern "C" fn rcu_seat_open(alloc: Global, rcu: &mut Rcu, cpu: u32, seat: &m
 /// dealt.
 #[unsafe(no_mangle)]
 pub extern "C" fn rcu_has_seat(rcu: &mut Rcu, cpu: u32) -> bool
-    requires open { HoldsEngine rcu.old.contents }
     ensures kept { rcu.new.contents ≡ rcu.old.contents }
     ensures value { result ≡ is_some (seat_at (opened_of rcu.old.contents) cpu) }
 {
-    rcu.engine().has_seat(cpu)
+    match rcu.engine() {
+        Ok(opened) => opened.has_seat(cpu),
+        Err(_) => false,
+    }
 }
 
 /// Hands a seat back to the engine that dealt it, which deals it again as it stands, and closes its
@@ -251,8 +260,6 @@ pub extern "C" fn rcu_has_seat(rcu: &mut Rcu, cpu: u32) -> bool
 /// Fault 26: the seat is of another engine. The handles then stay as they were.
 #[unsafe(no_mangle)]
 pub extern "C" fn rcu_seat_return(alloc: Global, rcu: &mut Rcu, seat: &mut RcuSeat) -> u32
-    requires open { HoldsEngine rcu.old.contents }
-    requires seat { HoldsSeat seat.old.contents }
     ensures fault { result ≡ number_in_c (return_refusal rcu.old.contents seat.old.contents) }
     ensures state { result ≡ 0 → rcu.new.contents ≡
         on_opened (λ o. with_seat o (seat_of seat.old.contents)) rcu.old.contents }
@@ -260,8 +267,15 @@ pub extern "C" fn rcu_seat_return(alloc: Global, rcu: &mut Rcu, seat: &mut RcuSe
     ensures unchanged { result ≢ 0 →
         BothStay rcu.old.contents rcu.new.contents seat.old.contents seat.new.contents }
 {
-    let opened = rcu.engine();
-    if !opened.owns(seat.seat()) {
+    let opened = match rcu.engine() {
+        Ok(opened) => opened,
+        Err(refusal) => return refusal.number(),
+    };
+    let parts = match seat.seat() {
+        Ok(parts) => parts,
+        Err(refusal) => return refusal.number(),
+    };
+    if !opened.owns(parts) {
         return Refusal::OtherEngine.number();
     }
     let mut contents = seat.close(alloc).into_box();
@@ -270,11 +284,15 @@ pub extern "C" fn rcu_seat_return(alloc: Global, rcu: &mut Rcu, seat: &mut RcuSe
 }
 
 /// Closes a seat's handle: nobody has its seat any more. Its processor goes on as it stands: an
-/// online one is awaited by the next grace period, and passes no quiescent state any more.
+/// online one is awaited by the next grace period, and passes no quiescent state any more. Another
+/// handle stays as it is.
 #[unsafe(no_mangle)]
 pub extern "C" fn rcu_seat_close(alloc: Global, seat: &mut RcuSeat)
-    requires open { HoldsSeat seat.old.contents }
-    ensures closed { IsNone seat.new.contents }
+    ensures closed { seat_refusal seat.old.contents ≡ None → IsNone seat.new.contents }
+    ensures kept { seat_refusal seat.old.contents ≢ None →
+        seat.new.contents ≡ seat.old.contents }
 {
-    drop(seat.close(alloc).into_box());
+    if seat.holds_seat() {
+        drop(seat.close(alloc).into_box());
+    }
 }
