@@ -5,7 +5,7 @@ use Rattle.std.proofs.lemmas.Bool.{cases_Bool}
 use Rattle.rcu_seq.specs.Numbers.{Number}
 use Rattle.rcu_live.specs.CpuSeat.{Seated}
 use Rattle.rcu_live.specs.Numbers.{may_open}
-use Rattle.rcu_live.specs.Waits.{HasLooked, HasRested, after_rests}
+use Rattle.rcu_live.specs.Waits.{AreRounds, HasLooked, HasRested, after_rests}
 use Rattle.rcu_live.specs.Watcher.{Watching, after_watch}
 
 module _ {C : Type 0} where
@@ -77,3 +77,32 @@ module _ {C : Type 0} where
         more = omega (arith, more, loads);
         state = state ∙ ap (λ (k : ℕ). record w { view = record w.view { seen = u.view.seen; loads = k } }) (sym loads);
       }
+
+  -- no round yet, one round more (a look and a quiescent state), and a look behind the last one, or before the first
+  pub rounds_none : (s : Seated C) (w : Watching C) → AreRounds 0 s s w w
+  rounds_none s w outside awake = omega arith
+
+  pub rounds_more : (s t u : Seated C) (w v x : Watching C) → AreRounds 0 s t w v → x ≡ after_watch v x.view.seen
+      → u ≡ after_rests t 1 u.view.seen → AreRounds 0 s u w x
+  rounds_more s t u w v x before look new outside awake = elim (cases_Bool (may_open t.view.own_word)) [
+    | inl up ↦
+        let rests : u.view.loads ≡ t.view.loads + 1 = ap (λ (y : Seated C). y.view.loads) (new ∙ awake_rests t 0 u.view.seen up) in
+        let looks : x.view.loads ≡ v.view.loads + 1 = ap (λ (y : Watching C). y.view.loads) look in
+        let old = before outside up in omega (arith, rests, looks, old)
+    | inr down ↦
+        let same : u ≡ t = new ∙ asleep_rests t 1 u.view.seen down in
+        let both : may_open t.view.own_word ≡ true = ap (λ (y : Seated C). may_open y.view.own_word) (sym same) ∙ awake in
+        absurd (cc)
+  ]
+
+  pub rounds_then_look : (s t : Seated C) (w v x : Watching C) → AreRounds 0 s t w v → x ≡ after_watch v x.view.seen
+      → AreRounds 1 s t w x
+  rounds_then_look s t w v x before look outside awake =
+      let looks : x.view.loads ≡ v.view.loads + 1 = ap (λ (y : Watching C). y.view.loads) look in
+      let old = before outside awake in omega (arith, looks, old)
+
+  pub rounds_behind_look : (s t : Seated C) (w v x : Watching C) → v ≡ after_watch w v.view.seen → AreRounds 1 s t v x
+      → AreRounds 2 s t w x
+  rounds_behind_look s t w v x look rounds outside awake =
+      let looks : v.view.loads ≡ w.view.loads + 1 = ap (λ (y : Watching C). y.view.loads) look in
+      let old = rounds outside awake in omega (arith, looks, old)
