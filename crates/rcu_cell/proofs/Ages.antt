@@ -1,5 +1,5 @@
 -- Looks at the number, one after another.
-use Rattle.std.proofs.Common.{◌≡◌, ◌≤◌, ◌+◌, Bool, true, false, if◌then◌else◌, List, [], ◌∷◌, refl, sym, ap, ◌∙◌, arith, inl, inr}
+use Rattle.std.proofs.Common.{◌≡◌, ◌≤◌, ◌+◌, Bool, true, if◌then◌else◌, List, [], ◌∷◌, refl, sym, ap, ◌∙◌, arith, inl, inr}
 use Rattle.std.proofs.Common.{Result, Ok, Err, OnOk, OnErr, subst}
 use Rattle.std.proofs.lemmas.Bool.{cases_Bool}
 use Rattle.std.proofs.lemmas.Bool.Decides.{nat_tests}
@@ -9,6 +9,7 @@ use Rattle.rcu_live.specs.CpuSeat.{AcceptedAt, Seated}
 use Rattle.rcu_live.specs.Numbers.{is_past}
 use Rattle.rcu_live.specs.Waits.{HasRested, after_rests}
 use Rattle.rcu_live.specs.Watcher.{Watching}
+use Rattle.rcu_live.proofs.ClientLemmas.{not_past}
 use Rattle.rcu_live.proofs.WaitLemmas.{rested_more}
 use Rattle.rcu_cell.specs.Keeper.{after_age}
 use Rattle.rcu_cell.specs.Versions.{aged, aged_state, slot_in, slots_in}
@@ -19,12 +20,9 @@ use Rattle.rcu_cell.specs.declared.known.Version.{Version}
 use Rattle.rcu_cell.specs.declared.slot_state.SlotState.{SlotState}
 use Rattle.rcu_cell.specs.declared.slot_state.SlotState.TheVariants.{Free, Shown, Replaced, Retired}
 
--- what is past at a number is past at each later one, and no number is past at itself
+-- what is past at a number is past at each later one
 past_later : (at last n : Number) → last ≤ n → is_past at last ≡ true → is_past at n ≡ true
 past_later at last n later past = grind (arith, nat_tests)
-
-not_past_itself : (n : Number) → is_past n n ≡ false
-not_past_itself n = grind (arith, nat_tests)
 
 -- a look in between makes no difference to a slot that was looked at before
 retired_again : (at last n : Number) → last ≤ n → aged_state n (aged_state last (Retired at)) ≡ aged_state n (Retired at)
@@ -51,7 +49,7 @@ state_again first last n (Retired at) later = elim (cases_Bool (is_past at first
 state_twice : (n : Number) (s : SlotState) → aged_state n (aged_state n s) ≡ aged_state n s
 state_twice n Free = refl
 state_twice n Shown = refl
-state_twice n Replaced = ap (λ (b : Bool). if b then Free else Retired n) (not_past_itself n)
+state_twice n Replaced = ap (λ (b : Bool). if b then Free else Retired n) (not_past n)
 state_twice n (Retired at) = elim (cases_Bool (is_past at n)) [
   | inl past ↦ ap (λ (b : Bool). aged_state n (if b then Free else Retired at)) past
       ∙ sym (ap (λ (b : Bool). if b then Free else Retired at) past)

@@ -1,8 +1,7 @@
 -- What an update that waits for a free slot leaves.
 use Rattle.std.specs.Prelude.{◌≡◌, ℕ, ◌<◌, ◌≤◌, List}
 use Rattle.rcu_seq.specs.Numbers.{Number}
-use Rattle.rcu_live.specs.Board.{Object}
-use Rattle.rcu_live.specs.CpuSeat.{IsSeatOf, Seated}
+use Rattle.rcu_live.specs.CpuSeat.{Seated}
 use Rattle.rcu_live.specs.Waits.{HasRested}
 use Rattle.rcu_live.specs.Watcher.{Watching}
 use Rattle.rcu_cell.specs.Keeper.{IsFirstFree, IsFull, Updated}
@@ -35,16 +34,17 @@ pub record HasUpdated (before : Watching Known) (words : List ℕ) (retired : Re
   pub ages : HasAged before looked
   pub updated : Updated looked words retired after
 
--- the caller's seat after a wait: it is of the cell still, its sections nest as deep, and it passed quiescent states; with a
--- section open it did nothing
-pub record HasWaited (cell : Object) (before after : Seated Known) : Type 0 where
-  pub seat_of : IsSeatOf cell after
-  pub depth : after.depth ≡ before.depth
+-- from one state of the caller's seat to the other it passed quiescent states, and did nothing else; with a section open it
+-- did nothing at all
+pub record HasRestedOutside (before after : Seated Known) : Type 0 where
   pub rested : HasRested before after
   pub in_section : 0 < before.depth → after ≡ before
 
--- an update replaced the shown slot: at once where a slot was free, and else as soon as one was
-pub record UpdatedInTime (before : Watching Known) (words : List ℕ) (retired : Retired) (after : Watching Known) : Type 0 where
+-- an update of a caller whose sections nest this deep, which is outside of them, replaced the shown slot: at once where a
+-- slot was free, and else as soon as one was
+pub record UpdatedInTime (depth : ℕ) (before : Watching Known) (words : List ℕ) (retired : Retired)
+    (after : Watching Known) : Type 0 where
+  pub outside : depth ≡ 0
   pub replaced : retired.slot ≡ slot_in before.view.client
   pub at_once : (slot : ℕ) → IsFirstFree (slots_in before.view.client) slot → Updated before words retired after
   pub waited : IsFull (slots_in before.view.client) → HasUpdated before words retired after

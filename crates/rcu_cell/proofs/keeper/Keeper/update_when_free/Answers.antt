@@ -9,7 +9,7 @@ use Rattle.rcu_cell.proofs.keeper.Keeper.update_when_free.Goals as goal
 pub loop-init : goal.loop-init
 loop-init g c = record {
   cell = c.age.ensures.cell;
-  seat = c.requires.seat;
+  seat = c.requires.of_cell.seat_of;
   depth = c.requires.shut;
   rested = rested_none c.args.seat.now;
   aged = aged_once c.args.self.now c.age.new.self c.age.result c.age.ensures.state.later c.age.ensures.state.state;
