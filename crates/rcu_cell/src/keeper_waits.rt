@@ -28,9 +28,9 @@ impl<F: Invariant, const W: usize, const N: usize> Keeper<F, W, N> {
         ensures of_cell { AreOf cell.now self.new seat.new }
         ensures rested { HasRested seat.old seat.new }
         ensures updated { IfOk result (λ retired.
-            HasUpdated self.old words.now retired self.new) }
+            HasUpdated seat.old seat.new self.old words.now retired self.new) }
         ensures fault { IfErr result (λ fault. fault ≡ Fault.Exhausted) }
-        ensures given_up { OnErr result (HasGivenUp 0 self.old self.new) }
+        ensures given_up { OnErr result (HasGivenUp seat.old seat.new self.old self.new) }
     {
         let cookie = Cookie::of(Tag::of_first_epoch(self.age(cell)));
         let mut waited = Ok(());
@@ -69,9 +69,9 @@ impl<F: Invariant, const W: usize, const N: usize> Keeper<F, W, N> {
         ensures of_cell { AreOf cell.now self.new seat.new }
         ensures rested { HasRestedOutside seat.old seat.new }
         ensures updated { IfOk result (λ retired.
-            UpdatedInTime seat.old.depth self.old words.now retired self.new) }
+            UpdatedInTime seat.old seat.new self.old words.now retired self.new) }
         ensures fault { IfErr result (λ fault. fault ≡ wait_fault seat.old.depth) }
-        ensures given_up { OnErr result (HasGivenUp seat.old.depth self.old self.new) }
+        ensures given_up { OnErr result (HasGivenUp seat.old seat.new self.old self.new) }
     {
         if seat.depth() > 0 {
             return Err(Fault::InSection);
@@ -98,9 +98,10 @@ impl<F: Value<W>, const W: usize, const N: usize> Keeper<F, W, N> {
         ensures of_cell { AreOf cell.now self.new seat.new }
         ensures rested { HasRestedOutside seat.old seat.new }
         ensures updated { IfOk result (λ retired.
-            UpdatedInTime seat.old.depth self.old (F.in_words value) retired self.new) }
+            UpdatedInTime seat.old seat.new self.old (F.in_words value) retired
+            self.new) }
         ensures fault { IfErr result (λ fault. fault ≡ wait_fault seat.old.depth) }
-        ensures given_up { OnErr result (HasGivenUp seat.old.depth self.old self.new) }
+        ensures given_up { OnErr result (HasGivenUp seat.old seat.new self.old self.new) }
     {
         words_are_few::<F, W>();
         self.update_or_wait(rt, cell, seat, &value.to_words())

@@ -16,9 +16,9 @@ use Rattle.rcu_live.specs.Words.{own_word_index}
 use Rattle.rcu_live.proofs.HeardBelow.{all_below, heard_below, none_below, none_more, not_both, one_below}
 use Rattle.rcu_live.proofs.LoadedWords.{found_here, found_there}
 
--- these words tell of a processor in the grace period
-abbrev pub told_by : Number → (ℕ → ℕ) → ℕ → Bool
-told_by t word cpu = reports_quiescence t (word cpu)
+-- by these words a processor is heard of in the grace period
+abbrev pub reported_by : Number → (ℕ → ℕ) → ℕ → Bool
+reported_by t word cpu = reports_quiescence t (word cpu)
 
 -- loads that found the same words are the same
 loads_same : (looks_at : ℕ → Bool) (word other : ℕ → ℕ) (n : ℕ) → ((c : ℕ) → c < n → word c ≡ other c)
@@ -49,14 +49,14 @@ module _ {C X : Type 0} where
   collected_below e n word =
       let loads = loads_of (is_in e.grace.processors.awaited) word n in record e {
         view = record e.view { loads = e.view.loads + length loads; own_word_loads = loads ++ e.view.own_word_loads };
-        grace = with_awaited e.grace (unheard e.grace.processors.awaited (heard_below n (told_by (number_of e.grace.seq) word)));
+        grace = with_awaited e.grace (unheard e.grace.processors.awaited (heard_below n (reported_by (number_of e.grace.seq) word)));
       }
 
   -- from nobody
   pub none_collected : (e : Locked C X) (word : ℕ → ℕ) → e ≡ collected_below e 0 word
   none_collected e word =
       let loads : e.view.loads ≡ e.view.loads + 0 = omega arith in
-      let flags = sym (none_below e.grace.processors.awaited (told_by (number_of e.grace.seq) word)) in
+      let flags = sym (none_below e.grace.processors.awaited (reported_by (number_of e.grace.seq) word)) in
       λ i. record e { view = record e.view { loads = loads i }; grace = with_awaited e.grace (flags i) }
 
   -- the next one is awaited where it was
@@ -67,7 +67,7 @@ module _ {C X : Type 0} where
       let set : List Bool = e.grace.processors.awaited in
       let t : Number = number_of e.grace.seq in
       ap (λ (y : Locked C X). is_in y.grace.processors.awaited n) is
-      ∙ is_in-listed (length set) (λ c. is_in set c && not (heard_below n (told_by t word) c)) n inside
+      ∙ is_in-listed (length set) (λ c. is_in set c && not (heard_below n (reported_by t word) c)) n inside
       ∙ still (is_in set n) (reports_quiescence t (word n)) n
     where
       still : (here there : Bool) (n : ℕ) → (here && not (nat_lt n n && there)) ≡ here
@@ -95,7 +95,7 @@ module _ {C X : Type 0} where
       λ c low. ap (λ (y : Locked C X). loaded_word y.view.own_word_loads c) stepped
       ∙ found_there base.view.own_word_loads n w c (λ same. absurd (omega (arith, low, same)))
       ∙ sym (ap (λ (y : Locked C X). loaded_word y.view.own_word_loads c) old) in
-      let tells : (c : ℕ) → c < n → told_by t (latest_words next) c ≡ told_by t (latest_words now) c =
+      let tells : (c : ℕ) → c < n → reported_by t (latest_words next) c ≡ reported_by t (latest_words now) c =
       λ c low. ap (reports_quiescence t) (there c low) in
       let before : loads_of (is_in set) (latest_words next) n ≡ loads_of (is_in set) (latest_words now) n =
       loads_same (is_in set) (latest_words next) (latest_words now) n there in
@@ -106,12 +106,12 @@ module _ {C X : Type 0} where
       ≡ e.view.loads + length (loads_of (is_in set) (latest_words next) (n + 1)) =
       let long = ap (λ (l : List (ℕ × ℕ)). length l) loads in omega (arith, long) in
       let grace : (if reports_quiescence t w then after_current_report base.grace n else base.grace)
-      ≡ with_awaited e.grace (unheard set (heard_below (n + 1) (told_by t (latest_words next)))) =
+      ≡ with_awaited e.grace (unheard set (heard_below (n + 1) (reported_by t (latest_words next)))) =
       elim (cases_Bool (reports_quiescence t w)) [
         | inl told ↦ ap (λ (b : Bool). if b then after_current_report base.grace n else base.grace) told
-            ∙ ap (with_awaited e.grace) (sym (one_below set n (told_by t (latest_words now)) (told_by t (latest_words next)) inside (ap (reports_quiescence t) here ∙ told) tells))
+            ∙ ap (with_awaited e.grace) (sym (one_below set n (reported_by t (latest_words now)) (reported_by t (latest_words next)) inside (ap (reports_quiescence t) here ∙ told) tells))
         | inr out ↦ ap (λ (b : Bool). if b then after_current_report base.grace n else base.grace) out
-            ∙ ap (with_awaited e.grace) (sym (none_more set n (told_by t (latest_words now)) (told_by t (latest_words next)) (not_both (is_in set n) (reports_quiescence t (latest_words next n)) (ap (reports_quiescence t) here ∙ out)) tells))
+            ∙ ap (with_awaited e.grace) (sym (none_more set n (reported_by t (latest_words now)) (reported_by t (latest_words next)) (not_both (is_in set n) (reports_quiescence t (latest_words next n)) (ap (reports_quiescence t) here ∙ out)) tells))
       ] in
       stepped ∙ (λ i. record e {
         view = record e.view { loads = count i; own_word_loads = sym loads i ++ e.view.own_word_loads };
@@ -125,7 +125,7 @@ module _ {C X : Type 0} where
       let set : List Bool = e.grace.processors.awaited in
       let t : Number = number_of e.grace.seq in
       let loads = no_more_load (is_in set) (latest_words now) n out in
-      let flags = sym (none_more set n (told_by t (latest_words now)) (told_by t (latest_words now)) (ap (λ (b : Bool). b && reports_quiescence t (latest_words now n)) out) (λ c low. refl)) in
+      let flags = sym (none_more set n (reported_by t (latest_words now)) (reported_by t (latest_words now)) (ap (λ (b : Bool). b && reports_quiescence t (latest_words now n)) out) (λ c low. refl)) in
       old ∙ (λ i. record e {
         view = record e.view { loads = e.view.loads + length (sym loads i); own_word_loads = sym loads i ++ e.view.own_word_loads };
         grace = with_awaited e.grace (flags i);
@@ -138,7 +138,7 @@ module _ {C X : Type 0} where
       let set : List Bool = e.grace.processors.awaited in
       let t : Number = number_of e.grace.seq in
       let loads = ap (loads_of (is_in set) (latest_words now)) (sym count) in
-      let flags = all_below set n (told_by t (latest_words now)) (omega (arith, long)) in
+      let flags = all_below set n (reported_by t (latest_words now)) (omega (arith, long)) in
       old ∙ (λ i. record e {
         view = record e.view { loads = e.view.loads + length (loads i); own_word_loads = loads i ++ e.view.own_word_loads };
         grace = with_awaited e.grace (flags i);

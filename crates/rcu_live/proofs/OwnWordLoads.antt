@@ -15,8 +15,8 @@ use Rattle.rcu_live.specs.declared.view.View.{View}
 use Rattle.rcu_live.proofs.Frames.{changed, unseen}
 
 -- an own word that reports a quiescent state of its processor, and is not 0, is above the number
-told_later : (n word : ℕ) → reports_quiescence n word ≡ true → 0 < word → n < word
-told_later n word told more = grind (arith, nat_tests)
+reported_later : (n word : ℕ) → reports_quiescence n word ≡ true → 0 < word → n < word
+reported_later n word told more = grind (arith, nat_tests)
 
 online_some : (own_word : ℕ) → may_open own_word ≡ true → 0 < own_word
 online_some own_word online = grind (arith, nat_tests)
@@ -29,7 +29,7 @@ still_young n at word own_word_loads cpu own_word p own found is any from old cl
     (λ (now : ((at == own_word_index cpu) && reports_quiescence n word) ≡ true).
     let parts = and_parts (at == own_word_index cpu) (reports_quiescence n word) now in
     let same : word ≡ own = found ((Decides-eqb at (own_word_index cpu)).0 parts.0) in
-    let more : n < word = told_later n word parts.1 (omega arith) in omega arith)
+    let more : n < word = reported_later n word parts.1 (omega arith) in omega arith)
     old
     (or_cases _ _ cleared)
 

@@ -78,16 +78,15 @@ module _ {C : Type 0} where
         state = state ∙ ap (λ (k : ℕ). record w { view = record w.view { seen = u.view.seen; loads = k } }) (sym loads);
       }
 
-  -- no round yet, one round more (a look and a quiescent state), and a look behind the last one, or before the first
+  -- no round yet, one round more (a quiescent state and a look), and a look more
   pub rounds_none : (s : Seated C) (w : Watching C) → AreRounds 0 s s w w
   rounds_none s w outside awake = omega arith
 
-  pub rounds_more : (s t u : Seated C) (w v x : Watching C) → AreRounds 0 s t w v → x ≡ after_watch v x.view.seen
-      → u ≡ after_rests t 1 u.view.seen → AreRounds 0 s u w x
-  rounds_more s t u w v x before look new outside awake = elim (cases_Bool (may_open t.view.own_word)) [
+  pub rounds_more : (more : ℕ) (s t u : Seated C) (w v x : Watching C) → AreRounds more s t w v
+      → u ≡ after_rests t 1 u.view.seen → x.view.loads ≡ v.view.loads + 1 → AreRounds more s u w x
+  rounds_more more s t u w v x before new looks outside awake = elim (cases_Bool (may_open t.view.own_word)) [
     | inl up ↦
         let rests : u.view.loads ≡ t.view.loads + 1 = ap (λ (y : Seated C). y.view.loads) (new ∙ awake_rests t 0 u.view.seen up) in
-        let looks : x.view.loads ≡ v.view.loads + 1 = ap (λ (y : Watching C). y.view.loads) look in
         let old = before outside up in omega (arith, rests, looks, old)
     | inr down ↦
         let same : u ≡ t = new ∙ asleep_rests t 1 u.view.seen down in
@@ -95,14 +94,7 @@ module _ {C : Type 0} where
         absurd (cc)
   ]
 
-  pub rounds_then_look : (s t : Seated C) (w v x : Watching C) → AreRounds 0 s t w v → x ≡ after_watch v x.view.seen
-      → AreRounds 1 s t w x
-  rounds_then_look s t w v x before look outside awake =
-      let looks : x.view.loads ≡ v.view.loads + 1 = ap (λ (y : Watching C). y.view.loads) look in
-      let old = before outside awake in omega (arith, looks, old)
-
-  pub rounds_behind_look : (s t : Seated C) (w v x : Watching C) → v ≡ after_watch w v.view.seen → AreRounds 1 s t v x
-      → AreRounds 2 s t w x
-  rounds_behind_look s t w v x look rounds outside awake =
-      let looks : v.view.loads ≡ w.view.loads + 1 = ap (λ (y : Watching C). y.view.loads) look in
-      let old = rounds outside awake in omega (arith, looks, old)
+  pub rounds_then_look : (more next : ℕ) (s t : Seated C) (w v x : Watching C) → next ≡ more + 1 → AreRounds more s t w v
+      → x.view.loads ≡ v.view.loads + 1 → AreRounds next s t w x
+  rounds_then_look more next s t w v x is before looks outside awake =
+      let old = before outside awake in omega (arith, looks, old, is)
