@@ -7,14 +7,14 @@ ghost use Rattle.rcu_core.specs.GpState.{awaited_in};
 ghost use Rattle.rcu_c.specs.Holding.{HoldsEngine, engine_of, grace_of};
 
 use crate::handle::Rcu;
-use rcu_node::awaited::Awaited;
-use rcu_seq::cookie::Cookie;
+use rcu_node::Awaited;
+use rcu_seq::Cookie;
 
 /// The number of processors.
 #[unsafe(no_mangle)]
 pub extern "C" fn rcu_cpus(rcu: &mut Rcu) -> u32
     requires open { HoldsEngine rcu.old.contents }
-    ensures kept { rcu.new.contents ≡ rcu.old.contents }
+    ensures unchanged { rcu.new.contents ≡ rcu.old.contents }
     ensures value { result ≡ (engine_of rcu.old.contents).cpus }
 {
     rcu.engine().inner.cpus()
@@ -24,7 +24,7 @@ pub extern "C" fn rcu_cpus(rcu: &mut Rcu) -> u32
 #[unsafe(no_mangle)]
 pub extern "C" fn rcu_number(rcu: &mut Rcu) -> u64
     requires open { HoldsEngine rcu.old.contents }
-    ensures kept { rcu.new.contents ≡ rcu.old.contents }
+    ensures unchanged { rcu.new.contents ≡ rcu.old.contents }
     ensures value { result ≡ number_of (grace_of rcu.old.contents).seq }
 {
     rcu.engine().inner.grace().value()
@@ -34,7 +34,7 @@ pub extern "C" fn rcu_number(rcu: &mut Rcu) -> u64
 #[unsafe(no_mangle)]
 pub extern "C" fn rcu_running(rcu: &mut Rcu) -> bool
     requires open { HoldsEngine rcu.old.contents }
-    ensures kept { rcu.new.contents ≡ rcu.old.contents }
+    ensures unchanged { rcu.new.contents ≡ rcu.old.contents }
     ensures value { result ≡ (grace_of rcu.old.contents).seq.running }
 {
     rcu.engine().inner.grace().is_running()
@@ -44,10 +44,10 @@ pub extern "C" fn rcu_running(rcu: &mut Rcu) -> bool
 #[unsafe(no_mangle)]
 pub extern "C" fn rcu_online(rcu: &mut Rcu, cpu: u32) -> bool
     requires open { HoldsEngine rcu.old.contents }
-    ensures kept { rcu.new.contents ≡ rcu.old.contents }
+    ensures unchanged { rcu.new.contents ≡ rcu.old.contents }
     ensures value { cpu < (engine_of rcu.old.contents).cpus →
         result ≡ is_in (grace_of rcu.old.contents).processors.online cpu }
-    ensures none { (engine_of rcu.old.contents).cpus ≤ cpu → result ≡ false }
+    ensures no_such_cpu { (engine_of rcu.old.contents).cpus ≤ cpu → result ≡ false }
 {
     let engine = &rcu.engine().inner;
     cpu < engine.cpus() && engine.grace().online(cpu)
@@ -57,10 +57,10 @@ pub extern "C" fn rcu_online(rcu: &mut Rcu, cpu: u32) -> bool
 #[unsafe(no_mangle)]
 pub extern "C" fn rcu_awaits(rcu: &mut Rcu, cpu: u32) -> bool
     requires open { HoldsEngine rcu.old.contents }
-    ensures kept { rcu.new.contents ≡ rcu.old.contents }
+    ensures unchanged { rcu.new.contents ≡ rcu.old.contents }
     ensures value { cpu < (engine_of rcu.old.contents).cpus →
         result ≡ is_in (grace_of rcu.old.contents).processors.awaited cpu }
-    ensures none { (engine_of rcu.old.contents).cpus ≤ cpu → result ≡ false }
+    ensures no_such_cpu { (engine_of rcu.old.contents).cpus ≤ cpu → result ≡ false }
 {
     let engine = &rcu.engine().inner;
     cpu < engine.cpus() && engine.grace().awaited().awaits(cpu)
@@ -70,7 +70,7 @@ pub extern "C" fn rcu_awaits(rcu: &mut Rcu, cpu: u32) -> bool
 #[unsafe(no_mangle)]
 pub extern "C" fn rcu_awaited(rcu: &mut Rcu) -> u32
     requires open { HoldsEngine rcu.old.contents }
-    ensures kept { rcu.new.contents ≡ rcu.old.contents }
+    ensures unchanged { rcu.new.contents ≡ rcu.old.contents }
     ensures value { result ≡ awaited_in (grace_of rcu.old.contents) }
 {
     rcu.engine().inner.grace().awaited().count()
@@ -80,7 +80,7 @@ pub extern "C" fn rcu_awaited(rcu: &mut Rcu) -> u32
 #[unsafe(no_mangle)]
 pub extern "C" fn rcu_take(rcu: &mut Rcu) -> u64
     requires open { HoldsEngine rcu.old.contents }
-    ensures kept { rcu.new.contents ≡ rcu.old.contents }
+    ensures unchanged { rcu.new.contents ≡ rcu.old.contents }
     ensures cookie { result ≡ (cookie_of (grace_of rcu.old.contents).seq).number }
 {
     rcu.engine().inner.grace().take().number
@@ -90,7 +90,7 @@ pub extern "C" fn rcu_take(rcu: &mut Rcu) -> u64
 #[unsafe(no_mangle)]
 pub extern "C" fn rcu_poll(rcu: &mut Rcu, cookie: u64) -> bool
     requires open { HoldsEngine rcu.old.contents }
-    ensures kept { rcu.new.contents ≡ rcu.old.contents }
+    ensures unchanged { rcu.new.contents ≡ rcu.old.contents }
     ensures done { result ≡ is_done_first (record { epoch = 0; number = cookie })
         (number_of (grace_of rcu.old.contents).seq) }
 {

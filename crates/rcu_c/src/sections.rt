@@ -13,13 +13,13 @@ ghost use Rattle.rcu_c.specs.Staying.{BothStay};
 
 use crate::codes::{status, write_out};
 use crate::handle::RcuSeat;
-use rcu_seq::cookie::Cookie;
+use rcu_seq::Cookie;
 
 /// The seat's processor.
 #[unsafe(no_mangle)]
 pub extern "C" fn rcu_seat_cpu(seat: &mut RcuSeat) -> u32
     requires open { HoldsSeat seat.old.contents }
-    ensures kept { seat.new.contents ≡ seat.old.contents }
+    ensures unchanged { seat.new.contents ≡ seat.old.contents }
     ensures value { result ≡ (cpu_of seat.old.contents).cpu }
 {
     seat.seat().cpu.cpu()
@@ -29,7 +29,7 @@ pub extern "C" fn rcu_seat_cpu(seat: &mut RcuSeat) -> u32
 #[unsafe(no_mangle)]
 pub extern "C" fn rcu_seat_depth(seat: &mut RcuSeat) -> u32
     requires open { HoldsSeat seat.old.contents }
-    ensures kept { seat.new.contents ≡ seat.old.contents }
+    ensures unchanged { seat.new.contents ≡ seat.old.contents }
     ensures value { result ≡ (cpu_of seat.old.contents).depth }
 {
     seat.seat().cpu.depth()
@@ -39,7 +39,7 @@ pub extern "C" fn rcu_seat_depth(seat: &mut RcuSeat) -> u32
 #[unsafe(no_mangle)]
 pub extern "C" fn rcu_seat_is_online(seat: &mut RcuSeat) -> bool
     requires open { HoldsSeat seat.old.contents }
-    ensures kept { seat.new.contents ≡ seat.old.contents }
+    ensures unchanged { seat.new.contents ≡ seat.old.contents }
     ensures value { result ≡ not ((cpu_of seat.old.contents).view.own_word == 0) }
 {
     seat.seat().cpu.is_online()
@@ -49,7 +49,7 @@ pub extern "C" fn rcu_seat_is_online(seat: &mut RcuSeat) -> bool
 #[unsafe(no_mangle)]
 pub extern "C" fn rcu_seat_is_idle(seat: &mut RcuSeat) -> bool
     requires open { HoldsSeat seat.old.contents }
-    ensures kept { seat.new.contents ≡ seat.old.contents }
+    ensures unchanged { seat.new.contents ≡ seat.old.contents }
     ensures value { result ≡ ((cpu_of seat.old.contents).view.own_word == idle_word) }
 {
     seat.seat().cpu.is_idle()
