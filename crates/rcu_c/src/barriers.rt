@@ -10,8 +10,7 @@ ghost use Rattle.rcu_c.specs.Staying.{BothStay};
 
 use crate::codes::{status, write_out};
 use crate::handle::Rcu;
-use rcu_barrier::barrier_state::BarrierState;
-use rcu_barrier::visit::Visit;
+use rcu_barrier::{BarrierState, Visit};
 
 /// Begins a barrier, as `Engine::barrier_begin`. Fault 13: one runs.
 #[unsafe(no_mangle)]

@@ -15,8 +15,8 @@ ghost use Rattle.rcu_c.specs.Staying.{AllStay, BothStay};
 
 use crate::codes::{code, write_out};
 use crate::handle::Rcu;
-use rcu_cblist::queued::Queued;
-use rcu_seq::fault::Fault;
+use rcu_cblist::Queued;
+use rcu_seq::Fault;
 
 /// Queues a value as a callback on a processor, as `Engine::queue`. Writes how many were queued,
 /// which is its place among them.
@@ -28,7 +28,7 @@ pub extern "C" fn rcu_queue(rcu: &mut Rcu, cpu: u32, value: u64, place: &mut u64
     ensures state { result ≡ 0 → rcu.new.contents ≡
         on_grace (λ g. grace.after_queue g cpu value) rcu.old.contents }
     ensures place { result ≡ 0 → place.new ≡ (grace_of rcu.new.contents).lists.queued }
-    ensures bad { (engine_of rcu.old.contents).cpus ≤ cpu →
+    ensures no_such_cpu { (engine_of rcu.old.contents).cpus ≤ cpu →
         result ≡ engine_number rcu.old.contents 1 }
     ensures fault { cpu < (engine_of rcu.old.contents).cpus → result ≢ 0 →
         result ≡ fault_number (queue_refusal (engine_of rcu.old.contents) cpu) }

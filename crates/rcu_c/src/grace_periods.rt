@@ -11,8 +11,8 @@ ghost use Rattle.rcu_c.specs.Staying.{AllStay, BothStay};
 
 use crate::codes::{code, write_out};
 use crate::handle::Rcu;
-use rcu_core::turned::Turned;
-use rcu_live::collection::Collected;
+use rcu_core::Turned;
+use rcu_live::Collected;
 
 /// What a turn did (`rcu_turn_t`).
 #[repr(C)]

@@ -64,7 +64,7 @@ impl Handle {
     /// Whether the handle is open.
     pub(crate) fn is_open(&mut self) -> bool
         ensures value { result ≡ is_some self.old.contents }
-        ensures kept { self.new ≡ self.old }
+        ensures unchanged { self.new ≡ self.old }
     {
         !self.at.is_null()
     }
@@ -81,7 +81,7 @@ impl Handle {
     /// Whether the handle is an open engine's.
     pub(crate) fn holds_engine(&mut self) -> bool
         ensures value { result ≡ is_none (engine_refusal self.old.contents) }
-        ensures kept { self.new ≡ self.old }
+        ensures unchanged { self.new ≡ self.old }
     {
         self.is_open() && matches!(self.contents(), Contents::Engine(_))
     }
@@ -89,7 +89,7 @@ impl Handle {
     /// Whether the handle is an open seat's.
     pub(crate) fn holds_seat(&mut self) -> bool
         ensures value { result ≡ is_none (seat_refusal self.old.contents) }
-        ensures kept { self.new ≡ self.old }
+        ensures unchanged { self.new ≡ self.old }
     {
         self.is_open() && matches!(self.contents(), Contents::Seat(_))
     }
@@ -101,7 +101,7 @@ impl Handle {
     fn refusal(&mut self) -> Refusal
         ensures value { result ≡ (if is_some self.old.contents
             then Refusal.OtherKind else Refusal.Closed) }
-        ensures kept { self.new ≡ self.old }
+        ensures unchanged { self.new ≡ self.old }
     {
         if self.is_open() {
             Refusal::OtherKind
@@ -139,7 +139,7 @@ impl Handle {
         ensures* writes_back { sem 𝓛 (lends_engine_if_ok self.entry result) }
         ensures value { IfOk result (λ engine.
             self.old.contents ≡ Some (Contents.Engine engine.now)) }
-        ensures refused { result_err result ≡ engine_refusal self.old.contents }
+        ensures fault { result_err result ≡ engine_refusal self.old.contents }
     {
         if self.holds_engine() {
             Ok(self.open_engine())
@@ -152,7 +152,7 @@ impl Handle {
     pub(crate) fn seat(&mut self) -> Result<&mut SeatParts, Refusal>
         ensures* writes_back { sem 𝓛 (lends_seat_if_ok self.entry result) }
         ensures value { IfOk result (λ seat. self.old.contents ≡ Some (Contents.Seat seat.now)) }
-        ensures refused { result_err result ≡ seat_refusal self.old.contents }
+        ensures fault { result_err result ≡ seat_refusal self.old.contents }
     {
         if self.holds_seat() {
             Ok(self.open_seat())

@@ -20,7 +20,7 @@ ghost use Rattle.rcu_c.specs.Seats.{Seat, seat_at_first};
 ghost use Rattle.rcu_c.specs.declared.contents.Contents.{Contents};
 ghost use Rattle.rcu_c.specs.declared.identity.Identity.{Identity};
 
-use rcu_live::client::NoClient;
+use rcu_live::NoClient;
 use rcu_live::laws::readers_finish_before_done;
 
 /// A newly opened engine has the seat of each processor to deal. Each is one of its own: it reads

@@ -26,11 +26,8 @@ use crate::open_engine::OpenEngine;
 use crate::raw_box::RawBox;
 use crate::refusal::Refusal;
 use crate::seat_parts::SeatParts;
-use rcu_live::board::Board;
-use rcu_live::cpu_seat::CpuSeat;
-use rcu_live::parts::Parts;
-use rcu_live::watcher::Watcher;
-use rcu_seq::fault::Fault;
+use rcu_live::{Board, CpuSeat, Parts, Watcher};
+use rcu_seq::Fault;
 use std::alloc::{AllocError, Global};
 use std::sync::Arc;
 
@@ -87,7 +84,7 @@ fn make_seats(
 
 /// The engine, with a seat for each processor.
 fn make_engine(alloc: Global, cpus: u32, last: u64, identity: Identity) -> Result<OpenEngine, Fault>
-    ensures ok { IfOk result (λ made.
+    ensures state { IfOk result (λ made.
         made ≡ opened_at_first identity made.engine.table cpus last) }
     ensures fault { tested_fault result ≡ opening_refusal 16 64 cpus last }
 {
@@ -161,7 +158,7 @@ pub extern "C" fn rcu_open_as(
 #[unsafe(no_mangle)]
 pub extern "C" fn rcu_close(alloc: Global, rcu: &mut Rcu)
     ensures closed { engine_refusal rcu.old.contents ≡ None → IsNone rcu.new.contents }
-    ensures kept { engine_refusal rcu.old.contents ≢ None →
+    ensures unchanged { engine_refusal rcu.old.contents ≢ None →
         rcu.new.contents ≡ rcu.old.contents }
 {
     if rcu.holds_engine() {
@@ -178,9 +175,9 @@ fn deal_seat(
     ensures open { IfOk result (λ contents. HoldsSeat (Some contents.value)) }
     ensures seat { IfOk result (λ contents.
         seat_at opened.old cpu ≡ Some (seat_of (Some contents.value))) }
-    ensures left { OnOk result (opened.new ≡ without_seat opened.old cpu) }
+    ensures state { OnOk result (opened.new ≡ without_seat opened.old cpu) }
     ensures dealt { OnOk result (deal_refusal opened.old cpu ≡ None) }
-    ensures refused { IfErr result (λ refusal. deal_refusal opened.old cpu ≢ None →
+    ensures fault { IfErr result (λ refusal. deal_refusal opened.old cpu ≢ None →
         deal_refusal opened.old cpu ≡ Some refusal) }
     ensures memory { IfErr result (λ refusal. deal_refusal opened.old cpu ≡ None →
         refusal ≡ Refusal.Engine Fault.NoMemory) }
@@ -202,7 +199,7 @@ fn deal_into(contents: &mut Contents, opened: &mut OpenEngine, cpu: u32)
     requires { seat_at opened.old cpu ≢ None }
     ensures open { HoldsSeat (Some contents.new) }
     ensures seat { seat_at opened.old cpu ≡ Some (seat_of (Some contents.new)) }
-    ensures left { opened.new ≡ without_seat opened.old cpu }
+    ensures state { opened.new ≡ without_seat opened.old cpu }
 {
     let Some(dealt) = opened.deal(cpu) else {
         unreachable!()
@@ -245,7 +242,7 @@ pub extern "C" fn rcu_seat_open(alloc: Global, rcu: &mut Rcu, cpu: u32, seat: &m
 /// dealt.
 #[unsafe(no_mangle)]
 pub extern "C" fn rcu_has_seat(rcu: &mut Rcu, cpu: u32) -> bool
-    ensures kept { rcu.new.contents ≡ rcu.old.contents }
+    ensures unchanged { rcu.new.contents ≡ rcu.old.contents }
     ensures value { result ≡ is_some (seat_at (opened_of rcu.old.contents) cpu) }
 {
     match rcu.engine() {
@@ -289,7 +286,7 @@ pub extern "C" fn rcu_seat_return(alloc: Global, rcu: &mut Rcu, seat: &mut RcuSe
 #[unsafe(no_mangle)]
 pub extern "C" fn rcu_seat_close(alloc: Global, seat: &mut RcuSeat)
     ensures closed { seat_refusal seat.old.contents ≡ None → IsNone seat.new.contents }
-    ensures kept { seat_refusal seat.old.contents ≢ None →
+    ensures unchanged { seat_refusal seat.old.contents ≢ None →
         seat.new.contents ≡ seat.old.contents }
 {
     if seat.holds_seat() {

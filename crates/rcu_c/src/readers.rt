@@ -9,13 +9,13 @@ ghost use Rattle.rcu_c.specs.Refusals.{engine_refusal};
 
 use crate::codes::NEVER_DONE;
 use crate::handle::Rcu;
-use rcu_node::awaited::Awaited;
-use rcu_seq::cookie::Cookie;
+use rcu_node::Awaited;
+use rcu_seq::Cookie;
 
 /// The number of processors.
 #[unsafe(no_mangle)]
 pub extern "C" fn rcu_cpus(rcu: &mut Rcu) -> u32
-    ensures kept { rcu.new.contents ≡ rcu.old.contents }
+    ensures unchanged { rcu.new.contents ≡ rcu.old.contents }
     ensures value { result ≡ (engine_of rcu.old.contents).cpus }
 {
     match rcu.engine() {
@@ -27,7 +27,7 @@ pub extern "C" fn rcu_cpus(rcu: &mut Rcu) -> u32
 /// The grace-period number.
 #[unsafe(no_mangle)]
 pub extern "C" fn rcu_number(rcu: &mut Rcu) -> u64
-    ensures kept { rcu.new.contents ≡ rcu.old.contents }
+    ensures unchanged { rcu.new.contents ≡ rcu.old.contents }
     ensures value { result ≡ number_of (grace_of rcu.old.contents).seq }
 {
     match rcu.engine() {
@@ -39,7 +39,7 @@ pub extern "C" fn rcu_number(rcu: &mut Rcu) -> u64
 /// Whether a grace period runs.
 #[unsafe(no_mangle)]
 pub extern "C" fn rcu_running(rcu: &mut Rcu) -> bool
-    ensures kept { rcu.new.contents ≡ rcu.old.contents }
+    ensures unchanged { rcu.new.contents ≡ rcu.old.contents }
     ensures value { result ≡ (grace_of rcu.old.contents).seq.running }
 {
     match rcu.engine() {
@@ -51,10 +51,10 @@ pub extern "C" fn rcu_running(rcu: &mut Rcu) -> bool
 /// Whether the processor is online in the engine, where there is such a processor.
 #[unsafe(no_mangle)]
 pub extern "C" fn rcu_online(rcu: &mut Rcu, cpu: u32) -> bool
-    ensures kept { rcu.new.contents ≡ rcu.old.contents }
+    ensures unchanged { rcu.new.contents ≡ rcu.old.contents }
     ensures value { cpu < (engine_of rcu.old.contents).cpus →
         result ≡ is_in (grace_of rcu.old.contents).processors.online cpu }
-    ensures none { (engine_of rcu.old.contents).cpus ≤ cpu → result ≡ false }
+    ensures no_such_cpu { (engine_of rcu.old.contents).cpus ≤ cpu → result ≡ false }
 {
     match rcu.engine() {
         Ok(opened) => cpu < opened.cpus() && opened.inner.grace().online(cpu),
@@ -65,10 +65,10 @@ pub extern "C" fn rcu_online(rcu: &mut Rcu, cpu: u32) -> bool
 /// Whether the processor is awaited, where there is such a processor.
 #[unsafe(no_mangle)]
 pub extern "C" fn rcu_awaits(rcu: &mut Rcu, cpu: u32) -> bool
-    ensures kept { rcu.new.contents ≡ rcu.old.contents }
+    ensures unchanged { rcu.new.contents ≡ rcu.old.contents }
     ensures value { cpu < (engine_of rcu.old.contents).cpus →
         result ≡ is_in (grace_of rcu.old.contents).processors.awaited cpu }
-    ensures none { (engine_of rcu.old.contents).cpus ≤ cpu → result ≡ false }
+    ensures no_such_cpu { (engine_of rcu.old.contents).cpus ≤ cpu → result ≡ false }
 {
     match rcu.engine() {
         Ok(opened) => cpu < opened.cpus() && opened.inner.grace().awaited().awaits(cpu),
@@ -79,7 +79,7 @@ pub extern "C" fn rcu_awaits(rcu: &mut Rcu, cpu: u32) -> bool
 /// How many processors are awaited.
 #[unsafe(no_mangle)]
 pub extern "C" fn rcu_awaited(rcu: &mut Rcu) -> u32
-    ensures kept { rcu.new.contents ≡ rcu.old.contents }
+    ensures unchanged { rcu.new.contents ≡ rcu.old.contents }
     ensures value { result ≡ awaited_in (grace_of rcu.old.contents) }
 {
     match rcu.engine() {
@@ -92,10 +92,10 @@ pub extern "C" fn rcu_awaited(rcu: &mut Rcu) -> u32
 /// engine's.
 #[unsafe(no_mangle)]
 pub extern "C" fn rcu_take(rcu: &mut Rcu) -> u64
-    ensures kept { rcu.new.contents ≡ rcu.old.contents }
+    ensures unchanged { rcu.new.contents ≡ rcu.old.contents }
     ensures cookie { engine_refusal rcu.old.contents ≡ None →
         result ≡ (cookie_of (grace_of rcu.old.contents).seq).number }
-    ensures none { engine_refusal rcu.old.contents ≢ None → result ≡ never_done }
+    ensures not_taken { engine_refusal rcu.old.contents ≢ None → result ≡ never_done }
 {
     match rcu.engine() {
         Ok(opened) => opened.inner.grace().take().number,
@@ -106,11 +106,11 @@ pub extern "C" fn rcu_take(rcu: &mut Rcu) -> u64
 /// Whether a cookie is done, as `GpState::done`. It is not where the handle is no open engine's.
 #[unsafe(no_mangle)]
 pub extern "C" fn rcu_poll(rcu: &mut Rcu, cookie: u64) -> bool
-    ensures kept { rcu.new.contents ≡ rcu.old.contents }
+    ensures unchanged { rcu.new.contents ≡ rcu.old.contents }
     ensures done { engine_refusal rcu.old.contents ≡ None →
         result ≡ is_done_first (record { epoch = 0; number = cookie })
         (number_of (grace_of rcu.old.contents).seq) }
-    ensures none { engine_refusal rcu.old.contents ≢ None → result ≡ false }
+    ensures not_taken { engine_refusal rcu.old.contents ≢ None → result ≡ false }
 {
     let cookie = Cookie {
         epoch: 0,

@@ -2,7 +2,7 @@
 ghost use Rattle.std.specs.Prelude.{◌≡◌};
 ghost use Rattle.rcu_c.specs.Answers.{refusal_number};
 
-use rcu_seq::fault::Fault;
+use rcu_seq::Fault;
 use std::alloc::AllocFailed;
 
 /// Why a call is refused in C.

@@ -14,12 +14,12 @@ ghost use Rattle.rcu_c.specs.Staying.{BothStay};
 
 use crate::codes::{NEVER_DONE, NO_CPU, status, write_out};
 use crate::handle::RcuSeat;
-use rcu_seq::cookie::Cookie;
+use rcu_seq::Cookie;
 
 /// The seat's processor: 2^32 - 1 where the handle is no open seat's.
 #[unsafe(no_mangle)]
 pub extern "C" fn rcu_seat_cpu(seat: &mut RcuSeat) -> u32
-    ensures kept { seat.new.contents ≡ seat.old.contents }
+    ensures unchanged { seat.new.contents ≡ seat.old.contents }
     ensures value { result ≡ (cpu_of seat.old.contents).cpu }
 {
     match seat.seat() {
@@ -31,7 +31,7 @@ pub extern "C" fn rcu_seat_cpu(seat: &mut RcuSeat) -> u32
 /// How deep the seat's read sections nest, as `CpuSeat::depth`: 0 where none is open.
 #[unsafe(no_mangle)]
 pub extern "C" fn rcu_seat_depth(seat: &mut RcuSeat) -> u32
-    ensures kept { seat.new.contents ≡ seat.old.contents }
+    ensures unchanged { seat.new.contents ≡ seat.old.contents }
     ensures value { result ≡ (cpu_of seat.old.contents).depth }
 {
     match seat.seat() {
@@ -43,7 +43,7 @@ pub extern "C" fn rcu_seat_depth(seat: &mut RcuSeat) -> u32
 /// Whether the seat's processor is online, be it awake or idle, as `CpuSeat::is_online`.
 #[unsafe(no_mangle)]
 pub extern "C" fn rcu_seat_is_online(seat: &mut RcuSeat) -> bool
-    ensures kept { seat.new.contents ≡ seat.old.contents }
+    ensures unchanged { seat.new.contents ≡ seat.old.contents }
     ensures value { result ≡ not ((cpu_of seat.old.contents).view.own_word == 0) }
 {
     match seat.seat() {
@@ -55,7 +55,7 @@ pub extern "C" fn rcu_seat_is_online(seat: &mut RcuSeat) -> bool
 /// Whether the seat's processor is idle, as `CpuSeat::is_idle`.
 #[unsafe(no_mangle)]
 pub extern "C" fn rcu_seat_is_idle(seat: &mut RcuSeat) -> bool
-    ensures kept { seat.new.contents ≡ seat.old.contents }
+    ensures unchanged { seat.new.contents ≡ seat.old.contents }
     ensures value { result ≡ ((cpu_of seat.old.contents).view.own_word == idle_word) }
 {
     match seat.seat() {
@@ -185,8 +185,8 @@ pub extern "C" fn rcu_seat_take_unfenced(seat: &mut RcuSeat) -> u64
         (watcher_of seat.new.contents).view.seen seat.new.contents }
     ensures cookie { seat_refusal seat.old.contents ≡ None →
         result ≡ snapshot (watcher_of seat.new.contents).view.seen }
-    ensures none { seat_refusal seat.old.contents ≢ None → result ≡ never_done }
-    ensures kept { seat_refusal seat.old.contents ≢ None →
+    ensures not_taken { seat_refusal seat.old.contents ≢ None → result ≡ never_done }
+    ensures unchanged { seat_refusal seat.old.contents ≢ None →
         seat.new.contents ≡ seat.old.contents }
 {
     match seat.seat() {
@@ -204,8 +204,8 @@ pub extern "C" fn rcu_seat_poll_unfenced(seat: &mut RcuSeat, cookie: u64) -> boo
     ensures done { seat_refusal seat.old.contents ≡ None →
         result ≡ is_done_first (record { epoch = 0; number = cookie })
         (watcher_of seat.new.contents).view.seen }
-    ensures none { seat_refusal seat.old.contents ≢ None → result ≡ false }
-    ensures kept { seat_refusal seat.old.contents ≢ None →
+    ensures not_taken { seat_refusal seat.old.contents ≢ None → result ≡ false }
+    ensures unchanged { seat_refusal seat.old.contents ≢ None →
         seat.new.contents ≡ seat.old.contents }
 {
     let cookie = Cookie {
