@@ -5,7 +5,7 @@
  * - A handle is all zero bits before it is opened, as in `rcu_t rcu = {0};`, and once it is closed.
  *   One that is open is not opened, nor read or written otherwise than by these calls. Between calls
  *   its bits may be moved, as memcpy, realloc or a move constructor does: from then on the new place
- *   is the handle, and the old one is used no more. A copy that is left behind is not told.
+ *   is the handle, and the old one is used no more: no call can tell a copy that was left behind.
  * - One call at a time on each handle, and whatever one thread did to it comes before what the
  *   next one does: by a lock, by an atomic store of order release that a load of order acquire
  *   reads, or by starting and joining threads. Calls on different handles need no order among them.
