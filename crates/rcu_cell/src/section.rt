@@ -85,7 +85,7 @@ impl<const LEAF: u32, const FAN: u32, T: Drop, F: Value<W>, const W: usize, cons
     pub fn value(&self, seat: &mut CellSeat<F, W, N>) -> F
         requires { MayLoad self.now seat.old }
         ensures state { ReadsOn seat.old seat.new }
-        ensures decoded { result ≡ F.decode (words_in seat.new.view.client) }
+        ensures told { result ≡ F.decode (words_in seat.new.view.client) }
         ensures sound { F.valid result }
     {
         words_are_few::<F, W>();

@@ -26,7 +26,7 @@ pub trait Value<const W: usize>: Invariant + Copy {
     /// The value of words that fit, as those of each version do.
     fn of_words(words: &[u64; W]) -> Self
         requires { Self.holds words.now }
-        ensures decoded { result ≡ decode words.now }
+        ensures told { result ≡ decode words.now }
         ensures sound { valid result };
 
     /// The words fit in memory.

@@ -50,7 +50,7 @@ impl<
     pub fn value(&mut self) -> F
         requires whole { F.holds (version_of (lent self.old)) }
         ensures unchanged { lent self.new ≡ lent self.old }
-        ensures decoded { result ≡ F.decode (version_of (lent self.old)) }
+        ensures told { result ≡ F.decode (version_of (lent self.old)) }
         ensures sound { F.valid result }
     {
         F::of_words(&self.snapshot())
