@@ -23,12 +23,12 @@ read_all read words width a b same =
 pub zeros : (width : ℕ) → length {A = ℕ} (replicate width 0) ≡ width
 zeros width = length-replicate width 0
 
+pub root_key : (width bucket : ℕ) → key_in (root_words width bucket) ≡ 0
+root_key width bucket = grind (arith)
+
 -- the words of a root are whole: they have no key
 pub root_whole : (holds : List ℕ → Type 0) (width bucket : ℕ) → IsWhole holds width (root_words width bucket)
 root_whole holds width bucket = record {
   sized = length-set (replicate width 0) 1 bucket ∙ zeros width;
   entry = λ up. let k = root_key width bucket in absurd (omega (arith, k, up));
 }
-  where
-    root_key : (width bucket : ℕ) → key_in (root_words width bucket) ≡ 0
-    root_key width bucket = grind (arith)

@@ -1,11 +1,17 @@
 //! A hash map of sorted chains, and a sorted list, over nodes that sections walk without a lock.
 #![tactic(auto)]
 
+pub mod cursor;
+pub mod entries;
 pub mod entry;
+pub mod laws;
+mod listing;
 pub mod map;
+mod opening;
 mod section;
 pub mod shape;
 
+pub use entries::Entries;
 pub use entry::Entry;
-pub use map::Map;
+pub use map::{List, Map};
 pub use shape::{MapSeat, MapShape, MapWatcher};

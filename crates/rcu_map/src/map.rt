@@ -29,6 +29,17 @@ pub struct Map<
     pub(crate) graph: Graph<LEAF, FAN, T, MapShape<E, BUCKETS, W>, BUCKETS, 1, W, N>,
 }
 
+/// A map of one bucket: a sorted list.
+pub type List<const LEAF: u32, const FAN: u32, T, E, const W: usize, const N: usize> = Map<
+    LEAF,
+    FAN,
+    T,
+    E,
+    1,
+    W,
+    N,
+>;
+
 impl<
     const LEAF: u32,
     const FAN: u32,
@@ -82,7 +93,7 @@ impl<
     }
 
     /// The words of the node that the section is on, by a load each.
-    fn words_at(&self, seat: &mut MapSeat<E, BUCKETS, W, N>, node: usize) -> [u64; W]
+    pub(crate) fn words_at(&self, seat: &mut MapSeat<E, BUCKETS, W, N>, node: usize) -> [u64; W]
         requires at { IsAt (root_words W) BUCKETS N self.now seat.old node }
         ensures same { seat.new ≡ seat.old }
         ensures told { (words : List ℕ) →

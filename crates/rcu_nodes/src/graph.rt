@@ -1,5 +1,5 @@
 //! A graph of nodes: what a section reads of it, without a lock, a wait or a store.
-ghost use Rattle.std.specs.Prelude.{◌≡◌, ◌+◌, ◌*◌, ◌<◌, ℕ, IfSome, List, slice_index};
+ghost use Rattle.std.specs.Prelude.{◌≡◌, ◌≤◌, ◌+◌, ◌*◌, ◌<◌, ℕ, IfSome, List, slice_index};
 ghost use Rattle.rcu_live.specs.CpuSeat.{after_word_step};
 ghost use Rattle.rcu_nodes.specs.Graph.{IsAt, IsWalking, word_to};
 ghost use Rattle.rcu_nodes.specs.Nodes.{IsOn};
@@ -70,6 +70,13 @@ impl<
         ensures { result.now ≡ self.now }
     {
         &self.live
+    }
+
+    /// What a graph keeps of its sizes: nothing is done. A caller learns the clause by the call.
+    pub fn roots_are_nodes(&self)
+        ensures { K ≤ N }
+    {
+        let _ = &self.live;
     }
 
     /// Loads a link of the node that the section is on, and returns the node that it led to at that

@@ -1,0 +1,17 @@
+use Rattle.std.proofs.Common.{◌≡◌, ◌≤◌, ◌-◌}
+use Rattle.rcu_live.specs.CpuSeat.{after_word_step}
+use Rattle.rcu_map.specs.Cursors.{MayGoOn}
+use Rattle.rcu_map.specs.Listing.{left_from}
+use Rattle.rcu_map.proofs.Stepping.{IsPassing}
+use Rattle.rcu_map.proofs.map.Map.next_entry.Given as goal
+
+abbrev pub invariant-buckets : goal.invariant-buckets
+invariant-buckets g l = record {
+  same : l.seat ≡ after_word_step l.initial.seat l.seat.view.client;
+  may : MayGoOn g.row.N g.row.BUCKETS l.self l.seat l.at;
+  passing : IsPassing g.row.BUCKETS l.initial.seat.view.client l.initial.at l.seat.view.client l.at;
+  left : left_from g.row.BUCKETS l.at ≤ left_from g.row.BUCKETS l.initial.at;
+}
+
+abbrev pub decreases-buckets : goal.decreases-buckets
+decreases-buckets g l = g.row.BUCKETS - l.at.bucket

@@ -1,0 +1,28 @@
+//! The entries of a map, in an open section.
+ghost use Rattle.std.proofs.Props.{props};
+ghost use Rattle.rcu_nodes.specs.Nodes.{reader_once};
+ghost use Rattle.rcu_map.specs.Cursors.{MayGoOn};
+
+use crate::cursor::Cursor;
+use crate::entry::Entry;
+use crate::map::Map;
+use crate::shape::MapSeat;
+
+/// An iterator over the entries of a map, bucket by bucket, by an open section. It borrows the
+/// processor's seat, so that the section can neither close nor read otherwise meanwhile.
+#[derive(Drop)]
+pub struct Entries<
+    'a,
+    const LEAF: u32,
+    const FAN: u32,
+    T: Drop,
+    E: Entry<W>,
+    const BUCKETS: usize,
+    const W: usize,
+    const N: usize,
+> {
+    pub(crate) map: &'a Map<LEAF, FAN, T, E, BUCKETS, W, N>,
+    pub(crate) seat: &'a mut MapSeat<E, BUCKETS, W, N>,
+    pub(crate) at: Cursor,
+    ghost may: { MayGoOn N BUCKETS map.now seat.now at } by { Prim.hlevel (props, reader_once) },
+}

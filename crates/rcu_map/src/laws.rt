@@ -1,0 +1,32 @@
+//! What going over the entries of a map tells, over the definitions alone.
+ghost use Rattle.std.specs.Prelude.{◌≡◌, ◌<◌, ◌≤◌, ◌++◌, Bool, List, ℕ};
+ghost use Rattle.rcu_nodes.specs.Absence.{AreMadeBy, IsHistory, IsLinkedKey};
+ghost use Rattle.rcu_nodes.specs.declared.known.Hop.{Hop};
+ghost use Rattle.rcu_nodes.specs.declared.known.Node.{Node};
+ghost use Rattle.rcu_map.specs.Keys.{bucket_of};
+ghost use Rattle.rcu_map.specs.Listing.{GoOn, IsListed, at_root};
+ghost use Rattle.rcu_map.specs.declared.cursor.Cursor.{Cursor};
+
+use rcu_nodes::laws::linked_keys_are_found;
+
+/// Calls of `next` one after another go on like one: from the cursor before the first one to that
+/// after the last one, by the hops of all.
+pub fn calls_go_on()
+    ensures { (buckets : ℕ) (start mid at : Cursor) (before after : List Hop) →
+        GoOn buckets start before mid → GoOn buckets mid after at →
+        GoOn buckets start (after ++ before) at }
+{}
+
+/// A key that is linked at each moment from the section's beginning to the end of the last bucket
+/// is among the entries that the hops came to. Meanwhile each step of the keeper is as
+/// `IsKeeperStep` says: it stores no link of a node that it took off the chain.
+pub fn linked_keys_are_listed()
+    ensures { (ours : List ℕ → Bool) (opened buckets key last : ℕ) (nodes : ℕ → List Node)
+        (hops : List Hop) (at : Cursor) → 0 < buckets → 0 < key →
+        GoOn buckets (at_root 0) hops at → at.bucket ≡ buckets →
+        IsHistory ours opened (bucket_of buckets key) last nodes →
+        ((t : ℕ) → t ≤ last → IsLinkedKey (bucket_of buckets key) key (nodes t)) →
+        AreMadeBy nodes last hops → IsListed key hops }
+{
+    linked_keys_are_found();
+}

@@ -1,0 +1,120 @@
+//! Going over the entries of a map, in an open section.
+ghost use Rattle.std.specs.Prelude.{◌≡◌, ◌<◌, List, ℕ};
+ghost use Rattle.rcu_nodes.specs.Graph.{IsWalking};
+ghost use Rattle.rcu_nodes.specs.Nodes.{IsHeld};
+ghost use Rattle.rcu_map.specs.Cursors.{HasListed, HasStepped, IsOnEntry, MayGoOn};
+ghost use Rattle.rcu_map.specs.Keys.{IsWhole};
+ghost use Rattle.rcu_map.specs.Listing.{at_root, left_from};
+ghost use Rattle.rcu_map.specs.Listed.{Listed, listing};
+
+use crate::cursor::Cursor;
+use crate::entries::Entries;
+use crate::entry::{Entry, words_are_two};
+use crate::map::Map;
+use crate::shape::MapSeat;
+
+impl<
+    const LEAF: u32,
+    const FAN: u32,
+    T: Drop,
+    E: Entry<W>,
+    const BUCKETS: usize,
+    const W: usize,
+    const N: usize,
+> Map<LEAF, FAN, T, E, BUCKETS, W, N> {
+    /// Goes on from a cursor by one hop, and returns where that led: to a node, or to the root of
+    /// the next bucket, where it led nowhere.
+    fn step(&self, seat: &mut MapSeat<E, BUCKETS, W, N>, at: Cursor) -> Cursor
+        requires may { MayGoOn N BUCKETS self.now seat.old at }
+        requires inside { at.bucket < BUCKETS }
+        ensures { HasStepped E.holds N BUCKETS W self.now seat.old at seat.new result }
+    {
+        words_are_two::<E, W>();
+        // Shows the prover that the next bucket's root is a node.
+        self.graph.roots_are_nodes();
+        let Some(node) = self.graph.follow(seat, at.node, 0) else {
+            return Cursor::at_root(at.bucket + 1);
+        };
+        let key = self.graph.read(seat, node, 0);
+        Cursor {
+            bucket: at.bucket,
+            node,
+            key,
+        }
+    }
+
+    /// The entry that a node has, by a load a word.
+    fn entry_at(&self, seat: &mut MapSeat<E, BUCKETS, W, N>, node: usize) -> E
+        requires { IsOnEntry E.holds N W self.now seat.old node }
+        ensures same { seat.new ≡ seat.old }
+        ensures told { (words : List ℕ) → IsHeld seat.old.view.client node words →
+            IsWhole E.holds W words → result ≡ E.decode words }
+        ensures sound { E.valid result }
+    {
+        E::of_words(&self.words_at(seat, node))
+    }
+
+    /// Goes on from a cursor to the next entry. None tells that no bucket has a further one.
+    fn next_entry(&self, seat: &mut MapSeat<E, BUCKETS, W, N>, start: Cursor) -> (Cursor, Option<E>)
+        requires { MayGoOn N BUCKETS self.now seat.old start }
+        ensures { HasListed E.holds E.decode E.valid E.key_of N BUCKETS self.now seat.old start
+            seat.new result.0 result.1 }
+    {
+        let mut at = start;
+        'buckets: while at.bucket < BUCKETS {
+            at = self.step(seat, at);
+            if at.key > 0 {
+                return (at, Some(self.entry_at(seat, at.node)));
+            }
+        }
+        (at, None)
+    }
+
+    /// Lends the seat to an iterator over all entries, in an open section. Nothing is loaded yet.
+    pub fn entries<'a>(
+        &'a self,
+        seat: &'a mut MapSeat<E, BUCKETS, W, N>,
+    ) -> Entries<'a, LEAF, FAN, T, E, BUCKETS, W, N>
+        requires { IsWalking self.now seat.old }
+        ensures map { (listing result).map ≡ self.now }
+        ensures seat { (listing result).seat ≡ seat.old }
+        ensures name { (listing result).name ≡ seat.entry.ghost_name }
+        ensures first { (listing result).at ≡ at_root 0 }
+    {
+        // Shows the prover that the first bucket's root is a node.
+        self.graph.roots_are_nodes();
+        Entries {
+            map: self,
+            seat,
+            at: Cursor::at_root(0),
+        }
+    }
+}
+
+impl<
+    'a,
+    const LEAF: u32,
+    const FAN: u32,
+    T: Drop,
+    E: Entry<W>,
+    const BUCKETS: usize,
+    const W: usize,
+    const N: usize,
+> Iterator for Entries<'a, LEAF, FAN, T, E, BUCKETS, W, N> {
+    ghost use Rattle.std.specs.Iterator.{at_most};
+
+    type Item = E;
+
+    ghost next_gives = { λ old result new.
+        Listed E.holds E.decode E.valid E.key_of BUCKETS (listing old) result (listing new) };
+
+    ghost remaining = { λ s. at_most (left_from BUCKETS (listing s).at) };
+
+    /// The next entry, by two loads for each node of the chains from here up to there, and one a
+    /// word.
+    fn next(&mut self) -> Option<E> {
+        let (at, entry) = self.map.next_entry(self.seat, self.at);
+        self.at = at;
+        entry
+    }
+}
