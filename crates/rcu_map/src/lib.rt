@@ -2,10 +2,14 @@
 #![tactic(auto)]
 
 pub mod entry;
+pub mod keeper;
+mod links;
 pub mod map;
 mod section;
 pub mod shape;
+mod updates;
 
 pub use entry::Entry;
+pub use keeper::MapKeeper;
 pub use map::Map;
 pub use shape::{MapSeat, MapShape, MapWatcher};
