@@ -11,11 +11,9 @@ mod threads;
 mod versions;
 mod waits;
 
-use rcu_cell::cell::Cell;
-use rcu_cell::keeper::{Full, Keeper, Retired};
-use rcu_cell::rule::{CellSeat, Invariant};
+use rcu_cell::{Cell, CellSeat, Full, Invariant, Keeper, Retired};
 use rcu_core::turned::Turned;
-use rcu_live::collection::Collected;
+use rcu_live::Collected;
 use rcu_seq::fault::Fault;
 use std::alloc::Global;
 use std::io::Print;

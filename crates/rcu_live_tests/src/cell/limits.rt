@@ -1,8 +1,5 @@
 //! The limits of a service, as a value in a cell.
-use rcu_cell::cell::Cell;
-use rcu_cell::keeper::Retired;
-use rcu_cell::rule::Invariant;
-use rcu_cell::value::Value;
+use rcu_cell::{Cell, Invariant, Retired, Value};
 
 /// How many requests a second are answered, and how many more at once: at least as many.
 #[derive(Clone, Copy, Debug, PartialEq, Eq)]

@@ -7,10 +7,7 @@ ghost use Rattle.rcu_live.specs.Watcher.{IsWatcherOf};
 
 use crate::cell::limits::Limits;
 use crate::cell::parts::{drive, next_online, next_seat};
-use rcu_cell::cell::Cell;
-use rcu_cell::keeper::Keeper;
-use rcu_cell::rule::CellSeat;
-use rcu_cell::value::Value;
+use rcu_cell::{Cell, CellSeat, Keeper, Value};
 use rcu_seq::fault::Fault;
 use std::process::Abort;
 use std::sync::Wait;

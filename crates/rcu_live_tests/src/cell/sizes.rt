@@ -1,6 +1,6 @@
 //! The sizes of a cell.
 use crate::cell::Any;
-use rcu_cell::cell::Cell;
+use rcu_cell::Cell;
 use rcu_seq::fault::Fault;
 use std::alloc::Global;
 

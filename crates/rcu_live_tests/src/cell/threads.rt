@@ -6,9 +6,7 @@ ghost use Rattle.rcu_live.specs.CpuSeat.{IsSeatOf};
 ghost use Rattle.rcu_live.specs.Watcher.{IsWatcherOf};
 
 use crate::cell::parts::{drive, next_online, next_seat};
-use rcu_cell::cell::Cell;
-use rcu_cell::keeper::Keeper;
-use rcu_cell::rule::{CellSeat, Invariant};
+use rcu_cell::{Cell, CellSeat, Invariant, Keeper};
 use std::process::Abort;
 use std::sync::Wait;
 use std::thread;

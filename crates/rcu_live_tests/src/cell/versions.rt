@@ -5,10 +5,7 @@ ghost use Rattle.rcu_live.specs.Watcher.{IsWatcherOf};
 
 use crate::cell::limits::Limits;
 use crate::cell::{Any, Pairs, reads, shows};
-use rcu_cell::cell::Cell;
-use rcu_cell::keeper::{Full, Keeper, Retired};
-use rcu_cell::rule::CellSeat;
-use rcu_cell::value::Value;
+use rcu_cell::{Cell, CellSeat, Full, Keeper, Retired, Value};
 use std::process::Abort;
 
 /// Words loaded before others are shown, and words loaded after them, in one section.

@@ -4,10 +4,7 @@ ghost use Rattle.rcu_cell.specs.Cell.{IsSeatOf, IsWatcherOf};
 
 use crate::cell::limits::Limits;
 use crate::cell::{Any, Pairs};
-use rcu_cell::cell::Cell;
-use rcu_cell::keeper::{Keeper, Retired};
-use rcu_cell::rule::CellSeat;
-use rcu_cell::value::Value;
+use rcu_cell::{Cell, CellSeat, Keeper, Retired, Value};
 use rcu_seq::fault::Fault;
 use std::process::Abort;
 use std::sync::Wait;

@@ -4,9 +4,7 @@ ghost use Rattle.std.specs.Arc.{arc_value};
 
 use crate::live::steps::{Script, of_epoch};
 use crate::live::threads::{Pair, make_pair};
-use rcu_live::board::Board;
-use rcu_live::parts::Parts;
-use rcu_live::watcher::Watcher;
+use rcu_live::{Board, Parts, Watcher};
 use rcu_seq::cookie::Cookie;
 use rcu_seq::fault::Fault;
 use std::alloc::Global;

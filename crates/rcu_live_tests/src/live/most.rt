@@ -3,7 +3,7 @@ ghost use Rattle.std.specs.Prelude.{◌≡◌};
 
 use crate::live::steps::{Four, Script};
 use crate::live::threads::last_seat;
-use rcu_live::cpu_seat::CpuSeat;
+use rcu_live::CpuSeat;
 use rcu_seq::fault::Fault;
 use std::alloc::Global;
 use std::process::Abort;

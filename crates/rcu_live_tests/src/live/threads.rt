@@ -2,9 +2,7 @@
 ghost use Rattle.std.specs.Prelude.{◌≡◌, ◌+◌, ◌<◌, All, length};
 
 use crate::live::steps::{Four, Script, of_epoch};
-use rcu_live::cpu_seat::CpuSeat;
-use rcu_live::live::Live;
-use rcu_live::watcher::Watcher;
+use rcu_live::{CpuSeat, Live, Watcher};
 use rcu_seq::cookie::Cookie;
 use rcu_seq::fault::Fault;
 use std::alloc::Global;

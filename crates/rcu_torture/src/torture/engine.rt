@@ -8,12 +8,7 @@ ghost use Rattle.rcu_live.specs.declared.collection.Collected.{Collected};
 
 use rcu_cblist::refused::Refused;
 use rcu_core::turned::Turned;
-use rcu_live::client::NoClient;
-use rcu_live::collection::Collected;
-use rcu_live::cpu_seat::CpuSeat;
-use rcu_live::live::Live;
-use rcu_live::run::Ran;
-use rcu_live::shared::Shared;
+use rcu_live::{Collected, CpuSeat, Live, NoClient, Ran, Shared};
 use rcu_seq::fault::Fault;
 use std::sync::Wait;
 

@@ -2,7 +2,7 @@
 ghost use Rattle.std.specs.Prelude.{◌≡◌, ◌+◌, ◌<◌, ◌≤◌, ◌^◌, All, OnErr, OnOk, [], length};
 ghost use Rattle.rcu_torture.specs.Ledger.{after_run, most_rounds, ran_of};
 
-use rcu_live::run::Ran;
+use rcu_live::Ran;
 use rcu_seq::cookie::snapshot;
 use std::alloc::{AllocError, Global};
 use std::marker::Model;

@@ -6,7 +6,7 @@ use crate::live::steps::Four;
 use crate::live::stress::scene::Scene;
 use crate::live::stress::stop::{Stop, hold_to};
 use rcu_barrier::barrier_state::BarrierState;
-use rcu_live::cpu_seat::CpuSeat;
+use rcu_live::CpuSeat;
 use rcu_seq::fault::Fault;
 use std::alloc::Global;
 use std::sync::{Mutex, Wait};

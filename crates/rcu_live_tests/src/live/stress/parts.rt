@@ -8,8 +8,7 @@ use crate::live::stress::scene::{Scene, Section};
 use crate::live::stress::stop::{Stop, compare};
 use crate::live::stress::updater::{Driver, Waiter};
 use crate::live::threads::{last_seat, last_watcher};
-use rcu_live::cpu_seat::CpuSeat;
-use rcu_live::watcher::Watcher;
+use rcu_live::{CpuSeat, Watcher};
 use std::sync::Wait;
 
 /// The engine, what its threads share beside it, and its callbacks.

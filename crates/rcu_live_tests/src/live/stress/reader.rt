@@ -4,7 +4,7 @@ ghost use Rattle.std.specs.Prelude.{◌≡◌};
 use crate::live::stress::parts::Place;
 use crate::live::stress::scene::Section;
 use crate::live::stress::stop::{Stop, compare, hold_to};
-use rcu_live::watcher::Watcher;
+use rcu_live::Watcher;
 use rcu_seq::fault::Fault;
 use std::sync::Wait;
 

@@ -4,7 +4,7 @@ ghost use Rattle.std.specs.Prelude.{◌≡◌};
 use crate::live::stress::parts::Place;
 use crate::live::stress::stop::{Stop, hold_to};
 use rcu_core::turned::Turned;
-use rcu_live::watcher::Watcher;
+use rcu_live::Watcher;
 use rcu_seq::cookie::Cookie;
 use std::sync::Wait;
 use std::thread::yield_now;
