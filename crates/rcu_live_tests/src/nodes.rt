@@ -8,6 +8,9 @@ ghost use Rattle.rcu_nodes.specs.Keeper.{IsKeeperOf};
 ghost use Rattle.rcu_nodes.specs.Nodes.{first_nodes, nodes_in};
 ghost use Rattle.rcu_nodes.specs.declared.known.Known.TheVariants.{Idle};
 
+mod keeper;
+mod kept;
+
 use rcu_nodes::graph::Graph;
 use rcu_nodes::rule::{GraphSeat, GraphWatcher, Shape};
 use std::process::Abort;
@@ -16,7 +19,7 @@ use std::thread;
 use std::thread::Threads;
 
 /// Keys go up along a chain.
-struct Sorted;
+pub(crate) struct Sorted;
 
 impl Shape for Sorted {
     ghost use Rattle.std.specs.Prelude.{◌<◌, [], ◌∷◌, slice_index};

@@ -1,0 +1,168 @@
+//! A keeper's calls on one thread: a full chain is left by one store, and its nodes come back after
+//! a full grace period, and no sooner.
+ghost use Rattle.std.specs.Prelude.{◌≡◌, ◌<◌};
+ghost use Rattle.rcu_live.specs.CpuSeat.{IsSeatOf};
+
+use crate::nodes::kept::{Chain, Kept, Seat};
+use rcu_core::turned::Turned;
+use rcu_nodes::keeper::Full;
+use rcu_seq::cookie::Cookie;
+use std::process::Abort;
+use std::sync::Wait;
+
+/// The grace periods of the one processor.
+#[derive(Drop)]
+struct Periods<'a, R> {
+    rt: &'a R,
+    chain: &'a Chain,
+    seat: Seat,
+    ghost seat_of: { IsSeatOf chain.now seat },
+    ghost outside: { seat.depth ≡ 0 },
+}
+
+impl<'a, R: Abort + Wait> Periods<'a, R> {
+    /// Drives for who waits for this number, and compares what it answers.
+    fn drives(&self, number: u64, wanted: Turned) {
+        let turned = self
+            .chain
+            .live()
+            .drive_for(self.rt, Cookie { epoch: 0, number });
+        assert_eq!(self.rt; turned, Ok(wanted));
+    }
+
+    /// A grace period of this number begins.
+    fn begin(&self, number: u64) {
+        self.drives(number.saturating_add(3), Turned::Begun(number, 1));
+    }
+
+    /// The grace period of this number ends.
+    fn end(&mut self, number: u64) {
+        assert_eq!(self.rt; self.seat.quiesce(self.chain.live()), Ok(number));
+        let end = number.saturating_add(3);
+        self.drives(end, Turned::Ended(end));
+    }
+}
+
+/// Adds a node with a key behind another one, and compares what the keeper knows of it. Returns the
+/// node.
+fn add<R: Abort>(rt: &R, kept: &mut Kept<'_>, from: usize, key: u64) -> usize
+    requires { from < 4 }
+    ensures chain { kept.new.chain ≡ kept.old.chain }
+    ensures inside { result < 4 }
+{
+    let node = kept
+        .fill_free(&[key, key / 2], None)
+        .ok()
+        .expect(rt, "a node is free");
+    assert_eq!(rt;
+        (kept.keeper.is_free(node), kept.keeper.is_live(node)),
+        (true, false)
+    );
+    assert_eq!(rt;
+        (kept.keeper.word(node, 0), kept.keeper.word(node, 1)),
+        (key, key / 2)
+    );
+    assert_eq!(rt; kept.keeper.link_of(node, 0), None);
+    assert!(rt; kept.publish(from, node));
+    assert!(rt; !kept.publish(from, node));
+    assert_eq!(rt;
+        (kept.keeper.is_free(node), kept.keeper.is_live(node)),
+        (false, true)
+    );
+    assert_eq!(rt; kept.keeper.link_of(from, 0), Some(node));
+    node
+}
+
+/// A chain of all nodes.
+fn fill_up<R: Abort>(rt: &R, kept: &mut Kept<'_>) -> (usize, usize, usize)
+    ensures chain { kept.new.chain ≡ kept.old.chain }
+    ensures first { result.0 < 4 }
+    ensures second { result.1 < 4 }
+    ensures third { result.2 < 4 }
+{
+    let first = add(rt, kept, 0, 10);
+    let second = add(rt, kept, first, 20);
+    let third = add(rt, kept, second, 30);
+    assert_eq!(rt; kept.keeper.free_node(), Err(Full));
+    (first, second, third)
+}
+
+/// Whether nodes are free, and whether they are live.
+fn states(kept: &Kept<'_>, nodes: (usize, usize, usize)) -> [(bool, bool); 3]
+    requires first { nodes.0 < 4 }
+    requires second { nodes.1 < 4 }
+    requires third { nodes.2 < 4 }
+{
+    let (first, second, third) = nodes;
+    let keeper = &kept.keeper;
+    [
+        (keeper.is_free(first), keeper.is_live(first)),
+        (keeper.is_free(second), keeper.is_live(second)),
+        (keeper.is_free(third), keeper.is_live(third)),
+    ]
+}
+
+const FREE: (bool, bool) = (true, false);
+
+const LIVE: (bool, bool) = (false, true);
+/// Left, or retired.
+const GONE: (bool, bool) = (false, false);
+
+/// A full chain is left before a grace period: that one frees its nodes.
+fn leave_before_a_period<R: Abort + Wait>(periods: &mut Periods<'_, R>, kept: &mut Kept<'_>)
+    ensures { kept.new.chain ≡ kept.old.chain }
+{
+    let rt = periods.rt;
+    let nodes = fill_up(rt, kept);
+    assert!(rt; kept.unlink(0));
+    assert_eq!(rt; states(kept, nodes), [GONE; 3]);
+    assert_eq!(rt; (kept.age(), kept.keeper.free_node()), (0, Err(Full)));
+    periods.begin(1);
+    assert_eq!(rt; (kept.age(), kept.keeper.free_node()), (1, Err(Full)));
+    periods.end(1);
+    assert_eq!(rt;
+        (states(kept, nodes), kept.keeper.free_node()),
+        ([GONE; 3], Err(Full))
+    );
+    assert_eq!(rt; (kept.age(), states(kept, nodes)), (4, [FREE; 3]));
+}
+
+/// A full chain is left during a grace period, and one node before it: that one is free by its
+/// end, the others by the end of the next one.
+fn leave_during_a_period<R: Abort + Wait>(periods: &mut Periods<'_, R>, kept: &mut Kept<'_>) {
+    let rt = periods.rt;
+    let nodes = fill_up(rt, kept);
+    assert!(rt; kept.link(nodes.0, Some(nodes.2)));
+    assert!(rt; !kept.link(nodes.2, Some(nodes.0)));
+    assert_eq!(rt; (kept.age(), states(kept, nodes)), (4, [LIVE, GONE, LIVE]));
+    periods.begin(5);
+    assert!(rt; kept.unlink(0));
+    assert!(rt; !kept.unlink(nodes.0));
+    assert_eq!(rt; (kept.age(), states(kept, nodes)), (5, [GONE; 3]));
+    periods.end(5);
+    assert_eq!(rt; (kept.age(), states(kept, nodes)), (8, [GONE, FREE, GONE]));
+    assert_eq!(rt; kept.keeper.free_node(), Ok(nodes.1));
+    periods.begin(9);
+    assert_eq!(rt; (kept.age(), states(kept, nodes)), (9, [GONE, FREE, GONE]));
+    periods.end(9);
+    assert_eq!(rt; (kept.age(), states(kept, nodes)), (12, [FREE; 3]));
+    fill_up(rt, kept);
+}
+
+#[test]
+fn nodes_come_back_after_a_full_period(rt: HostRuntime) {
+    let Ok((chain, mut seats, _, own)) = Chain::open(rt.alloc(), 1, 4_000_000, &[[0, 0]]) else {
+        return;
+    };
+    let seat = seats.pop().expect(&rt, "a processor is left");
+    let Ok(mut kept) = Kept::new(rt.alloc(), &chain, own) else {
+        return;
+    };
+    let mut periods = Periods {
+        rt: &rt,
+        chain: &chain,
+        seat,
+    };
+    leave_before_a_period(&mut periods, &mut kept);
+    leave_during_a_period(&mut periods, &mut kept);
+}

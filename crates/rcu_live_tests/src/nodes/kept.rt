@@ -1,0 +1,131 @@
+//! A chain with its keeper: what a call asks for is tested first, by what the keeper knows.
+ghost use Rattle.std.specs.Prelude.{◌≡◌, ◌<◌, [], ◌∷◌, ℕ, IfOk, IfSome, IsTrue, slice_index};
+ghost use Rattle.rcu_live.specs.Watcher.{IsWatcherOf};
+ghost use Rattle.rcu_nodes.specs.Graph.{word_to};
+ghost use Rattle.rcu_nodes.specs.Keeper.{IsKeeperOf, IsReady};
+ghost use Rattle.rcu_nodes.specs.Nodes.{IsTarget, node_at, nodes_in, state_at};
+ghost use Rattle.rcu_nodes.specs.Steps.{IsClaimed};
+
+use crate::nodes::Sorted;
+use rcu_nodes::graph::Graph;
+use rcu_nodes::keeper::{Full, Keeper};
+use rcu_nodes::rule::{GraphSeat, GraphWatcher};
+use std::alloc::{AllocError, Global};
+
+/// A root, and three nodes with a key and a value.
+pub(crate) type Chain = Graph<4, 4, u64, Sorted, 1, 1, 2, 4>;
+
+pub(crate) type Seat = GraphSeat<Sorted, 1, 1, 2, 4>;
+
+/// The chain and who keeps it.
+#[derive(Drop)]
+pub(crate) struct Kept<'a> {
+    pub(crate) chain: &'a Chain,
+    pub(crate) keeper: Keeper<Sorted, 1, 1, 2, 4>,
+    ghost keeper_of: { IsWatcherOf chain.now keeper },
+}
+
+impl<'a> Kept<'a> {
+    pub(crate) fn new(
+        alloc: Global,
+        chain: &'a Chain,
+        own: GraphWatcher<Sorted, 1, 1, 2, 4>,
+    ) -> Result<Self, AllocError>
+        requires keeper { IsKeeperOf 4 chain.now own }
+        requires first { IsClaimed (λ _. 0 ∷ 0 ∷ []) 1 1 2 4 own.view.client }
+    {
+        let keeper = Keeper::new(alloc, chain, own, &[[0, 0]])?;
+        Ok(Kept { chain, keeper })
+    }
+
+    /// Whether a node's link may lead there: nowhere, or to a live node of a greater key.
+    fn may_lead(&self, from: usize, to: Option<usize>) -> bool
+        requires { from < 4 }
+        ensures { IsTrue result → IsTarget (λ from to. slice_index from 0 < slice_index to 0)
+            (node_at (nodes_in self.now.keeper.view.client) from).words
+            (nodes_in self.now.keeper.view.client) (word_to to) }
+    {
+        self.keeper.tends(self.chain);
+        let Some(node) = to else {
+            return true;
+        };
+        if node >= 4 {
+            return false;
+        }
+        if !self.keeper.is_live(node) {
+            return false;
+        }
+        self.keeper.word(from, 0) < self.keeper.word(node, 0)
+    }
+
+    /// Whether a node may be published.
+    fn is_ready(&self, node: usize) -> bool
+        requires { node < 4 }
+        ensures { IsTrue result → IsReady (λ _. Unit {0})
+            (λ _ from to. slice_index from 0 < slice_index to 0) 1
+            (nodes_in self.now.keeper.view.client) node }
+    {
+        self.keeper.is_free(node) && self.may_lead(node, self.keeper.link_of(node, 0))
+    }
+
+    /// Fills a free node, which leads to another one or nowhere.
+    pub(crate) fn fill_free(&mut self, words: &[u64; 2], to: Option<usize>) -> Result<usize, Full>
+        requires { IfSome to (λ node. node < 4) }
+        ensures chain { self.new.chain ≡ self.old.chain }
+        ensures inside { IfOk result (λ node. node < 4) }
+    {
+        let node = self.keeper.free_node()?;
+        self.keeper.fill(self.chain, node, words, &[to]);
+        Ok(node)
+    }
+
+    /// Links a live node to a free one, where that may be. Returns whether it did.
+    pub(crate) fn publish(&mut self, from: usize, to: usize) -> bool
+        requires from { from < 4 }
+        requires to { to < 4 }
+        ensures { self.new.chain ≡ self.old.chain }
+    {
+        if !self.keeper.is_live(from) {
+            return false;
+        }
+        if !self.is_ready(to) {
+            return false;
+        }
+        if self.keeper.word(from, 0) >= self.keeper.word(to, 0) {
+            return false;
+        }
+        self.keeper.publish(self.chain, from, 0, to);
+        true
+    }
+
+    /// Leads the link of a live node elsewhere, where that may be. Returns whether it did.
+    pub(crate) fn link(&mut self, from: usize, to: Option<usize>) -> bool
+        requires from { from < 4 }
+        ensures { self.new.chain ≡ self.old.chain }
+    {
+        let may = self.keeper.is_live(from) && self.may_lead(from, to);
+        if may {
+            self.keeper.link(self.chain, from, 0, to);
+        }
+        may
+    }
+
+    /// Leads the link of a live node nowhere. Returns whether it did.
+    pub(crate) fn unlink(&mut self, from: usize) -> bool
+        requires { from < 4 }
+        ensures { self.new.chain ≡ self.old.chain }
+    {
+        let may = self.keeper.is_live(from);
+        if may {
+            self.keeper.unlink(self.chain, from, 0);
+        }
+        may
+    }
+
+    /// Looks at the number.
+    pub(crate) fn age(&mut self) -> u64
+        ensures { self.new.chain ≡ self.old.chain }
+    {
+        self.keeper.age(self.chain)
+    }
+}
