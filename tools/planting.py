@@ -17,10 +17,11 @@ TRIES = 3
 
 class Edit:
     """An edit, or nothing in its place: what it changes in each file, and the functions by which it
-    is judged. Two with one `subject` are judged by the same functions in the same place; what is not
-    made has all clauses."""
+    is judged. Two with one `subject` are judged by the same functions in the same place. It has the
+    ensures clauses that `clauses` names, all where it names none; what is made, those that its file
+    names."""
 
-    def __init__(self, crate, file, functions, is_made=True):
+    def __init__(self, crate, file, functions, is_made=True, clauses=()):
         self.crate, self.file, self.is_made = crate, file, is_made
         self.name = os.path.basename(file).removesuffix(".edit")
         self.is_harmless = os.path.basename(os.path.dirname(file)) != "wrong"
@@ -35,14 +36,15 @@ class Edit:
         if not self.why and not self.functions:
             self.why = "there is no function to judge it by"
         named = re.findall(r"^breaks: (\w+)$", rtlib.text_of(file), re.MULTILINE)
-        clauses = named if is_made else []
+        self.clauses = frozenset(named if is_made else clauses)
         judges, is_inside = tuple(self.functions), self.is_in_function
-        has_twin = plant_in_twin(self, functions, *clauses)
+        has_twin = plant_in_twin(self, functions)
         self.subject = judges, is_inside, has_twin
         if not is_made:
             self.is_in_function, self.changes = True, self.changes if has_twin else {}
-        if clauses and not (has_twin and self.has_clause(clauses[0])):
-            self.why = self.why or f"it has no twin with {clauses[0]} alone"
+        for label in self.clauses if is_made else ():
+            if not (has_twin and self.has_clause(label)):
+                self.why = self.why or f"it has no twin with {label} alone"
         self.waits, self.tries, self.seconds = set(), 0, 0
 
     def has_clause(self, label):
@@ -58,9 +60,12 @@ class Edit:
     def wanted(self):
         return "proved" if self.is_harmless else "refused"
 
-    def unmade(self):
-        """Its functions as they are, with all their clauses, to be judged where it is."""
-        found = Edit(self.crate, self.file, functions_of(self.crate), is_made=False)
+    def unmade(self, edits):
+        """Its functions as they are, to be judged where it is, with all clauses that these edits of
+        them have."""
+        own = {it.clauses for it in edits if it.subject == self.subject}
+        clauses = frozenset().union(*own) if all(own) else ()
+        found = Edit(self.crate, self.file, functions_of(self.crate), False, clauses)
         found.tries = TRIES if self.is_alone() else 0
         return found
 
@@ -120,22 +125,32 @@ def proofs_of_twin(crate, path, twin):
     return texts
 
 
-def with_one_clause(text, label):
-    """The text of the function with that clause alone of those that begin with ensures (or with
-    none, where no clause has that label)."""
+def with_clauses(text, labels):
+    """The text of the function with the clauses of these labels alone, of those that begin with
+    ensures (or with none, where no clause has one of the labels)."""
     kept, is_kept = [], True
     for line in text.split("\n"):
         clause = re.match(r" *(?:ensures (\w*) ?|requires\b.*)?\{", line)
         if clause:
-            is_kept = clause[1] in (None, label)
+            is_kept = clause[1] is None or clause[1] in labels
         if is_kept:
             kept.append(line)
     return "\n".join(kept)
 
 
-def plant_in_twin(edit, functions, *clause):
+def with_answers(text, labels):
+    """The answers but for those of clauses of the function that have none of these labels."""
+    kept = []
+    for block in text.split("\n\n"):
+        answer = re.search(r"^pub returns\S*-clause-(\w+) : goal\.", block, re.MULTILINE)
+        if not answer or answer[1] in labels:
+            kept.append(block)
+    return "\n\n".join(kept).rstrip("\n") + "\n"
+
+
+def plant_in_twin(edit, functions):
     """Where it can be, has the edit add a twin of its function, and leave the function as it is.
-    Returns whether it can. The twin has one clause alone where that is named."""
+    Returns whether it can."""
     if not edit.is_in_function or len(edit.functions) != 1 or len(edit.changes) != 1:
         return False
     [(path, (start, end, new))] = edit.changes.items()
@@ -155,13 +170,15 @@ def plant_in_twin(edit, functions, *clause):
     name = re.match(HEAD, lines[of.first])[1]
     twin = f"{name}_{edit.name}" if edit.is_made else f"{name}_as_it_is"
     added = proofs_of_twin(edit.crate, of.path, of.path.removesuffix(name) + twin)
-    # (an answer that is kept is of all clauses: of one alone it would not fit, whatever the body)
-    if added is None or clause and any(it.endswith("/Answers.antt") for it in added):
+    if added is None:
         return False
+    if edit.clauses:
+        added = {to: with_answers(it, edit.clauses) if to.endswith("/Answers.antt") else it
+                 for to, it in added.items()}
     whole = text[begin:start] + (new if edit.is_made else text[start:end]) + text[end:ending]
     whole = re.sub(rf"\bfn {name}\b", f"fn {twin}", whole, count=1)
-    if clause:
-        whole = with_one_clause(whole, *clause)
+    if edit.clauses:
+        whole = with_clauses(whole, edit.clauses)
     edit.changes, edit.added = {path: (ending, ending, f"\n\n{whole}")}, added
     edit.functions = [of.path.removesuffix(name) + twin]
     return True
