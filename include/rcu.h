@@ -3,10 +3,9 @@
  *
  * What a caller owes, and nothing checks:
  * - A handle is all zero bits before it is opened, as in `rcu_t rcu = {0};`, and once it is closed.
- *   One that is open is not opened, nor read or written otherwise than by these calls. No call tests
- *   that a handle is open: on a closed one it reads at address 0. Between calls its bits may be
- *   moved, as memcpy, realloc or a move constructor does: from then on the new place is the handle,
- *   and the old one is used no more.
+ *   One that is open is not opened, nor read or written otherwise than by these calls. Between calls
+ *   its bits may be moved, as memcpy, realloc or a move constructor does: from then on the new place
+ *   is the handle, and the old one is used no more: no call can tell a copy that was left behind.
  * - One call at a time on each handle, and whatever one thread did to it comes before what the
  *   next one does: by a lock, by an atomic store of order release that a load of order acquire
  *   reads, or by starting and joining threads. Calls on different handles need no order among them.
@@ -23,6 +22,12 @@
  * several faults that hold it returns the first one that its note lists. A refused call leaves its
  * handles and what its pointers point to as they were; where a note says otherwise, it says what
  * stays. No call waits for another thread, and only those that list fault 16 take memory.
+ *
+ * Each call looks first whether its handles are open, and of the kind that it is for: the engine's,
+ * and then the seat's. It is refused by 27 where one is closed, as all zero bits are, and by 28 where
+ * one is of the other kind, as after a cast. The notes do not list these two. A call that returns no
+ * fault changes nothing then either, and its note says what it returns. (An opening does not look at
+ * the handle that it opens.)
  *
  * What orders the caller's own data. A publication and an unlink are atomic stores of order release
  * or stronger, and a reader loads such a pointer by order acquire or stronger; nothing more is
@@ -78,7 +83,9 @@ enum rcu_fault {
     RCU_CPU_IDLE = 23,       /* the processor is idle */
     RCU_NOT_IDLE = 24,       /* the processor is awake */
     RCU_SEAT_DEALT = 25,     /* the seat of the processor is dealt */
-    RCU_OTHER_ENGINE = 26    /* the seat is of another engine */
+    RCU_OTHER_ENGINE = 26,   /* the seat is of another engine */
+    RCU_CLOSED = 27,         /* the handle is closed, or was never opened */
+    RCU_OTHER_KIND = 28      /* the handle is of the other kind */
 };
 
 /* A sentence for a fault, without a full stop. At 0 it says that there is none. */
@@ -106,6 +113,8 @@ static inline const char *rcu_fault_text(uint32_t fault) {
     case RCU_NOT_IDLE: return "the processor is not idle";
     case RCU_SEAT_DEALT: return "the seat of the processor is dealt";
     case RCU_OTHER_ENGINE: return "the seat is of another engine";
+    case RCU_CLOSED: return "the handle is closed, or was never opened";
+    case RCU_OTHER_KIND: return "the handle is of the other kind";
     default: return "no fault has this number";
     }
 }
@@ -217,32 +226,33 @@ static inline uint32_t rcu_open(uint32_t cpus, uint64_t last, rcu_t *rcu) {
 }
 
 /* Closes an engine, and frees all that it has; values that are still queued are not handed out.
- * Seats that are open go on, and are closed in turn. Needs: `rcu` is open, under the caller's
- * lock. */
+ * Seats that are open go on, and are closed in turn. Of a handle that is no open engine's it does
+ * nothing. Needs: `rcu` is under the caller's lock. */
 void rcu_close(rcu_t *rcu);
 
 /* Deals the seat of a processor; each has one. Of processor 0 it is online at first, of any other
  * offline; one that was handed back is as it was then. Processor 0 is awaited like any other: where
- * no thread reads on it, make its seat idle once. Needs: `rcu` is open, under the caller's lock, and
- * `seat` is closed. 1, 25, 16. */
+ * no thread reads on it, make its seat idle once. Needs: `rcu` is under the caller's lock, and `seat`
+ * is closed. 1, 25, 16. */
 uint32_t rcu_seat_open(rcu_t *rcu, uint32_t cpu, rcu_seat_t *seat);
 
 /* Whether rcu_seat_open can deal the seat of the processor: there is such a processor, and its seat
- * is not dealt. Needs: `rcu` is open, under the caller's lock. */
+ * is not dealt. False, too, where `rcu` is no open engine's. Needs: `rcu` is under the caller's
+ * lock. */
 bool rcu_has_seat(rcu_t *rcu, uint32_t cpu);
 
 /* Hands a seat back to its engine, which can deal it again, and closes it: for a thread that ends.
  * Its processor stays as it is: depart first, or, where it is processor 0, make it idle. Else each
- * grace period waits until another thread has the seat. Needs: `rcu` is open, under the caller's
- * lock; `seat` is open, and is in no other call. 26. */
+ * grace period waits until another thread has the seat. Needs: `rcu` is under the caller's lock, and
+ * `seat` is in no other call. 26. */
 uint32_t rcu_seat_return(rcu_t *rcu, rcu_seat_t *seat);
 
 /* Closes a seat, which its engine does not deal again: for when the engine goes. Its processor stays
- * as it is: one that is online is awaited by each grace period that begins, for good. Needs: `seat`
- * is open. */
+ * as it is: one that is online is awaited by each grace period that begins, for good. Of a handle
+ * that is no open seat's it does nothing. */
 void rcu_seat_close(rcu_seat_t *seat);
 
-/* ---- grace periods: `rcu` is open, under the caller's lock */
+/* ---- grace periods: `rcu` is under the caller's lock */
 
 /* Begins a grace period: stores its number, and then looks at each processor. It awaits those that
  * are online, are not idle, and did not pass a quiescent state in between. Writes the number, and
@@ -281,7 +291,7 @@ static inline uint32_t rcu_turn(rcu_t *rcu, rcu_turn_t *turn) {
  * whether one is awaited, rcu_awaits tells. */
 uint32_t rcu_collect(rcu_t *rcu, uint32_t cpu, uint32_t *found);
 
-/* ---- processors: `rcu` is open, under the caller's lock; `seat` is open, and is in no other call */
+/* ---- processors: `rcu` is under the caller's lock, and `seat` is in no other call */
 
 /* The seat's processor comes online. 26, 3.
  * A section may open once it returns. A grace period that begins later awaits the processor. Of one
@@ -303,7 +313,8 @@ static inline uint32_t rcu_arrive(rcu_t *rcu, rcu_seat_t *seat) {
  * offline. */
 uint32_t rcu_depart(rcu_t *rcu, rcu_seat_t *seat, uint64_t *moved);
 
-/* ---- what an engine says of itself: `rcu` is open, under the caller's lock */
+/* ---- what an engine says of itself: `rcu` is under the caller's lock. What is no open engine has no
+ * processor, and its number is 0. */
 
 /* How many processors it has. */
 uint32_t rcu_cpus(rcu_t *rcu);
@@ -324,16 +335,18 @@ bool rcu_awaits(rcu_t *rcu, uint32_t cpu);
 uint32_t rcu_awaited(rcu_t *rcu);
 
 /* A cookie: the number at which a grace period that begins from now on has ended. It asks for none:
- * somebody begins one (rcu_begin, or rcu_turn where a tended callback waits). */
+ * somebody begins one (rcu_begin, or rcu_turn where a tended callback waits). UINT64_MAX, which is
+ * done nowhere, where `rcu` is no open engine's. */
 uint64_t rcu_take(rcu_t *rcu);
 
 /* Whether the number has reached the cookie's: then each section that was open at the taking has
- * ended. Of a number that no taking gave nothing is said but that.
+ * ended. Of a number that no taking gave nothing is said but that. False where `rcu` is no open
+ * engine's.
  * Where it returns true, of each section one of two holds: all of it comes before what follows this
  * call, or it sees what the thread that took did before it took. */
 bool rcu_poll(rcu_t *rcu, uint64_t cookie);
 
-/* ---- callbacks, which are values of 64 bits: `rcu` is open, under the caller's lock */
+/* ---- callbacks, which are values of 64 bits: `rcu` is under the caller's lock */
 
 /* Queues a value on an online processor. Writes how many were queued since opening. 1, 2, 15, 16.
  * A list keeps the room that it ever had, until rcu_shrink or rcu_close.
@@ -357,7 +370,7 @@ uint32_t rcu_run(rcu_t *rcu, uint32_t cpu, uint64_t *values, size_t room, uint64
  * 1. */
 uint32_t rcu_shrink(rcu_t *rcu, uint32_t cpu, uint64_t *room);
 
-/* ---- the barrier over callbacks: `rcu` is open, under the caller's lock */
+/* ---- the barrier over callbacks: `rcu` is under the caller's lock */
 
 /* Begins a barrier. 13. */
 uint32_t rcu_barrier_begin(rcu_t *rcu);
@@ -373,18 +386,18 @@ uint32_t rcu_barrier_visit(rcu_t *rcu, uint32_t cpu, uint32_t *did);
  * was processed, and waits for that too. */
 uint32_t rcu_barrier_test(rcu_t *rcu, uint64_t *left);
 
-/* ---- a thread by its seat, with no lock, beside all calls on other handles: `seat` is open */
+/* ---- a thread by its seat, with no lock, beside all calls on other handles */
 
-/* The seat's processor. */
+/* The seat's processor. UINT32_MAX, which is none, where `seat` is no open seat's. */
 uint32_t rcu_seat_cpu(rcu_seat_t *seat);
 
-/* How deep its read sections nest: 0 where none is open. */
+/* How deep its read sections nest: 0 where none is open, also where `seat` is no open seat's. */
 uint32_t rcu_seat_depth(rcu_seat_t *seat);
 
-/* Whether its processor is online, be it awake or idle. */
+/* Whether its processor is online, be it awake or idle. False where `seat` is no open seat's. */
 bool rcu_seat_is_online(rcu_seat_t *seat);
 
-/* Whether its processor is idle. */
+/* Whether its processor is idle. False where `seat` is no open seat's. */
 bool rcu_seat_is_idle(rcu_seat_t *seat);
 
 /* Opens a read section, or nests one deeper in the open one. Writes the depth. 2, 23, 6. */
@@ -432,7 +445,7 @@ static inline uint32_t rcu_seat_wake(rcu_seat_t *seat, uint64_t *number) {
 }
 
 /* As rcu_take, at the number that one load sees, which no later load is below. In a section or not,
- * online or not.
+ * online or not. UINT64_MAX, which is done nowhere, where `seat` is no open seat's.
  * A full fence stands between what the thread did before, as an unlink, and that load. Unfenced, a
  * section may still come to what was unlinked once the cookie is done. */
 uint64_t rcu_seat_take_unfenced(rcu_seat_t *seat);
@@ -442,7 +455,7 @@ static inline uint64_t rcu_seat_take(rcu_seat_t *seat) {
 }
 
 /* As rcu_poll, at the number that one load sees, which no later load is below. In a section or not,
- * online or not.
+ * online or not. False where `seat` is no open seat's.
  * Where it returns false, what the thread stored before it is seen by what follows the rcu_end, the
  * rcu_turn or the rcu_seat_poll that makes or finds the cookie done. Unfenced it is not: a thread
  * that stores a wish to be woken, polls, and sleeps may sleep for good. */

@@ -2,7 +2,8 @@
 
 Of each call the faults in their order, and what it needs: in the header its note and the title of
 its part say it, in the crate its documentation and its `requires`. The faults are those of its
-contract, too: its clauses name them, or definitions of specs/ that say why it is refused. The page
+contract, too: its clauses name them, or definitions of specs/ that say why it is refused. Each that
+returns a fault has the two of a handle that it does not take, which no note lists. The page
 docs/API.md lists the same. Further the sentence of each fault, and the layout of a handle."""
 import re
 
@@ -18,12 +19,16 @@ DEFINITION = re.compile(r"^ *(?:abbrev )?pub (\w+) : [^\n]*\b(?:Fault|Refusal)\b
                         r"((?: *\1\b[^\n]*\n(?: +(?!\1\b)(?!--)\S[^\n]*\n)*)+)", re.MULTILINE)
 # Of these the text names the faults in another order than they are tested in.
 OTHER_ORDER = {"if_own", "queue_refusal"}
+# The faults of a handle that a call does not take: it is closed, or of the other kind. What says so,
+# and the definitions that it stands for.
+OF_HANDLES = {"27", "28"}
+NUMBER_OF_HANDLE = {"engine_number": "engine_refusal", "seat_number": "seat_refusal"}
+# It has no handle but the one that it opens.
+WITHOUT_HANDLE = {"rcu_open_as"}
 # What the contract of a call has, and never comes: the fanouts are 16 and 64; docs/C.md speaks of 3.
 NEVER = {"rcu_open_as": {"18"}, "rcu_depart": {"3"}}
 # What a `requires` says, by its text, and what the header says for it.
-NEEDS = [(r"HoldsEngine rcu\b[\w.]*", "`rcu` is open"),
-         (r"HoldsSeat seat\b[\w.]*", "`seat` is open"),
-         (r"IsNone rcu\b[\w.]*", "`rcu` is closed"), (r"IsNone seat\b[\w.]*", "`seat` is closed")]
+NEEDS = [(r"IsNone rcu\b[\w.]*", "`rcu` is closed"), (r"IsNone seat\b[\w.]*", "`seat` is closed")]
 
 
 def words_of(note):
@@ -107,12 +112,14 @@ def faults_in_clauses(clauses, known, numbers):
     """The faults of a contract, and the lists of those that have an order."""
     found, lists = set(), []
     for text in re.findall(r"ensures(?: \w+)? \{ (.*?) \}\n", clauses, re.DOTALL):
-        for name in re.findall(r"\w+_refusal\b", text):
+        for name in re.findall(rf"\w+_refusal\b|\b(?:{'|'.join(NUMBER_OF_HANDLE)})\b", text):
+            name = NUMBER_OF_HANDLE.get(name, name)
             below, more = faults_in(name, "rcu_c", known, numbers)
             found |= below
             lists += more
-        found |= set(re.findall(r"result ≡ (\d+)\b", text))
-        found |= set(sum(re.findall(r"result ≡ \(if .* then (\d+) else (\d+)\)", text), ()))
+        told = rf"(?:result ≡|\b(?:{'|'.join(NUMBER_OF_HANDLE)}) [\w.]+)\s+"
+        found |= set(re.findall(rf"{told}(\d+)\b", text))
+        found |= set(sum(re.findall(rf"{told}\(if .* then (\d+) else (\d+)\)", text), ()))
         found |= {"16"} if "tested_number result" in text else set()
     return found - {"0"}, lists
 
@@ -127,6 +134,9 @@ def unlike_contracts(header, code, specs):
         faults = said.get(name, ([], set()))[0]
         found, lists = faults_in_clauses(clauses, known, numbers)
         found -= NEVER.get(name, set())
+        if faults and name not in WITHOUT_HANDLE and not found >= OF_HANDLES:
+            yield f"{name}: its contract does not tell a handle that is closed or of the other kind"
+        found -= OF_HANDLES
         if found != set(faults):
             yield f"{name}: its contract has the faults {sorted(found)}, its note {sorted(faults)}"
         for ordered in lists:

@@ -1,7 +1,8 @@
 //! The handles of C as values that are owned. All calls of C are made here.
 //!
 //! What the header asks of their caller:
-//! - *The handle is open.* It is from the making of the value to its drop, which closes it.
+//! - *No open handle is opened, and no copy of one that was closed is used.* A value's handle is
+//!   open from its making to its drop, which closes it.
 //! - *One call at a time on each handle.* An engine's calls take `&mut`. A seat's take `&`, but the
 //!   value is not `Sync`, so one thread at a time has it; and no call of C calls back.
 //! - *What pointers point to is there, and nobody else's.* It is a local of the function here.

@@ -77,6 +77,10 @@ pub const RCU_NOT_IDLE: u32 = 24;
 pub const RCU_SEAT_DEALT: u32 = 25;
 /// The seat is of another engine.
 pub const RCU_OTHER_ENGINE: u32 = 26;
+/// The handle is closed, or was never opened.
+pub const RCU_CLOSED: u32 = 27;
+/// The handle is of the other kind.
+pub const RCU_OTHER_KIND: u32 = 28;
 
 // What a turn did.
 /// No grace period runs, and none is needed.

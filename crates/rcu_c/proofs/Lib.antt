@@ -1,2 +1,3 @@
 pub mod AsBox
 pub mod Dealt
+pub mod WrittenBack

@@ -12,7 +12,7 @@ use Rattle.rcu_live.specs.declared.collection.Collected.{Collected}
 use Rattle.rcu_live.specs.declared.collection.Collected.TheVariants as collected
 use Rattle.rcu_c.specs.declared.grace_periods.Turn.{Turn}
 use Rattle.rcu_c.specs.declared.refusal.Refusal.{Refusal}
-use Rattle.rcu_c.specs.declared.refusal.Refusal.TheVariants.{Engine, SeatDealt, OtherEngine}
+use Rattle.rcu_c.specs.declared.refusal.Refusal.TheVariants.{Engine, SeatDealt, OtherEngine, Closed, OtherKind}
 
 -- the number of a refusal, 0 where there is none
 abbrev pub number_for : Option Fault → ℕ
@@ -28,11 +28,18 @@ abbrev pub refusal_number : Refusal → ℕ
 refusal_number (Engine fault) = fault_number fault
 refusal_number SeatDealt = 25
 refusal_number OtherEngine = 26
+refusal_number Closed = 27
+refusal_number OtherKind = 28
 
 -- the number of such a refusal, 0 where there is none
 abbrev pub number_in_c : Option Refusal → ℕ
 number_in_c None = 0
 number_in_c (Some refusal) = refusal_number refusal
+
+-- the number of such a refusal, and where there is none this number
+abbrev pub number_or : Option Refusal → ℕ → ℕ
+number_or None number = number
+number_or (Some refusal) number = refusal_number refusal
 
 -- what a turn did: 0 nothing, 1 begun, 2 ended, 3 waiting; how many are awaited; and a number
 abbrev pub turn_of : Turned → Turn

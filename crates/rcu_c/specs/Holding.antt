@@ -1,5 +1,5 @@
 -- What a handle holds: the engine or the seat of an open one, and what a call changes of it.
-use Rattle.std.specs.Prelude.{◌≡◌, ℕ, ◌≤◌, [], Option, Some, None, ⊤}
+use Rattle.std.specs.Prelude.{◌≡◌, ℕ, ◌≤◌, ◌-◌, ◌^◌, [], Option, Some, None, ⊤}
 use Rattle.atomic_table.specs.Seated.{TableId}
 use Rattle.rcu_core.specs.GpState.{Grace}
 use Rattle.rcu_seq.specs.Numbers.{Number}
@@ -34,12 +34,16 @@ no_table = record { words = 0; slots = 0; views_name = 0; atom = 0; block = 0; o
 abbrev pub no_identity : Identity
 no_identity = record { place = 0; count = 0 }
 
--- the engine of an engine's handle; of another nothing is said by it
+-- no engine: it has no processor, and its number is 0
+abbrev pub no_engine : EngineAndSeats
+no_engine = opened_at_first no_identity no_table 0 0
+
+-- the engine of an engine's handle, and no engine of another
 abbrev pub opened_of : Option Contents → EngineAndSeats
-opened_of None = opened_at_first no_identity no_table 0 0
+opened_of None = no_engine
 opened_of (Some (contents.Engine o)) = o
-opened_of (Some (contents.Seat _)) = opened_at_first no_identity no_table 0 0
-opened_of (Some contents.Room) = opened_at_first no_identity no_table 0 0
+opened_of (Some (contents.Seat _)) = no_engine
+opened_of (Some contents.Room) = no_engine
 
 -- the running engine of an engine's handle
 abbrev pub engine_of : Option Contents → Locked (Unit {0}) ℕ
@@ -49,12 +53,24 @@ engine_of h = (opened_of h).engine
 abbrev pub grace_of : Option Contents → Grace ℕ
 grace_of h = (engine_of h).grace
 
--- the seat of a seat's handle; of another nothing is said by it
+-- no processor: more than any engine has
+abbrev pub no_cpu : ℕ
+no_cpu = 2 ^ 32 - 1
+
+-- no seat: it is of no processor, is offline, and has no section open
+abbrev pub no_seat : Seat
+no_seat = seat_at_first no_identity no_table 0 no_cpu
+
+-- the seat of a seat's handle, and no seat of another
 abbrev pub seat_of : Option Contents → Seat
-seat_of None = seat_at_first no_identity no_table 0 0
-seat_of (Some (contents.Engine _)) = seat_at_first no_identity no_table 0 0
+seat_of None = no_seat
+seat_of (Some (contents.Engine _)) = no_seat
 seat_of (Some (contents.Seat s)) = s
-seat_of (Some contents.Room) = seat_at_first no_identity no_table 0 0
+seat_of (Some contents.Room) = no_seat
+
+-- a cookie that is never done: no engine's number comes to it
+abbrev pub never_done : ℕ
+never_done = 2 ^ 64 - 1
 
 -- its processor's seat
 abbrev pub cpu_of : Option Contents → Seated (Unit {0})

@@ -1,11 +1,13 @@
 -- What an open handle ends as, once the borrow of what it holds has ended.
 use Rattle.std.specs.Prelude.{Some}
-use Rattle.std.specs.Borrow.{Fml, Lends, MutBor}
+use Rattle.std.specs.Borrow.{Fml, Lends, LendsIfOk, MutBor}
+use Rattle.std.specs.declared.result.Result.{Result}
 use Rattle.rcu_c.specs.Engines.{EngineAndSeats}
 use Rattle.rcu_c.specs.Seats.{Seat}
 use Rattle.rcu_c.specs.declared.handle.Handle.{Handle}
 use Rattle.rcu_c.specs.declared.contents.Contents.{Contents}
 use Rattle.rcu_c.specs.declared.contents.Contents.TheVariants as contents
+use Rattle.rcu_c.specs.declared.refusal.Refusal.{Refusal}
 use Rattle.rcu_c.specs.contracts.handle.Handle as handle
 use Rattle.rcu_c.specs.contracts.contents.Contents as holding
 use Rattle.rcu_c.specs.contracts.open_engine.OpenEngine as engine
@@ -19,10 +21,18 @@ with_contents h contents = record { at = h.at; alloc = h.alloc; contents = Some 
 abbrev pub lends_contents : MutBor Handle → MutBor Contents → Fml
 lends_contents h lent = Lends handle.the_row holding.the_row h lent (with_contents h.now)
 
--- a handle lends its engine
+-- an engine's handle lends its engine
 abbrev pub lends_engine : MutBor Handle → MutBor EngineAndSeats → Fml
 lends_engine h lent = Lends handle.the_row engine.the_row h lent (λ o. with_contents h.now (contents.Engine o))
 
--- a handle lends its seat
+-- a seat's handle lends its seat
 abbrev pub lends_seat : MutBor Handle → MutBor Seat → Fml
 lends_seat h lent = Lends handle.the_row seat_parts.the_row h lent (λ s. with_contents h.now (contents.Seat s))
+
+-- a handle lends its engine where it has one, and else ends as it is
+abbrev pub lends_engine_if_ok : MutBor Handle → Result (MutBor EngineAndSeats) Refusal → Fml
+lends_engine_if_ok h lent = LendsIfOk handle.the_row engine.the_row h lent (λ o. with_contents h.now (contents.Engine o)) h.now
+
+-- a handle lends its seat where it has one, and else ends as it is
+abbrev pub lends_seat_if_ok : MutBor Handle → Result (MutBor Seat) Refusal → Fml
+lends_seat_if_ok h lent = LendsIfOk handle.the_row seat_parts.the_row h lent (λ s. with_contents h.now (contents.Seat s)) h.now

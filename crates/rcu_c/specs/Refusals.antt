@@ -9,7 +9,9 @@ use Rattle.rcu_c.specs.Engines.{EngineAndSeats, is_own, seat_at}
 use Rattle.rcu_c.specs.Holding.{cpu_of, opened_of, seat_of}
 use Rattle.rcu_c.specs.declared.contents.Contents.{Contents}
 use Rattle.rcu_c.specs.declared.refusal.Refusal.{Refusal}
-use Rattle.rcu_c.specs.declared.refusal.Refusal.TheVariants.{Engine, SeatDealt, OtherEngine}
+use Rattle.rcu_c.specs.declared.refusal.Refusal.TheVariants.{Engine, SeatDealt, OtherEngine, Closed, OtherKind}
+use Rattle.rcu_c.specs.declared.contents.Contents.TheVariants as contents
+use Rattle.rcu_c.specs.Answers.{number_or}
 
 -- where a processor's callback is queued: there is such a processor, it is online in the engine, and there is room
 pub record CanQueue (e : Locked (Unit {0}) ℕ) (cpu : ℕ) : Type 0 where
@@ -17,14 +19,44 @@ pub record CanQueue (e : Locked (Unit {0}) ℕ) (cpu : ℕ) : Type 0 where
   pub online : is_in e.grace.processors.online cpu ≡ true
   pub room : e.grace.lists.queued < e.grace.lists.most
 
+-- why a handle is not taken for an engine's: it is closed; it is of the other kind
+abbrev pub engine_refusal : Option Contents → Option Refusal
+engine_refusal None = Some Closed
+engine_refusal (Some (contents.Engine _)) = None
+engine_refusal (Some (contents.Seat _)) = Some OtherKind
+engine_refusal (Some contents.Room) = Some OtherKind
+
+-- why a handle is not taken for a seat's
+abbrev pub seat_refusal : Option Contents → Option Refusal
+seat_refusal None = Some Closed
+seat_refusal (Some (contents.Engine _)) = Some OtherKind
+seat_refusal (Some (contents.Seat _)) = None
+seat_refusal (Some contents.Room) = Some OtherKind
+
+-- the number that a call of an engine's handle returns: why the handle is not taken for one, and else this
+abbrev pub engine_number : Option Contents → ℕ → ℕ
+engine_number rcu number = number_or (engine_refusal rcu) number
+
+-- the number that a call of a seat's handle returns: why the handle is not taken for one, and else this
+abbrev pub seat_number : Option Contents → ℕ → ℕ
+seat_number seat number = number_or (seat_refusal seat) number
+
+-- the first of two refusals
+abbrev pub first_of : Option Refusal → Option Refusal → Option Refusal
+first_of None later = later
+first_of (Some first) later = Some first
+
 -- the engine's fault, where it has one
 abbrev pub by_engine : Option Fault → Option Refusal
 by_engine None = None
 by_engine (Some fault) = Some (Engine fault)
 
--- an engine refuses a seat of another first, and else for this
+-- why an engine does not take a seat: the engine's handle is not taken for one; the seat's is not; the seat is of another
+-- engine; and else this
 abbrev pub if_own : Option Contents → Option Contents → Option Fault → Option Refusal
-if_own rcu seat fault = if is_own (opened_of rcu) (seat_of seat) then by_engine fault else Some OtherEngine
+if_own rcu seat fault =
+    first_of (engine_refusal rcu) (first_of (seat_refusal seat)
+    (if is_own (opened_of rcu) (seat_of seat) then by_engine fault else Some OtherEngine))
 
 -- why a seat's processor does not come online
 abbrev pub coming_refusal : Option Contents → Option Contents → Option Refusal

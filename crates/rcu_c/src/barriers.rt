@@ -4,24 +4,27 @@ ghost use Rattle.rcu_barrier.specs.Lists.{barrier_test_answer, visit_answer};
 ghost use Rattle.rcu_core.specs.GpState as grace;
 ghost use Rattle.rcu_live.specs.EngineLists.{visit_refusal};
 ghost use Rattle.rcu_c.specs.Answers.{left_of, number_for, tested_number, visit_number};
-ghost use Rattle.rcu_c.specs.Holding.{HoldsEngine, engine_of, grace_of, on_grace};
+ghost use Rattle.rcu_c.specs.Holding.{engine_of, grace_of, on_grace};
+ghost use Rattle.rcu_c.specs.Refusals.{engine_number};
 ghost use Rattle.rcu_c.specs.Staying.{BothStay};
 
 use crate::codes::{status, write_out};
 use crate::handle::Rcu;
-use rcu_barrier::barrier_state::BarrierState;
-use rcu_barrier::visit::Visit;
+use rcu_barrier::{BarrierState, Visit};
 
 /// Begins a barrier, as `Engine::barrier_begin`. Fault 13: one runs.
 #[unsafe(no_mangle)]
 pub extern "C" fn rcu_barrier_begin(rcu: &mut Rcu) -> u32
-    requires open { HoldsEngine rcu.old.contents }
-    ensures fault { result ≡ (if (grace_of rcu.old.contents).lists.running then 13 else 0) }
+    ensures fault { result ≡ engine_number rcu.old.contents
+        (if (grace_of rcu.old.contents).lists.running then 13 else 0) }
     ensures state { result ≡ 0 → rcu.new.contents ≡
         on_grace (λ g. grace.after_barrier_begin g) rcu.old.contents }
     ensures unchanged { result ≢ 0 → rcu.new.contents ≡ rcu.old.contents }
 {
-    status(rcu.engine().inner.barrier_begin())
+    match rcu.engine() {
+        Ok(opened) => status(opened.inner.barrier_begin()),
+        Err(refusal) => refusal.number(),
+    }
 }
 
 /// What a visit did, as C sees it.
@@ -41,9 +44,8 @@ fn visit_in_c(visit: Visit) -> u32
 /// Faults: 1; 14 where none runs; 16, only where it would put a marker.
 #[unsafe(no_mangle)]
 pub extern "C" fn rcu_barrier_visit(rcu: &mut Rcu, cpu: u32, did: &mut u32) -> u32
-    requires open { HoldsEngine rcu.old.contents }
-    ensures fault { tested_number result ≡
-        number_for (visit_refusal (engine_of rcu.old.contents) cpu) }
+    ensures fault { tested_number result ≡ engine_number rcu.old.contents
+        (number_for (visit_refusal (engine_of rcu.old.contents) cpu)) }
     ensures visit { result ≡ 0 →
         did.new ≡ visit_number (visit_answer (grace_of rcu.old.contents).lists cpu) }
     ensures state { result ≡ 0 → rcu.new.contents ≡
@@ -52,8 +54,10 @@ pub extern "C" fn rcu_barrier_visit(rcu: &mut Rcu, cpu: u32, did: &mut u32) -> u
         visit_answer (grace_of rcu.old.contents).lists cpu ≡ Visit.Marked }
     ensures unchanged { result ≢ 0 → BothStay rcu.old.contents rcu.new.contents did.old did.new }
 {
-    let visited = rcu.engine().inner.visit(cpu);
-    write_out(visited.map(visit_in_c), did)
+    match rcu.engine() {
+        Ok(opened) => write_out(opened.inner.visit(cpu).map(visit_in_c), did),
+        Err(refusal) => refusal.number(),
+    }
 }
 
 /// How much a barrier waits for, as C sees it.
@@ -70,14 +74,16 @@ fn left_in_c(found: BarrierState) -> u64
 /// are left, 0 where it is over. Fault 14: none runs.
 #[unsafe(no_mangle)]
 pub extern "C" fn rcu_barrier_test(rcu: &mut Rcu, left: &mut u64) -> u32
-    requires open { HoldsEngine rcu.old.contents }
-    ensures fault { result ≡ (if (grace_of rcu.old.contents).lists.running then 0 else 14) }
+    ensures fault { result ≡ engine_number rcu.old.contents
+        (if (grace_of rcu.old.contents).lists.running then 0 else 14) }
     ensures state { result ≡ 0 → rcu.new.contents ≡
         on_grace (λ g. grace.after_barrier_test g) rcu.old.contents }
     ensures left { result ≡ 0 →
         left.new ≡ left_of (barrier_test_answer (grace_of rcu.old.contents).lists) }
     ensures unchanged { result ≢ 0 → BothStay rcu.old.contents rcu.new.contents left.old left.new }
 {
-    let tested = rcu.engine().inner.barrier_test();
-    write_out(tested.map(left_in_c), left)
+    match rcu.engine() {
+        Ok(opened) => write_out(opened.inner.barrier_test().map(left_in_c), left),
+        Err(refusal) => refusal.number(),
+    }
 }

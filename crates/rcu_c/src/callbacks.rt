@@ -9,14 +9,14 @@ ghost use Rattle.rcu_core.specs.GpState as grace;
 ghost use Rattle.rcu_live.specs.Engine.{HasWaited, cpu_refusal};
 ghost use Rattle.rcu_live.specs.EngineLists.{queue_refusal};
 ghost use Rattle.rcu_c.specs.Answers.{number_for, tested_number};
-ghost use Rattle.rcu_c.specs.Holding.{HoldsEngine, engine_of, grace_of, on_grace};
-ghost use Rattle.rcu_c.specs.Refusals.{CanQueue};
+ghost use Rattle.rcu_c.specs.Holding.{engine_of, grace_of, on_grace};
+ghost use Rattle.rcu_c.specs.Refusals.{CanQueue, engine_number};
 ghost use Rattle.rcu_c.specs.Staying.{AllStay, BothStay};
 
 use crate::codes::{code, write_out};
 use crate::handle::Rcu;
-use rcu_cblist::queued::Queued;
-use rcu_seq::fault::Fault;
+use rcu_cblist::Queued;
+use rcu_seq::Fault;
 
 /// Queues a value as a callback on a processor, as `Engine::queue`. Writes how many were queued,
 /// which is its place among them.
@@ -24,22 +24,25 @@ use rcu_seq::fault::Fault;
 /// Faults: 1; 2 where the processor is not online; 15 where 2^62 were queued; 16.
 #[unsafe(no_mangle)]
 pub extern "C" fn rcu_queue(rcu: &mut Rcu, cpu: u32, value: u64, place: &mut u64) -> u32
-    requires open { HoldsEngine rcu.old.contents }
     ensures accepted { result ≡ 0 → CanQueue (engine_of rcu.old.contents) cpu }
     ensures state { result ≡ 0 → rcu.new.contents ≡
         on_grace (λ g. grace.after_queue g cpu value) rcu.old.contents }
     ensures place { result ≡ 0 → place.new ≡ (grace_of rcu.new.contents).lists.queued }
-    ensures bad { (engine_of rcu.old.contents).cpus ≤ cpu → result ≡ 1 }
+    ensures no_such_cpu { (engine_of rcu.old.contents).cpus ≤ cpu →
+        result ≡ engine_number rcu.old.contents 1 }
     ensures fault { cpu < (engine_of rcu.old.contents).cpus → result ≢ 0 →
         result ≡ fault_number (queue_refusal (engine_of rcu.old.contents) cpu) }
     ensures unchanged { result ≢ 0 →
         BothStay rcu.old.contents rcu.new.contents place.old place.new }
 {
-    let engine = &mut rcu.engine().inner;
-    if cpu >= engine.cpus() {
+    let opened = match rcu.engine() {
+        Ok(opened) => opened,
+        Err(refusal) => return refusal.number(),
+    };
+    if cpu >= opened.cpus() {
         return code(Fault::BadCpu);
     }
-    let queued = engine.queue(cpu, value);
+    let queued = opened.inner.queue(cpu, value);
     write_out(queued.map_err(|refused| refused.fault), place)
 }
 
@@ -49,8 +52,8 @@ pub extern "C" fn rcu_queue(rcu: &mut Rcu, cpu: u32, value: u64, place: &mut u64
 /// Fault 1: there is no such processor.
 #[unsafe(no_mangle)]
 pub extern "C" fn rcu_tend(rcu: &mut Rcu, cpu: u32, done: &mut u64, waiting: &mut u64) -> u32
-    requires open { HoldsEngine rcu.old.contents }
-    ensures fault { result ≡ number_for (cpu_refusal (engine_of rcu.old.contents) cpu) }
+    ensures fault { result ≡ engine_number rcu.old.contents
+        (number_for (cpu_refusal (engine_of rcu.old.contents) cpu)) }
     ensures state { result ≡ 0 → rcu.new.contents ≡
         on_grace (λ g. grace.after_tend g cpu) rcu.old.contents }
     ensures done { result ≡ 0 → done.new ≡
@@ -60,7 +63,11 @@ pub extern "C" fn rcu_tend(rcu: &mut Rcu, cpu: u32, done: &mut u64, waiting: &mu
     ensures unchanged { result ≢ 0 →
         AllStay rcu.old.contents rcu.new.contents done.old done.new waiting.old waiting.new }
 {
-    match rcu.engine().inner.tend(cpu) {
+    let opened = match rcu.engine() {
+        Ok(opened) => opened,
+        Err(refusal) => return refusal.number(),
+    };
+    match opened.inner.tend(cpu) {
         Ok((ready, waits)) => {
             *done = ready;
             *waiting = waits;
@@ -91,9 +98,8 @@ fn put_values(calls: &[Queued<u64>], values: &mut [u64]) -> u64
 /// Faults: 1; 16, only where it has a callback to hand out.
 #[unsafe(no_mangle)]
 pub extern "C" fn rcu_run(rcu: &mut Rcu, cpu: u32, values: &mut [u64], count: &mut u64) -> u32
-    requires open { HoldsEngine rcu.old.contents }
-    ensures fault { tested_number result ≡
-        number_for (cpu_refusal (engine_of rcu.old.contents) cpu) }
+    ensures fault { tested_number result ≡ engine_number rcu.old.contents
+        (number_for (cpu_refusal (engine_of rcu.old.contents) cpu)) }
     ensures state { result ≡ 0 → rcu.new.contents ≡
         on_grace (λ g. grace.after_run g cpu (length values.old)) rcu.old.contents }
     ensures count { result ≡ 0 → count.new ≡
@@ -110,7 +116,11 @@ pub extern "C" fn rcu_run(rcu: &mut Rcu, cpu: u32, values: &mut [u64], count: &m
     ensures unchanged { result ≢ 0 →
         AllStay rcu.old.contents rcu.new.contents values.old values.new count.old count.new }
 {
-    match rcu.engine().inner.run(cpu, values.len() as u64) {
+    let opened = match rcu.engine() {
+        Ok(opened) => opened,
+        Err(refusal) => return refusal.number(),
+    };
+    match opened.inner.run(cpu, values.len() as u64) {
         Ok(ran) => {
             *count = put_values(ran.calls.as_slice(), values);
             0
@@ -125,13 +135,16 @@ pub extern "C" fn rcu_run(rcu: &mut Rcu, cpu: u32, values: &mut [u64], count: &m
 /// Fault 1: there is no such processor.
 #[unsafe(no_mangle)]
 pub extern "C" fn rcu_shrink(rcu: &mut Rcu, cpu: u32, room: &mut u64) -> u32
-    requires open { HoldsEngine rcu.old.contents }
-    ensures fault { result ≡ number_for (cpu_refusal (engine_of rcu.old.contents) cpu) }
+    ensures fault { result ≡ engine_number rcu.old.contents
+        (number_for (cpu_refusal (engine_of rcu.old.contents) cpu)) }
     ensures fits { result ≡ 0 → length (list_of (grace_of rcu.old.contents).lists cpu) ≤ room.new }
     ensures empty { result ≡ 0 → list_of (grace_of rcu.old.contents).lists cpu ≡ [] →
         room.new ≡ 0 }
     ensures state { rcu.new.contents ≡ rcu.old.contents }
     ensures unchanged { result ≢ 0 → room.new ≡ room.old }
 {
-    write_out(rcu.engine().inner.shrink(cpu), room)
+    match rcu.engine() {
+        Ok(opened) => write_out(opened.inner.shrink(cpu), room),
+        Err(refusal) => refusal.number(),
+    }
 }

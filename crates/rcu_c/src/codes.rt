@@ -4,12 +4,18 @@ ghost use Rattle.std.specs.Result.{result_err};
 ghost use Rattle.rcu_seq.specs.Fault.{fault_number};
 ghost use Rattle.rcu_c.specs.Answers.{number_for};
 
-use rcu_seq::fault::Fault;
+use rcu_seq::Fault;
+
+/// The number of no processor: more than any engine has.
+pub(crate) const NO_CPU: u32 = u32::MAX;
+
+/// A cookie that is never done: no engine's number comes to it.
+pub(crate) const NEVER_DONE: u64 = u64::MAX;
 
 /// The number of a fault. It is never 0, which says that a call was accepted.
 pub(crate) fn code(fault: Fault) -> u32
     ensures number { result ≡ fault_number fault }
-    ensures some { result ≢ 0 }
+    ensures not_zero { result ≢ 0 }
     ensures memory { result ≡ 16 → fault ≡ Fault.NoMemory }
 {
     fault.number()
@@ -20,7 +26,7 @@ pub(crate) fn code(fault: Fault) -> u32
 pub(crate) fn write_out<T: Drop>(returned: Result<T, Fault>, out: &mut T) -> u32
     ensures fault { result ≡ number_for (result_err returned) }
     ensures written { IfOk returned (λ value. out.new ≡ value) }
-    ensures kept { OnErr returned (out.new ≡ out.old) }
+    ensures unchanged { OnErr returned (out.new ≡ out.old) }
 {
     match returned {
         Ok(value) => {

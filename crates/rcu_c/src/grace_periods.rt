@@ -6,12 +6,13 @@ ghost use Rattle.rcu_live.specs.Engine as live;
 ghost use Rattle.rcu_live.specs.Engine.{cpu_refusal, latest_words, latest_word};
 ghost use Rattle.rcu_c.specs.Answers.{collected_number, number_for, turn_of};
 ghost use Rattle.rcu_c.specs.Holding.{HoldsEngine, engine_of, grace_of, on_engine};
+ghost use Rattle.rcu_c.specs.Refusals.{engine_number};
 ghost use Rattle.rcu_c.specs.Staying.{AllStay, BothStay};
 
 use crate::codes::{code, write_out};
 use crate::handle::Rcu;
-use rcu_core::turned::Turned;
-use rcu_live::collection::Collected;
+use rcu_core::Turned;
+use rcu_live::Collected;
 
 /// What a turn did (`rcu_turn_t`).
 #[repr(C)]
@@ -60,9 +61,9 @@ fn collected_in_c(collected: Collected) -> u32
 /// Faults: 8 where one runs; 11 where the number is the last one.
 #[unsafe(no_mangle)]
 pub extern "C" fn rcu_begin(rcu: &mut Rcu, number: &mut u64, awaited: &mut u32) -> u32
-    requires open { HoldsEngine rcu.old.contents }
-    ensures open { HoldsEngine rcu.new.contents }
-    ensures fault { result ≡ number_for (grace.begin_refusal (grace_of rcu.old.contents)) }
+    ensures open { HoldsEngine rcu.old.contents → HoldsEngine rcu.new.contents }
+    ensures fault { result ≡ engine_number rcu.old.contents
+        (number_for (grace.begin_refusal (grace_of rcu.old.contents))) }
     ensures state { result ≡ 0 → rcu.new.contents ≡ on_engine
         (λ e. live.after_begin e (latest_words (engine_of rcu.new.contents))) rcu.old.contents }
     ensures number { result ≡ 0 → number.new ≡ number_of (grace_of rcu.new.contents).seq }
@@ -70,7 +71,11 @@ pub extern "C" fn rcu_begin(rcu: &mut Rcu, number: &mut u64, awaited: &mut u32) 
     ensures unchanged { result ≢ 0 →
         AllStay rcu.old.contents rcu.new.contents number.old number.new awaited.old awaited.new }
 {
-    match rcu.engine().inner.begin() {
+    let opened = match rcu.engine() {
+        Ok(opened) => opened,
+        Err(refusal) => return refusal.number(),
+    };
+    match opened.inner.begin() {
         Ok((begun, waits)) => {
             *number = begun;
             *awaited = waits;
@@ -85,16 +90,19 @@ pub extern "C" fn rcu_begin(rcu: &mut Rcu, number: &mut u64, awaited: &mut u32) 
 /// Faults: 9 where none runs; 10 where a processor is awaited.
 #[unsafe(no_mangle)]
 pub extern "C" fn rcu_end_unfenced(rcu: &mut Rcu, number: &mut u64) -> u32
-    requires open { HoldsEngine rcu.old.contents }
-    ensures open { HoldsEngine rcu.new.contents }
-    ensures fault { result ≡ number_for (grace.end_refusal (grace_of rcu.old.contents)) }
+    ensures open { HoldsEngine rcu.old.contents → HoldsEngine rcu.new.contents }
+    ensures fault { result ≡ engine_number rcu.old.contents
+        (number_for (grace.end_refusal (grace_of rcu.old.contents))) }
     ensures state { result ≡ 0 →
         rcu.new.contents ≡ on_engine (λ e. live.after_end e) rcu.old.contents }
     ensures number { result ≡ 0 → number.new ≡ number_of (grace_of rcu.new.contents).seq }
     ensures unchanged { result ≢ 0 →
         BothStay rcu.old.contents rcu.new.contents number.old number.new }
 {
-    write_out(rcu.engine().inner.end(), number)
+    match rcu.engine() {
+        Ok(opened) => write_out(opened.inner.end(), number),
+        Err(refusal) => refusal.number(),
+    }
 }
 
 /// The running grace period ends where nobody is awaited; where none runs, one begins if it is
@@ -103,9 +111,9 @@ pub extern "C" fn rcu_end_unfenced(rcu: &mut Rcu, number: &mut u64) -> u32
 /// Fault 11: one would begin, and the number is the last one.
 #[unsafe(no_mangle)]
 pub extern "C" fn rcu_turn_unfenced(rcu: &mut Rcu, turn: &mut Turn) -> u32
-    requires open { HoldsEngine rcu.old.contents }
-    ensures open { HoldsEngine rcu.new.contents }
-    ensures fault { result ≡ number_for (grace.turn_refusal (grace_of rcu.old.contents)) }
+    ensures open { HoldsEngine rcu.old.contents → HoldsEngine rcu.new.contents }
+    ensures fault { result ≡ engine_number rcu.old.contents
+        (number_for (grace.turn_refusal (grace_of rcu.old.contents))) }
     ensures state { result ≡ 0 → rcu.new.contents ≡ on_engine
         (λ e. live.after_turn e (latest_words (engine_of rcu.new.contents))) rcu.old.contents }
     ensures turn { result ≡ 0 → turn.new ≡ turn_of
@@ -113,8 +121,10 @@ pub extern "C" fn rcu_turn_unfenced(rcu: &mut Rcu, turn: &mut Turn) -> u32
         (latest_words (engine_of rcu.new.contents))) }
     ensures unchanged { result ≢ 0 → BothStay rcu.old.contents rcu.new.contents turn.old turn.new }
 {
-    let turned = rcu.engine().inner.turn();
-    write_out(turned.map(turn_in_c), turn)
+    match rcu.engine() {
+        Ok(opened) => write_out(opened.inner.turn().map(turn_in_c), turn),
+        Err(refusal) => refusal.number(),
+    }
 }
 
 /// Looks for a quiescent state of a processor, as `Engine::collect`. Writes what it found: 0 idle,
@@ -123,9 +133,9 @@ pub extern "C" fn rcu_turn_unfenced(rcu: &mut Rcu, turn: &mut Turn) -> u32
 /// Fault 1: there is no such processor.
 #[unsafe(no_mangle)]
 pub extern "C" fn rcu_collect(rcu: &mut Rcu, cpu: u32, found: &mut u32) -> u32
-    requires open { HoldsEngine rcu.old.contents }
-    ensures open { HoldsEngine rcu.new.contents }
-    ensures fault { result ≡ number_for (cpu_refusal (engine_of rcu.old.contents) cpu) }
+    ensures open { HoldsEngine rcu.old.contents → HoldsEngine rcu.new.contents }
+    ensures fault { result ≡ engine_number rcu.old.contents
+        (number_for (cpu_refusal (engine_of rcu.old.contents) cpu)) }
     ensures state { result ≡ 0 → rcu.new.contents ≡ on_engine
         (λ e. live.after_collect e cpu (latest_word (engine_of rcu.new.contents)))
         rcu.old.contents }
@@ -135,6 +145,8 @@ pub extern "C" fn rcu_collect(rcu: &mut Rcu, cpu: u32, found: &mut u32) -> u32
     ensures unchanged { result ≢ 0 →
         BothStay rcu.old.contents rcu.new.contents found.old found.new }
 {
-    let collected = rcu.engine().inner.collect(cpu);
-    write_out(collected.map(collected_in_c), found)
+    match rcu.engine() {
+        Ok(opened) => write_out(opened.inner.collect(cpu).map(collected_in_c), found),
+        Err(refusal) => refusal.number(),
+    }
 }

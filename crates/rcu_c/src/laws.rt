@@ -1,10 +1,11 @@
 //! What the definitions of handles say together.
-ghost use Rattle.std.specs.Prelude.{◌≡◌, ◌≢◌, ◌<◌, ℕ, None, Option, Some, false, length};
+ghost use Rattle.std.specs.Prelude.{◌≡◌, ◌≢◌, ◌<◌, ◌≤◌, ◌-◌, ◌^◌, ℕ, None, Option, Some};
+ghost use Rattle.std.specs.Prelude.{false, length};
 ghost use Rattle.atomic_table.specs.Seated.{TableId};
 ghost use Rattle.rcu_seq.specs.Numbers.{Number};
 ghost use Rattle.rcu_seq.specs.Seq.{cookie_of, number_of, tag_of};
 ghost use Rattle.rcu_seq.specs.Tags.{is_done_first};
-ghost use Rattle.rcu_core.specs.GpState.{Grace};
+ghost use Rattle.rcu_core.specs.GpState.{Grace, awaited_in};
 ghost use Rattle.rcu_live.specs.CpuSeat.{Seated};
 ghost use Rattle.rcu_live.specs.Engine as live;
 ghost use Rattle.rcu_live.specs.Engine.{HasWaited, Locked};
@@ -13,13 +14,13 @@ ghost use Rattle.rcu_live.specs.Watcher.{Watching};
 ghost use Rattle.rcu_c.specs.Belonging.{BelongsTo, HasSectionAt, IsEngineAt, IsSameObject, Moment};
 ghost use Rattle.rcu_c.specs.Engines.{EngineAndSeats, opened_at_first, seat_at, with_seat};
 ghost use Rattle.rcu_c.specs.Engines.{without_seat};
-ghost use Rattle.rcu_c.specs.Holding.{engine_of, grace_of, on_cpu, on_engine, on_grace};
-ghost use Rattle.rcu_c.specs.Holding.{on_opened, on_watcher, seat_of};
+ghost use Rattle.rcu_c.specs.Holding.{engine_of, grace_of, never_done, no_engine, no_seat};
+ghost use Rattle.rcu_c.specs.Holding.{on_cpu, on_engine, on_grace, on_opened, on_watcher, seat_of};
 ghost use Rattle.rcu_c.specs.Seats.{Seat, seat_at_first};
 ghost use Rattle.rcu_c.specs.declared.contents.Contents.{Contents};
 ghost use Rattle.rcu_c.specs.declared.identity.Identity.{Identity};
 
-use rcu_live::client::NoClient;
+use rcu_live::NoClient;
 use rcu_live::laws::readers_finish_before_done;
 
 /// A newly opened engine has the seat of each processor to deal. Each is one of its own: it reads
@@ -72,6 +73,22 @@ pub fn seats_stay_of_their_engine()
     ensures watcher { (change : Watching (Unit {0}) → Watching (Unit {0}))
         (seat rcu : Option Contents) →
         BelongsTo seat rcu → BelongsTo (on_watcher change seat) rcu }
+{}
+
+/// What a call says of a handle that it does not take. There is no processor, the number is 0, no
+/// grace period runs, nobody is awaited, and no seat can be dealt. A seat is of no processor, is
+/// offline, and has no section open. A cookie is done at no number that an engine has.
+pub fn what_is_not_open_says_no()
+    ensures cpus { no_engine.engine.cpus ≡ 0 }
+    ensures number { number_of no_engine.engine.grace.seq ≡ 0 }
+    ensures idle { no_engine.engine.grace.seq.running ≡ false }
+    ensures awaited { awaited_in no_engine.engine.grace ≡ 0 }
+    ensures seats { (cpu : ℕ) → seat_at no_engine cpu ≡ None }
+    ensures cpu { no_seat.cpu.cpu ≡ 2 ^ 32 - 1 }
+    ensures outside { no_seat.cpu.depth ≡ 0 }
+    ensures offline { no_seat.cpu.view.own_word ≡ 0 }
+    ensures never { (number : ℕ) → number ≤ 2 ^ 62 →
+        is_done_first (record { epoch = 0; number = never_done }) number ≡ false }
 {}
 
 /// A section that was open as a cookie was taken, or a value queued, is open still: then `rcu_poll`

@@ -1,6 +1,9 @@
 //! The running engine for C programs (`include/rcu.h`): each export calls a call of `rcu_live`'s
 //! engine or of a seat, and states its clauses again. No export makes a fence: round those whose
 //! names end in `_unfenced` the header does, by functions of the names without that.
+//!
+//! Of a handle that is closed (fault 27), or of the other kind (28), a call says so before all
+//! else, and changes nothing. One that returns no fault says what it says of no processor.
 #![tactic(auto)]
 
 pub mod barriers;

@@ -4,8 +4,8 @@ ghost use Rattle.rcu_c.specs.Engines.{is_own, seat_at, with_seat, without_seat};
 
 use crate::identity::Identity;
 use crate::seat_parts::SeatParts;
-use rcu_live::engine::Engine;
-use rcu_node::tree::Tree;
+use rcu_live::Engine;
+use rcu_node::Tree;
 use std::marker::Model;
 
 /// The running engine over the tree of Linux's fanouts, with numbers as callbacks.
@@ -75,7 +75,7 @@ impl OpenEngine {
     /// The processor's seat, where it is not dealt yet.
     pub(crate) fn deal(&mut self, cpu: u32) -> Option<SeatParts>
         ensures seat { result ≡ seat_at self.old cpu }
-        ensures left { self.new ≡ without_seat self.old cpu }
+        ensures state { self.new ≡ without_seat self.old cpu }
     {
         match self.seats.get_mut(cpu as usize) {
             Some(seat) => seat.take(),

@@ -13,7 +13,8 @@ ghost use Rattle.rcu_c.specs.Answers.{number_for, number_in_c, tested_number};
 ghost use Rattle.rcu_c.specs.Engines.{opened_at_first, seat_at, with_seat, without_seat};
 ghost use Rattle.rcu_c.specs.Holding.{HoldsEngine, HoldsSeat, engine_of, on_opened, opened_of};
 ghost use Rattle.rcu_c.specs.Holding.{seat_of};
-ghost use Rattle.rcu_c.specs.Refusals.{deal_refusal, return_refusal};
+ghost use Rattle.rcu_c.specs.Refusals.{deal_refusal, engine_number, engine_refusal};
+ghost use Rattle.rcu_c.specs.Refusals.{return_refusal, seat_refusal};
 ghost use Rattle.rcu_c.specs.Seats.{seat_at_first};
 ghost use Rattle.rcu_c.specs.Staying.{BothStay};
 
@@ -25,11 +26,8 @@ use crate::open_engine::OpenEngine;
 use crate::raw_box::RawBox;
 use crate::refusal::Refusal;
 use crate::seat_parts::SeatParts;
-use rcu_live::board::Board;
-use rcu_live::cpu_seat::CpuSeat;
-use rcu_live::parts::Parts;
-use rcu_live::watcher::Watcher;
-use rcu_seq::fault::Fault;
+use rcu_live::{Board, CpuSeat, Parts, Watcher};
+use rcu_seq::Fault;
 use std::alloc::{AllocError, Global};
 use std::sync::Arc;
 
@@ -86,7 +84,7 @@ fn make_seats(
 
 /// The engine, with a seat for each processor.
 fn make_engine(alloc: Global, cpus: u32, last: u64, identity: Identity) -> Result<OpenEngine, Fault>
-    ensures ok { IfOk result (λ made.
+    ensures state { IfOk result (λ made.
         made ≡ opened_at_first identity made.engine.table cpus last) }
     ensures fault { tested_fault result ≡ opening_refusal 16 64 cpus last }
 {
@@ -156,13 +154,16 @@ pub extern "C" fn rcu_open_as(
 }
 
 /// Closes an engine's handle, and frees all that it has, beside what its seats that are still open
-/// read.
+/// read. Another handle stays as it is.
 #[unsafe(no_mangle)]
 pub extern "C" fn rcu_close(alloc: Global, rcu: &mut Rcu)
-    requires open { HoldsEngine rcu.old.contents }
-    ensures closed { IsNone rcu.new.contents }
+    ensures closed { engine_refusal rcu.old.contents ≡ None → IsNone rcu.new.contents }
+    ensures unchanged { engine_refusal rcu.old.contents ≢ None →
+        rcu.new.contents ≡ rcu.old.contents }
 {
-    drop(rcu.close(alloc).into_box());
+    if rcu.holds_engine() {
+        drop(rcu.close(alloc).into_box());
+    }
 }
 
 /// Takes the seat of a processor out of the engine, and puts it into a box.
@@ -174,9 +175,9 @@ fn deal_seat(
     ensures open { IfOk result (λ contents. HoldsSeat (Some contents.value)) }
     ensures seat { IfOk result (λ contents.
         seat_at opened.old cpu ≡ Some (seat_of (Some contents.value))) }
-    ensures left { OnOk result (opened.new ≡ without_seat opened.old cpu) }
+    ensures state { OnOk result (opened.new ≡ without_seat opened.old cpu) }
     ensures dealt { OnOk result (deal_refusal opened.old cpu ≡ None) }
-    ensures refused { IfErr result (λ refusal. deal_refusal opened.old cpu ≢ None →
+    ensures fault { IfErr result (λ refusal. deal_refusal opened.old cpu ≢ None →
         deal_refusal opened.old cpu ≡ Some refusal) }
     ensures memory { IfErr result (λ refusal. deal_refusal opened.old cpu ≡ None →
         refusal ≡ Refusal.Engine Fault.NoMemory) }
@@ -198,7 +199,7 @@ fn deal_into(contents: &mut Contents, opened: &mut OpenEngine, cpu: u32)
     requires { seat_at opened.old cpu ≢ None }
     ensures open { HoldsSeat (Some contents.new) }
     ensures seat { seat_at opened.old cpu ≡ Some (seat_of (Some contents.new)) }
-    ensures left { opened.new ≡ without_seat opened.old cpu }
+    ensures state { opened.new ≡ without_seat opened.old cpu }
 {
     let Some(dealt) = opened.deal(cpu) else {
         unreachable!()
@@ -213,10 +214,9 @@ fn deal_into(contents: &mut Contents, opened: &mut OpenEngine, cpu: u32)
 /// handles as they were.
 #[unsafe(no_mangle)]
 pub extern "C" fn rcu_seat_open(alloc: Global, rcu: &mut Rcu, cpu: u32, seat: &mut RcuSeat) -> u32
-    requires open { HoldsEngine rcu.old.contents }
     requires closed { IsNone seat.old.contents }
-    ensures fault { tested_number result ≡
-        number_in_c (deal_refusal (opened_of rcu.old.contents) cpu) }
+    ensures fault { tested_number result ≡ engine_number rcu.old.contents
+        (number_in_c (deal_refusal (opened_of rcu.old.contents) cpu)) }
     ensures open { result ≡ 0 → HoldsSeat seat.new.contents }
     ensures seat { result ≡ 0 →
         seat_at (opened_of rcu.old.contents) cpu ≡ Some (seat_of seat.new.contents) }
@@ -225,7 +225,11 @@ pub extern "C" fn rcu_seat_open(alloc: Global, rcu: &mut Rcu, cpu: u32, seat: &m
     ensures unchanged { result ≢ 0 →
         BothStay rcu.old.contents rcu.new.contents seat.old.contents seat.new.contents }
 {
-    match deal_seat(alloc, rcu.engine(), cpu) {
+    let opened = match rcu.engine() {
+        Ok(opened) => opened,
+        Err(refusal) => return refusal.number(),
+    };
+    match deal_seat(alloc, opened, cpu) {
         Ok(contents) => {
             put(seat, contents);
             0
@@ -238,11 +242,13 @@ pub extern "C" fn rcu_seat_open(alloc: Global, rcu: &mut Rcu, cpu: u32, seat: &m
 /// dealt.
 #[unsafe(no_mangle)]
 pub extern "C" fn rcu_has_seat(rcu: &mut Rcu, cpu: u32) -> bool
-    requires open { HoldsEngine rcu.old.contents }
-    ensures kept { rcu.new.contents ≡ rcu.old.contents }
+    ensures unchanged { rcu.new.contents ≡ rcu.old.contents }
     ensures value { result ≡ is_some (seat_at (opened_of rcu.old.contents) cpu) }
 {
-    rcu.engine().has_seat(cpu)
+    match rcu.engine() {
+        Ok(opened) => opened.has_seat(cpu),
+        Err(_) => false,
+    }
 }
 
 /// Hands a seat back to the engine that dealt it, which deals it again as it stands, and closes its
@@ -251,8 +257,6 @@ pub extern "C" fn rcu_has_seat(rcu: &mut Rcu, cpu: u32) -> bool
 /// Fault 26: the seat is of another engine. The handles then stay as they were.
 #[unsafe(no_mangle)]
 pub extern "C" fn rcu_seat_return(alloc: Global, rcu: &mut Rcu, seat: &mut RcuSeat) -> u32
-    requires open { HoldsEngine rcu.old.contents }
-    requires seat { HoldsSeat seat.old.contents }
     ensures fault { result ≡ number_in_c (return_refusal rcu.old.contents seat.old.contents) }
     ensures state { result ≡ 0 → rcu.new.contents ≡
         on_opened (λ o. with_seat o (seat_of seat.old.contents)) rcu.old.contents }
@@ -260,8 +264,15 @@ pub extern "C" fn rcu_seat_return(alloc: Global, rcu: &mut Rcu, seat: &mut RcuSe
     ensures unchanged { result ≢ 0 →
         BothStay rcu.old.contents rcu.new.contents seat.old.contents seat.new.contents }
 {
-    let opened = rcu.engine();
-    if !opened.owns(seat.seat()) {
+    let opened = match rcu.engine() {
+        Ok(opened) => opened,
+        Err(refusal) => return refusal.number(),
+    };
+    let parts = match seat.seat() {
+        Ok(parts) => parts,
+        Err(refusal) => return refusal.number(),
+    };
+    if !opened.owns(parts) {
         return Refusal::OtherEngine.number();
     }
     let mut contents = seat.close(alloc).into_box();
@@ -270,11 +281,15 @@ pub extern "C" fn rcu_seat_return(alloc: Global, rcu: &mut Rcu, seat: &mut RcuSe
 }
 
 /// Closes a seat's handle: nobody has its seat any more. Its processor goes on as it stands: an
-/// online one is awaited by the next grace period, and passes no quiescent state any more.
+/// online one is awaited by the next grace period, and passes no quiescent state any more. Another
+/// handle stays as it is.
 #[unsafe(no_mangle)]
 pub extern "C" fn rcu_seat_close(alloc: Global, seat: &mut RcuSeat)
-    requires open { HoldsSeat seat.old.contents }
-    ensures closed { IsNone seat.new.contents }
+    ensures closed { seat_refusal seat.old.contents ≡ None → IsNone seat.new.contents }
+    ensures unchanged { seat_refusal seat.old.contents ≢ None →
+        seat.new.contents ≡ seat.old.contents }
 {
-    drop(seat.close(alloc).into_box());
+    if seat.holds_seat() {
+        drop(seat.close(alloc).into_box());
+    }
 }

@@ -7,7 +7,7 @@ ghost use Rattle.rcu_live.specs.Engine.{latest_word};
 ghost use Rattle.rcu_live.specs.EngineLists as live;
 ghost use Rattle.rcu_live.specs.EngineLists.{leave_refusal};
 ghost use Rattle.rcu_c.specs.Answers.{number_for, number_in_c};
-ghost use Rattle.rcu_c.specs.Holding.{AcceptedAt, HoldsEngine, HoldsSeat, cpu_of, engine_of};
+ghost use Rattle.rcu_c.specs.Holding.{AcceptedAt, cpu_of, engine_of};
 ghost use Rattle.rcu_c.specs.Holding.{grace_of, on_cpu, on_engine, on_grace};
 ghost use Rattle.rcu_c.specs.Refusals.{coming_refusal, going_refusal};
 ghost use Rattle.rcu_c.specs.Staying.{BothStay};
@@ -22,8 +22,6 @@ use crate::refusal::Refusal;
 /// Faults: 26 where the seat is of another engine; 3 where the processor is online.
 #[unsafe(no_mangle)]
 pub extern "C" fn rcu_arrive_unfenced(rcu: &mut Rcu, seat: &mut RcuSeat) -> u32
-    requires open { HoldsEngine rcu.old.contents }
-    requires seat { HoldsSeat seat.old.contents }
     ensures fault { result ≡ number_in_c (coming_refusal rcu.old.contents seat.old.contents) }
     ensures state { result ≡ 0 → rcu.new.contents ≡
         on_grace (λ g. live.with_arrival g (cpu_of seat.old.contents).cpu) rcu.old.contents }
@@ -32,7 +30,14 @@ pub extern "C" fn rcu_arrive_unfenced(rcu: &mut Rcu, seat: &mut RcuSeat) -> u32
     ensures unchanged { result ≢ 0 →
         BothStay rcu.old.contents rcu.new.contents seat.old.contents seat.new.contents }
 {
-    let (engine, seat) = (rcu.engine(), seat.seat());
+    let engine = match rcu.engine() {
+        Ok(engine) => engine,
+        Err(refusal) => return refusal.number(),
+    };
+    let seat = match seat.seat() {
+        Ok(seat) => seat,
+        Err(refusal) => return refusal.number(),
+    };
     if !engine.owns(seat) {
         return Refusal::OtherEngine.number();
     }
@@ -51,8 +56,6 @@ pub extern "C" fn rcu_arrive_unfenced(rcu: &mut Rcu, seat: &mut RcuSeat) -> u32
 /// now on, and the same call again finishes that. 3 is never met.
 #[unsafe(no_mangle)]
 pub extern "C" fn rcu_depart(rcu: &mut Rcu, seat: &mut RcuSeat, moved: &mut u64) -> u32
-    requires open { HoldsEngine rcu.old.contents }
-    requires seat { HoldsSeat seat.old.contents }
     ensures seat_fault { going_refusal rcu.old.contents seat.old.contents ≢ None →
         result ≡ number_in_c (going_refusal rcu.old.contents seat.old.contents) }
     ensures unchanged { going_refusal rcu.old.contents seat.old.contents ≢ None →
@@ -84,7 +87,14 @@ pub extern "C" fn rcu_depart(rcu: &mut Rcu, seat: &mut RcuSeat, moved: &mut u64)
         (latest_word (engine_of rcu.new.contents))) rcu.old.contents }
     ensures unchanged_moved { result ≢ 0 → moved.new ≡ moved.old }
 {
-    let (opened, seat) = (rcu.engine(), seat.seat());
+    let opened = match rcu.engine() {
+        Ok(opened) => opened,
+        Err(refusal) => return refusal.number(),
+    };
+    let seat = match seat.seat() {
+        Ok(seat) => seat,
+        Err(refusal) => return refusal.number(),
+    };
     if !opened.owns(seat) {
         return Refusal::OtherEngine.number();
     }

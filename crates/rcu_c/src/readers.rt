@@ -1,102 +1,123 @@
 //! What an engine says of itself, and cookies under its lock.
-ghost use Rattle.std.specs.Prelude.{◌≡◌, ◌<◌, ◌≤◌, false};
+ghost use Rattle.std.specs.Prelude.{◌≡◌, ◌≢◌, ◌<◌, ◌≤◌, None, false};
 ghost use Rattle.rcu_seq.specs.Seq.{cookie_of, number_of};
 ghost use Rattle.rcu_seq.specs.Tags.{is_done_first};
 ghost use Rattle.rcu_node.specs.CpuSet.{is_in};
 ghost use Rattle.rcu_core.specs.GpState.{awaited_in};
-ghost use Rattle.rcu_c.specs.Holding.{HoldsEngine, engine_of, grace_of};
+ghost use Rattle.rcu_c.specs.Holding.{engine_of, grace_of, never_done};
+ghost use Rattle.rcu_c.specs.Refusals.{engine_refusal};
 
+use crate::codes::NEVER_DONE;
 use crate::handle::Rcu;
-use rcu_node::awaited::Awaited;
-use rcu_seq::cookie::Cookie;
+use rcu_node::Awaited;
+use rcu_seq::Cookie;
 
 /// The number of processors.
 #[unsafe(no_mangle)]
 pub extern "C" fn rcu_cpus(rcu: &mut Rcu) -> u32
-    requires open { HoldsEngine rcu.old.contents }
-    ensures kept { rcu.new.contents ≡ rcu.old.contents }
+    ensures unchanged { rcu.new.contents ≡ rcu.old.contents }
     ensures value { result ≡ (engine_of rcu.old.contents).cpus }
 {
-    rcu.engine().inner.cpus()
+    match rcu.engine() {
+        Ok(opened) => opened.inner.cpus(),
+        Err(_) => 0,
+    }
 }
 
 /// The grace-period number.
 #[unsafe(no_mangle)]
 pub extern "C" fn rcu_number(rcu: &mut Rcu) -> u64
-    requires open { HoldsEngine rcu.old.contents }
-    ensures kept { rcu.new.contents ≡ rcu.old.contents }
+    ensures unchanged { rcu.new.contents ≡ rcu.old.contents }
     ensures value { result ≡ number_of (grace_of rcu.old.contents).seq }
 {
-    rcu.engine().inner.grace().value()
+    match rcu.engine() {
+        Ok(opened) => opened.inner.grace().value(),
+        Err(_) => 0,
+    }
 }
 
 /// Whether a grace period runs.
 #[unsafe(no_mangle)]
 pub extern "C" fn rcu_running(rcu: &mut Rcu) -> bool
-    requires open { HoldsEngine rcu.old.contents }
-    ensures kept { rcu.new.contents ≡ rcu.old.contents }
+    ensures unchanged { rcu.new.contents ≡ rcu.old.contents }
     ensures value { result ≡ (grace_of rcu.old.contents).seq.running }
 {
-    rcu.engine().inner.grace().is_running()
+    match rcu.engine() {
+        Ok(opened) => opened.inner.grace().is_running(),
+        Err(_) => false,
+    }
 }
 
 /// Whether the processor is online in the engine, where there is such a processor.
 #[unsafe(no_mangle)]
 pub extern "C" fn rcu_online(rcu: &mut Rcu, cpu: u32) -> bool
-    requires open { HoldsEngine rcu.old.contents }
-    ensures kept { rcu.new.contents ≡ rcu.old.contents }
+    ensures unchanged { rcu.new.contents ≡ rcu.old.contents }
     ensures value { cpu < (engine_of rcu.old.contents).cpus →
         result ≡ is_in (grace_of rcu.old.contents).processors.online cpu }
-    ensures none { (engine_of rcu.old.contents).cpus ≤ cpu → result ≡ false }
+    ensures no_such_cpu { (engine_of rcu.old.contents).cpus ≤ cpu → result ≡ false }
 {
-    let engine = &rcu.engine().inner;
-    cpu < engine.cpus() && engine.grace().online(cpu)
+    match rcu.engine() {
+        Ok(opened) => cpu < opened.cpus() && opened.inner.grace().online(cpu),
+        Err(_) => false,
+    }
 }
 
 /// Whether the processor is awaited, where there is such a processor.
 #[unsafe(no_mangle)]
 pub extern "C" fn rcu_awaits(rcu: &mut Rcu, cpu: u32) -> bool
-    requires open { HoldsEngine rcu.old.contents }
-    ensures kept { rcu.new.contents ≡ rcu.old.contents }
+    ensures unchanged { rcu.new.contents ≡ rcu.old.contents }
     ensures value { cpu < (engine_of rcu.old.contents).cpus →
         result ≡ is_in (grace_of rcu.old.contents).processors.awaited cpu }
-    ensures none { (engine_of rcu.old.contents).cpus ≤ cpu → result ≡ false }
+    ensures no_such_cpu { (engine_of rcu.old.contents).cpus ≤ cpu → result ≡ false }
 {
-    let engine = &rcu.engine().inner;
-    cpu < engine.cpus() && engine.grace().awaited().awaits(cpu)
+    match rcu.engine() {
+        Ok(opened) => cpu < opened.cpus() && opened.inner.grace().awaited().awaits(cpu),
+        Err(_) => false,
+    }
 }
 
 /// How many processors are awaited.
 #[unsafe(no_mangle)]
 pub extern "C" fn rcu_awaited(rcu: &mut Rcu) -> u32
-    requires open { HoldsEngine rcu.old.contents }
-    ensures kept { rcu.new.contents ≡ rcu.old.contents }
+    ensures unchanged { rcu.new.contents ≡ rcu.old.contents }
     ensures value { result ≡ awaited_in (grace_of rcu.old.contents) }
 {
-    rcu.engine().inner.grace().awaited().count()
+    match rcu.engine() {
+        Ok(opened) => opened.inner.grace().awaited().count(),
+        Err(_) => 0,
+    }
 }
 
-/// The cookie of a taking now, as `GpState::take`.
+/// The cookie of a taking now, as `GpState::take`. It is never done where the handle is no open
+/// engine's.
 #[unsafe(no_mangle)]
 pub extern "C" fn rcu_take(rcu: &mut Rcu) -> u64
-    requires open { HoldsEngine rcu.old.contents }
-    ensures kept { rcu.new.contents ≡ rcu.old.contents }
-    ensures cookie { result ≡ (cookie_of (grace_of rcu.old.contents).seq).number }
+    ensures unchanged { rcu.new.contents ≡ rcu.old.contents }
+    ensures cookie { engine_refusal rcu.old.contents ≡ None →
+        result ≡ (cookie_of (grace_of rcu.old.contents).seq).number }
+    ensures not_taken { engine_refusal rcu.old.contents ≢ None → result ≡ never_done }
 {
-    rcu.engine().inner.grace().take().number
+    match rcu.engine() {
+        Ok(opened) => opened.inner.grace().take().number,
+        Err(_) => NEVER_DONE,
+    }
 }
 
-/// Whether a cookie is done, as `GpState::done`.
+/// Whether a cookie is done, as `GpState::done`. It is not where the handle is no open engine's.
 #[unsafe(no_mangle)]
 pub extern "C" fn rcu_poll(rcu: &mut Rcu, cookie: u64) -> bool
-    requires open { HoldsEngine rcu.old.contents }
-    ensures kept { rcu.new.contents ≡ rcu.old.contents }
-    ensures done { result ≡ is_done_first (record { epoch = 0; number = cookie })
+    ensures unchanged { rcu.new.contents ≡ rcu.old.contents }
+    ensures done { engine_refusal rcu.old.contents ≡ None →
+        result ≡ is_done_first (record { epoch = 0; number = cookie })
         (number_of (grace_of rcu.old.contents).seq) }
+    ensures not_taken { engine_refusal rcu.old.contents ≢ None → result ≡ false }
 {
     let cookie = Cookie {
         epoch: 0,
         number: cookie,
     };
-    rcu.engine().inner.grace().done(cookie)
+    match rcu.engine() {
+        Ok(opened) => opened.inner.grace().done(cookie),
+        Err(_) => false,
+    }
 }

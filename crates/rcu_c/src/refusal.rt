@@ -2,7 +2,7 @@
 ghost use Rattle.std.specs.Prelude.{◌≡◌};
 ghost use Rattle.rcu_c.specs.Answers.{refusal_number};
 
-use rcu_seq::fault::Fault;
+use rcu_seq::Fault;
 use std::alloc::AllocFailed;
 
 /// Why a call is refused in C.
@@ -14,10 +14,14 @@ pub enum Refusal {
     SeatDealt,
     /// The seat is of another engine.
     OtherEngine,
+    /// The handle is closed.
+    Closed,
+    /// The handle is of the other kind.
+    OtherKind,
 }
 
 impl Refusal {
-    /// The number that C is told: no fault of the engine has one of the last two.
+    /// The number that C is told: no fault of the engine has one of the last four.
     pub(crate) fn number(self) -> u32
         ensures { result ≡ refusal_number self }
     {
@@ -25,6 +29,8 @@ impl Refusal {
             Refusal::Engine(fault) => fault.number(),
             Refusal::SeatDealt => 25,
             Refusal::OtherEngine => 26,
+            Refusal::Closed => 27,
+            Refusal::OtherKind => 28,
         }
     }
 }

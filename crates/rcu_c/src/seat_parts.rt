@@ -3,9 +3,7 @@ ghost use Rattle.std.specs.Prelude.{◌≡◌, ◌<◌};
 ghost use Rattle.std.specs.Arc.{arc_value};
 
 use crate::identity::Identity;
-use rcu_live::board::Board;
-use rcu_live::cpu_seat::CpuSeat;
-use rcu_live::watcher::Watcher;
+use rcu_live::{Board, CpuSeat, Watcher};
 use std::alloc::Global;
 use std::marker::Model;
 use std::sync::Arc;

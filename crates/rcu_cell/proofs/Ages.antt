@@ -1,15 +1,16 @@
 -- Looks at the number, one after another.
-use Rattle.std.proofs.Common.{◌≡◌, ◌≤◌, ◌+◌, Bool, true, false, if◌then◌else◌, List, [], ◌∷◌, refl, sym, ap, ◌∙◌, arith, inl, inr}
-use Rattle.std.proofs.Common.{Result, Ok, Err, OnOk, OnErr, subst}
+use Rattle.std.proofs.Common.{◌≡◌, ◌≤◌, ◌+◌, Bool, true, if◌then◌else◌, List, [], ◌∷◌, refl, sym, ap, ◌∙◌, arith, inl, inr}
+use Rattle.std.proofs.Common.{◌⊎◌, Result, Ok, Err, OnOk, OnErr, subst}
 use Rattle.std.proofs.lemmas.Bool.{cases_Bool}
 use Rattle.std.proofs.lemmas.Bool.Decides.{nat_tests}
 use Rattle.rcu_seq.specs.Numbers.{Number}
 use Rattle.rcu_seq.specs.declared.fault.Fault.{Fault}
 use Rattle.rcu_live.specs.CpuSeat.{AcceptedAt, Seated}
 use Rattle.rcu_live.specs.Numbers.{is_past}
-use Rattle.rcu_live.specs.Waits.{HasRested, after_rests}
+use Rattle.rcu_live.specs.Waits.{AreRounds, HasRested, after_rests}
 use Rattle.rcu_live.specs.Watcher.{Watching}
-use Rattle.rcu_live.proofs.WaitLemmas.{rested_more}
+use Rattle.rcu_live.proofs.ClientLemmas.{not_past}
+use Rattle.rcu_live.proofs.WaitLemmas.{rested_more, rounds_more, rounds_then_look}
 use Rattle.rcu_cell.specs.Keeper.{after_age}
 use Rattle.rcu_cell.specs.Versions.{aged, aged_state, slot_in, slots_in}
 use Rattle.rcu_cell.specs.Waits.{HasAged}
@@ -19,12 +20,9 @@ use Rattle.rcu_cell.specs.declared.known.Version.{Version}
 use Rattle.rcu_cell.specs.declared.slot_state.SlotState.{SlotState}
 use Rattle.rcu_cell.specs.declared.slot_state.SlotState.TheVariants.{Free, Shown, Replaced, Retired}
 
--- what is past at a number is past at each later one, and no number is past at itself
+-- what is past at a number is past at each later one
 past_later : (at last n : Number) → last ≤ n → is_past at last ≡ true → is_past at n ≡ true
 past_later at last n later past = grind (arith, nat_tests)
-
-not_past_itself : (n : Number) → is_past n n ≡ false
-not_past_itself n = grind (arith, nat_tests)
 
 -- a look in between makes no difference to a slot that was looked at before
 retired_again : (at last n : Number) → last ≤ n → aged_state n (aged_state last (Retired at)) ≡ aged_state n (Retired at)
@@ -51,7 +49,7 @@ state_again first last n (Retired at) later = elim (cases_Bool (is_past at first
 state_twice : (n : Number) (s : SlotState) → aged_state n (aged_state n s) ≡ aged_state n s
 state_twice n Free = refl
 state_twice n Shown = refl
-state_twice n Replaced = ap (λ (b : Bool). if b then Free else Retired n) (not_past_itself n)
+state_twice n Replaced = ap (λ (b : Bool). if b then Free else Retired n) (not_past n)
 state_twice n (Retired at) = elim (cases_Bool (is_past at n)) [
   | inl past ↦ ap (λ (b : Bool). aged_state n (if b then Free else Retired at)) past
       ∙ sym (ap (λ (b : Bool). if b then Free else Retired at) past)
@@ -114,3 +112,20 @@ pub rested_round : {C T : Type 0} (r : Result T Fault) (s t u : Seated C) → Ha
     → OnOk r (AcceptedAt (λ (v : Seated C) (n : Number). after_rests v 1 n) t u.view.seen u) → OnErr r (u ≡ t) → HasRested s u
 rested_round (Ok _) s t u rested state same = rested_more s t u rested state.later state.state
 rested_round (Err _) s t u rested state same = subst (HasRested s) (sym same) rested
+
+-- and the looks beside it
+pub rounds_round : {C T : Type 0} (r : Result T Fault) (s t u : Seated C) (w v x : Watching C) → AreRounds 1 s t w v
+    → OnOk r (AcceptedAt (λ (y : Seated C) (n : Number). after_rests y 1 n) t u.view.seen u) → OnErr r (u ≡ t)
+    → x.view.loads ≡ v.view.loads + 1 → OnOk r (AreRounds 1 s u w x) × OnErr r (AreRounds 2 s u w x)
+rounds_round (Ok _) s t u w v x rounds state same looks = (rounds_more 1 s t u w v x rounds state.state looks, tt)
+rounds_round (Err _) s t u w v x rounds state same looks =
+    let next = rounds_then_look 1 2 s t w v x (omega arith) rounds looks in
+    (tt, subst (λ (y : Seated _). AreRounds 2 s y w x) (sym same) next)
+
+pub rounds_at_end : {C T : Type 0} (r : Result T Fault) (s t : Seated C) (w v x : Watching C)
+    → OnOk r (AreRounds 1 s t w v) → OnErr r (AreRounds 2 s t w v) → x.view.loads ≡ v.view.loads
+    → AreRounds 1 s t w x ⊎ AreRounds 2 s t w x
+rounds_at_end (Ok _) s t w v x rounds last same =
+    inl (λ outside awake. let old = rounds outside awake in omega (arith, old, same))
+rounds_at_end (Err _) s t w v x rounds last same =
+    inr (λ outside awake. let old = last outside awake in omega (arith, old, same))

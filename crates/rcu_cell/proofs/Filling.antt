@@ -2,12 +2,12 @@
 use Rattle.std.proofs.Common.{◌≡◌, ◌≢◌, ℕ, ◌+◌, ◌<◌, List, length, get_or, set, refl, sym, ap, ◌∙◌, subst, arith}
 use Rattle.std.proofs.Common.{length-set}
 use Rattle.std.specs.Prelude.{slice_index}
-use Rattle.std.proofs.lemmas.List.{ext_get_or, get_or-set_other, get_or-set_same, set-get_or, set-set}
+use Rattle.std.proofs.lemmas.List.{get_or-set_other, get_or-set_same, set-get_or, set-set}
 use mathlib.Core.Logic.{dite}
 use native.Mathlib.Decide.{ℕ_discrete}
 use Rattle.rcu_live.specs.Board.{Object}
 use Rattle.rcu_live.specs.Watcher.{IsWatcherOf, Watching, after_word_step}
-use Rattle.rcu_cell.specs.Keeper.{KeepsFree}
+use Rattle.rcu_cell.specs.Keeper.{MayFill}
 use Rattle.rcu_cell.specs.Versions.{IsKeeping, filled, no_version, slot_in, slots_in, version_at, with_word}
 use Rattle.rcu_cell.specs.declared.known.Known.{Known}
 use Rattle.rcu_cell.specs.declared.known.Known.TheVariants.{Idle, Owner, Reader, Keeper}
@@ -58,20 +58,13 @@ stored_more old words k x low is before j small = dite (ℕ_discrete j k)
     (λ (e : j ≡ k). subst (λ (m : ℕ). get_or (set old k x) m 0 ≡ get_or words m 0) (sym e) (get_or-set_same old k x 0 low ∙ is))
     (λ (apart : j ≢ k). get_or-set_other old k j x 0 apart ∙ before j (omega (arith, small, apart)))
 
-pub stored_all : (old words : List ℕ) (width : ℕ) → length old ≡ width → length words ≡ width
-    → ((j : ℕ) → j < width → slice_index old j ≡ slice_index words j) → old ≡ words
-stored_all old words width a b same = ext_get_or 0 old words (a ∙ sym b) (λ j low. same j (omega (arith, low, a)))
-
--- a seat that is to store one more word of the slot
-pub record IsReady (o : Object) (seat : Watching Known) (i : ℕ) : Type 0 where
-  pub seat_of : IsWatcherOf o seat
-  pub keeps : KeepsFree seat.view.client i
-
-pub ready : (o : Object) (old now : Watching Known) (c i : ℕ) (s : List Version) (words : List ℕ)
+-- the slot may be stored to still
+pub may_fill_still : (o : Object) (count : ℕ) (old now : Watching Known) (c i : ℕ) (s : List Version) (words : List ℕ)
     → now ≡ after_word_step old (Keeper c (filled s i words))
-    → IsWatcherOf o old → i < length s → IsReady o now i
-ready o old now c i s words is seat low = subst (λ (w : Watching Known). IsReady o w i) (sym is) record {
+    → IsWatcherOf o old → i < count → i < length s → MayFill o count now i
+may_fill_still o count old now c i s words is seat inside low = subst (λ (w : Watching Known). MayFill o count w i) (sym is) record {
   seat_of = seat;
+  inside = inside;
   keeps = record {
     keeps = tt;
     inside = let long = filled_long s i words in omega (arith, long, low);

@@ -20,12 +20,6 @@ at_map_or f [] i d = refl
 at_map_or f (x ∷ xs) zero d = refl
 at_map_or f (x ∷ xs) (suc i) d = at_map_or f xs i d
 
--- inside a list the default makes no difference
-pub no_default : {A : Type 0} (l : List A) (i : ℕ) (d e : A) → i < length l → get_or l i d ≡ get_or l i e
-no_default [] i d e low = absurd (omega (arith, low))
-no_default (x ∷ xs) zero d e low = refl
-no_default (x ∷ xs) (suc i) d e low = no_default xs i d e (omega (arith, low))
-
 -- the state at a place is that of the version
 pub state_at : (s : List Version) (items : List SlotState) (i : ℕ) → map state_of s ≡ items
     → get_or items i Free ≡ (version_at s i).state

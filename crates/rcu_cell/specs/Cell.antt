@@ -3,8 +3,9 @@ use Rattle.std.specs.Prelude.{◌≡◌, ◌+◌, ℕ, IsSome, None}
 use Rattle.rcu_seq.specs.Numbers.{Number}
 use Rattle.rcu_live.specs.Board.{Object}
 pub use Rattle.rcu_live.specs.CpuSeat.{IsSeatOf}
-use Rattle.rcu_live.specs.CpuSeat.{Seated}
+use Rattle.rcu_live.specs.CpuSeat.{Seated, after_word_step}
 pub use Rattle.rcu_live.specs.Watcher.{IsWatcherOf}
+use Rattle.rcu_live.specs.Watcher.{Watching}
 use Rattle.rcu_cell.specs.Versions.{IsReading, slot_in}
 use Rattle.rcu_cell.specs.declared.known.Known.{Known}
 use Rattle.rcu_cell.specs.declared.known.Known.TheVariants.{Idle}
@@ -22,6 +23,16 @@ pub record MayLoad (cell : Object) (seat : Seated Known) : Type 0 where
 pub record IsOutside (cell : Object) (seat : Seated Known) : Type 0 where
   pub seat_of : IsSeatOf cell seat
   pub outside : seat.depth ≡ 0
+
+-- a keeper of the cell, by its seat, and a processor's seat of it
+pub record AreOf (cell : Object) (keeper : Watching Known) (seat : Seated Known) : Type 0 where
+  pub keeper_of : IsWatcherOf cell keeper
+  pub seat_of : IsSeatOf cell seat
+
+-- the open section reads a version from now on, and nothing else of its seat changed
+pub record ReadsOn (before after : Seated Known) : Type 0 where
+  pub state : after ≡ after_word_step before after.view.client
+  pub reading : IsReading after.view.client
 
 -- the seat reads the version of this slot
 abbrev pub ReadsSlot : Seated Known → ℕ → Type 0

@@ -1,7 +1,9 @@
 -- What a keeper's calls leave.
 use Rattle.std.specs.Prelude.{◌≡◌, ℕ, ◌^◌, ◌<◌, ◌≤◌, true, false, List, length}
 use Rattle.rcu_seq.specs.Numbers.{Number}
-use Rattle.rcu_live.specs.Watcher.{Watching, after_number_step, after_word_step}
+use Rattle.rcu_live.specs.Board.{Object}
+use Rattle.rcu_live.specs.Watcher.{IsWatcherOf, KnowsBy, Watching, after_number_step, after_word_step}
+use Rattle.rcu_cell.specs.Steps.{IsClaimed}
 use Rattle.rcu_cell.specs.Versions.{IsKeeping, aged, filled, is_free, published, slot_in, slots_in, version_at}
 use Rattle.rcu_cell.specs.declared.keeper.Retired.{Retired}
 use Rattle.rcu_cell.specs.declared.known.Known.{Known}
@@ -20,6 +22,17 @@ pub record KeepsFree (known : Known) (slot : ℕ) : Type 0 where
   pub keeps : IsKeeping known
   pub inside : slot < length (slots_in known)
   pub free : (version_at (slots_in known) slot).state ≡ Free
+
+-- a seat of the cell that keeps its slots, so many, may store to this one: it is free
+pub record MayFill (cell : Object) (count : ℕ) (seat : Watching Known) (slot : ℕ) : Type 0 where
+  pub seat_of : IsWatcherOf cell seat
+  pub inside : slot < count
+  pub keeps : KeepsFree seat.view.client slot
+
+-- the keeper of a cell of so many slots of so many words, as it is dealt by this seat: it knows the slots as at first
+pub record IsDealtBy (holds : List ℕ → Type 0) (width count : ℕ) (cell : Object) (seat keeper : Watching Known) : Type 0 where
+  pub keeper_of : IsWatcherOf cell keeper
+  pub claimed : KnowsBy (λ _ now. IsClaimed holds width count now) seat keeper
 
 -- no slot is free
 abbrev pub IsFull : List Version → Type 0

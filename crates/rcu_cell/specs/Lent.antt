@@ -1,8 +1,8 @@
 -- What a clause sees of a loaded version.
-use Rattle.std.specs.Prelude.{ℕ, List}
+use Rattle.std.specs.Prelude.{◌≡◌, ℕ, List}
 use Rattle.std.specs.Borrow.{GName}
 use Rattle.rcu_live.specs.Board.{Object}
-use Rattle.rcu_live.specs.CpuSeat.{Seated}
+use Rattle.rcu_live.specs.CpuSeat.{Seated, after_word_step}
 use Rattle.rcu_cell.specs.Versions.{words_in}
 use Rattle.rcu_cell.specs.declared.version_guard.VersionGuard.{VersionGuard}
 use Rattle.rcu_cell.specs.declared.known.Known.{Known}
@@ -18,6 +18,12 @@ pub record Lent : Type 0 where
 -- the words that it had when it was loaded
 abbrev pub version_of : Lent → List ℕ
 version_of loaded = words_in loaded.seat.view.client
+
+-- lent is a version of this cell, by the borrowed seat of this name, of which what it knows has changed and nothing else
+pub record IsLentBy (cell : Object) (seat : Seated Known) (name : GName) (loaded : Lent) : Type 0 where
+  pub of_cell : loaded.cell ≡ cell
+  pub by_name : loaded.name ≡ name
+  pub state : loaded.seat ≡ after_word_step seat loaded.seat.view.client
 
 module _ {LEAF FAN : ℕ} {T F : Type 0} {W N : ℕ} where
   abbrev pub lent : VersionGuard LEAF FAN T F W N → Lent

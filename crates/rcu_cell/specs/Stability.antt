@@ -22,7 +22,7 @@ no_section : (number : Number) → None ≡ Some number → ⊥
 no_section number e = subst IsNone e tt
 
 module _ (width count : ℕ) (slots : List Version) (shown : ℕ) where
-  -- what a seat of the picture knows
+  -- what a seat knows of which this is shown
   abbrev pub SeatKnows : ℕ → ℕ → ClientView Known → Type 0
   SeatKnows keeper id x = Knows width count slots shown keeper id x.1 x.2
 

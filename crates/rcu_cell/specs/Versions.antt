@@ -1,6 +1,6 @@
 -- Versions of a value in slots: what state each slot is in, and what a look at the number makes of it.
 use Rattle.std.specs.Prelude.{◌≡◌, ℕ, ◌+◌, ◌*◌, ◌-◌, ◌^◌, ◌<◌, ◌≤◌, if◌then◌else◌, Bool, true, false, List, [], ◌∷◌, length}
-use Rattle.std.specs.Prelude.{map, replicate, slice_index_or, slice_set}
+use Rattle.std.specs.Prelude.{map, replicate, slice_index, slice_index_or, slice_set}
 use Rattle.rcu_seq.specs.Numbers.{Number}
 use Rattle.rcu_live.specs.Numbers.{is_past}
 use Rattle.rcu_cell.specs.declared.known.Known.{Known}
@@ -21,6 +21,13 @@ pub record AreSizes (width count : ℕ) : Type 0 where
 -- the place of the word k of the slot i, of slots of so many words
 abbrev pub word_of : ℕ → ℕ → ℕ → ℕ
 word_of width i k = first_place + width * i + k
+
+-- the words of a cell at first, behind the engine's: the slot 0 is shown, with these words, and all that follows is 0
+pub record AreFirstWords (width count : ℕ) (words behind : List ℕ) : Type 0 where
+  pub size : length behind ≡ first_place + width * count
+  pub shown : slice_index behind 0 ≡ 0
+  pub copied : (k : ℕ) → k < width → slice_index behind (first_place + k) ≡ slice_index words k
+  pub rest : (j : ℕ) → first_place + width ≤ j → slice_index behind j ≡ 0
 
 -- a section that began at a number may read a version in this state
 abbrev pub MayRead : Number → SlotState → Type 0

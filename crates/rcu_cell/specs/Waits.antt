@@ -1,9 +1,8 @@
 -- What an update that waits for a free slot leaves.
-use Rattle.std.specs.Prelude.{◌≡◌, ℕ, ◌<◌, ◌≤◌, List}
+use Rattle.std.specs.Prelude.{◌≡◌, ◌⊎◌, ℕ, ◌<◌, ◌≤◌, List}
 use Rattle.rcu_seq.specs.Numbers.{Number}
-use Rattle.rcu_live.specs.Board.{Object}
-use Rattle.rcu_live.specs.CpuSeat.{IsSeatOf, Seated}
-use Rattle.rcu_live.specs.Waits.{HasRested}
+use Rattle.rcu_live.specs.CpuSeat.{Seated}
+use Rattle.rcu_live.specs.Waits.{AreRounds, HasRested}
 use Rattle.rcu_live.specs.Watcher.{Watching}
 use Rattle.rcu_cell.specs.Keeper.{IsFirstFree, IsFull, Updated}
 use Rattle.rcu_cell.specs.Versions.{aged, slot_in, slots_in}
@@ -29,29 +28,34 @@ pub record HasAged (before after : Watching Known) : Type 0 where
   pub state : after ≡ after_looks before first after.view.seen after.view.loads
 
 -- from one state of the keeper to the other it looked at the number, until a slot was free, and then published the words
--- in the first free one
-pub record HasUpdated (before : Watching Known) (words : List ℕ) (retired : Retired) (after : Watching Known) : Type 0 where
+-- in the first free one; from one state of the caller's seat to the other it passed quiescent states, one less than there
+-- were looks, or two less where the last number was found to be reached before the last look
+pub record HasUpdated (seat now : Seated Known) (before : Watching Known) (words : List ℕ) (retired : Retired)
+    (after : Watching Known) : Type 0 where
   pub looked : Watching Known
   pub ages : HasAged before looked
   pub updated : Updated looked words retired after
+  pub rounds : AreRounds 1 seat now before after ⊎ AreRounds 2 seat now before after
 
--- the caller's seat after a wait: it is of the cell still, its sections nest as deep, and it passed quiescent states; with a
--- section open it did nothing
-pub record HasWaited (cell : Object) (before after : Seated Known) : Type 0 where
-  pub seat_of : IsSeatOf cell after
-  pub depth : after.depth ≡ before.depth
+-- from one state of the caller's seat to the other it passed quiescent states, and did nothing else; with a section open it
+-- did nothing at all
+pub record HasRestedOutside (before after : Seated Known) : Type 0 where
   pub rested : HasRested before after
   pub in_section : 0 < before.depth → after ≡ before
 
--- an update replaced the shown slot: at once where a slot was free, and else as soon as one was
-pub record UpdatedInTime (before : Watching Known) (words : List ℕ) (retired : Retired) (after : Watching Known) : Type 0 where
+-- an update of a caller with this seat, which is outside of sections, replaced the shown slot: at once where a slot was
+-- free, and else as soon as one was
+pub record UpdatedInTime (seat now : Seated Known) (before : Watching Known) (words : List ℕ) (retired : Retired)
+    (after : Watching Known) : Type 0 where
+  pub outside : seat.depth ≡ 0
   pub replaced : retired.slot ≡ slot_in before.view.client
   pub at_once : (slot : ℕ) → IsFirstFree (slots_in before.view.client) slot → Updated before words retired after
-  pub waited : IsFull (slots_in before.view.client) → HasUpdated before words retired after
+  pub waited : IsFull (slots_in before.view.client) → HasUpdated seat now before words retired after
 
--- an update was given up, of a caller whose sections nest this deep: in a section nothing happened, and else no slot became
--- free at any look
-pub record HasGivenUp (depth : ℕ) (before after : Watching Known) : Type 0 where
-  pub in_section : 0 < depth → after ≡ before
-  pub full : depth ≡ 0 → IsFull (slots_in after.view.client)
-  pub looked : depth ≡ 0 → HasAged before after
+-- an update was given up, of a caller with this seat: in a section nothing happened, and else no slot became free at any
+-- look, of which there was one more after the last number was found to be reached
+pub record HasGivenUp (seat now : Seated Known) (before after : Watching Known) : Type 0 where
+  pub in_section : 0 < seat.depth → after ≡ before
+  pub full : seat.depth ≡ 0 → IsFull (slots_in after.view.client)
+  pub looked : seat.depth ≡ 0 → HasAged before after
+  pub rounds : AreRounds 2 seat now before after

@@ -8,7 +8,7 @@ ghost use Rattle.rcu_cell.specs.Versions.{words_in};
 use crate::allowed::{load_is_allowed, read_is_allowed};
 use crate::places::{SHOWN, word_of};
 use crate::rule::{CellRule, CellSeat, Invariant, Load, Read};
-use rcu_live::live::Live;
+use rcu_live::Live;
 use std::marker::Model;
 
 /// A value of `W` words in one of `N` slots, beside a running engine. Each version that is
@@ -73,7 +73,7 @@ impl<const LEAF: u32, const FAN: u32, T: Drop, F: Invariant, const W: usize, con
         requires holds { ReadsSlot seat.old slot }
         requires slot { slot < N }
         requires word { word < W }
-        ensures same { seat.new ≡ seat.old }
+        ensures unchanged { seat.new ≡ seat.old }
         ensures word { result ≡ slice_index (words_in seat.old.view.client) word }
     {
         // A borrow of a field shows the prover what the type keeps: that the words fit in memory.

@@ -1,8 +1,7 @@
 //! The keeper of a cell: it publishes versions, and looks which slots are free.
 ghost use Rattle.std.specs.Prelude.{◌≡◌, ◌<◌, ◌≤◌, ◌^◌, IfOk, IfSome, None, OnErr, map};
-ghost use Rattle.rcu_live.specs.Watcher.{IsWatcherOf, KnowsBy};
-ghost use Rattle.rcu_cell.specs.Keeper.{AgedAt, IsFirstFree, IsFull, Updated};
-ghost use Rattle.rcu_cell.specs.Steps.{IsClaimed};
+ghost use Rattle.rcu_live.specs.Watcher.{IsWatcherOf};
+ghost use Rattle.rcu_cell.specs.Keeper.{AgedAt, IsDealtBy, IsFirstFree, IsFull, Updated};
 ghost use Rattle.rcu_cell.specs.Versions.{aged_state, first_states, slots_in};
 ghost use Rattle.rcu_cell.specs.declared.known.Known.TheVariants.{Owner};
 
@@ -75,8 +74,7 @@ impl<F: Invariant, const W: usize, const N: usize> Keeper<F, W, N> {
         requires opens { seat.view.client ≡ Owner }
         requires some { 0 < N }
         requires states { states.items ≡ first_states N }
-        ensures cell { IsWatcherOf cell.now result }
-        ensures claimed { KnowsBy (λ _ now. IsClaimed F.holds W N now) seat result }
+        ensures { IsDealtBy F.holds W N cell.now seat result }
     {
         let mut seat = seat;
         cell.claim(&mut seat);

@@ -2,7 +2,7 @@
 ghost use Rattle.std.specs.Prelude.{◌≡◌, ◌<◌, length, true};
 ghost use Rattle.rcu_live.specs.Numbers.{is_number_word};
 ghost use Rattle.rcu_live.specs.Watcher.{IsWatcherOf, KnowsBy, after_word_step};
-ghost use Rattle.rcu_cell.specs.Keeper.{AgedAt, KeepsFree};
+ghost use Rattle.rcu_cell.specs.Keeper.{AgedAt, MayFill};
 ghost use Rattle.rcu_cell.specs.Steps.{IsClaimed};
 ghost use Rattle.rcu_cell.specs.Versions.{IsKeeping, filled, published, slot_in, slots_in};
 ghost use Rattle.rcu_cell.specs.Versions.{version_at, with_word};
@@ -39,9 +39,7 @@ impl<const LEAF: u32, const FAN: u32, T: Drop, F: Invariant, const W: usize, con
         word: usize,
         value: u64,
     )
-        requires seat { IsWatcherOf self.now seat.old }
-        requires slot { slot < N }
-        requires free { KeepsFree seat.old.view.client slot }
+        requires slot { MayFill self.now N seat.old slot }
         requires word { word < W }
         ensures { seat.new ≡ after_word_step seat.old (Keeper (slot_in seat.old.view.client)
             (with_word (slots_in seat.old.view.client) slot word value)) }
@@ -55,8 +53,7 @@ impl<const LEAF: u32, const FAN: u32, T: Drop, F: Invariant, const W: usize, con
 
     /// Shows a free slot, whose words meet the fact, in place of the shown one.
     pub(crate) fn show(&self, seat: &mut CellWatcher<F, W, N>, slot: usize)
-        requires seat { IsWatcherOf self.now seat.old }
-        requires free { KeepsFree seat.old.view.client slot }
+        requires slot { MayFill self.now N seat.old slot }
         requires whole { F.holds (version_at (slots_in seat.old.view.client) slot).words }
         ensures { seat.new ≡ after_word_step seat.old (Keeper slot
             (published (slots_in seat.old.view.client) (slot_in seat.old.view.client) slot)) }
@@ -80,9 +77,7 @@ impl<const LEAF: u32, const FAN: u32, T: Drop, F: Invariant, const W: usize, con
 
     /// Stores all words of a free slot.
     pub(crate) fn fill(&self, seat: &mut CellWatcher<F, W, N>, slot: usize, words: &[u64])
-        requires seat { IsWatcherOf self.now seat.old }
-        requires slot { slot < N }
-        requires free { KeepsFree seat.old.view.client slot }
+        requires slot { MayFill self.now N seat.old slot }
         requires sized { length (version_at (slots_in seat.old.view.client) slot).words ≡ W }
         requires words { length words.now ≡ W }
         ensures { seat.new ≡ after_word_step seat.old (Keeper (slot_in seat.old.view.client)

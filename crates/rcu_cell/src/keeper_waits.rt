@@ -1,18 +1,16 @@
 //! Updates that wait until a slot is free.
-ghost use Rattle.std.specs.Prelude.{◌≡◌, ◌<◌, IfErr, IfOk, OnErr, OnOk};
+ghost use Rattle.std.specs.Prelude.{◌≡◌, ◌<◌, IfErr, IfOk, OnErr};
 ghost use Rattle.rcu_seq.specs.declared.fault.Fault.{Fault};
-ghost use Rattle.rcu_live.specs.Waits.{wait_fault};
-ghost use Rattle.rcu_cell.specs.Cell.{IsSeatOf, IsWatcherOf};
-ghost use Rattle.rcu_cell.specs.Waits.{HasGivenUp, HasUpdated, HasWaited, UpdatedInTime};
+ghost use Rattle.rcu_live.specs.Waits.{HasRested, wait_fault};
+ghost use Rattle.rcu_cell.specs.Cell.{AreOf};
+ghost use Rattle.rcu_cell.specs.Waits.{HasGivenUp, HasRestedOutside, HasUpdated, UpdatedInTime};
 
 use crate::allowed::words_are_few;
 use crate::cell::Cell;
 use crate::keeper::{Keeper, Retired};
 use crate::rule::{CellSeat, Invariant};
 use crate::value::Value;
-use rcu_seq::cookie::Cookie;
-use rcu_seq::fault::Fault;
-use rcu_seq::tag::Tag;
+use rcu_seq::{Cookie, Fault, Tag};
 use std::sync::Wait;
 
 impl<F: Invariant, const W: usize, const N: usize> Keeper<F, W, N> {
@@ -24,16 +22,15 @@ impl<F: Invariant, const W: usize, const N: usize> Keeper<F, W, N> {
         seat: &mut CellSeat<F, W, N>,
         words: &[u64; W],
     ) -> Result<Retired, Fault>
-        requires cell { IsWatcherOf cell.now self.old }
-        requires seat { IsSeatOf cell.now seat.old }
+        requires of_cell { AreOf cell.now self.old seat.old }
         requires shut { seat.old.depth ≡ 0 }
         requires whole { F.holds words.now }
-        ensures cell { IsWatcherOf cell.now self.new }
-        ensures seat { HasWaited cell.now seat.old seat.new }
+        ensures of_cell { AreOf cell.now self.new seat.new }
+        ensures rested { HasRested seat.old seat.new }
         ensures updated { IfOk result (λ retired.
-            HasUpdated self.old words.now retired self.new) }
+            HasUpdated seat.old seat.new self.old words.now retired self.new) }
         ensures fault { IfErr result (λ fault. fault ≡ Fault.Exhausted) }
-        ensures given_up { OnErr result (HasGivenUp 0 self.old self.new) }
+        ensures given_up { OnErr result (HasGivenUp seat.old seat.new self.old self.new) }
     {
         let cookie = Cookie::of(Tag::of_first_epoch(self.age(cell)));
         let mut waited = Ok(());
@@ -66,17 +63,15 @@ impl<F: Invariant, const W: usize, const N: usize> Keeper<F, W, N> {
         seat: &mut CellSeat<F, W, N>,
         words: &[u64; W],
     ) -> Result<Retired, Fault>
-        requires cell { IsWatcherOf cell.now self.old }
-        requires seat { IsSeatOf cell.now seat.old }
+        requires of_cell { AreOf cell.now self.old seat.old }
         requires several { 1 < N }
         requires whole { F.holds words.now }
-        ensures cell { IsWatcherOf cell.now self.new }
-        ensures seat { HasWaited cell.now seat.old seat.new }
-        ensures outside { OnOk result (seat.old.depth ≡ 0) }
+        ensures of_cell { AreOf cell.now self.new seat.new }
+        ensures rested { HasRestedOutside seat.old seat.new }
         ensures updated { IfOk result (λ retired.
-            UpdatedInTime self.old words.now retired self.new) }
+            UpdatedInTime seat.old seat.new self.old words.now retired self.new) }
         ensures fault { IfErr result (λ fault. fault ≡ wait_fault seat.old.depth) }
-        ensures given_up { OnErr result (HasGivenUp seat.old.depth self.old self.new) }
+        ensures given_up { OnErr result (HasGivenUp seat.old seat.new self.old self.new) }
     {
         if seat.depth() > 0 {
             return Err(Fault::InSection);
@@ -97,17 +92,16 @@ impl<F: Value<W>, const W: usize, const N: usize> Keeper<F, W, N> {
         seat: &mut CellSeat<F, W, N>,
         value: F,
     ) -> Result<Retired, Fault>
-        requires cell { IsWatcherOf cell.now self.old }
-        requires seat { IsSeatOf cell.now seat.old }
+        requires of_cell { AreOf cell.now self.old seat.old }
         requires several { 1 < N }
         requires sound { F.valid value }
-        ensures cell { IsWatcherOf cell.now self.new }
-        ensures seat { HasWaited cell.now seat.old seat.new }
-        ensures outside { OnOk result (seat.old.depth ≡ 0) }
+        ensures of_cell { AreOf cell.now self.new seat.new }
+        ensures rested { HasRestedOutside seat.old seat.new }
         ensures updated { IfOk result (λ retired.
-            UpdatedInTime self.old (F.in_words value) retired self.new) }
+            UpdatedInTime seat.old seat.new self.old (F.in_words value) retired
+            self.new) }
         ensures fault { IfErr result (λ fault. fault ≡ wait_fault seat.old.depth) }
-        ensures given_up { OnErr result (HasGivenUp seat.old.depth self.old self.new) }
+        ensures given_up { OnErr result (HasGivenUp seat.old seat.new self.old self.new) }
     {
         words_are_few::<F, W>();
         self.update_or_wait(rt, cell, seat, &value.to_words())

@@ -1,12 +1,12 @@
 //! The opening of a cell.
-ghost use Rattle.std.specs.Prelude.{◌≡◌, ◌+◌, ◌*◌, ◌<◌, ◌≤◌, ℕ, IfOk, length, slice_index};
+ghost use Rattle.std.specs.Prelude.{◌≡◌, ◌+◌, ◌*◌, ◌<◌, IfOk};
 ghost use Rattle.rcu_geometry.specs.Opening.{opening_refusal};
 ghost use Rattle.rcu_live.specs.Opening.{AreDealt, AreFanouts};
 ghost use Rattle.rcu_seq.specs.Memory.{tested_fault};
-ghost use Rattle.rcu_live.specs.Watcher.{IsWatcherOf, KnowsBy, watcher_at_first};
+ghost use Rattle.rcu_live.specs.Watcher.{watcher_at_first};
 ghost use Rattle.rcu_live.specs.Words.{base_of};
-ghost use Rattle.rcu_cell.specs.Steps.{IsClaimed};
-ghost use Rattle.rcu_cell.specs.Versions.{AreSizes, first_place, first_states};
+ghost use Rattle.rcu_cell.specs.Keeper.{IsDealtBy};
+ghost use Rattle.rcu_cell.specs.Versions.{AreFirstWords, AreSizes, first_place, first_states};
 ghost use Rattle.rcu_cell.specs.declared.known.Known.TheVariants.{Idle, Owner};
 
 use crate::cell::Cell;
@@ -14,9 +14,9 @@ use crate::keeper::Keeper;
 use crate::places::FIRST;
 use crate::rule::{CellRule, CellSeat, CellWatcher, Invariant};
 use crate::slot_state::SlotState;
-use rcu_geometry::opening::check_size;
-use rcu_live::live::Live;
-use rcu_seq::fault::Fault;
+use rcu_geometry::check_size;
+use rcu_live::Live;
+use rcu_seq::Fault;
 use std::alloc::{AllocError, Global};
 
 /// The words of a cell at first: the first slot is shown, with these words.
@@ -25,12 +25,7 @@ fn first_words<const W: usize, const N: usize>(
     words: &[u64; W],
 ) -> Result<Vec<u64>, AllocError>
     requires { AreSizes W N }
-    ensures length { IfOk result (λ behind. length behind.items ≡ first_place + W * N) }
-    ensures shown { IfOk result (λ behind. slice_index behind.items 0 ≡ 0) }
-    ensures copied { IfOk result (λ behind. (k : ℕ) → k < W →
-        slice_index behind.items (first_place + k) ≡ slice_index words.now k) }
-    ensures rest { IfOk result (λ behind. (j : ℕ) → first_place + W ≤ j →
-        slice_index behind.items j ≡ 0) }
+    ensures words { IfOk result (λ behind. AreFirstWords W N words.now behind.items) }
 {
     let mut behind = vec![in alloc; 0u64; FIRST + W * N]?;
     for word in 0..W {
@@ -85,8 +80,7 @@ impl<const LEAF: u32, const FAN: u32, T: Drop, F: Invariant, const W: usize, con
         ensures fault { tested_fault result ≡ opening_refusal LEAF FAN cpus last }
         ensures dealt { IfOk result (λ opened. AreDealt cpus (first_place + W * N) 0 Idle
             opened.0 opened.1.items opened.2.items) }
-        ensures keeper { IfOk result (λ opened. IsWatcherOf opened.0 opened.3) }
-        ensures claimed { IfOk result (λ opened. KnowsBy (λ _ now. IsClaimed F.holds W N now)
+        ensures keeper { IfOk result (λ opened. IsDealtBy F.holds W N opened.0
             (watcher_at_first opened.0.table (base_of cpus) Owner) opened.3) }
     {
         check_size::<LEAF, FAN>(cpus, last)?;

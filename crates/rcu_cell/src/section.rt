@@ -1,18 +1,18 @@
 //! What a section reads of a cell, and whole sections.
 ghost use Rattle.std.specs.Prelude.{◌≡◌, IfOk, OnErr, OnOk};
 ghost use Rattle.std.specs.Result.{result_err};
-ghost use Rattle.rcu_live.specs.CpuSeat.{AcceptedAt, after_word_step, enter_refusal};
-ghost use Rattle.rcu_cell.specs.Cell.{IsOutside, MayLoad, after_section};
-ghost use Rattle.rcu_cell.specs.Lent.{lent};
+ghost use Rattle.rcu_live.specs.CpuSeat.{AcceptedAt, enter_refusal};
+ghost use Rattle.rcu_cell.specs.Cell.{IsOutside, MayLoad, ReadsOn, after_section};
+ghost use Rattle.rcu_cell.specs.Lent.{IsLentBy, lent};
 ghost use Rattle.rcu_cell.specs.Steps.{IsLoaded};
-ghost use Rattle.rcu_cell.specs.Versions.{IsReading, words_in};
+ghost use Rattle.rcu_cell.specs.Versions.{words_in};
 
 use crate::allowed::words_are_few;
 use crate::cell::Cell;
 use crate::rule::{CellSeat, Invariant};
 use crate::value::Value;
 use crate::version_guard::VersionGuard;
-use rcu_seq::fault::Fault;
+use rcu_seq::Fault;
 
 impl<const LEAF: u32, const FAN: u32, T: Drop, F: Invariant, const W: usize, const N: usize> Cell<
     LEAF,
@@ -29,10 +29,7 @@ impl<const LEAF: u32, const FAN: u32, T: Drop, F: Invariant, const W: usize, con
         seat: &'a mut CellSeat<F, W, N>,
     ) -> VersionGuard<'a, LEAF, FAN, T, F, W, N>
         requires { MayLoad self.now seat.old }
-        ensures cell { (lent result).cell ≡ self.now }
-        ensures name { (lent result).name ≡ seat.entry.ghost_name }
-        ensures same { (lent result).seat
-            ≡ after_word_step seat.old (lent result).seat.view.client }
+        ensures lent { IsLentBy self.now seat.old seat.entry.ghost_name (lent result) }
         ensures loaded { IsLoaded F.holds W N (lent result).slot (lent result).seat.view.client }
     {
         let slot = self.load(seat) as usize;
@@ -47,9 +44,8 @@ impl<const LEAF: u32, const FAN: u32, T: Drop, F: Invariant, const W: usize, con
     /// which the section reads from now on.
     pub fn snapshot(&self, seat: &mut CellSeat<F, W, N>) -> [u64; W]
         requires { MayLoad self.now seat.old }
-        ensures state { seat.new ≡ after_word_step seat.old seat.new.view.client }
-        ensures held { words_in seat.new.view.client ≡ result }
-        ensures reading { IsReading seat.new.view.client }
+        ensures state { ReadsOn seat.old seat.new }
+        ensures words { result ≡ words_in seat.new.view.client }
         ensures whole { F.holds result }
     {
         self.loaded(seat).snapshot()
@@ -88,8 +84,7 @@ impl<const LEAF: u32, const FAN: u32, T: Drop, F: Value<W>, const W: usize, cons
     /// The value that is shown, by one load, and one a word, in an open section.
     pub fn value(&self, seat: &mut CellSeat<F, W, N>) -> F
         requires { MayLoad self.now seat.old }
-        ensures state { seat.new ≡ after_word_step seat.old seat.new.view.client }
-        ensures reading { IsReading seat.new.view.client }
+        ensures state { ReadsOn seat.old seat.new }
         ensures told { result ≡ F.decode (words_in seat.new.view.client) }
         ensures sound { F.valid result }
     {

@@ -18,7 +18,7 @@ impl<
     /// A word of the version, by one load: the one that it had when it was loaded.
     pub fn read(&mut self, word: usize) -> u64
         requires { word < W }
-        ensures same { lent self.new ≡ lent self.old }
+        ensures unchanged { lent self.new ≡ lent self.old }
         ensures word { result ≡ slice_index (version_of (lent self.old)) word }
     {
         self.cell.read(self.seat, self.slot, word)
@@ -26,7 +26,7 @@ impl<
 
     /// All words of the version, by a load each.
     pub fn snapshot(&mut self) -> [u64; W]
-        ensures same { lent self.new ≡ lent self.old }
+        ensures unchanged { lent self.new ≡ lent self.old }
         ensures words { result ≡ version_of (lent self.old) }
     {
         let mut words = [0u64; W];
@@ -49,7 +49,7 @@ impl<
     /// The version as a value of the user's type, by a load a word.
     pub fn value(&mut self) -> F
         requires whole { F.holds (version_of (lent self.old)) }
-        ensures same { lent self.new ≡ lent self.old }
+        ensures unchanged { lent self.new ≡ lent self.old }
         ensures told { result ≡ F.decode (version_of (lent self.old)) }
         ensures sound { F.valid result }
     {

@@ -13,11 +13,11 @@ use Rattle.rcu_live.specs.Numbers.{reports_quiescence}
 use Rattle.rcu_live.proofs.LoadedWords.{cleared_in_turn}
 
 -- who is here and not quiescent already reports nothing
-not_told : (t : Number) (word : ℕ) → not (reports_quiescence t word) ≡ (not (word == 0) && not (nat_lt t word))
-not_told t word = grind (arith, nat_tests)
+not_reported : (t : Number) (word : ℕ) → not (reports_quiescence t word) ≡ (not (word == 0) && not (nat_lt t word))
+not_reported t word = grind (arith, nat_tests)
 
-told_else : (t : Number) (word : ℕ) → not (reports_quiescence t word) ≡ false → reports_quiescence t word ≡ true
-told_else t word e = grind (arith, nat_tests)
+reported_else : (t : Number) (word : ℕ) → not (reports_quiescence t word) ≡ false → reports_quiescence t word ≡ true
+reported_else t word e = grind (arith, nat_tests)
 
 -- those that are quiescent already, taken out of those that are here
 already_quiescent_out : (cpus : ℕ) (word : ℕ → ℕ) (t : Number) (here already_quiescent : List Bool) → here ≡ listed cpus (λ c. not (word c == 0))
@@ -32,7 +32,7 @@ already_quiescent_out cpus word t here already_quiescent is_here is_already_quie
     ap (λ (l : List Bool). is_in l c) is_here ∙ is_in-listed cpus (λ k. not (word k == 0)) c low in
     let after : is_in already_quiescent c ≡ nat_lt t (word c) =
     ap (λ (l : List Bool). is_in l c) is_already_quiescent ∙ is_in-listed cpus (λ k. nat_lt t (word k)) c low in
-    not_told t (word c) ∙ (λ i. sym on i && not (sym after i))
+    not_reported t (word c) ∙ (λ i. sym on i && not (sym after i))
     ∙ sym (is_in-listed (length here) (λ k. is_in here k && not (is_in already_quiescent k)) c (omega (arith, low, long)))))
 
 module _ {X : Type 0} where
@@ -67,4 +67,4 @@ module _ {X : Type 0} where
   begun_awaits g heard cpus word own_word_loads is in_turn =
       subst (λ (y : Grace X × List (ℕ × ℕ)). AwaitsTheOthers cpus y.1 y.0) (λ i. (sym is i, sym in_turn i))
       (λ runs c low none. cleared_in_turn (next_number g) word cpus c low
-      (told_else (next_number g) (word c) (sym (is_in-listed cpus (λ k. not (reports_quiescence (next_number g) (word k))) c low) ∙ none)))
+      (reported_else (next_number g) (word c) (sym (is_in-listed cpus (λ k. not (reports_quiescence (next_number g) (word k))) c low) ∙ none)))

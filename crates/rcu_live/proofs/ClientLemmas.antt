@@ -15,6 +15,10 @@ use Rattle.rcu_live.specs.declared.view.Role.TheVariants.{Cpu, Watcher, Engine}
 use Rattle.rcu_live.specs.declared.view.View.{View}
 use Rattle.rcu_live.proofs.Numbers.{open_at}
 
+-- no grace period that began after a number has ended at it
+pub not_past : (n : Number) → is_past n n ≡ false
+not_past n = grind (arith, nat_tests)
+
 -- a section that began by r is open at no number by which a grace period that began after r has ended
 pub not_open_past : (at r n : Number) → at ≤ r → is_past r n ≡ true → is_open_at n at ≡ false
 not_open_past at r n up past = grind (arith, nat_tests)

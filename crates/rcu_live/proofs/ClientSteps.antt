@@ -75,12 +75,12 @@ module _ {S C : Type 0} (holds : List ℕ → Slots S → Views C → Type 0) wh
   booted cpus words new any boot same = subst (λ (y : ℕ). 0 < y) (sym (same (own_word_index 0) (omega arith))) boot
 
   -- a step on the client's word p
-  uses_here : (cpus slots id p : ℕ) (me : Me S (View C)) (change : ℕ → ℕ) (tells : ℕ → C → ℕ → C → Type 0) → 0 < cpus
+  steps_on_own_place : (cpus slots id p : ℕ) (me : Me S (View C)) (change : ℕ → ℕ) (tells : ℕ → C → ℕ → C → Type 0) → 0 < cpus
       → AllowsWord holds (if_cpu me.0.role (Some me.0.cpu)) (if_cpu me.0.role me.0.section) me.0.client p change
       (tells p me.0.client)
       → Allows (IsKept holds cpus) slots id me (base_of cpus + p) change
       (λ n m. SteppedOnWord tells (base_of cpus + p) me.0 n m.0 × (m.1 ≡ me.1))
-  uses_here cpus slots id p me change tells some_cpu allowed s k _ at _ =
+  steps_on_own_place cpus slots id p me change tells some_cpu allowed s k _ at _ =
       let v : View C = me.0 in
       let here : ℕ = base_of cpus + p in
       let rest : List ℕ = drop (base_of cpus) s.words in
@@ -115,29 +115,29 @@ module _ {S C : Type 0} (holds : List ℕ → Slots S → Views C → Type 0) wh
       )
 
   -- the same at a place that is the word's, of a table whose key is the number of processors
-  pub uses : (key cpus slots id p at : ℕ) (me : Me S (View C)) (change : ℕ → ℕ) (tells : ℕ → C → ℕ → C → Type 0)
+  pub steps_on_word : (key cpus slots id p at : ℕ) (me : Me S (View C)) (change : ℕ → ℕ) (tells : ℕ → C → ℕ → C → Type 0)
       → key ≡ cpus → 0 < cpus → at ≡ base_of cpus + p
       → AllowsWord holds (if_cpu me.0.role (Some me.0.cpu)) (if_cpu me.0.role me.0.section) me.0.client p change
       (tells p me.0.client)
       → Allows (IsKept holds key) slots id me at change (λ n m. SteppedOnWord tells at me.0 n m.0 × (m.1 ≡ me.1))
-  uses key cpus slots id p at me change tells is any there allowed =
+  steps_on_word key cpus slots id p at me change tells is any there allowed =
       subst (λ (y : ℕ × ℕ). Allows (IsKept holds y.0) slots id me y.1 change (λ n m. SteppedOnWord tells y.1 me.0 n m.0 × (m.1 ≡ me.1))) (λ i. (sym is i, sym there i))
-      (uses_here cpus slots id p me change tells any allowed)
+      (steps_on_own_place cpus slots id p me change tells any allowed)
 
   -- a store, of which the word is told that it stores
-  pub stores_word : (key cpus slots id p at x : ℕ) (me : Me S (View C)) (tells : ℕ → C → ℕ → C → Type 0) → key ≡ cpus
+  pub stores_client_word : (key cpus slots id p at x : ℕ) (me : Me S (View C)) (tells : ℕ → C → ℕ → C → Type 0) → key ≡ cpus
       → 0 < cpus → at ≡ base_of cpus + p
       → AllowsWord holds (if_cpu me.0.role (Some me.0.cpu)) (if_cpu me.0.role me.0.section) me.0.client p (λ _. x)
       (λ _. tells p me.0.client x)
       → Allows (IsKept holds key) slots id me at (λ _. x) (λ _ m. SteppedOnWord tells at me.0 x m.0 × (m.1 ≡ me.1))
-  stores_word key cpus slots id p at x me tells is any there allowed s k size here small =
-      uses key cpus slots id p at me (λ _. x) (λ q c _ w. tells q c x w) is any there allowed s k size here small
+  stores_client_word key cpus slots id p at x me tells is any there allowed s k size here small =
+      steps_on_word key cpus slots id p at me (λ _. x) (λ q c _ w. tells q c x w) is any there allowed s k size here small
 
   -- a look at the number
-  pub learns : (cpus slots id : ℕ) (me : Me S (View C)) (tells : C → ℕ → C → Type 0)
+  pub steps_on_number : (cpus slots id : ℕ) (me : Me S (View C)) (tells : C → ℕ → C → Type 0)
       → AllowsNumber holds (if_cpu me.0.role (Some me.0.cpu)) (if_cpu me.0.role me.0.section) me.0.client (tells me.0.client)
       → Allows (IsKept holds cpus) slots id me 0 (λ n. n) (λ n m. SteppedOnNumber tells me.0 n m.0 × (m.1 ≡ me.1))
-  learns cpus slots id me tells allowed s k _ at _ =
+  steps_on_number cpus slots id me tells allowed s k _ at _ =
       let v : View C = me.0 in
       let n : ℕ = get_or s.words 0 0 in
       let f : Fits cpus s.words k.owner k.engine k.own_word_loads id v = k.fits id v at in
@@ -189,21 +189,21 @@ module _ {S C : Type 0} (holds : List ℕ → Slots S → Views C → Type 0) wh
       }
 
   -- a step of a processor's seat, and of a watcher's
-  pub uses_of_cpu : (role : Role) (a cpu : ℕ) (section : Option ℕ) (c : C) (p : ℕ) (change : ℕ → ℕ)
+  pub allows_word_of_cpu : (role : Role) (a cpu : ℕ) (section : Option ℕ) (c : C) (p : ℕ) (change : ℕ → ℕ)
       (tells : ℕ → C → Type 0) → role ≡ Cpu → a ≡ cpu
       → AllowsWord holds (Some cpu) section c p change tells
       → AllowsWord holds (if_cpu role (Some a)) (if_cpu role section) c p change tells
-  uses_of_cpu role a cpu section c p change tells r e allowed =
+  allows_word_of_cpu role a cpu section c p change tells r e allowed =
       subst (λ (y : Role × ℕ). AllowsWord holds (if_cpu y.0 (Some y.1)) (if_cpu y.0 section) c p change tells)
       (λ i. (sym r i, sym e i)) allowed
 
-  pub uses_of_watcher : (role : Role) (a : ℕ) (section : Option ℕ) (c : C) (p : ℕ) (change : ℕ → ℕ)
+  pub allows_word_of_watcher : (role : Role) (a : ℕ) (section : Option ℕ) (c : C) (p : ℕ) (change : ℕ → ℕ)
       (tells : ℕ → C → Type 0) → role ≡ Watcher
       → AllowsWord holds None None c p change tells → AllowsWord holds (if_cpu role (Some a)) (if_cpu role section) c p change tells
-  uses_of_watcher role a section c p change tells r allowed =
+  allows_word_of_watcher role a section c p change tells r allowed =
       subst (λ (y : Role). AllowsWord holds (if_cpu y (Some a)) (if_cpu y section) c p change tells) (sym r) allowed
 
-  pub sees_of_watcher : (role : Role) (a : ℕ) (section : Option ℕ) (c : C) (tells : ℕ → C → Type 0) → role ≡ Watcher
+  pub allows_number_of_watcher : (role : Role) (a : ℕ) (section : Option ℕ) (c : C) (tells : ℕ → C → Type 0) → role ≡ Watcher
       → AllowsNumber holds None None c tells → AllowsNumber holds (if_cpu role (Some a)) (if_cpu role section) c tells
-  sees_of_watcher role a section c tells r allowed =
+  allows_number_of_watcher role a section c tells r allowed =
       subst (λ (y : Role). AllowsNumber holds (if_cpu y (Some a)) (if_cpu y section) c tells) (sym r) allowed

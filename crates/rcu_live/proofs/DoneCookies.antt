@@ -14,9 +14,9 @@ use Rattle.rcu_live.specs.declared.view.Role.TheVariants.{Cpu}
 use Rattle.rcu_live.specs.declared.view.View.{View}
 
 -- where no full grace period lies behind a number, no cookie of a taking at it or later is done
-not_past : (at taken polled : Number) → is_past at polled ≡ false → at ≤ taken
+taken_late : (at taken polled : Number) → is_past at polled ≡ false → at ≤ taken
     → is_done_first (cookie_at (of_first_epoch taken)) polled ≡ false
-not_past at taken polled current up = grind (arith, nat_tests)
+taken_late at taken polled current up = grind (arith, nat_tests)
 
 pub not_done_while_open : {S C : Type 0} (holds : List ℕ → Slots S → Views C → Type 0) (cpus : ℕ)
     (s t : State S (View C)) (i j : ℕ) (v w : View C) (at : Number)
@@ -30,4 +30,4 @@ not_done_while_open holds cpus s t i j v w at k l here cpu opened there also sti
     let taken : ℕ = get_or s.words 0 0 in
     let began : at ≤ v.seen = (f.sound cpu).to_seen at opened in
     let seen : v.seen ≤ taken = f.seen in
-    not_past at taken (get_or t.words 0 0) ((h.sound also).current at still) (omega (arith, began, seen))
+    taken_late at taken (get_or t.words 0 0) ((h.sound also).current at still) (omega (arith, began, seen))

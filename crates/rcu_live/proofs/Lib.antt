@@ -10,12 +10,13 @@ pub mod DoneCookies
 pub mod OwnWordLoads
 pub mod LoadedWords
 pub mod Frames
-pub mod Hearing
+pub mod HeardBelow
 pub mod Loads
 pub mod Meetings
 pub mod Numbers
 pub mod OldSections
 pub mod Openings
+pub mod Reports
 pub mod RowLemmas
 pub mod Stores
 pub mod Turns

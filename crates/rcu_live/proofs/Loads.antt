@@ -15,7 +15,8 @@ use Rattle.rcu_live.specs.declared.view.Role.{Role}
 use Rattle.rcu_live.specs.declared.view.Role.TheVariants.{Cpu, Watcher, Engine}
 use Rattle.rcu_live.specs.declared.view.View.{View}
 use Rattle.rcu_live.proofs.Frames.{unchanged, unseen}
-use Rattle.rcu_live.proofs.Numbers.{not_past, own_bound, own_later}
+use Rattle.rcu_live.proofs.ClientLemmas.{not_past}
+use Rattle.rcu_live.proofs.Numbers.{own_bound, own_later}
 
 -- no section is shown of a seat that has none
 none_shown : (role : Role) → if_cpu role None ≡ None

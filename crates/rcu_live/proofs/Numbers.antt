@@ -17,10 +17,6 @@ own_later seen n word up own = grind (arith, nat_tests)
 pub own_small : (word : ℕ) → word ≤ 1 → is_own_word 0 word ≡ true
 own_small word small = grind (arith, nat_tests)
 
--- no grace period that began after a number ended at it
-pub not_past : (n : Number) → is_past n n ≡ false
-not_past n = grind (arith, nat_tests)
-
 -- a section that is not past may be open
 pub open_at : (n at : Number) → at ≤ n → is_past at n ≡ false → is_open_at n at ≡ true
 open_at n at up current = grind (arith, nat_tests)

@@ -15,8 +15,8 @@ use Rattle.rcu_live.specs.declared.view.View.{View}
 use Rattle.rcu_live.proofs.Frames.{changed, unseen}
 
 -- an own word that reports a quiescent state of its processor, and is not 0, is above the number
-told_later : (n word : ℕ) → reports_quiescence n word ≡ true → 0 < word → n < word
-told_later n word told more = grind (arith, nat_tests)
+reported_later : (n word : ℕ) → reports_quiescence n word ≡ true → 0 < word → n < word
+reported_later n word told more = grind (arith, nat_tests)
 
 online_some : (own_word : ℕ) → may_open own_word ≡ true → 0 < own_word
 online_some own_word online = grind (arith, nat_tests)
@@ -29,15 +29,15 @@ still_young n at word own_word_loads cpu own_word p own found is any from old cl
     (λ (now : ((at == own_word_index cpu) && reports_quiescence n word) ≡ true).
     let parts = and_parts (at == own_word_index cpu) (reports_quiescence n word) now in
     let same : word ≡ own = found ((Decides-eqb at (own_word_index cpu)).0 parts.0) in
-    let more : n < word = told_later n word parts.1 (omega arith) in omega arith)
+    let more : n < word = reported_later n word parts.1 (omega arith) in omega arith)
     old
     (or_cases _ _ cleared)
 
 module _ {S C : Type 0} (holds : List ℕ → Slots S → Views C → Type 0) where
   -- processor-word load
-  pub finds_own : (cpus slots id cpu : ℕ) (me : Me S (View C)) → me.0.role ≡ Engine
+  pub loads_own_word : (cpus slots id cpu : ℕ) (me : Me S (View C)) → me.0.role ≡ Engine
       → Allows (IsKept holds cpus) slots id me (own_word_index cpu) (λ n. n) (λ n m. OwnWordLoaded (own_word_index cpu) me.0 n m.0 × (m.1 ≡ me.1))
-  finds_own cpus slots id cpu me engine s k _ at _ =
+  loads_own_word cpus slots id cpu me engine s k _ at _ =
       let v : View C = me.0 in
       let f : Fits cpus s.words k.owner k.engine k.own_word_loads id v = k.fits id v at in
       let word : ℕ = get_or s.words (own_word_index cpu) 0 in
@@ -89,9 +89,9 @@ module _ {S C : Type 0} (holds : List ℕ → Slots S → Views C → Type 0) wh
       )
 
   -- the same at a place that is the processor's
-  pub finds_at : (cpus slots id cpu at : ℕ) (me : Me S (View C)) → me.0.role ≡ Engine → at ≡ own_word_index cpu
+  pub loads_own_word_at : (cpus slots id cpu at : ℕ) (me : Me S (View C)) → me.0.role ≡ Engine → at ≡ own_word_index cpu
       → Allows (IsKept holds cpus) slots id me at (λ n. n) (λ n m. OwnWordLoaded at me.0 n m.0 × (m.1 ≡ me.1))
-  finds_at cpus slots id cpu at me engine is =
+  loads_own_word_at cpus slots id cpu at me engine is =
       subst (λ (i : ℕ). Allows (IsKept holds cpus) slots id me i (λ n. n) (λ n m. OwnWordLoaded i me.0 n m.0 × (m.1 ≡ me.1)))
       (sym is)
-      (finds_own cpus slots id cpu me engine)
+      (loads_own_word cpus slots id cpu me engine)

@@ -5,7 +5,7 @@ use Rattle.std.proofs.lemmas.Bool.{cases_Bool}
 use Rattle.rcu_seq.specs.Numbers.{Number}
 use Rattle.rcu_live.specs.CpuSeat.{Seated}
 use Rattle.rcu_live.specs.Numbers.{may_open}
-use Rattle.rcu_live.specs.Waits.{HasLooked, HasRested, after_rests}
+use Rattle.rcu_live.specs.Waits.{AreRounds, HasLooked, HasRested, after_rests}
 use Rattle.rcu_live.specs.Watcher.{Watching, after_watch}
 
 module _ {C : Type 0} where
@@ -77,3 +77,24 @@ module _ {C : Type 0} where
         more = omega (arith, more, loads);
         state = state ∙ ap (λ (k : ℕ). record w { view = record w.view { seen = u.view.seen; loads = k } }) (sym loads);
       }
+
+  -- no round yet, one round more (a quiescent state and a look), and a look more
+  pub rounds_none : (s : Seated C) (w : Watching C) → AreRounds 0 s s w w
+  rounds_none s w outside awake = omega arith
+
+  pub rounds_more : (more : ℕ) (s t u : Seated C) (w v x : Watching C) → AreRounds more s t w v
+      → u ≡ after_rests t 1 u.view.seen → x.view.loads ≡ v.view.loads + 1 → AreRounds more s u w x
+  rounds_more more s t u w v x before new looks outside awake = elim (cases_Bool (may_open t.view.own_word)) [
+    | inl up ↦
+        let rests : u.view.loads ≡ t.view.loads + 1 = ap (λ (y : Seated C). y.view.loads) (new ∙ awake_rests t 0 u.view.seen up) in
+        let old = before outside up in omega (arith, rests, looks, old)
+    | inr down ↦
+        let same : u ≡ t = new ∙ asleep_rests t 1 u.view.seen down in
+        let both : may_open t.view.own_word ≡ true = ap (λ (y : Seated C). may_open y.view.own_word) (sym same) ∙ awake in
+        absurd (cc)
+  ]
+
+  pub rounds_then_look : (more next : ℕ) (s t : Seated C) (w v x : Watching C) → next ≡ more + 1 → AreRounds more s t w v
+      → x.view.loads ≡ v.view.loads + 1 → AreRounds next s t w x
+  rounds_then_look more next s t w v x is before looks outside awake =
+      let old = before outside awake in omega (arith, looks, old, is)

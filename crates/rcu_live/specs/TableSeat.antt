@@ -10,14 +10,14 @@ use Rattle.rcu_live.specs.declared.view.View.{View}
 
 module _ {S C : Type 0} where
   -- a seat is at this table, with this view
-  pub record IsAt (table : TableId) (view : View C) (seat : Seat S (View C)) : Type 0 where
+  pub record IsSeatAt (table : TableId) (view : View C) (seat : Seat S (View C)) : Type 0 where
     pub at_table : seat.table_id ≡ table
     pub has_view : seat.me.0 ≡ view
 
   -- a seat took a step: it is at its table and has the slots that it had, and what the step tells holds of its two views
   pub record Stepped (tells : View C → View C → Type 0) (old new : Seat S (View C)) : Type 0 where
     pub table : new.table_id ≡ old.table_id
-    pub hand : new.me.1 ≡ old.me.1
+    pub slots : new.me.1 ≡ old.me.1
     pub told : tells old.me.0 new.me.0
 
   -- a seat was split: this view is left to it, and the one that is dealt is at the same table, with that view

@@ -8,9 +8,8 @@ ghost use Rattle.rcu_live.specs.View.{IsOfEngine};
 
 use crate::board::{Board, TableSeat};
 use crate::client::Client;
-use rcu_core::gp_state::GpState;
-use rcu_node::awaited::Awaited;
-use rcu_node::cpu_set::CpuSet;
+use rcu_core::GpState;
+use rcu_node::{Awaited, CpuSet};
 
 /// The processor is online from now on exactly where it is here. Processor 0 is.
 fn set_online<A: Awaited, T: Drop>(gp: &mut GpState<A, T>, cpu: u32, is_here: bool)
@@ -72,7 +71,7 @@ pub(crate) fn load_own_words<A: Awaited, T: Drop, P: Client>(
 }
 
 /// Reports each processor of the set with the number of the running grace period.
-pub(crate) fn hear_all<A: Awaited, T: Drop>(gp: &mut GpState<A, T>, already_quiescent: &CpuSet)
+pub(crate) fn report_all<A: Awaited, T: Drop>(gp: &mut GpState<A, T>, already_quiescent: &CpuSet)
     requires running { gp.old.grace.seq.running ≡ true }
     requires already_quiescent { length already_quiescent.now ≡ cpus_of gp.old.grace.processors }
     ensures { gp.new.grace ≡ with_awaited gp.old.grace

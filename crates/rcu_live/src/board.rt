@@ -2,7 +2,7 @@
 ghost use Rattle.std.specs.Prelude.{◌≡◌, ◌<◌, ◌∷◌, [], IfOk, None, length, map};
 ghost use mathlib.Core.Option.{some};
 ghost use Rattle.rcu_live.specs.Board.{IsCpuCount, IsSized};
-ghost use Rattle.rcu_live.specs.TableSeat.{IsAt, IsSplit, MayBegin, MayEnd, MayOpen};
+ghost use Rattle.rcu_live.specs.TableSeat.{IsSeatAt, IsSplit, MayBegin, MayEnd, MayOpen};
 ghost use Rattle.rcu_live.specs.TableSeat.{MayStore, Stepped};
 ghost use Rattle.rcu_live.specs.View.{Closed, IsOfEngine, Loaded, Opened, OwnWordLoaded};
 ghost use Rattle.rcu_live.specs.View.{after_begin_store, after_deal, after_end_store, after_store};
@@ -57,8 +57,8 @@ impl<P: Client> Board<P> {
         requires client { P.holds behind.now (map some slots.items) ((None, None, P.first) ∷ []) }
         ensures size { IfOk result (λ r.
             IsSized cpus (length behind.now) (length slots.items) r.0) }
-        ensures seat { IfOk result (λ r. IsAt r.0.table (engine_seat cpus 0 P.first) r.1) }
-        ensures hand { IfOk result (λ r. r.1.me.1 ≡ []) }
+        ensures seat { IfOk result (λ r. IsSeatAt r.0.table (engine_seat cpus 0 P.first) r.1) }
+        ensures no_slots { IfOk result (λ r. r.1.me.1 ≡ []) }
     {
         let mut words = first_words(alloc, cpus)?;
         words.extend_from_slice(behind)?;
@@ -79,7 +79,7 @@ impl<P: Client> Board<P> {
     pub fn deal_cpu(&self, seat: &mut TableSeat<P>) -> TableSeat<P>
         requires table { seat.old.table_id ≡ self.now.table }
         requires engine { IsOfEngine seat.old.me.0 }
-        requires left { seat.old.me.0.cpu < self.now.cpus }
+        requires undealt { seat.old.me.0.cpu < self.now.cpus }
         ensures dealt { IsSplit (after_deal seat.old.me.0) (next_cpu_seat P.idle seat.old.me.0)
             seat.old seat.new result }
         ensures inside { own_word_index seat.old.me.0.cpu < seat.old.table_id.words }

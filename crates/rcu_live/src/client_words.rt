@@ -60,7 +60,7 @@ impl<P: Client> Board<P> {
             .store::<OnWord<M>>(seat, own_word_index(self.cpus) + word, value)
     }
 
-    /// Loads the number, by which the client learns.
+    /// Loads the number: a look of the client.
     pub fn load_number<M: NumberStep<P::Known>>(&self, seat: &mut TableSeat<P>) -> u64
         requires table { seat.old.table_id ≡ self.now.table }
         requires allowed { AllowsNumber P.holds (if_cpu seat.old.me.0.role (Some seat.old.me.0.cpu))

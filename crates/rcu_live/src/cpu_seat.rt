@@ -16,9 +16,8 @@ ghost use Rattle.rcu_live.specs.Words.{own_word_index};
 use crate::board::{Board, TableSeat};
 use crate::client::{Client, NoClient, WordStep};
 use crate::shared::Shared;
-use rcu_cpu::cpu_data::CpuData;
-use rcu_seq::fault::Fault;
-use rcu_seq::tag::Tag;
+use rcu_cpu::CpuData;
+use rcu_seq::{Fault, Tag};
 use std::marker::Model;
 
 /// The own word of an idle processor: it is above each number, so that it clears its processor.

@@ -6,9 +6,8 @@ ghost use Rattle.rcu_live.specs.Engine.{ArePieces};
 
 use crate::board::{Board, TableSeat};
 use crate::client::{Client, NoClient};
-use rcu_core::gp_state::GpState;
-use rcu_node::awaited::Awaited;
-use rcu_node::cpu_set::CpuSet;
+use rcu_core::GpState;
+use rcu_node::{Awaited, CpuSet};
 use std::alloc::Global;
 use std::marker::Model;
 use std::sync::Arc;

@@ -9,8 +9,8 @@ ghost use Rattle.rcu_live.specs.EngineLists.{after_load_own, leave_refusal};
 
 use crate::client::Client;
 use crate::engine::Engine;
-use rcu_node::awaited::Awaited;
-use rcu_seq::fault::Fault;
+use rcu_node::Awaited;
+use rcu_seq::Fault;
 
 impl<A: Awaited, T: Drop, P: Client> Engine<A, T, P> {
     /// The processor is online here too, where no begin has found it. It is awaited from the next
@@ -40,7 +40,7 @@ impl<A: Awaited, T: Drop, P: Client> Engine<A, T, P> {
             (self.new ≡ after_leave self.old cpu (latest_word self.new)) }
         ensures looked { IfErr result (λ fault. fault ≢ Fault.NoMemory →
             self.new ≡ after_load_own self.old cpu (latest_word self.new)) }
-        ensures some { IfErr result (λ fault. fault ≡ Fault.NoMemory →
+        ensures memory { IfErr result (λ fault. fault ≡ Fault.NoMemory →
             is_empty (list_of self.old.grace.lists cpu) ≡ false) }
         ensures departed { IfErr result (λ fault. fault ≡ Fault.NoMemory →
             self.new ≡ after_departure self.old cpu (latest_word self.new)) }

@@ -8,10 +8,9 @@ ghost use Rattle.rcu_live.specs.Engine.{after_collect, latest_word, latest_words
 
 use crate::client::Client;
 use crate::engine::Engine;
-use rcu_core::turned::Turned;
-use rcu_node::awaited::Awaited;
-use rcu_seq::cookie::Cookie;
-use rcu_seq::fault::Fault;
+use rcu_core::Turned;
+use rcu_node::Awaited;
+use rcu_seq::{Cookie, Fault};
 
 impl<A: Awaited, T: Drop, P: Client> Engine<A, T, P> {
     /// Whether the processor is awaited.
@@ -23,7 +22,7 @@ impl<A: Awaited, T: Drop, P: Client> Engine<A, T, P> {
     }
 
     /// Collects from a processor while a grace period runs.
-    fn hear_of(&mut self, cpu: u32)
+    fn collect_from(&mut self, cpu: u32)
         requires cpu { cpu < self.old.cpus }
         ensures { self.new ≡ after_collect self.old cpu (latest_word self.new) }
     {
@@ -38,7 +37,7 @@ impl<A: Awaited, T: Drop, P: Client> Engine<A, T, P> {
     {
         for cpu in 0..self.grace().cpus() {
             if self.awaits(cpu) {
-                self.hear_of(cpu);
+                self.collect_from(cpu);
             }
         }
     }

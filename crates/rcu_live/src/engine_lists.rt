@@ -17,11 +17,10 @@ ghost use Rattle.rcu_seq.specs.Memory.{tested_fault};
 use crate::client::Client;
 use crate::engine::Engine;
 use crate::run::Ran;
-use rcu_barrier::barrier_state::BarrierState;
-use rcu_barrier::visit::Visit;
-use rcu_cblist::refused::Refused;
-use rcu_node::awaited::Awaited;
-use rcu_seq::fault::Fault;
+use rcu_barrier::{BarrierState, Visit};
+use rcu_cblist::Refused;
+use rcu_node::Awaited;
+use rcu_seq::Fault;
 
 impl<A: Awaited, T: Drop, P: Client> Engine<A, T, P> {
     /// Queues a callback on a processor, at the number. Returns how many were queued, which is its
@@ -82,7 +81,7 @@ impl<A: Awaited, T: Drop, P: Client> Engine<A, T, P> {
         ensures state { OnOk result
             (self.new ≡ on_grace (λ g. grace.after_run g cpu max) self.old) }
         ensures due { IfOk result (λ ran. AreDue ran.number max ran.calls.items) }
-        ensures some { OnErr result (cpu < self.old.cpus →
+        ensures memory { OnErr result (cpu < self.old.cpus →
             take_answer (list_of self.old.grace.lists cpu) max ≢ []) }
         ensures unchanged { OnErr result (self.new ≡ self.old) }
     {

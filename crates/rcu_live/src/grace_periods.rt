@@ -7,14 +7,13 @@ ghost use Rattle.rcu_live.specs.Engine.{after_begin, after_collect, after_end, a
 ghost use Rattle.rcu_live.specs.Engine.{collect_answer, latest_words, latest_word, turn_answer};
 ghost use Rattle.rcu_live.specs.Engine.{collected_by, cpu_refusal};
 
-use crate::begin::{hear_all, load_own_words};
+use crate::begin::{load_own_words, report_all};
 use crate::client::Client;
 use crate::collection::Collected;
 use crate::engine::Engine;
-use rcu_core::current_answer::CurrentAnswer;
-use rcu_core::turned::Turned;
-use rcu_node::awaited::Awaited;
-use rcu_seq::fault::Fault;
+use rcu_core::{CurrentAnswer, Turned};
+use rcu_node::Awaited;
+use rcu_seq::Fault;
 
 /// What a collection tells by the answer to the report.
 fn collected(answer: CurrentAnswer) -> Collected
@@ -53,7 +52,7 @@ impl<A: Awaited, T: Drop, P: Client> Engine<A, T, P> {
         let Ok((number, _)) = self.gp.begin() else {
             unreachable!()
         };
-        hear_all(&mut self.gp, &self.already_quiescent);
+        report_all(&mut self.gp, &self.already_quiescent);
         Ok((number, self.gp.awaited().count()))
     }
 

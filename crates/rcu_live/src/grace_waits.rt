@@ -4,16 +4,15 @@ ghost use Rattle.std.specs.Prelude.{◌≡◌, IfErr, OnErr, OnOk, false, true};
 ghost use Rattle.rcu_seq.specs.Tags.{is_done_first};
 ghost use Rattle.rcu_seq.specs.declared.fault.Fault.{Fault};
 ghost use Rattle.rcu_live.specs.CpuSeat.{AcceptedAt};
-ghost use Rattle.rcu_live.specs.Waits.{HasLooked, HasPassed, HasRested, HasStayedInside};
-ghost use Rattle.rcu_live.specs.Waits.{after_rests, wait_fault};
+ghost use Rattle.rcu_live.specs.Waits.{AreRounds, HasLooked, HasPassed, HasRested};
+ghost use Rattle.rcu_live.specs.Waits.{HasStayedInside, after_rests, wait_fault};
 
 use crate::client::Client;
 use crate::cpu_seat::CpuSeat;
 use crate::live::Live;
 use crate::watcher::Watcher;
-use rcu_core::turned::Turned;
-use rcu_seq::cookie::Cookie;
-use rcu_seq::fault::Fault;
+use rcu_core::Turned;
+use rcu_seq::{Cookie, Fault};
 use std::sync::Wait;
 use std::thread;
 
@@ -98,6 +97,7 @@ impl<const LEAF: u32, const FAN: u32, T: Drop, P: Client> Live<LEAF, FAN, T, P> 
             (seat.old.depth ≡ 0 → is_done_first cookie watcher.new.view.seen ≡ false) }
         ensures rested { HasRested seat.old seat.new }
         ensures looked { HasLooked watcher.old watcher.new }
+        ensures rounds { AreRounds 1 seat.old seat.new watcher.old watcher.new }
         ensures in_section { HasStayedInside seat.old seat.new watcher.old watcher.new }
     {
         if seat.depth() > 0 {
@@ -130,6 +130,7 @@ impl<const LEAF: u32, const FAN: u32, T: Drop, P: Client> Live<LEAF, FAN, T, P> 
         ensures fault { IfErr result (λ fault. fault ≡ wait_fault seat.old.depth) }
         ensures rested { HasRested seat.old seat.new }
         ensures looked { HasLooked watcher.old watcher.new }
+        ensures rounds { AreRounds 2 seat.old seat.new watcher.old watcher.new }
         ensures in_section { HasStayedInside seat.old seat.new watcher.old watcher.new }
     {
         if seat.depth() > 0 {

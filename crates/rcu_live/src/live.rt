@@ -14,7 +14,7 @@ use crate::engine::Engine;
 use crate::meeting::Met;
 use crate::shared::Shared;
 use crate::watcher::Watcher;
-use rcu_node::tree::Tree;
+use rcu_node::Tree;
 use std::alloc::Global;
 use std::marker::Model;
 use std::sync::{Arc, Mutex};

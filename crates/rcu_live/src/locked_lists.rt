@@ -7,10 +7,9 @@ use crate::client::Client;
 use crate::cpu_seat::CpuSeat;
 use crate::live::Live;
 use crate::run::Ran;
-use rcu_barrier::barrier_state::BarrierState;
-use rcu_barrier::visit::Visit;
-use rcu_cblist::refused::Refused;
-use rcu_seq::fault::Fault;
+use rcu_barrier::{BarrierState, Visit};
+use rcu_cblist::Refused;
+use rcu_seq::Fault;
 use std::sync::Wait;
 
 impl<const LEAF: u32, const FAN: u32, T: Drop, P: Client> Live<LEAF, FAN, T, P> {

@@ -18,11 +18,10 @@ use crate::parts::Parts;
 use crate::seats::{BoardParts, open_board};
 use crate::watcher::Watcher;
 use rcu_barrier::lists::MOST_QUEUED;
-use rcu_core::gp_state::GpState;
-use rcu_geometry::opening::check_size;
-use rcu_node::cpu_set::CpuSet;
-use rcu_node::tree::Tree;
-use rcu_seq::fault::Fault;
+use rcu_core::GpState;
+use rcu_geometry::check_size;
+use rcu_node::{CpuSet, Tree};
+use rcu_seq::Fault;
 use std::alloc::{AllocError, Global};
 use std::sync::Arc;
 

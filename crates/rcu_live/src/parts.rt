@@ -5,7 +5,7 @@ use crate::client::{Client, NoClient};
 use crate::cpu_seat::CpuSeat;
 use crate::engine::Engine;
 use crate::watcher::Watcher;
-use rcu_node::tree::Tree;
+use rcu_node::Tree;
 use std::alloc::Global;
 use std::sync::Arc;
 

@@ -8,7 +8,7 @@ use crate::client::Client;
 use crate::cpu_seat::CpuSeat;
 use crate::live::Live;
 use crate::watcher::Watcher;
-use rcu_seq::fault::Fault;
+use rcu_seq::Fault;
 
 /// A watcher meets an open section, takes a cookie, polls it, and meets the section again. Whether
 /// the cookie tested done: it never does.

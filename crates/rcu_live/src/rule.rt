@@ -87,7 +87,7 @@ impl<S, C> Play<S, View<C>> for End {
 
 /// A client's step on one of its words.
 pub struct OnWord<M> {
-    outcome: PhantomData<M>,
+    step: PhantomData<M>,
 }
 
 impl<S, C, M: WordStep<C>> Play<S, View<C>> for OnWord<M> {
@@ -98,7 +98,7 @@ impl<S, C, M: WordStep<C>> Play<S, View<C>> for OnWord<M> {
 
 /// A client's look at the number.
 pub struct OnNumber<M> {
-    lesson: PhantomData<M>,
+    step: PhantomData<M>,
 }
 
 impl<S, C, M: NumberStep<C>> Play<S, View<C>> for OnNumber<M> {

@@ -1,6 +1,6 @@
 //! What a run of callbacks hands out.
 
-use rcu_cblist::queued::Queued;
+use rcu_cblist::Queued;
 
 /// What a run hands out.
 #[derive(Debug, Drop)]

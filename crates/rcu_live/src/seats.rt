@@ -7,7 +7,7 @@ ghost use Rattle.std.specs.List.{range_with_len};
 ghost use Rattle.rcu_live.specs.Board.{IsCpuCount};
 ghost use Rattle.rcu_live.specs.CpuSeat.{at_first};
 ghost use Rattle.rcu_live.specs.Opening.{AreDealt};
-ghost use Rattle.rcu_live.specs.TableSeat.{IsAt};
+ghost use Rattle.rcu_live.specs.TableSeat.{IsSeatAt};
 ghost use Rattle.rcu_live.specs.View.{engine_seat};
 ghost use Rattle.rcu_live.specs.Watcher.{watcher_at_first};
 ghost use Rattle.rcu_live.specs.Words.{base_of};
@@ -48,7 +48,7 @@ pub(crate) fn open_board<P: Client>(
         P.idle (arc_value dealt.board) dealt.seats.items dealt.watchers.items) }
     ensures own { IfOk result (λ dealt.
         dealt.own ≡ watcher_at_first (arc_value dealt.board).table (base_of cpus) P.first) }
-    ensures engine { IfOk result (λ dealt. IsAt (arc_value dealt.board).table
+    ensures engine { IfOk result (λ dealt. IsSeatAt (arc_value dealt.board).table
         (engine_seat cpus cpus P.idle) dealt.engine_seat) }
 {
     let (board, mut engine_seat) = Board::open(alloc, cpus, behind, slots)?;
@@ -71,11 +71,11 @@ fn deal_next<P: Client>(
     cpu: u32,
 ) -> (CpuSeat<P>, Watcher<P>)
     requires inside { cpu < board.now.cpus }
-    requires engine { IsAt board.now.table (engine_seat board.now.cpus cpu P.first) engine.old }
+    requires engine { IsSeatAt board.now.table (engine_seat board.now.cpus cpu P.first) engine.old }
     ensures seat { result.0 ≡ at_first board.now.table (base_of board.now.cpus) P.idle cpu }
     ensures watcher { result.1 ≡
         watcher_at_first board.now.table (base_of board.now.cpus) P.idle }
-    ensures engine { IsAt board.now.table (engine_seat board.now.cpus (cpu + 1) P.first)
+    ensures engine { IsSeatAt board.now.table (engine_seat board.now.cpus (cpu + 1) P.first)
         engine.new }
 {
     let seat = board.deal_cpu(engine);
@@ -92,13 +92,13 @@ fn deal<P: Client>(
     cpus: u32,
 ) -> Result<(Vec<CpuSeat<P>>, Vec<Watcher<P>>), AllocError>
     requires cpus { cpus ≡ board.now.cpus }
-    requires first { IsAt board.now.table (engine_seat cpus 0 P.first) engine.old }
+    requires first { IsSeatAt board.now.table (engine_seat cpus 0 P.first) engine.old }
     ensures seats { IfOk result (λ dealt. dealt.0.items ≡
         map (at_first board.now.table (base_of cpus) P.idle) (range_with_len 0 cpus)) }
     ensures watchers { IfOk result (λ dealt. dealt.1.items ≡
         map (λ _. watcher_at_first board.now.table (base_of cpus) P.idle) (range_with_len 0 cpus)) }
     ensures engine { OnOk result
-        (IsAt board.now.table (engine_seat cpus cpus P.first) engine.new) }
+        (IsSeatAt board.now.table (engine_seat cpus cpus P.first) engine.new) }
 {
     let mut seats = Vec::new(alloc);
     let mut watchers = Vec::new(alloc);

@@ -9,8 +9,7 @@ ghost use Rattle.rcu_live.specs.Watcher.{IsWatcherOf, KnowsAt, KnowsBy, WatchedA
 use crate::board::{Board, TableSeat};
 use crate::client::{Client, NoClient, NumberStep, WordStep};
 use crate::shared::Shared;
-use rcu_seq::cookie::Cookie;
-use rcu_seq::tag::Tag;
+use rcu_seq::{Cookie, Tag};
 use std::marker::Model;
 
 /// A watcher of an engine, for one thread.
@@ -93,7 +92,7 @@ impl<P: Client> Watcher<P> {
         live.board().store_word::<M>(&mut self.seat, word, value);
     }
 
-    /// Loads the number, by which the client learns.
+    /// Loads the number: a look of the client.
     pub fn load_number<L: Shared<P>, M: NumberStep<P::Known>>(&mut self, live: &L) -> u64
         requires table { self.old.table ≡ (L.object live.now).table }
         requires allowed { AllowsNumber P.holds None None self.old.view.client

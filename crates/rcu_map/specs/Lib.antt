@@ -1,7 +1,10 @@
+pub mod Chains
 pub mod Cursors
+pub mod Entries
 pub mod Found
 pub mod Keys
 pub mod Listed
 pub mod Listing
 pub mod Opening
 pub mod Sections
+pub mod Splices

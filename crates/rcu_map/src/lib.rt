@@ -4,14 +4,18 @@
 pub mod cursor;
 pub mod entries;
 pub mod entry;
+pub mod keeper;
 pub mod laws;
+mod links;
 mod listing;
 pub mod map;
 mod opening;
 mod section;
 pub mod shape;
+mod updates;
 
 pub use entries::Entries;
 pub use entry::Entry;
+pub use keeper::MapKeeper;
 pub use map::{List, Map};
 pub use shape::{MapSeat, MapShape, MapWatcher};

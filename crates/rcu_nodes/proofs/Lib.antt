@@ -17,3 +17,7 @@ pub mod Mirrors
 pub mod Tending
 pub mod Trims
 pub mod Cascade
+pub mod Rings
+pub mod Cycles
+pub mod Turns
+pub mod Standings

@@ -2,9 +2,7 @@
 use Rattle.std.proofs.Common.{◌≡◌, ℕ, zero, suc, ◌+◌, ◌*◌, ◌<◌, ◌≤◌, List, [], ◌∷◌, ◌++◌, length, get_or, map, set, take, drop, replicate}
 use Rattle.std.proofs.Common.{refl, sym, ap, ◌∙◌, arith}
 use Rattle.std.specs.Prelude.{slice_index}
-use Rattle.std.proofs.lemmas.List.{drop-set-lt, drop-set-add, ext_get_or, get_or-drop, set-get_or, take-set-le}
-use Rattle.std.proofs.Math.ListN.{get_or-map}
-use lib.ListN.{length-map}
+use Rattle.std.proofs.lemmas.List.{drop-set-lt, drop-set-add, get_or-drop, set-get_or, take-set-le}
 use Rattle.std.proofs.Math.Seq.{take-set-lt}
 use Rattle.rcu_nodes.specs.Mirror.{nodes_of, with_words, with_words_to}
 use Rattle.rcu_nodes.specs.Nodes.{aged, aged_state, in_state, linked_to, no_node, node_at, renewed, worded}
@@ -206,13 +204,6 @@ pub words_all : (nodes : List Node) (i n : ℕ) (words : List ℕ) → length wo
     → renewed nodes i (with_words_to n words) ≡ renewed nodes i (with_words words)
 words_all nodes i n words many size =
     ap (λ (ws : List ℕ). set nodes i (made (node_at nodes i).state (node_at nodes i).links ws)) (mixed_all n words (node_at nodes i).words many size)
-
-pub aged_all : (n : ℕ) (old items : List NodeState) → length items ≡ length old
-    → ((j : ℕ) → j < length old → get_or items j Free ≡ aged_state n n (get_or old j Free))
-    → items ≡ map (aged_state n n) old
-aged_all n old items long each =
-    ext_get_or Free items (map (aged_state n n) old) (long ∙ sym (length-map old (aged_state n n)))
-    (λ j low. each j (omega (arith, long, low)) ∙ sym (get_or-map (aged_state n n) old j Free))
 
 -- nodes whose states are an age older
 pub aged_of : (links width n : ℕ) (states : List NodeState) (cells words : List ℕ)

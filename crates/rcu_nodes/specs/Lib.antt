@@ -1,11 +1,13 @@
 pub mod Absence
 pub mod Counts
+pub mod Cycle
 pub mod Filling
 pub mod Graph
 pub mod Keeper
 pub mod Mirror
 pub mod Nodes
 pub mod Opening
+pub mod Ring
 pub mod Rule
 pub mod Search
 pub mod Stability

@@ -1,6 +1,7 @@
 -- The nodes as a keeper has them at run time.
 use Rattle.std.specs.Prelude.{◌≡◌, ◌<◌, ℕ, List, [], ◌∷◌, ◌++◌, length, take, drop}
-use Rattle.rcu_nodes.specs.Nodes.{node_at}
+use Rattle.rcu_seq.specs.Numbers.{Number}
+use Rattle.rcu_nodes.specs.Nodes.{IsBy, node_at, state_at}
 use Rattle.rcu_nodes.specs.declared.known.Node.{Node}
 use Rattle.rcu_nodes.specs.declared.node_state.NodeState.{NodeState}
 
@@ -19,6 +20,10 @@ with_words words v = record { state = v.state; links = v.links; words = words }
 abbrev pub AreSized : ℕ → ℕ → ℕ → List Node → Type 0
 AreSized count links width nodes =
     (i : ℕ) → i < count → (length (node_at nodes i).links ≡ links) × (length (node_at nodes i).words ≡ width)
+
+-- none of the nodes was retired after this number
+abbrev pub AreBy : Number → List Node → Type 0
+AreBy latest nodes = (i : ℕ) → IsBy latest (state_at nodes i)
 
 -- the node with other words as far as the place k
 abbrev pub with_words_to : ℕ → List ℕ → Node → Node

@@ -122,20 +122,15 @@ impl<F: Shape, const K: usize, const L: usize, const W: usize, const N: usize> K
         self.counted.nodes.word(node, word)
     }
 
-    /// A free node. `Full` tells that none is free.
+    /// A free node, at a cost that is the same for any number of nodes. It is free until it is
+    /// published, and may be told again. `Full` tells that none is free.
     pub fn free_node(&self) -> Result<usize, Full>
         ensures inside { IfOk result (λ node. node < N) }
         ensures free { IfOk result (λ node.
             state_at (nodes_in self.now.view.client) node ≡ Free) }
         ensures full { OnErr result (AreAllUsed (nodes_in self.now.view.client)) }
     {
-        self.counted.nodes.sizes();
-        for node in 0..N {
-            if self.is_free(node) {
-                return Ok(node);
-            }
-        }
-        Err(Full)
+        self.counted.nodes.free_node().ok_or(Full)
     }
 
     /// Stores all words and all links of a free node. No section sees them: it is free still.
@@ -227,7 +222,7 @@ impl<F: Shape, const K: usize, const L: usize, const W: usize, const N: usize> K
     }
 
     /// Looks at the number, by one load, and returns it: what was left is retired at it, and what
-    /// was retired a full grace period ago is free.
+    /// was retired a full grace period ago is free. It costs what it retires and frees.
     pub fn age<const LEAF: u32, const FAN: u32, T: Drop>(
         &mut self,
         graph: &Graph<LEAF, FAN, T, F, K, L, W, N>,

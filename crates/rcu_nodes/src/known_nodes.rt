@@ -1,5 +1,5 @@
 //! The seat that keeps the nodes, and beside it what it knows of them at run time.
-ghost use Rattle.std.specs.Prelude.{◌≡◌, ◌≤◌, ◌<◌, ◌+◌, ◌-◌, ◌*◌, ◌^◌, All, IfOk, IfSome};
+ghost use Rattle.std.specs.Prelude.{◌≡◌, ◌≤◌, ◌<◌, ◌+◌, ◌-◌, ◌*◌, ◌^◌, All, IfNone, IfOk, IfSome};
 ghost use Rattle.std.specs.Prelude.{length, map, slice_index};
 ghost use Rattle.std.specs.List.{range_with_len};
 ghost use Rattle.rcu_nodes.specs.Filling.{CanFill, CanStore, after_links, after_words};
@@ -9,7 +9,7 @@ ghost use Rattle.rcu_nodes.specs.Keeper.{after_look, after_publish, after_write}
 ghost use Rattle.rcu_nodes.specs.Mirror.{AreSized};
 ghost use Rattle.rcu_nodes.specs.Nodes.{IsKeeping, IsUnlinked, node_at, nodes_in, state_at};
 ghost use Rattle.rcu_nodes.specs.Steps.{IsClaimed};
-ghost use Rattle.rcu_nodes.specs.Tended.{after_fill};
+ghost use Rattle.rcu_nodes.specs.Tended.{AreAllUsed, after_fill};
 ghost use Rattle.rcu_nodes.specs.Updates.{CanPublish};
 ghost use Rattle.rcu_nodes.specs.declared.node_state.NodeState.TheVariants.{Free, Live};
 
@@ -38,6 +38,7 @@ impl<F: Shape, const K: usize, const L: usize, const W: usize, const N: usize> M
     ghost use Rattle.std.specs.Prelude.{◌≡◌, ◌≤◌, length};
     ghost use Rattle.rcu_live.specs.View.{IsOfWatcher};
     ghost use Rattle.rcu_live.specs.Watcher.{Watching};
+    ghost use Rattle.rcu_nodes.specs.Mirror.{AreBy};
     ghost use Rattle.rcu_nodes.specs.Nodes.{IsKeeping, latest_in, nodes_in};
     ghost use Rattle.rcu_nodes.specs.declared.known.Known.{Known};
 
@@ -51,6 +52,7 @@ impl<F: Shape, const K: usize, const L: usize, const W: usize, const N: usize> M
       few : length (nodes_in k.seat.view.client) ≡ N;
       late : latest_in k.seat.view.client ≤ k.seat.view.seen;
       same : nodes_in k.seat.view.client ≡ k.mirror;
+      by : AreBy (latest_in k.seat.view.client) k.mirror;
     } };
 }
 
@@ -107,6 +109,16 @@ impl<F: Shape, const K: usize, const L: usize, const W: usize, const N: usize> K
         ensures { result ≡ state_at (nodes_in self.now.view.client) node }
     {
         self.mirror.state(node)
+    }
+
+    /// A free node, where there is one.
+    pub(crate) fn free_node(&self) -> Option<usize>
+        ensures inside { IfSome result (λ node. node < N) }
+        ensures free { IfSome result (λ node.
+            state_at (nodes_in self.now.view.client) node ≡ Free) }
+        ensures none { IfNone result (AreAllUsed (nodes_in self.now.view.client)) }
+    {
+        self.mirror.free_node()
     }
 
     /// The word of a link of a node.
@@ -239,7 +251,7 @@ impl<F: Shape, const K: usize, const L: usize, const W: usize, const N: usize> K
         ensures state { self.new ≡ after_publish self.old from link to }
     {
         graph.publish(&mut self.seat, from, link, to);
-        self.mirror.set_state(to, NodeState::Live);
+        self.mirror.publish(to);
         self.mirror.set_link(from, link, word_of(Some(to)));
     }
 
@@ -258,10 +270,10 @@ impl<F: Shape, const K: usize, const L: usize, const W: usize, const N: usize> K
         ensures state { self.new ≡ after_leave self.old node }
     {
         graph.leave(&mut self.seat, node);
-        self.mirror.set_state(node, NodeState::Left);
+        self.mirror.leave(node);
     }
 
-    /// Looks at the number, by which the nodes age.
+    /// Looks at the number, by which the nodes age. It costs what becomes free or retired by it.
     pub(crate) fn look<const LEAF: u32, const FAN: u32, T: Drop>(
         &mut self,
         graph: &Graph<LEAF, FAN, T, F, K, L, W, N>,

@@ -4,6 +4,7 @@
 
 mod allowed;
 mod counted_nodes;
+mod cycle;
 pub mod graph;
 pub mod keeper;
 mod keeper_steps;
@@ -14,6 +15,7 @@ mod mirror;
 pub mod node_state;
 mod opening;
 pub mod places;
+mod ring;
 pub mod rule;
 mod search;
 pub mod walk;

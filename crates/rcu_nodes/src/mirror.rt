@@ -1,11 +1,14 @@
 //! The nodes at run time, beside the shared words: states, links and words, row by row.
-ghost use Rattle.std.specs.Prelude.{◌≡◌, ◌≤◌, ◌<◌, ◌+◌, ◌*◌, ◌^◌, IfOk, map, length};
-ghost use Rattle.std.specs.Prelude.{replicate, slice_index};
+ghost use Rattle.std.specs.Prelude.{◌≡◌, ◌≤◌, ◌<◌, ◌+◌, ◌*◌, ◌^◌, IfNone, IfOk, IfSome, map};
+ghost use Rattle.std.specs.Prelude.{length, replicate, slice_index};
 ghost use Rattle.std.specs.List.{range_with_len};
-ghost use Rattle.rcu_nodes.specs.Mirror.{AreSized, with_words};
-ghost use Rattle.rcu_nodes.specs.Nodes.{aged, aged_state, first_nodes, free_node, in_state};
-ghost use Rattle.rcu_nodes.specs.Nodes.{linked_to, node_at, renewed, state_at, worded};
+ghost use Rattle.rcu_nodes.specs.Mirror.{AreBy, AreSized, with_words};
+ghost use Rattle.rcu_nodes.specs.Nodes.{aged, first_nodes, free_node, in_state, linked_to, node_at};
+ghost use Rattle.rcu_nodes.specs.Nodes.{renewed, state_at, worded};
+ghost use Rattle.rcu_nodes.specs.Tended.{AreAllUsed};
+ghost use Rattle.rcu_nodes.specs.declared.node_state.NodeState.TheVariants.{Free, Left, Live};
 
+use crate::cycle::Cycle;
 use crate::node_state::NodeState;
 use crate::rule::Shape;
 use std::alloc::{AllocError, Global};
@@ -14,7 +17,7 @@ use std::marker::Model;
 /// `N` nodes of `L` links and `W` words.
 #[derive(Drop)]
 pub(crate) struct Mirror<const L: usize, const W: usize, const N: usize> {
-    states: Vec<NodeState>,
+    states: Cycle<N>,
     links: Vec<u64>,
     words: Vec<u64>,
 }
@@ -26,10 +29,10 @@ impl<const L: usize, const W: usize, const N: usize> Model for Mirror<L, W, N> {
 
     ghost Value = { List Node };
 
-    ghost view = { λ m. nodes_of L W m.states.items m.links.items m.words.items };
+    ghost view = { λ m. nodes_of L W m.states m.links.items m.words.items };
 
     ghost invariant = { λ m. record {
-      count : length m.states.items ≡ N;
+      count : length m.states ≡ N;
       links : length m.links.items ≡ L * N;
       words : length m.words.items ≡ W * N;
       links_fit : L * N + 1 < 2 ^ 64;
@@ -48,16 +51,6 @@ fn cell_of(row: usize, count: usize, node: usize, k: usize) -> usize
     row * node + k
 }
 
-/// Each state after a look that saw this number.
-fn age_all(states: &mut Vec<NodeState>, number: u64)
-    requires { number ≤ 2 ^ 62 }
-    ensures { states.new.items ≡ map (aged_state number number) states.old.items }
-{
-    for node in 0..states.len() {
-        states[node] = states[node].aged(number);
-    }
-}
-
 impl<const L: usize, const W: usize, const N: usize> Mirror<L, W, N> {
     /// The nodes at first: the roots have these words.
     pub(crate) fn new<F: Shape, const K: usize>(
@@ -72,7 +65,7 @@ impl<const L: usize, const W: usize, const N: usize> Mirror<L, W, N> {
     {
         let mut mirror = Self::free_nodes(alloc)?;
         for root in 0..K {
-            mirror.set_state(root, NodeState::Live);
+            mirror.publish(root);
             mirror.set_words(root, &roots[root]);
         }
         Ok(mirror)
@@ -84,7 +77,7 @@ impl<const L: usize, const W: usize, const N: usize> Mirror<L, W, N> {
         requires words { W * N < 2 ^ 64 }
         ensures { IfOk result (λ mirror. mirror ≡ replicate N (free_node L W)) }
     {
-        let states = vec![in alloc; NodeState::Free; N]?;
+        let states = Cycle::new(alloc)?;
         let links = vec![in alloc; 0u64; L * N]?;
         let words = vec![in alloc; 0u64; W * N]?;
         Ok(Mirror {
@@ -109,7 +102,16 @@ impl<const L: usize, const W: usize, const N: usize> Mirror<L, W, N> {
         requires { node < N }
         ensures { result ≡ state_at self.now node }
     {
-        self.states[node]
+        self.states.state(node)
+    }
+
+    /// A free node, where there is one.
+    pub(crate) fn free_node(&self) -> Option<usize>
+        ensures inside { IfSome result (λ node. node < N) }
+        ensures free { IfSome result (λ node. state_at self.now node ≡ Free) }
+        ensures none { IfNone result (AreAllUsed self.now) }
+    {
+        self.states.free_node()
     }
 
     /// Where a link of a node leads.
@@ -130,12 +132,22 @@ impl<const L: usize, const W: usize, const N: usize> Mirror<L, W, N> {
         self.words[cell_of(W, N, node, word)]
     }
 
-    /// Puts a node into a state.
-    pub(crate) fn set_state(&mut self, node: usize, state: NodeState)
-        requires { node < N }
-        ensures { self.new ≡ renewed self.old node (in_state state) }
+    /// Makes a free node live.
+    pub(crate) fn publish(&mut self, node: usize)
+        requires node { node < N }
+        requires free { state_at self.old node ≡ Free }
+        ensures { self.new ≡ renewed self.old node (in_state Live) }
     {
-        self.states[node] = state;
+        self.states.publish(node);
+    }
+
+    /// Leaves a live node.
+    pub(crate) fn leave(&mut self, node: usize)
+        requires node { node < N }
+        requires live { state_at self.old node ≡ Live }
+        ensures { self.new ≡ renewed self.old node (in_state Left) }
+    {
+        self.states.leave(node);
     }
 
     /// Leads a link of a node elsewhere.
@@ -169,11 +181,12 @@ impl<const L: usize, const W: usize, const N: usize> Mirror<L, W, N> {
         }
     }
 
-    /// The nodes after a look that saw this number.
+    /// The nodes after a look that saw this number. It costs what becomes free or retired by it.
     pub(crate) fn age(&mut self, number: u64)
-        requires { number ≤ 2 ^ 62 }
+        requires small { number ≤ 2 ^ 62 }
+        requires late { AreBy number self.old }
         ensures { self.new ≡ aged number number self.old }
     {
-        age_all(&mut self.states, number);
+        self.states.age(number);
     }
 }

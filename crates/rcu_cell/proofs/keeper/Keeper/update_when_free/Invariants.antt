@@ -1,7 +1,7 @@
 use Rattle.std.proofs.Common.{◌≡◌}
-use Rattle.std.specs.Prelude.{IfErr}
+use Rattle.std.specs.Prelude.{IfErr, OnErr, OnOk}
 use Rattle.rcu_seq.specs.declared.fault.Fault.TheVariants.{Exhausted}
-use Rattle.rcu_live.specs.Waits.{HasRested}
+use Rattle.rcu_live.specs.Waits.{AreRounds, HasRested}
 use Rattle.rcu_cell.specs.Cell.{IsSeatOf, IsWatcherOf}
 use Rattle.rcu_cell.specs.Waits.{HasAged}
 use Rattle.rcu_cell.proofs.keeper.Keeper.update_when_free.Given as goal
@@ -14,4 +14,6 @@ invariant-loop g l = record {
   rested : HasRested l.fn.seat l.seat;
   aged : HasAged l.fn.self l.self;
   waited : IfErr l.waited (λ fault. fault ≡ Exhausted);
+  rounds : OnOk l.waited (AreRounds 1 l.fn.seat l.seat l.fn.self l.self);
+  last : OnErr l.waited (AreRounds 2 l.fn.seat l.seat l.fn.self l.self);
 }

@@ -1,7 +1,7 @@
 use Rattle.std.proofs.Common.{ℕ, ◌+◌, ◌<◌, ap, arith, rules, subst, sym}
 use Rattle.rcu_live.specs.Board.{Object}
 use Rattle.rcu_live.specs.Words.{base_of}
-use Rattle.rcu_live.proofs.ClientSteps.{uses}
+use Rattle.rcu_live.proofs.ClientSteps.{steps_on_word}
 use Rattle.rcu_live.proofs.board.Board.load_word.Goals as goal
 
 pub overflow_add-own_word_index : goal.overflow_add-own_word_index
@@ -19,5 +19,5 @@ load-requires g c =
     let there = ap (λ (n : ℕ). n + c.args.word) c.own_word_index.ensures in (
       search rules,
       omega (arith, c.own_word_index.ensures, inside),
-      uses g.P.Client.holds _ _ _ _ _ _ _ (λ n. n) g.M.WordStep.then c.self.invariant.key c.self.invariant.some there c.requires.allowed,
+      steps_on_word g.P.Client.holds _ _ _ _ _ _ _ (λ n. n) g.M.WordStep.then c.self.invariant.key c.self.invariant.some there c.requires.allowed,
     )

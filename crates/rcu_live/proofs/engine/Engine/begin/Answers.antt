@@ -10,8 +10,8 @@ use Rattle.rcu_live.specs.declared.view.View.{View}
 use Rattle.rcu_live.proofs.Begins.{begun_awaits, begun_is}
 use Rattle.rcu_live.proofs.engine.Engine.begin.Goals as goal
 
-pub hear_all-requires-clause-already_quiescent : goal.hear_all-requires-clause-already_quiescent
-hear_all-requires-clause-already_quiescent g c =
+pub report_all-requires-clause-already_quiescent : goal.report_all-requires-clause-already_quiescent
+report_all-requires-clause-already_quiescent g c =
     let f = c.load_own_words.ensures in
     ap (λ (l : List Bool). length l) f.already_quiescent ∙ length-listed _ _
     ∙ sym (ap (λ (y : Grace g.row.T.Denot). length y.processors.awaited) c.in-Ok.ensures.state ∙ ap (λ (l : List Bool). length l) f.state.these ∙ length-listed _ _)
@@ -25,10 +25,10 @@ invariant_of-self g c =
     let cpus = c.deref-2.result.now.cpus in
     let same : cpus ≡ (arc_value c.self.inside.board).cpus = ap (λ (o : Object). o.cpus) c.deref-2.ensures in
     let number = c.in_ok-number.ensures.number in
-    let state : c.hear_all.new.gp.grace ≡ begun_from cpus (loaded_word own_word_loads) old =
-    begun_is old c.load_own_words.new.gp.grace c.begin-2.new.self.grace c.hear_all.new.gp.grace cpus
+    let state : c.report_all.new.gp.grace ≡ begun_from cpus (loaded_word own_word_loads) old =
+    begun_is old c.load_own_words.new.gp.grace c.begin-2.new.self.grace c.report_all.new.gp.grace cpus
     (loaded_word own_word_loads) c.load_own_words.new.already_quiescent c.in_ok-number.number
-    f.state.seq f.state.needed f.state.lists f.state.these f.already_quiescent number c.in-Ok.ensures.state c.hear_all.ensures in
+    f.state.seq f.state.needed f.state.lists f.state.these f.already_quiescent number c.in-Ok.ensures.state c.report_all.ensures in
     let view : c.load_own_words.new.seat.me.0
     ≡ after_own_word_loads (after_begin_store c.self.inside.seat.me.0 c.in_ok-number.number) (loaded_word own_word_loads) cpus =
     f.view ∙ ap (λ (v : View g.row.P-Known.Denot). after_own_word_loads v (loaded_word own_word_loads) cpus) c.begin.ensures.told in
@@ -42,7 +42,7 @@ invariant_of-self g c =
       cpus = ap (λ (y : Grace g.row.T.Denot). length y.processors.awaited) state ∙ length-listed _ _ ∙ same;
       already_quiescent = ap (λ (l : List Bool). length l) f.already_quiescent ∙ length-listed _ _ ∙ same;
       awaited =
-          λ runs d low none. begun_awaits old c.hear_all.new.gp.grace cpus (loaded_word own_word_loads) own_word_loads state
+          λ runs d low none. begun_awaits old c.report_all.new.gp.grace cpus (loaded_word own_word_loads) own_word_loads state
           (ap (λ (v : View g.row.P-Known.Denot). v.own_word_loads) view) runs d
           (subst (λ (n : ℕ). d < n) (sym same) low) none;
     }
@@ -56,10 +56,10 @@ returns-clause-state g c =
     let cpus = c.deref-2.result.now.cpus in
     let same : cpus ≡ (arc_value c.self.inside.board).cpus = ap (λ (o : Object). o.cpus) c.deref-2.ensures in
     let number = c.in_ok-number.ensures.number in
-    let state : c.hear_all.new.gp.grace ≡ begun_from cpus (loaded_word own_word_loads) old =
-    begun_is old c.load_own_words.new.gp.grace c.begin-2.new.self.grace c.hear_all.new.gp.grace cpus
+    let state : c.report_all.new.gp.grace ≡ begun_from cpus (loaded_word own_word_loads) old =
+    begun_is old c.load_own_words.new.gp.grace c.begin-2.new.self.grace c.report_all.new.gp.grace cpus
     (loaded_word own_word_loads) c.load_own_words.new.already_quiescent c.in_ok-number.number
-    f.state.seq f.state.needed f.state.lists f.state.these f.already_quiescent number c.in-Ok.ensures.state c.hear_all.ensures in
+    f.state.seq f.state.needed f.state.lists f.state.these f.already_quiescent number c.in-Ok.ensures.state c.report_all.ensures in
     let view : c.load_own_words.new.seat.me.0 ≡ after_own_word_loads (after_begin_store v (next_number old)) (loaded_word own_word_loads) cpus =
     f.view ∙ ap (λ (u : View g.row.P-Known.Denot). after_own_word_loads u (loaded_word own_word_loads) cpus)
     (c.begin.ensures.told ∙ ap (after_begin_store v) number) in

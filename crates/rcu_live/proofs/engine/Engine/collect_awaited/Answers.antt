@@ -20,7 +20,7 @@ loop-cpu-preserved g c =
     let state : c.if-awaits.self ≡ collected_below e (n + 1) (latest_words c.if-awaits.self) = elim c.if-awaits.branch [
       | then-awaits w ↦ one_collected e c.loop-cpu.self c.if-awaits.self n c.requires inside
           (sym still ∙ sym c.awaits.ensures ∙ w.if-awaits.true) i.0
-          (rw w.self-is w.hear_of.ensures)
+          (rw w.self-is w.collect_from.ensures)
       | else-awaits w ↦ rw w.self-is (one_passed_by e c.loop-cpu.self n (sym still ∙ sym c.awaits.ensures ∙ w.if-awaits.false) i.0)
     ] in
     (state, ap (λ (y : Locked g.row.P-Known.Denot g.row.T.Denot). y.cpus) state)

@@ -8,8 +8,8 @@ on_any_err : {A B P : Type 0} (r : Result A B) → P → OnErr r P
 on_any_err (Ok _) _ = tt
 on_any_err (Err _) p = p
 
-pub returns-in_err-calls-clause-some : goal.returns-in_err-calls-clause-some
-returns-in_err-calls-clause-some g c =
+pub returns-in_err-calls-clause-memory : goal.returns-in_err-calls-clause-memory
+returns-in_err-calls-clause-memory g c =
     rw (← c.self.view_is) (on_any_err c.from_residual.result (λ _. c.in_err-calls.ensures.some))
 
 pub returns-clause-calls : goal.returns-clause-calls

@@ -1,7 +1,7 @@
 use Rattle.std.proofs.Common.{None, subst, sym}
 use Rattle.rcu_live.specs.Client.{AllowsNumber}
 use Rattle.rcu_live.specs.Watcher.{Watching}
-use Rattle.rcu_live.proofs.ClientSteps.{sees_of_watcher}
+use Rattle.rcu_live.proofs.ClientSteps.{allows_number_of_watcher}
 use Rattle.rcu_live.proofs.watcher.Watcher.load_number.Goals as goal
 
 pub load_number-requires-clause-allowed : goal.load_number-requires-clause-allowed
@@ -10,4 +10,4 @@ load_number-requires-clause-allowed g c =
     let allowed =
     subst (λ (w : Watching g.row.P-Known.Denot). AllowsNumber holds None None w.view.client (g.M.NumberStep.then w.view.client))
     (sym c.self.view_is) c.requires.allowed in
-    sees_of_watcher holds _ _ _ _ _ c.self.invariant.role allowed
+    allows_number_of_watcher holds _ _ _ _ _ c.self.invariant.role allowed

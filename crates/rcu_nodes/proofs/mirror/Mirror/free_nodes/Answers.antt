@@ -7,7 +7,7 @@ use Rattle.rcu_nodes.proofs.mirror.Mirror.free_nodes.Goals as goal
 
 pub returns : goal.returns
 returns g c =
-    let states : c.in_ok-states.states.items ≡ replicate g.row.N Free = search rules in
+    let states : c.in_ok-states.states ≡ replicate g.row.N Free = search rules in
     let links : c.in_ok-links.links.items ≡ replicate {A = ℕ} (g.row.L * g.row.N) 0 = search rules in
     let words : c.in_ok-words.words.items ≡ replicate {A = ℕ} (g.row.W * g.row.N) 0 = search rules in
     ap (λ (l : List NodeState). nodes_of g.row.L g.row.W l c.in_ok-links.links.items c.in_ok-words.words.items) states

@@ -8,7 +8,7 @@ use Rattle.rcu_nodes.proofs.mirror.Mirror.set_link.Goals as goal
 pub returns : goal.returns
 returns g c =
     let k = c.self.invariant in
-    let states = c.self.inside.states.items in
+    let states = c.self.inside.states in
     let items = c.self.inside.links.items in
     let words = c.self.inside.words.items in
     ap (λ (n : ℕ). nodes_of g.row.L g.row.W states (set items n c.args.value) words) c.cell_of.ensures.place

@@ -1,0 +1,16 @@
+use Rattle.std.proofs.Common.{◌≡◌, ◌-◌, ◌<◌}
+use Rattle.rcu_nodes.specs.Absence.{key_at}
+use Rattle.rcu_nodes.specs.Nodes.{node_at, nodes_in, state_at}
+use Rattle.rcu_nodes.specs.declared.node_state.NodeState.TheVariants.{Live}
+use Rattle.rcu_map.specs.Keys.{bucket_in, bucket_of}
+use Rattle.rcu_map.proofs.keeper.MapKeeper.place_of.Given as goal
+
+abbrev pub invariant-chain : goal.invariant-chain
+invariant-chain g l = record {
+  live : state_at (nodes_in l.nodes.view.client) l.previous ≡ Live;
+  bucket : bucket_in g.row.BUCKETS (node_at (nodes_in l.nodes.view.client) l.previous).words ≡ bucket_of g.row.BUCKETS l.key;
+  less : key_at (nodes_in l.nodes.view.client) l.previous < l.key;
+}
+
+abbrev pub decreases-chain : goal.decreases-chain
+decreases-chain g l = l.key - key_at (nodes_in l.nodes.view.client) l.previous

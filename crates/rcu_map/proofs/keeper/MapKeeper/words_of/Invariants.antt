@@ -1,0 +1,10 @@
+use Rattle.std.proofs.Common.{◌≡◌, ◌<◌, ℕ, length}
+use Rattle.std.specs.Prelude.{slice_index}
+use Rattle.rcu_nodes.specs.Nodes.{node_at, nodes_in}
+use Rattle.rcu_map.proofs.keeper.MapKeeper.words_of.Given as goal
+
+abbrev pub invariant-loop-word : goal.invariant-loop-word
+invariant-loop-word g l = record {
+  size : length l.words ≡ length l.initial.words;
+  told : (j : ℕ) → j < l.word → slice_index l.words j ≡ slice_index (node_at (nodes_in l.nodes.view.client) l.node).words j;
+}

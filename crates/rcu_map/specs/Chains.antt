@@ -1,0 +1,36 @@
+-- The chains of a map, as its keeper knows them.
+use Rattle.std.specs.Prelude.{◌≡◌, ◌<◌, ◌≤◌, ℕ, suc, List, length, map}
+use Rattle.std.specs.List.{range_with_len}
+use Rattle.rcu_nodes.specs.Absence.{key_at, next_of}
+use Rattle.rcu_nodes.specs.Nodes.{node_at, state_at}
+use Rattle.rcu_nodes.specs.Tended.{AreTended}
+use Rattle.rcu_nodes.specs.declared.known.Node.{Node}
+use Rattle.rcu_nodes.specs.declared.node_state.NodeState.TheVariants.{Live}
+use Rattle.rcu_map.specs.Keys.{GoesUp, IsWhole, bucket_in, root_words}
+
+-- the words of the roots, bucket by bucket
+abbrev pub words_of_roots : ℕ → ℕ → List (List ℕ)
+words_of_roots width buckets = map (root_words width) (range_with_len 0 buckets)
+
+-- both nodes are live, and of one bucket
+pub record AreOfOneBucket (buckets : ℕ) (nodes : List Node) (i j : ℕ) : Type 0 where
+  pub first : state_at nodes i ≡ Live
+  pub second : state_at nodes j ≡ Live
+  pub same : bucket_in buckets (node_at nodes i).words ≡ bucket_in buckets (node_at nodes j).words
+
+-- the node i leads to a node whose key is no greater than that of the node j
+pub record LeadsTowards (nodes : List Node) (i j : ℕ) : Type 0 where
+  pub to : ℕ
+  pub leads : next_of nodes i ≡ suc to
+  pub near : key_at nodes to ≤ key_at nodes j
+
+-- so many nodes are those of a map of so many buckets. The live ones are tended, and have a link each; the roots have their
+-- words. The live nodes of a bucket are one chain, in the order of their keys: each leads to the one with the next greater
+-- key. No two have one key
+pub record IsMap (holds : List ℕ → Type 0) (buckets width count : ℕ) (nodes : List Node) : Type 0 where
+  pub few : length nodes ≡ count
+  pub tended : AreTended (IsWhole holds width) (λ _ from to. GoesUp buckets from to) buckets 1 nodes
+  pub roots : (i : ℕ) → i < buckets → (node_at nodes i).words ≡ root_words width i
+  pub linked : (i : ℕ) → state_at nodes i ≡ Live → length (node_at nodes i).links ≡ 1
+  pub next : (i j : ℕ) → AreOfOneBucket buckets nodes i j → key_at nodes i < key_at nodes j → LeadsTowards nodes i j
+  pub apart : (i j : ℕ) → AreOfOneBucket buckets nodes i j → key_at nodes i ≡ key_at nodes j → i ≡ j

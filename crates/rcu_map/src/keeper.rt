@@ -1,0 +1,201 @@
+//! The keeper of a map: it reads the entries without a section, and looks which nodes are free.
+ghost use Rattle.std.specs.Prelude.{◌≡◌, ◌≤◌, ◌<◌, ◌↔◌, IfOk, IfSome, IsSome, IsTrue, MatchOption};
+ghost use Rattle.rcu_nodes.specs.Graph.{IsWatcherOf};
+ghost use Rattle.rcu_nodes.specs.Keeper.{IsKeeperOf, after_look};
+ghost use Rattle.rcu_nodes.specs.Nodes.{node_at, nodes_in};
+ghost use Rattle.rcu_nodes.specs.Steps.{IsClaimed};
+ghost use Rattle.rcu_map.specs.Chains.{IsMap, words_of_roots};
+ghost use Rattle.rcu_map.specs.Entries.{AreSameEntries, HasKey, IsEntry, IsEntryOf};
+ghost use Rattle.rcu_map.specs.Entries.{IsNodeOf, entries_in};
+ghost use Rattle.rcu_map.specs.Keys.{root_words};
+ghost use Rattle.rcu_map.specs.Splices.{IsPlace};
+
+use crate::entry::Entry;
+use crate::links::keep;
+use crate::map::Map;
+use crate::shape::{MapShape, MapWatcher};
+use rcu_nodes::keeper::Keeper;
+use std::alloc::{AllocError, Global};
+use std::marker::Model;
+
+/// The keeper of a map, for one thread. A map has one.
+#[derive(Drop)]
+pub struct MapKeeper<E: Entry<W>, const BUCKETS: usize, const W: usize, const N: usize> {
+    pub(crate) nodes: Keeper<MapShape<E, BUCKETS, W>, BUCKETS, 1, W, N>,
+    pub(crate) len: usize,
+}
+
+impl<E: Entry<W>, const BUCKETS: usize, const W: usize, const N: usize> Model
+    for MapKeeper<E, BUCKETS, W, N> {
+    ghost use Rattle.std.specs.Prelude.{◌≡◌, ◌<◌};
+    ghost use Rattle.rcu_live.specs.Watcher.{Watching};
+    ghost use Rattle.rcu_nodes.specs.Nodes.{nodes_in};
+    ghost use Rattle.rcu_nodes.specs.declared.known.Known.{Known};
+    ghost use Rattle.rcu_map.specs.Chains.{IsMap};
+    ghost use Rattle.rcu_map.specs.Entries.{IsNodeOf, entries_in};
+
+    ghost Value = { Watching Known };
+
+    ghost view = { λ k. k.nodes };
+
+    ghost invariant = { λ k. record {
+      some : 0 < BUCKETS;
+      map : IsMap E.holds BUCKETS W N (nodes_in k.nodes.view.client);
+      count : k.len ≡ entries_in BUCKETS (nodes_in k.nodes.view.client);
+    } };
+}
+
+/// Where a key belongs in the chain of its bucket.
+#[derive(Clone, Copy)]
+pub(crate) struct Place {
+    /// The last node whose key is less.
+    pub(crate) previous: usize,
+    /// The node that has the key, where there is one.
+    pub(crate) node: Option<usize>,
+}
+
+impl<E: Entry<W>, const BUCKETS: usize, const W: usize, const N: usize> MapKeeper<
+    E,
+    BUCKETS,
+    W,
+    N,
+> {
+    /// The keeper of a map that has no entry yet: the nodes of its graph are as at first, and its
+    /// roots have these words. It takes all the memory that it will ever have.
+    pub fn new<const LEAF: u32, const FAN: u32, T: Drop>(
+        alloc: Global,
+        map: &Map<LEAF, FAN, T, E, BUCKETS, W, N>,
+        seat: MapWatcher<E, BUCKETS, W, N>,
+        roots: &[[u64; W]; BUCKETS],
+    ) -> Result<Self, AllocError>
+        requires keeper { IsKeeperOf N map.now seat }
+        requires nodes { IsClaimed (root_words W) BUCKETS 1 W N seat.view.client }
+        requires first { roots.now ≡ words_of_roots W BUCKETS }
+        ensures { IfOk result (λ keeper. keeper ≡ seat) }
+    {
+        // A borrow of a field shows the prover what the type keeps: that there is a bucket.
+        let graph = &map.graph;
+        let nodes = keep(alloc, graph, seat, roots)?;
+        Ok(MapKeeper { nodes, len: 0 })
+    }
+
+    /// What a keeper of this map keeps: nothing is done. A caller learns the clauses by the call.
+    pub fn tends<const LEAF: u32, const FAN: u32, T: Drop>(
+        &self,
+        map: &Map<LEAF, FAN, T, E, BUCKETS, W, N>,
+    )
+        requires graph { IsWatcherOf map.now self.now }
+        ensures keeper { IsKeeperOf N map.now self.now }
+        ensures map { IsMap E.holds BUCKETS W N (nodes_in self.now.view.client) }
+    {
+        self.nodes.tends(map.graph());
+    }
+
+    /// How many entries there are.
+    pub fn len(&self) -> usize
+        ensures { result ≡ entries_in BUCKETS (nodes_in self.now.view.client) }
+    {
+        self.len
+    }
+
+    /// Where a key belongs.
+    pub(crate) fn place_of(&self, key: u64) -> Place
+        requires { 0 < key }
+        ensures place { IsPlace BUCKETS key (nodes_in self.now.view.client)
+            result.previous result.node }
+        ensures told { MatchOption result.node
+            (¬ HasKey BUCKETS (nodes_in self.now.view.client) key)
+            (λ node. IsNodeOf BUCKETS (nodes_in self.now.view.client) key node) }
+    {
+        // A borrow of a field shows the prover what the type keeps: that there is a bucket.
+        let nodes = &self.nodes;
+        let mut previous = (key % BUCKETS as u64) as usize;
+        'chain: loop {
+            let Some(next) = nodes.link_of(previous, 0) else {
+                return Place {
+                    previous,
+                    node: None,
+                };
+            };
+            let found = nodes.word(next, 0);
+            if found == key {
+                return Place {
+                    previous,
+                    node: Some(next),
+                };
+            }
+            if found > key {
+                return Place {
+                    previous,
+                    node: None,
+                };
+            }
+            previous = next;
+        }
+    }
+
+    /// The node that has the entry of this key. No entry has the key 0.
+    fn find(&self, key: u64) -> Option<usize>
+        ensures { MatchOption result (¬ HasKey BUCKETS (nodes_in self.now.view.client) key)
+            (λ node. IsNodeOf BUCKETS (nodes_in self.now.view.client) key node) }
+    {
+        // A borrow of a field shows the prover what the type keeps: that an entry has a key.
+        let _ = &self.nodes;
+        if key == 0 {
+            return None;
+        }
+        self.place_of(key).node
+    }
+
+    /// The words of the entry of a node.
+    fn words_of(&self, node: usize) -> [u64; W]
+        requires { IsEntry BUCKETS (nodes_in self.now.view.client) node }
+        ensures same { result ≡ (node_at (nodes_in self.now.view.client) node).words }
+        ensures whole { E.holds result }
+    {
+        let nodes = &self.nodes;
+        let mut words = [0u64; W];
+        for word in 0..W {
+            words[word] = nodes.word(node, word);
+        }
+        words
+    }
+
+    /// The entry of this key, if there is one: no shared word is read. No entry has the key 0.
+    pub fn get(&self, key: u64) -> Option<E>
+        ensures there { IsSome result ↔ HasKey BUCKETS (nodes_in self.now.view.client) key }
+        ensures found { IfSome result (λ entry.
+            IsEntryOf E.decode BUCKETS (nodes_in self.now.view.client) key entry) }
+        ensures keyed { IfSome result (λ entry. E.key_of entry ≡ key) }
+        ensures sound { IfSome result (λ entry. E.valid entry) }
+    {
+        let node = self.find(key)?;
+        Some(E::of_words(&self.words_of(node)))
+    }
+
+    /// Whether there is an entry of this key.
+    pub fn contains(&self, key: u64) -> bool
+        ensures { IsTrue result ↔ HasKey BUCKETS (nodes_in self.now.view.client) key }
+    {
+        self.find(key).is_some()
+    }
+
+    /// Looks at the number, by one load, and returns it: what was left is retired at it, and what
+    /// was retired a full grace period ago is free. No entry changes.
+    pub fn age<const LEAF: u32, const FAN: u32, T: Drop>(
+        &mut self,
+        map: &Map<LEAF, FAN, T, E, BUCKETS, W, N>,
+    ) -> u64
+        requires { IsWatcherOf map.now self.old }
+        ensures graph { IsWatcherOf map.now self.new }
+        ensures state { self.new ≡ after_look self.old result }
+        ensures later { self.old.view.seen ≤ result }
+        ensures entries { AreSameEntries BUCKETS (nodes_in self.old.view.client)
+            (nodes_in self.new.view.client) }
+    {
+        let graph = map.graph();
+        let number = self.nodes.age(graph);
+        self.nodes.tends(graph);
+        number
+    }
+}

@@ -1,0 +1,85 @@
+//! A keeper's steps on chains: on nodes with one link each.
+ghost use Rattle.std.specs.Prelude.{IfOk, MatchResult};
+ghost use Rattle.rcu_map.specs.Splices.{CanKeep, CanPass, CanPut, HasKept, HasPassed, HasPut};
+ghost use Rattle.rcu_map.specs.Splices.{IsFull};
+
+use rcu_nodes::graph::Graph;
+use rcu_nodes::keeper::{Full, Keeper};
+use rcu_nodes::rule::{GraphWatcher, Shape};
+use std::alloc::{AllocError, Global};
+
+/// The keeper of a graph whose nodes are as at first.
+pub(crate) fn keep<
+    const LEAF: u32,
+    const FAN: u32,
+    T: Drop,
+    F: Shape,
+    const K: usize,
+    const W: usize,
+    const N: usize,
+>(
+    alloc: Global,
+    graph: &Graph<LEAF, FAN, T, F, K, 1, W, N>,
+    seat: GraphWatcher<F, K, 1, W, N>,
+    roots: &[[u64; W]; K],
+) -> Result<Keeper<F, K, 1, W, N>, AllocError>
+    requires { CanKeep F.fits F.first K W N graph.now seat roots.now }
+    ensures { IfOk result (λ keeper. HasKept F.fits F.joins K N seat keeper) }
+{
+    let keeper = Keeper::new(alloc, graph, seat, roots)?;
+    keeper.tends(graph);
+    Ok(keeper)
+}
+
+/// Writes these words to a free node, which leads to the next one, and leads the previous one to it
+/// by one store. What no live node leads to any more is left.
+pub(crate) fn put<
+    const LEAF: u32,
+    const FAN: u32,
+    T: Drop,
+    F: Shape,
+    const K: usize,
+    const W: usize,
+    const N: usize,
+>(
+    keeper: &mut Keeper<F, K, 1, W, N>,
+    graph: &Graph<LEAF, FAN, T, F, K, 1, W, N>,
+    previous: usize,
+    words: &[u64; W],
+    next: Option<usize>,
+) -> Result<(), Full>
+    requires { CanPut F.fits F.joins N graph.now keeper.old previous words.now next }
+    ensures { MatchResult result
+        (λ _. HasPut F.fits F.joins K N graph.now keeper.old keeper.new previous words.now next)
+        (λ _. IsFull keeper.old keeper.new) }
+{
+    let node = keeper.free_node()?;
+    keeper.fill(graph, node, words, &[next]);
+    keeper.publish(graph, previous, 0, node);
+    keeper.tends(graph);
+    Ok(())
+}
+
+/// Leads the previous node to where the old one leads, by one store. What no live node leads to any
+/// more is left.
+pub(crate) fn pass<
+    const LEAF: u32,
+    const FAN: u32,
+    T: Drop,
+    F: Shape,
+    const K: usize,
+    const W: usize,
+    const N: usize,
+>(
+    keeper: &mut Keeper<F, K, 1, W, N>,
+    graph: &Graph<LEAF, FAN, T, F, K, 1, W, N>,
+    previous: usize,
+    old: usize,
+)
+    requires { CanPass F.joins N graph.now keeper.old previous old }
+    ensures { HasPassed F.fits F.joins K N graph.now keeper.old keeper.new previous old }
+{
+    let next = keeper.link_of(old, 0);
+    keeper.link(graph, previous, 0, next);
+    keeper.tends(graph);
+}
