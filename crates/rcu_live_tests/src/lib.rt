@@ -6,4 +6,6 @@ mod cell;
 #[cfg(test)]
 mod live;
 #[cfg(test)]
+mod map;
+#[cfg(test)]
 mod nodes;

@@ -12,6 +12,7 @@ pub mod map;
 mod opening;
 mod section;
 pub mod shape;
+pub mod updater;
 mod updates;
 
 pub use entries::Entries;
@@ -19,3 +20,4 @@ pub use entry::Entry;
 pub use keeper::MapKeeper;
 pub use map::{List, Map};
 pub use shape::{MapSeat, MapShape, MapWatcher};
+pub use updater::Updater;

@@ -14,6 +14,7 @@ ghost use Rattle.rcu_map.specs.Keys.{root_words};
 ghost use Rattle.rcu_map.specs.Opening.{IsOpened, MayOpen};
 
 use crate::entry::Entry;
+use crate::keeper::MapKeeper;
 use crate::map::Map;
 use crate::shape::{MapSeat, MapShape, MapWatcher};
 use rcu_geometry::opening::check_size;
@@ -84,7 +85,7 @@ fn open_graph<
     Graph::open(alloc, cpus, last, roots)
 }
 
-/// A map, a seat and a watcher a processor, and the watcher that keeps the nodes.
+/// A map, a seat and a watcher a processor, and the map's keeper.
 pub type Opened<
     const LEAF: u32,
     const FAN: u32,
@@ -97,7 +98,7 @@ pub type Opened<
     Map<LEAF, FAN, T, E, BUCKETS, W, N>,
     Vec<MapSeat<E, BUCKETS, W, N>>,
     Vec<MapWatcher<E, BUCKETS, W, N>>,
-    MapWatcher<E, BUCKETS, W, N>,
+    MapKeeper<E, BUCKETS, W, N>,
 );
 
 impl<
@@ -138,7 +139,11 @@ impl<
         let Ok(roots) = <&[[u64; W]; BUCKETS]>::try_from(rows.as_slice()) else {
             unreachable!()
         };
-        let (graph, seats, watchers, keeper) = open_graph(alloc, cpus, last, roots)?;
-        Ok((Map::over(graph), seats, watchers, keeper))
+        let (graph, seats, watchers, own) = open_graph(alloc, cpus, last, roots)?;
+        let map = Map::over(graph);
+        let Ok(keeper) = MapKeeper::new(alloc, &map, own, roots) else {
+            return Err(Fault::NoMemory);
+        };
+        Ok((map, seats, watchers, keeper))
     }
 }

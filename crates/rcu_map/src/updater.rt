@@ -1,0 +1,111 @@
+//! A map's keeper behind a lock, for updates by several threads.
+ghost use Rattle.std.specs.Prelude.{◌≡◌, IfSome};
+ghost use Rattle.rcu_nodes.specs.Graph.{IsWatcherOf};
+
+use crate::entry::Entry;
+use crate::keeper::MapKeeper;
+use crate::map::Map;
+use rcu_nodes::keeper::Full;
+use std::sync::{Mutex, Wait};
+
+/// A map and its keeper, which belong together.
+#[derive(Drop)]
+struct Kept<
+    'a,
+    const LEAF: u32,
+    const FAN: u32,
+    T: Drop,
+    E: Entry<W>,
+    const BUCKETS: usize,
+    const W: usize,
+    const N: usize,
+> {
+    map: &'a Map<LEAF, FAN, T, E, BUCKETS, W, N>,
+    keeper: MapKeeper<E, BUCKETS, W, N>,
+    ghost keeper_of: { IsWatcherOf map.now keeper },
+}
+
+/// The keeper of a map behind a lock: threads that share it update the map, one call at a time.
+/// What each call does to the map is said at [`MapKeeper`]. None waits for a reader.
+#[derive(Drop)]
+pub struct Updater<
+    'a,
+    const LEAF: u32,
+    const FAN: u32,
+    T: Drop,
+    E: Entry<W>,
+    const BUCKETS: usize,
+    const W: usize,
+    const N: usize,
+> {
+    kept: Mutex<Kept<'a, LEAF, FAN, T, E, BUCKETS, W, N>>,
+}
+
+impl<
+    'a,
+    const LEAF: u32,
+    const FAN: u32,
+    T: Drop,
+    E: Entry<W>,
+    const BUCKETS: usize,
+    const W: usize,
+    const N: usize,
+> Updater<'a, LEAF, FAN, T, E, BUCKETS, W, N> {
+    /// Puts the keeper of a map under a lock.
+    pub fn new(
+        map: &'a Map<LEAF, FAN, T, E, BUCKETS, W, N>,
+        keeper: MapKeeper<E, BUCKETS, W, N>,
+    ) -> Self
+        requires { IsWatcherOf map.now keeper }
+    {
+        Updater {
+            kept: Mutex::new(Kept { map, keeper }),
+        }
+    }
+
+    /// Puts an entry in, as [`MapKeeper::insert`].
+    pub fn insert(&self, rt: &impl Wait, entry: E) -> Result<bool, Full>
+        requires { E.valid entry }
+    {
+        let mut kept = self.kept.lock(rt);
+        let Kept { map, keeper } = &mut *kept;
+        keeper.insert(map, entry)
+    }
+
+    /// Puts an entry in the place of the one that has its key, as [`MapKeeper::replace`].
+    pub fn replace(&self, rt: &impl Wait, entry: E) -> Result<bool, Full>
+        requires { E.valid entry }
+    {
+        let mut kept = self.kept.lock(rt);
+        let Kept { map, keeper } = &mut *kept;
+        keeper.replace(map, entry)
+    }
+
+    /// Takes the entry of a key out, as [`MapKeeper::remove`].
+    pub fn remove(&self, rt: &impl Wait, key: u64) -> bool {
+        let mut kept = self.kept.lock(rt);
+        let Kept { map, keeper } = &mut *kept;
+        keeper.remove(map, key)
+    }
+
+    /// Looks at the number, and returns it, as [`MapKeeper::age`].
+    pub fn age(&self, rt: &impl Wait) -> u64 {
+        let mut kept = self.kept.lock(rt);
+        let Kept { map, keeper } = &mut *kept;
+        keeper.age(map)
+    }
+
+    /// The entry of a key, as [`MapKeeper::get`]: no later change is missed, as it may be by a
+    /// section.
+    pub fn get(&self, rt: &impl Wait, key: u64) -> Option<E>
+        ensures keyed { IfSome result (λ entry. E.key_of entry ≡ key) }
+        ensures sound { IfSome result (λ entry. E.valid entry) }
+    {
+        self.kept.lock(rt).keeper.get(key)
+    }
+
+    /// How many entries there are.
+    pub fn len(&self, rt: &impl Wait) -> usize {
+        self.kept.lock(rt).keeper.len()
+    }
+}
