@@ -14,7 +14,7 @@ use crate::entry::Entry;
 use crate::links::keep;
 use crate::map::Map;
 use crate::shape::{MapShape, MapWatcher};
-use rcu_nodes::keeper::Keeper;
+use rcu_nodes::Keeper;
 use std::alloc::{AllocError, Global};
 use std::marker::Model;
 

@@ -9,8 +9,8 @@ ghost use Rattle.rcu_map.specs.Keys.{IsWhole, bucket_of, root_words};
 
 use crate::entry::Entry;
 use crate::shape::{MapSeat, MapShape};
-use rcu_live::live::Live;
-use rcu_nodes::graph::Graph;
+use rcu_live::Live;
+use rcu_nodes::Graph;
 use rcu_nodes::rule::GraphRule;
 use std::marker::Model;
 

@@ -17,9 +17,9 @@ use crate::entry::Entry;
 use crate::keeper::MapKeeper;
 use crate::map::Map;
 use crate::shape::{MapSeat, MapShape, MapWatcher};
-use rcu_geometry::opening::check_size;
-use rcu_nodes::graph::Graph;
-use rcu_seq::fault::Fault;
+use rcu_geometry::check_size;
+use rcu_nodes::Graph;
+use rcu_seq::Fault;
 use std::alloc::{AllocError, Global};
 
 /// The words of the root of a bucket.

@@ -9,7 +9,7 @@ ghost use Rattle.rcu_map.specs.Sections.{after_section};
 use crate::entry::Entry;
 use crate::map::Map;
 use crate::shape::MapSeat;
-use rcu_seq::fault::Fault;
+use rcu_seq::Fault;
 
 impl<
     const LEAF: u32,

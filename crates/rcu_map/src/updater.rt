@@ -5,7 +5,7 @@ ghost use Rattle.rcu_nodes.specs.Graph.{IsWatcherOf};
 use crate::entry::Entry;
 use crate::keeper::MapKeeper;
 use crate::map::Map;
-use rcu_nodes::keeper::Full;
+use rcu_nodes::Full;
 use std::sync::{Mutex, Wait};
 
 /// A map and its keeper, which belong together.

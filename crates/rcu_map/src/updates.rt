@@ -10,7 +10,7 @@ use crate::entry::Entry;
 use crate::keeper::MapKeeper;
 use crate::links::{pass, put};
 use crate::map::Map;
-use rcu_nodes::keeper::Full;
+use rcu_nodes::Full;
 
 impl<E: Entry<W>, const BUCKETS: usize, const W: usize, const N: usize> MapKeeper<
     E,

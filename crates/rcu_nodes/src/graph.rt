@@ -8,7 +8,7 @@ ghost use Rattle.rcu_nodes.specs.Steps.{Followed};
 use crate::allowed::{follow_is_allowed, read_is_allowed};
 use crate::places::place_of;
 use crate::rule::{Follow, GraphRule, GraphSeat, Read, Shape};
-use rcu_live::live::Live;
+use rcu_live::Live;
 use std::marker::Model;
 
 /// `N` nodes with `L` links and `W` words each beside a running engine, the first `K` of them the

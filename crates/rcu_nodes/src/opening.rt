@@ -15,9 +15,9 @@ ghost use Rattle.rcu_nodes.specs.declared.known.Known.TheVariants.{Idle, Keeper,
 use crate::graph::Graph;
 use crate::places::{FIRST, place_of};
 use crate::rule::{GraphRule, GraphSeat, GraphWatcher, Shape};
-use rcu_geometry::opening::check_size;
-use rcu_live::live::Live;
-use rcu_seq::fault::Fault;
+use rcu_geometry::check_size;
+use rcu_live::Live;
+use rcu_seq::Fault;
 use std::alloc::{AllocError, Global};
 
 /// Stores a root's words from a place on.

@@ -2,9 +2,7 @@
 ghost use Rattle.std.specs.Prelude.{List, ℕ};
 
 use crate::known::Known;
-use rcu_live::client::{Client, NumberStep, WordStep};
-use rcu_live::cpu_seat::CpuSeat;
-use rcu_live::watcher::Watcher;
+use rcu_live::{Client, CpuSeat, NumberStep, Watcher, WordStep};
 use std::marker::PhantomData;
 
 /// A user's facts on nodes: what the words of one in use satisfy, which nodes a link may join (as
