@@ -10,6 +10,7 @@ ghost use Rattle.rcu_nodes.specs.declared.known.Known.TheVariants.{Idle};
 
 mod keeper;
 mod kept;
+mod turnover;
 
 use rcu_nodes::graph::Graph;
 use rcu_nodes::rule::{GraphSeat, GraphWatcher, Shape};
