@@ -1,4 +1,5 @@
-//! Maps: their openings, and entries that sections go over.
+//! Maps: their openings, entries that sections go over, and nodes that are used again.
+mod reuse;
 mod route;
 
 ghost use Rattle.std.specs.Prelude.{◌≡◌};

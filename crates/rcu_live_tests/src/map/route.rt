@@ -1,4 +1,6 @@
 //! A route, as an entry of a map.
+ghost use Rattle.std.specs.Prelude.{◌<◌, IfSome};
+
 use rcu_cell::rule::Invariant;
 use rcu_cell::value::Value;
 use rcu_map::Entry;
@@ -8,6 +10,21 @@ use rcu_map::Entry;
 pub(crate) struct Route {
     pub(crate) network: u64,
     pub(crate) port: u32,
+}
+
+impl Route {
+    /// A route to a network, where there is such a number.
+    pub(crate) fn to(network: u32, port: u32) -> Option<Route>
+        ensures { IfSome result (λ route. 0 < route.network) }
+    {
+        if network == 0 {
+            return None;
+        }
+        Some(Route {
+            network: u64::from(network),
+            port,
+        })
+    }
 }
 
 impl Invariant for Route {
