@@ -1,6 +1,7 @@
-//! Maps: their openings, entries that sections go over, and nodes that are used again.
+//! Maps: their openings, entries that sections go over, calls by a script, and nodes used again.
 mod reuse;
 mod route;
+mod script;
 
 ghost use Rattle.std.specs.Prelude.{◌≡◌};
 ghost use Rattle.rcu_live.specs.CpuSeat.{IsSeatOf};

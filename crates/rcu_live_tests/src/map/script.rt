@@ -1,0 +1,217 @@
+//! One thread calls a map by a script, beside a plain table of what it has.
+ghost use Rattle.std.specs.Prelude.{◌≡◌};
+ghost use Rattle.rcu_live.specs.CpuSeat.{IsSeatOf, after_word_step};
+ghost use Rattle.rcu_map.specs.Listed.{after_hops, known_in, listing};
+ghost use Rattle.rcu_nodes.specs.Graph.{IsWalking, IsWatcherOf};
+ghost use Rattle.rcu_nodes.specs.declared.known.Known.TheVariants.{Idle};
+
+use crate::map::route::Route;
+use rcu_map::{Entries, Map, MapKeeper, MapSeat, MapWatcher};
+use rcu_nodes::Full;
+use rcu_seq::cookie::Cookie;
+use std::process::Abort;
+use std::sync::Wait;
+
+/// Up to 4 routes, in 2 buckets.
+type Routes = Map<4, 4, u64, Route, 2, 2, 6>;
+
+/// The entries of a map that a section goes over.
+type Listing<'a> = Entries<'a, 4, 4, u64, Route, 2, 2, 6>;
+
+/// A call, with the network and the port that it is given, and what it returns.
+#[derive(Clone, Copy)]
+enum Call {
+    Insert(u32, u32, Result<bool, Full>),
+    Replace(u32, u32, Result<bool, Full>),
+    Remove(u32, bool),
+    /// A grace period passes, and the keeper looks.
+    Age,
+}
+
+/// How many networks there are. A network with the port 0 has no route.
+const NETWORKS: usize = 10;
+
+/// The networks as the buckets have them.
+static ORDER: [usize; NETWORKS] = [0, 2, 4, 6, 8, 1, 3, 5, 7, 9];
+
+/// Entries in front of others, behind them and between them; each call where the key is there, and
+/// where it is not; all nodes used, and some free again.
+static SCRIPT: [Call; 30] = [
+    Call::Remove(5, false),
+    Call::Replace(5, 1, Ok(false)),
+    Call::Insert(5, 1, Ok(true)),
+    Call::Insert(5, 2, Ok(false)),
+    Call::Insert(9, 3, Ok(true)),
+    Call::Insert(7, 4, Ok(true)),
+    Call::Insert(4, 5, Ok(true)),
+    Call::Insert(3, 6, Err(Full)),
+    Call::Insert(4, 6, Ok(false)),
+    Call::Replace(7, 6, Err(Full)),
+    Call::Replace(3, 6, Ok(false)),
+    Call::Remove(7, true),
+    Call::Remove(7, false),
+    Call::Insert(3, 6, Err(Full)),
+    Call::Age,
+    Call::Insert(3, 6, Ok(true)),
+    Call::Remove(3, true),
+    Call::Age,
+    Call::Replace(5, 7, Ok(true)),
+    Call::Replace(9, 8, Err(Full)),
+    Call::Age,
+    Call::Replace(9, 8, Ok(true)),
+    Call::Remove(5, true),
+    Call::Remove(9, true),
+    Call::Remove(4, true),
+    Call::Age,
+    Call::Insert(8, 1, Ok(true)),
+    Call::Insert(6, 2, Ok(true)),
+    Call::Insert(2, 3, Ok(true)),
+    Call::Insert(1, 4, Ok(true)),
+];
+
+/// A map of one processor, its keeper, and the ports that its routes have by the script.
+#[derive(Drop)]
+struct Scene<'a> {
+    map: &'a Routes,
+    keeper: MapKeeper<Route, 2, 2, 6>,
+    seat: MapSeat<Route, 2, 2, 6>,
+    watcher: MapWatcher<Route, 2, 2, 6>,
+    ports: [u32; NETWORKS],
+    ghost keeper_of: { IsWatcherOf map.now keeper },
+    ghost seat_of: { IsSeatOf map.now seat },
+    ghost watcher_of: { IsWatcherOf map.now watcher },
+    ghost outside: { seat.depth ≡ 0 },
+    ghost idle: { seat.view.client ≡ Idle },
+}
+
+/// Compares the next entry that a section goes over with this one.
+fn goes_on_to<'a, R: Abort>(rt: &R, entries: &mut Listing<'a>, wanted: Option<Route>)
+    ensures { listing entries.new ≡ after_hops (listing entries.old)
+        (known_in (listing entries.new)) (listing entries.new).at }
+{
+    assert_eq!(rt; entries.next(), wanted);
+}
+
+/// Compares the entries that a section goes over with the table, in the order of the buckets.
+fn lists<R: Abort>(
+    rt: &R,
+    map: &Routes,
+    seat: &mut MapSeat<Route, 2, 2, 6>,
+    ports: &[u32; NETWORKS],
+)
+    requires { IsWalking map.now seat.old }
+    ensures state { seat.new ≡ after_word_step seat.old seat.new.view.client }
+    ensures walking { IsWalking map.now seat.new }
+{
+    let mut entries = map.entries(seat);
+    for network in ORDER {
+        if let Some(wanted) = Route::to(network as u32, ports[network])
+            && wanted.port > 0
+        {
+            goes_on_to(rt, &mut entries, Some(wanted));
+        }
+    }
+    goes_on_to(rt, &mut entries, None);
+    goes_on_to(rt, &mut entries, None);
+}
+
+impl<'a> Scene<'a> {
+    /// What the table has of a network.
+    fn route_to(&self, network: u32) -> Option<Route> {
+        let port = *self.ports.get(network as usize)?;
+        let route = Route::to(network, port)?;
+        (port > 0).then_some(route)
+    }
+
+    /// One step of a grace period for this cookie, and a quiescent state.
+    fn drive<R: Wait>(&mut self, rt: &R, cookie: Cookie) {
+        let _ = self.map.live().drive_for(rt, cookie);
+        let _ = self.seat.quiesce(self.map.live());
+    }
+
+    /// A grace period passes, and the keeper looks: the nodes that were left are free.
+    fn age<R: Wait>(&mut self, rt: &R) {
+        self.keeper.age(self.map);
+        let cookie = self.watcher.take(self.map.live());
+        for _ in 0..4u32 {
+            self.drive(rt, cookie);
+        }
+        self.keeper.age(self.map);
+    }
+
+    /// Makes a call, compares what it returns, and writes it into the table.
+    fn make<R: Abort + Wait>(&mut self, rt: &R, call: Call) {
+        match call {
+            Call::Insert(network, port, wanted) => {
+                let route = Route::to(network, port).expect(rt, "the script has routes");
+                assert_eq!(rt; self.keeper.insert(self.map, route), wanted);
+                if wanted == Ok(true) {
+                    self.note(network, port);
+                }
+            }
+            Call::Replace(network, port, wanted) => {
+                let route = Route::to(network, port).expect(rt, "the script has routes");
+                assert_eq!(rt; self.keeper.replace(self.map, route), wanted);
+                if wanted == Ok(true) {
+                    self.note(network, port);
+                }
+            }
+            Call::Remove(network, wanted) => {
+                assert_eq!(rt; self.keeper.remove(self.map, u64::from(network)), wanted);
+                self.note(network, 0);
+            }
+            Call::Age => self.age(rt),
+        }
+    }
+
+    /// Writes a port into the table.
+    fn note(&mut self, network: u32, port: u32) {
+        if let Some(place) = self.ports.get_mut(network as usize) {
+            *place = port;
+        }
+    }
+
+    /// Compares what the keeper and a section find of a network with the table.
+    fn finds<R: Abort>(&mut self, rt: &R, network: u32) {
+        let wanted = self.route_to(network);
+        let key = u64::from(network);
+        assert_eq!(rt; (network, self.keeper.get(key)), (network, wanted));
+        assert_eq!(rt;
+            (network, self.keeper.contains(key)),
+            (network, wanted.is_some())
+        );
+        let found = self.map.get_section(&mut self.seat, key);
+        assert_eq!(rt; (network, found), (network, Ok(wanted)));
+    }
+
+    /// Compares how many entries there are, and which ones a section goes over.
+    fn counts<R: Abort>(&mut self, rt: &R) {
+        let count = self.ports.iter().filter(|port| **port > 0).count();
+        assert_eq!(rt; self.keeper.len(), count);
+        assert_eq!(rt; self.seat.enter(self.map.live()), Ok(1));
+        lists(rt, self.map, &mut self.seat, &self.ports);
+        assert_eq!(rt; self.seat.exit(self.map.live()), Ok(0));
+    }
+}
+
+#[test]
+fn map_is_as_its_script_says(rt: HostRuntime) {
+    let Ok((map, mut seats, mut watchers, keeper)) = Routes::open(rt.alloc(), 1, 4_000_000) else {
+        return;
+    };
+    let mut scene = Scene {
+        map: &map,
+        keeper,
+        seat: seats.pop().unwrap(),
+        watcher: watchers.pop().unwrap(),
+        ports: [0; NETWORKS],
+    };
+    scene.counts(&rt);
+    for call in SCRIPT {
+        scene.make(&rt, call);
+        for network in 0..NETWORKS as u32 {
+            scene.finds(&rt, network);
+        }
+        scene.counts(&rt);
+    }
+}
