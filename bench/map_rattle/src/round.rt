@@ -104,8 +104,17 @@ impl<'a, 'b> Round<'a, 'b> {
         };
         let passes = u128::from(self.times()).saturating_mul(self.threads as u128);
         let all = u128::from(many).saturating_mul(passes).max(1);
-        let (took, used) = (took.saturating_mul(1000) / all, used.saturating_mul(1000) / all);
-        println!(rt; "{}.{:03} {}.{:03}", took / 1000, took % 1000, used / 1000, used % 1000)
+        let (took, used) = (
+            took.saturating_mul(1000) / all,
+            used.saturating_mul(1000) / all,
+        );
+        println!(rt;
+            "{}.{:03} {}.{:03}",
+            took / 1000,
+            took % 1000,
+            used / 1000,
+            used % 1000
+        )
     }
 }
 
@@ -117,7 +126,12 @@ fn used<R: CpuClock>(rt: &R) -> u128 {
 impl<'a, 'b> Job<'a, 'b> {
     /// One pass over the draws, or one update of each entry.
     fn pass<R: Wait>(&mut self, rt: &R) -> u64 {
-        let Round { control, draws, kind, .. } = *self.round;
+        let Round {
+            control,
+            draws,
+            kind,
+            ..
+        } = *self.round;
         match kind {
             Kind::Update => {
                 let many = self.round.many();
@@ -139,7 +153,9 @@ impl<'a, 'b> Job<'a, 'b> {
             sum = sum.wrapping_add(self.pass(rt));
         }
         let used = used(rt).saturating_sub(unused);
-        let took = begun.and_then(|begun| begun.elapsed(rt)).map_or(0, |time| time.as_nanos());
+        let took = begun
+            .and_then(|begun| begun.elapsed(rt))
+            .map_or(0, |time| time.as_nanos());
         self.place.depart(rt);
         let Job { place, .. } = self;
         Done {
@@ -152,7 +168,12 @@ impl<'a, 'b> Job<'a, 'b> {
 
     /// Updates a sixteenth of the entries, until all is over.
     fn disturb<R: Wait>(mut self, rt: &R) -> Place<'a> {
-        let Round { control, over, kind, .. } = *self.round;
+        let Round {
+            control,
+            over,
+            kind,
+            ..
+        } = *self.round;
         self.place.arrive(rt);
         for _ in rt.forever() {
             if over.load(Ordering::Relaxed) {
@@ -208,7 +229,10 @@ pub(crate) fn measure<'a, 'b, R: Threads + Wait + Clock + CpuClock + Print + Syn
     };
     let (mut took, mut used) = (0u128, 0u128);
     for one in done {
-        anyhow::ensure!(round.is_right(one.sum), "a thread got what it did not ask for");
+        anyhow::ensure!(
+            round.is_right(one.sum),
+            "a thread got what it did not ask for"
+        );
         took = took.saturating_add(one.took);
         used = used.saturating_add(one.used);
         places.push(one.place)?;

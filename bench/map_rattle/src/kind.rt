@@ -1,6 +1,7 @@
 //! What is measured, and with which keys.
 
 pub(crate) const ENTRIES: u64 = 4096;
+
 const BUCKETS: u64 = 1024;
 
 /// The entries of a chain, for a walk.
@@ -44,7 +45,9 @@ impl Kind {
     /// The next number that is drawn. Those of entries are even. For a walk the last 512 are drawn,
     /// which end the chains.
     pub(crate) fn draw(self, state: &mut u64) -> u64 {
-        *state = state.wrapping_mul(6364136223846793005).wrapping_add(1442695040888963407);
+        *state = state
+            .wrapping_mul(6364136223846793005)
+            .wrapping_add(1442695040888963407);
         let drawn = *state >> 33;
         match self {
             Kind::Walk => {

@@ -11,8 +11,11 @@ use std::sync::Wait;
 
 /// 1,024 roots, 4,096 entries, and as many that were taken out and wait for a grace period.
 pub(crate) type Table = Map<16, 64, u64, Pair, 1024, 2, 9216>;
+
 pub(crate) type Seat = MapSeat<Pair, 1024, 2, 9216>;
+
 pub(crate) type Watcher = MapWatcher<Pair, 1024, 2, 9216>;
+
 pub(crate) type Control<'a> = Updater<'a, 16, 64, u64, Pair, 1024, 2, 9216>;
 
 /// How many gets there are between two quiescent states.
@@ -125,7 +128,14 @@ impl<'a> Place<'a> {
     }
 
     /// Removes these entries, and inserts them again.
-    pub(crate) fn update<R: Wait>(&mut self, rt: &R, control: &Control<'a>, kind: Kind, from: u64, many: u64) {
+    pub(crate) fn update<R: Wait>(
+        &mut self,
+        rt: &R,
+        control: &Control<'a>,
+        kind: Kind,
+        from: u64,
+        many: u64,
+    ) {
         for at in from..from.saturating_add(many) {
             control.remove(rt, kind.mixed(numbered(at)));
         }
@@ -134,7 +144,14 @@ impl<'a> Place<'a> {
     }
 
     /// Inserts these entries.
-    pub(crate) fn fill<R: Wait>(&mut self, rt: &R, control: &Control<'a>, kind: Kind, from: u64, many: u64) {
+    pub(crate) fn fill<R: Wait>(
+        &mut self,
+        rt: &R,
+        control: &Control<'a>,
+        kind: Kind,
+        from: u64,
+        many: u64,
+    ) {
         for at in from..from.saturating_add(many) {
             let number = numbered(at);
             if let Some(pair) = Pair::new(kind.mixed(number), number.wrapping_mul(2)) {

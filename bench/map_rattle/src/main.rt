@@ -23,30 +23,46 @@ use std::sync::{Barrier, Wait};
 use std::thread::Threads;
 use std::time::{Clock, CpuClock};
 
-/// The most threads that are measured. Beside them one may update, and the main one is idle.
+/// The most threads that are measured.
 const MOST: usize = 4;
 
-/// The places of all threads. The main thread has the last one, and is idle.
-fn places_of<'a>(
-    alloc: Global,
+/// Theirs, one that updates beside them, and the main thread's, which is processor 0.
+const CPUS: u32 = 6;
+
+/// The seats and watchers that no thread has yet.
+#[derive(Drop)]
+struct Spare<'a> {
     table: &'a Table,
     seats: Vec<Seat>,
     watchers: Vec<Watcher>,
-) -> Result<Vec<Place<'a>>, AllocError>
-    requires seats { All (IsSeatOf table.now) seats.items }
-    requires outside { All (λ seat. seat.depth ≡ 0) seats.items }
-    requires idle { All (λ seat. seat.view.client ≡ Idle) seats.items }
-    requires watchers { All (IsWatcherOf table.now) watchers.items }
-{
-    let mut places = Vec::with_capacity(alloc, MOST)?;
-    for (seat, watcher) in seats.into_iter().zip(watchers) {
-        places.push(Place {
-            table,
+    ghost seats_of: { All (IsSeatOf table.now) seats.items },
+    ghost outside: { All (λ seat. seat.depth ≡ 0) seats.items },
+    ghost idle: { All (λ seat. seat.view.client ≡ Idle) seats.items },
+    ghost watchers_of: { All (IsWatcherOf table.now) watchers.items },
+}
+
+impl<'a> Spare<'a> {
+    /// The place of the last processor that is left.
+    fn next_place(&mut self) -> Option<Place<'a>> {
+        let seat = self.seats.pop()?;
+        let watcher = self.watchers.pop()?;
+        Some(Place {
+            table: self.table,
             seat,
             watcher,
-        })?;
+        })
     }
-    Ok(places)
+
+    /// The places of all processors, the last one first.
+    fn places(mut self, alloc: Global) -> Result<Vec<Place<'a>>, AllocError> {
+        let mut places = Vec::with_capacity(alloc, CPUS as usize)?;
+        for _ in 0..CPUS {
+            if let Some(place) = self.next_place() {
+                places.push(place)?;
+            }
+        }
+        Ok(places)
+    }
 }
 
 /// Makes so many rounds, of so many threads.
@@ -55,10 +71,14 @@ where
     R: AllocGlobal + Threads + Wait + Clock + CpuClock + Print + Sync,
 {
     let alloc = rt.alloc();
-    let (table, seats, watchers, keeper) = Table::open(alloc, 6, 1 << 62)?;
+    let (table, seats, watchers, keeper) = Table::open(alloc, CPUS, 1 << 62)?;
     let control = Control::new(&table, keeper);
-    let mut places = places_of(alloc, &table, seats, watchers)?;
-    places.reverse();
+    let spare = Spare {
+        table: &table,
+        seats,
+        watchers,
+    };
+    let mut places = spare.places(alloc)?;
     if let Some(mut first) = places.pop() {
         first.fill(rt, &control, kind, 0, ENTRIES);
         first.rest();
