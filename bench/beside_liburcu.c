@@ -60,9 +60,10 @@ static void free_theirs(struct rcu_head *head) {
     free((char *)head - offsetof(struct node, theirs));
 }
 
-/* A thread that reads, until all is over: how many sections it had. */
+/* A thread that reads, until all is over: how many sections it had. Each stands in cache lines of
+ * its own. */
 struct reader {
-    pthread_t id;
+    _Alignas(128) pthread_t id;
     struct place *place;
     uint64_t reads;
 };
