@@ -144,7 +144,7 @@ fn readers_beside_updates_by_two_threads(rt: HostRuntime) {
     let Ok((map, seats, watchers, keeper)) = Routes::open(rt.alloc(), 7, 4_000_000) else {
         return;
     };
-    let history = History::new(2);
+    let history = History::new(4, 2);
     let control = Control::new(&map, keeper);
     begin(&rt, &control);
     let spare = Spare {

@@ -88,8 +88,9 @@ impl<'a, 'b> Admin<'a, 'b> {
         assert_eq!(rt; self.map.live().online(rt, &mut self.seat), Ok(()));
     }
 
-    /// The administrator's thread: it changes routes that it draws.
+    /// The administrator's thread: it changes routes that it draws, beside the readers.
     pub(crate) fn administer<R: Abort + Wait>(mut self, rt: &R) {
+        self.history.wait_for_readers();
         self.arrive(rt);
         let mut draws = Pcg32::seed_from_u64(u64::from(self.first));
         for _ in 0..CHANGES {

@@ -5,15 +5,19 @@ ghost use Rattle.std.specs.Prelude.{◌<◌, IfSome};
 use crate::map::route::Route;
 use rand_core::{Rng, SeedableRng};
 use rand_pcg::Pcg32;
-use std::array;
 use std::process::Abort;
 use std::sync::atomic::{AtomicU32, Ordering};
+use std::{array, thread};
 
 /// The networks are the numbers below this one. Network 0 never has a route.
 pub(crate) const NETWORKS: u32 = 26;
 
 /// More than there are changes of one network.
 const MOST_CHANGES: u32 = 10_000;
+
+/// How often an administrator looks whether the readers have arrived. It goes on also where no
+/// thread can be made for them.
+const LOOKS: u32 = 50_000;
 
 /// Whether a network has one route from the beginning to the end.
 pub(crate) fn is_kept(network: u32) -> bool {
@@ -50,18 +54,21 @@ impl Changes {
     }
 }
 
-/// The changes of all networks, and how many administrators have not ended.
+/// The changes of all networks, how many readers have not arrived, and how many administrators have
+/// not ended.
 #[derive(Drop)]
 pub(crate) struct History {
     networks: [Changes; NETWORKS as usize],
+    readers: AtomicU32,
     administrators: AtomicU32,
 }
 
 impl History {
-    /// No change yet, by so many administrators.
-    pub(crate) fn new(administrators: u32) -> History {
+    /// No change yet, by so many administrators, beside so many readers.
+    pub(crate) fn new(readers: u32, administrators: u32) -> History {
         History {
             networks: array::from_fn(|_| Changes::none()),
+            readers: AtomicU32::new(readers),
             administrators: AtomicU32::new(administrators),
         }
     }
@@ -96,6 +103,21 @@ impl History {
     pub(crate) fn end(&self, network: u32, number: u32) {
         if let Some(changes) = self.networks.get(network as usize) {
             changes.ended.store(number, Ordering::SeqCst);
+        }
+    }
+
+    /// A reader has arrived: its processor is online.
+    pub(crate) fn arrive(&self) {
+        self.readers.fetch_sub(1, Ordering::SeqCst);
+    }
+
+    /// Waits until all readers have arrived, or for so many looks.
+    pub(crate) fn wait_for_readers(&self) {
+        for _ in 0..LOOKS {
+            if self.readers.load(Ordering::SeqCst) == 0 {
+                return;
+            }
+            thread::yield_now();
         }
     }
 

@@ -130,6 +130,7 @@ impl<'a> Reader<'a> {
     /// Its processor is online from now on.
     fn arrive<R: Abort + Wait>(&mut self, rt: &R) {
         assert_eq!(rt; self.map.live().online(rt, &mut self.seat), Ok(()));
+        self.history.arrive();
     }
 
     /// The reader's thread: it reads until all administrators have ended.
