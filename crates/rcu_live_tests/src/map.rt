@@ -1,7 +1,9 @@
-//! Maps: their openings, entries that sections go over, calls by a script, and nodes used again.
+//! Maps: their openings, entries that sections go over, calls by a script and by several threads,
+//! and nodes used again.
 mod reuse;
 mod route;
 mod script;
+mod threads;
 
 ghost use Rattle.std.specs.Prelude.{◌≡◌};
 ghost use Rattle.rcu_live.specs.CpuSeat.{IsSeatOf};

@@ -1,4 +1,7 @@
-//! One thread calls a map by a script, beside a plain table of what it has.
+//! One thread calls a map by a script, beside a plain table of what it has: by the map's keeper,
+//! and by an updater.
+mod caller;
+
 ghost use Rattle.std.specs.Prelude.{◌≡◌};
 ghost use Rattle.rcu_live.specs.CpuSeat.{IsSeatOf, after_word_step};
 ghost use Rattle.rcu_map.specs.Listed.{after_hops, known_in, listing};
@@ -6,14 +9,19 @@ ghost use Rattle.rcu_nodes.specs.Graph.{IsWalking, IsWatcherOf};
 ghost use Rattle.rcu_nodes.specs.declared.known.Known.TheVariants.{Idle};
 
 use crate::map::route::Route;
-use rcu_map::{Entries, Map, MapKeeper, MapSeat, MapWatcher};
+use crate::map::script::caller::{Caller, Kept, Shared};
+use rcu_map::{Entries, Map, MapSeat, MapWatcher, Updater};
 use rcu_nodes::Full;
 use rcu_seq::cookie::Cookie;
 use std::process::Abort;
 use std::sync::Wait;
 
 /// Up to 4 routes, in 2 buckets.
-type Routes = Map<4, 4, u64, Route, 2, 2, 6>;
+pub(crate) type Routes = Map<4, 4, u64, Route, 2, 2, 6>;
+
+type Seat = MapSeat<Route, 2, 2, 6>;
+
+type Watcher = MapWatcher<Route, 2, 2, 6>;
 
 /// The entries of a map that a section goes over.
 type Listing<'a> = Entries<'a, 4, 4, u64, Route, 2, 2, 6>;
@@ -24,7 +32,7 @@ enum Call {
     Insert(u32, u32, Result<bool, Full>),
     Replace(u32, u32, Result<bool, Full>),
     Remove(u32, bool),
-    /// A grace period passes, and the keeper looks.
+    /// A grace period passes, and the caller looks before it and behind it.
     Age,
 }
 
@@ -69,15 +77,14 @@ static SCRIPT: [Call; 30] = [
     Call::Insert(1, 4, Ok(true)),
 ];
 
-/// A map of one processor, its keeper, and the ports that its routes have by the script.
+/// A map of one processor, who makes the calls, and the ports that its routes have by the script.
 #[derive(Drop)]
-struct Scene<'a> {
+struct Scene<'a, C: Caller + Drop> {
     map: &'a Routes,
-    keeper: MapKeeper<Route, 2, 2, 6>,
-    seat: MapSeat<Route, 2, 2, 6>,
-    watcher: MapWatcher<Route, 2, 2, 6>,
+    caller: C,
+    seat: Seat,
+    watcher: Watcher,
     ports: [u32; NETWORKS],
-    ghost keeper_of: { IsWatcherOf map.now keeper },
     ghost seat_of: { IsSeatOf map.now seat },
     ghost watcher_of: { IsWatcherOf map.now watcher },
     ghost outside: { seat.depth ≡ 0 },
@@ -93,12 +100,7 @@ fn goes_on_to<'a, R: Abort>(rt: &R, entries: &mut Listing<'a>, wanted: Option<Ro
 }
 
 /// Compares the entries that a section goes over with the table, in the order of the buckets.
-fn lists<R: Abort>(
-    rt: &R,
-    map: &Routes,
-    seat: &mut MapSeat<Route, 2, 2, 6>,
-    ports: &[u32; NETWORKS],
-)
+fn lists<R: Abort>(rt: &R, map: &Routes, seat: &mut Seat, ports: &[u32; NETWORKS])
     requires { IsWalking map.now seat.old }
     ensures state { seat.new ≡ after_word_step seat.old seat.new.view.client }
     ensures walking { IsWalking map.now seat.new }
@@ -115,7 +117,7 @@ fn lists<R: Abort>(
     goes_on_to(rt, &mut entries, None);
 }
 
-impl<'a> Scene<'a> {
+impl<'a, C: Caller + Drop> Scene<'a, C> {
     /// What the table has of a network.
     fn route_to(&self, network: u32) -> Option<Route> {
         let port = *self.ports.get(network as usize)?;
@@ -129,14 +131,15 @@ impl<'a> Scene<'a> {
         let _ = self.seat.quiesce(self.map.live());
     }
 
-    /// A grace period passes, and the keeper looks: the nodes that were left are free.
-    fn age<R: Wait>(&mut self, rt: &R) {
-        self.keeper.age(self.map);
+    /// A grace period passes: the nodes that were left are free. The caller looks at its number
+    /// before, which is 4 less than after it.
+    fn age<R: Abort + Wait>(&mut self, rt: &R) {
         let cookie = self.watcher.take(self.map.live());
+        assert_eq!(rt; self.caller.age(rt).saturating_add(4), cookie.number);
         for _ in 0..4u32 {
             self.drive(rt, cookie);
         }
-        self.keeper.age(self.map);
+        assert_eq!(rt; self.caller.age(rt), cookie.number);
     }
 
     /// Makes a call, compares what it returns, and writes it into the table.
@@ -144,20 +147,20 @@ impl<'a> Scene<'a> {
         match call {
             Call::Insert(network, port, wanted) => {
                 let route = Route::to(network, port).expect(rt, "the script has routes");
-                assert_eq!(rt; self.keeper.insert(self.map, route), wanted);
+                assert_eq!(rt; self.caller.insert(rt, route), wanted);
                 if wanted == Ok(true) {
                     self.note(network, port);
                 }
             }
             Call::Replace(network, port, wanted) => {
                 let route = Route::to(network, port).expect(rt, "the script has routes");
-                assert_eq!(rt; self.keeper.replace(self.map, route), wanted);
+                assert_eq!(rt; self.caller.replace(rt, route), wanted);
                 if wanted == Ok(true) {
                     self.note(network, port);
                 }
             }
             Call::Remove(network, wanted) => {
-                assert_eq!(rt; self.keeper.remove(self.map, u64::from(network)), wanted);
+                assert_eq!(rt; self.caller.remove(rt, u64::from(network)), wanted);
                 self.note(network, 0);
             }
             Call::Age => self.age(rt),
@@ -171,13 +174,13 @@ impl<'a> Scene<'a> {
         }
     }
 
-    /// Compares what the keeper and a section find of a network with the table.
-    fn finds<R: Abort>(&mut self, rt: &R, network: u32) {
+    /// Compares what the caller and a section find of a network with the table.
+    fn finds<R: Abort + Wait>(&mut self, rt: &R, network: u32) {
         let wanted = self.route_to(network);
         let key = u64::from(network);
-        assert_eq!(rt; (network, self.keeper.get(key)), (network, wanted));
+        assert_eq!(rt; (network, self.caller.get(rt, key)), (network, wanted));
         assert_eq!(rt;
-            (network, self.keeper.contains(key)),
+            (network, self.caller.contains(rt, key)),
             (network, wanted.is_some())
         );
         let found = self.map.get_section(&mut self.seat, key);
@@ -185,12 +188,24 @@ impl<'a> Scene<'a> {
     }
 
     /// Compares how many entries there are, and which ones a section goes over.
-    fn counts<R: Abort>(&mut self, rt: &R) {
+    fn counts<R: Abort + Wait>(&mut self, rt: &R) {
         let count = self.ports.iter().filter(|port| **port > 0).count();
-        assert_eq!(rt; self.keeper.len(), count);
+        assert_eq!(rt; self.caller.len(rt), count);
         assert_eq!(rt; self.seat.enter(self.map.live()), Ok(1));
         lists(rt, self.map, &mut self.seat, &self.ports);
         assert_eq!(rt; self.seat.exit(self.map.live()), Ok(0));
+    }
+
+    /// Makes all calls of the script, and compares the map with the table after each.
+    fn make_all<R: Abort + Wait>(&mut self, rt: &R) {
+        self.counts(rt);
+        for call in SCRIPT {
+            self.make(rt, call);
+            for network in 0..NETWORKS as u32 {
+                self.finds(rt, network);
+            }
+            self.counts(rt);
+        }
     }
 }
 
@@ -201,17 +216,27 @@ fn map_is_as_its_script_says(rt: HostRuntime) {
     };
     let mut scene = Scene {
         map: &map,
-        keeper,
+        caller: Kept { map: &map, keeper },
         seat: seats.pop().unwrap(),
         watcher: watchers.pop().unwrap(),
         ports: [0; NETWORKS],
     };
-    scene.counts(&rt);
-    for call in SCRIPT {
-        scene.make(&rt, call);
-        for network in 0..NETWORKS as u32 {
-            scene.finds(&rt, network);
-        }
-        scene.counts(&rt);
-    }
+    scene.make_all(&rt);
+}
+
+#[test]
+fn updater_does_as_the_script_says(rt: HostRuntime) {
+    let Ok((map, mut seats, mut watchers, keeper)) = Routes::open(rt.alloc(), 1, 4_000_000) else {
+        return;
+    };
+    let mut scene = Scene {
+        map: &map,
+        caller: Shared {
+            updater: Updater::new(&map, keeper),
+        },
+        seat: seats.pop().unwrap(),
+        watcher: watchers.pop().unwrap(),
+        ports: [0; NETWORKS],
+    };
+    scene.make_all(&rt);
 }

@@ -1,0 +1,104 @@
+//! Who makes the calls of a script: a map's keeper, or the same behind a lock.
+ghost use Rattle.std.specs.Prelude.{◌<◌};
+ghost use Rattle.rcu_nodes.specs.Graph.{IsWatcherOf};
+
+use crate::map::route::Route;
+use crate::map::script::Routes;
+use rcu_map::{MapKeeper, Updater};
+use rcu_nodes::Full;
+use std::sync::Wait;
+
+/// Who changes a map, and knows what it has.
+pub(crate) trait Caller {
+    ghost use Rattle.std.specs.Prelude.{◌<◌};
+
+    fn insert<R: Wait>(&mut self, rt: &R, route: Route) -> Result<bool, Full>
+        requires { 0 < route.network };
+
+    fn replace<R: Wait>(&mut self, rt: &R, route: Route) -> Result<bool, Full>
+        requires { 0 < route.network };
+
+    fn remove<R: Wait>(&mut self, rt: &R, network: u64) -> bool;
+
+    fn age<R: Wait>(&mut self, rt: &R) -> u64;
+
+    fn get<R: Wait>(&self, rt: &R, network: u64) -> Option<Route>;
+
+    fn contains<R: Wait>(&self, rt: &R, network: u64) -> bool;
+
+    fn len<R: Wait>(&self, rt: &R) -> usize;
+}
+
+/// A map and its keeper.
+#[derive(Drop)]
+pub(crate) struct Kept<'a> {
+    pub(crate) map: &'a Routes,
+    pub(crate) keeper: MapKeeper<Route, 2, 2, 6>,
+    pub(crate) ghost keeper_of: { IsWatcherOf map.now keeper },
+}
+
+impl<'a> Caller for Kept<'a> {
+    fn insert<R: Wait>(&mut self, _rt: &R, route: Route) -> Result<bool, Full> {
+        self.keeper.insert(self.map, route)
+    }
+
+    fn replace<R: Wait>(&mut self, _rt: &R, route: Route) -> Result<bool, Full> {
+        self.keeper.replace(self.map, route)
+    }
+
+    fn remove<R: Wait>(&mut self, _rt: &R, network: u64) -> bool {
+        self.keeper.remove(self.map, network)
+    }
+
+    fn age<R: Wait>(&mut self, _rt: &R) -> u64 {
+        self.keeper.age(self.map)
+    }
+
+    fn get<R: Wait>(&self, _rt: &R, network: u64) -> Option<Route> {
+        self.keeper.get(network)
+    }
+
+    fn contains<R: Wait>(&self, _rt: &R, network: u64) -> bool {
+        self.keeper.contains(network)
+    }
+
+    fn len<R: Wait>(&self, _rt: &R) -> usize {
+        self.keeper.len()
+    }
+}
+
+/// A map's keeper behind a lock.
+#[derive(Drop)]
+pub(crate) struct Shared<'a> {
+    pub(crate) updater: Updater<'a, 4, 4, u64, Route, 2, 2, 6>,
+}
+
+impl<'a> Caller for Shared<'a> {
+    fn insert<R: Wait>(&mut self, rt: &R, route: Route) -> Result<bool, Full> {
+        self.updater.insert(rt, route)
+    }
+
+    fn replace<R: Wait>(&mut self, rt: &R, route: Route) -> Result<bool, Full> {
+        self.updater.replace(rt, route)
+    }
+
+    fn remove<R: Wait>(&mut self, rt: &R, network: u64) -> bool {
+        self.updater.remove(rt, network)
+    }
+
+    fn age<R: Wait>(&mut self, rt: &R) -> u64 {
+        self.updater.age(rt)
+    }
+
+    fn get<R: Wait>(&self, rt: &R, network: u64) -> Option<Route> {
+        self.updater.get(rt, network)
+    }
+
+    fn contains<R: Wait>(&self, rt: &R, network: u64) -> bool {
+        self.updater.get(rt, network).is_some()
+    }
+
+    fn len<R: Wait>(&self, rt: &R) -> usize {
+        self.updater.len(rt)
+    }
+}

@@ -1,0 +1,158 @@
+//! Four readers beside two administrators, who share an updater, each on a thread of its own: what
+//! a reader finds of a network is what that one had at some moment of the look.
+mod admin;
+mod history;
+mod reader;
+
+ghost use Rattle.std.specs.Prelude.{◌≡◌, All};
+ghost use Rattle.std.specs.Thread.{IsSync};
+ghost use Rattle.rcu_live.specs.CpuSeat.{IsSeatOf};
+ghost use Rattle.rcu_nodes.specs.Graph.{IsWatcherOf};
+ghost use Rattle.rcu_nodes.specs.declared.known.Known.TheVariants.{Idle};
+
+use crate::map::route::Route;
+use crate::map::threads::admin::Admin;
+use crate::map::threads::history::{History, NETWORKS, Seen, route_after};
+use crate::map::threads::reader::Reader;
+use rcu_map::{Map, MapSeat, MapWatcher, Updater};
+use std::process::Abort;
+use std::sync::Wait;
+use std::thread;
+use std::thread::Threads;
+
+pub(crate) const BUCKETS: usize = 4;
+
+/// Up to 28 routes, in 4 buckets.
+pub(crate) type Routes = Map<4, 4, u64, Route, BUCKETS, 2, 32>;
+
+pub(crate) type Control<'a> = Updater<'a, 4, 4, u64, Route, BUCKETS, 2, 32>;
+
+pub(crate) type Seat = MapSeat<Route, BUCKETS, 2, 32>;
+
+pub(crate) type Watcher = MapWatcher<Route, BUCKETS, 2, 32>;
+
+/// The seats and the watchers that no thread has yet.
+#[derive(Drop)]
+struct Spare<'a> {
+    map: &'a Routes,
+    history: &'a History,
+    seats: Vec<Seat>,
+    watchers: Vec<Watcher>,
+    ghost seats_of: { All (IsSeatOf map.now) seats.items },
+    ghost outside: { All (λ seat. seat.depth ≡ 0) seats.items },
+    ghost idle: { All (λ seat. seat.view.client ≡ Idle) seats.items },
+    ghost watchers_of: { All (IsWatcherOf map.now) watchers.items },
+}
+
+impl<'a> Spare<'a> {
+    /// A reader on the last processor that is left.
+    fn next_reader<R: Abort>(&mut self, rt: &R) -> Reader<'a> {
+        let seat = self.seats.pop().expect(rt, "a processor is left");
+        Reader {
+            map: self.map,
+            history: self.history,
+            seat,
+            seen: Seen::new(),
+        }
+    }
+
+    /// An administrator on the last processor that is left, of each second network from this one.
+    fn next_admin<'b, R: Abort>(
+        &mut self,
+        rt: &R,
+        control: &'b Control<'a>,
+        first: u32,
+    ) -> Admin<'a, 'b> {
+        let seat = self.seats.pop().expect(rt, "a processor is left");
+        let watcher = self.watchers.pop().expect(rt, "a watcher is left");
+        Admin {
+            map: self.map,
+            control,
+            history: self.history,
+            seat,
+            watcher,
+            first,
+        }
+    }
+}
+
+/// Runs two readers.
+fn read_both<R: Abort + Threads + Wait + Sync>(rt: &R, readers: (Reader<'_>, Reader<'_>)) {
+    let (one, other) = readers;
+    thread::join(rt, move || one.read_on(rt), move || other.read_on(rt));
+}
+
+/// Runs two administrators.
+fn administer_both<R: Abort + Threads + Wait + Sync>(
+    rt: &R,
+    admins: (Admin<'_, '_>, Admin<'_, '_>),
+) {
+    let (one, other) = admins;
+    thread::join(rt, move || one.administer(rt), move || other.administer(rt));
+}
+
+/// Runs all threads, and reads once more when they have ended. Where no thread can be made for the
+/// readers, they run last, since they go on until the administrators have ended. Those wait for
+/// nobody but readers that are online.
+fn run<'a, R: Abort + Threads + Wait + Sync>(rt: &R, control: &Control<'a>, mut spare: Spare<'a>) {
+    let readers = (spare.next_reader(rt), spare.next_reader(rt));
+    let more = (spare.next_reader(rt), spare.next_reader(rt));
+    let admins = (
+        spare.next_admin(rt, control, 0),
+        spare.next_admin(rt, control, 1),
+    );
+    let mut last = spare.next_reader(rt);
+    last.rest();
+    let reading = move || -> ((), ())
+        requires { IsSync R.row }
+    {
+        thread::join(
+            rt,
+            move || read_both(rt, readers),
+            move || read_both(rt, more),
+        )
+    };
+    thread::join(rt, reading, move || administer_both(rt, admins));
+    last.read_at_last(rt);
+}
+
+/// Puts the routes in that are there from the beginning.
+fn begin<R: Abort + Wait>(rt: &R, control: &Control<'_>) {
+    for network in 0..NETWORKS {
+        if let Some(route) = route_after(network, 0) {
+            assert_eq!(rt; control.insert(rt, route), Ok(true));
+        }
+    }
+}
+
+/// Compares all routes with the history at its end.
+fn is_as_told<R: Abort + Wait>(rt: &R, control: &Control<'_>, history: &History) {
+    let mut count = 0usize;
+    for network in 0..NETWORKS {
+        let wanted = route_after(network, history.ended(network));
+        let found = control.get(rt, u64::from(network));
+        assert_eq!(rt; (network, found), (network, wanted));
+        if wanted.is_some() {
+            count = count.saturating_add(1);
+        }
+    }
+    assert_eq!(rt; control.len(rt), count);
+}
+
+#[test]
+fn readers_beside_updates_by_two_threads(rt: HostRuntime) {
+    let Ok((map, seats, watchers, keeper)) = Routes::open(rt.alloc(), 7, 4_000_000) else {
+        return;
+    };
+    let history = History::new(4, 2);
+    let control = Control::new(&map, keeper);
+    begin(&rt, &control);
+    let spare = Spare {
+        map: &map,
+        history: &history,
+        seats,
+        watchers,
+    };
+    run(&rt, &control, spare);
+    is_as_told(&rt, &control, &history);
+}

@@ -1,0 +1,111 @@
+//! An administrator: a thread that changes routes, by an updater that it shares.
+ghost use Rattle.std.specs.Prelude.{◌≡◌, ◌<◌};
+
+use crate::map::route::Route;
+use crate::map::threads::history::{History, NETWORKS, is_kept, route_after};
+use crate::map::threads::{Control, Routes, Seat, Watcher};
+use rand_core::{Rng, SeedableRng};
+use rand_pcg::Pcg32;
+use rcu_nodes::Full;
+use std::process::Abort;
+use std::sync::Wait;
+
+/// How many changes are drawn.
+const CHANGES: u32 = 1_500;
+
+/// Who changes the route to each second network from this one on, with a processor's seat and a
+/// watcher.
+#[derive(Drop)]
+pub(crate) struct Admin<'a, 'b> {
+    pub(crate) map: &'a Routes,
+    pub(crate) control: &'b Control<'a>,
+    pub(crate) history: &'b History,
+    pub(crate) seat: Seat,
+    pub(crate) watcher: Watcher,
+    pub(crate) first: u32,
+    pub(crate) ghost seat_of: { seat.table ≡ map.now.table },
+    pub(crate) ghost watcher_of: { watcher.table ≡ map.now.table },
+}
+
+impl<'a, 'b> Admin<'a, 'b> {
+    /// All nodes are used: waits for a grace period, so that what was left before makes room.
+    fn make_room<R: Abort + Wait>(&mut self, rt: &R) {
+        let before = self.control.age(rt);
+        let live = self.map.live();
+        let waited = live.synchronize(rt, &mut self.seat, &mut self.watcher);
+        assert_eq!(rt; waited, Ok(()));
+        let after = self.control.age(rt);
+        assert!(rt; before.saturating_add(4) <= after, "{before} and {after}");
+    }
+
+    /// Puts a route in, as soon as a node is free. There is none to replace.
+    fn insert<R: Abort + Wait>(&mut self, rt: &R, route: Route)
+        requires { 0 < route.network }
+    {
+        assert_eq!(rt; self.control.replace(rt, route), Ok(false));
+        for _ in rt.forever() {
+            let inserted = self.control.insert(rt, route);
+            if inserted == Ok(true) {
+                break;
+            }
+            assert_eq!(rt; inserted, Err(Full));
+            self.make_room(rt);
+        }
+    }
+
+    /// Puts a route in the place of the old one, as soon as a node is free. None more is put in.
+    fn replace<R: Abort + Wait>(&mut self, rt: &R, route: Route)
+        requires { 0 < route.network }
+    {
+        assert_eq!(rt; self.control.insert(rt, route), Ok(false));
+        for _ in rt.forever() {
+            let replaced = self.control.replace(rt, route);
+            if replaced == Ok(true) {
+                break;
+            }
+            assert_eq!(rt; replaced, Err(Full));
+            self.make_room(rt);
+        }
+    }
+
+    /// Changes the route to a network once more.
+    fn change<R: Abort + Wait>(&mut self, rt: &R, network: u32) {
+        let number = self.history.begin(network);
+        let before = route_after(network, number.saturating_sub(1));
+        let after = route_after(network, number);
+        let key = u64::from(network);
+        match after {
+            Some(route) if before.is_some() => self.replace(rt, route),
+            Some(route) => self.insert(rt, route),
+            None => assert_eq!(rt; self.control.remove(rt, key), before.is_some()),
+        }
+        self.history.end(network, number);
+        assert_eq!(rt; self.control.get(rt, key), after);
+        let _ = self.seat.quiesce(self.map.live());
+    }
+
+    fn arrive<R: Abort + Wait>(&mut self, rt: &R) {
+        assert_eq!(rt; self.map.live().online(rt, &mut self.seat), Ok(()));
+    }
+
+    /// The administrator's thread: it changes routes that it draws, beside the readers.
+    pub(crate) fn administer<R: Abort + Wait>(mut self, rt: &R) {
+        self.history.wait_for_readers();
+        self.arrive(rt);
+        let mut draws = Pcg32::seed_from_u64(u64::from(self.first));
+        for _ in 0..CHANGES {
+            let network = (draws.next_u32() % NETWORKS / 2 * 2).saturating_add(self.first);
+            if !is_kept(network) {
+                self.change(rt, network);
+            }
+        }
+        let Admin {
+            map,
+            history,
+            mut seat,
+            ..
+        } = self;
+        history.leave();
+        let _ = map.live().offline(rt, &mut seat);
+    }
+}
