@@ -2,6 +2,7 @@
 mod reuse;
 mod route;
 mod script;
+mod waits;
 
 ghost use Rattle.std.specs.Prelude.{◌≡◌};
 ghost use Rattle.rcu_live.specs.CpuSeat.{IsSeatOf};
