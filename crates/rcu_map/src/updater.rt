@@ -27,8 +27,8 @@ pub(crate) struct Kept<
 }
 
 /// The keeper of a map behind a lock: threads that share it update the map, one call at a time.
-/// What each call does to the map is said at [`MapKeeper`]. None holds the lock while it waits for a
-/// reader.
+/// What each call does to the map is said at [`MapKeeper`]. None holds the lock while it waits for
+/// a reader.
 #[derive(Drop)]
 pub struct Updater<
     'a,
