@@ -1,16 +1,11 @@
 -- Looks at the number, one after another.
 use Rattle.std.proofs.Common.{◌≡◌, ◌≤◌, ◌+◌, Bool, true, if◌then◌else◌, List, [], ◌∷◌, refl, sym, ap, ◌∙◌, arith, inl, inr}
-use Rattle.std.proofs.Common.{◌⊎◌, Result, Ok, Err, OnOk, OnErr, subst}
 use Rattle.std.proofs.lemmas.Bool.{cases_Bool}
 use Rattle.std.proofs.lemmas.Bool.Decides.{nat_tests}
 use Rattle.rcu_seq.specs.Numbers.{Number}
-use Rattle.rcu_seq.specs.declared.fault.Fault.{Fault}
-use Rattle.rcu_live.specs.CpuSeat.{AcceptedAt, Seated}
 use Rattle.rcu_live.specs.Numbers.{is_past}
-use Rattle.rcu_live.specs.Waits.{AreRounds, HasRested, after_rests}
 use Rattle.rcu_live.specs.Watcher.{Watching}
 use Rattle.rcu_live.proofs.ClientLemmas.{not_past}
-use Rattle.rcu_live.proofs.WaitLemmas.{rested_more, rounds_more, rounds_then_look}
 use Rattle.rcu_cell.specs.Keeper.{after_age}
 use Rattle.rcu_cell.specs.Versions.{aged, aged_state, slot_in, slots_in}
 use Rattle.rcu_cell.specs.Waits.{HasAged}
@@ -106,26 +101,3 @@ aged_more k l m n r later new =
 -- the slot that is shown stays
 pub same_slot : (k l : Watching Known) → HasAged k l → slot_in l.view.client ≡ slot_in k.view.client
 same_slot k l r = ap (λ (w : Watching Known). slot_in w.view.client) r.state
-
--- a round of waiting, whether it was refused or not
-pub rested_round : {C T : Type 0} (r : Result T Fault) (s t u : Seated C) → HasRested s t
-    → OnOk r (AcceptedAt (λ (v : Seated C) (n : Number). after_rests v 1 n) t u.view.seen u) → OnErr r (u ≡ t) → HasRested s u
-rested_round (Ok _) s t u rested state same = rested_more s t u rested state.later state.state
-rested_round (Err _) s t u rested state same = subst (HasRested s) (sym same) rested
-
--- and the looks beside it
-pub rounds_round : {C T : Type 0} (r : Result T Fault) (s t u : Seated C) (w v x : Watching C) → AreRounds 1 s t w v
-    → OnOk r (AcceptedAt (λ (y : Seated C) (n : Number). after_rests y 1 n) t u.view.seen u) → OnErr r (u ≡ t)
-    → x.view.loads ≡ v.view.loads + 1 → OnOk r (AreRounds 1 s u w x) × OnErr r (AreRounds 2 s u w x)
-rounds_round (Ok _) s t u w v x rounds state same looks = (rounds_more 1 s t u w v x rounds state.state looks, tt)
-rounds_round (Err _) s t u w v x rounds state same looks =
-    let next = rounds_then_look 1 2 s t w v x (omega arith) rounds looks in
-    (tt, subst (λ (y : Seated _). AreRounds 2 s y w x) (sym same) next)
-
-pub rounds_at_end : {C T : Type 0} (r : Result T Fault) (s t : Seated C) (w v x : Watching C)
-    → OnOk r (AreRounds 1 s t w v) → OnErr r (AreRounds 2 s t w v) → x.view.loads ≡ v.view.loads
-    → AreRounds 1 s t w x ⊎ AreRounds 2 s t w x
-rounds_at_end (Ok _) s t w v x rounds last same =
-    inl (λ outside awake. let old = rounds outside awake in omega (arith, old, same))
-rounds_at_end (Err _) s t w v x rounds last same =
-    inr (λ outside awake. let old = last outside awake in omega (arith, old, same))

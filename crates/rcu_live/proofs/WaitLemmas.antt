@@ -1,9 +1,10 @@
 -- Quiescent states and looks, one after another: for callers whose loops wait.
 use Rattle.std.proofs.Common.{◌≡◌, ℕ, zero, suc, ◌+◌, ◌≤◌, Bool, true, false, if◌then◌else◌, refl, sym, ap, ◌∙◌, subst}
-use Rattle.std.proofs.Common.{arith, inl, inr}
+use Rattle.std.proofs.Common.{◌⊎◌, Err, Ok, OnErr, OnOk, Result, arith, inl, inr}
 use Rattle.std.proofs.lemmas.Bool.{cases_Bool}
 use Rattle.rcu_seq.specs.Numbers.{Number}
-use Rattle.rcu_live.specs.CpuSeat.{Seated}
+use Rattle.rcu_seq.specs.declared.fault.Fault.{Fault}
+use Rattle.rcu_live.specs.CpuSeat.{AcceptedAt, Seated}
 use Rattle.rcu_live.specs.Numbers.{may_open}
 use Rattle.rcu_live.specs.Waits.{AreRounds, HasLooked, HasRested, after_rests}
 use Rattle.rcu_live.specs.Watcher.{Watching, after_watch}
@@ -98,3 +99,26 @@ module _ {C : Type 0} where
       → x.view.loads ≡ v.view.loads + 1 → AreRounds next s t w x
   rounds_then_look more next s t w v x is before looks outside awake =
       let old = before outside awake in omega (arith, looks, old, is)
+
+-- a round of waiting, whether it was refused or not
+pub rested_round : {C T : Type 0} (r : Result T Fault) (s t u : Seated C) → HasRested s t
+    → OnOk r (AcceptedAt (λ (v : Seated C) (n : Number). after_rests v 1 n) t u.view.seen u) → OnErr r (u ≡ t) → HasRested s u
+rested_round (Ok _) s t u rested state same = rested_more s t u rested state.later state.state
+rested_round (Err _) s t u rested state same = subst (HasRested s) (sym same) rested
+
+-- and the looks beside it
+pub rounds_round : {C T : Type 0} (r : Result T Fault) (s t u : Seated C) (w v x : Watching C) → AreRounds 1 s t w v
+    → OnOk r (AcceptedAt (λ (y : Seated C) (n : Number). after_rests y 1 n) t u.view.seen u) → OnErr r (u ≡ t)
+    → x.view.loads ≡ v.view.loads + 1 → OnOk r (AreRounds 1 s u w x) × OnErr r (AreRounds 2 s u w x)
+rounds_round (Ok _) s t u w v x rounds state same looks = (rounds_more 1 s t u w v x rounds state.state looks, tt)
+rounds_round (Err _) s t u w v x rounds state same looks =
+    let next = rounds_then_look 1 2 s t w v x (omega arith) rounds looks in
+    (tt, subst (λ (y : Seated _). AreRounds 2 s y w x) (sym same) next)
+
+pub rounds_at_end : {C T : Type 0} (r : Result T Fault) (s t : Seated C) (w v x : Watching C)
+    → OnOk r (AreRounds 1 s t w v) → OnErr r (AreRounds 2 s t w v) → x.view.loads ≡ v.view.loads
+    → AreRounds 1 s t w x ⊎ AreRounds 2 s t w x
+rounds_at_end (Ok _) s t w v x rounds last same =
+    inl (λ outside awake. let old = rounds outside awake in omega (arith, old, same))
+rounds_at_end (Err _) s t w v x rounds last same =
+    inr (λ outside awake. let old = last outside awake in omega (arith, old, same))

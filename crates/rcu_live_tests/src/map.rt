@@ -4,6 +4,7 @@ mod reuse;
 mod route;
 mod script;
 mod threads;
+mod waits;
 
 ghost use Rattle.std.specs.Prelude.{◌≡◌};
 ghost use Rattle.rcu_live.specs.CpuSeat.{IsSeatOf};

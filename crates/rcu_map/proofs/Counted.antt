@@ -84,3 +84,50 @@ one_entry_more buckets xs ys i few past low off on same =
 -- no more entries than nodes
 pub entries_few : (buckets : ℕ) (nodes : List Node) → entries_in buckets nodes ≤ length nodes
 entries_few buckets nodes = let a = live_in-le (drop buckets nodes) in let b = length-drop buckets nodes in omega (arith, a, b)
+
+-- where as many nodes are live as there are, each is
+one_most : (b : Bool) → one_if b ≤ 1
+one_most true = omega arith
+one_most false = omega arith
+
+one_up : (b : Bool) → 1 ≤ one_if b → b ≡ true
+one_up true up = refl
+one_up false up = absurd (omega (arith, up))
+
+all_live : (nodes : List Node) → length nodes ≤ live_in nodes → (i : ℕ) → i < length nodes → live_at nodes i ≡ true
+all_live [] many i low = absurd (omega (arith, low))
+all_live (v ∷ nodes) many zero low =
+    let a = live_in-cons v nodes in
+    let most = live_in-le nodes in
+    one_up (is_live v.state) (omega (arith, a, most, many))
+all_live (v ∷ nodes) many (suc i) low =
+    let a = live_in-cons v nodes in
+    let most = one_most (is_live v.state) in
+    all_live nodes (omega (arith, a, most, many)) i (omega (arith, low))
+
+many_live : (nodes : List Node) → ((i : ℕ) → i < length nodes → live_at nodes i ≡ true) → live_in nodes ≡ length nodes
+many_live [] all = refl
+many_live (v ∷ nodes) all =
+    let a = live_in-cons v nodes in
+    let b : one_if (is_live v.state) ≡ 1 = ap one_if (all 0 (omega arith)) in
+    let d = many_live nodes (λ i low. all (suc i) (omega (arith, low))) in
+    omega (arith, a, b, d)
+
+pub all_behind_live : (buckets : ℕ) (nodes : List Node) → length nodes ≤ entries_in buckets nodes + buckets
+    → (i : ℕ) → buckets ≤ i → i < length nodes → is_live (state_at nodes i) ≡ true
+all_behind_live buckets nodes many i past low =
+    let long = length-drop buckets nodes in
+    let back : buckets + (i - buckets) ≡ i = omega (arith, past) in
+    ap (λ (n : ℕ). is_live (state_at nodes n)) (sym back)
+    ∙ (sym (behind buckets nodes (i - buckets)) ∙ all_live (drop buckets nodes) (omega (arith, long, many)) (i - buckets) (omega (arith, low, long, past)))
+
+pub many_behind : (buckets : ℕ) (nodes : List Node) → buckets ≤ length nodes
+    → ((i : ℕ) → i < length nodes → is_live (state_at nodes i) ≡ true) → entries_in buckets nodes + buckets ≡ length nodes
+many_behind buckets nodes room all =
+    let long = length-drop buckets nodes in
+    let many = many_live (drop buckets nodes) (λ i low. behind buckets nodes i ∙ all (buckets + i) (omega (arith, low, long))) in
+    omega (arith, long, many, room)
+
+-- entries and roots are no more than the nodes
+pub entries_and_roots : (buckets : ℕ) (nodes : List Node) → buckets ≤ length nodes → entries_in buckets nodes + buckets ≤ length nodes
+entries_and_roots buckets nodes room = let a = live_in-le (drop buckets nodes) in let b = length-drop buckets nodes in omega (arith, a, b, room)

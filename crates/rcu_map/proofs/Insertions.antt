@@ -89,7 +89,7 @@ module _ (holds : List ℕ → Type 0) (buckets width count : ℕ) (A : List Nod
             s),
       );
       node = node;
-      was_free = free;
+      was_free = record { inside = low; free = free };
       live = states node ∙ p.live;
       is = words_here;
       others = λ i ne. record { state = state_there i ne; words = words_there i ne };

@@ -128,7 +128,7 @@ module _ (holds : List ℕ → Type 0) (buckets width count : ℕ) (A : List Nod
             s),
       );
       node = node;
-      was_free = free;
+      was_free = record { inside = low; free = free };
       live = live_here;
       is = words_here;
       old = old;

@@ -1,5 +1,5 @@
 -- The entries of a map, as its nodes have them, and what a keeper's calls make of them.
-use Rattle.std.specs.Prelude.{◌≡◌, ◌≢◌, ◌⊎◌, ◌↔◌, ◌≤◌, ℕ, List, drop}
+use Rattle.std.specs.Prelude.{◌≡◌, ◌≢◌, ◌⊎◌, ◌↔◌, ◌<◌, ◌≤◌, ℕ, List, drop, length}
 use Rattle.rcu_nodes.specs.Absence.{key_at}
 use Rattle.rcu_nodes.specs.Nodes.{node_at, state_at}
 use Rattle.rcu_nodes.specs.Trimming.{live_in}
@@ -36,12 +36,17 @@ pub record IsSame (before after : List Node) (i : ℕ) : Type 0 where
   pub state : state_at after i ≡ state_at before i
   pub words : (node_at after i).words ≡ (node_at before i).words
 
+-- this node is there, and free
+pub record IsFreeNode (nodes : List Node) (node : ℕ) : Type 0 where
+  pub inside : node < length nodes
+  pub free : state_at nodes node ≡ Free
+
 -- the entry of these words was put in: beside the entries that were there it is in the map, and nothing else. It has a node
 -- that was free, and the other nodes are the same
 pub record IsInserted (buckets : ℕ) (before : List Node) (words : List ℕ) (after : List Node) : Type 0 where
   pub entries : (w : List ℕ) → HasEntry buckets after w ↔ (HasEntry buckets before w ⊎ (w ≡ words))
   pub node : ℕ
-  pub was_free : state_at before node ≡ Free
+  pub was_free : IsFreeNode before node
   pub live : state_at after node ≡ Live
   pub is : (node_at after node).words ≡ words
   pub others : (i : ℕ) → i ≢ node → IsSame before after i
@@ -52,7 +57,7 @@ pub record IsReplaced (buckets : ℕ) (before : List Node) (words : List ℕ) (a
   pub entries : (w : List ℕ)
       → HasEntry buckets after w ↔ ((HasEntry buckets before w × (key_in w ≢ key_in words)) ⊎ (w ≡ words))
   pub node : ℕ
-  pub was_free : state_at before node ≡ Free
+  pub was_free : IsFreeNode before node
   pub live : state_at after node ≡ Live
   pub is : (node_at after node).words ≡ words
   pub old : ℕ

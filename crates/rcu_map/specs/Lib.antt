@@ -8,3 +8,4 @@ pub mod Listing
 pub mod Opening
 pub mod Sections
 pub mod Splices
+pub mod Waits

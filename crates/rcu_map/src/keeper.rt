@@ -1,5 +1,6 @@
 //! The keeper of a map: it reads the entries without a section, and looks which nodes are free.
-ghost use Rattle.std.specs.Prelude.{◌≡◌, ◌≤◌, ◌<◌, ◌↔◌, IfOk, IfSome, IsSome, IsTrue, MatchOption};
+ghost use Rattle.std.specs.Prelude.{◌≡◌, ◌≤◌, ◌<◌, ◌^◌, ◌↔◌, IfOk, IfSome, IsSome, IsTrue};
+ghost use Rattle.std.specs.Prelude.{MatchOption};
 ghost use Rattle.rcu_nodes.specs.Graph.{IsWatcherOf};
 ghost use Rattle.rcu_nodes.specs.Keeper.{IsKeeperOf, after_look};
 ghost use Rattle.rcu_nodes.specs.Nodes.{node_at, nodes_in};
@@ -190,6 +191,7 @@ impl<E: Entry<W>, const BUCKETS: usize, const W: usize, const N: usize> MapKeepe
         ensures graph { IsWatcherOf map.now self.new }
         ensures state { self.new ≡ after_look self.old result }
         ensures later { self.old.view.seen ≤ result }
+        ensures bounded { result ≤ 2 ^ 62 }
         ensures entries { AreSameEntries BUCKETS (nodes_in self.old.view.client)
             (nodes_in self.new.view.client) }
     {

@@ -6,11 +6,12 @@ use crate::entry::Entry;
 use crate::keeper::MapKeeper;
 use crate::map::Map;
 use rcu_nodes::Full;
+use std::marker::Model;
 use std::sync::{Mutex, Wait};
 
 /// A map and its keeper, which belong together.
 #[derive(Drop)]
-struct Kept<
+pub(crate) struct Kept<
     'a,
     const LEAF: u32,
     const FAN: u32,
@@ -20,13 +21,14 @@ struct Kept<
     const W: usize,
     const N: usize,
 > {
-    map: &'a Map<LEAF, FAN, T, E, BUCKETS, W, N>,
-    keeper: MapKeeper<E, BUCKETS, W, N>,
+    pub(crate) map: &'a Map<LEAF, FAN, T, E, BUCKETS, W, N>,
+    pub(crate) keeper: MapKeeper<E, BUCKETS, W, N>,
     ghost keeper_of: { IsWatcherOf map.now keeper },
 }
 
 /// The keeper of a map behind a lock: threads that share it update the map, one call at a time.
-/// What each call does to the map is said at [`MapKeeper`]. None waits for a reader.
+/// What each call does to the map is said at [`MapKeeper`]. None holds the lock while it waits for
+/// a reader.
 #[derive(Drop)]
 pub struct Updater<
     'a,
@@ -38,7 +40,25 @@ pub struct Updater<
     const W: usize,
     const N: usize,
 > {
-    kept: Mutex<Kept<'a, LEAF, FAN, T, E, BUCKETS, W, N>>,
+    pub(crate) map: &'a Map<LEAF, FAN, T, E, BUCKETS, W, N>,
+    pub(crate) kept: Mutex<Kept<'a, LEAF, FAN, T, E, BUCKETS, W, N>>,
+}
+
+impl<
+    'a,
+    const LEAF: u32,
+    const FAN: u32,
+    T: Drop,
+    E: Entry<W>,
+    const BUCKETS: usize,
+    const W: usize,
+    const N: usize,
+> Model for Updater<'a, LEAF, FAN, T, E, BUCKETS, W, N> {
+    ghost use Rattle.rcu_live.specs.Board.{Object};
+
+    ghost Value = { Object };
+
+    ghost view = { λ updater. updater.map.now };
 }
 
 impl<
@@ -57,8 +77,10 @@ impl<
         keeper: MapKeeper<E, BUCKETS, W, N>,
     ) -> Self
         requires { IsWatcherOf map.now keeper }
+        ensures { result ≡ map.now }
     {
         Updater {
+            map,
             kept: Mutex::new(Kept { map, keeper }),
         }
     }

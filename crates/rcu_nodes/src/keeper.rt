@@ -1,7 +1,7 @@
 //! The keeper of a graph at run time: it publishes and unlinks nodes by single stores, leaves by
 //! itself what no live node leads to, and knows which nodes are free.
-ghost use Rattle.std.specs.Prelude.{◌≡◌, ◌≤◌, ◌<◌, All, IfOk, IfSome, None, OnErr, length, map};
-ghost use Rattle.std.specs.Prelude.{slice_index};
+ghost use Rattle.std.specs.Prelude.{◌≡◌, ◌≤◌, ◌<◌, ◌^◌, All, IfOk, IfSome, None, OnErr, length};
+ghost use Rattle.std.specs.Prelude.{map, slice_index};
 ghost use Rattle.std.specs.List.{range_with_len};
 ghost use Rattle.rcu_nodes.specs.Graph.{IsWatcherOf, word_to};
 ghost use Rattle.rcu_nodes.specs.Keeper.{IsKeeperOf, IsReady, after_look, after_step};
@@ -231,6 +231,7 @@ impl<F: Shape, const K: usize, const L: usize, const W: usize, const N: usize> K
         ensures graph { IsWatcherOf graph.now self.new }
         ensures state { self.new ≡ after_look self.old result }
         ensures later { self.old.view.seen ≤ result }
+        ensures bounded { result ≤ 2 ^ 62 }
     {
         self.counted.nodes.look(graph)
     }

@@ -282,6 +282,7 @@ impl<F: Shape, const K: usize, const L: usize, const W: usize, const N: usize> K
         ensures graph { IsWatcherOf graph.now self.new }
         ensures state { self.new ≡ after_look self.old result }
         ensures later { self.old.view.seen ≤ result }
+        ensures bounded { result ≤ 2 ^ 62 }
     {
         let number = graph.look(&mut self.seat);
         self.mirror.age(number);

@@ -2,10 +2,10 @@ use Rattle.std.proofs.Common.{◌≡◌, ◌∙◌, ℕ, IfErr, OnOk, Result, ap
 use Rattle.rcu_seq.specs.declared.fault.Fault.{Fault}
 use Rattle.rcu_live.specs.Waits.{AreRounds, wait_fault}
 use Rattle.rcu_live.specs.Watcher.{Watching}
-use Rattle.rcu_live.proofs.WaitLemmas.{rested_none, rounds_none, rounds_then_look}
+use Rattle.rcu_live.proofs.WaitLemmas.{rested_none, rested_round, rounds_at_end, rounds_none, rounds_round, rounds_then_look}
 use Rattle.rcu_cell.specs.Waits.{HasAged}
 use Rattle.rcu_cell.specs.declared.known.Known.{Known}
-use Rattle.rcu_cell.proofs.Ages.{aged_more, aged_once, rested_round, rounds_at_end, rounds_round}
+use Rattle.rcu_cell.proofs.Ages.{aged_more, aged_once}
 use Rattle.rcu_cell.proofs.keeper.Keeper.update_when_free.Goals as goal
 
 pub loop-init : goal.loop-init

@@ -1,0 +1,170 @@
+//! Entries that wait for a free node: by a script on one thread, and by several threads.
+mod threads;
+
+ghost use Rattle.std.specs.Prelude.{◌<◌};
+ghost use Rattle.rcu_nodes.specs.Graph.{IsSeatOf, IsWatcherOf};
+
+use crate::map::route::Route;
+use rcu_map::{Map, MapKeeper, MapSeat, NotPut};
+use rcu_seq::fault::Fault;
+use std::alloc::Global;
+use std::process::Abort;
+use std::sync::Wait;
+
+/// Two routes at most, in one bucket.
+type Two = Map<4, 4, u64, Route, 1, 2, 3>;
+
+/// A call, with the network and the port that it is given, and what it returns.
+#[derive(Clone, Copy)]
+enum Call {
+    Insert(u32, u32, Result<bool, NotPut>),
+    Replace(u32, u32, Result<bool, NotPut>),
+    Remove(u32, bool),
+    Enter,
+    Exit,
+}
+
+/// A keeper of a map, with the seat of its one processor.
+#[derive(Drop)]
+struct Scene<'a> {
+    map: &'a Two,
+    keeper: MapKeeper<Route, 1, 2, 3>,
+    seat: MapSeat<Route, 1, 2, 3>,
+    ghost keeper_of: { IsWatcherOf map.now keeper },
+    ghost seat_of: { IsSeatOf map.now seat },
+}
+
+impl<'a> Scene<'a> {
+    fn insert<R: Wait>(&mut self, rt: &R, route: Route) -> Result<bool, NotPut>
+        requires { 0 < route.network }
+    {
+        self.keeper
+            .insert_or_wait(rt, self.map, &mut self.seat, route)
+    }
+
+    fn replace<R: Wait>(&mut self, rt: &R, route: Route) -> Result<bool, NotPut>
+        requires { 0 < route.network }
+    {
+        self.keeper
+            .replace_or_wait(rt, self.map, &mut self.seat, route)
+    }
+
+    /// Makes a call, and compares what it returns.
+    fn call<R: Abort + Wait>(&mut self, rt: &R, row: usize, call: Call) {
+        match call {
+            Call::Insert(network, port, wanted) => {
+                if let Some(route) = Route::to(network, port) {
+                    let found = self.insert(rt, route);
+                    assert_eq!(rt; (row, found), (row, wanted));
+                }
+            }
+            Call::Replace(network, port, wanted) => {
+                if let Some(route) = Route::to(network, port) {
+                    let found = self.replace(rt, route);
+                    assert_eq!(rt; (row, found), (row, wanted));
+                }
+            }
+            Call::Remove(network, wanted) => {
+                let found = self.keeper.remove(self.map, u64::from(network));
+                assert_eq!(rt; (row, found), (row, wanted));
+            }
+            Call::Enter => {
+                let found = self.seat.enter(self.map.live());
+                assert_eq!(rt; (row, found.is_ok()), (row, true));
+            }
+            Call::Exit => {
+                let found = self.seat.exit(self.map.live());
+                assert_eq!(rt; (row, found.is_ok()), (row, true));
+            }
+        }
+    }
+}
+
+/// Makes the calls in their order, up to this last number. Compares the routes to the networks 1 to
+/// 4 in the end: a port of 0 is none.
+fn makes<R: Abort + Wait>(rt: &R, alloc: Global, last: u64, calls: &[Call], ports: [u32; 4]) {
+    let Ok((map, mut seats, _, keeper)) = Two::open(alloc, 1, last) else {
+        return;
+    };
+    let mut scene = Scene {
+        map: &map,
+        keeper,
+        seat: seats.pop().unwrap(),
+    };
+    for (row, call) in calls.iter().enumerate() {
+        scene.call(rt, row, *call);
+    }
+    for (network, port) in (1..=4u64).zip(ports) {
+        let found = scene.keeper.get(network).map(|route| route.port);
+        assert_eq!(rt; (network, found.unwrap_or(0)), (network, port));
+    }
+}
+
+/// Each node is live, or some were left: both calls, where they need a node and where they do not.
+static FULL: [Call; 19] = [
+    Call::Replace(1, 1, Ok(false)),
+    Call::Insert(1, 1, Ok(true)),
+    Call::Insert(2, 2, Ok(true)),
+    Call::Insert(3, 3, Err(NotPut::Full)),
+    Call::Insert(2, 4, Ok(false)),
+    Call::Replace(2, 4, Err(NotPut::Full)),
+    Call::Replace(3, 4, Ok(false)),
+    Call::Remove(1, true),
+    Call::Insert(2, 5, Ok(false)),
+    Call::Replace(1, 5, Ok(false)),
+    Call::Insert(3, 6, Ok(true)),
+    Call::Insert(4, 7, Err(NotPut::Full)),
+    Call::Remove(2, true),
+    Call::Replace(3, 8, Ok(true)),
+    Call::Replace(3, 9, Ok(true)),
+    Call::Insert(1, 10, Ok(true)),
+    Call::Replace(3, 11, Err(NotPut::Full)),
+    Call::Remove(1, true),
+    Call::Insert(4, 12, Ok(true)),
+];
+
+#[test]
+fn entries_wait_where_a_node_was_left(rt: HostRuntime) {
+    makes(&rt, rt.alloc(), 4_000, &FULL, [0, 0, 9, 12]);
+}
+
+/// In a section no call is made, whether a node is free or not.
+static IN_A_SECTION: [Call; 12] = [
+    Call::Enter,
+    Call::Insert(1, 1, Err(NotPut::Fault(Fault::InSection))),
+    Call::Exit,
+    Call::Insert(1, 2, Ok(true)),
+    Call::Insert(2, 3, Ok(true)),
+    Call::Enter,
+    Call::Insert(3, 4, Err(NotPut::Fault(Fault::InSection))),
+    Call::Insert(1, 4, Err(NotPut::Fault(Fault::InSection))),
+    Call::Replace(1, 4, Err(NotPut::Fault(Fault::InSection))),
+    Call::Exit,
+    Call::Remove(1, true),
+    Call::Insert(3, 5, Ok(true)),
+];
+
+#[test]
+fn no_entry_waits_in_a_section(rt: HostRuntime) {
+    makes(&rt, rt.alloc(), 4_000, &IN_A_SECTION, [0, 3, 5, 0]);
+}
+
+/// A grace period passes, and then no other one: what needs a node is refused from then on.
+static LAST_NUMBER: [Call; 11] = [
+    Call::Insert(1, 1, Ok(true)),
+    Call::Insert(2, 2, Ok(true)),
+    Call::Remove(1, true),
+    Call::Insert(3, 3, Ok(true)),
+    Call::Remove(2, true),
+    Call::Insert(4, 4, Err(NotPut::Fault(Fault::Exhausted))),
+    Call::Replace(3, 4, Err(NotPut::Fault(Fault::Exhausted))),
+    Call::Insert(3, 4, Ok(false)),
+    Call::Replace(4, 4, Ok(false)),
+    Call::Insert(4, 4, Err(NotPut::Fault(Fault::Exhausted))),
+    Call::Remove(4, false),
+];
+
+#[test]
+fn entries_wait_up_to_the_last_number(rt: HostRuntime) {
+    makes(&rt, rt.alloc(), 4, &LAST_NUMBER, [0, 0, 3, 0]);
+}

@@ -1,0 +1,182 @@
+//! Calls that wait until a node is free.
+ghost use Rattle.std.specs.Prelude.{◌≡◌, ◌≢◌, ◌↔◌, ◌<◌, Err, IfErr, IsTrue, MatchResult, Ok, OnErr};
+ghost use Rattle.std.specs.Prelude.{OnOk, false, true};
+ghost use Rattle.rcu_seq.specs.declared.fault.Fault.{Fault};
+ghost use Rattle.rcu_live.specs.Waits.{HasRested, wait_fault};
+ghost use Rattle.rcu_nodes.specs.Nodes.{nodes_in};
+ghost use Rattle.rcu_map.specs.Entries.{HasKey, IsInserted, IsReplaced};
+ghost use Rattle.rcu_map.specs.Waits.{AreAllLive, AreOf, CanWait, HasChangedInTime, HasGivenUp};
+ghost use Rattle.rcu_map.specs.Waits.{HasStayed, HasMadeRoom, WaitedFor};
+ghost use Rattle.rcu_map.specs.declared.not_put.NotPut.{NotPut};
+
+use crate::entry::Entry;
+use crate::keeper::MapKeeper;
+use crate::map::Map;
+use crate::not_put::NotPut;
+use crate::shape::MapSeat;
+use rcu_seq::{Cookie, Fault, Tag};
+use std::sync::Wait;
+
+/// Refuses a seat with an open section, which its caller would wait for.
+pub(crate) fn check_outside<E: Entry<W>, const BUCKETS: usize, const W: usize, const N: usize>(
+    seat: &MapSeat<E, BUCKETS, W, N>,
+) -> Result<(), Fault>
+    ensures { MatchResult result (λ _. seat.now.depth ≡ 0)
+        (λ fault. (fault ≡ Fault.InSection) × (0 < seat.now.depth)) }
+{
+    if seat.depth() > 0 {
+        return Err(Fault::InSection);
+    }
+    Ok(())
+}
+
+impl<E: Entry<W>, const BUCKETS: usize, const W: usize, const N: usize> MapKeeper<
+    E,
+    BUCKETS,
+    W,
+    N,
+> {
+    /// Whether each node is live: the root of a bucket, or an entry's.
+    pub(crate) fn is_all_live(&self) -> bool
+        ensures { IsTrue result ↔ AreAllLive (nodes_in self.now.view.client) }
+    {
+        self.len + BUCKETS == N
+    }
+
+    /// Looks at the number, and drives the engine, until a node is free.
+    fn wait_until_free<const LEAF: u32, const FAN: u32, T: Drop>(
+        &mut self,
+        rt: &impl Wait,
+        map: &Map<LEAF, FAN, T, E, BUCKETS, W, N>,
+        seat: &mut MapSeat<E, BUCKETS, W, N>,
+    ) -> Result<(), Fault>
+        requires { CanWait map.now seat.old self.old }
+        ensures of_map { AreOf map.now self.new seat.new }
+        ensures rested { HasRested seat.old seat.new }
+        ensures waited { OnOk result (HasMadeRoom BUCKETS seat.old seat.new self.old self.new) }
+        ensures fault { IfErr result (λ fault. fault ≡ Fault.Exhausted) }
+        ensures given_up { OnErr result
+            (HasGivenUp BUCKETS seat.old seat.new self.old self.new) }
+    {
+        let cookie = Cookie::of(Tag::of_first_epoch(self.age(map)));
+        let mut waited = Ok(());
+        for _ in rt.forever() {
+            if self.nodes.free_node().is_ok() {
+                return Ok(());
+            }
+            waited?;
+            waited = map.live().wait_once(rt, seat, cookie);
+            self.age(map);
+        }
+        unreachable!()
+    }
+
+    /// The same, where some node becomes free by that.
+    fn wait_for_node<const LEAF: u32, const FAN: u32, T: Drop>(
+        &mut self,
+        rt: &impl Wait,
+        map: &Map<LEAF, FAN, T, E, BUCKETS, W, N>,
+        seat: &mut MapSeat<E, BUCKETS, W, N>,
+    ) -> Result<(), NotPut>
+        requires { CanWait map.now seat.old self.old }
+        ensures of_map { AreOf map.now self.new seat.new }
+        ensures rested { HasRested seat.old seat.new }
+        ensures end { WaitedFor BUCKETS seat.old seat.new self.old result self.new }
+    {
+        if self.is_all_live() {
+            return Err(NotPut::Full);
+        }
+        self.wait_until_free(rt, map, seat)?;
+        Ok(())
+    }
+
+    /// Puts an entry in, as [`insert`](Self::insert). Where no node is free, it looks at the number
+    /// and drives the engine until one is. The caller's processor passes quiescent states
+    /// meanwhile, unless it is offline or idle. It does not wait where an entry has the key, nor
+    /// where each node is live: that is `Full`.
+    ///
+    /// No proof says that it returns. A section that stays open holds it up, and a processor whose
+    /// thread passes no quiescent state and is neither idle nor offline.
+    ///
+    /// Faults: `InSection` (4) where a section is open on the seat, which the caller would wait
+    /// for, and then nothing happened; `Exhausted` (11) where the last number is reached, so that
+    /// no node becomes free any more.
+    pub fn insert_or_wait<const LEAF: u32, const FAN: u32, T: Drop>(
+        &mut self,
+        rt: &impl Wait,
+        map: &Map<LEAF, FAN, T, E, BUCKETS, W, N>,
+        seat: &mut MapSeat<E, BUCKETS, W, N>,
+        entry: E,
+    ) -> Result<bool, NotPut>
+        requires of_map { AreOf map.now self.old seat.old }
+        requires sound { E.valid entry }
+        ensures of_map { AreOf map.now self.new seat.new }
+        ensures rested { HasRested seat.old seat.new }
+        ensures there { (result ≡ Ok false) ↔ ((seat.old.depth ≡ 0)
+            × HasKey BUCKETS (nodes_in self.old.view.client) (E.key_of entry)) }
+        ensures full { (result ≡ Err NotPut.Full) ↔ ((seat.old.depth ≡ 0)
+            × (¬ HasKey BUCKETS (nodes_in self.old.view.client) (E.key_of entry))
+            × AreAllLive (nodes_in self.old.view.client)) }
+        ensures inserted { result ≡ Ok true → HasChangedInTime
+            (λ before after. IsInserted BUCKETS before (E.in_words entry) after)
+            BUCKETS seat.old seat.new self.old self.new }
+        ensures fault { (fault : Fault) → result ≡ Err (NotPut.Fault fault) →
+            fault ≡ wait_fault seat.old.depth }
+        ensures given_up { result ≡ Err (NotPut.Fault Fault.Exhausted) →
+            HasGivenUp BUCKETS seat.old seat.new self.old self.new }
+        ensures unchanged { result ≢ Ok true → result ≢ Err (NotPut.Fault Fault.Exhausted) →
+            HasStayed seat.old seat.new self.old self.new }
+    {
+        check_outside(seat)?;
+        if let Ok(put) = self.insert(map, entry) {
+            return Ok(put);
+        }
+        self.wait_for_node(rt, map, seat)?;
+        let Ok(put) = self.insert(map, entry) else {
+            unreachable!()
+        };
+        Ok(put)
+    }
+
+    /// Puts an entry in the place of the one that has its key, as [`replace`](Self::replace), and
+    /// waits for a free node as [`insert_or_wait`](Self::insert_or_wait) does: not where no entry
+    /// has the key, nor where each node is live, which is `Full`.
+    ///
+    /// Faults: `InSection` (4) and `Exhausted` (11), as there.
+    pub fn replace_or_wait<const LEAF: u32, const FAN: u32, T: Drop>(
+        &mut self,
+        rt: &impl Wait,
+        map: &Map<LEAF, FAN, T, E, BUCKETS, W, N>,
+        seat: &mut MapSeat<E, BUCKETS, W, N>,
+        entry: E,
+    ) -> Result<bool, NotPut>
+        requires of_map { AreOf map.now self.old seat.old }
+        requires sound { E.valid entry }
+        ensures of_map { AreOf map.now self.new seat.new }
+        ensures rested { HasRested seat.old seat.new }
+        ensures there { (result ≡ Ok false) ↔ ((seat.old.depth ≡ 0)
+            × (¬ HasKey BUCKETS (nodes_in self.old.view.client) (E.key_of entry))) }
+        ensures full { (result ≡ Err NotPut.Full) ↔ ((seat.old.depth ≡ 0)
+            × HasKey BUCKETS (nodes_in self.old.view.client) (E.key_of entry)
+            × AreAllLive (nodes_in self.old.view.client)) }
+        ensures replaced { result ≡ Ok true → HasChangedInTime
+            (λ before after. IsReplaced BUCKETS before (E.in_words entry) after)
+            BUCKETS seat.old seat.new self.old self.new }
+        ensures fault { (fault : Fault) → result ≡ Err (NotPut.Fault fault) →
+            fault ≡ wait_fault seat.old.depth }
+        ensures given_up { result ≡ Err (NotPut.Fault Fault.Exhausted) →
+            HasGivenUp BUCKETS seat.old seat.new self.old self.new }
+        ensures unchanged { result ≢ Ok true → result ≢ Err (NotPut.Fault Fault.Exhausted) →
+            HasStayed seat.old seat.new self.old self.new }
+    {
+        check_outside(seat)?;
+        if let Ok(put) = self.replace(map, entry) {
+            return Ok(put);
+        }
+        self.wait_for_node(rt, map, seat)?;
+        let Ok(put) = self.replace(map, entry) else {
+            unreachable!()
+        };
+        Ok(put)
+    }
+}
