@@ -1,7 +1,7 @@
 -- The lines of a ledger.
 use Rattle.std.specs.Prelude.{ℕ, List, ◌++◌, codes}
 use Rattle.rcu_text.specs.Texts.{numbered_text}
-use Rattle.rcu_torture.specs.Ledger.{Account, early_in, queued_in, ran_in, twice_in}
+use Rattle.rcu_stress.specs.Ledger.{Account, early_in, queued_in, ran_in, twice_in}
 
 -- the ledger of so many workers and rounds
 abbrev pub ledger_text : ℕ → ℕ → Account → List ℕ

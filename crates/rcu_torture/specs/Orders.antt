@@ -9,9 +9,9 @@ use Rattle.rcu_script.specs.ScriptAnswers.{RunsScript}
 use Rattle.rcu_script.specs.ScriptTexts.{text_of}
 use Rattle.rcu_script.specs.declared.runs.RunFault.{RunFault}
 use Rattle.rcu_script.specs.declared.runs.RunFault.TheVariants.{Open, Read, Write}
-use Rattle.rcu_torture.specs.declared.command.Order.{Order}
-use Rattle.rcu_torture.specs.declared.command.Order.TheVariants.{Script, Pair, Torture}
-use Rattle.rcu_torture.specs.Ledger.{Account}
+use Rattle.rcu_command.specs.declared.command.Order.{Order}
+use Rattle.rcu_command.specs.declared.command.Order.TheVariants.{Script, Pair, Torture}
+use Rattle.rcu_stress.specs.Ledger.{Account}
 use Rattle.rcu_torture.specs.LedgerText.{ledger_text}
 
 -- the ledger of a run with a share for each worker was printed, or the writer failed in its lines; at a fault nothing

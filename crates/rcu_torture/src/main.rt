@@ -2,19 +2,17 @@
 #![tactic(auto)]
 
 ghost use Rattle.std.specs.Prelude.{IfOk};
-ghost use Rattle.rcu_torture.specs.CommandLine.{IsWithinLimits};
+ghost use Rattle.rcu_command.specs.CommandLine.{IsWithinLimits};
 
-pub mod command;
 pub mod perform;
 pub mod printing;
-pub mod reason;
-pub mod torture;
 
-pub use command::{Order, read_command};
 use perform::{perform, status_of};
+use rcu_command::Reason;
+pub use rcu_command::{Order, read_command};
 pub use rcu_script::{RunFault, Setup, run_pair, run_script};
+pub use rcu_stress::{Draws, Gate, Ledger, Open, Point, Share, torture};
 pub use rcu_text::{Failed, Marked, Sink, Source};
-use reason::Reason;
 use std::alloc::Global;
 use std::env::Env;
 use std::process::ExitCode;

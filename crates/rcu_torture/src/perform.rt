@@ -1,14 +1,14 @@
 //! An order, performed between a reader and a writer.
 ghost use Rattle.std.specs.Prelude.{◌≡◌, ◌≤◌, false, length};
 ghost use Rattle.rcu_text.specs.Runs.{ends_of};
-ghost use Rattle.rcu_torture.specs.CommandLine.{IsWithinLimits};
-ghost use Rattle.rcu_torture.specs.Ledger.{most_rounds, most_workers};
+ghost use Rattle.rcu_command.specs.CommandLine.{IsWithinLimits};
+ghost use Rattle.rcu_stress.specs.Ledger.{most_rounds, most_workers};
 ghost use Rattle.rcu_torture.specs.Orders.{Answers, Performs, PrintsRun, Tells, exit_status};
 
-use crate::command::Order;
 use crate::printing::{print_fault, print_ledger};
-use crate::torture::{Ledger, Open, torture};
+use rcu_command::Order;
 use rcu_script::{RunFault, run_pair, run_script};
+use rcu_stress::{Ledger, Open, torture};
 use rcu_text::{Failed, Sink, Source};
 use std::alloc::Global;
 use std::sync::Wait;

@@ -5,10 +5,10 @@ ghost use Rattle.rcu_text.specs.Streams.{Writes};
 ghost use Rattle.rcu_torture.specs.LedgerText.{ledger_text};
 ghost use Rattle.rcu_torture.specs.Orders.{fault_line};
 
-use crate::torture::Ledger;
 use rcu_core::reply::Reply;
 use rcu_script::script::print::put_reply;
 use rcu_seq::fault::Fault;
+use rcu_stress::Ledger;
 use rcu_text::{BlockWriter, Failed, Output, Sink, put_numbered};
 
 /// Prints a fault as a reply is printed. Where the writer fails, it took a beginning of the line.

@@ -2,7 +2,7 @@ use Rattle.std.proofs.Common.{ℕ, List, ◌++◌, codes}
 use Rattle.std.proofs.lemmas.Result.{err_from_is_err_and}
 use Rattle.rcu_text.specs.Texts.{numbered_text}
 use Rattle.rcu_text.proofs.CallerLemmas.{Sends-Stops, Stops-before, puts_two}
-use Rattle.rcu_torture.specs.Ledger.{Account, early_in, queued_in, ran_in, twice_in}
+use Rattle.rcu_stress.specs.Ledger.{Account, early_in, queued_in, ran_in, twice_in}
 use Rattle.rcu_torture.proofs.printing.put_ledger.Goals as goal
 
 -- the lines, and from each one on all later ones

@@ -1,0 +1,8 @@
+//! The command line, and why what it orders stopped.
+#![tactic(auto)]
+
+pub mod command;
+pub mod reason;
+
+pub use command::{Order, read_command};
+pub use reason::Reason;

@@ -1,0 +1,36 @@
+//! Gates, which a test sets before workers.
+ghost use Rattle.std.specs.Prelude.{◌≡◌, ℕ, Bool, true};
+ghost use Rattle.rcu_stress.specs.declared.gate.Point.{Point};
+
+/// A place in a worker's round, inside its read section.
+#[derive(Clone, Copy, Debug, PartialEq, Eq)]
+pub enum Point {
+    /// The section is open, and no cookie is taken yet.
+    Entered,
+    /// The cookie was taken and polled.
+    Polled,
+}
+
+/// Whether workers go on, by which a test holds them up or ends them early.
+pub trait Gate: Sync {
+    // It may answer a worker so at a place of its round.
+    ghost answers: { ℕ → Point → Bool → Type 0 } = { λ _ _ _. Unit {0} };
+
+    /// Whether the worker goes on at this place of its round. Where it does not, it closes its
+    /// section and ends, which is no fault.
+    fn pass(&self, worker: u32, point: Point) -> bool
+        ensures { answers worker point result };
+}
+
+/// The gate of the program, which returns true at once.
+pub struct Open;
+
+impl Gate for Open {
+    ghost answers = { λ _ _ passed. passed ≡ true };
+
+    fn pass(&self, _worker: u32, _point: Point) -> bool
+        ensures { result ≡ true }
+    {
+        true
+    }
+}

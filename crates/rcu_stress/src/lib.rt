@@ -1,0 +1,17 @@
+//! Threads that work the running engine hard, and the ledger of what they did.
+#![tactic(auto)]
+
+pub mod draws;
+mod engine;
+pub mod gate;
+mod job;
+pub mod ledger;
+pub mod run;
+pub mod share;
+mod workers;
+
+pub use draws::Draws;
+pub use gate::{Gate, Open, Point};
+pub use ledger::Ledger;
+pub use run::torture;
+pub use share::Share;

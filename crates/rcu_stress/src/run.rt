@@ -1,0 +1,93 @@
+//! A torture run: its workers' jobs, and the ledger over them.
+ghost use Rattle.std.specs.Prelude.{◌≡◌, ◌+◌, ◌≤◌, Err, IfErr, IfNone, IfOk, IfSome, Ok, OnOk};
+ghost use Rattle.std.specs.Prelude.{length, vec_capacity, vec_len};
+ghost use Rattle.rcu_stress.specs.Ledger.{most_rounds, most_workers};
+
+use crate::engine::Engine;
+use crate::gate::Gate;
+use crate::job::{Job, Plan};
+use crate::ledger::Ledger;
+use crate::share::Share;
+use crate::workers::{Gathered, deal_jobs, run_all};
+use rcu_seq::fault::Fault;
+use std::alloc::Global;
+use std::sync::Wait;
+use std::thread::Threads;
+
+/// The last number of a run's engine, the greatest that there is.
+const LAST: u64 = 1 << 62;
+
+/// Stresses the running engine with `workers` workers, each on a thread of its own with a processor
+/// of its own, for `rounds` rounds, and then alone until nothing is left. A worker draws its words
+/// by the seed, and passes the gate twice a round.
+///
+/// Returns what was counted. Faults: the first one that the lowest worker met, else the one that
+/// the program met, of which only 16 is expected.
+pub fn torture<R: Threads + Wait + Sync, G: Gate>(
+    alloc: Global,
+    rt: &R,
+    workers: u32,
+    rounds: u32,
+    seed: u64,
+    gate: &G,
+) -> Result<Ledger, Fault>
+    requires workers { (1 ≤ workers) × (workers ≤ most_workers) }
+    requires rounds { (1 ≤ rounds) × (rounds ≤ most_rounds) }
+    ensures workers { IfOk result (λ ledger. length ledger.shares ≡ workers) }
+    ensures own { IfOk result (λ ledger. (ledger.own.queued ≡ 0) × (ledger.own.early ≡ 0)) }
+{
+    let Ok(gathered) = Gathered::new(alloc, workers) else {
+        return Err(Fault::NoMemory);
+    };
+    let (live, seats, watchers) = Engine::open(alloc, workers, LAST)?;
+    let plan = Plan {
+        workers,
+        rounds,
+        seed,
+    };
+    let (first, others) = deal_jobs(rt, alloc, &live, seats, watchers, plan)?;
+    work(rt, alloc, gate, first, others, gathered)
+}
+
+/// Does the jobs, and then works alone, as the first worker, until nothing is left. What the
+/// workers give back is added to what was gathered, which is nothing and has room for it.
+///
+/// Its faults are those of `torture`.
+fn work<R: Threads + Wait + Sync, G: Gate>(
+    rt: &R,
+    alloc: Global,
+    gate: &G,
+    mut first: Job<'_, Engine>,
+    others: Vec<Job<'_, Engine>>,
+    gathered: Gathered,
+) -> Result<Ledger, Fault>
+    requires few { vec_len others + 1 ≤ most_workers }
+    requires none { vec_len gathered.shares ≡ 0 }
+    requires room { vec_len others + 1 ≤ vec_capacity gathered.shares }
+    ensures workers { IfOk result (λ ledger. length ledger.shares ≡ vec_len others.entry + 1) }
+    ensures own { IfOk result (λ ledger. (ledger.own.queued ≡ 0) × (ledger.own.early ≡ 0)) }
+{
+    let gathered = run_all(rt, gate, &mut first, others, gathered);
+    let own = first.finish(rt);
+    account(alloc, gathered, own)
+}
+
+/// The ledger of what was gathered and of the program's own share.
+///
+/// Faults: the workers', else the program's, else 16.
+fn account(alloc: Global, gathered: Gathered, own: Result<Share, Fault>) -> Result<Ledger, Fault>
+    requires { vec_len gathered.shares ≤ most_workers }
+    ensures shares { IfOk result (λ ledger. ledger.shares ≡ gathered.shares.items) }
+    ensures own { IfOk result (λ ledger. own ≡ Ok ledger.own) }
+    ensures first { IfSome gathered.fault (λ fault. result ≡ Err fault) }
+    ensures other { IfNone gathered.fault (IfErr own (λ fault. result ≡ Err fault)) }
+    ensures memory { IfNone gathered.fault
+        (OnOk own (IfErr result (λ fault. fault ≡ Fault.NoMemory))) }
+{
+    let Gathered { shares, fault } = gathered;
+    if let Some(fault) = fault {
+        return Err(fault);
+    }
+    let own = own?;
+    Ledger::of(alloc, shares, own).map_err(|_| Fault::NoMemory)
+}

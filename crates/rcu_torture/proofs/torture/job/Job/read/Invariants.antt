@@ -1,5 +1,0 @@
-use Rattle.rcu_torture.proofs.torture.job.Job.read.Given as goal
-
--- the watcher's looks when the round began
-abbrev pub ghost-pass : goal.ghost-pass
-ghost-pass g a = g.looks
