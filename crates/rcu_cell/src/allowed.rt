@@ -1,6 +1,6 @@
 //! Lemmas as functions that do nothing: why a step on a cell is allowed, by whose clauses the rule
-//! is kept, and that a value's words fit in memory.
-ghost use Rattle.std.specs.Prelude.{◌≡◌, ◌<◌, ◌≤◌, ◌^◌, IsSome, None, Some};
+//! is kept.
+ghost use Rattle.std.specs.Prelude.{◌≡◌, ◌<◌, IsSome, None, Some};
 ghost use Rattle.rcu_live.specs.Client.{AllowsNumber, AllowsWord};
 ghost use Rattle.rcu_cell.specs.Cell.{ReadsSlot};
 ghost use Rattle.rcu_cell.specs.Keeper.{KeepsFree};
@@ -10,7 +10,6 @@ ghost use Rattle.rcu_cell.specs.Versions.{IsKeeping, slots_in, version_at, word_
 ghost use Rattle.rcu_cell.specs.declared.known.Known.TheVariants.{Owner};
 
 use crate::rule::{CellSeat, CellWatcher, Invariant};
-use crate::value::Value;
 
 /// An open section may load which slot is shown.
 pub(crate) fn load_is_allowed<F: Invariant, const W: usize, const N: usize>(
@@ -77,9 +76,4 @@ pub(crate) fn age_is_allowed<F: Invariant, const W: usize, const N: usize>(
     requires { IsKeeping seat.now.view.client }
     ensures { AllowsNumber (IsKept F.holds W N) None None seat.now.view.client
         (IsAged seat.now.view.client) }
-{}
-
-/// The words of a value are few, as its type says.
-pub(crate) fn words_are_few<F: Value<W>, const W: usize>()
-    ensures { W ≤ 2 ^ 32 }
 {}

@@ -5,7 +5,6 @@ ghost use Rattle.rcu_cell.specs.Keeper.{AgedAt, IsDealtBy, IsFirstFree, IsFull, 
 ghost use Rattle.rcu_cell.specs.Versions.{aged_state, first_states, slots_in};
 ghost use Rattle.rcu_cell.specs.declared.known.Known.TheVariants.{Owner};
 
-use crate::allowed::words_are_few;
 use crate::cell::Cell;
 use crate::rule::{CellWatcher, Invariant};
 use crate::slot_state::SlotState;
@@ -157,7 +156,6 @@ impl<F: Value<W>, const W: usize, const N: usize> Keeper<F, W, N> {
         ensures full { OnErr result (IsFull (slots_in self.old.view.client)) }
         ensures unchanged { OnErr result (self.new ≡ self.old) }
     {
-        words_are_few::<F, W>();
         self.update(cell, &value.to_words())
     }
 }

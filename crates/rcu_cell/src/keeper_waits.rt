@@ -5,7 +5,6 @@ ghost use Rattle.rcu_live.specs.Waits.{HasRested, wait_fault};
 ghost use Rattle.rcu_cell.specs.Cell.{AreOf};
 ghost use Rattle.rcu_cell.specs.Waits.{HasGivenUp, HasRestedOutside, HasUpdated, UpdatedInTime};
 
-use crate::allowed::words_are_few;
 use crate::cell::Cell;
 use crate::keeper::{Keeper, Retired};
 use crate::rule::{CellSeat, Invariant};
@@ -103,7 +102,6 @@ impl<F: Value<W>, const W: usize, const N: usize> Keeper<F, W, N> {
         ensures fault { IfErr result (λ fault. fault ≡ wait_fault seat.old.depth) }
         ensures given_up { OnErr result (HasGivenUp seat.old seat.new self.old self.new) }
     {
-        words_are_few::<F, W>();
         self.update_or_wait(rt, cell, seat, &value.to_words())
     }
 }

@@ -7,7 +7,6 @@ ghost use Rattle.rcu_cell.specs.Lent.{IsLentBy, lent};
 ghost use Rattle.rcu_cell.specs.Steps.{IsLoaded};
 ghost use Rattle.rcu_cell.specs.Versions.{words_in};
 
-use crate::allowed::words_are_few;
 use crate::cell::Cell;
 use crate::rule::{CellSeat, Invariant};
 use crate::value::Value;
@@ -88,7 +87,6 @@ impl<const LEAF: u32, const FAN: u32, T: Drop, F: Value<W>, const W: usize, cons
         ensures told { result ≡ F.decode (words_in seat.new.view.client) }
         ensures sound { F.valid result }
     {
-        words_are_few::<F, W>();
         self.loaded(seat).value()
     }
 
@@ -105,7 +103,6 @@ impl<const LEAF: u32, const FAN: u32, T: Drop, F: Value<W>, const W: usize, cons
         ensures sound { IfOk result (λ value. F.valid value) }
         ensures unchanged { OnErr result (seat.new ≡ seat.old) }
     {
-        words_are_few::<F, W>();
         Ok(F::of_words(&self.read_section(seat)?))
     }
 }
