@@ -1,10 +1,10 @@
 //! A map's nodes are used again and again: many more removals than there are nodes.
-ghost use Rattle.std.specs.Prelude.{◌≡◌, ◌<◌};
+ghost use Rattle.std.specs.Prelude.{◌<◌};
+ghost use Rattle.rcu_live.specs.CpuSeat.{IsSeatOf};
 ghost use Rattle.rcu_nodes.specs.Graph.{IsWatcherOf};
 
 use crate::map::route::Route;
-use rcu_map::{Map, MapKeeper, MapSeat, MapWatcher};
-use rcu_nodes::Full;
+use rcu_map::{Map, MapKeeper, MapSeat};
 use std::sync::Wait;
 
 /// 256 nodes, 16 of them the roots of buckets.
@@ -19,45 +19,32 @@ struct Scene<'a> {
     map: &'a Routes,
     keeper: MapKeeper<Route, 16, 2, 256>,
     seat: MapSeat<Route, 16, 2, 256>,
-    watcher: MapWatcher<Route, 16, 2, 256>,
     ghost keeper_of: { IsWatcherOf map.now keeper },
-    ghost seat_of: { seat.table ≡ map.now.table },
-    ghost watcher_of: { watcher.table ≡ map.now.table },
+    ghost seat_of: { IsSeatOf map.now seat },
 }
 
 impl<'a> Scene<'a> {
-    /// Waits for a grace period, so that what was taken out before makes room.
-    fn make_room<R: Wait>(&mut self, rt: &R) {
-        self.keeper.age(self.map);
-        let live = self.map.live();
-        let _ = live.synchronize(rt, &mut self.seat, &mut self.watcher);
-        self.keeper.age(self.map);
-    }
-
-    /// Puts a route in and takes it out again. Returns whether that was done.
+    /// Puts a route in, as soon as a node is free, and takes it out again. Returns whether that was
+    /// done.
     fn use_a_node<R: Wait>(&mut self, rt: &R, route: Route) -> bool
         requires { 0 < route.network }
     {
-        if self.keeper.insert(self.map, route) == Err(Full) {
-            self.make_room(rt);
-            if self.keeper.insert(self.map, route) != Ok(true) {
-                return false;
-            }
-        }
-        self.keeper.remove(self.map, route.network)
+        let put = self
+            .keeper
+            .insert_or_wait(rt, self.map, &mut self.seat, route);
+        put == Ok(true) && self.keeper.remove(self.map, route.network)
     }
 }
 
 #[test]
 fn a_million_removals_through_256_nodes(rt: HostRuntime) {
-    let Ok((map, mut seats, mut watchers, keeper)) = Routes::open(rt.alloc(), 1, 1 << 62) else {
+    let Ok((map, mut seats, _, keeper)) = Routes::open(rt.alloc(), 1, 1 << 62) else {
         return;
     };
     let mut scene = Scene {
         map: &map,
         keeper,
         seat: seats.pop().unwrap(),
-        watcher: watchers.pop().unwrap(),
     };
     let mut done = 0u32;
     for number in 0..REMOVALS {
