@@ -65,6 +65,8 @@ impl<
         ensures seat { IsSeatOf self.now seat.new }
         ensures rested { HasRested seat.old seat.new }
         ensures in_section { 0 < seat.old.depth → seat.new ≡ seat.old }
+        ensures refused { 0 < seat.old.depth →
+            result ≡ Err (NotPut.Fault Fault.InSection) }
         ensures fault { (fault : Fault) → result ≡ Err (NotPut.Fault fault) →
             fault ≡ wait_fault seat.old.depth }
     {
@@ -101,6 +103,8 @@ impl<
         ensures seat { IsSeatOf self.now seat.new }
         ensures rested { HasRested seat.old seat.new }
         ensures in_section { 0 < seat.old.depth → seat.new ≡ seat.old }
+        ensures refused { 0 < seat.old.depth →
+            result ≡ Err (NotPut.Fault Fault.InSection) }
         ensures fault { (fault : Fault) → result ≡ Err (NotPut.Fault fault) →
             fault ≡ wait_fault seat.old.depth }
     {
@@ -123,6 +127,8 @@ impl<
         ensures seat { IsSeatOf self.now seat.new }
         ensures rested { HasRested seat.old seat.new }
         ensures in_section { 0 < seat.old.depth → seat.new ≡ seat.old }
+        ensures refused { 0 < seat.old.depth →
+            result ≡ Err (NotPut.Fault Fault.InSection) }
         ensures fault { (fault : Fault) → result ≡ Err (NotPut.Fault fault) →
             fault ≡ wait_fault seat.old.depth }
     {
