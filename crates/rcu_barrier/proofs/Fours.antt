@@ -1,7 +1,9 @@
 -- Numbers stay multiples of 4, and an advance leaves at most one of them below the snapshot.
-use Rattle.std.proofs.Common.{◌≡◌, ℕ, zero, suc, ◌+◌, ◌-◌, ◌%◌, ◌<◌, ◌≤◌, Bool, true, false, nat_le, nat_lt, ◌||◌, inl}
+use Rattle.std.proofs.Common.{◌≡◌, ℕ, zero, suc, ◌+◌, ◌-◌, ◌%◌, ◌<◌, ◌≤◌, Bool, true, false, nat_le, nat_lt, inl}
 use Rattle.std.proofs.Common.{inr, List, [], ◌∷◌, ◌++◌, map, set, get_or, refl, ap, sym, subst, ◌∙◌, arith}
-use Rattle.std.specs.Prelude.{if◌then◌else◌, All, filter, replicate}
+use Rattle.std.specs.Prelude.{◌≢◌, if◌then◌else◌, All, Some, filter, replicate, slice_get}
+use Rattle.std.proofs.lemmas.Bool.{true≢false}
+use Rattle.std.proofs.lemmas.Option.{none-some, same_Some}
 use Rattle.std.proofs.lemmas.Bool.{cases_Bool, cases_eq}
 use Rattle.std.proofs.lemmas.List.Elements.{All-nil, All-head, All-tail, All-append, All-filter, All-replicate, All-set}
 use Rattle.std.proofs.lemmas.List.Elements.{filter_passes}
@@ -13,7 +15,7 @@ use Rattle.rcu_cblist.specs.SegList.{after_migrate, after_take, as_it_leaves, ha
 use Rattle.rcu_cblist.specs.SegList.{remarked}
 use Rattle.rcu_cblist.proofs.SegListLemmas.{no_two, numbers_advanced, numbers_append, numbers_entrained, numbers_given}
 use Rattle.rcu_cblist.proofs.SegListLemmas.{numbers_moved, numbers_untaken, other_above, other_same}
-use Rattle.rcu_barrier.specs.Tending.{AreFours, MayWait, has_unmarked, is_unmarked, mark_after_tend, after_tend}
+use Rattle.rcu_barrier.specs.Tending.{AreFours, MayWait, mark_after_tend, after_tend}
 use Rattle.rcu_barrier.specs.Lists.{AllFours}
 
 -- a number is a multiple of 4
@@ -97,19 +99,32 @@ left_may_wait number xs fours within =
       state = state k default inside;
     }
 
-marked_at : {X : Type 0} (call : Queued X) (snap n : ℕ) (reached rest : Bool) → rest ≡ false →
-    (is_unmarked (Of call (mark_given snap (if reached then Done else Until n))) || rest) ≡ false
-marked_at call snap n true rest none = none
-marked_at call snap n false rest none = none
+-- the item is a callback without a mark
+abbrev is_unmarked : {X : Type 0} → Item X → Bool
+is_unmarked (Of call Unmarked) = true
+is_unmarked (Of call (Until n)) = false
+is_unmarked (Of call Done) = false
+is_unmarked Marker = false
+
+marked_at : {X : Type 0} (call : Queued X) (snap n : ℕ) (reached : Bool) →
+    is_unmarked (Of call (mark_given snap (if reached then Done else Until n))) ≡ false
+marked_at call snap n true = refl
+marked_at call snap n false = refl
+
+tended_is_marked : {X : Type 0} (number : ℕ) (item : Item X) →
+    is_unmarked (remarked (mark_after_tend number) item) ≡ false
+tended_is_marked number (Of call Unmarked) = refl
+tended_is_marked number (Of call (Until n)) = marked_at call (snapshot number) n (nat_le n number)
+tended_is_marked number (Of call Done) = refl
+tended_is_marked number Marker = refl
 
 -- a tend leaves no callback without a mark
-pub all_marked : {X : Type 0} (number : ℕ) (xs : List (Item X)) → has_unmarked (after_tend xs number) ≡ false
-all_marked number [] = refl
-all_marked number (Of call Unmarked ∷ xs) = all_marked number xs
-all_marked number (Of call (Until n) ∷ xs) =
-    marked_at call (snapshot number) n (nat_le n number) _ (all_marked number xs)
-all_marked number (Of call Done ∷ xs) = all_marked number xs
-all_marked number (Marker ∷ xs) = all_marked number xs
+pub none_unmarked : {X : Type 0} (number : ℕ) (xs : List (Item X)) (at : ℕ) (call : Queued X) →
+    slice_get (after_tend xs number) at ≢ Some (Of call Unmarked)
+none_unmarked number [] at call e = none-some _ e
+none_unmarked number (item ∷ xs) zero call e =
+    true≢false (sym (ap is_unmarked (same_Some _ _ e)) ∙ tended_is_marked number item)
+none_unmarked number (item ∷ xs) (suc at) call e = none_unmarked number xs at call e
 
 -- each call leaves multiples of 4: a tend
 pub fours_tended : {X : Type 0} (number : ℕ) (xs : List (Item X)) → AreFours xs → AreFours (after_tend xs number)

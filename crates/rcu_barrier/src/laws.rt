@@ -1,15 +1,17 @@
 //! What the definitions say of tends.
-ghost use Rattle.std.specs.Prelude.{◌≡◌, ◌≤◌, ◌%◌, All, List, true, false};
+ghost use Rattle.std.specs.Prelude.{◌≡◌, ◌≢◌, ◌≤◌, ◌+◌, ◌%◌, ◌==◌, ◌||◌, ℕ, All, List, Some, true};
+ghost use Rattle.std.specs.Prelude.{slice_get};
 ghost use Rattle.rcu_seq.specs.Numbers.{Number};
-ghost use Rattle.rcu_cblist.specs.SegList.{IsAtMost, Item, after_accelerate, after_advance};
-ghost use Rattle.rcu_cblist.specs.SegList.{numbers};
-ghost use Rattle.rcu_barrier.specs.Tending.{AreFours, MayWait, after_tend, has_unmarked};
-ghost use Rattle.rcu_barrier.specs.Tending.{is_near_snapshot};
+ghost use Rattle.rcu_cblist.specs.SegList.{IsAtMost, Item, Of, Unmarked, after_accelerate};
+ghost use Rattle.rcu_cblist.specs.SegList.{after_advance, numbers};
+ghost use Rattle.rcu_cblist.specs.declared.queued.Queued.{Queued};
+ghost use Rattle.rcu_barrier.specs.Tending.{AreFours, MayWait, after_tend};
 ghost use Rattle.rcu_seq.specs.Numbers.{snapshot};
 
 /// A tend leaves no callback without a mark.
 pub fn tend_marks_each_callback<T: Drop>()
-    ensures { (number : Number) (xs : List (Item T)) → has_unmarked (after_tend xs number) ≡ false }
+    ensures { (number : Number) (xs : List (Item T)) (place : ℕ) (call : Queued T)
+        → slice_get (after_tend xs number) place ≢ Some (Of call Unmarked) }
 {}
 
 /// A tend is an advance to the number and an acceleration with its snapshot: it never meets two
@@ -29,5 +31,5 @@ pub fn advance_leaves_numbers_that_may_wait<T: Drop>()
 /// These are at most two: the snapshot, and 4 below it.
 pub fn two_numbers_may_wait()
     ensures { (number n : Number) → number % 4 ≤ 1 → MayWait number n
-        → is_near_snapshot number n ≡ true }
+        → (n == snapshot number || n + 4 == snapshot number) ≡ true }
 {}

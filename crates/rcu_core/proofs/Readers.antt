@@ -1,14 +1,14 @@
 -- Read sections over whole runs.
-use Rattle.std.proofs.Common.{◌≡◌, ℕ, ◌+◌, ◌<◌, ◌≤◌, Bool, true, false, [], ◌∷◌, ◌++◌, Option, Some, None, refl, ap}
+use Rattle.std.proofs.Common.{◌≡◌, ℕ, ◌+◌, ◌<◌, ◌≤◌, Bool, true, false, [], ◌∷◌, ◌++◌, Option, Some, None, refl, ap, subst, sym}
 use Rattle.std.proofs.Common.{arith, cond, ltb, inl, inr, ◌≢◌}
-use Rattle.std.specs.Prelude.{◌==◌}
+use Rattle.std.specs.Prelude.{◌==◌, if◌then◌else◌, nat_lt}
 use Rattle.std.proofs.lemmas.Bool.Decides.{nat_tests}
 use Rattle.std.proofs.lemmas.Bool.{and_parts, ltb-true}
 use Rattle.rcu_seq.specs.Numbers.{number_at, snapshot}
 use Rattle.rcu_seq.specs.Tags.{cookie_at, is_done_at}
 use Rattle.rcu_seq.specs.declared.cookie.Cookie.{Cookie}
 use Rattle.rcu_seq.specs.declared.fault.Fault.{Fault}
-use Rattle.rcu_core.specs.History.{History, depth, opening, running, section, is_old, awaits, tag_now}
+use Rattle.rcu_core.specs.History.{History, depth, is_idle, opening, running, section, is_old, awaits, tag_now}
 use Rattle.rcu_core.specs.Replies.{Size, fault_in, how_many, accepted_reply, or_fault, waits_for, history_event}
 use Rattle.rcu_core.specs.Replies.{with_event, AreAccepted, IsLegalReply}
 use Rattle.rcu_core.specs.Situation.{Situation, situation, wants_begin}
@@ -79,6 +79,15 @@ pub old_is_awaited : (s : Size) (run : Run) (c : ℕ) → IsLegalRun s run → i
     → awaits c (history run) ≡ true
 old_is_awaited s run c l i =
     awaited_from s c (history run) (possible s run l) (facts s c (history run) (possible s run l)) i
+
+closed_at : (n : ℕ) (opened : History) → n ≡ 0 → (if nat_lt 0 n then Some opened else None) ≡ None
+closed_at n opened e = subst (λ k. (if nat_lt 0 k then Some opened else None) ≡ None) (sym e) refl
+
+pub idle_is_closed : (s : Size) (run : Run) (c : ℕ) → IsLegalRun s run → is_idle c (history run) ≡ true
+    → section c (history run) ≡ None
+idle_is_closed s run c l i =
+    let f = facts s c (history run) (possible s run l) in
+    closed_at (depth c (history run)) (opening c (history run)) (f.at_idle i)
 
 -- the earlier part of a legal run is one
 pub legal_before : (s : Size) (later earlier : Run) → IsLegalRun s (later ++ earlier) → IsLegalRun s earlier

@@ -1,10 +1,12 @@
 //! What the definitions say of every run: of any events, in any order, with legal replies.
-ghost use Rattle.std.specs.Prelude.{◌≡◌, ◌≢◌, ◌<◌, ◌≤◌, ◌∷◌, ◌++◌, ℕ, List, Some, true, slice_get};
+ghost use Rattle.std.specs.Prelude.{◌≡◌, ◌≢◌, ◌<◌, ◌≤◌, [], ◌∷◌, ◌++◌, ◌||◌, ℕ, List, Some};
+ghost use Rattle.std.specs.Prelude.{None, false, true, slice_get};
+ghost use Rattle.std.specs.List.{list_any};
 ghost use Rattle.rcu_seq.specs.declared.cookie.Cookie.{Cookie};
 ghost use Rattle.rcu_cblist.specs.declared.queued.Queued.{Queued};
 ghost use Rattle.rcu_core.specs.Callbacks.{handed_out, has_full_period, queued_before_barrier};
 ghost use Rattle.rcu_core.specs.Callbacks.{since, times_handed_out};
-ghost use Rattle.rcu_core.specs.History.{History, awaits, is_old, section};
+ghost use Rattle.rcu_core.specs.History.{History, awaits, begins, is_idle, is_old, section};
 ghost use Rattle.rcu_core.specs.Replies.{Size};
 ghost use Rattle.rcu_core.specs.Runs.{IsLegalRun, Run, history, takes};
 
@@ -16,6 +18,12 @@ use crate::reply::Reply;
 pub fn old_readers_are_awaited()
     ensures { (size : Size) (run : Run) (cpu : ℕ) → IsLegalRun size run
         → is_old cpu (history run) ≡ true → awaits cpu (history run) ≡ true }
+{}
+
+/// An idle processor has no open section. So a scan passes over no reader.
+pub fn idle_processors_have_no_section()
+    ensures { (size : Size) (run : Run) (cpu : ℕ) → IsLegalRun size run
+        → is_idle cpu (history run) ≡ true → section cpu (history run) ≡ None }
 {}
 
 /// Readers finish before done: when a cookie tests done, each read section that was open at its
@@ -39,6 +47,15 @@ pub fn no_callback_runs_early()
         → slice_get (handed_out cpu most (history run)) place ≡ Some call
         → (slice_get values place ≡ Some call.value)
         × (has_full_period (since call.ord (history run)) ≡ true) }
+{}
+
+/// A full grace period lies among events where one ends there that began there.
+pub fn a_full_period_is_a_begin_and_a_later_end()
+    ensures none { has_full_period [] ≡ false }
+    ensures end { (h : History)
+        → has_full_period (Event.End ∷ h) ≡ (list_any begins h || has_full_period h) }
+    ensures other { (h : History) (event : Event) → event ≢ Event.End
+        → has_full_period (event ∷ h) ≡ has_full_period h }
 {}
 
 /// No callback runs twice: each is handed out at most once.

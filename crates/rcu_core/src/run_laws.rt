@@ -1,12 +1,12 @@
 //! What ties a run to the laws.
-ghost use Rattle.std.specs.Prelude.{◌≡◌, ◌+◌, ◌<◌, ◌≤◌, ◌&&◌, not, true, [], ◌∷◌, ℕ, List, Some};
-ghost use Rattle.std.specs.Prelude.{length, slice_get};
+ghost use Rattle.std.specs.Prelude.{◌≡◌, ◌≢◌, ◌+◌, ◌<◌, ◌≤◌, ◌&&◌, not, true, [], ◌∷◌, ℕ, List};
+ghost use Rattle.std.specs.Prelude.{Some, length, slice_get};
 ghost use Rattle.rcu_seq.specs.Tags.{is_before};
 ghost use Rattle.rcu_seq.specs.declared.tag.Tag.{Tag};
 ghost use Rattle.rcu_cblist.specs.declared.queued.Queued.{Queued};
 ghost use Rattle.rcu_core.specs.Callbacks.{handed_out, queue_count, times_handed_out};
 ghost use Rattle.rcu_core.specs.Core.{Represents, State, size_at};
-ghost use Rattle.rcu_core.specs.History.{History, awaits, is_heard, section, tag_now};
+ghost use Rattle.rcu_core.specs.History.{History, awaits, is_heard, online, section, tag_now};
 ghost use Rattle.rcu_core.specs.Links.{ToldSince, onto, queued_as, starts, tag, times_listed};
 ghost use Rattle.rcu_core.specs.Replies.{AreAccepted, IsLegalReply, Size};
 ghost use Rattle.rcu_core.specs.Situation.{situation};
@@ -94,6 +94,13 @@ pub fn readers_finish_before_callbacks()
 pub fn the_awaited_are_those_not_heard()
     ensures { (size : Size) (h : History) (cpu : ℕ) → AreAccepted size h → cpu < size.cpus
         → awaits cpu h ≡ (starts cpu h && not (is_heard cpu (tag h) h)) }
+{}
+
+/// A start set is who was online at the begin, until the next begin.
+pub fn a_start_set_is_who_was_online_at_the_begin()
+    ensures begin { (h : History) (cpu : ℕ) → starts cpu (Event.Begin ∷ h) ≡ online cpu h }
+    ensures other { (h : History) (cpu : ℕ) (event : Event) → event ≢ Event.Begin
+        → starts cpu (event ∷ h) ≡ starts cpu h }
 {}
 
 /// Two engines, of any kinds of awaited set and any last numbers, whose latest grace periods had

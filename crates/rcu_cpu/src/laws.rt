@@ -1,10 +1,18 @@
 //! What the definitions say of read sections, after any accepted calls of a processor.
 ghost use Rattle.std.specs.Prelude.{◌≡◌, ◌<◌, ◌≤◌, ◌↔◌, ◌==◌, ◌∷◌, ℕ, Bool, true, false, not};
-ghost use Rattle.std.specs.Prelude.{List, count_by};
+ghost use Rattle.std.specs.Prelude.{List, [], count_by};
 ghost use Rattle.rcu_cpu.specs.CpuData.{AreAccepted, Call, Exit, IsAccepted, Quiesce, after_calls};
 ghost use Rattle.rcu_cpu.specs.CpuData.{report_of};
 ghost use Rattle.rcu_cpu.specs.Sections.{enters, exits, nesting, is_idle, is_open, is_online};
 ghost use Rattle.rcu_cpu.specs.Sections.{last_noted};
+
+/// The laws below speak of no call, and of one more wherever no cause of its faults stands.
+pub fn calls_are_accepted_one_by_one()
+    ensures none { (cpu : ℕ) (online : Bool) → AreAccepted cpu online [] }
+    ensures more { (cpu : ℕ) (online : Bool) (calls : List Call) (call : Call)
+        → AreAccepted cpu online calls → IsAccepted (after_calls cpu online calls) call
+        → AreAccepted cpu online (call ∷ calls) }
+{}
 
 /// The depth is the enters less the exits, of which there are no more than enters.
 pub fn depth_is_enters_less_exits()

@@ -1,9 +1,16 @@
 //! What the definitions say of processors that come and go.
-ghost use Rattle.std.specs.Prelude.{◌≡◌, ◌∷◌, ℕ};
+ghost use Rattle.std.specs.Prelude.{◌≡◌, [], ◌∷◌, ℕ, None};
 ghost use Rattle.rcu_seq.specs.declared.tag.Tag.{Tag};
-ghost use Rattle.rcu_hotplug.specs.Hotplug.{Arrive, Begin};
+ghost use Rattle.rcu_hotplug.specs.Hotplug.{Arrive, Begin, Call, refusal};
 ghost use Rattle.rcu_hotplug.specs.History.{History, AreAccepted, Represents, after_calls, awaits};
 ghost use Rattle.rcu_hotplug.specs.History.{online};
+
+/// The law below speaks of no call, and of one more wherever it is not refused.
+pub fn calls_are_accepted_one_by_one()
+    ensures none { (cpus : ℕ) → AreAccepted cpus [] }
+    ensures more { (cpus : ℕ) (h : History) (call : Call) → AreAccepted cpus h
+        → refusal (after_calls cpus h) call ≡ None → AreAccepted cpus (call ∷ h) }
+{}
 
 /// After any accepted calls the processors are as the history of the calls says.
 pub fn calls_leave_what_their_history_says()

@@ -1,5 +1,5 @@
 //! What the definitions say of batches and of replicas.
-ghost use Rattle.std.specs.Prelude.{◌≡◌, ◌&&◌, ℕ, All, Bool, List, None, true};
+ghost use Rattle.std.specs.Prelude.{◌≡◌, ◌&&◌, [], ◌∷◌, ℕ, All, Bool, List, None, true};
 ghost use Rattle.rcu_seq.specs.Numbers.{Number, same_number};
 ghost use Rattle.rcu_seq.specs.declared.tag.Tag.{Tag};
 ghost use Rattle.rcu_node.specs.CpuSet.{is_in};
@@ -7,7 +7,8 @@ ghost use Rattle.rcu_node.specs.Reports.{awaited_after_reports, was_reported};
 ghost use Rattle.rcu_report.specs.Batch.{Gathered, awaited_after_batch};
 ghost use Rattle.rcu_report.specs.History.{AreAccepted, History, Represents, after_calls};
 ghost use Rattle.rcu_report.specs.History.{hears, is_heard, starts, tag};
-ghost use Rattle.rcu_report.specs.Replica.{IsSound, Merge, Replicated, after_call, refusal};
+ghost use Rattle.rcu_report.specs.Replica.{Call, CanBeMade, IsSound, Merge, Replicated};
+ghost use Rattle.rcu_report.specs.Replica.{after_call, refusal};
 
 /// A batch leaves what its reports leave, one after another, in any order and any number of times:
 /// reports that have its tag, and whose processors are its set.
@@ -16,6 +17,14 @@ pub fn batch_leaves_what_its_reports_leave()
         → (reports : List (ℕ × Tag)) → All (λ report. report.1 ≡ batch.tag) reports
         → ((cpu : ℕ) → is_in batch.set cpu ≡ was_reported batch.tag cpu reports)
         → awaited_after_batch number awaited batch ≡ awaited_after_reports number awaited reports }
+{}
+
+/// The laws below speak of no call, and of one more wherever it could be made and is not refused.
+pub fn calls_are_accepted_one_by_one()
+    ensures none { (cpus : ℕ) (last : Number) → AreAccepted cpus last [] }
+    ensures more { (cpus : ℕ) (last : Number) (h : History) (call : Call)
+        → AreAccepted cpus last h → CanBeMade (after_calls cpus last h) call
+        → refusal (after_calls cpus last h) call ≡ None → AreAccepted cpus last (call ∷ h) }
 {}
 
 /// After any accepted calls a replica is as the history of the calls says: it awaits the start set

@@ -1,7 +1,7 @@
 //! What the definitions say of cookies.
-ghost use Rattle.std.specs.Prelude.{◌≡◌, ◌≤◌, List, ℕ, nat_le, nat_lt, true};
-ghost use Rattle.rcu_seq.specs.Seq.{Periods, Turn, AreAccepted, IsWithin, after_turns, cookie_of};
-ghost use Rattle.rcu_seq.specs.Seq.{has_full_period, is_done};
+ghost use Rattle.std.specs.Prelude.{◌≡◌, ◌≢◌, ◌≤◌, List, [], ◌∷◌, ℕ, nat_le, nat_lt, true, false};
+ghost use Rattle.rcu_seq.specs.Seq.{Periods, Turn, Begin, End, Renumber, AreAccepted, IsWithin};
+ghost use Rattle.rcu_seq.specs.Seq.{after_turns, cookie_of, has_full_period, is_done, number_of};
 ghost use Rattle.rcu_seq.specs.Tags.{clock_of, cookie_at, is_before, is_done_at, is_done_first};
 ghost use Rattle.rcu_seq.specs.Numbers.{is_last, is_running, snapshot};
 ghost use Rattle.rcu_seq.specs.declared.tag.Tag.{Tag};
@@ -12,6 +12,26 @@ ghost use Rattle.rcu_seq.specs.declared.cookie.Cookie.{Cookie};
 pub fn done_means_a_full_grace_period()
     ensures { (taking : Periods) (turns : List Turn) → IsWithin taking → AreAccepted taking turns
         → is_done (cookie_of taking) (after_turns taking turns) ≡ has_full_period turns }
+{}
+
+/// That law speaks of each counter whose number is at most the last one, which is one: in any
+/// epoch, whether a grace period runs or not.
+pub fn a_counter_is_within_its_last_number()
+    ensures { (p : Periods) → number_of p ≤ p.last → is_last p.last ≡ true → IsWithin p }
+{}
+
+/// It speaks of no turn, and of one more: a begin while none runs, below the last number; an end
+/// while one runs; a renumbering while none runs, at the last number.
+pub fn turns_are_accepted_one_by_one()
+    ensures none { (p : Periods) → AreAccepted p [] }
+    ensures begin { (p : Periods) (turns : List Turn) → AreAccepted p turns
+        → (after_turns p turns).running ≡ false → number_of (after_turns p turns) ≢ p.last
+        → AreAccepted p (Begin ∷ turns) }
+    ensures end { (p : Periods) (turns : List Turn) → AreAccepted p turns
+        → (after_turns p turns).running ≡ true → AreAccepted p (End ∷ turns) }
+    ensures renumber { (p : Periods) (turns : List Turn) → AreAccepted p turns
+        → (after_turns p turns).running ≡ false → number_of (after_turns p turns) ≡ p.last
+        → AreAccepted p (Renumber ∷ turns) }
 {}
 
 /// In the first epoch the last number has no part in the test of a cookie.
