@@ -2,9 +2,11 @@
 #![tactic(auto)]
 
 pub mod barrier_state;
+pub mod definition_laws;
 pub mod laws;
 pub mod lists;
 mod moving;
+pub mod run_laws;
 pub mod visit;
 mod visits;
 

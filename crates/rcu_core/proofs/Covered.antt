@@ -1,17 +1,18 @@
 -- While a barrier runs, each callback from before its begin has a marker behind it where its list was visited.
 use Rattle.std.proofs.Common.{◌≡◌, ℕ, zero, suc, ◌+◌, ◌<◌, ◌≤◌, Bool, true, false, not, ◌&&◌, ◌||◌, List, [], ◌∷◌, ◌++◌}
-use Rattle.std.proofs.Common.{length, None, Some, refl, sym, ap, ◌∙◌, arith, cond, eqb, map, get_or, inl, inr}
+use Rattle.std.proofs.Common.{length, None, Some, refl, ◌∙◌, arith, cond, eqb, get_or, inl, inr}
 use Rattle.std.specs.Prelude.{sum_by}
 use Rattle.std.specs.List.{range_with_len}
 use Rattle.std.proofs.lemmas.Bool.{eqb-true}
-use Rattle.std.proofs.lemmas.Bool.Decides.{nat_tests}
 use Rattle.std.proofs.lemmas.List.FromFn.{length-range_with_len, get_or-range_with_len}
-use Rattle.std.proofs.lemmas.List.Sums.{get_or-le-sum_by, sum_by-cons}
+use Rattle.std.proofs.lemmas.List.Sums.{get_or-le-sum_by}
 use Rattle.rcu_seq.specs.declared.fault.Fault.TheVariants as fault
-use Rattle.rcu_cblist.specs.SegList.{Item, Of, Marker, Mark, Unmarked, Until, Done, behind, after_entrain}
-use Rattle.rcu_cblist.specs.SegList.{from_callback, front, is_marker, markers, after_migrate, remarked, take_answer}
-use Rattle.rcu_cblist.specs.SegList.{without_mark, after_take, as_it_leaves, mark_renumbered}
+use Rattle.rcu_cblist.specs.SegList.{Item, Of, Unmarked, after_migrate, after_take, as_it_leaves, mark_renumbered, markers}
+use Rattle.rcu_cblist.specs.SegList.{take_answer}
 use Rattle.rcu_barrier.specs.Tending.{mark_after_tend, after_tend}
+use Rattle.rcu_barrier.proofs.Covering.{Covered, covered-append, covered-from, covered-leaving, covered-moved, covered-remarked}
+use Rattle.rcu_barrier.proofs.Covering.{none_left}
+use Rattle.rcu_barrier.proofs.Places.{lies}
 use Rattle.rcu_core.specs.Callbacks.{barrier_runs, is_owed, list, queue_count, queued_before_barrier, times_handed_out}
 use Rattle.rcu_core.specs.Callbacks.{was_visited}
 use Rattle.rcu_core.specs.History.{History, number, tag_now}
@@ -23,103 +24,13 @@ use Rattle.rcu_core.specs.declared.event.Event.TheVariants.{Offline, Queue, Tend
 use Rattle.rcu_core.specs.declared.reply.Reply.TheVariants as reply
 use Rattle.rcu_core.proofs.Counting.{none_passes}
 use Rattle.rcu_core.proofs.Kept.{queue_counts}
-use Rattle.rcu_core.proofs.Once.{lies, sum_below, then_once}
+use Rattle.rcu_core.proofs.Once.{sum_below, then_once}
 use Rattle.rcu_core.proofs.Readers.{possible}
-
--- how many markers there are, item by item
-abbrev marks : List (Item ℕ) → ℕ
-marks [] = 0
-marks (Marker ∷ xs) = marks xs + 1
-marks (Of call mark ∷ xs) = marks xs
-
-markers_are : (xs : List (Item ℕ)) → markers xs ≡ marks xs
-markers_are [] = refl
-markers_are (Marker ∷ xs) = let i = markers_are xs in
-    let c = sum_by-cons (λ (x : Item ℕ). cond (is_marker x) 1 0) Marker xs in omega (arith, i, c)
-markers_are (Of call mark ∷ xs) = let i = markers_are xs in
-    let c = sum_by-cons (λ (x : Item ℕ). cond (is_marker x) 1 0) (Of call mark) xs in omega (arith, i, c)
-
--- each callback up to this place has a marker behind it
-abbrev Covered : ℕ → List (Item ℕ) → Type 0
-Covered b [] = Unit {0}
-Covered b (Marker ∷ xs) = Covered b xs
-Covered b (Of call mark ∷ xs) = (call.ord ≤ b → 0 < marks xs) × Covered b xs
-
-marks-append : (xs ys : List (Item ℕ)) → marks (xs ++ ys) ≡ marks xs + marks ys
-marks-append [] ys = omega arith
-marks-append (Of call mark ∷ xs) ys = marks-append xs ys
-marks-append (Marker ∷ xs) ys = let i = marks-append xs ys in omega (arith, i)
-
-marks-remarked : (f : Mark → Mark) (xs : List (Item ℕ)) → marks (map (remarked f) xs) ≡ marks xs
-marks-remarked f [] = refl
-marks-remarked f (Of call mark ∷ xs) = marks-remarked f xs
-marks-remarked f (Marker ∷ xs) = ap (λ n. n + 1) (marks-remarked f xs)
-
-covered-append : (b : ℕ) (xs ys : List (Item ℕ)) → Covered b xs → Covered b ys → Covered b (xs ++ ys)
-covered-append b [] ys p q = q
-covered-append b (Marker ∷ xs) ys p q = covered-append b xs ys p q
-covered-append b (Of call mark ∷ xs) ys p q =
-    ((λ l. let i = marks-append xs ys in let k = p.0 l in omega (arith, i, k)), covered-append b xs ys p.1 q)
-
-covered-marked : (b : ℕ) (xs : List (Item ℕ)) → Covered b (xs ++ Marker ∷ [])
-covered-marked b [] = tt
-covered-marked b (Marker ∷ xs) = covered-marked b xs
-covered-marked b (Of call mark ∷ xs) =
-    ((λ l. let i = marks-append xs (Marker ∷ []) in omega (arith, i)), covered-marked b xs)
-
-covered-entrained : (b : ℕ) (xs : List (Item ℕ)) → Covered b (after_entrain xs)
-covered-entrained b [] = tt
-covered-entrained b (x ∷ xs) = covered-marked b (x ∷ xs)
-
-covered-remarked : (b : ℕ) (f : Mark → Mark) (xs : List (Item ℕ)) → Covered b xs → Covered b (map (remarked f) xs)
-covered-remarked b f [] p = tt
-covered-remarked b f (Marker ∷ xs) p = covered-remarked b f xs p
-covered-remarked b f (Of call mark ∷ xs) p =
-    ((λ l. let i = marks-remarked f xs in let k = p.0 l in omega (arith, i, k)), covered-remarked b f xs p.1)
-
-covered-from : (b n : ℕ) (xs : List (Item ℕ)) → Covered b xs → Covered b (from_callback n xs)
-covered-from b n [] p = p
-covered-from b n (Marker ∷ xs) p = covered-from b n xs p
-covered-from b zero (Of call mark ∷ xs) p = p
-covered-from b (suc n) (Of call mark ∷ xs) p = covered-from b n xs p.1
-
-marks-parts : (xs : List (Item ℕ)) → marks (front xs) + marks (behind xs) ≡ marks xs
-marks-parts [] = refl
-marks-parts (Marker ∷ xs) = let i = marks-parts xs in omega (arith, i)
-marks-parts (Of call Unmarked ∷ xs) = omega arith
-marks-parts (Of call (Until n) ∷ xs) = omega arith
-marks-parts (Of call Done ∷ xs) = marks-parts xs
-
-marks-moved : (xs ys : List (Item ℕ)) → marks (after_migrate ys xs) ≡ marks xs + marks ys
-marks-moved xs ys =
-    let a = marks-append (front xs ++ ys) (map without_mark (behind xs)) in let c = marks-append (front xs) ys in
-    let d = marks-remarked (λ _. Unmarked) (behind xs) in let e = marks-parts xs in
-    omega (arith, a, c, d, e)
-
--- a list that is split at a place and takes in another there
-covered-moved : (b : ℕ) (xs ys : List (Item ℕ)) → Covered b xs → Covered b ys → Covered b (after_migrate ys xs)
-covered-moved b [] ys p q = covered-append b ys [] q tt
-covered-moved b (Marker ∷ xs) ys p q = covered-moved b xs ys p q
-covered-moved b (Of call Unmarked ∷ xs) ys p q =
-    covered-append b ys (map without_mark (Of call Unmarked ∷ xs)) q
-    (covered-remarked b (λ _. Unmarked) (Of call Unmarked ∷ xs) p)
-covered-moved b (Of call (Until n) ∷ xs) ys p q =
-    covered-append b ys (map without_mark (Of call (Until n) ∷ xs)) q
-    (covered-remarked b (λ _. Unmarked) (Of call (Until n) ∷ xs) p)
-covered-moved b (Of call Done ∷ xs) ys p q =
-    ((λ l. let i = marks-moved xs ys in let k = p.0 l in omega (arith, i, k)), covered-moved b xs ys p.1 q)
 
 covered-cond : (b : ℕ) (t : Bool) (xs ys : List (Item ℕ)) → (t ≡ true → Covered b xs) → (t ≡ false → Covered b ys)
     → Covered b (cond t xs ys)
 covered-cond b true xs ys f g = f refl
 covered-cond b false xs ys f g = g refl
-
--- a list that is visited now, or was already
-covered-leaving : (b : ℕ) (r v : Bool) (xs : List (Item ℕ)) → r ≡ true → (v ≡ true → Covered b xs)
-    → Covered b (as_it_leaves xs (r && not v))
-covered-leaving b true true xs e f = f refl
-covered-leaving b true false xs e f = covered-entrained b xs
-covered-leaving b false v xs e f = absurd (cc)
 
 or_rest : (a b : Bool) → a ≡ false → (a || b) ≡ true → b ≡ true
 or_rest true b e v = absurd (cc)
@@ -181,14 +92,6 @@ barrier_each : (s : Size) (h : History) → AreAccepted s h → Barrier h
 barrier_each s [] p = record { covered = λ r c v. absurd (cc); before_le = omega arith }
 barrier_each s (e ∷ h) p = barrier_step s e h p.0 (barrier_each s h p.1)
 
-none_left : (b j : ℕ) (xs : List (Item ℕ)) → Covered b xs → marks xs ≡ 0 → j ≤ b → lies j xs ≡ 0
-none_left b j [] p e l = refl
-none_left b j (Marker ∷ xs) p e l = absurd (omega (arith, e))
-none_left b j (Of call mark ∷ xs) p e l =
-    let i = none_left b j xs p.1 e l in
-    let k : call.ord ≤ b → ⊥ = λ m. let q = p.0 m in omega (arith, q, e) in
-    grind (arith, nat_tests)
-
 sum_zero : (n : ℕ) (f : ℕ → ℕ) → ((c : ℕ) → c < n → f c ≡ 0) → sum_below n f ≡ 0
 sum_zero zero f h = refl
 sum_zero (suc n) f h = let a = h n (omega arith) in let b = sum_zero n f (λ c l. h c (omega arith)) in
@@ -215,7 +118,7 @@ covered_once s h j p r u z b =
     then_once s j h p z (omega (arith, k, b))
     (sum_zero s.cpus (λ c. lies j (list c h)) (λ c l. none_left (queued_before_barrier h) j (list c h)
     (f.covered r c (not_owed (barrier_runs h) (was_visited c h) r (none_passes s.cpus (λ c. is_owed c h) o c l)))
-    (sym (markers_are (list c h)) ∙ zero_each s.cpus (λ c. markers (list c h)) m c l) b))
+    (zero_each s.cpus (λ c. markers (list c h)) m c l) b))
   where
     not_owed : (a v : Bool) → a ≡ true → (a && not v) ≡ false → v ≡ true
     not_owed true true e f = refl

@@ -1,26 +1,19 @@
 -- No callback is lost: the lists of the processors hold what was queued and not handed out.
-use Rattle.std.proofs.Common.{◌≡◌, ℕ, zero, suc, ◌+◌, ◌<◌, ◌≤◌, List, [], ◌∷◌, refl, ap, ◌∙◌, arith, cond}
-use Rattle.std.proofs.Common.{eqb}
+use Rattle.std.proofs.Common.{◌≡◌, ℕ, zero, suc, ◌+◌, ◌<◌, ◌≤◌, List, refl, ap, ◌∙◌, arith}
 use Rattle.std.specs.Prelude.{sum_by}
 use Rattle.std.specs.List.{range_with_len}
-use Rattle.std.proofs.lemmas.List.Sums.{sum_by-cons, sum_by_push}
-use Rattle.rcu_cblist.specs.declared.queued.Queued.{Queued}
-use Rattle.rcu_cblist.specs.SegList.{Item, Of, Marker, callbacks}
-use Rattle.rcu_core.specs.Callbacks.{copies, list, queue_count, times_handed_out}
+use Rattle.std.proofs.lemmas.List.Sums.{sum_by_push}
+use Rattle.rcu_cblist.specs.SegList.{callbacks}
+use Rattle.rcu_barrier.specs.Runs.{copies}
+use Rattle.rcu_barrier.proofs.Places.{copies_are, lies}
+use Rattle.rcu_core.specs.Callbacks.{list, queue_count, times_handed_out}
 use Rattle.rcu_core.specs.History.{History}
 use Rattle.rcu_core.specs.Links.{times_listed}
 use Rattle.rcu_core.specs.Replies.{Size}
 use Rattle.rcu_core.specs.Runs.{IsLegalRun, history, Run as Trace}
 use Rattle.rcu_node.proofs.RangeLemmas.{range_last}
-use Rattle.rcu_core.proofs.Once.{lies, lies_below, queued_once, sum_below}
+use Rattle.rcu_core.proofs.Once.{lies_below, queued_once, sum_below}
 use Rattle.rcu_core.proofs.Readers.{possible}
-
-copies_are : (j : ℕ) (xs : List (Item ℕ)) → copies j (callbacks xs) ≡ lies j xs
-copies_are j [] = refl
-copies_are j (Marker ∷ xs) = copies_are j xs
-copies_are j (Of call mark ∷ xs) =
-    sum_by-cons (λ (q : Queued ℕ). cond (eqb q.ord j) 1 0) call (callbacks xs) ∙ ap
-    (λ n. cond (eqb call.ord j) 1 0 + n) (copies_are j xs)
 
 -- a sum over the processors, from the last one and from the first
 sums_are : (n : ℕ) (f g : ℕ → ℕ) → ((c : ℕ) → f c ≡ g c) → sum_by f (range_with_len 0 n) ≡ sum_below n g

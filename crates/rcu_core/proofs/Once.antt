@@ -1,14 +1,12 @@
 -- No callback is handed out twice: with those still in the lists, each is there at most once.
-use Rattle.std.proofs.Common.{◌≡◌, ℕ, zero, suc, ◌+◌, ◌<◌, ◌≤◌, Bool, true, false, List, [], ◌∷◌, ◌++◌, None, refl, sym}
-use Rattle.std.proofs.Common.{ap, ◌∙◌, arith, cond, eqb, eq-eqb, ne_eqb, map, ◌⊎◌, inl, inr}
+use Rattle.std.proofs.Common.{◌≡◌, ℕ, zero, suc, ◌+◌, ◌<◌, ◌≤◌, Bool, List, [], ◌∷◌, ◌++◌, None, refl, sym}
+use Rattle.std.proofs.Common.{ap, ◌∙◌, arith, cond, eqb, eq-eqb, ne_eqb, ◌⊎◌, inl, inr}
 use Rattle.std.proofs.lemmas.Bool.{cases_eq}
 use Rattle.std.proofs.lemmas.Bool.Decides.{nat_tests}
-use Rattle.std.proofs.lemmas.List.Sums.{sum_by-cons}
-use Rattle.rcu_cblist.specs.declared.queued.Queued.{Queued}
-use Rattle.rcu_cblist.specs.SegList.{Item, Of, Marker, Mark, Unmarked, Until, Done, behind, front, after_migrate}
-use Rattle.rcu_cblist.specs.SegList.{remarked, take_answer, without_mark, after_renumber, after_take, as_it_leaves, mark_renumbered}
+use Rattle.rcu_cblist.specs.SegList.{Item, Of, Unmarked, after_migrate, after_renumber, after_take, as_it_leaves, mark_renumbered}
 use Rattle.rcu_barrier.specs.Tending.{mark_after_tend, after_tend}
-use Rattle.rcu_core.specs.Callbacks.{copies, is_owed, list, queue_count, times_handed_out}
+use Rattle.rcu_barrier.proofs.Places.{lies, lies-append, lies-cut, lies-leaving, lies-moved, lies-remarked}
+use Rattle.rcu_core.specs.Callbacks.{is_owed, list, queue_count, times_handed_out}
 use Rattle.rcu_core.specs.History.{History, number, tag_now}
 use Rattle.rcu_core.specs.Replies.{Size, fault_in, AreAccepted}
 use Rattle.rcu_core.specs.Situation.{situation}
@@ -22,12 +20,6 @@ use Rattle.rcu_core.proofs.Readers.{possible}
 abbrev pub sum_below : ℕ → (ℕ → ℕ) → ℕ
 sum_below zero f = 0
 sum_below (suc n) f = sum_below n f + f n
-
--- how often the callback of this place lies in a list
-abbrev pub lies : ℕ → List (Item ℕ) → ℕ
-lies ord [] = 0
-lies ord (Marker ∷ xs) = lies ord xs
-lies ord (Of call mark ∷ xs) = cond (eqb call.ord ord) 1 0 + lies ord xs
 
 -- one value changes, and the sum with it
 change : (n : ℕ) (f g : ℕ → ℕ) (d : ℕ) → ((c : ℕ) → (c ≡ d → ⊥) → g c ≡ f c)
@@ -50,47 +42,6 @@ sums n f g d l h = elim (change n f g d h) [ inl a ↦ a.1 | inr a ↦ absurd (o
 zero_sum : (n : ℕ) → sum_below n (λ c. 0) ≡ 0
 zero_sum zero = refl
 zero_sum (suc n) = let i = zero_sum n in omega arith
-
-lies-append : (j : ℕ) (xs ys : List (Item ℕ)) → lies j (xs ++ ys) ≡ lies j xs + lies j ys
-lies-append j [] ys = omega arith
-lies-append j (Marker ∷ xs) ys = lies-append j xs ys
-lies-append j (Of call mark ∷ xs) ys = let i = lies-append j xs ys in omega (arith, i)
-
-lies-remarked : (j : ℕ) (f : Mark → Mark) (xs : List (Item ℕ)) → lies j (map (remarked f) xs) ≡ lies j xs
-lies-remarked j f [] = refl
-lies-remarked j f (Marker ∷ xs) = lies-remarked j f xs
-lies-remarked j f (Of call mark ∷ xs) = ap (λ n. cond (eqb call.ord j) 1 0 + n) (lies-remarked j f xs)
-
--- what a take hands out and what it leaves
-lies-cut : (j m : ℕ) (xs : List (Item ℕ)) → copies j (take_answer xs m) + lies j (after_take xs m) ≡ lies j xs
-lies-cut j zero [] = refl
-lies-cut j (suc m) [] = refl
-lies-cut j m (Marker ∷ xs) = lies-cut j m xs
-lies-cut j zero (Of call mark ∷ xs) = omega arith
-lies-cut j (suc m) (Of call Unmarked ∷ xs) = omega arith
-lies-cut j (suc m) (Of call (Until n) ∷ xs) = omega arith
-lies-cut j (suc m) (Of call Done ∷ xs) =
-    let i = lies-cut j m xs in
-    let c = sum_by-cons (λ (q : Queued ℕ). cond (eqb q.ord j) 1 0) call (take_answer xs m) in
-    omega (arith, i, c)
-
-lies-parts : (j : ℕ) (xs : List (Item ℕ)) → lies j (front xs) + lies j (behind xs) ≡ lies j xs
-lies-parts j [] = refl
-lies-parts j (Marker ∷ xs) = lies-parts j xs
-lies-parts j (Of call Unmarked ∷ xs) = omega arith
-lies-parts j (Of call (Until n) ∷ xs) = omega arith
-lies-parts j (Of call Done ∷ xs) = let i = lies-parts j xs in omega (arith, i)
-
-lies-leaving : (j : ℕ) (b : Bool) (xs : List (Item ℕ)) → lies j (as_it_leaves xs b) ≡ lies j xs
-lies-leaving j false xs = refl
-lies-leaving j true [] = refl
-lies-leaving j true (x ∷ xs) = lies-append j (x ∷ xs) (Marker ∷ []) ∙ omega arith
-
-lies-moved : (j : ℕ) (xs ys : List (Item ℕ)) → lies j (after_migrate ys xs) ≡ lies j xs + lies j ys
-lies-moved j xs ys =
-    let q = lies-append j (front xs ++ ys) (map without_mark (behind xs)) in let r = lies-append j (front xs) ys in
-    let t = lies-remarked j (λ _. Unmarked) (behind xs) in let u = lies-parts j xs in
-    omega (arith, q, r, t, u)
 
 -- how often the callback of this place lies in the lists of the processors below a bound
 abbrev pub lies_below : ℕ → ℕ → History → ℕ

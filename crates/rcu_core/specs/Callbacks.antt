@@ -5,6 +5,7 @@ use Rattle.rcu_seq.specs.Histories.{has_full, is_on, latest, some_since}
 use Rattle.rcu_seq.specs.Numbers.{Number, snapshot}
 use Rattle.rcu_cblist.specs.declared.queued.Queued.{Queued}
 use Rattle.rcu_cblist.specs.SegList.{Item, Of, Unmarked, after_migrate, after_renumber, numbers, take_answer, after_take, as_it_leaves}
+use Rattle.rcu_barrier.specs.Runs.{copies}
 use Rattle.rcu_barrier.specs.Tending.{after_tend}
 use Rattle.rcu_core.specs.History.{History, begins, ends, number, tag_now}
 use Rattle.rcu_core.specs.declared.event.Event.{Event}
@@ -83,10 +84,6 @@ needed (_ ∷ h) = needed h
 -- what a run of at most so many callbacks hands out
 abbrev pub handed_out : ℕ → ℕ → History → List (Queued ℕ)
 handed_out cpu most h = take_answer (list cpu h) most
-
--- how many of these are the callback of this place among all that were queued, counted from 1
-abbrev pub copies : ℕ → List (Queued ℕ) → ℕ
-copies ord calls = count_by (λ call. call.ord == ord) calls
 
 -- how often the callback of this place was handed out
 abbrev pub times_handed_out : ℕ → History → ℕ

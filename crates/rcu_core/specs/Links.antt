@@ -7,7 +7,8 @@ use Rattle.rcu_seq.specs.Histories.{latest}
 use Rattle.rcu_seq.specs.declared.tag.Tag.{Tag}
 use Rattle.rcu_cblist.specs.SegList.{callbacks}
 use Rattle.rcu_cblist.specs.declared.queued.Queued.{Queued}
-use Rattle.rcu_core.specs.Callbacks.{copies, list, queue_count, since}
+use Rattle.rcu_barrier.specs.Runs.{copies}
+use Rattle.rcu_core.specs.Callbacks.{list, queue_count, since}
 use Rattle.rcu_core.specs.History.{History, begins, hears, online, tag_now}
 use Rattle.rcu_core.specs.Runs.{Run}
 use Rattle.rcu_core.specs.declared.event.Event.{Event}

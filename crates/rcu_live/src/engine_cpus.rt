@@ -32,6 +32,7 @@ impl<A: Awaited, T: Drop, P: Client> Engine<A, T, P> {
     #[tactic(auto, using(crate::proofs::Departures::departed))]
     pub fn leave(&mut self, cpu: u32, again: bool) -> Result<u64, Fault>
         requires { cpu < self.old.cpus }
+        ensures other { OnOk result (0 < cpu) }
         ensures moved { IfOk result (λ moved.
             moved ≡ length (callbacks (list_of self.old.grace.lists cpu))) }
         ensures fault { tested_fault result

@@ -1,0 +1,92 @@
+-- Runs of calls on all lists, whoever makes them, one at a time: what they leave, and what is handed out. The newest call
+-- stands first.
+use Rattle.std.specs.Prelude.{ℕ, ◌+◌, ◌≡◌, ◌<◌, ◌==◌, true, false, if◌then◌else◌, List, [], ◌∷◌, Option, Some, None}
+use Rattle.std.specs.Prelude.{count_by, sum_by}
+use Rattle.rcu_seq.specs.Numbers.{Number}
+use Rattle.rcu_seq.specs.declared.tag.Tag.{Tag}
+use Rattle.rcu_cblist.specs.declared.queued.Queued.{Queued}
+use Rattle.rcu_cblist.specs.SegList.{callbacks, take_answer}
+use Rattle.rcu_barrier.specs.Lists.{AllLists, at_first, cpus_of, list_of, lists_after_barrier_begin}
+use Rattle.rcu_barrier.specs.Lists.{lists_after_barrier_test, lists_after_migrate, lists_after_queue, lists_after_renumber}
+use Rattle.rcu_barrier.specs.Lists.{lists_after_run, lists_after_tend, lists_after_visit}
+
+-- a call that was accepted: a callback is queued on a processor at a tag; a processor's list is tended at a number; at
+-- most so many of its callbacks are handed out; it moves to processor 0; a barrier begins, visits a processor, is tested;
+-- the numbers start anew
+pub data Call (X : Type 0) : Type 0 where
+  Queue : ℕ → Tag → X → Call X
+  Tend : ℕ → Number → Call X
+  Run : ℕ → ℕ → Call X
+  Migrate : ℕ → Call X
+  BarrierBegin : Call X
+  Visit : ℕ → Call X
+  BarrierTest : Call X
+  Renumber : Call X
+
+-- how many of these callbacks are the one of this place among all that were queued, counted from 1
+abbrev pub copies : {X : Type 0} → ℕ → List (Queued X) → ℕ
+copies place queued = count_by (λ callback. callback.ord == place) queued
+
+module _ {X : Type 0} where
+  -- the lists are as at first: nothing was queued, and no barrier runs
+  abbrev pub IsNew : AllLists X → Type 0
+  IsNew all = all ≡ at_first (cpus_of all) all.most
+
+  -- the call may be made: it names a processor; processor 0's list does not move; no barrier begins while one runs, and
+  -- a visit and a test are of one that runs
+  abbrev pub MayCall : AllLists X → Call X → Type 0
+  MayCall all (Queue cpu at value) = cpu < cpus_of all
+  MayCall all (Tend cpu number) = cpu < cpus_of all
+  MayCall all (Run cpu most) = cpu < cpus_of all
+  MayCall all (Migrate cpu) = (0 < cpu) × (cpu < cpus_of all)
+  MayCall all BarrierBegin = all.running ≡ false
+  MayCall all (Visit cpu) = (cpu < cpus_of all) × (all.running ≡ true)
+  MayCall all BarrierTest = all.running ≡ true
+  MayCall all Renumber = Unit {0}
+
+  -- what a call leaves
+  abbrev pub after_call : AllLists X → Call X → AllLists X
+  after_call all (Queue cpu at value) = lists_after_queue all cpu at value
+  after_call all (Tend cpu number) = lists_after_tend all cpu number
+  after_call all (Run cpu most) = lists_after_run all cpu most
+  after_call all (Migrate cpu) = lists_after_migrate all cpu
+  after_call all BarrierBegin = lists_after_barrier_begin all
+  after_call all (Visit cpu) = lists_after_visit all cpu
+  after_call all BarrierTest = lists_after_barrier_test all
+  after_call all Renumber = lists_after_renumber all
+
+  -- what a run leaves of the lists that it began with
+  abbrev pub lists_after : AllLists X → List (Call X) → AllLists X
+  lists_after first [] = first
+  lists_after first (call ∷ calls) = after_call (lists_after first calls) call
+
+  -- each call of the run might be made where it was made
+  abbrev pub IsRun : AllLists X → List (Call X) → Type 0
+  IsRun first [] = Unit {0}
+  IsRun first (call ∷ calls) = MayCall (lists_after first calls) call × IsRun first calls
+
+  -- how often the callback of this place was handed out
+  abbrev pub times_handed_out : ℕ → AllLists X → List (Call X) → ℕ
+  times_handed_out place first [] = 0
+  times_handed_out place first (Run cpu most ∷ calls) =
+      copies place (take_answer (list_of (lists_after first calls) cpu) most) + times_handed_out place first calls
+  times_handed_out place first (_ ∷ calls) = times_handed_out place first calls
+
+  -- how often it lies in the lists
+  abbrev pub times_listed : ℕ → AllLists X → ℕ
+  times_listed place all = sum_by (λ xs. copies place (callbacks xs)) all.lists
+
+  -- the callback of this place, as it was queued: its place, the tag then, and its value
+  abbrev pub queued_as : ℕ → AllLists X → List (Call X) → Option (Queued X)
+  queued_as place first [] = None
+  queued_as place first (Queue cpu at value ∷ calls) =
+      if (lists_after first calls).queued + 1 == place
+      then Some (record { ord = (lists_after first calls).queued + 1; at = at; value = value })
+      else queued_as place first calls
+  queued_as place first (_ ∷ calls) = queued_as place first calls
+
+  -- how many callbacks were queued before the latest barrier began
+  abbrev pub queued_before_barrier : AllLists X → List (Call X) → ℕ
+  queued_before_barrier first [] = 0
+  queued_before_barrier first (BarrierBegin ∷ calls) = (lists_after first calls).queued
+  queued_before_barrier first (_ ∷ calls) = queued_before_barrier first calls
