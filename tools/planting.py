@@ -1,58 +1,83 @@
-"""The edits of the folders wrong/ and harmless/: by which functions each is judged, and the texts in
-which they stand planted."""
+"""The edits of the folders wrong/ and harmless/, and the texts in which they stand planted."""
 import os
 import re
 
-from functions import HEAD, functions_of, has_proof_apart, last_line, lines_of_body
-from functions import proof_with_hole
+from functions import HEAD, functions_of, has_proof_apart, lines_of_body, proof_with_hole
 from toolchain import rt, rtlib
 
 # The body of a function that is taken at its contract's word: of any type, and soon read.
 NO_CODE = "loop {}"
 # What an edit breaks that is refused by no clause: what a call requires, an invariant, safety.
 BODY = "body"
-# After so many rounds in which it waited, an edit is tried alone.
-TRIES = 3
 
 
 class Edit:
-    """An edit, or nothing in its place: what it changes in each file, and the functions by which it
-    is judged. Two with one `subject` are judged by the same functions in the same place. It has the
-    ensures clauses that `clauses` names, all where it names none; what is made, those that its file
-    names."""
+    """An edit of a function, or nothing in its place: what it changes in which file, and the name
+    of the function by which it is judged. That is a twin of the one that it is in, where there can
+    be one. Where the edit names clauses, its twin has these alone of those that begin with
+    ensures. `why`: what is wrong with the edit."""
 
-    def __init__(self, crate, file, functions, is_made=True, clauses=()):
+    def __init__(self, crate, file, is_made=True):
         self.crate, self.file, self.is_made = crate, file, is_made
         self.name = os.path.basename(file).removesuffix(".edit")
         self.is_harmless = os.path.basename(os.path.dirname(file)) != "wrong"
+        self.is_alone, self.seconds = False, 0
+        self.changes, self.added, self.is_twin = {}, {}, False
+        # The function that it is in, and the one by which it is judged.
+        self.of = self.function = None
         texts, self.why = rt.read_edit(file, crate.folder)
-        if not file.endswith(".edit"):
-            self.why = "the name of an edit ends in .edit"
-        # The texts of the files that it adds.
-        self.changes, self.added = {}, {}
-        for path, text in (texts or {}).items():
-            self.changes[path] = changed(rtlib.text_of(f"{crate.folder}/{path}"), text)
-        self.functions, self.is_in_function = judges_of(self, functions)
-        if not self.why and not self.functions:
-            self.why = "there is no function to judge it by"
-        named = re.findall(r"^breaks: (\w+)$", rtlib.text_of(file), re.MULTILINE)
-        self.clauses = frozenset(named if is_made else clauses)
-        judges, is_inside = tuple(self.functions), self.is_in_function
-        has_twin = plant_in_twin(self, functions)
-        self.subject = judges, is_inside, has_twin
-        if not is_made:
-            self.is_in_function, self.changes = True, self.changes if has_twin else {}
-        for label in self.clauses if is_made else ():
-            if not (has_twin and self.has_clause(label)):
-                self.why = self.why or f"it has no twin with {label} alone"
-        self.waits, self.tries, self.seconds = set(), 0, 0
+        if not self.why:
+            self.why = self.plant(texts)
 
-    def has_clause(self, label):
-        texts = [new for _, _, new in self.changes.values()]
-        return label == BODY or any(f" ensures {label} {{" in it for it in texts)
+    def plant(self, texts):
+        """Puts the change where it is judged. Returns why it cannot."""
+        [(path, new), *more] = texts.items()
+        text = rtlib.text_of(f"{self.crate.folder}/{path}")
+        start, end, new = changed(text, new)
+        first, last = text.count("\n", 0, start), text.count("\n", 0, max(start, end - 1))
+        around = [it for it in functions_of(self.crate).get(path, [])
+                  if it.first <= first and last <= it.last]
+        if more or not around:
+            return "it is not an edit of one function"
+        self.of = around[-1]
+        self.function = self.of.path
+        labels = re.findall(r"(?m)^breaks: (\w+)$", rtlib.text_of(self.file))
+        twin = self.twin(path, text, (start, end, new), labels if self.is_made else [])
+        if twin:
+            self.is_twin, self.changes = True, {path: twin}
+        elif self.is_made:
+            self.changes = {path: (start, end, new)}
+        return self.against_the_rule(labels)
 
-    def is_alone(self):
-        return self.tries >= TRIES
+    def twin(self, path, text, change, labels):
+        """What adds a twin of the function with the change, behind it; or nothing, where a twin
+        would have no proof of its own. Its proof files are noted."""
+        if self.of.is_of_trait or has_proof_apart(self.crate, self.of.path):
+            return None
+        lines, first = text.split("\n"), self.of.first
+        while lines[first - 1].lstrip().startswith("#["):
+            first -= 1
+        # (from where to where the function stands, with its attributes)
+        begin = len("\n".join(lines[:first])) + 1
+        ending = len("\n".join(lines[: self.of.last + 1]))
+        name = re.match(HEAD, lines[self.of.first])[1]
+        twin = f"{name}_{self.name}" if self.is_made else f"{name}_as_it_is"
+        start, end, new = change if self.is_made else (begin, begin, "")
+        whole = text[begin:start] + new + text[end:ending]
+        whole = re.sub(rf"\bfn {name}\b", f"fn {twin}", whole, count=1)
+        self.function = self.of.path.removesuffix(name) + twin
+        self.added = proofs_of_twin(self.crate, self.of.path, self.function)
+        return ending, ending, f"\n\n{with_clauses(whole, labels) if labels else whole}"
+
+    def against_the_rule(self, labels):
+        """Why it may not name these clauses. An answer that is kept for one of several clauses does
+        not fit one that stands alone, whose goal has another name: it would refuse any body."""
+        told = [it for it in labels if it != BODY and f" ensures {it} {{" not in self.of.text]
+        if told or (labels and not self.is_twin):
+            return f"it has no twin with {' '.join(told or labels)} alone"
+        if labels and any("-clause-" in it for it in self.added.values()):
+            return "it names a clause ('breaks:'), and its function has kept answers to clauses"
+        return None
 
     def full_name(self):
         return f"{self.crate.name}/{self.name}"
@@ -60,13 +85,10 @@ class Edit:
     def wanted(self):
         return "proved" if self.is_harmless else "refused"
 
-    def unmade(self, edits):
-        """Its functions as they are, to be judged where it is, with all clauses that these edits of
-        them have."""
-        own = {it.clauses for it in edits if it.subject == self.subject}
-        clauses = frozenset().union(*own) if all(own) else ()
-        found = Edit(self.crate, self.file, functions_of(self.crate), False, clauses)
-        found.tries = TRIES if self.is_alone() else 0
+    def unmade(self):
+        """Its function as it is, to be judged where the edit is."""
+        found = Edit(self.crate, self.file, is_made=False)
+        found.is_alone = self.is_alone
         return found
 
 
@@ -79,40 +101,8 @@ def changed(before, after):
     return start, len(before) - end, after[start : len(after) - end]
 
 
-def names_at(lines, first, last):
-    """The constants that these lines declare, and the macro that they are a part of."""
-    names = re.findall(r"\b(?:const|static) (\w+):", "\n".join(lines[first : last + 1]))
-    for number, line in enumerate(lines):
-        macro = re.match(r"macro_rules! (\w+)", line)
-        if macro and number <= first and last <= last_line(lines, number):
-            names.append(macro[1])
-    return names
-
-
-def judges_of(edit, functions):
-    """The names of the functions by which the edit is judged, and whether it is made in these."""
-    found, is_inside = [], True
-    for path, (start, end, _) in edit.changes.items():
-        text = rtlib.text_of(f"{edit.crate.folder}/{path}")
-        here = functions.get(path, [])
-        first = text.count("\n", 0, start)
-        last = text.count("\n", 0, max(start, end - 1))
-        around = [it for it in here if it.first <= first and last <= it.last]
-        if around:
-            found.append(around[-1])
-            continue
-        is_inside = False
-        names = "|".join(names_at(text.split("\n"), first, last)) or "(?!)"
-        every = [it for of_file in functions.values() for it in of_file]
-        found += [it for it in every if re.search(rf"\b({names})\b", it.text)] or here
-    return list(dict.fromkeys(it.path for it in found)), is_inside
-
-
 def proofs_of_twin(crate, path, twin):
-    """The proof files of the function, as those of its twin; None where it is proved by hand, or in
-    one proof with others, or with those of closures in it."""
-    if has_proof_apart(crate, path):
-        return None
+    """The proof files of the function, as those of its twin."""
     before, after = (it.replace("::", "/") for it in (path, twin))
     folder, texts = f"{crate.folder}/proofs/{before}", {}
     names = [it.replace("/", ".") for it in (before, after)]
@@ -127,7 +117,7 @@ def proofs_of_twin(crate, path, twin):
 
 def with_clauses(text, labels):
     """The text of the function with the clauses of these labels alone, of those that begin with
-    ensures (or with none, where no clause has one of the labels)."""
+    ensures."""
     kept, is_kept = [], True
     for line in text.split("\n"):
         clause = re.match(r" *(?:ensures (\w*) ?|requires\b.*)?\{", line)
@@ -138,58 +128,11 @@ def with_clauses(text, labels):
     return "\n".join(kept)
 
 
-def with_answers(text, labels):
-    """The answers but for those of clauses of the function that have none of these labels."""
-    kept = []
-    for block in text.split("\n\n"):
-        answer = re.search(r"^pub returns\S*-clause-(\w+) : goal\.", block, re.MULTILINE)
-        if not answer or answer[1] in labels:
-            kept.append(block)
-    return "\n\n".join(kept).rstrip("\n") + "\n"
-
-
-def plant_in_twin(edit, functions):
-    """Where it can be, has the edit add a twin of its function, and leave the function as it is.
-    Returns whether it can."""
-    if not edit.is_in_function or len(edit.functions) != 1 or len(edit.changes) != 1:
-        return False
-    [(path, (start, end, new))] = edit.changes.items()
-    text = rtlib.text_of(f"{edit.crate.folder}/{path}")
-    lines = text.split("\n")
-    [of] = [it for it in functions[path] if it.path == edit.functions[0]]
-    if of.is_of_trait:
-        return False
-    first = of.first
-    while lines[first - 1].lstrip().startswith("#["):
-        first -= 1
-    # (from where to where the function stands, with its attributes)
-    begin = len("\n".join(lines[:first])) + 1
-    ending = len("\n".join(lines[: of.last + 1]))
-    if not begin <= start <= end <= ending:
-        return False
-    name = re.match(HEAD, lines[of.first])[1]
-    twin = f"{name}_{edit.name}" if edit.is_made else f"{name}_as_it_is"
-    added = proofs_of_twin(edit.crate, of.path, of.path.removesuffix(name) + twin)
-    if added is None:
-        return False
-    if edit.clauses:
-        added = {to: with_answers(it, edit.clauses) if to.endswith("/Answers.antt") else it
-                 for to, it in added.items()}
-    whole = text[begin:start] + (new if edit.is_made else text[start:end]) + text[end:ending]
-    whole = re.sub(rf"\bfn {name}\b", f"fn {twin}", whole, count=1)
-    if edit.clauses:
-        whole = with_clauses(whole, edit.clauses)
-    edit.changes, edit.added = {path: (ending, ending, f"\n\n{whole}")}, added
-    edit.functions = [of.path.removesuffix(name) + twin]
-    return True
-
-
 def edits_of(crate):
     """The edits in a crate's folders wrong/ and harmless/."""
     folders = [f"{crate.folder}/{it}" for it in ("wrong", "harmless")]
     files = [f"{it}/{name}" for it in folders if os.path.isdir(it) for name in os.listdir(it)]
-    functions = functions_of(crate) if files else {}
-    return [Edit(crate, it, functions) for it in sorted(files) if not it.endswith(".md")]
+    return [Edit(crate, it) for it in sorted(files)]
 
 
 def planted(edits, changes_beside):

@@ -3,16 +3,16 @@
 
 Use: tools/promises.py [CRATE ..]     (no CRATE: all)
 
-prints each promise of a crate with its wrong bodies: a law's are those of the calls that keep it.
+prints each promise of a crate, the calls that keep it, and the wrong bodies that name it.
 
 The promises of a crate stand in sections whose heading names it, as '(`rcu_seq`)'. Each is an item
 of a list: '- **Title.** `Contract`, `contract`: what is promised. Kept by `Call`, `call`.', whose
 title and last sentence only some have. What stands in parentheses before the colon is no contract.
 A wrong body (crates/*/must-fail/*.edit, crates/*/wrong/*.edit) has a line 'promise: NAME', or
-several: a title, or a contract that no other promise of its crate has, or none without a title. A
-call that keeps a law is a contract or a title of any promises, those of another crate behind its
-name, as `rcu_cpu::CpuData::quiesce`; a contract that several promises have names them all.
+several. NAME is a title, a contract of the page or a function of the crate, or a law that it breaks
+in a crate above, behind that crate's name: `rcu_core::laws::no_callback_runs_early`.
 """
+import functools
 import glob
 import os
 import re
@@ -54,20 +54,6 @@ def promises():
         yield from (Promise(crate[1], " ".join(it.split())) for it in items)
 
 
-def by_name(every):
-    """The promises by crate and name: a title, or a contract that no other promise there has, or
-    none without a title."""
-    found = {}
-    for promise in every:
-        for name in set(promise.contracts):
-            found.setdefault((promise.crate, name), []).append(promise)
-    of_one = {}
-    for name, having in found.items():
-        untitled = [it for it in having if not it.title]
-        of_one |= {name: of[0] for of in (having, untitled) if len(of) == 1}
-    return of_one | {(it.crate, it.title): it for it in every if it.title}
-
-
 def edits():
     """Each wrong body, as its crate and its name, with the names of its promises."""
     for path in sorted(glob.glob(f"{ROOT}/crates/*/*/*.edit")):
@@ -78,54 +64,71 @@ def edits():
             yield crate, file.removesuffix(".edit"), names
 
 
-def having(every, names, crate, call):
-    """The promises that a call of 'Kept by' names: the one of that name, or all with it."""
-    other, _, rest = call.partition("::")
-    places = ((crate, call), (other, rest))
-    owners = [names[it] for it in places if it in names]
-    return owners[:1] or [it for it in every for at, name in places
-                          if it.crate == at and name in it.contracts]
+@functools.lru_cache(maxsize=None)
+def words_of(crate):
+    """The names of a crate's functions, of its types and of its modules."""
+    files = glob.glob(f"{ROOT}/crates/{crate}/src/**/*.rt", recursive=True)
+    words = {os.path.basename(it).removesuffix(".rt") for it in files}
+    for path in files:
+        with open(path, encoding="utf-8") as file:
+            words |= set(re.findall(r"\b(?:fn|struct|enum|trait|mod) (\w+)", file.read()))
+    return words
+
+
+def is_function(crate, name):
+    return set(re.findall(r"\w+", name)) <= words_of(crate)
+
+
+def named(every, crate, name):
+    """The promises of that title or contract, in the crate or in the one before the name."""
+    other, _, rest = name.partition("::")
+    for at, called in ((crate, name), (other, rest)):
+        own = [it for it in every if it.crate == at]
+        found = [it for it in own if it.title == called] or [
+            it for it in own if called in it.contracts]
+        # (a contract of several promises is meant without their titles)
+        if found:
+            return [it for it in found if not it.title] or found
+    return []
 
 
 def mismatches():
     """What does not fit together: a row for each."""
-    every = list(promises())
-    names, broken = by_name(every), set()
+    every, broken = list(promises()), set()
     for crate, edit, own in edits():
         if not own:
             yield f"{crate}/{edit} names no promise (a line 'promise: NAME')"
         for name in own:
-            if (crate, name) in names:
-                broken.add(names[crate, name])
-            else:
-                yield f"{crate}/{edit}: {PAGE} has not one promise of {crate} named {name}"
+            of_name = named(every, crate, name)
+            broken |= set(of_name)
+            if not of_name and not is_function(crate, name):
+                yield f"{crate}/{edit}: no promise and no function of {crate} is named {name}"
     for promise in every:
         if not promise.is_read:
             yield f"{PAGE}: an item of {promise.crate} names no contract before ': ': {promise.name}"
         for call in promise.calls:
-            if not having(every, names, promise.crate, call):
-                yield f"{PAGE}: {promise.name} is kept by {call}, which is no promise"
-        if promise not in broken and not promise.calls:
+            other, _, rest = call.partition("::")
+            if not (named(every, promise.crate, call) or is_function(promise.crate, call)
+                    or is_function(other, rest)):
+                yield f"{PAGE}: {promise.name} is kept by {call}, which is no function"
+        if promise.title and promise not in broken and not promise.calls:
             yield f"{PAGE}: no wrong body breaks {promise.name} of {promise.crate}, and no call keeps it"
 
 
 def tell(crates):
-    every = list(promises())
-    names, of_promise = by_name(every), {}
+    every, of_promise, before = list(promises()), {}, None
     for crate, edit, own in edits():
-        for promise in {names[crate, it] for it in own if (crate, it) in names}:
-            of_promise.setdefault(promise, []).append(edit)
-    crate = None
+        for promise in {it for name in own for it in named(every, crate, name)}:
+            shown = edit if promise.crate == crate else f"{crate}/{edit}"
+            of_promise.setdefault(promise, []).append(shown)
     for promise in [it for it in every if not crates or it.crate in crates]:
-        if promise.crate != crate:
-            crate = promise.crate
-            print(crate)
-        calls = [it for call in promise.calls for it in having(every, names, crate, call)]
-        broken = [of_promise.get(it, []) for it in [promise, *calls]]
-        keepers = f" (kept by {', '.join(promise.calls)})" if calls else ""
-        print(textwrap.fill(promise.name + keepers, 100, initial_indent="  ", subsequent_indent="  "))
-        text = " ".join(dict.fromkeys(it for of_one in broken for it in of_one))
-        print(textwrap.fill(text, 100, initial_indent=" " * 6, subsequent_indent=" " * 6))
+        if promise.crate != before:
+            before = promise.crate
+            print(before)
+        keepers = f" (kept by {', '.join(promise.calls)})" if promise.calls else ""
+        for text, indent in ((promise.name + keepers, 2), (" ".join(of_promise.get(promise, [])), 6)):
+            print(textwrap.fill(text, 100, initial_indent=" " * indent,
+                                subsequent_indent=" " * indent))
 
 
 if __name__ == "__main__":
