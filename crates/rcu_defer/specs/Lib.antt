@@ -1,1 +1,3 @@
+pub mod DeferList
+pub mod Histories
 pub mod Marks

@@ -1,5 +1,5 @@
 -- What one thread's deferrals wait for, in order.
-use Rattle.std.specs.Prelude.{◌≡◌, ℕ, ◌+◌, ◌-◌, ◌<◌, ◌≤◌, ◌%◌, ◌^◌, ◌==◌, min, nat_le, if◌then◌else◌, List, [], ◌∷◌, ◌++◌}
+use Rattle.std.specs.Prelude.{◌≡◌, ℕ, suc, ◌+◌, ◌-◌, ◌<◌, ◌≤◌, ◌%◌, ◌^◌, ◌==◌, min, nat_le, if◌then◌else◌, List, [], ◌∷◌, ◌++◌}
 use Rattle.std.specs.Prelude.{drop, length, replicate, Option, Some, None}
 use Rattle.rcu_seq.specs.Fault.{first_fault}
 use Rattle.rcu_seq.specs.Numbers.{Number, snapshot}
@@ -47,7 +47,7 @@ after_defer m = record m { fresh = m.fresh + 1 }
 -- how many numbers are reached, from the front on, before one that is not
 abbrev pub due : Number → List Number → ℕ
 due n [] = 0
-due n (until ∷ others) = if nat_le until n then due n others + 1 else 0
+due n (until ∷ others) = if nat_le until n then suc (due n others) else 0
 
 -- once the number is reached
 abbrev pub after_advance : Marking → Number → Marking

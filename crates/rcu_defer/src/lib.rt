@@ -2,6 +2,9 @@
 #![tactic(auto)]
 
 mod batch;
+pub mod defer_list;
+pub mod laws;
 pub mod marks;
 
+pub use defer_list::DeferList;
 pub use marks::Marks;

@@ -1,9 +1,9 @@
 //! What one thread's deferrals wait for, apart from what is deferred.
-ghost use Rattle.std.specs.Prelude.{◌≡◌, ◌-◌, ◌<◌, ◌≤◌, ◌^◌, All, IfSome, OnErr, OnOk, length, min};
+ghost use Rattle.std.specs.Prelude.{◌≡◌, ◌==◌, ◌<◌, ◌≤◌, ◌^◌, All, IfSome, OnErr, OnOk, min};
 ghost use Rattle.std.specs.Result.{result_err};
 ghost use Rattle.rcu_defer.specs.Marks.{after_advance, after_defer, after_mark, after_take};
 ghost use Rattle.rcu_defer.specs.Marks.{after_tend, at_first, count_of, defer_refusal, last_number};
-ghost use Rattle.rcu_defer.specs.Marks.{ready_of};
+ghost use Rattle.rcu_defer.specs.Marks.{deferred_of, most_deferred, ready_of};
 
 use crate::batch::Batch;
 use rcu_seq::Fault;
@@ -68,7 +68,7 @@ impl Marks {
         ensures state { OnOk result (self.new ≡ after_defer self.old) }
         ensures unchanged { OnErr result (self.new ≡ self.old) }
     {
-        if self.deferred == MOST_DEFERRED {
+        if self.is_full() {
             return Err(Fault::CallbacksFull);
         }
         self.deferred += 1;
@@ -142,6 +142,13 @@ impl Marks {
         let count = most.min(self.done - self.taken);
         self.taken += count;
         count
+    }
+
+    /// Whether there were as many as there may be.
+    pub fn is_full(&self) -> bool
+        ensures { result ≡ (deferred_of self.now == most_deferred) }
+    {
+        self.deferred == MOST_DEFERRED
     }
 
     /// How many were not taken out yet.
