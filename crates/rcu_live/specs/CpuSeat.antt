@@ -96,6 +96,55 @@ module _ {C : Type 0} where
     };
   }
 
+  -- why a section is not renewed: the processor is offline or idle, no section is open, or it nests
+  abbrev pub renew_refusal : Seated C → Option Fault
+  renew_refusal s =
+      first_fault ((s.view.own_word == 0, Offline) ∷ (s.view.own_word == idle_word, CpuIdle) ∷ (s.depth == 0, NotOpen)
+      ∷ (nat_lt 1 s.depth, InSection) ∷ [])
+
+  -- after a renewal: the section closed at the number n, the own word was made n + 1 where it was another one, and the next
+  -- section opened at the number m
+  abbrev pub after_renew : (C → C) → Seated C → Number → Number → Seated C
+  after_renew closed s n m = record s {
+    view = after_open (record (after_close closed s.view n) {
+      own_word = n + 1;
+      stores = if s.view.own_word == n + 1 then s.view.stores else s.view.stores + 1;
+    }) m;
+  }
+
+  -- a section was renewed: the one that was open has ended, a quiescent state was passed at the number n, which is at least
+  -- all that the seat saw before, and another section began, at a number that is no less
+  pub record RenewedAt (closed : C → C) (s : Seated C) (n : Number) (t : Seated C) : Type 0 where
+    pub state : t ≡ after_renew closed s n t.view.seen
+    pub later : s.view.seen ≤ n
+    pub onward : n ≤ t.view.seen
+    pub bounded : n ≤ 2 ^ 62
+
+  -- why a pin is refused
+  abbrev pub pin_refusal : Seated C → Option Fault
+  pin_refusal s = first_fault ((s.view.own_word == 0, Offline) ∷ (s.depth == deepest, NestFull) ∷ [])
+
+  -- after a wake that looks at nothing: one store more, of the word 1, by which the processor tells of no grace period
+  abbrev pub after_bare_wake : Seated C → Seated C
+  after_bare_wake s = record s { view = after_store s.view 1 }
+
+  -- after a pin: an enter, before which an idle processor woke; the outermost one's section began at n
+  abbrev pub after_pin : Seated C → Number → Seated C
+  after_pin s n = after_enter (if s.view.own_word == idle_word then after_bare_wake s else s) n
+
+  -- why an unpin is refused
+  abbrev pub unpin_refusal : Seated C → Option Fault
+  unpin_refusal s = first_fault ((s.view.own_word == 0, Offline) ∷ (s.depth == 0, NotOpen) ∷ [])
+
+  -- after an unpin: an exit, and the processor got idle after the outermost one, whose load saw n
+  abbrev pub after_unpin : (C → C) → Seated C → Number → Seated C
+  after_unpin closed s n = if s.depth == 1 then after_idle (after_exit closed s n) else after_exit closed s n
+
+  -- why a section that a pin opened is not renewed: the processor is offline, no section is open, or it nests
+  abbrev pub repin_refusal : Seated C → Option Fault
+  repin_refusal s =
+      first_fault ((s.view.own_word == 0, Offline) ∷ (s.depth == 0, NotOpen) ∷ (nat_lt 1 s.depth, InSection) ∷ [])
+
   -- a number load more, which saw n
   abbrev pub after_look : Seated C → Number → Seated C
   after_look s n = record s { view = after_load s.view n }

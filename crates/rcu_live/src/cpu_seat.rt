@@ -1,10 +1,12 @@
 //! A processor's seat: its read sections, its quiescent states and its idleness.
-ghost use Rattle.std.specs.Prelude.{◌≡◌, ◌<◌, ◌≤◌, ◌==◌, ℕ, IfOk, None, OnErr, OnOk, Some};
+ghost use Rattle.std.specs.Prelude.{◌≡◌, ◌≢◌, ◌<◌, ◌≤◌, ◌==◌, ℕ, IfOk, None, OnErr, OnOk, Some};
 ghost use Rattle.std.specs.Prelude.{false, not};
 ghost use Rattle.std.specs.Result.{result_err};
 ghost use Rattle.rcu_live.specs.Board.{HasWord};
 ghost use Rattle.rcu_live.specs.Client.{AllowsWord};
-ghost use Rattle.rcu_live.specs.CpuSeat.{AcceptedAt, IsSeatOf, KnowsBy, NotedAt, after_depart};
+ghost use Rattle.rcu_live.specs.CpuSeat.{AcceptedAt, IsSeatOf, KnowsBy, NotedAt, RenewedAt};
+ghost use Rattle.rcu_live.specs.CpuSeat.{after_depart, after_pin, after_unpin, pin_refusal};
+ghost use Rattle.rcu_live.specs.CpuSeat.{renew_refusal, repin_refusal, unpin_refusal};
 ghost use Rattle.rcu_live.specs.CpuSeat.{after_enter, after_exit, after_idle, after_look};
 ghost use Rattle.rcu_live.specs.CpuSeat.{after_quiesce, after_quiesce_since, arrive_refusal};
 ghost use Rattle.rcu_live.specs.CpuSeat.{at_first, depart_refusal, enter_refusal, exit_refusal};
@@ -198,6 +200,153 @@ impl<P: Client> CpuSeat<P> {
             board.store(&mut self.seat, self.data.cpu(), now + 1);
         }
         Ok(now)
+    }
+
+    /// Renews the open section: closes it, passes a quiescent state, and opens the next one. So a
+    /// thread that reads all the time keeps a section open, and calls this between two looks at the
+    /// data: what it read before, it uses no more (liburcu's `rcu_quiescent_state`). Two loads, and
+    /// a store where a grace period began or ended since the last quiescent state. Returns the
+    /// number of the quiescent state.
+    ///
+    /// Faults: `Offline` (2) where the processor is offline; `CpuIdle` (23) where it is idle;
+    /// `NotOpen` (5) where no section is open; `InSection` (4) where the open one nests.
+    pub fn renew<L: Shared<P>>(&mut self, live: &L) -> Result<u64, Fault>
+        requires { self.old.table ≡ (L.object live.now).table }
+        ensures table { self.new.table ≡ self.old.table }
+        ensures fault { result_err result ≡ renew_refusal self.old }
+        ensures state { IfOk result (λ number. RenewedAt P.closed self.old number self.new) }
+        ensures unchanged { OnErr result (self.new ≡ self.old) }
+    {
+        if self.depth() == 1 {
+            Ok(self.renew_outermost(live.board()))
+        } else if self.is_idle() {
+            Err(Fault::CpuIdle)
+        } else {
+            Err(self.no_outermost())
+        }
+    }
+
+    /// Closes the open section, which does not nest, passes a quiescent state, which stores only
+    /// what changes the own word, and opens the next section. Returns the number of the quiescent
+    /// state.
+    #[inline]
+    fn renew_outermost(&mut self, board: &Board<P>) -> u64
+        requires table { self.old.table ≡ board.now.table }
+        requires outermost { self.old.depth ≡ 1 }
+        ensures open { renew_refusal self.old ≡ None }
+        ensures pinned { repin_refusal self.old ≡ None }
+        ensures state { RenewedAt P.closed self.old result self.new }
+    {
+        let CpuSeat { data, opened, seat } = self;
+        let last = data.noted();
+        let number = board.close_section(seat);
+        if last.number != number {
+            let Ok(()) = data.note(Tag::of_first_epoch(number)) else {
+                unreachable!()
+            };
+            board.store(seat, data.cpu(), number + 1);
+        }
+        *opened = Some(board.open_section(seat));
+        number
+    }
+
+    /// Why no section is renewed where none is open that does not nest.
+    #[cold]
+    fn no_outermost(&self) -> Fault
+        requires { self.now.depth ≢ 1 }
+        ensures { repin_refusal self.now ≡ Some result }
+    {
+        if !self.data.online() {
+            Fault::Offline
+        } else if self.depth() == 0 {
+            Fault::NotOpen
+        } else {
+            Fault::InSection
+        }
+    }
+
+    /// Opens a read section, or nests one deeper in the open one, and returns the depth, as
+    /// [`enter`](Self::enter), also where the processor is idle: then it wakes first, by one store
+    /// of 1 in its own word, with no load before it. It waits for nobody. A thread that pins and
+    /// unpins keeps no grace period waiting between two sections, and passes no quiescent states.
+    ///
+    /// Faults: `Offline` (2) where the processor is offline; `NestFull` (6) where the depth is
+    /// 65,535.
+    pub fn pin<L: Shared<P>>(&mut self, live: &L) -> Result<u32, Fault>
+        requires { self.old.table ≡ (L.object live.now).table }
+        ensures table { self.new.table ≡ self.old.table }
+        ensures fault { result_err result ≡ pin_refusal self.old }
+        ensures depth { IfOk result (λ depth. depth ≡ self.new.depth) }
+        ensures state { OnOk result
+            (AcceptedAt after_pin self.old self.new.view.seen self.new) }
+        ensures unchanged { OnErr result (self.new ≡ self.old) }
+    {
+        let CpuSeat { data, opened, seat } = self;
+        let wakes = data.is_idle();
+        if wakes {
+            data.wake()?;
+            data.note(Tag::of_first_epoch(0))?;
+        }
+        let depth = data.enter()?;
+        let board = live.board();
+        if wakes {
+            board.store(seat, data.cpu(), 1);
+        }
+        let is_outermost = depth == 1;
+        if is_outermost {
+            *opened = Some(board.open_section(seat));
+        }
+        Ok(depth)
+    }
+
+    /// Leaves the innermost section, and returns the depth: at 0 one load closed the section, and
+    /// the processor is idle from then on, by one store of 2^63 in its own word.
+    ///
+    /// Faults: `Offline` (2) where the processor is offline; `NotOpen` (5) where no section is
+    /// open.
+    pub fn unpin<L: Shared<P>>(&mut self, live: &L) -> Result<u32, Fault>
+        requires { self.old.table ≡ (L.object live.now).table }
+        ensures table { self.new.table ≡ self.old.table }
+        ensures fault { result_err result ≡ unpin_refusal self.old }
+        ensures depth { IfOk result (λ depth. depth ≡ self.new.depth) }
+        ensures state { OnOk result
+            (AcceptedAt (after_unpin P.closed) self.old self.new.view.seen self.new) }
+        ensures unchanged { OnErr result (self.new ≡ self.old) }
+    {
+        let CpuSeat { data, opened, seat } = self;
+        if !data.online() {
+            return Err(Fault::Offline);
+        }
+        let depth = data.exit()?;
+        let was_outermost = depth == 0;
+        if was_outermost {
+            data.idle()?;
+            let board = live.board();
+            board.close_section(seat);
+            *opened = None;
+            board.store(seat, data.cpu(), IDLE_WORD);
+        }
+        Ok(depth)
+    }
+
+    /// Renews the section that a pin opened, as [`renew`](Self::renew): so a thread that stays
+    /// pinned for long keeps no grace period waiting that began before this call. Returns the
+    /// number of the quiescent state.
+    ///
+    /// Faults: `Offline` (2) where the processor is offline; `NotOpen` (5) where no section is
+    /// open; `InSection` (4) where the open one nests.
+    pub fn repin<L: Shared<P>>(&mut self, live: &L) -> Result<u64, Fault>
+        requires { self.old.table ≡ (L.object live.now).table }
+        ensures table { self.new.table ≡ self.old.table }
+        ensures fault { result_err result ≡ repin_refusal self.old }
+        ensures state { IfOk result (λ number. RenewedAt P.closed self.old number self.new) }
+        ensures unchanged { OnErr result (self.new ≡ self.old) }
+    {
+        if self.depth() == 1 {
+            Ok(self.renew_outermost(live.board()))
+        } else {
+            Err(self.no_outermost())
+        }
     }
 
     /// The processor is idle from now on, until it wakes or departs: one store of 2^63 in its own

@@ -1,0 +1,4 @@
+pub mod Batches
+pub mod Orders
+pub mod Shown
+pub mod Waits

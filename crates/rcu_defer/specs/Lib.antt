@@ -1,0 +1,3 @@
+pub mod DeferList
+pub mod Histories
+pub mod Marks

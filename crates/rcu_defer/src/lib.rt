@@ -1,0 +1,10 @@
+//! Values that a thread defers until a grace period has passed, without a lock.
+#![tactic(auto)]
+
+mod batch;
+pub mod defer_list;
+pub mod laws;
+pub mod marks;
+
+pub use defer_list::DeferList;
+pub use marks::Marks;

@@ -1,0 +1,189 @@
+//! What one thread's deferrals wait for, apart from what is deferred.
+ghost use Rattle.std.specs.Prelude.{◌≡◌, ◌==◌, ◌<◌, ◌≤◌, ◌^◌, All, IfSome, OnErr, OnOk, min};
+ghost use Rattle.std.specs.Result.{result_err};
+ghost use Rattle.rcu_defer.specs.Marks.{after_advance, after_defer, after_mark, after_take};
+ghost use Rattle.rcu_defer.specs.Marks.{after_tend, at_first, count_of, defer_refusal, last_number};
+ghost use Rattle.rcu_defer.specs.Marks.{deferred_of, most_deferred, ready_of};
+
+use crate::batch::Batch;
+use rcu_seq::Fault;
+use rcu_seq::cookie::snapshot;
+use std::marker::Model;
+
+/// How many deferrals there may be.
+const MOST_DEFERRED: u64 = 1 << 62;
+
+/// What one thread's deferrals wait for, in order (the marks of Linux's `rcu_segcblist`): those
+/// that are done, those that wait for a number, and those that came since the last tend. What is
+/// deferred is kept elsewhere, in the same order; so no call here takes memory.
+///
+/// At any number the deferrals that wait do so for one of two numbers at most: that at which the
+/// grace period that runs ends, and the next one's. So two batches serve.
+#[derive(Debug, Drop)]
+pub struct Marks {
+    /// How many were taken out.
+    taken: u64,
+    /// How many are done, with those that were taken out.
+    done: u64,
+    /// Those behind them, which wait.
+    first: Batch,
+    /// Those behind these, which wait for a greater number.
+    second: Batch,
+    /// How many there were.
+    deferred: u64,
+    /// The number of the last tend.
+    seen: u64,
+}
+
+impl Model for Marks {
+    ghost use Rattle.rcu_defer.specs.Marks.{AreBatches, Marking, shown};
+
+    ghost Value = { Marking };
+
+    ghost view = { λ m. shown m.taken m.done m.first m.second m.deferred m.seen };
+
+    ghost invariant = { λ m. AreBatches m.taken m.done m.first m.second m.deferred m.seen };
+}
+
+impl Marks {
+    /// The marks of no deferral.
+    pub fn new() -> Marks
+        ensures { result ≡ at_first }
+    {
+        Marks {
+            taken: 0,
+            done: 0,
+            first: Batch::NONE,
+            second: Batch::NONE,
+            deferred: 0,
+            seen: 0,
+        }
+    }
+
+    /// Counts a deferral more, behind all others.
+    ///
+    /// Fault `CallbacksFull` (15) where there were 2^62.
+    pub fn defer(&mut self) -> Result<(), Fault>
+        ensures fault { result_err result ≡ defer_refusal self.old }
+        ensures state { OnOk result (self.new ≡ after_defer self.old) }
+        ensures unchanged { OnErr result (self.new ≡ self.old) }
+    {
+        if self.is_full() {
+            return Err(Fault::CallbacksFull);
+        }
+        self.deferred += 1;
+        Ok(())
+    }
+
+    /// Tends at a number, which is at least that of the last tend and at most 2^62: the deferrals
+    /// whose number is reached are done, and those that came since the last tend wait for its
+    /// snapshot. Costs a few steps, however many they are.
+    pub fn tend(&mut self, number: u64)
+        requires later { self.old.seen ≤ number }
+        requires bounded { number ≤ 2 ^ 62 }
+        ensures state { self.new ≡ after_tend self.old number }
+        ensures none_left { All (λ until. number < until) self.new.waiting }
+    {
+        self.advance(number);
+        self.mark();
+    }
+
+    /// The deferrals whose number is reached are done (Linux's `rcu_segcblist_advance`).
+    fn advance(&mut self, number: u64)
+        requires later { self.old.seen ≤ number }
+        ensures state { self.new ≡ after_advance self.old number }
+        ensures none_left { All (λ until. number < until) self.new.waiting }
+    {
+        self.seen = number;
+        if self.first.count == 0 || self.first.until > number {
+            return;
+        }
+        self.done += self.first.count;
+        self.first = self.second;
+        self.second = Batch::NONE;
+        if self.first.until > number {
+            return;
+        }
+        self.done += self.first.count;
+        self.first = Batch::NONE;
+    }
+
+    /// The deferrals that came since the last tend wait for the snapshot of its number (Linux's
+    /// `rcu_segcblist_accelerate`).
+    fn mark(&mut self)
+        requires { self.old.seen ≤ 2 ^ 62 }
+        ensures { self.new ≡ after_mark self.old }
+    {
+        let fresh = self.deferred - self.done - self.first.count - self.second.count;
+        if fresh == 0 {
+            return;
+        }
+        let until = snapshot(self.seen);
+        if self.first.count == 0 {
+            self.first = Batch {
+                until,
+                count: fresh,
+            };
+        } else if self.first.until == until {
+            self.first.count += fresh;
+        } else {
+            self.second = Batch {
+                until,
+                count: self.second.count + fresh,
+            };
+        }
+    }
+
+    /// Takes out the first deferrals that are done, so many at most, and returns how many.
+    pub fn take(&mut self, most: u64) -> u64
+        ensures count { result ≡ min most (ready_of self.old) }
+        ensures state { self.new ≡ after_take self.old most }
+    {
+        let count = most.min(self.done - self.taken);
+        self.taken += count;
+        count
+    }
+
+    /// Whether there were as many as there may be.
+    pub fn is_full(&self) -> bool
+        ensures { result ≡ (deferred_of self.now == most_deferred) }
+    {
+        self.deferred == MOST_DEFERRED
+    }
+
+    /// How many were not taken out yet.
+    pub fn count(&self) -> u64
+        ensures { result ≡ count_of self.now }
+    {
+        self.deferred - self.taken
+    }
+
+    /// How many are done, and were not taken out yet.
+    pub fn ready(&self) -> u64
+        ensures { result ≡ ready_of self.now }
+    {
+        self.done - self.taken
+    }
+
+    /// The number of the last tend, 0 before any.
+    pub fn seen(&self) -> u64
+        ensures { result ≡ self.now.seen }
+    {
+        self.seen
+    }
+
+    /// The greatest number that a deferral waits for, none where none waits: once it is reached, a
+    /// tend makes all done that came before the last one.
+    pub fn last_until(&self) -> Option<u64>
+        ensures last { result ≡ last_number self.now.waiting }
+        ensures each { IfSome result (λ last. All (λ until. until ≤ last) self.now.waiting) }
+    {
+        if self.second.count > 0 {
+            Some(self.second.until)
+        } else if self.first.count > 0 {
+            Some(self.first.until)
+        } else {
+            None
+        }
+    }
+}
