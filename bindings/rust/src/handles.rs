@@ -1,25 +1,51 @@
-//! The handles of C as values that are owned. All calls of C are made here.
+//! The handles of C as values that are owned. A refused call panics, so all of it is safe to call.
 //!
-//! What the header asks of their caller:
+//! What the header asks of their caller is kept here, and this is why each call below is sound:
 //! - *No open handle is opened, and no copy of one that was closed is used.* A value's handle is
-//!   open from its making to its drop, which closes it.
+//!   open from its making to its drop, which closes it, and nobody else has it.
 //! - *One call at a time on each handle.* An engine's calls take `&mut`. A seat's take `&`, but the
 //!   value is not `Sync`, so one thread at a time has it; and no call of C calls back.
 //! - *What pointers point to is there, and nobody else's.* It is a local of the function here.
+//!
+//! Most programs want [`Engine`](crate::Engine). This is for libraries that make their own.
+//!
+//! ```
+//! use rcu::handles::EngineHandle;
+//!
+//! # fn main() -> Result<(), rcu::Error> {
+//! let mut rcu = EngineHandle::open(2)?; // processors 0 and 1
+//! let (boot, seat) = (rcu.seat(0)?, rcu.seat(1)?);
+//! boot.idle();
+//! rcu.arrive(&seat);
+//! let cookie = rcu.take();
+//! rcu.begin();
+//! seat.enter();
+//! assert!(rcu.is_awaited(1));
+//! seat.exit();
+//! seat.quiesce();
+//! assert!(!rcu.is_awaited(1));
+//! rcu.end();
+//! assert!(rcu.is_done(cookie));
+//! # Ok(())
+//! # }
+//! ```
 
-use crate::engine::Error;
+use crate::error::Error;
 use crate::raw;
 use std::cell::{Cell, UnsafeCell};
+use std::fmt;
 use std::ptr::null_mut;
 
 /// No grace period begins at this number, which none reaches.
 const LAST: u64 = 1 << 62;
 
 /// An open engine.
-pub(crate) struct EngineHandle(raw::rcu_t);
+#[must_use]
+pub struct EngineHandle(raw::rcu_t);
 
 /// The seat of a processor. An engine takes no seat of another one: by the identity that it has.
-pub(crate) struct SeatHandle {
+#[must_use]
+pub struct SeatHandle {
     raw: UnsafeCell<raw::rcu_seat_t>,
     cpu: usize,
     /// The number that the seat saw when it last got quiet, or woke.
@@ -28,16 +54,29 @@ pub(crate) struct SeatHandle {
 
 // SAFETY: the header lets handles pass between threads.
 unsafe impl Send for EngineHandle {}
+// SAFETY: as above.
 unsafe impl Send for SeatHandle {}
 
+#[cold]
+fn refused(call: &str, fault: u32) -> ! {
+    panic!("{call}: fault {fault}");
+}
+
 /// A call that its caller's state does not allow to be refused.
+#[inline(always)]
 fn must(call: &str, fault: u32) {
-    assert!(fault == 0, "{call}: fault {fault}");
+    if fault != 0 {
+        refused(call, fault);
+    }
 }
 
 // SAFETY of the calls here and below: as the head of the file says.
 impl EngineHandle {
-    pub(crate) fn open(cpus: u32) -> Result<EngineHandle, Error> {
+    /// An engine of so many processors, of which 0 is online.
+    ///
+    /// # Errors
+    /// [`Error::BadCount`] at none or more than 4,096, [`Error::NoMemory`] where memory is out.
+    pub fn open(cpus: u32) -> Result<EngineHandle, Error> {
         let mut raw = raw::rcu_t { at: null_mut() };
         match unsafe { raw::rcu_open(cpus, LAST, &mut raw) } {
             0 => Ok(EngineHandle(raw)),
@@ -47,9 +86,17 @@ impl EngineHandle {
     }
 
     /// The seat of a processor, which is dealt once.
-    pub(crate) fn seat(&mut self, cpu: usize) -> Result<SeatHandle, Error> {
+    ///
+    /// # Errors
+    /// [`Error::NoMemory`] where memory is out.
+    ///
+    /// # Panics
+    /// Where there is no such processor, or its seat was dealt before. So too below: where the
+    /// call of C is refused.
+    pub fn seat(&mut self, cpu: usize) -> Result<SeatHandle, Error> {
         let mut raw = raw::rcu_seat_t { at: null_mut() };
-        match unsafe { raw::rcu_seat_open(&mut self.0, cpu as u32, &mut raw) } {
+        let number = u32::try_from(cpu).unwrap_or(u32::MAX);
+        match unsafe { raw::rcu_seat_open(&mut self.0, number, &mut raw) } {
             raw::RCU_NO_MEMORY => return Err(Error::NoMemory),
             fault => must("seat", fault),
         }
@@ -60,46 +107,55 @@ impl EngineHandle {
         })
     }
 
-    pub(crate) fn arrive(&mut self, seat: &SeatHandle) {
+    /// The seat's processor comes online.
+    pub fn arrive(&mut self, seat: &SeatHandle) {
         must("arrive", unsafe {
             raw::rcu_arrive(&mut self.0, seat.raw.get())
         });
     }
 
-    pub(crate) fn depart(&mut self, seat: &SeatHandle) {
+    /// The seat's processor goes offline, in no section.
+    pub fn depart(&mut self, seat: &SeatHandle) {
         let mut moved = 0;
         must("depart", unsafe {
             raw::rcu_depart(&mut self.0, seat.raw.get(), &mut moved)
         });
     }
 
-    pub(crate) fn take(&mut self) -> u64 {
+    /// A cookie, which is done once each section that is open now has ended.
+    pub fn take(&mut self) -> u64 {
         unsafe { raw::rcu_take(&mut self.0) }
     }
 
-    pub(crate) fn is_done(&mut self, cookie: u64) -> bool {
+    /// Whether a cookie is done.
+    pub fn is_done(&mut self, cookie: u64) -> bool {
         unsafe { raw::rcu_poll(&mut self.0, cookie) }
     }
 
-    pub(crate) fn begin(&mut self) {
+    /// Begins a grace period. Returns how many processors it awaits.
+    pub fn begin(&mut self) -> u32 {
         let (mut number, mut awaited) = (0, 0);
         must("begin", unsafe {
             raw::rcu_begin(&mut self.0, &mut number, &mut awaited)
         });
+        awaited
     }
 
-    pub(crate) fn end(&mut self) {
+    /// Ends the grace period, which awaits nobody. Returns the new number.
+    pub fn end(&mut self) -> u64 {
         let mut number = 0;
         must("end", unsafe { raw::rcu_end(&mut self.0, &mut number) });
+        number
     }
 
-    pub(crate) fn awaits(&mut self, cpu: usize) -> bool {
+    /// Whether the grace period awaits the processor, as the engine knows by now.
+    pub fn awaits(&mut self, cpu: usize) -> bool {
         unsafe { raw::rcu_awaits(&mut self.0, cpu as u32) }
     }
 
     /// Looks at a processor. Returns whether it is awaited still. (What a collection finds does not
     /// tell: one that woke since the begin is not awaited, and may have passed no quiescent state.)
-    pub(crate) fn is_awaited(&mut self, cpu: usize) -> bool {
+    pub fn is_awaited(&mut self, cpu: usize) -> bool {
         let mut found = 0;
         must("collect", unsafe {
             raw::rcu_collect(&mut self.0, cpu as u32, &mut found)
@@ -115,29 +171,49 @@ impl Drop for EngineHandle {
 }
 
 impl SeatHandle {
-    pub(crate) fn cpu(&self) -> usize {
+    /// The seat's processor.
+    #[inline]
+    pub fn cpu(&self) -> usize {
         self.cpu
     }
 
-    pub(crate) fn enter(&self) {
+    /// Opens a section, or nests one deeper.
+    #[inline]
+    pub fn enter(&self) {
         let mut depth = 0;
         must("enter", unsafe {
             raw::rcu_seat_enter(self.raw.get(), &mut depth)
         });
     }
 
-    pub(crate) fn exit(&self) {
+    /// Leaves the innermost section.
+    #[inline]
+    pub fn exit(&self) {
         let mut depth = 0;
         must("exit", unsafe {
             raw::rcu_seat_exit(self.raw.get(), &mut depth)
         });
     }
 
-    pub(crate) fn is_in_section(&self) -> bool {
+    /// Whether a section is open.
+    #[inline]
+    pub fn is_in_section(&self) -> bool {
         unsafe { raw::rcu_seat_depth(self.raw.get()) > 0 }
     }
 
-    pub(crate) fn quiesce(&self) {
+    /// Passes a quiescent state, with a full fence around it.
+    pub fn quiesce(&self) {
+        let mut number = 0;
+        must("quiescent state", unsafe {
+            raw::rcu_seat_quiesce(self.raw.get(), &mut number)
+        });
+        self.quiet_at.set(number);
+    }
+
+    /// As [`SeatHandle::quiesce`], by a load alone where no grace period began or ended since the
+    /// last one.
+    #[inline]
+    pub fn quiesce_since(&self) {
         let mut number = self.quiet_at.get();
         must("quiescent state", unsafe {
             raw::rcu_seat_quiesce_since(self.raw.get(), &mut number)
@@ -145,21 +221,51 @@ impl SeatHandle {
         self.quiet_at.set(number);
     }
 
-    pub(crate) fn idle(&self) {
+    /// Gets idle: no grace period awaits the processor until it wakes.
+    #[inline]
+    pub fn idle(&self) {
         must("idle", unsafe { raw::rcu_seat_idle(self.raw.get()) });
     }
 
-    pub(crate) fn wake(&self) {
+    /// Wakes, with a full fence behind it.
+    #[inline]
+    pub fn wake(&self) {
         let mut number = 0;
         must("wake", unsafe {
             raw::rcu_seat_wake(self.raw.get(), &mut number)
         });
         self.quiet_at.set(number);
     }
+
+    /// A cookie, as [`EngineHandle::take`], without the engine. A full fence stands before it.
+    #[inline]
+    pub fn take(&self) -> u64 {
+        unsafe { raw::rcu_seat_take(self.raw.get()) }
+    }
+
+    /// Whether a cookie is done, as [`EngineHandle::is_done`], without the engine.
+    #[inline]
+    pub fn is_done(&self, cookie: u64) -> bool {
+        unsafe { raw::rcu_seat_poll(self.raw.get(), cookie) }
+    }
 }
 
 impl Drop for SeatHandle {
     fn drop(&mut self) {
         unsafe { raw::rcu_seat_close(self.raw.get()) };
+    }
+}
+
+impl fmt::Debug for EngineHandle {
+    fn fmt(&self, to: &mut fmt::Formatter<'_>) -> fmt::Result {
+        to.debug_struct("EngineHandle").finish_non_exhaustive()
+    }
+}
+
+impl fmt::Debug for SeatHandle {
+    fn fmt(&self, to: &mut fmt::Formatter<'_>) -> fmt::Result {
+        to.debug_struct("SeatHandle")
+            .field("cpu", &self.cpu)
+            .finish_non_exhaustive()
     }
 }

@@ -14,11 +14,8 @@
 //! let read = Arc::clone(&limits);
 //! let thread = thread::spawn(move || {
 //!     for _ in 0..1000 {
-//!         let guard = reader.enter();
-//!         let (low, high) = read.load(&guard);
+//!         let (low, high) = reader.read(|guard| *read.load(guard));
 //!         assert!(low < high);
-//!         drop(guard);
-//!         reader.quiesce();
 //!     }
 //! });
 //! limits.replace(&engine, (30, 40)); // (10, 20) is deferred to be dropped
@@ -28,6 +25,7 @@
 //! # }
 //! ```
 //!
+//! Who replaces and defers does now and then what is due, and waits for nobody ([`Engine::defer`]).
 //! A program with much to defer has a thread for it ([`Engine::drive`]).
 //!
 //! **What is proved.** The engine: that a cookie is done only where each section that was open at
@@ -40,14 +38,27 @@
 //! done.
 
 #![deny(missing_docs)]
+#![deny(clippy::undocumented_unsafe_blocks)]
 
+#[cfg(not(all(
+    target_arch = "x86_64",
+    target_os = "linux",
+    target_pointer_width = "64"
+)))]
+compile_error!("rcu: the proved library is for Linux on x86-64 alone");
+
+mod deferred;
 mod engine;
-mod handles;
-#[allow(missing_docs)]
+mod error;
+#[allow(clippy::undocumented_unsafe_blocks)] // its head has the reason for all
+pub mod handles;
+mod inner;
+#[allow(missing_docs, clippy::undocumented_unsafe_blocks)]
 pub mod raw;
 mod reader;
 mod shared;
 
-pub use engine::{Engine, Error};
+pub use engine::Engine;
+pub use error::Error;
 pub use reader::{Guard, Reader};
 pub use shared::Shared;

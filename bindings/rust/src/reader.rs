@@ -1,7 +1,9 @@
 //! A thread that reads, and its sections.
 
-use crate::engine::{Engine, Error, Inner};
+use crate::engine::Engine;
+use crate::error::Error;
 use crate::handles::SeatHandle;
+use crate::inner::Inner;
 use std::fmt;
 use std::mem::ManuallyDrop;
 use std::sync::Arc;
@@ -11,7 +13,7 @@ use std::sync::Arc;
 ///
 /// It passes quiescent states ([`Reader::quiesce`]), or is idle or dropped, or no section's end is
 /// ever heard of: what is deferred then waits for good. The same holds of a reader that is
-/// forgotten.
+/// forgotten. [`Reader::read`] passes one behind each section.
 ///
 /// ```
 /// # fn main() -> Result<(), rcu::Error> {
@@ -19,11 +21,12 @@ use std::sync::Arc;
 /// let shared = rcu::Shared::new(&engine, 7);
 /// let mut reader = engine.reader()?;
 /// for _ in 0..3 {
-///     let guard = reader.enter();
-///     assert_eq!(*shared.load(&guard), 7);
-///     drop(guard);
-///     reader.quiesce();
+///     assert_eq!(reader.read(|guard| *shared.load(guard)), 7);
 /// }
+/// let guard = reader.enter(); // the same in steps
+/// assert_eq!(*shared.load(&guard), 7);
+/// drop(guard);
+/// reader.quiesce();
 /// # Ok(())
 /// # }
 /// ```
@@ -57,6 +60,7 @@ use std::sync::Arc;
 /// let mut reader = engine.reader().unwrap();
 /// reader.while_idle(|| drop(reader.enter())); // a section of an idle reader
 /// ```
+#[must_use]
 pub struct Reader {
     inner: Arc<Inner>,
     seat: ManuallyDrop<SeatHandle>,
@@ -99,6 +103,9 @@ pub struct Guard<'reader> {
     reader: &'reader Reader,
 }
 
+/// Passes a quiescent state at its drop, also where its thread panics.
+struct Quiet<'reader>(&'reader mut Reader);
+
 /// Wakes the reader at its drop, also where its thread panics.
 struct Awake<'reader>(&'reader Reader);
 
@@ -115,16 +122,48 @@ impl Reader {
     ///
     /// # Panics
     /// Where 65,535 are open.
+    #[inline]
     pub fn enter(&self) -> Guard<'_> {
         self.seat.enter();
         Guard { reader: self }
     }
 
+    /// Calls the closure in a section, and passes a quiescent state behind it, also where the
+    /// closure panics.
+    ///
+    /// # Panics
+    /// Where the closure does.
+    ///
+    /// ```
+    /// # fn main() -> Result<(), rcu::Error> {
+    /// let engine = rcu::Engine::new(1)?;
+    /// let name = rcu::Shared::new(&engine, String::from("old"));
+    /// let mut reader = engine.reader()?;
+    /// assert_eq!(reader.read(|guard| name.load(guard).len()), 3);
+    /// # Ok(())
+    /// # }
+    /// ```
+    ///
+    /// ```compile_fail
+    /// let engine = rcu::Engine::new(1).unwrap();
+    /// let name = rcu::Shared::new(&engine, String::from("old"));
+    /// let mut reader = engine.reader().unwrap();
+    /// let seen = reader.read(|guard| name.load(guard)); // it outlives the section
+    /// ```
+    #[inline]
+    pub fn read<R>(&mut self, read: impl FnOnce(&Guard<'_>) -> R) -> R {
+        let quiet = Quiet(self);
+        let guard = quiet.0.enter();
+        read(&guard)
+    }
+
     /// Passes a quiescent state: a load, and, where a grace period began or ended since the last
-    /// one, a store and a fence.
+    /// one, a store and a fence. It takes no lock, but for a moment to wake a thread that sleeps
+    /// until this reader is quiet.
+    #[inline]
     pub fn quiesce(&mut self) {
         self.leave_sections();
-        self.seat.quiesce();
+        self.seat.quiesce_since();
         self.inner.was_quiet(self.seat.cpu());
     }
 
@@ -156,6 +195,7 @@ impl Reader {
     }
 
     /// Ends the sections that are open. They are of forgotten guards: no guard borrows the reader.
+    #[inline]
     fn leave_sections(&mut self) {
         while self.seat.is_in_section() {
             self.seat.exit();
@@ -172,6 +212,13 @@ impl Drop for Reader {
     }
 }
 
+impl Drop for Quiet<'_> {
+    #[inline]
+    fn drop(&mut self) {
+        self.0.quiesce();
+    }
+}
+
 impl Drop for Awake<'_> {
     fn drop(&mut self) {
         self.0.seat.wake();
@@ -185,6 +232,7 @@ impl Guard<'_> {
 }
 
 impl Drop for Guard<'_> {
+    #[inline]
     fn drop(&mut self) {
         self.reader.seat.exit();
     }

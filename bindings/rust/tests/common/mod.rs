@@ -4,6 +4,7 @@ use std::sync::atomic::{AtomicUsize, Ordering::SeqCst};
 use std::sync::Arc;
 
 /// Data that counts how many there are, and is seen to be whole.
+#[derive(Debug)]
 pub struct Counted {
     pub value: u64,
     pub twice: u64,

@@ -1,0 +1,291 @@
+//! The engine under its lock, and how its grace periods are made.
+
+use crate::deferred::{is_performing, Deferred, Queue};
+use crate::error::Error;
+use crate::handles::{EngineHandle, SeatHandle};
+use std::sync::atomic::{AtomicBool, AtomicU32, AtomicU64, Ordering::Relaxed, Ordering::SeqCst};
+use std::sync::{Condvar, Mutex, MutexGuard};
+
+/// How often a maker of a grace period looks at the processors before it sleeps.
+const LOOKS: u32 = 100;
+
+/// Where no thread drives, whoever defers makes a step of the engine at each so many, ends so many
+/// grace periods at most in it, and does so much of what is due.
+const EACH: u64 = 16;
+const ENDS: usize = 2;
+const MOST: usize = 64;
+
+/// No code of a caller's runs under the lock.
+const PANICKED: &str = "a thread panicked under the engine's lock";
+
+/// What lies under the lock.
+pub(crate) struct Locked {
+    rcu: EngineHandle,
+    /// The seat of processor 0, which is nobody's, and idle.
+    _boot: SeatHandle,
+    /// Seats that no reader has. Their processors are offline.
+    free: Vec<SeatHandle>,
+    /// Whether a grace period runs, and which processors it awaits.
+    runs: bool,
+    awaited: Vec<usize>,
+    /// Whether a thread makes grace periods, and waits for them.
+    making: bool,
+    /// How many threads drive, and whether they are to return.
+    pub(crate) drivers: usize,
+    pub(crate) stopped: bool,
+    pub(crate) queue: Queue,
+}
+
+/// What an engine's owners share. There is a reader for each seat that is not free, and each reader
+/// owns a part of this: so at the drop all seats are free.
+pub(crate) struct Inner {
+    pub(crate) id: u64,
+    /// Of each processor, whether the maker of a grace period sleeps until it is quiet.
+    wanted: Box<[AtomicBool]>,
+    missing: AtomicU32,
+    locked: Mutex<Locked>,
+    quiet: Condvar,
+    pub(crate) ended: Condvar,
+    pub(crate) queued: Condvar,
+}
+
+impl Locked {
+    fn begin(&mut self, cpus: usize) {
+        let count = self.rcu.begin() as usize;
+        let rcu = &mut self.rcu;
+        let all = (1..cpus).filter(|&it| rcu.awaits(it)).take(count);
+        self.awaited.extend(all);
+        self.runs = true;
+    }
+
+    /// Looks at each processor that is awaited. Returns whether one still is.
+    fn collect(&mut self) -> bool {
+        let rcu = &mut self.rcu;
+        self.awaited.retain(|&it| rcu.is_awaited(it));
+        !self.awaited.is_empty()
+    }
+
+    fn end(&mut self) {
+        self.rcu.end();
+        self.runs = false;
+    }
+
+    /// Goes on with the grace periods that what is deferred waits for, and waits for none.
+    fn step(&mut self, cpus: usize) {
+        let Some(last) = self.queue.last() else {
+            return;
+        };
+        for _ in 0..ENDS {
+            if !self.runs {
+                if self.rcu.is_done(last) {
+                    return;
+                }
+                self.begin(cpus);
+            }
+            if self.collect() {
+                return;
+            }
+            self.end();
+        }
+    }
+}
+
+impl Inner {
+    pub(crate) fn open(readers: u32) -> Result<Inner, Error> {
+        static IDS: AtomicU64 = AtomicU64::new(0);
+        let cpus = readers + 1;
+        let mut rcu = EngineHandle::open(cpus)?;
+        let boot = rcu.seat(0)?;
+        boot.idle();
+        let free = (1..cpus as usize).map(|it| rcu.seat(it));
+        let free = free.collect::<Result<Vec<_>, _>>()?;
+        Ok(Inner {
+            id: IDS.fetch_add(1, Relaxed),
+            wanted: (0..cpus).map(|_| AtomicBool::new(false)).collect(),
+            missing: AtomicU32::new(0),
+            locked: Mutex::new(Locked {
+                rcu,
+                _boot: boot,
+                free,
+                runs: false,
+                awaited: Vec::new(),
+                making: false,
+                drivers: 0,
+                stopped: false,
+                queue: Queue::default(),
+            }),
+            quiet: Condvar::new(),
+            ended: Condvar::new(),
+            queued: Condvar::new(),
+        })
+    }
+
+    pub(crate) fn lock(&self) -> MutexGuard<'_, Locked> {
+        self.locked.lock().expect(PANICKED)
+    }
+
+    /// Sleeps until the condition's next change.
+    pub(crate) fn sleep<'a>(
+        &self,
+        on: &Condvar,
+        locked: MutexGuard<'a, Locked>,
+    ) -> MutexGuard<'a, Locked> {
+        on.wait(locked).expect(PANICKED)
+    }
+
+    /// Whether the maker sleeps for this processor, and for no other one any more. The maker stores
+    /// its wish and then looks at the processor; a reader gets quiet and then looks for the wish.
+    /// All four steps are sequentially consistent, so one of the two sees the other.
+    fn is_last(&self, cpu: usize) -> bool {
+        self.wanted[cpu].load(SeqCst)
+            && self.wanted[cpu].swap(false, SeqCst)
+            && self.missing.fetch_sub(1, SeqCst) == 1
+    }
+
+    /// The processor got quiet or idle. The last one that a sleeping maker waits for takes the lock
+    /// for a moment, to wake it; no other one takes a lock.
+    #[inline]
+    pub(crate) fn was_quiet(&self, cpu: usize) {
+        if self.is_last(cpu) {
+            drop(self.lock());
+            self.quiet.notify_one();
+        }
+    }
+
+    fn sleep_until_quiet<'a>(&self, mut locked: MutexGuard<'a, Locked>) -> MutexGuard<'a, Locked> {
+        for &cpu in &locked.awaited {
+            self.missing.fetch_add(1, SeqCst);
+            self.wanted[cpu].store(true, SeqCst);
+        }
+        let own = &mut *locked;
+        for &cpu in &own.awaited {
+            if !own.rcu.is_awaited(cpu) {
+                self.is_last(cpu);
+            }
+        }
+        while self.missing.load(SeqCst) > 0 {
+            locked = self.sleep(&self.quiet, locked);
+        }
+        locked
+    }
+
+    /// Makes grace periods until the cookie is done, or sleeps while another thread makes one.
+    fn wait_for<'a>(
+        &self,
+        mut locked: MutexGuard<'a, Locked>,
+        cookie: u64,
+    ) -> MutexGuard<'a, Locked> {
+        loop {
+            while locked.making {
+                locked = self.sleep(&self.ended, locked);
+            }
+            if locked.rcu.is_done(cookie) {
+                return locked;
+            }
+            locked.making = true;
+            if !locked.runs {
+                locked.begin(self.wanted.len());
+            }
+            let mut looks = 1;
+            while locked.collect() {
+                if looks % LOOKS == 0 {
+                    locked = self.sleep_until_quiet(locked);
+                }
+                looks += 1;
+            }
+            locked.end();
+            locked.making = false;
+            self.ended.notify_all();
+        }
+    }
+
+    /// Waits until each section that is open now has ended.
+    pub(crate) fn synchronize(&self) {
+        let mut locked = self.lock();
+        let cookie = locked.rcu.take();
+        drop(self.wait_for(locked, cookie));
+    }
+
+    /// Puts it behind all that is deferred, and does now and then what is due.
+    pub(crate) fn defer(&self, what: Deferred) {
+        let mut locked = self.lock();
+        let cookie = locked.rcu.take();
+        locked.queue.push(cookie, what);
+        self.queued.notify_one();
+        let is_time = locked.queue.queued() % EACH == 0;
+        if is_time && locked.drivers == 0 && !is_performing() {
+            if !locked.making {
+                locked.step(self.wanted.len());
+            }
+            self.perform(locked, MOST);
+        }
+    }
+
+    /// Does what may be done by now, so much at most, with the lock let go. Returns how much.
+    fn perform(&self, mut locked: MutexGuard<'_, Locked>, most: usize) -> usize {
+        let own = &mut *locked;
+        let batch = own.queue.take(most, |cookie| own.rcu.is_done(cookie));
+        let count = batch.len();
+        drop(locked);
+        let batch = batch.perform();
+        self.lock().queue.finish(batch);
+        self.ended.notify_all();
+        count
+    }
+
+    /// Waits for all that is deferred by now, and does it. Returns how many there were.
+    pub(crate) fn run_deferred(&self) -> usize {
+        let locked = self.lock();
+        match locked.queue.last() {
+            Some(cookie) => self.perform(self.wait_for(locked, cookie), usize::MAX),
+            None => 0,
+        }
+    }
+
+    /// A seat whose processor is online from now on.
+    pub(crate) fn seat(&self) -> Result<SeatHandle, Error> {
+        let mut locked = self.lock();
+        let seat = locked.free.pop().ok_or(Error::AllTaken)?;
+        locked.rcu.arrive(&seat);
+        Ok(seat)
+    }
+
+    /// The seat's processor departs, in no section. The next reader gets the seat.
+    pub(crate) fn give_back(&self, seat: SeatHandle) {
+        let mut locked = self.lock();
+        locked.rcu.depart(&seat);
+        if self.is_last(seat.cpu()) {
+            self.quiet.notify_one();
+        }
+        locked.free.push(seat);
+    }
+}
+
+/// Does all that is deferred, before the engine goes with its seats: no reader is there any more,
+/// and nobody who could defer more.
+impl Drop for Inner {
+    fn drop(&mut self) {
+        self.run_deferred();
+    }
+}
+
+#[cfg(test)]
+mod tests {
+    use crate::{Engine, Shared};
+
+    /// (A thread that took a lock which it has would wait for ever.)
+    #[test]
+    fn a_reader_takes_no_lock() {
+        let engine = Engine::new(1).unwrap();
+        let shared = Shared::new(&engine, 7);
+        let mut reader = engine.reader().unwrap();
+        let locked = engine.inner.lock();
+        for _ in 0..100 {
+            assert_eq!(*shared.load(&reader.enter()), 7);
+            assert_eq!(reader.read(|guard| *shared.load(guard)), 7);
+            reader.quiesce();
+            reader.while_idle(|| ());
+        }
+        drop(locked);
+    }
+}
