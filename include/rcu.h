@@ -35,10 +35,10 @@
  * its loads give what that stored, or what was stored later. The notes say what each call adds to
  * the lock; docs/C.md says it together.
  *
- * Seven calls make a full fence, which this header adds: rcu_end, rcu_turn, rcu_arrive,
- * rcu_seat_quiesce, rcu_seat_wake, rcu_seat_take and rcu_seat_poll. The archive has them without
- * it, under their names with _unfenced behind, and has no call of the plain names. A note says what
- * is lost with the fence; all else that it says holds of both.
+ * Eight calls make a full fence, which this header adds: rcu_end, rcu_turn, rcu_arrive,
+ * rcu_seat_quiesce, rcu_seat_quiesce_since, rcu_seat_wake, rcu_seat_take and rcu_seat_poll. The
+ * archive has them without it, under their names with _unfenced behind, and has no call of the plain
+ * names. A note says what is lost with the fence; all else that it says holds of both.
  */
 #ifndef RCU_H
 #define RCU_H

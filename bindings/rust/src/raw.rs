@@ -174,7 +174,7 @@ pub unsafe fn rcu_open(cpus: u32, last: u64, rcu: *mut rcu_t) -> u32 {
     rcu_open_as(cpus, last, identity, rcu)
 }
 
-// The archive makes no fence: around seven calls the header does, and here these functions do.
+// The archive makes no fence: around eight calls the header does, and here these functions do.
 
 /// As in the header.
 ///
