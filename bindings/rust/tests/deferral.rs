@@ -7,7 +7,7 @@ use rcu::{Engine, Shared};
 use std::cell::Cell;
 use std::sync::atomic::{AtomicBool, AtomicUsize, Ordering::SeqCst};
 use std::sync::{Arc, Barrier, Mutex};
-use std::thread::{self, ThreadId};
+use std::thread;
 
 /// More than is kept at any time where no section is long.
 const KEPT: usize = 64;
@@ -67,32 +67,34 @@ fn what_a_section_may_read_is_kept_and_the_rest_done_once_it_ended() {
     }
 }
 
+thread_local! {
+    static DEFERS: Cell<bool> = const { Cell::new(false) };
+}
+
 #[test]
-fn a_thread_that_drives_does_all_of_it() {
+fn where_a_thread_drives_no_other_one_does_any_of_it() {
     let engine = Engine::new(1).unwrap();
-    let by: Arc<Mutex<Vec<ThreadId>>> = Arc::default();
-    let called = Arc::new(Barrier::new(2));
+    let (drives, done) = (Arc::new(Barrier::new(2)), none_alive());
     thread::scope(|scope| {
         let driver = scope.spawn(|| engine.drive());
-        let first = Arc::clone(&called);
+        let first = Arc::clone(&drives);
         engine.defer(move || {
             first.wait();
         });
-        called.wait(); // it drives
+        drives.wait();
+        DEFERS.set(true);
         for _ in 0..1000 {
-            let by = Arc::clone(&by);
-            engine.defer(move || by.lock().unwrap().push(thread::current().id()));
+            let done = Arc::clone(&done);
+            engine.defer(move || {
+                done.fetch_add(usize::from(!DEFERS.get()), SeqCst);
+            });
         }
+        DEFERS.set(false);
         engine.barrier();
         engine.stop();
-        let id = driver.thread().id();
         driver.join().unwrap();
-        let by = by.lock().unwrap();
-        // (The barrier helps.)
-        let mine = thread::current().id();
-        assert!(by.len() == 1000 && by.iter().all(|&it| it == id || it == mine));
     });
-    assert!(!by.is_poisoned());
+    assert_eq!(done.load(SeqCst), 1000);
 }
 
 #[test]

@@ -44,6 +44,7 @@ fn a_slot_changes_only_where_it_has_what_was_compared() {
     assert_eq!(shared.load(&guard).value, 1);
     let old = shared.compare_exchange(&engine, first, new).unwrap();
     assert_eq!((old.value, shared.load(&guard).value), (1, 2));
+    drop(old); // the section reads it still
     let late = Arc::new(Counted::new(3, &alive));
     assert!(shared.compare_exchange(&engine, first, late).is_err());
     assert_eq!((first.twice, alive.load(SeqCst)), (2, 3));
