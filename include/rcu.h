@@ -18,10 +18,10 @@
  *   longjmp), and make no call on the handles of the call that they serve.
  * - "Needs" names what else must hold.
  *
- * A call whose note lists faults returns 0, or the number of the first of them that holds. A
- * refused call leaves its handles and what its pointers point to as they were; where a note says
- * otherwise, it says what stays. No call waits for another thread, and only those that list fault 16
- * take memory.
+ * A call that returns a uint32_t without a word on it in its note returns 0, or the number of a
+ * fault: of several that hold the first one that its note lists. A refused call leaves its handles
+ * and what its pointers point to as they were; where a note says otherwise, it says what stays. No
+ * call waits for another thread, and only those that list fault 16 take memory.
  *
  * Each call looks first whether its handles are open, and of the kind that it is for: the engine's,
  * and then the seat's. It is refused by 27 where one is closed, as all zero bits are, and by 28 where

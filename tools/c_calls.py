@@ -129,11 +129,20 @@ def faults_of(call):
     return []
 
 
+def returns_fault(call):
+    """Whether it returns 0 or a fault: that of a handle, where its doc comment lists none."""
+    places = [kind for _, kind in call.parameters() if kind.startswith("&mut ")]
+    return bool(faults_of(call)) or (call.result() == "u32" and len(places) > 1)
+
+
 class Fence:
     """Where the fence stands: before the export, behind it, or behind it where this holds."""
 
     def __init__(self, call):
         said = [it for it in call.paragraphs if it.startswith("Fence: ")]
+        if bool(said) != call.name.endswith(UNFENCED):
+            raise ValueError(f"{call.name}: a paragraph 'Fence: ..' and a name with {UNFENCED} go "
+                             "together")
         text = said[0] if said else ""
         self.before, self.behind = "before" in text, "behind" in text
         self.changed = re.search(r"where `(\w+)` changed", text)
@@ -151,8 +160,12 @@ class Fence:
 
 def filled(head, parameters, tail):
     """A head with its parameters, over several lines where one is too short."""
-    line = f"{head}({', '.join(parameters)}){tail}"
-    return textwrap.fill(line, WIDTH, subsequent_indent="    ", break_long_words=False)
+    rows = [f"{head}("]
+    for it in [*(f"{it}, " for it in parameters[:-1]), f"{parameters[-1]}){tail}"]:
+        if len(rows[-1] + it) > WIDTH:
+            rows = [*rows[:-1], rows[-1].rstrip(), " " * (len(head) + 1)]
+        rows[-1] += it
+    return "\n".join(rows)
 
 
 def note(paragraphs, first="/* "):
@@ -235,8 +248,8 @@ def fenced_in_c(library, call):
 
 def call_in_c(library, call):
     """A call with its note; behind one that the header fences stands its function."""
-    rows = [note(call.paragraphs), prototype(library, call, call.name)]
-    if call.name.endswith(UNFENCED):
+    rows, fence = [note(call.paragraphs), prototype(library, call, call.name)], Fence(call)
+    if fence.before or fence.behind:
         rows.append(fenced_in_c(library, call))
     return "\n".join(rows)
 

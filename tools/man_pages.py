@@ -57,7 +57,7 @@ def pages(library, header, overview):
             name = call.name.removesuffix(c_calls.UNFENCED)
             names = list(dict.fromkeys([name, call.name]))
             faults = c_calls.faults_of(call)
-            if faults:
+            if c_calls.returns_fault(call):
                 faults = [numbers["RCU_CLOSED"], numbers["RCU_OTHER_KIND"], *faults]
             rows = [c_calls.prototype(library, call, it).replace("\n", "\n.B ") for it in names]
             yield f"{name}.3", page(title, names, rows, [*call.paragraphs, *head],
