@@ -18,10 +18,10 @@
  *   longjmp), and make no call on the handles of the call that they serve.
  * - "Needs" names what else must hold.
  *
- * A call that returns a uint32_t without a note of its own returns 0, or the number of a fault. Of
- * several faults that hold it returns the first one that its note lists. A refused call leaves its
- * handles and what its pointers point to as they were; where a note says otherwise, it says what
- * stays. No call waits for another thread, and only those that list fault 16 take memory.
+ * A call that returns a uint32_t without a word on it in its note returns 0, or the number of a
+ * fault: of several that hold the first one that its note lists. A refused call leaves its handles
+ * and what its pointers point to as they were; where a note says otherwise, it says what stays. No
+ * call waits for another thread, and only those that list fault 16 take memory.
  *
  * Each call looks first whether its handles are open, and of the kind that it is for: the engine's,
  * and then the seat's. It is refused by 27 where one is closed, as all zero bits are, and by 28 where
@@ -35,10 +35,9 @@
  * its loads give what that stored, or what was stored later. The notes say what each call adds to
  * the lock; docs/C.md says it together.
  *
- * Eight calls make a full fence, which this header adds: rcu_end, rcu_turn, rcu_arrive,
- * rcu_seat_quiesce, rcu_seat_quiesce_since, rcu_seat_wake, rcu_seat_take and rcu_seat_poll. The
- * archive has them without it, under their names with _unfenced behind, and has no call of the plain
- * names. A note says what is lost with the fence; all else that it says holds of both.
+ * "Fence" says where a call makes a full fence, which this header adds. The archive has the call
+ * without it, under its name with _unfenced behind, and no call of the plain name. A note says what
+ * is lost without the fence ("unfenced"); all else that it says holds of both.
  */
 #ifndef RCU_H
 #define RCU_H
@@ -61,27 +60,29 @@ extern "C" {
 #define RCU_VERSION_PATCH 0
 #define RCU_VERSION (RCU_VERSION_MAJOR * 1000000 + RCU_VERSION_MINOR * 1000 + RCU_VERSION_PATCH)
 
+/* >>> types: written by tools/write_calls */
+
 /* Why a call is refused. */
 enum rcu_fault {
-    RCU_BAD_CPU = 1,         /* there is no such processor */
+    RCU_BAD_CPU = 1,         /* there is no processor of this number */
     RCU_OFFLINE = 2,         /* the processor is offline */
-    RCU_ALREADY_ONLINE = 3,  /* the processor is online */
+    RCU_ALREADY_ONLINE = 3,  /* the processor is online already */
     RCU_IN_SECTION = 4,      /* a read section is open on the processor */
     RCU_NOT_OPEN = 5,        /* no read section is open on the processor */
-    RCU_NEST_FULL = 6,       /* the read section nests 65,535 deep */
-    RCU_RUNNING = 8,         /* a grace period runs */
+    RCU_NEST_FULL = 6,       /* the read section nests 65,535 deep already */
+    RCU_RUNNING = 8,         /* a grace period runs already */
     RCU_IDLE = 9,            /* no grace period runs */
     RCU_WAITING = 10,        /* a processor is still awaited */
-    RCU_EXHAUSTED = 11,      /* the number is the last one */
+    RCU_EXHAUSTED = 11,      /* the grace-period number is the last one */
     RCU_BOOT_STAYS = 12,     /* processor 0 never departs */
-    RCU_BARRIER_BUSY = 13,   /* a barrier runs */
+    RCU_BARRIER_BUSY = 13,   /* a barrier runs already */
     RCU_NO_BARRIER = 14,     /* no barrier runs */
-    RCU_CALLBACKS_FULL = 15, /* 2^62 callbacks were queued since opening */
+    RCU_CALLBACKS_FULL = 15, /* as many callbacks were queued as the opening allows */
     RCU_NO_MEMORY = 16,      /* out of memory */
-    RCU_TOO_MANY_CPUS = 17,  /* no processor, or more than 4,096 */
-    RCU_BAD_LAST = 19,       /* the last number is no multiple of 4 from 4 to 2^62 */
+    RCU_TOO_MANY_CPUS = 17,  /* there is no processor, or there are more than the engine holds */
+    RCU_BAD_LAST = 19,       /* the last number is not a multiple of 4 from 4 to 2^62 */
     RCU_CPU_IDLE = 23,       /* the processor is idle */
-    RCU_NOT_IDLE = 24,       /* the processor is awake */
+    RCU_NOT_IDLE = 24,       /* the processor is not idle */
     RCU_SEAT_DEALT = 25,     /* the seat of the processor is dealt */
     RCU_OTHER_ENGINE = 26,   /* the seat is of another engine */
     RCU_CLOSED = 27,         /* the handle is closed, or was never opened */
@@ -119,51 +120,55 @@ static inline const char *rcu_fault_text(uint32_t fault) {
     }
 }
 
-/* The engine, which lies under a lock of the caller's. Handles may pass between threads. */
+/* What a turn did. */
+enum rcu_turned {
+    RCU_TURN_NOTHING = 0, /* no grace period runs, and none is needed */
+    RCU_TURN_BEGUN = 1,   /* a grace period of this number began, and awaits this many processors */
+    RCU_TURN_ENDED = 2,   /* the grace period ended, and this is the number now */
+    RCU_TURN_WAITING = 3  /* the grace period goes on, and awaits this many processors */
+};
+
+/* What a collection found. */
+enum rcu_collected {
+    RCU_COLLECTED_IDLE = 0,    /* no grace period runs */
+    RCU_COLLECTED_NOT_YET = 1, /* the processor did not pass a quiescent state in the running grace
+                                * period yet */
+    RCU_COLLECTED_TAKEN = 2,   /* the processor was awaited, and others still are */
+    RCU_COLLECTED_LAST = 3,    /* the processor was the only one awaited */
+    RCU_COLLECTED_REPEAT = 4   /* the processor is not awaited */
+};
+
+/* What a visit did. */
+enum rcu_visited {
+    RCU_VISIT_MARKED = 0, /* it put a marker behind the processor's list */
+    RCU_VISIT_EMPTY = 1,  /* the processor's list was empty */
+    RCU_VISIT_ALREADY = 2 /* the barrier had visited the processor already */
+};
+
+/* An engine's handle, which lies under a lock of the caller's. Handles may pass between threads. */
 typedef struct rcu {
     unsigned char *at;
 } rcu_t;
 
-/* The seat of one processor, for one thread at a time, beside all other handles. */
+/* A seat's handle: of one processor, for one thread at a time, beside all other handles. */
 typedef struct rcu_seat {
     unsigned char *at;
 } rcu_seat_t;
 
-/* What tells an engine from any other; its seats have it too. */
+/* What tells an engine from any other: who opens it gives it, and its seats have it too. */
 typedef struct rcu_identity {
-    uint64_t place;
-    uint64_t count;
+    uint64_t place; /* who counts: no two that count have the same */
+    uint64_t count; /* which of the engines that were opened there it is */
 } rcu_identity_t;
 
 /* What a turn did. */
-enum rcu_turned {
-    RCU_TURN_NOTHING = 0, /* no grace period runs, and none is needed */
-    RCU_TURN_BEGUN = 1,   /* a grace period began */
-    RCU_TURN_ENDED = 2,   /* the grace period ended */
-    RCU_TURN_WAITING = 3  /* it awaits a processor */
-};
-
-typedef struct rcu_turned_to {
+typedef struct rcu_turn {
     uint32_t what;    /* an rcu_turned */
     uint32_t awaited; /* how many processors are awaited, where it began one or waits; else 0 */
     uint64_t number;  /* the number, where a grace period began or ended; else 0 */
 } rcu_turn_t;
 
-/* What a collection found. */
-enum rcu_collected {
-    RCU_COLLECTED_IDLE = 0,    /* no grace period runs */
-    RCU_COLLECTED_NOT_YET = 1, /* the processor passed no quiescent state in it yet */
-    RCU_COLLECTED_TAKEN = 2,   /* it was awaited, and others still are */
-    RCU_COLLECTED_LAST = 3,    /* it was the only one awaited */
-    RCU_COLLECTED_REPEAT = 4   /* it is not awaited */
-};
-
-/* What a barrier's visit did. */
-enum rcu_visited {
-    RCU_VISIT_MARKED = 0, /* a marker stands behind its callbacks */
-    RCU_VISIT_EMPTY = 1,  /* it has no callback */
-    RCU_VISIT_ALREADY = 2 /* it was visited before */
-};
+/* <<< */
 
 /* ---- the full fence */
 
@@ -206,34 +211,32 @@ void __tsan_acquire(void *place);
 #define RCU_SANITIZER_ACQUIRE(place) ((void)(place))
 #endif
 
+/* >>> calls: written by tools/write_calls from the doc comments of crates/rcu_c */
+
+/* The calls that make a full fence: rcu_end, rcu_turn, rcu_arrive, rcu_seat_quiesce,
+ * rcu_seat_quiesce_since, rcu_seat_wake, rcu_seat_take, rcu_seat_poll. */
+
 /* ---- opening and closing */
 
-/* Opens an engine of 1 to 4,096 processors at number 0, of which 0 alone is online. No grace period
- * begins at `last`, a multiple of 4 from 4 to 2^62. Needs: `rcu` is closed. 17, 19, 16.
- * An engine takes no seat of another one (26): it compares identities. rcu_open makes one that no
- * other engine of the process has, of a counter and the place of that. Who calls rcu_open_as, as a
- * program in another language does, gives each engine one of its own. */
+/* Opens an engine of 1 to 4,096 processors at number 0. Processor 0 alone is online, no callback is
+ * queued, and no seat is dealt. No grace period begins at `last`, a multiple of 4 from 4 to 2^62.
+ * Needs: `rcu` is closed.
+ * The identity is one that no other engine of the process has: an engine takes no seat of another
+ * one (26), and compares identities for that. rcu_open makes it, of a counter and the place of
+ * that. A program in another language makes its own.
+ * Faults: 17 for no processor or more than 4,096; 19 where `last` is no such number; 16. */
 uint32_t rcu_open_as(uint32_t cpus, uint64_t last, rcu_identity_t identity, rcu_t *rcu);
-static inline uint32_t rcu_open(uint32_t cpus, uint64_t last, rcu_t *rcu) {
-#ifdef __cplusplus
-    static std::atomic<std::uint64_t> opened(0);
-    rcu_identity_t identity = {reinterpret_cast<std::uintptr_t>(&opened), opened.fetch_add(1)};
-#else
-    static _Atomic uint64_t opened;
-    rcu_identity_t identity = {(uintptr_t)&opened, atomic_fetch_add(&opened, 1)};
-#endif
-    return rcu_open_as(cpus, last, identity, rcu);
-}
 
 /* Closes an engine, and frees all that it has; values that are still queued are not handed out.
  * Seats that are open go on, and are closed in turn. Of a handle that is no open engine's it does
  * nothing. Needs: `rcu` is under the caller's lock. */
 void rcu_close(rcu_t *rcu);
 
-/* Deals the seat of a processor; each has one. Of processor 0 it is online at first, of any other
+/* Deals the seat of a processor; each has one. That of processor 0 is online at first, any other
  * offline; one that was handed back is as it was then. Processor 0 is awaited like any other: where
- * no thread reads on it, make its seat idle once. Needs: `rcu` is under the caller's lock, and `seat`
- * is closed. 1, 25, 16. */
+ * no thread reads on it, make its seat idle once. Needs: `rcu` is under the caller's lock, and
+ * `seat` is closed.
+ * Faults: 1 where there is no such processor; 25 where its seat is dealt; 16. */
 uint32_t rcu_seat_open(rcu_t *rcu, uint32_t cpu, rcu_seat_t *seat);
 
 /* Whether rcu_seat_open can deal the seat of the processor: there is such a processor, and its seat
@@ -243,83 +246,94 @@ bool rcu_has_seat(rcu_t *rcu, uint32_t cpu);
 
 /* Hands a seat back to its engine, which can deal it again, and closes it: for a thread that ends.
  * Its processor stays as it is: depart first, or, where it is processor 0, make it idle. Else each
- * grace period waits until another thread has the seat. Needs: `rcu` is under the caller's lock, and
- * `seat` is in no other call. 26. */
+ * grace period waits until another thread has the seat. Needs: `rcu` is under the caller's lock,
+ * and `seat` is in no other call.
+ * Fault 26: the seat is of another engine. */
 uint32_t rcu_seat_return(rcu_t *rcu, rcu_seat_t *seat);
 
-/* Closes a seat, which its engine does not deal again: for when the engine goes. Its processor stays
- * as it is: one that is online is awaited by each grace period that begins, for good. Of a handle
- * that is no open seat's it does nothing. */
+/* Closes a seat, which its engine does not deal again: for when the engine goes. Its processor
+ * stays as it is: one that is online is awaited by each grace period that begins, for good. Of a
+ * handle that is no open seat's it does nothing. */
 void rcu_seat_close(rcu_seat_t *seat);
 
 /* ---- grace periods: `rcu` is under the caller's lock */
 
 /* Begins a grace period: stores its number, and then looks at each processor. It awaits those that
  * are online, are not idle, and did not pass a quiescent state in between. Writes the number, and
- * how many it awaits. 8, 11.
+ * how many it awaits.
  * Of each section one of two holds: all of it comes before what follows the end of this grace
- * period, or it sees what came before this call. */
+ * period, or it sees what came before this call.
+ * Faults: 8 where one runs; 11 where the number is the last one. */
 uint32_t rcu_begin(rcu_t *rcu, uint64_t *number, uint32_t *awaited);
 
-/* Ends the grace period. Writes the new number. 9, 10.
+/* Ends the grace period. Writes the new number.
  * What a thread stored before an rcu_seat_poll that found the number below the new one is seen by
  * what follows this call: so a waiter that stores a wish to be woken, and then polls, is found. The
  * same holds of rcu_seat_take and rcu_seat_quiesce. Unfenced, it is sure to be seen by sequentially
- * consistent loads alone. */
+ * consistent loads alone.
+ * Faults: 9 where none runs; 10 where a processor is awaited.
+ * Fence: behind. */
 uint32_t rcu_end_unfenced(rcu_t *rcu, uint64_t *number);
 static inline uint32_t rcu_end(rcu_t *rcu, uint64_t *number) {
-    uint32_t fault = rcu_end_unfenced(rcu, number);
+    uint32_t result = rcu_end_unfenced(rcu, number);
     rcu_fence();
-    return fault;
+    return result;
 }
 
 /* Ends the grace period where nobody is awaited; begins one where none runs and a tended callback
- * waits for it. Writes what it did. 11.
- * It orders what rcu_begin or rcu_end orders. */
+ * waits for it. Writes what it did.
+ * It orders what rcu_begin or rcu_end orders.
+ * Fault 11: one would begin, and the number is the last one.
+ * Fence: behind. */
 uint32_t rcu_turn_unfenced(rcu_t *rcu, rcu_turn_t *turn);
 static inline uint32_t rcu_turn(rcu_t *rcu, rcu_turn_t *turn) {
-    uint32_t fault = rcu_turn_unfenced(rcu, turn);
+    uint32_t result = rcu_turn_unfenced(rcu, turn);
     rcu_fence();
-    return fault;
+    return result;
 }
 
 /* Looks whether the processor passed a quiescent state in the grace period, or is offline or idle,
- * and then awaits it no more. Writes an rcu_collected. 1.
+ * and then awaits it no more. Writes an rcu_collected.
  * Where it finds one, the departure or the idleness, what the thread did before that comes before
  * what follows this call; so too where a begin finds it.
  * A processor that was idle at the begin and woke since is found "not yet", and is not awaited:
- * whether one is awaited, rcu_awaits tells. */
+ * whether one is awaited, rcu_awaits tells.
+ * Fault 1: there is no such processor. */
 uint32_t rcu_collect(rcu_t *rcu, uint32_t cpu, uint32_t *found);
 
-/* ---- processors: `rcu` is under the caller's lock, and `seat` is in no other call */
+/* ---- processors that come and go: `rcu` is under the caller's lock, and `seat` is in no other
+ * call */
 
-/* The seat's processor comes online. 26, 3.
+/* The seat's processor comes online.
  * A section may open once it returns. A grace period that begins later awaits the processor. Of one
  * that runs already the section sees what came before its begin, and what a thread did before it
  * took a cookie that is done at its end. Unfenced, what came before an rcu_seat_take is sure to be
- * seen by sequentially consistent loads alone. */
+ * seen by sequentially consistent loads alone.
+ * Faults: 26 where the seat is of another engine; 3 where the processor is online.
+ * Fence: behind. */
 uint32_t rcu_arrive_unfenced(rcu_t *rcu, rcu_seat_t *seat);
 static inline uint32_t rcu_arrive(rcu_t *rcu, rcu_seat_t *seat) {
-    uint32_t fault = rcu_arrive_unfenced(rcu, seat);
+    uint32_t result = rcu_arrive_unfenced(rcu, seat);
     rcu_fence();
-    return fault;
+    return result;
 }
 
 /* The seat's processor goes offline, and its callbacks move to processor 0, at a step for each.
- * Writes how many. 26, 12, 4, 2 (where it was offline, and has no callback), 16. At 2 nothing has
- * changed that a call tells. At 16 the processor is offline, and its callbacks stay: the same call
- * again moves them.
+ * Writes how many.
  * What the thread did before comes before what follows the collection or the begin that finds it
- * offline. */
+ * offline.
+ * Faults: 26 where the seat is of another engine; 12 for processor 0; 4 where a section is open; 2
+ * where it was offline and has no callback; 16. At 2 nothing has changed that a call tells. At 16
+ * the processor is offline, and its callbacks stay: the same call again moves them. */
 uint32_t rcu_depart(rcu_t *rcu, rcu_seat_t *seat, uint64_t *moved);
 
-/* ---- what an engine says of itself: `rcu` is under the caller's lock. What is no open engine has no
- * processor, and its number is 0. */
+/* ---- what an engine says of itself: `rcu` is under the caller's lock. What is no open engine has
+ * no processor, and its number is 0. */
 
-/* How many processors it has. */
+/* How many processors the engine has. */
 uint32_t rcu_cpus(rcu_t *rcu);
 
-/* The number: 4 for each grace period that ended, and 1 more while one runs. */
+/* The grace-period number: 4 for each grace period that ended, and 1 more while one runs. */
 uint64_t rcu_number(rcu_t *rcu);
 
 /* Whether a grace period runs. */
@@ -334,155 +348,192 @@ bool rcu_awaits(rcu_t *rcu, uint32_t cpu);
 /* How many processors are awaited. */
 uint32_t rcu_awaited(rcu_t *rcu);
 
-/* A cookie: the number at which a grace period that begins from now on has ended. It asks for none:
- * somebody begins one (rcu_begin, or rcu_turn where a tended callback waits). UINT64_MAX, which is
- * done nowhere, where `rcu` is no open engine's. */
+/* Takes a cookie: the number at which a grace period that begins from now on has ended. It asks for
+ * none: somebody begins one (rcu_begin, or rcu_turn where a tended callback waits). 2^64 - 1, which
+ * is done nowhere, where `rcu` is no open engine's. */
 uint64_t rcu_take(rcu_t *rcu);
 
-/* Whether the number has reached the cookie's: then each section that was open at the taking has
- * ended. Of a number that no taking gave nothing is said but that. False where `rcu` is no open
- * engine's.
+/* Whether a cookie is done: the number has reached it. Then each section that was open at the
+ * taking has ended. Of a number that no taking gave nothing is said but that. False where `rcu` is
+ * no open engine's.
  * Where it returns true, of each section one of two holds: all of it comes before what follows this
  * call, or it sees what the thread that took did before it took. */
 bool rcu_poll(rcu_t *rcu, uint64_t cookie);
 
 /* ---- callbacks, which are values of 64 bits: `rcu` is under the caller's lock */
 
-/* Queues a value on an online processor. Writes how many were queued since opening. 1, 2, 15, 16.
- * A list keeps the room that it ever had, until rcu_shrink or rcu_close.
+/* Queues a value on an online processor. Writes how many were queued since opening. A list keeps
+ * the room that it ever had, until rcu_shrink or rcu_close.
  * Of each section one of two holds: all of it comes before what follows the rcu_run that hands the
- * value out, or it sees what the thread did before this call. */
+ * value out, or it sees what the thread did before this call.
+ * Faults: 1 where there is no such processor; 2 where it is not online; 15 where 2^62 were queued;
+ * 16. */
 uint32_t rcu_queue(rcu_t *rcu, uint32_t cpu, uint64_t value, uint64_t *place);
 
 /* Sets what the processor's callbacks wait for, and which are done: to be called after queueing, so
  * that a turn begins a grace period for them, and after its end. Writes how many are done and how
- * many wait. 1. */
+ * many wait.
+ * Fault 1: there is no such processor. */
 uint32_t rcu_tend(rcu_t *rcu, uint32_t cpu, uint64_t *done, uint64_t *waiting);
 
 /* Hands out done callbacks of the processor, in order, `room` at most: writes their values from
  * `values` on, where there is room for so many, and how many; what lies behind them stays. A full
- * grace period has passed since each was queued, and none is handed out again. 1, 16 (only where
- * there is one). */
+ * grace period has passed since each was queued, and none is handed out again.
+ * Faults: 1 where there is no such processor; 16, only where there is a callback to hand out. */
 uint32_t rcu_run(rcu_t *rcu, uint32_t cpu, uint64_t *values, size_t room, uint64_t *count);
 
-/* Gives back the memory that the processor's list does not need, at a step for each item that stays.
- * Writes for how many items, callbacks and markers, it has room then: for none where it is empty.
- * 1. */
+/* Gives back the memory that the processor's list does not need, at a step for each item that
+ * stays. Writes for how many items, callbacks and markers, it has room then: for none where it is
+ * empty.
+ * Fault 1: there is no such processor. */
 uint32_t rcu_shrink(rcu_t *rcu, uint32_t cpu, uint64_t *room);
 
 /* ---- the barrier over callbacks: `rcu` is under the caller's lock */
 
-/* Begins a barrier. 13. */
+/* Begins a barrier.
+ * Fault 13: one runs. */
 uint32_t rcu_barrier_begin(rcu_t *rcu);
 
 /* The barrier visits a processor, as it has to visit each, also those offline. Writes an
- * rcu_visited. 1, 14, 16 (only where it would mark). */
+ * rcu_visited.
+ * Faults: 1 where there is no such processor; 14 where none runs; 16, only where it would mark. */
 uint32_t rcu_barrier_visit(rcu_t *rcu, uint32_t cpu, uint32_t *did);
 
 /* Tests the barrier. Writes how many markers and unvisited processors are left; at 0 it is over,
- * and each callback that was queued before it began was handed out. 14.
+ * and each callback that was queued before it began was handed out.
  * Handed out is not processed: what is done with a value comes before what follows this call where
  * it is done under the lock under which rcu_run handed the value out. Else the caller counts what
- * was processed, and waits for that too. */
+ * was processed, and waits for that too.
+ * Fault 14: none runs. */
 uint32_t rcu_barrier_test(rcu_t *rcu, uint64_t *left);
 
-/* ---- a thread by its seat, with no lock, beside all calls on other handles */
+/* ---- a thread by its seat, with no lock, beside all calls on other handles. No call here waits or
+ * takes memory. */
 
-/* The seat's processor. UINT32_MAX, which is none, where `seat` is no open seat's. */
+/* The seat's processor. 2^32 - 1, which is none, where `seat` is no open seat's. */
 uint32_t rcu_seat_cpu(rcu_seat_t *seat);
 
-/* How deep its read sections nest: 0 where none is open, also where `seat` is no open seat's. */
+/* How deep the read sections of the seat nest: 0 where none is open, also where `seat` is no open
+ * seat's. */
 uint32_t rcu_seat_depth(rcu_seat_t *seat);
 
-/* Whether its processor is online, be it awake or idle. False where `seat` is no open seat's. */
+/* Whether the seat's processor is online, be it awake or idle. False where `seat` is no open
+ * seat's. */
 bool rcu_seat_is_online(rcu_seat_t *seat);
 
-/* Whether its processor is idle. False where `seat` is no open seat's. */
+/* Whether the seat's processor is idle. False where `seat` is no open seat's. */
 bool rcu_seat_is_idle(rcu_seat_t *seat);
 
-/* Opens a read section, or nests one deeper in the open one. Writes the depth. 2, 23, 6. */
+/* Opens a read section by one load, or nests one deeper in the open one by none. Writes the depth.
+ * Faults: 2 where the processor is offline; 23 where it is idle; 6 where the depth is 65,535. */
 uint32_t rcu_seat_enter(rcu_seat_t *seat, uint32_t *depth);
 
-/* Leaves the innermost section. Writes the depth, 0 where the section closed. 5.
+/* Leaves the innermost section. Writes the depth: 0 where one load closed the section.
  * Neither this nor rcu_seat_enter orders what the thread stores: what a section did comes before
- * the next quiescent state or departure. */
+ * the next quiescent state or departure.
+ * Fault 5: no section is open. */
 uint32_t rcu_seat_exit(rcu_seat_t *seat, uint32_t *depth);
 
-/* Passes a quiescent state: what the thread read before, it uses no more. Writes the number that it
- * saw. 2, 23, 4.
+/* Passes a quiescent state, by one load and one store: what the thread read before, it uses no
+ * more. Writes the number that it saw.
  * What the thread did before comes before what follows the collection or the begin that finds this
  * call. The sections that follow see what came before a begin whose number it saw, and what a
  * thread did before it took a cookie that such a grace period makes done. A full fence stands
  * before the look, so the number tests a cookie as rcu_seat_poll does. Unfenced the last does not
  * hold, and what came before an rcu_seat_take is sure to be seen by sequentially consistent loads
- * alone. */
+ * alone.
+ * Faults: 2 where the processor is offline; 23 where it is idle; 4 where a section is open.
+ * Fence: before and behind. */
 uint32_t rcu_seat_quiesce_unfenced(rcu_seat_t *seat, uint64_t *number);
 static inline uint32_t rcu_seat_quiesce(rcu_seat_t *seat, uint64_t *number) {
     rcu_fence();
-    uint32_t fault = rcu_seat_quiesce_unfenced(seat, number);
+    uint32_t result = rcu_seat_quiesce_unfenced(seat, number);
     rcu_fence();
-    return fault;
+    return result;
 }
 
-/* The processor gets idle, until it wakes or departs: it opens no section, and no grace period
- * waits for it. It stays online, and its callbacks stay. For a thread that is about to block.
- * 2, 23, 4.
+/* Passes a quiescent state by a load alone, where the last one still serves: where the number is
+ * the one that the seat's last rcu_seat_quiesce, rcu_seat_wake, rcu_arrive or call of this saw,
+ * this call stores nothing. No grace period began or ended since, so the processor is quiet for as
+ * much as it would be. Else it is as rcu_seat_quiesce. Writes the number that it saw.
+ * `number` has what the seat's last rcu_seat_quiesce, rcu_seat_wake or call of this wrote, or 0.
+ * Where that is the number still, this call makes no fence: the one that wrote it made one, or no
+ * grace period was ever. The sections that follow see the same as after rcu_seat_quiesce. No fence
+ * stands before the look: its number tests no cookie for a thread that stored a wish to be woken.
+ * Unfenced, they are sure to see what came before an rcu_seat_take by sequentially consistent loads
+ * alone.
+ * Faults: 2 where the processor is offline; 23 where it is idle; 4 where a section is open.
+ * Fence: behind where `number` changed. */
+uint32_t rcu_seat_quiesce_since_unfenced(rcu_seat_t *seat, uint64_t *number);
+static inline uint32_t rcu_seat_quiesce_since(rcu_seat_t *seat, uint64_t *number) {
+    uint64_t last = *number;
+    uint32_t result = rcu_seat_quiesce_since_unfenced(seat, number);
+    if (*number != last) rcu_fence();
+    return result;
+}
+
+/* The processor gets idle by one store, until it wakes or departs: it opens no section, and no
+ * grace period waits for it. It stays online, and its callbacks stay. For a thread that is about to
+ * block.
  * What the thread did before comes before what follows the collection or the begin that finds it
- * idle. */
+ * idle.
+ * Faults: 2 where the processor is offline; 23 where it is idle; 4 where a section is open. */
 uint32_t rcu_seat_idle(rcu_seat_t *seat);
 
-/* The processor wakes. Writes the number that it saw. 2, 24.
+/* The processor wakes, by one load and one store. Writes the number that it saw.
  * A section may open once it returns. A grace period that begins later awaits the processor. Of one
  * that found it idle, or whose number it saw, the section sees what came before its begin, and what
  * a thread did before it took a cookie that is done at its end. Unfenced, what came before an
  * rcu_seat_take is sure to be seen by sequentially consistent loads alone. No fence stands before
- * the look: who stored a wish to be woken polls by rcu_seat_poll, and not by this number. */
+ * the look: who stored a wish to be woken polls by rcu_seat_poll, and not by this number.
+ * Faults: 2 where the processor is offline; 24 where it is awake.
+ * Fence: behind. */
 uint32_t rcu_seat_wake_unfenced(rcu_seat_t *seat, uint64_t *number);
 static inline uint32_t rcu_seat_wake(rcu_seat_t *seat, uint64_t *number) {
-    uint32_t fault = rcu_seat_wake_unfenced(seat, number);
+    uint32_t result = rcu_seat_wake_unfenced(seat, number);
     rcu_fence();
-    return fault;
+    return result;
 }
 
-/* As rcu_take, at the number that one load sees, which no later load is below. In a section or not,
- * online or not. UINT64_MAX, which is done nowhere, where `seat` is no open seat's.
+/* Takes a cookie, as rcu_take, at the number that one load sees, which no later load is below. In a
+ * section or not, online or not. 2^64 - 1, which is done nowhere, where `seat` is no open seat's.
  * A full fence stands between what the thread did before, as an unlink, and that load. Unfenced, a
- * section may still come to what was unlinked once the cookie is done. */
+ * section may still come to what was unlinked once the cookie is done.
+ * Fence: before. */
 uint64_t rcu_seat_take_unfenced(rcu_seat_t *seat);
 static inline uint64_t rcu_seat_take(rcu_seat_t *seat) {
     rcu_fence();
     return rcu_seat_take_unfenced(seat);
 }
 
-/* As rcu_poll, at the number that one load sees, which no later load is below. In a section or not,
- * online or not. False where `seat` is no open seat's.
+/* Whether a cookie is done, as rcu_poll, at the number that one load sees, which no later load is
+ * below. In a section or not, online or not. False where `seat` is no open seat's.
  * Where it returns false, what the thread stored before it is seen by what follows the rcu_end, the
  * rcu_turn or the rcu_seat_poll that makes or finds the cookie done. Unfenced it is not: a thread
- * that stores a wish to be woken, polls, and sleeps may sleep for good. */
+ * that stores a wish to be woken, polls, and sleeps may sleep for good.
+ * Fence: before, and behind where it returns true. */
 bool rcu_seat_poll_unfenced(rcu_seat_t *seat, uint64_t cookie);
 static inline bool rcu_seat_poll(rcu_seat_t *seat, uint64_t cookie) {
     rcu_fence();
-    bool done = rcu_seat_poll_unfenced(seat, cookie);
-    if (done) rcu_fence();
-    return done;
+    bool result = rcu_seat_poll_unfenced(seat, cookie);
+    if (result) rcu_fence();
+    return result;
 }
 
-/* Passes a quiescent state by a load alone, where the last one still serves: where the number is the
- * one that the seat's last rcu_seat_quiesce, rcu_seat_wake, rcu_arrive or call of this saw, this call
- * stores nothing. No grace period began or ended since, so the processor is quiet for as much as it
- * would be. Else it is as rcu_seat_quiesce. Writes the number that it saw. 2, 23, 4.
- * `number` has what the seat's last rcu_seat_quiesce, rcu_seat_wake or call of this wrote, or 0.
- * Where that is the number still, this call makes no fence: the one that wrote it made one, or no
- * grace period was ever. The sections that follow see the same as after rcu_seat_quiesce. No fence
- * stands before the look: its number tests no cookie for a thread that stored a wish to be woken.
- * Unfenced, they are sure to see what came before an rcu_seat_take by sequentially consistent loads
- * alone. */
-uint32_t rcu_seat_quiesce_since_unfenced(rcu_seat_t *seat, uint64_t *number);
-static inline uint32_t rcu_seat_quiesce_since(rcu_seat_t *seat, uint64_t *number) {
-    uint64_t last = *number;
-    uint32_t fault = rcu_seat_quiesce_since_unfenced(seat, number);
-    if (*number != last) rcu_fence();
-    return fault;
+/* <<< */
+
+/* ---- opening, with an identity of its own making */
+
+/* Opens an engine as rcu_open_as, under an identity that no other engine of the process has. */
+static inline uint32_t rcu_open(uint32_t cpus, uint64_t last, rcu_t *rcu) {
+#ifdef __cplusplus
+    static std::atomic<std::uint64_t> opened(0);
+    rcu_identity_t identity = {reinterpret_cast<std::uintptr_t>(&opened), opened.fetch_add(1)};
+#else
+    static _Atomic uint64_t opened;
+    rcu_identity_t identity = {(uintptr_t)&opened, atomic_fetch_add(&opened, 1)};
+#endif
+    return rcu_open_as(cpus, last, identity, rcu);
 }
 
 #ifdef __cplusplus

@@ -5,23 +5,27 @@
 
 use std::sync::atomic::{fence, AtomicU64, Ordering::SeqCst};
 
-/// An engine's handle. Null while it is closed.
+// >>> types: written by tools/write_calls
+
+/// An engine's handle, which lies under a lock of the caller's. Handles may pass between threads.
 #[repr(C)]
 pub struct rcu_t {
     pub at: *mut u8,
 }
 
-/// A seat's handle. Null while it is closed.
+/// A seat's handle: of one processor, for one thread at a time, beside all other handles.
 #[repr(C)]
 pub struct rcu_seat_t {
     pub at: *mut u8,
 }
 
-/// What tells an engine from any other.
+/// What tells an engine from any other: who opens it gives it, and its seats have it too.
 #[repr(C)]
-#[derive(Clone, Copy, Debug, PartialEq, Eq)]
+#[derive(Clone, Copy, Debug, Default, PartialEq, Eq)]
 pub struct rcu_identity_t {
+    /// Who counts: no two that count have the same.
     pub place: u64,
+    /// Which of the engines that were opened there it is.
     pub count: u64,
 }
 
@@ -29,49 +33,52 @@ pub struct rcu_identity_t {
 #[repr(C)]
 #[derive(Clone, Copy, Debug, Default, PartialEq, Eq)]
 pub struct rcu_turn_t {
+    /// An `rcu_turned`.
     pub what: u32,
+    /// How many processors are awaited, where it began one or waits; else 0.
     pub awaited: u32,
+    /// The number, where a grace period began or ended; else 0.
     pub number: u64,
 }
 
 // Why a call is refused.
-/// There is no such processor.
+/// There is no processor of this number.
 pub const RCU_BAD_CPU: u32 = 1;
 /// The processor is offline.
 pub const RCU_OFFLINE: u32 = 2;
-/// The processor is online.
+/// The processor is online already.
 pub const RCU_ALREADY_ONLINE: u32 = 3;
 /// A read section is open on the processor.
 pub const RCU_IN_SECTION: u32 = 4;
 /// No read section is open on the processor.
 pub const RCU_NOT_OPEN: u32 = 5;
-/// The read section nests 65,535 deep.
+/// The read section nests 65,535 deep already.
 pub const RCU_NEST_FULL: u32 = 6;
-/// A grace period runs.
+/// A grace period runs already.
 pub const RCU_RUNNING: u32 = 8;
 /// No grace period runs.
 pub const RCU_IDLE: u32 = 9;
 /// A processor is still awaited.
 pub const RCU_WAITING: u32 = 10;
-/// The number is the last one.
+/// The grace-period number is the last one.
 pub const RCU_EXHAUSTED: u32 = 11;
 /// Processor 0 never departs.
 pub const RCU_BOOT_STAYS: u32 = 12;
-/// A barrier runs.
+/// A barrier runs already.
 pub const RCU_BARRIER_BUSY: u32 = 13;
 /// No barrier runs.
 pub const RCU_NO_BARRIER: u32 = 14;
-/// 2^62 callbacks were queued since opening.
+/// As many callbacks were queued as the opening allows.
 pub const RCU_CALLBACKS_FULL: u32 = 15;
 /// Out of memory.
 pub const RCU_NO_MEMORY: u32 = 16;
-/// No processor, or more than 4,096.
+/// There is no processor, or there are more than the engine holds.
 pub const RCU_TOO_MANY_CPUS: u32 = 17;
-/// The last number is no multiple of 4 from 4 to 2^62.
+/// The last number is not a multiple of 4 from 4 to 2^62.
 pub const RCU_BAD_LAST: u32 = 19;
 /// The processor is idle.
 pub const RCU_CPU_IDLE: u32 = 23;
-/// The processor is awake.
+/// The processor is not idle.
 pub const RCU_NOT_IDLE: u32 = 24;
 /// The seat of the processor is dealt.
 pub const RCU_SEAT_DEALT: u32 = 25;
@@ -85,85 +92,39 @@ pub const RCU_OTHER_KIND: u32 = 28;
 // What a turn did.
 /// No grace period runs, and none is needed.
 pub const RCU_TURN_NOTHING: u32 = 0;
-/// A grace period began.
+/// A grace period of this number began, and awaits this many processors.
 pub const RCU_TURN_BEGUN: u32 = 1;
-/// The grace period ended.
+/// The grace period ended, and this is the number now.
 pub const RCU_TURN_ENDED: u32 = 2;
-/// It awaits a processor.
+/// The grace period goes on, and awaits this many processors.
 pub const RCU_TURN_WAITING: u32 = 3;
 
 // What a collection found.
 /// No grace period runs.
 pub const RCU_COLLECTED_IDLE: u32 = 0;
-/// The processor passed no quiescent state in it yet.
+/// The processor did not pass a quiescent state in the running grace period yet.
 pub const RCU_COLLECTED_NOT_YET: u32 = 1;
-/// It was awaited, and others still are.
+/// The processor was awaited, and others still are.
 pub const RCU_COLLECTED_TAKEN: u32 = 2;
-/// It was the only one awaited.
+/// The processor was the only one awaited.
 pub const RCU_COLLECTED_LAST: u32 = 3;
-/// It is not awaited.
+/// The processor is not awaited.
 pub const RCU_COLLECTED_REPEAT: u32 = 4;
 
-// What a barrier's visit did.
-/// A marker stands behind its callbacks.
+// What a visit did.
+/// It put a marker behind the processor's list.
 pub const RCU_VISIT_MARKED: u32 = 0;
-/// It has no callback.
+/// The processor's list was empty.
 pub const RCU_VISIT_EMPTY: u32 = 1;
-/// It was visited before.
+/// The barrier had visited the processor already.
 pub const RCU_VISIT_ALREADY: u32 = 2;
 
-extern "C" {
-    pub fn rcu_open_as(cpus: u32, last: u64, identity: rcu_identity_t, rcu: *mut rcu_t) -> u32;
-    pub fn rcu_close(rcu: *mut rcu_t);
-    pub fn rcu_seat_open(rcu: *mut rcu_t, cpu: u32, seat: *mut rcu_seat_t) -> u32;
-    pub fn rcu_has_seat(rcu: *mut rcu_t, cpu: u32) -> bool;
-    pub fn rcu_seat_return(rcu: *mut rcu_t, seat: *mut rcu_seat_t) -> u32;
-    pub fn rcu_seat_close(seat: *mut rcu_seat_t);
-    pub fn rcu_begin(rcu: *mut rcu_t, number: *mut u64, awaited: *mut u32) -> u32;
-    pub fn rcu_end_unfenced(rcu: *mut rcu_t, number: *mut u64) -> u32;
-    pub fn rcu_turn_unfenced(rcu: *mut rcu_t, turn: *mut rcu_turn_t) -> u32;
-    pub fn rcu_collect(rcu: *mut rcu_t, cpu: u32, found: *mut u32) -> u32;
-    pub fn rcu_arrive_unfenced(rcu: *mut rcu_t, seat: *mut rcu_seat_t) -> u32;
-    pub fn rcu_depart(rcu: *mut rcu_t, seat: *mut rcu_seat_t, moved: *mut u64) -> u32;
-    pub fn rcu_cpus(rcu: *mut rcu_t) -> u32;
-    pub fn rcu_number(rcu: *mut rcu_t) -> u64;
-    pub fn rcu_running(rcu: *mut rcu_t) -> bool;
-    pub fn rcu_online(rcu: *mut rcu_t, cpu: u32) -> bool;
-    pub fn rcu_awaits(rcu: *mut rcu_t, cpu: u32) -> bool;
-    pub fn rcu_awaited(rcu: *mut rcu_t) -> u32;
-    pub fn rcu_take(rcu: *mut rcu_t) -> u64;
-    pub fn rcu_poll(rcu: *mut rcu_t, cookie: u64) -> bool;
-    pub fn rcu_queue(rcu: *mut rcu_t, cpu: u32, value: u64, place: *mut u64) -> u32;
-    pub fn rcu_tend(rcu: *mut rcu_t, cpu: u32, done: *mut u64, waiting: *mut u64) -> u32;
-    pub fn rcu_run(
-        rcu: *mut rcu_t,
-        cpu: u32,
-        values: *mut u64,
-        room: usize,
-        count: *mut u64,
-    ) -> u32;
-    pub fn rcu_shrink(rcu: *mut rcu_t, cpu: u32, room: *mut u64) -> u32;
-    pub fn rcu_barrier_begin(rcu: *mut rcu_t) -> u32;
-    pub fn rcu_barrier_visit(rcu: *mut rcu_t, cpu: u32, did: *mut u32) -> u32;
-    pub fn rcu_barrier_test(rcu: *mut rcu_t, left: *mut u64) -> u32;
-    pub fn rcu_seat_cpu(seat: *mut rcu_seat_t) -> u32;
-    pub fn rcu_seat_depth(seat: *mut rcu_seat_t) -> u32;
-    pub fn rcu_seat_is_online(seat: *mut rcu_seat_t) -> bool;
-    pub fn rcu_seat_is_idle(seat: *mut rcu_seat_t) -> bool;
-    pub fn rcu_seat_enter(seat: *mut rcu_seat_t, depth: *mut u32) -> u32;
-    pub fn rcu_seat_exit(seat: *mut rcu_seat_t, depth: *mut u32) -> u32;
-    pub fn rcu_seat_quiesce_unfenced(seat: *mut rcu_seat_t, number: *mut u64) -> u32;
-    pub fn rcu_seat_quiesce_since_unfenced(seat: *mut rcu_seat_t, number: *mut u64) -> u32;
-    pub fn rcu_seat_idle(seat: *mut rcu_seat_t) -> u32;
-    pub fn rcu_seat_wake_unfenced(seat: *mut rcu_seat_t, number: *mut u64) -> u32;
-    pub fn rcu_seat_take_unfenced(seat: *mut rcu_seat_t) -> u64;
-    pub fn rcu_seat_poll_unfenced(seat: *mut rcu_seat_t, cookie: u64) -> bool;
-}
+// <<<
 
-/// As in the header.
+/// Opens an engine as [`rcu_open_as`], under an identity that no other engine of the process has.
 ///
 /// # Safety
-/// As in the header.
+/// As the header says.
 pub unsafe fn rcu_open(cpus: u32, last: u64, rcu: *mut rcu_t) -> u32 {
     static OPENED: AtomicU64 = AtomicU64::new(0);
     let place = &OPENED as *const AtomicU64;
@@ -174,90 +135,447 @@ pub unsafe fn rcu_open(cpus: u32, last: u64, rcu: *mut rcu_t) -> u32 {
     rcu_open_as(cpus, last, identity, rcu)
 }
 
-// The archive makes no fence: around eight calls the header does, and here these functions do.
+// The archive makes no fence: the functions behind its calls do, as those of the header.
 
-/// As in the header.
+// >>> calls: written by tools/write_calls from the doc comments of crates/rcu_c
+
+extern "C" {
+    /// Opens an engine of 1 to 4,096 processors at number 0. Processor 0 alone is online, no
+    /// callback is queued, and no seat is dealt. No grace period begins at `last`, a multiple of 4
+    /// from 4 to 2^62. Needs: `rcu` is closed.
+    ///
+    /// The identity is one that no other engine of the process has: an engine takes no seat of
+    /// another one (26), and compares identities for that. `rcu_open` makes it, of a counter and
+    /// the place of that. A program in another language makes its own.
+    ///
+    /// Faults: 17 for no processor or more than 4,096; 19 where `last` is no such number; 16.
+    pub fn rcu_open_as(cpus: u32, last: u64, identity: rcu_identity_t, rcu: *mut rcu_t) -> u32;
+    /// Closes an engine, and frees all that it has; values that are still queued are not handed
+    /// out. Seats that are open go on, and are closed in turn. Of a handle that is no open engine's
+    /// it does nothing. Needs: `rcu` is under the caller's lock.
+    pub fn rcu_close(rcu: *mut rcu_t);
+    /// Deals the seat of a processor; each has one. That of processor 0 is online at first, any
+    /// other offline; one that was handed back is as it was then. Processor 0 is awaited like any
+    /// other: where no thread reads on it, make its seat idle once. Needs: `rcu` is under the
+    /// caller's lock, and `seat` is closed.
+    ///
+    /// Faults: 1 where there is no such processor; 25 where its seat is dealt; 16.
+    pub fn rcu_seat_open(rcu: *mut rcu_t, cpu: u32, seat: *mut rcu_seat_t) -> u32;
+    /// Whether `rcu_seat_open` can deal the seat of the processor: there is such a processor, and
+    /// its seat is not dealt. False, too, where `rcu` is no open engine's. Needs: `rcu` is under
+    /// the caller's lock.
+    pub fn rcu_has_seat(rcu: *mut rcu_t, cpu: u32) -> bool;
+    /// Hands a seat back to its engine, which can deal it again, and closes it: for a thread that
+    /// ends. Its processor stays as it is: depart first, or, where it is processor 0, make it idle.
+    /// Else each grace period waits until another thread has the seat. Needs: `rcu` is under the
+    /// caller's lock, and `seat` is in no other call.
+    ///
+    /// Fault 26: the seat is of another engine.
+    pub fn rcu_seat_return(rcu: *mut rcu_t, seat: *mut rcu_seat_t) -> u32;
+    /// Closes a seat, which its engine does not deal again: for when the engine goes. Its processor
+    /// stays as it is: one that is online is awaited by each grace period that begins, for good. Of
+    /// a handle that is no open seat's it does nothing.
+    pub fn rcu_seat_close(seat: *mut rcu_seat_t);
+    /// Begins a grace period: stores its number, and then looks at each processor. It awaits those
+    /// that are online, are not idle, and did not pass a quiescent state in between. Writes the
+    /// number, and how many it awaits.
+    ///
+    /// Of each section one of two holds: all of it comes before what follows the end of this grace
+    /// period, or it sees what came before this call.
+    ///
+    /// Faults: 8 where one runs; 11 where the number is the last one.
+    pub fn rcu_begin(rcu: *mut rcu_t, number: *mut u64, awaited: *mut u32) -> u32;
+    /// Ends the grace period. Writes the new number.
+    ///
+    /// What a thread stored before an `rcu_seat_poll` that found the number below the new one is
+    /// seen by what follows this call: so a waiter that stores a wish to be woken, and then polls,
+    /// is found. The same holds of `rcu_seat_take` and `rcu_seat_quiesce`. Unfenced, it is sure to
+    /// be seen by sequentially consistent loads alone.
+    ///
+    /// Faults: 9 where none runs; 10 where a processor is awaited.
+    ///
+    /// Fence: behind.
+    pub fn rcu_end_unfenced(rcu: *mut rcu_t, number: *mut u64) -> u32;
+    /// Ends the grace period where nobody is awaited; begins one where none runs and a tended
+    /// callback waits for it. Writes what it did.
+    ///
+    /// It orders what `rcu_begin` or `rcu_end` orders.
+    ///
+    /// Fault 11: one would begin, and the number is the last one.
+    ///
+    /// Fence: behind.
+    pub fn rcu_turn_unfenced(rcu: *mut rcu_t, turn: *mut rcu_turn_t) -> u32;
+    /// Looks whether the processor passed a quiescent state in the grace period, or is offline or
+    /// idle, and then awaits it no more. Writes an `rcu_collected`.
+    ///
+    /// Where it finds one, the departure or the idleness, what the thread did before that comes
+    /// before what follows this call; so too where a begin finds it.
+    ///
+    /// A processor that was idle at the begin and woke since is found "not yet", and is not
+    /// awaited: whether one is awaited, `rcu_awaits` tells.
+    ///
+    /// Fault 1: there is no such processor.
+    pub fn rcu_collect(rcu: *mut rcu_t, cpu: u32, found: *mut u32) -> u32;
+    /// The seat's processor comes online.
+    ///
+    /// A section may open once it returns. A grace period that begins later awaits the processor.
+    /// Of one that runs already the section sees what came before its begin, and what a thread did
+    /// before it took a cookie that is done at its end. Unfenced, what came before an
+    /// `rcu_seat_take` is sure to be seen by sequentially consistent loads alone.
+    ///
+    /// Faults: 26 where the seat is of another engine; 3 where the processor is online.
+    ///
+    /// Fence: behind.
+    pub fn rcu_arrive_unfenced(rcu: *mut rcu_t, seat: *mut rcu_seat_t) -> u32;
+    /// The seat's processor goes offline, and its callbacks move to processor 0, at a step for
+    /// each. Writes how many.
+    ///
+    /// What the thread did before comes before what follows the collection or the begin that finds
+    /// it offline.
+    ///
+    /// Faults: 26 where the seat is of another engine; 12 for processor 0; 4 where a section is
+    /// open; 2 where it was offline and has no callback; 16. At 2 nothing has changed that a call
+    /// tells. At 16 the processor is offline, and its callbacks stay: the same call again moves
+    /// them.
+    pub fn rcu_depart(rcu: *mut rcu_t, seat: *mut rcu_seat_t, moved: *mut u64) -> u32;
+    /// How many processors the engine has.
+    pub fn rcu_cpus(rcu: *mut rcu_t) -> u32;
+    /// The grace-period number: 4 for each grace period that ended, and 1 more while one runs.
+    pub fn rcu_number(rcu: *mut rcu_t) -> u64;
+    /// Whether a grace period runs.
+    pub fn rcu_running(rcu: *mut rcu_t) -> bool;
+    /// Whether the engine has the processor as online: false too where there is no such processor.
+    pub fn rcu_online(rcu: *mut rcu_t, cpu: u32) -> bool;
+    /// Whether the processor is awaited: false too where there is no such processor.
+    pub fn rcu_awaits(rcu: *mut rcu_t, cpu: u32) -> bool;
+    /// How many processors are awaited.
+    pub fn rcu_awaited(rcu: *mut rcu_t) -> u32;
+    /// Takes a cookie: the number at which a grace period that begins from now on has ended. It
+    /// asks for none: somebody begins one (`rcu_begin`, or `rcu_turn` where a tended callback
+    /// waits). 2^64 - 1, which is done nowhere, where `rcu` is no open engine's.
+    pub fn rcu_take(rcu: *mut rcu_t) -> u64;
+    /// Whether a cookie is done: the number has reached it. Then each section that was open at the
+    /// taking has ended. Of a number that no taking gave nothing is said but that. False where
+    /// `rcu` is no open engine's.
+    ///
+    /// Where it returns true, of each section one of two holds: all of it comes before what follows
+    /// this call, or it sees what the thread that took did before it took.
+    pub fn rcu_poll(rcu: *mut rcu_t, cookie: u64) -> bool;
+    /// Queues a value on an online processor. Writes how many were queued since opening. A list
+    /// keeps the room that it ever had, until `rcu_shrink` or `rcu_close`.
+    ///
+    /// Of each section one of two holds: all of it comes before what follows the `rcu_run` that
+    /// hands the value out, or it sees what the thread did before this call.
+    ///
+    /// Faults: 1 where there is no such processor; 2 where it is not online; 15 where 2^62 were
+    /// queued; 16.
+    pub fn rcu_queue(rcu: *mut rcu_t, cpu: u32, value: u64, place: *mut u64) -> u32;
+    /// Sets what the processor's callbacks wait for, and which are done: to be called after
+    /// queueing, so that a turn begins a grace period for them, and after its end. Writes how many
+    /// are done and how many wait.
+    ///
+    /// Fault 1: there is no such processor.
+    pub fn rcu_tend(rcu: *mut rcu_t, cpu: u32, done: *mut u64, waiting: *mut u64) -> u32;
+    /// Hands out done callbacks of the processor, in order, `room` at most: writes their values
+    /// from `values` on, where there is room for so many, and how many; what lies behind them
+    /// stays. A full grace period has passed since each was queued, and none is handed out again.
+    ///
+    /// Faults: 1 where there is no such processor; 16, only where there is a callback to hand out.
+    pub fn rcu_run(
+        rcu: *mut rcu_t,
+        cpu: u32,
+        values: *mut u64,
+        room: usize,
+        count: *mut u64,
+    ) -> u32;
+    /// Gives back the memory that the processor's list does not need, at a step for each item that
+    /// stays. Writes for how many items, callbacks and markers, it has room then: for none where it
+    /// is empty.
+    ///
+    /// Fault 1: there is no such processor.
+    pub fn rcu_shrink(rcu: *mut rcu_t, cpu: u32, room: *mut u64) -> u32;
+    /// Begins a barrier.
+    ///
+    /// Fault 13: one runs.
+    pub fn rcu_barrier_begin(rcu: *mut rcu_t) -> u32;
+    /// The barrier visits a processor, as it has to visit each, also those offline. Writes an
+    /// `rcu_visited`.
+    ///
+    /// Faults: 1 where there is no such processor; 14 where none runs; 16, only where it would
+    /// mark.
+    pub fn rcu_barrier_visit(rcu: *mut rcu_t, cpu: u32, did: *mut u32) -> u32;
+    /// Tests the barrier. Writes how many markers and unvisited processors are left; at 0 it is
+    /// over, and each callback that was queued before it began was handed out.
+    ///
+    /// Handed out is not processed: what is done with a value comes before what follows this call
+    /// where it is done under the lock under which `rcu_run` handed the value out. Else the caller
+    /// counts what was processed, and waits for that too.
+    ///
+    /// Fault 14: none runs.
+    pub fn rcu_barrier_test(rcu: *mut rcu_t, left: *mut u64) -> u32;
+    /// The seat's processor. 2^32 - 1, which is none, where `seat` is no open seat's.
+    pub fn rcu_seat_cpu(seat: *mut rcu_seat_t) -> u32;
+    /// How deep the read sections of the seat nest: 0 where none is open, also where `seat` is no
+    /// open seat's.
+    pub fn rcu_seat_depth(seat: *mut rcu_seat_t) -> u32;
+    /// Whether the seat's processor is online, be it awake or idle. False where `seat` is no open
+    /// seat's.
+    pub fn rcu_seat_is_online(seat: *mut rcu_seat_t) -> bool;
+    /// Whether the seat's processor is idle. False where `seat` is no open seat's.
+    pub fn rcu_seat_is_idle(seat: *mut rcu_seat_t) -> bool;
+    /// Opens a read section by one load, or nests one deeper in the open one by none. Writes the
+    /// depth.
+    ///
+    /// Faults: 2 where the processor is offline; 23 where it is idle; 6 where the depth is 65,535.
+    pub fn rcu_seat_enter(seat: *mut rcu_seat_t, depth: *mut u32) -> u32;
+    /// Leaves the innermost section. Writes the depth: 0 where one load closed the section.
+    ///
+    /// Neither this nor `rcu_seat_enter` orders what the thread stores: what a section did comes
+    /// before the next quiescent state or departure.
+    ///
+    /// Fault 5: no section is open.
+    pub fn rcu_seat_exit(seat: *mut rcu_seat_t, depth: *mut u32) -> u32;
+    /// Passes a quiescent state, by one load and one store: what the thread read before, it uses no
+    /// more. Writes the number that it saw.
+    ///
+    /// What the thread did before comes before what follows the collection or the begin that finds
+    /// this call. The sections that follow see what came before a begin whose number it saw, and
+    /// what a thread did before it took a cookie that such a grace period makes done. A full fence
+    /// stands before the look, so the number tests a cookie as `rcu_seat_poll` does. Unfenced the
+    /// last does not hold, and what came before an `rcu_seat_take` is sure to be seen by
+    /// sequentially consistent loads alone.
+    ///
+    /// Faults: 2 where the processor is offline; 23 where it is idle; 4 where a section is open.
+    ///
+    /// Fence: before and behind.
+    pub fn rcu_seat_quiesce_unfenced(seat: *mut rcu_seat_t, number: *mut u64) -> u32;
+    /// Passes a quiescent state by a load alone, where the last one still serves: where the number
+    /// is the one that the seat's last `rcu_seat_quiesce`, `rcu_seat_wake`, `rcu_arrive` or call of
+    /// this saw, this call stores nothing. No grace period began or ended since, so the processor
+    /// is quiet for as much as it would be. Else it is as `rcu_seat_quiesce`. Writes the number
+    /// that it saw.
+    ///
+    /// `number` has what the seat's last `rcu_seat_quiesce`, `rcu_seat_wake` or call of this wrote,
+    /// or 0. Where that is the number still, this call makes no fence: the one that wrote it made
+    /// one, or no grace period was ever. The sections that follow see the same as after
+    /// `rcu_seat_quiesce`. No fence stands before the look: its number tests no cookie for a thread
+    /// that stored a wish to be woken. Unfenced, they are sure to see what came before an
+    /// `rcu_seat_take` by sequentially consistent loads alone.
+    ///
+    /// Faults: 2 where the processor is offline; 23 where it is idle; 4 where a section is open.
+    ///
+    /// Fence: behind where `number` changed.
+    pub fn rcu_seat_quiesce_since_unfenced(seat: *mut rcu_seat_t, number: *mut u64) -> u32;
+    /// The processor gets idle by one store, until it wakes or departs: it opens no section, and no
+    /// grace period waits for it. It stays online, and its callbacks stay. For a thread that is
+    /// about to block.
+    ///
+    /// What the thread did before comes before what follows the collection or the begin that finds
+    /// it idle.
+    ///
+    /// Faults: 2 where the processor is offline; 23 where it is idle; 4 where a section is open.
+    pub fn rcu_seat_idle(seat: *mut rcu_seat_t) -> u32;
+    /// The processor wakes, by one load and one store. Writes the number that it saw.
+    ///
+    /// A section may open once it returns. A grace period that begins later awaits the processor.
+    /// Of one that found it idle, or whose number it saw, the section sees what came before its
+    /// begin, and what a thread did before it took a cookie that is done at its end. Unfenced, what
+    /// came before an `rcu_seat_take` is sure to be seen by sequentially consistent loads alone. No
+    /// fence stands before the look: who stored a wish to be woken polls by `rcu_seat_poll`, and
+    /// not by this number.
+    ///
+    /// Faults: 2 where the processor is offline; 24 where it is awake.
+    ///
+    /// Fence: behind.
+    pub fn rcu_seat_wake_unfenced(seat: *mut rcu_seat_t, number: *mut u64) -> u32;
+    /// Takes a cookie, as `rcu_take`, at the number that one load sees, which no later load is
+    /// below. In a section or not, online or not. 2^64 - 1, which is done nowhere, where `seat` is
+    /// no open seat's.
+    ///
+    /// A full fence stands between what the thread did before, as an unlink, and that load.
+    /// Unfenced, a section may still come to what was unlinked once the cookie is done.
+    ///
+    /// Fence: before.
+    pub fn rcu_seat_take_unfenced(seat: *mut rcu_seat_t) -> u64;
+    /// Whether a cookie is done, as `rcu_poll`, at the number that one load sees, which no later
+    /// load is below. In a section or not, online or not. False where `seat` is no open seat's.
+    ///
+    /// Where it returns false, what the thread stored before it is seen by what follows the
+    /// `rcu_end`, the `rcu_turn` or the `rcu_seat_poll` that makes or finds the cookie done.
+    /// Unfenced it is not: a thread that stores a wish to be woken, polls, and sleeps may sleep for
+    /// good.
+    ///
+    /// Fence: before, and behind where it returns true.
+    pub fn rcu_seat_poll_unfenced(seat: *mut rcu_seat_t, cookie: u64) -> bool;
+}
+
+/// Ends the grace period. Writes the new number.
+///
+/// What a thread stored before an `rcu_seat_poll` that found the number below the new one is seen
+/// by what follows this call: so a waiter that stores a wish to be woken, and then polls, is found.
+/// The same holds of `rcu_seat_take` and `rcu_seat_quiesce`. Unfenced, it is sure to be seen by
+/// sequentially consistent loads alone.
+///
+/// Faults: 9 where none runs; 10 where a processor is awaited.
+///
+/// Fence: behind.
 ///
 /// # Safety
-/// As in the header.
+///
+/// As the header says.
 pub unsafe fn rcu_end(rcu: *mut rcu_t, number: *mut u64) -> u32 {
-    let fault = rcu_end_unfenced(rcu, number);
+    let result = rcu_end_unfenced(rcu, number);
     fence(SeqCst);
-    fault
+    result
 }
 
-/// As in the header.
+/// Ends the grace period where nobody is awaited; begins one where none runs and a tended callback
+/// waits for it. Writes what it did.
+///
+/// It orders what `rcu_begin` or `rcu_end` orders.
+///
+/// Fault 11: one would begin, and the number is the last one.
+///
+/// Fence: behind.
 ///
 /// # Safety
-/// As in the header.
+///
+/// As the header says.
 pub unsafe fn rcu_turn(rcu: *mut rcu_t, turn: *mut rcu_turn_t) -> u32 {
-    let fault = rcu_turn_unfenced(rcu, turn);
+    let result = rcu_turn_unfenced(rcu, turn);
     fence(SeqCst);
-    fault
+    result
 }
 
-/// As in the header.
+/// The seat's processor comes online.
+///
+/// A section may open once it returns. A grace period that begins later awaits the processor. Of
+/// one that runs already the section sees what came before its begin, and what a thread did before
+/// it took a cookie that is done at its end. Unfenced, what came before an `rcu_seat_take` is sure
+/// to be seen by sequentially consistent loads alone.
+///
+/// Faults: 26 where the seat is of another engine; 3 where the processor is online.
+///
+/// Fence: behind.
 ///
 /// # Safety
-/// As in the header.
+///
+/// As the header says.
 pub unsafe fn rcu_arrive(rcu: *mut rcu_t, seat: *mut rcu_seat_t) -> u32 {
-    let fault = rcu_arrive_unfenced(rcu, seat);
+    let result = rcu_arrive_unfenced(rcu, seat);
     fence(SeqCst);
-    fault
+    result
 }
 
-/// As in the header.
+/// Passes a quiescent state, by one load and one store: what the thread read before, it uses no
+/// more. Writes the number that it saw.
+///
+/// What the thread did before comes before what follows the collection or the begin that finds this
+/// call. The sections that follow see what came before a begin whose number it saw, and what a
+/// thread did before it took a cookie that such a grace period makes done. A full fence stands
+/// before the look, so the number tests a cookie as `rcu_seat_poll` does. Unfenced the last does
+/// not hold, and what came before an `rcu_seat_take` is sure to be seen by sequentially consistent
+/// loads alone.
+///
+/// Faults: 2 where the processor is offline; 23 where it is idle; 4 where a section is open.
+///
+/// Fence: before and behind.
 ///
 /// # Safety
-/// As in the header.
+///
+/// As the header says.
 pub unsafe fn rcu_seat_quiesce(seat: *mut rcu_seat_t, number: *mut u64) -> u32 {
     fence(SeqCst);
-    let fault = rcu_seat_quiesce_unfenced(seat, number);
+    let result = rcu_seat_quiesce_unfenced(seat, number);
     fence(SeqCst);
-    fault
+    result
 }
 
-/// As in the header.
+/// Passes a quiescent state by a load alone, where the last one still serves: where the number is
+/// the one that the seat's last `rcu_seat_quiesce`, `rcu_seat_wake`, `rcu_arrive` or call of this
+/// saw, this call stores nothing. No grace period began or ended since, so the processor is quiet
+/// for as much as it would be. Else it is as `rcu_seat_quiesce`. Writes the number that it saw.
+///
+/// `number` has what the seat's last `rcu_seat_quiesce`, `rcu_seat_wake` or call of this wrote, or
+/// 0. Where that is the number still, this call makes no fence: the one that wrote it made one, or
+/// no grace period was ever. The sections that follow see the same as after `rcu_seat_quiesce`. No
+/// fence stands before the look: its number tests no cookie for a thread that stored a wish to be
+/// woken. Unfenced, they are sure to see what came before an `rcu_seat_take` by sequentially
+/// consistent loads alone.
+///
+/// Faults: 2 where the processor is offline; 23 where it is idle; 4 where a section is open.
+///
+/// Fence: behind where `number` changed.
 ///
 /// # Safety
-/// As in the header.
+///
+/// As the header says.
 pub unsafe fn rcu_seat_quiesce_since(seat: *mut rcu_seat_t, number: *mut u64) -> u32 {
     let last = *number;
-    let fault = rcu_seat_quiesce_since_unfenced(seat, number);
+    let result = rcu_seat_quiesce_since_unfenced(seat, number);
     if *number != last {
         fence(SeqCst);
     }
-    fault
+    result
 }
 
-/// As in the header.
+/// The processor wakes, by one load and one store. Writes the number that it saw.
+///
+/// A section may open once it returns. A grace period that begins later awaits the processor. Of
+/// one that found it idle, or whose number it saw, the section sees what came before its begin, and
+/// what a thread did before it took a cookie that is done at its end. Unfenced, what came before an
+/// `rcu_seat_take` is sure to be seen by sequentially consistent loads alone. No fence stands
+/// before the look: who stored a wish to be woken polls by `rcu_seat_poll`, and not by this number.
+///
+/// Faults: 2 where the processor is offline; 24 where it is awake.
+///
+/// Fence: behind.
 ///
 /// # Safety
-/// As in the header.
+///
+/// As the header says.
 pub unsafe fn rcu_seat_wake(seat: *mut rcu_seat_t, number: *mut u64) -> u32 {
-    let fault = rcu_seat_wake_unfenced(seat, number);
+    let result = rcu_seat_wake_unfenced(seat, number);
     fence(SeqCst);
-    fault
+    result
 }
 
-/// As in the header.
+/// Takes a cookie, as `rcu_take`, at the number that one load sees, which no later load is below.
+/// In a section or not, online or not. 2^64 - 1, which is done nowhere, where `seat` is no open
+/// seat's.
+///
+/// A full fence stands between what the thread did before, as an unlink, and that load. Unfenced, a
+/// section may still come to what was unlinked once the cookie is done.
+///
+/// Fence: before.
 ///
 /// # Safety
-/// As in the header.
+///
+/// As the header says.
 pub unsafe fn rcu_seat_take(seat: *mut rcu_seat_t) -> u64 {
     fence(SeqCst);
     rcu_seat_take_unfenced(seat)
 }
 
-/// As in the header.
+/// Whether a cookie is done, as `rcu_poll`, at the number that one load sees, which no later load
+/// is below. In a section or not, online or not. False where `seat` is no open seat's.
+///
+/// Where it returns false, what the thread stored before it is seen by what follows the `rcu_end`,
+/// the `rcu_turn` or the `rcu_seat_poll` that makes or finds the cookie done. Unfenced it is not: a
+/// thread that stores a wish to be woken, polls, and sleeps may sleep for good.
+///
+/// Fence: before, and behind where it returns true.
 ///
 /// # Safety
-/// As in the header.
+///
+/// As the header says.
 pub unsafe fn rcu_seat_poll(seat: *mut rcu_seat_t, cookie: u64) -> bool {
     fence(SeqCst);
-    let done = rcu_seat_poll_unfenced(seat, cookie);
-    if done {
+    let result = rcu_seat_poll_unfenced(seat, cookie);
+    if result {
         fence(SeqCst);
     }
-    done
+    result
 }
+
+// <<<

@@ -1,4 +1,4 @@
-//! The barrier over callbacks.
+//! The barrier over callbacks: `rcu` is under the caller's lock.
 ghost use Rattle.std.specs.Prelude.{◌≡◌, ◌≢◌, if◌then◌else◌};
 ghost use Rattle.rcu_barrier.specs.Lists.{barrier_test_answer, visit_answer};
 ghost use Rattle.rcu_core.specs.GpState as grace;
@@ -12,7 +12,9 @@ use crate::codes::{status, write_out};
 use crate::handle::Rcu;
 use rcu_barrier::{BarrierState, Visit};
 
-/// Begins a barrier, as `Engine::barrier_begin`. Fault 13: one runs.
+/// Begins a barrier.
+///
+/// Fault 13: one runs.
 #[unsafe(no_mangle)]
 pub extern "C" fn rcu_barrier_begin(rcu: &mut Rcu) -> u32
     ensures fault { result ≡ engine_number rcu.old.contents
@@ -27,7 +29,7 @@ pub extern "C" fn rcu_barrier_begin(rcu: &mut Rcu) -> u32
     }
 }
 
-/// What a visit did, as C sees it.
+/// What a visit did, as C sees it: an `rcu_visited`, as `RCU_VISIT_MARKED`.
 fn visit_in_c(visit: Visit) -> u32
     ensures { result ≡ visit_number visit }
 {
@@ -38,10 +40,10 @@ fn visit_in_c(visit: Visit) -> u32
     }
 }
 
-/// The barrier visits a processor, as `Engine::visit`. Writes what the visit did: 0 put a marker, 1
-/// its list was empty, 2 it was visited already.
+/// The barrier visits a processor, as it has to visit each, also those offline. Writes an
+/// `rcu_visited`.
 ///
-/// Faults: 1; 14 where none runs; 16, only where it would put a marker.
+/// Faults: 1 where there is no such processor; 14 where none runs; 16, only where it would mark.
 #[unsafe(no_mangle)]
 pub extern "C" fn rcu_barrier_visit(rcu: &mut Rcu, cpu: u32, did: &mut u32) -> u32
     ensures fault { tested_number result ≡ engine_number rcu.old.contents
@@ -70,8 +72,14 @@ fn left_in_c(found: BarrierState) -> u64
     }
 }
 
-/// Tests the barrier, as `Engine::barrier_test`. Writes how many markers and unvisited processors
-/// are left, 0 where it is over. Fault 14: none runs.
+/// Tests the barrier. Writes how many markers and unvisited processors are left; at 0 it is over,
+/// and each callback that was queued before it began was handed out.
+///
+/// Handed out is not processed: what is done with a value comes before what follows this call where
+/// it is done under the lock under which `rcu_run` handed the value out. Else the caller counts
+/// what was processed, and waits for that too.
+///
+/// Fault 14: none runs.
 #[unsafe(no_mangle)]
 pub extern "C" fn rcu_barrier_test(rcu: &mut Rcu, left: &mut u64) -> u32
     ensures fault { result ≡ engine_number rcu.old.contents

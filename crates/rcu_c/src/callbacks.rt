@@ -1,4 +1,4 @@
-//! Callbacks.
+//! Callbacks, which are values of 64 bits: `rcu` is under the caller's lock.
 ghost use Rattle.std.specs.Prelude.{◌≡◌, ◌≢◌, ◌<◌, ◌≤◌, All, [], drop, length, map};
 ghost use Rattle.std.specs.Prelude.{take};
 ghost use Rattle.rcu_seq.specs.Fault.{fault_number};
@@ -18,10 +18,14 @@ use crate::handle::Rcu;
 use rcu_cblist::Queued;
 use rcu_seq::Fault;
 
-/// Queues a value as a callback on a processor, as `Engine::queue`. Writes how many were queued,
-/// which is its place among them.
+/// Queues a value on an online processor. Writes how many were queued since opening. A list keeps
+/// the room that it ever had, until `rcu_shrink` or `rcu_close`.
 ///
-/// Faults: 1; 2 where the processor is not online; 15 where 2^62 were queued; 16.
+/// Of each section one of two holds: all of it comes before what follows the `rcu_run` that hands
+/// the value out, or it sees what the thread did before this call.
+///
+/// Faults: 1 where there is no such processor; 2 where it is not online; 15 where 2^62 were queued;
+/// 16.
 #[unsafe(no_mangle)]
 pub extern "C" fn rcu_queue(rcu: &mut Rcu, cpu: u32, value: u64, place: &mut u64) -> u32
     ensures accepted { result ≡ 0 → CanQueue (engine_of rcu.old.contents) cpu }
@@ -46,8 +50,9 @@ pub extern "C" fn rcu_queue(rcu: &mut Rcu, cpu: u32, value: u64, place: &mut u64
     write_out(queued.map_err(|refused| refused.fault), place)
 }
 
-/// Brings the marks of a processor's callbacks up to the number, as `Engine::tend`. Writes how many
-/// are done and how many wait then.
+/// Sets what the processor's callbacks wait for, and which are done: to be called after queueing,
+/// so that a turn begins a grace period for them, and after its end. Writes how many are done and
+/// how many wait.
 ///
 /// Fault 1: there is no such processor.
 #[unsafe(no_mangle)]
@@ -91,11 +96,11 @@ fn put_values(calls: &[Queued<u64>], values: &mut [u64]) -> u64
     calls.len() as u64
 }
 
-/// Hands out the first callbacks of a processor's done part, at most as many as the buffer has room
-/// for, as `Engine::run`: writes their values to its head, and how many there are. The rest of the
-/// buffer stays. A full grace period has passed since the queueing of each.
+/// Hands out done callbacks of the processor, in order, `room` at most: writes their values from
+/// `values` on, where there is room for so many, and how many; what lies behind them stays. A full
+/// grace period has passed since each was queued, and none is handed out again.
 ///
-/// Faults: 1; 16, only where it has a callback to hand out.
+/// Faults: 1 where there is no such processor; 16, only where there is a callback to hand out.
 #[unsafe(no_mangle)]
 pub extern "C" fn rcu_run(rcu: &mut Rcu, cpu: u32, values: &mut [u64], count: &mut u64) -> u32
     ensures fault { tested_number result ≡ engine_number rcu.old.contents
@@ -129,8 +134,9 @@ pub extern "C" fn rcu_run(rcu: &mut Rcu, cpu: u32, values: &mut [u64], count: &m
     }
 }
 
-/// Gives back the memory that a processor's list does not need, as `Engine::shrink`. Writes for how
-/// many items, callbacks and markers, the list has room then. An empty one keeps none.
+/// Gives back the memory that the processor's list does not need, at a step for each item that
+/// stays. Writes for how many items, callbacks and markers, it has room then: for none where it is
+/// empty.
 ///
 /// Fault 1: there is no such processor.
 #[unsafe(no_mangle)]

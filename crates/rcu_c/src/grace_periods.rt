@@ -1,4 +1,4 @@
-//! Grace periods.
+//! Grace periods: `rcu` is under the caller's lock.
 ghost use Rattle.std.specs.Prelude.{◌≡◌, ◌≢◌};
 ghost use Rattle.rcu_seq.specs.Seq.{number_of};
 ghost use Rattle.rcu_core.specs.GpState as grace;
@@ -18,15 +18,15 @@ use rcu_live::Collected;
 #[repr(C)]
 #[derive(Clone, Copy)]
 pub struct Turn {
-    /// 0 nothing, 1 begun, 2 ended, 3 waiting.
+    /// An `rcu_turned`.
     pub what: u32,
-    /// How many processors are awaited, where a grace period began or goes on; else 0.
+    /// How many processors are awaited, where it began one or waits; else 0.
     pub awaited: u32,
     /// The number, where a grace period began or ended; else 0.
     pub number: u64,
 }
 
-/// A turn as C sees it.
+/// What a turn did, as C sees it: an `rcu_turned`, as `RCU_TURN_NOTHING`.
 fn turn_in_c(turned: Turned) -> Turn
     ensures { result ≡ turn_of turned }
 {
@@ -43,7 +43,7 @@ fn turn_in_c(turned: Turned) -> Turn
     }
 }
 
-/// What a collection returns, as C sees it.
+/// What a collection found, as C sees it: an `rcu_collected`, as `RCU_COLLECTED_IDLE`.
 fn collected_in_c(collected: Collected) -> u32
     ensures { result ≡ collected_number collected }
 {
@@ -56,7 +56,12 @@ fn collected_in_c(collected: Collected) -> u32
     }
 }
 
-/// A grace period begins, as `Engine::begin`. Writes its number, and how many it awaits.
+/// Begins a grace period: stores its number, and then looks at each processor. It awaits those that
+/// are online, are not idle, and did not pass a quiescent state in between. Writes the number, and
+/// how many it awaits.
+///
+/// Of each section one of two holds: all of it comes before what follows the end of this grace
+/// period, or it sees what came before this call.
 ///
 /// Faults: 8 where one runs; 11 where the number is the last one.
 #[unsafe(no_mangle)]
@@ -85,9 +90,16 @@ pub extern "C" fn rcu_begin(rcu: &mut Rcu, number: &mut u64, awaited: &mut u32) 
     }
 }
 
-/// The grace period ends, as `Engine::end`. Writes the new number.
+/// Ends the grace period. Writes the new number.
+///
+/// What a thread stored before an `rcu_seat_poll` that found the number below the new one is seen
+/// by what follows this call: so a waiter that stores a wish to be woken, and then polls, is found.
+/// The same holds of `rcu_seat_take` and `rcu_seat_quiesce`. Unfenced, it is sure to be seen by
+/// sequentially consistent loads alone.
 ///
 /// Faults: 9 where none runs; 10 where a processor is awaited.
+///
+/// Fence: behind.
 #[unsafe(no_mangle)]
 pub extern "C" fn rcu_end_unfenced(rcu: &mut Rcu, number: &mut u64) -> u32
     ensures open { HoldsEngine rcu.old.contents → HoldsEngine rcu.new.contents }
@@ -105,10 +117,14 @@ pub extern "C" fn rcu_end_unfenced(rcu: &mut Rcu, number: &mut u64) -> u32
     }
 }
 
-/// The running grace period ends where nobody is awaited; where none runs, one begins if it is
-/// needed. As `Engine::turn`. Writes what it did.
+/// Ends the grace period where nobody is awaited; begins one where none runs and a tended callback
+/// waits for it. Writes what it did.
+///
+/// It orders what `rcu_begin` or `rcu_end` orders.
 ///
 /// Fault 11: one would begin, and the number is the last one.
+///
+/// Fence: behind.
 #[unsafe(no_mangle)]
 pub extern "C" fn rcu_turn_unfenced(rcu: &mut Rcu, turn: &mut Turn) -> u32
     ensures open { HoldsEngine rcu.old.contents → HoldsEngine rcu.new.contents }
@@ -127,8 +143,14 @@ pub extern "C" fn rcu_turn_unfenced(rcu: &mut Rcu, turn: &mut Turn) -> u32
     }
 }
 
-/// Looks for a quiescent state of a processor, as `Engine::collect`. Writes what it found: 0 idle,
-/// 1 not yet, 2 taken, 3 the last one, 4 a repeat.
+/// Looks whether the processor passed a quiescent state in the grace period, or is offline or idle,
+/// and then awaits it no more. Writes an `rcu_collected`.
+///
+/// Where it finds one, the departure or the idleness, what the thread did before that comes before
+/// what follows this call; so too where a begin finds it.
+///
+/// A processor that was idle at the begin and woke since is found "not yet", and is not awaited:
+/// whether one is awaited, `rcu_awaits` tells.
 ///
 /// Fault 1: there is no such processor.
 #[unsafe(no_mangle)]

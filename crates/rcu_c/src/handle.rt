@@ -26,10 +26,12 @@ pub struct Handle {
     pub ghost contents: { Option Contents } by { contents_coded },
 }
 
-/// An engine's handle (`rcu_t`).
+/// An engine's handle (`rcu_t`), which lies under a lock of the caller's. Handles may pass between
+/// threads.
 pub type Rcu = Handle;
 
-/// A seat's handle (`rcu_seat_t`).
+/// A seat's handle (`rcu_seat_t`): of one processor, for one thread at a time, beside all other
+/// handles.
 pub type RcuSeat = Handle;
 
 impl Model for Handle {

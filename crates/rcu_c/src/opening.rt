@@ -125,11 +125,15 @@ fn put(handle: &mut Handle, contents: Box<Contents, Global>)
     *handle = Handle::of(RawBox::of(contents));
 }
 
-/// Opens a closed handle: the number is 0, no grace period runs, processor 0 alone is online, no
-/// callback is queued, and no seat is dealt. The engine and its seats have the identity.
+/// Opens an engine of 1 to 4,096 processors at number 0. Processor 0 alone is online, no callback
+/// is queued, and no seat is dealt. No grace period begins at `last`, a multiple of 4 from 4 to
+/// 2^62. Needs: `rcu` is closed.
 ///
-/// Faults: 17 for no processor or more than 4,096; 19 where `last` is no last number; 16. The
-/// handle then stays closed.
+/// The identity is one that no other engine of the process has: an engine takes no seat of another
+/// one (26), and compares identities for that. `rcu_open` makes it, of a counter and the place of
+/// that. A program in another language makes its own.
+///
+/// Faults: 17 for no processor or more than 4,096; 19 where `last` is no such number; 16.
 #[unsafe(no_mangle)]
 pub extern "C" fn rcu_open_as(
     alloc: Global,
@@ -153,8 +157,9 @@ pub extern "C" fn rcu_open_as(
     0
 }
 
-/// Closes an engine's handle, and frees all that it has, beside what its seats that are still open
-/// read. Another handle stays as it is.
+/// Closes an engine, and frees all that it has; values that are still queued are not handed out.
+/// Seats that are open go on, and are closed in turn. Of a handle that is no open engine's it does
+/// nothing. Needs: `rcu` is under the caller's lock.
 #[unsafe(no_mangle)]
 pub extern "C" fn rcu_close(alloc: Global, rcu: &mut Rcu)
     ensures closed { engine_refusal rcu.old.contents ≡ None → IsNone rcu.new.contents }
@@ -207,11 +212,12 @@ fn deal_into(contents: &mut Contents, opened: &mut OpenEngine, cpu: u32)
     *contents = Contents::Seat(dealt);
 }
 
-/// Deals the seat of a processor to a closed handle. Each processor has one, and a new engine deals
-/// each as it is at first; one that was handed back is dealt as it was then.
+/// Deals the seat of a processor; each has one. That of processor 0 is online at first, any other
+/// offline; one that was handed back is as it was then. Processor 0 is awaited like any other:
+/// where no thread reads on it, make its seat idle once. Needs: `rcu` is under the caller's lock,
+/// and `seat` is closed.
 ///
-/// Faults: 1 where there is no such processor; 25 where its seat is dealt; 16. Each leaves the
-/// handles as they were.
+/// Faults: 1 where there is no such processor; 25 where its seat is dealt; 16.
 #[unsafe(no_mangle)]
 pub extern "C" fn rcu_seat_open(alloc: Global, rcu: &mut Rcu, cpu: u32, seat: &mut RcuSeat) -> u32
     requires closed { IsNone seat.old.contents }
@@ -238,8 +244,9 @@ pub extern "C" fn rcu_seat_open(alloc: Global, rcu: &mut Rcu, cpu: u32, seat: &m
     }
 }
 
-/// Whether the seat of a processor can be dealt: it is one of the engine's, and its seat is not
-/// dealt.
+/// Whether `rcu_seat_open` can deal the seat of the processor: there is such a processor, and its
+/// seat is not dealt. False, too, where `rcu` is no open engine's. Needs: `rcu` is under the
+/// caller's lock.
 #[unsafe(no_mangle)]
 pub extern "C" fn rcu_has_seat(rcu: &mut Rcu, cpu: u32) -> bool
     ensures unchanged { rcu.new.contents ≡ rcu.old.contents }
@@ -251,10 +258,12 @@ pub extern "C" fn rcu_has_seat(rcu: &mut Rcu, cpu: u32) -> bool
     }
 }
 
-/// Hands a seat back to the engine that dealt it, which deals it again as it stands, and closes its
-/// handle. Its processor goes on as it stands.
+/// Hands a seat back to its engine, which can deal it again, and closes it: for a thread that ends.
+/// Its processor stays as it is: depart first, or, where it is processor 0, make it idle. Else each
+/// grace period waits until another thread has the seat. Needs: `rcu` is under the caller's lock,
+/// and `seat` is in no other call.
 ///
-/// Fault 26: the seat is of another engine. The handles then stay as they were.
+/// Fault 26: the seat is of another engine.
 #[unsafe(no_mangle)]
 pub extern "C" fn rcu_seat_return(alloc: Global, rcu: &mut Rcu, seat: &mut RcuSeat) -> u32
     ensures fault { result ≡ number_in_c (return_refusal rcu.old.contents seat.old.contents) }
@@ -280,9 +289,9 @@ pub extern "C" fn rcu_seat_return(alloc: Global, rcu: &mut Rcu, seat: &mut RcuSe
     0
 }
 
-/// Closes a seat's handle: nobody has its seat any more. Its processor goes on as it stands: an
-/// online one is awaited by the next grace period, and passes no quiescent state any more. Another
-/// handle stays as it is.
+/// Closes a seat, which its engine does not deal again: for when the engine goes. Its processor
+/// stays as it is: one that is online is awaited by each grace period that begins, for good. Of a
+/// handle that is no open seat's it does nothing.
 #[unsafe(no_mangle)]
 pub extern "C" fn rcu_seat_close(alloc: Global, seat: &mut RcuSeat)
     ensures closed { seat_refusal seat.old.contents ≡ None → IsNone seat.new.contents }

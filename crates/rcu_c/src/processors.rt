@@ -1,4 +1,4 @@
-//! Processors that come and go: each call takes the engine and the processor's seat.
+//! Processors that come and go: `rcu` is under the caller's lock, and `seat` is in no other call.
 ghost use Rattle.std.specs.Prelude.{◌≡◌, ◌≢◌, ◌<◌, ◌==◌, None, Some, false, length};
 ghost use Rattle.rcu_cblist.specs.SegList.{callbacks, is_empty};
 ghost use Rattle.rcu_barrier.specs.Lists.{list_of};
@@ -16,10 +16,16 @@ use crate::codes::{code, status, write_out};
 use crate::handle::{Rcu, RcuSeat};
 use crate::refusal::Refusal;
 
-/// The seat's processor comes online: one load of the number, and one more than it in the own word;
-/// then as `Engine::join`.
+/// The seat's processor comes online.
+///
+/// A section may open once it returns. A grace period that begins later awaits the processor. Of
+/// one that runs already the section sees what came before its begin, and what a thread did before
+/// it took a cookie that is done at its end. Unfenced, what came before an `rcu_seat_take` is sure
+/// to be seen by sequentially consistent loads alone.
 ///
 /// Faults: 26 where the seat is of another engine; 3 where the processor is online.
+///
+/// Fence: behind.
 #[unsafe(no_mangle)]
 pub extern "C" fn rcu_arrive_unfenced(rcu: &mut Rcu, seat: &mut RcuSeat) -> u32
     ensures fault { result ≡ number_in_c (coming_refusal rcu.old.contents seat.old.contents) }
@@ -48,12 +54,15 @@ pub extern "C" fn rcu_arrive_unfenced(rcu: &mut Rcu, seat: &mut RcuSeat) -> u32
     status(arrived)
 }
 
-/// The seat's processor goes offline: its own word becomes 0, also where it is; then as
-/// `Engine::leave`. Writes how many callbacks moved to processor 0's list.
+/// The seat's processor goes offline, and its callbacks move to processor 0, at a step for each.
+/// Writes how many.
 ///
-/// Faults: 26 where the seat is of another engine; 12 for processor 0; 4 where a section is open;
-/// these change nothing. 2 where it was offline and its list is empty. 16, where it is offline from
-/// now on, and the same call again finishes that. 3 is never met.
+/// What the thread did before comes before what follows the collection or the begin that finds it
+/// offline.
+///
+/// Faults: 26 where the seat is of another engine; 12 for processor 0; 4 where a section is open; 2
+/// where it was offline and has no callback; 16. At 2 nothing has changed that a call tells. At 16
+/// the processor is offline, and its callbacks stay: the same call again moves them.
 #[unsafe(no_mangle)]
 pub extern "C" fn rcu_depart(rcu: &mut Rcu, seat: &mut RcuSeat, moved: &mut u64) -> u32
     ensures seat_fault { going_refusal rcu.old.contents seat.old.contents ≢ None →

@@ -1,4 +1,5 @@
-//! What an engine says of itself, and cookies under its lock.
+//! What an engine says of itself: `rcu` is under the caller's lock. What is no open engine has no
+//! processor, and its number is 0.
 ghost use Rattle.std.specs.Prelude.{◌≡◌, ◌≢◌, ◌<◌, ◌≤◌, None, false};
 ghost use Rattle.rcu_seq.specs.Seq.{cookie_of, number_of};
 ghost use Rattle.rcu_seq.specs.Tags.{is_done_first};
@@ -12,7 +13,7 @@ use crate::handle::Rcu;
 use rcu_node::Awaited;
 use rcu_seq::Cookie;
 
-/// The number of processors.
+/// How many processors the engine has.
 #[unsafe(no_mangle)]
 pub extern "C" fn rcu_cpus(rcu: &mut Rcu) -> u32
     ensures unchanged { rcu.new.contents ≡ rcu.old.contents }
@@ -24,7 +25,7 @@ pub extern "C" fn rcu_cpus(rcu: &mut Rcu) -> u32
     }
 }
 
-/// The grace-period number.
+/// The grace-period number: 4 for each grace period that ended, and 1 more while one runs.
 #[unsafe(no_mangle)]
 pub extern "C" fn rcu_number(rcu: &mut Rcu) -> u64
     ensures unchanged { rcu.new.contents ≡ rcu.old.contents }
@@ -48,7 +49,7 @@ pub extern "C" fn rcu_running(rcu: &mut Rcu) -> bool
     }
 }
 
-/// Whether the processor is online in the engine, where there is such a processor.
+/// Whether the engine has the processor as online: false too where there is no such processor.
 #[unsafe(no_mangle)]
 pub extern "C" fn rcu_online(rcu: &mut Rcu, cpu: u32) -> bool
     ensures unchanged { rcu.new.contents ≡ rcu.old.contents }
@@ -62,7 +63,7 @@ pub extern "C" fn rcu_online(rcu: &mut Rcu, cpu: u32) -> bool
     }
 }
 
-/// Whether the processor is awaited, where there is such a processor.
+/// Whether the processor is awaited: false too where there is no such processor.
 #[unsafe(no_mangle)]
 pub extern "C" fn rcu_awaits(rcu: &mut Rcu, cpu: u32) -> bool
     ensures unchanged { rcu.new.contents ≡ rcu.old.contents }
@@ -88,8 +89,9 @@ pub extern "C" fn rcu_awaited(rcu: &mut Rcu) -> u32
     }
 }
 
-/// The cookie of a taking now, as `GpState::take`. It is never done where the handle is no open
-/// engine's.
+/// Takes a cookie: the number at which a grace period that begins from now on has ended. It asks
+/// for none: somebody begins one (`rcu_begin`, or `rcu_turn` where a tended callback waits).
+/// 2^64 - 1, which is done nowhere, where `rcu` is no open engine's.
 #[unsafe(no_mangle)]
 pub extern "C" fn rcu_take(rcu: &mut Rcu) -> u64
     ensures unchanged { rcu.new.contents ≡ rcu.old.contents }
@@ -103,7 +105,12 @@ pub extern "C" fn rcu_take(rcu: &mut Rcu) -> u64
     }
 }
 
-/// Whether a cookie is done, as `GpState::done`. It is not where the handle is no open engine's.
+/// Whether a cookie is done: the number has reached it. Then each section that was open at the
+/// taking has ended. Of a number that no taking gave nothing is said but that. False where `rcu` is
+/// no open engine's.
+///
+/// Where it returns true, of each section one of two holds: all of it comes before what follows
+/// this call, or it sees what the thread that took did before it took.
 #[unsafe(no_mangle)]
 pub extern "C" fn rcu_poll(rcu: &mut Rcu, cookie: u64) -> bool
     ensures unchanged { rcu.new.contents ≡ rcu.old.contents }

@@ -14,7 +14,7 @@ pub enum Refusal {
     SeatDealt,
     /// The seat is of another engine.
     OtherEngine,
-    /// The handle is closed.
+    /// The handle is closed, or was never opened.
     Closed,
     /// The handle is of the other kind.
     OtherKind,

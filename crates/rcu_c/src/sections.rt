@@ -1,4 +1,5 @@
-//! What a thread does by its seat alone: no call here waits, takes memory or needs a lock.
+//! A thread by its seat, with no lock, beside all calls on other handles. No call here waits or
+//! takes memory.
 ghost use Rattle.std.specs.Prelude.{◌≡◌, ◌≢◌, ◌==◌, None, false, not};
 ghost use Rattle.rcu_seq.specs.Numbers.{snapshot};
 ghost use Rattle.rcu_seq.specs.Tags.{is_done_first};
@@ -16,7 +17,7 @@ use crate::codes::{NEVER_DONE, NO_CPU, status, write_out};
 use crate::handle::RcuSeat;
 use rcu_seq::Cookie;
 
-/// The seat's processor: 2^32 - 1 where the handle is no open seat's.
+/// The seat's processor. 2^32 - 1, which is none, where `seat` is no open seat's.
 #[unsafe(no_mangle)]
 pub extern "C" fn rcu_seat_cpu(seat: &mut RcuSeat) -> u32
     ensures unchanged { seat.new.contents ≡ seat.old.contents }
@@ -28,7 +29,8 @@ pub extern "C" fn rcu_seat_cpu(seat: &mut RcuSeat) -> u32
     }
 }
 
-/// How deep the seat's read sections nest, as `CpuSeat::depth`: 0 where none is open.
+/// How deep the read sections of the seat nest: 0 where none is open, also where `seat` is no open
+/// seat's.
 #[unsafe(no_mangle)]
 pub extern "C" fn rcu_seat_depth(seat: &mut RcuSeat) -> u32
     ensures unchanged { seat.new.contents ≡ seat.old.contents }
@@ -40,7 +42,8 @@ pub extern "C" fn rcu_seat_depth(seat: &mut RcuSeat) -> u32
     }
 }
 
-/// Whether the seat's processor is online, be it awake or idle, as `CpuSeat::is_online`.
+/// Whether the seat's processor is online, be it awake or idle. False where `seat` is no open
+/// seat's.
 #[unsafe(no_mangle)]
 pub extern "C" fn rcu_seat_is_online(seat: &mut RcuSeat) -> bool
     ensures unchanged { seat.new.contents ≡ seat.old.contents }
@@ -52,7 +55,7 @@ pub extern "C" fn rcu_seat_is_online(seat: &mut RcuSeat) -> bool
     }
 }
 
-/// Whether the seat's processor is idle, as `CpuSeat::is_idle`.
+/// Whether the seat's processor is idle. False where `seat` is no open seat's.
 #[unsafe(no_mangle)]
 pub extern "C" fn rcu_seat_is_idle(seat: &mut RcuSeat) -> bool
     ensures unchanged { seat.new.contents ≡ seat.old.contents }
@@ -64,8 +67,7 @@ pub extern "C" fn rcu_seat_is_idle(seat: &mut RcuSeat) -> bool
     }
 }
 
-/// Opens a read section by one load, or nests one deeper in the open one by none, as
-/// `CpuSeat::enter`. Writes the depth.
+/// Opens a read section by one load, or nests one deeper in the open one by none. Writes the depth.
 ///
 /// Faults: 2 where the processor is offline; 23 where it is idle; 6 where the depth is 65,535.
 #[unsafe(no_mangle)]
@@ -84,8 +86,10 @@ pub extern "C" fn rcu_seat_enter(seat: &mut RcuSeat, depth: &mut u32) -> u32
     }
 }
 
-/// Leaves the innermost section, as `CpuSeat::exit`. Writes the depth: at 0 one load closed the
-/// section.
+/// Leaves the innermost section. Writes the depth: 0 where one load closed the section.
+///
+/// Neither this nor `rcu_seat_enter` orders what the thread stores: what a section did comes before
+/// the next quiescent state or departure.
 ///
 /// Fault 5: no section is open.
 #[unsafe(no_mangle)]
@@ -104,10 +108,19 @@ pub extern "C" fn rcu_seat_exit(seat: &mut RcuSeat, depth: &mut u32) -> u32
     }
 }
 
-/// Passes a quiescent state by one load and one store, as `CpuSeat::quiesce`. Writes the number
-/// that it saw.
+/// Passes a quiescent state, by one load and one store: what the thread read before, it uses no
+/// more. Writes the number that it saw.
+///
+/// What the thread did before comes before what follows the collection or the begin that finds this
+/// call. The sections that follow see what came before a begin whose number it saw, and what a
+/// thread did before it took a cookie that such a grace period makes done. A full fence stands
+/// before the look, so the number tests a cookie as `rcu_seat_poll` does. Unfenced the last does
+/// not hold, and what came before an `rcu_seat_take` is sure to be seen by sequentially consistent
+/// loads alone.
 ///
 /// Faults: 2 where the processor is offline; 23 where it is idle; 4 where a section is open.
+///
+/// Fence: before and behind.
 #[unsafe(no_mangle)]
 pub extern "C" fn rcu_seat_quiesce_unfenced(seat: &mut RcuSeat, number: &mut u64) -> u32
     ensures fault { result ≡ seat_number seat.old.contents
@@ -123,10 +136,21 @@ pub extern "C" fn rcu_seat_quiesce_unfenced(seat: &mut RcuSeat, number: &mut u64
     }
 }
 
-/// Passes a quiescent state, as `CpuSeat::quiesce_since`: by one load alone where the own word is
-/// the number that it saw and one more already. Writes the number.
+/// Passes a quiescent state by a load alone, where the last one still serves: where the number is
+/// the one that the seat's last `rcu_seat_quiesce`, `rcu_seat_wake`, `rcu_arrive` or call of this
+/// saw, this call stores nothing. No grace period began or ended since, so the processor is quiet
+/// for as much as it would be. Else it is as `rcu_seat_quiesce`. Writes the number that it saw.
+///
+/// `number` has what the seat's last `rcu_seat_quiesce`, `rcu_seat_wake` or call of this wrote, or
+/// 0. Where that is the number still, this call makes no fence: the one that wrote it made one, or
+/// no grace period was ever. The sections that follow see the same as after `rcu_seat_quiesce`. No
+/// fence stands before the look: its number tests no cookie for a thread that stored a wish to be
+/// woken. Unfenced, they are sure to see what came before an `rcu_seat_take` by sequentially
+/// consistent loads alone.
 ///
 /// Faults: 2 where the processor is offline; 23 where it is idle; 4 where a section is open.
+///
+/// Fence: behind where `number` changed.
 #[unsafe(no_mangle)]
 pub extern "C" fn rcu_seat_quiesce_since_unfenced(seat: &mut RcuSeat, number: &mut u64) -> u32
     ensures fault { result ≡ seat_number seat.old.contents
@@ -142,7 +166,12 @@ pub extern "C" fn rcu_seat_quiesce_since_unfenced(seat: &mut RcuSeat, number: &m
     }
 }
 
-/// The processor gets idle by one store, as `CpuSeat::idle`.
+/// The processor gets idle by one store, until it wakes or departs: it opens no section, and no
+/// grace period waits for it. It stays online, and its callbacks stay. For a thread that is about
+/// to block.
+///
+/// What the thread did before comes before what follows the collection or the begin that finds it
+/// idle.
 ///
 /// Faults: 2 where the processor is offline; 23 where it is idle; 4 where a section is open.
 #[unsafe(no_mangle)]
@@ -158,10 +187,17 @@ pub extern "C" fn rcu_seat_idle(seat: &mut RcuSeat) -> u32
     }
 }
 
-/// The processor wakes by one load and one store, as `CpuSeat::wake`. Writes the number that it
-/// saw.
+/// The processor wakes, by one load and one store. Writes the number that it saw.
+///
+/// A section may open once it returns. A grace period that begins later awaits the processor. Of
+/// one that found it idle, or whose number it saw, the section sees what came before its begin, and
+/// what a thread did before it took a cookie that is done at its end. Unfenced, what came before an
+/// `rcu_seat_take` is sure to be seen by sequentially consistent loads alone. No fence stands
+/// before the look: who stored a wish to be woken polls by `rcu_seat_poll`, and not by this number.
 ///
 /// Faults: 2 where the processor is offline; 24 where it is awake.
+///
+/// Fence: behind.
 #[unsafe(no_mangle)]
 pub extern "C" fn rcu_seat_wake_unfenced(seat: &mut RcuSeat, number: &mut u64) -> u32
     ensures fault { result ≡ seat_number seat.old.contents
@@ -177,8 +213,14 @@ pub extern "C" fn rcu_seat_wake_unfenced(seat: &mut RcuSeat, number: &mut u64) -
     }
 }
 
-/// The cookie of a taking at the number that one load sees, as `Watcher::take`. It is never done
-/// where the handle is no open seat's.
+/// Takes a cookie, as `rcu_take`, at the number that one load sees, which no later load is below.
+/// In a section or not, online or not. 2^64 - 1, which is done nowhere, where `seat` is no open
+/// seat's.
+///
+/// A full fence stands between what the thread did before, as an unlink, and that load. Unfenced, a
+/// section may still come to what was unlinked once the cookie is done.
+///
+/// Fence: before.
 #[unsafe(no_mangle)]
 pub extern "C" fn rcu_seat_take_unfenced(seat: &mut RcuSeat) -> u64
     ensures look { seat_refusal seat.old.contents ≡ None → WatchedAt seat.old.contents
@@ -195,8 +237,14 @@ pub extern "C" fn rcu_seat_take_unfenced(seat: &mut RcuSeat) -> u64
     }
 }
 
-/// Whether a cookie is done at the number that one load sees, as `Watcher::poll`. It is not where
-/// the handle is no open seat's.
+/// Whether a cookie is done, as `rcu_poll`, at the number that one load sees, which no later load
+/// is below. In a section or not, online or not. False where `seat` is no open seat's.
+///
+/// Where it returns false, what the thread stored before it is seen by what follows the `rcu_end`,
+/// the `rcu_turn` or the `rcu_seat_poll` that makes or finds the cookie done. Unfenced it is not: a
+/// thread that stores a wish to be woken, polls, and sleeps may sleep for good.
+///
+/// Fence: before, and behind where it returns true.
 #[unsafe(no_mangle)]
 pub extern "C" fn rcu_seat_poll_unfenced(seat: &mut RcuSeat, cookie: u64) -> bool
     ensures look { seat_refusal seat.old.contents ≡ None → WatchedAt seat.old.contents

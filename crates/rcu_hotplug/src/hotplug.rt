@@ -52,7 +52,8 @@ impl<A: Awaited> Model for Hotplug<A> {
 }
 
 impl<A: Awaited> Hotplug<A> {
-    /// Processor 0 is online, and nobody is awaited. The awaited set is as it was made.
+    /// Processor 0 is online, and nobody is awaited. The awaited set is as it was made. Costs a
+    /// step for every 64 processors.
     ///
     /// Fault: `NoMemory` (16).
     pub fn new(alloc: Global, inner: A) -> Result<Self, Fault>

@@ -70,7 +70,7 @@ impl<A: Awaited, T: Drop, P: Client> Engine<A, T, P> {
         Ok(Turned::Waiting(awaited))
     }
 
-    /// One step of driving. While a grace period runs, it collects from each processor that is
+    /// One step of driving: while a grace period runs, it collects from each processor that is
     /// awaited. Where none runs, one begins if callbacks need it. A grace period that awaits nobody
     /// then ends. Costs a load a processor at most, and a step.
     ///

@@ -163,6 +163,7 @@ impl<E: Entry<W>, const BUCKETS: usize, const W: usize, const N: usize> MapKeepe
     }
 
     /// The entry of this key, if there is one: no shared word is read. No entry has the key 0.
+    /// Costs a step for each node of its bucket up to there.
     pub fn get(&self, key: u64) -> Option<E>
         ensures there { IsSome result ↔ HasKey BUCKETS (nodes_in self.now.view.client) key }
         ensures found { IfSome result (λ entry.
@@ -182,7 +183,8 @@ impl<E: Entry<W>, const BUCKETS: usize, const W: usize, const N: usize> MapKeepe
     }
 
     /// Looks at the number, by one load, and returns it: what was left is retired at it, and what
-    /// was retired a full grace period ago is free. No entry changes.
+    /// was retired a full grace period ago is free. No entry changes. It costs what
+    /// it retires and frees.
     pub fn age<const LEAF: u32, const FAN: u32, T: Drop>(
         &mut self,
         map: &Map<LEAF, FAN, T, E, BUCKETS, W, N>,

@@ -19,7 +19,8 @@ impl<E: Entry<W>, const BUCKETS: usize, const W: usize, const N: usize> MapKeepe
     N,
 > {
     /// Puts an entry in, by one store, and returns true. Where an entry has its key, it returns
-    /// false. `Full` tells that no entry has its key, and that no node is free.
+    /// false. `Full` tells that no entry has its key, and that no node is free. Costs a step for
+    /// each node of its bucket up to there.
     pub fn insert<const LEAF: u32, const FAN: u32, T: Drop>(
         &mut self,
         map: &Map<LEAF, FAN, T, E, BUCKETS, W, N>,
@@ -50,7 +51,7 @@ impl<E: Entry<W>, const BUCKETS: usize, const W: usize, const N: usize> MapKeepe
 
     /// Puts an entry in the place of the one that has its key, by one store, and returns true: a
     /// section finds the old one or the new one. Where no entry has its key, it returns false.
-    /// `Full` tells that one has it, and that no node is free.
+    /// `Full` tells that one has it, and that no node is free. Costs as [`insert`](Self::insert).
     pub fn replace<const LEAF: u32, const FAN: u32, T: Drop>(
         &mut self,
         map: &Map<LEAF, FAN, T, E, BUCKETS, W, N>,

@@ -50,8 +50,9 @@ pub trait Awaited: Drop {
     fn is_empty(&self) -> bool
         ensures { result ≡ (size_of (awaited self.now) == 0) };
 
-    /// A grace period of this tag begins, and awaits the set. The set is one of as many
-    /// processors, and the tag's number is `4k + 1`.
+    /// A grace period of this tag begins, and awaits the set. The set is one of as many processors,
+    /// and the tag's number is `4k + 1`. Costs a step for every 64 processors, and in a tree one a
+    /// node.
     fn begin(&mut self, now: Tag, set: &CpuSet)
         requires alike { length set.now ≡ length (awaited self.old) }
         requires running { is_running now.number ≡ true }
@@ -59,8 +60,9 @@ pub trait Awaited: Drop {
         ensures start_set { start_set self.new ≡ set.now }
         ensures awaited { awaited self.new ≡ set.now };
 
-    /// A processor reports a quiescent state with the tag that it had noted. The caller answers
-    /// for the idle case: the report is compared with the tag alone.
+    /// A processor reports a quiescent state with the tag that it had noted. The caller answers for
+    /// the idle case: the report is compared with the tag alone. Costs a step, in a tree at most
+    /// one a level.
     fn report(&mut self, cpu: u32, noted: Tag) -> Answer
         requires { cpu < length (awaited self.old) }
         ensures answer { result ≡ report_answer (tag self.old) (awaited self.old) cpu noted }

@@ -51,7 +51,7 @@ impl Model for CpuSet {
 }
 
 impl CpuSet {
-    /// The empty set.
+    /// The empty set. Costs a step for every 64 processors.
     ///
     /// Faults: `TooManyCpus` (17) for no processor or more than 4,096; `NoMemory` (16).
     pub fn new(alloc: Global, cpus: u32) -> Result<Self, Fault>
@@ -117,7 +117,8 @@ impl CpuSet {
         true
     }
 
-    /// Puts each processor of another set of as many processors into the set.
+    /// Puts each processor of another set of as many processors into the set. Costs a step for
+    /// every 64 processors.
     pub fn insert_all(&mut self, other: &CpuSet)
         requires { length self.old ≡ length other.now }
         ensures { self.new ≡ union self.old other.now }
@@ -140,7 +141,7 @@ impl CpuSet {
         true
     }
 
-    /// Takes every processor out.
+    /// Takes every processor out. Costs a step for every 64 processors.
     pub fn clear(&mut self)
         ensures { self.new ≡ replicate (length self.old) false }
     {
@@ -148,7 +149,8 @@ impl CpuSet {
         self.count = 0;
     }
 
-    /// Becomes the same set as another one of as many processors.
+    /// Becomes the same set as another one of as many processors. Costs a step for every 64
+    /// processors.
     pub fn copy_from(&mut self, from: &CpuSet)
         requires { length self.old ≡ length from.now }
         ensures { self.new ≡ from.now }

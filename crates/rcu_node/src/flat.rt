@@ -16,7 +16,7 @@ use std::alloc::Global;
 pub type Flat = Tagged<FlatSets>;
 
 impl Flat {
-    /// Nobody is awaited, at tag 0.
+    /// Nobody is awaited, at tag 0. Costs a step for every 64 processors.
     ///
     /// Faults: `TooManyCpus` (17) for no processor or more than 4,096; `NoMemory` (16).
     pub fn new(alloc: Global, cpus: u32) -> Result<Flat, Fault>

@@ -22,7 +22,7 @@ use std::alloc::Global;
 pub type Tree<const LEAF: u32, const FAN: u32> = Tagged<Nodes<LEAF, FAN>>;
 
 impl<const LEAF: u32, const FAN: u32> Tree<LEAF, FAN> {
-    /// Nobody is awaited, at tag 0.
+    /// Nobody is awaited, at tag 0. Costs a step for every 64 processors, and one a node.
     ///
     /// Faults: `BadFanout` (18) where a fanout is outside 2..=64; `TooManyCpus` (17) for no
     /// processor, more than 4,096, or more than four levels hold; `NoMemory` (16).

@@ -39,7 +39,7 @@ impl Model for Batch {
 }
 
 impl Batch {
-    /// No report.
+    /// No report. Costs a step for every 64 processors.
     ///
     /// Faults: `TooManyCpus` (17) for no processor or more than 4,096; `NoMemory` (16).
     pub fn new(alloc: Global, cpus: u32, tag: Tag) -> Result<Self, Fault>
@@ -98,7 +98,7 @@ impl Batch {
         Ok(())
     }
 
-    /// Adds the reports of another batch.
+    /// Adds the reports of another batch. Costs a step for every 64 processors.
     ///
     /// Fault: `NotAlike` (20) for another tag or another number of processors.
     pub fn join(&mut self, other: &Batch) -> Result<(), Fault>

@@ -68,7 +68,7 @@ impl Seq {
         Seq::at_epoch(last, 0)
     }
 
-    /// A counter that is idle at 0 of this epoch.
+    /// A counter that is idle at 0 of this epoch. The epoch is at most 4,294,967,295.
     ///
     /// Fault `BadLast` (19): `last` is not a multiple of 4 in 4..=2^62.
     pub fn at_epoch(last: u64, epoch: u64) -> Result<Seq, Fault>

@@ -1,0 +1,103 @@
+"""The faults and needs that the doc comment of each export of rcu_c tells, beside its contract.
+
+Clauses name faults by their numbers, or by definitions of specs/ that say why a call is refused.
+Each call has the two faults of a handle that it does not take, too, which no doc comment lists."""
+import glob
+import os
+import re
+
+import c_calls
+import doc_comments as source
+
+EXPORT = re.compile(r"no_mangle\)\]\n(?:pub )?extern \"C\" fn (\w+)(.*?)^\{", re.DOTALL | re.MULTILINE)
+# A definition whose value is a fault, or has faults in it: its name, and its text.
+DEFINITION = re.compile(r"^ *(?:abbrev )?pub (\w+) : [^\n]*\b(?:Fault|Refusal)\b[^\n]*\n"
+                        r"((?: *\1\b[^\n]*\n(?: +(?!\1\b)(?!--)\S[^\n]*\n)*)+)", re.MULTILINE)
+# Of these the text names the faults in another order than they are tested in.
+OTHER_ORDER = {"if_own", "queue_refusal"}
+# The faults of a handle that a call does not take, and what stands for them in a clause.
+OF_HANDLES = {27, 28}
+NUMBER_OF_HANDLE = {"engine_number": "engine_refusal", "seat_number": "seat_refusal"}
+# It has no handle but the one that it opens.
+WITHOUT_HANDLE = {"rcu_open_as"}
+# What the contract of a call has, and never comes: the fanouts are 16 and 64; docs/C.md speaks of 3.
+NEVER = {"rcu_open_as": {18}, "rcu_depart": {3}}
+# What a `requires` says, and how a doc comment says it.
+NEEDS = [(r"IsNone rcu\b[\w.]*", "`rcu` is closed"), (r"IsNone seat\b[\w.]*", "`seat` is closed")]
+
+
+class Specs:
+    """The definitions of faults by name and crate, and the number of each fault."""
+
+    def __init__(self):
+        self.known, text = {}, ""
+        for path in sorted(glob.glob("crates/*/specs/*.antt", root_dir=source.ROOT)):
+            text += source.read(path)
+            for name, body in DEFINITION.findall(source.read(path)):
+                if name != "first_fault":
+                    self.known.setdefault(name, {})[path.split(os.sep)[1]] = body
+        self.numbers = {name: int(number) for name, number in re.findall(
+            r"^(?:fault|refusal)_number (\w+) = (\d+)$", text, re.MULTILINE)}
+
+    def faults_in(self, text, crate="rcu_c"):
+        """The faults that a text of a crate names, and lists of those that it tests in this order."""
+        words = re.findall(r"\w+", text)
+        named = [self.numbers[it] for it in words if it in self.numbers]
+        found, lists = set(named), [named]
+        for name in [it for it in words if it in self.known]:
+            own = crate if crate in self.known[name] else next(iter(self.known[name]))
+            # (what stands before '=' is the name itself, which a list's definition calls again)
+            body = re.sub(rf"(?m)^ *{name}\b[^=\n]*=|\b{name}\b", "", self.known[name][own])
+            below, more = self.faults_in(body, own)
+            found |= below
+            lists += more[1:] if name in OTHER_ORDER else more
+        return found, lists
+
+    def faults_of(self, clauses):
+        """The faults of a contract, and the lists of those that have an order."""
+        found, lists = set(), []
+        handles = "|".join(NUMBER_OF_HANDLE)
+        for text in re.findall(r"ensures(?: \w+)? \{ (.*?) \}\n", clauses, re.DOTALL):
+            for name in re.findall(rf"\w+_refusal\b|\b(?:{handles})\b", text):
+                below, more = self.faults_in(NUMBER_OF_HANDLE.get(name, name))
+                found |= below
+                lists += more
+            told = rf"(?:result ≡|\b(?:{handles}) [\w.]+)\s+"
+            found |= {int(it) for it in re.findall(rf"{told}(\d+)\b", text)}
+            for pair in re.findall(rf"{told}\(if .* then (\d+) else (\d+)\)", text):
+                found |= {int(it) for it in pair}
+            found |= {16} if "tested_number result" in text else set()
+        return found - {0}, lists
+
+
+def needs(call):
+    """What the doc comment says that must hold, of what a contract can require."""
+    said = " ".join(re.findall(r"Needs: (.*?)\.(?: |$)", " ".join(call.paragraphs)))
+    return {words for _, words in NEEDS if words in said}
+
+
+def required(clauses):
+    """What the `requires` of a call say; one that no doc comment has words for stands as it is."""
+    found = re.findall(r"requires(?: \w+)? \{ (.*?) \}", clauses)
+    return {next((words for pattern, words in NEEDS if re.fullmatch(pattern, it)), it) for it in found}
+
+
+def unlike(library):
+    """A row for each export whose doc comment says otherwise than its contract."""
+    specs = Specs()
+    contracts = dict(it for text in library.files.values() for it in EXPORT.findall(text))
+    for call in library.calls():
+        name, said, clauses = call.name, c_calls.faults_of(call), contracts[call.name]
+        found, lists = specs.faults_of(clauses)
+        found -= NEVER.get(name, set())
+        if said and name not in WITHOUT_HANDLE and not found >= OF_HANDLES:
+            yield f"{name}: its contract does not tell a handle that is closed or of the other kind"
+        found -= OF_HANDLES
+        if found != set(said):
+            yield f"{name}: its contract has the faults {sorted(found)}, its doc comment {said}"
+        for ordered in lists:
+            ordered = [it for it in ordered if it in said]
+            if ordered != [it for it in said if it in ordered]:
+                yield f"{name}: its contract tests {ordered} in this order, its doc comment has {said}"
+        if needs(call) != required(clauses):
+            yield f"{name} needs {sorted(required(clauses))}, its doc comment {sorted(needs(call))}"
