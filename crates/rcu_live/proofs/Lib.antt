@@ -7,10 +7,13 @@ pub mod Deals
 pub mod Dealt
 pub mod Departures
 pub mod DoneCookies
+pub mod Early
+pub mod Elapsed
 pub mod OwnWordLoads
 pub mod LoadedWords
 pub mod Frames
 pub mod HeardBelow
+pub mod ListRuns
 pub mod Loads
 pub mod Meetings
 pub mod Numbers

@@ -8,6 +8,7 @@ pub mod Met
 pub mod Numbers
 pub mod Opening
 pub mod Rule
+pub mod Runs
 pub mod TableSeat
 pub mod View
 pub mod Waits

@@ -4,8 +4,8 @@ ghost use Rattle.rcu_cblist.specs.SegList.{callbacks, is_empty};
 ghost use Rattle.rcu_barrier.specs.Lists.{list_of};
 ghost use Rattle.rcu_live.specs.Engine.{latest_word};
 ghost use Rattle.rcu_seq.specs.Memory.{tested_fault};
-ghost use Rattle.rcu_live.specs.EngineLists.{after_departure, after_join, after_leave};
-ghost use Rattle.rcu_live.specs.EngineLists.{after_load_own, leave_refusal};
+ghost use Rattle.rcu_live.specs.EngineLists.{leave_refusal};
+ghost use Rattle.rcu_live.specs.Runs.{Call, Makes};
 
 use crate::client::Client;
 use crate::engine::Engine;
@@ -17,7 +17,7 @@ impl<A: Awaited, T: Drop, P: Client> Engine<A, T, P> {
     /// begin on.
     pub fn join(&mut self, cpu: u32)
         requires { cpu < self.old.cpus }
-        ensures { self.new ≡ after_join self.old cpu }
+        ensures { Makes (Call.Join cpu) self.old self.new }
     {
         let _ = self.gp.arrive(cpu);
     }
@@ -37,14 +37,14 @@ impl<A: Awaited, T: Drop, P: Client> Engine<A, T, P> {
             moved ≡ length (callbacks (list_of self.old.grace.lists cpu))) }
         ensures fault { tested_fault result
             ≡ leave_refusal self.old cpu again (latest_word self.new) }
-        ensures state { OnOk result
-            (self.new ≡ after_leave self.old cpu (latest_word self.new)) }
+        ensures made { OnOk result
+            (Makes (Call.Leave cpu (latest_word self.new)) self.old self.new) }
         ensures looked { IfErr result (λ fault. fault ≢ Fault.NoMemory →
-            self.new ≡ after_load_own self.old cpu (latest_word self.new)) }
+            Makes (Call.Look cpu (latest_word self.new)) self.old self.new) }
         ensures memory { IfErr result (λ fault. fault ≡ Fault.NoMemory →
             is_empty (list_of self.old.grace.lists cpu) ≡ false) }
         ensures departed { IfErr result (λ fault. fault ≡ Fault.NoMemory →
-            self.new ≡ after_departure self.old cpu (latest_word self.new)) }
+            Makes (Call.Depart cpu (latest_word self.new)) self.old self.new) }
     {
         if self.board.load_own(&mut self.seat, cpu) != 0 {
             return Err(Fault::AlreadyOnline);

@@ -5,6 +5,7 @@ ghost use Rattle.rcu_node.specs.CpuSet.{is_in};
 ghost use Rattle.rcu_live.specs.Drive.{after_collections, after_drive, drive_answer};
 ghost use Rattle.rcu_live.specs.Drive.{drive_refusal, wants_begin, wants_for};
 ghost use Rattle.rcu_live.specs.Engine.{after_collect, latest_word, latest_words};
+ghost use Rattle.rcu_live.specs.Runs.{Call, Makes};
 
 use crate::client::Client;
 use crate::engine::Engine;
@@ -80,8 +81,8 @@ impl<A: Awaited, T: Drop, P: Client> Engine<A, T, P> {
             (wants_begin self.old.grace) (latest_words self.new)) }
         ensures fault { result_err result
             ≡ drive_refusal self.old.grace (wants_begin self.old.grace) }
-        ensures state { OnOk result (self.new ≡ after_drive self.old
-            (wants_begin self.old.grace) (latest_words self.new)) }
+        ensures made { OnOk result (Makes (Call.Drive (wants_begin self.old.grace)
+            (latest_words self.new)) self.old self.new) }
         ensures unchanged { OnErr result (self.new ≡ self.old) }
     {
         let is_wanted = self.gp.wants_begin();
@@ -97,8 +98,8 @@ impl<A: Awaited, T: Drop, P: Client> Engine<A, T, P> {
             (wants_for cookie self.old.grace) (latest_words self.new)) }
         ensures fault { result_err result
             ≡ drive_refusal self.old.grace (wants_for cookie self.old.grace) }
-        ensures state { OnOk result (self.new ≡ after_drive self.old
-            (wants_for cookie self.old.grace) (latest_words self.new)) }
+        ensures made { OnOk result (Makes (Call.Drive (wants_for cookie self.old.grace)
+            (latest_words self.new)) self.old self.new) }
         ensures unchanged { OnErr result (self.new ≡ self.old) }
     {
         let is_wanted = !cookie.is_done_first(self.gp.value());

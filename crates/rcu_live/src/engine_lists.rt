@@ -8,10 +8,10 @@ ghost use Rattle.rcu_node.specs.CpuSet.{is_in};
 ghost use Rattle.rcu_cblist.specs.SegList.{behind, callbacks, front, take_answer};
 ghost use Rattle.rcu_barrier.specs.Lists.{barrier_test_answer, list_of};
 ghost use Rattle.rcu_barrier.specs.Lists.{visit_answer};
-ghost use Rattle.rcu_core.specs.GpState as grace;
 ghost use Rattle.rcu_live.specs.EngineLists.{AreDue, barrier_begin_refusal};
-ghost use Rattle.rcu_live.specs.EngineLists.{barrier_test_refusal, on_grace, queue_refusal};
+ghost use Rattle.rcu_live.specs.EngineLists.{barrier_test_refusal, queue_refusal};
 ghost use Rattle.rcu_live.specs.EngineLists.{visit_refusal};
+ghost use Rattle.rcu_live.specs.Runs.{Call, Makes};
 ghost use Rattle.rcu_seq.specs.Memory.{tested_fault};
 
 use crate::client::Client;
@@ -34,8 +34,7 @@ impl<A: Awaited, T: Drop, P: Client> Engine<A, T, P> {
         ensures bounded { IfOk result (λ count. count ≤ 2 ^ 62) }
         ensures online { OnOk result (is_in self.old.grace.processors.online cpu ≡ true) }
         ensures room { OnOk result (self.old.grace.lists.queued < self.old.grace.lists.most) }
-        ensures state { OnOk result
-            (self.new ≡ on_grace (λ g. grace.after_queue g cpu value) self.old) }
+        ensures made { OnOk result (Makes (Call.Queue cpu value) self.old self.new) }
         ensures fault { IfErr result (λ refused. refused.fault ≡ queue_refusal self.old cpu) }
         ensures value { IfErr result (λ refused. refused.value ≡ value) }
         ensures unchanged { OnErr result (self.new ≡ self.old) }
@@ -55,8 +54,7 @@ impl<A: Awaited, T: Drop, P: Client> Engine<A, T, P> {
     /// Fault `BadCpu` (1): there is no such processor.
     pub fn tend(&mut self, cpu: u32) -> Result<(u64, u64), Fault>
         ensures fault { result_err result ≡ cpu_refusal self.old cpu }
-        ensures state { OnOk result
-            (self.new ≡ on_grace (λ g. grace.after_tend g cpu) self.old) }
+        ensures made { OnOk result (Makes (Call.Tend cpu) self.old self.new) }
         ensures done { IfOk result (λ tended.
             tended.0 ≡ length (callbacks (front (list_of self.new.grace.lists cpu)))) }
         ensures waiting { IfOk result (λ tended.
@@ -78,8 +76,7 @@ impl<A: Awaited, T: Drop, P: Client> Engine<A, T, P> {
         ensures number { IfOk result (λ ran. ran.number ≡ number_of self.old.grace.seq) }
         ensures calls { IfOk result (λ ran.
             ran.calls.items ≡ take_answer (list_of self.old.grace.lists cpu) max) }
-        ensures state { OnOk result
-            (self.new ≡ on_grace (λ g. grace.after_run g cpu max) self.old) }
+        ensures made { OnOk result (Makes (Call.Run cpu max) self.old self.new) }
         ensures due { IfOk result (λ ran. AreDue ran.number max ran.calls.items) }
         ensures memory { OnErr result (cpu < self.old.cpus →
             take_answer (list_of self.old.grace.lists cpu) max ≢ []) }
@@ -98,8 +95,7 @@ impl<A: Awaited, T: Drop, P: Client> Engine<A, T, P> {
     /// Fault `BarrierBusy` (13): one runs.
     pub fn barrier_begin(&mut self) -> Result<(), Fault>
         ensures fault { result_err result ≡ barrier_begin_refusal self.old }
-        ensures state { OnOk result
-            (self.new ≡ on_grace (λ g. grace.after_barrier_begin g) self.old) }
+        ensures made { OnOk result (Makes Call.BarrierBegin self.old self.new) }
         ensures unchanged { OnErr result (self.new ≡ self.old) }
     {
         self.gp.barrier_begin()
@@ -112,8 +108,7 @@ impl<A: Awaited, T: Drop, P: Client> Engine<A, T, P> {
     pub fn visit(&mut self, cpu: u32) -> Result<Visit, Fault>
         ensures fault { tested_fault result ≡ visit_refusal self.old cpu }
         ensures answer { IfOk result (λ visit. visit ≡ visit_answer self.old.grace.lists cpu) }
-        ensures state { OnOk result
-            (self.new ≡ on_grace (λ g. grace.after_visit g cpu) self.old) }
+        ensures made { OnOk result (Makes (Call.Visit cpu) self.old self.new) }
         ensures memory { IfErr result (λ fault. fault ≡ Fault.NoMemory →
             visit_answer self.old.grace.lists cpu ≡ Visit.Marked) }
         ensures unchanged { OnErr result (self.new ≡ self.old) }
@@ -131,8 +126,7 @@ impl<A: Awaited, T: Drop, P: Client> Engine<A, T, P> {
         ensures answer { IfOk result (λ found.
             found ≡ barrier_test_answer self.old.grace.lists) }
         ensures fault { result_err result ≡ barrier_test_refusal self.old }
-        ensures state { OnOk result
-            (self.new ≡ on_grace (λ g. grace.after_barrier_test g) self.old) }
+        ensures made { OnOk result (Makes Call.BarrierTest self.old self.new) }
         ensures unchanged { OnErr result (self.new ≡ self.old) }
     {
         self.gp.barrier_test()

@@ -3,9 +3,9 @@ ghost use Rattle.std.specs.Prelude.{◌≡◌, IfOk, OnErr, OnOk};
 ghost use Rattle.std.specs.Result.{result_err};
 ghost use Rattle.rcu_seq.specs.Seq.{number_of};
 ghost use Rattle.rcu_core.specs.GpState as grace;
-ghost use Rattle.rcu_live.specs.Engine.{after_begin, after_collect, after_end, after_turn};
 ghost use Rattle.rcu_live.specs.Engine.{collect_answer, latest_words, latest_word, turn_answer};
 ghost use Rattle.rcu_live.specs.Engine.{collected_by, cpu_refusal};
+ghost use Rattle.rcu_live.specs.Runs.{Call, Makes};
 
 use crate::begin::{load_own_words, report_all};
 use crate::client::Client;
@@ -36,8 +36,8 @@ impl<A: Awaited, T: Drop, P: Client> Engine<A, T, P> {
         ensures number { IfOk result (λ began. began.0 ≡ number_of self.new.grace.seq) }
         ensures awaited { IfOk result (λ began. began.1 ≡ grace.awaited_in self.new.grace) }
         ensures fault { result_err result ≡ grace.begin_refusal self.old.grace }
-        ensures state { OnOk result
-            (self.new ≡ after_begin self.old (latest_words self.new)) }
+        ensures made { OnOk result
+            (Makes (Call.Begin (latest_words self.new)) self.old self.new) }
         ensures unchanged { OnErr result (self.new ≡ self.old) }
     {
         let number = self.gp.next_number()?;
@@ -62,7 +62,7 @@ impl<A: Awaited, T: Drop, P: Client> Engine<A, T, P> {
     pub fn end(&mut self) -> Result<u64, Fault>
         ensures number { IfOk result (λ number. number ≡ number_of self.new.grace.seq) }
         ensures fault { result_err result ≡ grace.end_refusal self.old.grace }
-        ensures state { OnOk result (self.new ≡ after_end self.old) }
+        ensures made { OnOk result (Makes Call.End self.old self.new) }
         ensures unchanged { OnErr result (self.new ≡ self.old) }
     {
         let number = self.gp.end()?;
@@ -78,8 +78,8 @@ impl<A: Awaited, T: Drop, P: Client> Engine<A, T, P> {
         ensures answer { IfOk result (λ turned.
             turned ≡ turn_answer self.old (latest_words self.new)) }
         ensures fault { result_err result ≡ grace.turn_refusal self.old.grace }
-        ensures state { OnOk result
-            (self.new ≡ after_turn self.old (latest_words self.new)) }
+        ensures made { OnOk result
+            (Makes (Call.Turn (latest_words self.new)) self.old self.new) }
         ensures unchanged { OnErr result (self.new ≡ self.old) }
     {
         if self.gp.is_running() {
@@ -103,8 +103,8 @@ impl<A: Awaited, T: Drop, P: Client> Engine<A, T, P> {
     pub fn collect(&mut self, cpu: u32) -> Result<Collected, Fault>
         ensures answer { IfOk result (λ collected.
             collected ≡ collect_answer self.old cpu (latest_word self.new)) }
-        ensures state { OnOk result
-            (self.new ≡ after_collect self.old cpu (latest_word self.new)) }
+        ensures made { OnOk result
+            (Makes (Call.Collect cpu (latest_word self.new)) self.old self.new) }
         ensures fault { result_err result ≡ cpu_refusal self.old cpu }
         ensures unchanged { OnErr result (self.new ≡ self.old) }
     {

@@ -1,21 +1,31 @@
-//! What meetings say of cookies, and the rule of sections and cookies, over the definitions alone.
-ghost use Rattle.std.specs.Prelude.{◌≡◌, ◌<◌, ◌≤◌, ℕ, Some, slice_index, true, false};
+//! What meetings say of cookies, the rule of sections and cookies, and what holds of every run of
+//! the engine, whichever threads make its calls.
+ghost use Rattle.std.specs.Prelude.{◌≡◌, ◌<◌, ◌≤◌, ◌+◌, ◌∷◌, ℕ, List, Some, slice_get, slice_index};
+ghost use Rattle.std.specs.Prelude.{true, false};
 ghost use mathlib.Core.Option.{some};
 ghost use lib.ListN.{get_elem?};
 ghost use Rattle.atomic_table.specs.Table.{State};
 ghost use Rattle.rcu_seq.specs.Tags.{cookie_at, is_done_first, of_first_epoch};
-ghost use Rattle.rcu_seq.specs.Seq.{number_of};
+ghost use Rattle.rcu_seq.specs.Seq.{has_full_period, number_of, tag_of};
 ghost use Rattle.rcu_node.specs.CpuSet.{is_in};
-ghost use Rattle.rcu_core.specs.GpState.{Grace};
-ghost use Rattle.rcu_live.specs.Engine.{AwaitsTheOthers};
+ghost use Rattle.rcu_cblist.specs.SegList.{take_answer};
+ghost use Rattle.rcu_cblist.specs.declared.queued.Queued.{Queued};
+ghost use Rattle.rcu_barrier.specs.Lists.{barrier_test_answer, list_of};
+ghost use Rattle.rcu_barrier.specs.Runs.{times_listed};
+ghost use Rattle.rcu_barrier.specs.declared.barrier_state.BarrierState.{BarrierState};
+ghost use Rattle.rcu_core.specs.GpState.{Grace, HasWaited};
+ghost use Rattle.rcu_live.specs.Engine.{AwaitsTheOthers, Locked};
 ghost use Rattle.rcu_live.specs.Met.{MeetsSection};
 ghost use Rattle.rcu_live.specs.Rule.{IsKept};
+ghost use Rattle.rcu_live.specs.Runs.{Call, IsNew, IsRun, engine_after, queued_as};
+ghost use Rattle.rcu_live.specs.Runs.{queued_before_barrier, times_handed_out, turns_since};
 ghost use Rattle.rcu_live.specs.View.{IsOfEngine};
 ghost use Rattle.rcu_live.specs.declared.meeting.Met.{Met};
 ghost use Rattle.rcu_live.specs.declared.view.Role.TheVariants.{Cpu};
 ghost use Rattle.rcu_live.specs.declared.view.View.{View};
 
 use crate::client::Client;
+use rcu_barrier::run_laws;
 
 /// A watcher meets an open section, and takes a cookie. While it meets the same section again, the
 /// cookie is not done at any number that it saw up to then.
@@ -57,3 +67,54 @@ pub fn readers_finish_before_done<P: Client>()
         is_done_first (cookie_at (of_first_epoch (slice_index before.words 0)))
         (slice_index after.words 0) ≡ false }
 {}
+
+/// No callback runs twice: each is handed out at most once.
+pub fn no_callback_runs_twice<T: Drop, P: Client>()
+    ensures { (first : Locked P.Known T) (calls : List (Call T)) (place : ℕ) → IsNew first →
+        IsRun first calls → times_handed_out place first calls ≤ 1 }
+{
+    run_laws::no_callback_runs_twice::<T>();
+}
+
+/// No callback is lost: each one that was queued was handed out or lies in one list, once.
+pub fn no_callback_is_lost<T: Drop, P: Client>()
+    ensures { (first : Locked P.Known T) (calls : List (Call T)) (place : ℕ) → IsNew first →
+        IsRun first calls → 0 < place →
+        place ≤ (engine_after first calls).grace.lists.queued →
+        times_handed_out place first calls
+        + times_listed place (engine_after first calls).grace.lists ≡ 1 }
+{
+    run_laws::no_callback_is_lost::<T>();
+}
+
+/// A barrier covers earlier callbacks: when its test returns done, each callback that was queued
+/// before it began has been handed out.
+pub fn barrier_covers_earlier_callbacks<T: Drop, P: Client>()
+    ensures { (first : Locked P.Known T) (calls : List (Call T)) (place : ℕ) → IsNew first →
+        IsRun first (Call.BarrierTest ∷ calls) →
+        barrier_test_answer (engine_after first calls).grace.lists ≡ BarrierState.Done →
+        0 < place → place ≤ queued_before_barrier first calls →
+        times_handed_out place first calls ≡ 1 }
+{
+    run_laws::barrier_covers_earlier_callbacks::<T>();
+}
+
+/// No callback runs early: each that is handed out was queued, is what it was then, and a full
+/// grace period lies since: one began after it and ended. The number has reached the snapshot of
+/// that at its queueing.
+pub fn no_callback_runs_early<T: Drop, P: Client>()
+    ensures queued { (first : Locked P.Known T) (calls : List (Call T)) (cpu most at : ℕ)
+        (handed : Queued T) → IsNew first → IsRun first calls →
+        slice_get (take_answer (list_of (engine_after first calls).grace.lists cpu) most) at
+        ≡ Some handed → queued_as handed.ord first calls ≡ Some handed }
+    ensures waited { (first : Locked P.Known T) (calls : List (Call T)) (cpu most at : ℕ)
+        (handed : Queued T) → IsNew first → IsRun first calls →
+        slice_get (take_answer (list_of (engine_after first calls).grace.lists cpu) most) at
+        ≡ Some handed → HasWaited (tag_of (engine_after first calls).grace.seq) handed.at }
+    ensures period { (first : Locked P.Known T) (calls : List (Call T)) (cpu most at : ℕ)
+        (handed : Queued T) → IsNew first → IsRun first calls →
+        slice_get (take_answer (list_of (engine_after first calls).grace.lists cpu) most) at
+        ≡ Some handed → has_full_period (turns_since handed.ord first calls) ≡ true }
+{
+    run_laws::handed_callbacks_were_queued::<T>();
+}

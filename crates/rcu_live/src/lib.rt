@@ -7,6 +7,7 @@ pub mod client;
 mod client_words;
 pub mod collection;
 pub mod cpu_seat;
+pub mod definition_laws;
 pub mod engine;
 pub mod engine_cpus;
 pub mod engine_drive;

@@ -1,6 +1,8 @@
-use Rattle.std.proofs.Common.{◌≡◌, ℕ, ◌<◌, Bool, List, length, ap, sym, subst, ◌∙◌}
+use Rattle.std.proofs.Common.{◌≡◌, ℕ, ◌<◌, Bool, true, false, List, length, None, Some, refl, ap, sym, subst, ◌∙◌}
+use Rattle.std.specs.Prelude.{if◌then◌else◌}
 use Rattle.std.specs.Arc.{arc_value}
 use Rattle.rcu_seq.specs.Seq.{number_of}
+use Rattle.rcu_seq.specs.declared.fault.Fault.TheVariants as fault
 use Rattle.rcu_node.proofs.CpuSetLemmas.{length-listed}
 use Rattle.rcu_core.specs.GpState.{Grace}
 use Rattle.rcu_live.specs.Board.{Object}
@@ -47,8 +49,14 @@ invariant_of-self g c =
           (subst (λ (n : ℕ). d < n) (sym same) low) none;
     }
 
-pub returns-clause-state : goal.returns-clause-state
-returns-clause-state g c =
+-- where a begin is not refused no grace period runs
+none_runs : (running is_last : Bool)
+    → (if running then Some fault.Running else (if is_last then Some fault.Exhausted else None)) ≡ None → running ≡ false
+none_runs true is_last accepted = absurd (cc)
+none_runs false is_last accepted = refl
+
+pub returns-clause-made : goal.returns-clause-made
+returns-clause-made g c =
     let f = c.load_own_words.ensures in
     let old = c.self.inside.gp.grace in
     let v = c.self.inside.seat.me.0 in
@@ -63,9 +71,12 @@ returns-clause-state g c =
     let view : c.load_own_words.new.seat.me.0 ≡ after_own_word_loads (after_begin_store v (next_number old)) (loaded_word own_word_loads) cpus =
     f.view ∙ ap (λ (u : View g.row.P-Known.Denot). after_own_word_loads u (loaded_word own_word_loads) cpus)
     (c.begin.ensures.told ∙ ap (after_begin_store v) number) in
-    rw (← c.self.view_is) (λ i. record {
-      table = (arc_value c.self.inside.board).table;
-      cpus = (arc_value c.self.inside.board).cpus;
-      view = (view ∙ ap (after_own_word_loads (after_begin_store v (next_number old)) (loaded_word own_word_loads)) same) i;
-      grace = (state ∙ ap (λ (n : ℕ). begun_from n (loaded_word own_word_loads) old) same) i;
+    rw (← c.self.view_is) (record {
+      may = none_runs old.seq.running _ c.in_ok-number.ensures.accepted;
+      left = λ i. record {
+        table = (arc_value c.self.inside.board).table;
+        cpus = (arc_value c.self.inside.board).cpus;
+        view = (view ∙ ap (after_own_word_loads (after_begin_store v (next_number old)) (loaded_word own_word_loads)) same) i;
+        grace = (state ∙ ap (λ (n : ℕ). begun_from n (loaded_word own_word_loads) old) same) i;
+      };
     })

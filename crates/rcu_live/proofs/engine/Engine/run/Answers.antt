@@ -15,12 +15,15 @@ returns-in_err-calls-clause-memory g c =
 pub returns-clause-calls : goal.returns-clause-calls
 returns-clause-calls g c = rw (← c.self.view_is) c.in_ok-calls.ensures.ok
 
-pub returns-clause-state : goal.returns-clause-state
-returns-clause-state g c = rw (← c.self.view_is) (λ i. record {
-  table = (arc_value c.self.inside.board).table;
-  cpus = (arc_value c.self.inside.board).cpus;
-  view = c.self.inside.seat.me.0;
-  grace = c.in_ok-calls.ensures.state i;
+pub returns-clause-made : goal.returns-clause-made
+returns-clause-made g c = rw (← c.self.view_is) (record {
+  may = search rules;
+  left = λ i. record {
+    table = (arc_value c.self.inside.board).table;
+    cpus = (arc_value c.self.inside.board).cpus;
+    view = c.self.inside.seat.me.0;
+    grace = c.in_ok-calls.ensures.state i;
+  };
 })
 
 pub returns-clause-due : goal.returns-clause-due

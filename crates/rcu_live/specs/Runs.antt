@@ -1,0 +1,128 @@
+-- Runs of the engine: each call that it accepted, whoever made it, one at a time. The newest call stands first.
+use Rattle.std.specs.Prelude.{ℕ, ◌+◌, ◌≡◌, ◌<◌, ◌==◌, ◌&&◌, Bool, true, false, not, nat_lt, if◌then◌else◌}
+use Rattle.std.specs.Prelude.{List, [], ◌∷◌, ◌++◌, Option, Some, None}
+use Rattle.rcu_seq.specs.Seq.{Periods, tag_of}
+use Rattle.rcu_seq.specs.Seq as turn
+use Rattle.rcu_cblist.specs.SegList.{take_answer}
+use Rattle.rcu_cblist.specs.declared.queued.Queued.{Queued}
+use Rattle.rcu_barrier.specs.Lists.{at_first, list_of}
+use Rattle.rcu_barrier.specs.Runs.{copies}
+use Rattle.rcu_core.specs.GpState as grace
+use Rattle.rcu_live.specs.Drive.{after_drive}
+use Rattle.rcu_live.specs.Engine.{Locked, after_begin, after_collect, after_end, after_turn}
+use Rattle.rcu_live.specs.EngineLists.{after_departure, after_join, after_leave, after_load_own, on_grace}
+
+-- a call that was accepted, with the words that it loaded. A leave moves a list; it departs alone where memory was refused
+-- for that; and it looks alone where it is refused by what it found
+pub data Call (X : Type 0) : Type 0 where
+  Begin : (ℕ → ℕ) → Call X
+  End : Call X
+  Turn : (ℕ → ℕ) → Call X
+  Drive : Bool → (ℕ → ℕ) → Call X
+  Collect : ℕ → ℕ → Call X
+  Join : ℕ → Call X
+  Leave : ℕ → ℕ → Call X
+  Depart : ℕ → ℕ → Call X
+  Look : ℕ → ℕ → Call X
+  Queue : ℕ → X → Call X
+  Tend : ℕ → Call X
+  Run : ℕ → ℕ → Call X
+  BarrierBegin : Call X
+  Visit : ℕ → Call X
+  BarrierTest : Call X
+
+module _ {C X : Type 0} where
+  -- what a call leaves
+  abbrev pub after_call : Locked C X → Call X → Locked C X
+  after_call e (Begin word) = after_begin e word
+  after_call e End = after_end e
+  after_call e (Turn word) = after_turn e word
+  after_call e (Drive is_wanted word) = after_drive e is_wanted word
+  after_call e (Collect cpu word) = after_collect e cpu word
+  after_call e (Join cpu) = after_join e cpu
+  after_call e (Leave cpu word) = after_leave e cpu word
+  after_call e (Depart cpu word) = after_departure e cpu word
+  after_call e (Look cpu word) = after_load_own e cpu word
+  after_call e (Queue cpu value) = on_grace (λ g. grace.after_queue g cpu value) e
+  after_call e (Tend cpu) = on_grace (λ g. grace.after_tend g cpu) e
+  after_call e (Run cpu most) = on_grace (λ g. grace.after_run g cpu most) e
+  after_call e BarrierBegin = on_grace (λ g. grace.after_barrier_begin g) e
+  after_call e (Visit cpu) = on_grace (λ g. grace.after_visit g cpu) e
+  after_call e BarrierTest = on_grace (λ g. grace.after_barrier_test g) e
+
+  -- where it is accepted, this holds: a callback's call names a processor; a leave is of another than processor 0; no
+  -- grace period and no barrier begins while one runs, and what ends or tests one is of one that runs
+  abbrev pub MayCall : Locked C X → Call X → Type 0
+  MayCall e (Begin word) = e.grace.seq.running ≡ false
+  MayCall e End = e.grace.seq.running ≡ true
+  MayCall e (Leave cpu word) = (0 < cpu) × (cpu < e.cpus)
+  MayCall e (Queue cpu value) = cpu < e.cpus
+  MayCall e (Tend cpu) = cpu < e.cpus
+  MayCall e (Run cpu most) = cpu < e.cpus
+  MayCall e BarrierBegin = e.grace.lists.running ≡ false
+  MayCall e (Visit cpu) = (cpu < e.cpus) × (e.grace.lists.running ≡ true)
+  MayCall e BarrierTest = e.grace.lists.running ≡ true
+  MayCall e _ = Unit {0}
+
+  -- the engine took a step of a run: the call may be made, and leaves this
+  pub record Makes (call : Call X) (old new : Locked C X) : Type 0 where
+    pub may : MayCall old call
+    pub left : new ≡ after_call old call
+
+  -- the lists are as at first: nothing was queued, and no barrier runs
+  abbrev pub IsNew : Locked C X → Type 0
+  IsNew e = e.grace.lists ≡ at_first e.cpus e.grace.lists.most
+
+  -- what a run leaves of the engine that it began with
+  abbrev pub engine_after : Locked C X → List (Call X) → Locked C X
+  engine_after first [] = first
+  engine_after first (call ∷ calls) = after_call (engine_after first calls) call
+
+  -- each call of the run might be made where it was made
+  abbrev pub IsRun : Locked C X → List (Call X) → Type 0
+  IsRun first [] = Unit {0}
+  IsRun first (call ∷ calls) = MayCall (engine_after first calls) call × IsRun first calls
+
+  -- how often the callback of this place was handed out
+  abbrev pub times_handed_out : ℕ → Locked C X → List (Call X) → ℕ
+  times_handed_out place first [] = 0
+  times_handed_out place first (Run cpu most ∷ calls) =
+      copies place (take_answer (list_of (engine_after first calls).grace.lists cpu) most) + times_handed_out place first calls
+  times_handed_out place first (_ ∷ calls) = times_handed_out place first calls
+
+  -- the callback of this place, as it was queued: its place, the tag then, and its value
+  abbrev pub queued_as : ℕ → Locked C X → List (Call X) → Option (Queued X)
+  queued_as place first [] = None
+  queued_as place first (Queue cpu value ∷ calls) =
+      let e = engine_after first calls in
+      if e.grace.lists.queued + 1 == place
+      then Some (record { ord = e.grace.lists.queued + 1; at = tag_of e.grace.seq; value = value })
+      else queued_as place first calls
+  queued_as place first (_ ∷ calls) = queued_as place first calls
+
+  -- how many callbacks were queued before the latest barrier began
+  abbrev pub queued_before_barrier : Locked C X → List (Call X) → ℕ
+  queued_before_barrier first [] = 0
+  queued_before_barrier first (BarrierBegin ∷ calls) = (engine_after first calls).grace.lists.queued
+  queued_before_barrier first (_ ∷ calls) = queued_before_barrier first calls
+
+-- the begin and the end of a grace period that one call makes of a counter, the newest first: one ended where the count of
+-- ends is higher; one began where none ran before, and one runs now or has ended
+abbrev pub turns_between : Periods → Periods → List turn.Turn
+turns_between old new =
+    if nat_lt old.ends new.ends then turn.End ∷ (if old.running then [] else turn.Begin ∷ [])
+    else (if new.running && not old.running then turn.Begin ∷ [] else [])
+
+module _ {C X : Type 0} where
+  -- the call queues the callback of this place
+  abbrev pub queues : ℕ → Locked C X → Call X → Bool
+  queues place e (Queue cpu value) = e.grace.lists.queued + 1 == place
+  queues place e _ = false
+
+  -- the begins and the ends of grace periods since the callback of this place was queued
+  abbrev pub turns_since : ℕ → Locked C X → List (Call X) → List turn.Turn
+  turns_since place first [] = []
+  turns_since place first (call ∷ calls) =
+      let e = engine_after first calls in
+      if queues place e call then []
+      else turns_between e.grace.seq (after_call e call).grace.seq ++ turns_since place first calls

@@ -1,0 +1,108 @@
+//! What the words of a run of the engine say, on small runs.
+ghost use Rattle.std.specs.Prelude.{◌≡◌, [], ◌∷◌, ℕ, List, None, Some, false, true};
+ghost use Rattle.atomic_table.specs.Seated.{TableId};
+ghost use Rattle.rcu_seq.specs.Numbers.{Number};
+ghost use Rattle.rcu_seq.specs.Seq.{has_full_period};
+ghost use Rattle.rcu_seq.specs.Tags.{first_tag};
+ghost use Rattle.rcu_barrier.specs.Lists.{barrier_test_answer};
+ghost use Rattle.rcu_barrier.specs.Runs.{times_listed};
+ghost use Rattle.rcu_barrier.specs.declared.barrier_state.BarrierState.{BarrierState};
+ghost use Rattle.rcu_live.specs.Numbers.{idle_word};
+ghost use Rattle.rcu_live.specs.Opening.{engine_at_first};
+ghost use Rattle.rcu_live.specs.Runs.{Call, IsNew, IsRun, Makes, engine_after, queued_as};
+ghost use Rattle.rcu_live.specs.Runs.{queued_before_barrier, times_handed_out, turns_since};
+
+use crate::client::Client;
+
+/// A callback is handed out once: it was queued and tended, a grace period began that found its
+/// processor idle, and ended, and it was tended and run. It came as it was queued, and no list has
+/// it then.
+pub fn a_run_hands_its_callback_out<T: Drop, P: Client>()
+    ensures run { (table : TableId) (last : Number) (most : ℕ) (value : T) →
+        IsRun (engine_at_first table 1 last most P.idle) (Call.Run 0 1 ∷ Call.Tend 0 ∷ Call.End
+        ∷ Call.Begin (λ _. idle_word) ∷ Call.Tend 0 ∷ Call.Queue 0 value ∷ []) }
+    ensures once { (table : TableId) (last : Number) (most : ℕ) (value : T) →
+        times_handed_out 1 (engine_at_first table 1 last most P.idle) (Call.Run 0 1 ∷ Call.Tend 0
+        ∷ Call.End ∷ Call.Begin (λ _. idle_word) ∷ Call.Tend 0 ∷ Call.Queue 0 value ∷ []) ≡ 1 }
+    ensures gone { (table : TableId) (last : Number) (most : ℕ) (value : T) →
+        times_listed 1 (engine_after (engine_at_first table 1 last most P.idle) (Call.Run 0 1
+        ∷ Call.Tend 0 ∷ Call.End ∷ Call.Begin (λ _. idle_word) ∷ Call.Tend 0 ∷ Call.Queue 0 value
+        ∷ [])).grace.lists ≡ 0 }
+    ensures period { (table : TableId) (last : Number) (most : ℕ) (value : T) →
+        has_full_period (turns_since 1 (engine_at_first table 1 last most P.idle) (Call.Tend 0
+        ∷ Call.End ∷ Call.Begin (λ _. idle_word) ∷ Call.Tend 0 ∷ Call.Queue 0 value ∷ [])) ≡ true }
+    ensures queued { (table : TableId) (last : Number) (most : ℕ) (value : T) →
+        queued_as 1 (engine_at_first table 1 last most P.idle) (Call.Tend 0 ∷ Call.Queue 0 value
+        ∷ []) ≡ Some (record { ord = 1; at = first_tag; value = value }) }
+    ensures no_other { (table : TableId) (last : Number) (most : ℕ) (value : T) →
+        queued_as 2 (engine_at_first table 1 last most P.idle) (Call.Tend 0 ∷ Call.Queue 0 value
+        ∷ []) ≡ None }
+{}
+
+/// A callback that waits is not handed out: its grace period began and did not end, or began before
+/// it was queued. It lies in its list.
+pub fn a_callback_that_waits_stays_listed<T: Drop, P: Client>()
+    ensures none { (table : TableId) (last : Number) (most : ℕ) (value : T) →
+        times_handed_out 1 (engine_at_first table 1 last most P.idle) (Call.Run 0 1 ∷ Call.Tend 0
+        ∷ Call.Begin (λ _. idle_word) ∷ Call.Tend 0 ∷ Call.Queue 0 value ∷ []) ≡ 0 }
+    ensures listed { (table : TableId) (last : Number) (most : ℕ) (value : T) →
+        times_listed 1 (engine_after (engine_at_first table 1 last most P.idle) (Call.Run 0 1
+        ∷ Call.Tend 0 ∷ Call.Begin (λ _. idle_word) ∷ Call.Tend 0 ∷ Call.Queue 0 value
+        ∷ [])).grace.lists ≡ 1 }
+    ensures begun { (table : TableId) (last : Number) (most : ℕ) (value : T) →
+        has_full_period (turns_since 1 (engine_at_first table 1 last most P.idle)
+        (Call.Begin (λ _. idle_word) ∷ Call.Queue 0 value ∷ [])) ≡ false }
+    ensures before { (table : TableId) (last : Number) (most : ℕ) (value : T) →
+        has_full_period (turns_since 1 (engine_at_first table 1 last most P.idle)
+        (Call.End ∷ Call.Queue 0 value ∷ Call.Begin (λ _. idle_word) ∷ [])) ≡ false }
+{}
+
+/// A step of driving that finds its processor idle is a begin and an end.
+pub fn a_step_of_driving_may_be_a_full_grace_period<T: Drop, P: Client>()
+    ensures idle { (table : TableId) (last : Number) (most : ℕ) (value : T) →
+        has_full_period (turns_since 1 (engine_at_first table 1 last most P.idle)
+        (Call.Drive true (λ _. idle_word) ∷ Call.Queue 0 value ∷ [])) ≡ true }
+    ensures awaited { (table : TableId) (last : Number) (most : ℕ) (value : T) →
+        has_full_period (turns_since 1 (engine_at_first table 1 last most P.idle)
+        (Call.Drive true (λ _. 1) ∷ Call.Queue 0 value ∷ [])) ≡ false }
+{}
+
+/// A barrier counts what was queued before it, and nothing that comes later.
+pub fn a_barrier_waits_for_what_was_before_it<T: Drop, P: Client>()
+    ensures before { (table : TableId) (last : Number) (most : ℕ) (value : T) →
+        queued_before_barrier (engine_at_first table 1 last most P.idle) (Call.Queue 0 value
+        ∷ Call.Visit 0 ∷ Call.BarrierBegin ∷ Call.Queue 0 value ∷ []) ≡ 1 }
+    ensures waits { (table : TableId) (last : Number) (most : ℕ) (value : T) →
+        barrier_test_answer (engine_after (engine_at_first table 1 last most P.idle)
+        (Call.Queue 0 value ∷ Call.Visit 0 ∷ Call.BarrierBegin ∷ Call.Queue 0 value
+        ∷ [])).grace.lists ≡ BarrierState.Waits 1 }
+{}
+
+/// A run has no call of a callback for a processor that there is not, no leave of processor 0, no
+/// second grace period or barrier beside one, and no end or visit of one that does not run.
+pub fn a_run_has_only_calls_that_may_be_made<T: Drop, P: Client>()
+    ensures cpu { (table : TableId) (last : Number) (most : ℕ) (value : T) →
+        IsRun (engine_at_first table 2 last most P.idle) (Call.Queue 2 value ∷ []) → ⊥ }
+    ensures first { (table : TableId) (last : Number) (most : ℕ) →
+        IsRun {X = T} (engine_at_first table 2 last most P.idle) (Call.Leave 0 0 ∷ []) → ⊥ }
+    ensures begin { (table : TableId) (last : Number) (most : ℕ) →
+        IsRun {X = T} (engine_at_first table 2 last most P.idle)
+        (Call.Begin (λ _. 1) ∷ Call.Begin (λ _. 1) ∷ []) → ⊥ }
+    ensures end { (table : TableId) (last : Number) (most : ℕ) →
+        IsRun {X = T} (engine_at_first table 2 last most P.idle) (Call.End ∷ []) → ⊥ }
+    ensures visit { (table : TableId) (last : Number) (most : ℕ) →
+        IsRun {X = T} (engine_at_first table 2 last most P.idle) (Call.Visit 0 ∷ []) → ⊥ }
+{}
+
+/// An engine is new as it is opened, and is not once a callback was queued. A queueing is a step
+/// that leaves another engine.
+pub fn an_engine_is_new_until_a_queueing<T: Drop, P: Client>()
+    ensures new { (table : TableId) (cpus : ℕ) (last : Number) (most : ℕ) →
+        IsNew {X = T} (engine_at_first table cpus last most P.idle) }
+    ensures used { (table : TableId) (last : Number) (most : ℕ) (value : T) →
+        IsNew (engine_after (engine_at_first table 1 last most P.idle) (Call.Queue 0 value ∷ []))
+        → ⊥ }
+    ensures step { (table : TableId) (last : Number) (most : ℕ) (value : T) →
+        Makes (Call.Queue 0 value) (engine_at_first table 1 last most P.idle)
+        (engine_at_first table 1 last most P.idle) → ⊥ }
+{}
