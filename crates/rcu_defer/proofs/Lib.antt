@@ -1,4 +1,5 @@
 pub mod Batches
 pub mod Orders
+pub mod Sections
 pub mod Shown
 pub mod Waits

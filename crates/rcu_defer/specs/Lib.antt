@@ -1,3 +1,5 @@
 pub mod DeferList
+pub mod Deferrer
 pub mod Histories
 pub mod Marks
+pub mod Moments

@@ -1,8 +1,9 @@
 //! One thread's list of deferred values.
-ghost use Rattle.std.specs.Prelude.{◌≡◌, ◌<◌, ◌≤◌, ◌^◌, All, IfErr, IfSome, IsOk, None, OnErr, OnOk};
-ghost use Rattle.std.specs.Prelude.{length, slice_get};
+ghost use Rattle.std.specs.Prelude.{◌≡◌, ◌<◌, ◌≤◌, ◌^◌, All, IfErr, IfSome, IsOk, None, OnErr};
+ghost use Rattle.std.specs.Prelude.{OnOk, length, slice_get};
 ghost use Rattle.rcu_defer.specs.DeferList.{defer_fault, list_after_defer, list_after_take};
-ghost use Rattle.rcu_defer.specs.DeferList.{list_after_tend, list_at_first, taken_values, with_room};
+ghost use Rattle.rcu_defer.specs.DeferList.{list_after_tend, list_at_first, taken_values};
+ghost use Rattle.rcu_defer.specs.DeferList.{with_room};
 ghost use Rattle.rcu_defer.specs.Marks.{defer_refusal, last_number, ready_of};
 
 use crate::marks::Marks;
@@ -119,6 +120,13 @@ impl<T: Drop> DeferList<T> {
         ensures { result ≡ ready_of self.now.marks }
     {
         self.marks.ready()
+    }
+
+    /// The number of the last tend, 0 before any.
+    pub fn seen(&self) -> u64
+        ensures { result ≡ self.now.marks.seen }
+    {
+        self.marks.seen()
     }
 
     /// The greatest number that a value waits for, as [`Marks::last_until`].

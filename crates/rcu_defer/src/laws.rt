@@ -1,13 +1,19 @@
 //! What deferrals promise over all that a thread does to them.
-ghost use Rattle.std.specs.Prelude.{◌≡◌, ℕ, ◌<◌, ◌≤◌, ◌++◌, All, IfSome, List, length, slice_get, take};
+ghost use Rattle.std.specs.Prelude.{◌≡◌, ℕ, ◌<◌, ◌≤◌, ◌++◌, All, IfSome, List, length};
+ghost use Rattle.std.specs.Prelude.{slice_get, take};
 ghost use Rattle.rcu_seq.specs.Numbers.{Number};
 ghost use Rattle.rcu_defer.specs.Histories.{Call, HasWaited, deferred_in, list_after, marks_after};
 ghost use Rattle.rcu_defer.specs.Histories.{taken_in};
 ghost use Rattle.rcu_defer.specs.Marks.{deferred_of, due};
+ghost use Rattle.rcu_defer.specs.Moments.{HasOpen, IsMoment, Moment, calls_of};
+
+use rcu_live::Client;
+use rcu_live::laws::readers_finish_before_done;
 
 /// The numbers that are due are the longest front of those that are reached.
 pub fn due_is_the_longest_front()
-    ensures front { (n : Number) (us : List Number) → All (λ until. until ≤ n) (take (due n us) us) }
+    ensures front { (n : Number) (us : List Number) →
+        All (λ until. until ≤ n) (take (due n us) us) }
     ensures longest { (n : Number) (us : List Number) →
         IfSome (slice_get us (due n us)) (λ until. n < until) }
 {}
@@ -39,3 +45,15 @@ pub fn values_are_taken_in_order<T: Drop>()
     ensures marks { (calls : List (Call T)) →
         (list_after calls).marks ≡ marks_after calls }
 {}
+
+/// A thread defers, tends and takes at moments of the engine, at each of which the engine's rule
+/// holds. While a section stays open, no more is done than was deferred before: so each section
+/// that was open at a deferral has ended where that is done, and where it is taken out.
+pub fn sections_end_before_deferrals_are_done<T, P: Client>()
+    ensures { (cpus seat : ℕ) (at : Number) (later earlier : List (Moment P.Slot P.Known T)) →
+        All (IsMoment P.holds cpus) later → All (HasOpen seat at) later →
+        (marks_after (calls_of (later ++ earlier))).done
+        ≤ length (deferred_in (calls_of earlier)) }
+{
+    readers_finish_before_done::<P>();
+}

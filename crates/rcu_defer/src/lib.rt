@@ -3,8 +3,10 @@
 
 mod batch;
 pub mod defer_list;
+pub mod deferrer;
 pub mod laws;
 pub mod marks;
 
 pub use defer_list::DeferList;
+pub use deferrer::Deferrer;
 pub use marks::Marks;

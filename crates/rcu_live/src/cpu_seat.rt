@@ -246,7 +246,8 @@ impl<P: Client> CpuSeat<P> {
             };
             board.store(seat, data.cpu(), number + 1);
         }
-        *opened = Some(board.open_section(seat));
+        let began = board.open_section(seat);
+        *opened = Some(began);
         number
     }
 
@@ -342,11 +343,10 @@ impl<P: Client> CpuSeat<P> {
         ensures state { IfOk result (λ number. RenewedAt P.closed self.old number self.new) }
         ensures unchanged { OnErr result (self.new ≡ self.old) }
     {
-        if self.depth() == 1 {
-            Ok(self.renew_outermost(live.board()))
-        } else {
-            Err(self.no_outermost())
+        if self.depth() != 1 {
+            return Err(self.no_outermost());
         }
+        Ok(self.renew_outermost(live.board()))
     }
 
     /// The processor is idle from now on, until it wakes or departs: one store of 2^63 in its own
