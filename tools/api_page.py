@@ -1,5 +1,5 @@
 """The blocks of docs/API.md, for tools/write_calls: of each public call of the crates that a heading
-names the first sentence of its doc comment, its faults and its signature.
+names the first sentence of its doc comment, its faults and its signature; and the list for C.
 
 Laws are left out, and the modules that the page's last section names. What the page has keeps its
 place among the types and calls of its block; what is new comes last.
@@ -8,6 +8,7 @@ import os
 import re
 import textwrap
 
+import c_calls
 import doc_comments as source
 
 PAGE = "docs/API.md"
@@ -81,6 +82,17 @@ def block(calls, before):
         else:
             found += [(place(rf"^fn {it.name}\b", before), told(it, "")) for it in own]
     return "".join(f"{row}\n" for _, rows in sorted(found, key=lambda it: it[0]) for row in rows)
+
+
+def of_c(library):
+    """The list of the calls for C: what each does in a few words, and its faults."""
+    for call in library.calls():
+        name, faults = call.name.removesuffix(c_calls.UNFENCED), c_calls.faults_of(call)
+        text = f"- `{name}`: {c_calls.about(call.paragraphs)}."
+        text = re.sub(r"(?<=[ (])(rcu_\w+)", r"`\1`", text)
+        if faults:
+            text += f" Fault{'s' * (len(faults) > 1)}: {', '.join(map(str, faults))}."
+        yield textwrap.fill(text, WIDTH, subsequent_indent="  ", break_on_hyphens=False) + "\n"
 
 
 def written(page):

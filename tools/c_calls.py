@@ -129,6 +129,12 @@ def faults_of(call):
     return []
 
 
+def about(paragraphs):
+    """What a call does, in a few words."""
+    text = re.split(r"[.:](?: |$)|, (?=by|at|and|which)", paragraphs[0])[0].replace("`", "")
+    return text[0].lower() + text[1:]
+
+
 def returns_fault(call):
     """Whether it returns 0 or a fault: that of a handle, where its doc comment lists none."""
     places = [kind for _, kind in call.parameters() if kind.startswith("&mut ")]

@@ -18,25 +18,19 @@ def plain(text):
     return re.sub(r"(?<=[.:]) (?=[A-Z])", "\n", text)
 
 
-def about(paragraphs):
-    """What a call does, in a few words."""
-    text = re.split(r"[.:](?: |$)|, (?=by|at|and|which)", paragraphs[0])[0].replace("`", "")
-    return text[0].lower() + text[1:]
-
-
 def listed(library):
     """The calls as the overview lists them, under the head of each file."""
     for head, calls in library.groups:
         yield f".SS {plain(re.split(r'[:.]', head[0])[0])}"
         for call in calls:
             name = call.name.removesuffix(c_calls.UNFENCED)
-            yield f".TP\n.BR {name} (3)\n{about(call.paragraphs)}"
+            yield f".TP\n.BR {name} (3)\n{c_calls.about(call.paragraphs)}"
 
 
 def page(title, names, prototypes, paragraphs, faults):
     """The page of a call. `faults`: the name, number and words of each that it returns."""
     refused = [it for it in paragraphs if re.match(r"Faults?\b", it)]
-    rows = [f".TH {names[0]} 3 {title}", ".SH NAME", f"{', '.join(names)} \\- {about(paragraphs)}",
+    rows = [f".TH {names[0]} 3 {title}", ".SH NAME", f"{', '.join(names)} \\- {c_calls.about(paragraphs)}",
             ".SH SYNOPSIS", ".nf", ".B #include <rcu.h>", ".PP", *(f".B {it}" for it in prototypes),
             ".fi", ".SH DESCRIPTION", 
             "\n.PP\n".join(plain(it) for it in paragraphs if it not in refused)]
