@@ -41,11 +41,6 @@ def lines_of_body(lines, first):
     return body, len(lines) - 1
 
 
-def last_line(lines, first):
-    """The line on which the item ends that begins on the first one, as rt fmt lays it out."""
-    return lines_of_body(lines, first)[1]
-
-
 def without_arguments(text):
     """The text without what stands in angle brackets."""
     before = None
@@ -88,7 +83,7 @@ def functions_in(text, module, types):
         block, head = BLOCK.match(line), HEAD.match(line)
         if not block and not head:
             continue
-        last = last_line(lines, number)
+        _, last = lines_of_body(lines, number)
         if block:
             whole = " ".join([block[1], *lines[number + 1 : last + 1]])
             is_of_trait = block[1].startswith("trait") or " for " in whole.partition("{")[0]
