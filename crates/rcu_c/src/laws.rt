@@ -1,27 +1,39 @@
 //! What the definitions of handles say together.
-ghost use Rattle.std.specs.Prelude.{◌≡◌, ◌≢◌, ◌<◌, ◌≤◌, ◌-◌, ◌^◌, ℕ, None, Option, Some};
-ghost use Rattle.std.specs.Prelude.{false, length};
+ghost use Rattle.std.specs.Prelude.{◌≡◌, ◌≢◌, ◌<◌, ◌≤◌, ◌+◌, ◌-◌, ◌^◌, ◌∷◌, ℕ, List, None, Option};
+ghost use Rattle.std.specs.Prelude.{Some, false, if◌then◌else◌, length, slice_get, true};
 ghost use Rattle.atomic_table.specs.Seated.{TableId};
 ghost use Rattle.rcu_seq.specs.Numbers.{Number};
-ghost use Rattle.rcu_seq.specs.Seq.{cookie_of, number_of, tag_of};
+ghost use Rattle.rcu_seq.specs.Seq.{cookie_of, has_full_period, number_of, tag_of};
 ghost use Rattle.rcu_seq.specs.Tags.{is_done_first};
+ghost use Rattle.rcu_cblist.specs.SegList.{take_answer};
+ghost use Rattle.rcu_cblist.specs.declared.queued.Queued.{Queued};
+ghost use Rattle.rcu_barrier.specs.Lists.{barrier_test_answer, list_of};
+ghost use Rattle.rcu_barrier.specs.Runs.{times_listed};
+ghost use Rattle.rcu_barrier.specs.declared.barrier_state.BarrierState.{BarrierState};
+ghost use Rattle.rcu_core.specs.GpState as grace;
 ghost use Rattle.rcu_core.specs.GpState.{Grace, awaited_in};
 ghost use Rattle.rcu_live.specs.CpuSeat.{Seated};
 ghost use Rattle.rcu_live.specs.Engine as live;
-ghost use Rattle.rcu_live.specs.Engine.{HasWaited, Locked};
+ghost use Rattle.rcu_live.specs.Engine.{HasWaited, Locked, cpu_refusal};
 ghost use Rattle.rcu_live.specs.EngineLists as lists;
+ghost use Rattle.rcu_live.specs.EngineLists.{visit_refusal};
+ghost use Rattle.rcu_live.specs.Runs.{Call, IsNew, IsRun, Makes, engine_after, queued_as};
+ghost use Rattle.rcu_live.specs.Runs.{queued_before_barrier, times_handed_out, turns_since};
 ghost use Rattle.rcu_live.specs.Watcher.{Watching};
+ghost use Rattle.rcu_c.specs.Answers.{number_for};
 ghost use Rattle.rcu_c.specs.Belonging.{BelongsTo, HasSectionAt, IsEngineAt, IsSameObject, Moment};
 ghost use Rattle.rcu_c.specs.Engines.{EngineAndSeats, opened_at_first, seat_at, with_seat};
 ghost use Rattle.rcu_c.specs.Engines.{without_seat};
-ghost use Rattle.rcu_c.specs.Holding.{engine_of, grace_of, never_done, no_engine, no_seat};
-ghost use Rattle.rcu_c.specs.Holding.{on_cpu, on_engine, on_grace, on_opened, on_watcher, seat_of};
+ghost use Rattle.rcu_c.specs.Holding.{cpu_of, engine_of, grace_of, never_done, no_engine};
+ghost use Rattle.rcu_c.specs.Holding.{no_seat, on_cpu, on_engine, on_grace, on_opened};
+ghost use Rattle.rcu_c.specs.Holding.{on_watcher, seat_of};
+ghost use Rattle.rcu_c.specs.Refusals.{CanQueue, engine_number, going_refusal};
 ghost use Rattle.rcu_c.specs.Seats.{Seat, seat_at_first};
 ghost use Rattle.rcu_c.specs.declared.contents.Contents.{Contents};
 ghost use Rattle.rcu_c.specs.declared.identity.Identity.{Identity};
 
-use rcu_live::NoClient;
 use rcu_live::laws::readers_finish_before_done;
+use rcu_live::{NoClient, laws};
 
 /// A newly opened engine has the seat of each processor to deal. Each is one of its own: it reads
 /// the words that the engine writes, and the engine takes it.
@@ -107,4 +119,102 @@ pub fn sections_end_before_what_waits_for_them()
         HasWaited (number_of (grace_of running).seq) (tag_of (grace_of queueing).seq) → ⊥ }
 {
     readers_finish_before_done::<NoClient>();
+}
+
+/// Each call that changes an engine, and returns 0, is a step of a run of it: what its clause
+/// `state` says is what the step leaves, and what its faults say is why the step may be made. A
+/// departure that returns 2 or 16 is one, too. An engine is new as it is opened.
+pub fn calls_are_steps_of_a_run()
+    ensures new { (identity : Identity) (table : TableId) (cpus last : ℕ) →
+        IsNew (opened_at_first identity table cpus last).engine }
+    ensures begin { (rcu : Option Contents) (word : ℕ → ℕ) →
+        engine_number rcu (number_for (grace.begin_refusal (grace_of rcu))) ≡ 0 →
+        Makes (Call.Begin word) (engine_of rcu)
+        (engine_of (on_engine (λ e. live.after_begin e word) rcu)) }
+    ensures end { (rcu : Option Contents) →
+        engine_number rcu (number_for (grace.end_refusal (grace_of rcu))) ≡ 0 →
+        Makes Call.End (engine_of rcu) (engine_of (on_engine (λ e. live.after_end e) rcu)) }
+    ensures turn { (rcu : Option Contents) (word : ℕ → ℕ) → Makes (Call.Turn word)
+        (engine_of rcu) (engine_of (on_engine (λ e. live.after_turn e word) rcu)) }
+    ensures collect { (rcu : Option Contents) (cpu word : ℕ) → Makes (Call.Collect cpu word)
+        (engine_of rcu) (engine_of (on_engine (λ e. live.after_collect e cpu word) rcu)) }
+    ensures arrive { (rcu : Option Contents) (cpu : ℕ) → Makes (Call.Join cpu) (engine_of rcu)
+        (engine_of (on_grace (λ g. lists.with_arrival g cpu) rcu)) }
+    ensures depart { (rcu seat : Option Contents) (word : ℕ) → going_refusal rcu seat ≡ None →
+        Makes (Call.Leave (cpu_of seat).cpu word) (engine_of rcu)
+        (engine_of (on_engine (λ e. lists.after_leave e (cpu_of seat).cpu word) rcu)) }
+    ensures looked { (rcu : Option Contents) (cpu word : ℕ) → Makes (Call.Look cpu word)
+        (engine_of rcu) (engine_of (on_engine (λ e. lists.after_load_own e cpu word) rcu)) }
+    ensures departed { (rcu : Option Contents) (cpu word : ℕ) → Makes (Call.Depart cpu word)
+        (engine_of rcu) (engine_of (on_engine (λ e. lists.after_departure e cpu word) rcu)) }
+    ensures queue { (rcu : Option Contents) (cpu value : ℕ) → CanQueue (engine_of rcu) cpu →
+        Makes (Call.Queue cpu value) (engine_of rcu)
+        (engine_of (on_grace (λ g. grace.after_queue g cpu value) rcu)) }
+    ensures tend { (rcu : Option Contents) (cpu : ℕ) →
+        engine_number rcu (number_for (cpu_refusal (engine_of rcu) cpu)) ≡ 0 →
+        Makes (Call.Tend cpu) (engine_of rcu)
+        (engine_of (on_grace (λ g. grace.after_tend g cpu) rcu)) }
+    ensures run { (rcu : Option Contents) (cpu most : ℕ) →
+        engine_number rcu (number_for (cpu_refusal (engine_of rcu) cpu)) ≡ 0 →
+        Makes (Call.Run cpu most) (engine_of rcu)
+        (engine_of (on_grace (λ g. grace.after_run g cpu most) rcu)) }
+    ensures barrier_begin { (rcu : Option Contents) →
+        engine_number rcu (if (grace_of rcu).lists.running then 13 else 0) ≡ 0 →
+        Makes Call.BarrierBegin (engine_of rcu)
+        (engine_of (on_grace (λ g. grace.after_barrier_begin g) rcu)) }
+    ensures visit { (rcu : Option Contents) (cpu : ℕ) →
+        engine_number rcu (number_for (visit_refusal (engine_of rcu) cpu)) ≡ 0 →
+        Makes (Call.Visit cpu) (engine_of rcu)
+        (engine_of (on_grace (λ g. grace.after_visit g cpu) rcu)) }
+    ensures barrier_test { (rcu : Option Contents) →
+        engine_number rcu (if (grace_of rcu).lists.running then 0 else 14) ≡ 0 →
+        Makes Call.BarrierTest (engine_of rcu)
+        (engine_of (on_grace (λ g. grace.after_barrier_test g) rcu)) }
+{}
+
+/// No callback runs twice: each value that was queued is handed out at most once.
+pub fn no_callback_runs_twice()
+    ensures { (first : Locked (Unit {0}) ℕ) (calls : List (Call ℕ)) (place : ℕ) →
+        IsNew first → IsRun first calls → times_handed_out place first calls ≤ 1 }
+{
+    laws::no_callback_runs_twice::<u64, NoClient>();
+}
+
+/// No callback is lost while its engine is open: each one that was queued was handed out or lies in
+/// one list, once.
+pub fn no_callback_is_lost()
+    ensures { (first : Locked (Unit {0}) ℕ) (calls : List (Call ℕ)) (place : ℕ) → IsNew first →
+        IsRun first calls → 0 < place →
+        place ≤ (engine_after first calls).grace.lists.queued →
+        times_handed_out place first calls
+        + times_listed place (engine_after first calls).grace.lists ≡ 1 }
+{
+    laws::no_callback_is_lost::<u64, NoClient>();
+}
+
+/// A barrier covers earlier callbacks: when its test writes 0, each callback that was queued before
+/// it began has been handed out.
+pub fn barrier_covers_earlier_callbacks()
+    ensures { (first : Locked (Unit {0}) ℕ) (calls : List (Call ℕ)) (place : ℕ) → IsNew first →
+        IsRun first (Call.BarrierTest ∷ calls) →
+        barrier_test_answer (engine_after first calls).grace.lists ≡ BarrierState.Done →
+        0 < place → place ≤ queued_before_barrier first calls →
+        times_handed_out place first calls ≡ 1 }
+{
+    laws::barrier_covers_earlier_callbacks::<u64, NoClient>();
+}
+
+/// No callback runs early: each that is handed out was queued, is what it was then, and a full
+/// grace period lies since: one began after it and ended.
+pub fn no_callback_runs_early()
+    ensures queued { (first : Locked (Unit {0}) ℕ) (calls : List (Call ℕ)) (cpu most at : ℕ)
+        (handed : Queued ℕ) → IsNew first → IsRun first calls →
+        slice_get (take_answer (list_of (engine_after first calls).grace.lists cpu) most) at
+        ≡ Some handed → queued_as handed.ord first calls ≡ Some handed }
+    ensures period { (first : Locked (Unit {0}) ℕ) (calls : List (Call ℕ)) (cpu most at : ℕ)
+        (handed : Queued ℕ) → IsNew first → IsRun first calls →
+        slice_get (take_answer (list_of (engine_after first calls).grace.lists cpu) most) at
+        ≡ Some handed → has_full_period (turns_since handed.ord first calls) ≡ true }
+{
+    laws::no_callback_runs_early::<u64, NoClient>();
 }
