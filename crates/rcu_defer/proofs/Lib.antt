@@ -1,4 +1,5 @@
 pub mod Batches
+pub mod Late
 pub mod Orders
 pub mod Sections
 pub mod Shown

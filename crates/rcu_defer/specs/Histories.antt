@@ -51,3 +51,10 @@ module _ {X : Type 0} where
     pub is : calls ≡ later ++ Tend now ∷ (between ++ Tend at ∷ earlier)
     pub before : k < length (deferred_in earlier)
     pub reached : snapshot at ≤ now
+
+  -- the numbers of the tends never fall
+  abbrev pub NeverFalls : List (Call X) → Type 0
+  NeverFalls [] = Unit {0}
+  NeverFalls (Defer x ∷ earlier) = NeverFalls earlier
+  NeverFalls (Tend n ∷ earlier) = ((marks_after earlier).seen ≤ n) × NeverFalls earlier
+  NeverFalls (Take most ∷ earlier) = NeverFalls earlier

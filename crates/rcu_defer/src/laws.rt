@@ -3,7 +3,7 @@ ghost use Rattle.std.specs.Prelude.{◌≡◌, ℕ, ◌<◌, ◌≤◌, ◌++◌
 ghost use Rattle.std.specs.Prelude.{slice_get, take};
 ghost use Rattle.rcu_seq.specs.Numbers.{Number};
 ghost use Rattle.rcu_defer.specs.Histories.{Call, HasWaited, deferred_in, list_after, marks_after};
-ghost use Rattle.rcu_defer.specs.Histories.{taken_in};
+ghost use Rattle.rcu_defer.specs.Histories.{NeverFalls, taken_in};
 ghost use Rattle.rcu_defer.specs.Marks.{deferred_of, due};
 ghost use Rattle.rcu_defer.specs.Moments.{HasOpen, IsMoment, Moment, calls_of};
 
@@ -32,6 +32,13 @@ pub fn deferrals_are_counted_once<T>()
 pub fn deferrals_wait_for_a_grace_period<T>()
     ensures { (calls : List (Call T)) (k : ℕ) → k < (marks_after calls).done →
         HasWaited calls k }
+{}
+
+/// Where the numbers of the tends never fall, none is done late: one that came before a tend is
+/// done once a full grace period lies between that one and a later one.
+pub fn deferrals_that_waited_are_done<T>()
+    ensures { (calls : List (Call T)) (k : ℕ) → NeverFalls calls → HasWaited calls k →
+        k < (marks_after calls).done }
 {}
 
 /// What was taken out, and then what is in the list, is what was deferred, in order: none is lost
