@@ -1,5 +1,5 @@
-"""What the tests of the crates in bindings/ have in common: an install of the library, cargo over it,
-and faults that are planted in a copy.
+"""What the tests of the crates in bindings/ have in common: an install of the library, cargo over
+it, and faults that are planted in a copy.
 """
 import os
 import re
@@ -75,9 +75,9 @@ def tests_passed(told):
 
 def try_crate(what, crate, env):
     """The layout, the compiler's and clippy's warnings, the tests and the documentation."""
-    for tool, words, name in [
-            ("rustfmt", ["cargo", "fmt", "--check"], "the layout of rustfmt"),
-            ("cargo-clippy", ["cargo", "clippy", "--offline", "--all-targets"], "what clippy says")]:
+    clippy = ["cargo", "clippy", "--offline", "--all-targets"]
+    for tool, words, name in [("rustfmt", ["cargo", "fmt", "--check"], "the layout of rustfmt"),
+                              ("cargo-clippy", clippy, "what clippy says")]:
         if shutil.which(tool) is None:
             print(f"{what}: {tool} is not here, so it was not asked")
         else:
@@ -117,17 +117,19 @@ def is_found(crate, env, test, only):
 
 
 def plant(folder, crate, env, faults):
-    """Plants each fault alone in the crate's copy. Each is a name, a file, what stands in it once
-    and what takes its place, a test, and the functions of that which have to find it."""
-    env = {**env, "RUSTFLAGS": ""}
-    for what, file, old, new, test, *only in faults:
+    """Plants each fault alone in the crate's copy. Each is a name, a file, pairs of a text that
+    stands in it once and what takes its place, a test, and the functions of that which have to find
+    it."""
+    env = {**env, "RUSTFLAGS": "", "CARGO_PROFILE_TEST_OPT_LEVEL": "2"}
+    for what, file, pairs, test, *only in faults:
         path = f"{folder}/bindings/{crate}/{file}"
-        plain = read(path)
-        if plain.count(old) != 1:
-            count(False, f"{what}: '{old}' does not stand once in {file}")
-            continue
-        write(path, plain.replace(old, new))
-        found = is_found(f"{folder}/bindings/{crate}", env, test, only)
+        plain = turned = read(path)
+        for old, new in pairs:
+            if turned.count(old) != 1:
+                print(f"'{old}' does not stand once in {file}")
+            turned = turned.replace(old, new)
+        write(path, turned)
+        found = turned != plain and is_found(f"{folder}/bindings/{crate}", env, test, only)
         count(found, f"{what}: {'not built' if found is None else 'no test found it'}")
         write(path, plain)
 

@@ -4,9 +4,9 @@
 Use: bindings/model/claim.py
 
 One thread pins, pins itself anew and unpins for ever, and one drives. It goes wrong where both make
-a call on the seat, where the engine refuses a call, or where a seat is made idle in a section; and
-where no way leads to a quiescent state or idleness any more. Without any one of its fences, looks and
-exchanges it goes wrong. The last line is 'N passed, M failed'.
+a call on the seat, where the engine refuses a call, or where a pinned thread reads in no section;
+and where no way leads to a quiescent state or idleness any more. Without any one of its looks and
+exchanges and its fence it goes wrong. The last line is 'N passed, M failed'.
 """
 import sys
 from collections import namedtuple
@@ -15,8 +15,8 @@ sys.dont_write_bytecode = True
 from walk import judge, load
 
 AWAKE, TAKEN, IDLE, ASKED = "awake", "taken", "idle", "asked"
-CALLS = ("wake", "pass", "enter", "exit", "exit anew", "pass anew", "enter anew")
-PARTS = ("the pin's fence", "the pin's look at the state", "the wait while it is taken",
+CALLS = ("wake", "pass", "pass anew")
+PARTS = ("the pin's exchange", "the pin's look at the state", "the wait while it is taken",
          "the exchange of who was asked", "the driver's fence", "the exchange of who takes",
          "the driver's look behind it")
 
@@ -24,9 +24,9 @@ PARTS = ("the pin's fence", "the pin's look at the state", "the wait while it is
 MOST = 3
 
 # `pc` of the thread and of who drives; what the driver saw of the state, and early of `pinned`; the
-# two words; the stores that wait; and of the seat, whether it is idle and has a section.
-State = namedtuple("State", "thread driver saw early pinned state own theirs idle section")
-START = State("announce", "look", None, None, 0, IDLE, (), (), True, False)
+# two words; the stores that wait; and whether the seat is idle. Awake, it has a section.
+State = namedtuple("State", "thread driver saw early pinned state own theirs idle")
+START = State("announce", "look", None, None, 0, IDLE, (), (), True)
 
 
 def flushes(now):
@@ -54,33 +54,33 @@ def thread_steps(now, without):
     def store(word, value, then):
         return now._replace(own=now.own + ((word, value),), thread=then)
 
-    if pc == "announce":
-        yield store("pinned", 1, "fence")
-    elif pc == "fence":
-        if not now.own or without == "the pin's fence":
-            yield now._replace(thread="look")
+    if pc == "announce" and without == "the pin's exchange":
+        yield store("pinned", 1, "look")
+    elif pc == "announce":
+        if not now.own:
+            yield now._replace(pinned=1, thread="look")
     elif pc == "look":
-        ways = {AWAKE: "enter", IDLE: "wake", ASKED: "turn", TAKEN: "give way"}
+        ways = {AWAKE: "read", IDLE: "wake", ASKED: "turn", TAKEN: "give way"}
         if without == "the wait while it is taken":
-            ways[TAKEN] = "enter"
+            ways[TAKEN] = "read"
         blind = without == "the pin's look at the state"
-        yield now._replace(thread="enter" if blind else ways[seen])
+        yield now._replace(thread="read" if blind else ways[seen])
     elif pc in ("turn", "turn anew"):
-        then = "pass" if pc == "turn" else "exit anew"
+        then = "pass" if pc == "turn" else "pass anew"
         if without == "the exchange of who was asked":
             yield store("state", AWAKE, then)
         else:
             other = "look" if pc == "turn" else "read"
             yield from exchange(now, "own", ASKED, AWAKE, then, other)
     elif pc == "awake":
-        yield store("state", AWAKE, "enter")
+        yield store("state", AWAKE, "read")
     elif pc == "give way":
         yield store("pinned", 0, "wait")
     elif pc == "wait":
         if seen != TAKEN:
             yield now._replace(thread="announce")
     elif pc == "read":
-        yield now._replace(thread="exit")
+        yield "a thread reads in no section" if now.idle else now._replace(thread="unpin")
         if seen == ASKED:
             yield now._replace(thread="turn anew")
     elif pc == "unpin":
@@ -90,15 +90,12 @@ def thread_steps(now, without):
 
 
 def thread_calls(now):
-    """The thread's next call of the engine."""
+    """The thread's next call of the engine: to wake and enter, or to exit, pass and enter."""
     pc = now.thread
-    behind = {"wake": "awake", "pass": "enter", "enter": "read", "exit": "unpin",
-              "exit anew": "pass anew", "pass anew": "enter anew", "enter anew": "read"}
     if (pc == "wake") != now.idle:
         yield f"refused: {pc} where the seat is {'idle' if now.idle else 'awake'}"
-        return
-    section = {"enter": True, "exit": False, "exit anew": False, "enter anew": True}
-    yield now._replace(thread=behind[pc], idle=False, section=section.get(pc, now.section))
+    else:
+        yield now._replace(thread="awake" if pc == "wake" else "read", idle=False)
 
 
 def driver_steps(now, without):
@@ -128,9 +125,7 @@ def driver_steps(now, without):
         blind = without == "the driver's look behind it"
         yield now._replace(driver="back" if pinned and not blind else "idle")
     elif pc == "idle":
-        if now.section:
-            yield "a seat is made idle in a section"
-        elif now.thread in CALLS:
+        if now.thread in CALLS:
             yield "two calls are made on a seat"
         elif now.idle:
             yield "refused: idle where the seat is idle"

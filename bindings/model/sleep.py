@@ -1,5 +1,5 @@
 #!/usr/bin/env python3
-"""How a thread sleeps until readers are quiet, and the last one wakes it (bindings/rust/src/inner.rs).
+"""How a thread sleeps until readers are quiet, and the last one wakes it (rust/src/inner.rs).
 
 Use: bindings/model/sleep.py
 
@@ -17,8 +17,8 @@ PARTS = ("the look behind the wish", "the lock of who wakes", "the order of a re
          "the order of the maker's two steps", "the exchange of a wish")
 READERS = (0, 1)
 
-# `pc` of the maker and of the readers; how many are missing; of each reader whether it is wanted and
-# quiet; the stores that wait; who has the lock; whether the maker was woken.
+# `pc` of the maker and of the readers; how many are missing; of each reader whether it is wanted
+# and quiet; the stores that wait; who has the lock; whether the maker was woken.
 State = namedtuple("State", "maker readers missing wanted quiet waiting lock woken")
 START = State(("wish", 0), ("get quiet", "get quiet"), 0, (0, 0), (0, 0), ((), (), ()), "maker",
               False)

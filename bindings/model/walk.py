@@ -1,8 +1,8 @@
 """Walks all states of a protocol of a few threads, over x86's store buffers.
 
 A protocol is a function from a state to what may come next: states, or sentences that say what went
-wrong. A store waits in its thread's buffer until it reaches memory, at any time and in order; a load
-finds the thread's own store first. An exchange and a fence wait until the buffer is empty.
+wrong. A store waits in its thread's buffer until it reaches memory, at any time and in order; a
+load finds the thread's own store first. An exchange and a fence wait until the buffer is empty.
 """
 
 
@@ -46,8 +46,8 @@ def load(memory, buffer, word):
 
 
 def judge(what, start, steps, parts, goal):
-    """Walks the whole protocol, and each one that lacks a part. Returns what is not as it has to be:
-    the whole is right, and comes to its goal from each state; each other one goes wrong."""
+    """Walks the whole protocol, and each one that lacks a part. Yields what is not as it has to be:
+    the whole is right and comes to its goal from each state, and each other one goes wrong."""
     after, wrong = reach(start, steps(None))
     if wrong:
         yield f"{what}: {wrong}"

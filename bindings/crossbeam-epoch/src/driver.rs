@@ -77,7 +77,7 @@ impl Driver {
     }
 
     /// Goes on with the grace periods that somebody waits for, and waits for none. `own` is the
-    /// caller's seat, held and in no section.
+    /// caller's seat, just pinned.
     pub(crate) fn step(&mut self, global: &Global, own: Option<&Seat>) {
         for _ in 0..ENDS {
             if !self.runs {

@@ -104,7 +104,7 @@ impl Global {
     }
 
     /// One step of the engine, where somebody waits and nobody else makes one. `own` is the
-    /// caller's seat, held and in no section.
+    /// caller's seat, just pinned.
     pub(crate) fn step(&self, own: Option<&Seat>) {
         if self.is_reached(self.ended.0.load(Relaxed)) {
             return;

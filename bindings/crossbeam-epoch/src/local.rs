@@ -7,6 +7,7 @@ use crate::guard::Guard;
 use crate::seat::Seat;
 use std::cell::{Cell, RefCell};
 use std::collections::VecDeque;
+use std::mem;
 use std::sync::atomic::{fence, Ordering::SeqCst};
 use std::sync::Arc;
 
@@ -81,22 +82,22 @@ impl Local {
     pub(crate) fn pin(&self) -> Guard {
         let guards = self.guards.get();
         self.guards.set(guards + 1);
-        // (Also for what panics below.)
-        let guard = Guard { local: self };
         if guards == 0 {
-            match &self.seat {
-                Some(seat) => {
-                    seat.hold();
-                    if self.is_time_to_look() {
-                        self.pin_and_look(seat);
-                    } else {
-                        seat.enter();
-                    }
-                }
-                None => self.pin_on_bench(),
-            }
+            self.pin_first();
         }
-        guard
+        Guard { local: self }
+    }
+
+    fn pin_first(&self) {
+        match &self.seat {
+            Some(seat) => {
+                seat.pin();
+                if self.is_time_to_look() {
+                    self.pin_and_look(seat);
+                }
+            }
+            None => self.pin_on_bench(),
+        }
     }
 
     #[inline]
@@ -112,12 +113,27 @@ impl Local {
             self.want();
         }
         self.global().step(Some(seat));
-        seat.enter();
-        self.run_done();
+        self.unpin_if_it_panics(Local::run_done);
+    }
+
+    /// Calls what may panic, before the guard of a pin is there.
+    fn unpin_if_it_panics(&self, call: impl Fn(&Local)) {
+        let guard = Guard { local: self };
+        call(self);
+        mem::forget(guard);
     }
 
     #[cold]
     fn pin_on_bench(&self) {
+        self.sit_down();
+        if self.is_time_to_look() {
+            self.want();
+            self.unpin_if_it_panics(Local::look);
+        }
+    }
+
+    /// Takes a place on the bench for threads that pin now. A full fence.
+    fn sit_down(&self) {
         let now = self.global().bench();
         let bench = &self.global().benches[now];
         let mut pinned = bench.pinned.lock();
@@ -127,12 +143,7 @@ impl Local {
             fence(SeqCst);
         }
         *pinned += 1;
-        drop(pinned);
         self.bench.set(now);
-        if self.is_time_to_look() {
-            self.want();
-            self.look();
-        }
     }
 
     /// Whether the last guard went after the last handle: then it is to be finished.
@@ -168,7 +179,7 @@ impl Local {
                 Some(seat) => seat.repin(),
                 None => {
                     self.unpin_from_bench();
-                    self.pin_on_bench();
+                    self.sit_down();
                 }
             }
         }

@@ -1,9 +1,11 @@
 //! A processor of the engine, for one thread at a time, and how that thread is pinned.
 //!
-//! An unpinned thread may sleep for ever, so no grace period may wait for it; and to get idle at
-//! each unpin, and awake at each pin, would cost two exchanges and a fence. So the unpin is a plain
-//! store, and the seat stays awake. Who drives a grace period claims the seats that it awaits, and
-//! makes those idle whose threads are unpinned. Such a thread wakes its seat at its next pin.
+//! An unpinned thread may sleep for ever, so no grace period may wait for it; and to open a section
+//! and wake at each pin, and to get idle at each unpin, would cost two exchanges and a fence. So the
+//! seat stays awake, with a section open, and a pin and an unpin are a store each to a word of this
+//! crate. Who drives a grace period claims the seats that it awaits: where the thread is unpinned it
+//! leaves the section for it, and makes the seat idle; a pinned one it asks for a quiescent state.
+//! The thread wakes its seat, or passes the state that was asked for, at its next pin or repin.
 //!
 //! `pinned` and `state` are the only words that two threads look at with no lock. The thread stores
 //! `pinned`, and then looks at `state`; who drives stores `state`, and then looks at `pinned`. A
@@ -12,18 +14,18 @@
 
 use rcu::handles::{EngineHandle, SeatHandle};
 use std::sync::atomic::{
-    fence, AtomicU32, Ordering::AcqRel, Ordering::Acquire, Ordering::Relaxed, Ordering::Release,
-    Ordering::SeqCst,
+    compiler_fence, fence, AtomicU32, Ordering::AcqRel, Ordering::Acquire, Ordering::Relaxed,
+    Ordering::Release, Ordering::SeqCst,
 };
 use std::thread::yield_now;
 
-/// The seat is its thread's, and awake.
+/// The seat is its thread's: awake, with a section open.
 const AWAKE: u32 = 0;
 /// It is in the hands of who drives.
 const TAKEN: u32 = 1;
-/// It was made idle.
+/// It was made idle, with no section open.
 const IDLE: u32 = 2;
-/// It is its thread's, and awake, and who drives asked for a quiescent state.
+/// As AWAKE, and who drives asked for a quiescent state.
 const ASKED: u32 = 3;
 
 /// On cache lines of its own.
@@ -36,10 +38,10 @@ pub(crate) struct Seat {
 }
 
 // SAFETY: one thread at a time makes calls on the handle, and what it did is seen by the next one.
-// The seat's thread makes them between `hold` and `let_go`, by which it stores `pinned` by release.
-// Who drives makes one where `state` is TAKEN by its own exchange and `pinned` is 0, and stores
-// `state` by release behind it; `hold` returns only once it saw another state by acquire. A seat
-// goes from thread to thread under the driver's lock, or is a bench's and used under that one's.
+// The seat's thread makes them between `pin` and `unpin`, which stores `pinned` by release. Who
+// drives makes them where `state` is TAKEN by its own exchange and `pinned` is 0, and stores `state`
+// by release behind them; `pin` returns only once it saw another state by acquire. A seat goes from
+// thread to thread under the driver's lock, or is a bench's and used under that one's.
 unsafe impl Sync for Seat {}
 
 impl Seat {
@@ -59,35 +61,37 @@ impl Seat {
         self.handle.cpu()
     }
 
-    /// The seat is its thread's from now on, and awake. A full fence.
+    /// The thread has a section open from now on. A full fence.
     #[inline]
-    pub(crate) fn hold(&self) {
+    pub(crate) fn pin(&self) {
         self.announce();
         if self.state.load(Acquire) != AWAKE {
-            self.hold_slowly();
+            self.pin_slowly();
         }
     }
 
+    /// An exchange is a full fence of x86-64, at less cost than a store and a fence.
     #[inline]
     fn announce(&self) {
-        self.pinned.store(1, Release);
-        fence(SeqCst);
+        self.pinned.swap(1, SeqCst);
+        compiler_fence(SeqCst);
     }
 
     #[cold]
-    fn hold_slowly(&self) {
+    fn pin_slowly(&self) {
         loop {
             match self.state.load(Acquire) {
                 AWAKE => return,
                 IDLE => {
                     self.handle.wake();
+                    self.handle.enter();
                     return self.state.store(AWAKE, Release);
                 }
                 // Who drives leaves the state as it is while the seat's thread is pinned.
-                ASKED if self.turn(ASKED, AWAKE) => return self.handle.quiesce(),
+                ASKED if self.turn(ASKED, AWAKE) => return self.pass(),
                 ASKED => {}
                 _ => {
-                    self.pinned.store(0, Release);
+                    self.unpin();
                     while self.state.load(Acquire) == TAKEN {
                         yield_now();
                     }
@@ -102,49 +106,35 @@ impl Seat {
         turned.is_ok()
     }
 
-    /// Opens a section, on a seat that is held.
-    #[inline]
-    pub(crate) fn enter(&self) {
-        self.handle.enter();
-    }
-
-    /// Holds the seat, and opens a section.
-    #[inline]
-    pub(crate) fn pin(&self) {
-        self.hold();
-        self.enter();
-    }
-
-    /// Leaves the section, and lets go of the seat.
     #[inline]
     pub(crate) fn unpin(&self) {
-        self.handle.exit();
         self.pinned.store(0, Release);
     }
 
-    /// Held, in no section: passes a quiescent state, also where a grace period began just now.
+    /// Pinned: leaves the section, passes a quiescent state, also where a grace period began just
+    /// now, and opens the next section.
     pub(crate) fn pass(&self) {
+        self.handle.exit();
+        self.pinned.store(1, Release); // for `see_unpin`
         self.handle.quiesce();
+        self.handle.enter();
     }
 
-    /// Leaves the section, and opens another one, where a grace period waits for that. (Else none
-    /// that began since the section did was driven.)
+    /// As `pass`, where a grace period waits for that. (Else none that began since the section did
+    /// was driven.)
     #[inline]
     pub(crate) fn repin(&self) {
         if self.state.load(Acquire) == ASKED && self.turn(ASKED, AWAKE) {
-            self.handle.exit();
-            self.pinned.store(1, Release); // for `see_unpin`
-            self.handle.quiesce();
-            self.handle.enter();
+            self.pass();
         }
     }
 
-    /// A cookie, by the thread that holds the seat. A full fence stands before it.
+    /// A cookie, by the pinned thread. A full fence stands before it.
     pub(crate) fn take(&self) -> u64 {
         self.handle.take()
     }
 
-    /// Whether a cookie is done, by the thread that holds the seat.
+    /// Whether a cookie is done, by the pinned thread.
     pub(crate) fn is_done(&self, cookie: u64) -> bool {
         self.handle.is_done(cookie)
     }
@@ -165,6 +155,7 @@ impl Seat {
         fence(SeqCst);
         for seat in taken {
             if seat.pinned.load(Acquire) == 0 {
+                seat.handle.exit();
                 seat.handle.idle();
                 seat.state.store(IDLE, Release);
             } else {
