@@ -1,0 +1,48 @@
+/* rcu_barrier: a marker behind the callbacks of each worker. It waits until all markers have run.
+ *
+ * It rests on callbacks.c: a worker runs its callbacks in the order in which they were pushed. */
+#include "workers.h"
+
+static pthread_cond_t barrier_over = PTHREAD_COND_INITIALIZER;
+static unsigned markers_left;
+
+static void pass_marker(struct rcu_head *head) {
+    (void)head;
+    hold();
+    if (--markers_left == 0) pthread_cond_broadcast(&barrier_over);
+    let_go();
+}
+
+/* A worker with a marker does not rest before it runs it. */
+static void mark(struct call_rcu_data *worker) {
+    worker->marker.func = pass_marker;
+    push(worker, &worker->marker);
+    hold();
+    worker->hurried = true;
+    pthread_cond_signal(&worker->work);
+    let_go();
+}
+
+static void look_for_own_worker(void) {
+    hold();
+    for (struct call_rcu_data *it = workers; it; it = it->next)
+        if (pthread_equal(it->thread, pthread_self()))
+            fail("rcu_barrier", "a callback waits for itself");
+    let_go();
+}
+
+void CALL(barrier)(void) {
+    bool was_online = leave("rcu_barrier");
+    look_for_own_worker();
+    pthread_mutex_lock(&visits);
+    hold();
+    struct call_rcu_data *first = workers; /* one that is made later stands before it */
+    for (struct call_rcu_data *it = first; it; it = it->next) markers_left++;
+    let_go();
+    for (struct call_rcu_data *it = first; it; it = it->next) mark(it);
+    hold();
+    while (markers_left) sleep_on(&barrier_over);
+    let_go();
+    pthread_mutex_unlock(&visits);
+    come_back(was_online);
+}

@@ -1,0 +1,144 @@
+/* Callbacks: each worker has a list of its own, through the heads. To push one takes neither memory nor
+ * a lock but where the list was empty: who pushes the first one wakes the worker. The worker takes all
+ * at once, waits for a round, and runs them in the order in which they were pushed.
+ *
+ * It rests on rounds.c alone: a round that begins after a callback was pushed has ended before it runs.
+ * It adds: that each is taken once, by one exchange of the list's word, and that none is left behind:
+ * a worker sleeps under the lock, where it found the list empty (tests/model.py). */
+#include "workers.h"
+#include <sched.h>
+
+static atomic_uint rest_milliseconds = 10;
+uint64_t callbacks_run;
+
+void CALL(call_rcu_rest)(unsigned milliseconds) {
+    atomic_store(&rest_milliseconds, milliseconds);
+}
+
+static SLOW void wake_worker(struct call_rcu_data *worker) {
+    hold();
+    clock_gettime(CLOCK_MONOTONIC, &worker->since);
+    pthread_cond_signal(&worker->work);
+    let_go();
+}
+
+void push(struct call_rcu_data *worker, struct rcu_head *head) {
+    struct rcu_head *last = atomic_load_explicit(&worker->last, memory_order_relaxed);
+    do head->next = last;
+    while (!atomic_compare_exchange_weak_explicit(&worker->last, &last, head, memory_order_release,
+                                                  memory_order_relaxed));
+    if (unlikely(!last)) wake_worker(worker);
+}
+
+static struct rcu_head *in_order(struct rcu_head *last, unsigned long *count) {
+    struct rcu_head *first = 0;
+    for (*count = 0; last; ++*count) {
+        struct rcu_head *before = last->next;
+        last->next = first;
+        first = last;
+        last = before;
+    }
+    return first;
+}
+
+/* What another worker did not run, in its order. */
+void push_all(struct call_rcu_data *worker, struct rcu_head *last) {
+    unsigned long count;
+    for (struct rcu_head *next, *head = in_order(last, &count); head; head = next) {
+        next = head->next;
+        push(worker, head);
+    }
+}
+
+void CALL(call_rcu)(struct rcu_head *head, void (*func)(struct rcu_head *head)) {
+    head->func = func;
+    if (likely(!has_worker_of_a_cpu())) {
+        push(CALL(get_call_rcu_data)(), head);
+        return;
+    }
+    /* In a section, so that its worker is not taken away (free_all_cpu_call_rcu_data). */
+    CALL(read_lock)();
+    push(CALL(get_call_rcu_data)(), head);
+    CALL(read_unlock)();
+}
+
+/* ---- a worker's thread, with the lock held but where callbacks run */
+
+static bool is_asked_for_a_round(struct call_rcu_data *worker) {
+    return worker == atomic_load(&main_worker) &&
+           all.asked_for > atomic_load_explicit(&all.ended, memory_order_relaxed);
+}
+
+/* As liburcu's, a worker lets callbacks gather before it takes them. */
+static void rest(struct call_rcu_data *worker) {
+    unsigned milliseconds = atomic_load_explicit(&rest_milliseconds, memory_order_relaxed);
+    struct timespec until;
+    if (!milliseconds) return;
+    until = after(milliseconds);
+    while (!worker->hurried && !worker->stop && !all.pausing)
+        if (!sleep_on_until(&worker->work, &until)) break;
+}
+
+static void run_all(struct call_rcu_data *worker, struct rcu_head *head) {
+    while (head) {
+        struct rcu_head *next = head->next;
+        head->func(head);
+        CALL(quiescent_state)();
+        head = next;
+    }
+    atomic_store(&worker->running, 0);
+}
+
+static void run_batch(struct call_rcu_data *worker) {
+    struct rcu_head *last = atomic_exchange_explicit(&worker->last, 0, memory_order_acquire);
+    unsigned long count;
+    worker->hurried = false;
+    worker->running_since = worker->since;
+    let_go();
+    struct rcu_head *first = in_order(last, &count);
+    atomic_store(&worker->running, count);
+    hold();
+    wait_for_round();
+    let_go();
+    CALL(thread_online)();
+    run_all(worker, first);
+    CALL(thread_offline)();
+    hold();
+    callbacks_run += count;
+}
+
+static void pause_for_fork(struct call_rcu_data *worker) {
+    worker->paused = true;
+    pthread_cond_broadcast(&all.paused);
+    while (all.pausing) sleep_on(&all.resumed);
+    worker->paused = false;
+}
+
+static void bind_to(int cpu) {
+    cpu_set_t set;
+    if (cpu < 0 || cpu >= CPU_SETSIZE) return;
+    CPU_ZERO(&set);
+    CPU_SET(cpu, &set);
+    sched_setaffinity(0, sizeof set, &set);
+}
+
+void *work(void *it) {
+    struct call_rcu_data *worker = it;
+    bind_to(worker->cpu);
+    take_place((const void *)(uintptr_t)work);
+    self.worker = worker;
+    hold();
+    while (!worker->stop) {
+        bool asked = is_asked_for_a_round(worker);
+        if (all.pausing) pause_for_fork(worker);
+        else if (asked) run_batch(worker);
+        else if (!atomic_load_explicit(&worker->last, memory_order_relaxed))
+            sleep_on(&worker->work);
+        else {
+            rest(worker);
+            if (!worker->stop && !all.pausing) run_batch(worker);
+        }
+    }
+    let_go();
+    return it;
+}

@@ -1,0 +1,172 @@
+/* defer_rcu: each thread has a ring of calls that it deferred. A ring with calls in it has a callback
+ * queued, by which a worker makes those calls that the callback's round came after. Where the ring is
+ * full, its thread waits for a round and makes them itself.
+ *
+ * It rests on callbacks.c and rounds.c. It adds: that no call is left behind. A thread adds one, and
+ * then looks whether the callback is queued; the callback says that it is queued no more, and then looks
+ * whether one was added. All four steps are sequentially consistent, so one of the two sees the other
+ * (tests/model.py). */
+#include "deferral.h"
+#include "workers.h"
+#include <stdlib.h>
+
+enum { RING = 1024 };
+
+struct deferred {
+    void (*func)(void *p);
+    void *p;
+};
+
+struct ring {
+    struct rcu_head head;
+    unsigned long limit;             /* of the callback that is queued: it makes what lies below */
+    unsigned long limit_of_barrier;
+    _Alignas(64) atomic_ulong added; /* by its thread */
+    _Alignas(64) atomic_ulong made;  /* by who drains */
+    atomic_bool queued;
+    bool taken;        /* by a thread; under the lock */
+    struct ring *next; /* in the list of all */
+    struct deferred calls[RING];
+};
+
+/* Who makes calls of any ring holds the first. A barrier holds the second, while it waits too. */
+static pthread_mutex_t draining = PTHREAD_MUTEX_INITIALIZER;
+static pthread_mutex_t barriers = PTHREAD_MUTEX_INITIALIZER;
+static struct ring *rings; /* under the lock; none goes */
+
+/* A deferred call may wait for a round. So who waits for its end is offline. */
+static void start_draining(void) {
+    bool was_online = self.online;
+    CALL(thread_offline)();
+    pthread_mutex_lock(&draining);
+    come_back(was_online);
+}
+
+static void make_calls(struct ring *ring, unsigned long limit) {
+    unsigned long at = atomic_load_explicit(&ring->made, memory_order_relaxed);
+    for (; (long)(limit - at) > 0; at++) {
+        struct deferred it = ring->calls[at % RING];
+        atomic_store_explicit(&ring->made, at + 1, memory_order_release);
+        it.func(it.p);
+    }
+}
+
+static void drain(struct rcu_head *head);
+
+/* By who found that it was not queued, or by its callback. */
+static void queue(struct ring *ring) {
+    ring->limit = atomic_load(&ring->added);
+    CALL(call_rcu)(&ring->head, drain);
+}
+
+static void drain(struct rcu_head *head) {
+    struct ring *ring = caa_container_of(head, struct ring, head);
+    unsigned long limit = ring->limit;
+    start_draining();
+    make_calls(ring, limit);
+    pthread_mutex_unlock(&draining);
+    atomic_store(&ring->queued, false);
+    if (atomic_load(&ring->added) != limit && !atomic_exchange(&ring->queued, true)) queue(ring);
+}
+
+/* ---- a thread's own ring. One that a thread left serves the next. */
+
+static struct ring *find_ring(void) {
+    struct ring *ring = rings;
+    while (ring && ring->taken) ring = ring->next;
+    if (ring) ring->taken = true;
+    return ring;
+}
+
+static struct ring *add_ring(void) {
+    struct ring *ring = aligned_alloc(_Alignof(struct ring), sizeof *ring);
+    if (!ring) return 0;
+    atomic_init(&ring->added, 0);
+    atomic_init(&ring->made, 0);
+    atomic_init(&ring->queued, false);
+    ring->taken = true;
+    hold();
+    ring->next = rings;
+    rings = ring;
+    let_go();
+    return ring;
+}
+
+static SLOW struct ring *take_ring(void) {
+    tell_end();
+    hold();
+    struct ring *ring = find_ring();
+    let_go();
+    return self.deferred = ring ? ring : add_ring();
+}
+
+/* What is in it still is made by its callback. */
+void give_back_ring(void) {
+    if (!self.deferred) return;
+    hold();
+    self.deferred->taken = false;
+    self.deferred = 0;
+    let_go();
+}
+
+static SLOW void make_all(struct ring *ring) {
+    unsigned long limit = atomic_load(&ring->added);
+    CALL(synchronize_rcu)();
+    start_draining();
+    make_calls(ring, limit);
+    pthread_mutex_unlock(&draining);
+}
+
+void CALL(defer_rcu)(void (*func)(void *p), void *p) {
+    struct ring *ring = likely(self.deferred) ? self.deferred : take_ring();
+    if (unlikely(!ring)) {
+        CALL(synchronize_rcu)();
+        func(p);
+        return;
+    }
+    unsigned long at = atomic_load_explicit(&ring->added, memory_order_relaxed);
+    if (unlikely(at - atomic_load_explicit(&ring->made, memory_order_acquire) == RING))
+        make_all(ring);
+    ring->calls[at % RING] = (struct deferred){func, p};
+    atomic_store(&ring->added, at + 1);
+    if (unlikely(!atomic_load(&ring->queued)) && !atomic_exchange(&ring->queued, true)) queue(ring);
+}
+
+/* ---- the other calls */
+
+int CALL(defer_register_thread)(void) {
+    return self.deferred || take_ring() ? 0 : -1;
+}
+
+void CALL(defer_barrier_thread)(void) {
+    if (self.deferred) make_all(self.deferred);
+}
+
+void CALL(defer_unregister_thread)(void) {
+    CALL(defer_barrier_thread)();
+    give_back_ring();
+}
+
+void CALL(defer_barrier)(void) {
+    bool was_online = leave("rcu_defer_barrier");
+    pthread_mutex_lock(&barriers);
+    hold();
+    struct ring *first = rings;
+    let_go();
+    for (struct ring *it = first; it; it = it->next)
+        it->limit_of_barrier = atomic_load(&it->added);
+    CALL(synchronize_rcu)();
+    start_draining();
+    for (struct ring *it = first; it; it = it->next) make_calls(it, it->limit_of_barrier);
+    pthread_mutex_unlock(&draining);
+    pthread_mutex_unlock(&barriers);
+    come_back(was_online);
+}
+
+void CALL(defer_exit)(void) {}
+
+/* In the child of a fork. */
+void renew_deferral(void) {
+    pthread_mutex_init(&draining, 0);
+    pthread_mutex_init(&barriers, 0);
+}

@@ -1,0 +1,155 @@
+/* fork. A process that forks has the lock meanwhile, so the child finds all as it is between two calls.
+ * The child has one thread: it opens engines of its own, and takes a place there if it had one. By
+ * liburcu's three handlers the workers pause too, and the default worker goes on in the child with all
+ * callbacks that waited. Without them the child may read, wait for rounds, and exec; its callbacks do
+ * not run.
+ *
+ * include/rcu.h says: no call is made "in the forked child of a process with threads". So the engines
+ * of the parent are left as they are there, and no call is made on them. */
+#include "workers.h"
+#include "deferral.h"
+#include <stdlib.h>
+
+static struct urcu_atfork *table; /* of liburcu-cds: its resizable hash table has a worker too */
+static unsigned tables;
+static bool renewed;
+
+/* ---- what each fork does */
+
+/* A signal handler that forks in the midst of a call has no lock; its child may exec, and no more. */
+static void before_any_fork(void) {
+    if (atomic_load(&self.busy) || self.beside) return;
+    hold();
+    self.forks_with_lock = true;
+}
+
+static void after_any_fork(void) {
+    if (!self.forks_with_lock) return;
+    self.forks_with_lock = false;
+    let_go();
+}
+
+static void renew(void) {
+    struct place *old = self.place;
+    pthread_mutex_init(&all.lock, 0);
+    make_condition(&all.quiet);
+    pthread_cond_init(&all.round_over, 0);
+    pthread_cond_init(&all.paused, 0);
+    pthread_cond_init(&all.resumed, 0);
+    all.making = all.pausing = false;
+    atomic_store(&all.missing, 0);
+    atomic_store(&all.beside, 0);
+    atomic_store(&self.busy, 0);
+    self.thread = 0;
+    self.place = 0;
+    forget_engines();
+    set_up_readers();
+    if (old) {
+        take_place(old->registered_at);
+        stay_as_in(old);
+    }
+    renewed = true;
+}
+
+static void in_any_child(void) {
+    if (!self.forks_with_lock) return;
+    self.forks_with_lock = false;
+    renew();
+}
+
+void set_up_forks(void) {
+    if (pthread_atfork(before_any_fork, after_any_fork, in_any_child))
+        fail("register", "no handler of forks is left");
+}
+
+/* ---- liburcu's handlers */
+
+static void pause_workers(void) {
+    hold();
+    all.pausing = true;
+    for (struct call_rcu_data *it = workers; it;) {
+        if (it->paused) {
+            it = it->next;
+            continue;
+        }
+        pthread_cond_signal(&it->work);
+        sleep_on(&all.paused);
+        it = workers; /* one that was made meanwhile stands before it */
+    }
+    let_go();
+}
+
+void CALL(call_rcu_before_fork)(void) {
+    if (self.forks++) return;
+    self.was_online = leave("call_rcu_before_fork");
+    set_up();
+    if (table) table->before_fork(table->priv);
+    pthread_mutex_lock(&visits);
+    renewed = false;
+    pause_workers();
+}
+
+void CALL(call_rcu_after_fork_parent)(void) {
+    if (--self.forks) return;
+    hold();
+    all.pausing = false;
+    pthread_cond_broadcast(&all.resumed);
+    let_go();
+    pthread_mutex_unlock(&visits);
+    if (table) table->after_fork_parent(table->priv);
+    come_back(self.was_online);
+}
+
+/* The others' threads are gone. Their callbacks go to the default worker, whose thread is made anew. */
+static void go_on_with_default_worker(void) {
+    struct call_rcu_data *gone = workers, *worker = atomic_load(&main_worker);
+    if (worker) make_condition(&worker->work);
+    forget_workers_of_cpus();
+    self.worker = 0;
+    workers = worker;
+    for (struct call_rcu_data *next, *it = gone; it; it = next) {
+        next = it->next;
+        if (it == worker) continue;
+        push_all(default_worker(), atomic_load(&it->last));
+        free(it);
+    }
+    if (!worker) return;
+    worker->next = 0;
+    worker->paused = false;
+    start_worker(worker);
+}
+
+void CALL(call_rcu_after_fork_child)(void) {
+    if (--self.forks) return;
+    if (!renewed) renew(); /* after a fork that called no handlers of the C library's */
+    pthread_mutex_init(&visits, 0);
+    renew_deferral();
+    go_on_with_default_worker();
+    if (table) table->after_fork_child(table->priv);
+    come_back(self.was_online);
+}
+
+void CALL(before_fork)(void) {
+    CALL(call_rcu_before_fork)();
+}
+
+void CALL(after_fork_parent)(void) {
+    CALL(call_rcu_after_fork_parent)();
+}
+
+void CALL(after_fork_child)(void) {
+    CALL(call_rcu_after_fork_child)();
+}
+
+void CALL(register_rculfhash_atfork)(struct urcu_atfork *it) {
+    hold();
+    if (tables++ == 0) table = it;
+    let_go();
+}
+
+void CALL(unregister_rculfhash_atfork)(struct urcu_atfork *it) {
+    (void)it;
+    hold();
+    if (--tables == 0) table = 0;
+    let_go();
+}

@@ -1,0 +1,148 @@
+/* What the files of one flavour share. Each file is built once for each flavour, with URCU_FLAVOUR
+ * as its name: readers_by_word.c for memb, mb, signal and bp, readers_by_state.c for qsbr. When the
+ * objects are joined all names are hidden but those of liburcu's interface (the Makefile).
+ *
+ * A thread that is registered has a place: the open seat of a processor that is online. A place that
+ * is free is idle, so no grace period waits for it. */
+#ifndef URCU_LAYER_H
+#define URCU_LAYER_H
+#ifndef _GNU_SOURCE
+#define _GNU_SOURCE
+#endif
+#define URCU_OVER_RCU_BUILD
+#include "rcu.h"
+#include <pthread.h>
+#include <stdatomic.h>
+#include <stdbool.h>
+#include <time.h>
+#include <urcu/flavours.h>
+#include <urcu/over-rcu.h>
+
+#pragma GCC visibility push(hidden)
+
+#define CALL_OF(flavour, name) urcu_##flavour##_##name
+#define CALL_OF_EXPANDED(flavour, name) CALL_OF(flavour, name)
+#define CALL(name) CALL_OF_EXPANDED(URCU_FLAVOUR, name)
+
+#define likely(it) __builtin_expect(!!(it), 1)
+#define unlikely(it) __builtin_expect(!!(it), 0)
+#define SLOW __attribute__((noinline, cold))
+
+/* The processor of an engine, for one thread at a time. Each has a cache line of its own. */
+struct place {
+    _Alignas(64) rcu_seat_t seat;
+    atomic_ulong depth;        /* by word: how deep the thread's sections nest */
+    atomic_bool called;        /* by word: a round asks the thread in, by the lock */
+    atomic_bool wished;        /* the maker of a round sleeps until the place is quiet */
+    int thread;                /* the system's number of the thread; 0 where the place is free */
+    const void *registered_at; /* the code that registered it */
+    struct engine *engine;
+    struct place *next; /* among those that are free */
+};
+
+struct engine {
+    struct engine *next;
+    rcu_t rcu;
+    uint32_t cpus, taken;
+    bool in_round;
+    struct place *places;
+};
+
+struct ring;
+
+/* What a thread has. */
+struct reader {
+    struct place *place;  /* null where it is not registered */
+    unsigned long beside; /* how deep sections nest that a signal handler has beside the place */
+    atomic_uint busy;     /* the thread is in the midst of a call, and may hold the lock */
+    int thread;           /* the system's number, or 0 where it was not asked yet */
+    bool online;          /* by state */
+    bool has_key;         /* its end is told */
+    uint64_t cookie;      /* by state: taken before its last quiescent state */
+    struct call_rcu_data *worker;
+    struct ring *deferred;
+    unsigned forks; /* how often liburcu's handler was called for one that is to come */
+    bool forks_with_lock;
+    bool was_online;
+};
+extern __thread struct reader self __attribute__((tls_model("initial-exec")));
+
+/* What all threads share. All but the atomic words is read and written under the lock. */
+struct shared {
+    pthread_mutex_t lock;
+    pthread_cond_t quiet, round_over, paused, resumed;
+    struct engine *engines;
+    struct place *free_places;
+    uint32_t cpus_of_next; /* of the engine that is opened next */
+    bool making, pausing;
+    uint64_t begun, asked_for; /* rounds: each is a grace period of every engine in use */
+    _Atomic uint64_t ended;
+    atomic_uint missing; /* how many places are wished for */
+    atomic_uint beside;  /* how many sections are open beside places */
+};
+extern struct shared all;
+
+/* ---- what stops the process */
+
+SLOW __attribute__((noreturn)) void fail(const char *call, const char *why);
+SLOW __attribute__((noreturn)) void fail_by(const char *call, uint32_t fault);
+static inline void must(const char *call, uint32_t fault) {
+    if (unlikely(fault)) fail_by(call, fault);
+}
+
+/* ---- the lock. A signal handler that finds the thread busy keeps away from its place and from the
+ * lock. No cancellation takes effect where the lock is held. */
+
+static inline void set_busy(unsigned more) {
+    atomic_signal_fence(memory_order_seq_cst);
+    unsigned was = atomic_load_explicit(&self.busy, memory_order_relaxed);
+    atomic_store_explicit(&self.busy, was + more, memory_order_relaxed);
+    atomic_signal_fence(memory_order_seq_cst);
+}
+
+static inline bool is_busy(void) {
+    return atomic_load_explicit(&self.busy, memory_order_relaxed) != 0;
+}
+
+static inline void hold(void) {
+    set_busy(1);
+    pthread_mutex_lock(&all.lock);
+}
+
+static inline void let_go(void) {
+    pthread_mutex_unlock(&all.lock);
+    set_busy(-1u);
+}
+
+/* places.c */
+void set_up(void);
+void make_condition(pthread_cond_t *condition);
+void sleep_on(pthread_cond_t *condition);
+bool sleep_on_until(pthread_cond_t *condition, const struct timespec *until);
+struct timespec after(unsigned milliseconds);
+void tell_end(void);
+void take_place(const void *registered_at);
+void give_back_place(void);
+void forget_engines(void);
+
+/* readers_by_word.c and readers_by_state.c */
+void set_up_readers(void);
+void open_place(struct place *place);
+void close_place(struct place *place);
+void pass_if_out(struct place *place);
+void call_places(struct engine *engines);
+void fence_readers(void);
+void stay_as_in(struct place *old);
+bool leave(const char *call);
+void come_back(bool was_online);
+
+/* rounds.c */
+bool is_last_wish(struct place *place);
+void got_quiet(struct place *place);
+void wait_for_round(void);
+
+/* fork.c */
+void set_up_forks(void);
+
+#pragma GCC visibility pop
+#endif

@@ -1,0 +1,182 @@
+/* Places, and the engines that they are of. Where all are taken an engine is opened, of twice as many
+ * processors as the last one, up to LARGEST: so each thread that comes finds a place, and few are
+ * opened in vain. An engine stays open until the process ends.
+ *
+ * It rests on these sentences of include/rcu.h: of rcu_seat_idle, "it opens no section, and no grace
+ * period waits for it", and "what the thread did before comes before what follows the collection or
+ * the begin that finds it idle"; of rcu_seat_wake, "a grace period that begins later awaits the
+ * processor", and of one that found it idle "the section sees what came before its begin".
+ * It adds: that a place is one thread's at a time, from taking it to giving it back. */
+#include "deferral.h"
+#include "layer.h"
+#include <errno.h>
+#include <stdio.h>
+#include <stdlib.h>
+#include <sys/mman.h>
+#include <sys/syscall.h>
+#include <unistd.h>
+
+enum { FIRST = 4, LARGEST = 128 };
+static const uint64_t NO_LAST_NUMBER = UINT64_C(1) << 62;
+
+__thread struct reader self __attribute__((tls_model("initial-exec")));
+struct shared all = {
+    .lock = PTHREAD_MUTEX_INITIALIZER,
+    .round_over = PTHREAD_COND_INITIALIZER,
+    .paused = PTHREAD_COND_INITIALIZER,
+    .resumed = PTHREAD_COND_INITIALIZER,
+    .cpus_of_next = FIRST,
+};
+static pthread_once_t once = PTHREAD_ONCE_INIT;
+static pthread_key_t ends;
+
+void fail(const char *call, const char *why) {
+    fprintf(stderr, "urcu over rcu: %s: %s\n", call, why);
+    abort();
+}
+
+void fail_by(const char *call, uint32_t fault) {
+    fail(call, rcu_fault_text(fault));
+}
+
+/* ---- conditions, with the lock held */
+
+void make_condition(pthread_cond_t *condition) {
+    pthread_condattr_t attributes;
+    pthread_condattr_init(&attributes);
+    pthread_condattr_setclock(&attributes, CLOCK_MONOTONIC);
+    pthread_cond_init(condition, &attributes);
+    pthread_condattr_destroy(&attributes);
+}
+
+void sleep_on(pthread_cond_t *condition) {
+    int was;
+    pthread_setcancelstate(PTHREAD_CANCEL_DISABLE, &was);
+    pthread_cond_wait(condition, &all.lock);
+    pthread_setcancelstate(was, &was);
+}
+
+/* Whether it was woken before the time. The condition is of make_condition's. */
+bool sleep_on_until(pthread_cond_t *condition, const struct timespec *until) {
+    int was, answer;
+    pthread_setcancelstate(PTHREAD_CANCEL_DISABLE, &was);
+    answer = pthread_cond_timedwait(condition, &all.lock, until);
+    pthread_setcancelstate(was, &was);
+    return answer != ETIMEDOUT;
+}
+
+struct timespec after(unsigned milliseconds) {
+    struct timespec time;
+    clock_gettime(CLOCK_MONOTONIC, &time);
+    time.tv_sec += milliseconds / 1000;
+    time.tv_nsec += (long)(milliseconds % 1000) * 1000000;
+    if (time.tv_nsec >= 1000000000) {
+        time.tv_sec++;
+        time.tv_nsec -= 1000000000;
+    }
+    return time;
+}
+
+/* ---- engines */
+
+static void *system_room(size_t size) {
+    void *room = mmap(0, size, PROT_READ | PROT_WRITE, MAP_PRIVATE | MAP_ANONYMOUS, -1, 0);
+    if (room == MAP_FAILED) fail("register", "out of memory");
+    return room;
+}
+
+static void add_engine(void) {
+    uint32_t cpus = all.cpus_of_next;
+    struct engine *engine = system_room((cpus + 1) * sizeof(struct place));
+    engine->places = (struct place *)engine + 1;
+    must("open", rcu_open(cpus, NO_LAST_NUMBER, &engine->rcu));
+    for (uint32_t cpu = cpus; cpu-- > 0;) {
+        struct place *place = &engine->places[cpu];
+        must("open a seat", rcu_seat_open(&engine->rcu, cpu, &place->seat));
+        if (cpu != 0) must("arrive", rcu_arrive(&engine->rcu, &place->seat));
+        must("idle", rcu_seat_idle(&place->seat));
+        place->engine = engine;
+        place->next = all.free_places;
+        all.free_places = place;
+    }
+    engine->cpus = cpus;
+    engine->next = all.engines;
+    all.engines = engine;
+    if (all.cpus_of_next < LARGEST) all.cpus_of_next *= 2;
+}
+_Static_assert(sizeof(struct engine) <= sizeof(struct place), "an engine stands before its places");
+
+/* In the child of a fork: its threads are gone, who had seats of the engines. Their room stays. */
+void forget_engines(void) {
+    all.engines = 0;
+    all.free_places = 0;
+    all.cpus_of_next = FIRST;
+}
+
+/* ---- places */
+
+/* A thread that ends in a section, as by its cancellation, reads no more. */
+static void at_end(void *it) {
+    (void)it;
+    self.has_key = false;
+    give_back_ring();
+    give_back_place();
+}
+
+static void set_up_once(void) {
+    if (pthread_key_create(&ends, at_end)) fail("register", "no key of a thread is left");
+    make_condition(&all.quiet);
+    set_up_readers();
+    set_up_forks();
+}
+
+/* A signal handler that comes in the midst of it keeps away. */
+void set_up(void) {
+    set_busy(1);
+    pthread_once(&once, set_up_once);
+    set_busy(-1u);
+}
+
+/* From here on the thread's end is told. */
+void tell_end(void) {
+    set_up();
+    if (self.has_key) return;
+    set_busy(1);
+    if (pthread_setspecific(ends, &self)) fail("register", "out of memory");
+    self.has_key = true;
+    set_busy(-1u);
+}
+
+static void take_free_place(const void *registered_at) {
+    if (!all.free_places) add_engine();
+    struct place *place = all.free_places;
+    all.free_places = place->next;
+    place->engine->taken++;
+    if (!self.thread) self.thread = (int)syscall(SYS_gettid);
+    place->thread = self.thread;
+    place->registered_at = registered_at;
+    open_place(place);
+    self.place = place;
+}
+
+void take_place(const void *registered_at) {
+    tell_end();
+    hold();
+    if (!self.place) take_free_place(registered_at); /* else a signal handler has just taken one */
+    let_go();
+}
+
+/* The thread's end, or its word that it ends. */
+void give_back_place(void) {
+    struct place *place = self.place;
+    if (!place) return;
+    hold();
+    close_place(place);
+    if (is_last_wish(place)) pthread_cond_signal(&all.quiet);
+    place->thread = 0;
+    place->engine->taken--;
+    place->next = all.free_places;
+    all.free_places = place;
+    self.place = 0;
+    let_go();
+}

@@ -1,0 +1,21 @@
+/* The polls of liburcu 0.14. The default worker makes the rounds that are asked for.
+ *
+ * They rest on rounds.c: a round that begins after the asking has the number that the state has, or a
+ * greater one. */
+#include "workers.h"
+
+struct urcu_gp_poll_state CALL(start_poll_synchronize_rcu)(void) {
+    struct urcu_gp_poll_state state;
+    struct call_rcu_data *worker = default_worker();
+    hold();
+    state.grace_period_id = all.begun + 1;
+    if (all.asked_for < all.begun + 1) all.asked_for = all.begun + 1;
+    worker->hurried = true;
+    pthread_cond_signal(&worker->work);
+    let_go();
+    return state;
+}
+
+bool CALL(poll_state_synchronize_rcu)(struct urcu_gp_poll_state state) {
+    return atomic_load_explicit(&all.ended, memory_order_acquire) >= state.grace_period_id;
+}

@@ -1,0 +1,141 @@
+/* What a flavour tells: who holds a grace period up, and how much it did. It adds nothing to the order of
+ * threads: it reads, under the lock, what others write there. The depths of sections are read beside
+ * their threads, and are what those were at some moment. */
+#include "reports.h"
+#include "workers.h"
+#include <dlfcn.h>
+#include <stdio.h>
+
+enum { MOST_ROWS = 16 };
+#define TEXT_OF(it) #it
+#define TEXT_OF_EXPANDED(it) TEXT_OF(it)
+static const char FLAVOUR[] = TEXT_OF_EXPANDED(URCU_FLAVOUR);
+
+static unsigned stall_milliseconds = 10000;
+static void (*stall_report)(const struct urcu_stall *stall, void *context);
+static void *stall_context;
+
+static struct timespec begun_at;
+static unsigned reported; /* how often in this round */
+static uint64_t last[URCU_LAST_ROUNDS];
+static unsigned next_of_last;
+
+static uint64_t microseconds_since(const struct timespec *then) {
+    struct timespec now = after(0);
+    return (uint64_t)((now.tv_sec - then->tv_sec) * 1000000 + (now.tv_nsec - then->tv_nsec) / 1000);
+}
+
+void time_round(bool waits) {
+    reported = 0;
+    if (waits) begun_at = after(0);
+}
+
+void time_end_of_round(bool waited) {
+    last[next_of_last++ % URCU_LAST_ROUNDS] = waited ? microseconds_since(&begun_at) : 0;
+}
+
+/* ---- stalls */
+
+void CALL(on_stall)(unsigned milliseconds,
+                    void (*report)(const struct urcu_stall *stall, void *context), void *context) {
+    hold();
+    stall_milliseconds = milliseconds;
+    stall_report = report;
+    stall_context = context;
+    let_go();
+}
+
+static void say(const struct urcu_stall *it) {
+    char how[60] = "which passes no quiescent state";
+    Dl_info found = {0};
+    dladdr(it->registered_at, &found);
+    if (it->depth) snprintf(how, sizeof how, "which is in a section, %lu deep", it->depth);
+    fprintf(stderr,
+            "urcu over rcu: %s: a grace period waits since %.1f s for thread %d, %s "
+            "(registered at %p, in %s of %s)\n",
+            it->flavour, (double)it->milliseconds / 1000, it->thread, how, it->registered_at,
+            found.dli_sname ? found.dli_sname : "a function", found.dli_fname ? found.dli_fname : "?");
+}
+
+static unsigned find_stalls(struct engine *engine, struct urcu_stall *rows) {
+    unsigned found = 0;
+    for (uint32_t cpu = 0; cpu < engine->cpus && found < MOST_ROWS; cpu++) {
+        struct place *place = &engine->places[cpu];
+        if (!atomic_load(&place->wished)) continue;
+        rows[found++] = (struct urcu_stall){
+            .flavour = FLAVOUR,
+            .thread = place->thread,
+            .depth = atomic_load_explicit(&place->depth, memory_order_relaxed),
+            .registered_at = place->registered_at,
+            .milliseconds = microseconds_since(&begun_at) / 1000,
+        };
+    }
+    return found;
+}
+
+/* The lock is let go meanwhile. No other thread makes a round then. */
+static void report(struct engine *engine) {
+    struct urcu_stall rows[MOST_ROWS];
+    unsigned found = find_stalls(engine, rows);
+    void (*to)(const struct urcu_stall *, void *) = stall_report;
+    void *context = stall_context;
+    reported++;
+    let_go();
+    for (unsigned at = 0; at < found; at++)
+        if (to) to(&rows[at], context);
+        else say(&rows[at]);
+    hold();
+}
+
+void sleep_or_report(struct engine *engine) {
+    struct timespec until = begun_at;
+    if (!stall_milliseconds) {
+        sleep_on(&all.quiet);
+        return;
+    }
+    uint64_t milliseconds = (uint64_t)stall_milliseconds * (reported + 1);
+    until.tv_sec += (time_t)(milliseconds / 1000);
+    until.tv_nsec += (long)(milliseconds % 1000) * 1000000;
+    if (until.tv_nsec >= 1000000000) {
+        until.tv_sec++;
+        until.tv_nsec -= 1000000000;
+    }
+    if (!sleep_on_until(&all.quiet, &until)) report(engine);
+}
+
+/* ---- counters */
+
+/* A worker takes its list under the lock: so none of it goes while it is counted. */
+static void count_callbacks(struct call_rcu_data *worker, struct urcu_counters *counters) {
+    unsigned long running = atomic_load(&worker->running), waiting = running;
+    for (struct rcu_head *it = atomic_load_explicit(&worker->last, memory_order_acquire); it;
+         it = it->next)
+        waiting++;
+    counters->callbacks_waiting += waiting;
+    if (!waiting) return;
+    uint64_t age = microseconds_since(running ? &worker->running_since : &worker->since) / 1000;
+    if (age > counters->oldest_waits) counters->oldest_waits = age;
+}
+
+void CALL(counters)(struct urcu_counters *counters) {
+    *counters = (struct urcu_counters){0};
+    hold();
+    counters->grace_periods = atomic_load(&all.ended);
+    counters->callbacks_run = callbacks_run;
+    for (struct engine *it = all.engines; it; it = it->next) counters->threads += it->taken;
+    for (struct call_rcu_data *it = workers; it; it = it->next) count_callbacks(it, counters);
+    for (unsigned back = 0; back < URCU_LAST_ROUNDS && back < next_of_last; back++)
+        counters->last[back] = last[(next_of_last - 1 - back) % URCU_LAST_ROUNDS];
+    let_go();
+}
+
+int CALL(counters_text)(char *text, size_t room) {
+    struct urcu_counters now;
+    CALL(counters)(&now);
+    return snprintf(text, room,
+                    "%s: %llu grace periods, %llu threads, %llu callbacks run, %llu waiting, the oldest "
+                    "%llu ms; the last grace period took %llu us",
+                    FLAVOUR, (unsigned long long)now.grace_periods, (unsigned long long)now.threads,
+                    (unsigned long long)now.callbacks_run, (unsigned long long)now.callbacks_waiting,
+                    (unsigned long long)now.oldest_waits, (unsigned long long)now.last[0]);
+}

@@ -1,0 +1,181 @@
+/* The workers: one that all threads have by default, and those that a program makes for a processor of
+ * the machine or for a thread. Each is a thread with all signals blocked, and is not stopped when the
+ * process ends. It adds nothing to the order of threads but the lock. */
+#include "workers.h"
+#include <errno.h>
+#include <sched.h>
+#include <signal.h>
+#include <stdlib.h>
+#include <unistd.h>
+
+struct call_rcu_data *workers;
+_Atomic(struct call_rcu_data *) main_worker;
+pthread_mutex_t visits = PTHREAD_MUTEX_INITIALIZER;
+
+typedef _Atomic(struct call_rcu_data *) worker_of_cpu;
+static _Atomic(worker_of_cpu *) of_cpus; /* one for each processor of the machine, or null */
+static long machine_cpus;
+
+/* ---- making one. Not with the lock held, as it takes memory. */
+
+void start_worker(struct call_rcu_data *worker) {
+    sigset_t every, before;
+    sigfillset(&every);
+    pthread_sigmask(SIG_SETMASK, &every, &before);
+    if (pthread_create(&worker->thread, 0, work, worker)) fail("call_rcu", "no thread is left");
+    pthread_sigmask(SIG_SETMASK, &before, 0);
+}
+
+struct call_rcu_data *CALL(create_call_rcu_data)(unsigned long flags, int cpu) {
+    struct call_rcu_data *worker = aligned_alloc(_Alignof(struct call_rcu_data), sizeof *worker);
+    (void)flags;
+    if (!worker) fail("call_rcu", "out of memory");
+    *worker = (struct call_rcu_data){.cpu = cpu};
+    make_condition(&worker->work);
+    start_worker(worker);
+    hold();
+    worker->next = workers;
+    workers = worker;
+    let_go();
+    return worker;
+}
+
+struct call_rcu_data *default_worker(void) {
+    static pthread_mutex_t making = PTHREAD_MUTEX_INITIALIZER;
+    struct call_rcu_data *worker = atomic_load_explicit(&main_worker, memory_order_acquire);
+    if (likely(worker)) return worker;
+    pthread_mutex_lock(&making);
+    worker = atomic_load(&main_worker);
+    if (!worker) {
+        worker = CALL(create_call_rcu_data)(0, -1);
+        atomic_store_explicit(&main_worker, worker, memory_order_release);
+    }
+    pthread_mutex_unlock(&making);
+    return worker;
+}
+
+/* ---- which one a thread has */
+
+struct call_rcu_data *CALL(get_default_call_rcu_data)(void) {
+    return default_worker();
+}
+
+bool has_worker_of_a_cpu(void) {
+    return atomic_load_explicit(&of_cpus, memory_order_acquire) != 0;
+}
+
+struct call_rcu_data *CALL(get_cpu_call_rcu_data)(int cpu) {
+    worker_of_cpu *each = atomic_load_explicit(&of_cpus, memory_order_acquire);
+    return each && cpu >= 0 && cpu < machine_cpus ? atomic_load(&each[cpu]) : 0;
+}
+
+struct call_rcu_data *CALL(get_thread_call_rcu_data)(void) {
+    return self.worker;
+}
+
+void CALL(set_thread_call_rcu_data)(struct call_rcu_data *it) {
+    self.worker = it;
+}
+
+struct call_rcu_data *CALL(get_call_rcu_data)(void) {
+    struct call_rcu_data *worker = self.worker;
+    if (!worker && unlikely(has_worker_of_a_cpu()))
+        worker = CALL(get_cpu_call_rcu_data)(sched_getcpu());
+    return worker ? worker : default_worker();
+}
+
+pthread_t CALL(get_call_rcu_thread)(struct call_rcu_data *it) {
+    return it->thread;
+}
+
+/* ---- one for each processor of the machine */
+
+/* Once they are made they stay. */
+static worker_of_cpu *make_of_cpus(void) {
+    worker_of_cpu *each = atomic_load(&of_cpus), *other = 0;
+    if (each) return each;
+    machine_cpus = sysconf(_SC_NPROCESSORS_CONF);
+    each = calloc((size_t)machine_cpus, sizeof *each);
+    if (!each || atomic_compare_exchange_strong(&of_cpus, &other, each)) return each;
+    free(each);
+    return other;
+}
+
+int CALL(set_cpu_call_rcu_data)(int cpu, struct call_rcu_data *it) {
+    int fault = 0;
+    worker_of_cpu *each = make_of_cpus();
+    hold();
+    if (!each) fault = ENOMEM;
+    else if (cpu < 0 || cpu >= machine_cpus) fault = EINVAL;
+    else if (it && atomic_load(&each[cpu])) fault = EEXIST;
+    else atomic_store(&each[cpu], it);
+    let_go();
+    if (fault) errno = fault;
+    return fault ? -1 : 0;
+}
+
+int CALL(create_all_cpu_call_rcu_data)(unsigned long flags) {
+    int cpus = (int)sysconf(_SC_NPROCESSORS_CONF);
+    for (int cpu = 0; cpu < cpus; cpu++) {
+        if (CALL(get_cpu_call_rcu_data)(cpu)) continue;
+        struct call_rcu_data *worker = CALL(create_call_rcu_data)(flags, cpu);
+        if (CALL(set_cpu_call_rcu_data)(cpu, worker) == 0) continue;
+        int fault = errno;
+        CALL(call_rcu_data_free)(worker);
+        errno = fault;
+        if (fault != EEXIST) return -1;
+    }
+    return 0;
+}
+
+/* In the child of a fork, where their threads are gone. */
+void forget_workers_of_cpus(void) {
+    worker_of_cpu *each = atomic_load(&of_cpus);
+    for (long cpu = 0; each && cpu < machine_cpus; cpu++) atomic_store(&each[cpu], 0);
+}
+
+/* ---- the end of one */
+
+static void stop(struct call_rcu_data *worker) {
+    int was;
+    hold();
+    worker->stop = true;
+    pthread_cond_signal(&worker->work);
+    let_go();
+    pthread_setcancelstate(PTHREAD_CANCEL_DISABLE, &was);
+    pthread_join(worker->thread, 0);
+    pthread_setcancelstate(was, &was);
+}
+
+static void take_out(struct call_rcu_data *worker) {
+    struct call_rcu_data **at = &workers;
+    hold();
+    while (*at != worker) at = &(*at)->next;
+    *at = worker->next;
+    let_go();
+}
+
+/* The callbacks that it did not run go to the default worker, in their order. */
+void CALL(call_rcu_data_free)(struct call_rcu_data *it) {
+    if (!it || it == default_worker()) return;
+    bool was_online = leave("call_rcu_data_free");
+    pthread_mutex_lock(&visits);
+    stop(it);
+    take_out(it);
+    push_all(default_worker(), atomic_load(&it->last));
+    pthread_mutex_unlock(&visits);
+    pthread_cond_destroy(&it->work);
+    free(it);
+    come_back(was_online);
+}
+
+void CALL(free_all_cpu_call_rcu_data)(void) {
+    worker_of_cpu *each = atomic_load(&of_cpus);
+    if (!each) return;
+    struct call_rcu_data **old = calloc((size_t)machine_cpus, sizeof *old);
+    if (!old) return;
+    for (long cpu = 0; cpu < machine_cpus; cpu++) old[cpu] = atomic_exchange(&each[cpu], 0);
+    CALL(synchronize_rcu)(); /* who found one in a section is done with it */
+    for (long cpu = 0; cpu < machine_cpus; cpu++) CALL(call_rcu_data_free)(old[cpu]);
+    free(old);
+}

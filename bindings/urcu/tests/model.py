@@ -1,0 +1,501 @@
+#!/usr/bin/env python3
+"""Tries the layer's protocols over all interleavings and store buffers.
+
+Use: tests/model.py
+
+Each word that two threads look at stands in a protocol below: the steps of its threads, as the code
+makes them (what stands behind a '|' is the code's, and has to be in the file in that order). The engine
+is taken at its word: it awaits a place until a quiescent state was passed there. None of it may go wrong.
+A step with a '!' behind it is needed: without it something has to go wrong. So it has where a step with
+a '%' changes places with the next one. The last line is 'N passed, M failed'.
+"""
+import multiprocessing
+import os
+import re
+import sys
+
+sys.dont_write_bytecode = True
+from interleavings import Walk
+
+SOURCES = f"{os.path.dirname(os.path.realpath(__file__))}/../src"
+FREED = "a section reads what was freed"
+HELD_UP = "a thread that reads again and again holds a round up"
+
+# ---- sections and rounds. One version is shown, and the other one is freed.
+SECTION = f"""
+    p = pointer
+    g = good.p
+    must g: {FREED}
+"""
+# The thread got quiet: it looks for a wish, and wakes the maker.
+LOOK_FOR_A_WISH = """
+    w = wished !                          | atomic_load(&place->wished)
+    unless w goto top
+    x = swap wished 0                     | atomic_exchange(&place->wished, false)
+    unless x goto top
+    y = add missing -1                    | atomic_fetch_sub(&all.missing, 1) == 1
+    unless y goto top
+    lock
+    signal !                              | pthread_cond_signal(&all.quiet)
+    unlock
+    goto top
+"""
+
+
+def reader(fence):
+    return f"""
+top:
+    maybe over
+    c = called !                          | is_called(place)
+    if c goto slowly
+    depth = 1 {"%" if fence else ""}      | set_depth(place, 1)
+    {fence}
+    n = new
+    unless n goto in
+    n = came
+    told came = 1
+    f = other.n
+    must f: {HELD_UP}
+in:
+    {SECTION}
+    depth = 0 %                           | set_outside(place)
+    {fence}
+    {LOOK_FOR_A_WISH}
+slowly:
+    lock
+    c = called
+    unless c goto enters
+    quiet = 1
+    told new = 0
+    called = 0
+    x = swap wished 0
+    unless x goto enters
+    y = add missing -1
+    unless y goto enters
+    signal
+enters:
+    depth = 1
+    unlock
+    goto in
+over:
+"""
+
+
+def maker(fence, needed):
+    return f"""
+again:
+    n = other.o
+    pointer = n
+    lock
+    quiet = 0
+    called = 1 !                          | .called, true, memory_order_relaxed
+    {fence} !                             | fence_readers()
+    told came = 0
+    told new = 1
+look:
+    d = depth !                           | atomic_load_explicit(&place->depth, memory_order_acquire) == 0
+    if d goto looked
+    quiet = 1                             | pass_quiet(place)
+    told new = 0
+    called = 0
+looked:
+    q = quiet
+    if q goto done
+    maybe look
+    m = add missing 1                     | atomic_fetch_add(&all.missing, 1)
+    m = swap wished 1 !                   | atomic_store(&place->wished, true)
+    {fence} {needed}                            | fence_readers()
+    d = depth !                           | still_awaits(engine)
+    if d goto sleeps
+    quiet = 1
+    told new = 0
+    called = 0
+    x = swap wished 0                     | take_wishes_back(engine)
+    unless x goto sleeps
+    y = add missing -1
+sleeps:
+    m = missing                           | atomic_load(&all.missing)
+    unless m goto look
+    wait
+    lock
+    goto sleeps
+done:
+    unlock
+    good.o = 0
+    unless n goto over
+    o = n
+    good0 = 1
+    goto again
+over:
+"""
+
+
+# ---- the same in qsbr. The engine's words are its number, and the processor's own: the number of its
+# latest quiescent state, or 9 where it is idle.
+BY_STATE = f"""
+top:
+    maybe over
+    {SECTION}
+    n = number                            | rcu_seat_take_unfenced(&place->seat)
+    if n is last goto top                 | cookie == self.cookie
+    last = n
+    s = swap own n %                      | rcu_seat_quiesce_unfenced(&place->seat, &number)
+    {LOOK_FOR_A_WISH.replace("top", "again")}
+again:
+    maybe ended
+    goto top
+over:
+    s = swap own 9 %                      | rcu_seat_idle(&place->seat)
+    w = wished !                          | got_quiet(self.place)
+    unless w goto ended
+    x = swap wished 0
+    unless x goto ended
+    y = add missing -1
+    unless y goto ended
+    lock
+    signal
+    unlock
+ended:
+"""
+MAKER_BY_STATE = """
+    pointer = 1
+    lock
+    number = 1
+    fence
+look:
+    a = own
+    if a goto done
+    maybe look
+    m = add missing 1                     | atomic_fetch_add(&all.missing, 1)
+    m = swap wished 1 %                   | atomic_store(&place->wished, true)
+    a = own
+    unless a goto sleeps
+    x = swap wished 0                     | take_wishes_back(engine)
+    unless x goto sleeps
+    y = add missing -1
+sleeps:
+    m = missing
+    unless m goto look
+    wait
+    lock
+    goto sleeps
+done:
+    unlock
+    good0 = 0
+"""
+
+# ---- a signal handler, which comes at any step of a thread that enters by the lock, or has entered.
+WITH_HANDLER = f"""
+top:
+    maybe over
+    maybe slowly
+    c = called
+    if c goto slowly
+    depth = 1
+    {SECTION}
+    depth = 0
+    goto top
+slowly:
+    busy = 1                              | set_busy(1)
+    lock
+    c = called
+    unless c goto enters
+    quiet = 1
+    called = 0
+enters:
+    depth = 1
+    unlock
+    busy = 0                              | set_busy(-1u)
+    {SECTION}
+    depth = 0
+    goto top
+over:
+"""
+HANDLER = f"""
+    d = depth
+    if d goto nests
+    b = busy !                            | if (is_busy()) {{
+    if b goto beside
+    c = called
+    if c goto over
+    depth = 1
+    {SECTION}
+    depth = 0
+    goto over
+nests:
+    depth = 2
+    {SECTION}
+    depth = 1
+    goto over
+beside:
+    x = add beside 1 !                    | atomic_fetch_add(&all.beside, 1)
+    {SECTION}
+    x = add beside -1                     | atomic_fetch_sub(&all.beside, 1)
+over:
+"""
+MAKER_OF_HANDLED = """
+    pointer = 1
+    lock
+    quiet = 0
+    called = 1
+    fence all
+    d = depth
+    if d goto waits
+    quiet = 1
+    called = 0
+waits:
+    q = quiet
+    if q goto looks
+    unlock
+    lock
+    d = depth
+    if d goto waits
+    quiet = 1
+    called = 0
+    goto waits
+looks:
+    fence                                 | rcu_fence();
+beside:
+    b = beside !                          | while (atomic_load(&all.beside)) sched_yield();
+    if b goto beside
+    ended = 1                             | atomic_store_explicit(&all.ended, all.begun
+    unlock
+"""
+# Who polls frees what the maker's round came after.
+POLLER = """
+poll:
+    e = ended                             | atomic_load_explicit(&all.ended, memory_order_acquire)
+    unless e goto poll
+    good0 = 0
+"""
+# Without a thread that is registered a round has no engine: the fence alone stands before the look.
+HANDLER_ALONE = f"""
+    x = add beside 1 !
+    {SECTION}
+    x = add beside -1
+"""
+MAKER_OF_ONE_BESIDE = """
+    pointer = 1
+    lock
+    fence !                               | rcu_fence();
+beside:
+    b = beside !
+    if b goto beside
+    unlock
+    good0 = 0
+"""
+
+# ---- callbacks. Two threads push one each (1 and 2); 'next' of each leads to the one before.
+PUSHER = """
+again:
+    l = last
+    next.ME = l %                         | do head->next = last;
+    x = cas last l ME                     | atomic_compare_exchange_weak_explicit(&worker->last, &last, head
+    unless x goto again
+    if l goto over
+    lock
+    signal !                              | pthread_cond_signal(&worker->work)
+    unlock
+over:
+"""
+WORKER = """
+sleeps:
+    lock
+look:
+    l = last !                            | atomic_load_explicit(&worker->last, memory_order_relaxed)
+    if l goto takes
+    r = ran1
+    unless r goto waits
+    r = ran2
+    if r goto over
+waits:
+    wait
+    lock
+    goto look
+takes:
+    unlock
+    h = swap last 0                       | atomic_exchange_explicit(&worker->last, 0, memory_order_acquire)
+run:
+    unless h goto sleeps
+    r = ran.h
+    f = other.r
+    must f: a callback runs twice
+    ran.h = 1
+    h = next.h
+    goto run
+over:
+    unlock
+"""
+# ---- what a callback frees. The worker takes it, and then waits for a round: that is to say, until the
+# section that is open then has ended.
+UNLINKS = """
+    pointer = 1
+    x = swap last 1
+"""
+READS_AND_RUNS = f"""
+    told open = 1
+    {SECTION}
+    told open = 0
+"""
+FREES = """
+    h = swap last 0 %                     | atomic_exchange_explicit(&worker->last, 0, memory_order_acquire)
+    o = open
+    unless h goto over
+waits:
+    unless o goto frees
+    o = open
+    goto waits
+frees:
+    good0 = 0
+over:
+"""
+
+# ---- defer_rcu: a thread adds two calls to its ring; the worker is told by `list` that the callback is
+# queued. A call that is never made shows where all sleep.
+DEFERS = """
+    call0 = 1 %                           | ring->calls[at % RING] = (struct deferred){func, p}
+    x = swap added 1 %                    | atomic_store(&ring->added, at + 1)
+    q = queued !                          | unlikely(!atomic_load(&ring->queued))
+    if q goto second
+    x = swap queued 1                     | !atomic_exchange(&ring->queued, true)
+    if x goto second
+    a = added
+    limit = a
+    x = swap list 1
+second:
+    call1 = 1 %
+    x = swap added 2 %
+    q = queued !
+    if q goto waits
+    x = swap queued 1
+    if x goto waits
+    a = added
+    limit = a
+    x = swap list 1
+waits:
+    m = made
+    unless m goto waits
+    if m is 1 goto waits
+    told over = 1
+"""
+DRAINS = """
+look:
+    o = over
+    if o goto over
+    x = cas list 1 0
+    unless x goto look
+    l = limit                             | unsigned long limit = ring->limit
+    m = made
+calls:
+    if m is l goto made
+    c = call.m
+    must c: a call is made before it is there
+    m = after.m
+    made = m
+    goto calls
+made:
+    x = swap queued 0 %                   | atomic_store(&ring->queued, false)
+    a = added !                           | atomic_load(&ring->added) != limit
+    if a is l goto look
+    x = swap queued 1                     | !atomic_exchange(&ring->queued, true)
+    if x goto look
+    a = added
+    limit = a
+    x = swap list 1
+    goto look
+over:
+"""
+
+ROUND = {"depth": 0, "called": 0, "quiet": 0, "wished": 0, "missing": 0, "pointer": 0, "good0": 1,
+         "good1": 1, "other0": 1, "other1": 0, "new": 0, "came": 0}
+STATE = {**ROUND, "number": 0, "own": 0}
+PROTOCOLS = {
+    "a section and a round, by membarrier": (ROUND, [reader(""), maker("fence all", "!")]),
+    "a section and a round, by the reader's fences":
+        (ROUND, [reader("fence !"), maker("fence", "")]),
+    "a section and a round, by state": (STATE, [BY_STATE, MAKER_BY_STATE]),
+    "a signal handler, a round and a poll":
+        ({**ROUND, "busy": 0, "beside": 0, "ended": 0},
+         [WITH_HANDLER, MAKER_OF_HANDLED, POLLER], {0: HANDLER}),
+    "a section beside, and a round of no engine":
+        ({**ROUND, "beside": 0}, [HANDLER_ALONE, MAKER_OF_ONE_BESIDE]),
+    "callbacks of two threads":
+        ({"last": 0, "next1": 0, "next2": 0, "ran0": 0, "ran1": 0, "ran2": 0, "other0": 1, "other1": 0,
+          },
+         [PUSHER.replace("ME", "1"), PUSHER.replace("ME", "2"), WORKER]),
+    "a callback and a section":
+        ({"pointer": 0, "last": 0, "open": 0, "good0": 1, "good1": 1}, [UNLINKS, READS_AND_RUNS, FREES]),
+    "deferred calls":
+        ({"call0": 0, "call1": 0, "added": 0, "queued": 0, "list": 0, "limit": 0, "made": 0, "over": 0,
+          "after0": 1, "after1": 2, "after2": 2}, [DEFERS, DRAINS]),
+}
+
+
+def edits(text):
+    """The texts in which a needed step is taken out, or two have changed places, and what was done."""
+    lines = text.strip().splitlines()
+    kept = [re.sub(r" [!%] *(\||$)", r" \1", it) for it in lines]
+    yield None, "\n".join(kept)
+    for at, line in enumerate(lines):
+        step = line.split("|")[0].strip()
+        if step.endswith("!"):
+            yield f"without '{step[:-1].strip()}'", "\n".join(kept[:at] + kept[at + 1:])
+        elif step.endswith("%"):
+            after = next(it for it in range(at + 1, len(kept)) if kept[it].split("|")[0].strip())
+            moved = kept[:at] + kept[at + 1:after + 1] + [kept[at]] + kept[after + 1:]
+            yield f"'{step[:-1].strip()}' a step later", "\n".join(moved)
+
+
+def trials():
+    """Each protocol as it is, and with each of its edits: its name, what was done, the programs."""
+    for name, (words, programs, *more) in PROTOCOLS.items():
+        handlers = more[0] if more else {}
+        texts = [*programs, *handlers.values()]
+        clean = [next(edits(it))[1] for it in texts]
+        for at, text in enumerate(texts):
+            for what, edited in edits(text):
+                if what or at == 0:
+                    changed = [*clean[:at], edited, *clean[at + 1:]]
+                    yield (name, what, words, changed[:len(programs)],
+                           dict(zip(handlers, changed[len(programs):])))
+
+
+def outcome(trial):
+    name, what, *protocol = trial
+    walk = Walk(*protocol)
+    wrong = walk.run()
+    return ((wrong is None) == (what is None),
+            f"{name}{', ' + what if what else ''}: {wrong or f'right in {len(walk.seen)} states'}")
+
+
+def unknown_quotes(code):
+    """What stands behind a '|' in no file of the layer."""
+    for words, programs, *handlers in PROTOCOLS.values():
+        for text in [*programs, *(handlers[0].values() if handlers else ())]:
+            for quote in re.findall(r"\| (.*)", text):
+                if quote.strip() not in code:
+                    yield quote.strip()
+
+
+def main():
+    counts = {True: 0, False: 0}
+
+    def count(well, what):
+        counts[well] += 1
+        print(f"{'' if well else 'failed: '}{what}", flush=True)
+
+    with multiprocessing.Pool() as pool:
+        for well, said in pool.imap(outcome, trials()):
+            count(well, said)
+    code = ""
+    for path in sorted(os.listdir(SOURCES)):
+        with open(f"{SOURCES}/{path}", encoding="utf-8") as file:
+            code += file.read()
+    quotes = sorted(set(unknown_quotes(code)))
+    count(not quotes, f"the model's steps are the code's{': not there: ' + '; '.join(quotes) if quotes else ''}")
+    print(f"{counts[True]} passed, {counts[False]} failed")
+    return 1 if counts[False] else 0
+
+
+if __name__ == "__main__":
+    sys.exit(main())

@@ -1,0 +1,160 @@
+/* Callbacks, deferred calls, and polls. */
+#include "own.h"
+
+enum { MOST = 20000 };
+struct counted {
+    struct rcu_head head;
+    unsigned long at, times;
+};
+static struct counted *all_counted;
+static unsigned long next_at, out_of_order;
+
+static void count(struct rcu_head *head) {
+    struct counted *it = caa_container_of(head, struct counted, head);
+    it->times++;
+    if (it->at != next_at) out_of_order++;
+    next_at = it->at + 1;
+}
+
+/* Each runs once, in order, and all have run after the barrier. */
+int callbacks(unsigned n) {
+    unsigned long other = 0;
+    n = n && n < MOST ? n : MOST;
+    all_counted = calloc(MOST, sizeof *all_counted);
+    for (unsigned i = 0; i < n; i++) {
+        all_counted[i].at = i;
+        call_rcu(&all_counted[i].head, count);
+        if (i % 1000 == 0) rest(5);
+    }
+    rcu_barrier();
+    for (unsigned i = 0; i < n; i++) other += all_counted[i].times != 1;
+    free(all_counted);
+    if (other) printf("%lu callbacks did not run once\n", other);
+    if (out_of_order) printf("%lu callbacks out of order\n", out_of_order);
+    return !other && !out_of_order;
+}
+
+static int ran;
+static void tell(struct rcu_head *head) {
+    free(head);
+    uatomic_inc(&ran);
+}
+
+/* A callback that is queued while the worker waits has to wait for a round of its own. */
+int batches(unsigned n) {
+    struct holder first, second;
+    (void)n;
+    for (int round = 0; round < 3; round++) {
+        uatomic_set(&ran, 0);
+        open_section(&first);
+        call_rcu(malloc(sizeof(struct rcu_head)), tell);
+        rest(40);
+        open_section(&second);
+        call_rcu(malloc(sizeof(struct rcu_head)), tell);
+        if (uatomic_read(&ran)) return puts("a callback ran in a section"), 0;
+        close_section(&first);
+        rest(60);
+        if (uatomic_read(&ran) > 1) return puts("a callback ran a batch early"), 0;
+        end_holder(&first);
+        close_section(&second);
+        end_holder(&second);
+        rcu_barrier();
+        if (uatomic_read(&ran) != 2) return puts("a callback did not run"), 0;
+    }
+    return 1;
+}
+
+static void slowly(struct rcu_head *head) {
+    rest(20);
+    tell(head);
+}
+
+/* A barrier waits until callbacks have run, and not until they are taken. */
+int barriers(unsigned n) {
+    (void)n;
+    for (int i = 0; i < 3; i++) call_rcu(malloc(sizeof(struct rcu_head)), slowly);
+    rcu_barrier();
+    return uatomic_read(&ran) == 3;
+}
+
+static void *queue_some(void *it) {
+    struct call_rcu_data *own = create_call_rcu_data(0, -1);
+    set_thread_call_rcu_data(own);
+    for (int i = 0; i < 500; i++) call_rcu(malloc(sizeof(struct rcu_head)), tell);
+    set_thread_call_rcu_data(0);
+    call_rcu_data_free(own);
+    return it;
+}
+
+/* Workers of processors and of threads come and go; nothing that they have is lost. */
+int workers(unsigned n) {
+    pthread_t threads[4];
+    (void)n;
+    if (create_all_cpu_call_rcu_data(0)) return 0;
+    for (int i = 0; i < 500; i++) call_rcu(malloc(sizeof(struct rcu_head)), tell);
+    for (int i = 0; i < 4; i++)
+        if (pthread_create(&threads[i], 0, queue_some, 0)) return 0;
+    for (int i = 0; i < 4; i++) pthread_join(threads[i], 0);
+    free_all_cpu_call_rcu_data();
+    for (int i = 0; i < 500; i++) call_rcu(malloc(sizeof(struct rcu_head)), tell);
+    rcu_barrier();
+    return uatomic_read(&ran) == 3000 && get_call_rcu_data() == get_default_call_rcu_data() &&
+           !get_cpu_call_rcu_data(0);
+}
+
+static void count_deferred(void *it) {
+    uatomic_add(&ran, (int)(long)it);
+}
+
+static void *defer_and_end(void *it) {
+    rcu_defer_register_thread();
+    for (int i = 0; i < 5000; i++) defer_rcu(count_deferred, (void *)1l);
+    return it;
+}
+
+/* What is deferred waits for the sections, and is made also where nobody asks. */
+int defers(unsigned n) {
+    struct holder holder;
+    pthread_t thread;
+    (void)n;
+    rcu_defer_register_thread();
+    open_section(&holder);
+    for (int i = 0; i < 10; i++) defer_rcu(count_deferred, (void *)1l);
+    rest(50);
+    if (uatomic_read(&ran)) return puts("a deferred call was made in a section"), 0;
+    close_section(&holder);
+    end_holder(&holder);
+    rcu_defer_barrier();
+    if (uatomic_read(&ran) != 10) return puts("a deferred call is missing"), 0;
+    for (int i = 0; i < 5000; i++) defer_rcu(count_deferred, (void *)1l);
+    rcu_defer_unregister_thread();
+    if (uatomic_read(&ran) != 5010) return puts("a deferred call is missing at the end"), 0;
+    if (pthread_create(&thread, 0, defer_and_end, 0)) return 0;
+    pthread_join(thread, 0);
+    for (int i = 0; i < 500 && uatomic_read(&ran) != 10010; i++) rest(10);
+    return uatomic_read(&ran) == 10010;
+}
+
+#ifndef NO_EXTRAS
+/* A poll says no while a section is open that was open at its start. */
+int polls(unsigned n) {
+    struct holder holder;
+    n = n ? n : 100;
+    open_section(&holder);
+    struct urcu_gp_poll_state state = start_poll_synchronize_rcu();
+    rest(30);
+    if (poll_state_synchronize_rcu(state)) return puts("a poll said yes in a section"), 0;
+    close_section(&holder);
+    end_holder(&holder);
+    rcu_register_thread();
+    for (unsigned i = 0; i < n; i++) {
+        state = start_poll_synchronize_rcu();
+        while (!poll_state_synchronize_rcu(state)) {
+            quiescent();
+            sched_yield();
+        }
+    }
+    rcu_unregister_thread();
+    return 1;
+}
+#endif

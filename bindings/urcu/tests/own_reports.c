@@ -1,0 +1,127 @@
+/* What liburcu does not have: reports, counters, and words on misuse. */
+#include "own.h"
+#include <sys/wait.h>
+#ifndef NO_EXTRAS
+
+static struct urcu_stall said;
+static int times;
+static void hear(const struct urcu_stall *stall, void *context) {
+    said = *stall;
+    *(int *)context += 1;
+}
+
+static void *wait_once(void *it) {
+    synchronize_rcu();
+    return it;
+}
+
+/* A thread that holds a round up is told of, by its depth. */
+static int stalls(void) {
+    struct holder holder;
+    pthread_t waiter;
+    EXTRA(on_stall)(50, hear, &times);
+    open_section(&holder);
+    if (pthread_create(&waiter, 0, wait_once, 0)) return 0;
+    rest(180);
+    close_section(&holder);
+    pthread_join(waiter, 0);
+    end_holder(&holder);
+    EXTRA(on_stall)(10000, 0, 0);
+    if (times < 1 || times > 3) return printf("told %d times\n", times), 0;
+#ifdef USE_QSBR
+    if (said.depth != 0) return 0;
+#else
+    if (said.depth != 1) return 0;
+#endif
+    return said.thread > 0 && said.registered_at && said.milliseconds >= 50;
+}
+
+static void nothing(struct rcu_head *head) {
+    (void)head;
+}
+
+static int counts(void) {
+    struct urcu_counters before, now;
+    struct rcu_head heads[3];
+    char text[200];
+    EXTRA(counters)(&before);
+    synchronize_rcu();
+    for (int i = 0; i < 3; i++) call_rcu(&heads[i], nothing);
+    rcu_barrier();
+    rest(20);
+    EXTRA(counters)(&now);
+    if (EXTRA(counters_text)(text, sizeof text) < 60 || !strstr(text, "grace periods")) return 0;
+    return now.grace_periods > before.grace_periods + 1 && now.callbacks_waiting == 0 &&
+           now.callbacks_run >= before.callbacks_run + 3 && now.threads >= 1;
+}
+
+int reports(unsigned n) {
+    (void)n;
+    return stalls() && counts();
+}
+
+/* ---- misuse ends the process, and says why */
+
+static void unlocks(void) {
+    rcu_register_thread();
+    rcu_read_unlock();
+}
+
+static void unregisters_in_a_section(void) {
+    rcu_register_thread();
+    rcu_read_lock();
+    rcu_unregister_thread();
+}
+
+static void waits_in_a_section(void) {
+    rcu_register_thread();
+    rcu_read_lock();
+    synchronize_rcu();
+}
+
+static void wait_in_it(struct rcu_head *head) {
+    (void)head;
+    rcu_barrier();
+}
+
+static void waits_in_a_callback(void) {
+    static struct rcu_head head;
+    call_rcu(&head, wait_in_it);
+    rcu_barrier();
+}
+
+/* Whether the child that does it is told so, by words that have these in them. */
+static int is_told(void (*misuse)(void), const char *words) {
+    int ends[2], status;
+    char text[300] = "";
+    if (pipe(ends)) return 0;
+    pid_t child = fork();
+    if (child == 0) {
+        dup2(ends[1], 2);
+        alarm(20);
+        misuse();
+        _exit(0);
+    }
+    close(ends[1]);
+    ssize_t got = read(ends[0], text, sizeof text - 1);
+    waitpid(child, &status, 0);
+    close(ends[0]);
+    if (got > 0 && WIFSIGNALED(status) && WTERMSIG(status) == SIGABRT && strstr(text, words))
+        return 1;
+    printf("not told: %s, but %s\n", words, text);
+    return 0;
+}
+
+int misuse(unsigned n) {
+    int right = is_told(waits_in_a_callback, "rcu_barrier: a callback waits for itself");
+    (void)n;
+#ifndef USE_QSBR
+    right &= is_told(unlocks, "rcu_read_unlock: the thread is in no section");
+    right &= is_told(unregisters_in_a_section, "rcu_unregister_thread: the thread is in a section");
+    right &= is_told(waits_in_a_section, "synchronize_rcu: the thread is in a section");
+#else
+    (void)unlocks, (void)unregisters_in_a_section, (void)waits_in_a_section;
+#endif
+    return right;
+}
+#endif
