@@ -117,7 +117,8 @@ impl<T: Drop> DeferList<T> {
 
     /// How many values are done.
     pub fn ready(&self) -> u64
-        ensures { result ≡ ready_of self.now.marks }
+        ensures value { result ≡ ready_of self.now.marks }
+        ensures inside { result ≤ length self.now.values }
     {
         self.marks.ready()
     }
@@ -127,6 +128,13 @@ impl<T: Drop> DeferList<T> {
         ensures { result ≡ self.now.marks.seen }
     {
         self.marks.seen()
+    }
+
+    /// What the values wait for.
+    pub fn marks(&self) -> &Marks
+        ensures { result.now ≡ self.now.marks }
+    {
+        &self.marks
     }
 
     /// The greatest number that a value waits for, as [`Marks::last_until`].
