@@ -1,5 +1,6 @@
-"""The blocks of docs/API.md, for tools/write_calls: of each public call of the crates that a heading
-names the first sentence of its doc comment, its faults and its signature; and the list for C.
+"""The blocks of docs/API.md, for tools/write_calls: of each public call of the crates that a
+heading names the first sentence of its doc comment, its faults and its signature; and the list for
+C.
 
 Laws are left out, and the modules that the page's last section names. What the page has keeps its
 place among the types and calls of its block; what is new comes last.

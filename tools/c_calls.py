@@ -36,12 +36,13 @@ class Library:
     def __init__(self, header):
         self.files = {it: source.read(it) for it in source.files_of("rcu_c")}
         groups = [(source.head_of(path), self.exports(path)) for path in self.files]
-        self.groups = sorted([it for it in groups if it[1]],
-                             key=lambda it: min(place_in(header, f" {call.name}(") for call in it[1]))
+        self.groups = sorted([it for it in groups if it[1]], key=lambda it: min(
+            place_in(header, f" {call.name}(") for call in it[1]))
         code = "".join(self.files.values())
         self.types = {name: kind for kind, name in re.findall(
             r"\(`(rcu_(?:\w+_)?t)`\).*\n(?:///.*\n)*(?:#.*\n)*pub (?:type|struct) (\w+)", code)}
-        self.structs = sorted(self.structs_in(code), key=lambda it: place_in(header, f"}} {it[0]};"))
+        self.structs = sorted(self.structs_in(code),
+                              key=lambda it: place_in(header, f"}} {it[0]};"))
         self.enums = sorted(self.enums_in(code), key=lambda it: place_in(header, f"enum {it[0]} "))
 
     def exports(self, path):

@@ -22,7 +22,7 @@ def finish():
 
 
 def lacks(tool, names, without):
-    """Whether one of these commands is not here, which is said, with what is left out without it."""
+    """Whether one of these commands is not here, which is said with what is left out."""
     missing = [it for it in names if shutil.which(it) is None]
     if missing:
         print(f"{tool}: {missing[0]} is not here, so {without}")

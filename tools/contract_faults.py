@@ -9,7 +9,8 @@ import re
 import c_calls
 import doc_comments as source
 
-EXPORT = re.compile(r"no_mangle\)\]\n(?:pub )?extern \"C\" fn (\w+)(.*?)^\{", re.DOTALL | re.MULTILINE)
+EXPORT = re.compile(r"no_mangle\)\]\n(?:pub )?extern \"C\" fn (\w+)(.*?)^\{",
+                    re.DOTALL | re.MULTILINE)
 # A definition whose value is a fault, or has faults in it: its name, and its text.
 DEFINITION = re.compile(r"^ *(?:abbrev )?pub (\w+) : [^\n]*\b(?:Fault|Refusal)\b[^\n]*\n"
                         r"((?: *\1\b[^\n]*\n(?: +(?!\1\b)(?!--)\S[^\n]*\n)*)+)", re.MULTILINE)
@@ -20,7 +21,7 @@ OF_HANDLES = {27, 28}
 NUMBER_OF_HANDLE = {"engine_number": "engine_refusal", "seat_number": "seat_refusal"}
 # It has no handle but the one that it opens.
 WITHOUT_HANDLE = {"rcu_open_as"}
-# What the contract of a call has, and never comes: the fanouts are 16 and 64; docs/C.md speaks of 3.
+# What a contract has, and never comes: the fanouts are 16 and 64; docs/C.md speaks of 3.
 NEVER = {"rcu_open_as": {18}, "rcu_depart": {3}}
 # What a `requires` says, and how a doc comment says it.
 NEEDS = [(r"IsNone rcu\b[\w.]*", "`rcu` is closed"), (r"IsNone seat\b[\w.]*", "`seat` is closed")]
@@ -40,7 +41,7 @@ class Specs:
             r"^(?:fault|refusal)_number (\w+) = (\d+)$", text, re.MULTILINE)}
 
     def faults_in(self, text, crate="rcu_c"):
-        """The faults that a text of a crate names, and lists of those that it tests in this order."""
+        """The faults that a text of a crate names, and lists of those that have an order."""
         words = re.findall(r"\w+", text)
         named = [self.numbers[it] for it in words if it in self.numbers]
         found, lists = set(named), [named]
@@ -79,7 +80,8 @@ def needs(call):
 def required(clauses):
     """What the `requires` of a call say; one that no doc comment has words for stands as it is."""
     found = re.findall(r"requires(?: \w+)? \{ (.*?) \}", clauses)
-    return {next((words for pattern, words in NEEDS if re.fullmatch(pattern, it)), it) for it in found}
+    return {next((words for pattern, words in NEEDS if re.fullmatch(pattern, it)), it)
+            for it in found}
 
 
 def unlike(library):
@@ -98,6 +100,6 @@ def unlike(library):
         for ordered in lists:
             ordered = [it for it in ordered if it in said]
             if ordered != [it for it in said if it in ordered]:
-                yield f"{name}: its contract tests {ordered} in this order, its doc comment has {said}"
+                yield f"{name}: its contract tests {ordered}, its doc comment has {said}"
         if needs(call) != required(clauses):
             yield f"{name} needs {sorted(required(clauses))}, its doc comment {sorted(needs(call))}"

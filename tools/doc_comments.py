@@ -76,8 +76,10 @@ def head_of_block(text):
 def told(lines, at, ends):
     """What begins at this line, up to the line before one that ends it, or to one that does."""
     text = lines[at]
-    while not text.rstrip().endswith((";", "{")) and at + 1 < len(lines) and not ends(lines[at + 1]):
+    while not text.rstrip().endswith((";", "{")):
         at += 1
+        if at == len(lines) or ends(lines[at]):
+            break
         text += " " + lines[at]
     return text
 

@@ -6,8 +6,8 @@ import c_calls
 import doc_comments as source
 
 # A function that the header alone has: its note, and its head.
-OWN = re.compile(r"/\*((?:(?!\*/).)*?)\*/\n(?:#[^\n]*\n)*(static inline [\w *]+?(rcu_\w+)\([^;{]*\)) \{",
-                 re.DOTALL)
+OWN = re.compile(r"/\*((?:(?!\*/).)*?)\*/\n(?:#[^\n]*\n)*"
+                 r"(static inline [\w *]+?(rcu_\w+)\([^;{]*\)) \{", re.DOTALL)
 
 
 def plain(text):
@@ -30,12 +30,14 @@ def listed(library):
 def page(title, names, prototypes, paragraphs, faults):
     """The page of a call. `faults`: the name, number and words of each that it returns."""
     refused = [it for it in paragraphs if re.match(r"Faults?\b", it)]
-    rows = [f".TH {names[0]} 3 {title}", ".SH NAME", f"{', '.join(names)} \\- {c_calls.about(paragraphs)}",
+    rows = [f".TH {names[0]} 3 {title}", ".SH NAME",
+            f"{', '.join(names)} \\- {c_calls.about(paragraphs)}",
             ".SH SYNOPSIS", ".nf", ".B #include <rcu.h>", ".PP", *(f".B {it}" for it in prototypes),
             ".fi", ".SH DESCRIPTION", 
             "\n.PP\n".join(plain(it) for it in paragraphs if it not in refused)]
     if faults:
-        rows += [".SH RETURN VALUE", "0, or the number of the first fault that holds.", *map(plain, refused)]
+        rows += [".SH RETURN VALUE", "0, or the number of the first fault that holds.",
+                 *map(plain, refused)]
         for name, number, words in faults:
             rows += [".TP", f"{name} ({number})", plain(words)]
     return "\n".join([*rows, ".SH SEE ALSO", ".BR rcu (3)", ""])
