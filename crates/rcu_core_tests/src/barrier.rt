@@ -4,6 +4,7 @@ ghost use Rattle.std.specs.Prelude.{◌≤◌, ◌%◌, ◌^◌};
 
 mod most;
 mod rooms;
+mod runs;
 mod tends;
 
 use crate::barrier::most::{fill, is_full};
@@ -114,6 +115,25 @@ fn queue(rt: &impl Abort, row: usize, lists: &mut Lists<u64>, cpu: u32, value: u
     assert_eq!(rt; (row, lists.queued()), (row, wanted));
 }
 
+/// Tends a row's list: how many callbacks are done and how many wait.
+fn tended(rt: &impl Abort, row: usize, lists: &mut Lists<u64>, cpu: u32, number: u64) -> (u64, u64)
+    requires state { number % 4 ≤ 1 }
+    requires bounded { number ≤ 2 ^ 62 }
+{
+    assert!(rt; cpu < lists.cpus());
+    greatest_bounds_each();
+    match lists.greatest_waiting(cpu) {
+        None => lists.tend(cpu, number),
+        Some(most) => {
+            assert!(rt;
+                most <= (number + 3) / 4 * 4 + 4,
+                "row {row}: {most} at {number}"
+            );
+            lists.tend(cpu, number)
+        }
+    }
+}
+
 /// Tends a row's list, and compares how many callbacks are done and how many wait.
 fn tend(
     rt: &impl Abort,
@@ -126,19 +146,7 @@ fn tend(
     requires state { number % 4 ≤ 1 }
     requires bounded { number ≤ 2 ^ 62 }
 {
-    assert!(rt; cpu < lists.cpus());
-    greatest_bounds_each();
-    let counts = match lists.greatest_waiting(cpu) {
-        None => lists.tend(cpu, number),
-        Some(most) => {
-            assert!(rt;
-                most <= (number + 3) / 4 * 4 + 4,
-                "row {row}: {most} at {number}"
-            );
-            lists.tend(cpu, number)
-        }
-    };
-    assert_eq!(rt; (row, counts), (row, wanted));
+    assert_eq!(rt; (row, tended(rt, row, lists, cpu, number)), (row, wanted));
 }
 
 /// Takes a row's callbacks, by a second call where the first is refused a growth, and compares
