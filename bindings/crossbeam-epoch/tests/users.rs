@@ -157,6 +157,33 @@ fn guards_nest_and_go_in_any_order() {
     flush_until(&alive, 0, &other);
 }
 
+/// While one handle is pinned, all others pin, unpin and flush: what it saw is kept.
+fn each_holds_up_for_itself(collector: &Collector, handles: &[LocalHandle]) {
+    for (me, handle) in handles.iter().enumerate() {
+        let (alive, guard) = (none_alive(), handle.pin());
+        let it = Owned::new(Counted::new(1, &alive)).into_shared(&guard);
+        let other = collector.register();
+        unsafe { other.pin().defer_destroy(it) };
+        for _ in 0..10 {
+            handles.iter().for_each(|it| drop(it.pin()));
+            other.pin().flush();
+        }
+        assert_eq!(alive.load(SeqCst), 1, "{me} of {}", handles.len());
+        drop(guard);
+        flush_until(&alive, 0, &other);
+    }
+}
+
+#[test]
+fn each_handle_holds_up_for_itself() {
+    let collector = Collector::new();
+    let register = |count| -> Vec<_> { (0..count).map(|_| collector.register()).collect() };
+    drop(register(4)); // their seats are given to the next
+    each_holds_up_for_itself(&collector, &register(4));
+    let all = register(150); // more than there are seats
+    each_holds_up_for_itself(&collector, &all[all.len() - 20..]);
+}
+
 #[test]
 fn an_unprotected_guard_defers_nothing() {
     let alive = none_alive();
