@@ -9,8 +9,9 @@ pages, and its example `sanitize`. Where they call a private function to make a 
 import glob
 import os
 import re
+import shutil
 
-from cargo import count, read, run, tests_passed, write
+from cargo import MADE, ROOT, count, read, run, tests_passed, write
 
 PACKAGES = "/usr/share/cargo/registry"
 NEEDED = {"crossbeam-epoch": "librust-crossbeam-epoch-dev",
@@ -39,11 +40,12 @@ rand = "0.8"
 rustversion = "1"
 """
 # By which cargo takes the packages in place of the registry, and our crate in place of theirs.
-CONFIG = """[source.crates-io]
+SOURCE = """[source.crates-io]
 replace-with = "packages"
 [source.packages]
 directory = "{packages}"
-[patch.crates-io]
+"""
+CONFIG = SOURCE + """[patch.crates-io]
 crossbeam-epoch = {{ path = "{folder}/bindings/crossbeam-epoch" }}
 """
 
@@ -122,6 +124,14 @@ def try_one(name, crate, how, env, flags):
     print(f"{name}, {how}: {passed} tests")
 
 
+def try_bench(folder, env):
+    """The measuring program is compiled, and not run."""
+    shutil.copytree(f"{ROOT}/bench/crossbeam", f"{folder}/bench/crossbeam", ignore=MADE)
+    write(f"{folder}/bench/.cargo/config.toml", SOURCE.format(packages=PACKAGES))
+    ran = run(["cargo", "check", "--offline"], env, f"{folder}/bench/crossbeam")
+    count(ran.returncode == 0, "bench/crossbeam")
+
+
 def try_all(what, folder, under):
     """Runs all of them, as each of `under` says."""
     lacking = [it for name, it in NEEDED.items() if not package(name)]
@@ -135,6 +145,7 @@ def try_all(what, folder, under):
     for how, env, flags in under:
         for name in ("epoch", "deque"):
             try_one(f"crossbeam-{name}", f"{folder}/theirs/{name}", how, env, flags)
+    try_bench(folder, under[0][1])
     sanitize = ["cargo", "run", "--offline", "--release", "--example", "sanitize"]
     ran = run(sanitize, under[0][1], f"{folder}/theirs/epoch")
     count(ran.returncode == 0, "crossbeam-epoch's example")

@@ -4,9 +4,13 @@
 
 #[path = "../../rust/tests/common/mod.rs"]
 mod common;
+#[path = "common/flush.rs"]
+mod flush;
 
 use common::{none_alive, Counted};
 use crossbeam_epoch::{self as epoch, Atomic, Collector, Guard, LocalHandle, Owned};
+use flush::flush_until;
+use std::panic::{catch_unwind, AssertUnwindSafe};
 use std::sync::atomic::{AtomicBool, AtomicUsize, Ordering::AcqRel, Ordering::Acquire};
 use std::sync::atomic::{Ordering::Relaxed, Ordering::SeqCst};
 use std::sync::{Arc, Barrier};
@@ -43,13 +47,6 @@ impl Slot {
 impl Drop for Slot {
     fn drop(&mut self) {
         drop(unsafe { std::mem::take(&mut self.at).into_owned() });
-    }
-}
-
-/// Flushes until so many are left.
-fn flush_until(alive: &AtomicUsize, left: usize, handle: &LocalHandle) {
-    while alive.load(SeqCst) > left {
-        handle.pin().flush();
     }
 }
 
@@ -143,10 +140,11 @@ fn a_thread_pins_while_another_drives() {
 #[test]
 fn a_thread_repins_while_others_replace() {
     let (slot, over) = (Slot::new(), AtomicBool::new(false));
-    let collector = Collector::new();
+    let (collector, pinned) = (Collector::new(), Barrier::new(2));
     thread::scope(|scope| {
         let reader = scope.spawn(|| {
             let mut guard = collector.register().pin();
+            pinned.wait();
             while !over.load(SeqCst) {
                 let seen = slot.load(&guard);
                 for _ in 0..20 {
@@ -156,12 +154,15 @@ fn a_thread_repins_while_others_replace() {
             }
         });
         let handle = collector.register();
+        pinned.wait();
         for round in 0..20_000 {
             slot.replace(round, &handle.pin());
         }
-        flush_until(&slot.alive, 1, &handle); // by the repins of the other one
+        let flush = AssertUnwindSafe(|| flush_until(&slot.alive, 1, &handle));
+        let freed = catch_unwind(flush); // by the repins of the other one
         over.store(true, SeqCst);
         join(vec![reader]);
+        assert!(freed.is_ok());
     });
 }
 
@@ -178,9 +179,7 @@ fn threads_come_and_go_in_the_collector_of_the_process() {
             join(vec![ends]);
         });
     }
-    while alive.load(SeqCst) > 0 {
-        epoch::pin().flush();
-    }
+    flush_until(&alive, 0, &epoch::default_collector().register());
 }
 
 #[test]
@@ -201,10 +200,11 @@ fn a_pinned_thread_holds_up_what_it_may_read() {
         for _ in 0..10_000 {
             handle.pin().flush();
         }
-        assert_eq!(slot.alive.load(SeqCst), 2);
+        let alive = slot.alive.load(SeqCst);
         done.wait();
-        flush_until(&slot.alive, 1, &handle);
         join(vec![reader]);
+        assert_eq!(alive, 2);
+        flush_until(&slot.alive, 1, &handle);
     });
 }
 

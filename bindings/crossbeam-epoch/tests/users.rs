@@ -2,9 +2,12 @@
 
 #[path = "../../rust/tests/common/mod.rs"]
 mod common;
+#[path = "common/flush.rs"]
+mod flush;
 
 use common::{none_alive, Counted};
 use crossbeam_epoch::{self as epoch, Atomic, Collector, Guard, LocalHandle, Owned};
+use flush::flush_until;
 use std::cell::{Cell, RefCell};
 use std::panic::{catch_unwind, AssertUnwindSafe};
 use std::sync::atomic::{AtomicUsize, Ordering::Relaxed, Ordering::SeqCst};
@@ -18,12 +21,6 @@ const KEPT: usize = 1_087;
 fn defer_one(alive: &Arc<AtomicUsize>, guard: &Guard) {
     let it = Owned::new(Counted::new(1, alive)).into_shared(guard);
     unsafe { guard.defer_destroy(it) };
-}
-
-fn flush_until(alive: &AtomicUsize, left: usize, handle: &LocalHandle) {
-    while alive.load(SeqCst) > left {
-        handle.pin().flush();
-    }
 }
 
 /// Whether the closure panics.
@@ -45,9 +42,10 @@ fn a_thread_that_sleeps_unpinned_holds_up_nothing() {
         pinned.wait();
         let (alive, handle) = (none_alive(), collector.register());
         defer_one(&alive, &handle.pin());
-        flush_until(&alive, 0, &handle);
+        let hangs = panics(|| flush_until(&alive, 0, &handle));
         done.wait();
         sleeper.join().unwrap(); // (seen by the thread sanitizer)
+        assert!(!hangs);
     });
 }
 
@@ -67,9 +65,10 @@ fn a_thread_that_sleeps_keeps_so_much_and_no_more() {
         });
         deferred.wait();
         drop(held);
-        flush_until(&alive, KEPT, &collector.register());
+        let hangs = panics(|| flush_until(&alive, KEPT, &collector.register()));
         done.wait();
         sleeper.join().unwrap();
+        assert!(!hangs);
     });
     flush_until(&alive, 0, &collector.register());
 }
@@ -122,10 +121,14 @@ fn destructors_of_a_threads_data_pin() {
         });
         ended.join().unwrap();
     }
-    while ENDS.load(SeqCst) < 400 {
-        epoch::pin().flush();
+    let handle = epoch::default_collector().register();
+    for _ in 0..1_000_000 {
+        handle.pin().flush();
+        if ENDS.load(SeqCst) == 400 {
+            return;
+        }
     }
-    assert!(!epoch::is_pinned());
+    panic!("only {} of 400", ENDS.load(SeqCst));
 }
 
 #[test]
@@ -152,6 +155,33 @@ fn guards_nest_and_go_in_any_order() {
     drop(third);
     assert!(!handle.is_pinned());
     flush_until(&alive, 0, &other);
+}
+
+/// While one handle is pinned, all others pin, unpin and flush: what it saw is kept.
+fn each_holds_up_for_itself(collector: &Collector, handles: &[LocalHandle]) {
+    for (me, handle) in handles.iter().enumerate() {
+        let (alive, guard) = (none_alive(), handle.pin());
+        let it = Owned::new(Counted::new(1, &alive)).into_shared(&guard);
+        let other = collector.register();
+        unsafe { other.pin().defer_destroy(it) };
+        for _ in 0..10 {
+            handles.iter().for_each(|it| drop(it.pin()));
+            other.pin().flush();
+        }
+        assert_eq!(alive.load(SeqCst), 1, "{me} of {}", handles.len());
+        drop(guard);
+        flush_until(&alive, 0, &other);
+    }
+}
+
+#[test]
+fn each_handle_holds_up_for_itself() {
+    let collector = Collector::new();
+    let register = |count| -> Vec<_> { (0..count).map(|_| collector.register()).collect() };
+    drop(register(4)); // their seats are given to the next
+    each_holds_up_for_itself(&collector, &register(4));
+    let all = register(150); // more than there are seats
+    each_holds_up_for_itself(&collector, &all[all.len() - 20..]);
 }
 
 #[test]
@@ -242,14 +272,10 @@ fn a_function_panics_and_those_behind_it_are_called_later() {
     let held = collector.register().pin();
     defer_some(&handle, COUNT, &done);
     drop(held);
-    let mut seen = 0;
-    while done.load(SeqCst) < COUNT {
-        seen += usize::from(panics(|| handle.pin().flush()));
-    }
+    let seen = (0..10_000)
+        .filter(|_| panics(|| handle.pin().flush()))
+        .count();
     assert_eq!((seen, handle.is_pinned()), (COUNT / 10, false));
-    for _ in 0..100 {
-        handle.pin().flush();
-    }
     assert_eq!(done.load(SeqCst), COUNT); // each of them once
 }
 
