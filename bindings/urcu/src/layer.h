@@ -114,12 +114,14 @@ static inline void let_go(void) {
     set_busy(-1u);
 }
 
-/* places.c */
-void set_up(void);
+/* base.c */
 void make_condition(pthread_cond_t *condition);
 void sleep_on(pthread_cond_t *condition);
 bool sleep_on_until(pthread_cond_t *condition, const struct timespec *until);
 struct timespec after(unsigned milliseconds);
+
+/* places.c */
+void set_up(void);
 void tell_end(void);
 void take_place(const void *registered_at);
 void give_back_place(void);

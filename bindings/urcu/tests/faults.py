@@ -27,7 +27,7 @@ FAULTS = {
         "memb", "forgets", False),
     "a callback runs twice": (
         "callbacks.c", "        head->func(head);\n", "        head->func(head);\n        head->func(head);\n",
-        "memb", "callbacks", False),
+        "memb", "callbacks", HANGS),
     "callbacks run backwards": (
         "callbacks.c", "struct rcu_head *first = in_order(last, &count);",
         "in_order(0, &count);\n    struct rcu_head *first = last;", "memb", "callbacks", False),
@@ -49,7 +49,7 @@ FAULTS = {
         "readers_by_state.c", "    if (!self.online) return;\n    close_section(self.place);",
         "    if (!self.online) return;\n    self.online = false;", "qsbr", "quiet", HANGS),
     "a cancelled wait keeps the lock": (
-        "places.c",
-        "    pthread_setcancelstate(PTHREAD_CANCEL_DISABLE, &was);\n    pthread_cond_wait(",
-        "    was = PTHREAD_CANCEL_ENABLE;\n    pthread_cond_wait(", "memb", "cancels", HANGS),
+        "base.c",
+        "    pthread_setcancelstate(PTHREAD_CANCEL_DISABLE, &was);\n    answer = ",
+        "    was = PTHREAD_CANCEL_ENABLE;\n    answer = ", "memb", "cancels", HANGS),
 }

@@ -186,15 +186,13 @@ done:
 
 # ---- a signal handler, which comes at any step of a thread that enters by the lock, or has entered.
 WITH_HANDLER = f"""
-top:
-    maybe over
     maybe slowly
     c = called
     if c goto slowly
     depth = 1
     {SECTION}
     depth = 0
-    goto top
+    goto over
 slowly:
     busy = 1                              | set_busy(1)
     lock
@@ -208,7 +206,6 @@ enters:
     busy = 0                              | set_busy(-1u)
     {SECTION}
     depth = 0
-    goto top
 over:
 """
 HANDLER = f"""
@@ -217,8 +214,18 @@ HANDLER = f"""
     b = busy !                            | if (is_busy()) {{
     if b goto beside
     c = called
-    if c goto over
+    if c goto locks
     depth = 1
+    {SECTION}
+    depth = 0
+    goto over
+locks:
+    t = busy
+    f = other.t
+    must f: a handler waits for its own thread
+    lock
+    depth = 1
+    unlock
     {SECTION}
     depth = 0
     goto over
@@ -350,40 +357,43 @@ frees:
 over:
 """
 
-# ---- defer_rcu: a thread adds two calls to its ring; the worker is told by `list` that the callback is
-# queued. A call that is never made shows where all sleep.
-DEFERS = """
-    call0 = 1 %                           | ring->calls[at % RING] = (struct deferred){func, p}
-    x = swap added 1 %                    | atomic_store(&ring->added, at + 1)
-    q = queued !                          | unlikely(!atomic_load(&ring->queued))
-    if q goto second
-    x = swap queued 1                     | !atomic_exchange(&ring->queued, true)
-    if x goto second
+# ---- defer_rcu: a thread adds two calls to its ring; `list` is 1 where the callback waits for the worker.
+QUEUE = """
     a = added
-    limit = a
-    x = swap list 1
-second:
-    call1 = 1 %
-    x = swap added 2 %
-    q = queued !
-    if q goto waits
-    x = swap queued 1
-    if x goto waits
-    a = added
-    limit = a
-    x = swap list 1
-waits:
-    m = made
-    unless m goto waits
-    if m is 1 goto waits
-    told over = 1
+    limit = a                             | ring->limit = atomic_load(&ring->added)
+    o = swap list 1                       | CALL(call_rcu)(&ring->head, drain)
+    f = other.o
+    must f: a callback is queued twice
 """
-DRAINS = """
+DEFER = f"""
+    call.AT = 1 MARK                      | ring->calls[at % RING] = (struct deferred)
+    x = swap added AFTER MARK             | atomic_store(&ring->added, at + 1)
+    q = queued                            | unlikely(!atomic_load(&ring->queued))
+    if q goto added.AFTER
+    x = swap queued 1 !                   | !atomic_exchange(&ring->queued, true)
+    if x goto added.AFTER
+    {QUEUE}
+    lock
+    signal
+    unlock
+"""
+DEFERS = "\n".join(
+    DEFER.replace("added.AFTER", f"added{at + 1}").replace("AFTER", str(at + 1))
+    .replace("call.AT", f"call{at}").replace("MARK", "%" if at else "") + f"added{at + 1}:\n"
+    for at in range(2))
+DRAINS = f"""
+    lock
 look:
-    o = over
-    if o goto over
-    x = cas list 1 0
-    unless x goto look
+    o = list
+    if o goto takes
+    m = made
+    if m is 2 goto over
+    wait
+    lock
+    goto look
+takes:
+    o = swap list 0
+    unlock
     l = limit                             | unsigned long limit = ring->limit
     m = made
 calls:
@@ -391,19 +401,20 @@ calls:
     c = call.m
     must c: a call is made before it is there
     m = after.m
-    made = m
+    made = m                              | atomic_store_explicit(&ring->made, at + 1
     goto calls
 made:
     x = swap queued 0 %                   | atomic_store(&ring->queued, false)
-    a = added !                           | atomic_load(&ring->added) != limit
-    if a is l goto look
-    x = swap queued 1                     | !atomic_exchange(&ring->queued, true)
-    if x goto look
-    a = added
-    limit = a
-    x = swap list 1
+    a = added                             | atomic_load(&ring->added) != limit
+    if a is l goto again
+    x = swap queued 1 !                   | !atomic_exchange(&ring->queued, true)
+    if x goto again
+    {QUEUE}
+again:
+    lock
     goto look
 over:
+    unlock
 """
 
 ROUND = {"depth": 0, "called": 0, "quiet": 0, "wished": 0, "missing": 0, "pointer": 0, "good0": 1,
@@ -426,8 +437,8 @@ PROTOCOLS = {
     "a callback and a section":
         ({"pointer": 0, "last": 0, "open": 0, "good0": 1, "good1": 1}, [UNLINKS, READS_AND_RUNS, FREES]),
     "deferred calls":
-        ({"call0": 0, "call1": 0, "added": 0, "queued": 0, "list": 0, "limit": 0, "made": 0, "over": 0,
-          "after0": 1, "after1": 2, "after2": 2}, [DEFERS, DRAINS]),
+        ({"call0": 0, "call1": 0, "added": 0, "queued": 0, "list": 0, "limit": 0, "made": 0,
+          "after0": 1, "after1": 2, "other0": 1, "other1": 0}, [DEFERS, DRAINS]),
 }
 
 

@@ -90,7 +90,7 @@ static void *hold_section(void *it) {
     rcu_read_unlock();
     quiescent();
     uatomic_set(&holder->step, OUT);
-    wait_for(&holder->step, TO_END);
+    for (; uatomic_read(&holder->step) != TO_END; usleep(100)) quiescent();
     rcu_unregister_thread();
     return it;
 }

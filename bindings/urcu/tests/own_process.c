@@ -91,9 +91,10 @@ int forks(unsigned n) {
         pid_t child = fork();
         if (child == 0) _exit(child_goes_on());
         call_rcu_after_fork_parent();
+        offline();
         waitpid(child, &status, 0);
+        online();
         bad += status != 0;
-        quiescent();
     }
     uatomic_set(&over, 1);
     rcu_unregister_thread();
@@ -127,9 +128,10 @@ int bare_forks(unsigned n) {
             execl("/bin/true", "true", (char *)0);
             _exit(9);
         }
+        offline();
         waitpid(child, &status, 0);
+        online();
         bad += status != 0;
-        quiescent();
     }
     uatomic_set(&over, 1);
     rcu_unregister_thread();

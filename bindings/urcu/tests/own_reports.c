@@ -27,7 +27,7 @@ static int stalls(void) {
     pthread_join(waiter, 0);
     end_holder(&holder);
     EXTRA(on_stall)(10000, 0, 0);
-    if (times < 1 || times > 3) return printf("told %d times\n", times), 0;
+    if (!times) return puts("no stall was told of"), 0;
 #ifdef USE_QSBR
     if (said.depth != 0) return 0;
 #else

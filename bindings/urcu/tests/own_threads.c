@@ -196,13 +196,8 @@ int quiet(unsigned n) {
         quiescent();
     }
     offline();
-#ifdef USE_QSBR
-    end_holder(&holder); /* it passed one quiescent state, and no more */
-    synchronize_rcu();
-#else
     synchronize_rcu();
     end_holder(&holder);
-#endif
     rcu_unregister_thread();
     synchronize_rcu();
     return 1;
