@@ -19,8 +19,8 @@
 //! # drop(unsafe { limits.into_owned() });
 //! ```
 //!
-//! A pinned thread has a section of the engine open. What it defers gets a cookie, and is done once
-//! the cookie is.
+//! While a thread is pinned, a section of the engine is open for it. What it defers gets a cookie,
+//! and is done once the cookie is.
 //!
 //! **What is proved.** The engine: a cookie is done only where each section that was open at its
 //! taking has ended.

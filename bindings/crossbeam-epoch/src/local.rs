@@ -89,14 +89,18 @@ impl Local {
     }
 
     fn pin_first(&self) {
+        self.open_section();
+        if self.is_time_to_look() {
+            self.pin_and_look();
+        }
+    }
+
+    /// A full fence.
+    #[inline]
+    fn open_section(&self) {
         match &self.seat {
-            Some(seat) => {
-                seat.pin();
-                if self.is_time_to_look() {
-                    self.pin_and_look(seat);
-                }
-            }
-            None => self.pin_on_bench(),
+            Some(seat) => seat.pin(),
+            None => self.sit_down(),
         }
     }
 
@@ -108,11 +112,11 @@ impl Local {
     }
 
     #[cold]
-    fn pin_and_look(&self, seat: &Seat) {
-        if self.pins.get() % (PINS * LOOKS_WAIT) == 0 {
+    fn pin_and_look(&self) {
+        if self.seat.is_none() || self.pins.get() % (PINS * LOOKS_WAIT) == 0 {
             self.want();
         }
-        self.global().step(Some(seat));
+        self.global().step(self.seat.as_deref());
         self.unpin_if_it_panics(Local::run_done);
     }
 
@@ -123,16 +127,8 @@ impl Local {
         mem::forget(guard);
     }
 
-    #[cold]
-    fn pin_on_bench(&self) {
-        self.sit_down();
-        if self.is_time_to_look() {
-            self.want();
-            self.unpin_if_it_panics(Local::look);
-        }
-    }
-
     /// Takes a place on the bench for threads that pin now. A full fence.
+    #[cold]
     fn sit_down(&self) {
         let now = self.global().bench();
         let bench = &self.global().benches[now];
@@ -318,7 +314,9 @@ impl Local {
     pub(crate) unsafe fn finish(local: *const Local) {
         let this = &*local;
         this.handles.set(1);
-        let guard = this.pin();
+        this.guards.set(1);
+        this.open_section();
+        let guard = Guard { local };
         this.seal();
         this.want();
         this.leave_all_but(0);
