@@ -1,5 +1,5 @@
-/* What stops the process, and the conditions that threads sleep on. No cancellation takes effect in a
- * sleep, as the lock is held behind it. */
+/* What stops the process, and the conditions that threads sleep on. No cancellation takes effect in
+ * a sleep, as the lock is held behind it. */
 #include "layer.h"
 #include <errno.h>
 #include <stdio.h>

@@ -1,10 +1,10 @@
-/* Callbacks: each worker has a list of its own, through the heads. To push one takes neither memory nor
- * a lock but where the list was empty: who pushes the first one wakes the worker. The worker takes all
- * at once, waits for a round, and runs them in the order in which they were pushed.
+/* Callbacks: each worker has a list of its own, through the heads. To push one takes neither memory
+ * nor a lock but where the list was empty: who pushes the first one wakes the worker. The worker
+ * takes all at once, waits for a round, and runs them in the order in which they were pushed.
  *
- * It rests on rounds.c alone: a round that begins after a callback was pushed has ended before it runs.
- * It adds: that each is taken once, by one exchange of the list's word, and that none is left behind:
- * a worker sleeps under the lock, where it found the list empty (tests/model.py). */
+ * It rests on rounds.c alone: a round that begins after a callback was pushed has ended before it
+ * runs. It adds: that each is taken once, by one exchange of the list's word, and that none is left
+ * behind: a worker sleeps under the lock, where it found the list empty (tests/model.py). */
 #include "workers.h"
 #include <sched.h>
 

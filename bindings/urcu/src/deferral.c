@@ -1,11 +1,11 @@
-/* defer_rcu: each thread has a ring of calls that it deferred. A ring with calls in it has a callback
- * queued, by which a worker makes those calls that the callback's round came after. Where the ring is
- * full, its thread waits for a round and makes them itself.
+/* defer_rcu: each thread has a ring of calls that it deferred. A ring with calls in it has a
+ * callback queued, by which a worker makes those calls that the callback's round came after. Where
+ * the ring is full, its thread waits for a round and makes them itself.
  *
- * It rests on callbacks.c and rounds.c. It adds: that no call is left behind. A thread adds one, and
- * then looks whether the callback is queued; the callback says that it is queued no more, and then looks
- * whether one was added. All four steps are sequentially consistent, so one of the two sees the other
- * (tests/model.py). */
+ * It rests on callbacks.c and rounds.c. It adds: that no call is left behind. A thread adds one,
+ * and then looks whether the callback is queued; the callback says that it is queued no more, and
+ * then looks whether one was added. All four steps are sequentially consistent, so one of the two
+ * sees the other (tests/model.py). */
 #include "deferral.h"
 #include "workers.h"
 #include <stdlib.h>

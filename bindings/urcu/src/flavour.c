@@ -1,5 +1,5 @@
-/* The flavour as a table, as liburcu-cds takes it, and the pointers' calls as functions, for programs
- * that were built so. */
+/* The flavour as a table, as liburcu-cds takes it, and the pointers' calls as functions, for
+ * programs that were built so. */
 #include "layer.h"
 
 const struct rcu_flavor_struct CALL(flavor) = {

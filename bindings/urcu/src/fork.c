@@ -1,11 +1,11 @@
-/* fork. A process that forks has the lock meanwhile, so the child finds all as it is between two calls.
- * The child has one thread: it opens engines of its own, and takes a place there if it had one. By
- * liburcu's three handlers the workers pause too, and the default worker goes on in the child with all
- * callbacks that waited. Without them the child may read, wait for rounds, and exec; its callbacks do
- * not run.
+/* fork. A process that forks has the lock meanwhile, so the child finds all as it is between two
+ * calls. The child has one thread: it opens engines of its own, and takes a place there if it had
+ * one. By liburcu's three handlers the workers pause too, and the default worker goes on in the
+ * child with all callbacks that waited. Without them the child may read, wait for rounds, and exec;
+ * its callbacks do not run.
  *
- * include/rcu.h says: no call is made "in the forked child of a process with threads". So the engines
- * of the parent are left as they are there, and no call is made on them. */
+ * include/rcu.h says: no call is made "in the forked child of a process with threads". So the
+ * engines of the parent are left as they are there, and no call is made on them. */
 #include "workers.h"
 #include "deferral.h"
 #include <stdlib.h>
@@ -16,7 +16,8 @@ static bool renewed;
 
 /* ---- what each fork does */
 
-/* A signal handler that forks in the midst of a call has no lock; its child may exec, and no more. */
+/* A signal handler that forks in the midst of a call has no lock; its child may exec, and no more.
+ */
 static void before_any_fork(void) {
     if (atomic_load(&self.busy) || self.beside) return;
     hold();
@@ -100,7 +101,8 @@ void CALL(call_rcu_after_fork_parent)(void) {
     come_back(self.was_online);
 }
 
-/* The others' threads are gone. Their callbacks go to the default worker, whose thread is made anew. */
+/* The others' threads are gone. Their callbacks go to the default worker, whose thread is made
+ * anew. */
 static void go_on_with_default_worker(void) {
     struct call_rcu_data *gone = workers, *worker = atomic_load(&main_worker);
     if (worker) make_condition(&worker->work);

@@ -2,8 +2,8 @@
  * as its name: readers_by_word.c for memb, mb, signal and bp, readers_by_state.c for qsbr. When the
  * objects are joined all names are hidden but those of liburcu's interface (the Makefile).
  *
- * A thread that is registered has a place: the open seat of a processor that is online. A place that
- * is free is idle, so no grace period waits for it. */
+ * A thread that is registered has a place: the open seat of a processor that is online. A place
+ * that is free is idle, so no grace period waits for it. */
 #ifndef URCU_LAYER_H
 #define URCU_LAYER_H
 #ifndef _GNU_SOURCE
@@ -37,15 +37,14 @@ struct place {
     int thread;                /* the system's number of the thread; 0 where the place is free */
     const void *registered_at; /* the code that registered it */
     struct engine *engine;
-    struct place *next; /* among those that are free */
+    struct place *next; /* among those of the engine that are free */
 };
 
 struct engine {
-    struct engine *next;
+    struct engine *next, *next_in_round;
     rcu_t rcu;
     uint32_t cpus, taken;
-    bool in_round;
-    struct place *places;
+    struct place *places, *free_places;
 };
 
 struct ring;
@@ -71,8 +70,7 @@ extern __thread struct reader self __attribute__((tls_model("initial-exec")));
 struct shared {
     pthread_mutex_t lock;
     pthread_cond_t quiet, round_over, paused, resumed;
-    struct engine *engines;
-    struct place *free_places;
+    struct engine *engines; /* the oldest first */
     uint32_t cpus_of_next; /* of the engine that is opened next */
     bool making, pausing;
     uint64_t begun, asked_for; /* rounds: each is a grace period of every engine in use */
@@ -114,6 +112,9 @@ static inline void let_go(void) {
     set_busy(-1u);
 }
 
+/* room.c */
+void *room_malloc(size_t size);
+
 /* base.c */
 void make_condition(pthread_cond_t *condition);
 void sleep_on(pthread_cond_t *condition);
@@ -132,7 +133,7 @@ void set_up_readers(void);
 void open_place(struct place *place);
 void close_place(struct place *place);
 void pass_if_out(struct place *place);
-void call_places(struct engine *engines);
+void call_place(struct place *place);
 void fence_readers(void);
 void stay_as_in(struct place *old);
 bool leave(const char *call);

@@ -1,12 +1,12 @@
-/* Places, and the engines that they are of. Where all are taken an engine is opened, of twice as many
- * processors as the last one, up to LARGEST: so each thread that comes finds a place, and few are
- * opened in vain. An engine stays open until the process ends.
+/* Places, and the engines that they are of. Where all are taken an engine is opened, of twice as
+ * many processors as the last one, up to LARGEST: so each thread that comes finds a place, and few
+ * are opened in vain. An engine stays open until the process ends.
  *
- * It rests on these sentences of include/rcu.h: of rcu_seat_idle, "it opens no section, and no grace
- * period waits for it", and "what the thread did before comes before what follows the collection or
- * the begin that finds it idle"; of rcu_seat_wake, "a grace period that begins later awaits the
- * processor", and of one that found it idle "the section sees what came before its begin".
- * It adds: that a place is one thread's at a time, from taking it to giving it back. */
+ * It rests on these sentences of include/rcu.h: of rcu_seat_idle, "it opens no section, and no
+ * grace period waits for it", and "what the thread did before comes before what follows the
+ * collection or the begin that finds it idle"; of rcu_seat_wake, "a grace period that begins later
+ * awaits the processor", and of one that found it idle "the section sees what came before its
+ * begin". It adds: that a place is one thread's at a time, from taking it to giving it back. */
 #include "deferral.h"
 #include "layer.h"
 #include <sys/mman.h>
@@ -29,16 +29,18 @@ static pthread_key_t ends;
 
 /* ---- engines */
 
-static void *system_room(size_t size) {
-    void *room = mmap(0, size, PROT_READ | PROT_WRITE, MAP_PRIVATE | MAP_ANONYMOUS, -1, 0);
+static struct place *room_of_places(uint32_t cpus) {
+    void *room = mmap(0, cpus * sizeof(struct place), PROT_READ | PROT_WRITE,
+                      MAP_PRIVATE | MAP_ANONYMOUS, -1, 0);
     if (room == MAP_FAILED) fail("register", "out of memory");
     return room;
 }
 
-static void add_engine(void) {
+static struct engine *new_engine(void) {
     uint32_t cpus = all.cpus_of_next;
-    struct engine *engine = system_room((cpus + 1) * sizeof(struct place));
-    engine->places = (struct place *)engine + 1;
+    struct engine *engine = room_malloc(sizeof *engine);
+    if (!engine) fail("register", "out of memory");
+    *engine = (struct engine){.cpus = cpus, .places = room_of_places(cpus)};
     must("open", rcu_open(cpus, NO_LAST_NUMBER, &engine->rcu));
     for (uint32_t cpu = cpus; cpu-- > 0;) {
         struct place *place = &engine->places[cpu];
@@ -46,20 +48,16 @@ static void add_engine(void) {
         if (cpu != 0) must("arrive", rcu_arrive(&engine->rcu, &place->seat));
         must("idle", rcu_seat_idle(&place->seat));
         place->engine = engine;
-        place->next = all.free_places;
-        all.free_places = place;
+        place->next = engine->free_places;
+        engine->free_places = place;
     }
-    engine->cpus = cpus;
-    engine->next = all.engines;
-    all.engines = engine;
     if (all.cpus_of_next < LARGEST) all.cpus_of_next *= 2;
+    return engine;
 }
-_Static_assert(sizeof(struct engine) <= sizeof(struct place), "an engine stands before its places");
 
 /* In the child of a fork: its threads are gone, who had seats of the engines. Their room stays. */
 void forget_engines(void) {
     all.engines = 0;
-    all.free_places = 0;
     all.cpus_of_next = FIRST;
 }
 
@@ -97,11 +95,20 @@ void tell_end(void) {
     set_busy(-1u);
 }
 
+/* The oldest engines are the smallest, and are filled first: so few and small ones are in a round.
+ */
+static struct engine *engine_with_room(void) {
+    struct engine **at = &all.engines;
+    while (*at && !(*at)->free_places) at = &(*at)->next;
+    if (!*at) *at = new_engine();
+    return *at;
+}
+
 static void take_free_place(const void *registered_at) {
-    if (!all.free_places) add_engine();
-    struct place *place = all.free_places;
-    all.free_places = place->next;
-    place->engine->taken++;
+    struct engine *engine = engine_with_room();
+    struct place *place = engine->free_places;
+    engine->free_places = place->next;
+    engine->taken++;
     if (!self.thread) self.thread = (int)syscall(SYS_gettid);
     place->thread = self.thread;
     place->registered_at = registered_at;
@@ -125,8 +132,8 @@ void give_back_place(void) {
     if (is_last_wish(place)) pthread_cond_signal(&all.quiet);
     place->thread = 0;
     place->engine->taken--;
-    place->next = all.free_places;
-    all.free_places = place;
+    place->next = place->engine->free_places;
+    place->engine->free_places = place;
     self.place = 0;
     let_go();
 }

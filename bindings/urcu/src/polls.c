@@ -1,7 +1,7 @@
 /* The polls of liburcu 0.14. The default worker makes the rounds that are asked for.
  *
- * They rest on rounds.c: a round that begins after the asking has the number that the state has, or a
- * greater one. */
+ * They rest on rounds.c: a round that begins after the asking has the number that the state has, or
+ * a greater one. */
 #include "workers.h"
 
 struct urcu_gp_poll_state CALL(start_poll_synchronize_rcu)(void) {

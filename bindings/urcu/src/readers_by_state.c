@@ -1,21 +1,21 @@
-/* Sections of qsbr. From one quiescent state to the next an online thread is within one section of its
- * engine's, so rcu_read_lock has nothing to do. A quiescent state closes that section, passes one by
- * the seat, and opens the next; a thread that is offline is idle. The seat is the thread's own, and
- * none of it needs the lock.
+/* Sections of qsbr. From one quiescent state to the next an online thread is within one section of
+ * its engine's, so rcu_read_lock has nothing to do. A quiescent state closes that section, passes
+ * one by the seat, and opens the next; a thread that is offline is idle. The seat is the thread's
+ * own, and none of it needs the lock.
  *
- * It rests on these sentences of include/rcu.h: of rcu_begin, "of each section one of two holds: all of
- * it comes before what follows the end of this grace period, or it sees what came before this call";
- * of rcu_take, that a cookie is "the number at which a grace period that begins from now on has ended",
- * and of rcu_seat_take, "at the number that one load sees". Where the cookie is the one that was taken
- * before the last quiescent state, no grace period began since: the section goes on, as none waits for
- * its end.
- * It adds nothing to the order of threads but the wish to be woken (rounds.c). */
+ * It rests on these sentences of include/rcu.h: of rcu_begin, "of each section one of two holds:
+ * all of it comes before what follows the end of this grace period, or it sees what came before
+ * this call"; of rcu_take, that a cookie is "the number at which a grace period that begins from
+ * now on has ended", and of rcu_seat_take, "at the number that one load sees". Where the cookie is
+ * the one that was taken before the last quiescent state, no grace period began since: the section
+ * goes on, as none waits for its end. It adds nothing to the order of threads but the wish to be
+ * woken (rounds.c). */
 #include "layer.h"
 
 void set_up_readers(void) {}
 void fence_readers(void) {}
-void call_places(struct engine *engines) {
-    (void)engines;
+void call_place(struct place *place) {
+    (void)place;
 }
 void pass_if_out(struct place *place) {
     (void)place;

@@ -1,18 +1,19 @@
 /* Sections of memb, mb, signal and bp. A place's seat is within one section of its engine's all the
  * time, and belongs to who holds the lock. The thread says by a word, its depth, whether it is in a
- * section of its own. Where it is in none, who makes a round passes a quiescent state by the seat. So
- * each section of a thread lies within one of the engine's.
+ * section of its own. Where it is in none, who makes a round passes a quiescent state by the seat.
+ * So each section of a thread lies within one of the engine's.
  *
- * The thread stores its word, makes a fence, and reads. A round makes a fence in all threads, and then
- * looks at their words: so either it sees the word, or the section sees what came before the round. A
- * round calls the threads that it awaits. One that is called enters by the lock, and passes the
- * quiescent state itself: so a thread that reads again and again does not hold a round up.
+ * The thread stores its word, makes a fence, and reads. A round makes a fence in all threads, and
+ * then looks at their words: so either it sees the word, or the section sees what came before the
+ * round. A round that has looked often calls the threads that it awaits. One that is called enters
+ * by the lock, and passes the quiescent state itself: so a thread that reads again and again holds
+ * no round up.
  *
- * It rests on this sentence of include/rcu.h, of rcu_begin: "of each section one of two holds: all of
- * it comes before what follows the end of this grace period, or it sees what came before this call".
- * It adds: that a quiescent state is passed only where the word says so (tests/model.py has each
- * fence, look and order of it). The fence in all threads is membarrier(2), by what its page says; in
- * mb, and where the system has none, threads make their own. */
+ * It rests on this sentence of include/rcu.h, of rcu_begin: "of each section one of two holds: all
+ * of it comes before what follows the end of this grace period, or it sees what came before this
+ * call". It adds: that a quiescent state is passed only where the word says so (tests/model.py has
+ * each fence, look and order of it). The fence in all threads is membarrier(2), by what its page
+ * says; in mb, and where the system has none, threads make their own. */
 #include "layer.h"
 #include <linux/membarrier.h>
 #include <sched.h>
@@ -94,18 +95,12 @@ void pass_if_out(struct place *place) {
     if (atomic_load_explicit(&place->depth, memory_order_acquire) == 0) pass_quiet(place);
 }
 
-void call_places(struct engine *engines) {
-    for (struct engine *engine = engines; engine; engine = engine->next) {
-        if (!engine->in_round) continue;
-        for (uint32_t cpu = 0; cpu < engine->cpus; cpu++)
-            if (rcu_awaits(&engine->rcu, cpu))
-                atomic_store_explicit(&engine->places[cpu].called, true, memory_order_relaxed);
-    }
-    fence_readers();
+void call_place(struct place *place) {
+    atomic_store_explicit(&place->called, true, memory_order_relaxed);
 }
 
-/* ---- sections beside: those of a signal handler that finds its thread busy. Each round sees a moment
- * at which there is none. */
+/* ---- sections beside: those of a signal handler that finds its thread busy. Each round sees a
+ * moment at which there is none. */
 
 static SLOW void open_beside(void) {
     self.beside++;

@@ -1,9 +1,10 @@
-/* What a flavour tells: who holds a grace period up, and how much it did. It adds nothing to the order of
- * threads: it reads, under the lock, what others write there. The depths of sections are read beside
- * their threads, and are what those were at some moment. */
+/* What a flavour tells: who holds a grace period up, and how much it did. It adds nothing to the
+ * order of threads: it reads, under the lock, what others write there. The depths of sections are
+ * read beside their threads, and are what those were at some moment. */
 #include "reports.h"
 #include "workers.h"
 #include <dlfcn.h>
+#include <inttypes.h>
 #include <stdio.h>
 
 enum { MOST_ROWS = 16 };
@@ -49,12 +50,14 @@ static void say(const struct urcu_stall *it) {
     char how[60] = "which passes no quiescent state";
     Dl_info found = {0};
     dladdr(it->registered_at, &found);
+    const char *function = found.dli_sname ? found.dli_sname : "a function";
+    const char *file = found.dli_fname ? found.dli_fname : "an unknown file";
     if (it->depth) snprintf(how, sizeof how, "which is in a section, %lu deep", it->depth);
     fprintf(stderr,
             "urcu over rcu: %s: a grace period waits since %.1f s for thread %d, %s "
             "(registered at %p, in %s of %s)\n",
             it->flavour, (double)it->milliseconds / 1000, it->thread, how, it->registered_at,
-            found.dli_sname ? found.dli_sname : "a function", found.dli_fname ? found.dli_fname : "?");
+            function, file);
 }
 
 static unsigned find_stalls(struct engine *engine, struct urcu_stall *rows) {
@@ -133,9 +136,9 @@ int CALL(counters_text)(char *text, size_t room) {
     struct urcu_counters now;
     CALL(counters)(&now);
     return snprintf(text, room,
-                    "%s: %llu grace periods, %llu threads, %llu callbacks run, %llu waiting, the oldest "
-                    "%llu ms; the last grace period took %llu us",
-                    FLAVOUR, (unsigned long long)now.grace_periods, (unsigned long long)now.threads,
-                    (unsigned long long)now.callbacks_run, (unsigned long long)now.callbacks_waiting,
-                    (unsigned long long)now.oldest_waits, (unsigned long long)now.last[0]);
+                    "%s: %" PRIu64 " grace periods, %" PRIu64 " threads, %" PRIu64
+                    " callbacks run, %" PRIu64 " waiting, the oldest %" PRIu64
+                    " ms; the last grace period took %" PRIu64 " us",
+                    FLAVOUR, now.grace_periods, now.threads, now.callbacks_run,
+                    now.callbacks_waiting, now.oldest_waits, now.last[0]);
 }

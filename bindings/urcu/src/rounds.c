@@ -1,14 +1,14 @@
-/* Rounds. A round is a grace period of each engine that has a thread. Who waits for one makes it, with
- * the lock, or sleeps while another thread does. The maker looks LOOKS times whether each place is
- * quiet. Then it stores a wish at each place that is awaited still, looks once more, and sleeps; the
- * last of them that gets quiet wakes it.
+/* Rounds. A round is a grace period of each engine that has a thread. Who waits for one makes it,
+ * with the lock, or sleeps while another thread does. The maker looks LOOKS times whether each
+ * place is quiet. Then it stores a wish at each place that is awaited still, and calls its thread;
+ * looks once more, and sleeps; the last of them that gets quiet wakes it.
  *
- * It rests on this sentence of include/rcu.h, of rcu_begin: "of each section one of two holds: all of
- * it comes before what follows the end of this grace period, or it sees what came before this call";
- * and on this one, of rcu_awaits: "whether the processor is awaited".
- * It adds: that a thread which takes a place of an engine that had none took the lock after the round
- * began, so its sections see what came before; and the wishes. The maker stores a wish, and then looks
- * at the place; a thread gets quiet, and then looks for the wish. All four steps are sequentially
+ * It rests on this sentence of include/rcu.h, of rcu_begin: "of each section one of two holds: all
+ * of it comes before what follows the end of this grace period, or it sees what came before this
+ * call"; and on this one, of rcu_awaits: "whether the processor is awaited". It adds: that a thread
+ * which takes a place of an engine that had none took the lock after the round began, so its
+ * sections see what came before; and the wishes. The maker stores a wish, and then looks at the
+ * place; a thread gets quiet, and then looks for the wish. All four steps are sequentially
  * consistent, or have the fence in all threads between them, so one of the two sees the other
  * (tests/model.py). */
 #include "layer.h"
@@ -63,6 +63,7 @@ static void sleep_until_quiet(struct engine *engine) {
     for (uint32_t cpu = 0; cpu < engine->cpus; cpu++) {
         struct place *place = &engine->places[cpu];
         if (!rcu_awaits(&engine->rcu, cpu)) continue;
+        call_place(place);
         atomic_fetch_add(&all.missing, 1);
         atomic_store(&place->wished, true);
     }
@@ -83,11 +84,18 @@ static void finish(struct engine *engine) {
     must("end", rcu_end_unfenced(&engine->rcu, &number));
 }
 
-static void begin(struct engine *engine) {
+/* Begins a grace period of each engine that has a thread. Returns these. */
+static struct engine *begin_all(void) {
+    struct engine *round = 0;
     uint64_t number;
     uint32_t awaited;
-    engine->in_round = engine->taken > 0;
-    if (engine->in_round) must("begin", rcu_begin(&engine->rcu, &number, &awaited));
+    for (struct engine *it = all.engines; it; it = it->next) {
+        if (!it->taken) continue;
+        must("begin", rcu_begin(&it->rcu, &number, &awaited));
+        it->next_in_round = round;
+        round = it;
+    }
+    return round;
 }
 
 /* Of its own place the maker knows: so where no other thread is awaited, none is called. */
@@ -98,21 +106,18 @@ static void look_at_own_place(void) {
     if (rcu_awaits(&place->engine->rcu, cpu)) look_at(place->engine, cpu);
 }
 
-/* An engine that is opened meanwhile stands before those of the round. The fence stands between what
- * came before the round and the look at the sections beside. */
+/* The last fence stands between what came before the round and the look at the sections beside. */
 static void make_round(void) {
-    struct engine *engines = all.engines;
     bool waits = false;
     all.making = true;
     all.begun++;
-    for (struct engine *it = engines; it; it = it->next) begin(it);
+    struct engine *round = begin_all();
     look_at_own_place();
-    for (struct engine *it = engines; it; it = it->next)
-        waits = waits || (it->in_round && rcu_awaited(&it->rcu));
+    for (struct engine *it = round; it; it = it->next_in_round)
+        waits = waits || rcu_awaited(&it->rcu);
     time_round(waits);
-    if (waits) call_places(engines);
-    for (struct engine *it = engines; it; it = it->next)
-        if (it->in_round) finish(it);
+    if (waits) fence_readers();
+    for (struct engine *it = round; it; it = it->next_in_round) finish(it);
     rcu_fence();
     while (atomic_load(&all.beside)) sched_yield();
     atomic_store_explicit(&all.ended, all.begun, memory_order_release);

@@ -1,6 +1,6 @@
-/* The workers: one that all threads have by default, and those that a program makes for a processor of
- * the machine or for a thread. Each is a thread with all signals blocked, and is not stopped when the
- * process ends. It adds nothing to the order of threads but the lock. */
+/* The workers: one that all threads have by default, and those that a program makes for a processor
+ * of the machine or for a thread. Each is a thread with all signals blocked, and is not stopped
+ * when the process ends. It adds nothing to the order of threads but the lock. */
 #include "workers.h"
 #include <errno.h>
 #include <sched.h>

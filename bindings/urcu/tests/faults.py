@@ -1,6 +1,6 @@
-"""Faults of the layer: each is planted in a copy of its sources, and a test has to find it. A row has the
-file, the text that is there once, what stands in its place, the flavour and the test. Where the last
-field is HANGS, the test is found to hang."""
+"""Faults of the layer: each is planted in a copy of its sources, and a test has to find it. A row
+has the file, the text that is there once, what stands in its place, the flavour and the test. Where
+the last field is HANGS, the test is found to hang."""
 
 HANGS = True
 FAULTS = {
@@ -14,20 +14,20 @@ FAULTS = {
         "readers_by_word.c", "    set_outside(place);\n    fence();\n    got_quiet(place);",
         "    set_outside(place);\n    fence();", "memb", "waits", HANGS),
     "the wish is gone, in qsbr": (
-        "readers_by_state.c", "must(\"enter\", rcu_seat_enter(&place->seat, &depth));\n    got_quiet(place);",
+        "readers_by_state.c",
+        "must(\"enter\", rcu_seat_enter(&place->seat, &depth));\n    got_quiet(place);",
         "must(\"enter\", rcu_seat_enter(&place->seat, &depth));", "qsbr", "waits", HANGS),
     "the inner end of a section ends it": (
         "readers_by_word.c", "set_depth(place, depth - 1);", "set_outside(place);",
         "memb", "nests", False),
     "a place is given away in a section": (
-        "places.c", "all.free_places = place->next;\n    place->engine->taken++;",
-        "place->engine->taken++;", "memb", "sections", False),
+        "places.c", "    engine->free_places = place->next;\n", "", "memb", "sections", False),
     "a thread that ends keeps its place": (
-        "places.c", "    give_back_place();\n}\n\nstatic void set_up_once", "}\n\nstatic void set_up_once",
-        "memb", "forgets", False),
+        "places.c", "    give_back_place();\n}\n\nstatic void set_up_once",
+        "}\n\nstatic void set_up_once", "memb", "forgets", False),
     "a callback runs twice": (
-        "callbacks.c", "        head->func(head);\n", "        head->func(head);\n        head->func(head);\n",
-        "memb", "callbacks", HANGS),
+        "callbacks.c", "        head->func(head);\n",
+        "        head->func(head);\n        head->func(head);\n", "memb", "callbacks", HANGS),
     "callbacks run backwards": (
         "callbacks.c", "struct rcu_head *first = in_order(last, &count);",
         "in_order(0, &count);\n    struct rcu_head *first = last;", "memb", "callbacks", False),
@@ -36,7 +36,8 @@ FAULTS = {
         "    hold();\n    wait_for_round();\n    let_go();\n    CALL(thread_online)();",
         "    CALL(thread_online)();", "memb", "batches", False),
     "a barrier does not wait": (
-        "barriers.c", "    while (markers_left) sleep_on(&barrier_over);\n", "", "memb", "barriers", False),
+        "barriers.c", "    while (markers_left) sleep_on(&barrier_over);\n", "",
+        "memb", "barriers", False),
     "a poll answers a round early": (
         "polls.c", "state.grace_period_id = all.begun + 1;", "state.grace_period_id = all.begun;",
         "memb", "polls", False),
@@ -44,7 +45,7 @@ FAULTS = {
         "deferral.c", "CALL(call_rcu)(&ring->head, drain);", "drain(&ring->head);",
         "memb", "defers", False),
     "the child of a fork keeps the parent's engines": (
-        "places.c", "    all.engines = 0;\n    all.free_places = 0;\n", "", "qsbr", "forks", HANGS),
+        "places.c", "    all.engines = 0;\n", "", "qsbr", "forks", HANGS),
     "who goes offline is waited for": (
         "readers_by_state.c", "    if (!self.online) return;\n    close_section(self.place);",
         "    if (!self.online) return;\n    self.online = false;", "qsbr", "quiet", HANGS),

@@ -1,7 +1,7 @@
-"""Walks all interleavings of small programs over words that they share, with a store buffer for each
-thread. A program is a text, a step a line:
+"""Walks all interleavings of small programs over words that they share, with a store buffer for
+each thread. A program is a text, a step a line:
 
-    WORD = VALUE           a store: it waits in the thread's buffer, and reaches memory at any time later
+    WORD = VALUE           a store: it waits in the thread's buffer, and reaches memory later
     name = WORD            a load, of the thread's own buffer first
     name = swap WORD V     locked: the buffer is empty before it. Gives what stood there.
     name = add WORD V      the same, which adds
@@ -15,9 +15,10 @@ thread. A program is a text, a step a line:
     must name: MESSAGE     what goes wrong where the name is 0
     told WORD = VALUE      the model's own word: it is in memory at once, and empties no buffer
 
-A WORD is one of those given at first; 'good.p' is the word good0 where p is 0. A name that was never set is 0.
-A VALUE is a number or a name. A thread may have a handler: a program that comes once, between any two of its
-steps, has its buffer, and runs to its end before the thread goes on.
+A WORD is one of those given at first; 'good.p' is the word good0 where p is 0. A name that was
+never set is 0. A VALUE is a number or a name. A thread may have a handler: a program that comes
+once, between any two of its steps, has its buffer, and runs to its end before the thread goes on.
+
 """
 import re
 
@@ -84,7 +85,8 @@ class Walk:
 
     def run(self):
         """What goes wrong, or None."""
-        threads = tuple((((at, 0, ()),), (), at in self.handlers, False) for at in range(self.count))
+        threads = tuple((((at, 0, ()),), (), at in self.handlers, False)
+                        for at in range(self.count))
         first = (self.memory, threads)
         self.seen, todo = {first}, [first]
         seen = self.seen
@@ -114,7 +116,8 @@ class Walk:
         frames, buffer, may_come, asleep = thread
         number, at, names = frames[-1]
         kind, *rest = self.programs[number].code[at]
-        return (kind == "unlock" or (kind == "move" and self.word(rest[0], dict(names)) is not None)) \
+        is_store = kind == "move" and self.word(rest[0], dict(names)) is not None
+        return (kind == "unlock" or is_store) \
             and not may_come and not asleep and len(buffer) < ROOM
 
     def steps(self, state):

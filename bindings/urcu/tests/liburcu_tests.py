@@ -1,7 +1,7 @@
-"""liburcu's own tests over the drop-in, from Debian's source package, with no line changed. The package is
-fetched by an apt configuration of this file's own, and kept in out/liburcu; its version and checksum stand
-below. Run alone with a word behind it, FOLDER, it prints what each test said (--long: longer, and all
-ways; --bench: the benchmarks too)."""
+"""liburcu's own tests over the drop-in, from Debian's source package, with no line changed. The
+package is fetched by an apt configuration of this file's own, and kept in out/liburcu; its version
+and checksum stand below. Run alone with a word behind it, FOLDER, it prints what each test said
+(--long: longer, and all ways; --bench: the benchmarks too)."""
 import concurrent.futures
 import glob
 import hashlib
@@ -29,9 +29,10 @@ READERS = "3"
 
 def run(words, **how):
     try:
-        done = subprocess.run(words, stdin=subprocess.DEVNULL, stdout=subprocess.PIPE, timeout=SECONDS,
-                              stderr=subprocess.STDOUT, encoding="utf-8", errors="replace", check=False,
-                              **how)
+        done = subprocess.run(words, stdin=subprocess.DEVNULL, stdout=subprocess.PIPE,
+                              timeout=SECONDS,
+                              stderr=subprocess.STDOUT, encoding="utf-8", errors="replace",
+                              check=False, **how)
     except (subprocess.TimeoutExpired, OSError) as fault:
         return 1, str(fault)
     return done.returncode, done.stdout
@@ -91,7 +92,7 @@ class Builds:
                     *(f"{self.out}/lib/liburcu{it}.a" for it in flavours), *libraries, "-lpthread"])
 
     def try_one(self, name, sources, flavours, flags=(), arguments=((),), libraries=()):
-        """Builds a program, and runs it in each way: rows of what, whether it passed, and what it said."""
+        """Builds a program, and runs it in each way: what, whether it passed, what it said."""
         status, said = self.build(name, sources, flavours, flags, libraries)
         if status != 0:
             return [(f"liburcu's {name}: the build", False, said)]
@@ -112,9 +113,10 @@ def unit_tests(builds):
     yield "test_uatomic", ["unit/test_uatomic.c"], []
     for flags in ([], ["-DDYNAMIC_LINK_TEST"]):
         word = "_dynamic" if flags else ""
-        yield f"multiflavor{word}", ["unit/test_urcu_multiflavor.c", "unit/test_urcu_multiflavor-*.c"], \
+        yield f"multiflavor{word}", ["unit/test_urcu_multiflavor.c",
+                                     "unit/test_urcu_multiflavor-*.c"], every, flags
+        yield f"multiflavor_single_unit{word}", ["unit/test_urcu_multiflavor_single_unit.c"], \
             every, flags
-        yield f"multiflavor_single_unit{word}", ["unit/test_urcu_multiflavor_single_unit.c"], every, flags
     yield "test_urcu_fork", ["regression/test_urcu_fork.c"], [""]
 
 
@@ -143,5 +145,6 @@ def outcomes(out, pool, is_long=False):
 
 if __name__ == "__main__":
     with concurrent.futures.ThreadPoolExecutor(2) as threads:
-        for what, passed, words in outcomes(os.path.realpath(sys.argv[1]), threads, "--long" in sys.argv):
+        for what, passed, words in outcomes(os.path.realpath(sys.argv[1]), threads,
+                                            "--long" in sys.argv):
             print(f"{'ok' if passed else 'BAD'} {what}{'' if passed else ': ' + words}", flush=True)

@@ -1,5 +1,5 @@
-/* What the tests share. They are built for one flavour: by the macros of urcu.h (RCU_MB, RCU_SIGNAL), or
- * with USE_BP or USE_QSBR; with NO_EXTRAS over liburcu 0.13 too. */
+/* What the tests share. They are built for one flavour: by the macros of urcu.h (RCU_MB,
+ * RCU_SIGNAL), or with USE_BP or USE_QSBR; with NO_EXTRAS over liburcu 0.13 too. */
 #ifndef OWN_H
 #define OWN_H
 #ifndef _GNU_SOURCE

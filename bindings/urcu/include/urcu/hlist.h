@@ -19,8 +19,8 @@ static inline void cds_hlist_add_head(struct cds_hlist_node *it, struct cds_hlis
     if (it->next) it->next->prev = it;
     head->next = it;
 }
-/* The place that points to it: the head's or a node's. Both begin with that pointer, and it is read and
- * written as such, as the two have no type in common. */
+/* The place that points to it: the head's or a node's. Both begin with that pointer, and it is read
+ * and written as such, as the two have no type in common. */
 static inline struct cds_hlist_node **cds_hlist_place_of_(struct cds_hlist_node *it) {
     return (struct cds_hlist_node **)it->prev;
 }
@@ -41,7 +41,8 @@ static inline void cds_hlist_del(struct cds_hlist_node *it) {
 #define cds_hlist_for_each_entry(it, at, head, member) \
     for (at = (head)->next; at && (it = cds_hlist_of_(at, it, member), 1); at = at->next)
 #define cds_hlist_for_each_entry_safe(it, at, then, head, member) \
-    for (at = (head)->next; at && (then = at->next, it = cds_hlist_of_(at, it, member), 1); at = then)
+    for (at = (head)->next; at && (then = at->next, it = cds_hlist_of_(at, it, member), 1); \
+         at = then)
 #define cds_hlist_for_each_entry_2(it, head, member) \
     for (it = cds_hlist_of_((head)->next, it, member); it; \
          it = cds_hlist_of_(it->member.next, it, member))

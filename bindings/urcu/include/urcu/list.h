@@ -8,7 +8,9 @@ struct cds_list_head {
 };
 #define CDS_LIST_HEAD_INIT(name) {&(name), &(name)}
 #define CDS_LIST_HEAD(name) struct cds_list_head name = {&(name), &(name)}
-static inline void CDS_INIT_LIST_HEAD(struct cds_list_head *list) { list->next = list->prev = list; }
+static inline void CDS_INIT_LIST_HEAD(struct cds_list_head *list) {
+    list->next = list->prev = list;
+}
 
 static inline void cds_list_link_(struct cds_list_head *a, struct cds_list_head *b) {
     a->next = b;

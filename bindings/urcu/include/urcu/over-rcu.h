@@ -1,5 +1,5 @@
-/* What liburcu does not have: a report of a grace period that stalls, counters, and a worker that does
- * not rest. Each call belongs to a flavour, as urcu_memb_on_stall. */
+/* What liburcu does not have: a report of a grace period that stalls, counters, and a worker that
+ * does not rest. Each call belongs to a flavour, as urcu_memb_on_stall. */
 #ifndef URCU_OVER_RCU_H
 #define URCU_OVER_RCU_H
 #include <stddef.h>
@@ -36,12 +36,11 @@ struct urcu_counters {
     int urcu_##f##_counters_text(char *text, size_t room); \
     void urcu_##f##_call_rcu_rest(unsigned milliseconds)
 
-/* on_stall: after so many milliseconds (10,000 where it was never called; 0: never), and each time as
- * many have passed again, `report` is called for each thread that is awaited; where it is null, a line
- * goes to standard error. It is called by the thread that makes the grace period, and makes no call of
- * the flavour's.
- * counters_text: one line, with no newline, as snprintf writes and counts it.
- * call_rcu_rest: how long a worker lets callbacks gather before it takes them. It is 10, as
+/* on_stall: after so many milliseconds (10,000 where it was never called; 0: never), and each time
+ * as many have passed again, `report` is called for each thread that is awaited; where it is null,
+ * a line goes to standard error. It is called by the thread that makes the grace period, and makes
+ * no call of the flavour's. counters_text: one line, with no newline, as snprintf writes and counts
+ * it. call_rcu_rest: how long a worker lets callbacks gather before it takes them. It is 10, as
  * liburcu's, where it was never called; by 0 it does not rest. */
 URCU_MORE_CALLS_OF_(memb);
 URCU_MORE_CALLS_OF_(mb);
