@@ -1,10 +1,13 @@
 //! Steps of driving: an engine hears of all whom it awaits, ends a grace period, and begins one.
 ghost use Rattle.std.specs.Prelude.{◌≡◌, ◌<◌, IfOk, OnErr, OnOk, true};
 ghost use Rattle.std.specs.Result.{result_err};
+ghost use Rattle.rcu_seq.specs.Seq.{cookie_of};
 ghost use Rattle.rcu_node.specs.CpuSet.{is_in};
+ghost use Rattle.rcu_core.specs.GpState as grace;
 ghost use Rattle.rcu_live.specs.Drive.{after_collections, after_drive, drive_answer};
 ghost use Rattle.rcu_live.specs.Drive.{drive_refusal, wants_begin, wants_for};
 ghost use Rattle.rcu_live.specs.Engine.{after_collect, latest_word, latest_words};
+ghost use Rattle.rcu_live.specs.EngineLists.{on_grace};
 
 use crate::client::Client;
 use crate::engine::Engine;
@@ -31,7 +34,7 @@ impl<A: Awaited, T: Drop, P: Client> Engine<A, T, P> {
 
     /// Collects from each processor that the running grace period awaits. Costs a load for each of
     /// them, and a test of its flag for any other one.
-    fn collect_awaited(&mut self)
+    pub fn collect_awaited(&mut self)
         requires { self.old.grace.seq.running ≡ true }
         ensures { self.new ≡ after_collections self.old (latest_words self.new) }
     {
@@ -40,6 +43,15 @@ impl<A: Awaited, T: Drop, P: Client> Engine<A, T, P> {
                 self.collect_from(cpu);
             }
         }
+    }
+
+    /// The cookie of a taking now, whose number is needed from now on (Linux's
+    /// `start_poll_synchronize_rcu`): where none runs, the next step of driving or turn begins one.
+    pub fn start_poll(&mut self) -> Cookie
+        ensures cookie { result ≡ cookie_of self.old.grace.seq }
+        ensures state { self.new ≡ on_grace (λ g. grace.after_start_poll g) self.old }
+    {
+        self.gp.start_poll()
     }
 
     /// One step of driving, where a grace period is wanted or is not.
