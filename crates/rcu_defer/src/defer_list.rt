@@ -116,9 +116,17 @@ impl<T: Drop> DeferList<T> {
 
     /// How many values are done.
     pub fn ready(&self) -> u64
-        ensures { result ≡ ready_of self.now.marks }
+        ensures value { result ≡ ready_of self.now.marks }
+        ensures inside { result ≤ length self.now.values }
     {
         self.marks.ready()
+    }
+
+    /// What the values wait for.
+    pub fn marks(&self) -> &Marks
+        ensures { result.now ≡ self.now.marks }
+    {
+        &self.marks
     }
 
     /// The greatest number that a value waits for, as [`Marks::last_until`].

@@ -153,7 +153,8 @@ impl Marks {
 
     /// How many were not taken out yet.
     pub fn count(&self) -> u64
-        ensures { result ≡ count_of self.now }
+        ensures value { result ≡ count_of self.now }
+        ensures few { result ≤ 2 ^ 62 }
     {
         self.deferred - self.taken
     }
