@@ -35,10 +35,10 @@
  * its loads give what that stored, or what was stored later. The notes say what each call adds to
  * the lock; docs/C.md says it together.
  *
- * Seven calls make a full fence, which this header adds: rcu_end, rcu_turn, rcu_arrive,
- * rcu_seat_quiesce, rcu_seat_wake, rcu_seat_take and rcu_seat_poll. The archive has them without
- * it, under their names with _unfenced behind, and has no call of the plain names. A note says what
- * is lost with the fence; all else that it says holds of both.
+ * Some calls make a full fence, which this header adds: those that it defines as inline functions,
+ * but rcu_open and rcu_defer_link. The archive has them without it, under their names with _unfenced
+ * behind, and has no call of the plain names. A note says what is lost with the fence; all else that
+ * it says holds of both.
  */
 #ifndef RCU_H
 #define RCU_H
@@ -134,6 +134,14 @@ typedef struct rcu_identity {
     uint64_t place;
     uint64_t count;
 } rcu_identity_t;
+
+/* A link in a node of the caller's, by which a thread defers the node. `next` is the seat's while
+ * the node is deferred. `run` is the caller's word, as what frees the node: no call reads or writes
+ * it. */
+typedef struct rcu_link {
+    struct rcu_link *next;
+    void (*run)(struct rcu_link *link);
+} rcu_link_t;
 
 /* What a turn did. */
 enum rcu_turned {
@@ -291,6 +299,31 @@ static inline uint32_t rcu_turn(rcu_t *rcu, rcu_turn_t *turn) {
  * whether one is awaited, rcu_awaits tells. */
 uint32_t rcu_collect(rcu_t *rcu, uint32_t cpu, uint32_t *found);
 
+/* Collects from each processor that is awaited, as rcu_collect from one. Writes how many still are:
+ * 0 where no grace period runs. */
+uint32_t rcu_collect_all(rcu_t *rcu, uint32_t *left);
+
+/* One step of driving. While a grace period runs it collects from each processor that is awaited;
+ * where none runs it begins one if a tended callback or an rcu_start_poll waits for it. Then it
+ * ends one that awaits nobody. Writes what it did. 11.
+ * Who drives calls this again and again, and lets other threads run in between where it awaits
+ * someone. It orders what rcu_begin, rcu_collect and rcu_end order. */
+uint32_t rcu_drive_unfenced(rcu_t *rcu, rcu_turn_t *turn);
+static inline uint32_t rcu_drive(rcu_t *rcu, rcu_turn_t *turn) {
+    uint32_t fault = rcu_drive_unfenced(rcu, turn);
+    rcu_fence();
+    return fault;
+}
+
+/* The same for who waits for a cookie: where none runs it begins one if the cookie is not done. 11.
+ * It asks for no callback, and for no other cookie. It orders what rcu_drive orders. */
+uint32_t rcu_drive_for_unfenced(rcu_t *rcu, uint64_t cookie, rcu_turn_t *turn);
+static inline uint32_t rcu_drive_for(rcu_t *rcu, uint64_t cookie, rcu_turn_t *turn) {
+    uint32_t fault = rcu_drive_for_unfenced(rcu, cookie, turn);
+    rcu_fence();
+    return fault;
+}
+
 /* ---- processors: `rcu` is under the caller's lock, and `seat` is in no other call */
 
 /* The seat's processor comes online. 26, 3.
@@ -334,10 +367,18 @@ bool rcu_awaits(rcu_t *rcu, uint32_t cpu);
 /* How many processors are awaited. */
 uint32_t rcu_awaited(rcu_t *rcu);
 
+/* Lists the awaited processors, in order, `room` at most: writes them from `cpus` on, where there
+ * is room for so many, and how many; what lies behind them stays. */
+uint32_t rcu_awaited_list(rcu_t *rcu, uint32_t *cpus, size_t room, uint32_t *count);
+
 /* A cookie: the number at which a grace period that begins from now on has ended. It asks for none:
- * somebody begins one (rcu_begin, or rcu_turn where a tended callback waits). UINT64_MAX, which is
- * done nowhere, where `rcu` is no open engine's. */
+ * somebody begins one (rcu_begin, rcu_drive_for, or rcu_turn where a tended callback waits).
+ * UINT64_MAX, which is done nowhere, where `rcu` is no open engine's. */
 uint64_t rcu_take(rcu_t *rcu);
+
+/* As rcu_take, and asks: from now on rcu_turn and rcu_drive begin a grace period for this cookie
+ * too. UINT64_MAX, which is done nowhere, where `rcu` is no open engine's. */
+uint64_t rcu_start_poll(rcu_t *rcu);
 
 /* Whether the number has reached the cookie's: then each section that was open at the taking has
  * ended. Of a number that no taking gave nothing is said but that. False where `rcu` is no open
@@ -483,6 +524,141 @@ static inline uint32_t rcu_seat_quiesce_since(rcu_seat_t *seat, uint64_t *number
     uint32_t fault = rcu_seat_quiesce_since_unfenced(seat, number);
     if (*number != last) rcu_fence();
     return fault;
+}
+
+/* Renews the open section: closes it, passes a quiescent state, and opens the next one. For a
+ * thread that reads all the time: it keeps one section open, and makes this call between two looks
+ * at the data. What it read before, it uses no more. Writes the number of the quiescent state. 2,
+ * 23, 5 (no section is open), 4 (the open one nests).
+ * Where the number is the one of the seat's last quiescent state, wake or renewal, it stores
+ * nothing. `number` is as in rcu_seat_quiesce_since, and so are the order and the fence. The
+ * section that follows is one of those that "follow". */
+uint32_t rcu_seat_renew_unfenced(rcu_seat_t *seat, uint64_t *number);
+static inline uint32_t rcu_seat_renew(rcu_seat_t *seat, uint64_t *number) {
+    uint64_t last = *number;
+    uint32_t fault = rcu_seat_renew_unfenced(seat, number);
+    if (*number != last) rcu_fence();
+    return fault;
+}
+
+/* ---- a thread that may block at any time, by its seat: it is idle but in its sections */
+
+/* Opens a read section, or nests one deeper in the open one. An idle processor wakes first, by one
+ * store, with no look at the number: no rcu_seat_wake is needed. Writes the depth. 2, 6.
+ * It passes no quiescent state: a grace period that begins before the section ends awaits the
+ * processor until it unpins. Of one that found it idle, or at whose number the section began, the
+ * section sees what came before its begin, and what a thread did before it took a cookie that is
+ * done at its end. Unfenced, what came before an rcu_seat_take is sure to be seen by sequentially
+ * consistent loads alone: where all readers load by such, the unfenced form serves. An inner one
+ * makes no fence. */
+uint32_t rcu_seat_pin_unfenced(rcu_seat_t *seat, uint32_t *depth);
+static inline uint32_t rcu_seat_pin(rcu_seat_t *seat, uint32_t *depth) {
+    uint32_t fault = rcu_seat_pin_unfenced(seat, depth);
+    if (!fault && *depth == 1) rcu_fence();
+    return fault;
+}
+
+/* Leaves the innermost section. Writes the depth, 0 where the section closed: then the processor is
+ * idle, as by rcu_seat_idle, also where it was awake before the section. 2, 5.
+ * What the thread did before comes before what follows the collection or the begin that finds it
+ * idle. */
+uint32_t rcu_seat_unpin(rcu_seat_t *seat, uint32_t *depth);
+
+/* Renews the section that a pin opened, as rcu_seat_renew: no grace period that began before waits
+ * for it any more. What the section read before, the thread uses no more. Writes the number of the
+ * quiescent state. 2, 5 (no section is open), 4 (the open one nests).
+ * `number` is as in rcu_seat_renew, and 0 after a pin; so are the order and the fence. */
+uint32_t rcu_seat_repin_unfenced(rcu_seat_t *seat, uint64_t *number);
+static inline uint32_t rcu_seat_repin(rcu_seat_t *seat, uint64_t *number) {
+    uint64_t last = *number;
+    uint32_t fault = rcu_seat_repin_unfenced(seat, number);
+    if (*number != last) rcu_fence();
+    return fault;
+}
+
+/* ---- what a thread defers by its seat alone, with no lock, beside all calls on other handles:
+ * values of 64 bits, and links in nodes of its own, each in order. In a section or not, online or
+ * not. They go with the seat: they stay where its processor departs, and where the seat is handed
+ * back, for who has it next. rcu_seat_close and rcu_close forget those that were not handed out;
+ * the nodes of links are the caller's still. None of these calls asks for a grace period: who
+ * drives gets the cookie of rcu_defer_cookie, for rcu_drive_for. */
+
+/* Defers a value, behind those that the seat has: with no look at the number, and no fence. 15, 16.
+ * The values keep the room that they ever had, until rcu_defer_shrink or rcu_seat_close. Of each
+ * section one of two holds: all of it comes before what follows the rcu_defer_run that hands the
+ * value out, or it sees what the thread did before the first rcu_defer_run after this call. */
+uint32_t rcu_defer(rcu_seat_t *seat, uint64_t value);
+
+/* Looks at the number once. The values that were deferred before an earlier call of this, since
+ * which a full grace period has passed, are handed out in order, `room` at most: writes them from
+ * `values` on, where there is room for so many, and how many; what lies behind them stays. The
+ * others wait from now on for a grace period that begins later. Takes no memory.
+ * A full fence stands before the look. Unfenced, a section may still come to what was unlinked once
+ * its value is handed out. */
+uint32_t rcu_defer_run_unfenced(rcu_seat_t *seat, uint64_t *values, size_t room, uint64_t *count);
+static inline uint32_t rcu_defer_run(rcu_seat_t *seat, uint64_t *values, size_t room,
+                                     uint64_t *count) {
+    rcu_fence();
+    return rcu_defer_run_unfenced(seat, values, room, count);
+}
+
+/* Gives back the memory that the values do not need, at a step for each that stays. Writes for how
+ * many there is room then: for none where there is none. */
+uint32_t rcu_defer_shrink(rcu_seat_t *seat, uint64_t *room);
+
+/* How many values and links were deferred and not handed out. 0 where `seat` is no open seat's. */
+uint64_t rcu_defer_count(rcu_seat_t *seat);
+
+/* The cookie at which all can be handed out that was deferred before the seat's last look, by
+ * rcu_defer_run at values and by rcu_defer_take at links. 1, which is done at any time, where none
+ * of it waits, and where `seat` is no open seat's. */
+uint64_t rcu_defer_cookie(rcu_seat_t *seat);
+
+/* Puts a link, by its address, behind all others of the seat, for rcu_defer_link. Writes the
+ * address of the one before it, 0 where there is none. 15. */
+uint32_t rcu_links_push(rcu_seat_t *seat, uint64_t link, uint64_t *last);
+
+/* The address of the seat's first link, where that is known to be done, for rcu_defer_take: 0 where
+ * it is not, and where `seat` is no open seat's. */
+uint64_t rcu_links_ready(rcu_seat_t *seat);
+
+/* The same after one look at the number, for rcu_defer_take: links that were deferred since the
+ * last such look wait from now on. A full fence stands before the look. Unfenced, a section may
+ * still come to what was unlinked once its link is done. */
+uint64_t rcu_links_tend_unfenced(rcu_seat_t *seat);
+static inline uint64_t rcu_links_tend(rcu_seat_t *seat) {
+    rcu_fence();
+    return rcu_links_tend_unfenced(seat);
+}
+
+/* Takes the seat's first link out, where it is done, for rcu_defer_take: the one of this address is
+ * the first then. Whether it was done. False where `seat` is no open seat's. */
+bool rcu_links_pop(rcu_seat_t *seat, uint64_t next);
+
+/* Defers a link, behind those that the seat has: with no look at the number, no fence and no
+ * memory. The node is there, and no other call has the link, until rcu_defer_take returns it. 15.
+ * Of each section one of two holds: all of it comes before what follows the rcu_defer_take that
+ * returns the link, or it sees what the thread did before the first look after this call. */
+static inline uint32_t rcu_defer_link(rcu_seat_t *seat, rcu_link_t *link) {
+    uint64_t last;
+    uint32_t fault = rcu_links_push(seat, (uintptr_t)link, &last);
+    if (fault) return fault;
+    link->next = 0;
+    if (last) ((rcu_link_t *)(uintptr_t)last)->next = link;
+    return 0;
+}
+
+/* Takes the first link out, where it is done: a full grace period has passed since it was deferred.
+ * Null where it is not done, and where `seat` is no open seat's. Looks at the number only where
+ * none is known to be done: then those that were deferred since the last look wait from now on. A
+ * full fence stands before the look. */
+static inline rcu_link_t *rcu_defer_take(rcu_seat_t *seat) {
+    uint64_t first = rcu_links_ready(seat);
+    if (!first) first = rcu_links_tend(seat);
+    if (!first) return 0;
+    rcu_link_t *link = (rcu_link_t *)(uintptr_t)first;
+    rcu_links_pop(seat, (uintptr_t)link->next);
+    return link;
 }
 
 #ifdef __cplusplus

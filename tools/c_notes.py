@@ -13,7 +13,7 @@ EXPORT = re.compile(r"((?:^ *///[^\n]*\n)+)#\[unsafe\(no_mangle\)\]\n"
                     r"(?:pub )?extern \"C\" fn (\w+)\((.*?)^\{", re.DOTALL | re.MULTILINE)
 NUMBERS = re.compile(r"(?:^|(?<=[.:] ))(\d+(?: \([^)]*\))?(?:, \d+(?: \([^)]*\))?)*)\.(?= |$)")
 # The header's own functions, which no export stands behind by name.
-WITHOUT_EXPORT = {"rcu_fence"}
+WITHOUT_EXPORT = {"rcu_fence", "rcu_defer_link", "rcu_defer_take"}
 # A definition whose value is a fault, or has faults in it: its name, and its text.
 DEFINITION = re.compile(r"^ *(?:abbrev )?pub (\w+) : [^\n]*\b(?:Fault|Refusal)\b[^\n]*\n"
                         r"((?: *\1\b[^\n]*\n(?: +(?!\1\b)(?!--)\S[^\n]*\n)*)+)", re.MULTILINE)

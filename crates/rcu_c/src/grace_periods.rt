@@ -27,7 +27,7 @@ pub struct Turn {
 }
 
 /// A turn as C sees it.
-fn turn_in_c(turned: Turned) -> Turn
+pub(crate) fn turn_in_c(turned: Turned) -> Turn
     ensures { result ≡ turn_of turned }
 {
     let (what, awaited, number) = match turned {

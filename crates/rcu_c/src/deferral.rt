@@ -1,0 +1,153 @@
+//! Values that a thread defers by its seat alone: no call here waits or needs a lock.
+ghost use Rattle.std.specs.Prelude.{◌≡◌, ◌≢◌, ◌+◌, ◌≤◌, None, drop, length, take};
+ghost use Rattle.rcu_live.specs.Watcher.{after_watch};
+ghost use Rattle.rcu_defer.specs.DeferList.{list_after_defer, list_after_take, list_after_tend};
+ghost use Rattle.rcu_defer.specs.DeferList.{taken_values, with_room};
+ghost use Rattle.rcu_defer.specs.Marks.{count_of, defer_refusal};
+ghost use Rattle.rcu_c.specs.Answers.{number_for, tested_number};
+ghost use Rattle.rcu_c.specs.Holding.{links_of, on_values, on_watcher, values_of, watcher_of};
+ghost use Rattle.rcu_c.specs.Links.{cookie_for};
+ghost use Rattle.rcu_c.specs.Refusals.{seat_number, seat_refusal};
+ghost use Rattle.rcu_c.specs.Staying.{AllStay, BothStay};
+
+use crate::codes::{ALWAYS_DONE, code};
+use crate::handle::RcuSeat;
+use rcu_defer::DeferList;
+
+/// Defers a value, as `DeferList::defer`: it is handed out once each section that is open now has
+/// ended. No load and no store of a shared word.
+///
+/// Faults: 15 where 2^62 were deferred; 16.
+#[unsafe(no_mangle)]
+pub extern "C" fn rcu_defer(seat: &mut RcuSeat, value: u64) -> u32
+    ensures fault { tested_number result ≡ seat_number seat.old.contents
+        (number_for (defer_refusal (values_of seat.old.contents).marks)) }
+    ensures state { result ≡ 0 → seat.new.contents ≡ on_values (λ d. with_room
+        (list_after_defer d value) (values_of seat.new.contents).room) seat.old.contents }
+    ensures memory { result ≡ 16 →
+        (values_of seat.old.contents).room ≤ length (values_of seat.old.contents).values }
+    ensures refused { seat_refusal seat.old.contents ≡ None → result ≢ 0 → seat.new.contents ≡
+        on_values (λ d. with_room d (values_of seat.new.contents).room) seat.old.contents }
+    ensures unchanged { seat_refusal seat.old.contents ≢ None →
+        seat.new.contents ≡ seat.old.contents }
+{
+    match seat.seat() {
+        Ok(seat) => match seat.values.defer(value) {
+            Ok(()) => 0,
+            Err(refused) => code(refused.fault),
+        },
+        Err(refusal) => refusal.number(),
+    }
+}
+
+/// Takes values out that are done, as many as the buffer has room for, and writes them to its head.
+/// The rest of it stays. Returns how many they are.
+fn put_ready(list: &mut DeferList<u64>, values: &mut [u64]) -> u64
+    ensures count { result ≡ length (taken_values list.old (length values.old)) }
+    ensures list { list.new ≡ list_after_take list.old (length values.old) }
+    ensures head { take result values.new ≡ taken_values list.old (length values.old) }
+    ensures rest { drop result values.new ≡ drop result values.old }
+{
+    let most = list.ready().min(values.len() as u64);
+    for i in 0..most {
+        let Some(value) = list.take() else {
+            unreachable!()
+        };
+        values[i as usize] = value;
+    }
+    most
+}
+
+/// Tends the seat's values by one load of the number, as `DeferList::tend`, and hands out the first
+/// that are done, in order, at most as many as the buffer has room for: writes them to its head,
+/// and how many there are. The rest of the buffer stays. A value is handed out where it was
+/// deferred before an earlier tend, and a full grace period lies between that and this one.
+#[unsafe(no_mangle)]
+pub extern "C" fn rcu_defer_run_unfenced(
+    seat: &mut RcuSeat,
+    values: &mut [u64],
+    count: &mut u64,
+) -> u32
+    ensures fault { result ≡ seat_number seat.old.contents 0 }
+    ensures state { result ≡ 0 → seat.new.contents ≡ on_values (λ d. list_after_take
+        (list_after_tend d (watcher_of seat.new.contents).view.seen) (length values.old))
+        (on_watcher (λ w. after_watch w (watcher_of seat.new.contents).view.seen)
+        seat.old.contents) }
+    ensures later { result ≡ 0 → (watcher_of seat.old.contents).view.seen
+        ≤ (watcher_of seat.new.contents).view.seen }
+    ensures count { result ≡ 0 → count.new ≡ length (taken_values
+        (list_after_tend (values_of seat.old.contents) (watcher_of seat.new.contents).view.seen)
+        (length values.old)) }
+    ensures values { result ≡ 0 → take count.new values.new ≡ taken_values
+        (list_after_tend (values_of seat.old.contents) (watcher_of seat.new.contents).view.seen)
+        (length values.old) }
+    ensures rest { result ≡ 0 → drop count.new values.new ≡ drop count.new values.old }
+    ensures unchanged { result ≢ 0 →
+        AllStay seat.old.contents seat.new.contents values.old values.new count.old count.new }
+{
+    match seat.seat() {
+        Ok(seat) => {
+            let number = seat.watcher.number(&*seat.board);
+            seat.values.tend(number);
+            *count = put_ready(&mut seat.values, values);
+            0
+        }
+        Err(refusal) => refusal.number(),
+    }
+}
+
+/// How many values and links the seat's thread deferred that were not handed out: 0 where the
+/// handle is no open seat's.
+#[unsafe(no_mangle)]
+pub extern "C" fn rcu_defer_count(seat: &mut RcuSeat) -> u64
+    ensures unchanged { seat.new.contents ≡ seat.old.contents }
+    ensures value { result ≡ count_of (values_of seat.old.contents).marks
+        + count_of (links_of seat.old.contents).marks }
+{
+    match seat.seat() {
+        Ok(seat) => seat.values.marks().count() + seat.links.marks.count(),
+        Err(_) => 0,
+    }
+}
+
+/// The cookie at which all is done that was deferred before the seat's last tends, of values and of
+/// links, as `Marks::last_until`: 1, which is done at any time, where none of it waits, and where
+/// the handle is no open seat's.
+#[unsafe(no_mangle)]
+pub extern "C" fn rcu_defer_cookie(seat: &mut RcuSeat) -> u64
+    ensures unchanged { seat.new.contents ≡ seat.old.contents }
+    ensures value { result ≡ cookie_for (values_of seat.old.contents).marks
+        (links_of seat.old.contents).marks }
+{
+    match seat.seat() {
+        Ok(seat) => {
+            let values = seat.values.last_until().unwrap_or(ALWAYS_DONE);
+            values.max(seat.links.marks.last_until().unwrap_or(ALWAYS_DONE))
+        }
+        Err(_) => ALWAYS_DONE,
+    }
+}
+
+/// Gives back the memory that the seat's values do not need, as `DeferList::shrink`. Writes for how
+/// many there is room then. An empty list keeps none.
+#[unsafe(no_mangle)]
+pub extern "C" fn rcu_defer_shrink(seat: &mut RcuSeat, room: &mut u64) -> u32
+    ensures fault { result ≡ seat_number seat.old.contents 0 }
+    ensures state { result ≡ 0 → seat.new.contents ≡
+        on_values (λ d. with_room d room.new) seat.old.contents }
+    ensures less { result ≡ 0 → room.new ≤ (values_of seat.old.contents).room }
+    ensures fits { result ≡ 0 → length (values_of seat.old.contents).values ≤ room.new }
+    ensures empty { result ≡ 0 → length (values_of seat.old.contents).values ≡ 0 →
+        room.new ≡ 0 }
+    ensures unchanged { result ≢ 0 →
+        BothStay seat.old.contents seat.new.contents room.old room.new }
+{
+    match seat.seat() {
+        Ok(seat) => {
+            seat.values.shrink();
+            *room = seat.values.room() as u64;
+            0
+        }
+        Err(refusal) => refusal.number(),
+    }
+}

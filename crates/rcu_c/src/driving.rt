@@ -1,0 +1,158 @@
+//! A driver's calls: steps of driving, who is awaited, and a cookie that asks.
+ghost use Rattle.std.specs.Prelude.{◌≡◌, ◌≢◌, None, drop, false, length, take};
+ghost use Rattle.rcu_seq.specs.Seq.{cookie_of};
+ghost use Rattle.rcu_node.specs.CpuSet.{is_in};
+ghost use Rattle.rcu_core.specs.GpState as grace;
+ghost use Rattle.rcu_core.specs.GpState.{awaited_in};
+ghost use Rattle.rcu_core.specs.Replies.{which};
+ghost use Rattle.rcu_live.specs.Drive.{after_drive, drive_answer, drive_refusal, moved_on};
+ghost use Rattle.rcu_live.specs.Drive.{wants_begin, wants_for};
+ghost use Rattle.rcu_live.specs.Engine.{latest_words};
+ghost use Rattle.rcu_c.specs.Answers.{cookie_in_c, number_for, turn_of};
+ghost use Rattle.rcu_c.specs.Holding.{HoldsEngine, awaited_list, engine_of, grace_of, never_done};
+ghost use Rattle.rcu_c.specs.Holding.{on_engine, on_grace};
+ghost use Rattle.rcu_c.specs.Refusals.{engine_number, engine_refusal};
+ghost use Rattle.rcu_c.specs.Staying.{BothStay};
+
+use crate::codes::{NEVER_DONE, write_out};
+use crate::grace_periods::{Turn, turn_in_c};
+use crate::handle::Rcu;
+use rcu_node::Awaited;
+use rcu_seq::Cookie;
+
+/// One step of driving, as `Engine::drive`: while a grace period runs, it collects from each
+/// processor that is awaited; where none runs, one begins if tended callbacks or a started poll
+/// need it; and one that awaits nobody then ends. Writes what it did. It never waits: who drives
+/// calls it again, and lets other threads run in between where it awaits a processor.
+///
+/// Costs a load for each processor that is awaited, and where one begins a load a processor.
+///
+/// Fault 11: one would begin, and the number is the last one.
+#[unsafe(no_mangle)]
+pub extern "C" fn rcu_drive_unfenced(rcu: &mut Rcu, turn: &mut Turn) -> u32
+    ensures open { HoldsEngine rcu.old.contents → HoldsEngine rcu.new.contents }
+    ensures fault { result ≡ engine_number rcu.old.contents (number_for
+        (drive_refusal (grace_of rcu.old.contents) (wants_begin (grace_of rcu.old.contents)))) }
+    ensures state { result ≡ 0 → rcu.new.contents ≡ on_engine (λ e. after_drive e
+        (wants_begin e.grace) (latest_words (engine_of rcu.new.contents))) rcu.old.contents }
+    ensures turn { result ≡ 0 → turn.new ≡ turn_of (drive_answer (engine_of rcu.old.contents)
+        (wants_begin (grace_of rcu.old.contents)) (latest_words (engine_of rcu.new.contents))) }
+    ensures unchanged { result ≢ 0 → BothStay rcu.old.contents rcu.new.contents turn.old turn.new }
+{
+    match rcu.engine() {
+        Ok(opened) => write_out(opened.inner.drive().map(turn_in_c), turn),
+        Err(refusal) => refusal.number(),
+    }
+}
+
+/// The same for who waits for a cookie, as `Engine::drive_for`: where none runs, one begins if the
+/// cookie is not done. Called until the cookie is done it makes one grace period, or two where one
+/// runs already.
+///
+/// Fault 11: one would begin, and the number is the last one.
+#[unsafe(no_mangle)]
+pub extern "C" fn rcu_drive_for_unfenced(rcu: &mut Rcu, cookie: u64, turn: &mut Turn) -> u32
+    ensures open { HoldsEngine rcu.old.contents → HoldsEngine rcu.new.contents }
+    ensures fault { result ≡ engine_number rcu.old.contents (number_for (drive_refusal
+        (grace_of rcu.old.contents)
+        (wants_for (cookie_in_c cookie) (grace_of rcu.old.contents)))) }
+    ensures state { result ≡ 0 → rcu.new.contents ≡ on_engine (λ e. after_drive e
+        (wants_for (cookie_in_c cookie) e.grace)
+        (latest_words (engine_of rcu.new.contents))) rcu.old.contents }
+    ensures turn { result ≡ 0 → turn.new ≡ turn_of (drive_answer (engine_of rcu.old.contents)
+        (wants_for (cookie_in_c cookie) (grace_of rcu.old.contents))
+        (latest_words (engine_of rcu.new.contents))) }
+    ensures unchanged { result ≢ 0 → BothStay rcu.old.contents rcu.new.contents turn.old turn.new }
+{
+    let cookie = Cookie {
+        epoch: 0,
+        number: cookie,
+    };
+    match rcu.engine() {
+        Ok(opened) => write_out(opened.inner.drive_for(cookie).map(turn_in_c), turn),
+        Err(refusal) => refusal.number(),
+    }
+}
+
+/// Collects from each processor that the running grace period awaits, as
+/// `Engine::collect_awaited`. Writes how many it still awaits: 0 where none runs.
+#[unsafe(no_mangle)]
+pub extern "C" fn rcu_collect_all(rcu: &mut Rcu, left: &mut u32) -> u32
+    ensures open { HoldsEngine rcu.old.contents → HoldsEngine rcu.new.contents }
+    ensures fault { result ≡ engine_number rcu.old.contents 0 }
+    ensures state { result ≡ 0 → rcu.new.contents ≡ on_engine (λ e.
+        moved_on e false (latest_words (engine_of rcu.new.contents))) rcu.old.contents }
+    ensures left { result ≡ 0 → left.new ≡ awaited_in (grace_of rcu.new.contents) }
+    ensures unchanged { result ≢ 0 → BothStay rcu.old.contents rcu.new.contents left.old left.new }
+{
+    let opened = match rcu.engine() {
+        Ok(opened) => opened,
+        Err(refusal) => return refusal.number(),
+    };
+    if opened.inner.grace().is_running() {
+        opened.inner.collect_awaited();
+    }
+    *left = opened.inner.grace().awaited().count();
+    0
+}
+
+/// Writes the awaited processors, in order, to the head of a buffer, as many as it has room for,
+/// and leaves its rest as it is. Returns how many they are.
+fn put_awaited<A: Awaited>(awaited: &A, cpus: &mut [u32]) -> u32
+    ensures count { result ≡ length (take (length cpus.old)
+        (which (length (A.awaited awaited.now)) (is_in (A.awaited awaited.now)))) }
+    ensures head { take result cpus.new ≡ take (length cpus.old)
+        (which (length (A.awaited awaited.now)) (is_in (A.awaited awaited.now))) }
+    ensures rest { drop result cpus.new ≡ drop result cpus.old }
+{
+    let mut count = 0;
+    for cpu in 0..awaited.cpus() {
+        if (count as usize) < cpus.len() && awaited.awaits(cpu) {
+            cpus[count as usize] = cpu;
+            count += 1;
+        }
+    }
+    count
+}
+
+/// Lists the processors that are awaited, in order, at most as many as the buffer has room for:
+/// writes them to its head, and how many there are. The rest of the buffer stays. Where no grace
+/// period runs, none is awaited.
+#[unsafe(no_mangle)]
+pub extern "C" fn rcu_awaited_list(rcu: &mut Rcu, cpus: &mut [u32], count: &mut u32) -> u32
+    ensures state { rcu.new.contents ≡ rcu.old.contents }
+    ensures fault { result ≡ engine_number rcu.old.contents 0 }
+    ensures count { result ≡ 0 →
+        count.new ≡ length (awaited_list (engine_of rcu.old.contents) (length cpus.old)) }
+    ensures cpus { result ≡ 0 → take count.new cpus.new ≡
+        awaited_list (engine_of rcu.old.contents) (length cpus.old) }
+    ensures rest { result ≡ 0 → drop count.new cpus.new ≡ drop count.new cpus.old }
+    ensures unchanged { result ≢ 0 → BothStay cpus.old cpus.new count.old count.new }
+{
+    match rcu.engine() {
+        Ok(opened) => {
+            *count = put_awaited(opened.inner.grace().awaited(), cpus);
+            0
+        }
+        Err(refusal) => refusal.number(),
+    }
+}
+
+/// The cookie of a taking now, as `Engine::start_poll`: its number is needed from now on, so that
+/// a turn or a step of driving begins a grace period for it. It is never done where the handle is
+/// no open engine's.
+#[unsafe(no_mangle)]
+pub extern "C" fn rcu_start_poll(rcu: &mut Rcu) -> u64
+    ensures cookie { engine_refusal rcu.old.contents ≡ None →
+        result ≡ (cookie_of (grace_of rcu.old.contents).seq).number }
+    ensures state { engine_refusal rcu.old.contents ≡ None → rcu.new.contents ≡
+        on_grace (λ g. grace.after_start_poll g) rcu.old.contents }
+    ensures not_taken { engine_refusal rcu.old.contents ≢ None → result ≡ never_done }
+    ensures unchanged { engine_refusal rcu.old.contents ≢ None →
+        rcu.new.contents ≡ rcu.old.contents }
+{
+    match rcu.engine() {
+        Ok(opened) => opened.inner.start_poll().number,
+        Err(_) => NEVER_DONE,
+    }
+}
