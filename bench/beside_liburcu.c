@@ -2,9 +2,12 @@
  * after the other in each of many short rounds, which begin with each of them in turn. So what else
  * the machine does meets all alike: a ratio is that of a round, and the median of all. bench/c builds
  * it: with examples/c/driver.h for this library, and with liburcu's library calls (not its inline
- * ones). The first argument is how many rounds are made, 21 where there is none. */
+ * ones). Here readers renew a section each EACH reads; "sections" are of two calls each, with a
+ * quiescent state in place of the renewal; "pins" open and close one for EACH reads, and are idle in
+ * between. The first argument is how many rounds are made, 21 where there is none. */
 #define _GNU_SOURCE
-enum { READERS = 3, CPUS = 1 + READERS, MOST = 1000, EACH = 16, LIBRARIES = 3 };
+enum { READERS = 3, UPDATERS = 4, CPUS = UPDATERS + READERS, MOST = 1000, EACH = 16 };
+enum { HERE, QSBR, MEMB, LIBRARIES, SECTIONS = LIBRARIES, PINS, WAYS };
 
 #include "driver.h"
 #include <time.h>
@@ -15,12 +18,12 @@ enum { READERS = 3, CPUS = 1 + READERS, MOST = 1000, EACH = 16, LIBRARIES = 3 };
 void urcu_qsbr_call_rcu(struct rcu_head *head, void (*run)(struct rcu_head *head));
 void urcu_qsbr_barrier(void);
 
-static const char *const names[LIBRARIES] = {"here", "qsbr", "memb"};
+static const char *const names[WAYS] = {"here", "qsbr", "memb", "sections", "pins"};
 static const double seconds = 0.1;
 static int rounds = 21;
 
 struct node {
-    struct head head;
+    rcu_link_t link;
     struct rcu_head theirs;
     uint64_t value, twice;
 };
@@ -45,9 +48,7 @@ static struct node *new_node(uint64_t value) {
 }
 
 static struct node *replace(uint64_t value) {
-    struct node *old = atomic_load_explicit(&shown, memory_order_relaxed);
-    atomic_store_explicit(&shown, new_node(value), memory_order_release);
-    return old;
+    return atomic_exchange_explicit(&shown, new_node(value), memory_order_acq_rel);
 }
 
 static void read_once(void) {
@@ -55,7 +56,7 @@ static void read_once(void) {
     if (node->twice != 2 * node->value) atomic_fetch_add(&wrong, 1);
 }
 
-static void free_own(struct head *head) { free(head); }
+static void free_own(rcu_link_t *link) { free(link); }
 static void free_theirs(struct rcu_head *head) {
     free((char *)head - offsetof(struct node, theirs));
 }
@@ -66,6 +67,7 @@ struct reader {
     _Alignas(128) pthread_t id;
     struct place *place;
     uint64_t reads;
+    double took;
 };
 
 #define READS(NAME, ARRIVE, ENTER, EXIT, QUIET, DEPART)                                            \
@@ -75,6 +77,7 @@ struct reader {
         (void)depth;                                                                               \
         ARRIVE;                                                                                    \
         pthread_barrier_wait(&start);                                                              \
+        double begun = now();                                                                      \
         while (!atomic_load_explicit(&over, memory_order_relaxed)) {                               \
             for (int i = 0; i < EACH; i++) {                                                       \
                 ENTER;                                                                             \
@@ -84,78 +87,103 @@ struct reader {
             QUIET;                                                                                 \
             reader->reads += EACH;                                                                 \
         }                                                                                          \
+        reader->took = now() - begun;                                                              \
         DEPART;                                                                                    \
         return 0;                                                                                  \
     }
 
-READS(own, driver_arrive(reader->place), rcu_seat_enter(&reader->place->seat, &depth),
-      rcu_seat_exit(&reader->place->seat, &depth), driver_quiesce(reader->place),
-      driver_depart(reader->place))
+READS(own, (driver_arrive(reader->place), rcu_seat_enter(&reader->place->seat, &depth)), , ,
+      driver_renew(reader->place),
+      (rcu_seat_exit(&reader->place->seat, &depth), driver_depart(reader->place)))
 READS(qsbr, urcu_qsbr_register_thread(), urcu_qsbr_read_lock(), urcu_qsbr_read_unlock(),
       urcu_qsbr_quiescent_state(), urcu_qsbr_unregister_thread())
 READS(memb, urcu_memb_register_thread(), urcu_memb_read_lock(), urcu_memb_read_unlock(), ,
       urcu_memb_unregister_thread())
+READS(section, driver_arrive(reader->place), rcu_seat_enter(&reader->place->seat, &depth),
+      rcu_seat_exit(&reader->place->seat, &depth), driver_quiesce(reader->place),
+      driver_depart(reader->place))
+READS(pin, (driver_arrive(reader->place), driver_idle(reader->place)),
+      if (!i) rcu_seat_pin(&reader->place->seat, &depth), ,
+      driver_unpin(reader->place), driver_depart(reader->place))
 
-static void *(*const reads[LIBRARIES])(void *) = {own_reads, qsbr_reads, memb_reads};
+static void *(*const reads[WAYS])(void *) = {own_reads, qsbr_reads, memb_reads, section_reads,
+                                             pin_reads};
 
-static void synchronize(int library) {
-    if (library == 0) driver_synchronize();
-    if (library == 1) urcu_qsbr_synchronize_rcu();
-    if (library == 2) urcu_memb_synchronize_rcu();
+static void synchronize(int way) {
+    if (way == QSBR) urcu_qsbr_synchronize_rcu();
+    else if (way == MEMB) urcu_memb_synchronize_rcu();
+    else driver_synchronize();
 }
 
-static void defer(int library, struct node *node) {
-    if (library == 0) driver_defer(&node->head, free_own);
-    if (library == 1) urcu_qsbr_call_rcu(&node->theirs, free_theirs);
-    if (library == 2) urcu_memb_call_rcu(&node->theirs, free_theirs);
+static void defer(int way, struct place *place, struct node *node) {
+    if (way == QSBR) urcu_qsbr_call_rcu(&node->theirs, free_theirs);
+    else if (way == MEMB) urcu_memb_call_rcu(&node->theirs, free_theirs);
+    else driver_defer(place, &node->link, free_own);
 }
 
-static void finish(int library) {
-    if (library == 0) driver_barrier();
-    if (library == 1) urcu_qsbr_barrier();
-    if (library == 2) urcu_memb_barrier();
+static void finish(int way, struct place *place) {
+    if (way == QSBR) urcu_qsbr_barrier();
+    else if (way == MEMB) urcu_memb_barrier();
+    else driver_barrier(place);
 }
 
-/* What one thread does beside the readers, as often as the time lets it. */
+/* What threads do beside the readers, each as often as the time lets it. */
 enum kind { READ, UPDATE, PERIOD };
 
-static uint64_t work(enum kind kind, int library, double until) {
-    uint64_t times = 0;
-    for (; now() < until; times++) {
-        struct node *old = replace(times);
-        if (kind == PERIOD) {
-            synchronize(library);
-            free(old);
-        } else {
-            defer(library, old);
-        }
-        if (kind == READ) nanosleep(&(struct timespec){0, 1000000}, 0);
-    }
-    return times;
-}
+struct updater {
+    _Alignas(128) pthread_t id;
+    struct place *place;
+    enum kind kind;
+    int way;
+    uint64_t times;
+    double took;
+};
 
-/* How much was done a second: reads of one thread, updates or grace periods. */
-static double measure(enum kind kind, int library, unsigned many) {
-    struct reader readers[READERS] = {{0}};
-    uint64_t all = 0, times;
-    atomic_store(&over, false);
-    pthread_barrier_init(&start, 0, many + 1);
-    for (unsigned i = 0; i < many; i++) {
-        readers[i].place = &places[1 + i];
-        if (pthread_create(&readers[i].id, 0, reads[library], &readers[i])) abort();
-    }
+static void *work(void *it) {
+    struct updater *self = it;
     pthread_barrier_wait(&start);
     double begun = now();
-    times = work(kind, library, begun + seconds);
-    double took = now() - begun;
+    for (; now() < begun + seconds; self->times++) {
+        struct node *old = replace(self->times);
+        if (self->kind == PERIOD) {
+            synchronize(self->way);
+            free(old);
+        } else {
+            defer(self->way, self->place, old);
+        }
+        if (self->kind == READ) nanosleep(&(struct timespec){0, 1000000}, 0);
+    }
+    self->took = now() - begun;
+    finish(self->way, self->place);
+    return 0;
+}
+
+/* How much was done a second: reads of one thread, updates or grace periods of all. */
+static double measure(enum kind kind, int way, unsigned many, unsigned others) {
+    struct reader readers[READERS] = {{0}};
+    struct updater updaters[UPDATERS] = {{0}};
+    double all = 0, times = 0;
+    atomic_store(&over, false);
+    pthread_barrier_init(&start, 0, many + others);
+    for (unsigned i = 0; i < many; i++) {
+        readers[i].place = &places[UPDATERS + i];
+        if (pthread_create(&readers[i].id, 0, reads[way], &readers[i])) abort();
+    }
+    for (unsigned i = 0; i < others; i++) {
+        updaters[i].place = &places[i];
+        updaters[i].kind = kind;
+        updaters[i].way = way;
+        if (pthread_create(&updaters[i].id, 0, work, &updaters[i])) abort();
+    }
+    for (unsigned i = 0; i < others; i++) pthread_join(updaters[i].id, 0);
     atomic_store(&over, true);
+    for (unsigned i = 0; i < others; i++) times += (double)updaters[i].times / updaters[i].took;
     for (unsigned i = 0; i < many; i++) {
         pthread_join(readers[i].id, 0);
-        all += readers[i].reads;
+        all += (double)readers[i].reads / readers[i].took;
     }
-    finish(library);
     pthread_barrier_destroy(&start);
-    return (kind == READ ? (double)all / many : (double)times) / took;
+    return kind == READ ? all / many : times;
 }
 
 static int compare(const void *one, const void *other) {
@@ -170,21 +198,21 @@ static void show_row(const char *name, double *row, int digits) {
            row[rounds * 3 / 4]);
 }
 
-static void show(const char *what, enum kind kind, unsigned many) {
-    static double seen[LIBRARIES][MOST], ratios[LIBRARIES][MOST];
+static void show(const char *what, enum kind kind, unsigned many, unsigned others) {
+    static double seen[WAYS][MOST], ratios[WAYS][MOST];
+    int ways = kind == READ ? WAYS : LIBRARIES;
     for (int round = 0; round < rounds; round++) {
-        for (int i = 0; i < LIBRARIES; i++) {
-            int library = (round + i) % LIBRARIES;
-            seen[library][round] = measure(kind, library, many);
+        for (int i = 0; i < ways; i++) {
+            int way = (round + i) % ways;
+            seen[way][round] = measure(kind, way, many, others);
         }
-        for (int library = 1; library < LIBRARIES; library++)
-            ratios[library][round] = seen[0][round] / seen[library][round];
+        for (int way = 1; way < ways; way++) ratios[way][round] = seen[0][round] / seen[way][round];
     }
-    printf("%s, %u+1:", what, many);
-    for (int library = 0; library < LIBRARIES; library++) {
-        show_row(names[library], seen[library], 0);
-        if (library) show_row("x", ratios[library], 2);
-        fputs(library + 1 < LIBRARIES ? "," : "\n", stdout);
+    printf("%s, %u+%u:", what, many, others);
+    for (int way = 0; way < ways; way++) {
+        show_row(names[way], seen[way], 0);
+        if (way) show_row("x", ratios[way], 2);
+        fputs(way + 1 < ways ? "," : "\n", stdout);
     }
     fflush(stdout);
 }
@@ -194,12 +222,14 @@ int main(int count, char **words) {
     if (rounds < 1 || rounds > MOST) return 2;
     driver_open();
     atomic_store(&shown, new_node(0));
-    show("reads a second and reader", READ, 1);
-    show("reads a second and reader", READ, 3);
-    show("updates a second", UPDATE, 1);
-    show("updates a second", UPDATE, 3);
-    show("grace periods a second", PERIOD, 1);
-    show("grace periods a second", PERIOD, 3);
+    for (unsigned many = 1; many <= 3; many += 2) {
+        show("reads a second and reader", READ, many, 1);
+        show("updates a second", UPDATE, many, 1);
+        show("grace periods a second", PERIOD, many, 1);
+    }
+    show("reads a second and reader", READ, 2, 2);
+    show("updates a second", UPDATE, 2, 2);
+    show("updates a second", UPDATE, 0, 4);
     free(atomic_load(&shown));
     driver_close();
     if (atomic_load(&wrong)) printf("read wrong: %u\n", atomic_load(&wrong));

@@ -120,14 +120,6 @@ static inline const char *rcu_fault_text(uint32_t fault) {
     }
 }
 
-/* What a turn did. */
-enum rcu_turned {
-    RCU_TURN_NOTHING = 0, /* no grace period runs, and none is needed */
-    RCU_TURN_BEGUN = 1,   /* a grace period of this number began, and awaits this many processors */
-    RCU_TURN_ENDED = 2,   /* the grace period ended, and this is the number now */
-    RCU_TURN_WAITING = 3  /* the grace period goes on, and awaits this many processors */
-};
-
 /* What a collection found. */
 enum rcu_collected {
     RCU_COLLECTED_IDLE = 0,    /* no grace period runs */
@@ -214,7 +206,8 @@ void __tsan_acquire(void *place);
 /* >>> calls: written by tools/write_calls from the doc comments of crates/rcu_c */
 
 /* The calls that make a full fence: rcu_end, rcu_turn, rcu_arrive, rcu_seat_quiesce,
- * rcu_seat_quiesce_since, rcu_seat_wake, rcu_seat_take, rcu_seat_poll. */
+ * rcu_seat_quiesce_since, rcu_seat_renew, rcu_seat_wake, rcu_seat_take, rcu_seat_poll,
+ * rcu_links_tend, rcu_defer_run, rcu_drive, rcu_drive_for, rcu_seat_pin, rcu_seat_repin. */
 
 /* ---- opening and closing */
 
@@ -472,6 +465,24 @@ static inline uint32_t rcu_seat_quiesce_since(rcu_seat_t *seat, uint64_t *number
     return result;
 }
 
+/* Renews the open section: closes it, passes a quiescent state, and opens the next one, by two
+ * loads. For a thread that reads all the time: it keeps one section open, and makes this call
+ * between two looks at the data. What it read before, it uses no more. Writes the number of the
+ * quiescent state.
+ * Where the number is the one of the seat's last quiescent state, wake or renewal, it stores
+ * nothing. `number` is as in rcu_seat_quiesce_since, and so are the order and the fence. The
+ * section that follows is one of those that "follow".
+ * Faults: 2 where the processor is offline; 23 where it is idle; 5 where no section is open; 4
+ * where the open one nests.
+ * Fence: behind where `number` changed. */
+uint32_t rcu_seat_renew_unfenced(rcu_seat_t *seat, uint64_t *number);
+static inline uint32_t rcu_seat_renew(rcu_seat_t *seat, uint64_t *number) {
+    uint64_t last = *number;
+    uint32_t result = rcu_seat_renew_unfenced(seat, number);
+    if (*number != last) rcu_fence();
+    return result;
+}
+
 /* The processor gets idle by one store, until it wakes or departs: it opens no section, and no
  * grace period waits for it. It stays online, and its callbacks stay. For a thread that is about to
  * block.
@@ -520,7 +531,192 @@ static inline bool rcu_seat_poll(rcu_seat_t *seat, uint64_t cookie) {
     return result;
 }
 
+/* ---- links in nodes of the caller's own, deferred by a seat alone, as the values are. Each is a
+ * number here, its address, which no call follows: rcu_defer_link and rcu_defer_take write and read
+ * what links one to the next. The nodes stay the caller's where a seat or an engine closes. */
+
+/* Defers a link, behind all others: rcu_defer_link stands on it. Writes the link before it, 0 where
+ * none is left of those.
+ * Fault 15: 2^62 were deferred. */
+uint32_t rcu_links_push(rcu_seat_t *seat, uint64_t link, uint64_t *last);
+
+/* The first link where it is known to be done, with no look at the number: else 0, also where
+ * `seat` is no open seat's. */
+uint64_t rcu_links_ready(rcu_seat_t *seat);
+
+/* The first link that is done, after one look at the number: those that were deferred since the
+ * last look wait from now on. 0 where none is done, and where `seat` is no open seat's.
+ * Fence: before. */
+uint64_t rcu_links_tend_unfenced(rcu_seat_t *seat);
+static inline uint64_t rcu_links_tend(rcu_seat_t *seat) {
+    rcu_fence();
+    return rcu_links_tend_unfenced(seat);
+}
+
+/* Takes the first link out, where it is done: this one is the first from now on. Whether it was
+ * done: false, too, where `seat` is no open seat's. */
+bool rcu_links_pop(rcu_seat_t *seat, uint64_t next);
+
+/* ---- what a thread defers by its seat alone, with no lock, beside all calls on other handles:
+ * values of 64 bits, each in order. In a section or not, online or not.
+ * They go with the seat: they stay where its processor departs, and where the seat is handed back,
+ * for who has it next. rcu_seat_close and rcu_close forget those that were not handed out. No call
+ * here asks for a grace period: who drives gets the cookie of rcu_defer_cookie, for
+ * rcu_drive_for. */
+
+/* Defers a value, behind those that the seat has: with no look at the number, and no fence. The
+ * values keep the room that they ever had, until rcu_defer_shrink or rcu_seat_close.
+ * Of each section one of two holds: all of it comes before what follows the rcu_defer_run that
+ * hands the value out, or it sees what the thread did before the first rcu_defer_run after this
+ * call.
+ * Faults: 15 where 2^62 were deferred; 16. */
+uint32_t rcu_defer(rcu_seat_t *seat, uint64_t value);
+
+/* Hands out values that were deferred, in order, `room` at most, after one look at the number:
+ * those that were deferred before an earlier call of this, since which a full grace period has
+ * passed. Writes them from `values` on, where there is room for so many, and how many; what lies
+ * behind them stays. The others wait from now on for a grace period that begins later. Takes no
+ * memory.
+ * A full fence stands before the look. Unfenced, a section may still come to what was unlinked once
+ * its value is handed out.
+ * Fence: before. */
+uint32_t rcu_defer_run_unfenced(rcu_seat_t *seat, uint64_t *values, size_t room, uint64_t *count);
+static inline uint32_t rcu_defer_run(rcu_seat_t *seat, uint64_t *values, size_t room,
+                                     uint64_t *count) {
+    rcu_fence();
+    return rcu_defer_run_unfenced(seat, values, room, count);
+}
+
+/* How many values and links were deferred and not handed out. 0 where `seat` is no open seat's. */
+uint64_t rcu_defer_count(rcu_seat_t *seat);
+
+/* The cookie at which all can be handed out that was deferred before the seat's last look, by
+ * rcu_defer_run at values and by rcu_defer_take at links. 1, which is done at any time, where none
+ * of it waits, and where `seat` is no open seat's. */
+uint64_t rcu_defer_cookie(rcu_seat_t *seat);
+
+/* Gives back the memory that the values do not need, at a step for each that stays. Writes for how
+ * many there is room then: for none where there is none. */
+uint32_t rcu_defer_shrink(rcu_seat_t *seat, uint64_t *room);
+
+/* ---- a driver's calls: `rcu` is under the caller's lock */
+
+/* One step of driving. While a grace period runs it collects from each processor that is awaited;
+ * where none runs it begins one if a tended callback or an rcu_start_poll waits for it. Then it
+ * ends one that awaits nobody. Writes what it did. It costs a load for each processor that is
+ * awaited, and where one begins a load a processor.
+ * Who drives calls this again and again, and lets other threads run in between where it awaits
+ * someone. It orders what rcu_begin, rcu_collect and rcu_end order.
+ * Fault 11: one would begin, and the number is the last one.
+ * Fence: behind. */
+uint32_t rcu_drive_unfenced(rcu_t *rcu, rcu_turn_t *turn);
+static inline uint32_t rcu_drive(rcu_t *rcu, rcu_turn_t *turn) {
+    uint32_t result = rcu_drive_unfenced(rcu, turn);
+    rcu_fence();
+    return result;
+}
+
+/* One step of driving for who waits for a cookie, as rcu_drive: where no grace period runs it
+ * begins one if the cookie is not done. It asks for no callback, and for no other cookie. Called
+ * until the cookie is done it makes one grace period, or two where one runs already.
+ * It orders what rcu_drive orders.
+ * Fault 11: one would begin, and the number is the last one.
+ * Fence: behind. */
+uint32_t rcu_drive_for_unfenced(rcu_t *rcu, uint64_t cookie, rcu_turn_t *turn);
+static inline uint32_t rcu_drive_for(rcu_t *rcu, uint64_t cookie, rcu_turn_t *turn) {
+    uint32_t result = rcu_drive_for_unfenced(rcu, cookie, turn);
+    rcu_fence();
+    return result;
+}
+
+/* Collects from each processor that is awaited, as rcu_collect from one. Writes how many still are:
+ * 0 where no grace period runs. */
+uint32_t rcu_collect_all(rcu_t *rcu, uint32_t *left);
+
+/* Lists the awaited processors, in order, `room` at most: writes them from `cpus` on, where there
+ * is room for so many, and how many; what lies behind them stays. */
+uint32_t rcu_awaited_list(rcu_t *rcu, uint32_t *cpus, size_t room, uint32_t *count);
+
+/* Takes a cookie, as rcu_take, and asks: from now on rcu_turn and rcu_drive begin a grace period
+ * for it. 2^64 - 1, which is done nowhere, where `rcu` is no open engine's. */
+uint64_t rcu_start_poll(rcu_t *rcu);
+
+/* ---- a thread that may block at any time, by its seat: it is idle but in its sections */
+
+/* Opens a read section, or nests one deeper in the open one. An idle processor wakes first, by one
+ * exchange, with no look at the number: no rcu_seat_wake is needed. Writes the depth.
+ * It passes no quiescent state: a grace period that begins before the section ends awaits the
+ * processor until it unpins. Of one that found it idle, or at whose number the section began, the
+ * section sees what came before its begin, and what a thread did before it took a cookie that is
+ * done at its end. Unfenced, what came before an rcu_seat_take is sure to be seen by sequentially
+ * consistent loads alone: where all readers load by such, the unfenced form serves. An inner one
+ * makes no fence.
+ * Faults: 2 where the processor is offline; 6 where the depth is 65,535.
+ * Fence: behind where `depth` is 1. */
+uint32_t rcu_seat_pin_unfenced(rcu_seat_t *seat, uint32_t *depth);
+static inline uint32_t rcu_seat_pin(rcu_seat_t *seat, uint32_t *depth) {
+    uint32_t result = rcu_seat_pin_unfenced(seat, depth);
+    if (result == 0 && *depth == 1) rcu_fence();
+    return result;
+}
+
+/* Leaves the innermost section. Writes the depth, 0 where the section closed: then the processor is
+ * idle, as by rcu_seat_idle, also where it was awake before the section.
+ * What the thread did before comes before what follows the collection or the begin that finds it
+ * idle.
+ * Faults: 2 where the processor is offline; 5 where no section is open. */
+uint32_t rcu_seat_unpin(rcu_seat_t *seat, uint32_t *depth);
+
+/* Renews the section that a pin opened, as rcu_seat_renew: no grace period that began before waits
+ * for it any more. What the section read before, the thread uses no more. Writes the number of the
+ * quiescent state.
+ * `number` is as in rcu_seat_renew, and 0 after a pin; so are the order and the fence.
+ * Faults: 2 where the processor is offline; 5 where no section is open; 4 where the open one nests.
+ * Fence: behind where `number` changed. */
+uint32_t rcu_seat_repin_unfenced(rcu_seat_t *seat, uint64_t *number);
+static inline uint32_t rcu_seat_repin(rcu_seat_t *seat, uint64_t *number) {
+    uint64_t last = *number;
+    uint32_t result = rcu_seat_repin_unfenced(seat, number);
+    if (*number != last) rcu_fence();
+    return result;
+}
+
 /* <<< */
+
+/* ---- links in the caller's own nodes */
+
+/* A link in a node of the caller's, by which a thread defers the node. `next` is the seat's while the
+ * node is deferred. `run` is the caller's word, as what frees the node: no call reads or writes it. */
+typedef struct rcu_link {
+    struct rcu_link *next;
+    void (*run)(struct rcu_link *link);
+} rcu_link_t;
+
+/* Defers a link, behind those that the seat has: with no look at the number, no fence and no
+ * memory. The node is there, and no other call has the link, until rcu_defer_take returns it. 15.
+ * Of each section one of two holds: all of it comes before what follows the rcu_defer_take that
+ * returns the link, or it sees what the thread did before the first look after this call. */
+static inline uint32_t rcu_defer_link(rcu_seat_t *seat, rcu_link_t *link) {
+    uint64_t last;
+    uint32_t fault = rcu_links_push(seat, (uintptr_t)link, &last);
+    if (fault) return fault;
+    link->next = 0;
+    if (last) ((rcu_link_t *)(uintptr_t)last)->next = link;
+    return 0;
+}
+
+/* Takes the first link out, where it is done: a full grace period has passed since it was deferred.
+ * Null where it is not done, and where `seat` is no open seat's. Looks at the number only where
+ * none is known to be done: then those that were deferred since the last look wait from now on. A
+ * full fence stands before the look. */
+static inline rcu_link_t *rcu_defer_take(rcu_seat_t *seat) {
+    uint64_t first = rcu_links_ready(seat);
+    if (!first) first = rcu_links_tend(seat);
+    if (!first) return 0;
+    rcu_link_t *link = (rcu_link_t *)(uintptr_t)first;
+    rcu_links_pop(seat, (uintptr_t)link->next);
+    return link;
+}
 
 /* ---- opening, with an identity of its own making */
 

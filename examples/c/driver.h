@@ -1,25 +1,30 @@
 /* A driver that sleeps, for one engine of CPUS processors: a constant that stands before this file.
- * Its thread runs what was deferred, as that of call_rcu does. Who waits for a grace period makes
+ * It is C11 and C++17. A place defers by its own seat, with no lock and no memory, and runs what is
+ * done as it goes on. The driver's thread makes the grace periods for that. Who waits for one makes
  * it, or sleeps while another one does; who makes it sleeps until the last processor that is awaited
- * is quiet or idle, and wakes it. What is deferred stands in a list of its own, and a cookie tells
- * when it may run: so to defer takes no memory. Processor 0 is nobody's, and idle. */
+ * is quiet or idle, and wakes it. Processor 0 is idle: its place may defer, but reads nothing. */
 #include "rcu.h"
 #include <pthread.h>
-#include <stdatomic.h>
 #include <stdio.h>
 #include <stdlib.h>
+#ifdef __cplusplus
+#include <atomic>
+using std::atomic_bool;
+using std::atomic_uint;
+#else
+#include <stdalign.h>
+#include <stdatomic.h>
+#endif
 
-/* What is deferred: a part of the data that it frees. */
-struct head {
-    struct head *next;
-    void (*run)(struct head *head);
-};
+/* A place asks for a grace period once in so many deferrals. */
+enum { BATCH = 64 };
 
-/* A processor, for one thread at a time; the number of its latest quiescent state, or wake; and
- * whether the maker sleeps until it is quiet. Each has a cache line of its own. */
+/* A processor, for one thread at a time; the number of its latest quiescent state, or wake; how
+ * often it deferred; and whether the maker sleeps until it is quiet. Each has a cache line of its
+ * own. */
 static struct place {
-    _Alignas(64) rcu_seat_t seat;
-    uint64_t quiet_at;
+    alignas(64) rcu_seat_t seat;
+    uint64_t quiet_at, deferred;
     atomic_bool wanted;
 } places[CPUS];
 
@@ -28,14 +33,13 @@ static atomic_uint missing; /* how many places are wanted */
 /* The lock, over all that follows. */
 static pthread_mutex_t lock = PTHREAD_MUTEX_INITIALIZER;
 static pthread_cond_t quiet = PTHREAD_COND_INITIALIZER, ended = PTHREAD_COND_INITIALIZER;
-static pthread_cond_t queued = PTHREAD_COND_INITIALIZER;
+static pthread_cond_t asked = PTHREAD_COND_INITIALIZER;
 static rcu_t rcu;
 static bool making, closing;
-static uint64_t deferred, ran;
-static struct head *first, **last = &first;
+static uint64_t awaited_cookie; /* the greatest one that a place asked for */
 static pthread_t thread;
 
-static void must(const char *call, uint32_t fault) {
+static inline void must(const char *call, uint32_t fault) {
     if (fault) fprintf(stderr, "%s: %s\n", call, rcu_fault_text(fault));
     if (fault) abort();
 }
@@ -44,13 +48,13 @@ static void must(const char *call, uint32_t fault) {
  * and then looks at the processor; a thread gets quiet, and then looks for the wish, each time that
  * it is quiet still. All four steps are sequentially consistent, so one of the two sees the
  * other. */
-static bool is_last(struct place *place) {
+static inline bool is_last(struct place *place) {
     return atomic_load(&place->wanted) && atomic_exchange(&place->wanted, false) &&
            atomic_fetch_sub(&missing, 1) == 1;
 }
 
 /* The place got quiet or idle, by a call that answered so. */
-static void wake_maker(struct place *place, uint32_t fault) {
+static inline void wake_maker(struct place *place, uint32_t fault) {
     must("quiescent state", fault);
     if (!is_last(place)) return;
     pthread_mutex_lock(&lock);
@@ -58,65 +62,48 @@ static void wake_maker(struct place *place, uint32_t fault) {
     pthread_mutex_unlock(&lock);
 }
 
-/* Looks at a processor: whether it is awaited still. (What a collection finds does not tell: one
- * that woke since the begin is not awaited, and may have passed no quiescent state.) */
-static bool is_awaited(uint32_t cpu) {
-    uint32_t found;
-    must("collect", rcu_collect(&rcu, cpu, &found));
-    return rcu_awaits(&rcu, cpu);
-}
-
-static void sleep_until_quiet(void) {
-    for (uint32_t cpu = 1; cpu < CPUS; cpu++) {
-        if (!rcu_awaits(&rcu, cpu)) continue;
+static inline void sleep_until_quiet(void) {
+    uint32_t cpus[CPUS], count, left;
+    must("list", rcu_awaited_list(&rcu, cpus, CPUS, &count));
+    for (uint32_t i = 0; i < count; i++) {
         atomic_fetch_add(&missing, 1);
-        atomic_store(&places[cpu].wanted, true);
+        atomic_store(&places[cpus[i]].wanted, true);
     }
-    for (uint32_t cpu = 1; cpu < CPUS; cpu++)
-        if (!is_awaited(cpu)) is_last(&places[cpu]);
+    must("collect", rcu_collect_all(&rcu, &left));
+    for (uint32_t i = 0; i < count; i++)
+        if (!rcu_awaits(&rcu, cpus[i])) is_last(&places[cpus[i]]);
     while (atomic_load(&missing)) pthread_cond_wait(&quiet, &lock);
 }
 
+/* Tells the thread sanitizer that a grace period is over. */
+static inline void acquire_places(void) {
+    for (uint32_t cpu = 0; cpu < CPUS; cpu++) RCU_SANITIZER_ACQUIRE(&places[cpu]);
+}
+
 /* Under the lock: makes grace periods until the cookie is done, or sleeps while another one does.
- * Of each processor it looks a hundred times before it sleeps. */
-static void wait_for(uint64_t cookie) {
-    uint64_t number;
-    uint32_t awaited;
+ * It looks a hundred times before it sleeps. */
+static inline void wait_for(uint64_t cookie) {
+    rcu_turn_t turn;
     for (;;) {
         while (making) pthread_cond_wait(&ended, &lock);
         if (rcu_poll(&rcu, cookie)) return;
         making = true;
-        must("begin", rcu_begin(&rcu, &number, &awaited));
-        for (uint32_t cpu = 1; cpu < CPUS; cpu++) {
-            for (unsigned looks = 1; is_awaited(cpu); looks++)
-                if (looks % 100 == 0) sleep_until_quiet();
-            RCU_SANITIZER_ACQUIRE(&places[cpu]);
+        for (unsigned looks = 1;; looks++) {
+            must("drive", rcu_drive_for(&rcu, cookie, &turn));
+            if (turn.what == RCU_TURN_ENDED) break;
+            if (looks % 100 == 0) sleep_until_quiet();
         }
-        must("end", rcu_end(&rcu, &number));
+        acquire_places();
         making = false;
         pthread_cond_broadcast(&ended);
     }
 }
 
-static void *run_deferred(void *it) {
+static inline void *make_grace_periods(void *it) {
     pthread_mutex_lock(&lock);
-    for (;;) {
-        while (!first && !closing) pthread_cond_wait(&queued, &lock);
-        if (!first) break;
-        struct head *head = first, *next;
-        uint64_t taken = deferred;
-        first = 0;
-        last = &first;
-        wait_for(rcu_take(&rcu));
-        pthread_mutex_unlock(&lock);
-        for (; head; head = next) {
-            next = head->next;
-            head->run(head);
-        }
-        pthread_mutex_lock(&lock);
-        ran = taken;
-        pthread_cond_broadcast(&ended);
-    }
+    while (!closing)
+        if (rcu_poll(&rcu, awaited_cookie)) pthread_cond_wait(&asked, &lock);
+        else wait_for(awaited_cookie);
     pthread_mutex_unlock(&lock);
     return it;
 }
@@ -128,14 +115,14 @@ static inline void driver_open(void) {
     for (uint32_t cpu = 0; cpu < CPUS; cpu++)
         must("seat", rcu_seat_open(&rcu, cpu, &places[cpu].seat));
     must("idle", rcu_seat_idle(&places[0].seat));
-    if (pthread_create(&thread, 0, run_deferred, 0)) abort();
+    if (pthread_create(&thread, 0, make_grace_periods, 0)) abort();
 }
 
-/* All that was deferred has run; no place is online. */
+/* Each place that deferred has had its barrier, and none is online but processor 0's. */
 static inline void driver_close(void) {
     pthread_mutex_lock(&lock);
     closing = true;
-    pthread_cond_signal(&queued);
+    pthread_cond_signal(&asked);
     pthread_mutex_unlock(&lock);
     pthread_join(thread, 0);
     for (uint32_t cpu = 0; cpu < CPUS; cpu++) rcu_seat_close(&places[cpu].seat);
@@ -162,6 +149,18 @@ static inline void driver_quiesce(struct place *place) {
     wake_maker(place, rcu_seat_quiesce_since(&place->seat, &place->quiet_at));
 }
 
+/* For a thread that keeps a section open, and one that pins: driver_quiesce and driver_idle. */
+static inline void driver_renew(struct place *place) {
+    RCU_SANITIZER_RELEASE(place);
+    wake_maker(place, rcu_seat_renew(&place->seat, &place->quiet_at));
+}
+
+static inline void driver_unpin(struct place *place) {
+    uint32_t depth;
+    RCU_SANITIZER_RELEASE(place);
+    wake_maker(place, rcu_seat_unpin(&place->seat, &depth));
+}
+
 static inline void driver_idle(struct place *place) {
     RCU_SANITIZER_RELEASE(place);
     wake_maker(place, rcu_seat_idle(&place->seat));
@@ -174,21 +173,36 @@ static inline void driver_synchronize(void) {
     pthread_mutex_unlock(&lock);
 }
 
-/* Runs it once each section that is open now has ended. */
-static inline void driver_defer(struct head *head, void (*run)(struct head *head)) {
-    head->next = 0;
-    head->run = run;
+/* Runs what the place deferred and is done, and asks for a grace period where some of it waits. */
+static inline void driver_run(struct place *place) {
+    for (rcu_link_t *link; (link = rcu_defer_take(&place->seat));) {
+        acquire_places();
+        link->run(link);
+    }
+    uint64_t cookie = rcu_defer_cookie(&place->seat);
     pthread_mutex_lock(&lock);
-    *last = head;
-    last = &head->next;
-    deferred++;
-    pthread_cond_signal(&queued);
+    if (cookie > awaited_cookie) {
+        awaited_cookie = cookie;
+        pthread_cond_signal(&asked);
+    }
     pthread_mutex_unlock(&lock);
 }
 
-/* What was deferred before has run once this returns. The caller's own place is idle. */
-static inline void driver_barrier(void) {
-    pthread_mutex_lock(&lock);
-    for (uint64_t all = deferred; ran < all;) pthread_cond_wait(&ended, &lock);
-    pthread_mutex_unlock(&lock);
+/* Runs it once each section that is open now has ended, in a later call for this place: driver_run,
+ * driver_barrier, or one in BATCH of these. */
+static inline void driver_defer(struct place *place, rcu_link_t *link, void (*run)(rcu_link_t *)) {
+    link->run = run;
+    must("defer", rcu_defer_link(&place->seat, link));
+    if (++place->deferred % BATCH == 0) driver_run(place);
+}
+
+/* What the place deferred before has run once this returns. It is idle or offline. */
+static inline void driver_barrier(struct place *place) {
+    for (;;) {
+        driver_run(place);
+        if (rcu_defer_count(&place->seat) == 0) return;
+        pthread_mutex_lock(&lock);
+        wait_for(rcu_defer_cookie(&place->seat));
+        pthread_mutex_unlock(&lock);
+    }
 }

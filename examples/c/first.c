@@ -54,13 +54,11 @@ static void *read_settings(void *last) {
  * settings that no section can read any more. Returns how many. */
 static uint64_t drive(void) {
     uint64_t seen, done, waiting, count, old[ROOM];
-    uint32_t found;
     rcu_turn_t turn;
     must("quiesce", rcu_seat_quiesce(&seats[0], &seen));
     pthread_mutex_lock(&lock);
     must("tend", rcu_tend(&rcu, 0, &done, &waiting));
-    for (uint32_t cpu = 0; cpu < CPUS; cpu++) must("collect", rcu_collect(&rcu, cpu, &found));
-    must("turn", rcu_turn(&rcu, &turn));
+    must("drive", rcu_drive(&rcu, &turn));
     must("run", rcu_run(&rcu, 0, old, ROOM, &count));
     pthread_mutex_unlock(&lock);
     if (count) RCU_SANITIZER_ACQUIRE(&quiet);

@@ -9,7 +9,7 @@
 /* What the calls write to: a refused one leaves it. */
 static struct {
     uint64_t number, other, values[2];
-    uint32_t found, depth;
+    uint32_t found, depth, cpus[2];
     rcu_turn_t turn;
 } out, kept;
 
@@ -36,7 +36,10 @@ static void refuse_engine(rcu_t *none, uint32_t fault) {
     must("rcu_begin", rcu_begin(none, &out.number, &out.found), fault);
     must("rcu_end", rcu_end(none, &out.number), fault);
     must("rcu_turn", rcu_turn(none, &out.turn), fault);
+    must("rcu_drive", rcu_drive(none, &out.turn), fault);
+    must("rcu_drive_for", rcu_drive_for(none, 8, &out.turn), fault);
     must("rcu_collect", rcu_collect(none, 0, &out.found), fault);
+    must("rcu_collect_all", rcu_collect_all(none, &out.found), fault);
     must("rcu_arrive", rcu_arrive(none, &seat), fault);
     must("rcu_depart", rcu_depart(none, &seat, &out.number), fault);
     must("rcu_cpus", rcu_cpus(none), 0);
@@ -45,7 +48,9 @@ static void refuse_engine(rcu_t *none, uint32_t fault) {
     must("rcu_online", rcu_online(none, 0), false);
     must("rcu_awaits", rcu_awaits(none, 0), false);
     must("rcu_awaited", rcu_awaited(none), 0);
+    must("rcu_awaited_list", rcu_awaited_list(none, out.cpus, 2, &out.found), fault);
     must("rcu_take", rcu_take(none), UINT64_MAX);
+    must("rcu_start_poll", rcu_start_poll(none), UINT64_MAX);
     must("rcu_poll", rcu_poll(none, 0), false);
     must("rcu_queue", rcu_queue(none, 0, 7, &out.number), fault);
     must("rcu_tend", rcu_tend(none, 0, &out.number, &out.other), fault);
@@ -61,6 +66,7 @@ static void refuse_engine(rcu_t *none, uint32_t fault) {
 /* Each call of a seat's handle, on one that is no open seat's. */
 static void refuse_seat(rcu_seat_t *none, uint32_t fault) {
     unsigned char *at = none->at;
+    rcu_link_t link = {&link, 0};
     must("rcu_seat_return", rcu_seat_return(&rcu, none), fault);
     must("rcu_arrive", rcu_arrive(&rcu, none), fault);
     must("rcu_depart", rcu_depart(&rcu, none, &out.number), fault);
@@ -72,10 +78,25 @@ static void refuse_seat(rcu_seat_t *none, uint32_t fault) {
     must("rcu_seat_exit", rcu_seat_exit(none, &out.depth), fault);
     must("rcu_seat_quiesce", rcu_seat_quiesce(none, &out.number), fault);
     must("rcu_seat_quiesce_since", rcu_seat_quiesce_since(none, &out.number), fault);
+    must("rcu_seat_renew", rcu_seat_renew(none, &out.number), fault);
+    must("rcu_seat_pin", rcu_seat_pin(none, &out.depth), fault);
+    must("rcu_seat_unpin", rcu_seat_unpin(none, &out.depth), fault);
+    must("rcu_seat_repin", rcu_seat_repin(none, &out.number), fault);
     must("rcu_seat_idle", rcu_seat_idle(none), fault);
     must("rcu_seat_wake", rcu_seat_wake(none, &out.number), fault);
     must("rcu_seat_take", rcu_seat_take(none), UINT64_MAX);
     must("rcu_seat_poll", rcu_seat_poll(none, 0), false);
+    must("rcu_defer", rcu_defer(none, 7), fault);
+    must("rcu_defer_run", rcu_defer_run(none, out.values, 2, &out.number), fault);
+    must("rcu_defer_shrink", rcu_defer_shrink(none, &out.number), fault);
+    must("rcu_defer_count", rcu_defer_count(none), 0);
+    must("rcu_defer_cookie", rcu_defer_cookie(none), 1);
+    must("rcu_links_push", rcu_links_push(none, 7, &out.number), fault);
+    must("rcu_links_ready", rcu_links_ready(none), 0);
+    must("rcu_links_tend", rcu_links_tend(none), 0);
+    must("rcu_links_pop", rcu_links_pop(none, 7), false);
+    must("rcu_defer_link", rcu_defer_link(none, &link), fault);
+    must("rcu_defer_take", rcu_defer_take(none) != 0 || link.next != &link, false);
     rcu_seat_close(none);
     must("rcu_seat_close", none->at == at, true);
 }

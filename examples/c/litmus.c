@@ -18,6 +18,7 @@
 #define rcu_arrive rcu_arrive_unfenced
 #define rcu_seat_quiesce rcu_seat_quiesce_unfenced
 #define rcu_seat_wake rcu_seat_wake_unfenced
+#define rcu_seat_pin rcu_seat_pin_unfenced
 #define rcu_seat_take rcu_seat_take_unfenced
 #define rcu_seat_poll rcu_seat_poll_unfenced
 enum { IN_ORDER = 0 };
@@ -241,9 +242,11 @@ static void driver_begins(void) {
     begin();
 }
 
-/* Wrong where the reader, in a section, has the old pointer, and the cookie is done. */
+/* Wrong where the reader, in a section, has the old pointer, and the cookie is done. (One that pins
+ * before the begin looks is awaited until it leaves.) */
 static bool judge_taking(void) {
     collect_all();
+    if (rcu_awaited(&rcu)) return false;
     end();
     looked_first = rcu_seat_poll(&seats[DRIVER], cookie);
     return looked_first && seen != now;
@@ -286,6 +289,27 @@ static void reader_wakes_after_the_begin(void) {
     wait_for_the_begin();
     must("wake", rcu_seat_wake(&seats[READER], &number));
     reader_loads();
+}
+
+/* ---- a pin after the begin */
+
+static void reader_pins_after_the_begin(void) {
+    uint32_t depth;
+    wait_for_the_begin();
+    must("pin", rcu_seat_pin(&seats[READER], &depth));
+    seen = load(&shared.pointer);
+}
+
+static void reader_unpins_and_wakes(void) {
+    uint64_t number;
+    uint32_t depth;
+    must("unpin", rcu_seat_unpin(&seats[READER], &depth));
+    must("wake", rcu_seat_wake(&seats[READER], &number));
+}
+
+static void driver_ends_late(void) {
+    for (unsigned spins = 0; rcu_awaited(&rcu); turn_round(&spins)) collect_all();
+    if (rcu_running(&rcu)) end();
 }
 
 /* ---- a wish to be woken before a poll that is not done */
@@ -515,6 +539,10 @@ static const struct test {
      {[READY] = {take_lines, updater_looks, reader_gets_idle},
       [ACT] = {driver_begins, updater_unlinks_and_takes, reader_wakes_after_the_begin},
       [LEAVE] = {0, 0, reader_leaves}}},
+    {"an unlink before a taking, for a reader that pins", judge_taking,
+     {[READY] = {take_lines, updater_looks, reader_gets_idle},
+      [ACT] = {driver_begins, updater_unlinks_and_takes, reader_pins_after_the_begin},
+      [LEAVE] = {driver_ends_late, 0, reader_unpins_and_wakes}}},
     {"an unlink before a queueing", judge_queueing,
      {[ACT] = {driver_begins_for_a_callback, updater_unlinks_and_queues, reader_finds_the_begin},
       [LEAVE] = {0, 0, reader_leaves}}},

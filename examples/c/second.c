@@ -1,21 +1,21 @@
-/* As first.c, with a driver that sleeps (driver.h). It frees the old settings, and no thread of
- * this program polls. */
+/* As first.c, with a driver that sleeps (driver.h): the main thread defers the freeing of the old
+ * settings, and no thread polls. */
 enum { CPUS = 2, VALUES = 1000 };
 
 #include "driver.h"
 #include <inttypes.h>
 
 struct setting {
-    struct head head; /* at first */
+    rcu_link_t link; /* at first */
     uint64_t value;
 };
 
 static _Atomic(struct setting *) shown;
 static atomic_bool over;
-static uint64_t freed; /* of the driver's thread, until the barrier */
+static uint64_t freed;
 
-static void free_setting(struct head *head) {
-    free(head);
+static void free_setting(rcu_link_t *link) {
+    free(link);
     freed++;
 }
 
@@ -39,7 +39,7 @@ static void replace(uint64_t value) {
     if (!setting) exit(1);
     setting->value = value;
     struct setting *old = atomic_exchange_explicit(&shown, setting, memory_order_acq_rel);
-    if (old) driver_defer(&old->head, free_setting);
+    if (old) driver_defer(&places[0], &old->link, free_setting);
 }
 
 int main(void) {
@@ -51,7 +51,7 @@ int main(void) {
     for (uint64_t value = 1; value <= VALUES; value++) replace(value);
     atomic_store_explicit(&over, true, memory_order_release);
     pthread_join(reader, 0);
-    driver_barrier();
+    driver_barrier(&places[0]);
     printf("replaced %d, freed %" PRIu64 ", read well: %s\n", VALUES, freed,
            last <= VALUES ? "yes" : "no");
     free(atomic_load(&shown));

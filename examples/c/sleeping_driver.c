@@ -8,7 +8,7 @@ enum { READERS = 3, CPUS = 1 + READERS, UPDATES = 2000, ROUNDS = 50, UPDATERS = 
 #include <time.h>
 
 struct node {
-    struct head head; /* at first */
+    rcu_link_t link; /* at first */
     uint64_t value, twice;
 };
 
@@ -25,8 +25,8 @@ static struct node *new_node(uint64_t value) {
     return node;
 }
 
-static void free_node(struct head *head) {
-    struct node *node = (struct node *)head;
+static void free_node(rcu_link_t *link) {
+    struct node *node = (struct node *)link;
     node->twice = 2 * node->value + 1;
     free(node);
     atomic_fetch_add_explicit(&freed, 1, memory_order_relaxed);
@@ -79,7 +79,9 @@ static struct node *replace(unsigned which, uint64_t value) {
 }
 
 static void *defer_all(void *it) {
-    for (uint64_t i = 1; i <= UPDATES; i++) driver_defer(&replace(1, i)->head, free_node);
+    for (uint64_t i = 1; i <= UPDATES; i++)
+        driver_defer(&places[0], &replace(1, i)->link, free_node);
+    driver_barrier(&places[0]);
     return it;
 }
 
@@ -96,10 +98,9 @@ int main(void) {
     for (uint64_t i = 1; i <= UPDATES; i++) {
         struct node *old = replace(0, i);
         driver_synchronize();
-        free_node(&old->head);
+        free_node(&old->link);
     }
     pthread_join(updater, 0);
-    driver_barrier();
     printf("freed %u, read wrong %u\n", atomic_load(&freed), atomic_load(&wrong));
     atomic_store_explicit(&over, true, memory_order_release);
     for (unsigned i = 0; i < READERS; i++) pthread_join(readers[i], 0);

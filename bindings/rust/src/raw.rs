@@ -89,16 +89,6 @@ pub const RCU_CLOSED: u32 = 27;
 /// The handle is of the other kind.
 pub const RCU_OTHER_KIND: u32 = 28;
 
-// What a turn did.
-/// No grace period runs, and none is needed.
-pub const RCU_TURN_NOTHING: u32 = 0;
-/// A grace period of this number began, and awaits this many processors.
-pub const RCU_TURN_BEGUN: u32 = 1;
-/// The grace period ended, and this is the number now.
-pub const RCU_TURN_ENDED: u32 = 2;
-/// The grace period goes on, and awaits this many processors.
-pub const RCU_TURN_WAITING: u32 = 3;
-
 // What a collection found.
 /// No grace period runs.
 pub const RCU_COLLECTED_IDLE: u32 = 0;
@@ -366,6 +356,20 @@ extern "C" {
     ///
     /// Fence: behind where `number` changed.
     pub fn rcu_seat_quiesce_since_unfenced(seat: *mut rcu_seat_t, number: *mut u64) -> u32;
+    /// Renews the open section: closes it, passes a quiescent state, and opens the next one, by two
+    /// loads. For a thread that reads all the time: it keeps one section open, and makes this call
+    /// between two looks at the data. What it read before, it uses no more. Writes the number of
+    /// the quiescent state.
+    ///
+    /// Where the number is the one of the seat's last quiescent state, wake or renewal, it stores
+    /// nothing. `number` is as in `rcu_seat_quiesce_since`, and so are the order and the fence. The
+    /// section that follows is one of those that "follow".
+    ///
+    /// Faults: 2 where the processor is offline; 23 where it is idle; 5 where no section is open; 4
+    /// where the open one nests.
+    ///
+    /// Fence: behind where `number` changed.
+    pub fn rcu_seat_renew_unfenced(seat: *mut rcu_seat_t, number: *mut u64) -> u32;
     /// The processor gets idle by one store, until it wakes or departs: it opens no section, and no
     /// grace period waits for it. It stays online, and its callbacks stay. For a thread that is
     /// about to block.
@@ -407,6 +411,121 @@ extern "C" {
     ///
     /// Fence: before, and behind where it returns true.
     pub fn rcu_seat_poll_unfenced(seat: *mut rcu_seat_t, cookie: u64) -> bool;
+    /// Defers a link, behind all others: `rcu_defer_link` stands on it. Writes the link before it,
+    /// 0 where none is left of those.
+    ///
+    /// Fault 15: 2^62 were deferred.
+    pub fn rcu_links_push(seat: *mut rcu_seat_t, link: u64, last: *mut u64) -> u32;
+    /// The first link where it is known to be done, with no look at the number: else 0, also where
+    /// `seat` is no open seat's.
+    pub fn rcu_links_ready(seat: *mut rcu_seat_t) -> u64;
+    /// The first link that is done, after one look at the number: those that were deferred since
+    /// the last look wait from now on. 0 where none is done, and where `seat` is no open seat's.
+    ///
+    /// Fence: before.
+    pub fn rcu_links_tend_unfenced(seat: *mut rcu_seat_t) -> u64;
+    /// Takes the first link out, where it is done: this one is the first from now on. Whether it
+    /// was done: false, too, where `seat` is no open seat's.
+    pub fn rcu_links_pop(seat: *mut rcu_seat_t, next: u64) -> bool;
+    /// Defers a value, behind those that the seat has: with no look at the number, and no fence.
+    /// The values keep the room that they ever had, until `rcu_defer_shrink` or `rcu_seat_close`.
+    ///
+    /// Of each section one of two holds: all of it comes before what follows the `rcu_defer_run`
+    /// that hands the value out, or it sees what the thread did before the first `rcu_defer_run`
+    /// after this call.
+    ///
+    /// Faults: 15 where 2^62 were deferred; 16.
+    pub fn rcu_defer(seat: *mut rcu_seat_t, value: u64) -> u32;
+    /// Hands out values that were deferred, in order, `room` at most, after one look at the number:
+    /// those that were deferred before an earlier call of this, since which a full grace period has
+    /// passed. Writes them from `values` on, where there is room for so many, and how many; what
+    /// lies behind them stays. The others wait from now on for a grace period that begins later.
+    /// Takes no memory.
+    ///
+    /// A full fence stands before the look. Unfenced, a section may still come to what was unlinked
+    /// once its value is handed out.
+    ///
+    /// Fence: before.
+    pub fn rcu_defer_run_unfenced(
+        seat: *mut rcu_seat_t,
+        values: *mut u64,
+        room: usize,
+        count: *mut u64,
+    ) -> u32;
+    /// How many values and links were deferred and not handed out. 0 where `seat` is no open
+    /// seat's.
+    pub fn rcu_defer_count(seat: *mut rcu_seat_t) -> u64;
+    /// The cookie at which all can be handed out that was deferred before the seat's last look, by
+    /// `rcu_defer_run` at values and by `rcu_defer_take` at links. 1, which is done at any time,
+    /// where none of it waits, and where `seat` is no open seat's.
+    pub fn rcu_defer_cookie(seat: *mut rcu_seat_t) -> u64;
+    /// Gives back the memory that the values do not need, at a step for each that stays. Writes for
+    /// how many there is room then: for none where there is none.
+    pub fn rcu_defer_shrink(seat: *mut rcu_seat_t, room: *mut u64) -> u32;
+    /// One step of driving. While a grace period runs it collects from each processor that is
+    /// awaited; where none runs it begins one if a tended callback or an `rcu_start_poll` waits for
+    /// it. Then it ends one that awaits nobody. Writes what it did. It costs a load for each
+    /// processor that is awaited, and where one begins a load a processor.
+    ///
+    /// Who drives calls this again and again, and lets other threads run in between where it awaits
+    /// someone. It orders what `rcu_begin`, `rcu_collect` and `rcu_end` order.
+    ///
+    /// Fault 11: one would begin, and the number is the last one.
+    ///
+    /// Fence: behind.
+    pub fn rcu_drive_unfenced(rcu: *mut rcu_t, turn: *mut rcu_turn_t) -> u32;
+    /// One step of driving for who waits for a cookie, as `rcu_drive`: where no grace period runs
+    /// it begins one if the cookie is not done. It asks for no callback, and for no other cookie.
+    /// Called until the cookie is done it makes one grace period, or two where one runs already.
+    ///
+    /// It orders what `rcu_drive` orders.
+    ///
+    /// Fault 11: one would begin, and the number is the last one.
+    ///
+    /// Fence: behind.
+    pub fn rcu_drive_for_unfenced(rcu: *mut rcu_t, cookie: u64, turn: *mut rcu_turn_t) -> u32;
+    /// Collects from each processor that is awaited, as `rcu_collect` from one. Writes how many
+    /// still are: 0 where no grace period runs.
+    pub fn rcu_collect_all(rcu: *mut rcu_t, left: *mut u32) -> u32;
+    /// Lists the awaited processors, in order, `room` at most: writes them from `cpus` on, where
+    /// there is room for so many, and how many; what lies behind them stays.
+    pub fn rcu_awaited_list(rcu: *mut rcu_t, cpus: *mut u32, room: usize, count: *mut u32) -> u32;
+    /// Takes a cookie, as `rcu_take`, and asks: from now on `rcu_turn` and `rcu_drive` begin a
+    /// grace period for it. 2^64 - 1, which is done nowhere, where `rcu` is no open engine's.
+    pub fn rcu_start_poll(rcu: *mut rcu_t) -> u64;
+    /// Opens a read section, or nests one deeper in the open one. An idle processor wakes first, by
+    /// one exchange, with no look at the number: no `rcu_seat_wake` is needed. Writes the depth.
+    ///
+    /// It passes no quiescent state: a grace period that begins before the section ends awaits the
+    /// processor until it unpins. Of one that found it idle, or at whose number the section began,
+    /// the section sees what came before its begin, and what a thread did before it took a cookie
+    /// that is done at its end. Unfenced, what came before an `rcu_seat_take` is sure to be seen by
+    /// sequentially consistent loads alone: where all readers load by such, the unfenced form
+    /// serves. An inner one makes no fence.
+    ///
+    /// Faults: 2 where the processor is offline; 6 where the depth is 65,535.
+    ///
+    /// Fence: behind where `depth` is 1.
+    pub fn rcu_seat_pin_unfenced(seat: *mut rcu_seat_t, depth: *mut u32) -> u32;
+    /// Leaves the innermost section. Writes the depth, 0 where the section closed: then the
+    /// processor is idle, as by `rcu_seat_idle`, also where it was awake before the section.
+    ///
+    /// What the thread did before comes before what follows the collection or the begin that finds
+    /// it idle.
+    ///
+    /// Faults: 2 where the processor is offline; 5 where no section is open.
+    pub fn rcu_seat_unpin(seat: *mut rcu_seat_t, depth: *mut u32) -> u32;
+    /// Renews the section that a pin opened, as `rcu_seat_renew`: no grace period that began before
+    /// waits for it any more. What the section read before, the thread uses no more. Writes the
+    /// number of the quiescent state.
+    ///
+    /// `number` is as in `rcu_seat_renew`, and 0 after a pin; so are the order and the fence.
+    ///
+    /// Faults: 2 where the processor is offline; 5 where no section is open; 4 where the open one
+    /// nests.
+    ///
+    /// Fence: behind where `number` changed.
+    pub fn rcu_seat_repin_unfenced(seat: *mut rcu_seat_t, number: *mut u64) -> u32;
 }
 
 /// Ends the grace period. Writes the new number.
@@ -519,6 +638,32 @@ pub unsafe fn rcu_seat_quiesce_since(seat: *mut rcu_seat_t, number: *mut u64) ->
     result
 }
 
+/// Renews the open section: closes it, passes a quiescent state, and opens the next one, by two
+/// loads. For a thread that reads all the time: it keeps one section open, and makes this call
+/// between two looks at the data. What it read before, it uses no more. Writes the number of the
+/// quiescent state.
+///
+/// Where the number is the one of the seat's last quiescent state, wake or renewal, it stores
+/// nothing. `number` is as in `rcu_seat_quiesce_since`, and so are the order and the fence. The
+/// section that follows is one of those that "follow".
+///
+/// Faults: 2 where the processor is offline; 23 where it is idle; 5 where no section is open; 4
+/// where the open one nests.
+///
+/// Fence: behind where `number` changed.
+///
+/// # Safety
+///
+/// As the header says.
+pub unsafe fn rcu_seat_renew(seat: *mut rcu_seat_t, number: *mut u64) -> u32 {
+    let last = *number;
+    let result = rcu_seat_renew_unfenced(seat, number);
+    if *number != last {
+        fence(SeqCst);
+    }
+    result
+}
+
 /// The processor wakes, by one load and one store. Writes the number that it saw.
 ///
 /// A section may open once it returns. A grace period that begins later awaits the processor. Of
@@ -573,6 +718,131 @@ pub unsafe fn rcu_seat_poll(seat: *mut rcu_seat_t, cookie: u64) -> bool {
     fence(SeqCst);
     let result = rcu_seat_poll_unfenced(seat, cookie);
     if result {
+        fence(SeqCst);
+    }
+    result
+}
+
+/// The first link that is done, after one look at the number: those that were deferred since the
+/// last look wait from now on. 0 where none is done, and where `seat` is no open seat's.
+///
+/// Fence: before.
+///
+/// # Safety
+///
+/// As the header says.
+pub unsafe fn rcu_links_tend(seat: *mut rcu_seat_t) -> u64 {
+    fence(SeqCst);
+    rcu_links_tend_unfenced(seat)
+}
+
+/// Hands out values that were deferred, in order, `room` at most, after one look at the number:
+/// those that were deferred before an earlier call of this, since which a full grace period has
+/// passed. Writes them from `values` on, where there is room for so many, and how many; what lies
+/// behind them stays. The others wait from now on for a grace period that begins later. Takes no
+/// memory.
+///
+/// A full fence stands before the look. Unfenced, a section may still come to what was unlinked
+/// once its value is handed out.
+///
+/// Fence: before.
+///
+/// # Safety
+///
+/// As the header says.
+pub unsafe fn rcu_defer_run(
+    seat: *mut rcu_seat_t,
+    values: *mut u64,
+    room: usize,
+    count: *mut u64,
+) -> u32 {
+    fence(SeqCst);
+    rcu_defer_run_unfenced(seat, values, room, count)
+}
+
+/// One step of driving. While a grace period runs it collects from each processor that is awaited;
+/// where none runs it begins one if a tended callback or an `rcu_start_poll` waits for it. Then it
+/// ends one that awaits nobody. Writes what it did. It costs a load for each processor that is
+/// awaited, and where one begins a load a processor.
+///
+/// Who drives calls this again and again, and lets other threads run in between where it awaits
+/// someone. It orders what `rcu_begin`, `rcu_collect` and `rcu_end` order.
+///
+/// Fault 11: one would begin, and the number is the last one.
+///
+/// Fence: behind.
+///
+/// # Safety
+///
+/// As the header says.
+pub unsafe fn rcu_drive(rcu: *mut rcu_t, turn: *mut rcu_turn_t) -> u32 {
+    let result = rcu_drive_unfenced(rcu, turn);
+    fence(SeqCst);
+    result
+}
+
+/// One step of driving for who waits for a cookie, as `rcu_drive`: where no grace period runs it
+/// begins one if the cookie is not done. It asks for no callback, and for no other cookie. Called
+/// until the cookie is done it makes one grace period, or two where one runs already.
+///
+/// It orders what `rcu_drive` orders.
+///
+/// Fault 11: one would begin, and the number is the last one.
+///
+/// Fence: behind.
+///
+/// # Safety
+///
+/// As the header says.
+pub unsafe fn rcu_drive_for(rcu: *mut rcu_t, cookie: u64, turn: *mut rcu_turn_t) -> u32 {
+    let result = rcu_drive_for_unfenced(rcu, cookie, turn);
+    fence(SeqCst);
+    result
+}
+
+/// Opens a read section, or nests one deeper in the open one. An idle processor wakes first, by one
+/// exchange, with no look at the number: no `rcu_seat_wake` is needed. Writes the depth.
+///
+/// It passes no quiescent state: a grace period that begins before the section ends awaits the
+/// processor until it unpins. Of one that found it idle, or at whose number the section began, the
+/// section sees what came before its begin, and what a thread did before it took a cookie that is
+/// done at its end. Unfenced, what came before an `rcu_seat_take` is sure to be seen by
+/// sequentially consistent loads alone: where all readers load by such, the unfenced form serves.
+/// An inner one makes no fence.
+///
+/// Faults: 2 where the processor is offline; 6 where the depth is 65,535.
+///
+/// Fence: behind where `depth` is 1.
+///
+/// # Safety
+///
+/// As the header says.
+pub unsafe fn rcu_seat_pin(seat: *mut rcu_seat_t, depth: *mut u32) -> u32 {
+    let result = rcu_seat_pin_unfenced(seat, depth);
+    if result == 0 && *depth == 1 {
+        fence(SeqCst);
+    }
+    result
+}
+
+/// Renews the section that a pin opened, as `rcu_seat_renew`: no grace period that began before
+/// waits for it any more. What the section read before, the thread uses no more. Writes the number
+/// of the quiescent state.
+///
+/// `number` is as in `rcu_seat_renew`, and 0 after a pin; so are the order and the fence.
+///
+/// Faults: 2 where the processor is offline; 5 where no section is open; 4 where the open one
+/// nests.
+///
+/// Fence: behind where `number` changed.
+///
+/// # Safety
+///
+/// As the header says.
+pub unsafe fn rcu_seat_repin(seat: *mut rcu_seat_t, number: *mut u64) -> u32 {
+    let last = *number;
+    let result = rcu_seat_repin_unfenced(seat, number);
+    if *number != last {
         fence(SeqCst);
     }
     result

@@ -19,14 +19,19 @@ took_more s t u i inside so_far one =
     let b : min (i + 1) (ready_of s.marks) ≡ i + 1 = omega arith in
     let c : min 1 (ready_of (after_take s.marks i)) ≡ 1 = one_ready s.marks i inside in
     let values : drop (min 1 (ready_of (after_take s.marks i))) (drop (min i (ready_of s.marks)) s.values)
-        ≡ drop (min (i + 1) (ready_of s.marks)) s.values =
-      ap (λ k. drop k (drop (min i (ready_of s.marks)) s.values)) c ∙ ap (λ k. drop 1 (drop k s.values)) a
-      ∙ drop-drop 1 i s.values ∙ ap (λ k. drop k s.values) (sym b) in
+    ≡ drop (min (i + 1) (ready_of s.marks)) s.values =
+    ap (λ k. drop k (drop (min i (ready_of s.marks)) s.values)) c ∙ ap (λ k. drop 1 (drop k s.values)) a
+    ∙ drop-drop 1 i s.values ∙ ap (λ k. drop k s.values) (sym b) in
     let taken : s.marks.taken + min i (ready_of s.marks) + min 1 (ready_of (after_take s.marks i))
-        ≡ s.marks.taken + min (i + 1) (ready_of s.marks) = omega (arith, a, b, c) in
+    ≡ s.marks.taken + min (i + 1) (ready_of s.marks) = omega (arith, a, b, c) in
     one ∙ ap (λ l. list_after_take l 1) so_far
-    ∙ ap (λ (v : List ℕ). record s { values = v; marks = record s.marks { taken =
-        s.marks.taken + min i (ready_of s.marks) + min 1 (ready_of (after_take s.marks i)) } }) values
+    ∙ ap (λ (v : List ℕ). record s {
+      values = v;
+      marks = record s.marks {
+        taken =
+            s.marks.taken + min i (ready_of s.marks) + min 1 (ready_of (after_take s.marks i));
+      };
+    }) values
     ∙ ap (λ (k : ℕ). record s { values = drop (min (i + 1) (ready_of s.marks)) s.values; marks = record s.marks { taken = k } }) taken
 
 -- the first of one is the first

@@ -1,3 +1,5 @@
 pub mod AsBox
 pub mod Dealt
+pub mod HandedOut
+pub mod Listed
 pub mod WrittenBack

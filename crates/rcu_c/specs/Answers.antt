@@ -1,6 +1,7 @@
 -- The numbers that C is told.
 use Rattle.std.specs.Prelude.{ℕ, ◌==◌, if◌then◌else◌, Option, Some, None}
 use Rattle.rcu_seq.specs.Fault.{fault_number}
+use Rattle.rcu_seq.specs.declared.cookie.Cookie.{Cookie}
 use Rattle.rcu_seq.specs.declared.fault.Fault.{Fault}
 use Rattle.rcu_barrier.specs.declared.barrier_state.BarrierState.{BarrierState}
 use Rattle.rcu_barrier.specs.declared.barrier_state.BarrierState.TheVariants as state
@@ -40,6 +41,10 @@ number_in_c (Some refusal) = refusal_number refusal
 abbrev pub number_or : Option Refusal → ℕ → ℕ
 number_or None number = number
 number_or (Some refusal) number = refusal_number refusal
+
+-- the cookie of a number: an engine of C's never renumbers, so each is of the first epoch
+abbrev pub cookie_in_c : ℕ → Cookie
+cookie_in_c number = record { epoch = 0; number = number }
 
 -- what a turn did: 0 nothing, 1 begun, 2 ended, 3 waiting; how many are awaited; and a number
 abbrev pub turn_of : Turned → Turn

@@ -1,15 +1,19 @@
 -- What a handle holds: the engine or the seat of an open one, and what a call changes of it.
-use Rattle.std.specs.Prelude.{◌≡◌, ℕ, ◌≤◌, ◌-◌, ◌^◌, [], Option, Some, None, ⊤}
+use Rattle.std.specs.Prelude.{◌≡◌, ℕ, ◌≤◌, ◌-◌, ◌^◌, [], List, take, Option, Some, None, ⊤}
 use Rattle.atomic_table.specs.Seated.{TableId}
+use Rattle.rcu_node.specs.CpuSet.{is_in}
 use Rattle.rcu_core.specs.GpState.{Grace}
+use Rattle.rcu_core.specs.Replies.{which}
 use Rattle.rcu_seq.specs.Numbers.{Number}
-use Rattle.rcu_live.specs.CpuSeat.{Seated}
+use Rattle.rcu_live.specs.CpuSeat.{Seated, after_renew}
 use Rattle.rcu_live.specs.Engine.{Locked}
 use Rattle.rcu_live.specs.Watcher.{Watching, after_watch}
+use Rattle.rcu_defer.specs.DeferList.{Deferring}
 use Rattle.rcu_c.specs.Engines.{EngineAndSeats, opened_at_first}
 use Rattle.rcu_c.specs.Seats.{Seat, seat_at_first}
 use Rattle.rcu_c.specs.declared.contents.Contents.{Contents}
 use Rattle.rcu_c.specs.declared.identity.Identity.{Identity}
+use Rattle.rcu_c.specs.declared.links.Links.{Links}
 use Rattle.rcu_c.specs.declared.contents.Contents.TheVariants as contents
 
 -- the handle is an open engine's
@@ -53,6 +57,10 @@ engine_of h = (opened_of h).engine
 abbrev pub grace_of : Option Contents → Grace ℕ
 grace_of h = (engine_of h).grace
 
+-- the processors that an engine awaits, in order, the first so many
+abbrev pub awaited_list : Locked (Unit {0}) ℕ → ℕ → List ℕ
+awaited_list e room = take room (which e.cpus (is_in e.grace.processors.awaited))
+
 -- no processor: more than any engine has
 abbrev pub no_cpu : ℕ
 no_cpu = 2 ^ 32 - 1
@@ -80,6 +88,14 @@ cpu_of h = (seat_of h).cpu
 abbrev pub watcher_of : Option Contents → Watching (Unit {0})
 watcher_of h = (seat_of h).watcher
 
+-- the values that its thread deferred
+abbrev pub values_of : Option Contents → Deferring ℕ
+values_of h = (seat_of h).values
+
+-- the links that its thread deferred
+abbrev pub links_of : Option Contents → Links
+links_of h = (seat_of h).links
+
 -- an engine's handle with its engine changed
 abbrev pub on_opened : (EngineAndSeats → EngineAndSeats) → Option Contents → Option Contents
 on_opened change h = Some (contents.Engine (change (opened_of h)))
@@ -102,6 +118,21 @@ pub record AcceptedAt (after : Seated (Unit {0}) → Number → Seated (Unit {0}
     (now : Option Contents) : Type 0 where
   pub state : now ≡ on_cpu (λ s. after s n) h
   pub later : (cpu_of h).view.seen ≤ n
+
+-- a seat's section was renewed: a quiescent state was passed at the number n, which is at least all that its processor's
+-- seat saw before, and the next section began at a number that is no less; this is what it leaves
+pub record RenewedAt (h : Option Contents) (n : Number) (now : Option Contents) : Type 0 where
+  pub state : now ≡ on_cpu (λ s. after_renew (λ c. c) s n (cpu_of now).view.seen) h
+  pub later : (cpu_of h).view.seen ≤ n
+  pub onward : n ≤ (cpu_of now).view.seen
+
+-- a seat's handle with its values changed
+abbrev pub on_values : (Deferring ℕ → Deferring ℕ) → Option Contents → Option Contents
+on_values change h = Some (contents.Seat (record (seat_of h) { values = change (values_of h) }))
+
+-- a seat's handle with its links changed
+abbrev pub on_links : (Links → Links) → Option Contents → Option Contents
+on_links change h = Some (contents.Seat (record (seat_of h) { links = change (links_of h) }))
 
 -- a seat's handle with its watcher changed
 abbrev pub on_watcher : (Watching (Unit {0}) → Watching (Unit {0})) → Option Contents → Option Contents

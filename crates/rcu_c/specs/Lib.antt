@@ -4,6 +4,7 @@ pub mod Engines
 pub mod Handle
 pub mod Holding
 pub mod Lending
+pub mod Links
 pub mod Refusals
 pub mod Seats
 pub mod Staying

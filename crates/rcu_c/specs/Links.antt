@@ -1,13 +1,12 @@
 -- What a thread defers by its seat: links, and for which cookie it waits.
 use Rattle.std.specs.Prelude.{ℕ, ◌==◌, if◌then◌else◌, max, unwrap_or}
 use Rattle.rcu_seq.specs.Numbers.{Number}
-use Rattle.rcu_defer.specs.Marks as marks
-use Rattle.rcu_defer.specs.Marks.{Marking, after_defer, after_take, after_tend, count_of, last_number, ready_of}
+use Rattle.rcu_defer.specs.Marks.{Marking, after_defer, after_take, after_tend, at_first, count_of, last_number, ready_of}
 use Rattle.rcu_c.specs.declared.links.Links.{Links}
 
 -- no link
 abbrev pub no_links : Links
-no_links = record { marks = marks.at_first; first = 0; last = 0 }
+no_links = record { marks = at_first; first = 0; last = 0 }
 
 -- the link that was deferred last, 0 where none is left
 abbrev pub last_link : Links → ℕ

@@ -5,13 +5,19 @@ use Rattle.rcu_live.specs.Board.{Object}
 use Rattle.rcu_live.specs.CpuSeat.{Seated, at_first}
 use Rattle.rcu_live.specs.Watcher.{Watching, watcher_at_first}
 use Rattle.rcu_live.specs.Words.{base_of}
+use Rattle.rcu_defer.specs.DeferList.{Deferring, list_at_first}
+use Rattle.rcu_c.specs.Links.{no_links}
 use Rattle.rcu_c.specs.declared.identity.Identity.{Identity}
+use Rattle.rcu_c.specs.declared.links.Links.{Links}
 
--- of which object it is, what its processor's seat is, what its watcher has seen, and what tells its engine from others
+-- of which object it is, what its processor's seat is, what its watcher has seen, what its thread deferred, and what tells
+-- its engine from others
 pub record Seat : Type 0 where
   pub object : Object
   pub cpu : Seated (Unit {0})
   pub watcher : Watching (Unit {0})
+  pub values : Deferring ℕ
+  pub links : Links
   pub identity : Identity
 
 -- the seat of a processor as it is opened
@@ -20,5 +26,7 @@ seat_at_first identity table cpus cpu = record {
   object = record { table = table; cpus = cpus };
   cpu = at_first table (base_of cpus) tt cpu;
   watcher = watcher_at_first table (base_of cpus) tt;
+  values = list_at_first;
+  links = no_links;
   identity = identity;
 }

@@ -1,4 +1,10 @@
-//! Values that a thread defers by its seat alone: no call here waits or needs a lock.
+//! What a thread defers by its seat alone, with no lock, beside all calls on other handles: values
+//! of 64 bits, each in order. In a section or not, online or not.
+//!
+//! They go with the seat: they stay where its processor departs, and where the seat is handed back,
+//! for who has it next. `rcu_seat_close` and `rcu_close` forget those that were not handed out. No
+//! call here asks for a grace period: who drives gets the cookie of `rcu_defer_cookie`, for
+//! `rcu_drive_for`.
 ghost use Rattle.std.specs.Prelude.{◌≡◌, ◌≢◌, ◌+◌, ◌≤◌, None, drop, length, take};
 ghost use Rattle.rcu_live.specs.Watcher.{after_watch};
 ghost use Rattle.rcu_defer.specs.DeferList.{list_after_defer, list_after_take, list_after_tend};
@@ -14,8 +20,12 @@ use crate::codes::{ALWAYS_DONE, code};
 use crate::handle::RcuSeat;
 use rcu_defer::DeferList;
 
-/// Defers a value, as `DeferList::defer`: it is handed out once each section that is open now has
-/// ended. No load and no store of a shared word.
+/// Defers a value, behind those that the seat has: with no look at the number, and no fence. The
+/// values keep the room that they ever had, until `rcu_defer_shrink` or `rcu_seat_close`.
+///
+/// Of each section one of two holds: all of it comes before what follows the `rcu_defer_run` that
+/// hands the value out, or it sees what the thread did before the first `rcu_defer_run` after this
+/// call.
 ///
 /// Faults: 15 where 2^62 were deferred; 16.
 #[unsafe(no_mangle)]
@@ -58,10 +68,16 @@ fn put_ready(list: &mut DeferList<u64>, values: &mut [u64]) -> u64
     most
 }
 
-/// Tends the seat's values by one load of the number, as `DeferList::tend`, and hands out the first
-/// that are done, in order, at most as many as the buffer has room for: writes them to its head,
-/// and how many there are. The rest of the buffer stays. A value is handed out where it was
-/// deferred before an earlier tend, and a full grace period lies between that and this one.
+/// Hands out values that were deferred, in order, `room` at most, after one look at the number:
+/// those that were deferred before an earlier call of this, since which a full grace period has
+/// passed. Writes them from `values` on, where there is room for so many, and how many; what lies
+/// behind them stays. The others wait from now on for a grace period that begins later. Takes no
+/// memory.
+///
+/// A full fence stands before the look. Unfenced, a section may still come to what was unlinked
+/// once its value is handed out.
+///
+/// Fence: before.
 #[unsafe(no_mangle)]
 pub extern "C" fn rcu_defer_run_unfenced(
     seat: &mut RcuSeat,
@@ -96,23 +112,22 @@ pub extern "C" fn rcu_defer_run_unfenced(
     }
 }
 
-/// How many values and links the seat's thread deferred that were not handed out: 0 where the
-/// handle is no open seat's.
+/// How many values and links were deferred and not handed out. 0 where `seat` is no open seat's.
 #[unsafe(no_mangle)]
 pub extern "C" fn rcu_defer_count(seat: &mut RcuSeat) -> u64
     ensures unchanged { seat.new.contents ≡ seat.old.contents }
-    ensures value { result ≡ length (values_of seat.old.contents).values
+    ensures value { result ≡ count_of (values_of seat.old.contents).marks
         + count_of (links_of seat.old.contents).marks }
 {
     match seat.seat() {
-        Ok(seat) => seat.values.count() as u64 + seat.links.marks.count(),
+        Ok(seat) => seat.values.marks().count() + seat.links.marks.count(),
         Err(_) => 0,
     }
 }
 
-/// The cookie at which all is done that was deferred before the seat's last tends, of values and of
-/// links, as `Marks::last_until`: 1, which is done at any time, where none of it waits, and where
-/// the handle is no open seat's.
+/// The cookie at which all can be handed out that was deferred before the seat's last look, by
+/// `rcu_defer_run` at values and by `rcu_defer_take` at links. 1, which is done at any time, where
+/// none of it waits, and where `seat` is no open seat's.
 #[unsafe(no_mangle)]
 pub extern "C" fn rcu_defer_cookie(seat: &mut RcuSeat) -> u64
     ensures unchanged { seat.new.contents ≡ seat.old.contents }
@@ -128,8 +143,8 @@ pub extern "C" fn rcu_defer_cookie(seat: &mut RcuSeat) -> u64
     }
 }
 
-/// Gives back the memory that the seat's values do not need, as `DeferList::shrink`. Writes for how
-/// many there is room then. An empty list keeps none.
+/// Gives back the memory that the values do not need, at a step for each that stays. Writes for how
+/// many there is room then: for none where there is none.
 #[unsafe(no_mangle)]
 pub extern "C" fn rcu_defer_shrink(seat: &mut RcuSeat, room: &mut u64) -> u32
     ensures fault { result ≡ seat_number seat.old.contents 0 }

@@ -1,4 +1,4 @@
-//! A driver's calls: steps of driving, who is awaited, and a cookie that asks.
+//! A driver's calls: `rcu` is under the caller's lock.
 ghost use Rattle.std.specs.Prelude.{◌≡◌, ◌≢◌, None, drop, false, length, take};
 ghost use Rattle.rcu_seq.specs.Seq.{cookie_of};
 ghost use Rattle.rcu_node.specs.CpuSet.{is_in};
@@ -20,14 +20,17 @@ use crate::handle::Rcu;
 use rcu_node::Awaited;
 use rcu_seq::Cookie;
 
-/// One step of driving, as `Engine::drive`: while a grace period runs, it collects from each
-/// processor that is awaited; where none runs, one begins if tended callbacks or a started poll
-/// need it; and one that awaits nobody then ends. Writes what it did. It never waits: who drives
-/// calls it again, and lets other threads run in between where it awaits a processor.
+/// One step of driving. While a grace period runs it collects from each processor that is awaited;
+/// where none runs it begins one if a tended callback or an `rcu_start_poll` waits for it. Then it
+/// ends one that awaits nobody. Writes what it did. It costs a load for each processor that is
+/// awaited, and where one begins a load a processor.
 ///
-/// Costs a load for each processor that is awaited, and where one begins a load a processor.
+/// Who drives calls this again and again, and lets other threads run in between where it awaits
+/// someone. It orders what `rcu_begin`, `rcu_collect` and `rcu_end` order.
 ///
 /// Fault 11: one would begin, and the number is the last one.
+///
+/// Fence: behind.
 #[unsafe(no_mangle)]
 pub extern "C" fn rcu_drive_unfenced(rcu: &mut Rcu, turn: &mut Turn) -> u32
     ensures open { HoldsEngine rcu.old.contents → HoldsEngine rcu.new.contents }
@@ -45,11 +48,15 @@ pub extern "C" fn rcu_drive_unfenced(rcu: &mut Rcu, turn: &mut Turn) -> u32
     }
 }
 
-/// The same for who waits for a cookie, as `Engine::drive_for`: where none runs, one begins if the
-/// cookie is not done. Called until the cookie is done it makes one grace period, or two where one
-/// runs already.
+/// One step of driving for who waits for a cookie, as `rcu_drive`: where no grace period runs it
+/// begins one if the cookie is not done. It asks for no callback, and for no other cookie. Called
+/// until the cookie is done it makes one grace period, or two where one runs already.
+///
+/// It orders what `rcu_drive` orders.
 ///
 /// Fault 11: one would begin, and the number is the last one.
+///
+/// Fence: behind.
 #[unsafe(no_mangle)]
 pub extern "C" fn rcu_drive_for_unfenced(rcu: &mut Rcu, cookie: u64, turn: &mut Turn) -> u32
     ensures open { HoldsEngine rcu.old.contents → HoldsEngine rcu.new.contents }
@@ -74,8 +81,8 @@ pub extern "C" fn rcu_drive_for_unfenced(rcu: &mut Rcu, cookie: u64, turn: &mut 
     }
 }
 
-/// Collects from each processor that the running grace period awaits, as
-/// `Engine::collect_awaited`. Writes how many it still awaits: 0 where none runs.
+/// Collects from each processor that is awaited, as `rcu_collect` from one. Writes how many still
+/// are: 0 where no grace period runs.
 #[unsafe(no_mangle)]
 pub extern "C" fn rcu_collect_all(rcu: &mut Rcu, left: &mut u32) -> u32
     ensures open { HoldsEngine rcu.old.contents → HoldsEngine rcu.new.contents }
@@ -115,9 +122,8 @@ fn put_awaited<A: Awaited>(awaited: &A, cpus: &mut [u32]) -> u32
     count
 }
 
-/// Lists the processors that are awaited, in order, at most as many as the buffer has room for:
-/// writes them to its head, and how many there are. The rest of the buffer stays. Where no grace
-/// period runs, none is awaited.
+/// Lists the awaited processors, in order, `room` at most: writes them from `cpus` on, where there
+/// is room for so many, and how many; what lies behind them stays.
 #[unsafe(no_mangle)]
 pub extern "C" fn rcu_awaited_list(rcu: &mut Rcu, cpus: &mut [u32], count: &mut u32) -> u32
     ensures state { rcu.new.contents ≡ rcu.old.contents }
@@ -138,9 +144,8 @@ pub extern "C" fn rcu_awaited_list(rcu: &mut Rcu, cpus: &mut [u32], count: &mut 
     }
 }
 
-/// The cookie of a taking now, as `Engine::start_poll`: its number is needed from now on, so that
-/// a turn or a step of driving begins a grace period for it. It is never done where the handle is
-/// no open engine's.
+/// Takes a cookie, as `rcu_take`, and asks: from now on `rcu_turn` and `rcu_drive` begin a grace
+/// period for it. 2^64 - 1, which is done nowhere, where `rcu` is no open engine's.
 #[unsafe(no_mangle)]
 pub extern "C" fn rcu_start_poll(rcu: &mut Rcu) -> u64
     ensures cookie { engine_refusal rcu.old.contents ≡ None →

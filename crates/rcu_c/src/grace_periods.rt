@@ -27,7 +27,7 @@ pub struct Turn {
 }
 
 /// What a turn did, as C sees it: an `rcu_turned`, as `RCU_TURN_NOTHING`.
-fn turn_in_c(turned: Turned) -> Turn
+pub(crate) fn turn_in_c(turned: Turned) -> Turn
     ensures { result ≡ turn_of turned }
 {
     let (what, awaited, number) = match turned {

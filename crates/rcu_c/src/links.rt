@@ -1,6 +1,6 @@
-//! Links in nodes of the caller's that a thread defers by its seat alone: no call here waits, takes
-//! memory or needs a lock. Each is a number here, its address, which no call follows. The header's
-//! `rcu_defer_link` and `rcu_defer_take` write and read what links one to the next.
+//! Links in nodes of the caller's own, deferred by a seat alone, as the values are. Each is a
+//! number here, its address, which no call follows: `rcu_defer_link` and `rcu_defer_take` write and
+//! read what links one to the next. The nodes stay the caller's where a seat or an engine closes.
 ghost use Rattle.std.specs.Prelude.{◌≡◌, ◌≢◌, ◌≤◌, IfOk, None, OnErr, OnOk, false, nat_lt, true};
 ghost use Rattle.std.specs.Result.{result_err};
 ghost use Rattle.rcu_defer.specs.Marks.{defer_refusal, ready_of};
@@ -52,12 +52,13 @@ impl Links {
     {
         let is_first = self.marks.count() == 0;
         self.marks.defer()?;
-        let last = if is_first { 0 } else { self.last };
+        let before = self.last;
+        self.last = link;
         if is_first {
             self.first = link;
+            return Ok(0);
         }
-        self.last = link;
-        Ok(last)
+        Ok(before)
     }
 
     /// The first link where it is done, else 0.
@@ -71,9 +72,8 @@ impl Links {
     }
 }
 
-/// Defers a link, as `Marks::defer`: it is ready once each section that is open now has ended.
-/// Writes the link that was deferred before it, 0 where none is left of those. No load and no store
-/// of a shared word.
+/// Defers a link, behind all others: `rcu_defer_link` stands on it. Writes the link before it, 0
+/// where none is left of those.
 ///
 /// Fault 15: 2^62 were deferred.
 #[unsafe(no_mangle)]
@@ -92,8 +92,8 @@ pub extern "C" fn rcu_links_push(seat: &mut RcuSeat, link: u64, last: &mut u64) 
     }
 }
 
-/// The first of the seat's links that were not taken out, where it is known to be done, with no
-/// look at the number: else 0, also where the handle is no open seat's.
+/// The first link where it is known to be done, with no look at the number: else 0, also where
+/// `seat` is no open seat's.
 #[unsafe(no_mangle)]
 pub extern "C" fn rcu_links_ready(seat: &mut RcuSeat) -> u64
     ensures unchanged { seat.new.contents ≡ seat.old.contents }
@@ -105,10 +105,10 @@ pub extern "C" fn rcu_links_ready(seat: &mut RcuSeat) -> u64
     }
 }
 
-/// Tends the seat's links by one load of the number, as `Marks::tend`: those whose number is
-/// reached are done, and those that were deferred since the last tend wait from now on. The first
-/// one that is done then, as `rcu_links_ready`: 0 where none is, also where the handle is no open
-/// seat's.
+/// The first link that is done, after one look at the number: those that were deferred since the
+/// last look wait from now on. 0 where none is done, and where `seat` is no open seat's.
+///
+/// Fence: before.
 #[unsafe(no_mangle)]
 pub extern "C" fn rcu_links_tend_unfenced(seat: &mut RcuSeat) -> u64
     ensures state { seat_refusal seat.old.contents ≡ None → seat.new.contents ≡
@@ -131,9 +131,8 @@ pub extern "C" fn rcu_links_tend_unfenced(seat: &mut RcuSeat) -> u64
     }
 }
 
-/// Takes the first of the seat's links out, where it is done: the one behind it is the first from
-/// now on. Returns whether one was taken: false where the first is not done, and where the handle
-/// is no open seat's.
+/// Takes the first link out, where it is done: this one is the first from now on. Whether it was
+/// done: false, too, where `seat` is no open seat's.
 #[unsafe(no_mangle)]
 pub extern "C" fn rcu_links_pop(seat: &mut RcuSeat, next: u64) -> bool
     ensures value { result ≡ nat_lt 0 (ready_of (links_of seat.old.contents).marks) }
@@ -143,11 +142,12 @@ pub extern "C" fn rcu_links_pop(seat: &mut RcuSeat, next: u64) -> bool
 {
     match seat.seat() {
         Ok(seat) => {
-            let taken = seat.links.marks.take(1) == 1;
-            if taken {
-                seat.links.first = next;
+            if seat.links.marks.ready() == 0 {
+                return false;
             }
-            taken
+            seat.links.marks.take(1);
+            seat.links.first = next;
+            true
         }
         Err(_) => false,
     }

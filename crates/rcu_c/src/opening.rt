@@ -36,6 +36,7 @@ const MOST: u64 = 1 << 62;
 
 /// The seat of a processor, with its share of the words.
 fn make_seat(
+    alloc: Global,
     identity: Identity,
     board: &Arc<Board, Global>,
     cpu: u32,
@@ -51,7 +52,7 @@ fn make_seat(
         seat_at_first identity (arc_value board.now).table (arc_value board.now).cpus cpu) }
 {
     let board = Arc::try_clone(board)?;
-    Ok(SeatParts::new(board, seat, watcher, identity))
+    Ok(SeatParts::new(alloc, board, seat, watcher, identity))
 }
 
 /// The seats of all processors, in order.
@@ -77,7 +78,7 @@ fn make_seats(
         let Some(watcher) = watchers.next() else {
             unreachable!()
         };
-        made.push(Some(make_seat(identity, board, cpu, seat, watcher)?))?;
+        made.push(Some(make_seat(alloc, identity, board, cpu, seat, watcher)?))?;
     }
     Ok(made)
 }

@@ -1,4 +1,4 @@
-//! Sections of a thread that is idle between them, by its seat alone: it may block at any time.
+//! A thread that may block at any time, by its seat: it is idle but in its sections.
 ghost use Rattle.std.specs.Prelude.{◌≡◌, ◌≢◌};
 ghost use Rattle.rcu_live.specs.CpuSeat.{after_pin, after_unpin, pin_refusal, repin_refusal};
 ghost use Rattle.rcu_live.specs.CpuSeat.{unpin_refusal};
@@ -10,11 +10,19 @@ ghost use Rattle.rcu_c.specs.Staying.{BothStay};
 use crate::codes::write_out;
 use crate::handle::RcuSeat;
 
-/// Opens a read section by one load, or nests one deeper in the open one by none, as
-/// `CpuSeat::pin`: an idle processor wakes first, by one exchange with no load before it. Writes
-/// the depth.
+/// Opens a read section, or nests one deeper in the open one. An idle processor wakes first, by one
+/// exchange, with no look at the number: no `rcu_seat_wake` is needed. Writes the depth.
+///
+/// It passes no quiescent state: a grace period that begins before the section ends awaits the
+/// processor until it unpins. Of one that found it idle, or at whose number the section began, the
+/// section sees what came before its begin, and what a thread did before it took a cookie that is
+/// done at its end. Unfenced, what came before an `rcu_seat_take` is sure to be seen by
+/// sequentially consistent loads alone: where all readers load by such, the unfenced form serves.
+/// An inner one makes no fence.
 ///
 /// Faults: 2 where the processor is offline; 6 where the depth is 65,535.
+///
+/// Fence: behind where `depth` is 1.
 #[unsafe(no_mangle)]
 pub extern "C" fn rcu_seat_pin_unfenced(seat: &mut RcuSeat, depth: &mut u32) -> u32
     ensures fault { result ≡ seat_number seat.old.contents
@@ -31,8 +39,11 @@ pub extern "C" fn rcu_seat_pin_unfenced(seat: &mut RcuSeat, depth: &mut u32) -> 
     }
 }
 
-/// Leaves the innermost section, as `CpuSeat::unpin`. Writes the depth: at 0 one load closed the
-/// section, and the processor is idle by one store, also where it was awake before the section.
+/// Leaves the innermost section. Writes the depth, 0 where the section closed: then the processor
+/// is idle, as by `rcu_seat_idle`, also where it was awake before the section.
+///
+/// What the thread did before comes before what follows the collection or the begin that finds it
+/// idle.
 ///
 /// Faults: 2 where the processor is offline; 5 where no section is open.
 #[unsafe(no_mangle)]
@@ -51,11 +62,16 @@ pub extern "C" fn rcu_seat_unpin(seat: &mut RcuSeat, depth: &mut u32) -> u32
     }
 }
 
-/// Renews the section that a pin opened, as `CpuSeat::repin`: as `rcu_seat_renew`, for a thread
-/// that is idle between its sections. Writes the number of the quiescent state.
+/// Renews the section that a pin opened, as `rcu_seat_renew`: no grace period that began before
+/// waits for it any more. What the section read before, the thread uses no more. Writes the number
+/// of the quiescent state.
+///
+/// `number` is as in `rcu_seat_renew`, and 0 after a pin; so are the order and the fence.
 ///
 /// Faults: 2 where the processor is offline; 5 where no section is open; 4 where the open one
 /// nests.
+///
+/// Fence: behind where `number` changed.
 #[unsafe(no_mangle)]
 pub extern "C" fn rcu_seat_repin_unfenced(seat: &mut RcuSeat, number: &mut u64) -> u32
     ensures fault { result ≡ seat_number seat.old.contents

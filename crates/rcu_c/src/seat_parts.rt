@@ -1,24 +1,31 @@
 //! The seat of an open handle.
-ghost use Rattle.std.specs.Prelude.{◌≡◌, ◌<◌};
+ghost use Rattle.std.specs.Prelude.{◌≡◌, ◌<◌, ◌≤◌};
 ghost use Rattle.std.specs.Arc.{arc_value};
+ghost use Rattle.rcu_defer.specs.DeferList.{list_at_first};
+ghost use Rattle.rcu_c.specs.Links.{no_links};
 
 use crate::identity::Identity;
+use crate::links::Links;
+use rcu_defer::DeferList;
 use rcu_live::{Board, CpuSeat, Watcher};
 use std::alloc::Global;
 use std::marker::Model;
 use std::sync::Arc;
 
-/// The seat of an open handle: a processor's, with a watcher, and the words that all seats share.
+/// The seat of an open handle: a processor's, with a watcher, what its thread deferred, and the
+/// words that all seats share.
 #[derive(Drop)]
 pub struct SeatParts {
     pub(crate) board: Arc<Board, Global>,
     pub(crate) cpu: CpuSeat,
     pub(crate) watcher: Watcher,
+    pub(crate) values: DeferList<u64>,
+    pub(crate) links: Links,
     pub(crate) identity: Identity,
 }
 
 impl Model for SeatParts {
-    ghost use Rattle.std.specs.Prelude.{◌≡◌, ◌<◌};
+    ghost use Rattle.std.specs.Prelude.{◌≡◌, ◌<◌, ◌≤◌};
     ghost use Rattle.std.specs.Arc.{arc_value};
     ghost use Rattle.rcu_c.specs.Seats.{Seat};
 
@@ -28,6 +35,8 @@ impl Model for SeatParts {
       object = arc_value s.board;
       cpu = s.cpu;
       watcher = s.watcher;
+      values = s.values;
+      links = s.links;
       identity = s.identity;
     } };
 
@@ -35,12 +44,15 @@ impl Model for SeatParts {
       cpu : s.cpu.table ≡ (arc_value s.board).table;
       watcher : s.watcher.table ≡ (arc_value s.board).table;
       inside : s.cpu.cpu < (arc_value s.board).cpus;
+      values : s.values.marks.seen ≤ s.watcher.view.seen;
+      links : s.links.marks.seen ≤ s.watcher.view.seen;
     } };
 }
 
 impl SeatParts {
-    /// The seat of these parts.
+    /// The seat of these parts, by which nothing was deferred yet.
     pub(crate) fn new(
+        alloc: Global,
         board: Arc<Board, Global>,
         cpu: CpuSeat,
         watcher: Watcher,
@@ -53,6 +65,8 @@ impl SeatParts {
           object = arc_value board;
           cpu = cpu;
           watcher = watcher;
+          values = list_at_first;
+          links = no_links;
           identity = identity;
         } }
     {
@@ -60,6 +74,8 @@ impl SeatParts {
             board,
             cpu,
             watcher,
+            values: DeferList::new(alloc),
+            links: Links::new(),
             identity,
         }
     }

@@ -5,11 +5,11 @@ ghost use Rattle.rcu_seq.specs.Numbers.{snapshot};
 ghost use Rattle.rcu_seq.specs.Tags.{is_done_first};
 ghost use Rattle.rcu_live.specs.CpuSeat.{after_enter, after_exit, after_idle, after_quiesce};
 ghost use Rattle.rcu_live.specs.CpuSeat.{after_quiesce_since, enter_refusal, exit_refusal};
-ghost use Rattle.rcu_live.specs.CpuSeat.{quiesce_refusal, wake_refusal};
+ghost use Rattle.rcu_live.specs.CpuSeat.{quiesce_refusal, renew_refusal, wake_refusal};
 ghost use Rattle.rcu_live.specs.Numbers.{idle_word};
 ghost use Rattle.rcu_c.specs.Answers.{number_for};
-ghost use Rattle.rcu_c.specs.Holding.{AcceptedAt, WatchedAt, cpu_of, never_done, on_cpu};
-ghost use Rattle.rcu_c.specs.Holding.{watcher_of};
+ghost use Rattle.rcu_c.specs.Holding.{AcceptedAt, RenewedAt, WatchedAt, cpu_of, never_done};
+ghost use Rattle.rcu_c.specs.Holding.{on_cpu, watcher_of};
 ghost use Rattle.rcu_c.specs.Refusals.{seat_number, seat_refusal};
 ghost use Rattle.rcu_c.specs.Staying.{BothStay};
 
@@ -162,6 +162,33 @@ pub extern "C" fn rcu_seat_quiesce_since_unfenced(seat: &mut RcuSeat, number: &m
 {
     match seat.seat() {
         Ok(seat) => write_out(seat.cpu.quiesce_since(&*seat.board), number),
+        Err(refusal) => refusal.number(),
+    }
+}
+
+/// Renews the open section: closes it, passes a quiescent state, and opens the next one, by two
+/// loads. For a thread that reads all the time: it keeps one section open, and makes this call
+/// between two looks at the data. What it read before, it uses no more. Writes the number of the
+/// quiescent state.
+///
+/// Where the number is the one of the seat's last quiescent state, wake or renewal, it stores
+/// nothing. `number` is as in `rcu_seat_quiesce_since`, and so are the order and the fence. The
+/// section that follows is one of those that "follow".
+///
+/// Faults: 2 where the processor is offline; 23 where it is idle; 5 where no section is open; 4
+/// where the open one nests.
+///
+/// Fence: behind where `number` changed.
+#[unsafe(no_mangle)]
+pub extern "C" fn rcu_seat_renew_unfenced(seat: &mut RcuSeat, number: &mut u64) -> u32
+    ensures fault { result ≡ seat_number seat.old.contents
+        (number_for (renew_refusal (cpu_of seat.old.contents))) }
+    ensures state { result ≡ 0 → RenewedAt seat.old.contents number.new seat.new.contents }
+    ensures unchanged { result ≢ 0 →
+        BothStay seat.old.contents seat.new.contents number.old number.new }
+{
+    match seat.seat() {
+        Ok(seat) => write_out(seat.cpu.renew(&*seat.board), number),
         Err(refusal) => refusal.number(),
     }
 }
