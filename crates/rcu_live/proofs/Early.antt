@@ -20,7 +20,8 @@ use Rattle.rcu_live.specs.EngineLists.{after_join, with_departure}
 use Rattle.rcu_live.specs.Numbers.{reports_quiescence}
 use Rattle.rcu_barrier.proofs.EachCallback.{at_set}
 use Rattle.rcu_live.specs.Runs.{Call, IsNew, after_call, engine_after}
-use Rattle.rcu_live.specs.Runs.{Begin, End, Turn, Drive, Collect, Join, Leave, Depart, Look, Queue}
+use Rattle.rcu_live.specs.Runs.{Begin, End, Turn, Drive, Collect, CollectAwaited, StartPoll, Join, Leave, Depart, Look}
+use Rattle.rcu_live.specs.Runs.{Queue}
 use Rattle.rcu_live.specs.Runs.{Tend, Run, BarrierBegin, Visit, BarrierTest}
 
 begun_is_more : (n : ℕ) (b : Bool) → number_at n b ≤ number_at n true
@@ -103,12 +104,14 @@ module _ {C X : Type 0} where
       let begun = grace_if (wants_begin (periods_of e.grace)) e.grace (after_begin e word) e (rises_begin e word) (risen e.grace) in
       grace_if e.grace.seq.running e.grace _ _ ended begun
 
+  rises_collections : (e : Locked C X) (word : ℕ → ℕ) → Rises e.grace (after_collections e word).grace
+  rises_collections e word = record { same = refl; epoch = refl; number = omega arith }
+
   rises_drive : (e : Locked C X) (is_wanted : Bool) (word : ℕ → ℕ) → Rises e.grace (after_drive e is_wanted word).grace
   rises_drive e is_wanted word =
       let now = moved_on e is_wanted word in
-      let collected : Rises e.grace (after_collections e word).grace = record { same = refl; epoch = refl; number = omega arith } in
       let begun = grace_if is_wanted e.grace (after_begin e word) e (rises_begin e word) (risen e.grace) in
-      let moved : Rises e.grace now.grace = grace_if e.grace.seq.running e.grace _ _ collected begun in
+      let moved : Rises e.grace now.grace = grace_if e.grace.seq.running e.grace _ _ (rises_collections e word) begun in
       grace_if (now.grace.seq.running && (awaited_in now.grace == 0)) e.grace (after_end now) now
       (risen_both e.grace now.grace (after_end now).grace moved (rises_end now)) moved
 
@@ -130,6 +133,8 @@ module _ {C X : Type 0} where
   step e (Turn word) a = later e.grace _ (rises_turn e word) a
   step e (Drive is_wanted word) a = later e.grace _ (rises_drive e is_wanted word) a
   step e (Collect cpu word) a = later e.grace _ (rises_collect e cpu word) a
+  step e (CollectAwaited word) a = later e.grace _ (rises_collections e word) a
+  step e StartPoll a = a
   step e (Join cpu) a = later e.grace _ (rises_join e cpu) a
   step e (Depart cpu word) a = later e.grace _ (rises_departure e.grace cpu) a
   step e (Look cpu word) a = a

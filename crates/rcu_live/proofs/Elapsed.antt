@@ -19,7 +19,8 @@ use Rattle.rcu_live.specs.Engine.{Locked, after_begin, after_collect, after_end,
 use Rattle.rcu_live.specs.EngineLists.{with_departure}
 use Rattle.rcu_live.specs.Numbers.{reports_quiescence}
 use Rattle.rcu_live.specs.Runs.{Call, IsRun, MayCall, after_call, engine_after, queued_as, turns_between, turns_since}
-use Rattle.rcu_live.specs.Runs.{Begin, End, Turn as Turns, Drive, Collect, Join, Leave, Depart, Look, Queue}
+use Rattle.rcu_live.specs.Runs.{Begin, End, Turn as Turns, Drive, Collect, CollectAwaited, StartPoll, Join, Leave, Depart, Look}
+use Rattle.rcu_live.specs.Runs.{Queue}
 use Rattle.rcu_live.specs.Runs.{Tend, Run, BarrierBegin, Visit, BarrierTest}
 
 -- the counter after an end
@@ -191,6 +192,8 @@ module _ {C X : Type 0} where
   moved e (Turns word) may = moved_turn e word
   moved e (Drive is_wanted word) may = moved_drive e is_wanted word
   moved e (Collect cpu word) may = moved_collect e cpu word
+  moved e (CollectAwaited word) may = Stays refl
+  moved e StartPoll may = Stays refl
   moved e (Join cpu) may =
       Stays (same_grace (is_in e.grace.processors.online cpu) e.grace.seq e.grace (with_call e.grace (Arrive cpu)) refl refl)
   moved e (Leave cpu word) may = Stays (departed e.grace cpu)
@@ -222,6 +225,10 @@ module _ {C X : Type 0} where
       elapsed handed.at _ _ _ (moved (engine_after first calls) (Drive is_wanted word) is.0) (since first calls j handed is.1 q)
   since first (Collect cpu word ∷ calls) j handed is q =
       elapsed handed.at _ _ _ (moved (engine_after first calls) (Collect cpu word) is.0) (since first calls j handed is.1 q)
+  since first (CollectAwaited word ∷ calls) j handed is q =
+      elapsed handed.at _ _ _ (moved (engine_after first calls) (CollectAwaited word) is.0) (since first calls j handed is.1 q)
+  since first (StartPoll ∷ calls) j handed is q =
+      elapsed handed.at _ _ _ (moved (engine_after first calls) StartPoll is.0) (since first calls j handed is.1 q)
   since first (Join cpu ∷ calls) j handed is q =
       elapsed handed.at _ _ _ (moved (engine_after first calls) (Join cpu) is.0) (since first calls j handed is.1 q)
   since first (Leave cpu word ∷ calls) j handed is q =

@@ -10,16 +10,17 @@ use Rattle.rcu_cblist.specs.SegList.{Item, after_entrain, after_renumber, take_a
 use Rattle.rcu_cblist.specs.declared.queued.Queued.{Queued}
 use Rattle.rcu_barrier.specs.Lists.{AllLists, at_first, barrier_left, barrier_test_answer, is_visited, list_of, lists_after_migrate}
 use Rattle.rcu_barrier.specs.declared.barrier_state.BarrierState.{BarrierState}
-use Rattle.rcu_core.specs.GpState.{Grace, after_current_report, awaited_in, periods_of, with_call}
+use Rattle.rcu_core.specs.GpState.{Grace, after_current_report, after_start_poll, awaited_in, periods_of, with_call}
 use Rattle.rcu_core.specs.Situation.{wants_begin}
 use Rattle.rcu_live.specs.Drive.{after_drive, after_collections, moved_on}
 use Rattle.rcu_live.specs.Engine.{Locked, after_begin, after_collect, after_end, after_turn}
-use Rattle.rcu_live.specs.EngineLists.{after_departure, after_join, after_load_own, with_departure}
+use Rattle.rcu_live.specs.EngineLists.{after_departure, after_join, after_load_own, on_grace, with_departure}
 use Rattle.rcu_live.specs.Numbers.{reports_quiescence}
 use Rattle.rcu_barrier.specs.Runs as lists
 use Rattle.rcu_barrier.specs.Runs.{copies}
 use Rattle.rcu_live.specs.Runs.{Call, IsNew, IsRun, MayCall, engine_after, queued_as, queued_before_barrier}
-use Rattle.rcu_live.specs.Runs.{times_handed_out, Begin, End, Turn, Drive, Collect, Join, Leave, Depart, Look, Queue}
+use Rattle.rcu_live.specs.Runs.{times_handed_out, Begin, End, Turn, Drive, Collect, CollectAwaited, StartPoll, Join, Leave, Depart, Look}
+use Rattle.rcu_live.specs.Runs.{Queue}
 use Rattle.rcu_live.specs.Runs.{Tend, Run, BarrierBegin, Visit, BarrierTest}
 
 module _ {X : Type 0} where
@@ -84,12 +85,14 @@ module _ {C X : Type 0} where
       let begun = kept_if (wants_begin (periods_of e.grace)) e (after_begin e word) e (kept_begin e word) (kept e) in
       kept_if e.grace.seq.running e _ _ ended begun
 
+  kept_collections : (e : Locked C X) (word : ℕ → ℕ) → Keeps e (after_collections e word)
+  kept_collections e word = record { same = refl; count = refl }
+
   kept_drive : (e : Locked C X) (is_wanted : Bool) (word : ℕ → ℕ) → Keeps e (after_drive e is_wanted word)
   kept_drive e is_wanted word =
       let now = moved_on e is_wanted word in
-      let collected : Keeps e (after_collections e word) = record { same = refl; count = refl } in
       let begun = kept_if is_wanted e (after_begin e word) e (kept_begin e word) (kept e) in
-      let moved : Keeps e now = kept_if e.grace.seq.running e _ _ collected begun in
+      let moved : Keeps e now = kept_if e.grace.seq.running e _ _ (kept_collections e word) begun in
       kept_if (now.grace.seq.running && (awaited_in now.grace == 0)) e (after_end now) now
       (kept_both e now (after_end now) moved (kept_end now)) moved
 
@@ -104,6 +107,9 @@ module _ {C X : Type 0} where
 
   kept_departure : (e : Locked C X) (cpu word : ℕ) → Keeps e (after_departure e cpu word)
   kept_departure e cpu word = record { same = departed e.grace cpu; count = refl }
+
+  kept_start_poll : (e : Locked C X) → Keeps e (on_grace (λ g. after_start_poll g) e)
+  kept_start_poll e = record { same = refl; count = refl }
 
   kept_look : (e : Locked C X) (cpu word : ℕ) → Keeps e (after_load_own e cpu word)
   kept_look e cpu word = record { same = refl; count = refl }
@@ -174,6 +180,9 @@ module _ {C X : Type 0} where
   step first (Drive is_wanted word) calls may o =
       let e = engine_after first calls in keep _ _ e _ _ _ _ (kept_drive e is_wanted word) o
   step first (Collect cpu word) calls may o = let e = engine_after first calls in keep _ _ e _ _ _ _ (kept_collect e cpu word) o
+  step first (CollectAwaited word) calls may o =
+      let e = engine_after first calls in keep _ _ e _ _ _ _ (kept_collections e word) o
+  step first StartPoll calls may o = let e = engine_after first calls in keep _ _ e _ _ _ _ (kept_start_poll e) o
   step first (Join cpu) calls may o = let e = engine_after first calls in keep _ _ e _ _ _ _ (kept_join e cpu) o
   step first (Depart cpu word) calls may o = let e = engine_after first calls in keep _ _ e _ _ _ _ (kept_departure e cpu word) o
   step first (Look cpu word) calls may o = let e = engine_after first calls in keep _ _ e _ _ _ _ (kept_look e cpu word) o

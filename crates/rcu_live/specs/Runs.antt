@@ -8,7 +8,7 @@ use Rattle.rcu_cblist.specs.declared.queued.Queued.{Queued}
 use Rattle.rcu_barrier.specs.Lists.{at_first, list_of}
 use Rattle.rcu_barrier.specs.Runs.{copies}
 use Rattle.rcu_core.specs.GpState as grace
-use Rattle.rcu_live.specs.Drive.{after_drive}
+use Rattle.rcu_live.specs.Drive.{after_collections, after_drive}
 use Rattle.rcu_live.specs.Engine.{Locked, after_begin, after_collect, after_end, after_turn}
 use Rattle.rcu_live.specs.EngineLists.{after_departure, after_join, after_leave, after_load_own, on_grace}
 
@@ -20,6 +20,8 @@ pub data Call (X : Type 0) : Type 0 where
   Turn : (ℕ → ℕ) → Call X
   Drive : Bool → (ℕ → ℕ) → Call X
   Collect : ℕ → ℕ → Call X
+  CollectAwaited : (ℕ → ℕ) → Call X
+  StartPoll : Call X
   Join : ℕ → Call X
   Leave : ℕ → ℕ → Call X
   Depart : ℕ → ℕ → Call X
@@ -39,6 +41,8 @@ module _ {C X : Type 0} where
   after_call e (Turn word) = after_turn e word
   after_call e (Drive is_wanted word) = after_drive e is_wanted word
   after_call e (Collect cpu word) = after_collect e cpu word
+  after_call e (CollectAwaited word) = after_collections e word
+  after_call e StartPoll = on_grace (λ g. grace.after_start_poll g) e
   after_call e (Join cpu) = after_join e cpu
   after_call e (Leave cpu word) = after_leave e cpu word
   after_call e (Depart cpu word) = after_departure e cpu word
@@ -51,10 +55,11 @@ module _ {C X : Type 0} where
   after_call e BarrierTest = on_grace (λ g. grace.after_barrier_test g) e
 
   -- where it is accepted, this holds: a callback's call names a processor; a leave is of another than processor 0; no
-  -- grace period and no barrier begins while one runs, and what ends or tests one is of one that runs
+  -- grace period and no barrier begins while one runs, and what ends, tests or collects is of one that runs
   abbrev pub MayCall : Locked C X → Call X → Type 0
   MayCall e (Begin word) = e.grace.seq.running ≡ false
   MayCall e End = e.grace.seq.running ≡ true
+  MayCall e (CollectAwaited word) = e.grace.seq.running ≡ true
   MayCall e (Leave cpu word) = (0 < cpu) × (cpu < e.cpus)
   MayCall e (Queue cpu value) = cpu < e.cpus
   MayCall e (Tend cpu) = cpu < e.cpus

@@ -37,7 +37,7 @@ impl<A: Awaited, T: Drop, P: Client> Engine<A, T, P> {
     /// them, and a test of its flag for any other one.
     pub fn collect_awaited(&mut self)
         requires { self.old.grace.seq.running ≡ true }
-        ensures { self.new ≡ after_collections self.old (latest_words self.new) }
+        ensures { Makes (Call.CollectAwaited (latest_words self.new)) self.old self.new }
     {
         for cpu in 0..self.grace().cpus() {
             if self.awaits(cpu) {
@@ -50,7 +50,7 @@ impl<A: Awaited, T: Drop, P: Client> Engine<A, T, P> {
     /// `start_poll_synchronize_rcu`): where none runs, the next step of driving or turn begins one.
     pub fn start_poll(&mut self) -> Cookie
         ensures cookie { result ≡ cookie_of self.old.grace.seq }
-        ensures state { self.new ≡ on_grace (λ g. grace.after_start_poll g) self.old }
+        ensures made { Makes Call.StartPoll self.old self.new }
     {
         self.gp.start_poll()
     }

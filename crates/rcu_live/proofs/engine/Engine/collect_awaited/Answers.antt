@@ -30,7 +30,10 @@ returns g c =
     let e = c.args.self.now in
     let n = c.loop-cpu.cpu in
     let flags = ap (λ (y : Grace g.row.T.Denot). length y.processors.awaited) c.grace.ensures.value in
-    all_collected e c.loop-cpu.self n
-    (omega (arith, c.loop-cpu-test.false, flags, c.cpus-cpu-end.ensures.value, c.loop-cpu.auto.cpu-end))
-    (omega (arith, c.loop-cpu-test.false, c.grace.ensures.cpus, c.cpus-cpu-end.ensures.value, c.loop-cpu.auto.cpu-end))
-    c.loop-cpu.invariant.0
+    record {
+      may = c.requires;
+      left = all_collected e c.loop-cpu.self n
+          (omega (arith, c.loop-cpu-test.false, flags, c.cpus-cpu-end.ensures.value, c.loop-cpu.auto.cpu-end))
+          (omega (arith, c.loop-cpu-test.false, c.grace.ensures.cpus, c.cpus-cpu-end.ensures.value, c.loop-cpu.auto.cpu-end))
+          c.loop-cpu.invariant.0;
+    }
