@@ -5,6 +5,7 @@ ghost use Rattle.atomic_table.specs.Seated.{TableId};
 ghost use Rattle.rcu_seq.specs.Numbers.{Number};
 ghost use Rattle.rcu_seq.specs.Seq.{cookie_of, has_full_period, number_of, tag_of};
 ghost use Rattle.rcu_seq.specs.Tags.{is_done_first};
+ghost use Rattle.rcu_seq.specs.declared.cookie.Cookie.{Cookie};
 ghost use Rattle.rcu_cblist.specs.SegList.{take_answer};
 ghost use Rattle.rcu_cblist.specs.declared.queued.Queued.{Queued};
 ghost use Rattle.rcu_barrier.specs.Lists.{barrier_test_answer, list_of};
@@ -13,6 +14,7 @@ ghost use Rattle.rcu_barrier.specs.declared.barrier_state.BarrierState.{BarrierS
 ghost use Rattle.rcu_core.specs.GpState as grace;
 ghost use Rattle.rcu_core.specs.GpState.{Grace, awaited_in};
 ghost use Rattle.rcu_live.specs.CpuSeat.{Seated};
+ghost use Rattle.rcu_live.specs.Drive.{after_drive, moved_on, wants_begin, wants_for};
 ghost use Rattle.rcu_live.specs.Engine as live;
 ghost use Rattle.rcu_live.specs.Engine.{HasWaited, Locked, cpu_refusal};
 ghost use Rattle.rcu_live.specs.EngineLists as lists;
@@ -123,7 +125,8 @@ pub fn sections_end_before_what_waits_for_them()
 
 /// Each call that changes an engine, and returns 0, is a step of a run of it: what its clause
 /// `state` says is what the step leaves, and what its faults say is why the step may be made. A
-/// departure that returns 2 or 16 is one, too. An engine is new as it is opened.
+/// departure that returns 2 or 16 is one, too. Collecting from all is none where no grace period
+/// runs: it changes nothing then. An engine is new as it is opened.
 pub fn calls_are_steps_of_a_run()
     ensures new { (identity : Identity) (table : TableId) (cpus last : ℕ) →
         IsNew (opened_at_first identity table cpus last).engine }
@@ -138,6 +141,17 @@ pub fn calls_are_steps_of_a_run()
         (engine_of rcu) (engine_of (on_engine (λ e. live.after_turn e word) rcu)) }
     ensures collect { (rcu : Option Contents) (cpu word : ℕ) → Makes (Call.Collect cpu word)
         (engine_of rcu) (engine_of (on_engine (λ e. live.after_collect e cpu word) rcu)) }
+    ensures collect_all { (rcu : Option Contents) (word : ℕ → ℕ) →
+        (grace_of rcu).seq.running ≡ true → Makes (Call.CollectAwaited word) (engine_of rcu)
+        (engine_of (on_engine (λ e. moved_on e false word) rcu)) }
+    ensures drive { (rcu : Option Contents) (word : ℕ → ℕ) →
+        Makes (Call.Drive (wants_begin (grace_of rcu)) word) (engine_of rcu)
+        (engine_of (on_engine (λ e. after_drive e (wants_begin e.grace) word) rcu)) }
+    ensures drive_for { (rcu : Option Contents) (cookie : Cookie) (word : ℕ → ℕ) →
+        Makes (Call.Drive (wants_for cookie (grace_of rcu)) word) (engine_of rcu)
+        (engine_of (on_engine (λ e. after_drive e (wants_for cookie e.grace) word) rcu)) }
+    ensures start_poll { (rcu : Option Contents) → Makes Call.StartPoll (engine_of rcu)
+        (engine_of (on_grace (λ g. grace.after_start_poll g) rcu)) }
     ensures arrive { (rcu : Option Contents) (cpu : ℕ) → Makes (Call.Join cpu) (engine_of rcu)
         (engine_of (on_grace (λ g. lists.with_arrival g cpu) rcu)) }
     ensures depart { (rcu seat : Option Contents) (word : ℕ) → going_refusal rcu seat ≡ None →
