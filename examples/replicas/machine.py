@@ -1,8 +1,8 @@
 """One machine of a cluster: a replica of the grace-period engine that hears the others over Redis.
 
 This driver is outside of the proved part. The program `rcu pair` keeps the replicas, and is proved;
-what stands here is trusted, and tested by tools/replicas. docs/CLUSTER.md tells how it works;
-talk.py runs a machine by lines that are typed.
+what stands here is trusted, and tested by tests/run. docs/CLUSTER.md tells how it works; talk.py
+runs a machine by lines that are typed.
 """
 import os
 import subprocess

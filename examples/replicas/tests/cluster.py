@@ -1,6 +1,6 @@
-"""The cluster of tools/replicas: three machines of examples/replicas over a Redis of its own.
+"""The cluster of the tests: three machines of examples/replicas over a Redis of its own.
 
-tools/replicas runs it. With --machine it is one of the machines. It needs redis-server and
+The command `run` beside it runs it. With --machine it is one of the machines. It needs redis-server and
 python3-redis.
 """
 import argparse
@@ -15,8 +15,9 @@ import time
 import redis
 
 sys.dont_write_bytecode = True
-ROOT = os.path.dirname(os.path.dirname(os.path.realpath(__file__)))
-sys.path.insert(0, f"{ROOT}/examples/replicas")
+HERE = os.path.dirname(os.path.realpath(__file__))
+ROOT = os.path.dirname(os.path.dirname(os.path.dirname(HERE)))
+sys.path.insert(0, os.path.dirname(HERE))
 from machine import BEGINS, Machine, Pair, Refused
 
 CPUS = 64

@@ -1,4 +1,4 @@
-"""The simulation of tools/replicas: many machines in one process, with drawn deliveries.
+"""The simulation: many machines in one process, with drawn deliveries.
 
 Each machine has a replica (replica_model) and some processors. Messages get lost, come twice, and
 come in another order, some of them long after; so they are sent again until an answer makes that
@@ -7,7 +7,7 @@ needless. Readers open and close sections all the time.
 import heapq
 import random
 
-from replica_model import Replica, bits, members
+from model import Replica, bits, members
 
 EACH = 4                # processors of a machine
 LOST, TWICE, LATE = 0.1, 0.1, 0.02  # shares of messages

@@ -1,4 +1,4 @@
-"""A model of a replica, for the simulation of tools/replicas, and its comparison with `rcu pair`.
+"""A model of a replica, for the simulation, and its comparison with `rcu pair`.
 
 A set of processors is an int, whose bit C stands for processor C.
 """
