@@ -1,7 +1,7 @@
 """The cluster of the tests: three machines of examples/replicas over a Redis of its own.
 
-The command `run` beside it runs it. With --machine it is one of the machines. It needs redis-server and
-python3-redis.
+The command `run` beside it runs it. With --machine it is one of the machines. It needs redis-server
+and python3-redis.
 """
 import argparse
 import itertools
