@@ -137,6 +137,14 @@ enum rcu_visited {
     RCU_VISIT_ALREADY = 2 /* the barrier had visited the processor already */
 };
 
+/* What a turn did. */
+enum rcu_turned {
+    RCU_TURN_NOTHING = 0, /* no grace period runs, and none is needed */
+    RCU_TURN_BEGUN = 1,   /* a grace period of this number began, and awaits this many processors */
+    RCU_TURN_ENDED = 2,   /* the grace period ended, and this is the number now */
+    RCU_TURN_WAITING = 3  /* the grace period goes on, and awaits this many processors */
+};
+
 /* An engine's handle, which lies under a lock of the caller's. Handles may pass between threads. */
 typedef struct rcu {
     unsigned char *at;

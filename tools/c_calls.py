@@ -10,6 +10,8 @@ PLAIN = {"u8": "unsigned char", "u32": "uint32_t", "u64": "uint64_t", "usize": "
          "i32": "int", "bool": "bool"}
 UNFENCED = "_unfenced"
 REFUSALS = "crates/rcu_c/src/refusal.rt"
+# A function that gives each value of an enum its number in C.
+ENUM = r"((?:///.*\n)+)(?:pub\(crate\) )?fn (\w+)\(\w+: (\w+)\)"
 
 
 def place_in(header, words):
@@ -64,8 +66,8 @@ class Library:
 
     def enums_in(self, code):
         """Each enum of C: its name, its words, and the number and words of each of its values."""
-        for doc, name, kind in re.findall(r"((?:///.*\n)+)fn (\w+)\(\w+: (\w+)\)", code):
-            body = body_of(rf"fn {name}", code)
+        for doc, name, kind in re.findall(ENUM, code):
+            body = body_of(rf"(?:pub\(crate\) )?fn {name}", code)
             said = re.search(r"`(rcu_\w+)`, as `(RCU_\w+)`", words_of(doc))
             arms = re.findall(rf"{kind}::(\w+)(?:\(.*?\))? => \(?(\d+)", body)
             if said:

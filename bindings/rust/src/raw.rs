@@ -109,6 +109,16 @@ pub const RCU_VISIT_EMPTY: u32 = 1;
 /// The barrier had visited the processor already.
 pub const RCU_VISIT_ALREADY: u32 = 2;
 
+// What a turn did.
+/// No grace period runs, and none is needed.
+pub const RCU_TURN_NOTHING: u32 = 0;
+/// A grace period of this number began, and awaits this many processors.
+pub const RCU_TURN_BEGUN: u32 = 1;
+/// The grace period ended, and this is the number now.
+pub const RCU_TURN_ENDED: u32 = 2;
+/// The grace period goes on, and awaits this many processors.
+pub const RCU_TURN_WAITING: u32 = 3;
+
 // <<<
 
 /// Opens an engine as [`rcu_open_as`], under an identity that no other engine of the process has.
