@@ -1,9 +1,10 @@
 """The lists of docs/API.md, for tools/write_calls: of each public call of the crates that the mark
 of a list names what it does in a few words, and its faults; and the names of the calls for C.
 
-The words are the first sentence of the doc comment, up to its first colon. Of questions, which take
-nothing and have no fault, the names stand alone. Laws are left out, and the modules that the page's
-last section names.
+The words are the first sentence of the doc comment, up to its first colon. The names alone stand of
+questions, which take nothing and have no fault, and of calls whose doc comment names the call of
+another type that does the same. Laws are left out, and the modules that the page's last section
+names.
 """
 import os
 import re
@@ -68,15 +69,30 @@ def filled(text):
     return textwrap.fill(text, WIDTH, subsequent_indent="  ", break_on_hyphens=False) + "\n"
 
 
+def faults(call):
+    return re.findall(r"Faults?: ([\d, ]+)\.", said(call))
+
+
+def like(call, own):
+    """The type in the list whose call of that name does the same, as the first sentence says."""
+    found = re.search(r", as `(\w+)::(\w+)`", said(call))
+    same = [it for it in own if found and name_of(it) == f"{found[1]}::{call.name}"]
+    return found[1] if same and found[2] == call.name and faults(same[0]) == faults(call) else None
+
+
 def rows(own):
     """The list of these calls, type by type."""
     for kind in dict.fromkeys(it.within for it in own):
-        of_kind = [it for it in own if it.within == kind]
-        asked = [it for it in of_kind if kind and is_question(it)]
-        yield from (filled(f"- `{name_of(it)}`:{said(it)}") for it in of_kind if it not in asked)
-        if asked:
-            names = ", ".join(f"`{it.name}`" for it in asked)
-            yield filled(f"- Questions of `{kind.split()[-1]}`: {names}.")
+        alike = {}
+        for call in (it for it in own if it.within == kind):
+            of = "which tell what they name" if kind and is_question(call) else like(call, own)
+            if of:
+                alike.setdefault(of, []).append(f"`{call.name}`")
+            else:
+                yield filled(f"- `{name_of(call)}`:{said(call)}")
+        for of, names in alike.items():
+            what = of if " " in of else f"as those of `{of}`"
+            yield filled(f"- `{kind.split()[-1]}`, {what}: {', '.join(names)}.")
 
 
 def of_c(library):
