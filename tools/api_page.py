@@ -52,7 +52,8 @@ def is_question(call):
 
 
 def said(call):
-    """The first sentence of a doc comment up to its first colon, and the numbers of its faults."""
+    """The numbers of a call's faults, and the first sentence of its doc comment up to its first
+    colon."""
     texts = [re.sub(r"\[(`[^`]*`)\](?:\([^)]*\))?", r"\1", it) for it in call.paragraphs]
     first = re.split(r"(?<=\.) (?=[A-Z`(])", texts[0])[0] if texts else ""
     first = re.sub(r" \((?:Linux|liburcu|what crossbeam)[^)]*\)", "", first)
@@ -61,8 +62,8 @@ def said(call):
     for text in texts:
         if re.match(r"Faults?\b", text):
             numbers = re.findall(r"\((\d+)\)", text)
-            first += f" Fault{'s' * (len(numbers) > 1)}: {', '.join(numbers)}."
-    return first
+            first = f" ({', '.join(numbers)}):{first}"
+    return first if first.startswith(" (") else f":{first}"
 
 
 def filled(text):
@@ -70,7 +71,7 @@ def filled(text):
 
 
 def faults(call):
-    return re.findall(r"Faults?: ([\d, ]+)\.", said(call))
+    return re.match(r"[^:]*", said(call))[0]
 
 
 def like(call, own):
@@ -89,7 +90,7 @@ def rows(own):
             if of:
                 alike.setdefault(of, []).append(f"`{call.name}`")
             else:
-                yield filled(f"- `{name_of(call)}`:{said(call)}")
+                yield filled(f"- `{name_of(call)}`{said(call)}")
         for of, names in alike.items():
             what = of if " " in of else f"as those of `{of}`"
             yield filled(f"- `{kind.split()[-1]}`, {what}: {', '.join(names)}.")
