@@ -39,8 +39,6 @@ def names_of_c():
         for name in set(C_CALL.findall(text)):
             if not name.endswith("_unfenced") and name != "rcu_fence":
                 yield name, f"../{path}"
-        for name in re.findall(r"(?m)^ +(RCU_\w+) = \d", text):
-            yield name, f"../{path}"
 
 
 def names_of_rattle():
@@ -73,7 +71,7 @@ def written():
     """The page as it should be."""
     above = links.read(links.INDEX).partition(MARK)[0]
     text, places = f"{above}{MARK}\n", {}
-    for title, rows in (("Calls and faults of C", names_of_c()), ("Laws", laws()),
+    for title, rows in (("Calls of C", names_of_c()), ("Laws", laws()),
                         ("Calls and types of Rattle", names_of_rattle()), ("Faults", faults())):
         if title != "Faults":
             rows = sorted(set(rows), key=lambda it: (it[0].lower(), it))
