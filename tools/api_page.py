@@ -1,9 +1,10 @@
-"""The blocks of docs/API.md, for tools/write_calls: of each public call of the crates that a
-heading names the first sentence of its doc comment, its faults and its signature; and the list for
-C.
+"""The lists of docs/API.md, for tools/write_calls: of each public call of the crates that the mark
+of a list names what it does in a few words, and its faults; and the names of the calls for C.
 
-Laws are left out, and the modules that the page's last section names. What the page has keeps its
-place among the types and calls of its block; what is new comes last.
+The words are the first sentence of the doc comment, up to its first colon. The names alone stand of
+questions, which take nothing and have no fault, and of calls whose doc comment names the call of
+another type that does the same. Laws are left out, and the modules that the page's last section
+names.
 """
 import os
 import re
@@ -15,12 +16,13 @@ import doc_comments as source
 PAGE = "docs/API.md"
 UNLISTED = "## Not listed"
 WIDTH = 100
+LIST = re.compile(r"(?ms)(^<!-- >>> ((?:rcu_\w+ ?)+): [^\n]*\n).*?(^<!-- <<<)")
 
 
-def unlisted(page):
+def unlisted():
     """The modules of each crate that the page leaves out."""
-    rows = [re.findall(r"`(\w+)`", it) for it in page.split(UNLISTED)[1].splitlines()
-            if it.startswith("- ")]
+    rows = [re.findall(r"`(\w+)`", it) for it in
+            source.read(PAGE).split(UNLISTED)[1].splitlines() if it.startswith("- ")]
     return {row[0]: row[1:] for row in rows}
 
 
@@ -32,77 +34,78 @@ def listed(crate, without):
             yield from source.calls_in(path, source.read(path))
 
 
+def lists(page):
+    """The mark of each list of the page, or of a part of it, with the calls that the list has."""
+    without = unlisted()
+    for found in LIST.finditer(page):
+        yield found, [it for crate in found[2].split()
+                      for it in listed(crate, without.get(crate, ()))]
+
+
+def name_of(call):
+    return f"{call.within.split()[-1]}::{call.name}" if call.within else call.name
+
+
+def is_question(call):
+    return call.parts()[1] in (["&self"], ["self"]) and call.result() in (
+        "bool", "u32", "u64", "usize", "&A", "Cookie", "Tag")
+
+
 def said(call):
-    """The first sentence of a doc comment, and the numbers of its faults."""
+    """The numbers of a call's faults, and the first sentence of its doc comment up to its first
+    colon."""
     texts = [re.sub(r"\[(`[^`]*`)\](?:\([^)]*\))?", r"\1", it) for it in call.paragraphs]
     first = re.split(r"(?<=\.) (?=[A-Z`(])", texts[0])[0] if texts else ""
     first = re.sub(r" \((?:Linux|liburcu|what crossbeam)[^)]*\)", "", first)
+    first = re.split(r": |, so that ", first)[0].rstrip(".")
+    first = f" {first}." if first else ""
     for text in texts:
         if re.match(r"Faults?\b", text):
             numbers = re.findall(r"\((\d+)\)", text)
-            first += f" Fault{'s' * (len(numbers) > 1)}: {', '.join(numbers)}."
-    return first
+            first = f" ({', '.join(numbers)}):{first}"
+    return first if first.startswith(" (") else f":{first}"
 
 
-def filled(call, indent):
-    """A signature, over several lines where it is too long for one."""
-    start, parameters, rest = call.parts()
-    rows = [f"{indent}{start}({', '.join(parameters)}){rest};"]
-    if len(rows[0]) > WIDTH:
-        rows = [f"{indent}{start}(", indent + "   "]
-        for it in parameters:
-            if len(f"{rows[-1]} {it},") > WIDTH:
-                rows.append(indent + "   ")
-            rows[-1] += f" {it},"
-        rows.append(f"{indent}){rest};")
-    return rows
+def filled(text):
+    return textwrap.fill(text, WIDTH, subsequent_indent="  ", break_on_hyphens=False) + "\n"
 
 
-def told(call, indent):
-    rows = textwrap.wrap(said(call), WIDTH - len(indent) - 3, break_on_hyphens=False)
-    return [*(f"{indent}// {it}" for it in rows), *filled(call, indent)]
+def faults(call):
+    return re.match(r"[^:]*", said(call))[0]
 
 
-def block(calls, before):
-    """The block of these calls, in the order of the block that stood before."""
-    def place(pattern, text):
-        found = re.search(pattern, text, re.MULTILINE)
-        return found.start() if found else len(text)
+def like(call, own):
+    """The type in the list whose call of that name does the same, as the first sentence says."""
+    found = re.search(r", as `(\w+)::(\w+)`", said(call))
+    same = [it for it in own if found and name_of(it) == f"{found[1]}::{call.name}"]
+    return found[1] if same and found[2] == call.name and faults(same[0]) == faults(call) else None
 
-    kinds, rows = list(dict.fromkeys(it.within for it in calls)), []
-    parts = {kind: re.search(rf"(?ms)^(?:impl|trait) {kind}\b.*?^}}", before) for kind in kinds}
-    found = []
-    for kind in kinds:
-        own = [it for it in calls if it.within == kind]
-        text = parts[kind][0] if kind and parts[kind] else before
-        indent = "    " if kind else ""
-        own.sort(key=lambda it: place(rf"^{indent}fn {it.name}\b", text))
-        if kind:
-            rows = [f"{own[0].block} {{", *(row for it in own for row in told(it, indent)), "}"]
-            found.append((place(rf"^(?:impl|trait) {kind}\b", before), rows))
-        else:
-            found += [(place(rf"^fn {it.name}\b", before), told(it, "")) for it in own]
-    return "".join(f"{row}\n" for _, rows in sorted(found, key=lambda it: it[0]) for row in rows)
+
+def rows(own):
+    """The list of these calls, type by type."""
+    for kind in dict.fromkeys(it.within for it in own):
+        alike = {}
+        for call in (it for it in own if it.within == kind):
+            of = "which tell what they name" if kind and is_question(call) else like(call, own)
+            if of:
+                alike.setdefault(of, []).append(f"`{call.name}`")
+            else:
+                yield filled(f"- `{name_of(call)}`{said(call)}")
+        for of, names in alike.items():
+            what = of if " " in of else f"as those of `{of}`"
+            yield filled(f"- `{kind.split()[-1]}`, {what}: {', '.join(names)}.")
 
 
 def of_c(library):
-    """The list of the calls for C: what each does in a few words, and its faults."""
-    for call in library.calls():
-        name, faults = call.name.removesuffix(c_calls.UNFENCED), c_calls.faults_of(call)
-        text = f"- `{name}`: {c_calls.about(call.paragraphs)}."
-        text = re.sub(r"(?<=[ (])(rcu_\w+)", r"`\1`", text)
-        if faults:
-            text += f" Fault{'s' * (len(faults) > 1)}: {', '.join(map(str, faults))}."
-        yield textwrap.fill(text, WIDTH, subsequent_indent="  ", break_on_hyphens=False) + "\n"
+    """The names of the calls for C."""
+    names = [it.name.removesuffix(c_calls.UNFENCED) for it in library.calls()]
+    yield textwrap.fill(", ".join(f"`{it}`" for it in names) + ".", WIDTH) + "\n"
 
 
 def written(page):
-    """The page with its blocks written anew."""
-    without, parts = unlisted(page), re.split(r"(?m)^(?=## )", page)
-    for at, part in enumerate(parts):
-        crates = re.findall(r"`(rcu_\w+)`", part.splitlines()[0])
-        blocks = re.findall(r"(?ms)^```rust\n(.*?)^```", part)
-        if crates and blocks:
-            calls = [it for crate in crates for it in listed(crate, without.get(crate, ()))]
-            parts[at] = part.replace(blocks[0], block(calls, blocks[0]))
-    return "".join(parts)
+    """The page with its lists written anew."""
+    text, at = "", 0
+    for found, own in lists(page):
+        text += f"{page[at : found.end(1)]}\n{''.join(rows(own))}\n"
+        at = found.start(3)
+    return text + page[at:]

@@ -14,8 +14,8 @@ import sys
 import textwrap
 
 sys.dont_write_bytecode = True
+import api_page
 import links
-import signatures
 
 MARK = "<!-- What follows is written by tools/index.py. -->"
 C_CALL = re.compile(r"(?m)^(?:static inline )?[\w ]+?\*?\b(rcu_\w+)\([^;{]*[;{]")
@@ -39,20 +39,15 @@ def names_of_c():
         for name in set(C_CALL.findall(text)):
             if not name.endswith("_unfenced") and name != "rcu_fence":
                 yield name, f"../{path}"
-        for name in re.findall(r"(?m)^ +(RCU_\w+) = \d", text):
-            yield name, f"../{path}"
 
 
 def names_of_rattle():
-    for place, part in parts(signatures.PAGE):
-        blocks = "\n".join(re.findall(r"(?ms)^```rust\n(.*?)^```", part))
-        for within, told in signatures.functions(re.sub(r"(?m)//.*$", "", blocks), True):
-            name = re.search(r"fn (\w+)", told)[1]
-            yield (f"{within}::{name}" if within else name), place
-            if within:
-                yield within, place
-        for crate in re.findall(r"`(rcu_\w+)`", part.partition("\n")[0]):
-            for name in re.findall(r"(?m)^pub (?:struct|enum|trait) (\w+)", code_of(crate)):
+    for place, part in parts(api_page.PAGE):
+        for found, calls in api_page.lists(part):
+            for call in calls:
+                yield api_page.name_of(call), place
+            for name in re.findall(r"(?m)^pub (?:struct|enum|trait) (\w+)",
+                                   "".join(code_of(it) for it in found[2].split())):
                 if re.search(rf"\b{name}\b", part):
                     yield name, place
 
@@ -76,7 +71,7 @@ def written():
     """The page as it should be."""
     above = links.read(links.INDEX).partition(MARK)[0]
     text, places = f"{above}{MARK}\n", {}
-    for title, rows in (("Calls and faults of C", names_of_c()), ("Laws", laws()),
+    for title, rows in (("Calls of C", names_of_c()), ("Laws", laws()),
                         ("Calls and types of Rattle", names_of_rattle()), ("Faults", faults())):
         if title != "Faults":
             rows = sorted(set(rows), key=lambda it: (it[0].lower(), it))
