@@ -62,18 +62,17 @@ def fetch(folder):
         run(["apt-get", "-q", *words], cwd=folder, env=environment)
 
 
-def source():
-    """The folder of liburcu's source, or None where it is not here and cannot be fetched."""
+def source(into):
+    """The folder of liburcu's source, laid there, or None where it is not to be had."""
     folder = f"{BINDING}/out/liburcu"
     os.makedirs(folder, exist_ok=True)
     if not is_whole(f"{folder}/{ARCHIVE}"):
         fetch(folder)
     if not is_whole(f"{folder}/{ARCHIVE}"):
         return None
-    if not glob.glob(f"{folder}/userspace-rcu-*/tests"):
-        with tarfile.open(f"{folder}/{ARCHIVE}") as archive:
-            archive.extractall(folder)
-    return glob.glob(f"{folder}/userspace-rcu-*")[0]
+    with tarfile.open(f"{folder}/{ARCHIVE}") as archive:
+        archive.extractall(into)
+    return glob.glob(f"{into}/userspace-rcu-*")[0]
 
 
 class Builds:
@@ -131,7 +130,7 @@ def torture(is_long):
 
 def outcomes(out, pool, is_long=False):
     """What each test said. Where the package is not here, a line says so, and there is none."""
-    folder = source()
+    folder = source(f"{out}/liburcu")
     if folder is None:
         print("run: liburcu's source package is not here and could not be fetched, "
               "so none of its own tests was run")
