@@ -1,8 +1,9 @@
 //! All processors' lists of callbacks, and the barrier over them.
 ghost use Rattle.std.specs.Prelude.{◌≡◌, ◌≢◌, ◌+◌, ◌<◌, ◌≤◌, ◌^◌, ◌%◌};
 ghost use Rattle.std.specs.Prelude.{[], true, false, IsOk, IfOk, IfErr, OnOk, OnErr, length};
-ghost use Rattle.rcu_cblist.specs.SegList.{IsAtMost, behind, callbacks, front, greatest, is_empty};
-ghost use Rattle.rcu_cblist.specs.SegList.{numbers, take_answer};
+ghost use Rattle.std.specs.Prelude.{slice_get};
+ghost use Rattle.rcu_cblist.specs.SegList.{IsAtMost, begins_with_marker, behind, callbacks, front};
+ghost use Rattle.rcu_cblist.specs.SegList.{greatest, is_empty, numbers, take_answer};
 ghost use Rattle.rcu_seq.specs.Numbers.{snapshot};
 ghost use Rattle.rcu_barrier.specs.Tending.{after_tend};
 ghost use Rattle.rcu_barrier.specs.Lists.{HasRoomIn, IsSound, KeepsOtherRooms, at_first};
@@ -207,6 +208,28 @@ impl<T: Drop> Lists<T> {
         let Taken { calls, markers } = list.take_done(max)?;
         self.markers -= markers;
         Ok(calls)
+    }
+
+    /// How many callbacks the processor's done part has. Its list never begins with a marker.
+    pub fn done_count(&self, cpu: u32) -> u64
+        requires { cpu < cpus_of self.now.all }
+        ensures count { result ≡ length (callbacks (front (list_of self.now.all cpu))) }
+        ensures first { begins_with_marker (list_of self.now.all cpu) ≡ false }
+    {
+        self.lists[cpu as usize].done_count()
+    }
+
+    /// Takes the first callback of a processor's done part, as [`Lists::run`] of one, and costs as
+    /// that, but no memory.
+    pub fn pop_done(&mut self, cpu: u32) -> Option<Queued<T>>
+        requires { cpu < cpus_of self.old.all }
+        ensures call { result ≡ slice_get (take_answer (list_of self.old.all cpu) 1) 0 }
+        ensures state { self.new.all ≡ lists_after_run self.old.all cpu 1 }
+        ensures rooms { self.new.rooms ≡ self.old.rooms }
+    {
+        let (call, passed) = self.lists[cpu as usize].pop_done()?;
+        self.markers -= passed;
+        Some(call)
     }
 
     /// Moves the list of another processor than 0 to processor 0's (Linux's

@@ -6,3 +6,4 @@ pub mod Views
 pub mod Marking
 pub mod Taking
 pub mod Carrying
+pub mod Popping

@@ -17,7 +17,7 @@ use Rattle.rcu_cblist.specs.Segments.{AreSegments, AreTails, IsCut, IsTail, betw
 use Rattle.rcu_cblist.proofs.Cuts.{Cuts, calls_joined, calls_some, first_joined, joins, rest_of, seen_at, segments_at}
 use Rattle.rcu_cblist.proofs.Cuts.{whole}
 use Rattle.rcu_cblist.proofs.Lists.{callbacks_from, callbacks_remarked, untaken_least}
-use Rattle.rcu_cblist.proofs.SegListLemmas.{first_from, markers_remarked}
+use Rattle.rcu_cblist.proofs.SegListLemmas.{first_from, first_remarked, markers_remarked}
 use Rattle.rcu_cblist.proofs.Views.{front_joined, marked_remarked, stripped}
 
 module _ {X : Type 0} where
@@ -113,6 +113,16 @@ module _ {X : Type 0} where
         (first_joined (between done.items wait.items xs) (between wait.items ready.items xs ++ drop ready.items xs)
         k.segments.wait_first
         (first_joined (between wait.items ready.items xs) (drop ready.items xs) k.segments.ready_first k.segments.next_first))
+
+    -- nor does the whole
+    pub kept_first : begins_with_marker (unmarked xs) ≡ false
+    kept_first =
+        subst (λ l. begins_with_marker (unmarked l) ≡ false) (take-append-drop done.items xs)
+        (first_joined (take done.items xs) (drop done.items xs) k.segments.done_first rest_first)
+
+    -- as it is seen
+    pub now_first : begins_with_marker now ≡ false
+    now_first = sym (first_remarked (λ _. Unmarked) now) ∙ (ap begins_with_marker now_stripped ∙ kept_first)
 
     -- once so many callbacks of the done part and the markers before the next one are gone
     module _ (most gone : ℕ) (ys : List (Kept X)) (few : most ≤ done.calls) (rest : ys ≡ drop gone xs)

@@ -31,3 +31,12 @@ pub fn take_and_rest_are_the_list<T: Drop>()
     ensures markers { (most : ℕ) (xs : List (Item T))
         → markers_passed xs most + markers (after_take xs most) ≡ markers xs }
 {}
+
+/// Two takes one after another hand out what one of both numbers together would, in its order, and
+/// leave what that leaves. So callbacks that are taken one at a time are those of one take.
+pub fn takes_add_up<T: Drop>()
+    ensures calls { (a b : ℕ) (xs : List (Item T))
+        → take_answer xs (a + b) ≡ take_answer xs a ++ take_answer (after_take xs a) b }
+    ensures left { (a b : ℕ) (xs : List (Item T))
+        → after_take xs (a + b) ≡ after_take (after_take xs a) b }
+{}

@@ -3,6 +3,7 @@
 
 mod kept;
 pub mod laws;
+pub mod pop;
 pub mod queued;
 pub mod refused;
 pub mod seg_list;

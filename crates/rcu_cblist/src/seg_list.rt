@@ -241,9 +241,10 @@ impl<T: Drop> SegList<T> {
         self.segments.calls
     }
 
-    /// How many callbacks the done part has.
+    /// How many callbacks the done part has. The list never begins with a marker.
     pub fn done_count(&self) -> u64
-        ensures { result ≡ length (callbacks (front self.now.items)) }
+        ensures count { result ≡ length (callbacks (front self.now.items)) }
+        ensures first { begins_with_marker self.now.items ≡ false }
     {
         self.segments.done.calls
     }

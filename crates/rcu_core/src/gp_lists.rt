@@ -1,9 +1,11 @@
 //! The callbacks of the state, and the barrier over them.
 ghost use Rattle.std.specs.Prelude.{◌≡◌, ◌≢◌, ◌<◌, ◌≤◌, ◌==◌, ◌^◌, if◌then◌else◌, All, [], true};
-ghost use Rattle.std.specs.Prelude.{false, length, IfErr, IfOk, IsOk, OnErr, OnOk};
+ghost use Rattle.std.specs.Prelude.{false, length, slice_get, IfErr, IfOk, IfSome, IsOk, OnErr};
+ghost use Rattle.std.specs.Prelude.{OnOk};
 ghost use Rattle.rcu_seq.specs.Seq.{tag_of};
 ghost use Rattle.rcu_hotplug.specs.Hotplug.{cpus_of};
-ghost use Rattle.rcu_cblist.specs.SegList.{behind, callbacks, front, is_empty, take_answer};
+ghost use Rattle.rcu_cblist.specs.SegList.{begins_with_marker, behind, callbacks, front, is_empty};
+ghost use Rattle.rcu_cblist.specs.SegList.{take_answer};
 ghost use Rattle.rcu_barrier.specs.Lists as lists;
 ghost use Rattle.rcu_barrier.specs.Lists.{HasRoomIn, KeepsOtherRooms, barrier_test_answer};
 ghost use Rattle.rcu_barrier.specs.Lists.{leaving_list, list_of, room_of, visit_answer};
@@ -110,6 +112,28 @@ impl<A: Awaited, T: Drop> GpState<A, T> {
         ensures rooms { self.new.rooms ≡ self.old.rooms }
     {
         self.lists.run(cpu, max)
+    }
+
+    /// How many callbacks the processor's done part has, as [`Lists::done_count`].
+    pub fn done_count(&self, cpu: u32) -> u64
+        requires { cpu < cpus_of self.now.grace.processors }
+        ensures count { result ≡ length (callbacks (front (list_of self.now.grace.lists cpu))) }
+        ensures first { begins_with_marker (list_of self.now.grace.lists cpu) ≡ false }
+    {
+        self.lists.done_count(cpu)
+    }
+
+    /// Hands out the first callback of a processor's done part, as [`GpState::run`] of one, and
+    /// costs as [`Lists::pop_done`].
+    pub fn pop_done(&mut self, cpu: u32) -> Option<Queued<T>>
+        requires { cpu < cpus_of self.old.grace.processors }
+        ensures call { result ≡ slice_get (take_answer (list_of self.old.grace.lists cpu) 1) 0 }
+        ensures state { self.new.grace ≡ grace.after_run self.old.grace cpu 1 }
+        ensures waited { IfSome result (λ call.
+            grace.HasWaited (tag_of self.old.grace.seq) call.at) }
+        ensures rooms { self.new.rooms ≡ self.old.rooms }
+    {
+        self.lists.pop_done(cpu)
     }
 
     /// Moves the list of another processor than 0 to processor 0's (Linux's

@@ -91,6 +91,23 @@ fn take(rt: &impl Abort, call: u64, list: &mut SegList<u64>, plain: &mut Plain, 
     assert_eq!(rt; (call, found), (call, (place, markers)));
 }
 
+/// Takes one callback, with no memory.
+fn pop(rt: &impl Abort, call: u64, list: &mut SegList<u64>, plain: &mut Plain) {
+    let mut wanted = None;
+    if let Some(Item::Call(value, _)) = plain.take_next(1) {
+        let mut markers = 0u64;
+        for _ in 0..ROOM {
+            if plain.take_next(0).is_none() {
+                break;
+            }
+            markers = markers.saturating_add(1);
+        }
+        wanted = Some((value, markers));
+    }
+    let popped = list.pop_done().map(|popped| (popped.0.value, popped.1));
+    assert_eq!(rt; (call, popped), (call, wanted));
+}
+
 /// Moves a list to another, by a second call where the first is refused a growth.
 fn migrate(
     rt: &impl Abort,
@@ -168,7 +185,8 @@ fn calls_at_random(rt: HostRuntime) {
                 accelerate(&rt, &mut list, snap);
                 plain.accelerate(snap);
             }
-            11..=13 => take(&rt, call, &mut list, &mut plain, draw.below(4)),
+            11..=12 => take(&rt, call, &mut list, &mut plain, draw.below(4)),
+            13 => pop(&rt, call, &mut list, &mut plain),
             kind => migrate(
                 &rt,
                 &mut list,

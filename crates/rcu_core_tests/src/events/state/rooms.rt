@@ -14,17 +14,13 @@ fn room(rt: &impl Abort, state: &State) -> u64 {
     lists.room(0)
 }
 
-/// Gives room of processor 0's list back: all that is not needed, or none where the smaller block
-/// was refused.
+/// Gives all room of processor 0's list back that it does not need: the second call what the first
+/// was refused. No run of a test refuses two growths.
 fn shrink(rt: &impl Abort, state: &mut State, items: u64) {
-    let before = room(rt, state);
     assert!(rt; 0 < state.cpus());
     state.shrink(0);
-    let now = room(rt, state);
-    assert!(rt;
-        now == items || now == before,
-        "{now}, not {items} or {before}"
-    );
+    state.shrink(0);
+    assert_eq!(rt; room(rt, state), items);
 }
 
 /// A grace period, which the callbacks wait for, begins, is reported and ends.

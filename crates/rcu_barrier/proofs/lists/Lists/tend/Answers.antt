@@ -72,7 +72,7 @@ returns-clause-done g c =
     let snap = c.snapshot.ensures in
     let after : c.accelerate.new.self.items ≡ after_tend (get_or (items_in i.lists.items) c.args.cpu []) number =
     c.accelerate.ensures.items ∙ (rw (snap, c.advance.ensures.items) (tend_is number old.items c.requires.state fours) ∙ ap (λ l. after_tend l number) is) in
-    rw (← c.self.view_is, c.done_count.ensures ∙ ap (λ l. length (callbacks (front l))) after) refl
+    rw (← c.self.view_is, c.done_count.ensures.count ∙ ap (λ l. length (callbacks (front l))) after) refl
 
 pub returns-clause-waiting : goal.returns-clause-waiting
 returns-clause-waiting g c =

@@ -1,5 +1,4 @@
 use Rattle.std.proofs.Common.{length, ap, arith}
-use Rattle.rcu_cblist.specs.Segments.{seen}
 use Rattle.rcu_cblist.proofs.Taking.{seen_length}
 use Rattle.rcu_cblist.proofs.seg_list.SegList.shrink.Goals as goal
 

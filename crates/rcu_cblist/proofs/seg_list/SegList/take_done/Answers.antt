@@ -8,7 +8,7 @@ use Rattle.rcu_cblist.proofs.seg_list.SegList.take_done.Goals as goal
 pub take-markers-requires-clause-done : goal.take-markers-requires-clause-done
 take-markers-requires-clause-done g c =
     let most = c.min-most.ensures in
-    let done = c.done_count.ensures in
+    let done = c.done_count.ensures.count in
     let counted = counted_done c.self.inside.segments c.self.invariant in
     let same = ap (λ l. length (callbacks (front l.items))) c.self.view_is in
     omega arith
@@ -18,7 +18,7 @@ fewer : (g : _) (c : goal.After-take-markers g) →
     take_answer (seen c.self.inside.segments) c.min-most.result ≡ take_answer (seen c.self.inside.segments) c.args.max
 fewer g c =
     let most = c.min-most.ensures in
-    let done = c.done_count.ensures in
+    let done = c.done_count.ensures.count in
     let same = ap (λ l. length (callbacks (front l.items))) c.self.view_is in
     taken_fewer c.args.max c.min-most.result (seen c.self.inside.segments) (omega arith)
 

@@ -1,0 +1,101 @@
+//! Callbacks that are taken one at a time, with no memory.
+ghost use Rattle.std.specs.Prelude.{◌≡◌, ◌+◌, ◌<◌, ◌≤◌, ◌^◌, ◌∷◌, [], IfSome, IsNone, drop};
+ghost use Rattle.std.specs.Prelude.{false, length, option_map, slice_get, take};
+ghost use Rattle.std.specs.VecDeque.{deque_capacity};
+ghost use Rattle.rcu_cblist.specs.SegList.{after_take, begins_with_marker, callbacks};
+ghost use Rattle.rcu_cblist.specs.SegList.{from_callback, markers, markers_passed, take_answer};
+ghost use Rattle.rcu_cblist.specs.Kept.{unmarked};
+ghost use Rattle.rcu_cblist.specs.Segments.{IsCut, seen};
+
+use crate::kept::Kept;
+use crate::queued::Queued;
+use crate::seg_list::SegList;
+use crate::segments::Segments;
+use crate::tail::Tail;
+use std::collections::VecDeque;
+
+impl<T: Drop> SegList<T> {
+    /// Takes the first callback of the done part, and each marker before the next one, whose number
+    /// is returned beside it (Linux's `rcu_cblist_dequeue`). Costs a step for each, and no memory.
+    pub fn pop_done(&mut self) -> Option<(Queued<T>, u64)>
+        ensures call { option_map (λ popped. popped.0) result
+            ≡ slice_get (take_answer self.old.items 1) 0 }
+        ensures markers { IfSome result (λ popped. popped.1 ≡ markers_passed self.old.items 1) }
+        ensures left { self.new.items ≡ after_take self.old.items 1 }
+        ensures unchanged { IsNone result → self.new.items ≡ self.old.items }
+        ensures room { self.new.room ≡ self.old.room }
+    {
+        if self.done_count() == 0 {
+            return None;
+        }
+        Some(self.segments.pop())
+    }
+}
+
+impl<T: Drop> Segments<T> {
+    /// Takes the first callback of DONE, and each marker before the next one. Returns how many
+    /// markers beside it.
+    fn pop(&mut self) -> (Queued<T>, u64)
+        requires kept { IsCut self.old }
+        requires done { 0 < self.old.done.calls }
+        ensures kept { IsCut self.new }
+        ensures call { result.0 ∷ [] ≡ take_answer (seen self.old) 1 }
+        ensures markers { result.1 ≡ markers_passed (seen self.old) 1 }
+        ensures items { seen self.new ≡ after_take (seen self.old) 1 }
+        ensures capacity { deque_capacity self.new.items ≡ deque_capacity self.old.items }
+    {
+        let (call, markers) = pop_first(&mut self.items);
+        let gone = Tail {
+            items: 1 + markers as usize,
+            calls: 1,
+        };
+        self.done.fall(gone);
+        self.wait.fall(gone);
+        self.ready.fall(gone);
+        self.calls -= 1;
+        (call, markers)
+    }
+}
+
+/// Takes the first callback, and each marker before the next one. Returns how many markers.
+fn pop_first<T: Drop>(items: &mut VecDeque<Kept<T>>) -> (Queued<T>, u64)
+    requires few { length items.old.items < 2 ^ 63 }
+    requires there { 0 < length (callbacks (unmarked items.old.items)) }
+    requires call { begins_with_marker (unmarked items.old.items) ≡ false }
+    ensures call { result.0 ∷ [] ≡ take 1 (callbacks (unmarked items.old.items)) }
+    ensures items { unmarked items.new.items ≡ from_callback 1 (unmarked items.old.items) }
+    ensures gone { items.new.items ≡ drop (1 + result.1) items.old.items }
+    ensures left { 1 + result.1 + length items.new.items ≡ length items.old.items }
+    ensures markers { result.1 + markers (unmarked items.new.items)
+        ≡ markers (unmarked items.old.items) }
+    ensures capacity { deque_capacity items.new ≡ deque_capacity items.old }
+{
+    match items.pop_front() {
+        Some(Kept::Call(call)) => (call, drop_markers(items)),
+        Some(Kept::Marker) | None => unreachable!(),
+    }
+}
+
+/// Drops each marker before the first callback. Returns how many.
+#[tactic(auto, using(crate::proofs::Lists::map_split, crate::proofs::Lists::gone_more))]
+fn drop_markers<T: Drop>(items: &mut VecDeque<Kept<T>>) -> u64
+    requires { length items.old.items < 2 ^ 63 }
+    ensures items { unmarked items.new.items ≡ from_callback 0 (unmarked items.old.items) }
+    ensures gone { items.new.items ≡ drop result items.old.items }
+    ensures left { result + length items.new.items ≡ length items.old.items }
+    ensures markers { result + markers (unmarked items.new.items)
+        ≡ markers (unmarked items.old.items) }
+    ensures capacity { deque_capacity items.new ≡ deque_capacity items.old }
+{
+    let mut markers = 0;
+    loop {
+        match items.front() {
+            Some(Kept::Marker) => {}
+            _ => return markers,
+        }
+        let Some(_) = items.pop_front() else {
+            unreachable!()
+        };
+        markers += 1;
+    }
+}
