@@ -1,5 +1,5 @@
 //! The opening of a cell.
-ghost use Rattle.std.specs.Prelude.{◌≡◌, ◌+◌, ◌*◌, ◌<◌, IfOk};
+ghost use Rattle.std.specs.Prelude.{◌≡◌, ◌+◌, ◌*◌, ◌^◌, ◌<◌, IfOk};
 ghost use Rattle.rcu_geometry.specs.Opening.{opening_refusal};
 ghost use Rattle.rcu_live.specs.Opening.{AreDealt, AreFanouts};
 ghost use Rattle.rcu_seq.specs.Memory.{tested_fault};
@@ -78,8 +78,8 @@ impl<const LEAF: u32, const FAN: u32, T: Drop, F: Invariant, const W: usize, con
         requires sizes { AreSizes W N }
         requires whole { F.holds words.now }
         ensures fault { tested_fault result ≡ opening_refusal LEAF FAN cpus last }
-        ensures dealt { IfOk result (λ opened. AreDealt cpus (first_place + W * N) 0 Idle
-            opened.0 opened.1.items opened.2.items) }
+        ensures dealt { IfOk result (λ opened. AreDealt cpus last (2 ^ 62)
+            (first_place + W * N) 0 Idle opened.0 opened.1.items opened.2.items) }
         ensures keeper { IfOk result (λ opened. IsDealtBy F.holds W N opened.0
             (watcher_at_first opened.0.table (base_of cpus) Owner) opened.3) }
     {

@@ -2,6 +2,7 @@
 use Rattle.std.proofs.Common.{◌≡◌, ℕ, List, length, map, refl, sym, ap, ◌∙◌}
 use Rattle.std.specs.List.{range_with_len}
 use Rattle.std.proofs.lemmas.List.FromFn.{length-map-range_with_len}
+use Rattle.rcu_seq.specs.Numbers.{Number}
 use Rattle.rcu_live.specs.Board.{IsSized, Object}
 use Rattle.rcu_live.specs.CpuSeat.{IsSeatOf, Seated, at_first}
 use Rattle.rcu_live.specs.Opening.{AreDealt}
@@ -10,13 +11,13 @@ use Rattle.rcu_live.specs.Words.{base_of}
 use Rattle.rcu_live.proofs.RowLemmas.{each_made}
 
 -- a seat and a watcher a processor, as they are at first
-pub are_dealt : {C : Type 0} (cpus behind slots : ℕ) (idle : C) (engine : Object) (seats : List (Seated C))
+pub are_dealt : {C : Type 0} (cpus : ℕ) (last : Number) (most behind slots : ℕ) (idle : C) (engine : Object) (seats : List (Seated C))
     (watchers : List (Watching C))
-    → IsSized cpus behind slots engine
+    → IsSized cpus last most behind slots engine
     → seats ≡ map (at_first engine.table (base_of cpus) idle) (range_with_len 0 cpus)
     → watchers ≡ map (λ _. watcher_at_first engine.table (base_of cpus) idle) (range_with_len 0 cpus)
-    → AreDealt cpus behind slots idle engine seats watchers
-are_dealt {C} cpus behind slots idle engine seats watchers size s w = record {
+    → AreDealt cpus last most behind slots idle engine seats watchers
+are_dealt {C} cpus last most behind slots idle engine seats watchers size s w = record {
   size = size;
   each_seat = s;
   each_watcher = w;

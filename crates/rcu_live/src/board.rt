@@ -22,6 +22,8 @@ use std::marker::Model;
 pub struct Board<P: Client = NoClient> {
     pub(crate) table: Table<P::Slot, View<P::Known>, u32, Words<P>, Global>,
     pub(crate) cpus: u32,
+    last: u64,
+    most: u64,
 }
 
 impl<P: Client> Model for Board<P> {
@@ -31,7 +33,12 @@ impl<P: Client> Model for Board<P> {
 
     ghost Value = { Object };
 
-    ghost view = { λ b. record { table = b.table.shared.table_id; cpus = b.cpus } };
+    ghost view = { λ b. record {
+      table = b.table.shared.table_id;
+      cpus = b.cpus;
+      last = b.last;
+      most = b.most;
+    } };
 
     ghost invariant = { λ b. record {
       key : b.table.shared.key ≡ b.cpus;
@@ -50,13 +57,15 @@ impl<P: Client> Board<P> {
     pub fn open(
         alloc: Global,
         cpus: u32,
+        last: u64,
+        most: u64,
         behind: &[u64],
         slots: Vec<P::Slot>,
     ) -> Result<(Board<P>, TableSeat<P>), AllocError>
         requires cpus { IsCpuCount cpus }
         requires client { P.holds behind.now (map some slots.items) ((None, None, P.first) ∷ []) }
         ensures size { IfOk result (λ r.
-            IsSized cpus (length behind.now) (length slots.items) r.0) }
+            IsSized cpus last most (length behind.now) (length slots.items) r.0) }
         ensures seat { IfOk result (λ r. IsSeatAt r.0.table (engine_seat cpus 0 P.first) r.1) }
         ensures no_slots { IfOk result (λ r. r.1.me.1 ≡ []) }
     {
@@ -65,7 +74,15 @@ impl<P: Client> Board<P> {
         let Ok((table, seat)) = Table::new(alloc, words.as_slice(), slots, &cpus) else {
             return Err(AllocError);
         };
-        Ok((Board { table, cpus }, seat))
+        Ok((
+            Board {
+                table,
+                cpus,
+                last,
+                most,
+            },
+            seat,
+        ))
     }
 
     /// The number of processors.
@@ -73,6 +90,20 @@ impl<P: Client> Board<P> {
         ensures { result ≡ self.now.cpus }
     {
         self.cpus
+    }
+
+    /// The last number: no grace period begins at it.
+    pub fn last(&self) -> u64
+        ensures { result ≡ self.now.last }
+    {
+        self.last
+    }
+
+    /// How many callbacks may be queued.
+    pub fn most(&self) -> u64
+        ensures { result ≡ self.now.most }
+    {
+        self.most
     }
 
     /// Seat split: the next processor's seat.

@@ -1,5 +1,6 @@
-//! What the words of a run of the engine say, on small runs.
-ghost use Rattle.std.specs.Prelude.{◌≡◌, [], ◌∷◌, ℕ, List, None, Some, false, true};
+//! What the words of a run of the engine say, on small runs, and those of an accepted call.
+ghost use Rattle.std.specs.Prelude.{◌≡◌, ◌+◌, ◌<◌, ◌≤◌, ◌^◌, [], ◌∷◌, ℕ, List, None, Some};
+ghost use Rattle.std.specs.Prelude.{false, true};
 ghost use Rattle.atomic_table.specs.Seated.{TableId};
 ghost use Rattle.rcu_seq.specs.Numbers.{Number};
 ghost use Rattle.rcu_seq.specs.Seq.{has_full_period};
@@ -7,10 +8,13 @@ ghost use Rattle.rcu_seq.specs.Tags.{first_tag};
 ghost use Rattle.rcu_barrier.specs.Lists.{barrier_test_answer};
 ghost use Rattle.rcu_barrier.specs.Runs.{times_listed};
 ghost use Rattle.rcu_barrier.specs.declared.barrier_state.BarrierState.{BarrierState};
+ghost use Rattle.rcu_live.specs.CpuSeat.{AcceptedAt, NotedAt, Seated, after_look, after_quiesce};
+ghost use Rattle.rcu_live.specs.Engine.{Locked};
 ghost use Rattle.rcu_live.specs.Numbers.{idle_word};
 ghost use Rattle.rcu_live.specs.Opening.{engine_at_first};
-ghost use Rattle.rcu_live.specs.Runs.{Call, IsNew, IsRun, Makes, engine_after, queued_as};
-ghost use Rattle.rcu_live.specs.Runs.{queued_before_barrier, times_handed_out, turns_since};
+ghost use Rattle.rcu_live.specs.Runs.{Call, IsNew, IsRun, Makes, MayCall, after_call};
+ghost use Rattle.rcu_live.specs.Runs.{engine_after, queued_as, queued_before_barrier};
+ghost use Rattle.rcu_live.specs.Runs.{times_handed_out, turns_since};
 
 use crate::client::Client;
 
@@ -105,4 +109,48 @@ pub fn an_engine_is_new_until_a_queueing<T: Drop, P: Client>()
     ensures step { (table : TableId) (last : Number) (most : ℕ) (value : T) →
         Makes (Call.Queue 0 value) (engine_at_first table 1 last most P.idle)
         (engine_at_first table 1 last most P.idle) → ⊥ }
+{}
+
+/// Nothing is a run. A run with one more call, which may be made where it was made, is a run; and
+/// each call of a run may be made.
+pub fn a_run_is_made_call_by_call<T: Drop, P: Client>()
+    ensures none { (first : Locked P.Known T) → IsRun first [] }
+    ensures more { (first : Locked P.Known T) (call : Call T) (calls : List (Call T)) →
+        MayCall (engine_after first calls) call → IsRun first calls →
+        IsRun first (call ∷ calls) }
+    ensures newest { (first : Locked P.Known T) (call : Call T) (calls : List (Call T)) →
+        IsRun first (call ∷ calls) → MayCall (engine_after first calls) call }
+    ensures earlier { (first : Locked P.Known T) (call : Call T) (calls : List (Call T)) →
+        IsRun first (call ∷ calls) → IsRun first calls }
+{}
+
+/// A step is a call that may be made, and leaves what it says.
+pub fn a_step_may_be_made<T: Drop, P: Client>()
+    ensures may { (call : Call T) (old new : Locked P.Known T) → Makes call old new →
+        MayCall old call }
+    ensures left { (call : Call T) (old new : Locked P.Known T) → Makes call old new →
+        new ≡ after_call old call }
+    ensures step { (call : Call T) (old : Locked P.Known T) → MayCall old call →
+        Makes call old (after_call old call) }
+    ensures idle { (table : TableId) (last : Number) (most : ℕ) (new : Locked P.Known T) →
+        Makes Call.End (engine_at_first table 1 last most P.idle) new → ⊥ }
+{}
+
+/// What is noted is no less than what the seat saw before, and at most 2^62; the own word is one
+/// more than it. An accepted call has seen no less, too.
+pub fn a_noted_number_was_seen<P: Client>()
+    ensures noted { (s : Seated P.Known) (n : Number) → s.view.seen ≤ n → n ≤ 2 ^ 62 →
+        NotedAt after_quiesce s n (after_quiesce s n) }
+    ensures word { (s t : Seated P.Known) (n : Number) → NotedAt after_quiesce s n t →
+        t.view.own_word ≡ n + 1 }
+    ensures earlier { (s t : Seated P.Known) (n : Number) → NotedAt after_quiesce s n t →
+        n < s.view.seen → ⊥ }
+    ensures beyond { (s t : Seated P.Known) (n : Number) → NotedAt after_quiesce s n t →
+        2 ^ 62 < n → ⊥ }
+    ensures accepted { (s : Seated P.Known) (n : Number) → s.view.seen ≤ n →
+        AcceptedAt after_look s n (after_look s n) }
+    ensures accepted_earlier { (s t : Seated P.Known) (n : Number) → AcceptedAt after_look s n t →
+        n < s.view.seen → ⊥ }
+    ensures saw { (s t : Seated P.Known) (n : Number) → AcceptedAt after_look s n t →
+        t.view.seen ≡ n }
 {}

@@ -1,11 +1,12 @@
 //! The callbacks of an engine, and the barrier over them.
-ghost use Rattle.std.specs.Prelude.{◌≡◌, ◌≢◌, ◌<◌, ◌≤◌, ◌^◌, IfErr, IfOk, OnErr, OnOk};
-ghost use Rattle.std.specs.Prelude.{[], length, true};
+ghost use Rattle.std.specs.Prelude.{◌≡◌, ◌≢◌, ◌<◌, ◌≤◌, ◌^◌, IfErr, IfOk, IfSome, OnErr, OnOk};
+ghost use Rattle.std.specs.Prelude.{[], false, length, slice_get, true};
 ghost use Rattle.std.specs.Result.{result_err};
-ghost use Rattle.rcu_live.specs.Engine.{cpu_refusal};
+ghost use Rattle.rcu_live.specs.Engine.{HasWaited, cpu_refusal};
 ghost use Rattle.rcu_seq.specs.Seq.{number_of};
 ghost use Rattle.rcu_node.specs.CpuSet.{is_in};
-ghost use Rattle.rcu_cblist.specs.SegList.{behind, callbacks, front, take_answer};
+ghost use Rattle.rcu_cblist.specs.SegList.{begins_with_marker, behind, callbacks, front};
+ghost use Rattle.rcu_cblist.specs.SegList.{take_answer};
 ghost use Rattle.rcu_barrier.specs.Lists.{barrier_test_answer, list_of};
 ghost use Rattle.rcu_barrier.specs.Lists.{visit_answer};
 ghost use Rattle.rcu_live.specs.EngineLists.{AreDue, barrier_begin_refusal};
@@ -18,7 +19,7 @@ use crate::client::Client;
 use crate::engine::Engine;
 use crate::run::Ran;
 use rcu_barrier::{BarrierState, Visit};
-use rcu_cblist::Refused;
+use rcu_cblist::{Queued, Refused};
 use rcu_node::Awaited;
 use rcu_seq::Fault;
 
@@ -88,6 +89,27 @@ impl<A: Awaited, T: Drop, P: Client> Engine<A, T, P> {
         let number = self.gp.value();
         let calls = self.gp.run(cpu, max)?;
         Ok(Ran { number, calls })
+    }
+
+    /// How many callbacks the processor's done part has. Its list never begins with a marker.
+    pub fn done_count(&self, cpu: u32) -> u64
+        requires { cpu < self.now.cpus }
+        ensures count { result ≡ length (callbacks (front (list_of self.now.grace.lists cpu))) }
+        ensures first { begins_with_marker (list_of self.now.grace.lists cpu) ≡ false }
+    {
+        self.gp.done_count(cpu)
+    }
+
+    /// Hands out the first callback of a processor's done part, as [`Engine::run`] of one: only one
+    /// such that a full grace period has passed since its queueing. Takes no memory.
+    pub fn pop_done(&mut self, cpu: u32) -> Option<Queued<T>>
+        requires { cpu < self.old.cpus }
+        ensures call { result ≡ slice_get (take_answer (list_of self.old.grace.lists cpu) 1) 0 }
+        ensures made { Makes (Call.Run cpu 1) self.old self.new }
+        ensures waited { IfSome result (λ call.
+            HasWaited (number_of self.old.grace.seq) call.at) }
+    {
+        self.gp.pop_done(cpu)
     }
 
     /// Begins a barrier.

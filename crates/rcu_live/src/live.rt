@@ -17,7 +17,7 @@ use crate::watcher::Watcher;
 use rcu_node::Tree;
 use std::alloc::Global;
 use std::marker::Model;
-use std::sync::{Arc, Mutex};
+use std::sync::{Arc, Mutex, MutexGuard, Wait};
 
 /// The running engine, which threads share: the number and the own words of the processors, which
 /// all threads read without a lock.
@@ -43,7 +43,7 @@ impl<const LEAF: u32, const FAN: u32, T: Drop, P: Client> Live<LEAF, FAN, T, P> 
     /// The engine of these words, put under its lock as it is opened.
     pub(crate) fn new(board: Arc<Board<P>, Global>, engine: Engine<Tree<LEAF, FAN>, T, P>) -> Self
         requires { engine ≡ engine_at_first (arc_value board).table (arc_value board).cpus
-            engine.grace.seq.last engine.grace.lists.most P.idle }
+            (arc_value board).last (arc_value board).most P.idle }
         ensures { result ≡ arc_value board }
     {
         Live {
@@ -67,13 +67,13 @@ impl<const LEAF: u32, const FAN: u32, T: Drop, P: Client> Live<LEAF, FAN, T, P> 
         ensures idle { seat.old.view.own_word ≡ idle_word → IfSome result (λ met.
             met.opened ≡ None) }
     {
-        let seen = watcher.look(&self.board);
-        let now = seat.look(&self.board);
-        let opened = seat.opened();
-        if seen > now || opened.is_some_and(|at| at > seen) {
-            return None;
-        }
-        Some(Met { opened, seen })
+        self.board.meet(seat, watcher)
+    }
+
+    /// The engine under its lock, for calls in a row. Until the guard is dropped, each call that
+    /// takes the lock waits; those of seats and watchers go on.
+    pub fn lock(&self, rt: &impl Wait) -> MutexGuard<'_, Engine<Tree<LEAF, FAN>, T, P>> {
+        self.engine.lock(rt)
     }
 }
 

@@ -2,6 +2,7 @@
 ghost use Rattle.std.specs.Prelude.{◌≡◌, ◌≤◌, ◌^◌, [], ◌∷◌, IfOk, None, length, map};
 ghost use Rattle.std.specs.Arc.{arc_value};
 ghost use mathlib.Core.Option.{some};
+ghost use Rattle.rcu_barrier.specs.Lists.{most_queued};
 ghost use Rattle.rcu_core.specs.GpState as grace;
 ghost use Rattle.rcu_geometry.specs.Opening.{opening_refusal};
 ghost use Rattle.rcu_live.specs.Board.{IsCpuCount};
@@ -79,7 +80,7 @@ impl<const LEAF: u32, const FAN: u32, T: Drop, P: Client> Parts<LEAF, FAN, T, P>
             seats,
             watchers,
             own,
-        } = open_board(alloc, cpus, behind, slots)?;
+        } = open_board(alloc, cpus, last, most, behind, slots)?;
         let (gp, already_quiescent) = make_state(alloc, cpus, last, most)?;
         let engine = Engine::new(Arc::try_clone(&board)?, engine_seat, gp, already_quiescent);
         Ok(Parts {
@@ -133,7 +134,7 @@ impl<const LEAF: u32, const FAN: u32, T: Drop> Live<LEAF, FAN, T> {
         requires { AreFanouts LEAF FAN }
         ensures fault { tested_fault result ≡ opening_refusal LEAF FAN cpus last }
         ensures dealt { IfOk result (λ opened.
-            AreDealt cpus 0 0 tt opened.0 opened.1.items opened.2.items) }
+            AreDealt cpus last most_queued 0 0 tt opened.0 opened.1.items opened.2.items) }
     {
         Live::open_with_most(alloc, cpus, last, MOST_QUEUED)
     }
@@ -152,7 +153,7 @@ impl<const LEAF: u32, const FAN: u32, T: Drop> Live<LEAF, FAN, T> {
         requires most { (1 ≤ most) × (most ≤ 2 ^ 62) }
         ensures fault { tested_fault result ≡ opening_refusal LEAF FAN cpus last }
         ensures dealt { IfOk result (λ opened.
-            AreDealt cpus 0 0 tt opened.0 opened.1.items opened.2.items) }
+            AreDealt cpus last most 0 0 tt opened.0 opened.1.items opened.2.items) }
     {
         let slots = Vec::new(alloc);
         let (live, seats, watchers, _) = Live::open_for(alloc, cpus, last, most, &[], slots)?;
@@ -187,8 +188,9 @@ impl<const LEAF: u32, const FAN: u32, T: Drop, P: Client> Live<LEAF, FAN, T, P> 
         requires client { P.holds behind.now (map some slots.items)
             ((None, None, P.first) ∷ []) }
         ensures fault { tested_fault result ≡ opening_refusal LEAF FAN cpus last }
-        ensures dealt { IfOk result (λ opened. AreDealt cpus (length behind.now)
-            (length slots.items) P.idle opened.0 opened.1.items opened.2.items) }
+        ensures dealt { IfOk result (λ opened. AreDealt cpus last most
+            (length behind.now) (length slots.items) P.idle opened.0 opened.1.items
+            opened.2.items) }
         ensures own { IfOk result (λ opened.
             opened.3 ≡ watcher_at_first opened.0.table (base_of cpus) P.first) }
     {

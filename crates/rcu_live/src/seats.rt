@@ -39,19 +39,22 @@ pub(crate) struct BoardParts<P: Client> {
 pub(crate) fn open_board<P: Client>(
     alloc: Global,
     cpus: u32,
+    last: u64,
+    most: u64,
     behind: &[u64],
     slots: Vec<P::Slot>,
 ) -> Result<BoardParts<P>, AllocError>
     requires cpus { IsCpuCount cpus }
     requires client { P.holds behind.now (map some slots.items) ((None, None, P.first) ∷ []) }
-    ensures dealt { IfOk result (λ dealt. AreDealt cpus (length behind.now) (length slots.items)
-        P.idle (arc_value dealt.board) dealt.seats.items dealt.watchers.items) }
+    ensures dealt { IfOk result (λ dealt. AreDealt cpus last most (length behind.now)
+        (length slots.items) P.idle (arc_value dealt.board) dealt.seats.items
+        dealt.watchers.items) }
     ensures own { IfOk result (λ dealt.
         dealt.own ≡ watcher_at_first (arc_value dealt.board).table (base_of cpus) P.first) }
     ensures engine { IfOk result (λ dealt. IsSeatAt (arc_value dealt.board).table
         (engine_seat cpus cpus P.idle) dealt.engine_seat) }
 {
-    let (board, mut engine_seat) = Board::open(alloc, cpus, behind, slots)?;
+    let (board, mut engine_seat) = Board::open(alloc, cpus, last, most, behind, slots)?;
     let board = Arc::new(alloc, board)?;
     let (seats, watchers) = deal(alloc, &board, &mut engine_seat, cpus)?;
     let own = Watcher::new(board.hand_over(&mut engine_seat));

@@ -1,6 +1,7 @@
 -- What a map is opened with.
-use Rattle.std.specs.Prelude.{◌≡◌, ℕ, ◌+◌, ◌*◌, All, List, map}
+use Rattle.std.specs.Prelude.{◌≡◌, ℕ, ◌+◌, ◌*◌, ◌^◌, All, List, map}
 use Rattle.std.specs.List.{range_with_len}
+use Rattle.rcu_seq.specs.Numbers.{Number}
 use Rattle.rcu_live.specs.Board.{Object}
 use Rattle.rcu_live.specs.CpuSeat.{Seated}
 use Rattle.rcu_live.specs.Opening.{AreDealt, AreFanouts}
@@ -20,11 +21,11 @@ pub record MayOpen (leaf fan : ℕ) (holds : List ℕ → Type 0) (buckets width
   pub first : roots ≡ map (root_words width) (range_with_len 0 buckets)
   pub whole : All (IsWhole holds width) roots
 
--- what an opening deals of a map of so many processors, buckets, words and nodes: a seat and a watcher a processor, and
+-- what an opening deals of a map of so many processors, with this last number, of so many buckets, words and nodes: a seat and a watcher a processor, and
 -- the watcher that keeps the nodes, which are the roots of all buckets and others, free, so that there is no entry
-pub record IsOpened (cpus buckets width count : ℕ) (map : Object) (seats : List (Seated Known))
+pub record IsOpened (cpus : ℕ) (last : Number) (buckets width count : ℕ) (map : Object) (seats : List (Seated Known))
     (watchers : List (Watching Known)) (keeper : Watching Known) : Type 0 where
-  pub dealt : AreDealt cpus (first_place + (1 + width) * count) 0 Idle map seats watchers
+  pub dealt : AreDealt cpus last (2 ^ 62) (first_place + (1 + width) * count) 0 Idle map seats watchers
   pub keeps : IsKeeperOf count map keeper
   pub own : keeper ≡ after_word_step (watcher_at_first map.table (base_of cpus) Owner)
       (Keeper 0 (first_nodes 1 width (root_words width) buckets count))

@@ -1,5 +1,5 @@
 //! The opening of a map.
-ghost use Rattle.std.specs.Prelude.{◌≡◌, ◌+◌, ◌*◌, ◌<◌, ◌≤◌, IfOk, map};
+ghost use Rattle.std.specs.Prelude.{◌≡◌, ◌+◌, ◌*◌, ◌^◌, ◌<◌, ◌≤◌, IfOk, map};
 ghost use Rattle.std.specs.List.{range_with_len};
 ghost use Rattle.rcu_geometry.specs.Opening.{opening_refusal};
 ghost use Rattle.rcu_live.specs.Opening.{AreDealt, AreFanouts};
@@ -79,8 +79,8 @@ fn open_graph<
 ) -> Result<OpenedGraph<LEAF, FAN, T, E, BUCKETS, W, N>, Fault>
     requires { MayOpen LEAF FAN E.holds BUCKETS W N roots.now }
     ensures fault { tested_fault result ≡ opening_refusal LEAF FAN cpus last }
-    ensures opened { IfOk result (λ opened. IsOpened cpus BUCKETS W N opened.0 opened.1.items
-        opened.2.items opened.3) }
+    ensures opened { IfOk result (λ opened. IsOpened cpus last BUCKETS W N opened.0
+        opened.1.items opened.2.items opened.3) }
 {
     Graph::open(alloc, cpus, last, roots)
 }
@@ -125,8 +125,8 @@ impl<
         requires some { 0 < BUCKETS }
         requires sizes { AreSizes BUCKETS 1 W N }
         ensures fault { tested_fault result ≡ opening_refusal LEAF FAN cpus last }
-        ensures dealt { IfOk result (λ opened. AreDealt cpus (first_place + (1 + W) * N) 0 Idle
-            opened.0 opened.1.items opened.2.items) }
+        ensures dealt { IfOk result (λ opened. AreDealt cpus last (2 ^ 62)
+            (first_place + (1 + W) * N) 0 Idle opened.0 opened.1.items opened.2.items) }
         ensures keeper { IfOk result (λ opened. IsKeeperOf N opened.0 opened.3) }
         ensures own { IfOk result (λ opened. opened.3 ≡ after_word_step
             (watcher_at_first opened.0.table (base_of cpus) Owner)

@@ -1,5 +1,5 @@
 //! The opening of a graph.
-ghost use Rattle.std.specs.Prelude.{◌≡◌, ◌≢◌, ◌+◌, ◌*◌, ◌<◌, ◌≤◌, ℕ, All, IfOk, length, map};
+ghost use Rattle.std.specs.Prelude.{◌≡◌, ◌≢◌, ◌+◌, ◌*◌, ◌^◌, ◌<◌, ◌≤◌, ℕ, All, IfOk, length, map};
 ghost use Rattle.std.specs.Prelude.{slice_index};
 ghost use Rattle.std.specs.List.{range_with_len};
 ghost use Rattle.rcu_geometry.specs.Opening.{opening_refusal};
@@ -98,8 +98,8 @@ impl<
         requires first { roots.now ≡ map F.first (range_with_len 0 K) }
         requires whole { All F.fits roots.now }
         ensures fault { tested_fault result ≡ opening_refusal LEAF FAN cpus last }
-        ensures dealt { IfOk result (λ opened. AreDealt cpus (first_place + (L + W) * N) 0 Idle
-            opened.0 opened.1.items opened.2.items) }
+        ensures dealt { IfOk result (λ opened. AreDealt cpus last (2 ^ 62)
+            (first_place + (L + W) * N) 0 Idle opened.0 opened.1.items opened.2.items) }
         ensures keeper { IfOk result (λ opened. IsKeeperOf N opened.0 opened.3) }
         ensures own { IfOk result (λ opened. opened.3 ≡ after_word_step
             (watcher_at_first opened.0.table (base_of cpus) Owner)

@@ -39,6 +39,81 @@ fn one_period<R: Abort + Wait>(script: &Script<'_, R>, first: &mut CpuSeat, seco
     script.run(0, 9, 4, &[(0, 7)]);
 }
 
+/// A grace period and a barrier for the callbacks of the second seat, beside one of the first.
+fn second_processor<R: Abort + Wait>(
+    script: &Script<'_, R>,
+    first: &mut CpuSeat,
+    second: &mut CpuSeat,
+)
+    requires first { first.old.table ≡ script.now.live.now.table }
+    requires second { second.old.table ≡ script.now.live.now.table }
+{
+    script.online(second, Ok(()));
+    script.queue(second, 7, 1);
+    script.queue(second, 8, 2);
+    script.barrier_begin(Ok(()));
+    script.mark(1);
+    script.visit(0, Ok(Visit::Empty));
+    script.tend(1, Ok((0, 2)));
+    script.tend(0, Ok((0, 0)));
+    script.turn(Ok(Turned::Begun(1, 2)));
+    script.pass(second, 1, 1, Collected::Taken);
+    script.pass(first, 0, 1, Collected::Last);
+    script.turn(Ok(Turned::Ended(4)));
+    script.tend(1, Ok((2, 0)));
+    script.run(0, 9, 4, &[]);
+    script.run(1, 1, 4, &[(0, 7)]);
+    script.barrier_test(Ok(BarrierState::Waits(1)));
+    script.run(1, 9, 4, &[(0, 8)]);
+    script.barrier_test(Ok(BarrierState::Done));
+}
+
+#[test]
+fn each_call_is_of_its_processor(rt: HostRuntime) {
+    let Pair {
+        live,
+        mut first,
+        mut second,
+        watcher: _,
+        other: _,
+    } = make_pair(&rt, rt.alloc());
+    second_processor(&Script::new(&rt, &live), &mut first, &mut second);
+}
+
+/// A reader and a watcher go on while this thread has the lock: whatever waited for it would wait
+/// for good.
+fn read_under_the_lock<R: Abort + Wait>(
+    script: &Script<'_, R>,
+    seat: &mut CpuSeat,
+    watcher: &mut Watcher,
+)
+    requires seat { seat.old.table ≡ script.now.live.now.table }
+    requires watcher { watcher.old.table ≡ script.now.live.now.table }
+{
+    let engine = script.lock();
+    script.enter(seat, Ok(1));
+    script.meet(seat, watcher, Some(0), 0);
+    script.exit(seat, Ok(0));
+    script.quiesce(seat, Ok(0));
+    script.idle(seat, Ok(()));
+    script.wake(seat, Ok(0));
+    script.take(watcher, of_epoch(0, 4));
+    script.poll(watcher, of_epoch(0, 4), false);
+    script.holds(&engine);
+}
+
+#[test]
+fn readers_go_on_while_the_lock_is_held(rt: HostRuntime) {
+    let Pair {
+        live,
+        mut first,
+        second: _,
+        mut watcher,
+        other: _,
+    } = make_pair(&rt, rt.alloc());
+    read_under_the_lock(&Script::new(&rt, &live), &mut first, &mut watcher);
+}
+
 #[test]
 fn two_seats_one_period(rt: HostRuntime) {
     let Pair {
@@ -269,11 +344,29 @@ fn lists_give_room_back(rt: HostRuntime) {
     give_room_back(&Script::new(&rt, &live), &mut first);
 }
 
-/// A list with a callback keeps room for it, and an empty one keeps none.
+/// A list with callbacks keeps room for them alone, one that has grown too, and an empty one keeps
+/// none.
 fn give_room_back<R: Abort + Wait>(script: &Script<'_, R>, seat: &mut CpuSeat)
     requires { seat.old.table ≡ script.now.live.now.table }
 {
     script.queue(seat, 7, 1);
-    script.shrink(0, Ok(true));
-    script.shrink(1, Ok(false));
+    script.queue(seat, 7, 2);
+    script.queue(seat, 7, 3);
+    script.queue(seat, 7, 4);
+    script.queue(seat, 7, 5);
+    script.queue(seat, 7, 6);
+    script.queue(seat, 7, 7);
+    script.queue(seat, 7, 8);
+    script.queue(seat, 7, 9);
+    script.shrink(0, Ok(9));
+    script.shrink(1, Ok(0));
+    script.tend(0, Ok((0, 9)));
+    script.turn(Ok(Turned::Begun(1, 1)));
+    script.pass(seat, 0, 1, Collected::Last);
+    script.turn(Ok(Turned::Ended(4)));
+    script.tend(0, Ok((9, 0)));
+    script.run(0, 4, 4, &[(0, 7); 4]);
+    script.shrink(0, Ok(5));
+    script.run(0, 9, 4, &[(0, 7); 5]);
+    script.shrink(0, Ok(0));
 }

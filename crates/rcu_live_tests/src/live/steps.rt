@@ -5,14 +5,15 @@ use rcu_barrier::barrier_state::BarrierState;
 use rcu_barrier::visit::Visit;
 use rcu_cblist::queued::Queued;
 use rcu_core::turned::Turned;
-use rcu_live::{Collected, CpuSeat, Live, Met, Ran, Watcher};
+use rcu_live::{Collected, CpuSeat, Engine, Live, Met, Ran, Watcher};
+use rcu_node::Tree;
 use rcu_seq::cookie::Cookie;
 use rcu_seq::fault::Fault;
 use rcu_seq::tag::Tag;
 use std::cell::Cell;
 use std::fmt::Debug;
 use std::process::Abort;
-use std::sync::Wait;
+use std::sync::{MutexGuard, Wait};
 
 /// An object of a small tree, with numbers as callbacks.
 pub(crate) type Four = Live<4, 4, u64>;
@@ -53,6 +54,16 @@ impl<'a, R: Abort + Wait> Script<'a, R> {
     /// Compares the answer to the next call of a processor.
     fn compare_of<T: PartialEq + Debug + Drop>(&self, call: &str, cpu: u32, found: T, wanted: T) {
         self.compare(call, (cpu, found), (cpu, wanted));
+    }
+
+    /// The object's engine, under its lock.
+    pub(crate) fn lock(&self) -> MutexGuard<'a, Engine<Tree<4, 4>, u64>> {
+        self.live.lock(self.rt)
+    }
+
+    /// The engine, which this thread still holds, is the one of two processors.
+    pub(crate) fn holds(&self, engine: &MutexGuard<'a, Engine<Tree<4, 4>, u64>>) {
+        self.compare("holds", engine.cpus(), 2);
     }
 
     /// Compares the answer to an enter.
@@ -203,10 +214,11 @@ impl<'a, R: Abort + Wait> Script<'a, R> {
         self.compare_of("tend", cpu, self.live.tend(self.rt, cpu), wanted);
     }
 
-    /// Compares whether a processor's list keeps any room once it has shrunk.
-    pub(crate) fn shrink(&self, cpu: u32, wanted: Result<bool, Fault>) {
-        let found = self.live.shrink(self.rt, cpu).map(|room| room > 0);
-        self.compare_of("shrink", cpu, found, wanted);
+    /// Compares for how many items a processor's list has room once it has shrunk. The second call
+    /// gives back what the first was refused: no run of a test refuses two growths.
+    pub(crate) fn shrink(&self, cpu: u32, wanted: Result<u64, Fault>) {
+        let _ = self.live.shrink(self.rt, cpu);
+        self.compare_of("shrink", cpu, self.live.shrink(self.rt, cpu), wanted);
     }
 
     /// Queues a callback, by a second call where the first is refused a growth, and compares how
