@@ -1,5 +1,7 @@
 pub mod AsBox
 pub mod Dealt
+pub mod FromWords
 pub mod HandedOut
 pub mod Listed
+pub mod Popped
 pub mod WrittenBack

@@ -21,6 +21,7 @@ abbrev pub HoldsEngine : Option Contents → Type 0
 HoldsEngine None = ⊥
 HoldsEngine (Some (contents.Engine _)) = ⊤
 HoldsEngine (Some (contents.Seat _)) = ⊥
+HoldsEngine (Some (contents.Replica _)) = ⊥
 HoldsEngine (Some contents.Room) = ⊥
 
 -- the handle is an open seat's
@@ -28,6 +29,7 @@ abbrev pub HoldsSeat : Option Contents → Type 0
 HoldsSeat None = ⊥
 HoldsSeat (Some (contents.Engine _)) = ⊥
 HoldsSeat (Some (contents.Seat _)) = ⊤
+HoldsSeat (Some (contents.Replica _)) = ⊥
 HoldsSeat (Some contents.Room) = ⊥
 
 -- no object: it stands for that of a handle that holds none
@@ -47,6 +49,7 @@ abbrev pub opened_of : Option Contents → EngineAndSeats
 opened_of None = no_engine
 opened_of (Some (contents.Engine o)) = o
 opened_of (Some (contents.Seat _)) = no_engine
+opened_of (Some (contents.Replica _)) = no_engine
 opened_of (Some contents.Room) = no_engine
 
 -- the running engine of an engine's handle
@@ -74,6 +77,7 @@ abbrev pub seat_of : Option Contents → Seat
 seat_of None = no_seat
 seat_of (Some (contents.Engine _)) = no_seat
 seat_of (Some (contents.Seat s)) = s
+seat_of (Some (contents.Replica _)) = no_seat
 seat_of (Some contents.Room) = no_seat
 
 -- a cookie that is never done: no engine's number comes to it
@@ -145,4 +149,4 @@ pub record WatchedAt (h : Option Contents) (n : Number) (now : Option Contents) 
 
 -- the seat reads the words that this engine writes
 abbrev pub ReadsWordsOf : Option Contents → Option Contents → Type 0
-ReadsWordsOf seat rcu = (seat_of seat).object ≡ record { table = (engine_of rcu).table; cpus = (engine_of rcu).cpus }
+ReadsWordsOf seat rcu = (seat_of seat).words ≡ record { table = (engine_of rcu).table; cpus = (engine_of rcu).cpus }

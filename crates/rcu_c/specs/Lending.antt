@@ -2,6 +2,7 @@
 use Rattle.std.specs.Prelude.{Some}
 use Rattle.std.specs.Borrow.{Fml, Lends, LendsIfOk, MutBor}
 use Rattle.std.specs.declared.result.Result.{Result}
+use Rattle.rcu_report.specs.Replica.{Replicated}
 use Rattle.rcu_c.specs.Engines.{EngineAndSeats}
 use Rattle.rcu_c.specs.Seats.{Seat}
 use Rattle.rcu_c.specs.declared.handle.Handle.{Handle}
@@ -12,6 +13,7 @@ use Rattle.rcu_c.specs.contracts.handle.Handle as handle
 use Rattle.rcu_c.specs.contracts.contents.Contents as holding
 use Rattle.rcu_c.specs.contracts.open_engine.OpenEngine as engine
 use Rattle.rcu_c.specs.contracts.seat_parts.SeatParts as seat_parts
+use Rattle.rcu_c.specs.contracts.open_replica.OpenReplica as replica
 
 -- the handle holds this
 abbrev pub with_contents : Handle → Contents → Handle
@@ -29,6 +31,10 @@ lends_engine h lent = Lends handle.the_row engine.the_row h lent (λ o. with_con
 abbrev pub lends_seat : MutBor Handle → MutBor Seat → Fml
 lends_seat h lent = Lends handle.the_row seat_parts.the_row h lent (λ s. with_contents h.now (contents.Seat s))
 
+-- a replica's handle lends its replica
+abbrev pub lends_replica : MutBor Handle → MutBor Replicated → Fml
+lends_replica h lent = Lends handle.the_row replica.the_row h lent (λ r. with_contents h.now (contents.Replica r))
+
 -- a handle lends its engine where it has one, and else ends as it is
 abbrev pub lends_engine_if_ok : MutBor Handle → Result (MutBor EngineAndSeats) Refusal → Fml
 lends_engine_if_ok h lent = LendsIfOk handle.the_row engine.the_row h lent (λ o. with_contents h.now (contents.Engine o)) h.now
@@ -36,3 +42,7 @@ lends_engine_if_ok h lent = LendsIfOk handle.the_row engine.the_row h lent (λ o
 -- a handle lends its seat where it has one, and else ends as it is
 abbrev pub lends_seat_if_ok : MutBor Handle → Result (MutBor Seat) Refusal → Fml
 lends_seat_if_ok h lent = LendsIfOk handle.the_row seat_parts.the_row h lent (λ s. with_contents h.now (contents.Seat s)) h.now
+
+-- a handle lends its replica where it has one, and else ends as it is
+abbrev pub lends_replica_if_ok : MutBor Handle → Result (MutBor Replicated) Refusal → Fml
+lends_replica_if_ok h lent = LendsIfOk handle.the_row replica.the_row h lent (λ r. with_contents h.now (contents.Replica r)) h.now

@@ -6,5 +6,7 @@ pub mod Holding
 pub mod Lending
 pub mod Links
 pub mod Refusals
+pub mod Replicas
 pub mod Seats
 pub mod Staying
+pub mod Version

@@ -24,6 +24,7 @@ abbrev pub engine_refusal : Option Contents → Option Refusal
 engine_refusal None = Some Closed
 engine_refusal (Some (contents.Engine _)) = None
 engine_refusal (Some (contents.Seat _)) = Some OtherKind
+engine_refusal (Some (contents.Replica _)) = Some OtherKind
 engine_refusal (Some contents.Room) = Some OtherKind
 
 -- why a handle is not taken for a seat's
@@ -31,6 +32,7 @@ abbrev pub seat_refusal : Option Contents → Option Refusal
 seat_refusal None = Some Closed
 seat_refusal (Some (contents.Engine _)) = Some OtherKind
 seat_refusal (Some (contents.Seat _)) = None
+seat_refusal (Some (contents.Replica _)) = Some OtherKind
 seat_refusal (Some contents.Room) = Some OtherKind
 
 -- the number that a call of an engine's handle returns: why the handle is not taken for one, and else this

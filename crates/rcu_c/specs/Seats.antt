@@ -1,7 +1,6 @@
 -- The seat of an open handle, as contracts see it.
 use Rattle.std.specs.Prelude.{ℕ}
 use Rattle.atomic_table.specs.Seated.{TableId}
-use Rattle.rcu_live.specs.Board.{Object}
 use Rattle.rcu_live.specs.CpuSeat.{Seated, at_first}
 use Rattle.rcu_live.specs.Watcher.{Watching, watcher_at_first}
 use Rattle.rcu_live.specs.Words.{base_of}
@@ -10,10 +9,15 @@ use Rattle.rcu_c.specs.Links.{no_links}
 use Rattle.rcu_c.specs.declared.identity.Identity.{Identity}
 use Rattle.rcu_c.specs.declared.links.Links.{Links}
 
--- of which object it is, what its processor's seat is, what its watcher has seen, what its thread deferred, and what tells
+-- the words that a seat reads, and how many processors have one among them
+pub record Words : Type 0 where
+  pub table : TableId
+  pub cpus : ℕ
+
+-- which words it reads, what its processor's seat is, what its watcher has seen, what its thread deferred, and what tells
 -- its engine from others
 pub record Seat : Type 0 where
-  pub object : Object
+  pub words : Words
   pub cpu : Seated (Unit {0})
   pub watcher : Watching (Unit {0})
   pub values : Deferring ℕ
@@ -23,7 +27,7 @@ pub record Seat : Type 0 where
 -- the seat of a processor as it is opened
 abbrev pub seat_at_first : Identity → TableId → ℕ → ℕ → Seat
 seat_at_first identity table cpus cpu = record {
-  object = record { table = table; cpus = cpus };
+  words = record { table = table; cpus = cpus };
   cpu = at_first table (base_of cpus) tt cpu;
   watcher = watcher_at_first table (base_of cpus) tt;
   values = list_at_first;

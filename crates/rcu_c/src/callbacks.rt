@@ -7,15 +7,16 @@ ghost use Rattle.rcu_cblist.specs.SegList.{behind, callbacks, front, take_answer
 ghost use Rattle.rcu_barrier.specs.Lists.{list_of};
 ghost use Rattle.rcu_core.specs.GpState as grace;
 ghost use Rattle.rcu_live.specs.Engine.{HasWaited, cpu_refusal};
+ghost use Rattle.rcu_live.specs.EngineLists as lists;
 ghost use Rattle.rcu_live.specs.EngineLists.{queue_refusal};
-ghost use Rattle.rcu_c.specs.Answers.{number_for, tested_number};
+ghost use Rattle.rcu_c.specs.Answers.{number_for};
 ghost use Rattle.rcu_c.specs.Holding.{engine_of, grace_of, on_grace};
 ghost use Rattle.rcu_c.specs.Refusals.{CanQueue, engine_number};
 ghost use Rattle.rcu_c.specs.Staying.{AllStay, BothStay};
 
 use crate::codes::{code, write_out};
 use crate::handle::Rcu;
-use rcu_cblist::Queued;
+use crate::open_engine::TreeEngine;
 use rcu_seq::Fault;
 
 /// Queues a value on an online processor. Writes how many were queued since opening. A list keeps
@@ -82,28 +83,38 @@ pub extern "C" fn rcu_tend(rcu: &mut Rcu, cpu: u32, done: &mut u64, waiting: &mu
     }
 }
 
-/// Writes the values of callbacks to the head of a buffer that has room for them, and leaves its
-/// rest as it is. Returns how many there are.
-fn put_values(calls: &[Queued<u64>], values: &mut [u64]) -> u64
-    requires { length calls.now ≤ length values.old }
-    ensures count { result ≡ length calls.now }
-    ensures head { take (length calls.now) values.new ≡ map (λ call. call.value) calls.now }
-    ensures rest { drop (length calls.now) values.new ≡ drop (length calls.now) values.old }
+/// Hands out done callbacks of a processor, as many as the buffer has room for, and writes their
+/// values to its head. The rest of it stays. Returns how many they are.
+fn put_done(engine: &mut TreeEngine, cpu: u32, values: &mut [u64]) -> u64
+    requires { cpu < engine.old.cpus }
+    ensures count { result ≡ length
+        (take_answer (list_of engine.old.grace.lists cpu) (length values.old)) }
+    ensures engine { engine.new ≡
+        lists.on_grace (λ g. grace.after_run g cpu (length values.old)) engine.old }
+    ensures head { take result values.new ≡ map (λ call. call.value)
+        (take_answer (list_of engine.old.grace.lists cpu) (length values.old)) }
+    ensures rest { drop result values.new ≡ drop result values.old }
+    ensures waited { All (λ call. HasWaited (number_of engine.old.grace.seq) call.at)
+        (take_answer (list_of engine.old.grace.lists cpu) (length values.old)) }
 {
-    for i in 0..calls.len() {
-        values[i] = calls[i].value;
+    let most = engine.done_count(cpu).min(values.len() as u64);
+    for i in 0..most {
+        let Some(call) = engine.pop_done(cpu) else {
+            unreachable!()
+        };
+        values[i as usize] = call.value;
     }
-    calls.len() as u64
+    most
 }
 
 /// Hands out done callbacks of the processor, in order, `room` at most: writes their values from
 /// `values` on, where there is room for so many, and how many; what lies behind them stays. A full
-/// grace period has passed since each was queued, and none is handed out again.
+/// grace period has passed since each was queued, and none is handed out again. Takes no memory.
 ///
-/// Faults: 1 where there is no such processor; 16, only where there is a callback to hand out.
+/// Fault 1: there is no such processor.
 #[unsafe(no_mangle)]
 pub extern "C" fn rcu_run(rcu: &mut Rcu, cpu: u32, values: &mut [u64], count: &mut u64) -> u32
-    ensures fault { tested_number result ≡ engine_number rcu.old.contents
+    ensures fault { result ≡ engine_number rcu.old.contents
         (number_for (cpu_refusal (engine_of rcu.old.contents) cpu)) }
     ensures state { result ≡ 0 → rcu.new.contents ≡
         on_grace (λ g. grace.after_run g cpu (length values.old)) rcu.old.contents }
@@ -116,8 +127,6 @@ pub extern "C" fn rcu_run(rcu: &mut Rcu, cpu: u32, values: &mut [u64], count: &m
     ensures waited { result ≡ 0 →
         All (λ call. HasWaited (number_of (grace_of rcu.old.contents).seq) call.at)
         (take_answer (list_of (grace_of rcu.old.contents).lists cpu) (length values.old)) }
-    ensures memory { result ≡ 16 →
-        take_answer (list_of (grace_of rcu.old.contents).lists cpu) (length values.old) ≢ [] }
     ensures unchanged { result ≢ 0 →
         AllStay rcu.old.contents rcu.new.contents values.old values.new count.old count.new }
 {
@@ -125,13 +134,11 @@ pub extern "C" fn rcu_run(rcu: &mut Rcu, cpu: u32, values: &mut [u64], count: &m
         Ok(opened) => opened,
         Err(refusal) => return refusal.number(),
     };
-    match opened.inner.run(cpu, values.len() as u64) {
-        Ok(ran) => {
-            *count = put_values(ran.calls.as_slice(), values);
-            0
-        }
-        Err(fault) => code(fault),
+    if opened.cpus() <= cpu {
+        return code(Fault::BadCpu);
     }
+    *count = put_done(&mut opened.inner, cpu, values);
+    0
 }
 
 /// Gives back the memory that the processor's list does not need, at a step for each item that

@@ -3,6 +3,7 @@ ghost use Rattle.std.specs.Prelude.{◌≡◌, Some};
 ghost use Rattle.rcu_c.specs.Holding.{HoldsSeat, seat_of};
 
 use crate::open_engine::OpenEngine;
+use crate::open_replica::OpenReplica;
 use crate::seat_parts::SeatParts;
 use std::mem;
 
@@ -13,6 +14,8 @@ pub enum Contents {
     Engine(OpenEngine),
     /// The seat of a processor.
     Seat(SeatParts),
+    /// A replica.
+    Replica(OpenReplica),
     /// Room for a seat, until it is dealt, and once it is handed back. C never sees it.
     Room,
 }
@@ -25,7 +28,7 @@ impl Contents {
     {
         match mem::replace(self, Contents::Room) {
             Contents::Seat(seat) => seat,
-            Contents::Engine(_) | Contents::Room => unreachable!(),
+            Contents::Engine(_) | Contents::Replica(_) | Contents::Room => unreachable!(),
         }
     }
 }

@@ -105,7 +105,7 @@ pub extern "C" fn rcu_collect_all(rcu: &mut Rcu, left: &mut u32) -> u32
 
 /// Writes the awaited processors, in order, to the head of a buffer, as many as it has room for,
 /// and leaves its rest as it is. Returns how many they are.
-fn put_awaited<A: Awaited>(awaited: &A, cpus: &mut [u32]) -> u32
+pub(crate) fn put_awaited<A: Awaited>(awaited: &A, cpus: &mut [u32]) -> u32
     ensures count { result ≡ length (take (length cpus.old)
         (which (length (A.awaited awaited.now)) (is_in (A.awaited awaited.now)))) }
     ensures head { take result cpus.new ≡ take (length cpus.old)

@@ -7,9 +7,11 @@ ghost use Rattle.rcu_c.specs.declared.contents.Contents.{Contents};
 ghost use Rattle.rcu_c.specs.Handle.{handle_owns, contents_coded};
 ghost use Rattle.rcu_c.specs.Holding.{HoldsEngine, HoldsSeat};
 ghost use Rattle.rcu_c.specs.Refusals.{engine_refusal, seat_refusal};
+ghost use Rattle.rcu_c.specs.Replicas.{HoldsReplica, replica_refusal};
 
 use crate::contents::Contents;
 use crate::open_engine::OpenEngine;
+use crate::open_replica::OpenReplica;
 use crate::raw_box::RawBox;
 use crate::refusal::Refusal;
 use crate::seat_parts::SeatParts;
@@ -34,6 +36,10 @@ pub type Rcu = Handle;
 /// handles.
 pub type RcuSeat = Handle;
 
+/// A replica's handle (`rcu_replica_t`), for one thread at a time. Handles may pass between
+/// threads.
+pub type RcuReplica = Handle;
+
 impl Model for Handle {
     ghost also_owns = { λ h. handle_owns h.alloc h.at h.contents };
 }
@@ -41,6 +47,7 @@ impl Model for Handle {
 impl Handle {
     ghost use Rattle.rcu_c.specs.Lending.{lends_contents, lends_engine, lends_engine_if_ok};
     ghost use Rattle.rcu_c.specs.Lending.{lends_seat, lends_seat_if_ok};
+    ghost use Rattle.rcu_c.specs.Lending.{lends_replica, lends_replica_if_ok};
 
     /// A handle of what lies in a box.
     pub(crate) fn of(contents: RawBox<Contents, Global>) -> Handle
@@ -96,6 +103,14 @@ impl Handle {
         self.is_open() && matches!(self.contents(), Contents::Seat(_))
     }
 
+    /// Whether the handle is an open replica's.
+    pub(crate) fn holds_replica(&mut self) -> bool
+        ensures value { result ≡ is_none (replica_refusal self.old.contents) }
+        ensures unchanged { self.new ≡ self.old }
+    {
+        self.is_open() && matches!(self.contents(), Contents::Replica(_))
+    }
+
     /// Why the handle is not taken, which is not of the kind that is wanted. (Out of the way of the
     /// calls that take it: a section costs a quarter more where this stands among them.)
     #[cold]
@@ -120,7 +135,7 @@ impl Handle {
     {
         match self.contents() {
             Contents::Engine(engine) => engine,
-            Contents::Seat(_) | Contents::Room => unreachable!(),
+            Contents::Seat(_) | Contents::Replica(_) | Contents::Room => unreachable!(),
         }
     }
 
@@ -132,7 +147,19 @@ impl Handle {
     {
         match self.contents() {
             Contents::Seat(seat) => seat,
-            Contents::Engine(_) | Contents::Room => unreachable!(),
+            Contents::Engine(_) | Contents::Replica(_) | Contents::Room => unreachable!(),
+        }
+    }
+
+    /// The replica of a replica's handle.
+    fn open_replica(&mut self) -> &mut OpenReplica
+        requires { HoldsReplica self.old.contents }
+        ensures* writes_back { sem 𝓛 (lends_replica self.entry result) }
+        ensures value { self.old.contents ≡ Some (Contents.Replica result.now) }
+    {
+        match self.contents() {
+            Contents::Replica(replica) => replica,
+            Contents::Engine(_) | Contents::Seat(_) | Contents::Room => unreachable!(),
         }
     }
 
@@ -158,6 +185,20 @@ impl Handle {
     {
         if self.holds_seat() {
             Ok(self.open_seat())
+        } else {
+            Err(self.refusal())
+        }
+    }
+
+    /// The replica, or why the handle is not taken for a replica's.
+    pub(crate) fn replica(&mut self) -> Result<&mut OpenReplica, Refusal>
+        ensures* writes_back { sem 𝓛 (lends_replica_if_ok self.entry result) }
+        ensures value { IfOk result (λ replica.
+            self.old.contents ≡ Some (Contents.Replica replica.now)) }
+        ensures fault { result_err result ≡ replica_refusal self.old.contents }
+    {
+        if self.holds_replica() {
+            Ok(self.open_replica())
         } else {
             Err(self.refusal())
         }

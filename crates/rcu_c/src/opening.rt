@@ -5,7 +5,6 @@ ghost use Rattle.std.specs.Arc.{arc_value};
 ghost use Rattle.std.specs.List.{range_with_len};
 ghost use Rattle.rcu_live.specs.CpuSeat.{at_first};
 ghost use Rattle.rcu_geometry.specs.Opening.{opening_refusal};
-ghost use Rattle.rcu_live.specs.Opening.{AreDealt};
 ghost use Rattle.rcu_seq.specs.Memory.{tested_fault};
 ghost use Rattle.rcu_live.specs.Watcher.{watcher_at_first};
 ghost use Rattle.rcu_live.specs.Words.{base_of};
@@ -64,7 +63,12 @@ fn make_seats(
     seats: Vec<CpuSeat>,
     watchers: Vec<Watcher>,
 ) -> Result<Vec<Option<SeatParts>>, AllocError>
-    requires dealt { AreDealt cpus 0 0 tt (arc_value board.now) seats.items watchers.items }
+    requires cpus { (arc_value board.now).cpus ≡ cpus }
+    requires seats { seats.items ≡
+        map (at_first (arc_value board.now).table (base_of cpus) tt) (range_with_len 0 cpus) }
+    requires watchers { watchers.items ≡ map
+        (λ _. watcher_at_first (arc_value board.now).table (base_of cpus) tt)
+        (range_with_len 0 cpus) }
     ensures { IfOk result (λ made. made.items ≡ map
         (λ cpu. Some (seat_at_first identity (arc_value board.now).table cpus cpu))
         (range_with_len 0 cpus)) }

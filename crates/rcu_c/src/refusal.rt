@@ -16,7 +16,7 @@ pub enum Refusal {
     OtherEngine,
     /// The handle is closed, or was never opened.
     Closed,
-    /// The handle is of the other kind.
+    /// The handle is of another kind.
     OtherKind,
 }
 

@@ -32,7 +32,7 @@ impl Model for SeatParts {
     ghost Value = { Seat };
 
     ghost view = { λ s. record {
-      object = arc_value s.board;
+      words = record { table = (arc_value s.board).table; cpus = (arc_value s.board).cpus };
       cpu = s.cpu;
       watcher = s.watcher;
       values = s.values;
@@ -62,7 +62,7 @@ impl SeatParts {
         requires watcher { watcher.table ≡ (arc_value board).table }
         requires inside { cpu.cpu < (arc_value board).cpus }
         ensures { result ≡ record {
-          object = arc_value board;
+          words = record { table = (arc_value board).table; cpus = (arc_value board).cpus };
           cpu = cpu;
           watcher = watcher;
           values = list_at_first;

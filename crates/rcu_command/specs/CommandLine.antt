@@ -75,13 +75,14 @@ torture = with_rule (with_rule (with_rule (new_app (codes "torture"))
     (required_rule (number_rule (codes "rounds") (u32_from_1_to most_rounds))))
     (required_rule (number_rule (codes "seed") any_u64))
 
--- `rcu` with its subcommands: its words come without the program's name, one of them has to name a subcommand, and
--- `help` is no subcommand
+-- `rcu` with its subcommands: its words come without the program's name, one of them has to name a subcommand,
+-- `help` is no subcommand, and it has a version
 abbrev pub rcu : App
 rcu = with_subcommand (with_subcommand (with_subcommand (on_top (λ top. record top {
   no_binary_name = true;
   subcommand_required = true;
   disable_help_subcommand = true;
+  has_version = true;
 }) (new_app (codes "rcu"))) script.top) pair.top) torture.top
 
 -- ---- what the matches say

@@ -17,45 +17,50 @@ pub(crate) type Engine = Live<4, 4, u64>;
 
 /// The calls of an engine that take its lock, as workers make them.
 ///
-/// Each answer counts as told: by that of a collection of this processor, of a turn, and so on.
-/// Nothing else is known of the answers here. So a function that has to return what was told has
-/// to make the call.
+/// Each answer counts as told: by that of a collection of this processor, of a turn, and so on, to
+/// a worker whose seat had stored so often. Nothing else is known of the answers here. So a
+/// function that has to return what was told has to make the call, and at that place of its round.
 pub(crate) trait Locked: Shared<NoClient> + Drop {
-    // Of a collection the processor; of a queueing the processor, and the value.
-    ghost collected: { ℕ → Collected → Type 0 };
+    // How often the worker's seat had stored, then of a collection the processor; of a queueing the
+    // processor, and the value.
+    ghost collected: { ℕ → ℕ → Collected → Type 0 };
 
-    ghost turned: { Turned → Type 0 };
+    ghost turned: { ℕ → Turned → Type 0 };
 
-    ghost tended: { ℕ → (ℕ × ℕ) → Type 0 };
+    ghost tended: { ℕ → ℕ → (ℕ × ℕ) → Type 0 };
 
-    ghost queued: { ℕ → ℕ → ℕ → Type 0 };
+    ghost queued: { ℕ → ℕ → ℕ → ℕ → Type 0 };
 
     // Of a run the processor, how many it was to hand out at most, the number and what it did.
-    ghost handed_out: { ℕ → ℕ → ℕ → List (Queued ℕ) → Type 0 };
+    ghost handed_out: { ℕ → ℕ → ℕ → ℕ → List (Queued ℕ) → Type 0 };
+
+    ghost departed: { ℕ → ℕ → Type 0 };
 
     /// As [`Live::collect`].
-    fn collect<R: Wait>(&self, rt: &R, cpu: u32) -> Result<Collected, Fault>
-        ensures told { IfOk result (λ found. collected cpu found) };
+    fn collect<R: Wait>(&self, rt: &R, seat: &CpuSeat, cpu: u32) -> Result<Collected, Fault>
+        ensures told { IfOk result (λ found. collected seat.now.view.stores cpu found) };
 
     /// As [`Live::turn`].
-    fn turn<R: Wait>(&self, rt: &R) -> Result<Turned, Fault>
-        ensures told { IfOk result (λ done. turned done) };
+    fn turn<R: Wait>(&self, rt: &R, seat: &CpuSeat) -> Result<Turned, Fault>
+        ensures told { IfOk result (λ done. turned seat.now.view.stores done) };
 
     /// As [`Live::tend`].
-    fn tend<R: Wait>(&self, rt: &R, cpu: u32) -> Result<(u64, u64), Fault>
-        ensures told { IfOk result (λ counts. tended cpu counts) };
+    fn tend<R: Wait>(&self, rt: &R, seat: &CpuSeat, cpu: u32) -> Result<(u64, u64), Fault>
+        ensures told { IfOk result (λ counts. tended seat.now.view.stores cpu counts) };
 
     /// As [`Live::queue`].
     fn queue<R: Wait>(&self, rt: &R, seat: &mut CpuSeat, value: u64) -> Result<u64, Refused<u64>>
         requires { seat.old.table ≡ (Self.object self.now).table }
         ensures seat { seat.new ≡ seat.old }
-        ensures told { IfOk result (λ count. queued seat.old.cpu value count) };
+        ensures told { IfOk result (λ count.
+            queued seat.old.view.stores seat.old.cpu value count) };
 
     /// As [`Live::run`].
-    fn run<R: Wait>(&self, rt: &R, cpu: u32, max: u64) -> Result<Ran<u64>, Fault>
+    fn run<R: Wait>(&self, rt: &R, seat: &CpuSeat, cpu: u32, max: u64) -> Result<Ran<u64>, Fault>
         ensures due { IfOk result (λ ran. AreDue ran.number max ran.calls.items) }
         ensures fault { IfErr result (λ fault. is_run_fault fault ≡ true) }
-        ensures told { IfOk result (λ ran. handed_out cpu max ran.number ran.calls.items) };
+        ensures told { IfOk result (λ ran.
+            handed_out seat.now.view.stores cpu max ran.number ran.calls.items) };
 
     /// As [`Live::online`].
     fn online<R: Wait>(&self, rt: &R, seat: &mut CpuSeat) -> Result<(), Fault>
@@ -69,29 +74,32 @@ pub(crate) trait Locked: Shared<NoClient> + Drop {
         requires { seat.old.table ≡ (Self.object self.now).table }
         ensures table { seat.new.table ≡ seat.old.table }
         ensures cpu { seat.new.cpu ≡ seat.old.cpu }
-        ensures stored { OnOk result (seat.new ≡ after_depart seat.old) };
+        ensures stored { OnOk result (seat.new ≡ after_depart seat.old) }
+        ensures told { IfOk result (λ moved. departed seat.old.view.stores moved) };
 }
 
 impl Locked for Engine {
-    ghost collected = { λ _ _. Unit {0} };
+    ghost collected = { λ _ _ _. Unit {0} };
 
-    ghost turned = { λ _. Unit {0} };
+    ghost turned = { λ _ _. Unit {0} };
 
-    ghost tended = { λ _ _. Unit {0} };
+    ghost tended = { λ _ _ _. Unit {0} };
 
-    ghost queued = { λ _ _ _. Unit {0} };
+    ghost queued = { λ _ _ _ _. Unit {0} };
 
-    ghost handed_out = { λ _ _ _ _. Unit {0} };
+    ghost handed_out = { λ _ _ _ _ _. Unit {0} };
 
-    fn collect<R: Wait>(&self, rt: &R, cpu: u32) -> Result<Collected, Fault> {
+    ghost departed = { λ _ _. Unit {0} };
+
+    fn collect<R: Wait>(&self, rt: &R, _seat: &CpuSeat, cpu: u32) -> Result<Collected, Fault> {
         Live::collect(self, rt, cpu)
     }
 
-    fn turn<R: Wait>(&self, rt: &R) -> Result<Turned, Fault> {
+    fn turn<R: Wait>(&self, rt: &R, _seat: &CpuSeat) -> Result<Turned, Fault> {
         Live::turn(self, rt)
     }
 
-    fn tend<R: Wait>(&self, rt: &R, cpu: u32) -> Result<(u64, u64), Fault> {
+    fn tend<R: Wait>(&self, rt: &R, _seat: &CpuSeat, cpu: u32) -> Result<(u64, u64), Fault> {
         Live::tend(self, rt, cpu)
     }
 
@@ -99,7 +107,7 @@ impl Locked for Engine {
         Live::queue(self, rt, seat, value)
     }
 
-    fn run<R: Wait>(&self, rt: &R, cpu: u32, max: u64) -> Result<Ran<u64>, Fault> {
+    fn run<R: Wait>(&self, rt: &R, _seat: &CpuSeat, cpu: u32, max: u64) -> Result<Ran<u64>, Fault> {
         Live::run(self, rt, cpu, max)
     }
 
@@ -128,4 +136,6 @@ pub(crate) struct Told {
     pub(crate) queued: u64,
     pub(crate) driven: Driven,
     pub(crate) ran: Ran<u64>,
+    /// How many callbacks moved as its processor went offline, where it did.
+    pub(crate) moved: Option<u64>,
 }

@@ -1,6 +1,6 @@
 //! A worker's job.
 ghost use Rattle.std.specs.Prelude.{◌≡◌, ◌+◌, ◌%◌, ◌<◌, ◌≤◌, ◌⊎◌, ℕ, IfErr, IfNone, IfOk, IfSome};
-ghost use Rattle.std.specs.Prelude.{OnErr, OnOk, false, length, true};
+ghost use Rattle.std.specs.Prelude.{IsSomeAnd, OnErr, OnOk, false, length, true};
 ghost use Rattle.rand_pcg.specs.Pcg.{pcg32};
 ghost use Rattle.rcu_seq.specs.Tags.{is_done_first};
 ghost use Rattle.rcu_live.specs.CpuSeat.{after_depart, after_idle, after_quiesce};
@@ -62,6 +62,7 @@ fn close<E: Locked>(live: &E, seat: &mut CpuSeat)
 fn hand_out<R: Wait, E: Locked>(
     rt: &R,
     live: &E,
+    seat: &CpuSeat,
     cpu: u32,
     most: u64,
     share: &mut Share,
@@ -69,7 +70,8 @@ fn hand_out<R: Wait, E: Locked>(
     ensures taken { IfOk result (λ ran. share.new ≡
         record (after_run share.old ran.number ran.calls.items) { room = share.new.room }) }
     ensures most { IfOk result (λ ran. length ran.calls.items ≤ most) }
-    ensures told { IfOk result (λ ran. E.handed_out cpu most ran.number ran.calls.items) }
+    ensures told { IfOk result (λ ran.
+        E.handed_out seat.now.view.stores cpu most ran.number ran.calls.items) }
     ensures none_early { share.new.early ≡ share.old.early }
     ensures unchanged { OnErr result (share.new ≡ record share.old { room = share.new.room }) }
     ensures fault { IfErr result (λ fault. is_run_fault fault ≡ true) }
@@ -77,7 +79,7 @@ fn hand_out<R: Wait, E: Locked>(
     if share.make_room(most as usize).is_err() {
         return Err(Fault::NoMemory);
     }
-    let ran = live.run(rt, cpu, most)?;
+    let ran = live.run(rt, seat, cpu, most)?;
     share.take_down(&ran);
     Ok(ran)
 }
@@ -259,16 +261,22 @@ impl<'a, E: Locked> Job<'a, E> {
             (share.new ≡ record share.old { early = share.new.early })) }
         ensures looked { IfOk result (λ passed. IfSome passed (λ _.
             self.new.watcher.view.loads ≡ self.old.watcher.view.loads + 2)) }
-        ensures queued { IfOk result (λ passed. IfSome passed (λ told. E.queued self.old.worker
+        ensures queued { IfOk result (λ passed. IfSome passed (λ told.
+            E.queued (self.old.seat.view.stores + 1) self.old.worker
             (id_of self.old.worker self.old.plan.rounds round) told.queued)) }
-        ensures collected { IfOk result (λ passed. IfSome passed (λ told. E.collected
+        ensures collected { IfOk result (λ passed. IfSome passed (λ told.
+            E.collected (self.old.seat.view.stores + 1)
             (other_by self.old.plan.workers (pcg32 self.old.draws).0) told.driven.collected)) }
         ensures turned { IfOk result (λ passed. IfSome passed (λ told.
-            E.turned told.driven.turned)) }
+            E.turned (self.old.seat.view.stores + 1) told.driven.turned)) }
         ensures tended { IfOk result (λ passed. IfSome passed (λ told.
-            E.tended self.old.worker told.driven.tended)) }
+            E.tended (self.old.seat.view.stores + 1) self.old.worker told.driven.tended)) }
         ensures handed_out { IfOk result (λ passed. IfSome passed (λ told.
-            E.handed_out self.old.worker most_in_round told.ran.number told.ran.calls.items)) }
+            E.handed_out (self.old.seat.view.stores + 1) self.old.worker most_in_round
+            told.ran.number told.ran.calls.items)) }
+        ensures departed { IfOk result (λ passed. IfSome passed (λ told.
+            leaves_by self.old.worker (pcg32 self.old.draws).0 ≡ true →
+            IsSomeAnd told.moved (λ moved. E.departed (self.old.seat.view.stores + 1) moved))) }
         ensures stored { IfOk result (λ passed. IfSome passed (λ _. self.new.seat.view.stores ≡
             self.old.seat.view.stores + stores_by self.old.worker (pcg32 self.old.draws).0)) }
         ensures draws { self.new.draws ≡ (pcg32 self.old.draws).1 }
@@ -285,13 +293,14 @@ impl<'a, E: Locked> Job<'a, E> {
         let queued = self.queue(rt, round)?;
         share.note_queued();
         let driven = self.drive(rt, word)?;
-        let ran = hand_out(rt, self.live, self.worker, MOST_IN_ROUND, share)?;
-        self.leave_and_return(rt, word)?;
+        let ran = hand_out(rt, self.live, &self.seat, self.worker, MOST_IN_ROUND, share)?;
+        let moved = self.leave_and_return(rt, word)?;
         self.sleep_and_wake(word)?;
         Ok(Some(Told {
             queued,
             driven,
             ran,
+            moved,
         }))
     }
 
@@ -367,7 +376,7 @@ impl<'a, E: Locked> Job<'a, E> {
 
     /// Queues the callback of the round.
     fn queue<R: Wait>(&mut self, rt: &R, round: u32) -> Result<u64, Fault>
-        ensures told { IfOk result (λ count. E.queued self.old.worker
+        ensures told { IfOk result (λ count. E.queued self.old.seat.view.stores self.old.worker
             (id_of self.old.worker self.old.plan.rounds round) count) }
         ensures rest { self.new ≡ self.old }
     {
@@ -387,14 +396,16 @@ impl<'a, E: Locked> Job<'a, E> {
     /// Moves the grace periods on: collects of a processor that the word names, turns, and tends
     /// its own callbacks. Returns what the engine told.
     fn drive<R: Wait>(&self, rt: &R, word: u32) -> Result<Driven, Fault>
-        ensures collected { IfOk result (λ driven.
-            E.collected (other_by self.now.plan.workers word) driven.collected) }
-        ensures turned { IfOk result (λ driven. E.turned driven.turned) }
-        ensures tended { IfOk result (λ driven. E.tended self.now.worker driven.tended) }
+        ensures collected { IfOk result (λ driven. E.collected self.now.seat.view.stores
+            (other_by self.now.plan.workers word) driven.collected) }
+        ensures turned { IfOk result (λ driven.
+            E.turned self.now.seat.view.stores driven.turned) }
+        ensures tended { IfOk result (λ driven.
+            E.tended self.now.seat.view.stores self.now.worker driven.tended) }
     {
-        let collected = self.live.collect(rt, self.other(word))?;
-        let turned = self.live.turn(rt)?;
-        let tended = self.live.tend(rt, self.worker)?;
+        let collected = self.live.collect(rt, &self.seat, self.other(word))?;
+        let turned = self.live.turn(rt, &self.seat)?;
+        let tended = self.live.tend(rt, &self.seat, self.worker)?;
         Ok(Driven {
             collected,
             turned,
@@ -402,18 +413,22 @@ impl<'a, E: Locked> Job<'a, E> {
         })
     }
 
-    /// Where the word says so, takes another processor than 0 offline and online again.
-    fn leave_and_return<R: Wait>(&mut self, rt: &R, word: u32) -> Result<(), Fault>
+    /// Where the word says so, takes another processor than 0 offline and online again. Returns how
+    /// many callbacks moved then.
+    fn leave_and_return<R: Wait>(&mut self, rt: &R, word: u32) -> Result<Option<u64>, Fault>
+        ensures told { IfOk result (λ left. leaves_by self.old.worker word ≡ true →
+            IsSomeAnd left (λ moved. E.departed self.old.seat.view.stores moved)) }
         ensures stayed { leaves_by self.old.worker word ≡ false → self.new ≡ self.old }
         ensures returned { OnOk result (leaves_by self.old.worker word ≡ true →
             self.new.seat ≡ after_quiesce (after_depart self.old.seat) self.new.seat.view.seen) }
         ensures rest { self.new ≡ record self.old { seat = self.new.seat } }
     {
         if self.worker != 0 && word / 4 % 8 == 0 {
-            self.live.offline(rt, &mut self.seat)?;
+            let moved = self.live.offline(rt, &mut self.seat)?;
             self.live.online(rt, &mut self.seat)?;
+            return Ok(Some(moved));
         }
-        Ok(())
+        Ok(None)
     }
 
     /// Where the word says so, gets the processor idle, and wakes it.
@@ -434,10 +449,10 @@ impl<'a, E: Locked> Job<'a, E> {
     fn pass_period<R: Wait>(&mut self, rt: &R) -> Result<(), Fault>
         ensures rest { self.new ≡ record self.old { seat = self.new.seat } }
     {
-        self.live.turn(rt)?;
+        self.live.turn(rt, &self.seat)?;
         self.seat.quiesce(self.live)?;
-        self.live.collect(rt, self.worker)?;
-        self.live.turn(rt)?;
+        self.live.collect(rt, &self.seat, self.worker)?;
+        self.live.turn(rt, &self.seat)?;
         Ok(())
     }
 
@@ -447,16 +462,17 @@ impl<'a, E: Locked> Job<'a, E> {
         ensures queued { IfOk result (λ share. share.queued ≡ 0) }
         ensures early { IfOk result (λ share. share.early ≡ 0) }
     {
-        self.live.tend(rt, self.worker)?;
+        self.live.tend(rt, &self.seat, self.worker)?;
         for _ in 0..2 {
             self.pass_period(rt)?;
         }
         // Nobody else works the engine any more: no more are done than the tend tells.
-        let (done, _) = self.live.tend(rt, self.worker)?;
+        let (done, _) = self.live.tend(rt, &self.seat, self.worker)?;
         let mut share = Share::new(self.alloc);
         hand_out(
             rt,
             self.live,
+            &self.seat,
             self.worker,
             done.min(MOST_AT_END),
             &mut share,

@@ -1,6 +1,7 @@
 //! Threads that work the running engine hard, and the ledger of what they did.
 #![tactic(auto)]
 
+pub mod definition_laws;
 pub mod draws;
 mod engine;
 pub mod gate;

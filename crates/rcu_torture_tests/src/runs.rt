@@ -234,11 +234,26 @@ impl<R: Clock + Sync> Gate for LockStep<'_, R> {
     }
 }
 
-/// Whether workers handed out callbacks in a run in lock step, so that not all were left to the
-/// program in the end: some of them on another thread than the program's. A run that was refused a
-/// growth tells nothing.
-fn workers_hand_out<R: Threads + Wait + Clock + Sync>(rt: &R, alloc: Global) -> bool {
-    let Ok(ledger) = torture(alloc, rt, 4, 64, 1, &LockStep::new(rt, 4)) else {
+/// Whether other workers than the first handed out callbacks in a run in lock step, so that not all
+/// were left to the program in the end. A run that was refused a growth tells nothing.
+fn workers_hand_out<R: Threads + Wait + Clock + Sync>(
+    rt: &R,
+    alloc: Global,
+    workers: u32,
+    rounds: u32,
+    seed: u64,
+) -> bool
+    requires workers { (1 ≤ workers) × (workers ≤ most_workers) }
+    requires rounds { (1 ≤ rounds) × (rounds ≤ most_rounds) }
+{
+    let Ok(ledger) = torture(
+        alloc,
+        rt,
+        workers,
+        rounds,
+        seed,
+        &LockStep::new(rt, workers),
+    ) else {
         return false;
     };
     let others = ledger.shares().iter().skip(1);
@@ -249,7 +264,17 @@ fn workers_hand_out<R: Threads + Wait + Clock + Sync>(rt: &R, alloc: Global) -> 
 /// it, a second run is looked at.
 #[test]
 fn workers_hand_out_callbacks(rt: HostRuntime) {
-    let found = workers_hand_out(&rt, rt.alloc()) || workers_hand_out(&rt, rt.alloc());
+    let found = workers_hand_out(&rt, rt.alloc(), 4, 64, 1)
+        || workers_hand_out(&rt, rt.alloc(), 4, 64, 1);
+    assert!(rt; found);
+}
+
+/// By this seed worker 1 goes offline in none of the 16 rounds, and sleeps in none. So it hands out
+/// callbacks only where it tends its own list, and where somebody collects from its processor.
+#[test]
+fn a_worker_that_stays_hands_out_its_own(rt: HostRuntime) {
+    let found = workers_hand_out(&rt, rt.alloc(), 2, 16, 39)
+        || workers_hand_out(&rt, rt.alloc(), 2, 16, 39);
     assert!(rt; found);
 }
 
@@ -267,6 +292,8 @@ fn ledger_of_many_rounds(rt: HostRuntime) {
 fn ledger_of_few_rounds(rt: HostRuntime) {
     all_are_handed_out(&rt, rt.alloc(), 2, 2, 1);
     all_are_handed_out(&rt, rt.alloc(), 1, 1, 1);
+    // Here a grace period runs at the end, and the second callback waits for the one after it.
+    all_are_handed_out(&rt, rt.alloc(), 1, 2, 1);
 }
 
 /// Whichever growth is refused, the answer is fault 16 or the whole ledger: no share is lost.

@@ -21,6 +21,7 @@ pub fn rcu_command<'a>(alloc: Global) -> Result<Command<'a>, AllocError>
 {
     let about = "Drives a grace-period engine of read-copy-update (RCU)";
     described(alloc, "rcu", about, help::PROGRAM)
+        .version(help::VERSION)
         .no_binary_name(true)
         .subcommand_required(true)
         .disable_help_subcommand(true)

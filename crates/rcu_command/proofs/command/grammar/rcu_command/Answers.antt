@@ -10,6 +10,7 @@ returns c =
       no_binary_name = true;
       subcommand_required = true;
       disable_help_subcommand = true;
+      has_version = true;
     }) (new_app (codes "rcu")) = search rules in
     let script = c.in_ok-script_command.ensures in
     let pair = c.in_ok-pair_command.ensures in

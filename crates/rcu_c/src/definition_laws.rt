@@ -1,0 +1,56 @@
+//! What the words of the laws say: where each holds, and where it does not.
+ghost use Rattle.std.specs.Prelude.{◌≡◌, ◌≢◌, ◌≤◌, ℕ, None, Option, Some, false, true};
+ghost use mathlib.Core.Option.{some};
+ghost use lib.ListN.{get_elem?};
+ghost use Rattle.rcu_seq.specs.Numbers.{Number};
+ghost use Rattle.rcu_seq.specs.Seq.{number_of};
+ghost use Rattle.rcu_live.specs.Rule.{IsKept};
+ghost use Rattle.rcu_live.specs.View.{IsOfEngine};
+ghost use Rattle.rcu_live.specs.declared.view.Role.TheVariants.{Cpu};
+ghost use Rattle.rcu_c.specs.Belonging.{BelongsTo, HasSectionAt, IsEngineAt, Moment};
+ghost use Rattle.rcu_c.specs.Engines.{EngineAndSeats, is_own};
+ghost use Rattle.rcu_c.specs.Holding.{cpu_of, engine_of, grace_of, opened_of, seat_of};
+ghost use Rattle.rcu_c.specs.Seats.{Seat};
+ghost use Rattle.rcu_c.specs.Staying.{AllStay, BothStay};
+ghost use Rattle.rcu_c.specs.declared.contents.Contents.{Contents};
+
+/// A moment has the open section of a seat where its views show it, and none of a seat outside of
+/// one. It has an engine where the rule holds, its views show the engine's, and that has seen the
+/// engine's number.
+pub fn moments_have_what_their_views_show()
+    ensures section { (now : Moment) (id : ℕ) (seat : Option Contents) (at : Number) →
+        get_elem? now.views id ≡ some (cpu_of seat).view → (cpu_of seat).view.role ≡ Cpu →
+        (cpu_of seat).view.section ≡ Some at → HasSectionAt now id seat at }
+    ensures outside { (now : Moment) (id : ℕ) (seat : Option Contents) (at : Number) →
+        (cpu_of seat).view.section ≡ None → HasSectionAt now id seat at → ⊥ }
+    ensures engine { (now : Moment) (id : ℕ) (rcu : Option Contents) →
+        IsKept (λ _ _ _. Unit {0}) (engine_of rcu).cpus now →
+        get_elem? now.views id ≡ some (engine_of rcu).view → IsOfEngine (engine_of rcu).view →
+        (engine_of rcu).view.seen ≡ number_of (grace_of rcu).seq → IsEngineAt now id rcu }
+    ensures other_number { (now : Moment) (id : ℕ) (rcu : Option Contents) →
+        (engine_of rcu).view.seen ≢ number_of (grace_of rcu).seq → IsEngineAt now id rcu → ⊥ }
+{}
+
+/// A seat that belongs to an engine reads its words, and is taken by it. None is taken of another
+/// identity, or of a processor that the engine does not have.
+pub fn seats_belong_to_who_takes_them()
+    ensures taken { (seat rcu : Option Contents) → BelongsTo seat rcu →
+        is_own (opened_of rcu) (seat_of seat) ≡ true }
+    ensures table { (seat rcu : Option Contents) → BelongsTo seat rcu →
+        (seat_of seat).words.table ≡ (engine_of rcu).table }
+    ensures cpus { (seat rcu : Option Contents) → BelongsTo seat rcu →
+        (seat_of seat).words.cpus ≡ (engine_of rcu).cpus }
+    ensures place { (opened : EngineAndSeats) (seat : Seat) →
+        opened.identity.place ≢ seat.identity.place → is_own opened seat ≡ false }
+    ensures count { (opened : EngineAndSeats) (seat : Seat) →
+        opened.identity.count ≢ seat.identity.count → is_own opened seat ≡ false }
+    ensures beyond { (opened : EngineAndSeats) (seat : Seat) →
+        opened.engine.cpus ≤ seat.cpu.cpu → is_own opened seat ≡ false }
+{}
+
+/// What stays is what it was: both things, or all three.
+pub fn what_stays_is_what_it_was()
+    ensures first { (a a' b b' : ℕ) → BothStay a a' b b' → a' ≡ a }
+    ensures second { (a a' b b' : ℕ) → BothStay a a' b b' → b' ≡ b }
+    ensures all { (a a' b b' c c' : ℕ) → AllStay a a' b b' c c' → (a' ≡ a) × (b' ≡ b) × (c' ≡ c) }
+{}
