@@ -162,6 +162,15 @@ impl EngineHandle {
         });
         self.awaits(cpu)
     }
+
+    /// Lists the awaited processors, in order, as many as there is room for.
+    pub fn awaited<'a>(&mut self, room: &'a mut [u32]) -> &'a [u32] {
+        let mut count = 0;
+        must("the awaited", unsafe {
+            raw::rcu_awaited_list(&mut self.0, room.as_mut_ptr(), room.len(), &mut count)
+        });
+        &room[..count as usize]
+    }
 }
 
 impl Drop for EngineHandle {

@@ -53,12 +53,13 @@ mod error;
 #[allow(clippy::undocumented_unsafe_blocks)] // its head has the reason for all
 pub mod handles;
 mod inner;
-#[allow(missing_docs, clippy::undocumented_unsafe_blocks)]
-pub mod raw;
 mod reader;
+#[allow(clippy::undocumented_unsafe_blocks)] // its head has the reason for all
+pub mod replica;
 mod shared;
 
 pub use engine::Engine;
 pub use error::Error;
+pub use rcu_sys as raw;
 pub use reader::{Guard, Reader};
 pub use shared::Shared;

@@ -2,6 +2,14 @@
 //! owes, and nothing checks it.
 
 #![allow(non_camel_case_types)]
+#![allow(missing_docs, clippy::undocumented_unsafe_blocks)] // the head has the reason for all
+
+#[cfg(not(all(
+    target_arch = "x86_64",
+    target_os = "linux",
+    target_pointer_width = "64"
+)))]
+compile_error!("rcu: the proved library is for Linux on x86-64 alone");
 
 use std::sync::atomic::{fence, AtomicU64, Ordering::SeqCst};
 
@@ -41,6 +49,12 @@ pub struct rcu_turn_t {
     pub number: u64,
 }
 
+/// A replica's handle, for one thread at a time. Handles may pass between threads.
+#[repr(C)]
+pub struct rcu_replica_t {
+    pub at: *mut u8,
+}
+
 // Why a call is refused.
 /// There is no processor of this number.
 pub const RCU_BAD_CPU: u32 = 1;
@@ -76,6 +90,8 @@ pub const RCU_NO_MEMORY: u32 = 16;
 pub const RCU_TOO_MANY_CPUS: u32 = 17;
 /// The last number is not a multiple of 4 from 4 to 2^62.
 pub const RCU_BAD_LAST: u32 = 19;
+/// Tag, start set or number of processors differ.
+pub const RCU_NOT_ALIKE: u32 = 20;
 /// The processor is idle.
 pub const RCU_CPU_IDLE: u32 = 23;
 /// The processor is not idle.
@@ -86,7 +102,7 @@ pub const RCU_SEAT_DEALT: u32 = 25;
 pub const RCU_OTHER_ENGINE: u32 = 26;
 /// The handle is closed, or was never opened.
 pub const RCU_CLOSED: u32 = 27;
-/// The handle is of the other kind.
+/// The handle is of another kind.
 pub const RCU_OTHER_KIND: u32 = 28;
 
 // What a collection found.
@@ -118,6 +134,16 @@ pub const RCU_TURN_BEGUN: u32 = 1;
 pub const RCU_TURN_ENDED: u32 = 2;
 /// The grace period goes on, and awaits this many processors.
 pub const RCU_TURN_WAITING: u32 = 3;
+
+// What a report did.
+/// The processor was awaited, and others still are.
+pub const RCU_ANSWER_TAKEN: u32 = 0;
+/// The processor was the only one awaited.
+pub const RCU_ANSWER_LAST: u32 = 1;
+/// The processor is not awaited.
+pub const RCU_ANSWER_REPEAT: u32 = 2;
+/// The report is of another grace period.
+pub const RCU_ANSWER_STALE: u32 = 3;
 
 // <<<
 
@@ -279,8 +305,9 @@ extern "C" {
     /// Hands out done callbacks of the processor, in order, `room` at most: writes their values
     /// from `values` on, where there is room for so many, and how many; what lies behind them
     /// stays. A full grace period has passed since each was queued, and none is handed out again.
+    /// Takes no memory.
     ///
-    /// Faults: 1 where there is no such processor; 16, only where there is a callback to hand out.
+    /// Fault 1: there is no such processor.
     pub fn rcu_run(
         rcu: *mut rcu_t,
         cpu: u32,
@@ -536,6 +563,61 @@ extern "C" {
     ///
     /// Fence: behind where `number` changed.
     pub fn rcu_seat_repin_unfenced(seat: *mut rcu_seat_t, number: *mut u64) -> u32;
+    /// Opens a replica of 1 to 4,096 processors at number 0, which awaits nobody. No grace period
+    /// begins at `last`, a multiple of 4 from 4 to 2^62. Needs: `replica` is closed.
+    ///
+    /// Faults: 17 for no processor or more than 4,096; 19 where `last` is no such number; 16.
+    pub fn rcu_replica_open(cpus: u32, last: u64, replica: *mut rcu_replica_t) -> u32;
+    /// Begins a grace period that awaits the processors whose bits are set in words of 64, the
+    /// lowest first; bits of processors that there are not say nothing. Writes its number, four for
+    /// each that ended and one more. It costs a step a processor, and takes no memory.
+    ///
+    /// Faults: 8 where one runs; 11 where the number is the last one.
+    pub fn rcu_replica_begin(
+        replica: *mut rcu_replica_t,
+        words: *const u64,
+        length: usize,
+        number: *mut u64,
+    ) -> u32;
+    /// A processor reports a quiescent state with the number that it had noted. A report of another
+    /// number than that of the running grace period changes nothing, nor does a repeated one.
+    /// Writes an `rcu_answer`.
+    ///
+    /// Fault 1: there is no such processor.
+    pub fn rcu_replica_report(
+        replica: *mut rcu_replica_t,
+        cpu: u32,
+        number: u64,
+        answer: *mut u32,
+    ) -> u32;
+    /// A processor departs: it is awaited no more in the running grace period. Its message has no
+    /// number that is compared, so tell it where it departed in this grace period alone.
+    ///
+    /// Faults: 1 where there is no such processor; 12 for processor 0.
+    pub fn rcu_replica_depart(replica: *mut rcu_replica_t, cpu: u32) -> u32;
+    /// Takes in what another replica of the same grace period has heard: the first awaits then whom
+    /// both await. `other` is another handle, and stays as it is. It costs a step a processor.
+    ///
+    /// Fault 20: number of processors, number or start set differ.
+    pub fn rcu_replica_merge(replica: *mut rcu_replica_t, other: *mut rcu_replica_t) -> u32;
+    /// Lists the processors that a replica awaits, in order, `room` at most: writes them from
+    /// `cpus` on, where there is room for so many, and how many; what lies behind them stays.
+    pub fn rcu_replica_awaited(
+        replica: *mut rcu_replica_t,
+        cpus: *mut u32,
+        room: usize,
+        count: *mut u32,
+    ) -> u32;
+    /// Ends the grace period. Writes the new number.
+    ///
+    /// Faults: 9 where none runs; 10 where a processor is awaited.
+    pub fn rcu_replica_end(replica: *mut rcu_replica_t, number: *mut u64) -> u32;
+    /// Closes a replica, and frees all that it has. Of a handle that is no open replica's it does
+    /// nothing.
+    pub fn rcu_replica_close(replica: *mut rcu_replica_t);
+    /// The version of the library, as `RCU_VERSION` is that of its header. A program over the
+    /// shared object may compare the two.
+    pub fn rcu_version() -> u32;
 }
 
 /// Ends the grace period. Writes the new number.
