@@ -1,10 +1,9 @@
-"""The cluster of the tests: three machines of examples/replicas over a Redis of its own.
+"""The cluster of the tests: three machines over a Redis of its own, behind a proxy with bad weather.
 
 The command `run` beside it runs it. With --machine it is one of the machines. It needs redis-server
-and python3-redis.
+and python3-redis, and the library by the variable RCU_LIBRARY.
 """
 import argparse
-import itertools
 import os
 import random
 import subprocess
@@ -16,18 +15,18 @@ import redis
 
 sys.dont_write_bytecode = True
 HERE = os.path.dirname(os.path.realpath(__file__))
-ROOT = os.path.dirname(os.path.dirname(os.path.dirname(HERE)))
-sys.path.insert(0, os.path.dirname(HERE))
-from machine import BEGINS, Machine, Pair, Refused
+sys.path.insert(0, os.environ.get("RCU_REPLICA") or f"{os.path.dirname(HERE)}/src")
+from proxy import Proxy
+from rcu_replica import Lost, Protocol, Streams
+from rcu_replica.streams import Begin, connect, named, numbered
 
+BEGINS = "rcu:begins"
 CPUS = 64
 OWN = (range(0, 22), range(22, 43), range(43, 64))
-PERIODS = 200
-LAST = 4 * PERIODS + 1  # the number of the one after them, which stays open
+PERIODS = 200  # where no other number is asked for
 HELD = 2                # own processors of each machine that are in a section then
-SECONDS = 600             # a guard against a hang: without one it takes some twenty
-PLANTED_SECONDS = 120     # with a planted fault, which may also bring all to a halt
-KILLED, RESUMED, LEFT, BACK = 60, 61, 110, 150  # after so many grace periods
+SECONDS = 3               # for each grace period, a guard against a hang: it takes some 0.1
+KILLED, LEFT, BACK = 60, 110, 150  # after so many grace periods
 LOST, TWICE, LATE, AGAIN = 0.2, 0.2, 0.1, 0.05  # shares of messages, and of readings
 OPENS, CLOSES = 0.1, 0.5  # of readers, a step
 COUNTS = "looks old_sections lost twice late again".split()
@@ -37,16 +36,21 @@ def held_of(own):
     return sorted(own)[:HELD]
 
 
-class Watched(Machine):
+class Watched(Protocol):
     """A machine whose messages have bad weather, and whose readers look whether what they hold was
     freed. What they hold is the number of a configuration; a grace period's note is the number
     below which all may be freed at its end."""
 
-    def __init__(self, server, own, program, seed, planted):
-        super().__init__(server, CPUS, own, program)
-        self.draws, self.planted = random.Random(seed), planted
-        self.held, self.kept, self.starts = {}, [], ["0"]
+    longest = 0.03
+
+    def __init__(self, words, server, own):
+        self.draws = random.Random(words.seed)
+        streams = Streams(connect(words.url, 0.5), say=lambda what: None, longest_wait=0.05)
+        super().__init__(streams, CPUS, own, again=0.02)
+        self.server, self.last = server, 4 * words.periods + 1  # (the last one stays open)
+        self.held, self.kept, self.starts = {}, [], ["0-0"]
         self.counts = dict.fromkeys(COUNTS, 0)
+        self.goal = 0
 
     def drawn(self, share, name=None):
         came = self.draws.random() < share
@@ -56,39 +60,34 @@ class Watched(Machine):
 
     # The weather
 
-    def send(self, kind, cpus):
-        cpus = [cpu for cpu in cpus if not self.drawn(LOST, "lost")]
-        super().send(kind, cpus + [cpu for cpu in cpus if self.drawn(TWICE, "twice")])
+    def wants_to_begin(self):
+        return self.number < 4 * self.goal - 3
 
-    def read(self):
-        if self.drawn(AGAIN, "again"):
-            self.place = self.draws.choice(self.starts[-9:])
-        came = [it for it in super().read() if not self.drawn(LOST, "lost")]
+    def propose_wanted(self):
+        if self.wants_to_begin():
+            self.propose(str(self.server.incr("config")))
+
+    def hear(self, messages):
+        came = [it for it in messages if not self.drawn(LOST, "lost")]
         came += self.kept + [it for it in came if self.drawn(TWICE, "twice")]
         self.kept = [it for it in came if self.drawn(LATE, "late")]
         self.draws.shuffle(came)
-        return [it for it in came if it not in self.kept]
+        came = [it for it in came if it not in self.kept]
+        super().hear(came)
 
-    def begin_next(self):
-        if self.drawn(LOST):
-            return None
-        begun = super().begin_next()
-        self.starts += [self.before] if begun else []
+    def speak(self):
+        if not self.drawn(LOST, "lost"):
+            super().speak()
+
+    def do_again(self, at_once):
+        super().do_again(at_once)
+        if self.drawn(AGAIN, "again"):
+            self.place = self.draws.choice(self.starts[-9:])
+
+    def begin(self):
+        begun = super().begin()
+        self.starts.append(self.at.before)
         return begun
-
-    # The planted faults
-
-    def line(self, kind, cpu, number):
-        return super().line(kind, cpu, self.number if self.planted == "old-tag" else number)
-
-    def begin(self, side):
-        if self.planted != "unbegun-merge" or side == "a":
-            super().begin(side)
-
-    def end(self):
-        if self.planted == "unbegun-merge":
-            super().begin("b")
-        return super().end()
 
     # The readers
 
@@ -96,7 +95,7 @@ class Watched(Machine):
         """Some readers open a section, look, or close it. Returns what the test asks of this
         machine: how many grace periods it wants, and an order."""
         inside = sorted(self.inside)
-        wish = held_of(self.own) if self.number == LAST else [
+        wish = held_of(self.own) if self.number == self.last else [
             cpu for cpu in sorted(self.own) if self.drawn(OPENS)]
         opened = [cpu for cpu in wish if self.enter(cpu)]
         config, freed, goal, order = self.server.pipeline().get("config").hvals("freed").get(
@@ -105,7 +104,7 @@ class Watched(Machine):
         for cpu in inside:
             self.look(cpu, max(map(int, freed), default=0), int(config))
         closed = [cpu for cpu in inside if self.drawn(CLOSES) and (
-            self.number < LAST or cpu not in held_of(self.own))]
+            self.number < self.last or cpu not in held_of(self.own))]
         pipeline = self.server.pipeline()
         for cpu in opened:
             pipeline.hset("open", cpu, config)
@@ -128,10 +127,10 @@ class Watched(Machine):
     def free(self):
         """At the end of a grace period: nobody may hold what is older than its note."""
         for cpu, config in self.server.hgetall("open").items():
-            if int(config) < int(self.note):
+            if int(config) < int(self.at.note):
                 self.early(f"it ended while processor {cpu} read configuration {config}")
-        self.server.hset("freed", min(self.own), self.note)
-        self.server.hincrby("ended", min(self.own))
+        self.server.hset("freed", min(self.own), self.at.note)
+        self.server.hset("ended", min(self.own), self.at.number)
 
 
 def work(words):
@@ -140,11 +139,9 @@ def work(words):
     own = OWN[words.machine]
     server.hdel("open", *own)  # (a reader of before is no more)
     server.hdel("ended", min(own))
-    machine = Watched(server, own, words.program, words.seed, words.planted)
-    if words.join:
-        machine.join()
+    machine = Watched(words, server, own)
     while not machine.has_left():
-        goal, order = machine.act()
+        machine.goal, order = machine.act()
         if order == "stop":
             break
         if order == "leave" and not machine.leaving:
@@ -152,13 +149,10 @@ def work(words):
         if machine.leaving and machine.inside:
             server.hdel("open", *machine.inside)
             machine.inside.clear()
-        done = machine.step()
-        if done == "ended":
+        if machine.step() == "ended":
             machine.free()
-        if machine.number == LAST:
-            server.hset("awaits", min(own), " ".join(map(str, sorted(machine.take([])))))
-        if not machine.running and machine.number < 4 * goal - 3:
-            machine.propose(str(server.incr("config")))
+        if machine.number == machine.last:
+            server.hset("awaits", min(own), named(machine.awaited))
     for name, count in machine.counts.items():
         server.hincrby("counts", name, count)
 
@@ -170,9 +164,9 @@ class Failure(Exception):
 class Cluster:
     """The test's side: the Redis, and the machines as processes."""
 
-    def __init__(self, room, program, seed, planted):
-        self.room, self.program, self.seed, self.planted = room, program, seed, planted
-        self.seconds = PLANTED_SECONDS if planted else SECONDS
+    def __init__(self, room, given):
+        self.room, self.seed, self.periods = room, given.seed, given.periods
+        self.seconds = 100 + SECONDS * self.periods
         self.until = time.monotonic() + self.seconds
         self.socket, self.workers, self.said = f"{room}/socket", {}, {}
         self.redis = subprocess.Popen(
@@ -180,6 +174,7 @@ class Cluster:
              "--dir", room], stdout=subprocess.DEVNULL)
         self.server = redis.Redis(unix_socket_path=self.socket, decode_responses=True)
         self.wait("the Redis answers", self.answers)
+        self.proxy = Proxy(f"{room}/proxy", self.socket, self.seed)
         self.server.mset({"config": 1, "goal": 0})
 
     def answers(self):
@@ -190,9 +185,8 @@ class Cluster:
 
     def start(self, machine, *options):
         self.seed += 1
-        words = ["--machine", machine, "--socket", self.socket, "--program", self.program,
-                 "--seed", self.seed, *options]
-        words += ["--planted", self.planted] if self.planted else []
+        words = ["--machine", machine, "--socket", self.socket, "--url", f"unix://{self.room}/proxy",
+                 "--seed", self.seed, "--periods", self.periods, *options]
         self.said[machine] = open(f"{self.room}/{machine}", "a+", encoding="utf-8")
         self.workers[machine] = subprocess.Popen(
             ["/usr/bin/python3", __file__, *map(str, words)], stderr=self.said[machine])
@@ -217,7 +211,8 @@ class Cluster:
 
     def top(self):
         found = self.server.xrevrange(BEGINS, count=1)
-        return (int(found[0][0].split("-")[0]), found[0][1]) if found else (0, {"set": ""})
+        begin = Begin.of(found[0]) if found else None
+        return (begin.number, begin.cpus) if begin else (0, frozenset())
 
     def go(self, periods):
         """Lets that many grace periods begin, counted from the first one."""
@@ -234,9 +229,9 @@ class Cluster:
         self.go_until("machine 2 has left", lambda: self.workers[2].poll() == 0, LEFT)
         self.go(BACK)
         self.server.delete(f"order {min(OWN[2])}")
-        self.start(2, "--join")
-        self.go_until("machine 2 is back", lambda: "63" in self.top()[1]["set"].split(), BACK)
-        self.go(PERIODS + 1)
+        self.start(2)
+        self.go_until("machine 2 is back", lambda: 63 in self.top()[1], BACK)
+        self.go(self.periods + 1)
         self.compare()
         for own in OWN:
             self.server.set(f"order {min(own)}", "stop")
@@ -260,7 +255,7 @@ class Cluster:
         """Lets one grace period after another begin until that holds."""
         while not holds():
             periods += 1
-            if periods > PERIODS - 10:
+            if periods > self.periods - 10:
                 raise Failure(f"not within {periods} grace periods: {what}")
             self.go(periods)
             self.wait(f"{what}, or all end grace period {periods}",
@@ -268,31 +263,19 @@ class Cluster:
 
     def all_ended(self, periods):
         ended = self.server.hgetall("ended")
-        return all(int(ended.get(str(min(OWN[machine])), 0)) >= periods
+        return all(int(ended.get(str(min(OWN[machine])), 0)) >= 4 * periods - 3
                    for machine, worker in self.workers.items() if worker.poll() is None)
 
     def compare(self):
-        """In the grace period that stays open all machines await the same: each two of them are
-        told to two replicas of the program, which compares them."""
-        held = " ".join(str(cpu) for own in OWN for cpu in held_of(own))
+        """In the grace period that stays open all machines await the same: the open sections."""
+        held = named(cpu for own in OWN for cpu in held_of(own))
         self.wait(f"all await {held}", lambda: self.server.hvals("awaits") == [held] * len(OWN))
-        named = " ".join(str(cpu) for own in OWN for cpu in sorted(own)[:7])
-        for left, right in itertools.combinations(self.server.hvals("awaits"), 2):
-            pair = Pair(self.program, CPUS, None)
-            for side, awaited in zip("ab", (left, right)):
-                pair.ask([f"{side} begin {named}", *(
-                    f"{side} report {cpu} 1" for cpu in named.split()
-                    if cpu not in awaited.split())])
-                pair.replies()
-            pair.ask(["same"])
-            pair.replies("same")
-            pair.process.stdin.close()
-            pair.process.wait()
         ended = self.server.hgetall("ended")
-        if set(ended.values()) != {str(PERIODS)}:
-            raise Failure(f"not each machine ended {PERIODS} grace periods: {ended}")
+        if set(ended.values()) != {str(4 * self.periods - 3)}:
+            raise Failure(f"not each machine ended grace period {self.periods}: {ended}")
 
     def close(self):
+        self.proxy.close()
         for process in [*self.workers.values(), self.redis]:
             if process.poll() is None:
                 process.kill()
@@ -301,16 +284,16 @@ class Cluster:
             file.close()
 
 
-def why_it_fails(program, seed, planted):
+def why_it_fails(given):
     """What the test finds wrong, None where nothing is; and what it counted."""
     with tempfile.TemporaryDirectory() as room:
-        cluster = Cluster(room, program, seed, planted)
+        cluster = Cluster(room, given)
         try:
             cluster.run()
-            counts = cluster.server.hgetall("counts")
+            counts = {**cluster.server.hgetall("counts"), **cluster.proxy.counts}
             idle = [name for name in COUNTS if int(counts[name]) < 100]
             return (f"hardly any of {idle}" if idle else None), counts
-        except (Failure, Refused) as found:
+        except Failure as found:
             return str(found), {}
         finally:
             cluster.close()
@@ -318,17 +301,17 @@ def why_it_fails(program, seed, planted):
 
 def main():
     parser = argparse.ArgumentParser()
-    for name in ("--socket", "--program", "--planted"):
+    for name in ("--socket", "--url"):
         parser.add_argument(name)
     for name in ("--machine", "--seed"):
         parser.add_argument(name, type=int)
-    parser.add_argument("--join", action="store_true")
-    words = parser.parse_args()
-    if words.machine is not None:
-        work(words)
+    parser.add_argument("--periods", type=int, default=PERIODS)
+    given = parser.parse_args()
+    if given.machine is not None:
+        work(given)
         return 0
-    why, counts = why_it_fails(words.program, words.seed, words.planted)
-    print(why or ", ".join(f"{name.replace('_', ' ')}: {counts[name]}" for name in COUNTS))
+    why, counts = why_it_fails(given)
+    print(why or ", ".join(f"{name.replace('_', ' ')}: {count}" for name, count in counts.items()))
     return 1 if why else 0
 
 

@@ -1,0 +1,80 @@
+"""Two machines over a Redis, stepped in turn by one thread: what comes when is no chance.
+
+The command `run` beside it runs it. With the name of a planted fault as its word the machines have
+that fault. It needs redis-server and python3-redis, and the library by the variable RCU_LIBRARY.
+"""
+import sys
+
+sys.dont_write_bytecode = True
+from machines import SOURCE, Cluster, Failure
+from rcu_replica import Protocol, Streams
+from rcu_replica.streams import connect
+
+PLANTED = ("old-tag", "open-section")
+CPUS, STEPS = 2, 50  # each machine has a processor, and so many steps for what has to come
+NEVER = 1e9          # seconds until what lies there is read again
+
+
+class Stepped(Protocol):
+    """A machine whose fault is planted."""
+
+    def __init__(self, socket, cpu, planted):
+        super().__init__(Streams(connect(f"unix://{socket}")), CPUS, [cpu], again=NEVER)
+        self.planted = planted
+
+    def hear(self, messages):
+        if self.planted == "old-tag":  # a message with an old tag is given the new one
+            messages = [type(it)(it.kind, it.cpu, self.at.number, self.at.mark) for it in messages]
+        super().hear(messages)
+
+    def quiet(self):
+        if self.planted == "open-section":  # a processor reports whose section is open
+            return self.awaited & self.own - self.sent
+        return super().quiet()
+
+
+def go(machines, word):
+    """Steps the machines in turn until each has returned that word."""
+    left = list(machines)
+    for _ in range(STEPS):
+        left = [it for it in left if it.step(0) != word]
+        if not left:
+            return
+    raise Failure(f"not {word} in {STEPS} steps: {[it.number for it in left]}")
+
+
+def an_old_report_comes_again(machines):
+    """A grace period begins while the second machine reads. All reports of the one before come
+    once more, and nobody ends it. When the section is closed, all do."""
+    first, second = machines
+    go(machines, "begun")
+    go(machines, "ended")
+    if not second.enter(1):
+        raise Failure("no section may be opened")
+    first.want()
+    go(machines, "begun")
+    for _ in range(STEPS):
+        first.place = second.place = "0-0"
+        if "ended" in (first.step(0), second.step(0)):
+            raise Failure(f"too early: {first.number} ended while processor 1 reads")
+    if first.awaited != {1}:
+        raise Failure(f"it awaits {sorted(first.awaited)}, and not the reader")
+    second.exit(1)
+    go(machines, "ended")
+
+
+def main(words):
+    planted = words[0] if words else None
+    with Cluster(SOURCE, append_only=False) as cluster:
+        machines = [Stepped(f"{cluster.room}/socket", cpu, planted) for cpu in range(CPUS)]
+        try:
+            an_old_report_comes_again(machines)
+        except Failure as found:
+            print(found)
+            return 1
+    print("well")
+    return 0
+
+
+if __name__ == "__main__":
+    sys.exit(main(sys.argv[1:]))
