@@ -45,10 +45,10 @@ def copy_crate(name, top, parts):
     subprocess.run(["cp", "-rp", *found, made], check=True)
 
 
-def lay_program(name, top):
+def lay_program(name, top, programs=RATTLE):
     """Lays the program's files as a crate."""
-    for path in glob.glob(f"{RATTLE}/{name}/**/*.in", recursive=True):
-        made = f"{top}/crates/{os.path.relpath(path, RATTLE).removesuffix('.in')}"
+    for path in glob.glob(f"{programs}/{name}/**/*.in", recursive=True):
+        made = f"{top}/crates/{os.path.relpath(path, programs).removesuffix('.in')}"
         os.makedirs(os.path.dirname(made), exist_ok=True)
         shutil.copy(path, made)
     os.makedirs(f"{top}/crates/{name}/proofs", exist_ok=True)

@@ -10,6 +10,10 @@ mod here;
 mod there;
 
 use std::env;
+use std::process::Command;
+
+const STALL_THERE: &str = "--stall-there";
+const STALL_HERE: &str = "--stall-here";
 
 /// A row: what is timed, on how many threads, and the same of both crates.
 struct Row {
@@ -51,6 +55,7 @@ fn rows() -> Vec<Row> {
         ("queue, push and pop", queue, 2),
         ("queue, push and pop", queue, 4),
         ("a collector, a handle, a pin", new_collector, 1),
+        ("the same, 500 there at a time", many_collectors, 1),
         ("a handle, a pin", new_handle, 1),
     ]
 }
@@ -94,8 +99,21 @@ fn time(row: &Row, rounds: usize) {
     );
 }
 
+/// What this program prints with the word, in a process with no memory that it used before.
+fn in_a_process(word: &str) -> f64 {
+    let own = env::current_exe().expect("this program has a path");
+    let ran = Command::new(own).arg(word).output().expect("it runs");
+    let told = String::from_utf8_lossy(&ran.stdout);
+    told.trim().parse().expect("it prints a number")
+}
+
 fn main() {
     let mut words = env::args().skip(1);
+    match env::args().nth(1).as_deref() {
+        Some(STALL_THERE) => return println!("{}", there::memory_of_a_stall()),
+        Some(STALL_HERE) => return println!("{}", here::memory_of_a_stall()),
+        _ => {}
+    }
     let rounds = words
         .next()
         .map_or(Ok(15), |it| it.parse())
@@ -110,7 +128,7 @@ fn main() {
         "alive at most, one thread in a loop | {} there, {} here",
         kept[0], kept[1]
     );
-    let [there, here] = [there::memory_of_a_stall(), here::memory_of_a_stall()];
+    let [there, here] = [STALL_THERE, STALL_HERE].map(in_a_process);
     println!(
         "bytes for each that a pinned thread holds up | {there:.0} there, {here:.0} here, {:.2}",
         here / there

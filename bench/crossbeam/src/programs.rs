@@ -150,6 +150,16 @@ pub fn new_collector(_: u64) -> f64 {
     (clock::of_thread() - begun) / TIMES as f64
 }
 
+/// The same, and none goes before the last was made.
+pub fn many_collectors(_: u64) -> f64 {
+    const TIMES: u64 = 500;
+    let begun = clock::of_thread();
+    let handles = (0..TIMES).map(|_| Collector::new().register());
+    let all: Vec<_> = handles.inspect(|it| drop(it.pin())).collect();
+    drop(all);
+    (clock::of_thread() - begun) / TIMES as f64
+}
+
 pub fn new_handle(_: u64) -> f64 {
     const TIMES: u64 = 20_000;
     let collector = Collector::new();

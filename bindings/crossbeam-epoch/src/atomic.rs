@@ -349,7 +349,8 @@ impl<T: ?Sized + Pointable> Atomic<T> {
     /// assert_eq!(*unsafe { slot.into_owned() }, 7);
     /// ```
     pub unsafe fn into_owned(self) -> Owned<T> {
-        Owned::from_usize(self.word.into_inner())
+        // SAFETY: the caller says that nobody else has the object.
+        unsafe { Owned::from_usize(self.word.into_inner()) }
     }
 
     /// The object, to be owned, where the pointer is not null.
@@ -363,7 +364,8 @@ impl<T: ?Sized + Pointable> Atomic<T> {
     /// assert!(unsafe { Atomic::<u64>::null().try_into_owned() }.is_none());
     /// ```
     pub unsafe fn try_into_owned(self) -> Option<Owned<T>> {
-        Shared::<T>::of(self.word.into_inner()).try_into_owned()
+        // SAFETY: as above.
+        unsafe { Shared::<T>::of(self.word.into_inner()).try_into_owned() }
     }
 }
 

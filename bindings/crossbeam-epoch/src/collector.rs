@@ -1,8 +1,8 @@
 //! A collector and its handles.
 
-use crate::global::Global;
 use crate::guard::Guard;
 use crate::local::Local;
+use crate::pool::Lent;
 use std::fmt;
 use std::sync::Arc;
 
@@ -19,7 +19,7 @@ use std::sync::Arc;
 /// ```
 #[derive(Clone)]
 pub struct Collector {
-    pub(crate) global: Arc<Global>,
+    pub(crate) global: Arc<Lent>,
 }
 
 impl Collector {
@@ -34,7 +34,7 @@ impl Collector {
     /// ```
     pub fn new() -> Self {
         Collector {
-            global: Arc::new(Global::new()),
+            global: Arc::new(Lent::new()),
         }
     }
 

@@ -3,7 +3,6 @@
 use crate::global::Global;
 use crate::seat::Seat;
 use rcu::handles::{EngineHandle, SeatHandle};
-use std::mem;
 use std::sync::Arc;
 
 /// How many grace periods one step ends at most.
@@ -25,8 +24,8 @@ pub(crate) struct Driver {
     _boot: SeatHandle,
     dealt: Vec<Arc<Seat>>,
     free: Vec<Arc<Seat>>,
-    /// The places of the seats that the grace period awaits: first the benches', then those dealt.
-    awaited: Vec<usize>,
+    /// The processors that the grace period awaits.
+    awaited: Vec<u32>,
     runs: bool,
     number: u64,
 }
@@ -69,13 +68,6 @@ impl Driver {
         self.free.push(seat);
     }
 
-    fn at<'a>(&'a self, global: &'a Global, place: usize) -> &'a Seat {
-        match global.benches.get(place) {
-            Some(bench) => &bench.seat,
-            None => &self.dealt[place - global.benches.len()],
-        }
-    }
-
     /// Goes on with the grace periods that somebody waits for, and waits for none. `own` is the
     /// caller's seat, just pinned.
     pub(crate) fn step(&mut self, global: &Global, own: Option<&Seat>) {
@@ -84,55 +76,48 @@ impl Driver {
                 if global.is_reached(self.number) {
                     return;
                 }
-                self.begin(global);
+                self.begin();
             }
             if let Some(seat) = own {
                 seat.pass();
             }
-            self.collect(global);
-            if !self.awaited.is_empty() {
-                Seat::make_idle(self.awaited.iter().map(|&it| self.at(global, it)));
-                self.collect(global);
-            }
-            if !self.awaited.is_empty() {
-                let mut benches = self.awaited.iter().copied();
-                return global.change_bench(|it| benches.any(|awaited| awaited == it));
+            if !self.is_over() {
+                self.claim(global);
+                if !self.is_over() {
+                    let awaits = |cpu| self.awaited.contains(&(cpu as u32));
+                    return global.change_bench(|bench| awaits(bench.seat.cpu()));
+                }
             }
             self.end(global);
         }
     }
 
-    fn begin(&mut self, global: &Global) {
-        let mut left = self.rcu.begin();
+    fn begin(&mut self) {
+        self.rcu.begin();
         self.runs = true;
-        let mut places = mem::take(&mut self.awaited);
-        for place in 0..self.dealt.len() + global.benches.len() {
-            let cpu = self.at(global, place).cpu();
-            if left > 0 && self.rcu.awaits(cpu) {
-                left -= 1;
-                places.push(place);
-            } else {
-                self.at(global, place).see_unpin();
-            }
-        }
-        self.awaited = places;
+        self.awaited.resize(SEATS + OWN, 0);
+        let count = self.rcu.awaited(&mut self.awaited).len();
+        self.awaited.truncate(count);
     }
 
-    /// Looks at each processor that is awaited.
-    fn collect(&mut self, global: &Global) {
-        let mut places = mem::take(&mut self.awaited);
-        places.retain(|&place| {
-            let cpu = self.at(global, place).cpu();
-            let still = self.rcu.is_awaited(cpu);
-            if !still {
-                self.at(global, place).see_unpin();
-            }
-            still
-        });
-        self.awaited = places;
+    /// Looks at each processor that is awaited. Returns whether none is any more.
+    fn is_over(&mut self) -> bool {
+        let rcu = &mut self.rcu;
+        self.awaited.retain(|&cpu| rcu.is_awaited(cpu as usize));
+        self.awaited.is_empty()
+    }
+
+    /// Makes the awaited seats of unpinned threads idle, and asks the others.
+    fn claim(&self, global: &Global) {
+        Seat::make_idle(self.awaited.iter().map(|&cpu| match cpu as usize {
+            cpu if cpu < OWN => &global.benches[cpu - 1].seat,
+            cpu => &*self.dealt[cpu - OWN],
+        }));
     }
 
     fn end(&mut self, global: &Global) {
+        global.benches.iter().for_each(|it| it.seat.see_unpin());
+        self.dealt.iter().for_each(|it| it.see_unpin());
         global.tell_end(self.number + 4);
         self.number = self.rcu.end();
         self.runs = false;

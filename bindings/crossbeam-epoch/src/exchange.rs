@@ -36,6 +36,16 @@ impl<T, P: Pointer<T> + fmt::Debug> fmt::Debug for CompareExchangeError<'_, T, P
 }
 
 /// The old name of [`CompareExchangeError`].
+///
+/// ```
+/// #![allow(deprecated)]
+/// use crossbeam_epoch::{CompareAndSetError, Shared};
+///
+/// let new = Shared::<u64>::null();
+/// let refused: CompareAndSetError<'_, u64, Shared<'_, u64>> =
+///     crossbeam_epoch::CompareExchangeError { current: new, new };
+/// assert_eq!(refused.current, refused.new);
+/// ```
 #[deprecated(note = "use `CompareExchangeError`")]
 pub type CompareAndSetError<'g, T, P> = CompareExchangeError<'g, T, P>;
 

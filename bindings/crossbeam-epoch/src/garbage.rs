@@ -40,7 +40,8 @@ impl Deferred {
         /// # Safety
         /// The room has such a closure, which is used no more.
         unsafe fn run<F: FnOnce()>(room: *mut Room) {
-            room.cast::<F>().read()()
+            // SAFETY: as above.
+            unsafe { room.cast::<F>().read()() }
         }
         let mut room = Room::uninit();
         // SAFETY: it fits, as `new` has seen; `run` reads it once, as `call` takes all.

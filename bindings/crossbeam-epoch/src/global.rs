@@ -70,9 +70,9 @@ impl Global {
 
     /// Where the bench for threads that pin now is awaited, and the other one is not, they pin on
     /// that one from now on: so each is left by all, in turn.
-    pub(crate) fn change_bench(&self, mut is_awaited: impl FnMut(usize) -> bool) {
+    pub(crate) fn change_bench(&self, mut is_awaited: impl FnMut(&Bench) -> bool) {
         let now = self.bench();
-        if is_awaited(now) && !is_awaited(1 - now) {
+        if is_awaited(&self.benches[now]) && !is_awaited(&self.benches[1 - now]) {
             self.bench.store(1 - now, Relaxed);
         }
     }
@@ -148,11 +148,10 @@ impl Global {
         self.left_count.store(left.len(), Relaxed);
         next
     }
-}
 
-/// No thread has a handle or a guard any more, so no section is open.
-impl Drop for Global {
-    fn drop(&mut self) {
+    /// Runs all that was left. No thread is pinned, and none will be.
+    pub(crate) fn run_all_left(&mut self) {
         run_to_end(self.left.get_mut());
+        self.left_count.store(0, Relaxed);
     }
 }

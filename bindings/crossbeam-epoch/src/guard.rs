@@ -104,7 +104,8 @@ impl Guard {
     /// unsafe { guard.defer_destroy(old) };
     /// ```
     pub unsafe fn defer_destroy<T: ?Sized + Pointable>(&self, ptr: Shared<'_, T>) {
-        self.defer_unchecked(move || ptr.into_owned());
+        // SAFETY: the caller says that nobody comes to the object when it is called.
+        unsafe { self.defer_unchecked(move || ptr.into_owned()) };
     }
 
     /// Gives what this thread deferred to all threads, does what may be done, and makes a step of

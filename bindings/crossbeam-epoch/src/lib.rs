@@ -29,7 +29,7 @@
 //! at without a lock stands in `src/seat.rs`, and `bindings/model/claim.py` walks all states of it.
 
 #![deny(missing_docs)]
-#![deny(clippy::undocumented_unsafe_blocks)]
+#![deny(clippy::undocumented_unsafe_blocks, unsafe_op_in_unsafe_fn)]
 
 #[cfg(not(all(
     target_arch = "x86_64",
@@ -50,6 +50,7 @@ mod local;
 mod lock;
 mod owned;
 mod pointable;
+mod pool;
 mod seat;
 mod shared;
 mod word;

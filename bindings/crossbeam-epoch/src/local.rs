@@ -312,7 +312,8 @@ impl Local {
     /// It is from `register`, and nobody has it any more.
     #[cold]
     pub(crate) unsafe fn finish(local: *const Local) {
-        let this = &*local;
+        // SAFETY: it is there until the last line.
+        let this = unsafe { &*local };
         this.handles.set(1);
         this.guards.set(1);
         this.open_section();
@@ -325,6 +326,7 @@ impl Local {
             this.global().give_back(Arc::clone(seat));
         }
         // (The collector may go with it, and run what was left.)
-        drop(Box::from_raw(local.cast_mut()));
+        // SAFETY: it is the box of `register`, and `this` is used no more.
+        drop(unsafe { Box::from_raw(local.cast_mut()) });
     }
 }

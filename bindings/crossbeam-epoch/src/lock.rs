@@ -16,7 +16,7 @@ pub(crate) struct Locked<'a, T> {
 }
 
 impl<T> Lock<T> {
-    pub(crate) fn new(value: T) -> Lock<T> {
+    pub(crate) const fn new(value: T) -> Lock<T> {
         Lock {
             inner: Mutex::new(value),
             mark: AtomicBool::new(false),

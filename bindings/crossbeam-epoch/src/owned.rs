@@ -62,7 +62,8 @@ impl<T> Owned<T> {
     /// ```
     pub unsafe fn from_raw(raw: *mut T) -> Owned<T> {
         assert_aligned::<T>(raw as usize);
-        Owned::from_usize(raw as usize)
+        // SAFETY: the caller says that it is a box's, and nobody else's.
+        unsafe { Owned::from_usize(raw as usize) }
     }
 
     /// The object as a box. The tag is lost.

@@ -50,6 +50,8 @@ pub trait Pointable {
     unsafe fn drop(ptr: usize);
 }
 
+// SAFETY of the blocks below: a word of `init` is the address of a box, and their callers say the
+// rest.
 impl<T> Pointable for T {
     const ALIGN: usize = align_of::<T>();
     type Init = T;
@@ -59,15 +61,18 @@ impl<T> Pointable for T {
     }
 
     unsafe fn deref<'a>(ptr: usize) -> &'a T {
-        &*(ptr as *const T)
+        // SAFETY: as above.
+        unsafe { &*(ptr as *const T) }
     }
 
     unsafe fn deref_mut<'a>(ptr: usize) -> &'a mut T {
-        &mut *(ptr as *mut T)
+        // SAFETY: as above.
+        unsafe { &mut *(ptr as *mut T) }
     }
 
     unsafe fn drop(ptr: usize) {
-        drop(Box::from_raw(ptr as *mut T));
+        // SAFETY: as above.
+        drop(unsafe { Box::from_raw(ptr as *mut T) });
     }
 }
 
@@ -90,38 +95,46 @@ impl<T> Row<T> {
     /// # Safety
     /// The row is there.
     unsafe fn start(row: *mut Row<T>) -> *mut MaybeUninit<T> {
-        ptr::addr_of_mut!((*row).first).cast()
+        // SAFETY: the row is there.
+        unsafe { ptr::addr_of_mut!((*row).first).cast() }
     }
 }
 
 /// A slice with its length in front, so that one word points to it.
+// SAFETY of the blocks below: a word of `init` is the address of a row, and their callers say the
+// rest.
 impl<T> Pointable for [MaybeUninit<T>] {
     const ALIGN: usize = align_of::<Row<T>>();
     type Init = usize;
 
     unsafe fn init(items: usize) -> usize {
         let layout = Row::<T>::layout(items);
-        let row = alloc(layout).cast::<Row<T>>();
+        // SAFETY: the layout has the length at least.
+        let row = unsafe { alloc(layout) }.cast::<Row<T>>();
         if row.is_null() {
             handle_alloc_error(layout);
         }
-        ptr::addr_of_mut!((*row).items).write(items);
+        // SAFETY: the room is a row's.
+        unsafe { ptr::addr_of_mut!((*row).items).write(items) };
         row as usize
     }
 
     unsafe fn deref<'a>(ptr: usize) -> &'a [MaybeUninit<T>] {
         let row = ptr as *mut Row<T>;
-        slice::from_raw_parts(Row::start(row), (*row).items)
+        // SAFETY: as above.
+        unsafe { slice::from_raw_parts(Row::start(row), (*row).items) }
     }
 
     unsafe fn deref_mut<'a>(ptr: usize) -> &'a mut [MaybeUninit<T>] {
         let row = ptr as *mut Row<T>;
-        slice::from_raw_parts_mut(Row::start(row), (*row).items)
+        // SAFETY: as above.
+        unsafe { slice::from_raw_parts_mut(Row::start(row), (*row).items) }
     }
 
     unsafe fn drop(ptr: usize) {
         let row = ptr as *mut Row<T>;
-        dealloc(row.cast(), Row::<T>::layout((*row).items));
+        // SAFETY: as above.
+        unsafe { dealloc(row.cast(), Row::<T>::layout((*row).items)) };
     }
 }
 

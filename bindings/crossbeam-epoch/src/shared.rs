@@ -98,7 +98,8 @@ impl<'g, T: ?Sized + Pointable> Shared<'g, T> {
     /// # drop(unsafe { shared.into_owned() });
     /// ```
     pub unsafe fn deref(&self) -> &'g T {
-        T::deref(parts::<T>(self.word).0)
+        // SAFETY: the caller says that the object is there, and not changed.
+        unsafe { T::deref(parts::<T>(self.word).0) }
     }
 
     /// The object, to be changed.
@@ -115,7 +116,8 @@ impl<'g, T: ?Sized + Pointable> Shared<'g, T> {
     /// assert_eq!(*unsafe { shared.into_owned() }, 8);
     /// ```
     pub unsafe fn deref_mut(&mut self) -> &'g mut T {
-        T::deref_mut(parts::<T>(self.word).0)
+        // SAFETY: the caller says that nobody else has the object.
+        unsafe { T::deref_mut(parts::<T>(self.word).0) }
     }
 
     /// The object, where the pointer is not null.
@@ -127,7 +129,8 @@ impl<'g, T: ?Sized + Pointable> Shared<'g, T> {
     /// assert_eq!(unsafe { crossbeam_epoch::Shared::<u64>::null().as_ref() }, None);
     /// ```
     pub unsafe fn as_ref(&self) -> Option<&'g T> {
-        (!self.is_null()).then(|| self.deref())
+        // SAFETY: as `deref`, where it is not null.
+        (!self.is_null()).then(|| unsafe { self.deref() })
     }
 
     /// The object, to be owned.
@@ -144,7 +147,8 @@ impl<'g, T: ?Sized + Pointable> Shared<'g, T> {
     /// ```
     pub unsafe fn into_owned(self) -> Owned<T> {
         debug_assert!(!self.is_null(), "an owned pointer is not null");
-        Owned::from_usize(self.word)
+        // SAFETY: the caller says that nobody else has the object.
+        unsafe { Owned::from_usize(self.word) }
     }
 
     /// The object, to be owned, where the pointer is not null.
@@ -158,7 +162,8 @@ impl<'g, T: ?Sized + Pointable> Shared<'g, T> {
     /// assert!(unsafe { Shared::<u64>::null().try_into_owned() }.is_none());
     /// ```
     pub unsafe fn try_into_owned(self) -> Option<Owned<T>> {
-        (!self.is_null()).then(|| self.into_owned())
+        // SAFETY: as `into_owned`, where it is not null.
+        (!self.is_null()).then(|| unsafe { self.into_owned() })
     }
 
     /// The tag.

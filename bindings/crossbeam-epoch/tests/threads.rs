@@ -166,6 +166,31 @@ fn a_thread_repins_while_others_replace() {
     });
 }
 
+/// A collector may get the engine of one that went. What the other deferred is done by then, and
+/// none of its threads is waited for.
+#[test]
+fn collectors_come_and_go() {
+    let follow = || {
+        for round in 0..500 {
+            let (collector, alive) = (Collector::new(), none_alive());
+            let (held, handle) = (collector.register().pin(), collector.register());
+            for _ in 0..100 {
+                let guard = &handle.pin();
+                let it = Owned::new(Counted::new(round, &alive)).into_shared(guard);
+                unsafe { guard.defer_destroy(it) };
+            }
+            assert_eq!(alive.load(SeqCst), 100); // none before the one that is held
+            drop(held);
+            if round % 2 == 0 {
+                flush_until(&alive, 0, &handle);
+            }
+            drop((collector, handle));
+            assert_eq!(alive.load(SeqCst), 0);
+        }
+    };
+    thread::scope(|scope| join((0..4).map(|_| scope.spawn(follow)).collect()));
+}
+
 #[test]
 fn threads_come_and_go_in_the_collector_of_the_process() {
     let alive = none_alive();

@@ -86,6 +86,7 @@ void CALL(call_rcu_before_fork)(void) {
     set_up();
     if (table) table->before_fork(table->priv);
     pthread_mutex_lock(&visits);
+    pthread_mutex_lock(&making_default);
     renewed = false;
     pause_workers();
 }
@@ -96,6 +97,7 @@ void CALL(call_rcu_after_fork_parent)(void) {
     all.pausing = false;
     pthread_cond_broadcast(&all.resumed);
     let_go();
+    pthread_mutex_unlock(&making_default);
     pthread_mutex_unlock(&visits);
     if (table) table->after_fork_parent(table->priv);
     come_back(self.was_online);
@@ -125,6 +127,7 @@ void CALL(call_rcu_after_fork_child)(void) {
     if (--self.forks) return;
     if (!renewed) renew(); /* after a fork that called no handlers of the C library's */
     pthread_mutex_init(&visits, 0);
+    pthread_mutex_init(&making_default, 0);
     renew_deferral();
     go_on_with_default_worker();
     if (table) table->after_fork_child(table->priv);

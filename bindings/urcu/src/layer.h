@@ -1,6 +1,7 @@
 /* What the files of one flavour share. Each file is built once for each flavour, with URCU_FLAVOUR
- * as its name: readers_by_word.c for memb, mb, signal and bp, readers_by_state.c for qsbr. When the
- * objects are joined all names are hidden but those of liburcu's interface (the Makefile).
+ * as its name. How a section is seen by a round is told in readers_by_word.c for memb, signal and
+ * bp, and in readers_by_seat.h for mb and qsbr. When the objects are joined all names are hidden
+ * but those of liburcu's interface (the Makefile).
  *
  * A thread that is registered has a place: the open seat of a processor that is online. A place
  * that is free is idle, so no grace period waits for it. */
@@ -31,7 +32,7 @@
 /* The processor of an engine, for one thread at a time. Each has a cache line of its own. */
 struct place {
     _Alignas(64) rcu_seat_t seat;
-    atomic_ulong depth;        /* by word: how deep the thread's sections nest */
+    atomic_ulong depth;        /* how deep the thread's sections nest; in qsbr 0 */
     atomic_bool called;        /* by word: a round asks the thread in, by the lock */
     atomic_bool wished;        /* the maker of a round sleeps until the place is quiet */
     int thread;                /* the system's number of the thread; 0 where the place is free */
@@ -40,10 +41,13 @@ struct place {
     struct place *next; /* among those of the engine that are free */
 };
 
+enum { LARGEST_ENGINE = 128 }; /* processors */
 struct engine {
-    struct engine *next, *next_in_round;
+    struct engine *next, *next_used, *next_in_round; /* next: the one that was opened after it */
     rcu_t rcu;
-    uint32_t cpus, taken;
+    uint32_t older;               /* how many were opened before it */
+    uint32_t cpus, opened, taken; /* of its places */
+    uint64_t cookie;              /* of the last round */
     struct place *places, *free_places;
 };
 
@@ -70,8 +74,10 @@ extern __thread struct reader self __attribute__((tls_model("initial-exec")));
 struct shared {
     pthread_mutex_t lock;
     pthread_cond_t quiet, round_over, paused, resumed;
-    struct engine *engines; /* the oldest first */
-    uint32_t cpus_of_next; /* of the engine that is opened next */
+    struct engine *with_room; /* all older ones are full */
+    struct engine *used;      /* those that have a thread */
+    uint32_t engines;         /* how many were opened */
+    uint32_t cpus_of_next;    /* of the engine that is opened next */
     bool making, pausing;
     uint64_t begun, asked_for; /* rounds: each is a grace period of every engine in use */
     _Atomic uint64_t ended;
@@ -128,16 +134,23 @@ void take_place(const void *registered_at);
 void give_back_place(void);
 void forget_engines(void);
 
-/* readers_by_word.c and readers_by_state.c */
+/* sections.c or readers_by_state.c */
+void stay_as_in(struct place *old);
+bool leave(const char *call);
+void come_back(bool was_online);
+
+#ifdef URCU_BY_SEAT
+#include "readers_by_seat.h"
+#else
+/* readers_by_word.c */
+enum { BY_WORD = 1 };
 void set_up_readers(void);
 void open_place(struct place *place);
 void close_place(struct place *place);
 void pass_if_out(struct place *place);
 void call_place(struct place *place);
 void fence_readers(void);
-void stay_as_in(struct place *old);
-bool leave(const char *call);
-void come_back(bool was_online);
+#endif
 
 /* rounds.c */
 bool is_last_wish(struct place *place);

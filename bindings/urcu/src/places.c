@@ -1,6 +1,7 @@
 /* Places, and the engines that they are of. Where all are taken an engine is opened, of twice as
- * many processors as the last one, up to LARGEST: so each thread that comes finds a place, and few
- * are opened in vain. An engine stays open until the process ends.
+ * many processors as the last one, up to LARGEST_ENGINE: so each thread that comes finds a place,
+ * and few are opened in vain. A seat is opened when its first thread comes. All stay open until the
+ * process ends.
  *
  * It rests on these sentences of include/rcu.h: of rcu_seat_idle, "it opens no section, and no
  * grace period waits for it", and "what the thread did before comes before what follows the
@@ -13,7 +14,7 @@
 #include <sys/syscall.h>
 #include <unistd.h>
 
-enum { FIRST = 4, LARGEST = 128 };
+enum { FIRST = 4 };
 static const uint64_t NO_LAST_NUMBER = UINT64_C(1) << 62;
 
 __thread struct reader self __attribute__((tls_model("initial-exec")));
@@ -40,24 +41,27 @@ static struct engine *new_engine(void) {
     uint32_t cpus = all.cpus_of_next;
     struct engine *engine = room_malloc(sizeof *engine);
     if (!engine) fail("register", "out of memory");
-    *engine = (struct engine){.cpus = cpus, .places = room_of_places(cpus)};
+    *engine = (struct engine){
+        .cpus = cpus, .older = all.engines++, .places = room_of_places(cpus)};
     must("open", rcu_open(cpus, NO_LAST_NUMBER, &engine->rcu));
-    for (uint32_t cpu = cpus; cpu-- > 0;) {
-        struct place *place = &engine->places[cpu];
-        must("open a seat", rcu_seat_open(&engine->rcu, cpu, &place->seat));
-        if (cpu != 0) must("arrive", rcu_arrive(&engine->rcu, &place->seat));
-        must("idle", rcu_seat_idle(&place->seat));
-        place->engine = engine;
-        place->next = engine->free_places;
-        engine->free_places = place;
-    }
-    if (all.cpus_of_next < LARGEST) all.cpus_of_next *= 2;
+    if (all.cpus_of_next < LARGEST_ENGINE) all.cpus_of_next *= 2;
     return engine;
+}
+
+/* The seat of processor 0 is online at first, and is the first that is opened. */
+static struct place *new_place(struct engine *engine) {
+    uint32_t cpu = engine->opened++;
+    struct place *place = &engine->places[cpu];
+    must("open a seat", rcu_seat_open(&engine->rcu, cpu, &place->seat));
+    if (cpu != 0) must("arrive", rcu_arrive(&engine->rcu, &place->seat));
+    must("idle", rcu_seat_idle(&place->seat));
+    place->engine = engine;
+    return place;
 }
 
 /* In the child of a fork: its threads are gone, who had seats of the engines. Their room stays. */
 void forget_engines(void) {
-    all.engines = 0;
+    all.with_room = all.used = 0;
     all.cpus_of_next = FIRST;
 }
 
@@ -87,8 +91,8 @@ void set_up(void) {
 
 /* From here on the thread's end is told. */
 void tell_end(void) {
+    if (likely(self.has_key)) return;
     set_up();
-    if (self.has_key) return;
     set_busy(1);
     if (pthread_setspecific(ends, &self)) fail("register", "out of memory");
     self.has_key = true;
@@ -98,17 +102,21 @@ void tell_end(void) {
 /* The oldest engines are the smallest, and are filled first: so few and small ones are in a round.
  */
 static struct engine *engine_with_room(void) {
-    struct engine **at = &all.engines;
-    while (*at && !(*at)->free_places) at = &(*at)->next;
+    struct engine **at = &all.with_room;
+    while (*at && (*at)->taken == (*at)->cpus) at = &(*at)->next;
     if (!*at) *at = new_engine();
-    return *at;
+    return all.with_room = *at;
 }
 
 static void take_free_place(const void *registered_at) {
     struct engine *engine = engine_with_room();
     struct place *place = engine->free_places;
-    engine->free_places = place->next;
-    engine->taken++;
+    if (place) engine->free_places = place->next;
+    else place = new_place(engine);
+    if (engine->taken++ == 0) {
+        engine->next_used = all.used;
+        all.used = engine;
+    }
     if (!self.thread) self.thread = (int)syscall(SYS_gettid);
     place->thread = self.thread;
     place->registered_at = registered_at;
@@ -123,6 +131,16 @@ void take_place(const void *registered_at) {
     let_go();
 }
 
+static void put_back(struct engine *engine, struct place *place) {
+    place->next = engine->free_places;
+    engine->free_places = place;
+    if (engine->older < all.with_room->older) all.with_room = engine;
+    if (--engine->taken) return;
+    struct engine **at = &all.used;
+    while (*at != engine) at = &(*at)->next_used;
+    *at = engine->next_used;
+}
+
 /* The thread's end, or its word that it ends. */
 void give_back_place(void) {
     struct place *place = self.place;
@@ -131,9 +149,7 @@ void give_back_place(void) {
     close_place(place);
     if (is_last_wish(place)) pthread_cond_signal(&all.quiet);
     place->thread = 0;
-    place->engine->taken--;
-    place->next = place->engine->free_places;
-    place->engine->free_places = place;
+    put_back(place->engine, place);
     self.place = 0;
     let_go();
 }

@@ -1,56 +1,24 @@
 /* Sections of qsbr. From one quiescent state to the next an online thread is within one section of
- * its engine's, so rcu_read_lock has nothing to do. A quiescent state closes that section, passes
- * one by the seat, and opens the next; a thread that is offline is idle. The seat is the thread's
- * own, and none of it needs the lock.
+ * its engine's, so rcu_read_lock has nothing to do. A quiescent state renews that section; a thread
+ * that is offline is idle.
  *
- * It rests on these sentences of include/rcu.h: of rcu_begin, "of each section one of two holds:
- * all of it comes before what follows the end of this grace period, or it sees what came before
- * this call"; of rcu_take, that a cookie is "the number at which a grace period that begins from
- * now on has ended", and of rcu_seat_take, "at the number that one load sees". Where the cookie is
- * the one that was taken before the last quiescent state, no grace period began since: the section
- * goes on, as none waits for its end. It adds nothing to the order of threads but the wish to be
- * woken (rounds.c). */
+ * It rests on readers_by_seat.h, and on this sentence of include/rcu.h, of rcu_seat_renew: it
+ * "closes it, passes a quiescent state, and opens the next one"; and of rcu_take, that a cookie is
+ * "the number at which a grace period that begins from now on has ended". Where the cookie is the
+ * one that was taken before the last quiescent state, no grace period began since: the section goes
+ * on, as none waits for its end. */
 #include "layer.h"
 
-void set_up_readers(void) {}
-void fence_readers(void) {}
-void call_place(struct place *place) {
-    (void)place;
-}
-void pass_if_out(struct place *place) {
-    (void)place;
-}
-
-/* A thread that takes a place is offline at first. */
-void open_place(struct place *place) {
-    (void)place;
-}
-
-static inline void close_section(struct place *place) {
-    uint32_t depth;
-    self.online = false;
-    RCU_SANITIZER_RELEASE(place);
-    must("exit", rcu_seat_exit(&place->seat, &depth));
-    must("idle", rcu_seat_idle(&place->seat));
-}
-
-static inline void open_section(struct place *place) {
-    uint64_t number;
-    uint32_t depth;
-    must("wake", rcu_seat_wake_unfenced(&place->seat, &number));
-    must("enter", rcu_seat_enter(&place->seat, &depth));
+static void go_online(struct place *place) {
+    open_seat(place);
     self.online = true;
     self.cookie = 0;
-}
-
-void close_place(struct place *place) {
-    if (self.online) close_section(place);
 }
 
 /* In the child of a fork: it goes on as it was. */
 void stay_as_in(struct place *old) {
     (void)old;
-    if (self.online) open_section(self.place);
+    if (self.online) go_online(self.place);
 }
 
 void CALL(read_lock)(void) {}
@@ -62,26 +30,24 @@ int CALL(read_ongoing)(void) {
 
 void CALL(thread_offline)(void) {
     if (!self.online) return;
-    close_section(self.place);
+    self.online = false;
+    close_seat(self.place);
     got_quiet(self.place);
 }
 
 void CALL(thread_online)(void) {
-    if (!self.online && self.place) open_section(self.place);
+    if (!self.online && self.place) go_online(self.place);
 }
 
 void CALL(quiescent_state)(void) {
     struct place *place = self.place;
     uint64_t cookie, number;
-    uint32_t depth;
     if (unlikely(!self.online)) return;
     cookie = rcu_seat_take_unfenced(&place->seat);
     if (likely(cookie == self.cookie)) return;
     self.cookie = cookie;
     RCU_SANITIZER_RELEASE(place);
-    must("exit", rcu_seat_exit(&place->seat, &depth));
-    must("quiesce", rcu_seat_quiesce_unfenced(&place->seat, &number));
-    must("enter", rcu_seat_enter(&place->seat, &depth));
+    must("renew", rcu_seat_renew_unfenced(&place->seat, &number));
     got_quiet(place);
 }
 
@@ -103,5 +69,6 @@ void CALL(register_thread)(void) {
 }
 
 void CALL(unregister_thread)(void) {
+    CALL(thread_offline)();
     give_back_place();
 }

@@ -3,9 +3,10 @@
  * place is quiet. Then it stores a wish at each place that is awaited still, and calls its thread;
  * looks once more, and sleeps; the last of them that gets quiet wakes it.
  *
- * It rests on this sentence of include/rcu.h, of rcu_begin: "of each section one of two holds: all
- * of it comes before what follows the end of this grace period, or it sees what came before this
- * call"; and on this one, of rcu_awaits: "whether the processor is awaited". It adds: that a thread
+ * It rests on these sentences of include/rcu.h: of rcu_drive_for, "called until the cookie is done
+ * it makes one grace period", and "it orders what rcu_begin, rcu_collect and rcu_end order"; and of
+ * rcu_begin, "of each section one of two holds: all of it comes before what follows the end of this
+ * grace period, or it sees what came before this call". It adds: that a thread
  * which takes a place of an engine that had none took the lock after the round began, so its
  * sections see what came before; and the wishes. The maker stores a wish, and then looks at the
  * place; a thread gets quiet, and then looks for the wish. All four steps are sequentially
@@ -38,20 +39,35 @@ void got_quiet(struct place *place) {
 
 /* ---- a round, with the lock held */
 
-static void look_at(struct engine *engine, uint32_t cpu) {
-    uint32_t found;
-    must("collect", rcu_collect(&engine->rcu, cpu, &found));
-    if (!rcu_awaits(&engine->rcu, cpu)) return;
-    pass_if_out(&engine->places[cpu]);
-    must("collect", rcu_collect(&engine->rcu, cpu, &found));
+/* Tells the thread sanitizer of what the proved calls order. */
+static inline void see_all(struct engine *engine) {
+    for (uint32_t cpu = 0; cpu < engine->cpus; cpu++)
+        RCU_SANITIZER_ACQUIRE(&engine->places[cpu]);
 }
 
-/* Looks at each place that is awaited. Returns whether one still is. */
+static void visit_awaited(struct engine *engine, void (*visit)(struct place *place)) {
+    uint32_t cpus[LARGEST_ENGINE], count;
+    must("list", rcu_awaited_list(&engine->rcu, cpus, engine->cpus, &count));
+    for (uint32_t at = 0; at < count; at++) visit(&engine->places[cpus[at]]);
+}
+
+/* Begins the grace period, or looks at each place that is awaited; ends it where none is. Returns
+ * whether it goes on. */
+static bool drive(struct engine *engine) {
+    rcu_turn_t turn;
+    must("drive", rcu_drive_for_unfenced(&engine->rcu, engine->cookie, &turn));
+    return turn.awaited != 0;
+}
+
 static bool still_awaits(struct engine *engine) {
-    if (!rcu_awaited(&engine->rcu)) return false;
-    for (uint32_t cpu = 0; cpu < engine->cpus; cpu++)
-        if (rcu_awaits(&engine->rcu, cpu)) look_at(engine, cpu);
-    return rcu_awaited(&engine->rcu) != 0;
+    if (BY_WORD) visit_awaited(engine, pass_if_out);
+    return drive(engine);
+}
+
+static void wish(struct place *place) {
+    call_place(place);
+    atomic_fetch_add(&all.missing, 1);
+    atomic_store(&place->wished, true);
 }
 
 static void take_wishes_back(struct engine *engine) {
@@ -60,13 +76,7 @@ static void take_wishes_back(struct engine *engine) {
 }
 
 static void sleep_until_quiet(struct engine *engine) {
-    for (uint32_t cpu = 0; cpu < engine->cpus; cpu++) {
-        struct place *place = &engine->places[cpu];
-        if (!rcu_awaits(&engine->rcu, cpu)) continue;
-        call_place(place);
-        atomic_fetch_add(&all.missing, 1);
-        atomic_store(&place->wished, true);
-    }
+    visit_awaited(engine, wish);
     fence_readers();
     still_awaits(engine);
     take_wishes_back(engine);
@@ -74,54 +84,48 @@ static void sleep_until_quiet(struct engine *engine) {
 }
 
 static void finish(struct engine *engine) {
-    uint64_t number;
     for (unsigned looks = 1; still_awaits(engine); looks++) {
         if (looks % LOOKS == 0) sleep_until_quiet(engine);
         else __builtin_ia32_pause();
     }
-    for (uint32_t cpu = 0; cpu < engine->cpus; cpu++)
-        RCU_SANITIZER_ACQUIRE(&engine->places[cpu]);
-    must("end", rcu_end_unfenced(&engine->rcu, &number));
+    see_all(engine);
 }
 
-/* Begins a grace period of each engine that has a thread. Returns these. */
+/* Of its own place the maker knows: so where no other thread is awaited, none is called. */
+static bool begin(struct engine *engine) {
+    engine->cookie = rcu_take(&engine->rcu);
+    bool waits = drive(engine);
+    if (BY_WORD && waits && self.place && self.place->engine == engine) {
+        pass_if_out(self.place);
+        waits = drive(engine);
+    }
+    if (!waits) see_all(engine);
+    return waits;
+}
+
+/* Begins a grace period of each engine that has a thread. Returns those that wait for one. */
 static struct engine *begin_all(void) {
     struct engine *round = 0;
-    uint64_t number;
-    uint32_t awaited;
-    for (struct engine *it = all.engines; it; it = it->next) {
-        if (!it->taken) continue;
-        must("begin", rcu_begin(&it->rcu, &number, &awaited));
+    for (struct engine *it = all.used; it; it = it->next_used) {
+        if (!begin(it)) continue;
         it->next_in_round = round;
         round = it;
     }
     return round;
 }
 
-/* Of its own place the maker knows: so where no other thread is awaited, none is called. */
-static void look_at_own_place(void) {
-    struct place *place = self.place;
-    if (!place) return;
-    uint32_t cpu = (uint32_t)(place - place->engine->places);
-    if (rcu_awaits(&place->engine->rcu, cpu)) look_at(place->engine, cpu);
-}
-
 /* The last fence stands between what came before the round and the look at the sections beside. */
 static void make_round(void) {
-    bool waits = false;
     all.making = true;
     all.begun++;
     struct engine *round = begin_all();
-    look_at_own_place();
-    for (struct engine *it = round; it; it = it->next_in_round)
-        waits = waits || rcu_awaited(&it->rcu);
-    time_round(waits);
-    if (waits) fence_readers();
+    time_round(round != 0);
+    if (round) fence_readers();
     for (struct engine *it = round; it; it = it->next_in_round) finish(it);
     rcu_fence();
     while (atomic_load(&all.beside)) sched_yield();
     atomic_store_explicit(&all.ended, all.begun, memory_order_release);
-    time_end_of_round(waits);
+    time_end_of_round(round != 0);
     all.making = false;
     pthread_cond_broadcast(&all.round_over);
 }

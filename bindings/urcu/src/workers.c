@@ -11,6 +11,7 @@
 struct call_rcu_data *workers;
 _Atomic(struct call_rcu_data *) main_worker;
 pthread_mutex_t visits = PTHREAD_MUTEX_INITIALIZER;
+pthread_mutex_t making_default = PTHREAD_MUTEX_INITIALIZER;
 
 typedef _Atomic(struct call_rcu_data *) worker_of_cpu;
 static _Atomic(worker_of_cpu *) of_cpus; /* one for each processor of the machine, or null */
@@ -41,16 +42,15 @@ struct call_rcu_data *CALL(create_call_rcu_data)(unsigned long flags, int cpu) {
 }
 
 struct call_rcu_data *default_worker(void) {
-    static pthread_mutex_t making = PTHREAD_MUTEX_INITIALIZER;
     struct call_rcu_data *worker = atomic_load_explicit(&main_worker, memory_order_acquire);
     if (likely(worker)) return worker;
-    pthread_mutex_lock(&making);
+    pthread_mutex_lock(&making_default);
     worker = atomic_load(&main_worker);
     if (!worker) {
         worker = CALL(create_call_rcu_data)(0, -1);
         atomic_store_explicit(&main_worker, worker, memory_order_release);
     }
-    pthread_mutex_unlock(&making);
+    pthread_mutex_unlock(&making_default);
     return worker;
 }
 

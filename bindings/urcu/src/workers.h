@@ -28,6 +28,9 @@ extern _Atomic(struct call_rcu_data *) main_worker;
 /* Whoever visits the workers holds it, so that none goes. It is taken before the lock. */
 extern pthread_mutex_t visits;
 
+/* Who makes the default worker holds it, and who forks. It is taken between the two. */
+extern pthread_mutex_t making_default;
+
 /* callbacks.c */
 void push(struct call_rcu_data *worker, struct rcu_head *head);
 void push_all(struct call_rcu_data *worker, struct rcu_head *last);

@@ -11,17 +11,26 @@ FAULTS = {
         "readers_by_word.c", "memory_order_acquire) == 0) pass_quiet(place);",
         "memory_order_acquire) <= 1) pass_quiet(place);", "memb", "waits", False),
     "the wish is gone": (
-        "readers_by_word.c", "    set_outside(place);\n    fence();\n    got_quiet(place);",
-        "    set_outside(place);\n    fence();", "memb", "waits", HANGS),
+        "sections.c", "    exits(place);\n    got_quiet(place);", "    exits(place);",
+        "memb", "waits", HANGS),
+    "the wish is gone, in mb": (
+        "sections.c", "    exits(place);\n    got_quiet(place);", "    exits(place);",
+        "mb", "waits", HANGS),
+    "a round ends while one is awaited": (
+        "rounds.c", "return turn.awaited != 0;", "return turn.awaited > 1;",
+        "mb", "waits", False),
+    "a section of mb is none of the engine's": (
+        "sections.h", "    open_seat(place);\n", "", "mb", "sections", False),
     "the wish is gone, in qsbr": (
-        "readers_by_state.c",
-        "must(\"enter\", rcu_seat_enter(&place->seat, &depth));\n    got_quiet(place);",
-        "must(\"enter\", rcu_seat_enter(&place->seat, &depth));", "qsbr", "waits", HANGS),
+        "readers_by_state.c", "&number));\n    got_quiet(place);\n", "&number));\n",
+        "qsbr", "waits", HANGS),
     "the inner end of a section ends it": (
-        "readers_by_word.c", "set_depth(place, depth - 1);", "set_outside(place);",
+        "sections.c", "set_depth(place, depth - 1);", "set_depth(place, 0);",
         "memb", "nests", False),
     "a place is given away in a section": (
-        "places.c", "    engine->free_places = place->next;\n", "", "memb", "sections", False),
+        "places.c", "if (place) engine->free_places = place->next;\n    else place",
+        "if (engine->opened) place = &engine->places[0];\n    else place",
+        "memb", "sections", False),
     "a thread that ends keeps its place": (
         "places.c", "    give_back_place();\n}\n\nstatic void set_up_once",
         "}\n\nstatic void set_up_once", "memb", "forgets", False),
@@ -45,10 +54,10 @@ FAULTS = {
         "deferral.c", "CALL(call_rcu)(&ring->head, drain);", "drain(&ring->head);",
         "memb", "defers", False),
     "the child of a fork keeps the parent's engines": (
-        "places.c", "    all.engines = 0;\n", "", "qsbr", "forks", HANGS),
+        "places.c", "    all.with_room = all.used = 0;\n", "", "qsbr", "forks", HANGS),
     "who goes offline is waited for": (
-        "readers_by_state.c", "    if (!self.online) return;\n    close_section(self.place);",
-        "    if (!self.online) return;\n    self.online = false;", "qsbr", "quiet", HANGS),
+        "readers_by_state.c", "    self.online = false;\n    close_seat(self.place);",
+        "    self.online = false;", "qsbr", "quiet", HANGS),
     "a cancelled wait keeps the lock": (
         "base.c",
         "    pthread_setcancelstate(PTHREAD_CANCEL_DISABLE, &was);\n    answer = ",

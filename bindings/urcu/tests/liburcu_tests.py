@@ -1,7 +1,7 @@
 """liburcu's own tests over the drop-in, from Debian's source package, with no line changed. The
 package is fetched by an apt configuration of this file's own, and kept in out/liburcu; its version
 and checksum stand below. Run alone with a word behind it, FOLDER, it prints what each test said
-(--long: longer, and all ways; --bench: the benchmarks too)."""
+(--long: in all ways, and the benchmarks too)."""
 import concurrent.futures
 import glob
 import hashlib
@@ -16,7 +16,7 @@ VERSION = "0.13.2-1"
 ARCHIVE = "liburcu_0.13.2.orig.tar.bz2"
 CHECKSUM = "1213fd9f1b0b74da7de2bb74335b76098db9738fec5d3cdc07c0c524f34fc032"
 SOURCE = "deb-src [signed-by=/usr/share/keyrings/debian-archive-keyring.gpg] " \
-         "http://deb.debian.org/debian bookworm main\n"
+         "http://deb.debian.org/debian {} main\n"
 BINDING = os.path.dirname(os.path.dirname(os.path.realpath(__file__)))
 FLAGS = ["-std=gnu11", "-O2", "-g", "-w", "-D_GNU_SOURCE", "-DHAVE_GETTID=1", "-DHAVE_RAND_R=1",
          "-DHAVE_SCHED_GETCPU=1", "-DHAVE_SCHED_SETAFFINITY=1", "-DHAVE_CPU_SET_T=1",
@@ -38,27 +38,45 @@ def run(words, **how):
     return done.returncode, done.stdout
 
 
-def is_whole(path):
+def package():
+    """The flags by which a program finds liburcu itself, with liburcu-cds: none where it is
+    installed, else those of its package, unpacked below out/. None where it is not to be had."""
+    if run(["pkg-config", "--exists", "liburcu-cds"])[0] == 0:
+        return [], []
+    folder = f"{BINDING}/out/liburcu-dev"
+    os.makedirs(folder, exist_ok=True)
+    if not glob.glob(f"{folder}/usr"):
+        run(["apt-get", "-q", "download", "liburcu-dev", "liburcu8"], cwd=folder)
+        for it in glob.glob(f"{folder}/*.deb"):
+            run(["dpkg-deb", "-x", it, folder])
+    libraries = glob.glob(f"{folder}/usr/lib/*-linux-gnu")
+    if not libraries:
+        return None
+    return [f"-I{glob.glob(f'{folder}/usr/include/*-linux-gnu')[0]}"], \
+        [f"-L{libraries[0]}", f"-Wl,-rpath,{libraries[0]}"]
+
+
+def is_whole(path, checksum=CHECKSUM):
     if not os.path.isfile(path):
         return False
     with open(path, "rb") as file:
-        return hashlib.sha256(file.read()).hexdigest() == CHECKSUM
+        return hashlib.sha256(file.read()).hexdigest() == checksum
 
 
-def fetch(folder):
+def fetch(folder, package=f"liburcu={VERSION}", suites="bookworm"):
     """The package's archive, by apt."""
     if not shutil.which("apt-get"):
         return
     for it in ("lists/partial", "cache/archives/partial"):
         os.makedirs(f"{folder}/{it}", exist_ok=True)
     with open(f"{folder}/sources.list", "w", encoding="utf-8") as file:
-        file.write(SOURCE)
+        file.writelines(SOURCE.format(it) for it in suites.split())
     with open(f"{folder}/apt.conf", "w", encoding="utf-8") as file:
         file.write(f'Dir::Etc::SourceList "{folder}/sources.list";\nDir::Etc::SourceParts "-";\n'
                    f'Dir::State::Lists "{folder}/lists";\nDir::Cache "{folder}/cache";\n'
                    'APT::Sandbox::User "";\n')
     environment = {**os.environ, "APT_CONFIG": f"{folder}/apt.conf"}
-    for words in (["update"], ["source", "--download-only", f"liburcu={VERSION}"]):
+    for words in (["update"], ["source", "--download-only", package]):
         run(["apt-get", "-q", *words], cwd=folder, env=environment)
 
 
@@ -86,7 +104,8 @@ class Builds:
     def build(self, name, sources, flavours, flags=(), libraries=()):
         files = [it for one in sources for it in sorted(glob.glob(f"{self.tests}/{one}"))]
         return run(["gcc", *FLAGS, *flags, f"-I{BINDING}/include", f"-I{self.tests}/common",
-                    f"-I{self.tests}/utils", f"-I{os.path.dirname(self.tests)}/src", "-o",
+                    f"-I{self.tests}/utils", f"-I{os.path.dirname(self.tests)}/src",
+                    f"-I{os.path.dirname(self.tests)}/include", "-o",
                     f"{self.made}/{name}", *files, f"{self.tests}/utils/tap.c",
                     *(f"{self.out}/lib/liburcu{it}.a" for it in flavours), *libraries, "-lpthread"])
 
@@ -106,7 +125,7 @@ class Builds:
         return rows
 
 
-def unit_tests(builds):
+def unit_tests():
     every = ["", "-mb", "-signal", "-qsbr", "-bp"]
     yield "test_arch", ["unit/test_arch.c"], []
     yield "test_uatomic", ["unit/test_uatomic.c"], []
@@ -128,6 +147,35 @@ def torture(is_long):
             [f"-{flavour}"], flags, ways
 
 
+def benchmarks():
+    """Those that need grace periods: readers, writers, seconds."""
+    def one(name, flavour, flags=(), arguments=((READERS, "1", "1"),), libraries=(), source=None):
+        return f"{source or name}{flavour}", [f"benchmark/{name}.c", "common/debug-yield.c"], \
+            [flavour], flags, arguments, libraries
+
+    for flavour, flags in (("-memb", []), ("-mb", ["-DRCU_MB"]), ("-signal", ["-DRCU_SIGNAL"])):
+        for name in ("test_urcu", "test_urcu_assign", "test_urcu_gc", "test_urcu_defer"):
+            yield one(name, flavour, flags)
+        yield one("test_urcu_timing", flavour, flags, ((READERS, "1"),))
+    yield one("test_urcu_gc", "", ["-DTEST_LOCAL_GC"], source="test_urcu_lgc")
+    yield one("test_urcu_bp", "-bp")
+    for name in ("test_urcu_qsbr", "test_urcu_qsbr_gc"):
+        yield one(name, "-qsbr")
+    yield one("test_urcu_qsbr_gc", "-qsbr", ["-DTEST_LOCAL_GC"], source="test_urcu_qsbr_lgc")
+    yield one("test_urcu_qsbr_timing", "-qsbr", arguments=((READERS, "1"),))
+    found = package()
+    if found is None:
+        print("run: liburcu-cds is not here and could not be fetched: no benchmark of it was run")
+        return
+    cds = [*found[1], "-lurcu-cds", "-lurcu-common"]
+    for name in ("test_urcu_lfq", "test_urcu_lfs", "test_urcu_lfs_rcu"):
+        yield one(name, "", arguments=(("2", "2", "1"),), libraries=cds)
+    resizing = "-A -m 2 -n 131072 -X".split()
+    yield one("test_urcu_hash*", "-qsbr", ["-DRCU_QSBR"],
+              ((READERS, "1", "1"), (READERS, "2", "1", *resizing),
+               (READERS, "2", "1", "-u", "-A")), cds, "test_urcu_hash")
+
+
 def outcomes(out, pool, is_long=False):
     """What each test said. Where the package is not here, a line says so, and there is none."""
     folder = source(f"{out}/liburcu")
@@ -137,7 +185,7 @@ def outcomes(out, pool, is_long=False):
         return
     builds = Builds(f"{folder}/tests", out)
     started = [pool.submit(builds.try_one, *it)
-               for it in [*unit_tests(builds), *torture(is_long)]]
+               for it in [*unit_tests(), *torture(is_long), *(benchmarks() if is_long else ())]]
     for it in started:
         yield from it.result()
 

@@ -35,9 +35,9 @@ def edits(text):
             yield f"'{step[:-1].strip()}' a step later", "\n".join(moved)
 
 
-def trials():
+def trials(protocols):
     """Each protocol as it is, and with each of its edits: its name, what was done, the programs."""
-    for name, (words, programs, *more) in PROTOCOLS.items():
+    for name, (words, programs, *more) in protocols.items():
         handlers = more[0] if more else {}
         texts = [*programs, *handlers.values()]
         clean = [next(edits(it))[1] for it in texts]
@@ -57,16 +57,17 @@ def outcome(trial):
             f"{name}{', ' + what if what else ''}: {wrong or f'right in {len(walk.seen)} states'}")
 
 
-def unknown_quotes(code):
-    """What stands behind a '|' in no file of the layer."""
-    for words, programs, *handlers in PROTOCOLS.values():
+def unknown_quotes(protocols, code):
+    """What stands behind a '|', and not in the code."""
+    for words, programs, *handlers in protocols.values():
         for text in [*programs, *(handlers[0].values() if handlers else ())]:
             for quote in re.findall(r"\| (.*)", text):
                 if quote.strip() not in code:
                     yield quote.strip()
 
 
-def main():
+def try_all(protocols, paths):
+    """Tries the protocols of the code in these files."""
     counts = {True: 0, False: 0}
 
     def count(well, what):
@@ -74,13 +75,13 @@ def main():
         print(f"{'' if well else 'failed: '}{what}", flush=True)
 
     with multiprocessing.Pool() as pool:
-        for well, said in pool.imap(outcome, trials()):
+        for well, said in pool.imap(outcome, trials(protocols)):
             count(well, said)
     code = ""
-    for path in sorted(os.listdir(SOURCES)):
-        with open(f"{SOURCES}/{path}", encoding="utf-8") as file:
+    for path in paths:
+        with open(path, encoding="utf-8") as file:
             code += file.read()
-    quotes = sorted(set(unknown_quotes(code)))
+    quotes = sorted(set(unknown_quotes(protocols, code)))
     missing = f": not there: {'; '.join(quotes)}" if quotes else ""
     count(not quotes, f"the model's steps are the code's{missing}")
     print(f"{counts[True]} passed, {counts[False]} failed")
@@ -88,4 +89,4 @@ def main():
 
 
 if __name__ == "__main__":
-    sys.exit(main())
+    sys.exit(try_all(PROTOCOLS, [f"{SOURCES}/{it}" for it in sorted(os.listdir(SOURCES))]))

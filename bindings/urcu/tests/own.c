@@ -38,24 +38,6 @@ void look(bool slowly) {
     rcu_read_unlock();
 }
 
-void quiescent(void) {
-#ifdef USE_QSBR
-    rcu_quiescent_state();
-#endif
-}
-
-void offline(void) {
-#ifdef USE_QSBR
-    rcu_thread_offline();
-#endif
-}
-
-void online(void) {
-#ifdef USE_QSBR
-    rcu_thread_online();
-#endif
-}
-
 void rest(unsigned milliseconds) {
     struct timespec time = {milliseconds / 1000, (long)(milliseconds % 1000) * 1000000};
     while (nanosleep(&time, &time) && errno == EINTR) continue;

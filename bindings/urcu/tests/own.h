@@ -26,6 +26,22 @@
 #include <unistd.h>
 #include <urcu/uatomic.h>
 
+/* In the other flavours these do nothing. */
+#ifdef USE_QSBR
+#define IN_QSBR(call) call()
+#else
+#define IN_QSBR(call) ((void)0)
+#endif
+static inline void quiescent(void) {
+    IN_QSBR(rcu_quiescent_state);
+}
+static inline void offline(void) {
+    IN_QSBR(rcu_thread_offline);
+}
+static inline void online(void) {
+    IN_QSBR(rcu_thread_online);
+}
+
 /* A thing that readers follow. Of one that was freed `twice` is wrong. */
 struct node {
     struct rcu_head head;
@@ -40,9 +56,6 @@ void spoil(struct node *it);
 void ripe(struct rcu_head *head);
 struct node *replace(unsigned long value);
 void look(bool slowly);
-void quiescent(void); /* in qsbr */
-void offline(void);   /* in qsbr */
-void online(void);
 void *update(void *it); /* until it is over */
 void rest(unsigned milliseconds);
 

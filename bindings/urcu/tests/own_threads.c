@@ -1,28 +1,33 @@
 /* Sections, and threads that come and go. */
 #include "own.h"
 
+enum { READERS = 3, LOOKS = 300 };
+static unsigned long ready;
+
 static void *read_on(void *it) {
+    unsigned long looks = 0;
     rcu_register_thread();
     while (!uatomic_read(&over)) {
         look(true);
         quiescent();
+        if (++looks == LOOKS) uatomic_inc(&ready);
     }
     rcu_unregister_thread();
     return it;
 }
 
-/* Two readers beside an updater that frees what it replaced. */
+/* Three readers beside an updater that frees what it replaced, until each has looked often. */
 int sections(unsigned n) {
-    pthread_t reader[3];
-    for (int i = 0; i < 3; i++)
+    pthread_t reader[READERS];
+    for (int i = 0; i < READERS; i++)
         if (pthread_create(&reader[i], 0, read_on, 0)) return 0;
-    for (unsigned i = 0; i < (n ? n : 3000); i++) {
+    for (unsigned i = 0; i < (n ? n : 3000) || uatomic_read(&ready) < READERS; i++) {
         struct node *old = replace(i);
         synchronize_rcu();
         spoil(old);
     }
     uatomic_set(&over, 1);
-    for (int i = 0; i < 3; i++) pthread_join(reader[i], 0);
+    for (int i = 0; i < READERS; i++) pthread_join(reader[i], 0);
     return 1;
 }
 

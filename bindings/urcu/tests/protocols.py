@@ -1,15 +1,11 @@
 """The layer's protocols, as programs of interleavings.py: the steps of each thread as the code
-makes them. The engine is taken at its word: it awaits a place until a quiescent state was passed there.
-For the marks of a step see model.py."""
-FREED = "a section reads what was freed"
+makes them. The engine is taken at its word: it awaits a place until a quiescent state was passed
+there. For the marks of a step see model.py."""
+from protocols_of_callbacks import PROTOCOLS_OF_CALLBACKS, SECTION
+
 HELD_UP = "a thread that reads again and again holds a round up"
 
-# ---- sections and rounds. One version is shown, and the other one is freed.
-SECTION = f"""
-    p = pointer
-    g = good.p
-    must g: {FREED}
-"""
+# ---- sections and rounds.
 # The thread got quiet: it looks for a wish, and wakes the maker.
 LOOK_FOR_A_WISH = """
     w = wished !                          | atomic_load(&place->wished)
@@ -29,7 +25,7 @@ def reader(fence):
     return f"""
 top:
     maybe over
-    c = called !                          | is_called(place)
+    c = called !      | unlikely(atomic_load_explicit(&place->called, memory_order_relaxed))
     if c goto slowly
     depth = 1 {"%" if fence else ""}      | set_depth(place, 1)
     {fence}
@@ -41,7 +37,7 @@ top:
     must f: {HELD_UP}
 in:
     {SECTION}
-    depth = 0 %                           | set_outside(place)
+    depth = 0 %       | atomic_store_explicit(&place->depth, 0, memory_order_release)
     {fence}
     {LOOK_FOR_A_WISH}
 slowly:
@@ -71,7 +67,7 @@ again:
     pointer = n
     lock
     quiet = 0
-    {fence} !                             | if (waits) fence_readers()
+    {fence} !                             | if (round) fence_readers()
 look:
     d = depth !                     | atomic_load_explicit(&place->depth, memory_order_acquire) == 0
     if d goto looked
@@ -122,14 +118,14 @@ top:
     n = number                            | rcu_seat_take_unfenced(&place->seat)
     if n is last goto top                 | cookie == self.cookie
     last = n
-    s = swap own n %                      | rcu_seat_quiesce_unfenced(&place->seat, &number)
+    s = swap own n %                      | rcu_seat_renew_unfenced(&place->seat, &number)
     {LOOK_FOR_A_WISH.replace("top", "again")}
 again:
     maybe ended
     goto top
 over:
     s = swap own 9 %                      | rcu_seat_idle(&place->seat)
-    w = wished !                          | got_quiet(self.place)
+    w = wished !                          | close_seat(self.place);
     unless w goto ended
     x = swap wished 0
     unless x goto ended
@@ -139,6 +135,17 @@ over:
     signal
     unlock
 ended:
+"""
+# ---- the same in mb, where a thread is idle but in its sections.
+BY_SEAT = f"""
+top:
+    maybe over
+    n = number                            | rcu_seat_wake_unfenced(&place->seat, &number)
+    s = swap own n %
+    {SECTION}
+    s = swap own 9 %                      | close_seat(place);
+    {LOOK_FOR_A_WISH}
+over:
 """
 MAKER_BY_STATE = """
     pointer = 1
@@ -250,6 +257,68 @@ beside:
     ended = 1                             | atomic_store_explicit(&all.ended, all.begun
     unlock
 """
+# In mb, where the seat is the thread's own. No call on it comes in the midst of another one.
+IN_A_CALL = "a signal handler makes a call in the midst of one"
+SEAT_WITH_HANDLER = f"""
+    busy = 1                              | set_busy(1)
+    told calls = 1
+    n = number
+    told calls = 0
+    s = swap own n %                      | open_seat(place);
+    depth = 1                             | set_depth(place, 1)
+    busy = 0                              | set_busy(-1u)
+    {SECTION}
+    busy = 1
+    told calls = 1
+    depth = 0 %                           | set_depth(place, 0)
+    s = swap own 9                        | close_seat(place);
+    told calls = 0
+    busy = 0
+"""
+HANDLER_BY_SEAT = f"""
+    d = depth
+    if d goto nests
+    b = busy !                            | if (is_busy()) {{
+    if b goto beside
+    c = calls
+    f = other.c
+    must f: {IN_A_CALL}
+    n = number
+    s = swap own n
+    depth = 1
+    {SECTION}
+    depth = 0
+    s = swap own 9
+    goto over
+nests:
+    o = own
+    f = idle.o
+    must f: a handler nests in a section that is not open
+    depth = 2
+    {SECTION}
+    depth = 1
+    goto over
+beside:
+    x = add beside 1 !
+    {SECTION}
+    x = add beside -1
+over:
+"""
+MAKER_OF_SEAT_HANDLED = """
+    pointer = 1
+    lock
+    number = 1
+    fence
+waits:
+    a = own
+    unless a goto waits
+    fence
+beside:
+    b = beside !
+    if b goto beside
+    unlock
+    good0 = 0
+"""
 # Who polls frees what the maker's round came after.
 POLLER = """
 poll:
@@ -274,132 +343,6 @@ beside:
     good0 = 0
 """
 
-# ---- callbacks. Two threads push one each (1 and 2); 'next' of each leads to the one before.
-PUSHER = """
-again:
-    l = last
-    next.ME = l %                         | do head->next = last;
-    x = cas last l ME   | atomic_compare_exchange_weak_explicit(&worker->last, &last, head
-    unless x goto again
-    if l goto over
-    lock
-    signal !                              | pthread_cond_signal(&worker->work)
-    unlock
-over:
-"""
-WORKER = """
-sleeps:
-    lock
-look:
-    l = last !   | atomic_load_explicit(&worker->last, memory_order_relaxed)
-    if l goto takes
-    r = ran1
-    unless r goto waits
-    r = ran2
-    if r goto over
-waits:
-    wait
-    lock
-    goto look
-takes:
-    unlock
-    h = swap last 0   | atomic_exchange_explicit(&worker->last, 0, memory_order_acquire)
-run:
-    unless h goto sleeps
-    r = ran.h
-    f = other.r
-    must f: a callback runs twice
-    ran.h = 1
-    h = next.h
-    goto run
-over:
-    unlock
-"""
-# ---- what a callback frees. The worker takes it, and then waits for a round: that is to say, until
-# the section that is open then has ended.
-UNLINKS = """
-    pointer = 1
-    x = swap last 1
-"""
-READS_AND_RUNS = f"""
-    told open = 1
-    {SECTION}
-    told open = 0
-"""
-FREES = """
-    h = swap last 0 %   | atomic_exchange_explicit(&worker->last, 0, memory_order_acquire)
-    o = open
-    unless h goto over
-waits:
-    unless o goto frees
-    o = open
-    goto waits
-frees:
-    good0 = 0
-over:
-"""
-
-# ---- defer_rcu: a thread adds two calls to its ring; `list` is 1 where the callback waits for the
-# worker.
-QUEUE = """
-    a = added
-    limit = a                             | ring->limit = atomic_load(&ring->added)
-    o = swap list 1                       | CALL(call_rcu)(&ring->head, drain)
-    f = other.o
-    must f: a callback is queued twice
-"""
-DEFER = f"""
-    call.AT = 1 MARK                      | ring->calls[at % RING] = (struct deferred)
-    x = swap added AFTER MARK             | atomic_store(&ring->added, at + 1)
-    q = queued                            | unlikely(!atomic_load(&ring->queued))
-    if q goto added.AFTER
-    x = swap queued 1 !                   | !atomic_exchange(&ring->queued, true)
-    if x goto added.AFTER
-    {QUEUE}
-    lock
-    signal
-    unlock
-"""
-DEFERS = "\n".join(
-    DEFER.replace("added.AFTER", f"added{at + 1}").replace("AFTER", str(at + 1))
-    .replace("call.AT", f"call{at}").replace("MARK", "%" if at else "") + f"added{at + 1}:\n"
-    for at in range(2))
-DRAINS = f"""
-    lock
-look:
-    o = list
-    if o goto takes
-    m = made
-    if m is 2 goto over
-    wait
-    lock
-    goto look
-takes:
-    o = swap list 0
-    unlock
-    l = limit                             | unsigned long limit = ring->limit
-    m = made
-calls:
-    if m is l goto made
-    c = call.m
-    must c: a call is made before it is there
-    m = after.m
-    made = m                              | atomic_store_explicit(&ring->made, at + 1
-    goto calls
-made:
-    x = swap queued 0 %                   | atomic_store(&ring->queued, false)
-    a = added                             | atomic_load(&ring->added) != limit
-    if a is l goto again
-    x = swap queued 1 !                   | !atomic_exchange(&ring->queued, true)
-    if x goto again
-    {QUEUE}
-again:
-    lock
-    goto look
-over:
-    unlock
-"""
-
 ROUND = {"depth": 0, "called": 0, "quiet": 0, "wished": 0, "missing": 0, "pointer": 0, "good0": 1,
          "good1": 1, "other0": 1, "other1": 0, "new": 0, "came": 0}
 STATE = {**ROUND, "number": 0, "own": 0}
@@ -408,20 +351,15 @@ PROTOCOLS = {
     "a section and a round, by the reader's fences":
         (ROUND, [reader("fence !"), maker("fence", "")]),
     "a section and a round, by state": (STATE, [BY_STATE, MAKER_BY_STATE]),
+    "a section and a round, by seat": ({**STATE, "own": 9}, [BY_SEAT, MAKER_BY_STATE]),
     "a signal handler, a round and a poll":
         ({**ROUND, "busy": 0, "beside": 0, "ended": 0},
          [WITH_HANDLER, MAKER_OF_HANDLED, POLLER], {0: HANDLER}),
+    "a signal handler and a round, by seat":
+        ({**STATE, "own": 9, "busy": 0, "beside": 0, "calls": 0,
+          "idle0": 1, "idle1": 1, "idle9": 0},
+         [SEAT_WITH_HANDLER, MAKER_OF_SEAT_HANDLED], {0: HANDLER_BY_SEAT}),
     "a section beside, and a round of no engine":
         ({**ROUND, "beside": 0}, [HANDLER_ALONE, MAKER_OF_ONE_BESIDE]),
-    "callbacks of two threads":
-        ({"last": 0, "next1": 0, "next2": 0, "ran0": 0, "ran1": 0, "ran2": 0,
-          "other0": 1, "other1": 0,
-          },
-         [PUSHER.replace("ME", "1"), PUSHER.replace("ME", "2"), WORKER]),
-    "a callback and a section":
-        ({"pointer": 0, "last": 0, "open": 0, "good0": 1, "good1": 1},
-         [UNLINKS, READS_AND_RUNS, FREES]),
-    "deferred calls":
-        ({"call0": 0, "call1": 0, "added": 0, "queued": 0, "list": 0, "limit": 0, "made": 0,
-          "after0": 1, "after1": 2, "other0": 1, "other1": 0}, [DEFERS, DRAINS]),
+    **PROTOCOLS_OF_CALLBACKS,
 }
