@@ -1,5 +1,5 @@
 """The lists of docs/API.md, for tools/write_calls: of each public call of the crates that the mark
-of a list names what it does in a few words, and its faults; and the names of the calls for C.
+of a list names what it does in a few words, and its faults.
 
 The words are the first sentence of the doc comment, up to its first colon. The names alone stand of
 questions, which take nothing and have no fault, and of calls whose doc comment names the call of
@@ -10,8 +10,8 @@ import os
 import re
 import textwrap
 
-import c_calls
 import doc_comments as source
+from checks import read
 
 PAGE = "docs/API.md"
 UNLISTED = "## Not listed"
@@ -22,7 +22,7 @@ LIST = re.compile(r"(?ms)(^<!-- >>> ((?:rcu_\w+ ?)+): [^\n]*\n).*?(^<!-- <<<)")
 def unlisted():
     """The modules of each crate that the page leaves out."""
     rows = [re.findall(r"`(\w+)`", it) for it in
-            source.read(PAGE).split(UNLISTED)[1].splitlines() if it.startswith("- ")]
+            read(PAGE).split(UNLISTED)[1].splitlines() if it.startswith("- ")]
     return {row[0]: row[1:] for row in rows}
 
 
@@ -31,7 +31,7 @@ def listed(crate, without):
     for path in source.files_of(crate):
         module = os.path.basename(path).removesuffix(".rt")
         if not module.endswith("laws") and module not in without:
-            yield from source.calls_in(path, source.read(path))
+            yield from source.calls_in(read(path))
 
 
 def lists(page):
@@ -57,7 +57,7 @@ def said(call):
     texts = [re.sub(r"\[(`[^`]*`)\](?:\([^)]*\))?", r"\1", it) for it in call.paragraphs]
     first = re.split(r"(?<=\.) (?=[A-Z`(])", texts[0])[0] if texts else ""
     first = re.sub(r" \((?:Linux|liburcu|what crossbeam)[^)]*\)", "", first)
-    first = re.split(r": |, so that ", first)[0].rstrip(".")
+    first = re.split(r": |, so that |, and costs as ", first)[0].rstrip(".")
     first = f" {first}." if first else ""
     for text in texts:
         if re.match(r"Faults?\b", text):
@@ -94,12 +94,6 @@ def rows(own):
         for of, names in alike.items():
             what = of if " " in of else f"as those of `{of}`"
             yield filled(f"- `{kind.split()[-1]}`, {what}: {', '.join(names)}.")
-
-
-def of_c(library):
-    """The names of the calls for C."""
-    names = [it.name.removesuffix(c_calls.UNFENCED) for it in library.calls()]
-    yield textwrap.fill(", ".join(f"`{it}`" for it in names) + ".", WIDTH) + "\n"
 
 
 def written(page):

@@ -1,9 +1,10 @@
 """The calls of rcu_c as C and Rust have them, for tools/write_calls: include/rcu.h,
-bindings/rust/src/raw.rs, and a manual page for each call."""
+bindings/rcu-sys/src/lib.rs, and a manual page for each call."""
 import re
 import textwrap
 
 import doc_comments as source
+from checks import read
 
 WIDTH = 100
 PLAIN = {"u8": "unsigned char", "u32": "uint32_t", "u64": "uint64_t", "usize": "size_t",
@@ -36,7 +37,7 @@ class Library:
     """What rcu_c exports: its calls by file, its structs, its enums and its faults."""
 
     def __init__(self, header):
-        self.files = {it: source.read(it) for it in source.files_of("rcu_c")}
+        self.files = {it: read(it) for it in source.files_of("rcu_c")}
         groups = [(source.head_of(path), self.exports(path)) for path in self.files]
         self.groups = sorted([it for it in groups if it[1]], key=lambda it: min(
             place_in(header, f" {call.name}(") for call in it[1]))
@@ -49,7 +50,7 @@ class Library:
 
     def exports(self, path):
         names = re.findall(r"no_mangle\)\]\n(?:pub )?extern \"C\" fn (\w+)", self.files[path])
-        return [it for it in source.calls_in(path, self.files[path]) if it.name in names]
+        return [it for it in source.calls_in(self.files[path]) if it.name in names]
 
     def calls(self):
         return [call for _, group in self.groups for call in group]
@@ -82,7 +83,7 @@ class Library:
     def faults(self):
         """The faults that some call lists, and those of C alone: number, name and sentence."""
         listed = {number for call in self.calls() for number in faults_of(call)}
-        text = source.read("crates/rcu_seq/src/fault.rt")
+        text = read("crates/rcu_seq/src/fault.rt")
         for words, name, number in re.findall(r'#\[error\("(.*?)"\)\]\n    (\w+) = (\d+)', text):
             if int(number) in listed:
                 yield int(number), f"RCU_{upper(name)}", words
@@ -92,24 +93,25 @@ class Library:
 
     def in_rust(self, kind):
         """A type of a parameter, a field or a result as Rust's own side has it."""
-        star = re.fullmatch(r"(?:&mut|\*mut) \[?(\w+)\]?", kind)
-        kind = star[1] if star else kind
-        return ("*mut " if star else "") + self.types.get(kind, kind)
+        star = re.fullmatch(r"(&mut |\*mut |&)\[?(\w+)\]?", kind)
+        kind = star[2] if star else kind
+        star = star and ("*const " if star[1] == "&" else "*mut ")
+        return (star or "") + self.types.get(kind, kind)
 
     def in_c(self, name, kind):
         """A parameter or a field in C."""
         kind = self.in_rust(kind)
-        star = "*" if kind.startswith("*mut ") else ""
-        kind = kind.removeprefix("*mut ")
-        return f"{PLAIN.get(kind, kind)} {star}{name}"
+        star, _, kind = kind.rpartition(" ")
+        const = "const " if star == "*const" else ""
+        return f"{const}{PLAIN.get(kind, kind)} {star[:1]}{name}"
 
     def parameters(self, call):
         """Each parameter and its type. An allocator takes no place in C, and a slice takes two."""
         for name, kind in call.parameters():
             if kind != "Global":
                 yield name, kind
-            if kind.startswith("&mut ["):
-                yield "room", "usize"
+            if kind.startswith(("&mut [", "&[")):
+                yield "room" if "mut" in kind else "length", "usize"
 
 
 def body_of(head, code):
@@ -169,25 +171,21 @@ class Fence:
 
 def filled(head, parameters, tail):
     """A head with its parameters, over several lines where one is too short."""
-    rows = [f"{head}("]
-    for it in [*(f"{it}, " for it in parameters[:-1]), f"{parameters[-1]}){tail}"]:
-        if len(rows[-1] + it) > WIDTH:
-            rows = [*rows[:-1], rows[-1].rstrip(), " " * (len(head) + 1)]
-        rows[-1] += it
-    return "\n".join(rows)
+    words = [f"{head}(", *parameters]
+    text = ", ".join(it.replace(" ", "\0") for it in words).replace("(, ", "(", 1) + f"){tail}"
+    indent = " " * (len(head) + 1)
+    return textwrap.fill(text.replace(") {", ")\0{"), WIDTH, subsequent_indent=indent,
+                         break_long_words=False).replace("\0", " ")
 
 
 def note(paragraphs, first="/* "):
     """The paragraphs as one comment."""
     rows = []
-    for text in paragraphs:
-        text = re.sub(r"`(rcu_\w+)`", r"\1", text)
-        own = first if not rows else " * "
-        rows += textwrap.wrap(text, WIDTH, initial_indent=own, subsequent_indent=" * ",
+    for text in [*paragraphs[:-1], paragraphs[-1] + "\0*/"]:
+        rows += textwrap.wrap(re.sub(r"`(rcu_\w+)`", r"\1", text), WIDTH,
+                              initial_indent=" * " if rows else first, subsequent_indent=" * ",
                               break_on_hyphens=False, break_long_words=False)
-    if len(rows[-1]) > WIDTH - 3:
-        rows += textwrap.wrap(rows.pop(), WIDTH - 3, subsequent_indent=" * ")
-    return "\n".join(rows) + " */"
+    return "\n".join(rows).replace("\0", " ")
 
 
 def with_words(rows, words):

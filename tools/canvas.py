@@ -34,117 +34,106 @@ LEGEND = {
 }
 
 
+def text(x, y, color, words, more=""):
+    return f'<text x="{x}" y="{y}"{more} fill="{color}">{html.escape(words, quote=False)}</text>'
+
+
 class Picture:
-    """The lines of a script with their replies, and what was drawn of them so far."""
+    """The lines of a script with their replies, and what was drawn of them so far. Each shape may
+    name the row of the legend that tells of it (`key`)."""
 
     def __init__(self, rows, notes):
-        self.rows = rows
-        self.notes = notes
-        self.shapes = []
-        self.lanes = {}
-        self.shown = set()
-        self.top = TOP + LINE * len(self.note_rows())
+        self.rows, self.notes = rows, notes
+        self.shapes, self.lanes, self.shown = [], {}, set()
+        self.width = LEFT + max(STEP * len(rows) + 60, 420)
+        self.note_rows = self.notes_in_rows()
+        self.top = TOP + LINE * len(self.note_rows)
 
     def x(self, place):
-        return LEFT + STEP * place + STEP // 2
+        """Where a line is; None is the end of the script."""
+        return LEFT + STEP * (len(self.rows) if place is None else place) + STEP // 2 * (
+            place is not None)
 
     def y(self, lane):
         """Where a lane is; lanes are opened in the order in which they are asked for."""
         return self.top + LANE * self.lanes.setdefault(lane, len(self.lanes))
 
-    def width(self):
-        return LEFT + max(STEP * len(self.rows) + 60, 420)
-
-    def note_rows(self):
+    def notes_in_rows(self):
         """The notes in rows, such that none stands over another one: where the line of each goes
         down, where its text begins, and that."""
         rows = []
-        for place, text, is_before in self.notes:
+        for place, words, is_before in self.notes:
             x = self.x(place) - STEP // 2 * is_before
-            long = LETTER * len(text)
-            begin = x + 4 if x + long < self.width() else max(x - 4 - long, 6)
+            long = LETTER * len(words)
+            begin = x + 4 if x + long < self.width else max(x - 4 - long, 6)
             row = next((it for it in rows if it[-1][1] + LETTER * len(it[-1][2]) + 9 < begin), None)
             if row is None:
                 rows.append(row := [])
-            row.append((x, begin, text))
+            row.append((x, begin, words))
         return rows
 
     def legend(self):
         """What occurs in the picture, in lines."""
         lines = []
-        for key in LEGEND:
-            if key not in self.shown:
-                continue
-            longer = f"{lines[-1]} · {LEGEND[key]}" if lines else LEGEND[key]
-            if lines and LETTER * len(longer) < self.width() - 12:
-                lines[-1] = longer
+        for words in (LEGEND[it] for it in LEGEND if it in self.shown):
+            if lines and LETTER * len(f"{lines[-1]} · {words}") < self.width - 12:
+                lines[-1] += f" · {words}"
             else:
-                lines.append(LEGEND[key])
+                lines.append(words)
         return lines
 
-    def put(self, shape, place=None):
-        if place is not None:
-            number, line, reply = self.rows[place]
-            title = html.escape(f"line {number}: {line}: {reply}")
-            shape = f"<g><title>{title}</title>{shape}</g>"
-        self.shapes.append(shape)
+    def title(self, place):
+        number, line, reply = self.rows[place]
+        return f"<title>{html.escape(f'line {number}: {line}: {reply}')}</title>"
 
-    def bar(self, lane, start, end, color, height=12, text="", place=None):
+    def put(self, shape, place, key=None):
+        self.shapes.append(f"<g>{self.title(place)}{shape}</g>")
+        self.shown |= {key} - {None}
+
+    def bar(self, lane, start, end, color, height=12, words="", key=None):
         """A bar from one line to another one, or to the end of the script."""
-        x, y = self.x(start), self.y(lane)
-        right = self.x(end) if end is not None else self.x(len(self.rows)) - STEP // 2
-        top = y - height // 2
-        size = f'width="{right - x}" height="{height}"'
+        x, top = self.x(start), self.y(lane) - height // 2
+        size = f'width="{self.x(end) - x}" height="{height}"'
         shape = f'<rect x="{x}" y="{top}" {size} fill="{color}"/>'
-        if text:
-            shape += f'<text x="{x + 4}" y="{top - 3}" fill="{color}">{html.escape(text)}</text>'
-        self.put(shape, start if place is None else place)
+        self.put(shape + (text(x + 4, top - 3, color, words) if words else ""), start, key)
 
-    def mark(self, lane, place, kind, color, filled=True, text=""):
+    def mark(self, lane, place, kind, color, filled=True, words="", key=None):
         """A mark at a line: a ring, a diamond, a square, a triangle, a cross or a letter."""
         x, y = self.x(place), self.y(lane)
-        fill = color if filled else "white"
-        paint = f'fill="{fill}" stroke="{color}" stroke-width="2"'
+        paint = f'fill="{color if filled else "white"}" stroke="{color}" stroke-width="2"'
         strokes = f"M{x - 5} {y - 5}L{x + 5} {y + 5}M{x - 5} {y + 5}L{x + 5} {y - 5}"
-        middle = f'text-anchor="middle" fill="{color}"'
         shape = {
             "ring": f'<circle cx="{x}" cy="{y}" r="5" {paint}/>',
             "diamond": f'<path d="M{x} {y - 7}L{x + 7} {y}L{x} {y + 7}L{x - 7} {y}Z" {paint}/>',
             "square": f'<rect x="{x - 5}" y="{y - 5}" width="10" height="10" {paint}/>',
             "triangle": f'<path d="M{x - 6} {y - 5}H{x + 6}L{x} {y + 6}Z" {paint}/>',
             "cross": f'<path d="{strokes}" {paint}/>',
-            "letter": f'<text x="{x}" y="{y - 6}" {middle}>{text}</text>',
+            "letter": text(x, y - 6, color, words, ' text-anchor="middle"'),
         }[kind]
-        if text and kind != "letter":
-            below = 15 if kind == "diamond" else -10
-            shape += f'<text x="{x + 8}" y="{y + below}" fill="{color}">{html.escape(text)}</text>'
-        self.put(shape, place)
+        if words and kind != "letter":
+            shape += text(x + 8, y + (15 if kind == "diamond" else -10), color, words)
+        self.put(shape, place, key)
 
     def svg(self):
-        bottom = self.top + LANE * len(self.lanes) - 6
+        bottom, legend = self.top + LANE * len(self.lanes) - 6, self.legend()
         longest = max((len(f"{number}: {line}") for number, line, _ in self.rows), default=0)
-        width, legend = self.width(), self.legend()
-        height = bottom + 26 + 5 * longest + LINE * len(legend)
+        width, height = self.width, bottom + 26 + 5 * longest + LINE * len(legend)
         out = [f'<svg xmlns="http://www.w3.org/2000/svg" width="{width}" height="{height}" '
                f'viewBox="0 0 {width} {height}" font-family="sans-serif" font-size="11">',
                f'<rect width="{width}" height="{height}" fill="white"/>']
         for place, (number, line, reply) in enumerate(self.rows):
-            x, title = self.x(place), html.escape(f"line {number}: {line}: {reply}")
-            color = FAULT if reply.startswith("fault") else TEXT
-            out.append(f'<path d="M{x} {self.top - 16}V{bottom}" stroke="#eeeeee"/>')
-            turned = f"translate({x - 3} {bottom + 12}) rotate(55)"
-            out.append(f'<text transform="{turned}" fill="{color}">'
-                       f"<title>{title}</title>{number}: {html.escape(line)}</text>")
-        for at, row in enumerate(self.note_rows()):
-            y = 14 + LINE * at
-            for x, begin, text in row:
-                out.append(f'<path d="M{x} {y + 3}V{bottom}" stroke="{TEXT}" '
-                           'stroke-dasharray="2 4"/>')
-                out.append(f'<text x="{begin}" y="{y}" fill="{TEXT}" font-style="italic">'
-                           f"{html.escape(text)}</text>")
-        for lane, at in self.lanes.items():
-            out.append(f'<text x="6" y="{self.top + LANE * at + 4}" fill="{TEXT}">{lane}</text>')
+            x, color = self.x(place), FAULT if reply.startswith("fault") else TEXT
+            out += [f'<path d="M{x} {self.top - 16}V{bottom}" stroke="#eeeeee"/>',
+                    f'<text transform="translate({x - 3} {bottom + 12}) rotate(55)" fill="{color}">'
+                    f"{self.title(place)}{number}: {html.escape(line)}</text>"]
+        for at, row in enumerate(self.note_rows):
+            for x, begin, words in row:
+                out += [f'<path d="M{x} {17 + LINE * at}V{bottom}" stroke="{TEXT}" '
+                        'stroke-dasharray="2 4"/>',
+                        f'<text x="{begin}" y="{14 + LINE * at}" fill="{TEXT}" font-style="italic">'
+                        f"{html.escape(words)}</text>"]
+        out += [text(6, self.top + LANE * at + 4, TEXT, lane) for lane, at in self.lanes.items()]
         out += self.shapes
-        for at, line in enumerate(reversed(legend)):
-            out.append(f'<text x="6" y="{height - 8 - LINE * at}" fill="{TEXT}">{line}</text>')
+        out += [text(6, height - 8 - LINE * at, TEXT, words)
+                for at, words in enumerate(reversed(legend))]
         return "\n".join(out) + "\n</svg>\n"

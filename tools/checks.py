@@ -1,4 +1,5 @@
 """What the tools that test a list of things have in common: they count, and say what failed."""
+import functools
 import os
 import shutil
 import subprocess
@@ -13,6 +14,13 @@ def count(passed, what, said=""):
     counts[bool(passed)] += 1
     if not passed:
         print(f"{said}\nfailed: {what}".lstrip())
+
+
+def count_rows(*checks, given=()):
+    """Counts each of these, which yields a line for each thing that is wrong."""
+    for check in checks:
+        rows = list(check(*given))
+        count(not rows, check.__name__.replace("_", " "), "\n".join(rows))
 
 
 def finish():
@@ -30,11 +38,22 @@ def lacks(tool, names, without):
 
 
 def read(path):
-    with open(os.path.join(ROOT, path), encoding="utf-8") as file:
+    with open(os.path.join(ROOT, path), encoding="utf-8", newline="") as file:
         return file.read()
 
 
+@functools.lru_cache(maxsize=None)
+def files():
+    """The files of the repository, by their paths from the root, without what is built."""
+    found = []
+    for folder, below, names in os.walk(ROOT):
+        below[:] = set(below) - {".git", "out", "target", "__pycache__"}
+        found += [os.path.relpath(f"{folder}/{it}", ROOT) for it in names]
+    return sorted(found)
+
+
 def write(path, text):
+    path = os.path.join(ROOT, path)
     os.makedirs(os.path.dirname(path), exist_ok=True)
     with open(path, "w", encoding="utf-8") as file:
         file.write(text)
@@ -43,8 +62,9 @@ def write(path, text):
 
 def run(words, seconds=600, **how):
     """Runs a command to its end, with all that it says in one text."""
-    return subprocess.run(words, stdin=subprocess.DEVNULL, stdout=subprocess.PIPE, check=False,
-                          stderr=subprocess.STDOUT, encoding="utf-8", timeout=seconds, **how)
+    how = {"stdin": subprocess.DEVNULL, "stderr": subprocess.STDOUT, **how}
+    return subprocess.run(words, stdout=subprocess.PIPE, check=False, encoding="utf-8",
+                          timeout=seconds, **how)
 
 
 def count_run(what, words, seconds=600, **how):
@@ -52,3 +72,9 @@ def count_run(what, words, seconds=600, **how):
     ran = run(words, seconds, **how)
     count(ran.returncode == 0, what, ran.stdout)
     return ran.stdout if ran.returncode == 0 else None
+
+
+def is_proved():
+    """Whether ./rcu is the proved build: the other one needs the toolchain, hidden here."""
+    words = [f"{ROOT}/rcu", "script", "--leaf", "2", "--inner", "2", "--cpus", "1"]
+    return run(words, env={**os.environ, "PATH": "/usr/bin:/bin"}).returncode == 0

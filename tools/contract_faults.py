@@ -2,12 +2,10 @@
 
 Clauses name faults by their numbers, or by definitions of specs/ that say why a call is refused.
 Each call has the two faults of a handle that it does not take, too, which no doc comment lists."""
-import glob
-import os
 import re
 
 import c_calls
-import doc_comments as source
+from checks import files, read
 
 EXPORT = re.compile(r"no_mangle\)\]\n(?:pub )?extern \"C\" fn (\w+)(.*?)^\{",
                     re.DOTALL | re.MULTILINE)
@@ -18,13 +16,12 @@ DEFINITION = re.compile(r"^ *(?:abbrev )?pub (\w+) : [^\n]*\b(?:Fault|Refusal)\b
 OTHER_ORDER = {"if_own", "queue_refusal"}
 # The faults of a handle that a call does not take, and what stands for them in a clause.
 OF_HANDLES = {27, 28}
-NUMBER_OF_HANDLE = {"engine_number": "engine_refusal", "seat_number": "seat_refusal"}
-# It has no handle but the one that it opens.
-WITHOUT_HANDLE = {"rcu_open_as"}
+NUMBER_OF_HANDLE = {"engine_number": "engine_refusal", "seat_number": "seat_refusal",
+                    "replica_number": "replica_refusal"}
+# Those that have no handle but the one that they open.
+WITHOUT_HANDLE = {"rcu_open_as", "rcu_replica_open"}
 # What a contract has, and never comes: the fanouts are 16 and 64; docs/C.md speaks of 3.
-NEVER = {"rcu_open_as": {18}, "rcu_depart": {3}}
-# What a `requires` says, and how a doc comment says it.
-NEEDS = [(r"IsNone rcu\b[\w.]*", "`rcu` is closed"), (r"IsNone seat\b[\w.]*", "`seat` is closed")]
+NEVER = {"rcu_open_as": {18}, "rcu_replica_open": {18}, "rcu_depart": {3}}
 
 
 class Specs:
@@ -32,11 +29,12 @@ class Specs:
 
     def __init__(self):
         self.known, text = {}, ""
-        for path in sorted(glob.glob("crates/*/specs/*.antt", root_dir=source.ROOT)):
-            text += source.read(path)
-            for name, body in DEFINITION.findall(source.read(path)):
+        for path in (it for it in files() if re.fullmatch(r"crates/\w+/specs/\w+\.antt", it)):
+            text += read(path)
+            for name, body in DEFINITION.findall(read(path)):
                 if name != "first_fault":
-                    self.known.setdefault(name, {})[path.split(os.sep)[1]] = body
+                    self.known.setdefault(name, {})[path.split("/")[1]] = body
+        self.causes = dict(re.findall(r"^causes r \(?(\w+).*?\)? = (.*)$", text, re.MULTILINE))
         self.numbers = {name: int(number) for name, number in re.findall(
             r"^(?:fault|refusal)_number (\w+) = (\d+)$", text, re.MULTILINE)}
 
@@ -63,6 +61,10 @@ class Specs:
                 below, more = self.faults_in(NUMBER_OF_HANDLE.get(name, name))
                 found |= below
                 lists += more
+            for call in re.findall(r"\brefusal \(replica_of [\w.]+\)\s+\(?(\w+)", text):
+                below, more = self.faults_in(self.causes[call])
+                found |= below
+                lists += more
             told = rf"(?:result ≡|\b(?:{handles}) [\w.]+)\s+"
             found |= {int(it) for it in re.findall(rf"{told}(\d+)\b", text)}
             for pair in re.findall(rf"{told}\(if .* then (\d+) else (\d+)\)", text):
@@ -74,14 +76,13 @@ class Specs:
 def needs(call):
     """What the doc comment says that must hold, of what a contract can require."""
     said = " ".join(re.findall(r"Needs: (.*?)\.(?: |$)", " ".join(call.paragraphs)))
-    return {words for _, words in NEEDS if words in said}
+    return set(re.findall(r"`(?:rcu|seat|replica)` is closed", said))
 
 
 def required(clauses):
     """What the `requires` of a call say; one that no doc comment has words for stands as it is."""
     found = re.findall(r"requires(?: \w+)? \{ (.*?) \}", clauses)
-    return {next((words for pattern, words in NEEDS if re.fullmatch(pattern, it)), it)
-            for it in found}
+    return {re.sub(r"^IsNone (rcu|seat|replica)\b[\w.]*$", r"`\1` is closed", it) for it in found}
 
 
 def unlike(library):

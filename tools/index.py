@@ -1,95 +1,69 @@
-#!/usr/bin/env python3
-"""Writes the index of names in docs/README.md: each call, type, law and fault, with its page.
-
-Use: tools/index.py
+"""The index of names in docs/README.md, for tools/write_calls: each call, type, law and fault, with
+its page.
 
 Names of C are those of include/*.h; calls and types of Rattle those of docs/API.md; laws those of
-crates/*/src, as docs/PROMISES.md has them; faults those of docs/RULES.md. What stands in the page
-above the line MARK is left as it is. tools/pages asks that the page is as this would write it.
+crates/*/src, as docs/PROMISES.md has them; faults those of docs/RULES.md.
 """
-import glob
 import os
 import re
-import sys
 import textwrap
 
-sys.dont_write_bytecode = True
 import api_page
 import links
+from checks import files, read
 
-MARK = "<!-- What follows is written by tools/index.py. -->"
+MARK = "<!-- What follows is written by tools/write_calls. -->"
 C_CALL = re.compile(r"(?m)^(?:static inline )?[\w ]+?\*?\b(rcu_\w+)\([^;{]*[;{]")
 
 
-def parts(page):
+def parts(page, text):
     """The parts of a page: the place of each, and its text."""
-    for part in re.split(r"(?m)^## ", links.read(page))[1:]:
-        heading = re.sub(r"[^\w\- ]", "", part.partition("\n")[0].lower()).replace(" ", "-")
-        yield f"{os.path.basename(page)}#{heading}", part
+    for part in re.split(r"(?m)^## ", text)[1:]:
+        yield f"{os.path.basename(page)}#{links.anchor(part.partition(chr(10))[0])}", part
 
 
-def code_of(crate):
-    found = glob.glob(f"crates/{crate}/src/**/*.rt", root_dir=links.ROOT, recursive=True)
-    return "".join(links.read(it) for it in sorted(found))
+def sources(pattern):
+    return [read(it) for it in files() if re.fullmatch(pattern, it)]
 
 
 def names_of_c():
-    for path in sorted(glob.glob("include/**/*.h", root_dir=links.ROOT, recursive=True)):
-        text = re.sub(r"(?s)/\*.*?\*/", "", links.read(path))
-        for name in set(C_CALL.findall(text)):
+    for path in (it for it in files() if re.fullmatch(r"include/.*\.h", it)):
+        for name in C_CALL.findall(re.sub(r"(?s)/\*.*?\*/", "", read(path))):
             if not name.endswith("_unfenced") and name != "rcu_fence":
                 yield name, f"../{path}"
 
 
-def names_of_rattle():
-    for place, part in parts(api_page.PAGE):
+def names_of_rattle(api):
+    for place, part in parts(api_page.PAGE, api):
         for found, calls in api_page.lists(part):
-            for call in calls:
-                yield api_page.name_of(call), place
-            for name in re.findall(r"(?m)^pub (?:struct|enum|trait) (\w+)",
-                                   "".join(code_of(it) for it in found[2].split())):
+            yield from ((api_page.name_of(it), place) for it in calls)
+            code = "".join(sources(rf"crates/(?:{found[2].strip().replace(' ', '|')})/src/.*\.rt"))
+            for name in re.findall(r"(?m)^pub (?:struct|enum|trait) (\w+)", code):
                 if re.search(rf"\b{name}\b", part):
                     yield name, place
 
 
 def laws():
-    sections = list(parts("docs/PROMISES.md"))
-    for path in glob.glob("crates/*/src/**/*laws.rt", root_dir=links.ROOT, recursive=True):
-        crate = path.split("/")[1]
-        for name in re.findall(r"(?m)^pub fn (\w+)", links.read(path)):
-            own = [it for it in sections if it[0].endswith(crate)]
+    sections = list(parts("docs/PROMISES.md", read("docs/PROMISES.md")))
+    for path in (it for it in files() if re.fullmatch(r"crates/\w+/src/.*laws\.rt", it)):
+        for name in re.findall(r"(?m)^pub fn (\w+)", read(path)):
+            own = [it for it in sections if it[0].endswith(path.split("/")[1])]
             said = [it for it in own or sections if re.search(rf"\b{name}\b", it[1])]
             yield name, (said or own)[0][0]
 
 
-def faults():
-    for number, name in re.findall(r"(?m)^- \*\*(\d+)\*\*, (\w+):", links.read("docs/RULES.md")):
-        yield f"{number} {name}", "RULES.md#faults"
-
-
-def written():
-    """The page as it should be."""
-    above = links.read(links.INDEX).partition(MARK)[0]
-    text, places = f"{above}{MARK}\n", {}
-    for title, rows in (("Calls of C", names_of_c()), ("Laws", laws()),
-                        ("Calls and types of Rattle", names_of_rattle()), ("Faults", faults())):
-        if title != "Faults":
-            rows = sorted(set(rows), key=lambda it: (it[0].lower(), it))
-        names = []
-        for name, place in rows:
-            label = places.setdefault(place, f"{len(places) + 1}")
-            names.append(f"[`{name}`][{label}]".replace(" ", "\0"))
-        lines = textwrap.fill(", ".join(names), 100, break_long_words=False, break_on_hyphens=False)
+def written(api):
+    """The page as it should be, where that of the calls of Rattle is this."""
+    text, places = f"{read(links.INDEX).partition(MARK)[0]}{MARK}\n", {}
+    faults = re.findall(r"(?m)^- \*\*(\d+)\*\*, (\w+):", read("docs/RULES.md"))
+    groups = {"Calls of C": names_of_c(), "Laws": laws(),
+              "Calls and types of Rattle": names_of_rattle(api)}
+    rows = [(title, sorted(set(its), key=lambda it: (it[0].lower(), it)))
+            for title, its in groups.items()]
+    rows.append(("Faults", [(" ".join(it), "RULES.md#faults") for it in faults]))
+    for title, its in rows:
+        names = [f"[`{name}`][{places.setdefault(place, len(places) + 1)}]" for name, place in its]
+        lines = textwrap.fill(", ".join(it.replace(" ", "\0") for it in names), 100,
+                              break_long_words=False, break_on_hyphens=False)
         text += f"\n## {title}\n\n{lines.replace(chr(0), ' ')}.\n"
     return text + "\n" + "".join(f"[{label}]: {place}\n" for place, label in places.items())
-
-
-def mismatches():
-    if links.read(links.INDEX) != written():
-        yield f"{links.INDEX}: the index is not what tools/index.py writes"
-
-
-if __name__ == "__main__":
-    page = written()
-    with open(os.path.join(links.ROOT, links.INDEX), "w", encoding="utf-8") as file:
-        file.write(page)

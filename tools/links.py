@@ -1,33 +1,27 @@
-"""What the pages lead to: their links, the pages that they name, and the lines that they show.
+"""What the pages lead to, and the lines of files that they show, for tools/names.
 
 A page is a file '.md' of the repository. A link is relative: '[words](PATH#HEADING)', or '[words]'
 with a line '[words]: PATH#HEADING' at the page's end. A page that is named is a link; a heading
-that is named behind it, as in '[C.md] ("The fences")', stands there. A block whose first line says
-'from FILE' has lines of that file, in their order. docs/README.md leads to each page.
+that is named behind it, as in '[C.md] ("The fences")', stands there. A block whose first line ends
+in 'from FILE' has lines of that file, in their order; one that ends in a file of examples is that
+file. docs/README.md leads to each page.
 """
-import glob
 import os
 import re
 
-ROOT = os.path.dirname(os.path.dirname(os.path.realpath(__file__)))
+from checks import ROOT, files, read
+
 INDEX = "docs/README.md"
 FENCED = re.compile(r"(?ms)^```(.*?)\n(.*?)^```$")
 CODE = re.compile(r"(?m)^ {4}.*$|`([^`\n]*)`")
 MADE = re.compile(r"(?m)^\[([^\]]+)\]: (\S+)$")
-LINK = re.compile(r"\[([^\[\]]+)\](?:\(([^)\s]+)\)|\[([^\]]+)\])?", re.DOTALL)
+LINK = re.compile(r"\[([^\[\]]+)\](?:\(([^)\s]+)\)|\[([^\]]+)\])?")
 NAMED = re.compile(r"(?<![\w/])(?:[\w.]+/)*[A-Z]+\.md\b")
 BEHIND = re.compile(r"\[(?:\w+/)*([A-Z]+\.md)\](?:,| \() ?\n? *\"([^\"]+)\"")
 
 
-def read(path):
-    with open(os.path.join(ROOT, path), encoding="utf-8") as file:
-        return file.read()
-
-
 def pages():
-    found = (it for where in ("*.md", "docs/*.md", "*/*/*.md") for it in
-             glob.glob(where, root_dir=ROOT))
-    return sorted(found)
+    return [it for it in files() if it.endswith(".md")]
 
 
 def plain(page):
@@ -36,10 +30,9 @@ def plain(page):
     return CODE.sub(lambda it: it[1] if it[1] and NAMED.fullmatch(it[1]) else "code", text)
 
 
-def anchors(page):
-    """The headings of a page, as a hosting site names them."""
-    for line in re.findall(r"(?m)^#+ (.+)$", FENCED.sub("", read(page))):
-        yield re.sub(r"[^\w\- ]", "", line.lower()).replace(" ", "-")
+def anchor(heading):
+    """What a hosting site makes of a heading."""
+    return re.sub(r"[^\w\- ]", "", heading.lower()).replace(" ", "-")
 
 
 def links(page):
@@ -49,26 +42,24 @@ def links(page):
     for words, path, name in LINK.findall(MADE.sub("", text)):
         words = " ".join(words.split())
         yield words, path or made.get(name or words)
-    for name, path in made.items():
-        yield name, path
+    yield from made.items()
 
 
 def lost_links():
     """The links that end nowhere."""
     for page in pages():
         for words, path in links(page):
+            file, _, heading = (path or "").partition("#")
+            file = os.path.normpath(os.path.join(os.path.dirname(page), file)) if file else page
             if path is None:
                 yield f"{page}: [{words}] leads nowhere"
-            elif "://" not in path:
-                file, _, heading = path.partition("#")
-                file = os.path.normpath(os.path.join(os.path.dirname(page), file)) if file else page
-                if not os.path.exists(os.path.join(ROOT, file)):
-                    yield f"{page}: there is no {file}"
-                elif heading and heading not in anchors(file):
-                    yield f"{page}: {file} has no heading {heading}"
+            elif "://" not in path and not os.path.exists(os.path.join(ROOT, file)):
+                yield f"{page}: there is no {file}"
+            elif heading and heading not in map(anchor, re.findall(r"(?m)^#+ (.+)$", read(file))):
+                yield f"{page}: {file} has no heading {heading}"
 
 
-def idle_names():
+def pages_named_with_no_link():
     """The pages that are named with no link, and the headings behind one that are not there."""
     for page in pages():
         text = plain(page)
@@ -82,23 +73,23 @@ def idle_names():
                 yield f"{page}: {name} has nothing under {heading}"
 
 
-def unlike_excerpts():
-    """The blocks that are no lines of their file, in its order."""
+def blocks_that_are_no_lines_of_their_file():
     for page in pages():
         for head, block in FENCED.findall(read(page)):
-            if " from " in head:
-                file = head.partition(" from ")[2]
-                lines = (re.sub(r"^\s*(?://[/!])?\s*", "", it) for it in read(file).splitlines())
-                for line in block.splitlines():
-                    if line.strip() and line.strip() not in lines:
-                        yield f"{page}: not in {file}, or not there: {line.strip()}"
-                        break
+            _, is_part, file = head.partition(" from ")
+            file = file or "".join(re.findall(r" (examples/\S+)$", head))
+            if not file:
+                continue
+            text = read(file)
+            rows = (re.sub(r"^\s*(?://[/!])?\s*", "", it) for it in text.splitlines())
+            for line in block.splitlines() if is_part else () if block == text else ["all of it"]:
+                if line.strip() and line.strip() not in rows:
+                    yield f"{page}: not in {file}, or not there: {line.strip()}"
+                    break
 
 
 def unlisted_pages():
     """The pages that the list of all pages does not lead to."""
     there = {os.path.normpath(os.path.join("docs", path.partition("#")[0]))
              for _, path in links(INDEX) if path}
-    for page in pages():
-        if page not in there and page != INDEX:
-            yield f"{INDEX}: no link to {page}"
+    yield from (f"{INDEX}: no link to {it}" for it in pages() if it not in there | {INDEX})

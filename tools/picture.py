@@ -4,10 +4,8 @@ Below the notes, which are comments of the script, come the grace periods and th
 for each processor, and the cookies and the callbacks. What a line did is drawn where its reply says
 so; a refused line is a cross. (tools/canvas.py has the lanes and their marks.)
 """
-import html
-
-from canvas import (BARRIER, CALLBACK, COOKIE, FAINT, FAULT, GRACE, REPORT, SECTION, STEP,
-                    Picture)
+from canvas import (BARRIER, CALLBACK, COOKIE, FAINT, FAULT, GRACE, REPORT, SECTION, Picture,
+                    text)
 
 OF_CPUS = "enter exit note quiet online offline queue tend run visit idle wake scan".split()
 ANSWERS = "taken last repeat stale".split()
@@ -39,50 +37,53 @@ def spans(rows, begins, ends):
     return pairs(replies, lambda it: it[1].startswith(begins), lambda it: it[1].startswith(ends))
 
 
+def draw_grace_periods(picture):
+    """Each with its numbers, and a stroke where an epoch begins."""
+    lane, rows = "grace periods", picture.rows
+    y = picture.y(lane)
+    for start, end in spans(rows, "begun", "ended"):
+        picture.bar(lane, start, end, GRACE, 14, rows[start][2].split()[1], "grace")
+        if end is not None:
+            picture.put(text(picture.x(end) + 4, y - 10, GRACE, rows[end][2].split()[1]), end)
+    for place, (_, _, reply) in enumerate(rows):
+        if reply.startswith("epoch "):
+            x = picture.x(place)
+            stroke = f'<path d="M{x} {y - 12}V{y + 12}" stroke="{GRACE}" stroke-width="2"/>'
+            picture.put(stroke + text(x + 4, y + 12, GRACE, reply), place, "epoch")
+
+
 def draw_sections(picture, cpu):
     """A processor's line while it is online, its sections, and what it did."""
     lane, rows = f"processor {cpu}", picture.rows
-    picture.y(lane)
-    mine = [(place, line.split()[0], reply) for place, (_, line, reply) in enumerate(rows)
-            if cpu_of(line, reply) == cpu and not reply.startswith("fault")]
+    y = picture.y(lane)
+    own = [(place, line.split()[0], reply) for place, (_, line, reply) in enumerate(rows)
+           if cpu_of(line, reply) == cpu]
+    well = [it for it in own if not it[2].startswith("fault")]
     online = [(0, "online", "")] if cpu == 0 and rows else []
-    for start, end in pairs(online + mine, lambda it: it[1] == "online",
+    for start, end in pairs(online + well, lambda it: it[1] == "online",
                             lambda it: it[1] == "offline"):
-        picture.bar(lane, start, end, FAINT, 2)
-        picture.shown.add("online")
-    for start, end in pairs(mine, lambda it: it[1] == "idle",
+        picture.bar(lane, start, end, FAINT, 2, key="online")
+    for start, end in pairs(well, lambda it: it[1] == "idle",
                             lambda it: it[1] in ("wake", "offline")):
-        draw_idleness(picture, lane, start, end)
-    for start, end in pairs(mine, lambda it: it[1:] == ("enter", "depth 1"),
+        dashes = 'stroke="white" stroke-width="4" stroke-dasharray="4 4"'
+        way = f"M{picture.x(start)} {y}H{picture.x(end)}"
+        picture.put(f'<path d="{way}" {dashes}/>', start, "idle")
+    for start, end in pairs(well, lambda it: it[1:] == ("enter", "depth 1"),
                             lambda it: it[1:] == ("exit", "depth 0")):
-        picture.bar(lane, start, end, SECTION)
-        picture.shown.add("section")
-    for place, (_, line, reply) in enumerate(rows):
-        name = line.split()[0]
-        if cpu_of(line, reply) != cpu:
-            continue
+        picture.bar(lane, start, end, SECTION, key="section")
+    for place, name, reply in own:
         if reply.startswith("fault"):
             picture.mark(lane, place, "cross", FAULT)
         elif name == "note":
             is_awaited = reply.endswith("needed")
-            picture.mark(lane, place, "ring", REPORT, is_awaited)
-            picture.shown.add("noted" if is_awaited else "clear")
+            key = "noted" if is_awaited else "clear"
+            picture.mark(lane, place, "ring", REPORT, is_awaited, key=key)
         elif name == "quiet":
-            picture.mark(lane, place, "diamond", REPORT, text=reply.split()[1])
-            picture.shown.add("report")
+            picture.mark(lane, place, "diamond", REPORT, words=reply.split()[1], key="report")
         elif name in ("tend", "visit", "run"):
-            text = "r none" if reply == "ran none" else name[0]
-            picture.mark(lane, place, "letter", CALLBACK, text=text)
-            picture.shown.add("ran none" if reply == "ran none" else name)
-
-
-def draw_idleness(picture, lane, start, end):
-    """The processor's line is dashed while it is idle."""
-    x, y = picture.x(start), picture.y(lane)
-    right = picture.x(end) if end is not None else picture.x(len(picture.rows)) - STEP // 2
-    dashes = 'stroke="white" stroke-width="4" stroke-dasharray="4 4"'
-    picture.shown.add("idle")
-    picture.put(f'<path d="M{x} {y}H{right}" {dashes}/>', start)
+            key = reply if reply == "ran none" else name
+            words = "r none" if reply == "ran none" else name[0]
+            picture.mark(lane, place, "letter", CALLBACK, words=words, key=key)
 
 
 def draw_deliveries(picture):
@@ -94,34 +95,15 @@ def draw_deliveries(picture):
         if words[:1] == ["report"]:
             made[words[1]] = (words[3], place)
         elif reply in ANSWERS:
-            number = int(line.split()[1])
-            is_scan = line.split()[0] == "scan"
-            cpu, start = (number, place) if is_scan else made[str(number)]
-            x, y = picture.x(start), picture.y(f"processor {cpu}")
-            to, above = picture.x(place), picture.y("grace periods")
-            counts = reply in ("taken", "last")
+            name, number = line.split()[:2]
+            cpu, start = (number, place) if name == "scan" else made[str(int(number))]
+            lane, counts = "grace periods", reply in ("taken", "last")
+            way = (f"M{picture.x(start)} {picture.y(f'processor {int(cpu)}')}"
+                   f"L{picture.x(place)} {picture.y(lane)}")
             dashes = "" if counts else ' stroke-dasharray="3 3"'
-            way = f'd="M{x} {y}L{to} {above}" stroke="{REPORT}"'
-            picture.put(f'<path {way} fill="none"{dashes}/>', place)
-            picture.mark("grace periods", place, "square", REPORT, counts, "" if counts else reply)
-            picture.shown.add("scan" if is_scan else "delivery" if counts else "stale")
-
-
-def draw_epochs(picture):
-    """A stroke where an epoch begins."""
-    for place, (_, _, reply) in enumerate(picture.rows):
-        if reply.startswith("epoch "):
-            x, y = picture.x(place), picture.y("grace periods")
-            stroke = f'<path d="M{x} {y - 12}V{y + 12}" stroke="{GRACE}" stroke-width="2"/>'
-            told = f'<text x="{x + 4}" y="{y + 12}" fill="{GRACE}">{html.escape(reply)}</text>'
-            picture.put(stroke + told, place)
-            picture.shown.add("epoch")
-
-
-def cookie_of(line):
-    """The cookie that a poll names, as a reply tells it."""
-    number, epoch = (*map(int, line.split()[1:]), 0)[:2]
-    return f"cookie {number} epoch {epoch}" if epoch else f"cookie {number}"
+            picture.put(f'<path d="{way}" stroke="{REPORT}" fill="none"{dashes}/>', place)
+            key = "scan" if name == "scan" else "delivery" if counts else "stale"
+            picture.mark(lane, place, "square", REPORT, counts, "" if counts else reply, key)
 
 
 def draw_cookies(picture):
@@ -131,14 +113,15 @@ def draw_cookies(picture):
         if reply.startswith("cookie "):
             polls.setdefault(reply, []).append((place, "taken"))
         elif line.split()[0] == "poll" and reply in ("done", "not yet"):
-            if cookie_of(line) in polls:
-                polls[cookie_of(line)].append((place, reply))
+            number, epoch = (*map(int, line.split()[1:]), 0)[:2]
+            cookie = f"cookie {number}" + (f" epoch {epoch}" if epoch else "")
+            if cookie in polls:
+                polls[cookie].append((place, reply))
     for lane, seen in polls.items():
-        last = seen[-1]
-        picture.bar(lane, seen[0][0], last[0], COOKIE, 4)
+        picture.bar(lane, seen[0][0], seen[-1][0], COOKIE, 4)
         for place, reply in seen:
-            picture.mark(lane, place, "square", COOKIE, reply != "not yet", reply)
-            picture.shown.add("not yet" if reply == "not yet" else "cookie")
+            key = "not yet" if reply == "not yet" else "cookie"
+            picture.mark(lane, place, "square", COOKIE, reply != "not yet", reply, key)
 
 
 class Lists:
@@ -154,15 +137,9 @@ class Lists:
     def of(self, cpu):
         return [it for it in self.waiting if it["cpu"] == cpu]
 
-    def mark(self, cpu, place, text):
-        self.picture.mark("barriers", place, "triangle", BARRIER, text=text)
-        self.picture.shown.add("marker")
+    def mark(self, cpu, place, words):
+        self.picture.mark("barriers", place, "triangle", BARRIER, words=words, key="marker")
         self.markers.append({"cpu": cpu, "before": self.of(cpu)})
-
-    def take(self, cpu, place, value):
-        found = next(it for it in self.of(cpu) if it["value"] == int(value))
-        self.waiting.remove(found)
-        self.done.append((found, place))
 
     def move(self, cpu, place):
         """What a departure does: an unvisited list gets its marker first."""
@@ -173,8 +150,7 @@ class Lists:
             self.unvisited.add(cpu)
             self.mark(cpu, place, "to 0")
         elif kept:
-            self.picture.shown.add("marker")
-            self.picture.mark("barriers", place, "triangle", BARRIER, text="to 0")
+            self.picture.mark("barriers", place, "triangle", BARRIER, words="to 0", key="marker")
         for call in moved:
             call["cpu"] = 0
             call["moves"].append(place)
@@ -186,18 +162,17 @@ class Lists:
             self.waiting.append({"cpu": words[0], "value": words[1], "place": place, "moves": [],
                                  "name": line.split()[2]})
         elif reply.startswith("ran ") and reply != "ran none":
-            for value in reply.split()[1:]:
-                self.take(words[0], place, value)
+            for value in map(int, reply.split()[1:]):
+                found = next(it for it in self.of(words[0]) if it["value"] == value)
+                self.waiting.remove(found)
+                self.done.append((found, place))
         elif reply.startswith("offline moved"):
             self.move(words[0], place)
-        elif reply == "barrier begun":
-            self.unvisited = set()
-        elif reply == "barrier done":
-            self.unvisited = None
+        elif reply in ("barrier begun", "barrier done"):
+            self.unvisited = set() if reply == "barrier begun" else None
         elif reply.startswith("barrier waits"):
             x, y = self.picture.x(place), self.picture.y("barriers") + 15
-            text = reply.removeprefix("barrier ")
-            self.picture.put(f'<text x="{x - 14}" y="{y}" fill="{BARRIER}">{text}</text>', place)
+            self.picture.put(text(x - 14, y, BARRIER, reply.removeprefix("barrier ")), place)
         elif line.split()[0] == "visit" and reply in ("marked", "empty"):
             self.unvisited.add(words[0])
             if reply == "marked":
@@ -215,33 +190,16 @@ def draw_callbacks(picture):
         lane = f"callback {call['name']}"
         picture.bar(lane, call["place"], end, CALLBACK, 6, "queued")
         for place in call["moves"]:
-            picture.mark(lane, place, "triangle", CALLBACK, text="to processor 0")
-            picture.shown.add("moved")
+            picture.mark(lane, place, "triangle", CALLBACK, words="to processor 0", key="moved")
         if end is not None:
-            picture.mark(lane, end, "square", CALLBACK, text="handed out")
-
-
-def draw_refusals(picture):
-    """A cross for each refused line; those that belong to no processor have it at the foot."""
-    for place, (_, line, reply) in enumerate(picture.rows):
-        if reply.startswith("fault"):
-            picture.shown.add("fault")
-            if cpu_of(line, reply) is None:
-                picture.mark("refused", place, "cross", FAULT)
+            picture.mark(lane, end, "square", CALLBACK, words="handed out")
 
 
 def drawn(rows, notes=()):
     """The picture of rows of a number, a line and its reply; of the processors those that a line is
     about, and processor 0. A note is a row's place, a text, and whether it stands before the row."""
     picture = Picture(rows, notes)
-    picture.y("grace periods")
-    for start, end in spans(rows, "begun", "ended"):
-        picture.bar("grace periods", start, end, GRACE, 14, rows[start][2].split()[1])
-        picture.shown.add("grace")
-        if end is not None:
-            number, x, y = rows[end][2].split()[1], picture.x(end), picture.y("grace periods")
-            picture.put(f'<text x="{x + 4}" y="{y - 10}" fill="{GRACE}">{number}</text>', end)
-    draw_epochs(picture)
+    draw_grace_periods(picture)
     for start, end in spans(rows, "barrier begun", "barrier done"):
         picture.bar("barriers", start, end, BARRIER, 8)
     for cpu in sorted({0, *(cpu_of(line, reply) or 0 for _, line, reply in rows)}):
@@ -249,5 +207,10 @@ def drawn(rows, notes=()):
     draw_deliveries(picture)
     draw_cookies(picture)
     draw_callbacks(picture)
-    draw_refusals(picture)
+    for place, (_, line, reply) in enumerate(rows):
+        if reply.startswith("fault"):
+            picture.shown.add("fault")
+            # (one that belongs to no processor is at the foot)
+            if cpu_of(line, reply) is None:
+                picture.mark("refused", place, "cross", FAULT)
     return picture.svg()

@@ -13,14 +13,14 @@ several. NAME is a title, a contract of the page or a function of the crate, or 
 in a crate above, behind that crate's name: `rcu_core::laws::no_callback_runs_early`.
 """
 import functools
-import glob
 import os
 import re
 import sys
 import textwrap
 
 sys.dont_write_bytecode = True
-ROOT = os.path.dirname(os.path.dirname(os.path.realpath(__file__)))
+from checks import files, read
+
 PAGE = "docs/PROMISES.md"
 ITEM = re.compile(r"(?:\*\*(?P<title>.+?)\.\*\* )?(?P<head>.+?): (?P<text>.+)")
 KEPT_BY = re.compile(r"Kept by ((?:`[^`]+`(?:, | and )?)+)\.$")
@@ -35,20 +35,16 @@ class Promise:
 
     def __init__(self, crate, text):
         said = ITEM.fullmatch(text)
-        self.crate, self.is_read = crate, bool(said)
-        self.title, self.contracts, self.calls = None, [], []
-        if said:
-            kept = KEPT_BY.search(said["text"])
-            self.title, self.contracts = said["title"], spans(re.sub(r"\(.*?\)", "", said["head"]))
-            self.calls = spans(kept[1]) if kept else []
+        kept = said and KEPT_BY.search(said["text"])
+        self.crate, self.is_read, self.title = crate, bool(said), said and said["title"]
+        self.contracts = spans(re.sub(r"\(.*?\)", "", said["head"])) if said else []
+        self.calls = spans(kept[1]) if kept else []
         self.name = self.title or ", ".join(self.contracts) or text[:60]
 
 
 def promises():
     """Each promise of the page."""
-    with open(f"{ROOT}/{PAGE}", encoding="utf-8") as file:
-        sections = re.split(r"(?m)^## ", file.read())
-    for section in sections:
+    for section in re.split(r"(?m)^## ", read(PAGE)):
         crate = re.search(r"\(`(rcu_\w+)`\)", section.partition("\n")[0])
         items = re.findall(r"(?m)^- ((?:.+\n)(?: {2}.+\n)*)", section) if crate else []
         yield from (Promise(crate[1], " ".join(it.split())) for it in items)
@@ -56,22 +52,18 @@ def promises():
 
 def edits():
     """Each wrong body, as its crate and its name, with the names of its promises."""
-    for path in sorted(glob.glob(f"{ROOT}/crates/*/*/*.edit")):
-        crate, folder, file = path.split("/")[-3:]
-        if folder in ("must-fail", "wrong"):
-            with open(path, encoding="utf-8") as text:
-                names = re.findall(r"(?m)^promise: (.+)$", text.read())
-            yield crate, file.removesuffix(".edit"), names
+    for path in files():
+        if found := re.fullmatch(r"crates/(\w+)/(?:must-fail|wrong)/(\w+)\.edit", path):
+            yield *found.groups(), re.findall(r"(?m)^promise: (.+)$", read(path))
 
 
 @functools.lru_cache(maxsize=None)
 def words_of(crate):
     """The names of a crate's functions, of its types and of its modules."""
-    files = glob.glob(f"{ROOT}/crates/{crate}/src/**/*.rt", recursive=True)
-    words = {os.path.basename(it).removesuffix(".rt") for it in files}
-    for path in files:
-        with open(path, encoding="utf-8") as file:
-            words |= set(re.findall(r"\b(?:fn|struct|enum|trait|mod) (\w+)", file.read()))
+    words = set()
+    for path in (it for it in files() if re.fullmatch(rf"crates/{crate}/src/.*\.rt", it)):
+        words.add(os.path.basename(path).removesuffix(".rt"))
+        words |= set(re.findall(r"\b(?:fn|struct|enum|trait|mod) (\w+)", read(path)))
     return words
 
 
@@ -116,19 +108,18 @@ def mismatches():
 
 
 def tell(crates):
-    every, of_promise, before = list(promises()), {}, None
+    every, of_promise = list(promises()), {}
     for crate, edit, own in edits():
         for promise in {it for name in own for it in named(every, crate, name)}:
             shown = edit if promise.crate == crate else f"{crate}/{edit}"
             of_promise.setdefault(promise, []).append(shown)
-    for promise in [it for it in every if not crates or it.crate in crates]:
-        if promise.crate != before:
-            before = promise.crate
-            print(before)
-        keepers = f" (kept by {', '.join(promise.calls)})" if promise.calls else ""
-        for text, indent in ((promise.name + keepers, 2), (" ".join(of_promise.get(promise, [])), 6)):
-            print(textwrap.fill(text, 100, initial_indent=" " * indent,
-                                subsequent_indent=" " * indent))
+    for crate in dict.fromkeys(it.crate for it in every if not crates or it.crate in crates):
+        print(crate)
+        for promise in (it for it in every if it.crate == crate):
+            keepers = f" (kept by {', '.join(promise.calls)})" if promise.calls else ""
+            for text, indent in ((promise.name + keepers, "  "),
+                                 (" ".join(of_promise.get(promise, [])), " " * 6)):
+                print(textwrap.fill(text, 100, initial_indent=indent, subsequent_indent=indent))
 
 
 if __name__ == "__main__":

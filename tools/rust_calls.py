@@ -1,4 +1,4 @@
-"""The calls of rcu_c as bindings/rust/src/raw.rs has them, for tools/write_calls."""
+"""The calls of rcu_c as bindings/rcu-sys/src/lib.rs has them, for tools/write_calls."""
 import textwrap
 
 import c_calls

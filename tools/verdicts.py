@@ -58,3 +58,13 @@ def judge(edit, said):
         return "FAILED", f"a proof only names what the edit took away: {lost[0]}"
     words = words or ["the check names no such function"]
     return "FAILED", f"no open goal of its own is told: {'; '.join(words)}"
+
+
+def seconds_of(lines):
+    """How long the check took for each function, by the lines that tell of its progress."""
+    found, before = {}, lines[0][0] if lines else 0
+    for now, line in lines:
+        progress = re.match(r"checked \w+::(\S+), \d+ of", line)
+        if progress:
+            found[progress[1]], before = now - before, now
+    return found
