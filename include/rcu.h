@@ -42,6 +42,10 @@
 #ifndef RCU_H
 #define RCU_H
 
+#if !defined(__x86_64__) || defined(__ILP32__) || !defined(__linux__)
+#error "rcu: the proved library is for Linux on x86-64 alone"
+#endif
+
 #ifdef __cplusplus
 #include <atomic>
 #include <cstddef>
@@ -56,7 +60,7 @@ extern "C" {
 
 /* The version: three numbers, and one that grows with them. */
 #define RCU_VERSION_MAJOR 0
-#define RCU_VERSION_MINOR 1
+#define RCU_VERSION_MINOR 2
 #define RCU_VERSION_PATCH 0
 #define RCU_VERSION (RCU_VERSION_MAJOR * 1000000 + RCU_VERSION_MINOR * 1000 + RCU_VERSION_PATCH)
 
@@ -81,12 +85,13 @@ enum rcu_fault {
     RCU_NO_MEMORY = 16,      /* out of memory */
     RCU_TOO_MANY_CPUS = 17,  /* there is no processor, or there are more than the engine holds */
     RCU_BAD_LAST = 19,       /* the last number is not a multiple of 4 from 4 to 2^62 */
+    RCU_NOT_ALIKE = 20,      /* tag, start set or number of processors differ */
     RCU_CPU_IDLE = 23,       /* the processor is idle */
     RCU_NOT_IDLE = 24,       /* the processor is not idle */
     RCU_SEAT_DEALT = 25,     /* the seat of the processor is dealt */
     RCU_OTHER_ENGINE = 26,   /* the seat is of another engine */
     RCU_CLOSED = 27,         /* the handle is closed, or was never opened */
-    RCU_OTHER_KIND = 28      /* the handle is of the other kind */
+    RCU_OTHER_KIND = 28      /* the handle is of another kind */
 };
 
 /* A sentence for a fault, without a full stop. At 0 it says that there is none. */
@@ -110,12 +115,13 @@ static inline const char *rcu_fault_text(uint32_t fault) {
     case RCU_NO_MEMORY: return "out of memory";
     case RCU_TOO_MANY_CPUS: return "there is no processor, or there are more than the engine holds";
     case RCU_BAD_LAST: return "the last number is not a multiple of 4 from 4 to 2^62";
+    case RCU_NOT_ALIKE: return "tag, start set or number of processors differ";
     case RCU_CPU_IDLE: return "the processor is idle";
     case RCU_NOT_IDLE: return "the processor is not idle";
     case RCU_SEAT_DEALT: return "the seat of the processor is dealt";
     case RCU_OTHER_ENGINE: return "the seat is of another engine";
     case RCU_CLOSED: return "the handle is closed, or was never opened";
-    case RCU_OTHER_KIND: return "the handle is of the other kind";
+    case RCU_OTHER_KIND: return "the handle is of another kind";
     default: return "no fault has this number";
     }
 }
@@ -145,6 +151,14 @@ enum rcu_turned {
     RCU_TURN_WAITING = 3  /* the grace period goes on, and awaits this many processors */
 };
 
+/* What a report did. */
+enum rcu_answer {
+    RCU_ANSWER_TAKEN = 0,  /* the processor was awaited, and others still are */
+    RCU_ANSWER_LAST = 1,   /* the processor was the only one awaited */
+    RCU_ANSWER_REPEAT = 2, /* the processor is not awaited */
+    RCU_ANSWER_STALE = 3   /* the report is of another grace period */
+};
+
 /* An engine's handle, which lies under a lock of the caller's. Handles may pass between threads. */
 typedef struct rcu {
     unsigned char *at;
@@ -167,6 +181,11 @@ typedef struct rcu_turn {
     uint32_t awaited; /* how many processors are awaited, where it began one or waits; else 0 */
     uint64_t number;  /* the number, where a grace period began or ended; else 0 */
 } rcu_turn_t;
+
+/* A replica's handle, for one thread at a time. Handles may pass between threads. */
+typedef struct rcu_replica {
+    unsigned char *at;
+} rcu_replica_t;
 
 /* <<< */
 
@@ -379,8 +398,8 @@ uint32_t rcu_tend(rcu_t *rcu, uint32_t cpu, uint64_t *done, uint64_t *waiting);
 
 /* Hands out done callbacks of the processor, in order, `room` at most: writes their values from
  * `values` on, where there is room for so many, and how many; what lies behind them stays. A full
- * grace period has passed since each was queued, and none is handed out again.
- * Faults: 1 where there is no such processor; 16, only where there is a callback to hand out. */
+ * grace period has passed since each was queued, and none is handed out again. Takes no memory.
+ * Fault 1: there is no such processor. */
 uint32_t rcu_run(rcu_t *rcu, uint32_t cpu, uint64_t *values, size_t room, uint64_t *count);
 
 /* Gives back the memory that the processor's list does not need, at a step for each item that
@@ -688,6 +707,58 @@ static inline uint32_t rcu_seat_repin(rcu_seat_t *seat, uint64_t *number) {
     if (*number != last) rcu_fence();
     return result;
 }
+
+/* ---- replicas of one engine on several machines: each hears of reports and departures by
+ * messages, and those that began alike and heard the same processors await the same ones, in
+ * whatever order, however often. A replica has no seats; what a call costs is what its number of
+ * processors asks. */
+
+/* Opens a replica of 1 to 4,096 processors at number 0, which awaits nobody. No grace period begins
+ * at `last`, a multiple of 4 from 4 to 2^62. Needs: `replica` is closed.
+ * Faults: 17 for no processor or more than 4,096; 19 where `last` is no such number; 16. */
+uint32_t rcu_replica_open(uint32_t cpus, uint64_t last, rcu_replica_t *replica);
+
+/* Begins a grace period that awaits the processors whose bits are set in words of 64, the lowest
+ * first; bits of processors that there are not say nothing. Writes its number, four for each that
+ * ended and one more. It costs a step a processor, and takes no memory.
+ * Faults: 8 where one runs; 11 where the number is the last one. */
+uint32_t rcu_replica_begin(rcu_replica_t *replica, const uint64_t *words, size_t length,
+                           uint64_t *number);
+
+/* A processor reports a quiescent state with the number that it had noted. A report of another
+ * number than that of the running grace period changes nothing, nor does a repeated one. Writes an
+ * rcu_answer.
+ * Fault 1: there is no such processor. */
+uint32_t rcu_replica_report(rcu_replica_t *replica, uint32_t cpu, uint64_t number,
+                            uint32_t *answer);
+
+/* A processor departs: it is awaited no more in the running grace period. Its message has no number
+ * that is compared, so tell it where it departed in this grace period alone.
+ * Faults: 1 where there is no such processor; 12 for processor 0. */
+uint32_t rcu_replica_depart(rcu_replica_t *replica, uint32_t cpu);
+
+/* Takes in what another replica of the same grace period has heard: the first awaits then whom both
+ * await. `other` is another handle, and stays as it is. It costs a step a processor.
+ * Fault 20: number of processors, number or start set differ. */
+uint32_t rcu_replica_merge(rcu_replica_t *replica, rcu_replica_t *other);
+
+/* Lists the processors that a replica awaits, in order, `room` at most: writes them from `cpus` on,
+ * where there is room for so many, and how many; what lies behind them stays. */
+uint32_t rcu_replica_awaited(rcu_replica_t *replica, uint32_t *cpus, size_t room, uint32_t *count);
+
+/* Ends the grace period. Writes the new number.
+ * Faults: 9 where none runs; 10 where a processor is awaited. */
+uint32_t rcu_replica_end(rcu_replica_t *replica, uint64_t *number);
+
+/* Closes a replica, and frees all that it has. Of a handle that is no open replica's it does
+ * nothing. */
+void rcu_replica_close(rcu_replica_t *replica);
+
+/* ---- the version */
+
+/* The version of the library, as `RCU_VERSION` is that of its header. A program over the shared
+ * object may compare the two. */
+uint32_t rcu_version(void);
 
 /* <<< */
 

@@ -11,6 +11,7 @@
 #include <atomic>
 using std::atomic_bool;
 using std::atomic_uint;
+using std::atomic_uint_least64_t;
 #else
 #include <stdalign.h>
 #include <stdatomic.h>
@@ -30,13 +31,17 @@ static struct place {
 
 static atomic_uint missing; /* how many places are wanted */
 
+/* The greatest cookie that a place asked for, and whether the driver's thread sleeps until one asks
+ * for more. */
+static atomic_uint_least64_t awaited_cookie;
+static atomic_bool is_asleep;
+
 /* The lock, over all that follows. */
 static pthread_mutex_t lock = PTHREAD_MUTEX_INITIALIZER;
 static pthread_cond_t quiet = PTHREAD_COND_INITIALIZER, ended = PTHREAD_COND_INITIALIZER;
 static pthread_cond_t asked = PTHREAD_COND_INITIALIZER;
 static rcu_t rcu;
 static bool making, closing;
-static uint64_t awaited_cookie; /* the greatest one that a place asked for */
 static pthread_t thread;
 
 static inline void must(const char *call, uint32_t fault) {
@@ -99,13 +104,32 @@ static inline void wait_for(uint64_t cookie) {
     }
 }
 
+static inline bool is_all_made(void) { return rcu_poll(&rcu, atomic_load(&awaited_cookie)); }
+
+/* It says that it sleeps, and then looks for a cookie; a place stores one, and then looks whether it
+ * sleeps. All four steps are sequentially consistent. */
 static inline void *make_grace_periods(void *it) {
     pthread_mutex_lock(&lock);
-    while (!closing)
-        if (rcu_poll(&rcu, awaited_cookie)) pthread_cond_wait(&asked, &lock);
-        else wait_for(awaited_cookie);
+    while (!closing) {
+        if (!is_all_made()) wait_for(atomic_load(&awaited_cookie));
+        atomic_store(&is_asleep, true);
+        if (is_all_made() && !closing) pthread_cond_wait(&asked, &lock);
+        atomic_store(&is_asleep, false);
+    }
     pthread_mutex_unlock(&lock);
     return it;
+}
+
+/* Asks for a cookie: with no lock, but where the driver's thread sleeps. */
+static inline void ask_for(uint64_t cookie) {
+    uint_least64_t before = atomic_load(&awaited_cookie);
+    do
+        if (cookie <= before) return;
+    while (!atomic_compare_exchange_weak(&awaited_cookie, &before, cookie));
+    if (!atomic_load(&is_asleep)) return;
+    pthread_mutex_lock(&lock);
+    pthread_cond_signal(&asked);
+    pthread_mutex_unlock(&lock);
 }
 
 /* ---- what the program calls; a thread that reads opens its sections by its place's seat */
@@ -179,13 +203,7 @@ static inline void driver_run(struct place *place) {
         acquire_places();
         link->run(link);
     }
-    uint64_t cookie = rcu_defer_cookie(&place->seat);
-    pthread_mutex_lock(&lock);
-    if (cookie > awaited_cookie) {
-        awaited_cookie = cookie;
-        pthread_cond_signal(&asked);
-    }
-    pthread_mutex_unlock(&lock);
+    ask_for(rcu_defer_cookie(&place->seat));
 }
 
 /* Runs it once each section that is open now has ended, in a later call for this place: driver_run,

@@ -158,5 +158,6 @@ int main(void) {
     printf("%s; %s\n", rcu_fault_text(RCU_CLOSED), rcu_fault_text(RCU_OTHER_KIND));
     rcu_close(&rcu);
     rcu_seat_close(&seat);
+    must("the version of the library", rcu_version(), RCU_VERSION);
     return 0;
 }

@@ -90,6 +90,18 @@ static void pass_a_grace_period(void) {
     printf("grace period %" PRIu64 ": %" PRIu64 " done, %" PRIu64 " wait\n", number, done, waiting);
 }
 
+/* The list gives back what it does not need: it has room for its items alone. So a second call has
+ * nothing to give, and asks for no memory, and the next value wants an allocation. */
+static void shrink(void) {
+    uint64_t room, again;
+    must("shrink", rcu_shrink(&rcu, at, &room));
+    granted = 0;
+    must("shrink", rcu_shrink(&rcu, at, &again));
+    granted = -1;
+    printf("room for %" PRIu64 ", then for %" PRIu64 "\n", room, again);
+    tell("queue behind it", refuse_each("queue", queue));
+}
+
 int main(void) {
     unsigned refused = 0;
     tell("open", refuse_each("open", open_engine));
@@ -107,6 +119,7 @@ int main(void) {
     tell("run", refuse_each("run", run));
     printf("%" PRIu64 " ran: %" PRIu64 " to %" PRIu64 "\n", out.count, out.values[0], out.values[out.count - 1]);
     printf("behind them stands %" PRIu64 "\n", out.values[out.count]);
+    shrink();
     tell("depart", refuse_each("depart", depart));
     printf("%" PRIu64 " moved\n", out.moved);
     printf("the same again: fault %" PRIu32 "\n", depart());
