@@ -69,7 +69,8 @@ class Replica:
             if not 0 <= cpu < self.cpus:
                 raise Fault("rcu_replica_begin", BAD_CPU)
             words[cpu // 64] |= 1 << cpu % 64
-        self.words[:] = words
+        for place, word in enumerate(words):
+            self.words[place] = word
         self.call("begin", self.handle, self.words, len(words), self.number)
         return self.number.value
 

@@ -114,7 +114,10 @@ class Protocol:
         if not self.believe(begins):
             return "begun"
         if not self.running:
-            return self.begin() if self.next else self.propose_wanted()
+            if self.next:
+                return self.begin()
+            self.propose_wanted()
+            return None
         self.place = place or self.place
         self.hear(messages)
         if not self.awaited:

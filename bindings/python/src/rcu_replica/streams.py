@@ -9,6 +9,7 @@ from __future__ import annotations
 import os
 import secrets
 from dataclasses import dataclass
+from functools import partial
 from typing import Any, Callable, Iterable, List, Optional, Tuple, TypeVar
 
 import redis
@@ -163,12 +164,14 @@ class Streams:
 
     def top(self) -> Optional[Begin]:
         """The last begin."""
-        rows = self.attempt(lambda: self.server.xrevrange(self.begins, count=1))
-        return Begin.of(rows[0]) if rows else None
+        return self.one(self.server.xrevrange)
 
     def first(self) -> Optional[Begin]:
         """The first begin that is still there."""
-        rows = self.attempt(lambda: self.server.xrange(self.begins, count=1))
+        return self.one(self.server.xrange)
+
+    def one(self, read: Callable[..., Any]) -> Optional[Begin]:
+        rows = self.attempt(partial(read, self.begins, count=1))
         return Begin.of(rows[0]) if rows else None
 
     def news(self, at: Optional[Begin], place: str,
@@ -193,7 +196,7 @@ class Streams:
     def ship(self, kind: str, begin: Begin, cpus: Iterable[int]) -> None:
         """Ships a message of each of the processors, as one entry."""
         row: Any = {"kind": kind, "number": begin.number, "mark": begin.mark, "cpus": named(cpus)}
-        self.attempt(lambda: self.server.xadd(self.messages, row))
+        self.attempt(partial(self.server.xadd, self.messages, row))
 
     def propose(self, at: Optional[Begin], cpus: Iterable[int], note: str) -> bool:
         """Writes the begin behind that one, which has ended, where no other one is there, and cuts
