@@ -1,11 +1,5 @@
-//! Tests of the running engine, of cells and of graphs.
+//! Tests of the running engine.
 #![tactic(auto)]
 
 #[cfg(test)]
-mod cell;
-#[cfg(test)]
 mod live;
-#[cfg(test)]
-mod map;
-#[cfg(test)]
-mod nodes;

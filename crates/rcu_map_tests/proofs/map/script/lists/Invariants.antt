@@ -1,7 +1,7 @@
 use Rattle.std.proofs.Common.{◌≡◌}
 use Rattle.rcu_live.specs.CpuSeat.{after_word_step}
 use Rattle.rcu_map.specs.Listed.{known_in, listing}
-use Rattle.rcu_live_tests.proofs.map.script.lists.Given as goal
+use Rattle.rcu_map_tests.proofs.map.script.lists.Given as goal
 
 -- the seat is lent still, and only what its section knows changes
 abbrev pub invariant-loop-network : goal.invariant-loop-network
