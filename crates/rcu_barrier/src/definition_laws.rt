@@ -1,8 +1,9 @@
 //! What the words of a run say, on small runs.
-ghost use Rattle.std.specs.Prelude.{◌≡◌, [], ◌∷◌, ℕ, List, None, Some};
+ghost use Rattle.std.specs.Prelude.{◌≡◌, ◌+◌, [], ◌∷◌, ℕ, List, None, Some};
 ghost use Rattle.rcu_seq.specs.declared.tag.Tag.{Tag};
-ghost use Rattle.rcu_barrier.specs.Lists.{at_first, barrier_test_answer};
-ghost use Rattle.rcu_barrier.specs.Runs.{Call, IsNew, IsRun, lists_after, queued_as};
+ghost use Rattle.rcu_cblist.specs.SegList.{Done, Of, Unmarked, take_answer};
+ghost use Rattle.rcu_barrier.specs.Lists.{AllLists, at_first, barrier_test_answer, list_of};
+ghost use Rattle.rcu_barrier.specs.Runs.{Call, IsNew, IsRun, copies, lists_after, queued_as};
 ghost use Rattle.rcu_barrier.specs.Runs.{queued_before_barrier, times_handed_out, times_listed};
 ghost use Rattle.rcu_barrier.specs.declared.barrier_state.BarrierState.{BarrierState};
 
@@ -44,8 +45,36 @@ pub fn a_moved_callback_is_of_processor_0<T: Drop>()
         ∷ Call.Queue 1 at value ∷ []) ≡ 0 }
 {}
 
+/// Each copy counts. A run adds what it hands out to what was handed out before it; a callback that
+/// lies twice is listed twice.
+pub fn each_copy_is_counted<T: Drop>()
+    ensures run { (first : AllLists T) (calls : List (Call T)) (place cpu most : ℕ) →
+        times_handed_out place first (Call.Run cpu most ∷ calls) ≡ copies place (take_answer
+        (list_of (lists_after first calls) cpu) most) + times_handed_out place first calls }
+    ensures copies { (at : Tag) (value : T) → copies 1 (record { ord = 1; at = at; value = value }
+        ∷ record { ord = 2; at = at; value = value }
+        ∷ record { ord = 1; at = at; value = value } ∷ []) ≡ 2 }
+    ensures listed { (most : ℕ) (at : Tag) (value : T) → times_listed 1 (record (at_first 2 most) {
+      lists = (Of (record { ord = 1; at = at; value = value }) Done ∷ [])
+          ∷ (Of (record { ord = 1; at = at; value = value }) Unmarked ∷ []) ∷ [];
+    }) ≡ 2 }
+{}
+
+/// Where the numbers start anew, a callback that waited has none, so that the next tend marks it
+/// anew. One that is done stays so.
+pub fn a_renumbering_takes_the_numbers<T: Drop>()
+    ensures run { (most : ℕ) (at : Tag) (value : T) → IsRun (at_first 2 most) (Call.Renumber
+        ∷ Call.Tend 0 0 ∷ Call.Queue 0 at value ∷ []) }
+    ensures waits { (most : ℕ) (at : Tag) (value : T) → times_handed_out 1 (at_first 2 most)
+        (Call.Run 0 1 ∷ Call.Tend 0 4 ∷ Call.Renumber ∷ Call.Tend 0 0
+        ∷ Call.Queue 0 at value ∷ []) ≡ 0 }
+    ensures done { (most : ℕ) (at : Tag) (value : T) → times_handed_out 1 (at_first 2 most)
+        (Call.Run 0 1 ∷ Call.Renumber ∷ Call.Tend 0 4 ∷ Call.Tend 0 0
+        ∷ Call.Queue 0 at value ∷ []) ≡ 1 }
+{}
+
 /// A barrier waits for the callback that was queued before it, and for none that comes later: one
-/// behind its marker is not counted.
+/// behind its marker is not counted. What was queued is counted anew at each begin.
 pub fn a_barrier_waits_for_what_was_before_it<T: Drop>()
     ensures run { (most : ℕ) (at : Tag) (value : T) → IsRun (at_first 2 most) (Call.BarrierTest
         ∷ Call.Queue 0 at value ∷ Call.Visit 1 ∷ Call.Visit 0 ∷ Call.BarrierBegin ∷ Call.Tend 0 4
@@ -53,6 +82,8 @@ pub fn a_barrier_waits_for_what_was_before_it<T: Drop>()
     ensures before { (most : ℕ) (at : Tag) (value : T) → queued_before_barrier (at_first 2 most)
         (Call.Queue 0 at value ∷ Call.Visit 1 ∷ Call.Visit 0 ∷ Call.BarrierBegin ∷ Call.Tend 0 4
         ∷ Call.Tend 0 0 ∷ Call.Queue 0 at value ∷ []) ≡ 1 }
+    ensures begun { (first : AllLists T) (calls : List (Call T)) → queued_before_barrier first
+        (Call.BarrierBegin ∷ calls) ≡ (lists_after first calls).queued }
     ensures waits { (most : ℕ) (at : Tag) (value : T) → barrier_test_answer (lists_after
         (at_first 2 most) (Call.Queue 0 at value ∷ Call.Visit 1 ∷ Call.Visit 0 ∷ Call.BarrierBegin
         ∷ Call.Tend 0 4 ∷ Call.Tend 0 0 ∷ Call.Queue 0 at value ∷ [])) ≡ BarrierState.Waits 1 }

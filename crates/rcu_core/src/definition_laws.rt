@@ -1,7 +1,9 @@
 //! What the words of a history say, case by case.
-ghost use Rattle.std.specs.Prelude.{◌≡◌, ◌≢◌, ◌⊎◌, ◌<◌, ◌≤◌, ◌∷◌, ℕ, List, None, Some};
+ghost use Rattle.std.specs.Prelude.{◌≡◌, ◌≢◌, ◌⊎◌, ◌+◌, ◌<◌, ◌≤◌, ◌∷◌, ℕ, List, None, Some};
 ghost use Rattle.std.specs.Prelude.{length, true};
-ghost use Rattle.rcu_core.specs.Callbacks.{queue_count, queued_before_barrier};
+ghost use Rattle.rcu_barrier.specs.Runs.{copies};
+ghost use Rattle.rcu_core.specs.Callbacks.{handed_out, queue_count, queued_before_barrier};
+ghost use Rattle.rcu_core.specs.Callbacks.{times_handed_out};
 ghost use Rattle.rcu_core.specs.History.{History, depth, is_old, section};
 ghost use Rattle.rcu_core.specs.Links.{QueuedAt};
 ghost use Rattle.rcu_core.specs.Replies.{AreAccepted, IsLegalReply, Size, answer};
@@ -55,6 +57,12 @@ pub fn an_old_section_stays_old()
 /// What came since a callback's queueing is all that stands in the history after that queueing.
 pub fn what_came_since_a_queueing_follows_it()
     ensures { (ord : ℕ) (h : History) → 0 < ord → ord ≤ queue_count h → QueuedAt ord h }
+{}
+
+/// A run adds what it hands out, each copy of it, to what was handed out before it.
+pub fn a_run_adds_what_it_hands_out()
+    ensures { (h : History) (cpu most ord : ℕ) → times_handed_out ord (Event.Run cpu most ∷ h)
+        ≡ copies ord (handed_out cpu most h) + times_handed_out ord h }
 {}
 
 /// How many callbacks were queued before the latest barrier is told at its begin, and stays so.

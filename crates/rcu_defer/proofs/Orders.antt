@@ -1,7 +1,7 @@
 -- Over all calls: values come in the order in which they were deferred.
 use Rattle.std.proofs.Common.{◌≡◌, min, List, [], ◌∷◌, ◌++◌, length, take, drop, refl, ap, sym, ◌∙◌}
 use Rattle.std.proofs.Common.{append_assoc, length-append, length-take, arith}
-use Rattle.std.proofs.lemmas.List.{take-append-drop}
+use Rattle.std.proofs.lemmas.List.{take-append-drop, take_at}
 use Rattle.rcu_defer.specs.Marks.{after_defer, after_take, after_tend, ready_of}
 use Rattle.rcu_defer.specs.DeferList.{taken_values}
 use Rattle.rcu_defer.specs.Histories.{Call, Defer, Tend, Take, deferred_in, list_after, marks_after, taken_in}
@@ -26,6 +26,12 @@ module _ {X : Type 0} where
       let count = min most (ready_of s.marks) in
       append_assoc (taken_in calls) (take count s.values) (drop count s.values)
       ∙ (ap (λ l. taken_in calls ++ l) (take-append-drop count s.values) ∙ in_order calls)
+
+  -- what was taken out came first
+  pub taken_first : (calls : List (Call X)) → taken_in calls ≡ take (length (taken_in calls)) (deferred_in calls)
+  taken_first calls =
+      let count = length (taken_in calls) in
+      sym (take_at (taken_in calls) (list_after calls).values count refl) ∙ ap (take count) (in_order calls)
 
   -- how many were taken out
   pub taken_counted : (calls : List (Call X)) → length (taken_in calls) ≡ (marks_after calls).taken

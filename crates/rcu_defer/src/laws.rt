@@ -27,9 +27,9 @@ pub fn deferrals_are_counted_once<T>()
         deferred_of (marks_after calls) ≡ length (deferred_in calls) }
 {}
 
-/// A deferral that is done came before a tend, and a full grace period lies between that one and a
-/// later one. Those that were taken out are done.
-pub fn deferrals_wait_for_a_grace_period<T>()
+/// No value comes early: a deferral that is done came before a tend, and a full grace period lies
+/// between that one and a later one. Those that were taken out are done.
+pub fn no_value_comes_early<T>()
     ensures { (calls : List (Call T)) (k : ℕ) → k < (marks_after calls).done →
         HasWaited calls k }
 {}
@@ -41,16 +41,23 @@ pub fn deferrals_that_waited_are_done<T>()
         k < (marks_after calls).done }
 {}
 
-/// What was taken out, and then what is in the list, is what was deferred, in order: none is lost
-/// or comes twice. The marks of the list are those of its calls, so the value that is taken out as
-/// the i-th is that of the i-th deferral.
-pub fn values_are_taken_in_order<T: Drop>()
-    ensures order { (calls : List (Call T)) →
-        taken_in calls ++ (list_after calls).values ≡ deferred_in calls }
+/// No value comes twice: those that were taken out are the first ones of those that were deferred,
+/// in order. The marks of the list are those of its calls, so the value that is taken out as the
+/// i-th is that of the i-th deferral.
+pub fn no_value_comes_twice<T: Drop>()
+    ensures first { (calls : List (Call T)) →
+        taken_in calls ≡ take (length (taken_in calls)) (deferred_in calls) }
     ensures taken { (calls : List (Call T)) →
         length (taken_in calls) ≡ (marks_after calls).taken }
     ensures marks { (calls : List (Call T)) →
         (list_after calls).marks ≡ marks_after calls }
+{}
+
+/// No value is lost: what was taken out, and then what is in the list, is what was deferred, in
+/// order.
+pub fn no_value_is_lost<T: Drop>()
+    ensures { (calls : List (Call T)) →
+        taken_in calls ++ (list_after calls).values ≡ deferred_in calls }
 {}
 
 /// A thread defers, tends and takes at moments of the engine, at each of which the engine's rule

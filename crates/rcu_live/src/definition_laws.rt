@@ -1,16 +1,20 @@
 //! What the words of a run of the engine say, on small runs, and those of an accepted call.
-ghost use Rattle.std.specs.Prelude.{◌≡◌, ◌+◌, ◌<◌, ◌≤◌, ◌^◌, [], ◌∷◌, ℕ, List, None, Some};
-ghost use Rattle.std.specs.Prelude.{false, true};
+ghost use Rattle.std.specs.Prelude.{◌≡◌, ◌+◌, ◌<◌, ◌≤◌, ◌^◌, [], ◌∷◌, ℕ, All, List, None, Some};
+ghost use Rattle.std.specs.Prelude.{false, length, true};
 ghost use Rattle.atomic_table.specs.Seated.{TableId};
-ghost use Rattle.rcu_seq.specs.Numbers.{Number};
+ghost use Rattle.rcu_seq.specs.Numbers.{Number, snapshot};
 ghost use Rattle.rcu_seq.specs.Seq.{has_full_period};
 ghost use Rattle.rcu_seq.specs.Tags.{first_tag};
-ghost use Rattle.rcu_barrier.specs.Lists.{barrier_test_answer};
-ghost use Rattle.rcu_barrier.specs.Runs.{times_listed};
+ghost use Rattle.rcu_seq.specs.declared.tag.Tag.{Tag};
+ghost use Rattle.rcu_cblist.specs.SegList.{take_answer};
+ghost use Rattle.rcu_cblist.specs.declared.queued.Queued.{Queued};
+ghost use Rattle.rcu_barrier.specs.Lists.{barrier_test_answer, list_of};
+ghost use Rattle.rcu_barrier.specs.Runs.{copies, times_listed};
 ghost use Rattle.rcu_barrier.specs.declared.barrier_state.BarrierState.{BarrierState};
 ghost use Rattle.rcu_live.specs.CpuSeat.{AcceptedAt, NotedAt, Seated, after_look, after_quiesce};
-ghost use Rattle.rcu_live.specs.Engine.{Locked};
-ghost use Rattle.rcu_live.specs.Numbers.{idle_word};
+ghost use Rattle.rcu_live.specs.Engine.{HasWaited, Locked};
+ghost use Rattle.rcu_live.specs.EngineLists.{AreDue};
+ghost use Rattle.rcu_live.specs.Numbers.{idle_word, is_number_word};
 ghost use Rattle.rcu_live.specs.Opening.{engine_at_first};
 ghost use Rattle.rcu_live.specs.Runs.{Call, IsNew, IsRun, Makes, MayCall, after_call};
 ghost use Rattle.rcu_live.specs.Runs.{engine_after, queued_as, queued_before_barrier};
@@ -35,6 +39,10 @@ pub fn a_run_hands_its_callback_out<T: Drop, P: Client>()
     ensures period { (table : TableId) (last : Number) (most : ℕ) (value : T) →
         has_full_period (turns_since 1 (engine_at_first table 1 last most P.idle) (Call.Tend 0
         ∷ Call.End ∷ Call.Begin (λ _. idle_word) ∷ Call.Tend 0 ∷ Call.Queue 0 value ∷ [])) ≡ true }
+    ensures later { (table : TableId) (last : Number) (most : ℕ) (value : T) →
+        has_full_period (turns_since 1 (engine_at_first table 1 last most P.idle)
+        (Call.Queue 0 value ∷ Call.End ∷ Call.Begin (λ _. idle_word) ∷ Call.Queue 0 value ∷ []))
+        ≡ true }
     ensures queued { (table : TableId) (last : Number) (most : ℕ) (value : T) →
         queued_as 1 (engine_at_first table 1 last most P.idle) (Call.Tend 0 ∷ Call.Queue 0 value
         ∷ []) ≡ Some (record { ord = 1; at = first_tag; value = value }) }
@@ -43,8 +51,16 @@ pub fn a_run_hands_its_callback_out<T: Drop, P: Client>()
         ∷ []) ≡ None }
 {}
 
+/// A run adds what it hands out to what was handed out before it.
+pub fn a_run_adds_what_it_hands_out<T: Drop, P: Client>()
+    ensures { (first : Locked P.Known T) (calls : List (Call T)) (place cpu most : ℕ) →
+        times_handed_out place first (Call.Run cpu most ∷ calls) ≡
+        copies place (take_answer (list_of (engine_after first calls).grace.lists cpu) most)
+        + times_handed_out place first calls }
+{}
+
 /// A callback that waits is not handed out: its grace period began and did not end, or began before
-/// it was queued. It lies in its list.
+/// it was queued, whatever came between. It lies in its list.
 pub fn a_callback_that_waits_stays_listed<T: Drop, P: Client>()
     ensures none { (table : TableId) (last : Number) (most : ℕ) (value : T) →
         times_handed_out 1 (engine_at_first table 1 last most P.idle) (Call.Run 0 1 ∷ Call.Tend 0
@@ -59,6 +75,10 @@ pub fn a_callback_that_waits_stays_listed<T: Drop, P: Client>()
     ensures before { (table : TableId) (last : Number) (most : ℕ) (value : T) →
         has_full_period (turns_since 1 (engine_at_first table 1 last most P.idle)
         (Call.End ∷ Call.Queue 0 value ∷ Call.Begin (λ _. idle_word) ∷ [])) ≡ false }
+    ensures running { (table : TableId) (last : Number) (most : ℕ) (value : T) →
+        has_full_period (turns_since 1 (engine_at_first table 1 last most P.idle)
+        (Call.End ∷ Call.Tend 0 ∷ Call.Queue 0 value ∷ Call.Begin (λ _. idle_word) ∷ []))
+        ≡ false }
 {}
 
 /// A step of driving that finds its processor idle is a begin and an end.
@@ -71,11 +91,13 @@ pub fn a_step_of_driving_may_be_a_full_grace_period<T: Drop, P: Client>()
         (Call.Drive true (λ _. 1) ∷ Call.Queue 0 value ∷ [])) ≡ false }
 {}
 
-/// A barrier counts what was queued before it, and nothing that comes later.
+/// A barrier counts what was queued before its begin, and nothing that comes later.
 pub fn a_barrier_waits_for_what_was_before_it<T: Drop, P: Client>()
     ensures before { (table : TableId) (last : Number) (most : ℕ) (value : T) →
         queued_before_barrier (engine_at_first table 1 last most P.idle) (Call.Queue 0 value
         ∷ Call.Visit 0 ∷ Call.BarrierBegin ∷ Call.Queue 0 value ∷ []) ≡ 1 }
+    ensures begun { (first : Locked P.Known T) (calls : List (Call T)) → queued_before_barrier first
+        (Call.BarrierBegin ∷ calls) ≡ (engine_after first calls).grace.lists.queued }
     ensures waits { (table : TableId) (last : Number) (most : ℕ) (value : T) →
         barrier_test_answer (engine_after (engine_at_first table 1 last most P.idle)
         (Call.Queue 0 value ∷ Call.Visit 0 ∷ Call.BarrierBegin ∷ Call.Queue 0 value
@@ -153,4 +175,17 @@ pub fn a_noted_number_was_seen<P: Client>()
         n < s.view.seen → ⊥ }
     ensures saw { (s t : Seated P.Known) (n : Number) → AcceptedAt after_look s n t →
         t.view.seen ≡ n }
+{}
+
+/// What is due has waited: the number has reached the snapshot of that at its queueing. It is no
+/// more than was asked for, and the number is one that the number word may have.
+pub fn what_is_due_has_waited<T: Drop>()
+    ensures waited { (number most : ℕ) (calls : List (Queued T)) → AreDue number most calls →
+        All (λ call. HasWaited number call.at) calls }
+    ensures reached { (number : ℕ) (at : Tag) → HasWaited number at →
+        snapshot at.number ≤ number }
+    ensures few { (number most : ℕ) (calls : List (Queued T)) → AreDue number most calls →
+        length calls ≤ most }
+    ensures word { (number most : ℕ) (calls : List (Queued T)) → AreDue number most calls →
+        is_number_word number ≡ true }
 {}
