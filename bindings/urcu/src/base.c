@@ -4,9 +4,11 @@
 #include <errno.h>
 #include <stdio.h>
 #include <stdlib.h>
+#include <unistd.h>
 
+/* A signal handler may come in the midst of a call on standard error's buffer. */
 void fail(const char *call, const char *why) {
-    fprintf(stderr, "urcu over rcu: %s: %s\n", call, why);
+    dprintf(STDERR_FILENO, "urcu over rcu: %s: %s\n", call, why);
     abort();
 }
 

@@ -25,6 +25,12 @@ _Static_assert(sizeof(struct block) == ALIGNMENT, "a block lies as its room does
 static char *next, *end; /* of the chunk */
 static struct block *unused;
 
+/* In the child of a fork, as another thread may have been in the midst of a change. */
+void renew_room(void) {
+    next = end = 0;
+    unused = 0;
+}
+
 static size_t rounded(size_t size, size_t to) {
     return (size + to - 1) / to * to;
 }
