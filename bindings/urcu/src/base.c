@@ -6,9 +6,13 @@
 #include <stdlib.h>
 #include <unistd.h>
 
-/* A signal handler may come in the midst of a call on standard error's buffer. */
-void fail(const char *call, const char *why) {
+/* Not by stderr: a signal handler may come in the midst of a call on its buffer. */
+void say(const char *call, const char *why) {
     dprintf(STDERR_FILENO, "urcu over rcu: %s: %s\n", call, why);
+}
+
+void fail(const char *call, const char *why) {
+    say(call, why);
     abort();
 }
 

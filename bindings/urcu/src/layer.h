@@ -82,6 +82,7 @@ extern struct shared all;
 
 /* ---- what stops the process */
 
+SLOW void say(const char *call, const char *why);
 SLOW __attribute__((noreturn)) void fail(const char *call, const char *why);
 SLOW __attribute__((noreturn)) void fail_by(const char *call, uint32_t fault);
 static inline void must(const char *call, uint32_t fault) {

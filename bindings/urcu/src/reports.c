@@ -46,7 +46,7 @@ void CALL(on_stall)(unsigned milliseconds,
     let_go();
 }
 
-static void say(const struct urcu_stall *it) {
+static void say_stall(const struct urcu_stall *it) {
     char how[60] = "which passes no quiescent state";
     Dl_info found = {0};
     dladdr(it->registered_at, &found);
@@ -86,7 +86,7 @@ static void report(struct engine *engine) {
     let_go();
     for (unsigned at = 0; at < found; at++)
         if (to) to(&rows[at], context);
-        else say(&rows[at]);
+        else say_stall(&rows[at]);
     hold();
 }
 

@@ -47,8 +47,74 @@ int signals(unsigned n) {
     rcu_barrier();
     return reads > 0;
 }
+
+static int in_handlers;
+static void *allocate(void *it) {
+    void *blocks[8] = {0};
+    for (unsigned i = 0; uatomic_read((int *)it) < 3; i++) {
+        free(blocks[i % 8]);
+        blocks[i % 8] = malloc(2000 + i % 3000);
+    }
+    for (int i = 0; i < 8; i++) free(blocks[i]);
+    return it;
+}
+
+static __thread int *of_thread;
+static void read_first(int number) {
+    (void)number;
+    look(false);
+    if (of_thread) uatomic_inc(of_thread);
+}
+
+static void *allocate_unregistered(void *it) {
+    of_thread = it;
+    return allocate(it);
+}
+
+static void *fork_often(void *it) {
+    while (!uatomic_read(&over)) {
+        pid_t child = fork();
+        if (child == 0) _exit(0);
+        waitpid(child, 0, 0);
+        uatomic_inc(&in_handlers);
+    }
+    return it;
+}
+
+/* A handler has the first section of its thread, which is in the midst of malloc, while another
+ * thread forks, and takes malloc's locks for that. */
+int handlers(unsigned n) {
+    pthread_t updater, forker;
+    struct sigaction action;
+    n = n ? n : 300;
+    memset(&action, 0, sizeof action);
+    action.sa_handler = read_first;
+    sigaction(SIGUSR2, &action, 0);
+    if (pthread_create(&updater, 0, update, 0)) return 0;
+    if (pthread_create(&forker, 0, fork_often, 0)) return 0;
+    for (unsigned i = 0; i < n || uatomic_read(&in_handlers) < 50; i++) {
+        pthread_t thread;
+        int times = 0;
+        if (pthread_create(&thread, 0, allocate_unregistered, &times)) return 0;
+        while (uatomic_read(&times) < 3) {
+            pthread_kill(thread, SIGUSR2);
+            sched_yield();
+        }
+        pthread_join(thread, 0);
+    }
+    uatomic_set(&over, 1);
+    pthread_join(updater, 0);
+    pthread_join(forker, 0);
+    rcu_barrier();
+    return 1;
+}
 #else
 int signals(unsigned n) {
+    (void)n;
+    return 1;
+}
+
+int handlers(unsigned n) {
     (void)n;
     return 1;
 }
@@ -110,6 +176,43 @@ static int child_reads(int waits) {
     for (int k = 0; k < 1000; k++) look(false);
     if (waits) synchronize_rcu();
     return wrong != 0;
+}
+
+/* The child of a fork in a section is in it still, and so is the parent. */
+int forks_in_sections(unsigned n) {
+    pthread_t updater;
+    int bad = 0, status;
+    rcu_register_thread();
+    if (pthread_create(&updater, 0, update, 0)) return 0;
+    for (unsigned i = 0; i < (n ? n : 20); i++) {
+        rcu_read_lock();
+        rcu_read_lock();
+        struct node *it = rcu_dereference(shown);
+        unsigned long value = it->value;
+        pid_t child = fork();
+        rest(2);
+        if (CMM_LOAD_SHARED(it->twice) != 2 * value || !rcu_read_ongoing()) uatomic_inc(&wrong);
+        rcu_read_unlock();
+        if (CMM_LOAD_SHARED(it->twice) != 2 * value || !rcu_read_ongoing()) uatomic_inc(&wrong);
+        rcu_read_unlock();
+        if (child == 0) {
+            alarm(60);
+            offline();
+            synchronize_rcu();
+            online();
+            _exit(wrong != 0 || child_reads(1));
+        }
+        offline();
+        waitpid(child, &status, 0);
+        online();
+        bad += status != 0;
+    }
+    uatomic_set(&over, 1);
+    rcu_unregister_thread();
+    pthread_join(updater, 0);
+    rcu_barrier();
+    if (bad) printf("%d children did not end well\n", bad);
+    return !bad;
 }
 
 /* Without them a child reads, and in every second one a round is made; or it execs at once. */
