@@ -55,6 +55,17 @@ FAULTS = {
         "memb", "defers", False),
     "the child of a fork keeps the parent's engines": (
         "fork.c", "    all.engines = 0;\n", "", "qsbr", "forks", HANGS),
+    "the child of a fork in a section is in none": (
+        "fork.c", "        stay_as_in(old);\n", "", "memb", "forks_in_sections", False),
+    "who forks holds the lock": (
+        "fork.c", "pthread_atfork(0, 0, in_any_child)",
+        "pthread_atfork(hold, let_go, in_any_child)", "memb", "handlers", HANGS),
+    "a thread that ends is online still": (
+        "threads.c", "    CALL(thread_offline)();\n    give_back_place();",
+        "    give_back_place();", "qsbr", "ends", False),
+    "a worker does not rest": (
+        "callbacks.c", "    if (!milliseconds) return;\n", "    return;\n",
+        "memb", "gathers", False),
     "who goes offline is waited for": (
         "readers_by_state.c", "    self.online = false;\n    close_seat(self.place);",
         "    self.online = false;", "qsbr", "quiet", HANGS),

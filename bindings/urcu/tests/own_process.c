@@ -48,27 +48,33 @@ int signals(unsigned n) {
     return reads > 0;
 }
 
-static int in_handlers;
-static void *allocate(void *it) {
-    void *blocks[8] = {0};
-    for (unsigned i = 0; uatomic_read((int *)it) < 3; i++) {
-        free(blocks[i % 8]);
-        blocks[i % 8] = malloc(2000 + i % 3000);
-    }
-    for (int i = 0; i < 8; i++) free(blocks[i]);
-    return it;
-}
-
-static __thread int *of_thread;
+static int forks_made;
+struct allocator {
+    pthread_t thread;
+    int begun, handled;
+};
+static __thread struct allocator *me;
 static void read_first(int number) {
     (void)number;
     look(false);
-    if (of_thread) uatomic_inc(of_thread);
+    if (me) uatomic_inc(&me->handled);
 }
 
-static void *allocate_unregistered(void *it) {
-    of_thread = it;
-    return allocate(it);
+static void *allocate(void *it) {
+    stack_t stack = {.ss_sp = malloc(SIGSTKSZ), .ss_size = SIGSTKSZ};
+    void *blocks[8] = {0};
+    me = it;
+    sigaltstack(&stack, 0);
+    for (unsigned i = 0; !uatomic_read(&me->handled); i++) {
+        free(blocks[i % 8]);
+        blocks[i % 8] = malloc(2000 + i % 3000);
+        if (i == 100) uatomic_set(&me->begun, 1);
+    }
+    for (int i = 0; i < 8; i++) free(blocks[i]);
+    stack.ss_flags = SS_DISABLE;
+    sigaltstack(&stack, 0);
+    free(stack.ss_sp);
+    return it;
 }
 
 static void *fork_often(void *it) {
@@ -76,31 +82,29 @@ static void *fork_often(void *it) {
         pid_t child = fork();
         if (child == 0) _exit(0);
         waitpid(child, 0, 0);
-        uatomic_inc(&in_handlers);
+        uatomic_inc(&forks_made);
     }
     return it;
 }
 
-/* A handler has the first section of its thread, which is in the midst of malloc, while another
- * thread forks, and takes malloc's locks for that. */
+/* A handler has the first section of its thread, on a stack of its own. The thread is in the midst
+ * of malloc, while another one forks, and takes malloc's locks for that. */
 int handlers(unsigned n) {
     pthread_t updater, forker;
     struct sigaction action;
     n = n ? n : 300;
     memset(&action, 0, sizeof action);
     action.sa_handler = read_first;
+    action.sa_flags = SA_ONSTACK;
     sigaction(SIGUSR2, &action, 0);
     if (pthread_create(&updater, 0, update, 0)) return 0;
     if (pthread_create(&forker, 0, fork_often, 0)) return 0;
-    for (unsigned i = 0; i < n || uatomic_read(&in_handlers) < 50; i++) {
-        pthread_t thread;
-        int times = 0;
-        if (pthread_create(&thread, 0, allocate_unregistered, &times)) return 0;
-        while (uatomic_read(&times) < 3) {
-            pthread_kill(thread, SIGUSR2);
-            sched_yield();
-        }
-        pthread_join(thread, 0);
+    for (unsigned i = 0; i < n || uatomic_read(&forks_made) < 50; i++) {
+        struct allocator it = {0};
+        if (pthread_create(&it.thread, 0, allocate, &it)) return 0;
+        while (!uatomic_read(&it.begun)) sched_yield();
+        pthread_kill(it.thread, SIGUSR2);
+        pthread_join(it.thread, 0);
     }
     uatomic_set(&over, 1);
     pthread_join(updater, 0);
