@@ -12,10 +12,11 @@
 #include "workers.h"
 #include "deferral.h"
 #include <stdlib.h>
+#include <unistd.h>
 
 static struct urcu_atfork *table; /* of liburcu-cds: its resizable hash table has a worker too */
 static unsigned tables;
-static bool renewed;
+static pid_t owner; /* the child that has all of its own, where this is one */
 
 /* ---- what each fork does */
 
@@ -38,12 +39,13 @@ static void renew(void) {
         take_place(old->registered_at);
         stay_as_in(old);
     }
-    renewed = true;
+    owner = getpid();
 }
 
-/* The child of a signal handler that forked in the midst of a call may exec, and no more. */
+/* The child of a signal handler that forked in the midst of a call may exec, and no more. Liburcu's
+ * handler may have run before this one. */
 static void in_any_child(void) {
-    if (!is_busy() && !self.beside) renew();
+    if (!is_busy() && !self.beside && owner != getpid()) renew();
 }
 
 void set_up_forks(void) {
@@ -75,7 +77,6 @@ void CALL(call_rcu_before_fork)(void) {
     if (table) table->before_fork(table->priv);
     pthread_mutex_lock(&visits);
     pthread_mutex_lock(&making_default);
-    renewed = false;
     pause_workers();
 }
 
@@ -113,7 +114,7 @@ static void go_on_with_default_worker(void) {
 
 void CALL(call_rcu_after_fork_child)(void) {
     if (--self.forks) return;
-    if (!renewed) renew(); /* after a fork that called no handlers of the C library's */
+    if (owner != getpid()) renew();
     pthread_mutex_init(&visits, 0);
     pthread_mutex_init(&making_default, 0);
     renew_deferral();

@@ -105,6 +105,7 @@ static const struct {
     {"ends", ends},         {"chains", chains},       {"memory", memory},
     {"answers", answers},   {"values", values},       {"handlers", handlers},
     {"forks_in_sections", forks_in_sections},
+    {"forks_by_handlers", forks_by_handlers},
 #ifndef NO_EXTRAS
     {"polls", polls},       {"reports", reports},     {"misuse", misuse},
     {"gathers", gathers},

@@ -76,6 +76,7 @@ int callbacks(unsigned n), batches(unsigned n), barriers(unsigned n), workers(un
 int chains(unsigned n), memory(unsigned n), gathers(unsigned n), answers(unsigned n);
 int defers(unsigned n), values(unsigned n), polls(unsigned n);
 int signals(unsigned n), handlers(unsigned n);
-int forks(unsigned n), bare_forks(unsigned n), forks_in_sections(unsigned n);
+int forks(unsigned n), forks_by_handlers(unsigned n);
+int bare_forks(unsigned n), forks_in_sections(unsigned n);
 int reports(unsigned n), misuse(unsigned n);
 #endif

@@ -136,7 +136,6 @@ static void *read_on(void *it) {
 
 static int child_goes_on(void) {
     alarm(60);
-    call_rcu_after_fork_child();
     for (unsigned long k = 0; k < 50; k++) {
         look(false);
         call_rcu(&replace(k)->head, ripe);
@@ -159,7 +158,10 @@ int forks(unsigned n) {
         rest(2);
         call_rcu_before_fork();
         pid_t child = fork();
-        if (child == 0) _exit(child_goes_on());
+        if (child == 0) {
+            call_rcu_after_fork_child();
+            _exit(child_goes_on());
+        }
         call_rcu_after_fork_parent();
         offline();
         waitpid(child, &status, 0);
@@ -180,6 +182,49 @@ static int child_reads(int waits) {
     for (int k = 0; k < 1000; k++) look(false);
     if (waits) synchronize_rcu();
     return wrong != 0;
+}
+
+/* The same where the handlers are registered before all others, and the child forks too. */
+static int by_handlers;
+static void before_fork(void) {
+    if (by_handlers) call_rcu_before_fork();
+}
+static void after_fork_parent(void) {
+    if (by_handlers) call_rcu_after_fork_parent();
+}
+static void after_fork_child(void) {
+    if (by_handlers) call_rcu_after_fork_child();
+}
+__attribute__((constructor(101))) static void register_first(void) {
+    pthread_atfork(before_fork, after_fork_parent, after_fork_child);
+}
+
+int forks_by_handlers(unsigned n) {
+    pthread_t updater;
+    int bad = 0, status;
+    if (pthread_create(&updater, 0, update, 0)) return 0;
+    by_handlers = 1;
+    for (unsigned i = 0; i < (n ? n : 15); i++) {
+        rest(2);
+        pid_t child = fork();
+        if (child == 0) {
+            rcu_register_thread();
+            int own = child_goes_on();
+            child = fork();
+            if (child == 0) _exit(child_goes_on());
+            offline();
+            waitpid(child, &status, 0);
+            online();
+            _exit(own || status);
+        }
+        waitpid(child, &status, 0);
+        bad += status != 0;
+    }
+    uatomic_set(&over, 1);
+    pthread_join(updater, 0);
+    rcu_barrier();
+    if (bad) printf("%d children did not end well\n", bad);
+    return !bad;
 }
 
 /* The child of a fork in a section is in it still, and so is the parent. */
