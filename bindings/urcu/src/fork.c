@@ -1,8 +1,8 @@
 /* fork. The child has one thread: it opens engines of its own, in room of its own, and takes a
  * place there if it had one. So it does not matter in the midst of what the other threads were. By
- * liburcu's three handlers the workers pause, and the default worker goes on in the child with all
- * callbacks that waited. Without them the child may read, wait for rounds, and exec; its callbacks
- * do not run.
+ * liburcu's three handlers the workers pause, none is added meanwhile, and the default worker goes
+ * on in the child with all callbacks that waited. Without them the child may read, wait for rounds,
+ * and exec; its callbacks do not run.
  *
  * Who forks does not hold the lock: the C library takes the locks of malloc then, of which one may
  * be held by a thread whose signal handler waits for the layer's.

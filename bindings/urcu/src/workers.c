@@ -35,6 +35,7 @@ struct call_rcu_data *CALL(create_call_rcu_data)(unsigned long flags, int cpu) {
     make_condition(&worker->work);
     start_worker(worker);
     hold();
+    while (all.pausing) sleep_on(&all.resumed); /* else a child may have half of the change */
     worker->next = workers;
     workers = worker;
     let_go();

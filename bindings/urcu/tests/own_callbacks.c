@@ -138,12 +138,13 @@ static double seconds(void) {
 
 /* The least time from call_rcu to the callback's run, of some. */
 static double least_wait(void) {
+    static struct rcu_head heads[40];
+    static int used;
     double least = 1e9;
     for (int i = 0; i < 20; i++) {
-        struct rcu_head head;
         uatomic_set(&ran, 0);
         double begun = seconds();
-        call_rcu(&head, nothing_but_count);
+        call_rcu(&heads[used++], nothing_but_count);
         while (!uatomic_read(&ran)) usleep(100);
         double took = seconds() - begun;
         if (took < least) least = took;
@@ -216,7 +217,7 @@ static void count_deferred(void *it) {
 static long expected[] = {0, 1, -1, -2, -3, 1, 1, 2, -2, -2};
 static unsigned long deferred_at;
 static void take_one(void *it, unsigned kind) {
-    unsigned long at = deferred_at++;
+    unsigned long at = uatomic_add_return(&deferred_at, 1) - 1;
     if ((long)it != expected[at % CAA_ARRAY_SIZE(expected)] || kind != at % 3 % 2)
         uatomic_inc(&wrong);
 }
@@ -247,7 +248,7 @@ int values(unsigned n) {
         usleep(100);
     }
     pthread_join(thread, 0);
-    return deferred_at == 3000;
+    return uatomic_read(&deferred_at) == 3000;
 }
 
 static void *defer_and_end(void *it) {
