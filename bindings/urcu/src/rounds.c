@@ -6,12 +6,12 @@
  * It rests on these sentences of include/rcu.h: of rcu_drive_for, "called until the cookie is done
  * it makes one grace period", and "it orders what rcu_begin, rcu_collect and rcu_end order"; and of
  * rcu_begin, "of each section one of two holds: all of it comes before what follows the end of this
- * grace period, or it sees what came before this call". It adds: that a thread
- * which takes a place of an engine that had none took the lock after the round began, so its
- * sections see what came before; and the wishes. The maker stores a wish, and then looks at the
- * place; a thread gets quiet, and then looks for the wish. All four steps are sequentially
- * consistent, or have the fence in all threads between them, so one of the two sees the other
- * (tests/model.py). */
+ * grace period, or it sees what came before this call". It adds: that a thread which takes a place
+ * of an engine that had none took the lock after the round began, so its sections see what came
+ * before; and the wishes. The maker stores a wish, and then looks at the place; a thread gets
+ * quiet, and then looks for the wish. All four steps are sequentially consistent, or have the fence
+ * in all threads between them, so one of the two sees the other (tests/model.py). A wish may be one
+ * of an earlier round: its thread wakes the maker then, who looks, and wishes anew. */
 #include "reports.h"
 #include "seats.h"
 #include <sched.h>
