@@ -13,7 +13,7 @@
 #include <string.h>
 #include <sys/mman.h>
 
-enum { ALIGNMENT = 16, HEAD = sizeof(size_t), CHUNK = 1 << 16 };
+enum { ALIGNMENT = 16, HEAD = sizeof(size_t), CHUNK = 1 << 18 };
 
 /* A block's size stands before it. Of one that was given back the first word leads to the next. */
 static char *next, *end; /* of the chunk: the next head, which ends at a multiple of ALIGNMENT */
@@ -33,15 +33,6 @@ static size_t rounded(size_t size, size_t to) {
     return (size + to - 1) / to * to;
 }
 
-static int add_chunk(size_t size) {
-    size_t whole = rounded(ALIGNMENT + size, CHUNK);
-    void *chunk = mmap(0, whole, PROT_READ | PROT_WRITE, MAP_PRIVATE | MAP_ANONYMOUS, -1, 0);
-    if (chunk == MAP_FAILED) return 0;
-    if (chunk != end) next = (char *)chunk + ALIGNMENT - HEAD;
-    end = (char *)chunk + whole;
-    return 1;
-}
-
 void room_free(void *at) {
     void **block = at;
     if (!at) return;
@@ -49,14 +40,27 @@ void room_free(void *at) {
     unused = block;
 }
 
+/* From here on, with its head, where it is large enough. */
+static int give_rest(char *from, size_t size) {
+    if (size < 4 * ALIGNMENT) return 0;
+    *size_of(from + HEAD) = size - HEAD;
+    room_free(from + HEAD);
+    return 1;
+}
+
+static int add_chunk(size_t size) {
+    size_t whole = rounded(ALIGNMENT + size, CHUNK);
+    void *chunk = mmap(0, whole, PROT_READ | PROT_WRITE, MAP_PRIVATE | MAP_ANONYMOUS, -1, 0);
+    if (chunk == MAP_FAILED) return 0;
+    give_rest(next, (size_t)(end - next) / ALIGNMENT * ALIGNMENT);
+    next = (char *)chunk + ALIGNMENT - HEAD;
+    end = (char *)chunk + whole;
+    return 1;
+}
+
 /* What a block has beyond the size is another one. */
 static void cut(char *block, size_t size) {
-    size_t rest = *size_of(block) - size;
-    if (rest < 4 * ALIGNMENT) return;
-    char *other = block + size + HEAD;
-    *size_of(block) = size;
-    *size_of(other) = rest - HEAD;
-    room_free(other);
+    if (give_rest(block + size, *size_of(block) - size)) *size_of(block) = size;
 }
 
 static void *take_unused(size_t size) {
@@ -69,9 +73,22 @@ static void *take_unused(size_t size) {
     return 0;
 }
 
+/* The last block grows where it is: a list that grows by and by leaves no blocks behind. */
+static int grow(char *block, size_t size) {
+    size_t more = size - *size_of(block);
+    if (block + *size_of(block) != next || (size_t)(end - next) < more) return 0;
+    *size_of(block) = size;
+    next += more;
+    return 1;
+}
+
+static size_t fitting(size_t size) {
+    return rounded(HEAD + (size ? size : 1), ALIGNMENT) - HEAD;
+}
+
 void *room_malloc(size_t size) {
     if (size > SIZE_MAX / 2) return 0;
-    size = rounded(HEAD + (size ? size : 1), ALIGNMENT) - HEAD;
+    size = fitting(size);
     char *block = take_unused(size);
     if (block) return block;
     size_t needed = HEAD + size;
@@ -85,6 +102,7 @@ void *room_malloc(size_t size) {
 void *room_realloc(void *at, size_t size) {
     if (!at) return room_malloc(size);
     if (size <= *size_of(at)) return at;
+    if (size <= SIZE_MAX / 2 && grow(at, fitting(size))) return at;
     void *more = room_malloc(size);
     if (!more) return 0;
     memcpy(more, at, *size_of(at));
