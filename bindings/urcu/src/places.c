@@ -73,7 +73,7 @@ void give_back_place(void) {
     struct place *place = self.place;
     if (!place) return;
     hold();
-    if (!rcu_seat_is_idle(&place->seat)) close_seat(place);
+    if (BY_WORD || !rcu_seat_is_idle(&place->seat)) close_seat(place);
     atomic_store_explicit(&place->depth, 0, memory_order_relaxed);
     place->next = place->engine->free_places;
     place->engine->free_places = place;

@@ -9,11 +9,10 @@
  * sees it at a section's end passes the quiescent state itself, by the lock: so one that reads
  * again and again holds no round up.
  *
- * It rests on seats.h, and on this sentence of include/rcu.h, of rcu_seat_renew: it "closes it,
- * passes a quiescent state, and opens the next one". It adds: that a quiescent state is passed only
- * where the word says so (tests/model.py has each fence, look and order of it). The fence in all
- * threads is membarrier(2), by what its page says; where the system has none, threads make their
- * own. */
+ * It rests on seats.h, and on this sentence of include/rcu.h, of rcu_seat_repin: "no grace period
+ * that began before waits for it any more". It adds: that a quiescent state is passed only where
+ * the word says so (tests/model.py has each fence, look and order of it). The fence in all threads
+ * is membarrier(2), by what its page says; where the system has none, threads make their own. */
 #include "layer.h"
 #include <linux/membarrier.h>
 #include <sys/syscall.h>
@@ -36,5 +35,5 @@ void pass_if_out(struct place *place) {
     uint64_t number;
     if (atomic_load_explicit(&place->depth, memory_order_acquire) == 0 &&
         !rcu_seat_is_idle(&place->seat))
-        must("renew", rcu_seat_renew_unfenced(&place->seat, &number));
+        must("repin", rcu_seat_repin_unfenced(&place->seat, &number));
 }

@@ -52,7 +52,7 @@ again:
 look:
     d = depth !                     | atomic_load_explicit(&place->depth, memory_order_acquire) == 0
     if d goto looked
-    quiet = 1                             | rcu_seat_renew_unfenced(&place->seat, &number)
+    quiet = 1                             | rcu_seat_repin_unfenced(&place->seat, &number)
 looked:
     q = quiet
     if q goto done
