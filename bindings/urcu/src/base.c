@@ -4,9 +4,15 @@
 #include <errno.h>
 #include <stdio.h>
 #include <stdlib.h>
+#include <unistd.h>
+
+/* Not by stderr: a signal handler may come in the midst of a call on its buffer. */
+void say(const char *call, const char *why) {
+    dprintf(STDERR_FILENO, "urcu over rcu: %s: %s\n", call, why);
+}
 
 void fail(const char *call, const char *why) {
-    fprintf(stderr, "urcu over rcu: %s: %s\n", call, why);
+    say(call, why);
     abort();
 }
 

@@ -8,6 +8,7 @@
  * sees the other (tests/model.py). */
 #include "deferral.h"
 #include "workers.h"
+#include <errno.h>
 #include <stdlib.h>
 
 enum { RING = 1024 };
@@ -135,7 +136,7 @@ void CALL(defer_rcu)(void (*func)(void *p), void *p) {
 /* ---- the other calls */
 
 int CALL(defer_register_thread)(void) {
-    return self.deferred || take_ring() ? 0 : -1;
+    return self.deferred || take_ring() ? 0 : -ENOMEM;
 }
 
 void CALL(defer_barrier_thread)(void) {

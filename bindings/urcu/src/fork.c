@@ -1,34 +1,24 @@
-/* fork. A process that forks has the lock meanwhile, so the child finds all as it is between two
- * calls. The child has one thread: it opens engines of its own, and takes a place there if it had
- * one. By liburcu's three handlers the workers pause too, and the default worker goes on in the
- * child with all callbacks that waited. Without them the child may read, wait for rounds, and exec;
- * its callbacks do not run.
+/* fork. The child has one thread: it opens engines of its own, in room of its own, and takes a
+ * place there if it had one. So it does not matter in the midst of what the other threads were. By
+ * liburcu's three handlers the workers pause, none is added meanwhile, and the default worker goes
+ * on in the child with all callbacks that waited. Without them the child may read, wait for rounds,
+ * and exec; its callbacks do not run.
+ *
+ * Who forks does not hold the lock: the C library takes the locks of malloc then, of which one may
+ * be held by a thread whose signal handler waits for the layer's.
  *
  * include/rcu.h says: no call is made "in the forked child of a process with threads". So the
  * engines of the parent are left as they are there, and no call is made on them. */
 #include "workers.h"
 #include "deferral.h"
 #include <stdlib.h>
+#include <unistd.h>
 
 static struct urcu_atfork *table; /* of liburcu-cds: its resizable hash table has a worker too */
 static unsigned tables;
-static bool renewed;
+static pid_t owner; /* the child that has all of its own, where this is one */
 
 /* ---- what each fork does */
-
-/* A signal handler that forks in the midst of a call has no lock; its child may exec, and no more.
- */
-static void before_any_fork(void) {
-    if (atomic_load(&self.busy) || self.beside) return;
-    hold();
-    self.forks_with_lock = true;
-}
-
-static void after_any_fork(void) {
-    if (!self.forks_with_lock) return;
-    self.forks_with_lock = false;
-    let_go();
-}
 
 static void renew(void) {
     struct place *old = self.place;
@@ -38,28 +28,28 @@ static void renew(void) {
     pthread_cond_init(&all.paused, 0);
     pthread_cond_init(&all.resumed, 0);
     all.making = all.pausing = false;
-    atomic_store(&all.missing, 0);
+    all.engines = 0;
     atomic_store(&all.beside, 0);
     atomic_store(&self.busy, 0);
     self.thread = 0;
     self.place = 0;
-    forget_engines();
-    set_up_readers();
+    renew_room();
+    if (BY_WORD) set_up_readers();
     if (old) {
         take_place(old->registered_at);
         stay_as_in(old);
     }
-    renewed = true;
+    owner = getpid();
 }
 
+/* The child of a signal handler that forked in the midst of a call may exec, and no more. Liburcu's
+ * handler may have run before this one. */
 static void in_any_child(void) {
-    if (!self.forks_with_lock) return;
-    self.forks_with_lock = false;
-    renew();
+    if (!is_busy() && !self.beside && owner != getpid()) renew();
 }
 
 void set_up_forks(void) {
-    if (pthread_atfork(before_any_fork, after_any_fork, in_any_child))
+    if (pthread_atfork(0, 0, in_any_child))
         fail("register", "no handler of forks is left");
 }
 
@@ -87,7 +77,6 @@ void CALL(call_rcu_before_fork)(void) {
     if (table) table->before_fork(table->priv);
     pthread_mutex_lock(&visits);
     pthread_mutex_lock(&making_default);
-    renewed = false;
     pause_workers();
 }
 
@@ -125,7 +114,7 @@ static void go_on_with_default_worker(void) {
 
 void CALL(call_rcu_after_fork_child)(void) {
     if (--self.forks) return;
-    if (!renewed) renew(); /* after a fork that called no handlers of the C library's */
+    if (owner != getpid()) renew();
     pthread_mutex_init(&visits, 0);
     pthread_mutex_init(&making_default, 0);
     renew_deferral();

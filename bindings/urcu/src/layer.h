@@ -1,6 +1,6 @@
 /* What the files of one flavour share. Each file is built once for each flavour, with URCU_FLAVOUR
  * as its name. How a section is seen by a round is told in readers_by_word.c for memb, signal and
- * bp, and in readers_by_seat.h for mb and qsbr. When the objects are joined all names are hidden
+ * bp, and in seats.h for mb and qsbr. When the objects are joined all names are hidden
  * but those of liburcu's interface (the Makefile).
  *
  * A thread that is registered has a place: the open seat of a processor that is online. A place
@@ -33,8 +33,7 @@
 struct place {
     _Alignas(64) rcu_seat_t seat;
     atomic_ulong depth;        /* how deep the thread's sections nest; in qsbr 0 */
-    atomic_bool called;        /* by word: a round asks the thread in, by the lock */
-    atomic_bool wished;        /* the maker of a round sleeps until the place is quiet */
+    atomic_bool wished;        /* the maker of a round wants to hear when the place is quiet */
     int thread;                /* the system's number of the thread; 0 where the place is free */
     const void *registered_at; /* the code that registered it */
     struct engine *engine;
@@ -43,11 +42,11 @@ struct place {
 
 enum { LARGEST_ENGINE = 128 }; /* processors */
 struct engine {
-    struct engine *next, *next_used, *next_in_round; /* next: the one that was opened after it */
+    struct engine *next; /* the one that was opened after it */
     rcu_t rcu;
-    uint32_t older;               /* how many were opened before it */
     uint32_t cpus, opened, taken; /* of its places */
-    uint64_t cookie;              /* of the last round */
+    bool in_round;
+    uint64_t cookie; /* of the last round */
     struct place *places, *free_places;
 };
 
@@ -65,7 +64,6 @@ struct reader {
     struct call_rcu_data *worker;
     struct ring *deferred;
     unsigned forks; /* how often liburcu's handler was called for one that is to come */
-    bool forks_with_lock;
     bool was_online;
 };
 extern __thread struct reader self __attribute__((tls_model("initial-exec")));
@@ -74,20 +72,17 @@ extern __thread struct reader self __attribute__((tls_model("initial-exec")));
 struct shared {
     pthread_mutex_t lock;
     pthread_cond_t quiet, round_over, paused, resumed;
-    struct engine *with_room; /* all older ones are full */
-    struct engine *used;      /* those that have a thread */
-    uint32_t engines;         /* how many were opened */
-    uint32_t cpus_of_next;    /* of the engine that is opened next */
+    struct engine *engines; /* the oldest one first */
     bool making, pausing;
     uint64_t begun, asked_for; /* rounds: each is a grace period of every engine in use */
     _Atomic uint64_t ended;
-    atomic_uint missing; /* how many places are wished for */
-    atomic_uint beside;  /* how many sections are open beside places */
+    atomic_uint beside; /* how many sections are open beside places */
 };
 extern struct shared all;
 
 /* ---- what stops the process */
 
+SLOW void say(const char *call, const char *why);
 SLOW __attribute__((noreturn)) void fail(const char *call, const char *why);
 SLOW __attribute__((noreturn)) void fail_by(const char *call, uint32_t fault);
 static inline void must(const char *call, uint32_t fault) {
@@ -120,6 +115,7 @@ static inline void let_go(void) {
 
 /* room.c */
 void *room_malloc(size_t size);
+void renew_room(void);
 
 /* base.c */
 void make_condition(pthread_cond_t *condition);
@@ -127,33 +123,33 @@ void sleep_on(pthread_cond_t *condition);
 bool sleep_on_until(pthread_cond_t *condition, const struct timespec *until);
 struct timespec after(unsigned milliseconds);
 
-/* places.c */
+/* threads.c */
 void set_up(void);
 void tell_end(void);
+void come_back(bool was_online);
+
+/* places.c */
 void take_place(const void *registered_at);
 void give_back_place(void);
-void forget_engines(void);
 
 /* sections.c or readers_by_state.c */
 void stay_as_in(struct place *old);
 bool leave(const char *call);
-void come_back(bool was_online);
 
 #ifdef URCU_BY_SEAT
-#include "readers_by_seat.h"
+enum { BY_WORD = 0 };
 #else
-/* readers_by_word.c */
 enum { BY_WORD = 1 };
+#endif
+/* readers_by_word.c; not in mb and qsbr, which call none of them */
+extern bool by_system;
 void set_up_readers(void);
 void open_place(struct place *place);
 void close_place(struct place *place);
 void pass_if_out(struct place *place);
-void call_place(struct place *place);
 void fence_readers(void);
-#endif
 
 /* rounds.c */
-bool is_last_wish(struct place *place);
 void got_quiet(struct place *place);
 void wait_for_round(void);
 

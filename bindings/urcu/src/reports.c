@@ -46,7 +46,7 @@ void CALL(on_stall)(unsigned milliseconds,
     let_go();
 }
 
-static void say(const struct urcu_stall *it) {
+static void say_stall(const struct urcu_stall *it) {
     char how[60] = "which passes no quiescent state";
     Dl_info found = {0};
     dladdr(it->registered_at, &found);
@@ -64,7 +64,7 @@ static unsigned find_stalls(struct engine *engine, struct urcu_stall *rows) {
     unsigned found = 0;
     for (uint32_t cpu = 0; cpu < engine->cpus && found < MOST_ROWS; cpu++) {
         struct place *place = &engine->places[cpu];
-        if (!atomic_load(&place->wished)) continue;
+        if (!rcu_awaits(&engine->rcu, cpu)) continue;
         rows[found++] = (struct urcu_stall){
             .flavour = FLAVOUR,
             .thread = place->thread,
@@ -86,7 +86,7 @@ static void report(struct engine *engine) {
     let_go();
     for (unsigned at = 0; at < found; at++)
         if (to) to(&rows[at], context);
-        else say(&rows[at]);
+        else say_stall(&rows[at]);
     hold();
 }
 
@@ -125,7 +125,7 @@ void CALL(counters)(struct urcu_counters *counters) {
     hold();
     counters->grace_periods = atomic_load(&all.ended);
     counters->callbacks_run = callbacks_run;
-    for (struct engine *it = all.used; it; it = it->next_used) counters->threads += it->taken;
+    for (struct engine *it = all.engines; it; it = it->next) counters->threads += it->taken;
     for (struct call_rcu_data *it = workers; it; it = it->next) count_callbacks(it, counters);
     for (unsigned back = 0; back < URCU_LAST_ROUNDS && back < next_of_last; back++)
         counters->last[back] = last[(next_of_last - 1 - back) % URCU_LAST_ROUNDS];

@@ -13,79 +13,99 @@
 #include <string.h>
 #include <sys/mman.h>
 
-enum { ALIGNMENT = 16, CHUNK = 1 << 16 };
+enum { ALIGNMENT = 16, HEAD = sizeof(size_t), CHUNK = 1 << 18 };
 
-/* What stands before a block. One that was given back is in a list, for the next that fits. */
-struct block {
-    _Alignas(ALIGNMENT) size_t size;
-    struct block *next;
-};
-_Static_assert(sizeof(struct block) == ALIGNMENT, "a block lies as its room does");
+/* A block's size stands before it. Of one that was given back the first word leads to the next. */
+static char *next, *end; /* of the chunk: the next head, which ends at a multiple of ALIGNMENT */
+static void *unused;
 
-static char *next, *end; /* of the chunk */
-static struct block *unused;
+/* In the child of a fork, as another thread may have been in the midst of a change. */
+void renew_room(void) {
+    next = end = 0;
+    unused = 0;
+}
+
+static size_t *size_of(void *block) {
+    return (size_t *)block - 1;
+}
 
 static size_t rounded(size_t size, size_t to) {
     return (size + to - 1) / to * to;
 }
 
+void room_free(void *at) {
+    void **block = at;
+    if (!at) return;
+    *block = unused;
+    unused = block;
+}
+
+/* From here on, with its head, where it is large enough. */
+static int give_rest(char *from, size_t size) {
+    if (size < 4 * ALIGNMENT) return 0;
+    *size_of(from + HEAD) = size - HEAD;
+    room_free(from + HEAD);
+    return 1;
+}
+
 static int add_chunk(size_t size) {
-    size_t whole = rounded(size, CHUNK);
+    size_t whole = rounded(ALIGNMENT + size, CHUNK);
     void *chunk = mmap(0, whole, PROT_READ | PROT_WRITE, MAP_PRIVATE | MAP_ANONYMOUS, -1, 0);
     if (chunk == MAP_FAILED) return 0;
-    if (chunk != end) next = chunk;
+    give_rest(next, (size_t)(end - next) / ALIGNMENT * ALIGNMENT);
+    next = (char *)chunk + ALIGNMENT - HEAD;
     end = (char *)chunk + whole;
     return 1;
 }
 
-void room_free(void *at) {
-    struct block *block = (struct block *)at - 1;
-    if (!at) return;
-    block->next = unused;
-    unused = block;
-}
-
 /* What a block has beyond the size is another one. */
-static void cut(struct block *block, size_t size) {
-    size_t rest = block->size - size;
-    if (rest < 4 * sizeof *block) return;
-    struct block *other = (struct block *)((char *)(block + 1) + size);
-    block->size = size;
-    other->size = rest - sizeof *other;
-    room_free(other + 1);
+static void cut(char *block, size_t size) {
+    if (give_rest(block + size, *size_of(block) - size)) *size_of(block) = size;
 }
 
-static struct block *take_unused(size_t size) {
-    for (struct block **at = &unused; *at; at = &(*at)->next) {
-        struct block *block = *at;
-        if (block->size < size) continue;
-        *at = block->next;
-        cut(block, size);
-        return block;
+static void *take_unused(size_t size) {
+    for (void **before = &unused, **it = unused; it; before = it, it = *it) {
+        if (*size_of(it) < size) continue;
+        *before = *it;
+        cut((char *)it, size);
+        return it;
     }
     return 0;
 }
 
+/* The last block grows where it is: a list that grows by and by leaves no blocks behind. */
+static int grow(char *block, size_t size) {
+    size_t more = size - *size_of(block);
+    if (block + *size_of(block) != next || (size_t)(end - next) < more) return 0;
+    *size_of(block) = size;
+    next += more;
+    return 1;
+}
+
+static size_t fitting(size_t size) {
+    return rounded(HEAD + (size ? size : 1), ALIGNMENT) - HEAD;
+}
+
 void *room_malloc(size_t size) {
     if (size > SIZE_MAX / 2) return 0;
-    size = rounded(size ? size : 1, ALIGNMENT);
-    struct block *block = take_unused(size);
-    if (block) return block + 1;
-    size_t needed = sizeof *block + size;
+    size = fitting(size);
+    char *block = take_unused(size);
+    if (block) return block;
+    size_t needed = HEAD + size;
     if ((size_t)(end - next) < needed && !add_chunk(needed)) return 0;
-    block = (struct block *)next;
-    block->size = size;
+    block = next + HEAD;
+    *size_of(block) = size;
     next += needed;
-    return block + 1;
+    return block;
 }
 
 void *room_realloc(void *at, size_t size) {
-    struct block *block = (struct block *)at - 1;
     if (!at) return room_malloc(size);
-    if (size <= block->size) return at;
+    if (size <= *size_of(at)) return at;
+    if (size <= SIZE_MAX / 2 && grow(at, fitting(size))) return at;
     void *more = room_malloc(size);
     if (!more) return 0;
-    memcpy(more, at, block->size);
+    memcpy(more, at, *size_of(at));
     room_free(at);
     return more;
 }

@@ -1,7 +1,49 @@
 /* Sections of memb, mb, signal and bp: how they nest, and those of signal handlers. It rests on
- * readers_by_word.c, or in mb on readers_by_seat.h. It adds the sections beside: those of a signal
- * handler that finds its thread busy. Each round sees a moment at which there is none. */
-#include "sections.h"
+ * readers_by_word.c, or in mb on seats.h: there a thread is awake within its sections alone. It
+ * adds the sections beside: those of a signal handler that finds its thread busy. Each round sees a
+ * moment at which there is none. */
+#include "seats.h"
+
+static inline unsigned long depth_of(struct place *place) {
+    return atomic_load_explicit(&place->depth, memory_order_relaxed);
+}
+
+static inline void set_depth(struct place *place, unsigned long depth) {
+    atomic_store_explicit(&place->depth, depth, memory_order_relaxed);
+}
+
+#ifdef URCU_BY_SEAT
+/* A signal handler that comes in the midst of a call on the seat finds the thread busy. The section
+ * is open before its depth says so, and after. */
+static inline void enters(struct place *place) {
+    set_busy(1);
+    open_seat(place);
+    set_depth(place, 1);
+    set_busy(-1u);
+}
+
+static inline void exits(struct place *place) {
+    set_busy(1);
+    set_depth(place, 0);
+    close_seat(place);
+    set_busy(-1u);
+}
+#else
+static inline void fence(void) {
+    if (!by_system) rcu_fence();
+    else atomic_signal_fence(memory_order_seq_cst);
+}
+
+static inline void enters(struct place *place) {
+    set_depth(place, 1);
+    fence();
+}
+
+static inline void exits(struct place *place) {
+    atomic_store_explicit(&place->depth, 0, memory_order_release);
+    fence();
+}
+#endif
 
 static SLOW void open_beside(void) {
     self.beside++;
@@ -14,59 +56,41 @@ static SLOW void close_beside(void) {
     atomic_fetch_sub(&all.beside, 1);
 }
 
-/* Where a round called; where the thread has no place yet; or in a signal handler. */
-static __attribute__((noinline)) void open_slowly(const void *registered_at) {
-    if (is_busy()) {
-        open_beside();
-        return;
-    }
-    if (!self.place) take_place(registered_at);
-    enter_by_lock(self.place);
+static SLOW void open_first(const void *registered_at) {
+    take_place(registered_at);
+    enters(self.place);
 }
 
 void CALL(read_lock)(void) {
     struct place *place = self.place;
-    if (likely(place)) {
-        unsigned long depth = depth_of(place);
-        if (depth) {
-            set_depth(place, depth + 1);
-            return;
-        }
-        if (likely(!is_busy() && enters(place))) return;
-    }
-    open_slowly(__builtin_return_address(0));
+    unsigned long depth = likely(place) ? depth_of(place) : 0;
+    if (depth) set_depth(place, depth + 1);
+    else if (unlikely(is_busy())) open_beside();
+    else if (likely(place)) enters(place);
+    else open_first(__builtin_return_address(0));
 }
 
 void CALL(read_unlock)(void) {
     struct place *place = self.place;
-    if (unlikely(self.beside)) {
-        close_beside();
-        return;
-    }
     unsigned long depth = likely(place) ? depth_of(place) : 0;
-    if (unlikely(depth != 1)) {
-        if (!depth) fail("rcu_read_unlock", "the thread is in no section");
-        set_depth(place, depth - 1);
-        return;
+    if (unlikely(self.beside)) close_beside();
+    else if (unlikely(!depth)) fail("rcu_read_unlock", "the thread is in no section");
+    else if (depth > 1) set_depth(place, depth - 1);
+    else {
+        exits(place);
+        got_quiet(place);
     }
-    exits(place);
-    got_quiet(place);
-}
-
-static inline bool is_in_section(void) {
-    return self.beside || (self.place && depth_of(self.place));
 }
 
 int CALL(read_ongoing)(void) {
-    return is_in_section();
+    return self.beside || (self.place && depth_of(self.place));
 }
 
 /* In the child of a fork: its sections go on. */
 void stay_as_in(struct place *old) {
-    unsigned long depth = depth_of(old);
-    if (!depth) return;
+    if (!depth_of(old)) return;
     enters(self.place);
-    set_depth(self.place, depth);
+    set_depth(self.place, depth_of(old));
 }
 
 void CALL(quiescent_state)(void) {}
@@ -75,30 +99,6 @@ void CALL(thread_online)(void) {}
 
 /* A wait in a section of the caller's own would never end. */
 bool leave(const char *call) {
-    if (unlikely(is_in_section())) fail(call, "the thread is in a section");
+    if (unlikely(CALL(read_ongoing)())) fail(call, "the thread is in a section");
     return false;
 }
-
-void come_back(bool was_online) {
-    (void)was_online;
-}
-
-void CALL(register_thread)(void) {
-    if (!self.place) take_place(__builtin_return_address(0));
-}
-
-#ifdef URCU_BP
-void CALL(register)(void) {
-    CALL(register_thread)();
-}
-
-/* As liburcu's, a thread of bp stays registered until its end. */
-void CALL(unregister_thread)(void) {
-    leave("rcu_unregister_thread");
-}
-#else
-void CALL(unregister_thread)(void) {
-    leave("rcu_unregister_thread");
-    give_back_place();
-}
-#endif

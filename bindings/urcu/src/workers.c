@@ -35,6 +35,7 @@ struct call_rcu_data *CALL(create_call_rcu_data)(unsigned long flags, int cpu) {
     make_condition(&worker->work);
     start_worker(worker);
     hold();
+    while (all.pausing) sleep_on(&all.resumed); /* else a child may have half of the change */
     worker->next = workers;
     workers = worker;
     let_go();
@@ -111,7 +112,7 @@ int CALL(set_cpu_call_rcu_data)(int cpu, struct call_rcu_data *it) {
     else atomic_store(&each[cpu], it);
     let_go();
     if (fault) errno = fault;
-    return fault ? -1 : 0;
+    return -fault;
 }
 
 int CALL(create_all_cpu_call_rcu_data)(unsigned long flags) {
@@ -119,11 +120,12 @@ int CALL(create_all_cpu_call_rcu_data)(unsigned long flags) {
     for (int cpu = 0; cpu < cpus; cpu++) {
         if (CALL(get_cpu_call_rcu_data)(cpu)) continue;
         struct call_rcu_data *worker = CALL(create_call_rcu_data)(flags, cpu);
-        if (CALL(set_cpu_call_rcu_data)(cpu, worker) == 0) continue;
-        int fault = errno;
-        CALL(call_rcu_data_free)(worker);
-        errno = fault;
-        if (fault != EEXIST) return -1;
+        int fault = CALL(set_cpu_call_rcu_data)(cpu, worker);
+        if (!fault) continue;
+        CALL(call_rcu_data_free)(worker); /* another thread was first, or no memory is left */
+        if (fault == -EEXIST) continue;
+        errno = -fault;
+        return fault;
     }
     return 0;
 }

@@ -8,19 +8,19 @@ FAULTS = {
         "rounds.c", "uint64_t wanted = all.begun + 1;", "uint64_t wanted = all.begun;",
         "memb", "sections", False),
     "a quiescent state is passed in a section": (
-        "readers_by_word.c", "memory_order_acquire) == 0) pass_quiet(place);",
-        "memory_order_acquire) <= 1) pass_quiet(place);", "memb", "waits", False),
+        "readers_by_word.c", "memory_order_acquire) == 0 &&", "memory_order_acquire) <= 1 &&",
+        "memb", "waits", False),
     "the wish is gone": (
-        "sections.c", "    exits(place);\n    got_quiet(place);", "    exits(place);",
+        "sections.c", "        exits(place);\n        got_quiet(place);", "        exits(place);",
         "memb", "waits", HANGS),
     "the wish is gone, in mb": (
-        "sections.c", "    exits(place);\n    got_quiet(place);", "    exits(place);",
+        "sections.c", "        exits(place);\n        got_quiet(place);", "        exits(place);",
         "mb", "waits", HANGS),
     "a round ends while one is awaited": (
         "rounds.c", "return turn.awaited != 0;", "return turn.awaited > 1;",
         "mb", "waits", False),
     "a section of mb is none of the engine's": (
-        "sections.h", "    open_seat(place);\n", "", "mb", "sections", False),
+        "sections.c", "    open_seat(place);\n", "", "mb", "sections", False),
     "the wish is gone, in qsbr": (
         "readers_by_state.c", "&number));\n    got_quiet(place);\n", "&number));\n",
         "qsbr", "waits", HANGS),
@@ -32,7 +32,7 @@ FAULTS = {
         "if (engine->opened) place = &engine->places[0];\n    else place",
         "memb", "sections", False),
     "a thread that ends keeps its place": (
-        "places.c", "    give_back_place();\n}\n\nstatic void set_up_once",
+        "threads.c", "    give_back_place();\n}\n\nstatic void set_up_once",
         "}\n\nstatic void set_up_once", "memb", "forgets", False),
     "a callback runs twice": (
         "callbacks.c", "        head->func(head);\n",
@@ -54,7 +54,18 @@ FAULTS = {
         "deferral.c", "CALL(call_rcu)(&ring->head, drain);", "drain(&ring->head);",
         "memb", "defers", False),
     "the child of a fork keeps the parent's engines": (
-        "places.c", "    all.with_room = all.used = 0;\n", "", "qsbr", "forks", HANGS),
+        "fork.c", "    all.engines = 0;\n", "", "qsbr", "forks", HANGS),
+    "the child of a fork in a section is in none": (
+        "fork.c", "        stay_as_in(old);\n", "", "memb", "forks_in_sections", False),
+    "who forks holds the lock": (
+        "fork.c", "pthread_atfork(0, 0, in_any_child)",
+        "pthread_atfork(hold, let_go, in_any_child)", "memb", "handlers", HANGS),
+    "a thread that ends is online still": (
+        "threads.c", "    CALL(thread_offline)();\n    give_back_place();",
+        "    give_back_place();", "qsbr", "ends", False),
+    "a worker does not rest": (
+        "callbacks.c", "    if (!milliseconds) return;\n", "    return;\n",
+        "memb", "gathers", False),
     "who goes offline is waited for": (
         "readers_by_state.c", "    self.online = false;\n    close_seat(self.place);",
         "    self.online = false;", "qsbr", "quiet", HANGS),

@@ -102,8 +102,13 @@ static const struct {
     {"quiet", quiet},       {"callbacks", callbacks}, {"batches", batches},
     {"barriers", barriers}, {"workers", workers},     {"defers", defers},
     {"signals", signals},   {"forks", forks},         {"bare_forks", bare_forks},
+    {"ends", ends},         {"chains", chains},       {"memory", memory},
+    {"answers", answers},   {"values", values},       {"handlers", handlers},
+    {"forks_in_sections", forks_in_sections},
+    {"forks_by_handlers", forks_by_handlers},
 #ifndef NO_EXTRAS
     {"polls", polls},       {"reports", reports},     {"misuse", misuse},
+    {"gathers", gathers},
 #endif
 };
 

@@ -24,6 +24,7 @@
 #include <stdlib.h>
 #include <string.h>
 #include <unistd.h>
+#include <urcu/futex.h>
 #include <urcu/uatomic.h>
 
 /* In the other flavours these do nothing. */
@@ -70,9 +71,12 @@ void end_holder(struct holder *holder);
 
 /* Each test: whether all was right. */
 int sections(unsigned n), waits(unsigned n), nests(unsigned n), crowd(unsigned n);
-int forgets(unsigned n), cancels(unsigned n), quiet(unsigned n);
+int forgets(unsigned n), cancels(unsigned n), quiet(unsigned n), ends(unsigned n);
 int callbacks(unsigned n), batches(unsigned n), barriers(unsigned n), workers(unsigned n);
-int defers(unsigned n), polls(unsigned n);
-int signals(unsigned n), forks(unsigned n), bare_forks(unsigned n);
+int chains(unsigned n), memory(unsigned n), gathers(unsigned n), answers(unsigned n);
+int defers(unsigned n), values(unsigned n), polls(unsigned n);
+int signals(unsigned n), handlers(unsigned n);
+int forks(unsigned n), forks_by_handlers(unsigned n);
+int bare_forks(unsigned n), forks_in_sections(unsigned n);
 int reports(unsigned n), misuse(unsigned n);
 #endif

@@ -1,5 +1,8 @@
 /* Callbacks, deferred calls, and polls. */
 #include "own.h"
+#include <errno.h>
+#include <malloc.h>
+#include <time.h>
 
 enum { MOST = 20000 };
 struct counted {
@@ -40,6 +43,13 @@ static void tell(struct rcu_head *head) {
     uatomic_inc(&ran);
 }
 
+#ifndef NO_EXTRAS
+static void nothing_but_count(struct rcu_head *head) {
+    (void)head;
+    uatomic_inc(&ran);
+}
+#endif
+
 /* A callback that is queued while the worker waits has to wait for a round of its own. */
 int batches(unsigned n) {
     struct holder first, second;
@@ -77,6 +87,103 @@ int barriers(unsigned n) {
     return uatomic_read(&ran) == 3;
 }
 
+/* What callbacks queue runs too, and a barrier waits for what was queued before it. */
+static struct again {
+    struct rcu_head head;
+    int left;
+} chain = {.left = 10};
+static void queue_again(struct rcu_head *head) {
+    struct again *it = caa_container_of(head, struct again, head);
+    uatomic_inc(&ran);
+    if (--it->left) call_rcu(head, queue_again);
+}
+
+int chains(unsigned n) {
+    (void)n;
+    rcu_register_thread();
+    rcu_read_lock();
+    call_rcu(&chain.head, queue_again);
+    rcu_read_unlock();
+    rcu_unregister_thread();
+    for (int i = 1; i <= 10; i++) {
+        rcu_barrier();
+        if (uatomic_read(&ran) < i) return puts("a barrier did not wait"), 0;
+    }
+    return uatomic_read(&ran) == 10;
+}
+
+static void nothing(struct rcu_head *head) {
+    (void)head;
+}
+
+/* A callback takes no memory. */
+int memory(unsigned n) {
+    static struct rcu_head heads[MOST];
+    (void)n;
+    call_rcu(&heads[0], nothing);
+    rcu_barrier();
+    size_t before = mallinfo2().uordblks + mallinfo2().hblkhd;
+    for (int i = 1; i < MOST; i++) call_rcu(&heads[i], nothing);
+    size_t after = mallinfo2().uordblks + mallinfo2().hblkhd;
+    rcu_barrier();
+    return after == before;
+}
+
+#ifndef NO_EXTRAS
+static double seconds(void) {
+    struct timespec time;
+    clock_gettime(CLOCK_MONOTONIC, &time);
+    return (double)time.tv_sec + (double)time.tv_nsec / 1e9;
+}
+
+/* The least time from call_rcu to the callback's run, of some. */
+static double least_wait(void) {
+    static struct rcu_head heads[40];
+    static int used;
+    double least = 1e9;
+    for (int i = 0; i < 20; i++) {
+        uatomic_set(&ran, 0);
+        double begun = seconds();
+        call_rcu(&heads[used++], nothing_but_count);
+        while (!uatomic_read(&ran)) usleep(100);
+        double took = seconds() - begun;
+        if (took < least) least = took;
+    }
+    return least;
+}
+
+/* A worker lets callbacks gather for 10 ms; where it is told so it does not. */
+int gathers(unsigned n) {
+    (void)n;
+    double resting = least_wait();
+    EXTRA(call_rcu_rest)(0);
+    double awake = least_wait();
+    if (resting >= 0.009 && awake < 0.009) return 1;
+    return printf("%.4f s, and %.4f s\n", resting, awake), 0;
+}
+#endif
+
+/* What the calls of workers answer, in errno too. */
+int answers(unsigned n) {
+    struct call_rcu_data *own = create_call_rcu_data(URCU_CALL_RCU_RT, -1);
+    (void)n;
+    errno = 0;
+    if (set_cpu_call_rcu_data(-1, own) != -EINVAL || errno != EINVAL) return 0;
+    if (set_cpu_call_rcu_data(1 << 20, own) != -EINVAL) return 0;
+    if (set_cpu_call_rcu_data(0, own) || get_cpu_call_rcu_data(0) != own) return 0;
+    errno = 0;
+    if (set_cpu_call_rcu_data(0, own) != -EEXIST || errno != EEXIST) return 0;
+    if (create_all_cpu_call_rcu_data(0) || get_cpu_call_rcu_data(0) != own) return 0;
+    if (set_cpu_call_rcu_data(0, 0) || get_cpu_call_rcu_data(0)) return 0;
+    synchronize_rcu();
+    call_rcu_data_free(own);
+    free_all_cpu_call_rcu_data();
+    call_rcu_data_free(0);
+    call_rcu_data_free(get_default_call_rcu_data());
+    return !get_thread_call_rcu_data() &&
+           !pthread_equal(get_call_rcu_thread(get_default_call_rcu_data()), pthread_self());
+}
+
 static void *queue_some(void *it) {
     struct call_rcu_data *own = create_call_rcu_data(0, -1);
     set_thread_call_rcu_data(own);
@@ -104,6 +211,44 @@ int workers(unsigned n) {
 
 static void count_deferred(void *it) {
     uatomic_add(&ran, (int)(long)it);
+}
+
+/* Any values, and functions in turn: in the order in which they were deferred. */
+static long expected[] = {0, 1, -1, -2, -3, 1, 1, 2, -2, -2};
+static unsigned long deferred_at;
+static void take_one(void *it, unsigned kind) {
+    unsigned long at = uatomic_add_return(&deferred_at, 1) - 1;
+    if ((long)it != expected[at % CAA_ARRAY_SIZE(expected)] || kind != at % 3 % 2)
+        uatomic_inc(&wrong);
+}
+static void take_even(void *it) {
+    take_one(it, 0);
+}
+static void take_odd(void *it) {
+    take_one(it, 1);
+}
+
+static void *defer_values(void *it) {
+    rcu_defer_register_thread();
+    for (unsigned i = 0; i < 3000; i++)
+        defer_rcu(i % 3 % 2 ? take_odd : take_even,
+                  (void *)expected[i % CAA_ARRAY_SIZE(expected)]);
+    rcu_defer_barrier_thread();
+    rcu_defer_unregister_thread();
+    return it;
+}
+
+/* By two threads, of which one waits for all. */
+int values(unsigned n) {
+    pthread_t thread;
+    (void)n;
+    if (pthread_create(&thread, 0, defer_values, 0)) return 0;
+    while (!uatomic_read(&deferred_at)) {
+        rcu_defer_barrier();
+        usleep(100);
+    }
+    pthread_join(thread, 0);
+    return uatomic_read(&deferred_at) == 3000;
 }
 
 static void *defer_and_end(void *it) {

@@ -38,6 +38,7 @@ struct early {
     early() {
         rcu_register_thread();
         read_all();
+        synchronize_rcu();
     }
 } reads_before_main;
 

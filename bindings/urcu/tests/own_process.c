@@ -47,8 +47,78 @@ int signals(unsigned n) {
     rcu_barrier();
     return reads > 0;
 }
+
+static int forks_made;
+struct allocator {
+    pthread_t thread;
+    int begun, handled;
+};
+static __thread struct allocator *me;
+static void read_first(int number) {
+    (void)number;
+    look(false);
+    if (me) uatomic_inc(&me->handled);
+}
+
+static void *allocate(void *it) {
+    stack_t stack = {.ss_sp = malloc(SIGSTKSZ), .ss_size = SIGSTKSZ};
+    void *blocks[8] = {0};
+    me = it;
+    sigaltstack(&stack, 0);
+    for (unsigned i = 0; !uatomic_read(&me->handled); i++) {
+        free(blocks[i % 8]);
+        blocks[i % 8] = malloc(2000 + i % 3000);
+        if (i == 100) uatomic_set(&me->begun, 1);
+    }
+    for (int i = 0; i < 8; i++) free(blocks[i]);
+    stack.ss_flags = SS_DISABLE;
+    sigaltstack(&stack, 0);
+    free(stack.ss_sp);
+    return it;
+}
+
+static void *fork_often(void *it) {
+    while (!uatomic_read(&over)) {
+        pid_t child = fork();
+        if (child == 0) _exit(0);
+        waitpid(child, 0, 0);
+        uatomic_inc(&forks_made);
+    }
+    return it;
+}
+
+/* A handler has the first section of its thread, on a stack of its own. The thread is in the midst
+ * of malloc, while another one forks, and takes malloc's locks for that. */
+int handlers(unsigned n) {
+    pthread_t updater, forker;
+    struct sigaction action;
+    n = n ? n : 300;
+    memset(&action, 0, sizeof action);
+    action.sa_handler = read_first;
+    action.sa_flags = SA_ONSTACK;
+    sigaction(SIGUSR2, &action, 0);
+    if (pthread_create(&updater, 0, update, 0)) return 0;
+    if (pthread_create(&forker, 0, fork_often, 0)) return 0;
+    for (unsigned i = 0; i < n || uatomic_read(&forks_made) < 50; i++) {
+        struct allocator it = {0};
+        if (pthread_create(&it.thread, 0, allocate, &it)) return 0;
+        while (!uatomic_read(&it.begun)) sched_yield();
+        pthread_kill(it.thread, SIGUSR2);
+        pthread_join(it.thread, 0);
+    }
+    uatomic_set(&over, 1);
+    pthread_join(updater, 0);
+    pthread_join(forker, 0);
+    rcu_barrier();
+    return 1;
+}
 #else
 int signals(unsigned n) {
+    (void)n;
+    return 1;
+}
+
+int handlers(unsigned n) {
     (void)n;
     return 1;
 }
@@ -66,7 +136,6 @@ static void *read_on(void *it) {
 
 static int child_goes_on(void) {
     alarm(60);
-    call_rcu_after_fork_child();
     for (unsigned long k = 0; k < 50; k++) {
         look(false);
         call_rcu(&replace(k)->head, ripe);
@@ -89,7 +158,10 @@ int forks(unsigned n) {
         rest(2);
         call_rcu_before_fork();
         pid_t child = fork();
-        if (child == 0) _exit(child_goes_on());
+        if (child == 0) {
+            call_rcu_after_fork_child();
+            _exit(child_goes_on());
+        }
         call_rcu_after_fork_parent();
         offline();
         waitpid(child, &status, 0);
@@ -110,6 +182,86 @@ static int child_reads(int waits) {
     for (int k = 0; k < 1000; k++) look(false);
     if (waits) synchronize_rcu();
     return wrong != 0;
+}
+
+/* The same where the handlers are registered before all others, and the child forks too. */
+static int by_handlers;
+static void before_fork(void) {
+    if (by_handlers) call_rcu_before_fork();
+}
+static void after_fork_parent(void) {
+    if (by_handlers) call_rcu_after_fork_parent();
+}
+static void after_fork_child(void) {
+    if (by_handlers) call_rcu_after_fork_child();
+}
+__attribute__((constructor(101))) static void register_first(void) {
+    pthread_atfork(before_fork, after_fork_parent, after_fork_child);
+}
+
+int forks_by_handlers(unsigned n) {
+    pthread_t updater;
+    int bad = 0, status;
+    if (pthread_create(&updater, 0, update, 0)) return 0;
+    by_handlers = 1;
+    for (unsigned i = 0; i < (n ? n : 15); i++) {
+        rest(2);
+        pid_t child = fork();
+        if (child == 0) {
+            rcu_register_thread();
+            int own = child_goes_on();
+            child = fork();
+            if (child == 0) _exit(child_goes_on());
+            offline();
+            waitpid(child, &status, 0);
+            online();
+            _exit(own || status);
+        }
+        waitpid(child, &status, 0);
+        bad += status != 0;
+    }
+    uatomic_set(&over, 1);
+    pthread_join(updater, 0);
+    rcu_barrier();
+    if (bad) printf("%d children did not end well\n", bad);
+    return !bad;
+}
+
+/* The child of a fork in a section is in it still, and so is the parent. */
+int forks_in_sections(unsigned n) {
+    pthread_t updater;
+    int bad = 0, status;
+    rcu_register_thread();
+    if (pthread_create(&updater, 0, update, 0)) return 0;
+    for (unsigned i = 0; i < (n ? n : 20); i++) {
+        rcu_read_lock();
+        rcu_read_lock();
+        struct node *it = rcu_dereference(shown);
+        unsigned long value = it->value;
+        pid_t child = fork();
+        rest(2);
+        if (CMM_LOAD_SHARED(it->twice) != 2 * value || !rcu_read_ongoing()) uatomic_inc(&wrong);
+        rcu_read_unlock();
+        if (CMM_LOAD_SHARED(it->twice) != 2 * value || !rcu_read_ongoing()) uatomic_inc(&wrong);
+        rcu_read_unlock();
+        if (child == 0) {
+            alarm(60);
+            offline();
+            synchronize_rcu();
+            online();
+            _exit(wrong != 0 || child_reads(1));
+        }
+        offline();
+        waitpid(child, &status, 0);
+        online();
+        bad += status != 0;
+    }
+    uatomic_set(&over, 1);
+    rcu_unregister_thread();
+    pthread_join(updater, 0);
+    rcu_barrier();
+    if (bad) printf("%d children did not end well\n", bad);
+    return !bad;
 }
 
 /* Without them a child reads, and in every second one a round is made; or it execs at once. */

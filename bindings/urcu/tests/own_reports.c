@@ -36,8 +36,57 @@ static int stalls(void) {
     return said.thread > 0 && said.registered_at && said.milliseconds >= 50;
 }
 
+/* Standard error is written to a pipe meanwhile. */
+static int line_of_stall(void) {
+    struct holder holder;
+    pthread_t waiter;
+    char text[2000] = "";
+    int ends[2], own = dup(2);
+    if (pipe(ends)) return 0;
+    dup2(ends[1], 2);
+    EXTRA(on_stall)(50, 0, 0);
+    open_section(&holder);
+    if (pthread_create(&waiter, 0, wait_once, 0)) return 0;
+    ssize_t got = read(ends[0], text, sizeof text - 1);
+    close_section(&holder);
+    pthread_join(waiter, 0);
+    end_holder(&holder);
+    EXTRA(on_stall)(10000, 0, 0);
+    dup2(own, 2);
+#ifdef USE_QSBR
+    const char *how = "which passes no quiescent state";
+#else
+    const char *how = "which is in a section, 1 deep";
+#endif
+    int right = got > 0 && strstr(text, "a grace period waits since 0.") && strstr(text, how) &&
+                strstr(text, "registered at 0x");
+    if (!right) printf("standard error: %s\n", text);
+    return right;
+}
+
 static void nothing(struct rcu_head *head) {
     (void)head;
+}
+
+/* What waits is counted, and how long the oldest does; and how long the grace period took. */
+static int waiting(void) {
+    struct holder holder;
+    struct urcu_counters now;
+    struct rcu_head heads[2];
+    open_section(&holder);
+    call_rcu(&heads[0], nothing);
+    rest(100);
+    call_rcu(&heads[1], nothing);
+    EXTRA(counters)(&now);
+    int right = now.callbacks_waiting == 2 && now.oldest_waits >= 90 && now.threads >= 2;
+    close_section(&holder);
+    rcu_barrier();
+    end_holder(&holder);
+    EXTRA(counters)(&now);
+    unsigned long longest = 0;
+    for (int i = 0; i < URCU_LAST_ROUNDS; i++)
+        if (now.last[i] > longest) longest = now.last[i];
+    return right && longest >= 50000 && now.callbacks_waiting == 0 && now.oldest_waits == 0;
 }
 
 static int counts(void) {
@@ -57,7 +106,7 @@ static int counts(void) {
 
 int reports(unsigned n) {
     (void)n;
-    return stalls() && counts();
+    return stalls() && line_of_stall() && counts() && waiting();
 }
 
 /* ---- misuse ends the process, and says why */
@@ -90,7 +139,15 @@ static void waits_in_a_callback(void) {
     rcu_barrier();
 }
 
-/* Whether the child that does it is told so, by words that have these in them. */
+static void barrier_in_a_section(void) {
+    rcu_register_thread();
+    rcu_read_lock();
+    rcu_barrier();
+    rcu_read_unlock();
+    abort();
+}
+
+/* Whether the child that does it is told so, by words that have these in them, and aborts. */
 static int is_told(void (*misuse)(void), const char *words) {
     int ends[2], status;
     char text[300] = "";
@@ -119,8 +176,10 @@ int misuse(unsigned n) {
     right &= is_told(unlocks, "rcu_read_unlock: the thread is in no section");
     right &= is_told(unregisters_in_a_section, "rcu_unregister_thread: the thread is in a section");
     right &= is_told(waits_in_a_section, "synchronize_rcu: the thread is in a section");
+    right &= is_told(barrier_in_a_section, "rcu_barrier: the thread is in a section");
 #else
     (void)unlocks, (void)unregisters_in_a_section, (void)waits_in_a_section;
+    (void)barrier_in_a_section;
 #endif
     return right;
 }

@@ -188,6 +188,45 @@ int cancels(unsigned n) {
     return 1;
 }
 
+/* In the end of a key, behind the layer's own: it registers anew, and has sections. */
+static pthread_key_t late_key;
+static void read_late(void *left) {
+    rcu_register_thread();
+    uatomic_inc(&ready);
+    for (int i = 0; i < 50; i++) {
+        look(true);
+        quiescent();
+    }
+    if (left > (void *)1) pthread_setspecific(late_key, (char *)left - 1);
+    else rcu_unregister_thread();
+}
+
+static void *end_late(void *it) {
+    rcu_register_thread();
+    look(false);
+    pthread_setspecific(late_key, it);
+    return it;
+}
+
+/* Sections in the ends of threads, one to three times, beside an updater. */
+int ends(unsigned n) {
+    pthread_t updater;
+    unsigned long wanted = 0;
+    n = n ? n : 60;
+    if (pthread_key_create(&late_key, read_late)) return 0;
+    if (pthread_create(&updater, 0, update, 0)) return 0;
+    for (unsigned i = 0; i < n; i++, wanted += 1 + i % 3) {
+        pthread_t thread;
+        if (pthread_create(&thread, 0, end_late, (void *)(1ul + i % 3))) return 0;
+        pthread_join(thread, 0);
+    }
+    uatomic_set(&over, 1);
+    pthread_join(updater, 0);
+    synchronize_rcu();
+    rcu_barrier();
+    return uatomic_read(&ready) == wanted;
+}
+
 /* A thread that is offline, or was never registered, is not waited for. */
 int quiet(unsigned n) {
     struct holder holder;

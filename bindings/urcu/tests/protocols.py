@@ -6,56 +6,37 @@ from protocols_of_callbacks import PROTOCOLS_OF_CALLBACKS, SECTION
 HELD_UP = "a thread that reads again and again holds a round up"
 
 # ---- sections and rounds.
-# The thread got quiet: it looks for a wish, and wakes the maker.
+# The thread got quiet: it looks for a wish, and wakes the maker; by word it passes the quiescent
+# state itself.
+WAKE_THE_MAKER = """
+    lock
+    wished = 0                            | atomic_store_explicit(&place->wished, false
+    {passes}
+    signal !                              | pthread_cond_signal(&all.quiet)
+    unlock
+"""
 LOOK_FOR_A_WISH = """
     w = wished !                          | atomic_load(&place->wished)
     unless w goto top
-    x = swap wished 0                     | atomic_exchange(&place->wished, false)
-    unless x goto top
-    y = add missing -1                    | atomic_fetch_sub(&all.missing, 1) == 1
-    unless y goto top
-    lock
-    signal !                              | pthread_cond_signal(&all.quiet)
-    unlock
+""" + WAKE_THE_MAKER.format(passes="") + """
     goto top
 """
+PASSES = "quiet = 1 !                         | if (BY_WORD) pass_if_out(place);"
 
 
 def reader(fence):
     return f"""
 top:
     maybe over
-    c = called !      | unlikely(atomic_load_explicit(&place->called, memory_order_relaxed))
-    if c goto slowly
     depth = 1 {"%" if fence else ""}      | set_depth(place, 1)
     {fence}
-    n = new
-    unless n goto in
-    n = came
-    told came = 1
-    f = other.n
-    must f: {HELD_UP}
-in:
     {SECTION}
     depth = 0 %       | atomic_store_explicit(&place->depth, 0, memory_order_release)
     {fence}
-    {LOOK_FOR_A_WISH}
-slowly:
-    lock
-    c = called
-    unless c goto enters
-    quiet = 1
-    told new = 0
-    called = 0
-    x = swap wished 0
-    unless x goto enters
-    y = add missing -1
-    unless y goto enters
-    signal
-enters:
-    depth = 1
-    unlock
-    goto in
+    w = wished !                          | atomic_load(&place->wished)
+    unless w goto top
+    {WAKE_THE_MAKER.format(passes=PASSES)}
+    goto top
 over:
 """
 
@@ -67,37 +48,27 @@ again:
     pointer = n
     lock
     quiet = 0
-    {fence} !                             | if (round) fence_readers()
+    {fence} !                             | if (BY_WORD && waits) fence_readers()
 look:
     d = depth !                     | atomic_load_explicit(&place->depth, memory_order_acquire) == 0
     if d goto looked
-    quiet = 1                             | pass_quiet(place)
-    told new = 0
-    called = 0
+    quiet = 1                             | rcu_seat_repin_unfenced(&place->seat, &number)
 looked:
     q = quiet
     if q goto done
     maybe look
-    called = 1 !                          | call_place(place)
-    m = add missing 1                     | atomic_fetch_add(&all.missing, 1)
     m = swap wished 1 !                   | atomic_store(&place->wished, true)
-    {fence} {needed}                            | fence_readers()
-    told came = 0
-    told new = 1
-    d = depth !                           | still_awaits(engine)
+    {fence} {needed}                            | if (BY_WORD) fence_readers()
+    d = depth !                           | still_goes_on(engine)
     if d goto sleeps
     quiet = 1
-    told new = 0
-    called = 0
-    x = swap wished 0                     | take_wishes_back(engine)
-    unless x goto sleeps
-    y = add missing -1
+    goto done
 sleeps:
-    m = missing                           | atomic_load(&all.missing)
-    unless m goto look
-    wait
+    wait                                  | sleep_or_report(engine)
     lock
-    goto sleeps
+    q = quiet
+    must q: {HELD_UP}
+    goto look
 done:
     unlock
     good.o = 0
@@ -121,19 +92,16 @@ top:
     s = swap own n %                      | rcu_seat_renew_unfenced(&place->seat, &number)
     {LOOK_FOR_A_WISH.replace("top", "again")}
 again:
+    if last is 2 goto stays
+    goto top
+stays:
     maybe ended
     goto top
 over:
-    s = swap own 9 %                      | rcu_seat_idle(&place->seat)
+    s = swap own 9 %                      | rcu_seat_unpin(&place->seat, &depth)
     w = wished !                          | close_seat(self.place);
     unless w goto ended
-    x = swap wished 0
-    unless x goto ended
-    y = add missing -1
-    unless y goto ended
-    lock
-    signal
-    unlock
+    {WAKE_THE_MAKER.format(passes="")}
 ended:
 """
 # ---- the same in mb, where a thread is idle but in its sections.
@@ -147,76 +115,77 @@ top:
     {LOOK_FOR_A_WISH}
 over:
 """
-MAKER_BY_STATE = """
-    pointer = 1
+
+
+def round_by_state(number):
+    return f"""
     lock
-    number = 1
+    number = {number}
     fence
-look:
+look{number}:
     a = own
-    if a goto done
-    maybe look
-    m = add missing 1                     | atomic_fetch_add(&all.missing, 1)
-    m = swap wished 1 %                   | atomic_store(&place->wished, true)
+    if a is {number} goto done{number}
+    if a is 9 goto done{number}
+    maybe look{number}
+    m = swap wished 1 %                   | goes_on(engine, wish)
     a = own
-    unless a goto sleeps
-    x = swap wished 0                     | take_wishes_back(engine)
-    unless x goto sleeps
-    y = add missing -1
-sleeps:
-    m = missing
-    unless m goto look
-    wait
+    if a is {number} goto done{number}
+    if a is 9 goto done{number}
+    wait                                  | sleep_or_report(engine)
     lock
-    goto sleeps
-done:
+    goto look{number}
+done{number}:
     unlock
-    good0 = 0
 """
 
-# ---- a signal handler, which comes at any step of a thread that enters by the lock, or is in.
+
+# A thread may still look for the wish of the first round while the second one waits.
+MAKER_BY_STATE = f"""
+    pointer = 1
+    {round_by_state(1)}
+    good0 = 0
+    {round_by_state(2)}
+"""
+
+# ---- a signal handler, which comes at any step of a thread that takes its place, is in a section,
+# and wakes the maker.
 WITH_HANDLER = f"""
-    maybe slowly
-    c = called
-    if c goto slowly
-    depth = 1
-    {SECTION}
-    depth = 0
-slowly:
     busy = 1                              | set_busy(1)
     lock
-    c = called
-    unless c goto enters
-    quiet = 1
-    called = 0
-enters:
-    depth = 1
     unlock
     busy = 0                              | set_busy(-1u)
+    depth = 1
     {SECTION}
     depth = 0
+    w = wished
+    unless w goto over
+    busy = 1
+    lock
+    wished = 0
+    quiet = 1
+    signal
+    unlock
+    busy = 0
 over:
 """
 HANDLER = f"""
     d = depth
     if d goto nests
-    b = busy !                            | if (is_busy()) {{
+    b = busy !                            | if (unlikely(is_busy()))
     if b goto beside
-    c = called
-    if c goto locks
     depth = 1
     {SECTION}
     depth = 0
-    goto over
-locks:
+    w = wished
+    unless w goto over
     t = busy
     f = other.t
     must f: a handler waits for its own thread
     lock
-    depth = 1
+    wished = 0
+    quiet = 1
+    signal
     unlock
-    {SECTION}
-    depth = 0
     goto over
 nests:
     depth = 2
@@ -234,21 +203,24 @@ MAKER_OF_HANDLED = """
     lock
     quiet = 0
     fence all
+look:
     d = depth
-    if d goto waits
+    if d goto looked
     quiet = 1
-    called = 0
-waits:
+looked:
     q = quiet
     if q goto looks
-    called = 1
-    unlock
-    lock
+    maybe look
+    m = swap wished 1
+    fence all
     d = depth
-    if d goto waits
+    if d goto sleeps
     quiet = 1
-    called = 0
-    goto waits
+    goto looks
+sleeps:
+    wait
+    lock
+    goto look
 looks:
     fence                                 | rcu_fence();
 beside:
@@ -278,7 +250,7 @@ SEAT_WITH_HANDLER = f"""
 HANDLER_BY_SEAT = f"""
     d = depth
     if d goto nests
-    b = busy !                            | if (is_busy()) {{
+    b = busy !                            | if (unlikely(is_busy()))
     if b goto beside
     c = calls
     f = other.c
@@ -343,8 +315,8 @@ beside:
     good0 = 0
 """
 
-ROUND = {"depth": 0, "called": 0, "quiet": 0, "wished": 0, "missing": 0, "pointer": 0, "good0": 1,
-         "good1": 1, "other0": 1, "other1": 0, "new": 0, "came": 0}
+ROUND = {"depth": 0, "quiet": 0, "wished": 0, "pointer": 0, "good0": 1, "good1": 1, "other0": 1,
+         "other1": 0}
 STATE = {**ROUND, "number": 0, "own": 0}
 PROTOCOLS = {
     "a section and a round, by membarrier": (ROUND, [reader(""), maker("fence all", "!")]),

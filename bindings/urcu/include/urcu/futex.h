@@ -1,0 +1,26 @@
+/* futex(2), under liburcu's names. */
+#ifndef URCU_OVER_RCU_FUTEX_H
+#define URCU_OVER_RCU_FUTEX_H
+#include <stdint.h>
+#include <time.h>
+#include <urcu/config.h>
+#include <urcu/syscall-compat.h>
+
+#define FUTEX_WAIT 0
+#define FUTEX_WAKE 1
+
+static inline int futex(int32_t *at, int what, int32_t value, const struct timespec *time,
+                        int32_t *other, int32_t other_value) {
+    return (int)syscall(__NR_futex, at, what, value, time, other, other_value);
+}
+
+static inline int futex_noasync(int32_t *at, int what, int32_t value, const struct timespec *time,
+                                int32_t *other, int32_t other_value) {
+    return futex(at, what, value, time, other, other_value);
+}
+
+static inline int futex_async(int32_t *at, int what, int32_t value, const struct timespec *time,
+                              int32_t *other, int32_t other_value) {
+    return futex(at, what, value, time, other, other_value);
+}
+#endif

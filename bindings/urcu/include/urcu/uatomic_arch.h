@@ -1,0 +1,2 @@
+/* The older name of urcu/uatomic.h. */
+#include <urcu/uatomic.h>

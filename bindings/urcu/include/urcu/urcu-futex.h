@@ -1,0 +1,2 @@
+/* The older name of urcu/futex.h. */
+#include <urcu/futex.h>

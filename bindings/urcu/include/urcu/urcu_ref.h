@@ -1,0 +1,2 @@
+/* The older name of urcu/ref.h. */
+#include <urcu/ref.h>

@@ -1,0 +1,30 @@
+/* The seat of a place. In memb, signal and bp it is who holds the lock that makes the calls on it;
+ * in mb and qsbr it is the thread itself, with no lock.
+ *
+ * It rests on these sentences of include/rcu.h: of rcu_begin, "of each section one of two holds:
+ * all of it comes before what follows the end of this grace period, or it sees what came before
+ * this call"; and of rcu_seat_wake, of a grace period "that found it idle, or whose number it saw,
+ * the section sees what came before its begin". So in mb a thread that reads again and again holds
+ * no round up; by a pin, which notes no number, it would. */
+#ifndef URCU_SEATS_H
+#define URCU_SEATS_H
+#include "layer.h"
+
+static inline void open_seat(struct place *place) {
+    uint64_t number;
+    uint32_t depth;
+    if (BY_WORD) {
+        must("pin", rcu_seat_pin_unfenced(&place->seat, &depth));
+        return;
+    }
+    must("wake", rcu_seat_wake_unfenced(&place->seat, &number));
+    must("enter", rcu_seat_enter(&place->seat, &depth));
+}
+
+static inline void close_seat(struct place *place) {
+    uint32_t depth;
+    RCU_SANITIZER_RELEASE(place->engine);
+    must("unpin", rcu_seat_unpin(&place->seat, &depth));
+}
+
+#endif
