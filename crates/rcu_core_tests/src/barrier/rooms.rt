@@ -51,7 +51,9 @@ fn one_list_gives_its_room_back(rt: HostRuntime) {
     for count in 1..=MANY {
         make_each(&rt, &mut lists, &[Step::Queue(1, 7, count + 1)]);
     }
+    shrink(&rt, &mut lists, 1);
     let (before, second) = (room(&rt, &lists, 0), room(&rt, &lists, 1));
+    assert_eq!(rt; second, MANY);
     make_each(&rt, &mut lists, &[Step::Migrate(MANY)]);
     let first = room(&rt, &lists, 0);
     assert!(rt; first > before.max(MANY), "{first}, and {before} before");
