@@ -760,6 +760,25 @@ void rcu_replica_close(rcu_replica_t *replica);
  * object may compare the two. */
 uint32_t rcu_version(void);
 
+/* ---- wishes for grace periods. A thread wishes by its seat, with no lock, beside all calls on
+ * other handles: in a section or not, online or not. Who drives reads the greatest wish, under the
+ * caller's lock, and drives for it (rcu_drive_for).
+ * No wish is slept through: whoever makes the greatest wish while who drives says that it sleeps,
+ * and has not found a wish as great, is told to wake it. */
+
+/* Wishes for the grace period of a cookie: where that is greater than each that was wished for
+ * before, rcu_wanted finds it from then on. Writes 1 where it is, and who drives says that it
+ * sleeps: then the caller wakes it, by means of the program's own. Else 0. It orders nothing else:
+ * a taking does. No wish is taken back: for a cookie that no taking returned, as 2^64 - 1, who
+ * drives makes grace periods without end. */
+uint32_t rcu_seat_want(rcu_seat_t *seat, uint64_t cookie, uint32_t *wakes);
+
+/* Says whether who drives sleeps from now on, and then writes the greatest cookie that was wished
+ * for: 1, which is done at any number, where none was. The next step is rcu_drive_for of it; or,
+ * where rcu_poll says that it is done, to sleep until a thread wakes the caller, which lets go of
+ * the lock and sleeps in one step, as a condition variable does. */
+uint32_t rcu_wanted(rcu_t *rcu, bool sleeps, uint64_t *cookie);
+
 /* <<< */
 
 /* ---- links in the caller's own nodes */

@@ -1,6 +1,6 @@
-/* One thread drives an engine by steps: a grace period that a cookie asks for; sections that are
- * pinned and renewed; links and values that a seat defers, and what a departure and a return leave
- * of them. */
+/* One thread drives an engine by steps: a grace period that a cookie asks for; wishes for some;
+ * sections that are pinned and renewed; links and values that a seat defers, and what a departure
+ * and a return leave of them. */
 #include "rcu.h"
 #include <inttypes.h>
 #include <stdio.h>
@@ -49,6 +49,29 @@ static void driven(void) {
     for (uint32_t cpu = 0; cpu < 2; cpu++) must("idle", rcu_seat_idle(&seats[cpu]), 0);
     must("drive", rcu_drive_for(&rcu, cookie, &turn), 0);
     printf("driven for it at once: %s\n", yes_or_no(turn.what == RCU_TURN_ENDED));
+}
+
+static uint32_t want(uint32_t cpu, uint64_t cookie) {
+    uint32_t wakes = 9;
+    must("want", rcu_seat_want(&seats[cpu], cookie, &wakes), 0);
+    return wakes;
+}
+
+static uint64_t wanted(bool sleeps) {
+    uint64_t cookie = 0;
+    must("wanted", rcu_wanted(&rcu, sleeps, &cookie), 0);
+    return cookie;
+}
+
+/* Two threads wish for grace periods, with no lock: who wishes for a later one than all before
+ * wakes who drives, where that sleeps. */
+static void wished(void) {
+    printf("none wished: %" PRIu64 "\n", wanted(true));
+    uint32_t first = want(1, 8), same = want(0, 8), later = want(0, 12);
+    printf("wakes: %" PRIu32 ", %" PRIu32 ", %" PRIu32 "\n", first, same, later);
+    printf("wished: %" PRIu64 "\n", wanted(false));
+    uint32_t awake = want(1, 16), less = want(1, 12);
+    printf("wakes: %" PRIu32 ", %" PRIu32 "; wished: %" PRIu64 "\n", awake, less, wanted(true));
 }
 
 /* Sections of a thread that is idle between them, and sections that are renewed. */
@@ -135,6 +158,7 @@ int main(void) {
         must("seat", rcu_seat_open(&rcu, cpu, &seats[cpu]), 0);
     must("arrive", rcu_arrive(&rcu, &seats[1]), 0);
     driven();
+    wished();
     pinned();
     links();
     values();

@@ -11,7 +11,6 @@
 #include <atomic>
 using std::atomic_bool;
 using std::atomic_uint;
-using std::atomic_uint_least64_t;
 #else
 #include <stdalign.h>
 #include <stdatomic.h>
@@ -30,11 +29,6 @@ static struct place {
 } places[CPUS];
 
 static atomic_uint missing; /* how many places are wanted */
-
-/* The greatest cookie that a place asked for, and whether the driver's thread sleeps until one asks
- * for more. */
-static atomic_uint_least64_t awaited_cookie;
-static atomic_bool is_asleep;
 
 /* The lock, over all that follows. */
 static pthread_mutex_t lock = PTHREAD_MUTEX_INITIALIZER;
@@ -104,29 +98,28 @@ static inline void wait_for(uint64_t cookie) {
     }
 }
 
-static inline bool is_all_made(void) { return rcu_poll(&rcu, atomic_load(&awaited_cookie)); }
-
-/* It says that it sleeps, and then looks for a cookie; a place stores one, and then looks whether it
- * sleeps. All four steps are sequentially consistent. */
+/* Makes all that a place wished for, and then sleeps until one is told to wake it. */
 static inline void *make_grace_periods(void *it) {
+    uint64_t cookie;
     pthread_mutex_lock(&lock);
     while (!closing) {
-        if (!is_all_made()) wait_for(atomic_load(&awaited_cookie));
-        atomic_store(&is_asleep, true);
-        if (is_all_made() && !closing) pthread_cond_wait(&asked, &lock);
-        atomic_store(&is_asleep, false);
+        must("wanted", rcu_wanted(&rcu, true, &cookie));
+        if (rcu_poll(&rcu, cookie)) {
+            pthread_cond_wait(&asked, &lock);
+        } else {
+            must("wanted", rcu_wanted(&rcu, false, &cookie));
+            wait_for(cookie);
+        }
     }
     pthread_mutex_unlock(&lock);
     return it;
 }
 
 /* Asks for a cookie: with no lock, but where the driver's thread sleeps. */
-static inline void ask_for(uint64_t cookie) {
-    uint_least64_t before = atomic_load(&awaited_cookie);
-    do
-        if (cookie <= before) return;
-    while (!atomic_compare_exchange_weak(&awaited_cookie, &before, cookie));
-    if (!atomic_load(&is_asleep)) return;
+static inline void ask_for(struct place *place, uint64_t cookie) {
+    uint32_t wakes;
+    must("want", rcu_seat_want(&place->seat, cookie, &wakes));
+    if (!wakes) return;
     pthread_mutex_lock(&lock);
     pthread_cond_signal(&asked);
     pthread_mutex_unlock(&lock);
@@ -203,7 +196,7 @@ static inline void driver_run(struct place *place) {
         acquire_places();
         link->run(link);
     }
-    ask_for(rcu_defer_cookie(&place->seat));
+    ask_for(place, rcu_defer_cookie(&place->seat));
 }
 
 /* Runs it once each section that is open now has ended, in a later call for this place: driver_run,

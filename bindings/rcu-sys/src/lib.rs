@@ -618,6 +618,17 @@ extern "C" {
     /// The version of the library, as `RCU_VERSION` is that of its header. A program over the
     /// shared object may compare the two.
     pub fn rcu_version() -> u32;
+    /// Wishes for the grace period of a cookie: where that is greater than each that was wished for
+    /// before, `rcu_wanted` finds it from then on. Writes 1 where it is, and who drives says that
+    /// it sleeps: then the caller wakes it, by means of the program's own. Else 0. It orders
+    /// nothing else: a taking does. No wish is taken back: for a cookie that no taking returned, as
+    /// 2^64 - 1, who drives makes grace periods without end.
+    pub fn rcu_seat_want(seat: *mut rcu_seat_t, cookie: u64, wakes: *mut u32) -> u32;
+    /// Says whether who drives sleeps from now on, and then writes the greatest cookie that was
+    /// wished for: 1, which is done at any number, where none was. The next step is `rcu_drive_for`
+    /// of it; or, where `rcu_poll` says that it is done, to sleep until a thread wakes the caller,
+    /// which lets go of the lock and sleeps in one step, as a condition variable does.
+    pub fn rcu_wanted(rcu: *mut rcu_t, sleeps: bool, cookie: *mut u64) -> u32;
 }
 
 /// Ends the grace period. Writes the new number.

@@ -5,6 +5,7 @@ each thread. A program is a text, a step a line:
     name = WORD            a load, of the thread's own buffer first
     name = swap WORD V     locked: the buffer is empty before it. Gives what stood there.
     name = add WORD V      the same, which adds
+    name = max WORD V      the same, which stores V where that is greater
     name = cas WORD A B    the same, which stores B where A stands; gives 1 where it did, else 0
     fence                  the buffer is empty before it
     fence all              the buffer of each thread is empty before it, as membarrier(2) has it
@@ -57,7 +58,7 @@ class Program:
         found = re.fullmatch(r"must (\w+): (.*)", step)
         if found:
             return "must", found[1], found[2]
-        found = re.fullmatch(r"(\w+) = (swap|add|cas) ([\w.]+) (-?\w+) ?(\w*)", step)
+        found = re.fullmatch(r"(\w+) = (swap|add|max|cas) ([\w.]+) (-?\w+) ?(\w*)", step)
         if found:
             return found[2], found[1], found[3], found[4], found[5]
         found = re.fullmatch(r"([\w.]+) = ([\w.]+)", step)
@@ -179,10 +180,10 @@ class Walk:
                 yield on(buffer=(*buffer, (word(code[1]), value(code[2]))))
         elif kind == "move" and word(code[2]) is not None:
             yield on(set={code[1]: load(memory, buffer, word(code[2]))})
-        elif kind in ("swap", "add", "cas") and not buffer:
+        elif kind in ("swap", "add", "max", "cas") and not buffer:
             there = memory[word(code[2])]
             first = value(code[3])
-            after = {"swap": first, "add": there + first,
+            after = {"swap": first, "add": there + first, "max": max(there, first),
                      "cas": value(code[4]) if there == first else there}[kind]
             gives = int(there == first) if kind == "cas" else there
             yield on(set={code[1]: gives}, memory=put(memory, word(code[2]), after))

@@ -1,5 +1,5 @@
 -- The numbers that C is told.
-use Rattle.std.specs.Prelude.{ℕ, ◌==◌, if◌then◌else◌, Option, Some, None}
+use Rattle.std.specs.Prelude.{ℕ, Bool, ◌==◌, if◌then◌else◌, Option, Some, None}
 use Rattle.rcu_seq.specs.Fault.{fault_number}
 use Rattle.rcu_seq.specs.declared.cookie.Cookie.{Cookie}
 use Rattle.rcu_seq.specs.declared.fault.Fault.{Fault}
@@ -66,6 +66,10 @@ abbrev pub visit_number : Visit → ℕ
 visit_number visit.Marked = 0
 visit_number visit.Empty = 1
 visit_number visit.Already = 2
+
+-- yes or no
+abbrev pub flag_number : Bool → ℕ
+flag_number flag = if flag then 1 else 0
 
 -- how many markers and unvisited processors a barrier waits for
 abbrev pub left_of : BarrierState → ℕ

@@ -12,12 +12,14 @@ use Rattle.rcu_live.specs.View.{IsOfEngine}
 use Rattle.rcu_live.specs.declared.view.Role.TheVariants.{Cpu}
 use Rattle.rcu_live.specs.declared.view.View.{View}
 use Rattle.rcu_c.specs.Engines.{is_own}
-use Rattle.rcu_c.specs.Holding.{ReadsWordsOf, cpu_of, engine_of, grace_of, opened_of, seat_of}
+use Rattle.rcu_c.specs.Holding.{ReadsWordsOf, cpu_of, engine_of, grace_of, opened_of, seat_of, wisher_of, wishes_of}
 use Rattle.rcu_c.specs.declared.contents.Contents.{Contents}
 
--- the seat is one of the engine's: it reads the words that the engine writes, and the engine takes it
+-- the seat is one of the engine's: it reads the words that the engine writes, its wishes are those that the engine reads,
+-- and the engine takes it
 pub record BelongsTo (seat rcu : std.Option Contents) : Type 0 where
   pub words : ReadsWordsOf seat rcu
+  pub wishes : (wisher_of seat).words ≡ (wishes_of rcu).words
   pub taken : is_own (opened_of rcu) (seat_of seat) ≡ true
 
 -- the one engine is the other: it writes the same words, and has as many processors

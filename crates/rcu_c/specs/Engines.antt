@@ -5,6 +5,7 @@ use Rattle.atomic_table.specs.Seated.{TableId}
 use Rattle.rcu_seq.specs.Numbers.{Number}
 use Rattle.rcu_live.specs.Engine.{Locked}
 use Rattle.rcu_live.specs.Opening.{engine_at_first}
+use Rattle.rcu_wish.specs.Wishes.{Wishing, wishes_at_first}
 use Rattle.rcu_c.specs.Seats.{Seat, seat_at_first}
 use Rattle.rcu_c.specs.declared.identity.Identity.{Identity}
 
@@ -12,10 +13,12 @@ use Rattle.rcu_c.specs.declared.identity.Identity.{Identity}
 abbrev pub is_same : Identity → Identity → Bool
 is_same a b = (a.place == b.place) && (a.count == b.count)
 
--- the running engine, the seat of each processor, none where it is dealt, and what tells the engine from others
+-- the running engine, the seat of each processor, none where it is dealt, what it knows of wishes, and what tells the
+-- engine from others
 pub record EngineAndSeats : Type 0 where
   pub engine : Locked (Unit {0}) ℕ
   pub seats : List (Option Seat)
+  pub wishes : Wishing
   pub identity : Identity
 
 -- whether an engine takes a seat as one that it dealt: its identity is the engine's, and its processor is one of those
@@ -38,10 +41,11 @@ with_seat o s = record o { seats = slice_set o.seats s.cpu.cpu (Some s) }
 abbrev pub most_in_c : ℕ
 most_in_c = 2 ^ 62
 
--- an engine of so many processors as it is opened, with a seat for each
-abbrev pub opened_at_first : Identity → TableId → ℕ → Number → EngineAndSeats
-opened_at_first identity table cpus last = record {
+-- an engine of so many processors as it is opened, with a seat for each, with these words, and these for wishes
+abbrev pub opened_at_first : Identity → TableId → TableId → ℕ → Number → EngineAndSeats
+opened_at_first identity table wishes cpus last = record {
   engine = engine_at_first table cpus last most_in_c tt;
-  seats = map (λ cpu. Some (seat_at_first identity table cpus cpu)) (range_with_len 0 cpus);
+  seats = map (λ cpu. Some (seat_at_first identity table wishes cpus cpu)) (range_with_len 0 cpus);
+  wishes = wishes_at_first wishes;
   identity = identity;
 }

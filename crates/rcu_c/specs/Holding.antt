@@ -9,6 +9,7 @@ use Rattle.rcu_live.specs.CpuSeat.{Seated, after_renew}
 use Rattle.rcu_live.specs.Engine.{Locked}
 use Rattle.rcu_live.specs.Watcher.{Watching, after_watch}
 use Rattle.rcu_defer.specs.DeferList.{Deferring}
+use Rattle.rcu_wish.specs.Wishes.{Wishing}
 use Rattle.rcu_c.specs.Engines.{EngineAndSeats, opened_at_first}
 use Rattle.rcu_c.specs.Seats.{Seat, seat_at_first}
 use Rattle.rcu_c.specs.declared.contents.Contents.{Contents}
@@ -42,7 +43,7 @@ no_identity = record { place = 0; count = 0 }
 
 -- no engine: it has no processor, and its number is 0
 abbrev pub no_engine : EngineAndSeats
-no_engine = opened_at_first no_identity no_table 0 0
+no_engine = opened_at_first no_identity no_table no_table 0 0
 
 -- the engine of an engine's handle, and no engine of another
 abbrev pub opened_of : Option Contents → EngineAndSeats
@@ -70,7 +71,7 @@ no_cpu = 2 ^ 32 - 1
 
 -- no seat: it is of no processor, is offline, and has no section open
 abbrev pub no_seat : Seat
-no_seat = seat_at_first no_identity no_table 0 no_cpu
+no_seat = seat_at_first no_identity no_table no_table 0 no_cpu
 
 -- the seat of a seat's handle, and no seat of another
 abbrev pub seat_of : Option Contents → Seat
@@ -99,6 +100,14 @@ values_of h = (seat_of h).values
 -- the links that its thread deferred
 abbrev pub links_of : Option Contents → Links
 links_of h = (seat_of h).links
+
+-- what it knows of wishes
+abbrev pub wisher_of : Option Contents → Wishing
+wisher_of h = (seat_of h).wisher
+
+-- what an engine's handle knows of wishes
+abbrev pub wishes_of : Option Contents → Wishing
+wishes_of h = (opened_of h).wishes
 
 -- an engine's handle with its engine changed
 abbrev pub on_opened : (EngineAndSeats → EngineAndSeats) → Option Contents → Option Contents
@@ -150,3 +159,11 @@ pub record WatchedAt (h : Option Contents) (n : Number) (now : Option Contents) 
 -- the seat reads the words that this engine writes
 abbrev pub ReadsWordsOf : Option Contents → Option Contents → Type 0
 ReadsWordsOf seat rcu = (seat_of seat).words ≡ record { table = (engine_of rcu).table; cpus = (engine_of rcu).cpus }
+
+-- a seat's handle with what it knows of wishes changed
+abbrev pub on_wisher : (Wishing → Wishing) → Option Contents → Option Contents
+on_wisher change h = Some (contents.Seat (record (seat_of h) { wisher = change (wisher_of h) }))
+
+-- an engine's handle with what it knows of wishes changed
+abbrev pub on_wishes : (Wishing → Wishing) → Option Contents → Option Contents
+on_wishes change = on_opened (λ o. record o { wishes = change o.wishes })

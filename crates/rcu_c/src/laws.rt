@@ -40,12 +40,12 @@ use rcu_live::{NoClient, laws};
 /// A newly opened engine has the seat of each processor to deal. Each is one of its own: it reads
 /// the words that the engine writes, and the engine takes it.
 pub fn dealt_seats_are_of_their_engine()
-    ensures waits { (identity : Identity) (table : TableId) (cpus last cpu : ℕ) → cpu < cpus →
-        seat_at (opened_at_first identity table cpus last) cpu
-        ≡ Some (seat_at_first identity table cpus cpu) }
-    ensures own { (identity : Identity) (table : TableId) (cpus last cpu : ℕ) → cpu < cpus →
-        BelongsTo (Some (Contents.Seat (seat_at_first identity table cpus cpu)))
-        (Some (Contents.Engine (opened_at_first identity table cpus last))) }
+    ensures waits { (identity : Identity) (table wishes : TableId) (cpus last cpu : ℕ) →
+        cpu < cpus → seat_at (opened_at_first identity table wishes cpus last) cpu
+        ≡ Some (seat_at_first identity table wishes cpus cpu) }
+    ensures own { (identity : Identity) (table wishes : TableId) (cpus last cpu : ℕ) →
+        cpu < cpus → BelongsTo (Some (Contents.Seat (seat_at_first identity table wishes cpus cpu)))
+        (Some (Contents.Engine (opened_at_first identity table wishes cpus last))) }
 {}
 
 /// A seat is dealt to one at a time: one that is dealt is not there to deal. One that is handed
@@ -128,8 +128,8 @@ pub fn sections_end_before_what_waits_for_them()
 /// departure that returns 2 or 16 is one, too. Collecting from all is none where no grace period
 /// runs: it changes nothing then. An engine is new as it is opened.
 pub fn calls_are_steps_of_a_run()
-    ensures new { (identity : Identity) (table : TableId) (cpus last : ℕ) →
-        IsNew (opened_at_first identity table cpus last).engine }
+    ensures new { (identity : Identity) (table wishes : TableId) (cpus last : ℕ) →
+        IsNew (opened_at_first identity table wishes cpus last).engine }
     ensures begin { (rcu : Option Contents) (word : ℕ → ℕ) →
         engine_number rcu (number_for (grace.begin_refusal (grace_of rcu))) ≡ 0 →
         Makes (Call.Begin word) (engine_of rcu)

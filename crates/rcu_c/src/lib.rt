@@ -31,6 +31,7 @@ pub mod seat_parts;
 pub mod sections;
 pub mod small_runs;
 pub mod version;
+pub mod wishes;
 
 pub use contents::Contents;
 pub use handle::{Handle, Rcu, RcuReplica, RcuSeat};

@@ -6,6 +6,7 @@ use crate::identity::Identity;
 use crate::seat_parts::SeatParts;
 use rcu_live::Engine;
 use rcu_node::Tree;
+use rcu_wish::Wishes;
 use std::marker::Model;
 
 /// The running engine over the tree of Linux's fanouts, with numbers as callbacks.
@@ -17,6 +18,7 @@ pub struct OpenEngine {
     pub(crate) inner: TreeEngine,
     /// The seats that are not dealt yet, each at its processor's place.
     pub(crate) seats: Vec<Option<SeatParts>>,
+    pub(crate) wishes: Wishes,
     identity: Identity,
 }
 
@@ -28,22 +30,30 @@ impl Model for OpenEngine {
     ghost view = { λ o. record {
       engine = o.inner;
       seats = o.seats.items;
+      wishes = o.wishes;
       identity = o.identity;
     } };
 }
 
 impl OpenEngine {
-    /// The engine with the seats of its processors.
+    /// The engine with the seats of its processors, and its end of the wishes.
     pub(crate) fn new(
         inner: TreeEngine,
         seats: Vec<Option<SeatParts>>,
+        wishes: Wishes,
         identity: Identity,
     ) -> OpenEngine
-        ensures { result ≡ record { engine = inner; seats = seats.items; identity = identity } }
+        ensures { result ≡ record {
+          engine = inner;
+          seats = seats.items;
+          wishes = wishes;
+          identity = identity;
+        } }
     {
         OpenEngine {
             inner,
             seats,
+            wishes,
             identity,
         }
     }

@@ -11,7 +11,7 @@ ghost use Rattle.rcu_live.specs.Words.{base_of};
 ghost use Rattle.rcu_c.specs.Answers.{number_for, number_in_c, tested_number};
 ghost use Rattle.rcu_c.specs.Engines.{opened_at_first, seat_at, with_seat, without_seat};
 ghost use Rattle.rcu_c.specs.Holding.{HoldsEngine, HoldsSeat, engine_of, on_opened, opened_of};
-ghost use Rattle.rcu_c.specs.Holding.{seat_of};
+ghost use Rattle.rcu_c.specs.Holding.{seat_of, wishes_of};
 ghost use Rattle.rcu_c.specs.Refusals.{deal_refusal, engine_number, engine_refusal};
 ghost use Rattle.rcu_c.specs.Refusals.{return_refusal, seat_refusal};
 ghost use Rattle.rcu_c.specs.Seats.{seat_at_first};
@@ -27,6 +27,7 @@ use crate::refusal::Refusal;
 use crate::seat_parts::SeatParts;
 use rcu_live::{Board, CpuSeat, Parts, Watcher};
 use rcu_seq::Fault;
+use rcu_wish::Wishes;
 use std::alloc::{AllocError, Global};
 use std::sync::Arc;
 
@@ -38,6 +39,7 @@ fn make_seat(
     alloc: Global,
     identity: Identity,
     board: &Arc<Board, Global>,
+    wishes: &Wishes,
     cpu: u32,
     seat: CpuSeat,
     watcher: Watcher,
@@ -47,11 +49,12 @@ fn make_seat(
         (base_of (arc_value board.now).cpus) tt cpu }
     requires watcher { watcher ≡ watcher_at_first (arc_value board.now).table
         (base_of (arc_value board.now).cpus) tt }
-    ensures { IfOk result (λ made. made ≡
-        seat_at_first identity (arc_value board.now).table (arc_value board.now).cpus cpu) }
+    ensures { IfOk result (λ made. made ≡ seat_at_first identity (arc_value board.now).table
+        wishes.now.words (arc_value board.now).cpus cpu) }
 {
     let board = Arc::try_clone(board)?;
-    Ok(SeatParts::new(alloc, board, seat, watcher, identity))
+    let wisher = wishes.wisher()?;
+    Ok(SeatParts::new(alloc, board, seat, watcher, wisher, identity))
 }
 
 /// The seats of all processors, in order.
@@ -59,6 +62,7 @@ fn make_seats(
     alloc: Global,
     identity: Identity,
     board: &Arc<Board, Global>,
+    wishes: &Wishes,
     cpus: u32,
     seats: Vec<CpuSeat>,
     watchers: Vec<Watcher>,
@@ -70,7 +74,7 @@ fn make_seats(
         (λ _. watcher_at_first (arc_value board.now).table (base_of cpus) tt)
         (range_with_len 0 cpus) }
     ensures { IfOk result (λ made. made.items ≡ map
-        (λ cpu. Some (seat_at_first identity (arc_value board.now).table cpus cpu))
+        (λ cpu. Some (seat_at_first identity (arc_value board.now).table wishes.now.words cpus cpu))
         (range_with_len 0 cpus)) }
 {
     let mut made = Vec::new(alloc);
@@ -82,7 +86,7 @@ fn make_seats(
         let Some(watcher) = watchers.next() else {
             unreachable!()
         };
-        made.push(Some(make_seat(alloc, identity, board, cpu, seat, watcher)?))?;
+        made.push(Some(make_seat(alloc, identity, board, wishes, cpu, seat, watcher)?))?;
     }
     Ok(made)
 }
@@ -90,7 +94,7 @@ fn make_seats(
 /// The engine, with a seat for each processor.
 fn make_engine(alloc: Global, cpus: u32, last: u64, identity: Identity) -> Result<OpenEngine, Fault>
     ensures state { IfOk result (λ made.
-        made ≡ opened_at_first identity made.engine.table cpus last) }
+        made ≡ opened_at_first identity made.engine.table made.wishes.words cpus last) }
     ensures fault { tested_fault result ≡ opening_refusal 16 64 cpus last }
 {
     let Parts {
@@ -100,10 +104,13 @@ fn make_engine(alloc: Global, cpus: u32, last: u64, identity: Identity) -> Resul
         watchers,
         own: _,
     } = Parts::open(alloc, cpus, last, MOST)?;
-    let Ok(seats) = make_seats(alloc, identity, &board, cpus, seats, watchers) else {
+    let Ok(wishes) = Wishes::open(alloc) else {
         return Err(Fault::NoMemory);
     };
-    Ok(OpenEngine::new(engine, seats, identity))
+    let Ok(seats) = make_seats(alloc, identity, &board, &wishes, cpus, seats, watchers) else {
+        return Err(Fault::NoMemory);
+    };
+    Ok(OpenEngine::new(engine, seats, wishes, identity))
 }
 
 /// The engine, with a seat for each processor, in a box.
@@ -115,7 +122,8 @@ fn box_engine(
 ) -> Result<Box<Contents, Global>, Fault>
     ensures open { IfOk result (λ contents. HoldsEngine (Some contents.value)) }
     ensures state { IfOk result (λ contents. opened_of (Some contents.value)
-        ≡ opened_at_first identity (engine_of (Some contents.value)).table cpus last) }
+        ≡ opened_at_first identity (engine_of (Some contents.value)).table
+        (wishes_of (Some contents.value)).words cpus last) }
     ensures fault { tested_fault result ≡ opening_refusal 16 64 cpus last }
 {
     let made = make_engine(alloc, cpus, last, identity)?;
@@ -151,7 +159,8 @@ pub extern "C" fn rcu_open_as(
     ensures fault { tested_number result ≡ number_for (opening_refusal 16 64 cpus last) }
     ensures open { result ≡ 0 → HoldsEngine rcu.new.contents }
     ensures state { result ≡ 0 → opened_of rcu.new.contents ≡
-        opened_at_first identity (engine_of rcu.new.contents).table cpus last }
+        opened_at_first identity (engine_of rcu.new.contents).table
+        (wishes_of rcu.new.contents).words cpus last }
     ensures unchanged { result ≢ 0 → rcu.new.contents ≡ rcu.old.contents }
 {
     let contents = match box_engine(alloc, cpus, last, identity) {

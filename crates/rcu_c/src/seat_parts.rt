@@ -8,12 +8,13 @@ use crate::identity::Identity;
 use crate::links::Links;
 use rcu_defer::DeferList;
 use rcu_live::{Board, CpuSeat, Watcher};
+use rcu_wish::Wisher;
 use std::alloc::Global;
 use std::marker::Model;
 use std::sync::Arc;
 
-/// The seat of an open handle: a processor's, with a watcher, what its thread deferred, and the
-/// words that all seats share.
+/// The seat of an open handle: a processor's, with a watcher, what its thread deferred, its end of
+/// the wishes, and the words that all seats share.
 #[derive(Drop)]
 pub struct SeatParts {
     pub(crate) board: Arc<Board, Global>,
@@ -21,6 +22,7 @@ pub struct SeatParts {
     pub(crate) watcher: Watcher,
     pub(crate) values: DeferList<u64>,
     pub(crate) links: Links,
+    pub(crate) wisher: Wisher,
     pub(crate) identity: Identity,
 }
 
@@ -37,6 +39,7 @@ impl Model for SeatParts {
       watcher = s.watcher;
       values = s.values;
       links = s.links;
+      wisher = s.wisher;
       identity = s.identity;
     } };
 
@@ -56,6 +59,7 @@ impl SeatParts {
         board: Arc<Board, Global>,
         cpu: CpuSeat,
         watcher: Watcher,
+        wisher: Wisher,
         identity: Identity,
     ) -> SeatParts
         requires cpu { cpu.table ≡ (arc_value board).table }
@@ -67,6 +71,7 @@ impl SeatParts {
           watcher = watcher;
           values = list_at_first;
           links = no_links;
+          wisher = wisher;
           identity = identity;
         } }
     {
@@ -76,6 +81,7 @@ impl SeatParts {
             watcher,
             values: DeferList::new(alloc),
             links: Links::new(),
+            wisher,
             identity,
         }
     }

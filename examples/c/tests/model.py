@@ -62,16 +62,13 @@ woken:
     unlock
 """
 
-# A place asks for a cookie, ME, and then looks whether the driver's thread sleeps. (What the second
-# place does is needed: it asks for all.)
+# A place wishes for a cookie, ME, and looks whether the driver's thread sleeps where that is the
+# greatest. (What the second place does is needed: it asks for all.)
 ASKS = """
-again:
-    c = cookie                            | atomic_load(&awaited_cookie)
+    c = max cookie ME !                   | rcu_seat_want(&place->seat, cookie, &wakes)
     if c is ME goto over
     if c is 2 goto over
-    x = cas cookie c ME                   | atomic_compare_exchange_weak(&awaited_cookie, &before,
-    unless x goto again
-    s = asleep !                          | if (!atomic_load(&is_asleep)) return;
+    s = asleep !                          | if (!wakes) return;
     unless s goto over
     lock
     signal !                              | pthread_cond_signal(&asked)
@@ -82,18 +79,17 @@ over:
 MAKES = """
     lock
 again:
-    made = cookie                         | wait_for(atomic_load(&awaited_cookie))
-    if made is 2 goto over
-    asleep = 1 !                          | atomic_store(&is_asleep, true)
+    asleep = 1 !                          | must("wanted", rcu_wanted(&rcu, true, &cookie));
     fence !
-    c = cookie !                          | rcu_poll(&rcu, atomic_load(&awaited_cookie))
-    if c is made goto sleeps
-    goto awake
+    c = cookie !
+    if c is made goto sleeps              | if (rcu_poll(&rcu, cookie)) {
+    asleep = 0                            | must("wanted", rcu_wanted(&rcu, false, &cookie));
+    made = cookie                         | wait_for(cookie);
+    goto again
 sleeps:
+    if made is 2 goto over
     wait                                  | pthread_cond_wait(&asked, &lock)
     lock
-awake:
-    asleep = 0                            | atomic_store(&is_asleep, false)
     goto again
 over:
     unlock

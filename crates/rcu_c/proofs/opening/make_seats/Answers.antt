@@ -22,7 +22,7 @@ pub loop-cpu-preserved : goal.loop-cpu-preserved
 loop-cpu-preserved c = (
   one_more _ c.loop-cpu.cpu _ _ _ c.loop-cpu.invariant.0 c.in_ok-push.ensures.items
       (ap (λ s. Some s) c.in_ok-make_seat.ensures
-      ∙ ap (λ (n : ℕ). Some (seat_at_first c.args.identity (arc_value c.args.board.now).table n c.loop-cpu.cpu)) c.requires.cpus),
+      ∙ ap (λ (n : ℕ). Some (seat_at_first c.args.identity (arc_value c.args.board.now).table c.args.wishes.now.words n c.loop-cpu.cpu)) c.requires.cpus),
   others_left _ c.loop-cpu.cpu c.args.cpus _ _ _ c.loop-cpu-test.true c.loop-cpu.invariant.1 c.in-Some.ensures.items,
   others_left _ c.loop-cpu.cpu c.args.cpus _ _ _ c.loop-cpu-test.true c.loop-cpu.invariant.2 c.in-Some-next.ensures.items,
 )

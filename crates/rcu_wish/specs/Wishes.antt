@@ -1,0 +1,86 @@
+-- The ends of the wishes, and what a step leaves of one.
+use Rattle.std.specs.Prelude.{◌≡◌, ℕ, ◌≤◌, ◌==◌, nat_lt, Bool, true, false, if◌then◌else◌, List, replicate, slice_set}
+use Rattle.atomic_table.specs.Seated.{TableId}
+use Rattle.rcu_wish.specs.declared.knowledge.Knowledge.{Knowledge}
+
+-- the place of the greatest wish, and the place of the word by which the driver says whether it sleeps: 128 bytes apart
+abbrev pub greatest_index : ℕ
+greatest_index = 0
+
+abbrev pub asleep_index : ℕ
+asleep_index = 16
+
+-- that word
+abbrev pub asleep_word : Bool → ℕ
+asleep_word asleep = if asleep then 1 else 0
+
+-- the words at first: the greatest wish is the cookie 1, and the driver does not sleep
+abbrev pub first_words : List ℕ
+first_words = slice_set (replicate 17 0) 0 1
+
+-- the driver at first: nobody wished but for the cookie 1, which is done at any number
+abbrev pub driver_at_first : Knowledge
+driver_at_first = record { drives = true; raised = 1; found = 1; asleep = false; has_looked = false }
+
+-- a thread at first
+abbrev pub thread_at_first : Knowledge
+thread_at_first = record { drives = false; raised = 1; found = 1; asleep = false; has_looked = false }
+
+-- after the driver said whether it sleeps
+abbrev pub after_saying : Knowledge → ℕ → Knowledge
+after_saying v word = record v { asleep = (word == 1); has_looked = false }
+
+-- after the driver looked at the greatest wish, which was n
+abbrev pub after_finding : Knowledge → ℕ → Knowledge
+after_finding v n = record v { found = n; has_looked = true }
+
+-- what that look tells: the greatest wish never falls
+pub record Found (v : Knowledge) (n : ℕ) (w : Knowledge) : Type 0 where
+  pub state : w ≡ after_finding v n
+  pub found : v.found ≤ n
+  pub raised : v.raised ≤ n
+
+-- after a thread raised the greatest wish, which was n, to the cookie, where that is greater
+abbrev pub after_raise : Knowledge → ℕ → ℕ → Knowledge
+after_raise v cookie n =
+    if nat_lt n cookie then record v { raised = cookie; found = n; has_looked = false }
+    else record v { found = n }
+
+-- what that tells
+pub record Raised (cookie : ℕ) (v : Knowledge) (n : ℕ) (w : Knowledge) : Type 0 where
+  pub state : w ≡ after_raise v cookie n
+  pub found : v.found ≤ n
+  pub raised : v.raised ≤ n
+
+-- after a thread looked whether the driver sleeps, and found this word
+abbrev pub after_look_at_driver : Knowledge → ℕ → Knowledge
+after_look_at_driver v word = record v { asleep = (word == 1); has_looked = true }
+
+-- an end of the wishes: at which words, and what it knows
+pub record Wishing : Type 0 where
+  pub words : TableId
+  pub knows : Knowledge
+
+-- after a thread wished for the cookie, where the greatest wish was n, and the driver slept or not
+abbrev pub after_wish : Wishing → ℕ → ℕ → Bool → Wishing
+after_wish w cookie n asleep = record w {
+  knows = if nat_lt n cookie
+      then record w.knows { raised = cookie; found = n; asleep = asleep; has_looked = true }
+      else record w.knows { found = n };
+}
+
+-- after the driver said whether it sleeps, and found the greatest wish, n
+abbrev pub after_look : Wishing → Bool → ℕ → Wishing
+after_look w sleeps n = record w { knows = record w.knows { found = n; asleep = sleeps; has_looked = true } }
+
+-- the greatest wish n is at least all that the end knew of
+pub record IsNoLess (w : Wishing) (n : ℕ) : Type 0 where
+  pub found : w.knows.found ≤ n
+  pub raised : w.knows.raised ≤ n
+
+-- the ends as they are opened
+abbrev pub wishes_at_first : TableId → Wishing
+wishes_at_first words = record { words = words; knows = driver_at_first }
+
+abbrev pub wisher_at_first : TableId → Wishing
+wisher_at_first words = record { words = words; knows = thread_at_first }

@@ -1,0 +1,23 @@
+//! What the rule of wishes asks: where it holds, and where it does not.
+ghost use Rattle.std.specs.Prelude.{◌≡◌, ◌≢◌, ◌<◌, ℕ, [], false, true};
+ghost use mathlib.Core.Option.{some};
+ghost use lib.ListN.{get_elem?};
+ghost use Rattle.atomic_table.specs.Table.{opening};
+ghost use Rattle.rcu_wish.specs.Rule.{IsKept, Moment, greatest_at};
+ghost use Rattle.rcu_wish.specs.Wishes.{driver_at_first, first_words};
+ghost use Rattle.rcu_wish.specs.declared.knowledge.Knowledge.{Knowledge};
+
+/// The words as they are opened meet the rule. No moment does in which a wish was lost, nor one
+/// whose greatest wish comes from nowhere, nor one in which the driver sleeps through a wish.
+pub fn no_moment_has_lost_a_wish()
+    ensures opened { IsKept (opening first_words [] driver_at_first) }
+    ensures lost { (s : Moment) (id : ℕ) (v : Knowledge) → get_elem? s.views id ≡ some v →
+        greatest_at s < v.raised → IsKept s → ⊥ }
+    ensures from_nowhere { (s : Moment) → ((id : ℕ) (v : Knowledge) →
+        get_elem? s.views id ≡ some v → v.raised ≢ greatest_at s) → IsKept s → ⊥ }
+    ensures slept_through { (s : Moment) (i j : ℕ) (driver thread : Knowledge) →
+        get_elem? s.views i ≡ some driver → get_elem? s.views j ≡ some thread →
+        driver.drives ≡ true → driver.asleep ≡ true → driver.has_looked ≡ true →
+        thread.drives ≡ false → thread.has_looked ≡ true → driver.found < thread.raised →
+        thread.asleep ≡ false → IsKept s → ⊥ }
+{}

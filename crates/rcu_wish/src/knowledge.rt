@@ -1,0 +1,17 @@
+//! What an end of the wishes knows.
+
+/// What an end of the wishes knows: the driver's, or a thread's. It exists in proofs alone: no
+/// value of it is made.
+pub struct Knowledge {
+    /// Whether it is the driver's.
+    pub drives: bool,
+    /// The greatest cookie to which it raised the greatest wish, 1 at first.
+    pub raised: u64,
+    /// The greatest wish as it found it last, 1 at first.
+    pub found: u64,
+    /// Of the driver: whether it says that it sleeps. Of a thread: whether it found so.
+    pub asleep: bool,
+    /// Of the driver: whether it looked at the greatest wish since it said that. Of a thread:
+    /// whether it looked at the driver since it raised the greatest wish.
+    pub has_looked: bool,
+}

@@ -1,0 +1,16 @@
+//! Wishes for grace periods: a thread wishes with no lock, and who drives finds the greatest wish,
+//! or sleeps until a thread is told to wake it.
+#![tactic(auto)]
+
+pub mod definition_laws;
+pub mod knowledge;
+pub mod laws;
+mod rule;
+mod wish_words;
+pub mod wisher;
+pub mod wishes;
+
+pub use knowledge::Knowledge;
+pub use wish_words::WishWords;
+pub use wisher::Wisher;
+pub use wishes::Wishes;

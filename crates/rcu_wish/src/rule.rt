@@ -1,0 +1,62 @@
+//! The rule of the words as the table takes it, and what each kind of step on them tells.
+ghost use Rattle.std.specs.Prelude.{◌≡◌};
+
+use crate::knowledge::Knowledge;
+use atomic_table::{Play, TableRule};
+
+/// The rule.
+pub struct WishRule;
+
+impl TableRule<(), Knowledge, ()> for WishRule {
+    ghost use Rattle.rcu_wish.specs.Rule.{IsKept};
+    ghost use Rattle.rcu_wish.specs.Wishes.{driver_at_first};
+
+    ghost holds = { λ _. IsKept };
+
+    ghost first = { λ _. driver_at_first };
+}
+
+/// A raise of the greatest wish to a cookie.
+pub struct Raise;
+
+impl Play<(), Knowledge> for Raise {
+    ghost use Rattle.rcu_wish.specs.Wishes.{Raised};
+
+    ghost then = { λ step me n now. Raised step.first me.0 n now.0 × (now.1 ≡ me.1) };
+}
+
+/// A thread's look whether the driver sleeps.
+pub struct LookAtDriver;
+
+impl Play<(), Knowledge> for LookAtDriver {
+    ghost use Rattle.rcu_wish.specs.Wishes.{after_look_at_driver};
+
+    ghost then = { λ _ me n now. (now.0 ≡ after_look_at_driver me.0 n) × (now.1 ≡ me.1) };
+}
+
+/// The driver says whether it sleeps.
+pub struct Say;
+
+impl Play<(), Knowledge> for Say {
+    ghost use Rattle.rcu_wish.specs.Wishes.{after_saying};
+
+    ghost then = { λ step me _ now. (now.0 ≡ after_saying me.0 step.first) × (now.1 ≡ me.1) };
+}
+
+/// The driver's look at the greatest wish.
+pub struct Find;
+
+impl Play<(), Knowledge> for Find {
+    ghost use Rattle.rcu_wish.specs.Wishes.{Found};
+
+    ghost then = { λ _ me n now. Found me.0 n now.0 × (now.1 ≡ me.1) };
+}
+
+/// A load that makes a thread's seat.
+pub struct Arrive;
+
+impl Play<(), Knowledge> for Arrive {
+    ghost use Rattle.rcu_wish.specs.Wishes.{thread_at_first};
+
+    ghost then = { λ _ _ _ now. now.0 ≡ thread_at_first };
+}

@@ -1,0 +1,114 @@
+//! The words of wishes, and each kind of step on them in plain words.
+ghost use Rattle.std.specs.Prelude.{◌≡◌, ◌<◌, IfOk, false, true};
+ghost use Rattle.rcu_wish.specs.Wishes.{Found, Raised, after_look_at_driver, after_saying};
+ghost use Rattle.rcu_wish.specs.Wishes.{driver_at_first, first_words, thread_at_first};
+ghost use Rattle.rcu_wish.specs.Seats.{Stepped};
+
+use crate::knowledge::Knowledge;
+use crate::rule::{Arrive, Find, LookAtDriver, Raise, Say, WishRule};
+use atomic_table::{Seat, Table};
+use std::alloc::{AllocError, Global};
+use std::marker::Model;
+
+/// The place of the greatest wish.
+const GREATEST: usize = 0;
+
+/// The place of the word by which the driver says whether it sleeps: 128 bytes on, so that the two
+/// share no cache line.
+const ASLEEP: usize = 16;
+
+/// The wish at first: a cookie that is done at any number.
+const NO_WISH: u64 = 1;
+
+/// The words at first.
+fn first_words(alloc: Global) -> Result<Vec<u64>, AllocError>
+    ensures { IfOk result (λ words. words.items ≡ first_words) }
+{
+    let mut words = vec![in alloc; 0u64; ASLEEP + 1]?;
+    words[GREATEST] = NO_WISH;
+    Ok(words)
+}
+
+/// The words of wishes.
+#[derive(Drop)]
+pub struct WishWords {
+    table: Table<(), Knowledge, (), WishRule, Global>,
+}
+
+impl Model for WishWords {
+    ghost use Rattle.std.specs.Prelude.{◌<◌};
+    ghost use Rattle.atomic_table.specs.Seated.{TableId};
+    ghost use Rattle.rcu_wish.specs.Wishes.{asleep_index};
+
+    ghost Value = { TableId };
+
+    ghost view = { λ w. w.table.shared.table_id };
+
+    ghost invariant = { λ w. asleep_index < w.table.shared.table_id.words };
+}
+
+/// A seat at the words.
+pub(crate) type WishSeat = Seat<(), Knowledge>;
+
+impl WishWords {
+    /// The words with their first seat, which is the driver's.
+    pub(crate) fn open(alloc: Global) -> Result<(WishWords, WishSeat), AllocError>
+        ensures table { IfOk result (λ r. r.1.table_id ≡ r.0) }
+        ensures driver { IfOk result (λ r. r.1.me.0 ≡ driver_at_first) }
+    {
+        let words = first_words(alloc)?;
+        let Ok((table, seat)) = Table::new(alloc, words.as_slice(), Vec::new(alloc), &()) else {
+            return Err(AllocError);
+        };
+        Ok((WishWords { table }, seat))
+    }
+
+    /// A thread's seat, by a load that makes one.
+    pub(crate) fn deal(&self) -> WishSeat
+        ensures table { result.table_id ≡ self.now }
+        ensures thread { result.me.0 ≡ thread_at_first }
+    {
+        let (_, seat) = self.table.shared.load_new_seat::<Arrive>(GREATEST);
+        seat
+    }
+
+    /// Raises the greatest wish to this cookie, where that is greater. Returns what it was.
+    pub(crate) fn raise(&self, thread: &mut WishSeat, cookie: u64) -> u64
+        requires table { thread.old.table_id ≡ self.now }
+        requires thread { thread.old.me.0.drives ≡ false }
+        ensures { Stepped (λ old new. Raised cookie old result new) thread.old thread.new }
+    {
+        self.table
+            .shared
+            .fetch_max::<Raise>(thread, GREATEST, cookie)
+    }
+
+    /// A thread's look whether the driver sleeps.
+    pub(crate) fn look_at_driver(&self, thread: &mut WishSeat) -> u64
+        requires table { thread.old.table_id ≡ self.now }
+        requires thread { thread.old.me.0.drives ≡ false }
+        ensures { Stepped (λ old new. new ≡ after_look_at_driver old result)
+            thread.old thread.new }
+    {
+        self.table.shared.load::<LookAtDriver>(thread, ASLEEP)
+    }
+
+    /// The driver says whether it sleeps.
+    pub(crate) fn say(&self, driver: &mut WishSeat, word: u64)
+        requires table { driver.old.table_id ≡ self.now }
+        requires driver { driver.old.me.0.drives ≡ true }
+        requires word { word < 2 }
+        ensures { Stepped (λ old new. new ≡ after_saying old word) driver.old driver.new }
+    {
+        self.table.shared.store::<Say>(driver, ASLEEP, word)
+    }
+
+    /// The driver's look at the greatest wish.
+    pub(crate) fn find(&self, driver: &mut WishSeat) -> u64
+        requires table { driver.old.table_id ≡ self.now }
+        requires driver { driver.old.me.0.drives ≡ true }
+        ensures { Stepped (λ old new. Found old result new) driver.old driver.new }
+    {
+        self.table.shared.load::<Find>(driver, GREATEST)
+    }
+}
