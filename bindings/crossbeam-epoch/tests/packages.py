@@ -142,8 +142,8 @@ def try_all(folder, plain, threads, is_long):
     for name, needed in NEEDED.items():
         lacking = [it for it in [name, *needed.split()] if not package(it)]
         if lacking:
-            package_name = f"librust-{lacking[0].replace('_', '-')}-dev"
-            print(f"{package_name} is not here, so the tests of {name} were left out")
+            packages = " ".join(f"librust-{it.replace('_', '-')}-dev" for it in lacking)
+            print(f"the tests of {name} were left out: not here are {packages}")
         if lacking or (name in LONG and not is_long):
             continue
         crate, is_epoch = f"{folder}/theirs/{name}", name == "crossbeam-epoch"
