@@ -29,6 +29,7 @@ static void renew(void) {
     pthread_cond_init(&all.resumed, 0);
     all.making = all.pausing = false;
     all.engines = 0;
+    all.used = 0;
     atomic_store(&all.beside, 0);
     atomic_store(&self.busy, 0);
     self.thread = 0;

@@ -43,9 +43,9 @@ struct place {
 enum { LARGEST_ENGINE = 128 }; /* processors */
 struct engine {
     struct engine *next; /* the one that was opened after it */
+    struct engine *next_in_round;
     rcu_t rcu;
     uint32_t cpus, opened, taken; /* of its places */
-    bool in_round;
     uint64_t cookie; /* of the last round */
     struct place *places, *free_places;
 };
@@ -73,6 +73,7 @@ struct shared {
     pthread_mutex_t lock;
     pthread_cond_t quiet, round_over, paused, resumed;
     struct engine *engines; /* the oldest one first */
+    uint32_t used;          /* how many of them have a place taken */
     bool making, pausing;
     uint64_t begun, asked_for; /* rounds: each is a grace period of every engine in use */
     _Atomic uint64_t ended;

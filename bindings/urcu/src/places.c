@@ -52,7 +52,7 @@ static void take_free_place(const void *registered_at) {
     struct place *place = engine->free_places;
     if (place) engine->free_places = place->next;
     else place = new_place(engine);
-    engine->taken++;
+    if (!engine->taken++) all.used++;
     if (!self.thread) self.thread = (int)syscall(SYS_gettid);
     place->thread = self.thread;
     place->registered_at = registered_at;
@@ -77,7 +77,7 @@ void give_back_place(void) {
     atomic_store_explicit(&place->depth, 0, memory_order_relaxed);
     place->next = place->engine->free_places;
     place->engine->free_places = place;
-    place->engine->taken--;
+    if (!--place->engine->taken) all.used--;
     self.place = 0;
     let_go();
     got_quiet(place);

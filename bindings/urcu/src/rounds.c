@@ -67,23 +67,32 @@ static void finish(struct engine *engine) {
     }
 }
 
+/* Begins a grace period of each engine that has a thread. Returns those that wait for one. */
+static struct engine *begin_all(void) {
+    struct engine *round = 0;
+    uint32_t left = all.used;
+    for (struct engine *it = all.engines; left; it = it->next) {
+        if (!it->taken) continue;
+        left--;
+        if (!begin(it)) continue;
+        it->next_in_round = round;
+        round = it;
+    }
+    return round;
+}
+
 /* The last fence stands between what came before the round and the look at the sections beside. */
 static void make_round(void) {
-    bool waits = false;
     all.making = true;
     all.begun++;
-    for (struct engine *it = all.engines; it; it = it->next) {
-        it->in_round = it->taken && begin(it);
-        waits |= it->in_round;
-    }
-    time_round(waits);
-    if (BY_WORD && waits) fence_readers();
-    for (struct engine *it = all.engines; it; it = it->next)
-        if (it->in_round) finish(it);
+    struct engine *round = begin_all();
+    time_round(round != 0);
+    if (BY_WORD && round) fence_readers();
+    for (struct engine *it = round; it; it = it->next_in_round) finish(it);
     rcu_fence();
     while (atomic_load(&all.beside)) sched_yield();
     atomic_store_explicit(&all.ended, all.begun, memory_order_release);
-    time_end_of_round(waits);
+    time_end_of_round(round != 0);
     all.making = false;
     pthread_cond_broadcast(&all.round_over);
 }

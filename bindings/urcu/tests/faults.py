@@ -19,6 +19,9 @@ FAULTS = {
     "a round ends while one is awaited": (
         "rounds.c", "return turn.awaited != 0;", "return turn.awaited > 1;",
         "mb", "waits", False),
+    "a round passes over all engines but the oldest one": (
+        "rounds.c", "uint32_t left = all.used;", "uint32_t left = all.used != 0;",
+        "memb", "crowd", False),
     "a section of mb is none of the engine's": (
         "sections.c", "    open_seat(place);\n", "", "mb", "sections", False),
     "the wish is gone, in qsbr": (

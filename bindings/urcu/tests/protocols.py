@@ -48,7 +48,7 @@ again:
     pointer = n
     lock
     quiet = 0
-    {fence} !                             | if (BY_WORD && waits) fence_readers()
+    {fence} !                             | if (BY_WORD && round) fence_readers()
 look:
     d = depth !                     | atomic_load_explicit(&place->depth, memory_order_acquire) == 0
     if d goto looked
