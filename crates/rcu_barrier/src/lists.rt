@@ -22,8 +22,7 @@ use crate::visit::Visit;
 use crate::visits::Visits;
 use rcu_cblist::{Queued, Refused, SegList, Taken};
 use rcu_seq::cookie::snapshot;
-use rcu_seq::fault::Fault;
-use rcu_seq::tag::Tag;
+use rcu_seq::{Fault, Tag};
 use std::alloc::Global;
 use std::marker::Model;
 

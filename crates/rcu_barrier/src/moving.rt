@@ -7,7 +7,7 @@ ghost use Rattle.rcu_barrier.specs.Lists.{HasRoomAt, items_in, list_at, lists_af
 ghost use Rattle.rcu_barrier.specs.Lists.{rooms_in};
 
 use rcu_cblist::SegList;
-use rcu_seq::fault::Fault;
+use rcu_seq::Fault;
 use std::alloc::Global;
 
 /// So many empty lists.

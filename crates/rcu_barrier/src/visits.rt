@@ -3,7 +3,7 @@ ghost use Rattle.std.specs.Prelude.{◌≡◌, ◌<◌, ◌≤◌, true, false, 
 ghost use Rattle.std.specs.Prelude.{length, replicate, slice_index_or, slice_set};
 ghost use Rattle.rcu_barrier.specs.Lists.{unvisited};
 
-use rcu_seq::fault::Fault;
+use rcu_seq::Fault;
 use std::alloc::Global;
 use std::marker::Model;
 

@@ -1,6 +1,6 @@
 //! Calls that were refused.
 
-use rcu_seq::fault::Fault;
+use rcu_seq::Fault;
 
 /// A refused call, which hands back the value that it was given.
 #[derive(Debug, Drop)]

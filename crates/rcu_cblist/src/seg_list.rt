@@ -12,7 +12,7 @@ use crate::queued::Queued;
 use crate::refused::Refused;
 use crate::segments::Segments;
 use crate::taken::Taken;
-use rcu_seq::fault::Fault;
+use rcu_seq::Fault;
 use std::alloc::Global;
 use std::marker::Model;
 

@@ -2,7 +2,7 @@
 
 use crate::command::Order;
 use rcu_script::{RunFault, Setup};
-use rcu_seq::fault::Fault;
+use rcu_seq::Fault;
 use std::fmt;
 
 /// Why the run of an order stopped, as a line: a fault in its own words, with the options that were

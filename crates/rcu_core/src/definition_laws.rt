@@ -12,8 +12,8 @@ ghost use Rattle.rcu_core.specs.Runs.{takes};
 
 use crate::event::Event;
 use crate::reply::Reply;
-use rcu_barrier::visit::Visit;
-use rcu_seq::fault::Fault;
+use rcu_barrier::Visit;
+use rcu_seq::Fault;
 
 /// A cookie is taken by a taking and by the start of a poll, and by no other event.
 pub fn a_cookie_is_taken_by_two_events()

@@ -18,13 +18,12 @@ use crate::gp_state::GpState;
 use crate::reply::Reply;
 use crate::turned::Turned;
 use crate::value_list::ValueList;
-use rcu_barrier::barrier_state::BarrierState;
+use rcu_barrier::BarrierState;
 use rcu_barrier::lists::MOST_QUEUED;
-use rcu_cpu::cpu_data::CpuData;
-use rcu_node::awaited::Awaited;
-use rcu_report::report::Report;
-use rcu_seq::cookie::Cookie;
-use rcu_seq::fault::Fault;
+use rcu_cpu::CpuData;
+use rcu_node::Awaited;
+use rcu_report::Report;
+use rcu_seq::{Cookie, Fault};
 use std::alloc::{AllocError, Global};
 use std::marker::Model;
 

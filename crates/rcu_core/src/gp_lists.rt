@@ -13,13 +13,10 @@ ghost use Rattle.rcu_core.specs.GpState as grace;
 ghost use Rattle.rcu_core.specs.GpState.{lists_of};
 
 use crate::gp_state::GpState;
-use rcu_barrier::barrier_state::BarrierState;
-use rcu_barrier::lists::Lists;
-use rcu_barrier::visit::Visit;
-use rcu_cblist::queued::Queued;
-use rcu_cblist::refused::Refused;
-use rcu_node::awaited::Awaited;
-use rcu_seq::fault::Fault;
+use rcu_barrier::{BarrierState, Lists, Visit};
+use rcu_cblist::{Queued, Refused};
+use rcu_node::Awaited;
+use rcu_seq::Fault;
 
 impl<A: Awaited, T: Drop> GpState<A, T> {
     /// Queues a callback on a processor, at the number (Linux's `call_rcu`). Returns how many were

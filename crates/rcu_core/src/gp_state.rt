@@ -14,14 +14,11 @@ ghost use Rattle.rcu_core.specs.Situation.{wants_begin};
 use crate::current_answer::CurrentAnswer;
 use crate::turned::Turned;
 use rcu_barrier::lists::{Lists, MOST_QUEUED};
-use rcu_hotplug::hotplug::Hotplug;
-use rcu_node::answer::Answer;
-use rcu_node::awaited::Awaited;
-use rcu_report::report::Report;
+use rcu_hotplug::Hotplug;
+use rcu_node::{Answer, Awaited};
+use rcu_report::Report;
 use rcu_seq::cookie::{Cookie, FIRST_END};
-use rcu_seq::fault::Fault;
-use rcu_seq::seq::Seq;
-use rcu_seq::tag::Tag;
+use rcu_seq::{Fault, Seq, Tag};
 use std::alloc::Global;
 use std::marker::Model;
 

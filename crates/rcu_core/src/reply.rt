@@ -2,11 +2,10 @@
 
 use crate::cpu_list::CpuList;
 use crate::value_list::ValueList;
-use rcu_barrier::visit::Visit;
-use rcu_node::answer::Answer;
-use rcu_report::report::Report;
-use rcu_seq::cookie::Cookie;
-use rcu_seq::fault::Fault;
+use rcu_barrier::Visit;
+use rcu_node::Answer;
+use rcu_report::Report;
+use rcu_seq::{Cookie, Fault};
 
 /// The reply to an event.
 #[derive(Debug, Drop)]

@@ -1,7 +1,7 @@
 //! Values in a row.
 ghost use Rattle.std.specs.Prelude.{◌≡◌, ◌<◌, ◌==◌, length, map, slice_index};
 
-use rcu_cblist::queued::Queued;
+use rcu_cblist::Queued;
 use std::marker::Model;
 
 /// The values of callbacks that a run hands out. Contracts see the list of the values.

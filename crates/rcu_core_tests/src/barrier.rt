@@ -8,13 +8,10 @@ mod runs;
 mod tends;
 
 use crate::barrier::most::{fill, is_full};
-use rcu_barrier::barrier_state::BarrierState;
-use rcu_barrier::lists::Lists;
-use rcu_barrier::visit::Visit;
+use rcu_barrier::{BarrierState, Lists, Visit};
+use rcu_cblist::Queued;
 use rcu_cblist::laws::greatest_bounds_each;
-use rcu_cblist::queued::Queued;
-use rcu_seq::fault::Fault;
-use rcu_seq::tag::Tag;
+use rcu_seq::{Fault, Tag};
 use std::alloc::Global;
 use std::process::Abort;
 

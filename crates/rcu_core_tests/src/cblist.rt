@@ -5,11 +5,8 @@ mod plain;
 mod random;
 mod rooms;
 
-use rcu_cblist::queued::Queued;
-use rcu_cblist::seg_list::SegList;
-use rcu_cblist::taken::Taken;
-use rcu_seq::fault::Fault;
-use rcu_seq::tag::Tag;
+use rcu_cblist::{Queued, SegList, Taken};
+use rcu_seq::{Fault, Tag};
 use std::alloc::Global;
 use std::mem::swap;
 use std::process::Abort;

@@ -6,12 +6,10 @@ ghost use Rattle.rcu_core.specs.History.{awaits, is_old};
 ghost use Rattle.rcu_core.specs.Links.{onto};
 ghost use Rattle.rcu_core.specs.Runs.{history};
 
-use rcu_core::event::Event;
-use rcu_core::event_core::Core;
 use rcu_core::laws::{no_callback_runs_twice, old_readers_are_awaited};
-use rcu_core::reply::Reply;
-use rcu_node::awaited::Awaited;
-use rcu_seq::fault::Fault;
+use rcu_core::{Core, Event, Reply};
+use rcu_node::Awaited;
+use rcu_seq::Fault;
 use std::alloc::Global;
 
 /// Has a new engine take these events, and answers its replies: by them each callback was handed

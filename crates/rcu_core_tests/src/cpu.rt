@@ -1,9 +1,8 @@
 //! The nesting of read sections to its limit, and each call with each of its faults.
 use crate::made::is_done;
-use rcu_cpu::cpu_data::CpuData;
-use rcu_report::report::Report;
-use rcu_seq::fault::Fault;
-use rcu_seq::tag::Tag;
+use rcu_cpu::CpuData;
+use rcu_report::Report;
+use rcu_seq::{Fault, Tag};
 use std::process::Abort;
 
 /// A call, with what it has to answer, or a look.

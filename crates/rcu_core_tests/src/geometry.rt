@@ -1,7 +1,7 @@
 //! The shapes of some trees, with every public call.
 
-use rcu_geometry::geometry::Geometry;
-use rcu_seq::fault::Fault;
+use rcu_geometry::Geometry;
+use rcu_seq::Fault;
 use std::process::Abort;
 
 /// The shape of a tree that is to be.

@@ -1,13 +1,9 @@
 //! Each public call over each kind of awaited set.
 use crate::made::{flat, is_answer, is_done, is_said, refused, tree};
-use rcu_hotplug::hotplug::Hotplug;
-use rcu_node::answer::Answer;
-use rcu_node::awaited::Awaited;
-use rcu_node::flat::Flat;
-use rcu_node::tree::Tree;
-use rcu_report::report::Report;
-use rcu_seq::fault::Fault;
-use rcu_seq::tag::Tag;
+use rcu_hotplug::Hotplug;
+use rcu_node::{Answer, Awaited, Flat, Tree};
+use rcu_report::Report;
+use rcu_seq::{Fault, Tag};
 use std::alloc::Global;
 use std::process::Abort;
 

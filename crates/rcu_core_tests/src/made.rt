@@ -2,13 +2,9 @@
 ghost use Rattle.std.specs.Prelude.{◌≡◌, false, replicate};
 ghost use Rattle.rcu_seq.specs.Tags.{first_tag};
 
-use rcu_node::answer::Answer;
-use rcu_node::awaited::Awaited;
-use rcu_node::cpu_set::CpuSet;
-use rcu_node::flat::Flat;
-use rcu_node::tree::Tree;
-use rcu_report::report::Report;
-use rcu_seq::fault::Fault;
+use rcu_node::{Answer, Awaited, CpuSet, Flat, Tree};
+use rcu_report::Report;
+use rcu_seq::Fault;
 use std::alloc::Global;
 use std::process::Abort;
 

@@ -5,14 +5,9 @@ mod masks;
 mod merging;
 
 use crate::made::{empty_set, everyone, flat, is_answer, is_said, tree};
-use rcu_node::answer::Answer;
-use rcu_node::awaited::Awaited;
-use rcu_node::cpu_set::CpuSet;
-use rcu_node::flat::Flat;
-use rcu_node::tree::Tree;
-use rcu_report::report::Report;
-use rcu_seq::fault::Fault;
-use rcu_seq::tag::Tag;
+use rcu_node::{Answer, Awaited, CpuSet, Flat, Tree};
+use rcu_report::Report;
+use rcu_seq::{Fault, Tag};
 use std::alloc::Global;
 use std::process::Abort;
 

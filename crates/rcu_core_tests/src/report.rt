@@ -3,12 +3,9 @@
 mod replicas;
 
 use crate::made::{everyone, is_said, refused, tree};
-use rcu_node::awaited::Awaited;
-use rcu_node::tree::Tree;
-use rcu_report::batch::Batch;
-use rcu_report::report::Report;
-use rcu_seq::fault::Fault;
-use rcu_seq::tag::Tag;
+use rcu_node::{Awaited, Tree};
+use rcu_report::{Batch, Report};
+use rcu_seq::{Fault, Tag};
 use std::alloc::Global;
 use std::process::Abort;
 

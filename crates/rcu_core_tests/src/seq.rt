@@ -1,9 +1,6 @@
 //! A counter from its making to its last number, its cookies, and the numbers of faults.
 use crate::path::{Since, Turn, steps, turn_at};
-use rcu_seq::cookie::Cookie;
-use rcu_seq::fault::Fault;
-use rcu_seq::seq::Seq;
-use rcu_seq::tag::Tag;
+use rcu_seq::{Cookie, Fault, Seq, Tag};
 use std::process::Abort;
 
 /// A call on a counter, with what it has to answer, or a look.

@@ -4,9 +4,8 @@ ghost use Rattle.rcu_cpu.specs.CpuData.{IsAccepted, IsAwake, after_call, at_firs
 ghost use Rattle.rcu_cpu.specs.CpuData.{report_of};
 ghost use Rattle.rcu_cpu.specs.CpuData.{Arrive, Depart, Enter, Exit, Idle, Note, Quiesce, Wake};
 
-use rcu_report::report::Report;
-use rcu_seq::fault::Fault;
-use rcu_seq::tag::Tag;
+use rcu_report::Report;
+use rcu_seq::{Fault, Tag};
 use std::marker::Model;
 
 /// How deep read sections nest at most.

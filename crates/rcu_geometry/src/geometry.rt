@@ -13,7 +13,7 @@ ghost use Rattle.rcu_geometry.specs.Geometry.{levels as levels_of, nodes as node
 ghost use Rattle.rcu_geometry.specs.Geometry.{parent as parent_of};
 
 use arrayvec::ArrayVec;
-use rcu_seq::fault::Fault;
+use rcu_seq::Fault;
 use std::marker::Model;
 
 /// The most processors that a tree is made for.

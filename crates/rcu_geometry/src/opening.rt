@@ -4,8 +4,7 @@ ghost use Rattle.std.specs.Result.{result_err};
 ghost use Rattle.rcu_geometry.specs.Opening.{opening_refusal};
 
 use crate::geometry::Geometry;
-use rcu_seq::fault::Fault;
-use rcu_seq::seq::Seq;
+use rcu_seq::{Fault, Seq};
 
 /// Refuses a size that no engine over the tree of these fanouts has: the shape is tested first, and
 /// then the last number. It takes no memory.

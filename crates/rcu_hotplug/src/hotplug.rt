@@ -8,11 +8,8 @@ ghost use Rattle.rcu_node.specs.Reports.{report_answer};
 ghost use Rattle.rcu_hotplug.specs.Hotplug.{Arrive, Begin, Depart, Report};
 ghost use Rattle.rcu_hotplug.specs.Hotplug.{IsSound, after_call, at_first, cpus_of, refusal};
 
-use rcu_node::answer::Answer;
-use rcu_node::awaited::Awaited;
-use rcu_node::cpu_set::CpuSet;
-use rcu_seq::fault::Fault;
-use rcu_seq::tag::Tag;
+use rcu_node::{Answer, Awaited, CpuSet};
+use rcu_seq::{Fault, Tag};
 use std::alloc::Global;
 use std::marker::Model;
 

@@ -4,15 +4,15 @@ use Rattle.std.specs.Prelude.{if◌then◌else◌, slice_index}
 use Rattle.std.proofs.lemmas.Bool.{cases_lt}
 use Rattle.std.proofs.lemmas.List.{length-replicate}
 use Rattle.std.proofs.Math.ListN.{get_or-map, length-map}
-use Rattle.rcu_nodes.specs.Absence.{key_at}
-use Rattle.rcu_nodes.specs.Nodes.{aged, aged_node, aged_state, first_nodes, is_live, no_node, node_at, state_at}
-use Rattle.rcu_nodes.specs.Tended.{AreTended}
-use Rattle.rcu_nodes.specs.declared.known.Node.{Node}
-use Rattle.rcu_nodes.specs.declared.node_state.NodeState.{NodeState}
-use Rattle.rcu_nodes.specs.declared.node_state.NodeState.TheVariants.{Free, Left, Live, Retired}
-use Rattle.rcu_nodes.proofs.Counting.{live_inside}
-use Rattle.rcu_nodes.proofs.FirstNodes.{first_at, is_free, is_root}
-use Rattle.rcu_nodes.proofs.States.{live_aged}
+use Rattle.rcu_graph.specs.Absence.{key_at}
+use Rattle.rcu_graph.specs.Nodes.{aged, aged_node, aged_state, first_nodes, is_live, no_node, node_at, state_at}
+use Rattle.rcu_graph.specs.Tended.{AreTended}
+use Rattle.rcu_graph.specs.declared.known.Node.{Node}
+use Rattle.rcu_graph.specs.declared.node_state.NodeState.{NodeState}
+use Rattle.rcu_graph.specs.declared.node_state.NodeState.TheVariants.{Free, Left, Live, Retired}
+use Rattle.rcu_graph.proofs.Counting.{live_inside}
+use Rattle.rcu_graph.proofs.FirstNodes.{first_at, is_free, is_root}
+use Rattle.rcu_graph.proofs.States.{live_aged}
 use Rattle.rcu_map.specs.Chains.{AreOfOneBucket, IsMap}
 use Rattle.rcu_map.specs.Entries.{AreSameEntries, entries_in}
 use Rattle.rcu_map.specs.Keys.{GoesUp, IsWhole, bucket_in, key_in, root_words}

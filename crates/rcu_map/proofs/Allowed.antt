@@ -2,12 +2,12 @@
 use Rattle.std.proofs.Common.{◌≡◌, ℕ, suc, ◌<◌, ◌∙◌, Option, Some, None, List, sym, subst, arith, refl}
 use Rattle.rcu_live.specs.Board.{Object}
 use Rattle.rcu_live.specs.Watcher.{Watching}
-use Rattle.rcu_nodes.specs.Absence.{next_of}
-use Rattle.rcu_nodes.specs.Graph.{IsWatcherOf, word_to}
-use Rattle.rcu_nodes.specs.Nodes.{node_at, nodes_in, state_at}
-use Rattle.rcu_nodes.specs.declared.known.Known.{Known}
-use Rattle.rcu_nodes.specs.declared.known.Node.{Node}
-use Rattle.rcu_nodes.specs.declared.node_state.NodeState.TheVariants.{Live}
+use Rattle.rcu_graph.specs.Absence.{next_of}
+use Rattle.rcu_graph.specs.Graph.{IsWatcherOf, word_to}
+use Rattle.rcu_graph.specs.Nodes.{node_at, nodes_in, state_at}
+use Rattle.rcu_graph.specs.declared.known.Known.{Known}
+use Rattle.rcu_graph.specs.declared.known.Node.{Node}
+use Rattle.rcu_graph.specs.declared.node_state.NodeState.TheVariants.{Live}
 use Rattle.rcu_map.specs.Chains.{IsMap}
 use Rattle.rcu_map.specs.Keys.{GoesUp, IsWhole, key_in}
 use Rattle.rcu_map.specs.Splices.{CanPass, CanPut, IsPlace}

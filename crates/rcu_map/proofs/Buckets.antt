@@ -4,7 +4,7 @@ use Rattle.std.specs.Prelude.{All, if◌then◌else◌, slice_index}
 use Rattle.std.proofs.lemmas.Bool.Decides.{nat_tests}
 use Rattle.std.proofs.lemmas.List.{get_or-set_same}
 use Rattle.std.proofs.lemmas.List.FromFn.{length-map-range_with_len}
-use Rattle.rcu_nodes.proofs.FirstNodes.{row_first}
+use Rattle.rcu_graph.proofs.FirstNodes.{row_first}
 use Rattle.rcu_map.specs.Chains.{words_of_roots}
 use Rattle.rcu_map.specs.Keys.{IsWhole, bucket_in, bucket_of, key_in, root_words}
 use Rattle.rcu_map.proofs.Rows.{root_whole, zeros}

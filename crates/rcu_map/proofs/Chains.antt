@@ -2,12 +2,12 @@
 use Rattle.std.proofs.Common.{◌≡◌, ℕ, suc, ◌<◌, ◌≤◌, ◌↔◌, ⊎_elim, true, false, List, Option, Some, None, Result, Ok, Err, length, refl, sym, ap, ◌∙◌, subst, arith}
 use Rattle.std.specs.Prelude.{IsTrue, MatchOption, is_some, slice_index}
 use Rattle.std.proofs.lemmas.Bool.{cases_lt}
-use Rattle.rcu_nodes.specs.Absence.{key_at, next_of}
-use Rattle.rcu_nodes.specs.Nodes.{node_at, state_at}
-use Rattle.rcu_nodes.specs.declared.known.Node.{Node}
-use Rattle.rcu_nodes.specs.declared.node_state.NodeState.TheVariants.{Live}
-use Rattle.rcu_nodes.proofs.Counting.{live_inside}
-use Rattle.rcu_nodes.proofs.Tending.{led_there}
+use Rattle.rcu_graph.specs.Absence.{key_at, next_of}
+use Rattle.rcu_graph.specs.Nodes.{node_at, state_at}
+use Rattle.rcu_graph.specs.declared.known.Node.{Node}
+use Rattle.rcu_graph.specs.declared.node_state.NodeState.TheVariants.{Live}
+use Rattle.rcu_graph.proofs.Counting.{live_inside}
+use Rattle.rcu_graph.proofs.Tending.{led_there}
 use Rattle.rcu_map.specs.Chains.{AreOfOneBucket, IsMap}
 use Rattle.rcu_map.specs.Entries.{HasKey, IsEntry, IsNodeOf}
 use Rattle.rcu_map.specs.Keys.{GoesUp, IsWhole, bucket_in, bucket_of, key_in}

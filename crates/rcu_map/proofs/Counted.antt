@@ -2,11 +2,11 @@
 use Rattle.std.proofs.Common.{◌≡◌, ◌≢◌, ℕ, zero, suc, ◌+◌, ◌-◌, ◌<◌, ◌≤◌, Bool, true, false, List, [], ◌∷◌, length, drop, refl, sym, ap, ◌∙◌, arith}
 use Rattle.std.proofs.lemmas.List.{get_or-drop, length-drop}
 use Rattle.std.proofs.lemmas.List.Sums.{sum_by-cons}
-use Rattle.rcu_nodes.specs.Counts.{one_if}
-use Rattle.rcu_nodes.specs.Nodes.{is_live, no_node, state_at}
-use Rattle.rcu_nodes.specs.Trimming.{live_in}
-use Rattle.rcu_nodes.specs.declared.known.Node.{Node}
-use Rattle.rcu_nodes.proofs.Tending.{live_in-le}
+use Rattle.rcu_graph.specs.Counts.{one_if}
+use Rattle.rcu_graph.specs.Nodes.{is_live, no_node, state_at}
+use Rattle.rcu_graph.specs.Trimming.{live_in}
+use Rattle.rcu_graph.specs.declared.known.Node.{Node}
+use Rattle.rcu_graph.proofs.Tending.{live_in-le}
 use Rattle.rcu_map.specs.Entries.{entries_in}
 
 -- whether the node i is live

@@ -4,11 +4,11 @@ use Rattle.std.specs.Prelude.{nat_eq, not}
 use Rattle.std.proofs.lemmas.Bool.{cases_lt, eq-eqb, eqb-true}
 use mathlib.Core.Logic.{dite}
 use native.Mathlib.Decide.{ℕ_discrete}
-use Rattle.rcu_nodes.specs.Absence.{key_at, next_of}
-use Rattle.rcu_nodes.specs.Nodes.{node_at, state_at}
-use Rattle.rcu_nodes.specs.declared.known.Node.{Node}
-use Rattle.rcu_nodes.specs.declared.node_state.NodeState.{NodeState}
-use Rattle.rcu_nodes.specs.declared.node_state.NodeState.TheVariants.{Free, Live}
+use Rattle.rcu_graph.specs.Absence.{key_at, next_of}
+use Rattle.rcu_graph.specs.Nodes.{node_at, state_at}
+use Rattle.rcu_graph.specs.declared.known.Node.{Node}
+use Rattle.rcu_graph.specs.declared.node_state.NodeState.{NodeState}
+use Rattle.rcu_graph.specs.declared.node_state.NodeState.TheVariants.{Free, Live}
 use Rattle.rcu_map.specs.Chains.{AreOfOneBucket, IsMap, LeadsTowards}
 use Rattle.rcu_map.specs.Keys.{bucket_in, key_in, root_words}
 use Rattle.rcu_map.specs.Splices.{IsPlace}

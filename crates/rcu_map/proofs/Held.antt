@@ -3,11 +3,11 @@ use Rattle.std.proofs.Common.{◌≡◌, ◌≢◌, ℕ, suc, ◌<◌, ◌≤◌
 use Rattle.std.proofs.lemmas.Bool.{cases_lt}
 use mathlib.Core.Logic.{dite}
 use native.Mathlib.Decide.{ℕ_discrete}
-use Rattle.rcu_nodes.specs.Absence.{next_of}
-use Rattle.rcu_nodes.specs.Nodes.{node_at, state_at}
-use Rattle.rcu_nodes.specs.declared.known.Node.{Node}
-use Rattle.rcu_nodes.specs.declared.node_state.NodeState.{NodeState}
-use Rattle.rcu_nodes.specs.declared.node_state.NodeState.TheVariants.{Free, Left, Live}
+use Rattle.rcu_graph.specs.Absence.{next_of}
+use Rattle.rcu_graph.specs.Nodes.{node_at, state_at}
+use Rattle.rcu_graph.specs.declared.known.Node.{Node}
+use Rattle.rcu_graph.specs.declared.node_state.NodeState.{NodeState}
+use Rattle.rcu_graph.specs.declared.node_state.NodeState.TheVariants.{Free, Left, Live}
 use Rattle.rcu_map.specs.Chains.{IsMap}
 use Rattle.rcu_map.specs.Entries.{HasEntry}
 use Rattle.rcu_map.proofs.Chains.{reached}

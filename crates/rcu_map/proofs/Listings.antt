@@ -3,12 +3,12 @@ use Rattle.std.proofs.Common.{◌≡◌, ℕ, zero, suc, ◌+◌, ◌<◌, ◌�
 use Rattle.std.specs.Prelude.{IsSome}
 use mathlib.Core.Logic.{dite}
 use native.Mathlib.Decide.{dec_lt, ℕ_discrete}
-use Rattle.rcu_nodes.specs.Absence.{AreMadeBy, IsHistory, IsLinkedKey}
-use Rattle.rcu_nodes.specs.Search.{Decides, IsPath, IsSearched, key_after}
-use Rattle.rcu_nodes.specs.declared.known.Hop.{Hop}
-use Rattle.rcu_nodes.specs.declared.known.Known.{Known}
-use Rattle.rcu_nodes.specs.declared.known.Known.TheVariants.{Reader}
-use Rattle.rcu_nodes.specs.declared.known.Node.{Node}
+use Rattle.rcu_graph.specs.Absence.{AreMadeBy, IsHistory, IsLinkedKey}
+use Rattle.rcu_graph.specs.Search.{Decides, IsPath, IsSearched, key_after}
+use Rattle.rcu_graph.specs.declared.known.Hop.{Hop}
+use Rattle.rcu_graph.specs.declared.known.Known.{Known}
+use Rattle.rcu_graph.specs.declared.known.Known.TheVariants.{Reader}
+use Rattle.rcu_graph.specs.declared.known.Node.{Node}
 use Rattle.rcu_map.specs.Keys.{bucket_of}
 use Rattle.rcu_map.specs.Listing.{GoOn, GoesOn, IsListed, at_root, led_from}
 use Rattle.rcu_map.specs.declared.cursor.Cursor.{Cursor}

@@ -6,13 +6,13 @@ use Rattle.std.proofs.lemmas.Bool.{cases_lt}
 use Rattle.rcu_seq.specs.Numbers.{Number}
 use Rattle.rcu_live.specs.CpuSeat.{Seated}
 use Rattle.rcu_live.specs.Watcher.{Watching}
-use Rattle.rcu_nodes.specs.Keeper.{after_look}
-use Rattle.rcu_nodes.specs.Nodes.{node_at, nodes_in, state_at}
-use Rattle.rcu_nodes.specs.Tended.{AreAllUsed}
-use Rattle.rcu_nodes.specs.declared.known.Known.{Known}
-use Rattle.rcu_nodes.specs.declared.known.Node.{Node}
-use Rattle.rcu_nodes.specs.declared.node_state.NodeState.TheVariants.{Free}
-use Rattle.rcu_nodes.proofs.Counting.{live_inside, live_test, test_live}
+use Rattle.rcu_graph.specs.Keeper.{after_look}
+use Rattle.rcu_graph.specs.Nodes.{node_at, nodes_in, state_at}
+use Rattle.rcu_graph.specs.Tended.{AreAllUsed}
+use Rattle.rcu_graph.specs.declared.known.Known.{Known}
+use Rattle.rcu_graph.specs.declared.known.Node.{Node}
+use Rattle.rcu_graph.specs.declared.node_state.NodeState.TheVariants.{Free}
+use Rattle.rcu_graph.proofs.Counting.{live_inside, live_test, test_live}
 use Rattle.rcu_map.specs.Chains.{IsMap}
 use Rattle.rcu_map.specs.Entries.{AreSameEntries, HasKey, entries_in}
 use Rattle.rcu_map.specs.Keys.{key_in}

@@ -3,15 +3,15 @@ use Rattle.std.proofs.Common.{◌≡◌, ◌≢◌, ℕ, zero, suc, ◌<◌, Lis
 use Rattle.std.specs.Prelude.{All, IfSome, slice_index, slice_index_or}
 use Rattle.rcu_live.specs.Board.{Object}
 use Rattle.rcu_live.specs.Watcher.{Watching}
-use Rattle.rcu_nodes.specs.Graph.{word_to}
-use Rattle.rcu_nodes.specs.Keeper.{IsReady}
-use Rattle.rcu_nodes.specs.Nodes.{IsTarget, node_at, nodes_in, renewed, state_at}
-use Rattle.rcu_nodes.specs.Tended.{filled_with}
-use Rattle.rcu_nodes.specs.declared.known.Known.{Known}
-use Rattle.rcu_nodes.specs.declared.known.Node.{Node}
-use Rattle.rcu_nodes.specs.declared.node_state.NodeState.TheVariants.{Free, Live}
-use Rattle.rcu_nodes.proofs.Counting.{live_inside, other_node, same_node}
-use Rattle.rcu_nodes.proofs.Tending.{at_here, here_at}
+use Rattle.rcu_graph.specs.Graph.{word_to}
+use Rattle.rcu_graph.specs.Keeper.{IsReady}
+use Rattle.rcu_graph.specs.Nodes.{IsTarget, node_at, nodes_in, renewed, state_at}
+use Rattle.rcu_graph.specs.Tended.{filled_with}
+use Rattle.rcu_graph.specs.declared.known.Known.{Known}
+use Rattle.rcu_graph.specs.declared.known.Node.{Node}
+use Rattle.rcu_graph.specs.declared.node_state.NodeState.TheVariants.{Free, Live}
+use Rattle.rcu_graph.proofs.Counting.{live_inside, other_node, same_node}
+use Rattle.rcu_graph.proofs.Tending.{at_here, here_at}
 use Rattle.rcu_map.specs.Splices.{CanPut}
 use Rattle.rcu_map.proofs.Gaps.{not_free}
 

@@ -2,13 +2,13 @@
 use Rattle.std.proofs.Common.{◌≡◌, ◌≢◌, ℕ, ◌<◌, inl, inr, ⊎_elim, true, List, Option, Some, length, refl, sym, ap, ◌∙◌, subst, arith}
 use mathlib.Core.Logic.{dite}
 use native.Mathlib.Decide.{ℕ_discrete}
-use Rattle.rcu_nodes.specs.Absence.{next_of}
-use Rattle.rcu_nodes.specs.Graph.{word_to}
-use Rattle.rcu_nodes.specs.Nodes.{is_live, node_at, state_at}
-use Rattle.rcu_nodes.specs.Tended.{AreTended, AreTrimmed}
-use Rattle.rcu_nodes.specs.declared.known.Node.{Node}
-use Rattle.rcu_nodes.specs.declared.node_state.NodeState.TheVariants.{Free, Left, Live}
-use Rattle.rcu_nodes.proofs.Counting.{live_inside}
+use Rattle.rcu_graph.specs.Absence.{next_of}
+use Rattle.rcu_graph.specs.Graph.{word_to}
+use Rattle.rcu_graph.specs.Nodes.{is_live, node_at, state_at}
+use Rattle.rcu_graph.specs.Tended.{AreTended, AreTrimmed}
+use Rattle.rcu_graph.specs.declared.known.Node.{Node}
+use Rattle.rcu_graph.specs.declared.node_state.NodeState.TheVariants.{Free, Left, Live}
+use Rattle.rcu_graph.proofs.Counting.{live_inside}
 use Rattle.rcu_map.specs.Chains.{IsMap}
 use Rattle.rcu_map.specs.Entries.{HasEntry, IsNodeOf, IsReplaced, entries_in}
 use Rattle.rcu_map.specs.Keys.{GoesUp, IsWhole, bucket_in, key_in}

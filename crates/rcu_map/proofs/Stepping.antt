@@ -9,13 +9,13 @@ use native.Mathlib.Decide.{ℕ_discrete}
 use lib.ListN.{get_elem?}
 use Rattle.rcu_live.specs.Board.{Object}
 use Rattle.rcu_live.specs.CpuSeat.{Seated, after_word_step}
-use Rattle.rcu_nodes.specs.Graph.{IsWalking}
-use Rattle.rcu_nodes.specs.Nodes.{IsHeld, IsOn, hops_in}
-use Rattle.rcu_nodes.specs.Search.{key_after}
-use Rattle.rcu_nodes.specs.Steps.{Followed}
-use Rattle.rcu_nodes.specs.declared.known.Hop.{Hop}
-use Rattle.rcu_nodes.specs.declared.known.Known.{Known}
-use Rattle.rcu_nodes.proofs.Walking.{came_holds, came_to}
+use Rattle.rcu_graph.specs.Graph.{IsWalking}
+use Rattle.rcu_graph.specs.Nodes.{IsHeld, IsOn, hops_in}
+use Rattle.rcu_graph.specs.Search.{key_after}
+use Rattle.rcu_graph.specs.Steps.{Followed}
+use Rattle.rcu_graph.specs.declared.known.Hop.{Hop}
+use Rattle.rcu_graph.specs.declared.known.Known.{Known}
+use Rattle.rcu_graph.proofs.Walking.{came_holds, came_to}
 use Rattle.rcu_map.specs.Cursors.{HasListed, HasStepped, IsOnCursor, IsOnEntry, MayGoOn, latest_to, latest_words}
 use Rattle.rcu_map.specs.Keys.{GoesUp, IsWhole, bucket_in, bucket_of, key_in, root_words}
 use Rattle.rcu_map.specs.Listing.{GoOn, IsAtEnd, IsNextEntry, LedNowhere, at_root, led_from, left_from}

@@ -4,12 +4,12 @@ use Rattle.std.specs.Prelude.{slice_index}
 use Rattle.std.proofs.lemmas.List.{get_or-set_same}
 use mathlib.Core.Logic.{dite}
 use native.Mathlib.Decide.{ℕ_discrete}
-use Rattle.rcu_nodes.specs.Graph.{word_to}
-use Rattle.rcu_nodes.specs.Nodes.{in_state, linked_to, node_at, renewed}
-use Rattle.rcu_nodes.specs.Tended.{filled_with, relinked}
-use Rattle.rcu_nodes.specs.declared.known.Node.{Node}
-use Rattle.rcu_nodes.specs.declared.node_state.NodeState.TheVariants.{Live}
-use Rattle.rcu_nodes.proofs.Counting.{kept_at, other_node, same_node}
+use Rattle.rcu_graph.specs.Graph.{word_to}
+use Rattle.rcu_graph.specs.Nodes.{in_state, linked_to, node_at, renewed}
+use Rattle.rcu_graph.specs.Tended.{filled_with, relinked}
+use Rattle.rcu_graph.specs.declared.known.Node.{Node}
+use Rattle.rcu_graph.specs.declared.node_state.NodeState.TheVariants.{Live}
+use Rattle.rcu_graph.proofs.Counting.{kept_at, other_node, same_node}
 use Rattle.rcu_map.specs.Splices.{put}
 use Rattle.rcu_map.proofs.Gaps.{IsPassed, IsPut}
 

@@ -1,12 +1,12 @@
 -- A map's nodes after what no live node leads to was left: those that stay are in order, and no others are live.
 use Rattle.std.proofs.Common.{◌≡◌, ℕ, suc, ◌<◌, ◌≤◌, ◌⊎◌, inl, inr, ⊎_elim, Bool, true, false, ◌&&◌, List, length, refl, sym, ap, ◌∙◌, subst, arith}
 use Rattle.std.specs.Prelude.{slice_index}
-use Rattle.rcu_nodes.specs.Absence.{key_at, next_of}
-use Rattle.rcu_nodes.specs.Nodes.{is_live, node_at, state_at}
-use Rattle.rcu_nodes.specs.Tended.{AreHeldUp, AreTended, AreTrimmed}
-use Rattle.rcu_nodes.specs.declared.known.Node.{Node}
-use Rattle.rcu_nodes.specs.declared.node_state.NodeState.TheVariants.{Left, Live}
-use Rattle.rcu_nodes.proofs.Counting.{live_test, test_live}
+use Rattle.rcu_graph.specs.Absence.{key_at, next_of}
+use Rattle.rcu_graph.specs.Nodes.{is_live, node_at, state_at}
+use Rattle.rcu_graph.specs.Tended.{AreHeldUp, AreTended, AreTrimmed}
+use Rattle.rcu_graph.specs.declared.known.Node.{Node}
+use Rattle.rcu_graph.specs.declared.node_state.NodeState.TheVariants.{Left, Live}
+use Rattle.rcu_graph.proofs.Counting.{live_test, test_live}
 use Rattle.rcu_map.specs.Chains.{AreOfOneBucket, IsMap}
 use Rattle.rcu_map.specs.Keys.{GoesUp, IsWhole, bucket_in, key_in}
 use Rattle.rcu_map.proofs.Gaps.{AreOrdered}

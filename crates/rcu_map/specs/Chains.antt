@@ -1,11 +1,11 @@
 -- The chains of a map, as its keeper knows them.
 use Rattle.std.specs.Prelude.{◌≡◌, ◌<◌, ◌≤◌, ℕ, suc, List, length, map}
 use Rattle.std.specs.List.{range_with_len}
-use Rattle.rcu_nodes.specs.Absence.{key_at, next_of}
-use Rattle.rcu_nodes.specs.Nodes.{node_at, state_at}
-use Rattle.rcu_nodes.specs.Tended.{AreTended}
-use Rattle.rcu_nodes.specs.declared.known.Node.{Node}
-use Rattle.rcu_nodes.specs.declared.node_state.NodeState.TheVariants.{Live}
+use Rattle.rcu_graph.specs.Absence.{key_at, next_of}
+use Rattle.rcu_graph.specs.Nodes.{node_at, state_at}
+use Rattle.rcu_graph.specs.Tended.{AreTended}
+use Rattle.rcu_graph.specs.declared.known.Node.{Node}
+use Rattle.rcu_graph.specs.declared.node_state.NodeState.TheVariants.{Live}
 use Rattle.rcu_map.specs.Keys.{GoesUp, IsWhole, bucket_in, root_words}
 
 -- the words of the roots, bucket by bucket

@@ -2,10 +2,10 @@
 use Rattle.std.specs.Prelude.{◌≡◌, ℕ, suc, ◌^◌, ◌<◌, ◌≤◌, List, [], ◌∷◌, Option, IfSome, MatchOption}
 use Rattle.rcu_live.specs.Board.{Object}
 use Rattle.rcu_live.specs.CpuSeat.{Seated, after_word_step}
-use Rattle.rcu_nodes.specs.Graph.{IsWalking}
-use Rattle.rcu_nodes.specs.Nodes.{IsHeld, hops_in}
-use Rattle.rcu_nodes.specs.declared.known.Hop.{Hop}
-use Rattle.rcu_nodes.specs.declared.known.Known.{Known}
+use Rattle.rcu_graph.specs.Graph.{IsWalking}
+use Rattle.rcu_graph.specs.Nodes.{IsHeld, hops_in}
+use Rattle.rcu_graph.specs.declared.known.Hop.{Hop}
+use Rattle.rcu_graph.specs.declared.known.Known.{Known}
 use Rattle.rcu_map.specs.Keys.{IsWhole, bucket_of, key_in}
 use Rattle.rcu_map.specs.Listing.{GoesOn, IsAtEnd, IsNextEntry, cursor_after, left_from}
 use Rattle.rcu_map.specs.declared.cursor.Cursor.{Cursor}

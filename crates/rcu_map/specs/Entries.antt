@@ -1,10 +1,10 @@
 -- The entries of a map, as its nodes have them, and what a keeper's calls make of them.
 use Rattle.std.specs.Prelude.{◌≡◌, ◌≢◌, ◌⊎◌, ◌↔◌, ◌<◌, ◌≤◌, ℕ, List, drop, length}
-use Rattle.rcu_nodes.specs.Absence.{key_at}
-use Rattle.rcu_nodes.specs.Nodes.{node_at, state_at}
-use Rattle.rcu_nodes.specs.Trimming.{live_in}
-use Rattle.rcu_nodes.specs.declared.known.Node.{Node}
-use Rattle.rcu_nodes.specs.declared.node_state.NodeState.TheVariants.{Free, Left, Live}
+use Rattle.rcu_graph.specs.Absence.{key_at}
+use Rattle.rcu_graph.specs.Nodes.{node_at, state_at}
+use Rattle.rcu_graph.specs.Trimming.{live_in}
+use Rattle.rcu_graph.specs.declared.known.Node.{Node}
+use Rattle.rcu_graph.specs.declared.node_state.NodeState.TheVariants.{Free, Left, Live}
 use Rattle.rcu_map.specs.Keys.{key_in}
 
 -- the node i has an entry: it is live, and the root of no bucket

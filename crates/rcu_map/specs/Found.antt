@@ -1,8 +1,8 @@
 -- What a lookup in a map finds.
 use Rattle.std.specs.Prelude.{◌≡◌, ℕ, Bool, List, Option, is_some}
-use Rattle.rcu_nodes.specs.Nodes.{IsHeld}
-use Rattle.rcu_nodes.specs.Search.{IsSearched}
-use Rattle.rcu_nodes.specs.declared.known.Known.{Known}
+use Rattle.rcu_graph.specs.Nodes.{IsHeld}
+use Rattle.rcu_graph.specs.Search.{IsSearched}
+use Rattle.rcu_graph.specs.declared.known.Known.{Known}
 use Rattle.rcu_map.specs.Keys.{bucket_of, key_in}
 
 -- the section holds a node that has the key, whose words are an entry's and tell this one

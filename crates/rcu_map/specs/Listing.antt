@@ -2,10 +2,10 @@
 use Rattle.std.specs.Prelude.{◌≡◌, ℕ, zero, suc, ◌+◌, ◌-◌, ◌*◌, ◌^◌, ◌<◌, List, [], ◌∷◌, ◌++◌}
 use mathlib.Core.Option.{some}
 use lib.ListN.{get_elem?}
-use Rattle.rcu_nodes.specs.Nodes.{hops_in}
-use Rattle.rcu_nodes.specs.Search.{key_after}
-use Rattle.rcu_nodes.specs.declared.known.Hop.{Hop}
-use Rattle.rcu_nodes.specs.declared.known.Known.{Known}
+use Rattle.rcu_graph.specs.Nodes.{hops_in}
+use Rattle.rcu_graph.specs.Search.{key_after}
+use Rattle.rcu_graph.specs.declared.known.Hop.{Hop}
+use Rattle.rcu_graph.specs.declared.known.Known.{Known}
 use Rattle.rcu_map.specs.Keys.{bucket_of}
 use Rattle.rcu_map.specs.declared.cursor.Cursor.{Cursor}
 

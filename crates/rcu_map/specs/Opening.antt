@@ -7,11 +7,11 @@ use Rattle.rcu_live.specs.CpuSeat.{Seated}
 use Rattle.rcu_live.specs.Opening.{AreDealt, AreFanouts}
 use Rattle.rcu_live.specs.Watcher.{Watching, after_word_step, watcher_at_first}
 use Rattle.rcu_live.specs.Words.{base_of}
-use Rattle.rcu_nodes.specs.Keeper.{IsKeeperOf}
-use Rattle.rcu_nodes.specs.Nodes.{first_nodes, first_place}
-use Rattle.rcu_nodes.specs.Opening.{AreSizes}
-use Rattle.rcu_nodes.specs.declared.known.Known.{Known}
-use Rattle.rcu_nodes.specs.declared.known.Known.TheVariants.{Idle, Keeper, Owner}
+use Rattle.rcu_graph.specs.Keeper.{IsKeeperOf}
+use Rattle.rcu_graph.specs.Nodes.{first_nodes, first_place}
+use Rattle.rcu_graph.specs.Opening.{AreSizes}
+use Rattle.rcu_graph.specs.declared.known.Known.{Known}
+use Rattle.rcu_graph.specs.declared.known.Known.TheVariants.{Idle, Keeper, Owner}
 use Rattle.rcu_map.specs.Keys.{IsWhole, root_words}
 
 -- a graph may be opened with these words of the roots of all buckets

@@ -2,8 +2,8 @@
 use Rattle.std.specs.Prelude.{◌+◌, None}
 use Rattle.rcu_seq.specs.Numbers.{Number}
 use Rattle.rcu_live.specs.CpuSeat.{Seated}
-use Rattle.rcu_nodes.specs.declared.known.Known.{Known}
-use Rattle.rcu_nodes.specs.declared.known.Known.TheVariants.{Idle}
+use Rattle.rcu_graph.specs.declared.known.Known.{Known}
+use Rattle.rcu_graph.specs.declared.known.Known.TheVariants.{Idle}
 
 -- the seat of a processor whose section was opened, made some hops and was closed again: its last load saw n
 abbrev pub after_section : Seated Known → Number → Seated Known

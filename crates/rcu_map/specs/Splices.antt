@@ -3,15 +3,15 @@ use Rattle.std.specs.Prelude.{◌≡◌, ◌<◌, ℕ, suc, List, [], ◌∷◌,
 use Rattle.std.specs.List.{range_with_len}
 use Rattle.rcu_live.specs.Board.{Object}
 use Rattle.rcu_live.specs.Watcher.{Watching}
-use Rattle.rcu_nodes.specs.Absence.{key_at, next_of}
-use Rattle.rcu_nodes.specs.Graph.{IsWatcherOf, word_to}
-use Rattle.rcu_nodes.specs.Keeper.{IsKeeperOf, after_step}
-use Rattle.rcu_nodes.specs.Nodes.{IsTarget, node_at, nodes_in, renewed, state_at}
-use Rattle.rcu_nodes.specs.Steps.{IsClaimed}
-use Rattle.rcu_nodes.specs.Tended.{AreAllUsed, AreTended, AreTrimmed, filled_with, published, relinked}
-use Rattle.rcu_nodes.specs.declared.known.Known.{Known}
-use Rattle.rcu_nodes.specs.declared.known.Node.{Node}
-use Rattle.rcu_nodes.specs.declared.node_state.NodeState.TheVariants.{Free, Live}
+use Rattle.rcu_graph.specs.Absence.{key_at, next_of}
+use Rattle.rcu_graph.specs.Graph.{IsWatcherOf, word_to}
+use Rattle.rcu_graph.specs.Keeper.{IsKeeperOf, after_step}
+use Rattle.rcu_graph.specs.Nodes.{IsTarget, node_at, nodes_in, renewed, state_at}
+use Rattle.rcu_graph.specs.Steps.{IsClaimed}
+use Rattle.rcu_graph.specs.Tended.{AreAllUsed, AreTended, AreTrimmed, filled_with, published, relinked}
+use Rattle.rcu_graph.specs.declared.known.Known.{Known}
+use Rattle.rcu_graph.specs.declared.known.Node.{Node}
+use Rattle.rcu_graph.specs.declared.node_state.NodeState.TheVariants.{Free, Live}
 use Rattle.rcu_map.specs.Keys.{bucket_in, bucket_of}
 
 -- the node leads to this one, which has the key; or to none that has it: nowhere, or to one with a greater key

@@ -5,13 +5,13 @@ use Rattle.rcu_live.specs.Board.{Object}
 use Rattle.rcu_live.specs.CpuSeat.{Seated}
 use Rattle.rcu_live.specs.Waits.{AreRounds}
 use Rattle.rcu_live.specs.Watcher.{Watching}
-use Rattle.rcu_nodes.specs.Graph.{IsSeatOf, IsWatcherOf}
-use Rattle.rcu_nodes.specs.Keeper.{after_look, after_step}
-use Rattle.rcu_nodes.specs.Nodes.{nodes_in, state_at}
-use Rattle.rcu_nodes.specs.Tended.{AreAllUsed}
-use Rattle.rcu_nodes.specs.declared.known.Known.{Known}
-use Rattle.rcu_nodes.specs.declared.known.Node.{Node}
-use Rattle.rcu_nodes.specs.declared.node_state.NodeState.TheVariants.{Live}
+use Rattle.rcu_graph.specs.Graph.{IsSeatOf, IsWatcherOf}
+use Rattle.rcu_graph.specs.Keeper.{after_look, after_step}
+use Rattle.rcu_graph.specs.Nodes.{nodes_in, state_at}
+use Rattle.rcu_graph.specs.Tended.{AreAllUsed}
+use Rattle.rcu_graph.specs.declared.known.Known.{Known}
+use Rattle.rcu_graph.specs.declared.known.Node.{Node}
+use Rattle.rcu_graph.specs.declared.node_state.NodeState.TheVariants.{Live}
 use Rattle.rcu_map.specs.Entries.{AreSameEntries, IsFreeNode}
 use Rattle.rcu_map.specs.declared.not_put.NotPut.{NotPut}
 use Rattle.rcu_map.specs.declared.not_put.NotPut.TheVariants.{Fault, Full}

@@ -1,6 +1,6 @@
 //! The entries of a map, in an open section.
 ghost use Rattle.std.proofs.Props.{props};
-ghost use Rattle.rcu_nodes.specs.Nodes.{reader_once};
+ghost use Rattle.rcu_graph.specs.Nodes.{reader_once};
 ghost use Rattle.rcu_map.specs.Cursors.{MayGoOn};
 
 use crate::cursor::Cursor;

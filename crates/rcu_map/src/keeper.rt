@@ -1,10 +1,10 @@
 //! The keeper of a map: it reads the entries without a section, and looks which nodes are free.
 ghost use Rattle.std.specs.Prelude.{◌≡◌, ◌≤◌, ◌<◌, ◌^◌, ◌↔◌, IfOk, IfSome, IsSome, IsTrue};
 ghost use Rattle.std.specs.Prelude.{MatchOption};
-ghost use Rattle.rcu_nodes.specs.Graph.{IsWatcherOf};
-ghost use Rattle.rcu_nodes.specs.Keeper.{IsKeeperOf, after_look};
-ghost use Rattle.rcu_nodes.specs.Nodes.{node_at, nodes_in};
-ghost use Rattle.rcu_nodes.specs.Steps.{IsClaimed};
+ghost use Rattle.rcu_graph.specs.Graph.{IsWatcherOf};
+ghost use Rattle.rcu_graph.specs.Keeper.{IsKeeperOf, after_look};
+ghost use Rattle.rcu_graph.specs.Nodes.{node_at, nodes_in};
+ghost use Rattle.rcu_graph.specs.Steps.{IsClaimed};
 ghost use Rattle.rcu_map.specs.Chains.{IsMap, words_of_roots};
 ghost use Rattle.rcu_map.specs.Entries.{AreSameEntries, HasKey, IsEntry, IsEntryOf};
 ghost use Rattle.rcu_map.specs.Entries.{IsNodeOf, entries_in};
@@ -15,7 +15,7 @@ use crate::entry::Entry;
 use crate::links::keep;
 use crate::map::Map;
 use crate::shape::{MapShape, MapWatcher};
-use rcu_nodes::Keeper;
+use rcu_graph::Keeper;
 use std::alloc::{AllocError, Global};
 use std::marker::Model;
 
@@ -30,8 +30,8 @@ impl<E: Entry<W>, const BUCKETS: usize, const W: usize, const N: usize> Model
     for MapKeeper<E, BUCKETS, W, N> {
     ghost use Rattle.std.specs.Prelude.{◌≡◌, ◌<◌};
     ghost use Rattle.rcu_live.specs.Watcher.{Watching};
-    ghost use Rattle.rcu_nodes.specs.Nodes.{nodes_in};
-    ghost use Rattle.rcu_nodes.specs.declared.known.Known.{Known};
+    ghost use Rattle.rcu_graph.specs.Nodes.{nodes_in};
+    ghost use Rattle.rcu_graph.specs.declared.known.Known.{Known};
     ghost use Rattle.rcu_map.specs.Chains.{IsMap};
     ghost use Rattle.rcu_map.specs.Entries.{IsNodeOf, entries_in};
 

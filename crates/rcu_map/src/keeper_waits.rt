@@ -3,7 +3,7 @@ ghost use Rattle.std.specs.Prelude.{◌≡◌, ◌≢◌, ◌↔◌, ◌<◌, Er
 ghost use Rattle.std.specs.Prelude.{OnOk, false, true};
 ghost use Rattle.rcu_seq.specs.declared.fault.Fault.{Fault};
 ghost use Rattle.rcu_live.specs.Waits.{HasRested, wait_fault};
-ghost use Rattle.rcu_nodes.specs.Nodes.{nodes_in};
+ghost use Rattle.rcu_graph.specs.Nodes.{nodes_in};
 ghost use Rattle.rcu_map.specs.Entries.{HasKey, IsInserted, IsReplaced};
 ghost use Rattle.rcu_map.specs.Waits.{AreAllLive, AreOf, CanWait, HasChangedInTime, HasGivenUp};
 ghost use Rattle.rcu_map.specs.Waits.{HasStayed, HasMadeRoom, WaitedFor};

@@ -1,13 +1,13 @@
 //! What going over the entries of a map tells, over the definitions alone.
 ghost use Rattle.std.specs.Prelude.{◌≡◌, ◌<◌, ◌≤◌, ◌++◌, Bool, List, ℕ};
-ghost use Rattle.rcu_nodes.specs.Absence.{AreMadeBy, IsHistory, IsLinkedKey};
-ghost use Rattle.rcu_nodes.specs.declared.known.Hop.{Hop};
-ghost use Rattle.rcu_nodes.specs.declared.known.Node.{Node};
+ghost use Rattle.rcu_graph.specs.Absence.{AreMadeBy, IsHistory, IsLinkedKey};
+ghost use Rattle.rcu_graph.specs.declared.known.Hop.{Hop};
+ghost use Rattle.rcu_graph.specs.declared.known.Node.{Node};
 ghost use Rattle.rcu_map.specs.Keys.{bucket_of};
 ghost use Rattle.rcu_map.specs.Listing.{GoOn, IsListed, at_root};
 ghost use Rattle.rcu_map.specs.declared.cursor.Cursor.{Cursor};
 
-use rcu_nodes::laws::linked_keys_are_found;
+use rcu_graph::laws::linked_keys_are_found;
 
 /// Calls of `next` one after another go on like one: from the cursor before the first one to that
 /// after the last one, by the hops of all.

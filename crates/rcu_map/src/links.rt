@@ -3,7 +3,7 @@ ghost use Rattle.std.specs.Prelude.{IfOk, MatchResult};
 ghost use Rattle.rcu_map.specs.Splices.{CanKeep, CanPass, CanPut, HasKept, HasPassed, HasPut};
 ghost use Rattle.rcu_map.specs.Splices.{IsFull};
 
-use rcu_nodes::{Full, Graph, GraphWatcher, Keeper, Shape};
+use rcu_graph::{Full, Graph, GraphWatcher, Keeper, Shape};
 use std::alloc::{AllocError, Global};
 
 /// The keeper of a graph whose nodes are as at first.

@@ -1,7 +1,7 @@
 //! Going over the entries of a map, in an open section.
 ghost use Rattle.std.specs.Prelude.{◌≡◌, ◌<◌, List, ℕ};
-ghost use Rattle.rcu_nodes.specs.Graph.{IsWalking};
-ghost use Rattle.rcu_nodes.specs.Nodes.{IsHeld};
+ghost use Rattle.rcu_graph.specs.Graph.{IsWalking};
+ghost use Rattle.rcu_graph.specs.Nodes.{IsHeld};
 ghost use Rattle.rcu_map.specs.Cursors.{HasListed, HasStepped, IsOnEntry, MayGoOn};
 ghost use Rattle.rcu_map.specs.Keys.{IsWhole};
 ghost use Rattle.rcu_map.specs.Listing.{at_root, left_from};

@@ -1,17 +1,17 @@
 //! A map: what a section reads of it, without a lock, a wait or a store.
 ghost use Rattle.std.specs.Prelude.{◌≡◌, ◌≤◌, ◌<◌, ℕ, IfSome, List, None, false, is_some};
 ghost use Rattle.rcu_live.specs.CpuSeat.{after_word_step};
-ghost use Rattle.rcu_nodes.specs.Graph.{IsAt, IsWalking};
-ghost use Rattle.rcu_nodes.specs.Nodes.{IsOn};
-ghost use Rattle.rcu_nodes.specs.Search.{IsFound, IsSearched};
+ghost use Rattle.rcu_graph.specs.Graph.{IsAt, IsWalking};
+ghost use Rattle.rcu_graph.specs.Nodes.{IsOn};
+ghost use Rattle.rcu_graph.specs.Search.{IsFound, IsSearched};
 ghost use Rattle.rcu_map.specs.Found.{IsEntryFound, IsLookedUp};
 ghost use Rattle.rcu_map.specs.Keys.{IsWhole, bucket_of, root_words};
 
 use crate::entry::Entry;
 use crate::shape::{MapSeat, MapShape};
+use rcu_graph::Graph;
+use rcu_graph::rule::GraphRule;
 use rcu_live::Live;
-use rcu_nodes::Graph;
-use rcu_nodes::rule::GraphRule;
 use std::marker::Model;
 
 /// Entries in up to `N` less `BUCKETS` nodes beside a running engine: a chain a bucket, whose keys

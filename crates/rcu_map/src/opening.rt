@@ -6,10 +6,10 @@ ghost use Rattle.rcu_live.specs.Opening.{AreDealt, AreFanouts};
 ghost use Rattle.rcu_live.specs.Watcher.{after_word_step, watcher_at_first};
 ghost use Rattle.rcu_live.specs.Words.{base_of};
 ghost use Rattle.rcu_seq.specs.Memory.{tested_fault};
-ghost use Rattle.rcu_nodes.specs.Keeper.{IsKeeperOf};
-ghost use Rattle.rcu_nodes.specs.Nodes.{first_nodes, first_place};
-ghost use Rattle.rcu_nodes.specs.Opening.{AreSizes};
-ghost use Rattle.rcu_nodes.specs.declared.known.Known.TheVariants.{Idle, Keeper, Owner};
+ghost use Rattle.rcu_graph.specs.Keeper.{IsKeeperOf};
+ghost use Rattle.rcu_graph.specs.Nodes.{first_nodes, first_place};
+ghost use Rattle.rcu_graph.specs.Opening.{AreSizes};
+ghost use Rattle.rcu_graph.specs.declared.known.Known.TheVariants.{Idle, Keeper, Owner};
 ghost use Rattle.rcu_map.specs.Keys.{root_words};
 ghost use Rattle.rcu_map.specs.Opening.{IsOpened, MayOpen};
 
@@ -18,7 +18,7 @@ use crate::keeper::MapKeeper;
 use crate::map::Map;
 use crate::shape::{MapSeat, MapShape, MapWatcher};
 use rcu_geometry::check_size;
-use rcu_nodes::Graph;
+use rcu_graph::Graph;
 use rcu_seq::Fault;
 use std::alloc::{AllocError, Global};
 

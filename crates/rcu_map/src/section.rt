@@ -2,8 +2,8 @@
 ghost use Rattle.std.specs.Prelude.{◌≡◌, ◌≤◌, IfOk, IfSome, OnErr, OnOk};
 ghost use Rattle.std.specs.Result.{result_err};
 ghost use Rattle.rcu_live.specs.CpuSeat.{enter_refusal};
-ghost use Rattle.rcu_nodes.specs.Graph.{IsSeatOf};
-ghost use Rattle.rcu_nodes.specs.Nodes.{IsReader};
+ghost use Rattle.rcu_graph.specs.Graph.{IsSeatOf};
+ghost use Rattle.rcu_graph.specs.Nodes.{IsReader};
 ghost use Rattle.rcu_map.specs.Sections.{after_section};
 
 use crate::entry::Entry;

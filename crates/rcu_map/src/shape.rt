@@ -1,6 +1,6 @@
 //! The facts that the nodes of a map meet, and the seats of its engine.
 use crate::entry::Entry;
-use rcu_nodes::{GraphSeat, GraphWatcher, Shape};
+use rcu_graph::{GraphSeat, GraphWatcher, Shape};
 use std::marker::PhantomData;
 
 /// The facts of a map of so many buckets: a node in use is a bucket's root, or has an entry's

@@ -1,11 +1,11 @@
 //! A map's keeper behind a lock, for updates by several threads.
 ghost use Rattle.std.specs.Prelude.{◌≡◌, IfSome};
-ghost use Rattle.rcu_nodes.specs.Graph.{IsWatcherOf};
+ghost use Rattle.rcu_graph.specs.Graph.{IsWatcherOf};
 
 use crate::entry::Entry;
 use crate::keeper::MapKeeper;
 use crate::map::Map;
-use rcu_nodes::Full;
+use rcu_graph::Full;
 use std::marker::Model;
 use std::sync::{Mutex, Wait};
 

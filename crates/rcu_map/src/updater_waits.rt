@@ -2,7 +2,7 @@
 ghost use Rattle.std.specs.Prelude.{◌≡◌, ◌≤◌, ◌<◌, ◌^◌, Err, IfErr, IfOk};
 ghost use Rattle.rcu_seq.specs.declared.fault.Fault.{Fault};
 ghost use Rattle.rcu_live.specs.Waits.{HasRested, wait_fault};
-ghost use Rattle.rcu_nodes.specs.Graph.{IsSeatOf};
+ghost use Rattle.rcu_graph.specs.Graph.{IsSeatOf};
 ghost use Rattle.rcu_map.specs.declared.not_put.NotPut.{NotPut};
 
 use crate::entry::Entry;
@@ -10,7 +10,7 @@ use crate::keeper_waits::check_outside;
 use crate::not_put::NotPut;
 use crate::shape::MapSeat;
 use crate::updater::{Kept, Updater};
-use rcu_nodes::Full;
+use rcu_graph::Full;
 use rcu_seq::{Cookie, Tag};
 use std::sync::Wait;
 

@@ -1,16 +1,16 @@
 //! What a map's keeper does to its entries, by one store each.
 ghost use Rattle.std.specs.Prelude.{◌≡◌, ◌≢◌, ◌↔◌, IfOk, IsTrue, Ok, OnErr, false, true};
-ghost use Rattle.rcu_nodes.specs.Graph.{IsWatcherOf};
-ghost use Rattle.rcu_nodes.specs.Keeper.{after_step};
-ghost use Rattle.rcu_nodes.specs.Nodes.{nodes_in};
-ghost use Rattle.rcu_nodes.specs.Tended.{AreAllUsed};
+ghost use Rattle.rcu_graph.specs.Graph.{IsWatcherOf};
+ghost use Rattle.rcu_graph.specs.Keeper.{after_step};
+ghost use Rattle.rcu_graph.specs.Nodes.{nodes_in};
+ghost use Rattle.rcu_graph.specs.Tended.{AreAllUsed};
 ghost use Rattle.rcu_map.specs.Entries.{HasKey, IsInserted, IsRemoved, IsReplaced};
 
 use crate::entry::Entry;
 use crate::keeper::MapKeeper;
 use crate::links::{pass, put};
 use crate::map::Map;
-use rcu_nodes::Full;
+use rcu_graph::Full;
 
 impl<E: Entry<W>, const BUCKETS: usize, const W: usize, const N: usize> MapKeeper<
     E,

@@ -3,10 +3,10 @@ use Rattle.std.proofs.Common.{◌≡◌, ◌<◌, ℕ, zero, suc, true, List, []
 use Rattle.std.specs.Prelude.{slice_index}
 use mathlib.Core.Option.{some}
 use lib.ListN.{get_elem?}
-use Rattle.rcu_nodes.specs.Nodes.{IsTarget, is_live, node_at, state_at}
-use Rattle.rcu_nodes.specs.declared.known.Node.{Node}
-use Rattle.rcu_nodes.specs.declared.node_state.NodeState.{NodeState}
-use Rattle.rcu_nodes.specs.declared.node_state.NodeState.TheVariants.{Free, Left, Live, Retired}
+use Rattle.rcu_graph.specs.Nodes.{IsTarget, is_live, node_at, state_at}
+use Rattle.rcu_graph.specs.declared.known.Node.{Node}
+use Rattle.rcu_graph.specs.declared.node_state.NodeState.{NodeState}
+use Rattle.rcu_graph.specs.declared.node_state.NodeState.TheVariants.{Free, Left, Live, Retired}
 
 stands_there : (nodes : List Node) (j : ℕ) → j < length nodes → get_elem? nodes j ≡ some (node_at nodes j)
 stands_there [] j low = absurd (omega (arith, low))

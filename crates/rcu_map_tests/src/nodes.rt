@@ -3,17 +3,16 @@
 ghost use Rattle.std.specs.Prelude.{◌≡◌, [], ◌∷◌, All};
 ghost use Rattle.std.specs.Thread.{IsSync};
 ghost use Rattle.rcu_live.specs.CpuSeat.{IsSeatOf, after_word_step};
-ghost use Rattle.rcu_nodes.specs.Graph.{IsWalking};
-ghost use Rattle.rcu_nodes.specs.Keeper.{IsKeeperOf};
-ghost use Rattle.rcu_nodes.specs.Nodes.{first_nodes, nodes_in};
-ghost use Rattle.rcu_nodes.specs.declared.known.Known.TheVariants.{Idle};
+ghost use Rattle.rcu_graph.specs.Graph.{IsWalking};
+ghost use Rattle.rcu_graph.specs.Keeper.{IsKeeperOf};
+ghost use Rattle.rcu_graph.specs.Nodes.{first_nodes, nodes_in};
+ghost use Rattle.rcu_graph.specs.declared.known.Known.TheVariants.{Idle};
 
 mod keeper;
 mod kept;
 mod turnover;
 
-use rcu_nodes::graph::Graph;
-use rcu_nodes::rule::{GraphSeat, GraphWatcher, Shape};
+use rcu_graph::{Graph, GraphSeat, GraphWatcher, Shape};
 use std::process::Abort;
 use std::sync::Wait;
 use std::thread;

@@ -7,7 +7,7 @@ ghost use Rattle.rcu_node.specs.Reports.{report_answer, awaited_after_report};
 
 use crate::answer::Answer;
 use crate::cpu_set::CpuSet;
-use rcu_seq::tag::Tag;
+use rcu_seq::Tag;
 
 /// The processors that a grace period awaits: those of its start set, less those that reported.
 ///

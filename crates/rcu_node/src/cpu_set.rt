@@ -7,7 +7,7 @@ ghost use Rattle.std.specs.Prelude.{IfOk, IfErr, OnOk};
 ghost use Rattle.rcu_node.specs.CpuSet.{IsSetFault, is_in, size_of, union};
 ghost use Rattle.rcu_node.specs.Words.{flags_in, has_bit};
 
-use rcu_seq::fault::Fault;
+use rcu_seq::Fault;
 use std::alloc::Global;
 use std::marker::Model;
 

@@ -8,7 +8,7 @@ ghost use Rattle.rcu_node.specs.Words.{has_bit};
 
 use crate::cpu_set::CpuSet;
 use crate::node::{Node, group_mask, now_mask, put_now, put_start, set as set_bits};
-use rcu_geometry::geometry::Geometry;
+use rcu_geometry::Geometry;
 
 /// The masks become those of a set.
 pub fn fill<const LEAF: u32, const FAN: u32>(

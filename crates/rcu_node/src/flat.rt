@@ -8,8 +8,7 @@ use crate::awaited::Awaited;
 use crate::cpu_set::CpuSet;
 use crate::sets::Sets;
 use crate::tagged::Tagged;
-use rcu_seq::fault::Fault;
-use rcu_seq::tag::Tag;
+use rcu_seq::{Fault, Tag};
 use std::alloc::Global;
 
 /// The awaited processors as one set, and the start set beside it. A report costs one step.

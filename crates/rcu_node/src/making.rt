@@ -5,7 +5,7 @@ ghost use Rattle.rcu_node.specs.Masks.{AreGroups, group_masks, group_of, now_mas
 ghost use Rattle.rcu_node.specs.Masks.{start_masks};
 
 use crate::node::{Node, put_group};
-use rcu_geometry::geometry::Geometry;
+use rcu_geometry::Geometry;
 use std::alloc::{AllocError, Global};
 
 /// Nodes with no bit but each one's in its parent.

@@ -5,7 +5,7 @@ ghost use Rattle.rcu_node.specs.CpuSet.{intersection, is_in};
 ghost use Rattle.rcu_node.specs.Merging.{are_alike, after_merge, same_set, standing};
 
 use crate::awaited::Awaited;
-use rcu_seq::fault::Fault;
+use rcu_seq::Fault;
 
 /// Takes in what another replica of the same grace period has heard: it awaits then whom both
 /// await, and tag and start set stay. Neither has to be of the other's kind or fanouts, nor has a

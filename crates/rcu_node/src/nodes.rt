@@ -13,8 +13,8 @@ use crate::making::new_nodes;
 use crate::node::{Node, group_mask, now_mask, start_mask};
 use crate::sets::Sets;
 use crate::walk::walk;
-use rcu_geometry::geometry::Geometry;
-use rcu_seq::fault::Fault;
+use rcu_geometry::Geometry;
+use rcu_seq::Fault;
 use std::alloc::Global;
 
 /// The nodes of a tree in the geometry's order, and how many processors are awaited.

@@ -4,7 +4,7 @@ use crate::answer::Answer;
 use crate::awaited::Awaited;
 use crate::cpu_set::CpuSet;
 use crate::sets::Sets;
-use rcu_seq::tag::Tag;
+use rcu_seq::Tag;
 
 /// The sets of the latest grace period, and its tag.
 #[derive(Drop)]

@@ -9,8 +9,7 @@ ghost use Rattle.rcu_node.specs.Masks.{IsMaskOf, group_of};
 use crate::awaited::Awaited;
 use crate::nodes::Nodes;
 use crate::tagged::Tagged;
-use rcu_seq::fault::Fault;
-use rcu_seq::tag::Tag;
+use rcu_seq::{Fault, Tag};
 use std::alloc::Global;
 
 /// The awaited processors in a tree of up to `LEAF` processors a leaf and `FAN` children an inner

@@ -8,7 +8,7 @@ ghost use Rattle.rcu_node.specs.Masks.{group_masks, members, now_masks, start_ma
 ghost use Rattle.rcu_node.specs.Steps.{AreLinkedBut};
 
 use crate::node::{Node, clear, group_mask, now_mask};
-use rcu_geometry::geometry::Geometry;
+use rcu_geometry::Geometry;
 
 /// Clears an awaited processor in its leaf, and walks up from there as long as masks get empty.
 pub fn walk<const LEAF: u32, const FAN: u32>(

@@ -7,11 +7,8 @@ ghost use Rattle.rcu_node.specs.Reports.{awaited_after_report};
 ghost use Rattle.rcu_report.specs.Batch.{difference, awaited_after_batch};
 
 use crate::report::Report;
-use rcu_node::answer::Answer;
-use rcu_node::awaited::Awaited;
-use rcu_node::cpu_set::CpuSet;
-use rcu_seq::fault::Fault;
-use rcu_seq::tag::Tag;
+use rcu_node::{Answer, Awaited, CpuSet};
+use rcu_seq::{Fault, Tag};
 use std::alloc::Global;
 use std::marker::Model;
 

@@ -8,13 +8,9 @@ ghost use Rattle.rcu_report.specs.Replica.{Begin, Depart, End, Merge, Report};
 ghost use Rattle.rcu_report.specs.Replica.{IsSound, answer_of, at_first, cpus_of, after_call};
 ghost use Rattle.rcu_report.specs.Replica.{refusal};
 
-use rcu_node::answer::Answer;
-use rcu_node::awaited::Awaited;
-use rcu_node::cpu_set::CpuSet;
 use rcu_node::merging::merge;
-use rcu_seq::fault::Fault;
-use rcu_seq::seq::Seq;
-use rcu_seq::tag::Tag;
+use rcu_node::{Answer, Awaited, CpuSet};
+use rcu_seq::{Fault, Seq, Tag};
 use std::marker::Model;
 
 /// An awaited set with a counter: one of two or more replicas of one grace-period engine, which

@@ -4,8 +4,7 @@ ghost use Rattle.rcu_text.specs.Outputs.{Puts};
 ghost use Rattle.rcu_text.specs.Texts.{space_and_number};
 ghost use Rattle.rcu_script.specs.ScriptTexts.{listed_text};
 
-use rcu_core::cpu_list::CpuList;
-use rcu_core::value_list::ValueList;
+use rcu_core::{CpuList, ValueList};
 use rcu_text::{Failed, Output, put_line, put_spaced};
 
 /// Numbers that stand behind the word of a reply.

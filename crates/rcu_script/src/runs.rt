@@ -2,7 +2,7 @@
 ghost use Rattle.std.specs.Prelude.{◌≡◌};
 ghost use Rattle.rcu_script.specs.RunEnds.{fault_of};
 
-use rcu_seq::fault::Fault;
+use rcu_seq::Fault;
 use rcu_text::StreamFault;
 use thiserror::Error;
 

@@ -1,5 +1,5 @@
 use rcu_script::RunFault;
-use rcu_seq::fault::Fault;
+use rcu_seq::Fault;
 use std::alloc::Global;
 use std::process::Abort;
 

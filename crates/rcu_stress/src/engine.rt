@@ -6,10 +6,10 @@ ghost use Rattle.rcu_live.specs.EngineLists.{AreDue, is_run_fault};
 ghost use Rattle.rcu_core.specs.declared.turned.Turned.{Turned};
 ghost use Rattle.rcu_live.specs.declared.collection.Collected.{Collected};
 
-use rcu_cblist::refused::Refused;
-use rcu_core::turned::Turned;
+use rcu_cblist::Refused;
+use rcu_core::Turned;
 use rcu_live::{Collected, CpuSeat, Live, NoClient, Ran, Shared};
-use rcu_seq::fault::Fault;
+use rcu_seq::Fault;
 use std::sync::Wait;
 
 /// The engine of a run: a callback carries its id.

@@ -9,7 +9,7 @@ use crate::job::{Job, Plan};
 use crate::ledger::Ledger;
 use crate::share::Share;
 use crate::workers::{Gathered, deal_jobs, run_all};
-use rcu_seq::fault::Fault;
+use rcu_seq::Fault;
 use std::alloc::Global;
 use std::sync::Wait;
 use std::thread::Threads;

@@ -11,7 +11,7 @@ use crate::gate::Gate;
 use crate::job::{End, Job, Plan};
 use crate::share::Share;
 use rcu_live::{CpuSeat, Watcher};
-use rcu_seq::fault::Fault;
+use rcu_seq::Fault;
 use std::alloc::{AllocError, Global};
 use std::sync::Wait;
 use std::thread;

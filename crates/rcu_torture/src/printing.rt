@@ -5,9 +5,9 @@ ghost use Rattle.rcu_text.specs.Streams.{Writes};
 ghost use Rattle.rcu_torture.specs.LedgerText.{ledger_text};
 ghost use Rattle.rcu_torture.specs.Orders.{fault_line};
 
-use rcu_core::reply::Reply;
+use rcu_core::Reply;
 use rcu_script::script::print::put_reply;
-use rcu_seq::fault::Fault;
+use rcu_seq::Fault;
 use rcu_stress::Ledger;
 use rcu_text::{BlockWriter, Failed, Output, Sink, put_numbered};
 

@@ -2,9 +2,8 @@
 ghost use Rattle.std.specs.Prelude.{◌≤◌, ◌^◌};
 
 use super::{Step, make_each, queue_again};
-use rcu_barrier::lists::Lists;
-use rcu_seq::fault::Fault;
-use rcu_seq::tag::Tag;
+use rcu_barrier::Lists;
+use rcu_seq::{Fault, Tag};
 use std::alloc::Global;
 use std::process::Abort;
 

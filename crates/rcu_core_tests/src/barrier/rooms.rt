@@ -1,7 +1,7 @@
 //! What room the lists of two processors keep, and how one gives room back.
 
 use super::{Step, lists, make_each};
-use rcu_barrier::lists::Lists;
+use rcu_barrier::Lists;
 use std::process::Abort;
 
 /// How many callbacks a list has once it is long.

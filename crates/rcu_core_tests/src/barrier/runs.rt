@@ -3,10 +3,9 @@
 
 use super::{lists_of, take, tended, visit_once};
 use crate::draw::Draw;
-use rcu_barrier::barrier_state::BarrierState;
-use rcu_barrier::lists::Lists;
-use rcu_cblist::queued::Queued;
-use rcu_seq::tag::Tag;
+use rcu_barrier::{BarrierState, Lists};
+use rcu_cblist::Queued;
+use rcu_seq::Tag;
 use std::process::Abort;
 
 /// How many processors the lists are of.

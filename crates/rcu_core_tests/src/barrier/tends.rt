@@ -1,8 +1,8 @@
 //! Tends at the numbers of epochs, beside a plain list with the number of each callback.
 use super::{lists, queue, take, tend};
 use crate::draw::Draw;
-use rcu_barrier::lists::Lists;
-use rcu_cblist::queued::Queued;
+use rcu_barrier::Lists;
+use rcu_cblist::Queued;
 use std::process::Abort;
 
 /// How many calls are drawn.

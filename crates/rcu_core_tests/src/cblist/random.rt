@@ -3,9 +3,8 @@
 use crate::cblist::plain::{Item, Mark, Plain, ROOM};
 use crate::cblist::{Asked, accelerate, ask};
 use crate::draw::Draw;
-use rcu_cblist::queued::Queued;
-use rcu_cblist::seg_list::SegList;
-use rcu_seq::tag::Tag;
+use rcu_cblist::{Queued, SegList};
+use rcu_seq::Tag;
 use std::mem::swap;
 use std::process::Abort;
 

@@ -1,7 +1,7 @@
 //! What room a list keeps, and how it gives room back.
 
 use super::{Step, call, make, queue};
-use rcu_cblist::seg_list::SegList;
+use rcu_cblist::SegList;
 use std::alloc::Global;
 use std::process::Abort;
 

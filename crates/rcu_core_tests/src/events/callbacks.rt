@@ -1,7 +1,7 @@
 //! Callbacks and barriers over events, each row taken one event at a time and as a list.
 
 use crate::events::machine::both;
-use rcu_core::event::Event;
+use rcu_core::Event;
 
 /// The events of [`one_callbacks_life`].
 static LIFE: [Event; 11] = [

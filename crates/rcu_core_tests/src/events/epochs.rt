@@ -1,11 +1,9 @@
 //! Events across renumberings: cookies, callbacks, memory, and each two places of a path.
 use crate::events::machine::{both, core, run, step, takes, told_all};
 use crate::path::{Since, Turn, steps, turn_at};
-use rcu_core::event::Event;
-use rcu_core::event_core::Core;
-use rcu_core::reply::Reply;
-use rcu_node::flat::Flat;
-use rcu_seq::cookie::Cookie;
+use rcu_core::{Core, Event, Reply};
+use rcu_node::Flat;
+use rcu_seq::Cookie;
 use std::alloc::Global;
 use std::process::Abort;
 

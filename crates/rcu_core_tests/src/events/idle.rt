@@ -1,6 +1,6 @@
 //! Events of idle processors: what a scan does, what ends the idleness, and each fault.
 use crate::events::machine::{both, core, run, takes, told_all};
-use rcu_core::event::Event;
+use rcu_core::Event;
 
 /// The events of [`a_sleeper_is_not_waited_for`].
 static SLEEPER: [Event; 12] = [

@@ -1,9 +1,8 @@
 //! A list of processors and a list of values, read.
 
-use rcu_cblist::queued::Queued;
-use rcu_core::cpu_list::CpuList;
-use rcu_core::value_list::ValueList;
-use rcu_seq::tag::Tag;
+use rcu_cblist::Queued;
+use rcu_core::{CpuList, ValueList};
+use rcu_seq::Tag;
 use std::alloc::Global;
 use std::process::Abort;
 

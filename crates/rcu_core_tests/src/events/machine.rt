@@ -1,11 +1,8 @@
 //! Machines of two processors, and events taken one at a time or as a list.
 use crate::made::{flat, refused};
-use rcu_core::event::Event;
-use rcu_core::event_core::Core;
-use rcu_core::reply::Reply;
-use rcu_node::flat::Flat;
-use rcu_seq::cookie::Cookie;
-use rcu_seq::fault::Fault;
+use rcu_core::{Core, Event, Reply};
+use rcu_node::Flat;
+use rcu_seq::{Cookie, Fault};
 use std::alloc::Global;
 use std::process::Abort;
 

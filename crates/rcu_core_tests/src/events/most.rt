@@ -3,9 +3,8 @@ ghost use Rattle.std.specs.Prelude.{◌≤◌, ◌^◌};
 
 use super::machine::takes;
 use crate::made::{flat, refused};
-use rcu_core::event::Event;
-use rcu_core::event_core::Core;
-use rcu_node::flat::Flat;
+use rcu_core::{Core, Event};
+use rcu_node::Flat;
 use std::alloc::Global;
 use std::process::Abort;
 

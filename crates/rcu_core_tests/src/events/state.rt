@@ -4,16 +4,10 @@
 mod rooms;
 
 use crate::made::{flat, refused};
-use rcu_barrier::barrier_state::BarrierState;
-use rcu_barrier::visit::Visit;
-use rcu_core::gp_state::GpState;
-use rcu_core::turned::Turned;
-use rcu_node::answer::Answer;
-use rcu_node::awaited::Awaited;
-use rcu_node::flat::Flat;
-use rcu_seq::cookie::Cookie;
-use rcu_seq::fault::Fault;
-use rcu_seq::tag::Tag;
+use rcu_barrier::{BarrierState, Visit};
+use rcu_core::{GpState, Turned};
+use rcu_node::{Answer, Awaited, Flat};
+use rcu_seq::{Cookie, Fault, Tag};
 use std::alloc::Global;
 use std::process::Abort;
 

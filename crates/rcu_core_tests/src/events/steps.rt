@@ -1,9 +1,8 @@
 //! The machine over events: one after another, and all of a list.
 use crate::events::machine::{core, core_of, lacks_memory, run, takes, told_all};
 use crate::made::flat;
-use rcu_core::event::Event;
-use rcu_core::event_core::Core;
-use rcu_seq::fault::Fault;
+use rcu_core::{Core, Event};
+use rcu_seq::Fault;
 use std::alloc::Global;
 use std::process::Abort;
 

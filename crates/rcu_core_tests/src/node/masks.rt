@@ -4,14 +4,10 @@ ghost use Rattle.std.specs.Prelude.{◌<◌};
 use super::{begin, insert, report};
 use crate::draw::Draw;
 use crate::made::{empty_set, flat, is_answer, tree};
-use rcu_geometry::geometry::Geometry;
-use rcu_node::answer::Answer;
-use rcu_node::awaited::Awaited;
-use rcu_node::cpu_set::CpuSet;
-use rcu_node::flat::Flat;
-use rcu_node::tree::Tree;
-use rcu_report::report::Report;
-use rcu_seq::tag::Tag;
+use rcu_geometry::Geometry;
+use rcu_node::{Answer, Awaited, CpuSet, Flat, Tree};
+use rcu_report::Report;
+use rcu_seq::Tag;
 use std::alloc::Global;
 use std::process::Abort;
 

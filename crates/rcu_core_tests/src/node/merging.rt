@@ -1,12 +1,9 @@
 //! Merging of flat sets and trees, of each kind into each other kind.
 use super::{awaits, begin, begin_at, insert, report};
 use crate::made::{empty_set, everyone, flat, tree};
-use rcu_node::answer::Answer;
-use rcu_node::awaited::Awaited;
-use rcu_node::cpu_set::CpuSet;
 use rcu_node::merging::merge;
-use rcu_seq::fault::Fault;
-use rcu_seq::tag::Tag;
+use rcu_node::{Answer, Awaited, CpuSet};
+use rcu_seq::{Fault, Tag};
 use std::alloc::Global;
 use std::process::Abort;
 

@@ -4,11 +4,10 @@ ghost use Rattle.std.specs.Prelude.{◌≡◌};
 
 use crate::live::steps::{Script, of_epoch};
 use crate::live::threads::{Pair, last_seat, last_watcher, make_pair, opened};
-use rcu_barrier::barrier_state::BarrierState;
-use rcu_barrier::visit::Visit;
-use rcu_core::turned::Turned;
+use rcu_barrier::{BarrierState, Visit};
+use rcu_core::Turned;
 use rcu_live::{Collected, CpuSeat, Watcher};
-use rcu_seq::fault::Fault;
+use rcu_seq::Fault;
 use std::alloc::Global;
 use std::process::Abort;
 use std::sync::Wait;

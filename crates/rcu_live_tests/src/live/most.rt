@@ -4,7 +4,7 @@ ghost use Rattle.std.specs.Prelude.{◌≡◌};
 use crate::live::steps::{Four, Script};
 use crate::live::threads::last_seat;
 use rcu_live::CpuSeat;
-use rcu_seq::fault::Fault;
+use rcu_seq::Fault;
 use std::alloc::Global;
 use std::process::Abort;
 use std::sync::Wait;

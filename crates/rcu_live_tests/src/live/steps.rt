@@ -1,15 +1,12 @@
 //! Scripts of calls of an object, each compared with the answer that is wanted.
 ghost use Rattle.std.specs.Prelude.{◌≡◌};
 
-use rcu_barrier::barrier_state::BarrierState;
-use rcu_barrier::visit::Visit;
-use rcu_cblist::queued::Queued;
-use rcu_core::turned::Turned;
+use rcu_barrier::{BarrierState, Visit};
+use rcu_cblist::Queued;
+use rcu_core::Turned;
 use rcu_live::{Collected, CpuSeat, Engine, Live, Met, Ran, Watcher};
 use rcu_node::Tree;
-use rcu_seq::cookie::Cookie;
-use rcu_seq::fault::Fault;
-use rcu_seq::tag::Tag;
+use rcu_seq::{Cookie, Fault, Tag};
 use std::cell::Cell;
 use std::fmt::Debug;
 use std::process::Abort;

@@ -3,8 +3,7 @@ ghost use Rattle.std.specs.Prelude.{◌≡◌, ◌+◌, ◌<◌, All, length};
 
 use crate::live::steps::{Four, Script, of_epoch};
 use rcu_live::{CpuSeat, Live, Watcher};
-use rcu_seq::cookie::Cookie;
-use rcu_seq::fault::Fault;
+use rcu_seq::{Cookie, Fault};
 use std::alloc::Global;
 use std::process::Abort;
 use std::sync::Wait;

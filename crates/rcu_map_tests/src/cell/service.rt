@@ -8,7 +8,7 @@ ghost use Rattle.rcu_live.specs.Watcher.{IsWatcherOf};
 use crate::cell::limits::Limits;
 use crate::cell::parts::{drive, next_online, next_seat};
 use rcu_cell::{Cell, CellSeat, Keeper, Value};
-use rcu_seq::fault::Fault;
+use rcu_seq::Fault;
 use std::process::Abort;
 use std::sync::Wait;
 use std::thread;

@@ -1,7 +1,7 @@
 //! The sizes of a cell.
 use crate::cell::Any;
 use rcu_cell::Cell;
-use rcu_seq::fault::Fault;
+use rcu_seq::Fault;
 use std::alloc::Global;
 
 /// Opens a cell of so many processors. Answers for how many it deals seats, by a second call where

@@ -5,7 +5,7 @@ ghost use Rattle.rcu_cell.specs.Cell.{IsSeatOf, IsWatcherOf};
 use crate::cell::limits::Limits;
 use crate::cell::{Any, Pairs};
 use rcu_cell::{Cell, CellSeat, Keeper, Retired, Value};
-use rcu_seq::fault::Fault;
+use rcu_seq::Fault;
 use std::process::Abort;
 use std::sync::Wait;
 use std::thread;

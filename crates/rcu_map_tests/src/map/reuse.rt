@@ -1,7 +1,7 @@
 //! A map's nodes are used again and again: many more removals than there are nodes.
 ghost use Rattle.std.specs.Prelude.{◌<◌};
 ghost use Rattle.rcu_live.specs.CpuSeat.{IsSeatOf};
-ghost use Rattle.rcu_nodes.specs.Graph.{IsWatcherOf};
+ghost use Rattle.rcu_graph.specs.Graph.{IsWatcherOf};
 
 use crate::map::route::Route;
 use rcu_map::{Map, MapKeeper, MapSeat};

@@ -1,8 +1,7 @@
 //! A route, as an entry of a map.
 ghost use Rattle.std.specs.Prelude.{◌<◌, IfSome};
 
-use rcu_cell::rule::Invariant;
-use rcu_cell::value::Value;
+use rcu_cell::{Invariant, Value};
 use rcu_map::Entry;
 
 /// The port by which packets to a network go on. A network's number is 1 or more.

@@ -5,14 +5,14 @@ mod caller;
 ghost use Rattle.std.specs.Prelude.{◌≡◌};
 ghost use Rattle.rcu_live.specs.CpuSeat.{IsSeatOf, after_word_step};
 ghost use Rattle.rcu_map.specs.Listed.{after_hops, known_in, listing};
-ghost use Rattle.rcu_nodes.specs.Graph.{IsWalking, IsWatcherOf};
-ghost use Rattle.rcu_nodes.specs.declared.known.Known.TheVariants.{Idle};
+ghost use Rattle.rcu_graph.specs.Graph.{IsWalking, IsWatcherOf};
+ghost use Rattle.rcu_graph.specs.declared.known.Known.TheVariants.{Idle};
 
 use crate::map::route::Route;
 use crate::map::script::caller::{Caller, Kept, Shared};
+use rcu_graph::Full;
 use rcu_map::{Entries, Map, MapSeat, MapWatcher, Updater};
-use rcu_nodes::Full;
-use rcu_seq::cookie::Cookie;
+use rcu_seq::Cookie;
 use std::process::Abort;
 use std::sync::Wait;
 

@@ -7,8 +7,8 @@ mod reader;
 ghost use Rattle.std.specs.Prelude.{◌≡◌, All};
 ghost use Rattle.std.specs.Thread.{IsSync};
 ghost use Rattle.rcu_live.specs.CpuSeat.{IsSeatOf};
-ghost use Rattle.rcu_nodes.specs.Graph.{IsWatcherOf};
-ghost use Rattle.rcu_nodes.specs.declared.known.Known.TheVariants.{Idle};
+ghost use Rattle.rcu_graph.specs.Graph.{IsWatcherOf};
+ghost use Rattle.rcu_graph.specs.declared.known.Known.TheVariants.{Idle};
 
 use crate::map::route::Route;
 use crate::map::threads::admin::Admin;

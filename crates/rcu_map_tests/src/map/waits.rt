@@ -2,11 +2,11 @@
 mod threads;
 
 ghost use Rattle.std.specs.Prelude.{◌<◌};
-ghost use Rattle.rcu_nodes.specs.Graph.{IsSeatOf, IsWatcherOf};
+ghost use Rattle.rcu_graph.specs.Graph.{IsSeatOf, IsWatcherOf};
 
 use crate::map::route::Route;
 use rcu_map::{Map, MapKeeper, MapSeat, NotPut};
-use rcu_seq::fault::Fault;
+use rcu_seq::Fault;
 use std::alloc::Global;
 use std::process::Abort;
 use std::sync::Wait;

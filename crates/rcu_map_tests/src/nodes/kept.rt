@@ -1,15 +1,13 @@
 //! A chain with its keeper: what a call asks for is tested first, by what the keeper knows.
 ghost use Rattle.std.specs.Prelude.{◌≡◌, ◌<◌, [], ◌∷◌, ℕ, IfOk, IfSome, IsTrue, slice_index};
 ghost use Rattle.rcu_live.specs.Watcher.{IsWatcherOf};
-ghost use Rattle.rcu_nodes.specs.Graph.{word_to};
-ghost use Rattle.rcu_nodes.specs.Keeper.{IsKeeperOf, IsReady};
-ghost use Rattle.rcu_nodes.specs.Nodes.{IsTarget, node_at, nodes_in, state_at};
-ghost use Rattle.rcu_nodes.specs.Steps.{IsClaimed};
+ghost use Rattle.rcu_graph.specs.Graph.{word_to};
+ghost use Rattle.rcu_graph.specs.Keeper.{IsKeeperOf, IsReady};
+ghost use Rattle.rcu_graph.specs.Nodes.{IsTarget, node_at, nodes_in, state_at};
+ghost use Rattle.rcu_graph.specs.Steps.{IsClaimed};
 
 use crate::nodes::Sorted;
-use rcu_nodes::graph::Graph;
-use rcu_nodes::keeper::{Full, Keeper};
-use rcu_nodes::rule::{GraphSeat, GraphWatcher};
+use rcu_graph::{Full, Graph, GraphSeat, GraphWatcher, Keeper};
 use std::alloc::{AllocError, Global};
 
 /// A root, and three nodes with a key and a value.

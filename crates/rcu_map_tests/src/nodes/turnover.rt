@@ -4,11 +4,11 @@
 ghost use Rattle.std.specs.Prelude.{◌≡◌, All};
 ghost use Rattle.std.specs.Thread.{IsSync};
 ghost use Rattle.rcu_live.specs.CpuSeat.{IsSeatOf, after_word_step};
-ghost use Rattle.rcu_nodes.specs.Graph.{IsWalking};
-ghost use Rattle.rcu_nodes.specs.declared.known.Known.TheVariants.{Idle};
+ghost use Rattle.rcu_graph.specs.Graph.{IsWalking};
+ghost use Rattle.rcu_graph.specs.declared.known.Known.TheVariants.{Idle};
 
 use crate::nodes::kept::{Chain, Kept, Seat};
-use rcu_seq::cookie::Cookie;
+use rcu_seq::Cookie;
 use std::process::Abort;
 use std::sync::Wait;
 use std::thread;

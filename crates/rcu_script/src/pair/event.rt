@@ -2,7 +2,7 @@
 ghost use Rattle.std.specs.Prelude.{◌≡◌, ◌<◌, ◌++◌, ◌∷◌, [], length};
 
 use arrayvec::ArrayVec;
-use rcu_node::answer::Answer;
+use rcu_node::Answer;
 use std::marker::Model;
 
 /// How many processors are kept at most: a line has no more bytes, and each processor takes one.

@@ -12,11 +12,10 @@ use crate::pair::parse::parse_line;
 use crate::pair::print::{put_compared, put_pair_reply};
 use crate::pair::step::step;
 use crate::script::print::put_reply;
-use rcu_core::reply::Reply;
-use rcu_node::awaited::Awaited;
-use rcu_node::cpu_set::CpuSet;
-use rcu_report::replica::Replica;
-use rcu_seq::fault::Fault;
+use rcu_core::Reply;
+use rcu_node::{Awaited, CpuSet};
+use rcu_report::Replica;
+use rcu_seq::Fault;
 use rcu_text::{Failed, Line, Output, Responder};
 use std::marker::Model;
 

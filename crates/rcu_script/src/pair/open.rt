@@ -9,12 +9,10 @@ ghost use Rattle.rcu_script.specs.PairState.{pair_at};
 ghost use Rattle.rcu_script.specs.RunEnds.{IsRefusedBy};
 
 use crate::pair::machine::PairMachine;
-use rcu_geometry::geometry::Geometry;
-use rcu_node::cpu_set::CpuSet;
-use rcu_node::tree::Tree;
-use rcu_report::replica::Replica;
-use rcu_seq::fault::Fault;
-use rcu_seq::seq::Seq;
+use rcu_geometry::Geometry;
+use rcu_node::{CpuSet, Tree};
+use rcu_report::Replica;
+use rcu_seq::{Fault, Seq};
 use std::alloc::Global;
 
 /// Two fresh replicas over the trees of two fanouts each. It costs at most a step a processor.

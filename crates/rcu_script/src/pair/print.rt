@@ -7,8 +7,8 @@ ghost use Rattle.rcu_script.specs.PairTexts.{compared_text, members_of, pair_tex
 use crate::listed::{Listed, put_listed};
 use crate::pair::event::PairReply;
 use crate::script::print::put_reply;
-use rcu_core::reply::Reply;
-use rcu_node::awaited::Awaited;
+use rcu_core::Reply;
+use rcu_node::Awaited;
 use rcu_text::{Failed, Output, put_line, put_numbered, put_spaced};
 
 /// Prints a reply of a replica as a line. The awaited processors are read off its awaited set, a

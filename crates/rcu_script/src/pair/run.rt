@@ -9,7 +9,7 @@ ghost use Rattle.rcu_script.specs.RunEnds.{RunsFromOpening};
 use crate::offered::over_offered_tree;
 use crate::pair::open::open_pair;
 use crate::runs::{RunFault, Setup, stopped};
-use rcu_seq::fault::Fault;
+use rcu_seq::Fault;
 use rcu_text::{Sink, Source, run};
 use std::alloc::Global;
 

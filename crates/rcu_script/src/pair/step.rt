@@ -8,10 +8,9 @@ ghost use Rattle.rcu_script.specs.PairState.{after_event, event_refusal, event_r
 ghost use Rattle.rcu_script.specs.PairState.{pair_begin_refusal, set_of};
 
 use crate::pair::event::{PairEvent, PairReply};
-use rcu_node::awaited::Awaited;
-use rcu_node::cpu_set::CpuSet;
-use rcu_report::replica::Replica;
-use rcu_seq::fault::Fault;
+use rcu_node::{Awaited, CpuSet};
+use rcu_report::Replica;
+use rcu_seq::Fault;
 
 /// Does what a line asks of a replica that stands beside another one. A begin lists its processors
 /// in the set, which is one of as many processors, so that no event takes memory. It costs a step a

@@ -14,12 +14,11 @@ ghost use Rattle.rcu_script.specs.ScriptRuns.{AnswersInTurn, IsPrintedRun};
 ghost use Rattle.rcu_script.specs.ScriptLines.{asked_by};
 ghost use Rattle.rcu_script.specs.ScriptTexts.{text_of};
 
-use rcu_core::event::Event;
 use rcu_core::laws::{
     barrier_covers_earlier_callbacks, no_callback_runs_early, no_callback_runs_twice,
     readers_finish_before_done,
 };
-use rcu_core::reply::Reply;
+use rcu_core::{Event, Reply};
 use rcu_text::Line;
 use rcu_text::laws::{lines_are_pieces, lines_read_whole_come_first};
 

@@ -5,10 +5,10 @@ ghost use Rattle.rcu_geometry.specs.Opening.{opening_refusal};
 ghost use Rattle.rcu_script.specs.Opening.{opened_size};
 ghost use Rattle.rcu_script.specs.RunEnds.{IsRefusedBy};
 
-use rcu_core::event_core::Core;
-use rcu_geometry::opening::check_size;
-use rcu_node::tree::Tree;
-use rcu_seq::fault::Fault;
+use rcu_core::Core;
+use rcu_geometry::check_size;
+use rcu_node::Tree;
+use rcu_seq::Fault;
 use std::alloc::Global;
 
 /// A core over the tree of two fanouts, in the situation of the empty history. It costs a step a

@@ -6,7 +6,7 @@ ghost use Rattle.rcu_script.specs.ScriptLines.{asked_by, cpu_of, event_alone, ev
 ghost use Rattle.rcu_script.specs.ScriptLines.{event_with_cpu, event_with_number};
 ghost use Rattle.rcu_script.specs.ScriptLines.{event_with_numbers};
 
-use rcu_core::event::Event;
+use rcu_core::Event;
 use rcu_text::line_shape::LONGEST;
 use rcu_text::{Line, next_word, number};
 

@@ -6,11 +6,11 @@ ghost use Rattle.rcu_script.specs.ScriptTexts.{made_text, noted_text, polled_tex
 ghost use Rattle.rcu_script.specs.ScriptTexts.{visited_text};
 
 use crate::listed::put_listed;
-use rcu_barrier::visit::Visit;
-use rcu_core::reply::Reply;
-use rcu_node::answer::Answer;
-use rcu_report::report::Report;
-use rcu_seq::cookie::Cookie;
+use rcu_barrier::Visit;
+use rcu_core::Reply;
+use rcu_node::Answer;
+use rcu_report::Report;
+use rcu_seq::Cookie;
 use rcu_text::printing::{LONGEST_REPLY, push_numbered};
 use rcu_text::{Failed, Output, put_counts, put_line, put_numbered};
 

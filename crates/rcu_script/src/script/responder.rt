@@ -6,10 +6,9 @@ ghost use Rattle.rcu_script.specs.ScriptAnswers.{Answers};
 
 use crate::script::parse::parse_line;
 use crate::script::print::put_reply;
-use rcu_core::event_core::Core;
-use rcu_core::reply::Reply;
-use rcu_node::awaited::Awaited;
-use rcu_seq::fault::Fault;
+use rcu_core::{Core, Reply};
+use rcu_node::Awaited;
+use rcu_seq::Fault;
 use rcu_text::{Failed, Line, Output, Responder};
 
 /// Replies to the lines of a script: a line asks the core for an event, and its reply is printed.

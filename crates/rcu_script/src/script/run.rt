@@ -10,7 +10,7 @@ use crate::offered::over_offered_tree;
 use crate::runs::{RunFault, Setup, stopped};
 use crate::script::open::open;
 use crate::script::responder::ScriptResponder;
-use rcu_seq::fault::Fault;
+use rcu_seq::Fault;
 use rcu_text::{Sink, Source, run};
 use std::alloc::Global;
 

@@ -1,6 +1,6 @@
 //! What the lines of a script ask for.
 
-use rcu_core::event::Event;
+use rcu_core::Event;
 use rcu_script::script::parse::parse_line;
 use rcu_text::Line;
 use std::process::Abort;

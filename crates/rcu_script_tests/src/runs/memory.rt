@@ -3,7 +3,7 @@
 use crate::runs::pair::rows::pair_rows;
 use crate::runs::row::{ALL, End, FAR, Row, Run, Streams};
 use arrayvec::{ArrayVec, CapacityError};
-use rcu_seq::fault::Fault;
+use rcu_seq::Fault;
 use std::alloc::Global;
 use std::io::Print;
 use std::process::Abort;

@@ -4,7 +4,7 @@ use crate::runs::memory::wants_memory;
 use crate::runs::streams::{Narrow, ROOM, Slow};
 use arrayvec::ArrayVec;
 use rcu_script::{RunFault, Setup, run_pair, run_script};
-use rcu_seq::fault::Fault;
+use rcu_seq::Fault;
 use std::alloc::Global;
 use std::cell::Cell;
 use std::fmt::Debug;

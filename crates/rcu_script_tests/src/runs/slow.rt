@@ -3,7 +3,7 @@
 use crate::runs::pair::model::{Asked, PairModel, bit};
 use crate::runs::script::model::Model;
 use arrayvec::ArrayVec;
-use rcu_core::event::Event;
+use rcu_core::Event;
 use rcu_script::pair::event::Side;
 use std::alloc::AllocError;
 

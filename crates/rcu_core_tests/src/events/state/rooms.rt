@@ -1,7 +1,7 @@
 //! What room the lists of a state keep, and how one gives room back.
 use super::{State, queue, run, state, tend, turns};
-use rcu_core::turned::Turned;
-use rcu_node::answer::Answer;
+use rcu_core::Turned;
+use rcu_node::Answer;
 use std::process::Abort;
 
 /// How many callbacks are queued.

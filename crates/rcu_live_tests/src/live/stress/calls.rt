@@ -5,9 +5,9 @@ ghost use Rattle.std.specs.Prelude.{◌≡◌};
 use crate::live::steps::Four;
 use crate::live::stress::scene::Scene;
 use crate::live::stress::stop::{Stop, hold_to};
-use rcu_barrier::barrier_state::BarrierState;
+use rcu_barrier::BarrierState;
 use rcu_live::CpuSeat;
-use rcu_seq::fault::Fault;
+use rcu_seq::Fault;
 use std::alloc::Global;
 use std::sync::{Mutex, Wait};
 

@@ -5,7 +5,7 @@ use crate::live::stress::parts::Place;
 use crate::live::stress::scene::Section;
 use crate::live::stress::stop::{Stop, compare, hold_to};
 use rcu_live::Watcher;
-use rcu_seq::fault::Fault;
+use rcu_seq::Fault;
 use std::sync::Wait;
 
 /// How long a section is held at least, in rounds of the driver, and the most that is added.

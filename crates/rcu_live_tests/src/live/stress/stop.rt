@@ -1,6 +1,6 @@
 //! Why a thread of a hard run ends before its time.
 
-use rcu_seq::fault::Fault;
+use rcu_seq::Fault;
 
 /// What no right engine does, or why a run has no verdict.
 #[derive(Clone, Copy, Debug, PartialEq, Eq)]

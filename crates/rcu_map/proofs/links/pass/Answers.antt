@@ -1,6 +1,6 @@
 use Rattle.std.proofs.Common.{ℕ, arith, subst, sym}
-use Rattle.rcu_nodes.specs.Nodes.{IsTarget, node_at, nodes_in}
-use Rattle.rcu_nodes.proofs.Counting.{live_inside}
+use Rattle.rcu_graph.specs.Nodes.{IsTarget, node_at, nodes_in}
+use Rattle.rcu_graph.proofs.Counting.{live_inside}
 use Rattle.rcu_map.proofs.links.pass.Goals as goal
 
 pub link_of-next-requires : goal.link_of-next-requires

@@ -1,10 +1,10 @@
 use Rattle.std.proofs.Common.{◌≡◌, ◌∙◌, ap, arith, subst, sym}
 use Rattle.rcu_live.specs.Watcher.{Watching}
-use Rattle.rcu_nodes.specs.Keeper.{IsReady, after_step}
-use Rattle.rcu_nodes.specs.Nodes.{node_at, nodes_in, state_at}
-use Rattle.rcu_nodes.specs.Tended.{AreTrimmed, published}
-use Rattle.rcu_nodes.specs.declared.known.Known.{Known}
-use Rattle.rcu_nodes.specs.declared.node_state.NodeState.TheVariants.{Live}
+use Rattle.rcu_graph.specs.Keeper.{IsReady, after_step}
+use Rattle.rcu_graph.specs.Nodes.{node_at, nodes_in, state_at}
+use Rattle.rcu_graph.specs.Tended.{AreTrimmed, published}
+use Rattle.rcu_graph.specs.declared.known.Known.{Known}
+use Rattle.rcu_graph.specs.declared.node_state.NodeState.TheVariants.{Live}
 use Rattle.rcu_map.proofs.Puts.{is_ready, joins_it, next_inside, one_inside, previous_inside, still_live}
 use Rattle.rcu_map.proofs.links.put.Goals as goal
 

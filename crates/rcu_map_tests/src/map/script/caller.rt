@@ -1,11 +1,11 @@
 //! Who makes the calls of a script: a map's keeper, or the same behind a lock.
 ghost use Rattle.std.specs.Prelude.{◌<◌};
-ghost use Rattle.rcu_nodes.specs.Graph.{IsWatcherOf};
+ghost use Rattle.rcu_graph.specs.Graph.{IsWatcherOf};
 
 use crate::map::route::Route;
 use crate::map::script::Routes;
+use rcu_graph::Full;
 use rcu_map::{MapKeeper, Updater};
-use rcu_nodes::Full;
 use std::sync::Wait;
 
 /// Who changes a map, and knows what it has.

@@ -6,7 +6,7 @@ use crate::map::threads::history::{History, NETWORKS, is_kept, route_after};
 use crate::map::threads::{Control, Routes, Seat, Watcher};
 use rand_core::{Rng, SeedableRng};
 use rand_pcg::Pcg32;
-use rcu_nodes::Full;
+use rcu_graph::Full;
 use std::process::Abort;
 use std::sync::Wait;
 

@@ -2,8 +2,8 @@
 ghost use Rattle.std.specs.Prelude.{◌≡◌};
 ghost use Rattle.rcu_live.specs.CpuSeat.{IsSeatOf, after_word_step};
 ghost use Rattle.rcu_map.specs.Listed.{after_hops, known_in, listing};
-ghost use Rattle.rcu_nodes.specs.Graph.{IsWalking};
-ghost use Rattle.rcu_nodes.specs.declared.known.Known.TheVariants.{Idle};
+ghost use Rattle.rcu_graph.specs.Graph.{IsWalking};
+ghost use Rattle.rcu_graph.specs.declared.known.Known.TheVariants.{Idle};
 
 use crate::map::route::Route;
 use crate::map::threads::history::{History, NETWORKS, Seen};

@@ -1,7 +1,7 @@
 //! Entries that wait for a free node, beside a slow reader, and beside another thread that updates.
 ghost use Rattle.std.specs.Prelude.{◌≡◌, ◌<◌};
-ghost use Rattle.rcu_nodes.specs.Graph.{IsSeatOf, IsWatcherOf};
-ghost use Rattle.rcu_nodes.specs.declared.known.Known.TheVariants.{Idle};
+ghost use Rattle.rcu_graph.specs.Graph.{IsSeatOf, IsWatcherOf};
+ghost use Rattle.rcu_graph.specs.declared.known.Known.TheVariants.{Idle};
 
 use crate::map::route::Route;
 use rcu_map::{Map, MapKeeper, MapSeat, Updater};

@@ -1,7 +1,7 @@
 //! Worked rows of two replicas: lines with the replies that the rules give, worked out by hand.
 
 use crate::runs::row::{ALL, End, FAR, OFFERED, Row, Streams};
-use rcu_seq::fault::Fault;
+use rcu_seq::Fault;
 use std::alloc::Global;
 use std::process::Abort;
 

@@ -5,7 +5,7 @@ use crate::runs::script::model_lists::{
     gathered, waits_for, write_list_reply, write_number, write_values,
 };
 use arrayvec::ArrayVec;
-use rcu_core::event::Event;
+use rcu_core::Event;
 use std::alloc::AllocError;
 
 /// How many processors a model has at most.

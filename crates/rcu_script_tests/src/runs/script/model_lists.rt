@@ -2,7 +2,7 @@
 
 use crate::runs::script::model::{count, number, snapshot};
 use arrayvec::ArrayVec;
-use rcu_core::event::Event;
+use rcu_core::Event;
 use std::alloc::AllocError;
 
 /// How many items all lists have at most.

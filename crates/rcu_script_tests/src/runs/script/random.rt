@@ -6,7 +6,7 @@ use crate::runs::script::model::{
 };
 use rand_core::{Rng, SeedableRng};
 use rand_pcg::Pcg32;
-use rcu_core::event::Event;
+use rcu_core::Event;
 use std::alloc::{AllocError, Global};
 use std::process::Abort;
 

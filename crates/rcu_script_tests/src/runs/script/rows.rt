@@ -2,7 +2,7 @@
 
 use crate::runs::row::{ALL, End, FAR, Row, Streams};
 use rcu_script::{Setup, run_script};
-use rcu_seq::fault::Fault;
+use rcu_seq::Fault;
 use rcu_text::Marked;
 use std::alloc::{AllocError, Global};
 use std::process::Abort;

@@ -1,9 +1,9 @@
 use Rattle.std.proofs.Common.{◌≡◌, ◌∙◌, ap, length, subst, sym}
 use Rattle.std.specs.Prelude.{max}
 use Rattle.rcu_live.specs.Watcher.{Watching}
-use Rattle.rcu_nodes.specs.Nodes.{latest_in, nodes_in}
-use Rattle.rcu_nodes.specs.Tended.{AreTended}
-use Rattle.rcu_nodes.specs.declared.known.Known.{Known}
+use Rattle.rcu_graph.specs.Nodes.{latest_in, nodes_in}
+use Rattle.rcu_graph.specs.Tended.{AreTended}
+use Rattle.rcu_graph.specs.declared.known.Known.{Known}
 use Rattle.rcu_map.specs.Chains.{IsMap}
 use Rattle.rcu_map.specs.Entries.{AreSameEntries, entries_in}
 use Rattle.rcu_map.specs.Keys.{GoesUp, IsWhole}

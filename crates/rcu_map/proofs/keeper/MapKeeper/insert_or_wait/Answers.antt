@@ -1,8 +1,8 @@
 use Rattle.std.proofs.Common.{◌≡◌, ◌∙◌, Err, ap, false, subst, sym, true}
 use Rattle.std.proofs.lemmas.Result.{err_from_is_err_and}
 use Rattle.rcu_live.specs.Watcher.{Watching}
-use Rattle.rcu_nodes.specs.Nodes.{nodes_in}
-use Rattle.rcu_nodes.specs.declared.known.Known.{Known}
+use Rattle.rcu_graph.specs.Nodes.{nodes_in}
+use Rattle.rcu_graph.specs.declared.known.Known.{Known}
 use Rattle.rcu_map.specs.Entries.{AreSameEntries, HasKey}
 use Rattle.rcu_map.specs.Waits.{AreAllLive}
 use Rattle.rcu_map.specs.declared.not_put.NotPut.{NotPut}

@@ -1,8 +1,8 @@
 use Rattle.std.proofs.Common.{◌+◌, arith, subst, sym}
 use Rattle.std.proofs.lemmas.Bool.{eq-eqb, eqb-true}
 use Rattle.rcu_live.specs.Watcher.{Watching}
-use Rattle.rcu_nodes.specs.Nodes.{nodes_in}
-use Rattle.rcu_nodes.specs.declared.known.Known.{Known}
+use Rattle.rcu_graph.specs.Nodes.{nodes_in}
+use Rattle.rcu_graph.specs.declared.known.Known.{Known}
 use Rattle.rcu_map.specs.Waits.{AreAllLive}
 use Rattle.rcu_map.proofs.Looks.{all_are_live, as_many_as_nodes, no_more_than_nodes}
 use Rattle.rcu_map.proofs.keeper.MapKeeper.is_all_live.Goals as goal

@@ -1,9 +1,9 @@
 use Rattle.std.proofs.Common.{◌∙◌, ap, arith, subst, sym}
 use Rattle.rcu_live.specs.Board.{Object}
 use Rattle.rcu_live.specs.Watcher.{Watching}
-use Rattle.rcu_nodes.specs.Keeper.{IsKeeperOf}
-use Rattle.rcu_nodes.specs.Nodes.{nodes_in}
-use Rattle.rcu_nodes.specs.declared.known.Known.{Known}
+use Rattle.rcu_graph.specs.Keeper.{IsKeeperOf}
+use Rattle.rcu_graph.specs.Nodes.{nodes_in}
+use Rattle.rcu_graph.specs.declared.known.Known.{Known}
 use Rattle.rcu_map.proofs.Ages.{is_map_first, none_first}
 use Rattle.rcu_map.proofs.Buckets.{roots_are_whole}
 use Rattle.rcu_map.proofs.keeper.MapKeeper.new.Goals as goal

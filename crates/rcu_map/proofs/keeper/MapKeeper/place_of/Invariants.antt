@@ -1,7 +1,7 @@
 use Rattle.std.proofs.Common.{◌≡◌, ◌-◌, ◌<◌}
-use Rattle.rcu_nodes.specs.Absence.{key_at}
-use Rattle.rcu_nodes.specs.Nodes.{node_at, nodes_in, state_at}
-use Rattle.rcu_nodes.specs.declared.node_state.NodeState.TheVariants.{Live}
+use Rattle.rcu_graph.specs.Absence.{key_at}
+use Rattle.rcu_graph.specs.Nodes.{node_at, nodes_in, state_at}
+use Rattle.rcu_graph.specs.declared.node_state.NodeState.TheVariants.{Live}
 use Rattle.rcu_map.specs.Keys.{bucket_in, bucket_of}
 use Rattle.rcu_map.proofs.keeper.MapKeeper.place_of.Given as goal
 

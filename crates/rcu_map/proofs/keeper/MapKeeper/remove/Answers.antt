@@ -2,9 +2,9 @@ use Rattle.std.proofs.Common.{◌<◌, ℕ, Some, ap, arith, refl, subst, sym}
 use Rattle.std.specs.Prelude.{is_some}
 use Rattle.rcu_live.specs.Board.{Object}
 use Rattle.rcu_live.specs.Watcher.{Watching}
-use Rattle.rcu_nodes.specs.Graph.{IsWatcherOf}
-use Rattle.rcu_nodes.specs.Nodes.{nodes_in}
-use Rattle.rcu_nodes.specs.declared.known.Known.{Known}
+use Rattle.rcu_graph.specs.Graph.{IsWatcherOf}
+use Rattle.rcu_graph.specs.Nodes.{nodes_in}
+use Rattle.rcu_graph.specs.declared.known.Known.{Known}
 use Rattle.rcu_map.specs.Entries.{HasKey, IsRemoved}
 use Rattle.rcu_map.specs.Keys.{GoesUp}
 use Rattle.rcu_map.specs.Splices.{CanPass}

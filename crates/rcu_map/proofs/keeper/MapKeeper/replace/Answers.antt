@@ -3,9 +3,9 @@ use Rattle.std.specs.Prelude.{is_some}
 use Rattle.std.proofs.lemmas.Result.{err_from_is_err_and}
 use Rattle.rcu_live.specs.Board.{Object}
 use Rattle.rcu_live.specs.Watcher.{Watching}
-use Rattle.rcu_nodes.specs.Graph.{IsWatcherOf}
-use Rattle.rcu_nodes.specs.Nodes.{nodes_in}
-use Rattle.rcu_nodes.specs.declared.known.Known.{Known}
+use Rattle.rcu_graph.specs.Graph.{IsWatcherOf}
+use Rattle.rcu_graph.specs.Nodes.{nodes_in}
+use Rattle.rcu_graph.specs.declared.known.Known.{Known}
 use Rattle.rcu_map.specs.Entries.{HasKey, IsReplaced}
 use Rattle.rcu_map.specs.Keys.{GoesUp, IsWhole, key_in}
 use Rattle.rcu_map.specs.Splices.{CanPut}

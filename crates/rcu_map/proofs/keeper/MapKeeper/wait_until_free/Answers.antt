@@ -3,9 +3,9 @@ use Rattle.rcu_seq.specs.declared.fault.Fault.{Fault}
 use Rattle.rcu_live.specs.Waits.{AreRounds, wait_fault}
 use Rattle.rcu_live.specs.Watcher.{Watching}
 use Rattle.rcu_live.proofs.WaitLemmas.{rested_none, rested_round, rounds_at_end, rounds_none, rounds_round, rounds_then_look}
-use Rattle.rcu_nodes.specs.Nodes.{nodes_in}
-use Rattle.rcu_nodes.specs.Tended.{AreAllUsed}
-use Rattle.rcu_nodes.specs.declared.known.Known.{Known}
+use Rattle.rcu_graph.specs.Nodes.{nodes_in}
+use Rattle.rcu_graph.specs.Tended.{AreAllUsed}
+use Rattle.rcu_graph.specs.declared.known.Known.{Known}
 use Rattle.rcu_map.specs.Waits.{HasGivenUp}
 use Rattle.rcu_map.proofs.Looks.{aged_more, aged_once, found_one, on_err, refused}
 use Rattle.rcu_map.proofs.keeper.MapKeeper.wait_until_free.Goals as goal

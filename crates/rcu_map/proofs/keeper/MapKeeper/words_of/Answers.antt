@@ -1,7 +1,7 @@
 use Rattle.std.proofs.Common.{◌≡◌, ◌<◌, ◌∙◌, ap, length, subst, sym, arith, length-set}
 use Rattle.rcu_live.specs.Watcher.{Watching}
-use Rattle.rcu_nodes.specs.Nodes.{node_at, nodes_in}
-use Rattle.rcu_nodes.specs.declared.known.Known.{Known}
+use Rattle.rcu_graph.specs.Nodes.{node_at, nodes_in}
+use Rattle.rcu_graph.specs.declared.known.Known.{Known}
 use Rattle.rcu_map.specs.Entries.{IsEntry}
 use Rattle.rcu_map.proofs.Chains.{entry_fits, inside, sized}
 use Rattle.rcu_map.proofs.Rows.{read_all, read_more, zeros}

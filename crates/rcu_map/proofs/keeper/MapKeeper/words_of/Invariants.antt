@@ -1,6 +1,6 @@
 use Rattle.std.proofs.Common.{◌≡◌, ◌<◌, ℕ, length}
 use Rattle.std.specs.Prelude.{slice_index}
-use Rattle.rcu_nodes.specs.Nodes.{node_at, nodes_in}
+use Rattle.rcu_graph.specs.Nodes.{node_at, nodes_in}
 use Rattle.rcu_map.proofs.keeper.MapKeeper.words_of.Given as goal
 
 abbrev pub invariant-loop-word : goal.invariant-loop-word

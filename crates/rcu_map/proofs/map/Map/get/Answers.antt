@@ -1,7 +1,7 @@
 use Rattle.std.proofs.Common.{sym, ap, ◌∙◌, subst, inr, arith}
 use Rattle.rcu_live.specs.CpuSeat.{Seated}
-use Rattle.rcu_nodes.specs.Nodes.{IsHeld}
-use Rattle.rcu_nodes.specs.declared.known.Known.{Known}
+use Rattle.rcu_graph.specs.Nodes.{IsHeld}
+use Rattle.rcu_graph.specs.declared.known.Known.{Known}
 use Rattle.rcu_map.proofs.map.Map.get.Goals as goal
 
 pub returns-clause-found : goal.returns-clause-found

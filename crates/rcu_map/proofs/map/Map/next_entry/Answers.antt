@@ -1,6 +1,6 @@
 use Rattle.std.proofs.Common.{◌≡◌, ◌+◌, Some, refl, sym, ap, subst, arith}
 use Rattle.rcu_live.specs.CpuSeat.{Seated}
-use Rattle.rcu_nodes.specs.declared.known.Known.{Known}
+use Rattle.rcu_graph.specs.declared.known.Known.{Known}
 use Rattle.rcu_map.specs.Cursors.{HasListed}
 use Rattle.rcu_map.specs.declared.cursor.Cursor.{Cursor}
 use Rattle.rcu_map.proofs.Stepping.{begins, is_at_end, left_less, listed_entry, on_entry, passes_on, same_on, step_held}

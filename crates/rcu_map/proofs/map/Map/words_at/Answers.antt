@@ -1,7 +1,7 @@
 use Rattle.std.proofs.Common.{◌<◌, length, sym, ◌∙◌, subst, arith, length-set}
 use Rattle.rcu_live.specs.CpuSeat.{Seated}
-use Rattle.rcu_nodes.specs.Nodes.{IsOn}
-use Rattle.rcu_nodes.specs.declared.known.Known.{Known}
+use Rattle.rcu_graph.specs.Nodes.{IsOn}
+use Rattle.rcu_graph.specs.declared.known.Known.{Known}
 use Rattle.rcu_map.specs.Keys.{root_words}
 use Rattle.rcu_map.proofs.Rows.{read_all, read_more, zeros}
 use Rattle.rcu_map.proofs.map.Map.words_at.Goals as goal

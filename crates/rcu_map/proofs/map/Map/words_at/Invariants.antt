@@ -1,6 +1,6 @@
 use Rattle.std.proofs.Common.{◌≡◌, ◌<◌, ℕ, List, length}
 use Rattle.std.specs.Prelude.{slice_index}
-use Rattle.rcu_nodes.specs.Nodes.{IsOn}
+use Rattle.rcu_graph.specs.Nodes.{IsOn}
 use Rattle.rcu_map.specs.Keys.{root_words}
 use Rattle.rcu_map.proofs.map.Map.words_at.Given as goal
 

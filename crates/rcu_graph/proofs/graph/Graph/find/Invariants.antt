@@ -1,0 +1,18 @@
+use Rattle.std.proofs.Common.{◌≡◌, ◌<◌, ◌-◌, ℕ, List}
+use Rattle.std.specs.Prelude.{slice_index}
+use Rattle.rcu_live.specs.CpuSeat.{after_word_step}
+use Rattle.rcu_graph.specs.Nodes.{IsOn, IsReader}
+use Rattle.rcu_graph.proofs.Searching.{IsOnPath}
+use Rattle.rcu_graph.proofs.graph.Graph.find.Given as goal
+
+abbrev pub invariant-chain : goal.invariant-chain
+invariant-chain g l = record {
+  same : l.seat ≡ after_word_step l.initial.seat l.seat.view.client;
+  reader : IsReader l.seat.view.client;
+  inside : l.on < g.row.N;
+  on : (words : List ℕ) × IsOn g.F.Shape.first g.row.K l.seat.view.client l.on words × (slice_index words 0 ≡ l.least);
+  path : IsOnPath l.root l.key l.initial.seat.view.client l.seat.view.client l.on;
+}
+
+abbrev pub decreases-chain : goal.decreases-chain
+decreases-chain g l = l.key - l.least

@@ -1,0 +1,41 @@
+use Rattle.std.proofs.Common.{◌≡◌, ◌∙◌, ap, arith, subst, sym}
+use Rattle.rcu_live.specs.Watcher.{Watching}
+use Rattle.rcu_graph.specs.Graph.{IsWatcherOf, word_to}
+use Rattle.rcu_graph.specs.Keeper.{after_step}
+use Rattle.rcu_graph.specs.Nodes.{IsTarget, node_at, nodes_in, state_at}
+use Rattle.rcu_graph.specs.Tended.{AreTrimmed, relinked}
+use Rattle.rcu_graph.specs.declared.known.Known.{Known}
+use Rattle.rcu_graph.specs.declared.node_state.NodeState.TheVariants.{Live}
+use Rattle.rcu_graph.proofs.keeper.Keeper.link.Goals as goal
+
+pub link-requires : goal.link-requires
+link-requires g c =
+    let e = sym c.self.view_is in (
+      omega arith,
+      (
+        omega arith,
+        record {
+          watches = subst (λ (w : Watching Known). IsWatcherOf c.args.graph.now w) e c.requires.graph;
+          counted = c.self.invariant;
+          from_inside = c.requires.from;
+          link_inside = c.requires.link;
+          live = subst (λ (w : Watching Known). state_at (nodes_in w.view.client) c.args.from ≡ Live) e c.requires.live;
+          target = subst (λ (w : Watching Known). IsTarget (g.F.Shape.joins c.args.link) (node_at (nodes_in w.view.client) c.args.from).words (nodes_in w.view.client) (word_to c.args.to)) e c.requires.target;
+        },
+      ),
+    )
+
+pub invariant_of-self : goal.invariant_of-self
+invariant_of-self g c = c.link.ensures.counted
+
+pub returns-clause-graph : goal.returns-clause-graph
+returns-clause-graph g c = c.link.ensures.watches
+
+pub returns-clause-state : goal.returns-clause-state
+returns-clause-state g c =
+    c.link.ensures.state ∙ ap (λ (w : Watching Known). after_step w (nodes_in c.link.new.self.nodes.view.client)) c.self.view_is
+
+pub returns-clause-trimmed : goal.returns-clause-trimmed
+returns-clause-trimmed g c =
+    subst (λ (w : Watching Known). AreTrimmed g.row.K g.row.L (relinked (nodes_in w.view.client) c.args.from c.args.link c.args.to) (nodes_in c.link.new.self.nodes.view.client))
+    c.self.view_is c.link.ensures.trimmed

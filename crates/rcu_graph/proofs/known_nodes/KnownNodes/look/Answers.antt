@@ -1,0 +1,37 @@
+use Rattle.std.proofs.Common.{◌≡◌, ◌∙◌, ◌≤◌, List, ℕ, ap, arith, subst, sym}
+use Rattle.std.specs.Prelude.{max}
+use Rattle.std.proofs.Math.Nat.{le-max_left, max-le}
+use Rattle.rcu_live.specs.Watcher.{Watching}
+use Rattle.rcu_graph.specs.Mirror.{AreBy}
+use Rattle.rcu_graph.specs.Nodes.{aged, latest_in, nodes_in}
+use Rattle.rcu_graph.specs.declared.known.Known.{Known}
+use Rattle.rcu_graph.specs.declared.known.Node.{Node}
+use Rattle.rcu_graph.proofs.Standings.{by_aged}
+use Rattle.rcu_graph.proofs.known_nodes.KnownNodes.look.Goals as goal
+
+pub invariant_of-self : goal.invariant_of-self
+invariant_of-self g c =
+    let k = c.self.invariant in
+    let e = c.look-number.ensures in
+    let n : ℕ = c.look-number.result in
+    let was : Known = c.self.inside.seat.view.client in
+    let seen = k.late in
+    let later = e.later in
+    let low : latest_in was ≤ n = omega (arith, seen, later) in
+    let up : max n (latest_in was) ≤ n = max-le {a = n} {b = latest_in was} {k = n} (omega arith) low in
+    let over : n ≤ max n (latest_in was) = le-max_left n (latest_in was) in
+    let same : max n (latest_in was) ≡ n = omega (arith, up, over) in
+    let latest : latest_in c.look-number.new.seat.view.client ≡ n = ap (λ (w : Watching Known). latest_in w.view.client) e.state ∙ same in
+    let now : c.look-number.new.seat.view.seen ≡ n = ap (λ (w : Watching Known). w.view.seen) e.state in
+    record {
+      role = e.keeper.role;
+      keeps = e.keeper.keeps;
+      few = e.keeper.few;
+      late = omega (arith, latest, now);
+      same =
+          ap (λ (w : Watching Known). nodes_in w.view.client) e.state
+          ∙ (ap (λ (m : ℕ). aged n m (nodes_in was)) same ∙ (ap (λ (l : List Node). aged n n l) k.same ∙ sym c.age.ensures));
+      by =
+          subst (λ (m : ℕ). AreBy m c.age.new.self) (sym latest)
+          (subst (λ (l : List Node). AreBy n l) (sym c.age.ensures) (by_aged (latest_in was) n c.self.inside.mirror low k.by));
+    }

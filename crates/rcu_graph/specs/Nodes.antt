@@ -1,0 +1,195 @@
+-- Nodes that lead to one another: what state each is in, and what a look at the number makes of it.
+use Rattle.std.specs.Prelude.{◌≡◌, ◌≢◌, ℕ, suc, ◌+◌, ◌*◌, ◌⊎◌, ◌<◌, ◌≤◌, if◌then◌else◌, Bool, true, false, List, [], ◌++◌, ◌∷◌}
+use Rattle.std.specs.Prelude.{map, replicate, slice_index, slice_index_or, slice_set, nat_lt}
+use Rattle.std.specs.Coded.{Unit-prop}
+use Rattle.std.specs.List.{range_with_len}
+use mathlib.Core.Option.{some}
+use lib.ListN.{get_elem?}
+use Rattle.rcu_seq.specs.Numbers.{Number}
+use Rattle.rcu_live.specs.Numbers.{is_past}
+use Rattle.rcu_graph.specs.declared.known.Hop.{Hop}
+use Rattle.rcu_graph.specs.declared.known.Known.{Known}
+use Rattle.rcu_graph.specs.declared.known.Known.TheVariants.{Idle, Owner, Reader, Keeper}
+use Rattle.rcu_graph.specs.declared.known.Node.{Node}
+use Rattle.rcu_graph.specs.declared.node_state.NodeState.{NodeState}
+use Rattle.rcu_graph.specs.declared.node_state.NodeState.TheVariants.{Free, Live, Left, Retired}
+
+-- where the rows of the nodes begin
+abbrev pub first_place : ℕ
+first_place = 16
+
+-- the place of the k-th of a node's links and words, of rows of so many of both
+abbrev pub place_of : ℕ → ℕ → ℕ → ℕ
+place_of row i k = first_place + row * i + k
+
+-- a section that began at a number may be on a node in this state
+abbrev pub MayRead : Number → NodeState → Type 0
+MayRead at Free = ⊥
+MayRead at Live = Unit {0}
+MayRead at Left = Unit {0}
+MayRead at (Retired number) = at ≤ number
+
+abbrev pub IsUsed : NodeState → Type 0
+IsUsed Free = ⊥
+IsUsed Live = Unit {0}
+IsUsed Left = Unit {0}
+IsUsed (Retired number) = Unit {0}
+
+abbrev pub is_free : NodeState → Bool
+is_free Free = true
+is_free Live = false
+is_free Left = false
+is_free (Retired number) = false
+
+abbrev pub is_live : NodeState → Bool
+is_live Free = false
+is_live Live = true
+is_live Left = false
+is_live (Retired number) = false
+
+-- whoever may be on a node in the first state may go on to one in the second, now and after each look at the number
+abbrev pub Outlives : NodeState → NodeState → Type 0
+Outlives Free to = Unit {0}
+Outlives Live Free = ⊥
+Outlives Live Live = Unit {0}
+Outlives Live Left = ⊥
+Outlives Live (Retired to) = ⊥
+Outlives Left Free = ⊥
+Outlives Left Live = Unit {0}
+Outlives Left Left = Unit {0}
+Outlives Left (Retired to) = ⊥
+Outlives (Retired from) Free = ⊥
+Outlives (Retired from) Live = Unit {0}
+Outlives (Retired from) Left = Unit {0}
+Outlives (Retired from) (Retired to) = from ≤ to
+
+-- it was retired by this number
+abbrev pub IsBy : Number → NodeState → Type 0
+IsBy latest Free = Unit {0}
+IsBy latest Live = Unit {0}
+IsBy latest Left = Unit {0}
+IsBy latest (Retired number) = number ≤ latest
+
+-- the links and the words of a node, as they stand side by side
+abbrev pub row_of : Node → List ℕ
+row_of v = v.links ++ v.words
+
+abbrev pub no_node : Node
+no_node = record { state = Free; links = []; words = [] }
+
+abbrev pub node_at : List Node → ℕ → Node
+node_at nodes i = slice_index_or nodes i no_node
+
+-- the state of the node i
+abbrev pub state_at : List Node → ℕ → NodeState
+state_at nodes i = (node_at nodes i).state
+
+-- the node with another state, with another link, with another word
+abbrev pub in_state : NodeState → Node → Node
+in_state state v = record { state = state; links = v.links; words = v.words }
+
+abbrev pub linked_to : ℕ → ℕ → Node → Node
+linked_to l x v = record { state = v.state; links = slice_set v.links l x; words = v.words }
+
+abbrev pub worded : ℕ → ℕ → Node → Node
+worded k x v = record { state = v.state; links = v.links; words = slice_set v.words k x }
+
+-- one node becomes what this makes of it
+abbrev pub renewed : List Node → ℕ → (Node → Node) → List Node
+renewed nodes i change = slice_set nodes i (change (node_at nodes i))
+
+-- at the number n, of which m is no less: what was left is so no later than m, and what was left a full grace period
+-- ago is free
+abbrev pub aged_state : Number → Number → NodeState → NodeState
+aged_state n m Free = Free
+aged_state n m Live = Live
+aged_state n m Left = Retired m
+aged_state n m (Retired number) = if is_past number n then Free else Retired number
+
+abbrev pub aged_node : Number → Number → Node → Node
+aged_node n m v = in_state (aged_state n m v.state) v
+
+abbrev pub aged : Number → Number → List Node → List Node
+aged n m nodes = map (aged_node n m) nodes
+
+-- the first nodes are the roots, with these words, and the others are free
+abbrev pub root : ℕ → List ℕ → Node
+root links words = record { state = Live; links = replicate links 0; words = words }
+
+abbrev pub free_node : ℕ → ℕ → Node
+free_node links width = record { state = Free; links = replicate links 0; words = replicate width 0 }
+
+abbrev pub first_node : ℕ → ℕ → (ℕ → List ℕ) → ℕ → ℕ → Node
+first_node links width first roots i = if nat_lt i roots then root links (first i) else free_node links width
+
+abbrev pub first_nodes : ℕ → ℕ → (ℕ → List ℕ) → ℕ → ℕ → List Node
+first_nodes links width first roots count = map (first_node links width first roots) (range_with_len 0 count)
+
+-- no live node leads to the node i
+abbrev pub IsUnlinked : ℕ → List Node → ℕ → Type 0
+IsUnlinked links nodes i = (j l : ℕ) (v : Node) → get_elem? nodes j ≡ some v → v.state ≡ Live → l < links
+    → slice_index v.links l ≢ suc i
+
+-- each link of these leads nowhere, or to a live node to which it may lead
+abbrev pub IsTarget : (List ℕ → List ℕ → Type 0) → List ℕ → List Node → ℕ → Type 0
+IsTarget joins words nodes x =
+    (j : ℕ) → x ≡ suc j → (to : Node) × (get_elem? nodes j ≡ some to) × (to.state ≡ Live) × joins words to.words
+
+-- the hops of a section, the latest one first
+abbrev pub hops_in : Known → List Hop
+hops_in Idle = []
+hops_in Owner = []
+hops_in (Reader hops) = hops
+hops_in (Keeper latest nodes) = []
+
+-- a section made one hop more: from the node i along the link l it found the word x, and came to these words
+abbrev pub after_hop : Known → ℕ → ℕ → ℕ → List ℕ → Known
+after_hop was i l x words = Reader (record { from = i; link = l; to = x; words = words } ∷ hops_in was)
+
+-- it reads, it keeps the nodes
+abbrev pub IsReader : Known → Type 0
+IsReader Idle = Unit {0}
+IsReader Owner = ⊥
+IsReader (Reader hops) = Unit {0}
+IsReader (Keeper latest nodes) = ⊥
+
+-- (of which there is one proof at most, as of each fact that a struct keeps)
+pub reader_once : (known : Known) → IsProp (IsReader known)
+reader_once Idle = Unit-prop
+reader_once Owner = λ a b. absurd a
+reader_once (Reader hops) = Unit-prop
+reader_once (Keeper latest nodes) = λ a b. absurd a
+
+abbrev pub IsKeeping : Known → Type 0
+IsKeeping Idle = ⊥
+IsKeeping Owner = ⊥
+IsKeeping (Reader hops) = ⊥
+IsKeeping (Keeper latest nodes) = Unit {0}
+
+abbrev pub nodes_in : Known → List Node
+nodes_in Idle = []
+nodes_in Owner = []
+nodes_in (Reader hops) = []
+nodes_in (Keeper latest nodes) = nodes
+
+abbrev pub latest_in : Known → Number
+latest_in Idle = 0
+latest_in Owner = 0
+latest_in (Reader hops) = 0
+latest_in (Keeper latest nodes) = latest
+
+-- the section came to the node i, which has these words: one of its hops led there
+abbrev pub IsHeld : Known → ℕ → List ℕ → Type 0
+IsHeld known i words =
+    (k : ℕ) × (h : Hop) × (get_elem? (hops_in known) k ≡ some h) × (h.to ≡ suc i) × (h.words ≡ words)
+
+-- the node i has these words: it is a root, or the section holds it
+abbrev pub IsOn : (ℕ → List ℕ) → ℕ → Known → ℕ → List ℕ → Type 0
+IsOn first roots known i words = ((i < roots) × (first i ≡ words)) ⊎ IsHeld known i words
+
+-- what is left of it when a section closes
+abbrev pub closed : Known → Known
+closed Idle = Idle
+closed Owner = Owner
+closed (Reader hops) = Idle
+closed (Keeper latest nodes) = Keeper latest nodes

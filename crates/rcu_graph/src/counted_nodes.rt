@@ -1,0 +1,244 @@
+//! The nodes that a keeper knows, each with a count of the links that lead to it: what a change
+//! leaves, without a walk of the graph.
+ghost use Rattle.std.specs.Prelude.{◌≡◌, ◌≤◌, ◌<◌, ◌+◌, ◌∷◌, ◌^◌, ℕ, [], All, IfOk, List, length};
+ghost use Rattle.std.specs.Prelude.{map, replicate, slice_index, suc};
+ghost use Rattle.std.specs.List.{range_with_len};
+ghost use Rattle.rcu_graph.specs.Counts.{counted_up, times_in};
+ghost use Rattle.rcu_graph.specs.Graph.{IsWatcherOf, word_to};
+ghost use Rattle.rcu_graph.specs.Keeper.{IsKeeperOf, after_step};
+ghost use Rattle.rcu_graph.specs.Nodes.{node_at, nodes_in};
+ghost use Rattle.rcu_graph.specs.Steps.{IsClaimed};
+ghost use Rattle.rcu_graph.specs.Tended.{published, relinked};
+ghost use Rattle.rcu_graph.specs.Trimming.{IsInside, IsTrimming};
+ghost use Rattle.rcu_graph.specs.Updates.{HasTrimmed, MayPublish, MayRelink};
+ghost use Rattle.rcu_graph.specs.declared.known.Node.{Node};
+
+use crate::graph::Graph;
+use crate::known_nodes::{KnownNodes, node_of, word_of};
+use crate::rule::{GraphWatcher, Shape};
+use std::alloc::{AllocError, Global};
+
+/// Nodes, and how many links of live nodes lead to each.
+#[derive(Drop)]
+pub(crate) struct CountedNodes<
+    F: Shape,
+    const K: usize,
+    const L: usize,
+    const W: usize,
+    const N: usize,
+> {
+    pub(crate) nodes: KnownNodes<F, K, L, W, N>,
+    pub(crate) counts: Vec<usize>,
+    /// The nodes that a change leaves, in order: room for all.
+    pub(crate) leaving: Vec<usize>,
+}
+
+impl<F: Shape, const K: usize, const L: usize, const W: usize, const N: usize> CountedNodes<
+    F,
+    K,
+    L,
+    W,
+    N,
+> {
+    /// The nodes of a seat, which are as at first.
+    pub(crate) fn new<const LEAF: u32, const FAN: u32, T: Drop>(
+        alloc: Global,
+        graph: &Graph<LEAF, FAN, T, F, K, L, W, N>,
+        seat: GraphWatcher<F, K, L, W, N>,
+        roots: &[[u64; W]; K],
+    ) -> Result<Self, AllocError>
+        requires keeper { IsKeeperOf N graph.now seat }
+        requires first { IsClaimed F.first K L W N seat.view.client }
+        requires roots { roots.now ≡ map F.first (range_with_len 0 K) }
+        ensures nodes { IfOk result (λ counted. counted.nodes ≡ seat) }
+        ensures counts { IfOk result (λ counted. counted.counts.items ≡ replicate N 0) }
+        ensures leaving { IfOk result (λ counted. length counted.leaving.items ≡ N) }
+    {
+        let nodes = KnownNodes::new(alloc, graph, seat, roots)?;
+        let counts = vec![in alloc; 0usize; N]?;
+        let leaving = vec![in alloc; 0usize; N]?;
+        Ok(CountedNodes {
+            nodes,
+            counts,
+            leaving,
+        })
+    }
+
+    /// Counts a link that leads there.
+    fn count(&mut self, word: u64)
+        requires inside { (i : ℕ) → word ≡ suc i → i < length self.old.counts.items }
+        requires few { (i : ℕ) → word ≡ suc i →
+            slice_index self.old.counts.items i + 1 < 2 ^ 64 }
+        ensures nodes { self.new.nodes ≡ self.old.nodes }
+        ensures leaving { self.new.leaving ≡ self.old.leaving }
+        ensures counts { self.new.counts.items ≡ counted_up self.old.counts.items word }
+    {
+        if let Some(node) = node_of(word) {
+            self.counts[node] += 1;
+        }
+    }
+
+    /// Lets go of a link that led there: where no live node leads to a node any more, it is left.
+    /// Returns how many are left.
+    fn let_go<const LEAF: u32, const FAN: u32, T: Drop>(
+        &mut self,
+        graph: &Graph<LEAF, FAN, T, F, K, L, W, N>,
+        word: u64,
+        left: usize,
+    ) -> usize
+        requires graph { IsWatcherOf graph.now self.old.nodes }
+        requires trimming { (stored : List Node) × (from : ℕ) × (words : List ℕ)
+            × IsTrimming N K L stored (nodes_in self.old.nodes.view.client)
+            self.old.counts.items self.old.leaving.items from left (word ∷ words) }
+        ensures graph { IsWatcherOf graph.now self.new.nodes }
+        ensures state { self.new.nodes
+            ≡ after_step self.old.nodes (nodes_in self.new.nodes.view.client) }
+        ensures trimming { (stored : List Node) (from : ℕ) (words : List ℕ) →
+            IsTrimming N K L stored (nodes_in self.old.nodes.view.client)
+            self.old.counts.items self.old.leaving.items from left (word ∷ words) →
+            IsTrimming N K L stored (nodes_in self.new.nodes.view.client)
+            self.new.counts.items self.new.leaving.items from result words }
+    {
+        self.nodes.sizes();
+        let Some(node) = node_of(word) else {
+            return left;
+        };
+        let count = self.counts[node] - 1;
+        self.counts[node] = count;
+        if count > 0 {
+            return left;
+        }
+        if node < K {
+            return left;
+        }
+        if !self.nodes.state(node).is_live() {
+            return left;
+        }
+        self.nodes.leave(graph, node);
+        self.leaving[left] = node;
+        left + 1
+    }
+
+    /// Lets go of the links of a node that was left.
+    fn let_go_of<const LEAF: u32, const FAN: u32, T: Drop>(
+        &mut self,
+        graph: &Graph<LEAF, FAN, T, F, K, L, W, N>,
+        node: usize,
+        left: usize,
+    ) -> usize
+        requires graph { IsWatcherOf graph.now self.old.nodes }
+        requires node { node < N }
+        requires trimming { (stored : List Node) × (from : ℕ)
+            × IsTrimming N K L stored (nodes_in self.old.nodes.view.client)
+            self.old.counts.items self.old.leaving.items from left (node_at stored node).links }
+        ensures graph { IsWatcherOf graph.now self.new.nodes }
+        ensures state { self.new.nodes
+            ≡ after_step self.old.nodes (nodes_in self.new.nodes.view.client) }
+        ensures trimming { (stored : List Node) (from : ℕ) →
+            IsTrimming N K L stored (nodes_in self.old.nodes.view.client)
+            self.old.counts.items self.old.leaving.items from left (node_at stored node).links →
+            IsTrimming N K L stored (nodes_in self.new.nodes.view.client)
+            self.new.counts.items self.new.leaving.items from result [] }
+    {
+        self.nodes.sizes();
+        let mut gone = left;
+        for link in 0..L {
+            let word = self.nodes.link_word(node, link);
+            gone = self.let_go(graph, word, gone);
+        }
+        gone
+    }
+
+    /// Lets go of a link that led there, and leaves what no live node leads to any more.
+    fn trim<const LEAF: u32, const FAN: u32, T: Drop>(
+        &mut self,
+        graph: &Graph<LEAF, FAN, T, F, K, L, W, N>,
+        word: u64,
+    )
+        requires graph { IsWatcherOf graph.now self.old.nodes }
+        requires trimming { IsTrimming N K L (nodes_in self.old.nodes.view.client)
+            (nodes_in self.old.nodes.view.client) self.old.counts.items self.old.leaving.items
+            0 0 (word ∷ []) }
+        ensures graph { IsWatcherOf graph.now self.new.nodes }
+        ensures state { self.new.nodes
+            ≡ after_step self.old.nodes (nodes_in self.new.nodes.view.client) }
+        ensures trimming { (to : ℕ) × IsTrimming N K L (nodes_in self.old.nodes.view.client)
+            (nodes_in self.new.nodes.view.client) self.new.counts.items self.new.leaving.items
+            to to [] }
+    {
+        let mut left = self.let_go(graph, word, 0);
+        let mut done = 0;
+        'leaving: while done < left {
+            let node = self.leaving[done];
+            left = self.let_go_of(graph, node, left);
+            done += 1;
+        }
+    }
+
+    /// Leads a link of a live node elsewhere.
+    pub(crate) fn link<const LEAF: u32, const FAN: u32, T: Drop>(
+        &mut self,
+        graph: &Graph<LEAF, FAN, T, F, K, L, W, N>,
+        from: usize,
+        link: usize,
+        to: Option<usize>,
+    )
+        requires { MayRelink F.fits F.joins N K L graph.now self.old.nodes
+            self.old.counts.items self.old.leaving.items from link (word_to to) }
+        ensures { HasTrimmed F.fits F.joins N K L graph.now self.old.nodes self.new.nodes
+            self.new.counts.items self.new.leaving.items
+            (relinked (nodes_in self.old.nodes.view.client) from link to) }
+    {
+        self.nodes.sizes();
+        let word = word_of(to);
+        let before = self.nodes.link_word(from, link);
+        self.nodes.link(graph, from, link, word);
+        self.count(word);
+        self.trim(graph, before);
+    }
+
+    /// Counts the links of a node that becomes live.
+    fn count_links_of(&mut self, node: usize)
+        requires node { node < N }
+        requires many { length self.old.counts.items ≡ N }
+        requires inside { All (IsInside N)
+            (node_at (nodes_in self.old.nodes.view.client) node).links }
+        requires few { (k : ℕ) → k < N → slice_index self.old.counts.items k
+            + times_in (node_at (nodes_in self.old.nodes.view.client) node).links (suc k)
+            < 2 ^ 64 }
+        ensures nodes { self.new.nodes ≡ self.old.nodes }
+        ensures leaving { self.new.leaving ≡ self.old.leaving }
+        ensures many { length self.new.counts.items ≡ N }
+        ensures counts { (k : ℕ) → k < N → slice_index self.new.counts.items k
+            ≡ slice_index self.old.counts.items k
+            + times_in (node_at (nodes_in self.old.nodes.view.client) node).links (suc k) }
+    {
+        self.nodes.sizes();
+        for link in 0..L {
+            let word = self.nodes.link_word(node, link);
+            self.count(word);
+        }
+    }
+
+    /// Links a live node to a free one.
+    pub(crate) fn publish<const LEAF: u32, const FAN: u32, T: Drop>(
+        &mut self,
+        graph: &Graph<LEAF, FAN, T, F, K, L, W, N>,
+        from: usize,
+        link: usize,
+        to: usize,
+    )
+        requires { MayPublish F.fits F.joins N K L graph.now self.old.nodes
+            self.old.counts.items self.old.leaving.items from link to }
+        ensures { HasTrimmed F.fits F.joins N K L graph.now self.old.nodes self.new.nodes
+            self.new.counts.items self.new.leaving.items
+            (published (nodes_in self.old.nodes.view.client) from link to) }
+    {
+        self.nodes.sizes();
+        let before = self.nodes.link_word(from, link);
+        self.count_links_of(to);
+        self.nodes.publish(graph, from, link, to);
+        self.count(word_of(Some(to)));
+        self.trim(graph, before);
+    }
+}

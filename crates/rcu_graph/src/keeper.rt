@@ -1,0 +1,238 @@
+//! The keeper of a graph at run time: it publishes and unlinks nodes by single stores, leaves by
+//! itself what no live node leads to, and knows which nodes are free.
+ghost use Rattle.std.specs.Prelude.{◌≡◌, ◌≤◌, ◌<◌, ◌^◌, All, IfOk, IfSome, None, OnErr, length};
+ghost use Rattle.std.specs.Prelude.{map, slice_index};
+ghost use Rattle.std.specs.List.{range_with_len};
+ghost use Rattle.rcu_graph.specs.Graph.{IsWatcherOf, word_to};
+ghost use Rattle.rcu_graph.specs.Keeper.{IsKeeperOf, IsReady, after_look, after_step};
+ghost use Rattle.rcu_graph.specs.Nodes.{IsTarget, is_free, is_live, node_at};
+ghost use Rattle.rcu_graph.specs.Nodes.{nodes_in, state_at};
+ghost use Rattle.rcu_graph.specs.Steps.{IsClaimed};
+ghost use Rattle.rcu_graph.specs.Tended.{AreAllUsed, AreTended, AreTrimmed, after_fill};
+ghost use Rattle.rcu_graph.specs.Tended.{published, relinked};
+ghost use Rattle.rcu_graph.specs.declared.node_state.NodeState.TheVariants.{Free, Live};
+
+use crate::counted_nodes::CountedNodes;
+use crate::graph::Graph;
+use crate::known_nodes::node_of;
+use crate::rule::{GraphWatcher, Shape};
+use std::alloc::{AllocError, Global};
+use std::marker::Model;
+
+/// No node is free.
+#[derive(Clone, Copy, Debug, PartialEq, Eq)]
+pub struct Full;
+
+/// The keeper of a graph, for one thread. A graph has one.
+///
+/// It counts the links of live nodes that lead to each node. So what nobody live leads to any more
+/// is left by itself (as by the counts of `Rc`), and what only that led to, and so on. Nodes that
+/// lead to one another in a ring stay live: unlink one of them first.
+#[derive(Drop)]
+pub struct Keeper<F: Shape, const K: usize, const L: usize, const W: usize, const N: usize> {
+    counted: CountedNodes<F, K, L, W, N>,
+}
+
+impl<F: Shape, const K: usize, const L: usize, const W: usize, const N: usize> Model
+    for Keeper<F, K, L, W, N> {
+    ghost use Rattle.rcu_live.specs.Watcher.{Watching};
+    ghost use Rattle.rcu_graph.specs.Nodes.{nodes_in};
+    ghost use Rattle.rcu_graph.specs.Trimming.{IsCounted};
+    ghost use Rattle.rcu_graph.specs.declared.known.Known.{Known};
+
+    ghost Value = { Watching Known };
+
+    ghost view = { λ k. k.counted.nodes };
+
+    ghost invariant = { λ k. IsCounted F.fits F.joins N K L (nodes_in k.counted.nodes.view.client)
+        k.counted.counts.items k.counted.leaving.items };
+}
+
+impl<F: Shape, const K: usize, const L: usize, const W: usize, const N: usize> Keeper<
+    F,
+    K,
+    L,
+    W,
+    N,
+> {
+    /// The keeper of a graph whose nodes are as at first: the roots have these words. It takes all
+    /// the memory that it will ever have.
+    pub fn new<const LEAF: u32, const FAN: u32, T: Drop>(
+        alloc: Global,
+        graph: &Graph<LEAF, FAN, T, F, K, L, W, N>,
+        seat: GraphWatcher<F, K, L, W, N>,
+        roots: &[[u64; W]; K],
+    ) -> Result<Self, AllocError>
+        requires keeper { IsKeeperOf N graph.now seat }
+        requires nodes { IsClaimed F.first K L W N seat.view.client }
+        requires first { roots.now ≡ map F.first (range_with_len 0 K) }
+        requires whole { All F.fits roots.now }
+        ensures { IfOk result (λ keeper. keeper ≡ seat) }
+    {
+        // A borrow of a field shows the prover what the type keeps.
+        let _ = &graph.live;
+        let counted = CountedNodes::new(alloc, graph, seat, roots)?;
+        Ok(Keeper { counted })
+    }
+
+    /// What a keeper of this graph keeps: nothing is done. A caller learns the clauses by the call.
+    pub fn tends<const LEAF: u32, const FAN: u32, T: Drop>(
+        &self,
+        graph: &Graph<LEAF, FAN, T, F, K, L, W, N>,
+    )
+        requires graph { IsWatcherOf graph.now self.now }
+        ensures keeper { IsKeeperOf N graph.now self.now }
+        ensures tended { AreTended F.fits F.joins K L (nodes_in self.now.view.client) }
+    {
+        self.counted.nodes.keeps(graph);
+    }
+
+    /// Whether a node is free.
+    pub fn is_free(&self, node: usize) -> bool
+        requires { node < N }
+        ensures { result ≡ is_free (state_at (nodes_in self.now.view.client) node) }
+    {
+        self.counted.nodes.state(node).is_free()
+    }
+
+    /// Whether a node is live.
+    pub fn is_live(&self, node: usize) -> bool
+        requires { node < N }
+        ensures { result ≡ is_live (state_at (nodes_in self.now.view.client) node) }
+    {
+        self.counted.nodes.state(node).is_live()
+    }
+
+    /// The node to which a link of a node leads.
+    pub fn link_of(&self, node: usize, link: usize) -> Option<usize>
+        requires node { node < N }
+        requires link { link < L }
+        ensures { word_to result
+            ≡ slice_index (node_at (nodes_in self.now.view.client) node).links link }
+    {
+        node_of(self.counted.nodes.link_word(node, link))
+    }
+
+    /// A word of a node.
+    pub fn word(&self, node: usize, word: usize) -> u64
+        requires node { node < N }
+        requires word { word < W }
+        ensures { result ≡ slice_index (node_at (nodes_in self.now.view.client) node).words word }
+    {
+        self.counted.nodes.word(node, word)
+    }
+
+    /// A free node, at a cost that is the same for any number of nodes. It is free until it is
+    /// published, and may be told again. `Full` tells that none is free.
+    pub fn free_node(&self) -> Result<usize, Full>
+        ensures inside { IfOk result (λ node. node < N) }
+        ensures free { IfOk result (λ node.
+            state_at (nodes_in self.now.view.client) node ≡ Free) }
+        ensures full { OnErr result (AreAllUsed (nodes_in self.now.view.client)) }
+    {
+        self.counted.nodes.free_node().ok_or(Full)
+    }
+
+    /// Stores all words and all links of a free node. No section sees them: it is free still.
+    pub fn fill<const LEAF: u32, const FAN: u32, T: Drop>(
+        &mut self,
+        graph: &Graph<LEAF, FAN, T, F, K, L, W, N>,
+        node: usize,
+        words: &[u64; W],
+        links: &[Option<usize>; L],
+    )
+        requires graph { IsWatcherOf graph.now self.old }
+        requires node { node < N }
+        requires free { state_at (nodes_in self.old.view.client) node ≡ Free }
+        requires inside { All (λ to. IfSome to (λ other. other < N)) links.now }
+        ensures graph { IsWatcherOf graph.now self.new }
+        ensures state { self.new ≡ after_fill self.old node words.now links.now }
+    {
+        self.counted.nodes.sizes();
+        self.counted.nodes.fill(graph, node, words, links);
+    }
+
+    /// Links a live node to a free one, which is whole and leads to live nodes: by this store it is
+    /// live (Linux's `rcu_assign_pointer`). What no live node leads to any more is left.
+    pub fn publish<const LEAF: u32, const FAN: u32, T: Drop>(
+        &mut self,
+        graph: &Graph<LEAF, FAN, T, F, K, L, W, N>,
+        from: usize,
+        link: usize,
+        to: usize,
+    )
+        requires graph { IsWatcherOf graph.now self.old }
+        requires from { from < N }
+        requires to { to < N }
+        requires link { link < L }
+        requires live { state_at (nodes_in self.old.view.client) from ≡ Live }
+        requires ready { IsReady F.fits F.joins L (nodes_in self.old.view.client) to }
+        requires joined { F.joins link (node_at (nodes_in self.old.view.client) from).words
+            (node_at (nodes_in self.old.view.client) to).words }
+        ensures graph { IsWatcherOf graph.now self.new }
+        ensures state { self.new ≡ after_step self.old (nodes_in self.new.view.client) }
+        ensures trimmed { AreTrimmed K L (published (nodes_in self.old.view.client) from link to)
+            (nodes_in self.new.view.client) }
+    {
+        self.counted.publish(graph, from, link, to);
+    }
+
+    /// Leads a link of a live node to a live one, or nowhere, by one store. What no live node leads
+    /// to any more is left.
+    pub fn link<const LEAF: u32, const FAN: u32, T: Drop>(
+        &mut self,
+        graph: &Graph<LEAF, FAN, T, F, K, L, W, N>,
+        from: usize,
+        link: usize,
+        to: Option<usize>,
+    )
+        requires graph { IsWatcherOf graph.now self.old }
+        requires from { from < N }
+        requires link { link < L }
+        requires live { state_at (nodes_in self.old.view.client) from ≡ Live }
+        requires target { IsTarget (F.joins link)
+            (node_at (nodes_in self.old.view.client) from).words
+            (nodes_in self.old.view.client) (word_to to) }
+        ensures graph { IsWatcherOf graph.now self.new }
+        ensures state { self.new ≡ after_step self.old (nodes_in self.new.view.client) }
+        ensures trimmed { AreTrimmed K L (relinked (nodes_in self.old.view.client) from link to)
+            (nodes_in self.new.view.client) }
+    {
+        self.counted.link(graph, from, link, to);
+    }
+
+    /// Leads a link of a live node nowhere, by one store. What no live node leads to any more is
+    /// left.
+    pub fn unlink<const LEAF: u32, const FAN: u32, T: Drop>(
+        &mut self,
+        graph: &Graph<LEAF, FAN, T, F, K, L, W, N>,
+        from: usize,
+        link: usize,
+    )
+        requires graph { IsWatcherOf graph.now self.old }
+        requires from { from < N }
+        requires link { link < L }
+        requires live { state_at (nodes_in self.old.view.client) from ≡ Live }
+        ensures graph { IsWatcherOf graph.now self.new }
+        ensures state { self.new ≡ after_step self.old (nodes_in self.new.view.client) }
+        ensures trimmed { AreTrimmed K L (relinked (nodes_in self.old.view.client) from link None)
+            (nodes_in self.new.view.client) }
+    {
+        self.link(graph, from, link, None);
+    }
+
+    /// Looks at the number, by one load, and returns it: what was left is retired at it, and what
+    /// was retired a full grace period ago is free. It costs what it retires and frees.
+    pub fn age<const LEAF: u32, const FAN: u32, T: Drop>(
+        &mut self,
+        graph: &Graph<LEAF, FAN, T, F, K, L, W, N>,
+    ) -> u64
+        requires { IsWatcherOf graph.now self.old }
+        ensures graph { IsWatcherOf graph.now self.new }
+        ensures state { self.new ≡ after_look self.old result }
+        ensures later { self.old.view.seen ≤ result }
+        ensures bounded { result ≤ 2 ^ 62 }
+    {
+        self.counted.nodes.look(graph)
+    }
+}

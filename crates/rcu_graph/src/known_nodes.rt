@@ -1,0 +1,312 @@
+//! The seat that keeps the nodes, and beside it what it knows of them at run time.
+ghost use Rattle.std.specs.Prelude.{◌≡◌, ◌≤◌, ◌<◌, ◌+◌, ◌-◌, ◌*◌, ◌^◌, All, IfNone, IfOk, IfSome};
+ghost use Rattle.std.specs.Prelude.{length, map, slice_index};
+ghost use Rattle.std.specs.List.{range_with_len};
+ghost use Rattle.rcu_graph.specs.Filling.{CanFill, CanStore, after_links, after_words};
+ghost use Rattle.rcu_graph.specs.Graph.{IsWatcherOf, word_to};
+ghost use Rattle.rcu_graph.specs.Keeper.{CanLink, IsKeeperOf, after_leave, after_link};
+ghost use Rattle.rcu_graph.specs.Keeper.{after_look, after_publish, after_write};
+ghost use Rattle.rcu_graph.specs.Mirror.{AreSized};
+ghost use Rattle.rcu_graph.specs.Nodes.{IsKeeping, IsUnlinked, node_at, nodes_in, state_at};
+ghost use Rattle.rcu_graph.specs.Steps.{IsClaimed};
+ghost use Rattle.rcu_graph.specs.Tended.{AreAllUsed, after_fill};
+ghost use Rattle.rcu_graph.specs.Updates.{CanPublish};
+ghost use Rattle.rcu_graph.specs.declared.node_state.NodeState.TheVariants.{Free, Live};
+
+use crate::graph::Graph;
+use crate::mirror::Mirror;
+use crate::node_state::NodeState;
+use crate::rule::{GraphWatcher, Shape};
+use std::alloc::{AllocError, Global};
+use std::marker::Model;
+
+/// The seat that keeps `N` nodes, with their states, links and words.
+#[derive(Drop)]
+pub(crate) struct KnownNodes<
+    F: Shape,
+    const K: usize,
+    const L: usize,
+    const W: usize,
+    const N: usize,
+> {
+    seat: GraphWatcher<F, K, L, W, N>,
+    mirror: Mirror<L, W, N>,
+}
+
+impl<F: Shape, const K: usize, const L: usize, const W: usize, const N: usize> Model
+    for KnownNodes<F, K, L, W, N> {
+    ghost use Rattle.std.specs.Prelude.{◌≡◌, ◌≤◌, length};
+    ghost use Rattle.rcu_live.specs.View.{IsOfWatcher};
+    ghost use Rattle.rcu_live.specs.Watcher.{Watching};
+    ghost use Rattle.rcu_graph.specs.Mirror.{AreBy};
+    ghost use Rattle.rcu_graph.specs.Nodes.{IsKeeping, latest_in, nodes_in};
+    ghost use Rattle.rcu_graph.specs.declared.known.Known.{Known};
+
+    ghost Value = { Watching Known };
+
+    ghost view = { λ k. k.seat };
+
+    ghost invariant = { λ k. record {
+      role : IsOfWatcher k.seat.view;
+      keeps : IsKeeping k.seat.view.client;
+      few : length (nodes_in k.seat.view.client) ≡ N;
+      late : latest_in k.seat.view.client ≤ k.seat.view.seen;
+      same : nodes_in k.seat.view.client ≡ k.mirror;
+      by : AreBy (latest_in k.seat.view.client) k.mirror;
+    } };
+}
+
+impl<F: Shape, const K: usize, const L: usize, const W: usize, const N: usize> KnownNodes<
+    F,
+    K,
+    L,
+    W,
+    N,
+> {
+    /// The seat, whose nodes are as at first.
+    pub(crate) fn new<const LEAF: u32, const FAN: u32, T: Drop>(
+        alloc: Global,
+        graph: &Graph<LEAF, FAN, T, F, K, L, W, N>,
+        seat: GraphWatcher<F, K, L, W, N>,
+        roots: &[[u64; W]; K],
+    ) -> Result<Self, AllocError>
+        requires keeper { IsKeeperOf N graph.now seat }
+        requires first { IsClaimed F.first K L W N seat.view.client }
+        requires roots { roots.now ≡ map F.first (range_with_len 0 K) }
+        ensures { IfOk result (λ nodes. nodes ≡ seat) }
+    {
+        // A borrow of a field shows the prover what the type keeps: that the words fit in memory.
+        let _ = &graph.live;
+        let mirror = Mirror::new::<F, K>(alloc, roots)?;
+        Ok(KnownNodes { seat, mirror })
+    }
+
+    /// What the type keeps: nothing is done.
+    pub(crate) fn keeps<const LEAF: u32, const FAN: u32, T: Drop>(
+        &self,
+        _graph: &Graph<LEAF, FAN, T, F, K, L, W, N>,
+    )
+        requires { IsWatcherOf _graph.now self.now }
+        ensures { IsKeeperOf N _graph.now self.now }
+    {
+        // A borrow of a field shows the prover what the type keeps.
+        let _ = &self.mirror;
+    }
+
+    /// How many nodes there are, and how many links and words each has: nothing is done.
+    pub(crate) fn sizes(&self)
+        ensures keeps { IsKeeping self.now.view.client }
+        ensures few { length (nodes_in self.now.view.client) ≡ N }
+        ensures sized { AreSized N L W (nodes_in self.now.view.client) }
+        ensures fit { L * N + 1 < 2 ^ 64 }
+    {
+        self.mirror.sizes();
+    }
+
+    /// The state of a node.
+    pub(crate) fn state(&self, node: usize) -> NodeState
+        requires { node < N }
+        ensures { result ≡ state_at (nodes_in self.now.view.client) node }
+    {
+        self.mirror.state(node)
+    }
+
+    /// A free node, where there is one.
+    pub(crate) fn free_node(&self) -> Option<usize>
+        ensures inside { IfSome result (λ node. node < N) }
+        ensures free { IfSome result (λ node.
+            state_at (nodes_in self.now.view.client) node ≡ Free) }
+        ensures none { IfNone result (AreAllUsed (nodes_in self.now.view.client)) }
+    {
+        self.mirror.free_node()
+    }
+
+    /// The word of a link of a node.
+    pub(crate) fn link_word(&self, node: usize, link: usize) -> u64
+        requires node { node < N }
+        requires link { link < L }
+        ensures { result ≡ slice_index (node_at (nodes_in self.now.view.client) node).links link }
+    {
+        self.mirror.link(node, link)
+    }
+
+    /// A word of a node.
+    pub(crate) fn word(&self, node: usize, word: usize) -> u64
+        requires node { node < N }
+        requires word { word < W }
+        ensures { result ≡ slice_index (node_at (nodes_in self.now.view.client) node).words word }
+    {
+        self.mirror.word(node, word)
+    }
+
+    /// Stores a word of a free node.
+    fn write<const LEAF: u32, const FAN: u32, T: Drop>(
+        &mut self,
+        graph: &Graph<LEAF, FAN, T, F, K, L, W, N>,
+        node: usize,
+        word: usize,
+        value: u64,
+    )
+        requires { CanStore N W graph.now self.old node word }
+        ensures { self.new ≡ after_write self.old node word value }
+    {
+        graph.write(&mut self.seat, node, word, value);
+        self.mirror.set_word(node, word, value);
+    }
+
+    /// Stores a link of a free node.
+    fn lead<const LEAF: u32, const FAN: u32, T: Drop>(
+        &mut self,
+        graph: &Graph<LEAF, FAN, T, F, K, L, W, N>,
+        node: usize,
+        link: usize,
+        value: u64,
+    )
+        requires { CanStore N L graph.now self.old node link }
+        ensures { self.new ≡ after_link self.old node link value }
+    {
+        self.link(graph, node, link, value);
+    }
+
+    /// Stores a link, as [`Graph::link`] does.
+    pub(crate) fn link<const LEAF: u32, const FAN: u32, T: Drop>(
+        &mut self,
+        graph: &Graph<LEAF, FAN, T, F, K, L, W, N>,
+        node: usize,
+        link: usize,
+        value: u64,
+    )
+        requires graph { IsWatcherOf graph.now self.old }
+        requires node { node < N }
+        requires link { link < L }
+        requires can { CanLink (F.joins link) (nodes_in self.old.view.client) node value }
+        ensures graph { IsWatcherOf graph.now self.new }
+        ensures state { self.new ≡ after_link self.old node link value }
+    {
+        graph.link(&mut self.seat, node, link, value);
+        self.mirror.set_link(node, link, value);
+    }
+
+    /// Stores all words and links of a free node.
+    pub(crate) fn fill<const LEAF: u32, const FAN: u32, T: Drop>(
+        &mut self,
+        graph: &Graph<LEAF, FAN, T, F, K, L, W, N>,
+        node: usize,
+        words: &[u64; W],
+        links: &[Option<usize>; L],
+    )
+        requires graph { IsWatcherOf graph.now self.old }
+        requires node { node < N }
+        requires free { state_at (nodes_in self.old.view.client) node ≡ Free }
+        requires inside { All (λ to. IfSome to (λ other. other < N)) links.now }
+        ensures graph { IsWatcherOf graph.now self.new }
+        ensures state { self.new ≡ after_fill self.old node words.now links.now }
+    {
+        self.sizes();
+        self.fill_words(graph, node, words);
+        self.fill_links(graph, node, links);
+    }
+
+    /// Stores all words of a free node.
+    fn fill_words<const LEAF: u32, const FAN: u32, T: Drop>(
+        &mut self,
+        graph: &Graph<LEAF, FAN, T, F, K, L, W, N>,
+        node: usize,
+        words: &[u64; W],
+    )
+        requires { CanFill N L W graph.now self.old node }
+        ensures { self.new ≡ after_words self.old node words.now }
+    {
+        for word in 0..W {
+            self.write(graph, node, word, words[word]);
+        }
+    }
+
+    /// Stores all links of a free node.
+    fn fill_links<const LEAF: u32, const FAN: u32, T: Drop>(
+        &mut self,
+        graph: &Graph<LEAF, FAN, T, F, K, L, W, N>,
+        node: usize,
+        links: &[Option<usize>; L],
+    )
+        requires free { CanFill N L W graph.now self.old node }
+        requires inside { All (λ to. IfSome to (λ other. other < N)) links.now }
+        ensures { self.new ≡ after_links self.old node (map word_to links.now) }
+    {
+        for link in 0..L {
+            self.lead(graph, node, link, word_of(links[link]));
+        }
+    }
+
+    /// Links a live node to a free one, as [`Graph::publish`] does.
+    pub(crate) fn publish<const LEAF: u32, const FAN: u32, T: Drop>(
+        &mut self,
+        graph: &Graph<LEAF, FAN, T, F, K, L, W, N>,
+        from: usize,
+        link: usize,
+        to: usize,
+    )
+        requires { CanPublish F.fits F.joins N L graph.now self.old from link to }
+        ensures graph { IsWatcherOf graph.now self.new }
+        ensures state { self.new ≡ after_publish self.old from link to }
+    {
+        graph.publish(&mut self.seat, from, link, to);
+        self.mirror.publish(to);
+        self.mirror.set_link(from, link, word_of(Some(to)));
+    }
+
+    /// Leaves a live node to which no live one leads.
+    pub(crate) fn leave<const LEAF: u32, const FAN: u32, T: Drop>(
+        &mut self,
+        graph: &Graph<LEAF, FAN, T, F, K, L, W, N>,
+        node: usize,
+    )
+        requires graph { IsWatcherOf graph.now self.old }
+        requires node { node < N }
+        requires no_root { K ≤ node }
+        requires live { state_at (nodes_in self.old.view.client) node ≡ Live }
+        requires unlinked { IsUnlinked L (nodes_in self.old.view.client) node }
+        ensures graph { IsWatcherOf graph.now self.new }
+        ensures state { self.new ≡ after_leave self.old node }
+    {
+        graph.leave(&mut self.seat, node);
+        self.mirror.leave(node);
+    }
+
+    /// Looks at the number, by which the nodes age. It costs what becomes free or retired by it.
+    pub(crate) fn look<const LEAF: u32, const FAN: u32, T: Drop>(
+        &mut self,
+        graph: &Graph<LEAF, FAN, T, F, K, L, W, N>,
+    ) -> u64
+        requires { IsWatcherOf graph.now self.old }
+        ensures graph { IsWatcherOf graph.now self.new }
+        ensures state { self.new ≡ after_look self.old result }
+        ensures later { self.old.view.seen ≤ result }
+        ensures bounded { result ≤ 2 ^ 62 }
+    {
+        let number = graph.look(&mut self.seat);
+        self.mirror.age(number);
+        number
+    }
+}
+
+/// The word of a link that leads to a node, or nowhere.
+pub(crate) fn word_of(to: Option<usize>) -> u64
+    requires { IfSome to (λ node. node < 2 ^ 64 - 1) }
+    ensures { result ≡ word_to to }
+{
+    match to {
+        Some(node) => node as u64 + 1,
+        None => 0,
+    }
+}
+
+/// The node to which a link with this word leads.
+pub(crate) fn node_of(word: u64) -> Option<usize>
+    ensures { word_to result ≡ word }
+{
+    if word == 0 {
+        return None;
+    }
+    Some((word - 1) as usize)
+}

@@ -1,0 +1,93 @@
+//! The steps of a walk.
+ghost use Rattle.std.specs.Prelude.{◌≡◌, ◌<◌, ℕ, IfSome, List, slice_index};
+ghost use Rattle.rcu_graph.specs.Graph.{IsAt, IsWalking, word_to};
+ghost use Rattle.rcu_graph.specs.Nodes.{IsOn};
+ghost use Rattle.rcu_graph.specs.Search.{Ascends, IsFound, IsSearched};
+ghost use Rattle.rcu_graph.specs.Steps.{Followed};
+ghost use Rattle.rcu_graph.specs.Walks.{after_walk, known_in, walked};
+
+use crate::graph::Graph;
+use crate::rule::{GraphSeat, Shape};
+use crate::walk::Walk;
+
+impl<
+    const LEAF: u32,
+    const FAN: u32,
+    T: Drop,
+    F: Shape,
+    const K: usize,
+    const L: usize,
+    const W: usize,
+    const N: usize,
+> Graph<LEAF, FAN, T, F, K, L, W, N> {
+    /// Lends the seat to a walk of its open section, which goes on from the hops that it has made.
+    /// Nothing is loaded.
+    pub fn walk<'a>(
+        &'a self,
+        seat: &'a mut GraphSeat<F, K, L, W, N>,
+    ) -> Walk<'a, LEAF, FAN, T, F, K, L, W, N>
+        requires { IsWalking self.now seat.old }
+        ensures graph { (walked result).graph ≡ self.now }
+        ensures seat { (walked result).seat ≡ seat.old }
+        ensures name { (walked result).name ≡ seat.entry.ghost_name }
+    {
+        Walk { graph: self, seat }
+    }
+}
+
+impl<
+    'a,
+    const LEAF: u32,
+    const FAN: u32,
+    T: Drop,
+    F: Shape,
+    const K: usize,
+    const L: usize,
+    const W: usize,
+    const N: usize,
+> Walk<'a, LEAF, FAN, T, F, K, L, W, N> {
+    /// Loads a link of a node that the section is on, as [`Graph::follow`] does.
+    pub fn follow(&mut self, from: usize, link: usize) -> Option<usize>
+        requires at { IsAt F.first K N (walked self.old).graph (walked self.old).seat from }
+        requires link { link < L }
+        ensures same { walked self.new ≡ after_walk (walked self.old)
+            (known_in (walked self.new)) }
+        ensures walking { IsWalking (walked self.new).graph (walked self.new).seat }
+        ensures came { (words : List ℕ) → IsOn F.first K (known_in (walked self.old)) from words →
+            Followed F.fits (F.joins link words) W N (known_in (walked self.old)) from link
+            (word_to result) (known_in (walked self.new)) }
+        ensures on { IfSome result (λ node.
+            IsAt F.first K N (walked self.new).graph (walked self.new).seat node) }
+    {
+        self.graph.follow(self.seat, from, link)
+    }
+
+    /// Loads a word of a node that the section is on, as [`Graph::read`] does.
+    pub fn read(&mut self, node: usize, word: usize) -> u64
+        requires at { IsAt F.first K N (walked self.old).graph (walked self.old).seat node }
+        requires word { word < W }
+        ensures same { walked self.new ≡ walked self.old }
+        ensures told { (words : List ℕ) → IsOn F.first K (known_in (walked self.old)) node words →
+            result ≡ slice_index words word }
+    {
+        self.graph.read(self.seat, node, word)
+    }
+
+    /// Searches the chain of a root for a key, as [`Graph::find`] does.
+    pub fn find(&mut self, root: usize, key: u64) -> Option<usize>
+        requires root { root < K }
+        requires link { 0 < L }
+        requires ascends { Ascends F.joins 0 }
+        ensures same { walked self.new ≡ after_walk (walked self.old)
+            (known_in (walked self.new)) }
+        ensures walking { IsWalking (walked self.new).graph (walked self.new).seat }
+        ensures searched { IsSearched root key (known_in (walked self.old)) result
+            (known_in (walked self.new)) }
+        ensures found { IfSome result (λ node.
+            IsFound F.fits key (known_in (walked self.new)) node) }
+        ensures on { IfSome result (λ node.
+            IsAt F.first K N (walked self.new).graph (walked self.new).seat node) }
+    {
+        self.graph.find(self.seat, root, key)
+    }
+}

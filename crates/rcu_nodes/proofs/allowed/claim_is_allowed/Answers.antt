@@ -1,5 +1,0 @@
-use Rattle.rcu_nodes.proofs.At.{claims_at}
-use Rattle.rcu_nodes.proofs.allowed.claim_is_allowed.Goals as goal
-
-pub returns : goal.returns
-returns g c = claims_at g.F.Shape.fits g.F.Shape.joins g.F.Shape.first _ _ _ _ _ _ _ c.requires

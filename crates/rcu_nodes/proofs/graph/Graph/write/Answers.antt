@@ -1,9 +1,0 @@
-use Rattle.std.proofs.Common.{◌∙◌, length-set}
-use Rattle.rcu_nodes.proofs.Keeping.{keeps_on}
-use Rattle.rcu_nodes.proofs.graph.Graph.write.Goals as goal
-
-pub returns-clause-keeper : goal.returns-clause-keeper
-returns-clause-keeper g c =
-    let e = c.store_word.ensures in
-    keeps_on _ _ _ _ _ _ e.state (e.told c.args.node c.args.word c.requires.word c.place_of-place.ensures.place)
-    (length-set _ _ _ ∙ c.requires.keeper.few) c.requires.keeper

@@ -1,5 +1,0 @@
-use Rattle.rcu_nodes.proofs.HeldNodes.{chains}
-use Rattle.rcu_nodes.proofs.laws.chains_go_up.Goals as goal
-
-pub returns : goal.returns
-returns g c = chains g.F.Shape.fits g.F.Shape.joins g.F.Shape.first _ _ _ _

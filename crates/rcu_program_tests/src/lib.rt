@@ -1,0 +1,11 @@
+//! Tests of the command line (`rcu_command`), and of torture runs (`rcu_stress`).
+#![tactic(auto)]
+
+#[cfg(test)]
+mod command;
+#[cfg(test)]
+mod draws;
+#[cfg(test)]
+mod reason;
+#[cfg(test)]
+mod runs;
