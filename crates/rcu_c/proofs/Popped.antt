@@ -10,7 +10,7 @@ use Rattle.rcu_cblist.proofs.Lists.{length_taken}
 use Rattle.rcu_cblist.proofs.Popping.{done_left, taken_both, untaken_first}
 use Rattle.rcu_barrier.specs.Lists.{list_of, with_list}
 use Rattle.rcu_barrier.proofs.Popping.{list_left, runs_both}
-use Rattle.rcu_core.specs.GpState.{after_run}
+use Rattle.rcu_state.specs.GpState.{after_run}
 use Rattle.rcu_live.specs.Engine.{HasWaited, Locked}
 use Rattle.rcu_live.specs.EngineLists.{on_grace}
 

@@ -7,8 +7,8 @@ use Rattle.rcu_barrier.specs.declared.barrier_state.BarrierState.{BarrierState}
 use Rattle.rcu_barrier.specs.declared.barrier_state.BarrierState.TheVariants as state
 use Rattle.rcu_barrier.specs.declared.visit.Visit.{Visit}
 use Rattle.rcu_barrier.specs.declared.visit.Visit.TheVariants as visit
-use Rattle.rcu_core.specs.declared.turned.Turned.{Turned}
-use Rattle.rcu_core.specs.declared.turned.Turned.TheVariants as turned
+use Rattle.rcu_state.specs.declared.turned.Turned.{Turned}
+use Rattle.rcu_state.specs.declared.turned.Turned.TheVariants as turned
 use Rattle.rcu_live.specs.declared.collection.Collected.{Collected}
 use Rattle.rcu_live.specs.declared.collection.Collected.TheVariants as collected
 use Rattle.rcu_c.specs.declared.grace_periods.Turn.{Turn}

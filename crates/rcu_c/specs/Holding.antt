@@ -2,8 +2,8 @@
 use Rattle.std.specs.Prelude.{◌≡◌, ℕ, ◌≤◌, ◌-◌, ◌^◌, [], List, take, Option, Some, None, ⊤}
 use Rattle.atomic_table.specs.Seated.{TableId}
 use Rattle.rcu_node.specs.CpuSet.{is_in}
-use Rattle.rcu_core.specs.GpState.{Grace}
-use Rattle.rcu_core.specs.Replies.{which}
+use Rattle.rcu_state.specs.GpState.{Grace}
+use Rattle.rcu_state.specs.GpState.{which}
 use Rattle.rcu_seq.specs.Numbers.{Number}
 use Rattle.rcu_live.specs.CpuSeat.{Seated, after_renew}
 use Rattle.rcu_live.specs.Engine.{Locked}

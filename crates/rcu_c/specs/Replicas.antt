@@ -4,7 +4,7 @@ use Rattle.rcu_node.specs.CpuSet.{is_in}
 use Rattle.rcu_node.specs.Words.{flags_in}
 use Rattle.rcu_node.specs.declared.answer.Answer.{Answer}
 use Rattle.rcu_node.specs.declared.answer.Answer.TheVariants.{Taken, Last, Repeat, Stale}
-use Rattle.rcu_core.specs.Replies.{which}
+use Rattle.rcu_state.specs.GpState.{which}
 use Rattle.rcu_report.specs.Replica.{Call, Replicated, at_first, after_call, cpus_of}
 use Rattle.rcu_c.specs.Answers.{number_or}
 use Rattle.rcu_c.specs.declared.contents.Contents.{Contents}

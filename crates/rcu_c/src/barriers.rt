@@ -1,7 +1,7 @@
 //! The barrier over callbacks: `rcu` is under the caller's lock.
 ghost use Rattle.std.specs.Prelude.{◌≡◌, ◌≢◌, if◌then◌else◌};
 ghost use Rattle.rcu_barrier.specs.Lists.{barrier_test_answer, visit_answer};
-ghost use Rattle.rcu_core.specs.GpState as grace;
+ghost use Rattle.rcu_state.specs.GpState as grace;
 ghost use Rattle.rcu_live.specs.EngineLists.{visit_refusal};
 ghost use Rattle.rcu_c.specs.Answers.{left_of, number_for, tested_number, visit_number};
 ghost use Rattle.rcu_c.specs.Holding.{engine_of, grace_of, on_grace};

@@ -5,7 +5,7 @@ ghost use Rattle.rcu_seq.specs.Fault.{fault_number};
 ghost use Rattle.rcu_seq.specs.Seq.{number_of};
 ghost use Rattle.rcu_cblist.specs.SegList.{behind, callbacks, front, take_answer};
 ghost use Rattle.rcu_barrier.specs.Lists.{list_of};
-ghost use Rattle.rcu_core.specs.GpState as grace;
+ghost use Rattle.rcu_state.specs.GpState as grace;
 ghost use Rattle.rcu_live.specs.Engine.{HasWaited, cpu_refusal};
 ghost use Rattle.rcu_live.specs.EngineLists as lists;
 ghost use Rattle.rcu_live.specs.EngineLists.{queue_refusal};

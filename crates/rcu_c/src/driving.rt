@@ -2,9 +2,9 @@
 ghost use Rattle.std.specs.Prelude.{◌≡◌, ◌≢◌, None, drop, false, length, take};
 ghost use Rattle.rcu_seq.specs.Seq.{cookie_of};
 ghost use Rattle.rcu_node.specs.CpuSet.{is_in};
-ghost use Rattle.rcu_core.specs.GpState as grace;
-ghost use Rattle.rcu_core.specs.GpState.{awaited_in};
-ghost use Rattle.rcu_core.specs.Replies.{which};
+ghost use Rattle.rcu_state.specs.GpState as grace;
+ghost use Rattle.rcu_state.specs.GpState.{awaited_in};
+ghost use Rattle.rcu_state.specs.GpState.{which};
 ghost use Rattle.rcu_live.specs.Drive.{after_drive, drive_answer, drive_refusal, moved_on};
 ghost use Rattle.rcu_live.specs.Drive.{wants_begin, wants_for};
 ghost use Rattle.rcu_live.specs.Engine.{latest_words};

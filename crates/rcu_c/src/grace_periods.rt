@@ -1,7 +1,7 @@
 //! Grace periods: `rcu` is under the caller's lock.
 ghost use Rattle.std.specs.Prelude.{◌≡◌, ◌≢◌};
 ghost use Rattle.rcu_seq.specs.Seq.{number_of};
-ghost use Rattle.rcu_core.specs.GpState as grace;
+ghost use Rattle.rcu_state.specs.GpState as grace;
 ghost use Rattle.rcu_live.specs.Engine as live;
 ghost use Rattle.rcu_live.specs.Engine.{cpu_refusal, latest_words, latest_word};
 ghost use Rattle.rcu_c.specs.Answers.{collected_number, number_for, turn_of};
@@ -11,8 +11,8 @@ ghost use Rattle.rcu_c.specs.Staying.{AllStay, BothStay};
 
 use crate::codes::{code, write_out};
 use crate::handle::Rcu;
-use rcu_core::Turned;
 use rcu_live::Collected;
+use rcu_state::Turned;
 
 /// What a turn did (`rcu_turn_t`).
 #[repr(C)]

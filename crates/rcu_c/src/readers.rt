@@ -4,7 +4,7 @@ ghost use Rattle.std.specs.Prelude.{◌≡◌, ◌≢◌, ◌<◌, ◌≤◌, No
 ghost use Rattle.rcu_seq.specs.Seq.{cookie_of, number_of};
 ghost use Rattle.rcu_seq.specs.Tags.{is_done_first};
 ghost use Rattle.rcu_node.specs.CpuSet.{is_in};
-ghost use Rattle.rcu_core.specs.GpState.{awaited_in};
+ghost use Rattle.rcu_state.specs.GpState.{awaited_in};
 ghost use Rattle.rcu_c.specs.Holding.{engine_of, grace_of, never_done};
 ghost use Rattle.rcu_c.specs.Refusals.{engine_refusal};
 

@@ -3,7 +3,7 @@ use Rattle.std.proofs.Common.{◌≡◌, ℕ, ◌+◌, ◌*◌, ◌<◌, ◌≤�
 use Rattle.std.specs.Prelude.{count_by, nat_lt, ◌&&◌}
 use Rattle.std.proofs.lemmas.Bool.Decides.{nat_tests}
 use Rattle.std.proofs.lemmas.List.Sums.{sum_by-cons}
-use Rattle.rcu_seq.specs.Numbers.{is_last, is_running, number_at, snapshot}
+use Rattle.rcu_seq.specs.Numbers.{is_last, number_at, snapshot}
 use Rattle.rcu_seq.specs.Tags.{clock_of, cookie_at, is_before, is_done_at}
 use Rattle.rcu_seq.specs.declared.tag.Tag.{Tag}
 use Rattle.std.proofs.Common.{◌%◌, Some, not, inl, inr}
@@ -11,6 +11,7 @@ use Rattle.std.proofs.lemmas.Bool.{cases_Bool, true≢false}
 use Rattle.rcu_seq.specs.declared.fault.Fault.TheVariants as fault
 use Rattle.rcu_seq.proofs.Clocks.{before_by_clock, before_same, by_fours, done_by_clock, done_same, is_before_from}
 use Rattle.rcu_seq.proofs.Clocks.{last_fours, next_epoch}
+use Rattle.rcu_state.proofs.Periods.{running_number}
 use Rattle.rcu_core.specs.History.{History, ends, enters, depth, ends_in_epoch, epoch, number, opening, renumbers, running, tag_now}
 use Rattle.std.specs.Prelude.{◌==◌}
 use Rattle.rcu_core.specs.Replies.{Size, fault_in, AreAccepted}
@@ -119,10 +120,6 @@ done_ticks s g h p q d =
       | inl l ↦ told_done s.last (tag_now g) (tag_now h) l (i.within l) (j.within l) d
       | inr l ↦ first_done s.last (tag_now g) (tag_now h) (i.alone l) (j.alone l) d
     ])
-
--- the number while a grace period runs is one at which one runs
-pub running_number : (ends : ℕ) (running : Bool) → running ≡ true → is_running (number_at ends running) ≡ true
-running_number ends running runs = grind (arith, nat_tests, runs)
 
 -- a tag is before that of a running grace period where the clock was lower
 pub before_ticks : (s : Size) (g h : History) → AreAccepted s g → AreAccepted s h → running h ≡ true

@@ -13,14 +13,16 @@ use Rattle.rcu_cpu.specs.CpuData as cpu_data
 use Rattle.rcu_cpu.specs.CpuData.{Processor}
 use Rattle.rcu_cblist.specs.SegList.{Item, numbers}
 use Rattle.rcu_barrier.specs.Lists.{AllLists, barrier_left, is_visited}
-use Rattle.rcu_core.specs.Callbacks.{barrier_runs, greatest_from}
-use Rattle.rcu_core.specs.GpState.{after_begin, after_end, at_first, awaited_in, own_report, periods_of}
+use Rattle.rcu_core.specs.Callbacks.{barrier_runs}
+use Rattle.rcu_state.specs.Periods.{greatest_from}
+use Rattle.rcu_state.specs.GpState.{after_begin, after_end, at_first, awaited_in, own_report, periods_of}
 use Rattle.rcu_core.specs.History.{History, epoch, online, running, noted, depth, enter_count, exit_count, report_at, is_idle}
 use Rattle.rcu_core.specs.Replies.{Size, AreAccepted, IsLegalReply, accepted_reply, barrier_test_reply, fault_in}
 use Rattle.rcu_core.specs.Replies.{or_fault}
 use Rattle.rcu_core.specs.Replies.{waits_for, with_event}
 use Rattle.rcu_core.specs.Runs.{Leads, RunsLegally}
-use Rattle.rcu_core.specs.Situation.{Situation, cpus_in, situation, wants_begin}
+use Rattle.rcu_core.specs.Situation.{Situation, cpus_in, situation}
+use Rattle.rcu_state.specs.Periods.{wants_begin}
 use Rattle.rcu_core.specs.Core.{State, IsSound, StepsLegally, Represents, Follows, size_at, after_event, after_reply}
 use Rattle.rcu_core.specs.declared.event.Event.{Event}
 use Rattle.rcu_core.specs.declared.event.Event.TheVariants.{Enter, Exit, Note, Quiesce, Deliver, Online, Offline, Begin}

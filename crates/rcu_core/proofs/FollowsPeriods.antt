@@ -13,13 +13,14 @@ use Rattle.rcu_node.proofs.CpuSetLemmas.{is_in-remove}
 use Rattle.rcu_report.specs.declared.report.Report.{Report}
 use Rattle.rcu_hotplug.specs.Hotplug.{cpus_of}
 use Rattle.rcu_seq.specs.Seq.{tag_of}
-use Rattle.rcu_core.specs.GpState.{Grace, after_begin, after_end, awaited_in, own_report, periods_of}
+use Rattle.rcu_state.specs.GpState.{Grace, after_begin, after_end, awaited_in, own_report, periods_of}
 use Rattle.rcu_core.specs.History.{History, begins, running, tag_now, online, reports_made, report_at, is_of, is_heard}
 use Rattle.rcu_core.specs.History.{awaits}
 use Rattle.rcu_seq.specs.Histories.{latest}
 use Rattle.rcu_core.specs.Replies.{fault_in, accepted_reply, turn_reply, begin_reply as begun_said}
 use Rattle.rcu_core.specs.Replies.{end_reply as ended_said, how_many, history_event, with_event}
-use Rattle.rcu_core.specs.Situation.{Situation, situation, wants_begin}
+use Rattle.rcu_core.specs.Situation.{Situation, situation}
+use Rattle.rcu_state.specs.Periods.{wants_begin}
 use Rattle.rcu_core.specs.Core.{State, IsSound, Represents, size_at, says, awaited_by, after_event, after_reply}
 use Rattle.rcu_core.specs.declared.event.Event.TheVariants.{Begin, Deliver, End, Offline, Scan, Turn}
 use Rattle.rcu_core.specs.declared.reply.Reply.TheVariants as reply

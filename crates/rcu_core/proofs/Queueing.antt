@@ -27,7 +27,7 @@ use Rattle.rcu_core.proofs.Clocks.{before_where_lower, clock, in_epoch, opening_
 use Rattle.rcu_core.proofs.Facts.{Facts, facts}
 use Rattle.rcu_core.proofs.Kept.{queue_counts}
 use Rattle.rcu_core.proofs.Readers.{Open, open_from, possible}
-use Rattle.rcu_core.proofs.Timely.{all_at}
+use Rattle.rcu_state.proofs.Timely.{all_at}
 use Rattle.rcu_core.proofs.Waited.{Waited, each_cond, each_from, each_front, each_leaving, each_moved}
 use Rattle.rcu_core.proofs.Waited.{front_waited, lists_kept, clock_at_queueing, ran_values}
 use Rattle.rcu_core.proofs.Writes.{eqb_self}

@@ -11,7 +11,8 @@ use Rattle.rcu_seq.specs.declared.fault.Fault.{Fault}
 use Rattle.rcu_core.specs.History.{History, depth, is_idle, opening, running, section, is_old, awaits, tag_now}
 use Rattle.rcu_core.specs.Replies.{Size, fault_in, how_many, accepted_reply, or_fault, waits_for, history_event}
 use Rattle.rcu_core.specs.Replies.{with_event, AreAccepted, IsLegalReply}
-use Rattle.rcu_core.specs.Situation.{Situation, situation, wants_begin}
+use Rattle.rcu_core.specs.Situation.{Situation, situation}
+use Rattle.rcu_state.specs.Periods.{wants_begin}
 use Rattle.rcu_core.specs.Runs.{Run, IsLegalRun, history, takes}
 use Rattle.rcu_core.specs.declared.event.Event.{Event}
 use Rattle.rcu_core.specs.declared.event.Event.TheVariants.{Turn, Take, StartPoll, Poll, BarTest}

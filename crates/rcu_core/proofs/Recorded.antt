@@ -4,7 +4,8 @@ use Rattle.std.specs.Prelude.{◌==◌}
 use Rattle.rcu_seq.specs.Numbers.{number_at}
 use Rattle.rcu_core.specs.History.{History}
 use Rattle.rcu_core.specs.Replies.{Size, accepted_reply, turn_reply, waits_for, how_many, history_event, with_event}
-use Rattle.rcu_core.specs.Situation.{Situation, wants_begin}
+use Rattle.rcu_core.specs.Situation.{Situation}
+use Rattle.rcu_state.specs.Periods.{wants_begin}
 use Rattle.rcu_core.specs.declared.event.Event.{Event}
 use Rattle.rcu_core.specs.declared.event.Event.TheVariants.{Enter, Exit, Note, Quiesce, Deliver, Online, Offline, Turn}
 use Rattle.rcu_core.specs.declared.event.Event.TheVariants.{Poll, Queue, Tend, Run, Visit, BarTest, Idle, Wake, Scan}

@@ -17,9 +17,9 @@ use Rattle.rcu_hotplug.specs.Hotplug.{cpus_of}
 use Rattle.rcu_cpu.specs.CpuData.{Processor, at_first as made_processor, report_of}
 use Rattle.rcu_cblist.specs.SegList.{Item}
 use Rattle.rcu_seq.specs.Seq.{tag_of}
-use Rattle.rcu_core.specs.GpState.{Grace, after_begin, after_end, after_renumber, after_report, after_turn, at_first, awaited_after}
-use Rattle.rcu_core.specs.GpState.{awaited_in, periods_of}
-use Rattle.rcu_core.specs.Situation.{wants_begin}
+use Rattle.rcu_state.specs.GpState.{Grace, after_begin, after_end, after_renumber, after_report, after_turn, at_first, awaited_after}
+use Rattle.rcu_state.specs.GpState.{awaited_in, periods_of}
+use Rattle.rcu_state.specs.Periods.{wants_begin}
 use Rattle.rcu_core.specs.Core.{State, IsSound, processor, size_at}
 
 -- where the online processors, their number, the lists and all that is kept of them stay, what always holds stays

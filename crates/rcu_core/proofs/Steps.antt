@@ -21,9 +21,9 @@ use Rattle.rcu_barrier.specs.Tending.{after_tend}
 use Rattle.rcu_barrier.specs.declared.barrier_state.BarrierState.{BarrierState}
 use Rattle.rcu_barrier.specs.declared.barrier_state.BarrierState.TheVariants as barrier
 use Rattle.rcu_seq.specs.Seq.{number_of, tag_of}
-use Rattle.rcu_core.specs.GpState.{after_begin, after_end, after_hear, after_report, awaited_in, begin_refusal, end_refusal}
-use Rattle.rcu_core.specs.GpState.{hear_answer, own_report, periods_of, renumber_refusal, report_answer_in, turn_answer, turn_refusal}
-use Rattle.rcu_core.specs.Situation.{wants_begin}
+use Rattle.rcu_state.specs.GpState.{after_begin, after_end, after_hear, after_report, awaited_in, begin_refusal, end_refusal}
+use Rattle.rcu_state.specs.GpState.{hear_answer, own_report, periods_of, renumber_refusal, report_answer_in, turn_answer, turn_refusal}
+use Rattle.rcu_state.specs.Periods.{wants_begin}
 use Rattle.rcu_core.specs.History.{report_at}
 use Rattle.rcu_core.specs.Replies.{fault_in, accepted_reply, or_fault, how_many, answer_to_report, waits_for}
 use Rattle.rcu_core.specs.Core.{State, IsSound, StepsLegally, says, after_event, after_reply, processor, size_at}
@@ -32,8 +32,8 @@ use Rattle.rcu_core.specs.declared.event.Event.TheVariants.{Deliver, Begin, End,
 use Rattle.rcu_core.specs.declared.event.Event.TheVariants.{BarTest, Renumber, Scan}
 use Rattle.rcu_core.specs.declared.reply.Reply.{Reply}
 use Rattle.rcu_core.specs.declared.reply.Reply.TheVariants as reply
-use Rattle.rcu_core.specs.declared.turned.Turned.{Turned}
-use Rattle.rcu_core.specs.declared.turned.Turned.TheVariants as turned
+use Rattle.rcu_state.specs.declared.turned.Turned.{Turned}
+use Rattle.rcu_state.specs.declared.turned.Turned.TheVariants as turned
 use Rattle.rcu_core.proofs.Counting.{markers_of_each, unvisited_of_each}
 
 -- a step of a state is one of any state that equals it

@@ -1,5 +1,5 @@
 -- What the accepted events so far say of callbacks: each processor's list, the barrier, and who was handed out.
-use Rattle.std.specs.Prelude.{ℕ, ◌+◌, nat_lt, ◌==◌, Bool, true, false, not, ◌&&◌, max, fold, if◌then◌else◌}
+use Rattle.std.specs.Prelude.{ℕ, ◌+◌, nat_lt, ◌==◌, Bool, true, false, not, ◌&&◌, max, if◌then◌else◌}
 use Rattle.std.specs.Prelude.{List, [], ◌∷◌, ◌++◌, count_by}
 use Rattle.rcu_seq.specs.Histories.{has_full, is_on, latest, some_since}
 use Rattle.rcu_seq.specs.Numbers.{Number, snapshot}
@@ -7,6 +7,7 @@ use Rattle.rcu_cblist.specs.declared.queued.Queued.{Queued}
 use Rattle.rcu_cblist.specs.SegList.{Item, Of, Unmarked, after_migrate, after_renumber, numbers, take_answer, after_take, as_it_leaves}
 use Rattle.rcu_barrier.specs.Runs.{copies}
 use Rattle.rcu_barrier.specs.Tending.{after_tend}
+use Rattle.rcu_state.specs.Periods.{greatest_from}
 use Rattle.rcu_core.specs.History.{History, begins, ends, number, tag_now}
 use Rattle.rcu_core.specs.declared.event.Event.{Event}
 use Rattle.rcu_core.specs.declared.event.Event.TheVariants.{Offline, StartPoll, Queue, Tend, Run, BarBegin, Visit}
@@ -66,10 +67,6 @@ list cpu (Offline c ∷ h) =
     else (if cpu == 0 then after_migrate (list cpu h) (as_it_leaves (list c h) (is_owed c h)) else list cpu h)
 list cpu (Renumber ∷ h) = after_renumber (list cpu h)
 list cpu (_ ∷ h) = list cpu h
-
--- the greatest of a number and some others
-abbrev pub greatest_from : Number → List Number → Number
-greatest_from number numbers = fold max number numbers
 
 -- the needed number: the greatest among the cookies of started polls and, for each tend, the numbers that its list then
 -- waits for; 0 before any. Where the numbers start anew, what is needed above the number, which is the last one then, is

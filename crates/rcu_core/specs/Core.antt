@@ -10,11 +10,12 @@ use Rattle.rcu_cpu.specs.CpuData as cpu_data
 use Rattle.rcu_cpu.specs.CpuData.{Call, Processor, report_of}
 use Rattle.rcu_barrier.specs.Lists as lists
 use Rattle.rcu_barrier.specs.Lists.{AllLists, list_of, owes_visit}
-use Rattle.rcu_core.specs.GpState as grace
-use Rattle.rcu_core.specs.GpState.{Grace, periods_of}
+use Rattle.rcu_state.specs.GpState as grace
+use Rattle.rcu_state.specs.GpState.{Grace, periods_of}
 use Rattle.rcu_core.specs.History.{History, report_at}
 use Rattle.rcu_core.specs.Replies.{Size, AreAccepted, IsLegalReply, with_event}
-use Rattle.rcu_core.specs.Situation.{Situation, PeriodSituation, CpuSituation, CallbackSituation}
+use Rattle.rcu_core.specs.Situation.{Situation, CpuSituation, CallbackSituation}
+use Rattle.rcu_state.specs.Periods.{PeriodSituation}
 use Rattle.rcu_core.specs.Situation.{periods_in, cpus_in, calls_in, situation}
 use Rattle.rcu_core.specs.declared.event.Event.{Event}
 use Rattle.rcu_core.specs.declared.event.Event.TheVariants.{Enter, Exit, Note, Quiesce, Deliver, Online, Offline, Begin}

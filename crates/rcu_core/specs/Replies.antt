@@ -1,6 +1,6 @@
 -- Which replies are legal to an event after a history.
 use Rattle.std.specs.Prelude.{ℕ, ◌+◌, ◌-◌, ◌≡◌, ◌⊎◌, ◌==◌, Bool, true, false, not, ◌&&◌, nat_lt, nat_le, if◌then◌else◌}
-use Rattle.std.specs.Prelude.{List, [], ◌∷◌, length, filter, count_by, map, sum_by, Option, Some, None, is_none}
+use Rattle.std.specs.Prelude.{List, [], ◌∷◌, length, count_by, map, sum_by, Option, Some, None, is_none}
 use Rattle.std.specs.List.{range_with_len}
 use Rattle.rcu_seq.specs.Numbers.{Number, is_last, number_at, same_number}
 use Rattle.rcu_seq.specs.Tags.{cookie_at, is_done_at, last_epoch, same_tag}
@@ -16,7 +16,9 @@ use Rattle.rcu_barrier.specs.Tending.{after_tend}
 use Rattle.rcu_barrier.specs.declared.visit.Visit.{Visit as Visited}
 use Rattle.rcu_barrier.specs.declared.visit.Visit.TheVariants.{Marked, Empty, Already}
 use Rattle.rcu_core.specs.History.{History, report_at}
-use Rattle.rcu_core.specs.Situation.{Situation, number_in, situation, tag_in, wants_begin}
+use Rattle.rcu_core.specs.Situation.{Situation, situation}
+use Rattle.rcu_state.specs.GpState.{which}
+use Rattle.rcu_state.specs.Periods.{number_in, tag_in, wants_begin}
 use Rattle.rcu_core.specs.declared.event.Event.{Event}
 use Rattle.rcu_core.specs.declared.event.Event.TheVariants.{Enter, Exit, Note, Quiesce, Deliver, Online, Offline, Begin}
 use Rattle.rcu_core.specs.declared.event.Event.TheVariants.{End, Turn, Awaits, Take, StartPoll, Poll, Queue, Tend, Run}
@@ -33,10 +35,6 @@ pub record Size : Type 0 where
 -- how many of the processors pass a test
 abbrev pub how_many : Size → (ℕ → Bool) → ℕ
 how_many s test = count_by test (range_with_len 0 s.cpus)
-
--- the processors below n that pass a test, ascending
-abbrev pub which : ℕ → (ℕ → Bool) → List ℕ
-which n test = filter test (range_with_len 0 n)
 
 -- the number is the last one
 abbrev pub is_last_in : Size → Situation → Bool

@@ -1,34 +1,14 @@
 -- What the events so far say, in three parts: of grace periods, of the processors and of callbacks.
-use Rattle.std.specs.Prelude.{ℕ, ◌&&◌, Bool, not, nat_lt, List}
-use Rattle.rcu_seq.specs.Numbers.{Number, number_at}
+use Rattle.std.specs.Prelude.{ℕ, Bool, List}
 use Rattle.rcu_seq.specs.declared.tag.Tag.{Tag}
 use Rattle.rcu_report.specs.declared.report.Report.{Report}
 use Rattle.rcu_cblist.specs.SegList.{Item}
 use Rattle.rcu_core.specs.Callbacks.{barrier_runs, is_owed, list, needed, queue_count}
 use Rattle.rcu_core.specs.History.{History, awaits, depth, ends_in_epoch, epoch, noted, online, reports_made}
 use Rattle.rcu_core.specs.History.{is_idle, running}
+use Rattle.rcu_state.specs.Periods.{PeriodSituation}
 
--- what the events so far say of grace periods: the epoch, how many ended in it, whether one runs, and which number is
--- needed
-pub record PeriodSituation : Type 0 where
-  pub epoch : ℕ
-  pub ends : ℕ
-  pub running : Bool
-  pub needed : Number
-
--- their number
-abbrev pub number_in : PeriodSituation → Number
-number_in p = number_at p.ends p.running
-
--- their number in its epoch
-abbrev pub tag_in : PeriodSituation → Tag
-tag_in p = record { epoch = p.epoch; number = number_in p }
-
--- a grace period is wanted: the needed number is above the number, and none runs
-abbrev pub wants_begin : PeriodSituation → Bool
-wants_begin p = not p.running && nat_lt (number_in p) p.needed
-
--- what they say of the processors: which are online, which are idle, which are awaited, how deep the sections of each
+-- what the events so far say of the processors: which are online, which are idle, which are awaited, how deep the sections of each
 -- nest, which tag it noted last; and all reports
 pub record CpuSituation : Type 0 where
   pub online : ℕ → Bool

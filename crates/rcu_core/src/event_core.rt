@@ -6,17 +6,16 @@ ghost use Rattle.rcu_seq.specs.Tags.{first_tag};
 ghost use Rattle.rcu_node.specs.CpuSet.{is_in, size_of};
 ghost use Rattle.rcu_hotplug.specs.Hotplug.{cpus_of};
 ghost use Rattle.rcu_barrier.specs.Lists.{most_queued};
+ghost use Rattle.rcu_state.specs.GpState.{which};
 ghost use Rattle.rcu_core.specs.History.{History, report_at};
-ghost use Rattle.rcu_core.specs.Replies.{fault_in, which};
+ghost use Rattle.rcu_core.specs.Replies.{fault_in};
 ghost use Rattle.rcu_core.specs.Links.{onto};
 ghost use Rattle.rcu_core.specs.Runs.{IsLegalRun, RunsLegally};
 ghost use Rattle.rcu_core.specs.Core.{Follows, Refuses, Represents, StepsLegally, says, size_at};
 
 use crate::cpu_list::CpuList;
 use crate::event::Event;
-use crate::gp_state::GpState;
 use crate::reply::Reply;
-use crate::turned::Turned;
 use crate::value_list::ValueList;
 use rcu_barrier::BarrierState;
 use rcu_barrier::lists::MOST_QUEUED;
@@ -24,6 +23,7 @@ use rcu_cpu::CpuData;
 use rcu_node::Awaited;
 use rcu_report::Report;
 use rcu_seq::{Cookie, Fault};
+use rcu_state::{GpState, Turned};
 use std::alloc::{AllocError, Global};
 use std::marker::Model;
 

@@ -2,10 +2,10 @@
 ghost use Rattle.std.specs.Prelude.{◌≡◌, ◌<◌, All, length};
 
 use crate::engine::{Four, drives, last_seat, opened, renews};
-use rcu_core::Turned;
 use rcu_defer::Deferrer;
 use rcu_live::{CpuSeat, Watcher};
 use rcu_seq::{Cookie, Fault};
+use rcu_state::Turned;
 use std::alloc::Global;
 use std::process::Abort;
 use std::sync::Wait;

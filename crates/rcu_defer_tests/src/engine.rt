@@ -1,9 +1,9 @@
 //! An engine of two processors, and what each test does with it.
 ghost use Rattle.std.specs.Prelude.{◌≡◌, ◌+◌, ◌<◌, All, length};
 
-use rcu_core::Turned;
 use rcu_live::{CpuSeat, Live, Watcher};
 use rcu_seq::{Cookie, Fault};
+use rcu_state::Turned;
 use std::alloc::Global;
 use std::process::Abort;
 use std::sync::Wait;

@@ -2,9 +2,9 @@
 ghost use Rattle.std.specs.Prelude.{◌≡◌};
 
 use crate::engine::{Four, drives, last_seat, opened, pins, renews, repins, unpins};
-use rcu_core::Turned;
 use rcu_live::CpuSeat;
 use rcu_seq::Fault;
+use rcu_state::Turned;
 use std::process::Abort;
 use std::sync::Wait;
 

@@ -7,7 +7,7 @@ use Rattle.rcu_seq.specs.Seq.{Periods, tag_of}
 use Rattle.rcu_node.specs.CpuSet.{is_in, listed, unheard}
 use Rattle.rcu_node.proofs.CpuSetLemmas.{is_in-listed, length-listed, listed_same}
 use Rattle.rcu_barrier.specs.Lists.{AllLists}
-use Rattle.rcu_core.specs.GpState.{Grace, after_begin, with_awaited}
+use Rattle.rcu_state.specs.GpState.{Grace, after_begin, with_awaited}
 use Rattle.rcu_live.specs.Engine.{AwaitsTheOthers, begun_from, loads_in_turn, next_number}
 use Rattle.rcu_live.specs.Numbers.{reports_quiescence}
 use Rattle.rcu_live.proofs.LoadedWords.{cleared_in_turn}

@@ -7,7 +7,7 @@ use Rattle.rcu_seq.specs.Numbers.{Number}
 use Rattle.rcu_seq.specs.Seq.{number_of}
 use Rattle.rcu_node.specs.CpuSet.{is_in, unheard}
 use Rattle.rcu_node.proofs.CpuSetLemmas.{is_in-listed}
-use Rattle.rcu_core.specs.GpState.{after_current_report, with_awaited}
+use Rattle.rcu_state.specs.GpState.{after_current_report, with_awaited}
 use Rattle.rcu_live.specs.Drive.{after_collections, loads_of}
 use Rattle.rcu_live.specs.Engine.{Locked, after_collect, latest_word, latest_words, loaded_word}
 use Rattle.rcu_live.specs.Numbers.{reports_quiescence}

@@ -5,7 +5,7 @@ use Rattle.std.proofs.lemmas.Bool.Decides.{nat_tests}
 use Rattle.rcu_seq.specs.declared.fault.Fault.{Fault}
 use Rattle.rcu_node.specs.CpuSet.{is_in}
 use Rattle.rcu_hotplug.specs.Hotplug.{Depart, cpus_of, refusal}
-use Rattle.rcu_core.specs.GpState.{Grace, with_call}
+use Rattle.rcu_state.specs.GpState.{Grace, with_call}
 use Rattle.rcu_live.specs.EngineLists.{with_departure}
 
 -- a processor other than 0 departs where it is online

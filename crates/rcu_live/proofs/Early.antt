@@ -10,10 +10,10 @@ use Rattle.rcu_hotplug.specs.Hotplug.{Arrive, Depart}
 use Rattle.rcu_cblist.specs.SegList.{Item, Of, Unmarked, after_entrain, after_migrate, as_it_leaves, take_answer}
 use Rattle.rcu_cblist.specs.declared.queued.Queued.{Queued}
 use Rattle.rcu_barrier.specs.Lists.{AllLists, barrier_left, is_visited, list_of, owes_visit, with_list}
-use Rattle.rcu_core.specs.GpState.{AreTimely, Grace, HasWaited, after_current_report, awaited_in, periods_of, with_call}
-use Rattle.rcu_core.specs.Situation.{wants_begin}
-use Rattle.rcu_core.proofs.Timely.{all_at, taken_waited, timely_append, timely_entrained, timely_later, timely_leaving, timely_moved, timely_tended}
-use Rattle.rcu_core.proofs.Timely.{timely_untaken}
+use Rattle.rcu_state.specs.GpState.{AreTimely, Grace, HasWaited, after_current_report, awaited_in, periods_of, with_call}
+use Rattle.rcu_state.specs.Periods.{wants_begin}
+use Rattle.rcu_state.proofs.Timely.{all_at, taken_waited, timely_append, timely_entrained, timely_later, timely_leaving, timely_moved, timely_tended}
+use Rattle.rcu_state.proofs.Timely.{timely_untaken}
 use Rattle.rcu_live.specs.Drive.{after_drive, after_collections, moved_on}
 use Rattle.rcu_live.specs.Engine.{Locked, after_begin, after_collect, after_end, after_turn}
 use Rattle.rcu_live.specs.EngineLists.{after_join, with_departure}

@@ -12,8 +12,8 @@ use Rattle.rcu_seq.specs.declared.tag.Tag.{Tag}
 use Rattle.rcu_node.specs.CpuSet.{is_in}
 use Rattle.rcu_hotplug.specs.Hotplug.{Arrive, Depart as Departs}
 use Rattle.rcu_cblist.specs.declared.queued.Queued.{Queued}
-use Rattle.rcu_core.specs.GpState.{Grace, HasWaited, after_current_report, awaited_in, periods_of, with_call}
-use Rattle.rcu_core.specs.Situation.{wants_begin}
+use Rattle.rcu_state.specs.GpState.{Grace, HasWaited, after_current_report, awaited_in, periods_of, with_call}
+use Rattle.rcu_state.specs.Periods.{wants_begin}
 use Rattle.rcu_live.specs.Drive.{after_drive, after_collections, moved_on}
 use Rattle.rcu_live.specs.Engine.{Locked, after_begin, after_collect, after_end, after_turn}
 use Rattle.rcu_live.specs.EngineLists.{with_departure}

@@ -10,8 +10,8 @@ use Rattle.rcu_cblist.specs.SegList.{Item, after_entrain, after_renumber, take_a
 use Rattle.rcu_cblist.specs.declared.queued.Queued.{Queued}
 use Rattle.rcu_barrier.specs.Lists.{AllLists, at_first, barrier_left, barrier_test_answer, is_visited, list_of, lists_after_migrate}
 use Rattle.rcu_barrier.specs.declared.barrier_state.BarrierState.{BarrierState}
-use Rattle.rcu_core.specs.GpState.{Grace, after_current_report, after_start_poll, awaited_in, periods_of, with_call}
-use Rattle.rcu_core.specs.Situation.{wants_begin}
+use Rattle.rcu_state.specs.GpState.{Grace, after_current_report, after_start_poll, awaited_in, periods_of, with_call}
+use Rattle.rcu_state.specs.Periods.{wants_begin}
 use Rattle.rcu_live.specs.Drive.{after_drive, after_collections, moved_on}
 use Rattle.rcu_live.specs.Engine.{Locked, after_begin, after_collect, after_end, after_turn}
 use Rattle.rcu_live.specs.EngineLists.{after_departure, after_join, after_load_own, on_grace, with_departure}

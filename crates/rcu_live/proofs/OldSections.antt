@@ -7,8 +7,8 @@ use Rattle.atomic_table.specs.Table.{State}
 use Rattle.rcu_seq.specs.Numbers.{Number, is_running}
 use Rattle.rcu_seq.specs.Seq.{number_of}
 use Rattle.rcu_node.specs.CpuSet.{is_in}
-use Rattle.rcu_core.specs.GpState.{Grace}
-use Rattle.rcu_core.proofs.Clocks.{running_number}
+use Rattle.rcu_state.specs.GpState.{Grace}
+use Rattle.rcu_state.proofs.Periods.{running_number}
 use Rattle.rcu_live.specs.Client.{Slots, Views}
 use Rattle.rcu_live.specs.Engine.{AwaitsTheOthers}
 use Rattle.rcu_live.specs.Rule.{Fits, IsKept, is_cleared}

@@ -1,7 +1,7 @@
 -- What is awaited once the processors of a set are reported, one after another.
 use Rattle.std.proofs.Common.{◌≡◌, ℕ, ◌+◌, ◌<◌, Bool, true, false, List, length, refl, sym, ap, ◌∙◌}
 use Rattle.rcu_node.specs.CpuSet.{is_in, unheard}
-use Rattle.rcu_core.specs.GpState.{Grace, after_current_report, with_awaited}
+use Rattle.rcu_state.specs.GpState.{Grace, after_current_report, with_awaited}
 use Rattle.rcu_live.proofs.HeardBelow.{heard_below, none_more, not_both, one_below}
 
 module _ {X : Type 0} where

@@ -8,11 +8,11 @@ use Rattle.rcu_seq.specs.declared.cookie.Cookie.{Cookie}
 use Rattle.rcu_seq.specs.declared.fault.Fault.{Fault}
 use Rattle.rcu_seq.specs.declared.fault.Fault.TheVariants.{Exhausted}
 use Rattle.rcu_node.specs.CpuSet.{is_in, unheard}
-use Rattle.rcu_core.specs.GpState as grace
-use Rattle.rcu_core.specs.GpState.{Grace, awaited_in, periods_of, with_awaited}
-use Rattle.rcu_core.specs.Situation as situation
-use Rattle.rcu_core.specs.declared.turned.Turned.{Turned}
-use Rattle.rcu_core.specs.declared.turned.Turned.TheVariants as turned
+use Rattle.rcu_state.specs.GpState as grace
+use Rattle.rcu_state.specs.GpState.{Grace, awaited_in, periods_of, with_awaited}
+use Rattle.rcu_state.specs.Periods as periods
+use Rattle.rcu_state.specs.declared.turned.Turned.{Turned}
+use Rattle.rcu_state.specs.declared.turned.Turned.TheVariants as turned
 use Rattle.rcu_live.specs.Engine.{Locked, after_begin, after_end, next_number}
 use Rattle.rcu_live.specs.Numbers.{reports_quiescence}
 use Rattle.rcu_live.specs.Words.{own_word_index}
@@ -29,7 +29,7 @@ module _ {X : Type 0} where
 
   -- one is wanted for callbacks: none runs, and the needed number is above the number
   abbrev pub wants_begin : Grace X → Bool
-  wants_begin g = situation.wants_begin (periods_of g)
+  wants_begin g = periods.wants_begin (periods_of g)
 
   -- why a step is refused: none runs, one is wanted, and the number is the last one
   abbrev pub drive_refusal : Grace X → Bool → Option Fault

@@ -9,13 +9,13 @@ use Rattle.rcu_seq.specs.declared.fault.Fault.TheVariants.{BadCpu}
 use Rattle.rcu_seq.specs.declared.tag.Tag.{Tag}
 use Rattle.rcu_node.specs.CpuSet.{is_in, listed}
 use Rattle.rcu_hotplug.specs.Hotplug.{cpus_of}
-use Rattle.rcu_core.specs.GpState as grace
-use Rattle.rcu_core.specs.GpState.{Grace, after_current_report, awaited_in, current_answer, periods_of}
-use Rattle.rcu_core.specs.Situation.{wants_begin}
-use Rattle.rcu_core.specs.declared.current_answer.CurrentAnswer.{CurrentAnswer}
-use Rattle.rcu_core.specs.declared.current_answer.CurrentAnswer.TheVariants as current
-use Rattle.rcu_core.specs.declared.turned.Turned.{Turned}
-use Rattle.rcu_core.specs.declared.turned.Turned.TheVariants as turned
+use Rattle.rcu_state.specs.GpState as grace
+use Rattle.rcu_state.specs.GpState.{Grace, after_current_report, awaited_in, current_answer, periods_of}
+use Rattle.rcu_state.specs.Periods.{wants_begin}
+use Rattle.rcu_state.specs.declared.current_answer.CurrentAnswer.{CurrentAnswer}
+use Rattle.rcu_state.specs.declared.current_answer.CurrentAnswer.TheVariants as current
+use Rattle.rcu_state.specs.declared.turned.Turned.{Turned}
+use Rattle.rcu_state.specs.declared.turned.Turned.TheVariants as turned
 use Rattle.rcu_live.specs.Numbers.{reports_quiescence}
 use Rattle.rcu_live.specs.Rule.{is_cleared}
 use Rattle.rcu_live.specs.View.{IsOfEngine, after_begin_store, after_end_store, after_own_word_load}

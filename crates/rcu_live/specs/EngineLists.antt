@@ -9,7 +9,7 @@ use Rattle.rcu_hotplug.specs.Hotplug.{Arrive, Depart}
 use Rattle.rcu_cblist.specs.SegList.{is_empty}
 use Rattle.rcu_cblist.specs.declared.queued.Queued.{Queued}
 use Rattle.rcu_barrier.specs.Lists.{list_of, queue_fault}
-use Rattle.rcu_core.specs.GpState.{Grace, after_migrate, with_call}
+use Rattle.rcu_state.specs.GpState.{Grace, after_migrate, with_call}
 use Rattle.rcu_live.specs.Engine.{HasWaited, Locked}
 use Rattle.rcu_live.specs.Numbers.{is_number_word}
 use Rattle.rcu_live.specs.View.{after_own_word_load}

@@ -3,7 +3,7 @@ use Rattle.std.specs.Prelude.{◌≡◌, ℕ, ◌≤◌, All, List, length, map}
 use Rattle.std.specs.List.{range_with_len}
 use Rattle.atomic_table.specs.Seated.{TableId}
 use Rattle.rcu_seq.specs.Numbers.{Number}
-use Rattle.rcu_core.specs.GpState as grace
+use Rattle.rcu_state.specs.GpState as grace
 use Rattle.rcu_live.specs.Board.{IsSized, Object}
 use Rattle.rcu_live.specs.Engine.{Locked}
 use Rattle.rcu_live.specs.CpuSeat.{IsSeatOf, Seated, at_first}

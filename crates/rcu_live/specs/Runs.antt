@@ -7,7 +7,7 @@ use Rattle.rcu_cblist.specs.SegList.{take_answer}
 use Rattle.rcu_cblist.specs.declared.queued.Queued.{Queued}
 use Rattle.rcu_barrier.specs.Lists.{at_first, list_of}
 use Rattle.rcu_barrier.specs.Runs.{copies}
-use Rattle.rcu_core.specs.GpState as grace
+use Rattle.rcu_state.specs.GpState as grace
 use Rattle.rcu_live.specs.Drive.{after_collections, after_drive}
 use Rattle.rcu_live.specs.Engine.{Locked, after_begin, after_collect, after_end, after_turn}
 use Rattle.rcu_live.specs.EngineLists.{after_departure, after_join, after_leave, after_load_own, on_grace}

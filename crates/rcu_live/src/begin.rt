@@ -2,14 +2,14 @@
 ghost use Rattle.std.specs.Prelude.{◌≡◌, ◌<◌, ◌==◌, [], not, true, nat_lt, length, slice_set};
 ghost use Rattle.rcu_node.specs.CpuSet.{is_in, listed, unheard};
 ghost use Rattle.rcu_hotplug.specs.Hotplug.{cpus_of};
-ghost use Rattle.rcu_core.specs.GpState.{with_awaited};
+ghost use Rattle.rcu_state.specs.GpState.{with_awaited};
 ghost use Rattle.rcu_live.specs.Engine.{OnlineBecomes, after_own_word_loads, loaded_word};
 ghost use Rattle.rcu_live.specs.View.{IsOfEngine};
 
 use crate::board::{Board, TableSeat};
 use crate::client::Client;
-use rcu_core::GpState;
 use rcu_node::{Awaited, CpuSet};
+use rcu_state::GpState;
 
 /// The processor is online from now on exactly where it is here. Processor 0 is.
 fn set_online<A: Awaited, T: Drop>(gp: &mut GpState<A, T>, cpu: u32, is_here: bool)

@@ -6,8 +6,8 @@ ghost use Rattle.rcu_live.specs.Engine.{ArePieces};
 
 use crate::board::{Board, TableSeat};
 use crate::client::{Client, NoClient};
-use rcu_core::GpState;
 use rcu_node::{Awaited, CpuSet};
+use rcu_state::GpState;
 use std::alloc::Global;
 use std::marker::Model;
 use std::sync::Arc;

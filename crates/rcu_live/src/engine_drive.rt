@@ -3,7 +3,7 @@ ghost use Rattle.std.specs.Prelude.{◌≡◌, ◌<◌, IfOk, OnErr, OnOk, true}
 ghost use Rattle.std.specs.Result.{result_err};
 ghost use Rattle.rcu_seq.specs.Seq.{cookie_of};
 ghost use Rattle.rcu_node.specs.CpuSet.{is_in};
-ghost use Rattle.rcu_core.specs.GpState as grace;
+ghost use Rattle.rcu_state.specs.GpState as grace;
 ghost use Rattle.rcu_live.specs.Drive.{after_collections, after_drive, drive_answer};
 ghost use Rattle.rcu_live.specs.Drive.{drive_refusal, wants_begin, wants_for};
 ghost use Rattle.rcu_live.specs.Engine.{after_collect, latest_word, latest_words};
@@ -12,9 +12,9 @@ ghost use Rattle.rcu_live.specs.Runs.{Call, Makes};
 
 use crate::client::Client;
 use crate::engine::Engine;
-use rcu_core::Turned;
 use rcu_node::Awaited;
 use rcu_seq::{Cookie, Fault};
+use rcu_state::Turned;
 
 impl<A: Awaited, T: Drop, P: Client> Engine<A, T, P> {
     /// Whether the processor is awaited.

@@ -155,7 +155,7 @@ impl<A: Awaited, T: Drop, P: Client> Engine<A, T, P> {
     }
 
     /// Gives back the memory that a processor's list does not need, as
-    /// [`GpState::shrink`](rcu_core::gp_state::GpState::shrink), and returns for how many items,
+    /// [`GpState::shrink`](rcu_state::gp_state::GpState::shrink), and returns for how many items,
     /// callbacks and markers, it has room then. An empty list keeps none. Costs a step an item.
     ///
     /// Fault `BadCpu` (1): there is no such processor.

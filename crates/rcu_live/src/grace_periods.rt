@@ -2,7 +2,7 @@
 ghost use Rattle.std.specs.Prelude.{◌≡◌, IfOk, OnErr, OnOk};
 ghost use Rattle.std.specs.Result.{result_err};
 ghost use Rattle.rcu_seq.specs.Seq.{number_of};
-ghost use Rattle.rcu_core.specs.GpState as grace;
+ghost use Rattle.rcu_state.specs.GpState as grace;
 ghost use Rattle.rcu_live.specs.Engine.{collect_answer, latest_words, latest_word, turn_answer};
 ghost use Rattle.rcu_live.specs.Engine.{collected_by, cpu_refusal};
 ghost use Rattle.rcu_live.specs.Runs.{Call, Makes};
@@ -11,9 +11,9 @@ use crate::begin::{load_own_words, report_all};
 use crate::client::Client;
 use crate::collection::Collected;
 use crate::engine::Engine;
-use rcu_core::{CurrentAnswer, Turned};
 use rcu_node::Awaited;
 use rcu_seq::Fault;
+use rcu_state::{CurrentAnswer, Turned};
 
 /// What a collection tells by the answer to the report.
 fn collected(answer: CurrentAnswer) -> Collected

@@ -11,8 +11,8 @@ use crate::client::Client;
 use crate::cpu_seat::CpuSeat;
 use crate::live::Live;
 use crate::watcher::Watcher;
-use rcu_core::Turned;
 use rcu_seq::{Cookie, Fault};
+use rcu_state::Turned;
 use std::sync::Wait;
 use std::thread;
 

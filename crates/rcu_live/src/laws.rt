@@ -13,7 +13,7 @@ ghost use Rattle.rcu_cblist.specs.declared.queued.Queued.{Queued};
 ghost use Rattle.rcu_barrier.specs.Lists.{barrier_test_answer, list_of};
 ghost use Rattle.rcu_barrier.specs.Runs.{times_listed};
 ghost use Rattle.rcu_barrier.specs.declared.barrier_state.BarrierState.{BarrierState};
-ghost use Rattle.rcu_core.specs.GpState.{Grace, HasWaited};
+ghost use Rattle.rcu_state.specs.GpState.{Grace, HasWaited};
 ghost use Rattle.rcu_live.specs.Engine.{AwaitsTheOthers, Locked};
 ghost use Rattle.rcu_live.specs.Met.{MeetsSection};
 ghost use Rattle.rcu_live.specs.Rule.{IsKept};

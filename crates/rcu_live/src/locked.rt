@@ -11,9 +11,9 @@ use crate::client::Client;
 use crate::collection::Collected;
 use crate::cpu_seat::CpuSeat;
 use crate::live::Live;
-use rcu_core::Turned;
 use rcu_node::Awaited;
 use rcu_seq::Fault;
+use rcu_state::Turned;
 use std::sync::Wait;
 
 impl<const LEAF: u32, const FAN: u32, T: Drop, P: Client> Live<LEAF, FAN, T, P> {

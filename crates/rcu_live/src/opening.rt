@@ -3,7 +3,7 @@ ghost use Rattle.std.specs.Prelude.{◌≡◌, ◌≤◌, ◌^◌, [], ◌∷◌
 ghost use Rattle.std.specs.Arc.{arc_value};
 ghost use mathlib.Core.Option.{some};
 ghost use Rattle.rcu_barrier.specs.Lists.{most_queued};
-ghost use Rattle.rcu_core.specs.GpState as grace;
+ghost use Rattle.rcu_state.specs.GpState as grace;
 ghost use Rattle.rcu_geometry.specs.Opening.{opening_refusal};
 ghost use Rattle.rcu_live.specs.Board.{IsCpuCount};
 ghost use Rattle.rcu_live.specs.Opening.{AreDealt, AreFanouts, IsOpened};
@@ -19,10 +19,10 @@ use crate::parts::Parts;
 use crate::seats::{BoardParts, open_board};
 use crate::watcher::Watcher;
 use rcu_barrier::lists::MOST_QUEUED;
-use rcu_core::GpState;
 use rcu_geometry::check_size;
 use rcu_node::{CpuSet, Tree};
 use rcu_seq::Fault;
+use rcu_state::GpState;
 use std::alloc::{AllocError, Global};
 use std::sync::Arc;
 

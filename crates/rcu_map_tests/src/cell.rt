@@ -12,9 +12,9 @@ mod versions;
 mod waits;
 
 use rcu_cell::{Cell, CellSeat, Full, Invariant, Keeper, Retired};
-use rcu_core::Turned;
 use rcu_live::Collected;
 use rcu_seq::Fault;
+use rcu_state::Turned;
 use std::alloc::Global;
 use std::io::Print;
 use std::process::Abort;

@@ -12,7 +12,8 @@ use Rattle.rcu_node.specs.declared.answer.Answer.TheVariants as answer
 use Rattle.rcu_barrier.specs.declared.visit.Visit.TheVariants as visit
 use Rattle.rcu_core.specs.History.{History}
 use Rattle.rcu_core.specs.Replies.{Size, accepted_reply, answer, causes, how_many, or_fault, waits_for}
-use Rattle.rcu_core.specs.Situation.{Situation, situation, wants_begin}
+use Rattle.rcu_state.specs.Periods.{wants_begin}
+use Rattle.rcu_core.specs.Situation.{Situation, situation}
 use Rattle.rcu_core.specs.declared.event.Event.{Event}
 use Rattle.rcu_core.specs.declared.event.Event.TheVariants as event
 use Rattle.rcu_core.specs.declared.reply.Reply.{Reply}

@@ -5,7 +5,8 @@ use Rattle.rcu_seq.specs.declared.fault.Fault.TheVariants.{BadLine}
 use Rattle.rcu_node.specs.CpuSet.{is_in}
 use Rattle.rcu_node.specs.Merging.{same_set}
 use Rattle.rcu_report.specs.Replica.{Replicated}
-use Rattle.rcu_core.specs.Replies.{Size, which}
+use Rattle.rcu_state.specs.GpState.{which}
+use Rattle.rcu_core.specs.Replies.{Size}
 use Rattle.rcu_core.specs.declared.reply.Reply.TheVariants as say
 use Rattle.rcu_text.specs.Texts.{numbered_text}
 use Rattle.rcu_text.specs.declared.line_shape.Line.{Line}

@@ -3,13 +3,13 @@ ghost use Rattle.std.specs.Prelude.{◌≡◌, ℕ, List, IfErr, IfOk, OnErr, On
 ghost use Rattle.rcu_cblist.specs.declared.queued.Queued.{Queued};
 ghost use Rattle.rcu_live.specs.CpuSeat.{after_depart, after_quiesce};
 ghost use Rattle.rcu_live.specs.EngineLists.{AreDue, is_run_fault};
-ghost use Rattle.rcu_core.specs.declared.turned.Turned.{Turned};
+ghost use Rattle.rcu_state.specs.declared.turned.Turned.{Turned};
 ghost use Rattle.rcu_live.specs.declared.collection.Collected.{Collected};
 
 use rcu_cblist::Refused;
-use rcu_core::Turned;
 use rcu_live::{Collected, CpuSeat, Live, NoClient, Ran, Shared};
 use rcu_seq::Fault;
+use rcu_state::Turned;
 use std::sync::Wait;
 
 /// The engine of a run: a callback carries its id.

@@ -3,9 +3,9 @@ ghost use Rattle.std.specs.Prelude.{◌≡◌};
 
 use crate::live::steps::Script;
 use crate::live::threads::{Pair, last_seat, last_watcher, make_pair, opened};
-use rcu_core::Turned;
 use rcu_live::{Collected, CpuSeat, Watcher};
 use rcu_seq::Fault;
+use rcu_state::Turned;
 use std::alloc::Global;
 use std::process::Abort;
 use std::sync::Wait;

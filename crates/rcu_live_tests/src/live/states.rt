@@ -3,9 +3,9 @@ ghost use Rattle.std.specs.Prelude.{◌≡◌};
 
 use crate::live::steps::Script;
 use crate::live::threads::{Pair, make_pair};
-use rcu_core::Turned;
 use rcu_live::{Collected, CpuSeat};
 use rcu_seq::Fault;
+use rcu_state::Turned;
 use std::process::Abort;
 use std::sync::Wait;
 

@@ -3,10 +3,10 @@ ghost use Rattle.std.specs.Prelude.{◌≡◌};
 
 use rcu_barrier::{BarrierState, Visit};
 use rcu_cblist::Queued;
-use rcu_core::Turned;
 use rcu_live::{Collected, CpuSeat, Engine, Live, Met, Ran, Watcher};
 use rcu_node::Tree;
 use rcu_seq::{Cookie, Fault, Tag};
+use rcu_state::Turned;
 use std::cell::Cell;
 use std::fmt::Debug;
 use std::process::Abort;

@@ -4,9 +4,9 @@ ghost use Rattle.std.specs.Thread.{IsSync};
 
 use crate::live::steps::{Four, of_epoch};
 use crate::live::threads::{Pair, last_seat, last_watcher, make_pair, opened};
-use rcu_core::Turned;
 use rcu_live::{CpuSeat, Watcher};
 use rcu_seq::Fault;
+use rcu_state::Turned;
 use std::process::Abort;
 use std::sync::Wait;
 use std::sync::atomic::{AtomicU64, Ordering};

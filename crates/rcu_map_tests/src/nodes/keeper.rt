@@ -4,9 +4,9 @@ ghost use Rattle.std.specs.Prelude.{◌≡◌, ◌<◌};
 ghost use Rattle.rcu_live.specs.CpuSeat.{IsSeatOf};
 
 use crate::nodes::kept::{Chain, Kept, Seat};
-use rcu_core::Turned;
 use rcu_graph::Full;
 use rcu_seq::Cookie;
+use rcu_state::Turned;
 use std::process::Abort;
 use std::sync::Wait;
 

@@ -1,7 +1,7 @@
 use Rattle.std.proofs.Common.{◌≡◌, ◌+◌, ◌&&◌, ◌<◌, Bool, not, List, length, ap, sym, ◌∙◌, arith}
 use Rattle.rcu_node.specs.CpuSet.{is_in, unheard}
 use Rattle.rcu_node.proofs.CpuSetLemmas.{length-listed}
-use Rattle.rcu_core.specs.GpState.{Grace, GraceWithRooms, with_awaited}
+use Rattle.rcu_state.specs.GpState.{Grace, GraceWithRooms, with_awaited}
 use Rattle.rcu_live.proofs.HeardBelow.{all_below, heard_below, none_below}
 use Rattle.rcu_live.proofs.Reports.{passed_by, reported_more}
 use Rattle.rcu_live.proofs.begin.report_all.Goals as goal

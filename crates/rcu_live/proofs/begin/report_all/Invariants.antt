@@ -1,7 +1,7 @@
 use Rattle.std.proofs.Common.{◌≡◌, length}
 use Rattle.rcu_node.specs.CpuSet.{is_in, unheard}
 use Rattle.rcu_hotplug.specs.Hotplug.{cpus_of}
-use Rattle.rcu_core.specs.GpState.{with_awaited}
+use Rattle.rcu_state.specs.GpState.{with_awaited}
 use Rattle.rcu_live.proofs.HeardBelow.{heard_below}
 use Rattle.rcu_live.proofs.begin.report_all.Given as goal
 

@@ -3,9 +3,9 @@ ghost use Rattle.std.specs.Prelude.{◌≡◌};
 
 use crate::live::stress::parts::Place;
 use crate::live::stress::stop::{Stop, hold_to};
-use rcu_core::Turned;
 use rcu_live::Watcher;
 use rcu_seq::Cookie;
+use rcu_state::Turned;
 use std::sync::Wait;
 use std::thread::yield_now;
 

@@ -1,6 +1,6 @@
 use Rattle.std.proofs.Common.{◌<◌, rules}
 use Rattle.std.proofs.lemmas.Result.{err_from_is_err_and}
-use Rattle.rcu_core.specs.GpState.{awaited_in}
+use Rattle.rcu_state.specs.GpState.{awaited_in}
 use Rattle.rcu_core.proofs.Steps.{does_want, refused_along}
 use Rattle.rcu_core.proofs.event_core.Core+A+u64.awaits.Goals as goal
 

@@ -1,6 +1,6 @@
 use Rattle.std.proofs.Common.{ℕ, ◌∙◌, ap, refl}
 use Rattle.rcu_seq.specs.Seq.{number_of}
-use Rattle.rcu_core.specs.GpState.{Grace, awaited_in}
+use Rattle.rcu_state.specs.GpState.{Grace, awaited_in}
 use Rattle.rcu_core.proofs.Steps.{along, does_begin}
 use Rattle.rcu_core.proofs.event_core.Core+A+u64.begin.Goals as goal
 

@@ -1,7 +1,7 @@
 use Rattle.std.proofs.Common.{ℕ, ◌∙◌, ap, refl}
 use Rattle.std.proofs.lemmas.Result.{err_from_is_err_and}
 use Rattle.rcu_seq.specs.Seq.{number_of}
-use Rattle.rcu_core.specs.GpState.{Grace}
+use Rattle.rcu_state.specs.GpState.{Grace}
 use Rattle.rcu_core.proofs.Steps.{along, does_end, refuses_end}
 use Rattle.rcu_core.proofs.event_core.Core+A+u64.end.Goals as goal
 

@@ -1,7 +1,7 @@
 use Rattle.std.proofs.Common.{◌≡◌, ℕ, List, ◌∙◌, ap, arith, length, rules}
 use Rattle.rcu_hotplug.specs.Hotplug.{cpus_of}
 use Rattle.rcu_cpu.specs.CpuData.{Processor}
-use Rattle.rcu_core.specs.GpState.{Grace, at_first}
+use Rattle.rcu_state.specs.GpState.{Grace, at_first}
 use Rattle.rcu_core.proofs.Follows.{has_first}
 use Rattle.rcu_core.proofs.Sound.{first_count, first_cpus, first_more, first_size, sound_first}
 use Rattle.rcu_core.proofs.event_core.Core+A+u64.with_most.Goals as goal

@@ -4,7 +4,7 @@ use Rattle.std.specs.Arc.{arc_value}
 use Rattle.rcu_seq.specs.Seq.{number_of}
 use Rattle.rcu_seq.specs.declared.fault.Fault.TheVariants as fault
 use Rattle.rcu_node.proofs.CpuSetLemmas.{length-listed}
-use Rattle.rcu_core.specs.GpState.{Grace}
+use Rattle.rcu_state.specs.GpState.{Grace}
 use Rattle.rcu_live.specs.Board.{Object}
 use Rattle.rcu_live.specs.Engine.{after_own_word_loads, begun_from, loaded_word, next_number}
 use Rattle.rcu_live.specs.View.{after_begin_store}

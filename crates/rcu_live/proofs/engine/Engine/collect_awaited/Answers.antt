@@ -1,5 +1,5 @@
 use Rattle.std.proofs.Common.{◌≡◌, ◌+◌, ◌<◌, ◌∙◌, ap, arith, length, sym}
-use Rattle.rcu_core.specs.GpState.{Grace}
+use Rattle.rcu_state.specs.GpState.{Grace}
 use Rattle.rcu_live.specs.Engine.{Locked, latest_words}
 use Rattle.rcu_live.proofs.Collections.{all_collected, awaited_still, collected_below, none_collected, one_collected, one_passed_by}
 use Rattle.rcu_live.proofs.engine.Engine.collect_awaited.Goals as goal

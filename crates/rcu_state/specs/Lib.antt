@@ -1,0 +1,2 @@
+pub mod GpState
+pub mod Periods

@@ -1,0 +1,207 @@
+//! The callbacks of the state, and the barrier over them.
+ghost use Rattle.std.specs.Prelude.{◌≡◌, ◌≢◌, ◌<◌, ◌≤◌, ◌==◌, ◌^◌, if◌then◌else◌, All, [], true};
+ghost use Rattle.std.specs.Prelude.{false, length, slice_get, IfErr, IfOk, IfSome, IsOk, OnErr};
+ghost use Rattle.std.specs.Prelude.{OnOk};
+ghost use Rattle.rcu_seq.specs.Seq.{tag_of};
+ghost use Rattle.rcu_hotplug.specs.Hotplug.{cpus_of};
+ghost use Rattle.rcu_cblist.specs.SegList.{begins_with_marker, behind, callbacks, front, is_empty};
+ghost use Rattle.rcu_cblist.specs.SegList.{take_answer};
+ghost use Rattle.rcu_barrier.specs.Lists as lists;
+ghost use Rattle.rcu_barrier.specs.Lists.{HasRoomIn, KeepsOtherRooms, barrier_test_answer};
+ghost use Rattle.rcu_barrier.specs.Lists.{leaving_list, list_of, room_of, visit_answer};
+ghost use Rattle.rcu_state.specs.GpState as grace;
+ghost use Rattle.rcu_state.specs.GpState.{lists_of};
+
+use crate::gp_state::GpState;
+use rcu_barrier::{BarrierState, Lists, Visit};
+use rcu_cblist::{Queued, Refused};
+use rcu_node::Awaited;
+use rcu_seq::Fault;
+
+impl<A: Awaited, T: Drop> GpState<A, T> {
+    /// Queues a callback on a processor, at the number (Linux's `call_rcu`). Returns how many were
+    /// queued, which is its place among them. Costs as [`Lists::queue`].
+    ///
+    /// Faults, with the value: `CallbacksFull` (15) where as many were queued as may be; `NoMemory`
+    /// (16).
+    pub fn queue(&mut self, cpu: u32, value: T) -> Result<u64, Refused<T>>
+        requires { cpu < cpus_of self.old.grace.processors }
+        ensures count { IfOk result (λ count. count ≡ self.new.grace.lists.queued) }
+        ensures bounded { IfOk result (λ count. count ≤ 2 ^ 62) }
+        ensures few { OnOk result (self.old.grace.lists.queued < self.old.grace.lists.most) }
+        ensures state { OnOk result (self.new.grace ≡ grace.after_queue self.old.grace cpu value) }
+        ensures fault { IfErr result (λ refused. refused.fault ≡
+            (if self.old.grace.lists.queued == self.old.grace.lists.most then Fault.CallbacksFull
+            else Fault.NoMemory)) }
+        ensures value { IfErr result (λ refused. refused.value ≡ value) }
+        ensures unchanged { OnErr result (self.new.grace ≡ self.old.grace) }
+        ensures succeeds { HasRoomIn (lists_of self.old) cpu 1 →
+            self.old.grace.lists.queued < self.old.grace.lists.most → IsOk result }
+        ensures room { room_of (lists_of self.old) cpu ≤ room_of (lists_of self.new) cpu }
+        ensures others { KeepsOtherRooms (lists_of self.old) cpu (lists_of self.new) }
+    {
+        let now = self.seq.tag();
+        self.lists.queue(cpu, now, value)
+    }
+
+    /// The callbacks, to look at: one list a processor.
+    pub fn lists(&self) -> &Lists<T>
+        ensures value { result.now ≡ lists_of self.now }
+        ensures sized { lists.cpus_of result.now.all ≡ cpus_of self.now.grace.processors }
+    {
+        &self.lists
+    }
+
+    /// Gives back the memory that a processor's list does not need, as [`Lists::shrink`], and costs
+    /// as that.
+    pub fn shrink(&mut self, cpu: u32)
+        requires { cpu < cpus_of self.old.grace.processors }
+        ensures state { self.new.grace ≡ self.old.grace }
+        ensures room { room_of (lists_of self.new) cpu ≤ room_of (lists_of self.old) cpu }
+        ensures empty { list_of self.old.grace.lists cpu ≡ [] →
+            room_of (lists_of self.new) cpu ≡ 0 }
+        ensures others { KeepsOtherRooms (lists_of self.old) cpu (lists_of self.new) }
+    {
+        self.lists.shrink(cpu);
+    }
+
+    /// Whether the processor's list is empty.
+    pub fn is_list_empty(&self, cpu: u32) -> bool
+        requires { cpu < cpus_of self.now.grace.processors }
+        ensures { result ≡ is_empty (list_of self.now.grace.lists cpu) }
+    {
+        self.lists.is_empty(cpu)
+    }
+
+    /// Brings the marks of a processor's callbacks up to the number, whose greatest is needed from
+    /// now on (Linux's `rcu_advance_cbs`). Returns how many callbacks of the list are done and how
+    /// many wait then.
+    pub fn tend(&mut self, cpu: u32) -> (u64, u64)
+        requires { cpu < cpus_of self.old.grace.processors }
+        ensures state { self.new.grace ≡ grace.after_tend self.old.grace cpu }
+        ensures done { result.0 ≡ length (callbacks (front (list_of self.new.grace.lists cpu))) }
+        ensures waiting { result.1
+            ≡ length (callbacks (behind (list_of self.new.grace.lists cpu))) }
+        ensures rooms { self.new.rooms ≡ self.old.rooms }
+    {
+        let tended = self.lists.tend(cpu, self.seq.value());
+        if let Some(greatest) = self.lists.greatest_waiting(cpu) {
+            self.needed = self.needed.max(greatest);
+        }
+        tended
+    }
+
+    /// Hands out the first callbacks of a processor's done part, at most `max` (Linux's
+    /// `rcu_do_batch`): only such that a full grace period has passed since their queueing. Costs
+    /// as [`Lists::run`].
+    ///
+    /// Fault `NoMemory` (16), only where it has a callback to hand out.
+    pub fn run(&mut self, cpu: u32, max: u64) -> Result<Vec<Queued<T>>, Fault>
+        requires { cpu < cpus_of self.old.grace.processors }
+        ensures ok { IfOk result (λ calls.
+            calls.items ≡ take_answer (list_of self.old.grace.lists cpu) max) }
+        ensures state { OnOk result (self.new.grace ≡ grace.after_run self.old.grace cpu max) }
+        ensures waited { IfOk result (λ calls.
+            All (λ call. grace.HasWaited (tag_of self.old.grace.seq) call.at) calls.items) }
+        ensures fault { IfErr result (λ fault. fault ≡ Fault.NoMemory) }
+        ensures some { OnErr result (take_answer (list_of self.old.grace.lists cpu) max ≢ []) }
+        ensures unchanged { OnErr result (self.new ≡ self.old) }
+        ensures rooms { self.new.rooms ≡ self.old.rooms }
+    {
+        self.lists.run(cpu, max)
+    }
+
+    /// How many callbacks the processor's done part has, as [`Lists::done_count`].
+    pub fn done_count(&self, cpu: u32) -> u64
+        requires { cpu < cpus_of self.now.grace.processors }
+        ensures count { result ≡ length (callbacks (front (list_of self.now.grace.lists cpu))) }
+        ensures first { begins_with_marker (list_of self.now.grace.lists cpu) ≡ false }
+    {
+        self.lists.done_count(cpu)
+    }
+
+    /// Hands out the first callback of a processor's done part, as [`GpState::run`] of one, and
+    /// costs as [`Lists::pop_done`].
+    pub fn pop_done(&mut self, cpu: u32) -> Option<Queued<T>>
+        requires { cpu < cpus_of self.old.grace.processors }
+        ensures call { result ≡ slice_get (take_answer (list_of self.old.grace.lists cpu) 1) 0 }
+        ensures state { self.new.grace ≡ grace.after_run self.old.grace cpu 1 }
+        ensures waited { IfSome result (λ call.
+            grace.HasWaited (tag_of self.old.grace.seq) call.at) }
+        ensures rooms { self.new.rooms ≡ self.old.rooms }
+    {
+        self.lists.pop_done(cpu)
+    }
+
+    /// Moves the list of another processor than 0 to processor 0's (Linux's
+    /// `rcutree_migrate_callbacks`); a barrier that did not visit it does so first. Returns how
+    /// many callbacks moved. Costs as [`Lists::migrate`].
+    ///
+    /// Fault `NoMemory` (16), only where the list is not empty.
+    pub fn migrate(&mut self, cpu: u32) -> Result<u64, Fault>
+        requires other { 0 < cpu }
+        requires cpu { cpu < cpus_of self.old.grace.processors }
+        ensures moved { IfOk result (λ moved.
+            moved ≡ length (callbacks (list_of self.old.grace.lists cpu))) }
+        ensures state { OnOk result (self.new.grace ≡ grace.after_migrate self.old.grace cpu) }
+        ensures fault { IfErr result (λ fault. fault ≡ Fault.NoMemory) }
+        ensures some { OnErr result (is_empty (list_of self.old.grace.lists cpu) ≡ false) }
+        ensures unchanged { OnErr result (self.new.grace ≡ self.old.grace) }
+        ensures succeeds { HasRoomIn (lists_of self.old) 0
+            (length (leaving_list self.old.grace.lists cpu)) → IsOk result }
+        ensures room { room_of (lists_of self.old) 0 ≤ room_of (lists_of self.new) 0 }
+        ensures others { KeepsOtherRooms (lists_of self.old) 0 (lists_of self.new) }
+    {
+        self.lists.migrate(cpu)
+    }
+
+    /// Begins a barrier (Linux's `rcu_barrier`). Costs a step for every 64 processors.
+    ///
+    /// Fault `BarrierBusy` (13): one runs.
+    pub fn barrier_begin(&mut self) -> Result<(), Fault>
+        ensures idle { OnOk result (self.old.grace.lists.running ≡ false) }
+        ensures state { OnOk result (self.new.grace ≡ grace.after_barrier_begin self.old.grace) }
+        ensures fault { IfErr result (λ fault. fault ≡ Fault.BarrierBusy) }
+        ensures running { OnErr result (self.old.grace.lists.running ≡ true) }
+        ensures unchanged { OnErr result (self.new ≡ self.old) }
+        ensures rooms { self.new.rooms ≡ self.old.rooms }
+    {
+        self.lists.barrier_begin()
+    }
+
+    /// The barrier visits a processor, as [`Lists::visit`], and costs as that.
+    ///
+    /// Faults: `NoBarrier` (14) where none runs; `NoMemory` (16), only where it would put a marker.
+    pub fn visit(&mut self, cpu: u32) -> Result<Visit, Fault>
+        requires { cpu < cpus_of self.old.grace.processors }
+        ensures ok { IfOk result (λ visit. visit ≡ visit_answer self.old.grace.lists cpu) }
+        ensures running { OnOk result (self.old.grace.lists.running ≡ true) }
+        ensures state { OnOk result (self.new.grace ≡ grace.after_visit self.old.grace cpu) }
+        ensures fault { IfErr result (λ fault.
+            fault ≡ (if self.old.grace.lists.running then Fault.NoMemory else Fault.NoBarrier)) }
+        ensures memory { OnErr result (self.old.grace.lists.running ≡ true
+            → visit_answer self.old.grace.lists cpu ≡ Visit.Marked) }
+        ensures unchanged { OnErr result (self.new.grace ≡ self.old.grace) }
+        ensures succeeds { HasRoomIn (lists_of self.old) cpu 1 →
+            self.old.grace.lists.running ≡ true → IsOk result }
+        ensures room { room_of (lists_of self.old) cpu ≤ room_of (lists_of self.new) cpu }
+        ensures others { KeepsOtherRooms (lists_of self.old) cpu (lists_of self.new) }
+    {
+        self.lists.visit(cpu)
+    }
+
+    /// Whether the barrier is over, as [`Lists::barrier_test`].
+    ///
+    /// Fault `NoBarrier` (14): none runs.
+    pub fn barrier_test(&mut self) -> Result<BarrierState, Fault>
+        ensures ok { IfOk result (λ found. found ≡ barrier_test_answer self.old.grace.lists) }
+        ensures running { OnOk result (self.old.grace.lists.running ≡ true) }
+        ensures state { OnOk result (self.new.grace ≡ grace.after_barrier_test self.old.grace) }
+        ensures fault { IfErr result (λ fault. fault ≡ Fault.NoBarrier) }
+        ensures idle { OnErr result (self.old.grace.lists.running ≡ false) }
+        ensures unchanged { OnErr result (self.new ≡ self.old) }
+        ensures rooms { self.new.rooms ≡ self.old.rooms }
+    {
+        self.lists.barrier_test()
+    }
+}

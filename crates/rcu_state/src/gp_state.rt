@@ -1,0 +1,372 @@
+//! The state of the grace periods and the callbacks.
+ghost use Rattle.std.specs.Prelude.{◌≡◌, ◌<◌, ◌≤◌, ◌==◌, ◌^◌, Some, None, true, false, length};
+ghost use Rattle.std.specs.Prelude.{replicate, IfErr, IfOk, OnErr, OnOk};
+ghost use Rattle.rcu_seq.specs.Numbers.{is_last};
+ghost use Rattle.rcu_seq.specs.Seq.{cookie_of, is_done, number_of, tag_of};
+ghost use Rattle.rcu_seq.specs.Tags.{first_tag};
+ghost use Rattle.rcu_node.specs.CpuSet.{is_in};
+ghost use Rattle.rcu_hotplug.specs.Hotplug as hotplug;
+ghost use Rattle.rcu_hotplug.specs.Hotplug.{Arrive, Depart, cpus_of};
+ghost use Rattle.rcu_barrier.specs.Lists.{most_queued};
+ghost use Rattle.rcu_state.specs.GpState as grace;
+ghost use Rattle.rcu_state.specs.Periods.{wants_begin};
+
+use crate::current_answer::CurrentAnswer;
+use crate::turned::Turned;
+use rcu_barrier::lists::{Lists, MOST_QUEUED};
+use rcu_hotplug::Hotplug;
+use rcu_node::{Answer, Awaited};
+use rcu_report::Report;
+use rcu_seq::cookie::{Cookie, FIRST_END};
+use rcu_seq::{Fault, Seq, Tag};
+use std::alloc::Global;
+use std::marker::Model;
+
+/// The state of the grace periods (Linux's `rcu_state`): the number, the needed number, the
+/// processors that are online and awaited, and each processor's list of callbacks.
+///
+/// Contracts see all that it says, and beside it for how many items each list has room. Only `new`,
+/// `queue`, `run`, `migrate` and `visit` need memory. A refused call leaves all but room as it was.
+#[derive(Drop)]
+pub struct GpState<A: Awaited, T: Drop> {
+    /// The number, and whether a grace period runs.
+    pub(crate) seq: Seq,
+    /// The greatest number that was asked for, 0 before any (Linux's `gp_seq_needed`). It
+    /// falls only where the numbers start anew.
+    pub(crate) needed: u64,
+    /// The processors.
+    hotplug: Hotplug<A>,
+    /// The callbacks.
+    pub(crate) lists: Lists<T>,
+}
+
+impl<A: Awaited, T: Drop> Model for GpState<A, T> {
+    ghost use Rattle.rcu_state.specs.GpState.{GraceWithRooms, IsSound};
+
+    ghost Value = { GraceWithRooms T };
+
+    ghost view = { λ g. record {
+      grace = record {
+        seq = g.seq;
+        needed = g.needed;
+        processors = g.hotplug;
+        lists = g.lists.all;
+      };
+      rooms = g.lists.rooms;
+    } };
+
+    ghost invariant = { λ g. IsSound (record {
+      seq = g.seq;
+      needed = g.needed;
+      processors = g.hotplug;
+      lists = g.lists.all;
+    }) };
+}
+
+impl<A: Awaited, T: Drop> GpState<A, T> {
+    /// No grace period ran yet, none is needed, processor 0 alone is online, and the lists are
+    /// empty. The awaited set is as it was made, and 1,000,000 callbacks may be queued. Costs a
+    /// step a processor.
+    ///
+    /// Faults: `BadLast` (19) where `last` is no last number; `NoMemory` (16).
+    pub fn new(alloc: Global, inner: A, last: u64) -> Result<Self, Fault>
+        requires tag { A.tag inner ≡ first_tag }
+        requires empty { A.start_set inner ≡ replicate (length (A.awaited inner)) false }
+        ensures ok { IfOk result (λ made. made.grace
+            ≡ grace.at_first (length (A.awaited inner)) last most_queued) }
+        ensures accepted { OnOk result (is_last last ≡ true) }
+        ensures err { IfErr result (λ fault. is_last last ≡ false → fault ≡ Fault.BadLast) }
+        ensures memory { IfErr result (λ fault. is_last last ≡ true → fault ≡ Fault.NoMemory) }
+    {
+        GpState::with_most(alloc, inner, last, MOST_QUEUED)
+    }
+
+    /// As [`GpState::new`], in which `most` callbacks may be queued, from 1 to 2^62.
+    ///
+    /// Faults: `BadLast` (19) where `last` is no last number; `NoMemory` (16).
+    pub fn with_most(alloc: Global, inner: A, last: u64, most: u64) -> Result<Self, Fault>
+        requires tag { A.tag inner ≡ first_tag }
+        requires empty { A.start_set inner ≡ replicate (length (A.awaited inner)) false }
+        requires most_some { 1 ≤ most }
+        requires most_few { most ≤ 2 ^ 62 }
+        ensures ok { IfOk result (λ made. made.grace
+            ≡ grace.at_first (length (A.awaited inner)) last most) }
+        ensures accepted { OnOk result (is_last last ≡ true) }
+        ensures err { IfErr result (λ fault. is_last last ≡ false → fault ≡ Fault.BadLast) }
+        ensures memory { IfErr result (λ fault. is_last last ≡ true → fault ≡ Fault.NoMemory) }
+    {
+        let seq = Seq::new(last)?;
+        let lists = Lists::with_most(alloc, inner.cpus(), most)?;
+        let hotplug = Hotplug::new(alloc, inner)?;
+        Ok(GpState {
+            seq,
+            needed: 0,
+            hotplug,
+            lists,
+        })
+    }
+
+    /// The number of processors.
+    pub fn cpus(&self) -> u32
+        ensures value { result ≡ cpus_of self.now.grace.processors }
+        ensures kept { hotplug.IsSound self.now.grace.processors }
+        ensures timely { grace.IsSound self.now.grace }
+    {
+        self.hotplug.awaited().cpus()
+    }
+
+    /// The grace-period number. It is at most 2^62.
+    pub fn value(&self) -> u64
+        ensures value { result ≡ number_of self.now.grace.seq }
+        ensures bounded { result ≤ 2 ^ 62 }
+    {
+        self.seq.value()
+    }
+
+    /// The grace-period number in its epoch. It is at most 2^62.
+    pub fn tag(&self) -> Tag
+        ensures value { result ≡ tag_of self.now.grace.seq }
+        ensures bounded { result.number ≤ 2 ^ 62 }
+    {
+        self.seq.tag()
+    }
+
+    /// Whether a grace period runs.
+    pub fn is_running(&self) -> bool
+        ensures { result ≡ self.now.grace.seq.running }
+    {
+        self.seq.is_running()
+    }
+
+    /// Whether none runs, and the needed number is above the number.
+    pub fn wants_begin(&self) -> bool
+        ensures { result ≡ wants_begin (grace.periods_of self.now.grace) }
+    {
+        !self.seq.is_running() && self.needed > self.seq.value()
+    }
+
+    /// The number that a grace period would take which began now. It is below 2^62.
+    ///
+    /// Faults: `Running` (8) where one runs; `Exhausted` (11) where the number is the last one.
+    pub fn next_number(&self) -> Result<u64, Fault>
+        ensures number { IfOk result (λ number.
+            number ≡ number_of (grace.after_begin self.now.grace).seq) }
+        ensures bounded { IfOk result (λ number. number < 2 ^ 62) }
+        ensures accepted { OnOk result (grace.begin_refusal self.now.grace ≡ None) }
+        ensures fault { IfErr result (λ fault. grace.begin_refusal self.now.grace ≡ Some fault) }
+    {
+        if self.is_running() {
+            return Err(Fault::Running);
+        }
+        if self.seq.value() == self.seq.last() {
+            return Err(Fault::Exhausted);
+        }
+        Ok(self.seq.value() + 1)
+    }
+
+    /// Whether the processor is online.
+    pub fn online(&self, cpu: u32) -> bool
+        requires { cpu < cpus_of self.now.grace.processors }
+        ensures { result ≡ is_in self.now.grace.processors.online cpu }
+    {
+        self.hotplug.online(cpu)
+    }
+
+    /// The awaited set.
+    pub fn awaited(&self) -> &A
+        ensures value { A.awaited result.now ≡ self.now.grace.processors.awaited }
+        ensures tag { A.tag result.now ≡ self.now.grace.processors.tag }
+        ensures start_set { A.start_set result.now ≡ self.now.grace.processors.start_set }
+        ensures kept { hotplug.IsSound self.now.grace.processors }
+    {
+        self.hotplug.awaited()
+    }
+
+    /// A grace period begins, and awaits the online processors (Linux's `rcu_gp_init`). Returns its
+    /// number, and how many it awaits. Costs what a begin of the awaited set costs, in a
+    /// [`Tree`](rcu_node::tree::Tree) a step a node.
+    ///
+    /// Faults: `Running` (8) where one runs; `Exhausted` (11) where the number is the last one.
+    pub fn begin(&mut self) -> Result<(u64, u32), Fault>
+        ensures number { IfOk result (λ began. began.0 ≡ number_of self.new.grace.seq) }
+        ensures awaited { IfOk result (λ began. began.1 ≡ grace.awaited_in self.new.grace) }
+        ensures accepted { OnOk result (grace.begin_refusal self.old.grace ≡ None) }
+        ensures state { OnOk result (self.new.grace ≡ grace.after_begin self.old.grace) }
+        ensures fault { IfErr result (λ fault. grace.begin_refusal self.old.grace ≡ Some fault) }
+        ensures unchanged { OnErr result (self.new ≡ self.old) }
+        ensures rooms { self.new.rooms ≡ self.old.rooms }
+    {
+        let number = self.seq.start()?;
+        self.hotplug.begin(self.seq.tag());
+        Ok((number, self.hotplug.awaited().count()))
+    }
+
+    /// The grace period ends (Linux's `rcu_gp_cleanup`). Returns the new number.
+    ///
+    /// Faults: `Idle` (9) where none runs; `Waiting` (10) where a processor is awaited.
+    pub fn end(&mut self) -> Result<u64, Fault>
+        ensures number { IfOk result (λ number. number ≡ number_of self.new.grace.seq) }
+        ensures accepted { OnOk result (grace.end_refusal self.old.grace ≡ None) }
+        ensures state { OnOk result (self.new.grace ≡ grace.after_end self.old.grace) }
+        ensures fault { IfErr result (λ fault. grace.end_refusal self.old.grace ≡ Some fault) }
+        ensures unchanged { OnErr result (self.new ≡ self.old) }
+        ensures rooms { self.new.rooms ≡ self.old.rooms }
+    {
+        if self.is_running() && !self.hotplug.awaited().is_empty() {
+            return Err(Fault::Waiting);
+        }
+        self.seq.end()
+    }
+
+    /// A report arrives: stale where no grace period runs or its tag is not the number, else as
+    /// [`Awaited::report`]. The report is of a processor. Costs what a report to the awaited set
+    /// costs, in a [`Tree`](rcu_node::tree::Tree) at most a step a level.
+    pub fn report(&mut self, report: Report) -> Answer
+        requires { report.cpu < cpus_of self.old.grace.processors }
+        ensures answer { result ≡ grace.report_answer_in self.old.grace report }
+        ensures state { self.new.grace ≡ grace.after_report self.old.grace report }
+        ensures rooms { self.new.rooms ≡ self.old.rooms }
+    {
+        // The awaited set keeps its tag when its grace period has ended: idleness is tested here.
+        if !self.is_running() {
+            return Answer::Stale;
+        }
+        self.hotplug.report(report.cpu, report.tag)
+    }
+
+    /// A report of the processor with the number as its tag: stale where no grace period runs.
+    /// Costs as [`GpState::report`].
+    pub fn hear(&mut self, cpu: u32) -> Answer
+        requires { cpu < cpus_of self.old.grace.processors }
+        ensures answer { result ≡ grace.hear_answer self.old.grace cpu }
+        ensures state { self.new.grace ≡ grace.after_hear self.old.grace cpu }
+        ensures rooms { self.new.rooms ≡ self.old.rooms }
+    {
+        let tag = self.tag();
+        self.report(Report { cpu, tag })
+    }
+
+    /// A report of the processor in the grace period that runs. Costs as [`GpState::report`].
+    pub fn report_current(&mut self, cpu: u32) -> CurrentAnswer
+        requires cpu { cpu < cpus_of self.old.grace.processors }
+        requires running { self.old.grace.seq.running ≡ true }
+        ensures answer { result ≡ grace.current_answer self.old.grace cpu }
+        ensures state { self.new.grace ≡ grace.after_current_report self.old.grace cpu }
+        ensures rooms { self.new.rooms ≡ self.old.rooms }
+    {
+        let tag = self.tag();
+        match self.hotplug.report(cpu, tag) {
+            Answer::Taken => CurrentAnswer::Taken,
+            Answer::Last => CurrentAnswer::Last,
+            Answer::Repeat => CurrentAnswer::Repeat,
+            Answer::Stale => unreachable!(),
+        }
+    }
+
+    /// The running grace period ends where nobody is awaited. Where none runs, one begins if the
+    /// needed number is above the number. A turn that begins one costs as [`GpState::begin`], any
+    /// other a step.
+    ///
+    /// Fault `Exhausted` (11): one would begin, and the number is the last one.
+    pub fn turn(&mut self) -> Result<Turned, Fault>
+        ensures answer { IfOk result (λ turned. turned ≡ grace.turn_answer self.old.grace) }
+        ensures accepted { OnOk result (grace.turn_refusal self.old.grace ≡ None) }
+        ensures state { OnOk result (self.new.grace ≡ grace.after_turn self.old.grace) }
+        ensures fault { IfErr result (λ fault. grace.turn_refusal self.old.grace ≡ Some fault) }
+        ensures unchanged { OnErr result (self.new ≡ self.old) }
+        ensures rooms { self.new.rooms ≡ self.old.rooms }
+    {
+        if self.is_running() {
+            let awaited = self.hotplug.awaited().count();
+            if awaited > 0 {
+                return Ok(Turned::Waiting(awaited));
+            }
+            return Ok(Turned::Ended(self.end()?));
+        }
+        if !self.wants_begin() {
+            return Ok(Turned::Nothing);
+        }
+        let (number, awaited) = self.begin()?;
+        Ok(Turned::Begun(number, awaited))
+    }
+
+    /// A processor arrives, as [`Hotplug::arrive`].
+    ///
+    /// Faults: `BadCpu` (1), `AlreadyOnline` (3).
+    pub fn arrive(&mut self, cpu: u32) -> Result<(), Fault>
+        ensures accepted { OnOk result
+            (hotplug.refusal self.old.grace.processors (Arrive cpu) ≡ None) }
+        ensures state { OnOk result (self.new.grace ≡ grace.with_call self.old.grace (Arrive cpu)) }
+        ensures fault { IfErr result (λ fault.
+            hotplug.refusal self.old.grace.processors (Arrive cpu) ≡ Some fault) }
+        ensures unchanged { OnErr result (self.new ≡ self.old) }
+        ensures rooms { self.new.rooms ≡ self.old.rooms }
+    {
+        self.hotplug.arrive(cpu)
+    }
+
+    /// A processor departs, and is awaited no more, as [`Hotplug::depart`]. Costs as
+    /// [`GpState::report`].
+    ///
+    /// Faults: `BadCpu` (1), `BootStays` (12), `Offline` (2).
+    pub fn depart(&mut self, cpu: u32) -> Result<(), Fault>
+        ensures accepted { OnOk result
+            (hotplug.refusal self.old.grace.processors (Depart cpu) ≡ None) }
+        ensures state { OnOk result (self.new.grace ≡ grace.with_call self.old.grace (Depart cpu)) }
+        ensures fault { IfErr result (λ fault.
+            hotplug.refusal self.old.grace.processors (Depart cpu) ≡ Some fault) }
+        ensures unchanged { OnErr result (self.new ≡ self.old) }
+        ensures rooms { self.new.rooms ≡ self.old.rooms }
+    {
+        self.hotplug.depart(cpu)
+    }
+
+    /// The cookie of a taking now (Linux's `get_state_synchronize_rcu`).
+    pub fn take(&self) -> Cookie
+        ensures { result ≡ cookie_of self.now.grace.seq }
+    {
+        self.seq.snap()
+    }
+
+    /// The cookie of a taking now, whose number is needed from now on (Linux's
+    /// `start_poll_synchronize_rcu`).
+    pub fn start_poll(&mut self) -> Cookie
+        ensures cookie { result ≡ cookie_of self.old.grace.seq }
+        ensures state { self.new.grace ≡ grace.after_start_poll self.old.grace }
+        ensures rooms { self.new.rooms ≡ self.old.rooms }
+    {
+        let cookie = self.seq.snap();
+        self.needed = self.needed.max(cookie.number);
+        cookie
+    }
+
+    /// Whether a cookie is done (Linux's `poll_state_synchronize_rcu`).
+    pub fn done(&self, cookie: Cookie) -> bool
+        ensures { result ≡ is_done cookie self.now.grace.seq }
+    {
+        self.seq.done(cookie)
+    }
+
+    /// The numbers start anew at 0 in the next epoch, which it returns. Callbacks that wait lose
+    /// theirs, as [`Lists::renumber`] has it. A needed number above the last one becomes that of
+    /// the first grace period's end, any other 0. Takes no memory, and costs a step a processor.
+    ///
+    /// Faults: `Running` (8) where a grace period runs; `NotLast` (22) where the number is not the
+    /// last one; `Exhausted` (11) in the last epoch.
+    pub fn renumber(&mut self) -> Result<u64, Fault>
+        ensures last { is_last self.old.grace.seq.last ≡ true }
+        ensures epoch { IfOk result (λ epoch. epoch ≡ self.new.grace.seq.epoch) }
+        ensures accepted { OnOk result (grace.renumber_refusal self.old.grace ≡ None) }
+        ensures state { OnOk result (self.new.grace ≡ grace.after_renumber self.old.grace) }
+        ensures fault { IfErr result (λ fault. grace.renumber_refusal self.old.grace ≡ Some fault) }
+        ensures unchanged { OnErr result (self.new ≡ self.old) }
+        ensures rooms { self.new.rooms ≡ self.old.rooms }
+    {
+        let last = self.seq.last();
+        let is_needed = self.needed > last;
+        let epoch = self.seq.renumber()?;
+        self.needed = if is_needed { FIRST_END } else { 0 };
+        self.lists.renumber();
+        Ok(epoch)
+    }
+}
