@@ -89,7 +89,7 @@ impl CpuData {
     /// processor.
     pub fn depth(&self) -> u32
         ensures value { result ≡ self.now.depth }
-        ensures range { result ≤ deepest }
+        ensures bounded { result ≤ deepest }
         ensures offline { self.now.online ≡ false → result ≡ 0 }
     {
         self.depth
@@ -109,7 +109,7 @@ impl CpuData {
     /// `NestFull` (6) where the depth is 65,535.
     pub fn enter(&mut self) -> Result<u32, Fault>
         ensures depth { IfOk result (λ depth. depth ≡ self.new.depth) }
-        ensures range { self.new.depth ≤ deepest }
+        ensures bounded { self.new.depth ≤ deepest }
         ensures fault { result_err result ≡ refusal self.old Enter }
         ensures state { OnOk result (self.new ≡ after_call self.old Enter) }
         ensures unchanged { OnErr result (self.new ≡ self.old) }
