@@ -1,11 +1,17 @@
--- One processor: its calls, where each is accepted, and what it leaves.
-use Rattle.std.specs.Prelude.{ℕ, ◌+◌, ◌-◌, ◌≡◌, ◌<◌, Bool, true, false, List, [], ◌∷◌}
+-- One processor: its calls, why each is refused, and what it leaves.
+use Rattle.std.specs.Prelude.{ℕ, ◌+◌, ◌-◌, ◌≡◌, ◌==◌, Bool, true, false, not, nat_lt, List, [], ◌∷◌}
+use Rattle.std.specs.Prelude.{Option, None}
+use Rattle.rcu_seq.specs.Fault.{first_fault}
 use Rattle.rcu_seq.specs.Tags.{first_tag}
+use Rattle.rcu_seq.specs.declared.fault.Fault.{Fault}
+use Rattle.rcu_seq.specs.declared.fault.Fault.TheVariants.{AlreadyOnline, CpuIdle, InSection}
+use Rattle.rcu_seq.specs.declared.fault.Fault.TheVariants.{NestFull}
+use Rattle.rcu_seq.specs.declared.fault.Fault.TheVariants.{NotIdle, NotOpen, Offline}
 use Rattle.rcu_seq.specs.declared.tag.Tag.{Tag}
 use Rattle.rcu_report.specs.declared.report.Report.{Report}
 
--- a processor: its number, whether it is online, whether it is idle, how deep its read sections nest, and the tag that
--- it noted
+-- a processor: its number, whether it is online, whether it is idle, how deep its read sections
+-- nest, and the tag that it noted
 pub record Processor : Type 0 where
   pub cpu : ℕ
   pub online : Bool
@@ -19,7 +25,13 @@ deepest = 65535
 
 -- a processor at its making: it is awake, no section is open, and number 0 of epoch 0 is noted
 abbrev pub at_first : ℕ → Bool → Processor
-at_first cpu online = record { cpu = cpu; online = online; idle = false; depth = 0; noted = first_tag }
+at_first cpu online = record {
+  cpu = cpu;
+  online = online;
+  idle = false;
+  depth = 0;
+  noted = first_tag;
+}
 
 -- the report of its quiescent state: its number, and the tag that it noted
 abbrev pub report_of : Processor → Report
@@ -36,20 +48,34 @@ pub data Call : Type 0 where
   Idle : Call
   Wake : Call
 
--- the processor is online, and is not idle
-abbrev pub IsAwake : Processor → Type 0
-IsAwake p = (p.online ≡ true) × (p.idle ≡ false)
+-- causes of refusals: the processor is offline, it is idle, a section of it is open
+abbrev pub offline_cause : Processor → Bool × Fault
+offline_cause p = (not p.online, Offline)
 
--- the call is accepted: no cause of its faults stands
+abbrev pub idle_cause : Processor → Bool × Fault
+idle_cause p = (p.idle, CpuIdle)
+
+abbrev pub section_cause : Processor → Bool × Fault
+section_cause p = (nat_lt 0 p.depth, InSection)
+
+-- what is tested of a call, in order: a cause, and the fault that it is answered by
+abbrev pub causes : Processor → Call → List (Bool × Fault)
+causes p Enter = offline_cause p ∷ idle_cause p ∷ (p.depth == deepest, NestFull) ∷ []
+causes p Exit = (p.depth == 0, NotOpen) ∷ []
+causes p (Note _) = offline_cause p ∷ []
+causes p Quiesce = offline_cause p ∷ idle_cause p ∷ section_cause p ∷ []
+causes p (Arrive _) = (p.online, AlreadyOnline) ∷ []
+causes p Depart = offline_cause p ∷ section_cause p ∷ []
+causes p Idle = offline_cause p ∷ idle_cause p ∷ section_cause p ∷ []
+causes p Wake = offline_cause p ∷ (not p.idle, NotIdle) ∷ []
+
+-- why a call is refused, if it is: the fault of the first cause that stands
+abbrev pub refusal : Processor → Call → Option Fault
+refusal p call = first_fault (causes p call)
+
+-- the call is accepted: it is not refused
 abbrev pub IsAccepted : Processor → Call → Type 0
-IsAccepted p Enter = IsAwake p × (p.depth < deepest)
-IsAccepted p Exit = 0 < p.depth
-IsAccepted p (Note _) = p.online ≡ true
-IsAccepted p Quiesce = IsAwake p × (p.depth ≡ 0)
-IsAccepted p (Arrive _) = p.online ≡ false
-IsAccepted p Depart = (p.online ≡ true) × (p.depth ≡ 0)
-IsAccepted p Idle = IsAwake p × (p.depth ≡ 0)
-IsAccepted p Wake = (p.online ≡ true) × (p.idle ≡ true)
+IsAccepted p call = refusal p call ≡ None
 
 -- the processor after an accepted call: a departure ends its idleness, and an arrival comes awake
 abbrev pub after_call : Processor → Call → Processor

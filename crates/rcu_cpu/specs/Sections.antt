@@ -1,5 +1,6 @@
 -- What the accepted calls of one processor, the newest first, say of its read sections.
-use Rattle.std.specs.Prelude.{ℕ, ◌-◌, ◌==◌, Bool, true, false, not, ◌&&◌, ◌||◌, List, [], ◌∷◌, count_by}
+use Rattle.std.specs.Prelude.{ℕ, ◌-◌, ◌==◌, Bool, true, false, not, ◌&&◌, ◌||◌, List, [], ◌∷◌}
+use Rattle.std.specs.Prelude.{count_by}
 use Rattle.rcu_seq.specs.Histories.{is_on}
 use Rattle.rcu_seq.specs.Tags.{first_tag}
 use Rattle.rcu_seq.specs.declared.tag.Tag.{Tag}
@@ -54,7 +55,8 @@ abbrev pub is_open : List Call → Bool
 is_open [] = false
 is_open (call ∷ earlier) = opens call earlier || (is_open earlier && not (closes call earlier))
 
--- the processor is online: its last arrival or departure is an arrival; before any, it is as at its making
+-- the processor is online: its last arrival or departure is an arrival; before any, it is as at its
+-- making
 abbrev pub is_online : Bool → List Call → Bool
 is_online at_making calls = is_on at_making arrives departs calls
 

@@ -1,7 +1,9 @@
 //! What one processor keeps.
-ghost use Rattle.std.specs.Prelude.{◌≡◌, ◌<◌, ◌≤◌, true, false, IfOk, IfErr, OnOk, OnErr};
-ghost use Rattle.rcu_cpu.specs.CpuData.{IsAccepted, IsAwake, after_call, at_first, deepest};
-ghost use Rattle.rcu_cpu.specs.CpuData.{report_of};
+ghost use Rattle.std.specs.Prelude.{◌≡◌, ◌≤◌, [], ◌∷◌, true, false, IfOk, OnOk, OnErr};
+ghost use Rattle.std.specs.Result.{result_err};
+ghost use Rattle.rcu_seq.specs.Fault.{first_fault};
+ghost use Rattle.rcu_cpu.specs.CpuData.{after_call, at_first, deepest, idle_cause, offline_cause};
+ghost use Rattle.rcu_cpu.specs.CpuData.{refusal, report_of};
 ghost use Rattle.rcu_cpu.specs.CpuData.{Arrive, Depart, Enter, Exit, Idle, Note, Quiesce, Wake};
 
 use rcu_report::Report;
@@ -87,7 +89,7 @@ impl CpuData {
     /// processor.
     pub fn depth(&self) -> u32
         ensures value { result ≡ self.now.depth }
-        ensures range { result ≤ deepest }
+        ensures bounded { result ≤ deepest }
         ensures offline { self.now.online ≡ false → result ≡ 0 }
     {
         self.depth
@@ -107,13 +109,10 @@ impl CpuData {
     /// `NestFull` (6) where the depth is 65,535.
     pub fn enter(&mut self) -> Result<u32, Fault>
         ensures depth { IfOk result (λ depth. depth ≡ self.new.depth) }
-        ensures ok { OnOk result (self.new ≡ after_call self.old Enter) }
-        ensures accepted { OnOk result (IsAccepted self.old Enter) }
+        ensures bounded { self.new.depth ≤ deepest }
+        ensures fault { result_err result ≡ refusal self.old Enter }
+        ensures state { OnOk result (self.new ≡ after_call self.old Enter) }
         ensures unchanged { OnErr result (self.new ≡ self.old) }
-        ensures offline { IfErr result (λ fault. self.old.online ≡ false → fault ≡ Fault.Offline) }
-        ensures idle { IfErr result (λ fault. self.old.idle ≡ true → fault ≡ Fault.CpuIdle) }
-        ensures full { IfErr result (λ fault. IsAwake self.old → fault ≡ Fault.NestFull) }
-        ensures deepest { OnErr result (IsAwake self.old → self.old.depth ≡ deepest) }
     {
         self.check_awake()?;
         if self.depth == DEEPEST {
@@ -129,10 +128,8 @@ impl CpuData {
     /// Fault `NotOpen` (5): no section is open.
     pub fn exit(&mut self) -> Result<u32, Fault>
         ensures depth { IfOk result (λ depth. depth ≡ self.new.depth) }
-        ensures ok { OnOk result (self.new ≡ after_call self.old Exit) }
-        ensures accepted { OnOk result (IsAccepted self.old Exit) }
-        ensures not_open { IfErr result (λ fault. fault ≡ Fault.NotOpen) }
-        ensures none { OnErr result (self.old.depth ≡ 0) }
+        ensures fault { result_err result ≡ refusal self.old Exit }
+        ensures state { OnOk result (self.new ≡ after_call self.old Exit) }
         ensures unchanged { OnErr result (self.new ≡ self.old) }
     {
         self.depth = self.depth.checked_sub(1).ok_or(Fault::NotOpen)?;
@@ -143,10 +140,8 @@ impl CpuData {
     ///
     /// Fault `Offline` (2): the processor is offline.
     pub fn note(&mut self, now: Tag) -> Result<(), Fault>
-        ensures ok { OnOk result (self.new ≡ after_call self.old (Note now)) }
-        ensures accepted { OnOk result (IsAccepted self.old (Note now)) }
-        ensures offline { IfErr result (λ fault. fault ≡ Fault.Offline) }
-        ensures was_offline { OnErr result (self.old.online ≡ false) }
+        ensures fault { result_err result ≡ refusal self.old (Note now) }
+        ensures state { OnOk result (self.new ≡ after_call self.old (Note now)) }
         ensures unchanged { OnErr result (self.new ≡ self.old) }
     {
         self.check_online()?;
@@ -160,13 +155,8 @@ impl CpuData {
     /// Faults: `Offline` (2) where the processor is offline; `CpuIdle` (23) where it is idle;
     /// `InSection` (4) where a section is open.
     pub fn quiesce(&self) -> Result<Report, Fault>
-        ensures ok { IfOk result (λ report. report ≡ report_of self.now) }
-        ensures accepted { OnOk result (IsAccepted self.now Quiesce) }
-        ensures offline { IfErr result (λ fault. self.now.online ≡ false → fault ≡ Fault.Offline) }
-        ensures idle { IfErr result (λ fault. self.now.idle ≡ true → fault ≡ Fault.CpuIdle) }
-        ensures in_section { IfErr result (λ fault.
-            IsAwake self.now → fault ≡ Fault.InSection) }
-        ensures open { OnErr result (IsAwake self.now → 0 < self.now.depth) }
+        ensures report { IfOk result (λ report. report ≡ report_of self.now) }
+        ensures fault { result_err result ≡ refusal self.now Quiesce }
     {
         self.check_awake()?;
         if self.depth == 0 {
@@ -184,10 +174,8 @@ impl CpuData {
     ///
     /// Fault `AlreadyOnline` (3): the processor is online.
     pub fn arrive(&mut self, now: Tag) -> Result<(), Fault>
-        ensures ok { OnOk result (self.new ≡ after_call self.old (Arrive now)) }
-        ensures accepted { OnOk result (IsAccepted self.old (Arrive now)) }
-        ensures online { IfErr result (λ fault. fault ≡ Fault.AlreadyOnline) }
-        ensures was_online { OnErr result (self.old.online ≡ true) }
+        ensures fault { result_err result ≡ refusal self.old (Arrive now) }
+        ensures state { OnOk result (self.new ≡ after_call self.old (Arrive now)) }
         ensures unchanged { OnErr result (self.new ≡ self.old) }
     {
         if self.online {
@@ -202,12 +190,8 @@ impl CpuData {
     /// Faults: `Offline` (2) where the processor is offline; `InSection` (4) where a section is
     /// open.
     pub fn depart(&mut self) -> Result<(), Fault>
-        ensures ok { OnOk result (self.new ≡ after_call self.old Depart) }
-        ensures accepted { OnOk result (IsAccepted self.old Depart) }
-        ensures offline { IfErr result (λ fault. self.old.online ≡ false → fault ≡ Fault.Offline) }
-        ensures in_section { IfErr result (λ fault.
-            self.old.online ≡ true → fault ≡ Fault.InSection) }
-        ensures open { OnErr result (self.old.online ≡ true → 0 < self.old.depth) }
+        ensures fault { result_err result ≡ refusal self.old Depart }
+        ensures state { OnOk result (self.new ≡ after_call self.old Depart) }
         ensures unchanged { OnErr result (self.new ≡ self.old) }
     {
         self.check_online()?;
@@ -225,13 +209,8 @@ impl CpuData {
     /// Faults: `Offline` (2) where the processor is offline; `CpuIdle` (23) where it is idle;
     /// `InSection` (4) where a section is open.
     pub fn idle(&mut self) -> Result<(), Fault>
-        ensures ok { OnOk result (self.new ≡ after_call self.old Idle) }
-        ensures accepted { OnOk result (IsAccepted self.old Idle) }
-        ensures offline { IfErr result (λ fault. self.old.online ≡ false → fault ≡ Fault.Offline) }
-        ensures idle { IfErr result (λ fault. self.old.idle ≡ true → fault ≡ Fault.CpuIdle) }
-        ensures in_section { IfErr result (λ fault.
-            IsAwake self.old → fault ≡ Fault.InSection) }
-        ensures open { OnErr result (IsAwake self.old → 0 < self.old.depth) }
+        ensures fault { result_err result ≡ refusal self.old Idle }
+        ensures state { OnOk result (self.new ≡ after_call self.old Idle) }
         ensures unchanged { OnErr result (self.new ≡ self.old) }
     {
         self.check_awake()?;
@@ -246,11 +225,8 @@ impl CpuData {
     ///
     /// Faults: `Offline` (2) where the processor is offline; `NotIdle` (24) where it is awake.
     pub fn wake(&mut self) -> Result<(), Fault>
-        ensures ok { OnOk result (self.new ≡ after_call self.old Wake) }
-        ensures accepted { OnOk result (IsAccepted self.old Wake) }
-        ensures offline { IfErr result (λ fault. self.old.online ≡ false → fault ≡ Fault.Offline) }
-        ensures awake { IfErr result (λ fault. self.old.online ≡ true → fault ≡ Fault.NotIdle) }
-        ensures was_awake { OnErr result (self.old.online ≡ true → self.old.idle ≡ false) }
+        ensures fault { result_err result ≡ refusal self.old Wake }
+        ensures state { OnOk result (self.new ≡ after_call self.old Wake) }
         ensures unchanged { OnErr result (self.new ≡ self.old) }
     {
         self.check_online()?;
@@ -263,9 +239,7 @@ impl CpuData {
 
     /// Refuses where the processor is offline, by fault `Offline` (2).
     fn check_online(&self) -> Result<(), Fault>
-        ensures ok { OnOk result (self.now.online ≡ true) }
-        ensures err { IfErr result (λ fault. fault ≡ Fault.Offline) }
-        ensures offline { OnErr result (self.now.online ≡ false) }
+        ensures fault { result_err result ≡ first_fault (offline_cause self.now ∷ []) }
     {
         if !self.online {
             return Err(Fault::Offline);
@@ -276,10 +250,8 @@ impl CpuData {
     /// Refuses where the processor is offline, by fault `Offline` (2), or idle, by fault `CpuIdle`
     /// (23).
     fn check_awake(&self) -> Result<(), Fault>
-        ensures ok { OnOk result (IsAwake self.now) }
-        ensures offline { IfErr result (λ fault. self.now.online ≡ false → fault ≡ Fault.Offline) }
-        ensures idle { IfErr result (λ fault. self.now.idle ≡ true → fault ≡ Fault.CpuIdle) }
-        ensures was_idle { OnErr result (self.now.online ≡ true → self.now.idle ≡ true) }
+        ensures fault { result_err result
+            ≡ first_fault (offline_cause self.now ∷ idle_cause self.now ∷ []) }
     {
         // An idle processor is online.
         if self.idle {

@@ -1,5 +1,6 @@
 -- What histories of calls say of the processors after them.
-use Rattle.std.proofs.Common.{◌≡◌, ℕ, ◌<◌, ◌==◌, ◌&&◌, ◌||◌, Bool, true, false, not, if◌then◌else◌, [], ◌∷◌, length}
+use Rattle.std.proofs.Common.{◌≡◌, ℕ, ◌<◌, ◌==◌, ◌&&◌, ◌||◌, Bool, true, false, not, if◌then◌else◌}
+use Rattle.std.proofs.Common.{[], ◌∷◌, length}
 use Rattle.std.proofs.Common.{replicate, None, refl, sym, ap, ◌∙◌, arith, inl, inr}
 use Rattle.std.proofs.Math.Bool.{and-true, or-false}
 use Rattle.std.proofs.lemmas.Bool.{cases_lt}
@@ -9,9 +10,12 @@ use Rattle.rcu_seq.specs.Tags.{same_tag}
 use Rattle.rcu_seq.specs.declared.tag.Tag.{Tag}
 use Rattle.rcu_node.specs.CpuSet.{is_in}
 use Rattle.rcu_node.proofs.CpuSetLemmas.{in_none, is_in-insert, is_in-remove}
-use Rattle.rcu_node.proofs.ReportLemmas.{is_in-awaited_after_report, length-awaited_after_report, neither}
-use Rattle.rcu_hotplug.specs.Hotplug.{Processors, Arrive, Depart, Begin, Report, refusal, at_first, after_call}
-use Rattle.rcu_hotplug.specs.History.{History, AreAccepted, Represents, after_calls, is_heard, online, starts, tag}
+use Rattle.rcu_node.proofs.ReportLemmas.{is_in-awaited_after_report, length-awaited_after_report}
+use Rattle.rcu_node.proofs.ReportLemmas.{neither}
+use Rattle.rcu_hotplug.specs.Hotplug.{Processors, Arrive, Depart, Begin, Report, refusal, at_first}
+use Rattle.rcu_hotplug.specs.Hotplug.{after_call}
+use Rattle.rcu_hotplug.specs.History.{History, AreAccepted, Represents, after_calls, is_heard}
+use Rattle.rcu_hotplug.specs.History.{online, starts, tag}
 
 -- an accepted arrival is of a processor that there is
 arrival_below : (p : Processors) (cpu : ℕ) → refusal p (Arrive cpu) ≡ None → cpu < length p.awaited
@@ -26,7 +30,8 @@ has_come true earlier = refl
 has_come false earlier = refl
 
 -- who departs has gone
-has_gone : (departed earlier : Bool) → (earlier && not departed) ≡ (if departed then false else earlier)
+has_gone : (departed earlier : Bool)
+    → (earlier && not departed) ≡ (if departed then false else earlier)
 has_gone true true = refl
 has_gone true false = refl
 has_gone false earlier = and-true earlier
@@ -54,7 +59,8 @@ told_at_first cpus = record {
 }
 
 -- after an arrival
-told_arrival : (cpus : ℕ) (p : Processors) (h : History) (other : ℕ) → refusal p (Arrive other) ≡ None → IsTold cpus p h
+told_arrival : (cpus : ℕ) (p : Processors) (h : History) (other : ℕ)
+    → refusal p (Arrive other) ≡ None → IsTold cpus p h
     → IsTold cpus (after_call p (Arrive other)) (Arrive other ∷ h)
 told_arrival cpus p h other accepted told = record {
   awaited = told.awaited;
@@ -64,8 +70,10 @@ told_arrival cpus p h other accepted told = record {
     start_set = told.says.start_set;
     awaited = told.says.awaited;
     online = λ cpu l.
-        is_in-insert p.online other cpu (omega (arith, arrival_below p other accepted, told.awaited, told.online))
-        ∙ ap (λ b. other == cpu || b) (told.says.online cpu l) ∙ has_come (other == cpu) (online cpu h);
+        is_in-insert p.online other cpu
+        (omega (arith, arrival_below p other accepted, told.awaited, told.online))
+        ∙ ap (λ b. other == cpu || b) (told.says.online cpu l)
+        ∙ has_come (other == cpu) (online cpu h);
   };
 }
 
@@ -79,7 +87,8 @@ told_departure cpus p h other told = record {
     tag = told.says.tag;
     start_set = told.says.start_set;
     awaited = λ cpu l.
-        is_in-remove p.awaited other cpu ∙ ap (λ b. b && not (other == cpu)) (told.says.awaited cpu l)
+        is_in-remove p.awaited other cpu
+        ∙ ap (λ b. b && not (other == cpu)) (told.says.awaited cpu l)
         ∙ neither (starts cpu h) (is_heard cpu (tag h) h) (other == cpu);
     online = λ cpu l.
         is_in-remove p.online other cpu ∙ ap (λ b. b && not (other == cpu)) (told.says.online cpu l)
@@ -112,7 +121,8 @@ told_report cpus p h other number told = record {
     start_set = told.says.start_set;
     awaited = λ cpu l.
         is_in-awaited_after_report p.tag p.awaited other number cpu
-        ∙ ap (λ (n : Tag). is_in p.awaited cpu && not (other == cpu && same_tag number n)) told.says.tag
+        ∙ ap (λ (n : Tag). is_in p.awaited cpu && not (other == cpu && same_tag number n))
+        told.says.tag
         ∙ ap (λ b. b && not (other == cpu && same_tag number (tag h))) (told.says.awaited cpu l)
         ∙ neither (starts cpu h) (is_heard cpu (tag h) h) (other == cpu && same_tag number (tag h))
         ∙ ap (λ b. starts cpu h && not (b || is_heard cpu (tag h) h))

@@ -1,12 +1,14 @@
--- What the accepted calls so far say. A history is the list of the accepted calls, the newest first. So the history as
--- it was at an earlier call is the part of the list from that call on.
-use Rattle.std.specs.Prelude.{ℕ, ◌≡◌, ◌<◌, ◌==◌, Bool, true, false, not, ◌&&◌, ◌||◌, List, [], ◌∷◌, None}
+-- What the accepted calls so far say. A history is the list of the accepted calls, the newest
+-- first. So the history as it was at an earlier call is the part of the list from that call on.
+use Rattle.std.specs.Prelude.{ℕ, ◌≡◌, ◌<◌, ◌==◌, Bool, true, false, not, ◌&&◌, ◌||◌, List, [], ◌∷◌}
+use Rattle.std.specs.Prelude.{None}
 use Rattle.std.specs.List.{list_any}
 use Rattle.rcu_seq.specs.Histories.{is_on, latest, some_since}
 use Rattle.rcu_seq.specs.Tags.{first_tag, same_tag}
 use Rattle.rcu_seq.specs.declared.tag.Tag.{Tag}
 use Rattle.rcu_node.specs.CpuSet.{is_in}
-use Rattle.rcu_hotplug.specs.Hotplug.{Processors, Call, Arrive, Depart, Begin, Report, at_first, refusal, after_call}
+use Rattle.rcu_hotplug.specs.Hotplug.{Processors, Call, Arrive, Depart, Begin, Report, at_first}
+use Rattle.rcu_hotplug.specs.Hotplug.{refusal, after_call}
 
 abbrev pub History : Type 0
 History = List Call
@@ -47,7 +49,8 @@ tag [] = first_tag
 tag (Begin now ∷ h) = now
 tag (_ ∷ h) = tag h
 
--- the processor is online: its last arrival or departure is an arrival; before any, it is processor 0
+-- the processor is online: its last arrival or departure is an arrival; before any, it is processor
+-- 0
 abbrev pub online : ℕ → History → Bool
 online cpu h = is_on (cpu == 0) (arrives cpu) (departs cpu) h
 
@@ -55,7 +58,8 @@ online cpu h = is_on (cpu == 0) (arrives cpu) (departs cpu) h
 abbrev pub starts : ℕ → History → Bool
 starts cpu h = list_any begins h && online cpu (latest begins h)
 
--- by this call the processor is heard in the grace period of this tag: it reports the tag, or departs
+-- by this call the processor is heard in the grace period of this tag: it reports the tag, or
+-- departs
 abbrev pub hears : ℕ → Tag → Call → Bool
 hears cpu now call = reports cpu now call || departs cpu call
 
@@ -63,8 +67,8 @@ hears cpu now call = reports cpu now call || departs cpu call
 abbrev pub is_heard : ℕ → Tag → History → Bool
 is_heard cpu now h = some_since begins (λ call earlier. hears cpu now call) h
 
--- the processor is awaited: it was online at the latest begin, and since then it did not report with the grace
--- period's number, and did not depart
+-- the processor is awaited: it was online at the latest begin, and since then it did not report
+-- with the grace period's number, and did not depart
 abbrev pub awaits : ℕ → History → Bool
 awaits cpu h = starts cpu h && not (is_heard cpu (tag h) h)
 

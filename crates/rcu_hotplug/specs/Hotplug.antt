@@ -1,23 +1,27 @@
 -- Processors that come and go: what each call of an awaited set leaves, and when it is refused.
-use Rattle.std.specs.Prelude.{ℕ, ◌≡◌, ◌==◌, Bool, true, false, not, nat_lt, List, [], ◌∷◌, length, slice_set, replicate}
+use Rattle.std.specs.Prelude.{ℕ, ◌≡◌, ◌==◌, Bool, true, false, not, nat_lt, List, [], ◌∷◌, length}
+use Rattle.std.specs.Prelude.{slice_set, replicate}
 use Rattle.std.specs.Prelude.{Option}
 use Rattle.rcu_seq.specs.Fault.{first_fault}
 use Rattle.rcu_seq.specs.Tags.{first_tag}
 use Rattle.rcu_seq.specs.declared.tag.Tag.{Tag}
 use Rattle.rcu_seq.specs.declared.fault.Fault.{Fault}
-use Rattle.rcu_seq.specs.declared.fault.Fault.TheVariants.{BadCpu, Offline, AlreadyOnline, BootStays}
+use Rattle.rcu_seq.specs.declared.fault.Fault.TheVariants.{BadCpu, Offline, AlreadyOnline}
+use Rattle.rcu_seq.specs.declared.fault.Fault.TheVariants.{BootStays}
 use Rattle.rcu_node.specs.CpuSet.{is_in}
+use Rattle.rcu_node.specs.Merging.{Standing, standing}
 use Rattle.rcu_node.specs.Reports.{awaited_after_report}
 
--- the latest grace period's tag, the processors that it awaited at its start, those that it awaits now, and those
--- that are online
+-- the latest grace period's tag, the processors that it awaited at its start, those that it awaits
+-- now, and those that are online
 pub record Processors : Type 0 where
   pub tag : Tag
   pub start_set : List Bool
   pub awaited : List Bool
   pub online : List Bool
 
--- a call: a processor arrives or departs, a grace period of a tag begins, a processor reports the tag that it noted
+-- a call: a processor arrives or departs, a grace period of a tag begins, a processor reports the
+-- tag that it noted
 pub data Call : Type 0 where
   Arrive : ℕ → Call
   Depart : ℕ → Call
@@ -37,11 +41,17 @@ at_first cpus = record {
 abbrev pub cpus_of : Processors → ℕ
 cpus_of p = length p.awaited
 
+-- where the latest grace period stands
+abbrev pub standing_of : Processors → Standing
+standing_of p = standing p.tag p.start_set p.awaited
+
 -- what is tested of a call, in order: a cause, and the fault that it is answered by
 abbrev pub causes : Processors → Call → List (Bool × Fault)
-causes p (Arrive cpu) = (not (nat_lt cpu (cpus_of p)), BadCpu) ∷ (is_in p.online cpu, AlreadyOnline) ∷ []
+causes p (Arrive cpu) =
+    (not (nat_lt cpu (cpus_of p)), BadCpu) ∷ (is_in p.online cpu, AlreadyOnline) ∷ []
 causes p (Depart cpu) =
-    (not (nat_lt cpu (cpus_of p)), BadCpu) ∷ (cpu == 0, BootStays) ∷ (not (is_in p.online cpu), Offline) ∷ []
+    (not (nat_lt cpu (cpus_of p)), BadCpu) ∷ (cpu == 0, BootStays) ∷
+    (not (is_in p.online cpu), Offline) ∷ []
 causes p (Begin tag) = []
 causes p (Report cpu noted) = []
 
@@ -49,16 +59,18 @@ causes p (Report cpu noted) = []
 abbrev pub refusal : Processors → Call → Option Fault
 refusal p call = first_fault (causes p call)
 
--- what an accepted call leaves: who arrives is online, who departs is neither online nor awaited, a beginning grace
--- period awaits the online processors, and a report clears as reports do
+-- what an accepted call leaves: who arrives is online, who departs is neither online nor awaited, a
+-- beginning grace period awaits the online processors, and a report clears as reports do
 abbrev pub after_call : Processors → Call → Processors
 after_call p (Arrive cpu) = record p { online = slice_set p.online cpu true }
-after_call p (Depart cpu) = record p { online = slice_set p.online cpu false; awaited = slice_set p.awaited cpu false }
+after_call p (Depart cpu) =
+    record p { online = slice_set p.online cpu false; awaited = slice_set p.awaited cpu false }
 after_call p (Begin tag) = record p { tag = tag; start_set = p.online; awaited = p.online }
-after_call p (Report cpu noted) = record p { awaited = awaited_after_report p.tag p.awaited cpu noted }
+after_call p (Report cpu noted) =
+    record p { awaited = awaited_after_report p.tag p.awaited cpu noted }
 
--- what always holds: there is a flag for each processor, processor 0 is online, and only online processors of the
--- start set are awaited
+-- what always holds: there is a flag for each processor, processor 0 is online, and only online
+-- processors of the start set are awaited
 pub record IsSound (p : Processors) : Type 0 where
   pub started : length p.start_set ≡ cpus_of p
   pub sized : length p.online ≡ cpus_of p

@@ -1,12 +1,15 @@
 //! An awaited set with processors that come and go.
-ghost use Rattle.std.specs.Prelude.{◌≡◌, ◌<◌, ℕ, true, false, Some, None, length, replicate};
+ghost use Rattle.std.specs.Prelude.{◌≡◌, ◌<◌, ℕ, true, false, length, replicate};
 ghost use Rattle.std.specs.Prelude.{IfErr, IfOk, OnErr, OnOk};
+ghost use Rattle.std.specs.Result.{result_err};
 ghost use Rattle.rcu_seq.specs.Numbers.{is_running};
 ghost use Rattle.rcu_seq.specs.Tags.{first_tag};
 ghost use Rattle.rcu_node.specs.CpuSet.{is_in};
+ghost use Rattle.rcu_node.specs.Merging.{standing};
 ghost use Rattle.rcu_node.specs.Reports.{report_answer};
 ghost use Rattle.rcu_hotplug.specs.Hotplug.{Arrive, Begin, Depart, Report};
 ghost use Rattle.rcu_hotplug.specs.Hotplug.{IsSound, after_call, at_first, cpus_of, refusal};
+ghost use Rattle.rcu_hotplug.specs.Hotplug.{standing_of};
 
 use rcu_node::{Answer, Awaited, CpuSet};
 use rcu_seq::{Fault, Tag};
@@ -56,8 +59,8 @@ impl<A: Awaited> Hotplug<A> {
     pub fn new(alloc: Global, inner: A) -> Result<Self, Fault>
         requires tag { A.tag inner ≡ first_tag }
         requires empty { A.start_set inner ≡ replicate (length (A.awaited inner)) false }
-        ensures ok { IfOk result (λ made. made ≡ at_first (length (A.awaited inner))) }
-        ensures err { IfErr result (λ fault. fault ≡ Fault.NoMemory) }
+        ensures fault { IfErr result (λ fault. fault ≡ Fault.NoMemory) }
+        ensures state { IfOk result (λ made. made ≡ at_first (length (A.awaited inner))) }
     {
         let mut online = CpuSet::new(alloc, inner.cpus())?;
         online.insert(0);
@@ -68,9 +71,8 @@ impl<A: Awaited> Hotplug<A> {
     ///
     /// Faults: `BadCpu` (1), `AlreadyOnline` (3).
     pub fn arrive(&mut self, cpu: u32) -> Result<(), Fault>
-        ensures ok { OnOk result (self.new ≡ after_call self.old (Arrive cpu)) }
-        ensures accepted { OnOk result (refusal self.old (Arrive cpu) ≡ None) }
-        ensures err { IfErr result (λ fault. refusal self.old (Arrive cpu) ≡ Some fault) }
+        ensures fault { result_err result ≡ refusal self.old (Arrive cpu) }
+        ensures state { OnOk result (self.new ≡ after_call self.old (Arrive cpu)) }
         ensures unchanged { OnErr result (self.new ≡ self.old) }
     {
         if cpu >= self.inner.cpus() {
@@ -86,9 +88,8 @@ impl<A: Awaited> Hotplug<A> {
     ///
     /// Faults: `BadCpu` (1); `BootStays` (12) for processor 0; `Offline` (2).
     pub fn depart(&mut self, cpu: u32) -> Result<(), Fault>
-        ensures ok { OnOk result (self.new ≡ after_call self.old (Depart cpu)) }
-        ensures accepted { OnOk result (refusal self.old (Depart cpu) ≡ None) }
-        ensures err { IfErr result (λ fault. refusal self.old (Depart cpu) ≡ Some fault) }
+        ensures fault { result_err result ≡ refusal self.old (Depart cpu) }
+        ensures state { OnOk result (self.new ≡ after_call self.old (Depart cpu)) }
         ensures unchanged { OnErr result (self.new ≡ self.old) }
     {
         if cpu >= self.inner.cpus() {
@@ -128,17 +129,15 @@ impl<A: Awaited> Hotplug<A> {
     /// Whether the processor is online.
     pub fn online(&self, cpu: u32) -> bool
         requires { cpu < cpus_of self.now }
-        ensures value { result ≡ is_in self.now.online cpu }
-        ensures kept { IsSound self.now }
+        ensures { result ≡ is_in self.now.online cpu }
     {
         self.online.contains(cpu)
     }
 
     /// The awaited set.
     pub fn awaited(&self) -> &A
-        ensures tag { A.tag result.now ≡ self.now.tag }
-        ensures start_set { A.start_set result.now ≡ self.now.start_set }
-        ensures awaited { A.awaited result.now ≡ self.now.awaited }
+        ensures standing { standing (A.tag result.now) (A.start_set result.now)
+            (A.awaited result.now) ≡ standing_of self.now }
         ensures kept { IsSound self.now }
     {
         &self.inner

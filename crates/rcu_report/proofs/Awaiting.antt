@@ -1,5 +1,6 @@
 -- Who is awaited where an end is refused, and once a merge was tried.
-use Rattle.std.proofs.Common.{◌≡◌, ◌⊎◌, ℕ, ◌==◌, ◌&&◌, Bool, false, List, length, Some, refl, sym, ap, ◌∙◌, inl, inr}
+use Rattle.std.proofs.Common.{◌≡◌, ◌⊎◌, ℕ, ◌==◌, ◌&&◌, Bool, false, List, length, Some, refl, sym}
+use Rattle.std.proofs.Common.{ap, ◌∙◌, inl, inr}
 use Rattle.std.proofs.lemmas.Bool.{cases_Bool, true≢false}
 use Rattle.rcu_seq.specs.declared.fault.Fault.TheVariants.{Waiting}
 use Rattle.rcu_node.specs.CpuSet.{intersection, is_in, size_of}
@@ -7,11 +8,13 @@ use Rattle.rcu_node.proofs.CpuSetLemmas.{is_in-intersection, length-intersection
 use Rattle.rcu_report.specs.Replica.{Replicated, End, refusal}
 
 -- where a processor is awaited a grace period runs, and its end is refused for that
-pub refused_while_awaited : (r : Replicated) → (r.periods.running ≡ false → (cpu : ℕ) → is_in r.awaited cpu ≡ false)
+pub refused_while_awaited : (r : Replicated)
+    → (r.periods.running ≡ false → (cpu : ℕ) → is_in r.awaited cpu ≡ false)
     → (size_of r.awaited == 0) ≡ false → refusal r End ≡ Some Waiting
 refused_while_awaited r idle e = elim (cases_Bool r.periods.running) [
   | inl runs ↦ rw runs (rw e refl)
-  | inr rests ↦ absurd (true≢false (sym (ap (λ (n : ℕ). n == 0) (size_of-empty r.awaited (λ cpu l. idle rests cpu)))
+  | inr rests ↦ absurd
+      (true≢false (sym (ap (λ (n : ℕ). n == 0) (size_of-empty r.awaited (λ cpu l. idle rests cpu)))
       ∙ e))
 ]
 
@@ -27,7 +30,8 @@ length-merged old other now h = elim h [
 ]
 
 -- nobody is in it where nobody was
-pub none_merged : (old other now : List Bool) → IsMerged old other now → ((cpu : ℕ) → is_in old cpu ≡ false) → (cpu : ℕ)
+pub none_merged : (old other now : List Bool) → IsMerged old other now
+    → ((cpu : ℕ) → is_in old cpu ≡ false) → (cpu : ℕ)
     → is_in now cpu ≡ false
 none_merged old other now h none cpu = elim h [
   | inl e ↦ ap (λ (s : List Bool). is_in s cpu) e ∙ is_in-intersection old other cpu

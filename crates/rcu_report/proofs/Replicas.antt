@@ -1,5 +1,6 @@
 -- What the calls of replicas keep.
-use Rattle.std.proofs.Common.{◌≡◌, ℕ, ◌==◌, ◌&&◌, Bool, true, false, not, if◌then◌else◌, List, length, slice_set}
+use Rattle.std.proofs.Common.{◌≡◌, ℕ, ◌==◌, ◌&&◌, Bool, true, false, not, if◌then◌else◌, List}
+use Rattle.std.proofs.Common.{length, slice_set}
 use Rattle.std.proofs.Common.{replicate, None, refl, sym, ap, ◌∙◌, arith, inl, inr}
 use Rattle.std.proofs.lemmas.Bool.{and_parts, cases_Bool, true≢false}
 use Rattle.std.proofs.lemmas.Bool.Decides.{nat_tests}
@@ -9,10 +10,12 @@ use Rattle.rcu_seq.specs.Tags.{of_first_epoch}
 use Rattle.rcu_node.specs.CpuSet.{intersection, is_in, size_of}
 use Rattle.rcu_node.specs.Merging.{are_alike}
 use Rattle.rcu_node.specs.Reports.{awaited_after_report}
-use Rattle.rcu_node.proofs.CpuSetLemmas.{in_none, is_in-intersection, is_in-remove, length-intersection, nobody_in}
+use Rattle.rcu_node.proofs.CpuSetLemmas.{in_none, is_in-intersection, is_in-remove}
+use Rattle.rcu_node.proofs.CpuSetLemmas.{length-intersection, nobody_in}
 use Rattle.rcu_node.proofs.MergingLemmas.{Equals, are_alike-Decides}
 use Rattle.rcu_node.proofs.ReportLemmas.{is_in-awaited_after_report, length-awaited_after_report}
-use Rattle.rcu_report.specs.Replica.{Replicated, Call, Begin, Report, Depart, End, Merge, IsSound, CanBeMade, at_first}
+use Rattle.rcu_report.specs.Replica.{Replicated, Call, Begin, Report, Depart, End, Merge, IsSound}
+use Rattle.rcu_report.specs.Replica.{CanBeMade, at_first}
 use Rattle.rcu_report.specs.Replica.{cpus_of, after_call, refusal, standing_of}
 
 -- an accepted merging is of an alike replica
@@ -25,7 +28,8 @@ merging_alike r other e = elim (cases_Bool (are_alike (standing_of r) (standing_
 
 pub merging_agrees : (r other : Replicated) → refusal r (Merge other) ≡ None
     → Equals (standing_of r) (standing_of other)
-merging_agrees r other e = (are_alike-Decides (standing_of r) (standing_of other)).0 (merging_alike r other e)
+merging_agrees r other e =
+    (are_alike-Decides (standing_of r) (standing_of other)).0 (merging_alike r other e)
 
 -- an accepted end is one of a grace period that runs, where nobody is awaited
 pub end_runs : (r : Replicated) → refusal r End ≡ None → r.periods.running ≡ true
@@ -66,19 +70,22 @@ kept_cut r less sized part kept = record {
 }
 
 -- what holds of what is left while a grace period runs, and while none does
-pub by_running : (P : Replicated → Type 0) (r left : Replicated) → (r.periods.running ≡ true → P left)
+pub by_running : (P : Replicated → Type 0) (r left : Replicated)
+    → (r.periods.running ≡ true → P left)
     → (r.periods.running ≡ false → P r)
     → P (if r.periods.running then left else r)
 by_running P r left runs rests = go P r left r.periods.running runs rests
   where
-    go : (P : Replicated → Type 0) (r left : Replicated) (running : Bool) → (running ≡ true → P left)
+    go : (P : Replicated → Type 0) (r left : Replicated) (running : Bool)
+        → (running ≡ true → P left)
         → (running ≡ false → P r)
         → P (if running then left else r)
     go P r left true runs rests = runs refl
     go P r left false runs rests = rests refl
 
 -- what an accepted call keeps
-pub kept_next : (r : Replicated) (call : Call) → CanBeMade r call → refusal r call ≡ None → IsSound r
+pub kept_next : (r : Replicated) (call : Call) → CanBeMade r call → refusal r call ≡ None
+    → IsSound r
     → IsSound (after_call r call)
 kept_next r (Begin set) made accepted kept = record {
   started = refl;
@@ -88,17 +95,24 @@ kept_next r (Begin set) made accepted kept = record {
   idle = λ rests. absurd (true≢false rests);
 }
 kept_next r (Report cpu number) made accepted kept =
-    by_running IsSound r (record r { awaited = awaited_after_report (of_first_epoch r.tag) r.awaited cpu (of_first_epoch number) })
+    by_running IsSound r
+    (record r {
+      awaited = awaited_after_report (of_first_epoch r.tag) r.awaited cpu
+          (of_first_epoch number);
+    })
     (λ runs.
     kept_cut r (awaited_after_report (of_first_epoch r.tag) r.awaited cpu (of_first_epoch number))
     (length-awaited_after_report (of_first_epoch r.tag) r.awaited cpu (of_first_epoch number))
     (λ k there.
-    let left = sym (is_in-awaited_after_report (of_first_epoch r.tag) r.awaited cpu (of_first_epoch number) k) ∙ there in
+    let left = sym
+    (is_in-awaited_after_report (of_first_epoch r.tag) r.awaited cpu (of_first_epoch number) k)
+    ∙ there in
     (and_parts (is_in r.awaited k) (not (cpu == k && same_number number r.tag)) left).0) kept)
     (λ rests. kept)
 kept_next r (Depart cpu) made accepted kept =
     kept_cut r (slice_set r.awaited cpu false) (length-set r.awaited cpu false)
-    (λ k there. (and_parts (is_in r.awaited k) (not (cpu == k)) (sym (is_in-remove r.awaited cpu k) ∙ there)).0) kept
+    (λ k there. (and_parts (is_in r.awaited k) (not (cpu == k))
+    (sym (is_in-remove r.awaited cpu k) ∙ there)).0) kept
 kept_next r End made accepted kept = record {
   started = kept.started;
   within = kept.within;

@@ -1,9 +1,12 @@
--- What the accepted calls of a replica say. A history is the list of the accepted calls, the newest first.
-use Rattle.std.specs.Prelude.{ℕ, ◌≡◌, ◌==◌, Bool, true, false, not, ◌&&◌, List, [], ◌∷◌, None, count_by}
+-- What the accepted calls of a replica say. A history is the list of the accepted calls, the newest
+-- first.
+use Rattle.std.specs.Prelude.{ℕ, ◌≡◌, ◌==◌, Bool, true, false, not, ◌&&◌, List, [], ◌∷◌, None}
+use Rattle.std.specs.Prelude.{count_by}
 use Rattle.rcu_seq.specs.Histories.{is_on, some_since}
 use Rattle.rcu_seq.specs.Numbers.{Number, number_at, same_number}
 use Rattle.rcu_node.specs.CpuSet.{is_in}
-use Rattle.rcu_report.specs.Replica.{Replicated, Call, Begin, Report, Depart, End, Merge, CanBeMade, at_first, refusal}
+use Rattle.rcu_report.specs.Replica.{Replicated, Call, Begin, Report, Depart, End, Merge, CanBeMade}
+use Rattle.rcu_report.specs.Replica.{at_first, refusal}
 use Rattle.rcu_report.specs.Replica.{after_call}
 
 abbrev pub History : Type 0
@@ -18,7 +21,8 @@ after_calls cpus last (call ∷ h) = after_call (after_calls cpus last h) call
 abbrev pub AreAccepted : ℕ → Number → History → Type 0
 AreAccepted cpus last [] = Unit {0}
 AreAccepted cpus last (call ∷ h) =
-    CanBeMade (after_calls cpus last h) call × (refusal (after_calls cpus last h) call ≡ None) × AreAccepted cpus last h
+    CanBeMade (after_calls cpus last h) call × (refusal (after_calls cpus last h) call ≡ None)
+    × AreAccepted cpus last h
 
 -- a grace period begins
 abbrev pub begins : Call → Bool
@@ -34,7 +38,8 @@ ends _ = false
 abbrev pub running : History → Bool
 running h = is_on false begins ends h
 
--- the number of the latest begin, 0 before any: four for each grace period that had ended, and one more
+-- the number of the latest begin, 0 before any: four for each grace period that had ended, and one
+-- more
 abbrev pub tag : History → Number
 tag [] = 0
 tag (Begin set ∷ h) = number_at (count_by ends h) true
@@ -46,8 +51,9 @@ starts cpu [] = false
 starts cpu (Begin set ∷ h) = is_in set cpu
 starts cpu (_ ∷ h) = starts cpu h
 
--- by this call the processor is heard in the grace period of this number: it reports the number, or departs, or another
--- replica is taken in that heard it in that grace period, so that it started with the processor and awaits it no more
+-- by this call the processor is heard in the grace period of this number: it reports the number, or
+-- departs, or another replica is taken in that heard it in that grace period, so that it started
+-- with the processor and awaits it no more
 abbrev pub hears : ℕ → Number → Call → Bool
 hears cpu number (Report c n) = c == cpu && same_number n number
 hears cpu number (Depart c) = c == cpu
@@ -59,7 +65,8 @@ hears cpu number _ = false
 abbrev pub is_heard : ℕ → Number → History → Bool
 is_heard cpu number h = some_since begins (λ call earlier. hears cpu number call) h
 
--- the processor is awaited: the latest grace period started with it, and it was not heard in it since
+-- the processor is awaited: the latest grace period started with it, and it was not heard in it
+-- since
 abbrev pub awaits : ℕ → History → Bool
 awaits cpu h = starts cpu h && not (is_heard cpu (tag h) h)
 

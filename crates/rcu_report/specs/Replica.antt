@@ -1,12 +1,15 @@
--- Replicas of one grace-period engine, which stay in the first epoch: what each call leaves, and when it is refused.
-use Rattle.std.specs.Prelude.{ℕ, ◌≡◌, ◌+◌, ◌-◌, ◌==◌, Bool, true, false, not, nat_lt, if◌then◌else◌, List, [], ◌∷◌}
+-- Replicas of one grace-period engine, which stay in the first epoch: what each call leaves, and
+-- when it is refused.
+use Rattle.std.specs.Prelude.{ℕ, ◌≡◌, ◌+◌, ◌-◌, ◌==◌, Bool, true, false, not, nat_lt, if◌then◌else◌}
+use Rattle.std.specs.Prelude.{List, [], ◌∷◌}
 use Rattle.std.specs.Prelude.{length, slice_set, replicate, Option}
 use Rattle.rcu_seq.specs.Fault.{first_fault}
 use Rattle.rcu_seq.specs.Numbers.{Number, number_at}
 use Rattle.rcu_seq.specs.Seq.{Periods, number_of}
 use Rattle.rcu_seq.specs.Tags.{of_first_epoch}
 use Rattle.rcu_seq.specs.declared.fault.Fault.{Fault}
-use Rattle.rcu_seq.specs.declared.fault.Fault.TheVariants.{BadCpu, Running, Idle, Waiting, Exhausted, BootStays}
+use Rattle.rcu_seq.specs.declared.fault.Fault.TheVariants.{BadCpu, Running, Idle, Waiting}
+use Rattle.rcu_seq.specs.declared.fault.Fault.TheVariants.{Exhausted, BootStays}
 use Rattle.rcu_seq.specs.declared.fault.Fault.TheVariants.{NotAlike}
 use Rattle.rcu_node.specs.CpuSet.{intersection, is_in, size_of}
 use Rattle.rcu_node.specs.Merging.{Standing, are_alike, standing}
@@ -14,16 +17,16 @@ use Rattle.rcu_node.specs.Reports.{report_answer, awaited_after_report}
 use Rattle.rcu_node.specs.declared.answer.Answer.{Answer}
 use Rattle.rcu_node.specs.declared.answer.Answer.TheVariants.{Stale}
 
--- a replica: its counter of grace periods, the latest one's number, the processors that it awaited at its start, and
--- those that it awaits now
+-- a replica: its counter of grace periods, the latest one's number, the processors that it awaited
+-- at its start, and those that it awaits now
 pub record Replicated : Type 0 where
   pub periods : Periods
   pub tag : Number
   pub start_set : List Bool
   pub awaited : List Bool
 
--- a call: a grace period of a set begins, a processor reports a number or departs, the grace period ends, what another
--- replica heard is taken in
+-- a call: a grace period of a set begins, a processor reports a number or departs, the grace period
+-- ends, what another replica heard is taken in
 pub data Call : Type 0 where
   Begin : List Bool → Call
   Report : ℕ → Number → Call
@@ -50,12 +53,15 @@ standing_of r = standing (of_first_epoch r.tag) r.start_set r.awaited
 
 -- the number of the latest grace period of a counter, 0 before any
 abbrev pub latest_of : Periods → Number
-latest_of p = if p.running then number_of p else (if p.ends == 0 then 0 else number_at (p.ends - 1) true)
+latest_of p =
+    if p.running then number_of p else (if p.ends == 0 then 0 else number_at (p.ends - 1) true)
 
--- the answer to a report: stale while no grace period runs, whatever its number, else as the awaited set's
+-- the answer to a report: stale while no grace period runs, whatever its number, else as the
+-- awaited set's
 abbrev pub answer_of : Replicated → ℕ → Number → Answer
 answer_of r cpu number =
-    if r.periods.running then report_answer (of_first_epoch r.tag) r.awaited cpu (of_first_epoch number)
+    if r.periods.running then report_answer (of_first_epoch r.tag) r.awaited cpu
+    (of_first_epoch number)
     else Stale
 
 -- the call can be made: a set that begins is one of as many processors
@@ -65,7 +71,8 @@ CanBeMade r _ = Unit {0}
 
 -- what is tested of a call, in order: a cause, and the fault that it is answered by
 abbrev pub causes : Replicated → Call → List (Bool × Fault)
-causes r (Begin set) = (r.periods.running, Running) ∷ (number_of r.periods == r.periods.last, Exhausted) ∷ []
+causes r (Begin set) =
+    (r.periods.running, Running) ∷ (number_of r.periods == r.periods.last, Exhausted) ∷ []
 causes r (Report cpu number) = (not (nat_lt cpu (cpus_of r)), BadCpu) ∷ []
 causes r (Depart cpu) = (not (nat_lt cpu (cpus_of r)), BadCpu) ∷ (cpu == 0, BootStays) ∷ []
 causes r End = (not r.periods.running, Idle) ∷ (not (size_of r.awaited == 0), Waiting) ∷ []
@@ -75,9 +82,9 @@ causes r (Merge other) = (not (are_alike (standing_of r) (standing_of other)), N
 abbrev pub refusal : Replicated → Call → Option Fault
 refusal r call = first_fault (causes r call)
 
--- what an accepted call leaves: a beginning grace period awaits its set and has the new number as its tag; a report
--- clears as reports do while a grace period runs, and nothing else; who departs is awaited no more; an end is counted;
--- whom the other replica does not await is awaited no more
+-- what an accepted call leaves: a beginning grace period awaits its set and has the new number as
+-- its tag; a report clears as reports do while a grace period runs, and nothing else; who departs
+-- is awaited no more; an end is counted; whom the other replica does not await is awaited no more
 abbrev pub after_call : Replicated → Call → Replicated
 after_call r (Begin set) = record {
   periods = record r.periods { running = true };
@@ -87,14 +94,19 @@ after_call r (Begin set) = record {
 }
 after_call r (Report cpu number) =
     if r.periods.running then
-    record r { awaited = awaited_after_report (of_first_epoch r.tag) r.awaited cpu (of_first_epoch number) }
+    record r {
+      awaited = awaited_after_report (of_first_epoch r.tag) r.awaited cpu
+          (of_first_epoch number);
+    }
     else r
 after_call r (Depart cpu) = record r { awaited = slice_set r.awaited cpu false }
-after_call r End = record r { periods = record r.periods { ends = r.periods.ends + 1; running = false } }
+after_call r End =
+    record r { periods = record r.periods { ends = r.periods.ends + 1; running = false } }
 after_call r (Merge other) = record r { awaited = intersection r.awaited other.awaited }
 
--- what always holds: there is a flag for each processor, only processors of the start set are awaited, the tag is the
--- latest grace period's number, none was awaited before any, and none is while no grace period runs
+-- what always holds: there is a flag for each processor, only processors of the start set are
+-- awaited, the tag is the latest grace period's number, none was awaited before any, and none is
+-- while no grace period runs
 pub record IsSound (r : Replicated) : Type 0 where
   pub started : length r.start_set ≡ cpus_of r
   pub within : (cpu : ℕ) → is_in r.awaited cpu ≡ true → is_in r.start_set cpu ≡ true

@@ -1,10 +1,12 @@
 //! Reports of one tag, as a set.
-ghost use Rattle.std.specs.Prelude.{◌≡◌, ◌≢◌, ◌<◌, ◌≤◌, ◌+◌, ◌&&◌, ◌⊎◌, if◌then◌else◌, true, false};
+ghost use Rattle.std.specs.Prelude.{◌≡◌, ◌<◌, ◌≤◌, ◌+◌, ◌&&◌, if◌then◌else◌, true, false};
 ghost use Rattle.std.specs.Prelude.{length, slice_set, replicate, IfErr, IfOk, OnErr, OnOk};
+ghost use Rattle.std.specs.Result.{result_err};
 ghost use Rattle.rcu_seq.specs.Tags.{same_tag};
 ghost use Rattle.rcu_node.specs.CpuSet.{IsSetFault, is_in, size_of, union};
-ghost use Rattle.rcu_node.specs.Reports.{awaited_after_report};
-ghost use Rattle.rcu_report.specs.Batch.{difference, awaited_after_batch};
+ghost use Rattle.rcu_node.specs.Merging.{standing};
+ghost use Rattle.rcu_report.specs.Batch.{add_refusal, after_batch, after_report, difference};
+ghost use Rattle.rcu_report.specs.Batch.{join_refusal};
 
 use crate::report::Report;
 use rcu_node::{Answer, Awaited, CpuSet};
@@ -40,11 +42,10 @@ impl Batch {
     ///
     /// Faults: `TooManyCpus` (17) for no processor or more than 4,096; `NoMemory` (16).
     pub fn new(alloc: Global, cpus: u32, tag: Tag) -> Result<Self, Fault>
-        ensures ok { IfOk result (λ batch.
+        ensures fault { IfErr result (λ fault. IsSetFault cpus fault) }
+        ensures range { OnOk result ((0 < cpus) × (cpus ≤ 4096)) }
+        ensures state { IfOk result (λ batch.
             batch ≡ record { tag = tag; set = replicate cpus false }) }
-        ensures some { OnOk result (0 < cpus) }
-        ensures few { OnOk result (cpus ≤ 4096) }
-        ensures err { IfErr result (λ fault. IsSetFault cpus fault) }
     {
         Ok(Batch {
             tag,
@@ -62,8 +63,7 @@ impl Batch {
     /// The number of processors that the batch was made for.
     pub fn cpus(&self) -> u32
         ensures value { result ≡ length self.now.set }
-        ensures some { 0 < result }
-        ensures few { result ≤ 4096 }
+        ensures range { (0 < result) × (result ≤ 4096) }
     {
         self.set.cpus()
     }
@@ -81,11 +81,9 @@ impl Batch {
     /// Fault: `NotAlike` (20) for another tag.
     pub fn add(&mut self, report: Report) -> Result<(), Fault>
         requires { report.cpu < length self.old.set }
-        ensures ok { OnOk result (
+        ensures fault { result_err result ≡ add_refusal self.old report.tag }
+        ensures state { OnOk result (
             self.new ≡ record self.old { set = slice_set self.old.set report.cpu true }) }
-        ensures alike { OnOk result (report.tag ≡ self.old.tag) }
-        ensures err { IfErr result (λ fault. fault ≡ Fault.NotAlike) }
-        ensures unlike { OnErr result (report.tag ≢ self.old.tag) }
         ensures unchanged { OnErr result (self.new ≡ self.old) }
     {
         if report.tag != self.tag {
@@ -99,13 +97,9 @@ impl Batch {
     ///
     /// Fault: `NotAlike` (20) for another tag or another number of processors.
     pub fn join(&mut self, other: &Batch) -> Result<(), Fault>
-        ensures ok { OnOk result (
+        ensures fault { result_err result ≡ join_refusal self.old other.now }
+        ensures state { OnOk result (
             self.new ≡ record self.old { set = union self.old.set other.now.set }) }
-        ensures alike { OnOk result (other.now.tag ≡ self.old.tag) }
-        ensures sized { OnOk result (length other.now.set ≡ length self.old.set) }
-        ensures err { IfErr result (λ fault. fault ≡ Fault.NotAlike) }
-        ensures unlike { OnErr result ((other.now.tag ≢ self.old.tag)
-            ⊎ (length other.now.set ≢ length self.old.set)) }
         ensures unchanged { OnErr result (self.new ≡ self.old) }
     {
         if other.tag != self.tag || other.set.cpus() != self.set.cpus() {
@@ -121,10 +115,9 @@ impl Batch {
     pub fn apply<A: Awaited>(&self, to: &mut A) -> u32
         requires { length (A.awaited to.old) ≡ length self.now.set }
         ensures count { result ≡ size_of (difference (A.awaited to.old) (A.awaited to.new)) }
-        ensures tag { A.tag to.new ≡ A.tag to.old }
-        ensures start_set { A.start_set to.new ≡ A.start_set to.old }
-        ensures awaited { A.awaited to.new
-            ≡ awaited_after_batch (A.tag to.old) (A.awaited to.old) self.now }
+        ensures state { standing (A.tag to.new) (A.start_set to.new) (A.awaited to.new)
+            ≡ after_batch (standing (A.tag to.old) (A.start_set to.old) (A.awaited to.old))
+            self.now }
     {
         let mut cleared = 0;
         for cpu in 0..self.set.cpus() {
@@ -139,11 +132,11 @@ impl Batch {
         requires there { cpu < length self.now.set }
         requires sized { length (A.awaited to.old) ≡ length self.now.set }
         ensures count { result + size_of (A.awaited to.new) ≡ size_of (A.awaited to.old) }
-        ensures tag { A.tag to.new ≡ A.tag to.old }
-        ensures start_set { A.start_set to.new ≡ A.start_set to.old }
-        ensures awaited { A.awaited to.new ≡ (if is_in self.now.set cpu
-            then awaited_after_report (A.tag to.old) (A.awaited to.old) cpu self.now.tag
-            else A.awaited to.old) }
+        ensures state { standing (A.tag to.new) (A.start_set to.new) (A.awaited to.new)
+            ≡ (if is_in self.now.set cpu
+            then after_report (standing (A.tag to.old) (A.start_set to.old) (A.awaited to.old))
+            cpu self.now.tag
+            else standing (A.tag to.old) (A.start_set to.old) (A.awaited to.old)) }
     {
         if !self.set.contains(cpu) {
             return 0;
@@ -156,10 +149,9 @@ impl Batch {
 fn clears<A: Awaited>(to: &mut A, cpu: u32, tag: Tag) -> bool
     requires { cpu < length (A.awaited to.old) }
     ensures cleared { result ≡ (same_tag tag (A.tag to.old) && is_in (A.awaited to.old) cpu) }
-    ensures tag { A.tag to.new ≡ A.tag to.old }
-    ensures start_set { A.start_set to.new ≡ A.start_set to.old }
-    ensures awaited { A.awaited to.new
-        ≡ awaited_after_report (A.tag to.old) (A.awaited to.old) cpu tag }
+    ensures state { standing (A.tag to.new) (A.start_set to.new) (A.awaited to.new)
+        ≡ after_report (standing (A.tag to.old) (A.start_set to.old) (A.awaited to.old)) cpu
+        tag }
 {
     matches!(to.report(cpu, tag), Answer::Taken | Answer::Last)
 }

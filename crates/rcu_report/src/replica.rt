@@ -1,12 +1,13 @@
 //! An awaited set with a counter of grace periods.
-ghost use Rattle.std.specs.Prelude.{◌≡◌, ◌≤◌, Some, None, true, false, length, replicate};
-ghost use Rattle.std.specs.Prelude.{IfErr, IfOk, OnErr, OnOk};
-ghost use Rattle.rcu_seq.specs.Numbers.{is_last};
-ghost use Rattle.rcu_seq.specs.Seq.{number_of};
-ghost use Rattle.rcu_seq.specs.Tags.{first_tag, of_first_epoch};
+ghost use Rattle.std.specs.Prelude.{◌≡◌, ◌≤◌, false, length, replicate};
+ghost use Rattle.std.specs.Prelude.{IfOk, OnErr, OnOk};
+ghost use Rattle.std.specs.Result.{result_err};
+ghost use Rattle.rcu_seq.specs.Seq.{last_refusal, number_of};
+ghost use Rattle.rcu_seq.specs.Tags.{first_tag};
+ghost use Rattle.rcu_node.specs.Merging.{standing};
 ghost use Rattle.rcu_report.specs.Replica.{Begin, Depart, End, Merge, Report};
 ghost use Rattle.rcu_report.specs.Replica.{IsSound, answer_of, at_first, cpus_of, after_call};
-ghost use Rattle.rcu_report.specs.Replica.{refusal};
+ghost use Rattle.rcu_report.specs.Replica.{refusal, standing_of};
 
 use rcu_node::merging::merge;
 use rcu_node::{Answer, Awaited, CpuSet};
@@ -57,10 +58,8 @@ impl<A: Awaited> Replica<A> {
     pub fn new(inner: A, last: u64) -> Result<Self, Fault>
         requires tag { A.tag inner ≡ first_tag }
         requires empty { A.start_set inner ≡ replicate (length (A.awaited inner)) false }
-        ensures ok { IfOk result (λ made. made ≡ at_first (length (A.awaited inner)) last) }
-        ensures accepted { OnOk result (is_last last ≡ true) }
-        ensures err { IfErr result (λ fault. fault ≡ Fault.BadLast) }
-        ensures bad_last { OnErr result (is_last last ≡ false) }
+        ensures fault { result_err result ≡ last_refusal last }
+        ensures state { IfOk result (λ made. made ≡ at_first (length (A.awaited inner)) last) }
     {
         Ok(Replica {
             seq: Seq::new(last)?,
@@ -75,9 +74,8 @@ impl<A: Awaited> Replica<A> {
     pub fn begin(&mut self, set: &CpuSet) -> Result<u64, Fault>
         requires { length set.now ≡ cpus_of self.old }
         ensures number { IfOk result (λ number. number ≡ number_of self.new.periods) }
-        ensures ok { OnOk result (self.new ≡ after_call self.old (Begin set.now)) }
-        ensures accepted { OnOk result (refusal self.old (Begin set.now) ≡ None) }
-        ensures err { IfErr result (λ fault. refusal self.old (Begin set.now) ≡ Some fault) }
+        ensures fault { result_err result ≡ refusal self.old (Begin set.now) }
+        ensures state { OnOk result (self.new ≡ after_call self.old (Begin set.now)) }
         ensures unchanged { OnErr result (self.new ≡ self.old) }
     {
         let number = self.seq.start()?;
@@ -91,9 +89,8 @@ impl<A: Awaited> Replica<A> {
     /// Fault `BadCpu` (1): there is no such processor.
     pub fn report(&mut self, cpu: u32, tag: u64) -> Result<Answer, Fault>
         ensures answer { IfOk result (λ answer. answer ≡ answer_of self.old cpu tag) }
-        ensures ok { OnOk result (self.new ≡ after_call self.old (Report cpu tag)) }
-        ensures accepted { OnOk result (refusal self.old (Report cpu tag) ≡ None) }
-        ensures err { IfErr result (λ fault. refusal self.old (Report cpu tag) ≡ Some fault) }
+        ensures fault { result_err result ≡ refusal self.old (Report cpu tag) }
+        ensures state { OnOk result (self.new ≡ after_call self.old (Report cpu tag)) }
         ensures unchanged { OnErr result (self.new ≡ self.old) }
     {
         if cpu >= self.inner.cpus() {
@@ -109,9 +106,8 @@ impl<A: Awaited> Replica<A> {
     ///
     /// Faults: `BadCpu` (1); `BootStays` (12) for processor 0.
     pub fn depart(&mut self, cpu: u32) -> Result<(), Fault>
-        ensures ok { OnOk result (self.new ≡ after_call self.old (Depart cpu)) }
-        ensures accepted { OnOk result (refusal self.old (Depart cpu) ≡ None) }
-        ensures err { IfErr result (λ fault. refusal self.old (Depart cpu) ≡ Some fault) }
+        ensures fault { result_err result ≡ refusal self.old (Depart cpu) }
+        ensures state { OnOk result (self.new ≡ after_call self.old (Depart cpu)) }
         ensures unchanged { OnErr result (self.new ≡ self.old) }
     {
         if cpu >= self.inner.cpus() {
@@ -132,9 +128,8 @@ impl<A: Awaited> Replica<A> {
     #[tactic(auto, using(crate::proofs::Awaiting::refused_while_awaited))]
     pub fn end(&mut self) -> Result<u64, Fault>
         ensures number { IfOk result (λ number. number ≡ number_of self.new.periods) }
-        ensures ok { OnOk result (self.new ≡ after_call self.old End) }
-        ensures accepted { OnOk result (refusal self.old End ≡ None) }
-        ensures err { IfErr result (λ fault. refusal self.old End ≡ Some fault) }
+        ensures fault { result_err result ≡ refusal self.old End }
+        ensures state { OnOk result (self.new ≡ after_call self.old End) }
         ensures unchanged { OnErr result (self.new ≡ self.old) }
     {
         // While no grace period runs nobody is awaited, so that the counter finds the first fault.
@@ -150,9 +145,8 @@ impl<A: Awaited> Replica<A> {
     ///
     /// Fault `NotAlike` (20): number of processors, tag or start set differ.
     pub fn merge_from<B: Awaited>(&mut self, other: &Replica<B>) -> Result<(), Fault>
-        ensures ok { OnOk result (self.new ≡ after_call self.old (Merge other.now)) }
-        ensures accepted { OnOk result (refusal self.old (Merge other.now) ≡ None) }
-        ensures err { IfErr result (λ fault. refusal self.old (Merge other.now) ≡ Some fault) }
+        ensures fault { result_err result ≡ refusal self.old (Merge other.now) }
+        ensures state { OnOk result (self.new ≡ after_call self.old (Merge other.now)) }
         ensures unchanged { OnErr result (self.new ≡ self.old) }
     {
         merge(&mut self.inner, &other.inner)
@@ -160,9 +154,8 @@ impl<A: Awaited> Replica<A> {
 
     /// The awaited set.
     pub fn awaited(&self) -> &A
-        ensures tag { A.tag result.now ≡ of_first_epoch self.now.tag }
-        ensures start_set { A.start_set result.now ≡ self.now.start_set }
-        ensures awaited { A.awaited result.now ≡ self.now.awaited }
+        ensures standing { standing (A.tag result.now) (A.start_set result.now)
+            (A.awaited result.now) ≡ standing_of self.now }
         ensures kept { IsSound self.now }
     {
         &self.inner
@@ -172,15 +165,13 @@ impl<A: Awaited> Replica<A> {
     pub fn value(&self) -> u64
         ensures value { result ≡ number_of self.now.periods }
         ensures within { result ≤ self.now.periods.last }
-        ensures kept { IsSound self.now }
     {
         self.seq.value()
     }
 
     /// Whether a grace period runs.
     pub fn is_running(&self) -> bool
-        ensures running { result ≡ self.now.periods.running }
-        ensures kept { IsSound self.now }
+        ensures { result ≡ self.now.periods.running }
     {
         self.seq.is_running()
     }

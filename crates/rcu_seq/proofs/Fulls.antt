@@ -1,9 +1,11 @@
 -- Full grace periods after a taking, counted.
-use Rattle.std.proofs.Common.{◌≡◌, ◌≤◌, ◌<◌, ◌+◌, ◌*◌, ℕ, true, false, ◌||◌, ◌&&◌, nat_lt, List, [], ◌∷◌, refl, arith, inl, inr}
+use Rattle.std.proofs.Common.{◌≡◌, ◌≤◌, ◌<◌, ◌+◌, ◌*◌, ℕ, true, false, ◌||◌, ◌&&◌, nat_lt, List, []}
+use Rattle.std.proofs.Common.{◌∷◌, refl, arith, inl, inr}
 use Rattle.std.proofs.lemmas.Bool.{cases_Bool}
 use Rattle.std.proofs.lemmas.Bool.Decides.{nat_tests}
 use Rattle.std.specs.List.{list_any}
-use Rattle.rcu_seq.specs.Seq.{Periods, Turn, Begin, End, Renumber, AreAccepted, IsWithin, after_turns, begins, cookie_of}
+use Rattle.rcu_seq.specs.Seq.{Periods, Turn, Begin, End, Renumber, AreAccepted, IsWithin}
+use Rattle.rcu_seq.specs.Seq.{after_turns, begins, cookie_of}
 use Rattle.rcu_seq.specs.Seq.{has_full_period, is_done, number_of}
 use Rattle.rcu_seq.specs.Tags.{is_done_at, is_done_first}
 use Rattle.rcu_seq.specs.declared.cookie.Cookie.{Cookie}
@@ -23,11 +25,14 @@ record FromIdle (p : Periods) (turns : List Turn) : Type 0 where
 -- after a taking while one runs: the first end is the end of that one
 record FromRunning (p : Periods) (turns : List Turn) : Type 0 where
   pub runs : ended turns ≡ 0 → (after_turns p turns).running ≡ true
-  pub begins : list_any begins turns ≡ (nat_lt 1 (ended turns) || (nat_lt 0 (ended turns) && (after_turns p turns).running))
+  pub begins : list_any begins turns
+      ≡ (nat_lt 1 (ended turns) || (nat_lt 0 (ended turns) && (after_turns p turns).running))
   pub full : has_full_period turns ≡ nat_lt 1 (ended turns)
 
-from_idle : (p : Periods) (turns : List Turn) → p.running ≡ false → AreAccepted p turns → FromIdle p turns
-from_idle p [] e a = record { begins = grind (arith, nat_tests, e); full = grind (arith, nat_tests) }
+from_idle : (p : Periods) (turns : List Turn) → p.running ≡ false → AreAccepted p turns
+    → FromIdle p turns
+from_idle p [] e a =
+    record { begins = grind (arith, nat_tests, e); full = grind (arith, nat_tests) }
 from_idle p (Begin ∷ turns) e a =
     let h = from_idle p turns e a.2 in let full = h.full in
     record { begins = grind (arith, nat_tests); full = full }
@@ -41,7 +46,8 @@ from_idle p (End ∷ turns) e a =
 from_idle p (Renumber ∷ turns) e a =
     let h = from_idle p turns e a.2 in record { begins = h.begins; full = h.full }
 
-from_running : (p : Periods) (turns : List Turn) → p.running ≡ true → AreAccepted p turns → FromRunning p turns
+from_running : (p : Periods) (turns : List Turn) → p.running ≡ true → AreAccepted p turns
+    → FromRunning p turns
 from_running p [] e a = record {
   runs = λ _. e;
   begins = grind (arith, nat_tests);
@@ -63,13 +69,14 @@ from_running p (End ∷ turns) e a =
 from_running p (Renumber ∷ turns) e a =
     let h = from_running p turns e a.2 in record { runs = h.runs; begins = h.begins; full = h.full }
 
--- how the number and the epoch tell how many ended since the taking. A renumbering comes at the last number, so that an
--- epoch that has passed had as many grace periods as its last number says
+-- how the number and the epoch tell how many ended since the taking. A renumbering comes at the
+-- last number, so that an epoch that has passed had as many grace periods as its last number says
 record Elapsed (p : Periods) (turns : List Turn) : Type 0 where
   pub last : (after_turns p turns).last ≡ p.last
   pub within : number_of (after_turns p turns) ≤ p.last
   pub rises : p.epoch ≤ (after_turns p turns).epoch
-  pub here : (after_turns p turns).epoch ≡ p.epoch → (after_turns p turns).ends ≡ p.ends + ended turns
+  pub here : (after_turns p turns).epoch ≡ p.epoch
+      → (after_turns p turns).ends ≡ p.ends + ended turns
   pub next : (after_turns p turns).epoch ≡ p.epoch + 1
       → 4 * (after_turns p turns).ends + p.last ≡ 4 * (p.ends + ended turns)
   pub later : p.epoch + 2 ≤ (after_turns p turns).epoch → 2 * p.last ≤ 4 * (p.ends + ended turns)
@@ -104,7 +111,8 @@ elapsed p (End ∷ turns) w a =
       later = λ e. let x = later e in omega (arith, x);
     }
 elapsed p (Renumber ∷ turns) w a =
-    let h = elapsed p turns w a.2 in let idle = a.0 in let at = a.1 in let last = w.last in let rises = h.rises in
+    let h = elapsed p turns w a.2 in
+    let idle = a.0 in let at = a.1 in let last = w.last in let rises = h.rises in
     let here = h.here in let next = h.next in let later = h.later in
     let all : 4 * (after_turns p turns).ends ≡ p.last = grind (arith, idle, at) in record {
       last = h.last;
@@ -120,14 +128,18 @@ pub done_is_full : (p : Periods) (turns : List Turn) → IsWithin p → AreAccep
     → is_done (cookie_of p) (after_turns p turns) ≡ has_full_period turns
 done_is_full p turns w a =
     let t = elapsed p turns w a in
-    let same = t.last in let within = t.within in let rises = t.rises in let here = t.here in let next = t.next in
+    let same = t.last in let within = t.within in let rises = t.rises in
+    let here = t.here in let next = t.next in
     let later = t.later in let number = w.number in let last = w.last in
     let runs = cases_Bool (after_turns p turns).running in
     elim (cases_Bool p.running) [
       | inl e ↦ (let h = from_running p turns e a in let full = h.full in
-          let ran = h.runs in rw full (grind (arith, nat_tests, e, same, within, rises, here, next, later, number, last, runs, ran)))
+          let ran = h.runs in
+          rw full (grind
+          (arith, nat_tests, e, same, within, rises, here, next, later, number, last, runs, ran)))
       | inr e ↦ (let h = from_idle p turns e a in let full = h.full in
-          rw full (grind (arith, nat_tests, e, same, within, rises, here, next, later, number, last, runs)))
+          rw full (grind
+          (arith, nat_tests, e, same, within, rises, here, next, later, number, last, runs)))
     ]
 
 pub done_first : (last : ℕ) (cookie : Cookie) (number : ℕ)

@@ -12,7 +12,9 @@ equal_tags a b e f = rw (e, f)
 pub same_tag-Decides : (a b : Tag) → Decides (same_tag a b) (a ≡ b)
 same_tag-Decides a b = (
   λ e. let parts = and_parts (a.epoch == b.epoch) (a.number == b.number) e in
-      equal_tags a b ((Decides-eqb a.epoch b.epoch).0 parts.0) ((Decides-eqb a.number b.number).0 parts.1),
+      equal_tags a b ((Decides-eqb a.epoch b.epoch).0 parts.0)
+      ((Decides-eqb a.number b.number).0 parts.1),
   λ e. let epoch = (Decides-eqb a.epoch b.epoch).1 (ap (λ (t : Tag). t.epoch) e) in
-      let number = (Decides-eqb a.number b.number).1 (ap (λ (t : Tag). t.number) e) in rw (epoch, number),
+      let number = (Decides-eqb a.number b.number).1 (ap (λ (t : Tag). t.number) e) in
+      rw (epoch, number),
 )

@@ -1,8 +1,9 @@
 //! The counter of grace periods.
-ghost use Rattle.std.specs.Prelude.{◌≡◌, ◌+◌, ◌*◌, ◌≢◌, ◌≤◌, ◌<◌, ◌^◌, ◌%◌, true, false};
-ghost use Rattle.std.specs.Prelude.{IfOk, IfErr, OnOk, OnErr, MatchResult};
+ghost use Rattle.std.specs.Prelude.{◌≡◌, ◌≤◌, ◌^◌, true, IfOk, OnOk, OnErr};
+ghost use Rattle.std.specs.Result.{result_err};
 ghost use Rattle.rcu_seq.specs.Numbers.{is_last};
-ghost use Rattle.rcu_seq.specs.Seq.{cookie_of, is_done, number_of, renumbered, tag_of};
+ghost use Rattle.rcu_seq.specs.Seq.{Begin, End, Renumber, after_turn, at_first, cookie_of};
+ghost use Rattle.rcu_seq.specs.Seq.{is_done, last_refusal, number_of, refusal, tag_of};
 ghost use Rattle.rcu_seq.specs.Tags.{last_epoch};
 
 use crate::cookie::Cookie;
@@ -60,10 +61,8 @@ impl Seq {
     ///
     /// Fault `BadLast` (19): `last` is not a multiple of 4 in 4..=2^62.
     pub fn new(last: u64) -> Result<Seq, Fault>
-        ensures ok { IfOk result (λ seq. seq
-            ≡ record { epoch = 0; ends = 0; running = false; last = last }) }
-        ensures last { OnOk result (is_last last ≡ true) }
-        ensures err { IfErr result (λ fault. (fault ≡ Fault.BadLast) × (is_last last ≡ false)) }
+        ensures fault { result_err result ≡ last_refusal last }
+        ensures state { IfOk result (λ seq. seq ≡ at_first last 0) }
     {
         Seq::at_epoch(last, 0)
     }
@@ -73,14 +72,8 @@ impl Seq {
     /// Fault `BadLast` (19): `last` is not a multiple of 4 in 4..=2^62.
     pub fn at_epoch(last: u64, epoch: u64) -> Result<Seq, Fault>
         requires { epoch ≤ last_epoch }
-        ensures ok { IfOk result (λ seq. seq ≡ record {
-          epoch = epoch;
-          ends = 0;
-          running = false;
-          last = last;
-        }) }
-        ensures last { OnOk result (is_last last ≡ true) }
-        ensures err { IfErr result (λ fault. (fault ≡ Fault.BadLast) × (is_last last ≡ false)) }
+        ensures fault { result_err result ≡ last_refusal last }
+        ensures state { IfOk result (λ seq. seq ≡ at_first last epoch) }
     {
         if last % 4 == 0 && 4 <= last && last <= GREATEST_LAST {
             Ok(Seq {
@@ -155,15 +148,9 @@ impl Seq {
     ///
     /// Faults: `Running` (8) where one runs; `Exhausted` (11) where the number is `last`.
     pub fn start(&mut self) -> Result<u64, Fault>
-        ensures ok { IfOk result (λ number. number ≡ number_of self.new) }
-        ensures idle { OnOk result (self.old.running ≡ false) }
-        ensures before_last { OnOk result (number_of self.old ≢ self.old.last) }
-        ensures begun { OnOk result (self.new ≡ record self.old { running = true }) }
-        ensures running { IfErr result (λ fault. self.old.running ≡ true → fault ≡ Fault.Running) }
-        ensures exhausted { IfErr result (λ fault. self.old.running ≡ false →
-            fault ≡ Fault.Exhausted) }
-        ensures at_last { OnErr result (self.old.running ≡ false →
-            number_of self.old ≡ self.old.last) }
+        ensures number { IfOk result (λ number. number ≡ number_of self.new) }
+        ensures fault { result_err result ≡ refusal self.old Begin }
+        ensures state { OnOk result (self.new ≡ after_turn self.old Begin) }
         ensures unchanged { OnErr result (self.new ≡ self.old) }
     {
         if self.is_running() {
@@ -180,13 +167,9 @@ impl Seq {
     ///
     /// Fault `Idle` (9): none runs.
     pub fn end(&mut self) -> Result<u64, Fault>
-        ensures ok { IfOk result (λ number. number ≡ number_of self.new) }
-        ensures ran { OnOk result (self.old.running ≡ true) }
-        ensures ended { OnOk result (self.new ≡ record self.old {
-          ends = self.old.ends + 1;
-          running = false;
-        }) }
-        ensures idle { IfErr result (λ fault. (fault ≡ Fault.Idle) × (self.old.running ≡ false)) }
+        ensures number { IfOk result (λ number. number ≡ number_of self.new) }
+        ensures fault { result_err result ≡ refusal self.old End }
+        ensures state { OnOk result (self.new ≡ after_turn self.old End) }
         ensures unchanged { OnErr result (self.new ≡ self.old) }
     {
         if !self.is_running() {
@@ -201,17 +184,10 @@ impl Seq {
     /// Faults: `Running` (8) where a grace period runs; `NotLast` (22) where the number is not
     /// `last`; `Exhausted` (11) where the epoch is the last one.
     pub fn renumber(&mut self) -> Result<u64, Fault>
-        ensures ok { IfOk result (λ epoch. epoch ≡ self.old.epoch + 1) }
-        ensures idle { OnOk result (self.old.running ≡ false) }
-        ensures at_last { OnOk result (number_of self.old ≡ self.old.last) }
-        ensures before_last_epoch { OnOk result (self.old.epoch < last_epoch) }
-        ensures renumbered { OnOk result (self.new ≡ renumbered self.old) }
-        ensures running { IfErr result (λ fault. self.old.running ≡ true → fault ≡ Fault.Running) }
-        ensures not_last { IfErr result (λ fault. self.old.running ≡ false →
-            number_of self.old ≢ self.old.last → fault ≡ Fault.NotLast) }
-        ensures exhausted { IfErr result (λ fault. self.old.running ≡ false →
-            number_of self.old ≡ self.old.last → (fault ≡ Fault.Exhausted)
-            × (self.old.epoch ≡ last_epoch)) }
+        ensures epoch { IfOk result (λ epoch. epoch ≡ self.new.epoch) }
+        ensures bounded { self.new.epoch ≤ last_epoch }
+        ensures fault { result_err result ≡ refusal self.old Renumber }
+        ensures state { OnOk result (self.new ≡ after_turn self.old Renumber) }
         ensures unchanged { OnErr result (self.new ≡ self.old) }
     {
         if self.is_running() {

@@ -1,4 +1,5 @@
-use Rattle.rcu_cpu.proofs.Histories.{open_where_nested, open_after_inner_exit, closed_after_outer_exit}
+use Rattle.rcu_cpu.proofs.Histories.{open_where_nested, open_after_inner_exit}
+use Rattle.rcu_cpu.proofs.Histories.{closed_after_outer_exit}
 use Rattle.rcu_cpu.proofs.Histories.{closed_where_offline}
 use Rattle.rcu_cpu.proofs.laws.sections_are_open_where_they_nest.Goals as goal
 

@@ -2,8 +2,8 @@ use Rattle.std.proofs.Common.{◌∙◌, ap, false, true, List, Bool, replicate,
 use Rattle.rcu_node.proofs.CpuSetLemmas.{is_none, none_within}
 use Rattle.rcu_hotplug.proofs.hotplug.Hotplug.new.Goals as goal
 
-pub returns-clause-ok : goal.returns-clause-ok
-returns-clause-ok g c =
+pub returns-clause-state : goal.returns-clause-state
+returns-clause-state g c =
     let inner = c.args.inner in
     let tag = c.requires.tag in
     let start_set = c.requires.empty in

@@ -11,7 +11,8 @@ invariant_of-self g c =
     let now = g.A.Awaited.awaited c.merge.new.to in
     let either : IsMerged old other now =
     elim c.merge.result as
-    (λ r. OnOk r (now ≡ intersection old other) → IfErr r (λ _. c.merge.new.to ≡ c.self.inside.inner)
+    (λ r. OnOk r (now ≡ intersection old other)
+    → IfErr r (λ _. c.merge.new.to ≡ c.self.inside.inner)
     → IsMerged old other now) [
       | Ok done ↦ λ ok err. inl ok
       | Err fault ↦ λ ok err. inr (ap (λ a. g.A.Awaited.awaited a) err)
@@ -21,7 +22,8 @@ invariant_of-self g c =
       latest = c.merge.ensures.tag ∙ c.self.invariant.latest;
       epoch = c.self.invariant.epoch;
       fresh = λ e.
-          c.merge.ensures.start_set ∙ c.self.invariant.fresh (ap (λ (t : Tag). t.number) (sym c.merge.ensures.tag) ∙ e)
+          c.merge.ensures.start_set
+          ∙ c.self.invariant.fresh (ap (λ (t : Tag). t.number) (sym c.merge.ensures.tag) ∙ e)
           ∙ ap (λ n. replicate n false) (sym sized);
       idle = λ rests. none_merged old other now either (c.self.invariant.idle rests);
     }
