@@ -8,8 +8,8 @@ use Rattle.rcu_cblist.proofs.Popping.{left_both}
 use Rattle.rcu_barrier.specs.Lists.{AllLists, list_of, lists_after_run, with_list}
 
 -- how many markers a callback that was taken alone passed
-pub popped_count : {X : Type 0} (xs : List (Item X)) (call : Queued X) (n : ℕ) → Some (call, n) ≡ pop_answer xs →
-    n ≡ markers_passed xs 1
+pub popped_count : {X : Type 0} (xs : List (Item X)) (call : Queued X) (n : ℕ) →
+    Some (call, n) ≡ pop_answer xs → n ≡ markers_passed xs 1
 popped_count {X} xs call n is = at (slice_get (take_answer xs 1) 0) (ap (option_map second) is)
   where
     second : Queued X × ℕ → ℕ
@@ -18,7 +18,8 @@ popped_count {X} xs call n is = at (slice_get (take_answer xs 1) 0) (ap (option_
     counted : Queued X → Queued X × ℕ
     counted call = (call, markers_passed xs 1)
 
-    at : (first : Option (Queued X)) → Some n ≡ option_map second (option_map counted first) → n ≡ markers_passed xs 1
+    at : (first : Option (Queued X)) → Some n ≡ option_map second (option_map counted first) →
+        n ≡ markers_passed xs 1
     at None is = absurd cc
     at (Some call) is = cc
 

@@ -1,6 +1,7 @@
 //! Lists that are made, and one that moves to the first.
-ghost use Rattle.std.specs.Prelude.{◌≡◌, ◌<◌, ◌≤◌, ◌&&◌, ◌∷◌, [], Some, map, not, length, replicate};
-ghost use Rattle.std.specs.Prelude.{slice_index_or, slice_set, IfOk, IfErr, OnOk, OnErr};
+ghost use Rattle.std.specs.Prelude.{◌≡◌, ◌<◌, ◌≤◌, ◌&&◌, ◌∷◌, [], Some, map, not};
+ghost use Rattle.std.specs.Prelude.{length, replicate, slice_index_or, slice_set};
+ghost use Rattle.std.specs.Prelude.{IfOk, IfErr, OnOk, OnErr};
 ghost use Rattle.rcu_seq.specs.Fault.{first_fault};
 ghost use Rattle.rcu_cblist.specs.SegList.{after_renumber, as_it_leaves, callbacks, is_empty};
 ghost use Rattle.rcu_barrier.specs.Lists.{has_room_at, items_in, list_at, lists_after_move};

@@ -1,11 +1,13 @@
 -- What is known of a list by its items and its room, and of calls that need room.
-use Rattle.std.proofs.Common.{◌≡◌, ℕ, ◌+◌, ◌<◌, ◌≤◌, Bool, true, false, List, [], ◌∷◌, length, refl, ap, sym, ◌∙◌, arith}
+use Rattle.std.proofs.Common.{◌≡◌, ℕ, ◌+◌, ◌<◌, ◌≤◌, Bool, true, false, List, [], ◌∷◌, length, refl}
+use Rattle.std.proofs.Common.{ap, sym, ◌∙◌, arith}
 use Rattle.std.proofs.lemmas.Bool.Decides.{nat_tests}
 use Rattle.std.specs.Prelude.{◌&&◌, not, nat_le, nat_lt, Some, None, if◌then◌else◌}
 use Rattle.rcu_seq.specs.Fault.{first_fault}
 use Rattle.rcu_seq.specs.declared.fault.Fault.{Fault}
 use Rattle.rcu_seq.specs.declared.fault.Fault.TheVariants.{NoMemory}
-use Rattle.rcu_cblist.specs.SegList.{Item, Segmented, as_it_leaves, entrain_refusal, has_room, is_empty, move_refusal}
+use Rattle.rcu_cblist.specs.SegList.{Item, Segmented, as_it_leaves, entrain_refusal, has_room}
+use Rattle.rcu_cblist.specs.SegList.{is_empty, move_refusal}
 use Rattle.rcu_cblist.specs.SegList.{queue_refusal, take_answer, take_refusal}
 
 -- tests of numbers
@@ -25,19 +27,23 @@ module _ {X : Type 0} where
   list_is xs ys a b items room = ap (λ l. list_of l a) items ∙ ap (λ n. list_of ys n) room
 
   -- a callback or a marker for which there is no room
-  pub queue_refused : (list : Segmented X) → list.room < length list.items + 1 → queue_refusal list ≡ Some NoMemory
+  pub queue_refused : (list : Segmented X) → list.room < length list.items + 1 →
+      queue_refusal list ≡ Some NoMemory
   queue_refused list full = rw (too_full (length list.items + 1) list.room full) refl
 
-  pub entrain_refused : (list : Segmented X) → is_empty list.items ≡ false → list.room < length list.items + 1 →
+  pub entrain_refused : (list : Segmented X) → is_empty list.items ≡ false →
+      list.room < length list.items + 1 →
       entrain_refusal list ≡ Some NoMemory
   entrain_refused list some full = rw (some, too_full (length list.items + 1) list.room full) refl
 
   -- a list that does not move, as the target has no room for it
-  pub move_refused : (list : Segmented X) (marked : Bool) (target : Segmented X) → is_empty list.items ≡ false →
+  pub move_refused : (list : Segmented X) (marked : Bool) (target : Segmented X) →
+      is_empty list.items ≡ false →
       target.room < length target.items + length (as_it_leaves list.items marked) →
       move_refusal list marked target ≡ Some NoMemory
   move_refused list marked target some full =
-      at (is_empty list.items) (nat_le (length target.items + length (as_it_leaves list.items marked)) target.room) some
+      at (is_empty list.items)
+      (nat_le (length target.items + length (as_it_leaves list.items marked)) target.room) some
       (too_full (length target.items + length (as_it_leaves list.items marked)) target.room full)
     where
       at : (none fits : Bool) → none ≡ false → fits ≡ false →

@@ -11,8 +11,8 @@ module _ {X : Type 0} where
   abbrev pub between : ℕ → ℕ → List (Kept X) → List (Kept X)
   between i j xs = drop i (take j xs)
 
-  -- four segments: the third has items only where the second has, and the lower number is the second's; none begins
-  -- with a marker
+  -- four segments: the third has items only where the second has, and the lower number is the
+  -- second's; none begins with a marker
   pub record AreSegments (a b : Number) (done wait ready next : List (Kept X)) : Type 0 where
     pub filled : 0 < length ready → 0 < length wait
     pub ascending : 0 < length ready → a < b
@@ -27,7 +27,8 @@ module _ {X : Type 0} where
     pub calls : tail.calls ≡ length (callbacks (unmarked (take tail.items xs)))
 
   -- tail places that cut a list into segments
-  pub record AreTails (xs : List (Kept X)) (done wait ready : Tail) (calls : ℕ) (a b : Number) : Type 0 where
+  pub record AreTails (xs : List (Kept X)) (done wait ready : Tail) (calls : ℕ) (a b : Number) :
+      Type 0 where
     pub done_tail : IsTail xs done
     pub wait_tail : IsTail xs wait
     pub ready_tail : IsTail xs ready
