@@ -48,7 +48,8 @@ module _ {X : Type 0} (lists : List (Segmented X)) (visited : List Bool) (runnin
       omega arith
 
   -- what is kept stays
-  pub taken_kept : (m passed : ℕ) → m ≡ markers_in (items_in lists) → IsSound (all_of (items_in lists)) →
+  pub taken_kept : (m passed : ℕ) → m ≡ markers_in (items_in lists) →
+      IsSound (all_of (items_in lists)) →
       passed ≡ markers_passed old.items few →
       (m - passed ≡ markers_in (items_in (set lists cpu new)))
       × IsSound (all_of (items_in (set lists cpu new)))
