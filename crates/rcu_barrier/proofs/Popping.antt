@@ -1,9 +1,27 @@
 -- Runs of one processor, one after another.
 use Rattle.std.proofs.Common.{◌≡◌, ℕ, ◌+◌, ◌<◌, ◌≤◌, ◌⊎◌, inl, inr, [], length, set, get_or, ap, sym, ◌∙◌, arith}
 use Rattle.std.proofs.lemmas.List.{get_or-set_same, get_or_past, set-set, set_past}
-use Rattle.rcu_cblist.specs.SegList.{after_take}
+use Rattle.std.specs.Prelude.{List, Option, Some, None, option_map, slice_get}
+use Rattle.rcu_cblist.specs.SegList.{Item, after_take, markers_passed, pop_answer, take_answer}
+use Rattle.rcu_cblist.specs.declared.queued.Queued.{Queued}
 use Rattle.rcu_cblist.proofs.Popping.{left_both}
 use Rattle.rcu_barrier.specs.Lists.{AllLists, list_of, lists_after_run, with_list}
+
+-- how many markers a callback that was taken alone passed
+pub popped_count : {X : Type 0} (xs : List (Item X)) (call : Queued X) (n : ℕ) →
+    Some (call, n) ≡ pop_answer xs → n ≡ markers_passed xs 1
+popped_count {X} xs call n is = at (slice_get (take_answer xs 1) 0) (ap (option_map second) is)
+  where
+    second : Queued X × ℕ → ℕ
+    second popped = popped.1
+
+    counted : Queued X → Queued X × ℕ
+    counted call = (call, markers_passed xs 1)
+
+    at : (first : Option (Queued X)) → Some n ≡ option_map second (option_map counted first) →
+        n ≡ markers_passed xs 1
+    at None is = absurd cc
+    at (Some call) is = cc
 
 module _ {X : Type 0} (all : AllLists X) (cpu a : ℕ) where
   -- what a run leaves of the list, which is empty where there is no such processor

@@ -5,13 +5,24 @@ use Rattle.std.proofs.lemmas.List.{get_or-map, get_or-set_same, get_or_default, 
 use Rattle.std.proofs.Math.Seq.{map-set_same}
 use Rattle.rcu_cblist.specs.SegList.{Item, Segmented, after_migrate, as_it_leaves, markers}
 use Rattle.rcu_barrier.specs.Tending.{AreFours}
-use Rattle.rcu_barrier.specs.Lists.{IsSound, items_in, list_at, lists_after_move, markers_in, rooms_in, unvisited}
+use Rattle.rcu_barrier.specs.Lists.{AllLists, IsSound, ListsWithRooms, items_in, list_at, lists_after_move}
+use Rattle.rcu_barrier.specs.Lists.{markers_in, rooms_in, unvisited}
 use Rattle.rcu_barrier.proofs.Kept.{relisted}
 
 module _ {X : Type 0} where
   -- the items of a list
   abbrev items_of : Segmented X → List (Item X)
   items_of list = list.items
+
+  -- lists with their rooms
+  abbrev pub with_rooms : AllLists X → List ℕ → ListsWithRooms X
+  with_rooms all rooms = record { all = all; rooms = rooms }
+
+  -- what contracts see is the same where the lists are and the rooms are
+  pub both_same : (all now : AllLists X) (rooms rooms_now : List ℕ) → all ≡ now → rooms ≡ rooms_now →
+      with_rooms all rooms ≡ with_rooms now rooms_now
+  both_same all now rooms rooms_now lists same =
+      ap (λ l. with_rooms l rooms) lists ∙ ap (λ r. with_rooms now r) same
 
   -- there are as many lists of items
   pub long_in : (lists : List (Segmented X)) → length (items_in lists) ≡ length lists

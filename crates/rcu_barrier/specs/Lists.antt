@@ -1,6 +1,8 @@
 -- All processors' lists, and the barrier over them: what each call leaves, and what it answers.
-use Rattle.std.specs.Prelude.{ℕ, ◌≡◌, ◌≤◌, ◌+◌, ◌^◌, ◌==◌, ◌&&◌, Bool, true, false, not, if◌then◌else◌, List, [], ◌∷◌, ◌++◌}
-use Rattle.std.specs.Prelude.{All, count_by, length, map, replicate, slice_index_or, slice_set, sum_by}
+use Rattle.std.specs.Prelude.{ℕ, ◌≡◌, ◌≤◌, ◌+◌, ◌^◌, ◌==◌, ◌&&◌, Bool, true, false, nat_le, not}
+use Rattle.std.specs.Prelude.{if◌then◌else◌, Option, List, [], ◌∷◌, ◌++◌, All, count_by, length, map}
+use Rattle.std.specs.Prelude.{replicate, slice_index_or, slice_set, sum_by}
+use Rattle.rcu_seq.specs.Fault.{first_fault}
 use Rattle.rcu_seq.specs.Numbers.{Number}
 use Rattle.rcu_seq.specs.declared.tag.Tag.{Tag}
 use Rattle.rcu_seq.specs.declared.fault.Fault.{Fault}
@@ -8,7 +10,7 @@ use Rattle.rcu_seq.specs.declared.fault.Fault.TheVariants as fault
 use Rattle.rcu_cblist.specs.declared.queued.Queued.{Queued}
 use Rattle.rcu_cblist.specs.SegList.{Item, Segmented, Of, Unmarked, after_entrain, after_migrate, after_renumber}
 use Rattle.rcu_cblist.specs.SegList.{after_take}
-use Rattle.rcu_cblist.specs.SegList.{as_it_leaves, is_empty, markers}
+use Rattle.rcu_cblist.specs.SegList.{as_it_leaves, is_empty, markers, take_refusal}
 use Rattle.rcu_barrier.specs.Tending.{AreFours, after_tend}
 use Rattle.rcu_barrier.specs.declared.visit.Visit.{Visit}
 use Rattle.rcu_barrier.specs.declared.visit.Visit.TheVariants as visit
@@ -58,9 +60,11 @@ module _ {X : Type 0} where
   abbrev pub list_at : List (List (Item X)) → ℕ → List (Item X)
   list_at lists place = slice_index_or lists place []
 
-  -- where the lists have these items and these rooms, there is room in the list at this place for so many items more
-  abbrev pub HasRoomAt : List (List (Item X)) → List ℕ → ℕ → ℕ → Type 0
-  HasRoomAt lists rooms place more = length (list_at lists place) + more ≤ slice_index_or rooms place 0
+  -- where the lists have these items and these rooms, there is room in the list at this place for
+  -- so many items more
+  abbrev pub has_room_at : List (List (Item X)) → List ℕ → ℕ → ℕ → Bool
+  has_room_at lists rooms place more =
+      nat_le (length (list_at lists place) + more) (slice_index_or rooms place 0)
 
   -- at first the lists are empty, no barrier runs, and no processor is unvisited
   abbrev pub at_first : ℕ → ℕ → AllLists X
@@ -80,9 +84,13 @@ module _ {X : Type 0} where
   abbrev pub list_of : AllLists X → ℕ → List (Item X)
   list_of all cpu = list_at all.lists cpu
 
+  -- with the lists changed, and as much room in each
+  abbrev pub on_all : (AllLists X → AllLists X) → ListsWithRooms X → ListsWithRooms X
+  on_all change lists = record lists { all = change lists.all }
+
   -- there is room in the processor's list for so many items more
-  abbrev pub HasRoomIn : ListsWithRooms X → ℕ → ℕ → Type 0
-  HasRoomIn lists cpu more = HasRoomAt lists.all.lists lists.rooms cpu more
+  abbrev pub has_room_in : ListsWithRooms X → ℕ → ℕ → Bool
+  has_room_in lists cpu more = has_room_at lists.all.lists lists.rooms cpu more
 
   -- for how many items the processor's list has room
   abbrev pub room_of : ListsWithRooms X → ℕ → ℕ
@@ -91,6 +99,17 @@ module _ {X : Type 0} where
   -- the other processors' lists have as much room
   abbrev pub KeepsOtherRooms : ListsWithRooms X → ℕ → ListsWithRooms X → Type 0
   KeepsOtherRooms old cpu new = new.rooms ≡ slice_set old.rooms cpu (room_of new cpu)
+
+  -- at most the processor's list has another room, which is no smaller
+  pub record Grows (old : ListsWithRooms X) (cpu : ℕ) (new : ListsWithRooms X) : Type 0 where
+    pub own : room_of old cpu ≤ room_of new cpu
+    pub others : KeepsOtherRooms old cpu new
+
+  -- at most the processor's list has another room, which is no larger; an empty list has none
+  pub record Shrinks (old : ListsWithRooms X) (cpu : ℕ) (new : ListsWithRooms X) : Type 0 where
+    pub own : room_of new cpu ≤ room_of old cpu
+    pub empty : list_of old.all cpu ≡ [] → room_of new cpu ≡ 0
+    pub others : KeepsOtherRooms old cpu new
 
   -- the barrier visited the processor
   abbrev pub is_visited : AllLists X → ℕ → Bool
@@ -103,6 +122,12 @@ module _ {X : Type 0} where
   -- why a callback is not queued: as many were queued as may be, or memory was refused
   abbrev pub queue_fault : AllLists X → Fault
   queue_fault all = if all.queued == all.most then fault.CallbacksFull else fault.NoMemory
+
+  -- why it may be refused: as many were queued as may be, or there is no room for it
+  abbrev pub queue_refusal : ListsWithRooms X → ℕ → Option Fault
+  queue_refusal lists cpu =
+      first_fault ((lists.all.queued == lists.all.most, fault.CallbacksFull)
+      ∷ (not (has_room_in lists cpu 1), fault.NoMemory) ∷ [])
 
   -- a callback, queued at this tag, is at the end of the processor's list, and is counted
   abbrev pub lists_after_queue : AllLists X → ℕ → Tag → X → AllLists X
@@ -122,6 +147,10 @@ module _ {X : Type 0} where
   abbrev pub lists_after_run : AllLists X → ℕ → ℕ → AllLists X
   lists_after_run all cpu most = with_list all cpu (after_take (list_of all cpu) most)
 
+  -- why a run may be refused: there is a callback to hand out
+  abbrev pub run_refusal : AllLists X → ℕ → ℕ → Option Fault
+  run_refusal all cpu most = take_refusal (list_of all cpu) most
+
   -- a barrier runs that did not visit the processor
   abbrev pub owes_visit : AllLists X → ℕ → Bool
   owes_visit all cpu = all.running && not (is_visited all cpu)
@@ -129,6 +158,16 @@ module _ {X : Type 0} where
   -- the processor's list as it leaves, with a marker behind it where a visit is owed
   abbrev pub leaving_list : AllLists X → ℕ → List (Item X)
   leaving_list all cpu = as_it_leaves (list_of all cpu) (owes_visit all cpu)
+
+  -- why a list may not move: it has items, for which, with the marker where a visit is owed,
+  -- processor 0's has no room
+  abbrev pub migrate_refusal : ListsWithRooms X → ℕ → Option Fault
+  migrate_refusal lists cpu =
+      first_fault ((
+        not (is_empty (list_of lists.all cpu))
+            && not (has_room_in lists 0 (length (leaving_list lists.all cpu))),
+        fault.NoMemory,
+      ) ∷ [])
 
   -- the lists once the one at a place moved to the first, with a marker behind it where a visit is owed
   abbrev pub lists_after_move : List (List (Item X)) → ℕ → Bool → List (List (Item X))
@@ -141,6 +180,10 @@ module _ {X : Type 0} where
     lists = lists_after_move all.lists cpu (owes_visit all cpu);
     visited = if owes_visit all cpu then slice_set all.visited cpu true else all.visited;
   }
+
+  -- why a barrier does not begin: one runs
+  abbrev pub barrier_begin_refusal : AllLists X → Option Fault
+  barrier_begin_refusal all = first_fault ((all.running, fault.BarrierBusy) ∷ [])
 
   -- a barrier begins, with each processor unvisited
   abbrev pub lists_after_barrier_begin : AllLists X → AllLists X
@@ -156,11 +199,25 @@ module _ {X : Type 0} where
   abbrev pub visit_fault : AllLists X → Fault
   visit_fault all = if all.running then fault.NoMemory else fault.NoBarrier
 
+  -- a visit puts a marker: the processor is unvisited, and its list has items
+  abbrev pub is_marking : AllLists X → ℕ → Bool
+  is_marking all cpu = not (is_visited all cpu) && not (is_empty (list_of all cpu))
+
+  -- why it may be refused: no barrier runs, or there is no room for the marker that it puts
+  abbrev pub visit_refusal : ListsWithRooms X → ℕ → Option Fault
+  visit_refusal lists cpu =
+      first_fault ((not lists.all.running, fault.NoBarrier)
+      ∷ (is_marking lists.all cpu && not (has_room_in lists cpu 1), fault.NoMemory) ∷ [])
+
   -- what a visit answers
   abbrev pub visit_answer : AllLists X → ℕ → Visit
   visit_answer all cpu =
       if is_visited all cpu then visit.Already
       else (if is_empty (list_of all cpu) then visit.Empty else visit.Marked)
+
+  -- why a barrier is not tested: none runs
+  abbrev pub barrier_test_refusal : AllLists X → Option Fault
+  barrier_test_refusal all = first_fault ((not all.running, fault.NoBarrier) ∷ [])
 
   -- what the barrier waits for: markers, and unvisited processors
   abbrev pub barrier_left : AllLists X → ℕ

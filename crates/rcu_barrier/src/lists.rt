@@ -1,20 +1,20 @@
 //! All processors' lists of callbacks, and the barrier over them.
-ghost use Rattle.std.specs.Prelude.{◌≡◌, ◌≢◌, ◌+◌, ◌<◌, ◌≤◌, ◌^◌, ◌%◌};
-ghost use Rattle.std.specs.Prelude.{[], true, false, IsOk, IfOk, IfErr, OnOk, OnErr, length};
-ghost use Rattle.std.specs.Prelude.{slice_get};
+ghost use Rattle.std.specs.Prelude.{◌≡◌, ◌+◌, ◌<◌, ◌≤◌, ◌^◌, ◌%◌, true, false, Some};
+ghost use Rattle.std.specs.Prelude.{IfOk, IfErr, OnOk, OnErr, length, slice_get};
+ghost use Rattle.std.specs.Result.{result_err};
+ghost use Rattle.rcu_seq.specs.Numbers.{snapshot};
 ghost use Rattle.rcu_cblist.specs.SegList.{IsAtMost, begins_with_marker, behind, callbacks, front};
 ghost use Rattle.rcu_cblist.specs.SegList.{greatest, is_empty, numbers, take_answer};
-ghost use Rattle.rcu_seq.specs.Numbers.{snapshot};
 ghost use Rattle.rcu_barrier.specs.Tending.{after_tend};
-ghost use Rattle.rcu_barrier.specs.Lists.{HasRoomIn, IsSound, KeepsOtherRooms, at_first};
-ghost use Rattle.rcu_barrier.specs.Lists.{barrier_test_answer};
-ghost use Rattle.rcu_barrier.specs.Lists.{cpus_of, is_visited, leaving_list, list_of};
+ghost use Rattle.rcu_barrier.specs.Lists.{Grows, IsSound, Shrinks, at_first};
+ghost use Rattle.rcu_barrier.specs.Lists.{barrier_begin_refusal, barrier_test_answer};
+ghost use Rattle.rcu_barrier.specs.Lists.{barrier_test_refusal, cpus_of, is_visited, list_of};
 ghost use Rattle.rcu_barrier.specs.Lists.{lists_after_barrier_begin, lists_after_barrier_test};
-ghost use Rattle.rcu_barrier.specs.Lists.{lists_after_migrate, lists_after_renumber};
-ghost use Rattle.rcu_barrier.specs.Lists.{lists_after_queue, lists_after_run, lists_after_tend};
-ghost use Rattle.rcu_barrier.specs.Lists.{lists_after_visit, most_queued, owes_visit, queue_fault};
-ghost use Rattle.rcu_barrier.specs.Lists.{room_of};
-ghost use Rattle.rcu_barrier.specs.Lists.{visit_answer, visit_fault};
+ghost use Rattle.rcu_barrier.specs.Lists.{lists_after_migrate, lists_after_queue};
+ghost use Rattle.rcu_barrier.specs.Lists.{lists_after_renumber, lists_after_run, lists_after_tend};
+ghost use Rattle.rcu_barrier.specs.Lists.{lists_after_visit, migrate_refusal, most_queued, on_all};
+ghost use Rattle.rcu_barrier.specs.Lists.{owes_visit, queue_refusal, room_of, run_refusal};
+ghost use Rattle.rcu_barrier.specs.Lists.{visit_answer, visit_refusal};
 
 use crate::barrier_state::BarrierState;
 use crate::moving::{empty_lists, move_to_first, renumber_each};
@@ -88,8 +88,8 @@ impl<T: Drop> Lists<T> {
     pub fn new(alloc: Global, cpus: u32) -> Result<Self, Fault>
         requires some { 1 ≤ cpus }
         requires few { cpus ≤ 4096 }
-        ensures ok { IfOk result (λ lists. lists.all ≡ at_first cpus most_queued) }
-        ensures err { IfErr result (λ fault. fault ≡ Fault.NoMemory) }
+        ensures fault { IfErr result (λ fault. fault ≡ Fault.NoMemory) }
+        ensures state { IfOk result (λ lists. lists.all ≡ at_first cpus most_queued) }
     {
         Lists::with_most(alloc, cpus, MOST_QUEUED)
     }
@@ -102,8 +102,8 @@ impl<T: Drop> Lists<T> {
         requires few { cpus ≤ 4096 }
         requires most_some { 1 ≤ most }
         requires most_few { most ≤ 2 ^ 62 }
-        ensures ok { IfOk result (λ lists. lists.all ≡ at_first cpus most) }
-        ensures err { IfErr result (λ fault. fault ≡ Fault.NoMemory) }
+        ensures fault { IfErr result (λ fault. fault ≡ Fault.NoMemory) }
+        ensures state { IfOk result (λ lists. lists.all ≡ at_first cpus most) }
     {
         let lists = empty_lists(alloc, cpus)?;
         let visits = Visits::new(alloc, cpus)?;
@@ -124,17 +124,15 @@ impl<T: Drop> Lists<T> {
     /// (16), only where the list has no room for it.
     pub fn queue(&mut self, cpu: u32, at: Tag, value: T) -> Result<u64, Refused<T>>
         requires { cpu < cpus_of self.old.all }
-        ensures place { IfOk result (λ count. count ≡ self.old.all.queued + 1) }
+        ensures fault { IfErr result (λ refused.
+            queue_refusal self.old cpu ≡ Some refused.fault) }
+        ensures value { IfErr result (λ refused. refused.value ≡ value) }
+        ensures count { IfOk result (λ count. count ≡ self.old.all.queued + 1) }
         ensures few { IfOk result (λ count. count ≤ self.old.all.most) }
         ensures bounded { IfOk result (λ count. count ≤ 2 ^ 62) }
-        ensures ok { OnOk result (self.new.all ≡ lists_after_queue self.old.all cpu at value) }
-        ensures err { IfErr result (λ refused. refused.fault ≡ queue_fault self.old.all) }
-        ensures handed_back { IfErr result (λ refused. refused.value ≡ value) }
-        ensures succeeds { HasRoomIn self.old cpu 1 → self.old.all.queued < self.old.all.most
-            → IsOk result }
+        ensures state { OnOk result (self.new.all ≡ lists_after_queue self.old.all cpu at value) }
         ensures unchanged { OnErr result (self.new.all ≡ self.old.all) }
-        ensures room { room_of self.old cpu ≤ room_of self.new cpu }
-        ensures others { KeepsOtherRooms self.old cpu self.new }
+        ensures room { Grows self.old cpu self.new }
     {
         if self.queued == self.most {
             return Err(Refused {
@@ -165,12 +163,11 @@ impl<T: Drop> Lists<T> {
         requires state { number % 4 ≤ 1 }
         requires bounded { number ≤ 2 ^ 62 }
         requires within { IsAtMost (snapshot number) (list_of self.old.all cpu) }
-        ensures state { self.new.all ≡ lists_after_tend self.old.all cpu number }
+        ensures state { self.new ≡ on_all (λ all. lists_after_tend all cpu number) self.old }
         ensures done { result.0
             ≡ length (callbacks (front (after_tend (list_of self.old.all cpu) number))) }
         ensures waiting { result.1
             ≡ length (callbacks (behind (after_tend (list_of self.old.all cpu) number))) }
-        ensures rooms { self.new.rooms ≡ self.old.rooms }
     {
         let list = &mut self.lists[cpu as usize];
         list.advance(number);
@@ -182,8 +179,7 @@ impl<T: Drop> Lists<T> {
     /// the next epoch. Done callbacks and markers stay, and a barrier goes on. Costs a step a
     /// processor.
     pub fn renumber(&mut self)
-        ensures state { self.new.all ≡ lists_after_renumber self.old.all }
-        ensures rooms { self.new.rooms ≡ self.old.rooms }
+        ensures { self.new ≡ on_all lists_after_renumber self.old }
     {
         renumber_each(self.lists.as_mut_slice());
     }
@@ -195,13 +191,12 @@ impl<T: Drop> Lists<T> {
     /// Fault `NoMemory` (16), only where it has a callback to hand out.
     pub fn run(&mut self, cpu: u32, max: u64) -> Result<Vec<Queued<T>>, Fault>
         requires { cpu < cpus_of self.old.all }
+        ensures fault { IfErr result (λ fault. run_refusal self.old.all cpu max ≡ Some fault) }
         ensures calls { IfOk result (λ calls. calls.items
             ≡ take_answer (list_of self.old.all cpu) max) }
-        ensures ok { OnOk result (self.new.all ≡ lists_after_run self.old.all cpu max) }
-        ensures err { IfErr result (λ fault. fault ≡ Fault.NoMemory) }
-        ensures memory { OnErr result (take_answer (list_of self.old.all cpu) max ≢ []) }
-        ensures unchanged { OnErr result (self.new.all ≡ self.old.all) }
-        ensures rooms { self.new.rooms ≡ self.old.rooms }
+        ensures state { OnOk result
+            (self.new ≡ on_all (λ all. lists_after_run all cpu max) self.old) }
+        ensures unchanged { OnErr result (self.new ≡ self.old) }
     {
         let list = &mut self.lists[cpu as usize];
         let Taken { calls, markers } = list.take_done(max)?;
@@ -223,8 +218,7 @@ impl<T: Drop> Lists<T> {
     pub fn pop_done(&mut self, cpu: u32) -> Option<Queued<T>>
         requires { cpu < cpus_of self.old.all }
         ensures call { result ≡ slice_get (take_answer (list_of self.old.all cpu) 1) 0 }
-        ensures state { self.new.all ≡ lists_after_run self.old.all cpu 1 }
-        ensures rooms { self.new.rooms ≡ self.old.rooms }
+        ensures state { self.new ≡ on_all (λ all. lists_after_run all cpu 1) self.old }
     {
         let (call, passed) = self.lists[cpu as usize].pop_done()?;
         self.markers -= passed;
@@ -240,16 +234,12 @@ impl<T: Drop> Lists<T> {
     pub fn migrate(&mut self, cpu: u32) -> Result<u64, Fault>
         requires other { 0 < cpu }
         requires cpu { cpu < cpus_of self.old.all }
+        ensures fault { IfErr result (λ fault. migrate_refusal self.old cpu ≡ Some fault) }
         ensures moved { IfOk result (λ moved. moved
             ≡ length (callbacks (list_of self.old.all cpu))) }
-        ensures ok { OnOk result (self.new.all ≡ lists_after_migrate self.old.all cpu) }
-        ensures err { IfErr result (λ fault. fault ≡ Fault.NoMemory) }
-        ensures memory { OnErr result (list_of self.old.all cpu ≢ []) }
-        ensures succeeds { HasRoomIn self.old 0 (length (leaving_list self.old.all cpu))
-            → IsOk result }
+        ensures state { OnOk result (self.new.all ≡ lists_after_migrate self.old.all cpu) }
         ensures unchanged { OnErr result (self.new.all ≡ self.old.all) }
-        ensures room { room_of self.old 0 ≤ room_of self.new 0 }
-        ensures others { KeepsOtherRooms self.old 0 self.new }
+        ensures room { Grows self.old 0 self.new }
     {
         let owed = self.owes_visit(cpu);
         let (moved, marked) = move_to_first(self.lists.as_mut_slice(), cpu as usize, owed)?;
@@ -273,12 +263,9 @@ impl<T: Drop> Lists<T> {
     ///
     /// Fault `BarrierBusy` (13): one runs.
     pub fn barrier_begin(&mut self) -> Result<(), Fault>
-        ensures idle { OnOk result (self.old.all.running ≡ false) }
-        ensures ok { OnOk result (self.new.all ≡ lists_after_barrier_begin self.old.all) }
-        ensures err { IfErr result (λ fault. fault ≡ Fault.BarrierBusy) }
-        ensures busy { OnErr result (self.old.all.running ≡ true) }
-        ensures unchanged { OnErr result (self.new.all ≡ self.old.all) }
-        ensures rooms { self.new.rooms ≡ self.old.rooms }
+        ensures fault { result_err result ≡ barrier_begin_refusal self.old.all }
+        ensures state { OnOk result (self.new ≡ on_all lists_after_barrier_begin self.old) }
+        ensures unchanged { OnErr result (self.new ≡ self.old) }
     {
         if self.running {
             return Err(Fault::BarrierBusy);
@@ -295,16 +282,12 @@ impl<T: Drop> Lists<T> {
     /// for which there is no room.
     pub fn visit(&mut self, cpu: u32) -> Result<Visit, Fault>
         requires { cpu < cpus_of self.old.all }
-        ensures busy { OnOk result (self.old.all.running ≡ true) }
+        ensures fault { IfErr result (λ fault. visit_refusal self.old cpu ≡ Some fault) }
+        ensures running { OnOk result (self.old.all.running ≡ true) }
         ensures answer { IfOk result (λ visit. visit ≡ visit_answer self.old.all cpu) }
-        ensures ok { OnOk result (self.new.all ≡ lists_after_visit self.old.all cpu) }
-        ensures err { IfErr result (λ fault. fault ≡ visit_fault self.old.all) }
-        ensures memory { OnErr result (self.old.all.running ≡ true
-            → visit_answer self.old.all cpu ≡ Visit.Marked) }
-        ensures succeeds { HasRoomIn self.old cpu 1 → self.old.all.running ≡ true → IsOk result }
+        ensures state { OnOk result (self.new.all ≡ lists_after_visit self.old.all cpu) }
         ensures unchanged { OnErr result (self.new.all ≡ self.old.all) }
-        ensures room { room_of self.old cpu ≤ room_of self.new cpu }
-        ensures others { KeepsOtherRooms self.old cpu self.new }
+        ensures room { Grows self.old cpu self.new }
     {
         if !self.running {
             return Err(Fault::NoBarrier);
@@ -327,13 +310,10 @@ impl<T: Drop> Lists<T> {
     ///
     /// Fault `NoBarrier` (14): none runs.
     pub fn barrier_test(&mut self) -> Result<BarrierState, Fault>
-        ensures busy { OnOk result (self.old.all.running ≡ true) }
+        ensures fault { result_err result ≡ barrier_test_refusal self.old.all }
         ensures answer { IfOk result (λ state. state ≡ barrier_test_answer self.old.all) }
-        ensures ok { OnOk result (self.new.all ≡ lists_after_barrier_test self.old.all) }
-        ensures err { IfErr result (λ fault. fault ≡ Fault.NoBarrier) }
-        ensures idle { OnErr result (self.old.all.running ≡ false) }
-        ensures unchanged { OnErr result (self.new.all ≡ self.old.all) }
-        ensures rooms { self.new.rooms ≡ self.old.rooms }
+        ensures state { OnOk result (self.new ≡ on_all lists_after_barrier_test self.old) }
+        ensures unchanged { OnErr result (self.new ≡ self.old) }
     {
         if !self.running {
             return Err(Fault::NoBarrier);
@@ -376,9 +356,7 @@ impl<T: Drop> Lists<T> {
     pub fn shrink(&mut self, cpu: u32)
         requires { cpu < cpus_of self.old.all }
         ensures state { self.new.all ≡ self.old.all }
-        ensures room { room_of self.new cpu ≤ room_of self.old cpu }
-        ensures empty { list_of self.old.all cpu ≡ [] → room_of self.new cpu ≡ 0 }
-        ensures others { KeepsOtherRooms self.old cpu self.new }
+        ensures room { Shrinks self.old cpu self.new }
     {
         let list = &mut self.lists[cpu as usize];
         list.shrink();

@@ -1,9 +1,10 @@
 //! Lists that are made, and one that moves to the first.
-ghost use Rattle.std.specs.Prelude.{◌≡◌, ◌<◌, ◌≤◌, ◌≢◌, ◌&&◌, [], map, not, length, replicate};
-ghost use Rattle.std.specs.Prelude.{slice_index_or, slice_set};
-ghost use Rattle.std.specs.Prelude.{IsOk, IfOk, IfErr, OnOk, OnErr};
+ghost use Rattle.std.specs.Prelude.{◌≡◌, ◌<◌, ◌≤◌, ◌&&◌, ◌∷◌, [], Some, map, not};
+ghost use Rattle.std.specs.Prelude.{length, replicate, slice_index_or, slice_set};
+ghost use Rattle.std.specs.Prelude.{IfOk, IfErr, OnOk, OnErr};
+ghost use Rattle.rcu_seq.specs.Fault.{first_fault};
 ghost use Rattle.rcu_cblist.specs.SegList.{after_renumber, as_it_leaves, callbacks, is_empty};
-ghost use Rattle.rcu_barrier.specs.Lists.{HasRoomAt, items_in, list_at, lists_after_move};
+ghost use Rattle.rcu_barrier.specs.Lists.{has_room_at, items_in, list_at, lists_after_move};
 ghost use Rattle.rcu_barrier.specs.Lists.{rooms_in};
 
 use rcu_cblist::SegList;
@@ -15,8 +16,8 @@ use std::alloc::Global;
 /// Fault: `NoMemory` (16).
 #[tactic(auto, using(std::proofs::lemmas::List::replicate_more))]
 pub(crate) fn empty_lists<T: Drop>(alloc: Global, cpus: u32) -> Result<Vec<SegList<T>>, Fault>
-    ensures ok { IfOk result (λ lists. items_in lists.items ≡ replicate cpus []) }
-    ensures err { IfErr result (λ fault. fault ≡ Fault.NoMemory) }
+    ensures fault { IfErr result (λ fault. fault ≡ Fault.NoMemory) }
+    ensures state { IfOk result (λ lists. items_in lists.items ≡ replicate cpus []) }
 {
     let Ok(mut lists) = Vec::with_capacity(alloc, cpus as usize) else {
         return Err(Fault::NoMemory);
@@ -54,12 +55,16 @@ pub(crate) fn move_to_first<T: Drop>(
         ≡ length (callbacks (list_at (items_in lists.old) from))) }
     ensures marked { IfOk result (λ n. n.1
         ≡ (owed && not (is_empty (list_at (items_in lists.old) from)))) }
-    ensures ok { OnOk result (items_in lists.new
+    ensures fault { IfErr result (λ fault. first_fault
+        ((
+          not (is_empty (list_at (items_in lists.old) from))
+              && not (has_room_at (items_in lists.old) (rooms_in lists.old) 0
+              (length (as_it_leaves (list_at (items_in lists.old) from) owed))),
+          Fault.NoMemory,
+        ) ∷ [])
+        ≡ Some fault) }
+    ensures state { OnOk result (items_in lists.new
         ≡ lists_after_move (items_in lists.old) from owed) }
-    ensures err { IfErr result (λ fault. fault ≡ Fault.NoMemory) }
-    ensures memory { OnErr result (list_at (items_in lists.old) from ≢ []) }
-    ensures succeeds { HasRoomAt (items_in lists.old) (rooms_in lists.old) 0
-        (length (as_it_leaves (list_at (items_in lists.old) from) owed)) → IsOk result }
     ensures unchanged { OnErr result (items_in lists.new ≡ items_in lists.old) }
     ensures room { slice_index_or (rooms_in lists.old) 0 0
         ≤ slice_index_or (rooms_in lists.new) 0 0 }

@@ -33,8 +33,8 @@ impl Visits {
     /// Fault: `NoMemory` (16).
     #[tactic(auto, using(crate::proofs::Markers::unvisited_all))]
     pub(crate) fn new(alloc: Global, cpus: u32) -> Result<Visits, Fault>
-        ensures ok { IfOk result (λ visits. visits ≡ replicate cpus true) }
-        ensures err { IfErr result (λ fault. fault ≡ Fault.NoMemory) }
+        ensures fault { IfErr result (λ fault. fault ≡ Fault.NoMemory) }
+        ensures state { IfOk result (λ visits. visits ≡ replicate cpus true) }
     {
         let Ok(flags) = vec![in alloc; true; cpus as usize] else {
             return Err(Fault::NoMemory);

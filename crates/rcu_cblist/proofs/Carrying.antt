@@ -10,7 +10,8 @@ use Rattle.rcu_cblist.specs.declared.tail.Tail.{Tail}
 use Rattle.rcu_cblist.specs.SegList.{Item, Unmarked, Until, Done, after_migrate, as_it_leaves, begins_with_marker}
 use Rattle.rcu_cblist.specs.SegList.{behind, callbacks, front, is_empty, without_mark}
 use Rattle.rcu_cblist.specs.Kept.{item_of, marked, moved_behind, moved_in_front, unmarked}
-use Rattle.rcu_cblist.specs.Segments.{AreSegments, AreTails, IsTail, between, joined}
+use Rattle.rcu_cblist.specs.Cuts.{AreSegments, AreTails, IsTail, between}
+use Rattle.rcu_cblist.specs.Segments.{joined}
 use Rattle.rcu_cblist.proofs.Cuts.{Cuts, calls_joined, calls_marked, calls_within, first_joined, rest_of, seen_at}
 use Rattle.rcu_cblist.proofs.Cuts.{segments_at}
 use Rattle.rcu_cblist.proofs.Marking.{behind_four, entrained, marked_last, passed, some_kept, stays}

@@ -13,7 +13,8 @@ use Rattle.rcu_cblist.specs.declared.kept.Kept.TheVariants as kept
 use Rattle.rcu_cblist.specs.declared.tail.Tail.{Tail}
 use Rattle.rcu_cblist.specs.SegList.{Unmarked, begins_with_marker, callback_of, callbacks}
 use Rattle.rcu_cblist.specs.Kept.{item_of, unmarked}
-use Rattle.rcu_cblist.specs.Segments.{AreSegments, AreTails, IsTail, between, joined}
+use Rattle.rcu_cblist.specs.Cuts.{AreSegments, AreTails, IsTail, between}
+use Rattle.rcu_cblist.specs.Segments.{joined}
 
 module _ {X : Type 0} where
   -- places cut a list into these four

@@ -7,3 +7,4 @@ pub mod Marking
 pub mod Taking
 pub mod Carrying
 pub mod Popping
+pub mod Refusals

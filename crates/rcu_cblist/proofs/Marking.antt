@@ -10,7 +10,8 @@ use Rattle.rcu_cblist.specs.declared.kept.Kept.TheVariants as kept
 use Rattle.rcu_cblist.specs.declared.tail.Tail.{Tail}
 use Rattle.rcu_cblist.specs.SegList.{Item, Marker, Unmarked, Until, Done, after_entrain, is_empty, without_mark}
 use Rattle.rcu_cblist.specs.Kept.{item_of, marked, unmarked}
-use Rattle.rcu_cblist.specs.Segments.{AreSegments, AreTails, between, joined}
+use Rattle.rcu_cblist.specs.Cuts.{AreSegments, AreTails, between}
+use Rattle.rcu_cblist.specs.Segments.{joined}
 use Rattle.rcu_cblist.proofs.Cuts.{Cuts, calls_marked, cut_more, first_pushed, from_pushed, length_between, seen_at}
 use Rattle.rcu_cblist.proofs.Cuts.{segments_at, tail_passed, to_pushed, whole}
 use Rattle.rcu_cblist.proofs.Views.{stripped}

@@ -1,10 +1,12 @@
 -- Takes one after another: what several hand out, and what they leave.
 use Rattle.std.proofs.Common.{◌≡◌, ℕ, zero, suc, ◌+◌, ◌≤◌, false, List, [], ◌∷◌, ◌++◌, length, take, drop, min, refl}
 use Rattle.std.proofs.Common.{ap, sym, ◌∙◌, arith, length-drop}
+use Rattle.std.specs.Prelude.{None, Some, option_map, slice_get}
 use Rattle.std.proofs.lemmas.List.{drop_min}
 use Rattle.std.proofs.Math.Seq.{take-add}
 use Rattle.rcu_cblist.specs.SegList.{Item, Of, Marker, Unmarked, Until, Done, after_take, begins_with_marker, callbacks}
-use Rattle.rcu_cblist.specs.SegList.{from_callback, front, take_answer}
+use Rattle.rcu_cblist.specs.SegList.{from_callback, front, markers_passed, pop_answer, take_answer}
+use Rattle.rcu_cblist.specs.declared.queued.Queued.{Queued}
 use Rattle.rcu_cblist.proofs.Lists.{length_taken}
 
 module _ {X : Type 0} where
@@ -26,6 +28,25 @@ module _ {X : Type 0} where
   untaken_first xs first =
       let taken : length (take_answer xs 0) ≡ 0 = omega (arith, length_taken 0 xs) in
       ap (λ n. from_callback n xs) taken ∙ from_first xs first
+
+  -- a take of one hands out this callback, and passes so many markers
+  pub popped : (xs : List (Item X)) (call : Queued X) (n : ℕ) → call ∷ [] ≡ take_answer xs 1 →
+      n ≡ markers_passed xs 1 → Some (call, n) ≡ pop_answer xs
+  popped xs call n is count =
+      ap (λ k. Some (call, k)) count
+      ∙ ap (λ l. option_map (λ c. (c, markers_passed xs 1)) (slice_get l 0)) is
+
+  -- it hands out none where none is done
+  pub popped_none : (xs : List (Item X)) → length (callbacks (front xs)) ≡ 0 → None ≡ pop_answer xs
+  popped_none xs none = at (callbacks (front xs)) none
+    where
+      counted : Queued X → Queued X × ℕ
+      counted call = (call, markers_passed xs 1)
+
+      at : (calls : List (Queued X)) → length calls ≡ 0 →
+          None ≡ option_map counted (slice_get (take 1 calls) 0)
+      at [] none = refl
+      at (call ∷ calls) none = absurd (omega arith)
 
   -- from one of its callbacks on, and from one of these on
   from_both : (m n : ℕ) (xs : List (Item X)) → from_callback m (from_callback n xs) ≡ from_callback (n + m) xs

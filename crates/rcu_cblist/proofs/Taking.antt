@@ -13,7 +13,8 @@ use Rattle.rcu_cblist.specs.SegList.{begins_with_marker, callbacks, from_callbac
 use Rattle.rcu_cblist.specs.SegList.{without_mark}
 use Rattle.rcu_cblist.specs.Kept.{item_of, marked, unmarked}
 use Rattle.rcu_cblist.specs.declared.segments.Segments.{Segments}
-use Rattle.rcu_cblist.specs.Segments.{AreSegments, AreTails, IsCut, IsTail, between, joined, seen}
+use Rattle.rcu_cblist.specs.Cuts.{AreSegments, AreTails, IsTail, between}
+use Rattle.rcu_cblist.specs.Segments.{joined, seen}
 use Rattle.rcu_cblist.proofs.Cuts.{Cuts, calls_joined, calls_some, first_joined, joins, rest_of, seen_at, segments_at}
 use Rattle.rcu_cblist.proofs.Cuts.{whole}
 use Rattle.rcu_cblist.proofs.Lists.{callbacks_from, callbacks_remarked, untaken_least}
@@ -278,18 +279,18 @@ module _ {X : Type 0} where
     pub of_ready : most ≤ s.ready.calls
     pub of_all : most ≤ s.calls
 
-  pub falls : (s : Segments X) (most gone : ℕ) (ys : List (Kept X)) → IsCut s → most ≤ s.done.calls →
+  pub falls : (s : Segments X) (most gone : ℕ) (ys : List (Kept X)) → most ≤ s.done.calls →
       ys ≡ drop gone s.items.items → gone + length ys ≡ length s.items.items →
       unmarked ys ≡ from_callback most (unmarked s.items.items) → Falls s most gone
-  falls s most gone ys k few rest sized from =
-      let in_done = within_done s.wait_number s.ready_number s.items.items s.done s.wait s.ready s.calls k most gone ys few rest
+  falls s most gone ys few rest sized from =
+      let in_done = within_done s.wait_number s.ready_number s.items.items s.done s.wait s.ready s.calls s.cut most gone ys few rest
       sized from in
-      let first = k.wait_behind in
-      let second = k.ready_behind in
-      let counted = k.counted in
-      let to_wait = calls_order s.items.items s.done s.wait k.done_tail k.wait_tail first in
-      let to_ready = calls_order s.items.items s.wait s.ready k.wait_tail k.ready_tail second in
-      let to_end = calls_all s.items.items s.ready k.ready_tail in
+      let first = s.cut.wait_behind in
+      let second = s.cut.ready_behind in
+      let counted = s.cut.counted in
+      let to_wait = calls_order s.items.items s.done s.wait s.cut.done_tail s.cut.wait_tail first in
+      let to_ready = calls_order s.items.items s.wait s.ready s.cut.wait_tail s.cut.ready_tail second in
+      let to_end = calls_all s.items.items s.ready s.cut.ready_tail in
       record {
         in_done = in_done;
         in_wait = omega arith;
@@ -300,25 +301,25 @@ module _ {X : Type 0} where
       }
 
   -- as many callbacks are seen as are counted
-  pub counted_calls : (s : Segments X) → IsCut s → s.calls ≡ length (callbacks (seen s))
-  counted_calls s k =
-      k.counted ∙
-      ap length (sym (now_callbacks s.wait_number s.ready_number s.items.items s.done s.wait s.ready s.calls k))
+  pub counted_calls : (s : Segments X) → s.calls ≡ length (callbacks (seen s))
+  counted_calls s =
+      s.cut.counted ∙
+      ap length (sym (now_callbacks s.wait_number s.ready_number s.items.items s.done s.wait s.ready s.calls s.cut))
 
   -- and as many in the done part
-  pub counted_done : (s : Segments X) → IsCut s → s.done.calls ≡ length (callbacks (front (seen s)))
-  counted_done s k = sym (now_done s.wait_number s.ready_number s.items.items s.done s.wait s.ready s.calls k)
+  pub counted_done : (s : Segments X) → s.done.calls ≡ length (callbacks (front (seen s)))
+  counted_done s = sym (now_done s.wait_number s.ready_number s.items.items s.done s.wait s.ready s.calls s.cut)
 
   -- as many items are seen as are kept
-  pub seen_length : (s : Segments X) → IsCut s → length (seen s) ≡ length s.items.items
-  seen_length s k =
+  pub seen_length : (s : Segments X) → length (seen s) ≡ length s.items.items
+  seen_length s =
       sym (length-map (seen s) without_mark) ∙
-      (ap length (now_stripped s.wait_number s.ready_number s.items.items s.done s.wait s.ready s.calls k) ∙
+      (ap length (now_stripped s.wait_number s.ready_number s.items.items s.done s.wait s.ready s.calls s.cut) ∙
       length-map s.items.items (item_of Unmarked))
 
   -- none is seen where none is kept
-  pub seen_empty : (s : Segments X) (n : ℕ) → IsCut s → n ≡ length s.items.items → (n == 0) ≡ is_empty (seen s)
-  seen_empty s n k sized = at (seen s) (sized ∙ sym (seen_length s k))
+  pub seen_empty : (s : Segments X) (n : ℕ) → n ≡ length s.items.items → (n == 0) ≡ is_empty (seen s)
+  seen_empty s n sized = at (seen s) (sized ∙ sym (seen_length s))
     where
       at : (xs : List (Item X)) → n ≡ length xs → (n == 0) ≡ is_empty xs
       at [] none = grind (arith, nat_tests)

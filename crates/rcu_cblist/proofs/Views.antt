@@ -15,7 +15,8 @@ use Rattle.rcu_cblist.specs.SegList.{after_advance, after_renumber, behind, begi
 use Rattle.rcu_cblist.specs.SegList.{has_two, mark_advanced, mark_given, mark_renumbered, numbered, numbers, past_numbered, remarked}
 use Rattle.rcu_cblist.specs.SegList.{segments, without_mark}
 use Rattle.rcu_cblist.specs.Kept.{item_of, marked, unmarked}
-use Rattle.rcu_cblist.specs.Segments.{AreSegments, joined}
+use Rattle.rcu_cblist.specs.Cuts.{AreSegments}
+use Rattle.rcu_cblist.specs.Segments.{joined}
 use Rattle.rcu_cblist.proofs.SegListLemmas.{no_two, numbers_append}
 
 -- a number that is reached, and one that is not

@@ -1,3 +1,4 @@
 pub mod SegList
 pub mod Kept
+pub mod Cuts
 pub mod Segments

@@ -1,9 +1,12 @@
 -- One processor's list, in order: callbacks, each with its mark, and markers.
 use Rattle.std.specs.Prelude.{ℕ, zero, suc, ◌+◌, ◌-◌, ◌==◌, ◌≤◌, ◌&&◌, nat_le, nat_lt, max, fold, if◌then◌else◌, Bool}
 use Rattle.std.specs.Prelude.{true, false, not, Option, Some, None, List, [], ◌∷◌, ◌++◌, length, map, take, drop}
-use Rattle.std.specs.Prelude.{filter_map, count_by, All}
+use Rattle.std.specs.Prelude.{filter_map, count_by, option_map, slice_get, All}
 use Rattle.std.specs.List.{list_any}
+use Rattle.rcu_seq.specs.Fault.{first_fault}
 use Rattle.rcu_seq.specs.Numbers.{Number}
+use Rattle.rcu_seq.specs.declared.fault.Fault.{Fault}
+use Rattle.rcu_seq.specs.declared.fault.Fault.TheVariants.{NoMemory}
 use Rattle.rcu_cblist.specs.declared.queued.Queued.{Queued}
 
 -- what a callback waits for: nothing said yet, a grace-period number, or nothing more
@@ -95,9 +98,13 @@ module _ {X : Type 0} where
   remarked change (Of call mark) = Of call (change mark)
   remarked change Marker = Marker
 
+  -- with the items changed, and as much room
+  abbrev pub on_items : (List (Item X) → List (Item X)) → Segmented X → Segmented X
+  on_items change list = record list { items = change list.items }
+
   -- there is room for so many items more
-  abbrev pub HasRoom : Segmented X → ℕ → Type 0
-  HasRoom list more = length list.items + more ≤ list.room
+  abbrev pub has_room : Segmented X → ℕ → Bool
+  has_room list more = nat_le (length list.items + more) list.room
 
   -- the list has no item
   abbrev pub is_empty : List (Item X) → Bool
@@ -167,6 +174,10 @@ module _ {X : Type 0} where
   abbrev pub markers_passed : List (Item X) → ℕ → ℕ
   markers_passed xs most = markers xs - markers (after_take xs most)
 
+  -- what a take of one hands out, and how many markers it passes; none where no callback is done
+  abbrev pub pop_answer : List (Item X) → Option (Queued X × ℕ)
+  pop_answer xs = option_map (λ call. (call, markers_passed xs 1)) (slice_get (take_answer xs 1) 0)
+
   -- what a target that had ys has once xs moved there: the done part in front of ys, and the rest behind it without
   -- its marks
   abbrev pub after_migrate : List (Item X) → List (Item X) → List (Item X)
@@ -202,3 +213,26 @@ module _ {X : Type 0} where
   segments xs =
       length (front xs) ∷ length (numbered (behind xs)) ∷ length (numbered (past_numbered (behind xs)))
       ∷ length (past_numbered (past_numbered (behind xs))) ∷ []
+
+  -- why a callback may be refused: there is no room for it
+  abbrev pub queue_refusal : Segmented X → Option Fault
+  queue_refusal list = first_fault ((not (has_room list 1), NoMemory) ∷ [])
+
+  -- why a marker may be refused: there is a callback for it to stand behind, and no room
+  abbrev pub entrain_refusal : Segmented X → Option Fault
+  entrain_refusal list =
+      first_fault ((not (is_empty list.items) && not (has_room list 1), NoMemory) ∷ [])
+
+  -- why a take may be refused: there is a callback to hand out
+  abbrev pub take_refusal : List (Item X) → ℕ → Option Fault
+  take_refusal xs most = first_fault ((nat_lt 0 (length (take_answer xs most)), NoMemory) ∷ [])
+
+  -- why a list may not move: it has items, for which, with the marker where that is wanted, the
+  -- target has no room
+  abbrev pub move_refusal : Segmented X → Bool → Segmented X → Option Fault
+  move_refusal list marked target =
+      first_fault ((
+        not (is_empty list.items)
+            && not (has_room target (length (as_it_leaves list.items marked))),
+        NoMemory,
+      ) ∷ [])

@@ -1,11 +1,11 @@
 //! Callbacks that are taken one at a time, with no memory.
-ghost use Rattle.std.specs.Prelude.{◌≡◌, ◌+◌, ◌<◌, ◌≤◌, ◌^◌, ◌∷◌, [], IfSome, IsNone, drop};
-ghost use Rattle.std.specs.Prelude.{false, length, option_map, slice_get, take};
+ghost use Rattle.std.specs.Prelude.{◌≡◌, ◌+◌, ◌<◌, ◌≤◌, ◌^◌, ◌∷◌, [], IsNone, Some, drop};
+ghost use Rattle.std.specs.Prelude.{false, length, take};
 ghost use Rattle.std.specs.VecDeque.{deque_capacity};
 ghost use Rattle.rcu_cblist.specs.SegList.{after_take, begins_with_marker, callbacks};
-ghost use Rattle.rcu_cblist.specs.SegList.{from_callback, markers, markers_passed, take_answer};
+ghost use Rattle.rcu_cblist.specs.SegList.{from_callback, markers, on_items, pop_answer};
 ghost use Rattle.rcu_cblist.specs.Kept.{unmarked};
-ghost use Rattle.rcu_cblist.specs.Segments.{IsCut, seen};
+ghost use Rattle.rcu_cblist.specs.Segments.{listed, seen};
 
 use crate::kept::Kept;
 use crate::queued::Queued;
@@ -18,12 +18,9 @@ impl<T: Drop> SegList<T> {
     /// Takes the first callback of the done part, and each marker before the next one, whose number
     /// is returned beside it (Linux's `rcu_cblist_dequeue`). Costs a step for each, and no memory.
     pub fn pop_done(&mut self) -> Option<(Queued<T>, u64)>
-        ensures call { option_map (λ popped. popped.0) result
-            ≡ slice_get (take_answer self.old.items 1) 0 }
-        ensures markers { IfSome result (λ popped. popped.1 ≡ markers_passed self.old.items 1) }
-        ensures left { self.new.items ≡ after_take self.old.items 1 }
-        ensures unchanged { IsNone result → self.new.items ≡ self.old.items }
-        ensures room { self.new.room ≡ self.old.room }
+        ensures answer { result ≡ pop_answer self.old.items }
+        ensures state { self.new ≡ on_items (λ xs. after_take xs 1) self.old }
+        ensures unchanged { IsNone result → self.new ≡ self.old }
     {
         if self.done_count() == 0 {
             return None;
@@ -36,13 +33,9 @@ impl<T: Drop> Segments<T> {
     /// Takes the first callback of DONE, and each marker before the next one. Returns how many
     /// markers beside it.
     fn pop(&mut self) -> (Queued<T>, u64)
-        requires kept { IsCut self.old }
-        requires done { 0 < self.old.done.calls }
-        ensures kept { IsCut self.new }
-        ensures call { result.0 ∷ [] ≡ take_answer (seen self.old) 1 }
-        ensures markers { result.1 ≡ markers_passed (seen self.old) 1 }
-        ensures items { seen self.new ≡ after_take (seen self.old) 1 }
-        ensures capacity { deque_capacity self.new.items ≡ deque_capacity self.old.items }
+        requires { 0 < self.old.done.calls }
+        ensures answer { Some result ≡ pop_answer (seen self.old) }
+        ensures state { listed self.new ≡ on_items (λ xs. after_take xs 1) (listed self.old) }
     {
         let (call, markers) = pop_first(&mut self.items);
         let gone = Tail {

@@ -1,12 +1,13 @@
 //! One processor's list of callbacks.
-ghost use Rattle.std.specs.Prelude.{◌≡◌, ◌≢◌, ◌+◌, ◌<◌, ◌≤◌, ◌^◌, ◌++◌, ◌∷◌, [], false, not};
-ghost use Rattle.std.specs.Prelude.{IsOk, OnOk, OnErr, IfOk, IfErr, length};
-ghost use Rattle.rcu_cblist.specs.SegList.{HasRoom, IsAtMost, Of, Unmarked, after_accelerate};
+ghost use Rattle.std.specs.Prelude.{◌≡◌, ◌+◌, ◌<◌, ◌≤◌, ◌^◌, ◌++◌, ◌∷◌, [], false, not};
+ghost use Rattle.std.specs.Prelude.{OnOk, OnErr, IfOk, IfErr, Some, length};
+ghost use Rattle.rcu_cblist.specs.SegList.{IsAtMost, Of, Unmarked, after_accelerate};
 ghost use Rattle.rcu_cblist.specs.SegList.{after_advance, after_entrain, after_migrate};
 ghost use Rattle.rcu_cblist.specs.SegList.{after_renumber, after_take};
 ghost use Rattle.rcu_cblist.specs.SegList.{as_it_leaves, begins_with_marker, behind, callbacks};
-ghost use Rattle.rcu_cblist.specs.SegList.{front, greatest, is_empty, markers_passed, numbers};
-ghost use Rattle.rcu_cblist.specs.SegList.{segments, take_answer};
+ghost use Rattle.rcu_cblist.specs.SegList.{entrain_refusal, front, greatest, is_empty};
+ghost use Rattle.rcu_cblist.specs.SegList.{markers_passed, move_refusal, numbers, on_items};
+ghost use Rattle.rcu_cblist.specs.SegList.{queue_refusal, segments, take_answer, take_refusal};
 
 use crate::queued::Queued;
 use crate::refused::Refused;
@@ -32,18 +33,12 @@ pub struct SegList<T: Drop> {
 }
 
 impl<T: Drop> Model for SegList<T> {
-    ghost use Rattle.std.specs.VecDeque.{deque_capacity};
     ghost use Rattle.rcu_cblist.specs.SegList.{Segmented};
-    ghost use Rattle.rcu_cblist.specs.Segments.{IsCut, seen};
+    ghost use Rattle.rcu_cblist.specs.Segments.{listed};
 
     ghost Value = { Segmented T };
 
-    ghost view = { λ s. record {
-      items = seen s.segments;
-      room = deque_capacity s.segments.items;
-    } };
-
-    ghost invariant = { λ s. IsCut s.segments };
+    ghost view = { λ s. listed s.segments };
 }
 
 impl<T: Drop> SegList<T> {
@@ -63,10 +58,9 @@ impl<T: Drop> SegList<T> {
     /// Fault `NoMemory` (16) where there is no room for it and an allocation failed; the callback
     /// is returned.
     pub fn queue(&mut self, item: Queued<T>) -> Result<(), Refused<Queued<T>>>
-        ensures ok { OnOk result (self.new.items ≡ self.old.items ++ Of item Unmarked ∷ []) }
-        ensures err { IfErr result (λ refused. refused.fault ≡ Fault.NoMemory) }
-        ensures handed_back { IfErr result (λ refused. refused.value ≡ item) }
-        ensures succeeds { HasRoom self.old 1 → IsOk result }
+        ensures fault { IfErr result (λ refused. queue_refusal self.old ≡ Some refused.fault) }
+        ensures value { IfErr result (λ refused. refused.value ≡ item) }
+        ensures state { OnOk result (self.new.items ≡ self.old.items ++ Of item Unmarked ∷ []) }
         ensures unchanged { OnErr result (self.new.items ≡ self.old.items) }
         ensures room { self.old.room ≤ self.new.room }
     {
@@ -82,8 +76,7 @@ impl<T: Drop> SegList<T> {
 
     /// Makes each callback done whose number is at most this one (Linux's `rcu_segcblist_advance`).
     pub fn advance(&mut self, number: u64)
-        ensures items { self.new.items ≡ after_advance self.old.items number }
-        ensures room { self.new.room ≡ self.old.room }
+        ensures { self.new ≡ on_items (λ xs. after_advance xs number) self.old }
     {
         self.segments.advance(number);
     }
@@ -93,8 +86,7 @@ impl<T: Drop> SegList<T> {
     /// number above it.
     pub fn accelerate(&mut self, snap: u64)
         requires { IsAtMost snap self.old.items }
-        ensures items { self.new.items ≡ after_accelerate self.old.items snap }
-        ensures room { self.new.room ≡ self.old.room }
+        ensures { self.new ≡ on_items (λ xs. after_accelerate xs snap) self.old }
     {
         self.segments.accelerate(snap);
     }
@@ -103,8 +95,7 @@ impl<T: Drop> SegList<T> {
     /// it is as if just queued, in the order that it has. Done callbacks and markers stay. Costs a
     /// step.
     pub fn renumber(&mut self)
-        ensures items { self.new.items ≡ after_renumber self.old.items }
-        ensures room { self.new.room ≡ self.old.room }
+        ensures { self.new ≡ on_items after_renumber self.old }
     {
         self.segments.lose_numbers();
     }
@@ -114,13 +105,11 @@ impl<T: Drop> SegList<T> {
     ///
     /// Fault `NoMemory` (16), only where it has a callback to hand out.
     pub fn take_done(&mut self, max: u64) -> Result<Taken<T>, Fault>
+        ensures fault { IfErr result (λ fault. take_refusal self.old.items max ≡ Some fault) }
         ensures calls { IfOk result (λ some. some.calls.items ≡ take_answer self.old.items max) }
         ensures markers { IfOk result (λ some. some.markers ≡ markers_passed self.old.items max) }
-        ensures left { OnOk result (self.new.items ≡ after_take self.old.items max) }
-        ensures err { IfErr result (λ fault. fault ≡ Fault.NoMemory) }
-        ensures memory { OnErr result (take_answer self.old.items max ≢ []) }
-        ensures unchanged { OnErr result (self.new.items ≡ self.old.items) }
-        ensures room { self.new.room ≡ self.old.room }
+        ensures state { OnOk result (self.new ≡ on_items (λ xs. after_take xs max) self.old) }
+        ensures unchanged { OnErr result (self.new ≡ self.old) }
     {
         let most = self.done_count().min(max);
         let mut calls = Vec::new(self.alloc);
@@ -138,16 +127,14 @@ impl<T: Drop> SegList<T> {
     /// Fault `NoMemory` (16), only where there is something to move, for which the target has no
     /// room.
     pub fn migrate_into(&mut self, target: &mut SegList<T>) -> Result<(), Fault>
-        ensures ok { OnOk result
+        ensures fault { IfErr result (λ fault.
+            move_refusal self.old false target.old ≡ Some fault) }
+        ensures state { OnOk result (self.new ≡ on_items (λ _. []) self.old) }
+        ensures target { OnOk result
             (target.new.items ≡ after_migrate target.old.items self.old.items) }
-        ensures emptied { OnOk result (self.new.items ≡ []) }
-        ensures err { IfErr result (λ fault. fault ≡ Fault.NoMemory) }
-        ensures memory { OnErr result (self.old.items ≢ []) }
-        ensures succeeds { HasRoom target.old (length self.old.items) → IsOk result }
-        ensures unchanged { OnErr result (self.new.items ≡ self.old.items) }
-        ensures target { OnErr result (target.new.items ≡ target.old.items) }
-        ensures room { self.new.room ≡ self.old.room }
-        ensures target_room { target.old.room ≤ target.new.room }
+        ensures unchanged { OnErr result
+            ((self.new ≡ self.old) × (target.new.items ≡ target.old.items)) }
+        ensures room { target.old.room ≤ target.new.room }
     {
         self.move_into(target, false)
     }
@@ -159,11 +146,9 @@ impl<T: Drop> SegList<T> {
     /// Fault `NoMemory` (16), only where the list is not empty and there is no room for the
     /// marker.
     pub fn entrain(&mut self) -> Result<bool, Fault>
-        ensures marked { IfOk result (λ marked. marked ≡ not (is_empty self.old.items)) }
-        ensures ok { OnOk result (self.new.items ≡ after_entrain self.old.items) }
-        ensures err { IfErr result (λ fault. fault ≡ Fault.NoMemory) }
-        ensures memory { OnErr result (self.old.items ≢ []) }
-        ensures succeeds { HasRoom self.old 1 → IsOk result }
+        ensures fault { IfErr result (λ fault. entrain_refusal self.old ≡ Some fault) }
+        ensures answer { IfOk result (λ marked. marked ≡ not (is_empty self.old.items)) }
+        ensures state { OnOk result (self.new.items ≡ after_entrain self.old.items) }
         ensures unchanged { OnErr result (self.new.items ≡ self.old.items) }
         ensures room { self.old.room ≤ self.new.room }
     {
@@ -184,17 +169,14 @@ impl<T: Drop> SegList<T> {
     /// Fault `NoMemory` (16), only where there is something to move, for which the target has no
     /// room.
     pub fn move_into(&mut self, target: &mut SegList<T>, marked: bool) -> Result<(), Fault>
-        ensures ok { OnOk result (target.new.items
+        ensures fault { IfErr result (λ fault.
+            move_refusal self.old marked target.old ≡ Some fault) }
+        ensures state { OnOk result (self.new ≡ on_items (λ _. []) self.old) }
+        ensures target { OnOk result (target.new.items
             ≡ after_migrate target.old.items (as_it_leaves self.old.items marked)) }
-        ensures emptied { OnOk result (self.new.items ≡ []) }
-        ensures err { IfErr result (λ fault. fault ≡ Fault.NoMemory) }
-        ensures memory { OnErr result (self.old.items ≢ []) }
-        ensures succeeds { HasRoom target.old (length (as_it_leaves self.old.items marked))
-            → IsOk result }
-        ensures unchanged { OnErr result (self.new.items ≡ self.old.items) }
-        ensures target { OnErr result (target.new.items ≡ target.old.items) }
-        ensures room { self.new.room ≡ self.old.room }
-        ensures target_room { target.old.room ≤ target.new.room }
+        ensures unchanged { OnErr result
+            ((self.new ≡ self.old) × (target.new.items ≡ target.old.items)) }
+        ensures room { target.old.room ≤ target.new.room }
     {
         if self.is_empty() {
             return Ok(());
@@ -211,7 +193,7 @@ impl<T: Drop> SegList<T> {
     /// what it has where the smaller block is refused; an empty list keeps none. Costs a step an
     /// item.
     pub fn shrink(&mut self)
-        ensures items { self.new.items ≡ self.old.items }
+        ensures state { self.new.items ≡ self.old.items }
         ensures room { self.new.room ≤ self.old.room }
         ensures empty { self.old.items ≡ [] → self.new.room ≡ 0 }
     {

@@ -1,15 +1,14 @@
 //! A sequence of items in four segments.
 ghost use Rattle.std.specs.Prelude.{◌≡◌, ◌+◌, ◌<◌, ◌≤◌, ◌++◌, ◌∷◌, ◌&&◌, [], true, false};
-ghost use Rattle.std.specs.Prelude.{if◌then◌else◌, map, nat_le, nat_lt};
+ghost use Rattle.std.specs.Prelude.{if◌then◌else◌, nat_le, nat_lt};
 ghost use Rattle.std.specs.Vec.{vec_len, vec_capacity};
 ghost use Rattle.std.specs.VecDeque.{deque_len, deque_capacity};
 ghost use Rattle.rcu_cblist.specs.SegList.{IsAtMost, Of, Unmarked, after_accelerate, after_advance};
 ghost use Rattle.rcu_cblist.specs.SegList.{after_entrain, after_migrate, after_renumber};
-ghost use Rattle.rcu_cblist.specs.SegList.{after_take};
-ghost use Rattle.rcu_cblist.specs.SegList.{as_it_leaves, behind, front, greatest, is_empty};
-ghost use Rattle.rcu_cblist.specs.SegList.{markers_passed, numbers};
-ghost use Rattle.rcu_cblist.specs.SegList.{segments, take_answer, without_mark};
-ghost use Rattle.rcu_cblist.specs.Segments.{IsCut, seen};
+ghost use Rattle.rcu_cblist.specs.SegList.{after_take, as_it_leaves, greatest, is_empty};
+ghost use Rattle.rcu_cblist.specs.SegList.{markers_passed, numbers, on_items, segments};
+ghost use Rattle.rcu_cblist.specs.SegList.{take_answer};
+ghost use Rattle.rcu_cblist.specs.Cuts.{AreTails};
 
 use crate::kept::Kept;
 use crate::queued::Queued;
@@ -44,12 +43,14 @@ pub(crate) struct Segments<T: Drop> {
     pub(crate) wait_number: u64,
     /// NEXT_READY's number; it means nothing where NEXT_READY is empty.
     pub(crate) ready_number: u64,
+    ghost cut: { AreTails items.items done wait ready calls wait_number ready_number },
 }
 
 impl<T: Drop> Segments<T> {
+    ghost use Rattle.rcu_cblist.specs.Segments.{listed, seen};
+
     /// No item.
     pub(crate) fn new(alloc: Global) -> Segments<T>
-        ensures kept { IsCut result }
         ensures items { seen result ≡ [] }
     {
         Segments {
@@ -97,11 +98,9 @@ impl<T: Drop> Segments<T> {
 
     /// Puts a callback at the end of NEXT.
     pub(crate) fn push(&mut self, call: Queued<T>)
-        requires kept { IsCut self.old }
-        requires room { deque_len self.old.items < deque_capacity self.old.items }
-        ensures kept { IsCut self.new }
-        ensures items { seen self.new ≡ seen self.old ++ Of call Unmarked ∷ [] }
-        ensures capacity { deque_capacity self.new.items ≡ deque_capacity self.old.items }
+        requires { deque_len self.old.items < deque_capacity self.old.items }
+        ensures { listed self.new
+            ≡ on_items (λ xs. xs ++ Of call Unmarked ∷ []) (listed self.old) }
     {
         self.items.push_back_reserved(Kept::Call(call));
         self.calls += 1;
@@ -109,12 +108,9 @@ impl<T: Drop> Segments<T> {
 
     /// Puts a marker at the end of the last segment that has items.
     pub(crate) fn push_marker(&mut self)
-        requires kept { IsCut self.old }
         requires some { is_empty (seen self.old) ≡ false }
         requires room { deque_len self.old.items < deque_capacity self.old.items }
-        ensures kept { IsCut self.new }
-        ensures items { seen self.new ≡ after_entrain (seen self.old) }
-        ensures capacity { deque_capacity self.new.items ≡ deque_capacity self.old.items }
+        ensures { listed self.new ≡ on_items after_entrain (listed self.old) }
     {
         let end = self.items.len();
         self.items.push_back_reserved(Kept::Marker);
@@ -126,10 +122,7 @@ impl<T: Drop> Segments<T> {
     /// Each front segment of WAIT and NEXT_READY whose number is at most this one joins DONE, and
     /// the other one moves forward.
     pub(crate) fn advance(&mut self, number: u64)
-        requires kept { IsCut self.old }
-        ensures kept { IsCut self.new }
-        ensures items { seen self.new ≡ after_advance (seen self.old) number }
-        ensures capacity { deque_capacity self.new.items ≡ deque_capacity self.old.items }
+        ensures { listed self.new ≡ on_items (λ xs. after_advance xs number) (listed self.old) }
     {
         if !self.wait_is_reached(number) {
             return;
@@ -147,11 +140,8 @@ impl<T: Drop> Segments<T> {
     /// Gives a number to what is in NEXT: it joins NEXT_READY, or WAIT where that changes no
     /// number. Nothing changes where NEXT_READY has items and a number below this one.
     pub(crate) fn accelerate(&mut self, snap: u64)
-        requires kept { IsCut self.old }
-        requires most { IsAtMost snap (seen self.old) }
-        ensures kept { IsCut self.new }
-        ensures items { seen self.new ≡ after_accelerate (seen self.old) snap }
-        ensures capacity { deque_capacity self.new.items ≡ deque_capacity self.old.items }
+        requires { IsAtMost snap (seen self.old) }
+        ensures { listed self.new ≡ on_items (λ xs. after_accelerate xs snap) (listed self.old) }
     {
         if self.ready_is_below(snap) {
             return;
@@ -173,14 +163,11 @@ impl<T: Drop> Segments<T> {
     /// Takes the first callbacks of DONE, so many, and each marker before the first callback that
     /// is left. Returns how many markers.
     pub(crate) fn take(&mut self, calls: &mut Vec<Queued<T>>, most: u64) -> u64
-        requires kept { IsCut self.old }
         requires room { vec_len calls.old + most ≤ vec_capacity calls.old }
         requires done { most ≤ self.old.done.calls }
-        ensures kept { IsCut self.new }
         ensures calls { calls.new.items ≡ calls.old.items ++ take_answer (seen self.old) most }
         ensures markers { result ≡ markers_passed (seen self.old) most }
-        ensures items { seen self.new ≡ after_take (seen self.old) most }
-        ensures capacity { deque_capacity self.new.items ≡ deque_capacity self.old.items }
+        ensures state { listed self.new ≡ on_items (λ xs. after_take xs most) (listed self.old) }
     {
         let markers = take_first(&mut self.items, calls, most);
         let gone = Tail {
@@ -196,14 +183,10 @@ impl<T: Drop> Segments<T> {
 
     /// Loses the numbers of what waits: all behind DONE becomes NEXT.
     pub(crate) fn lose_numbers(&mut self)
-        requires kept { IsCut self.old }
         ensures items { self.new.items ≡ self.old.items }
         ensures next { self.new.ready ≡ self.old.done }
         ensures calls { self.new.calls ≡ self.old.calls }
-        ensures kept { IsCut self.new }
-        ensures lost { seen self.new
-            ≡ front (seen self.old) ++ map without_mark (behind (seen self.old)) }
-        ensures renumbered { seen self.new ≡ after_renumber (seen self.old) }
+        ensures state { listed self.new ≡ on_items after_renumber (listed self.old) }
     {
         self.wait = self.done;
         self.ready = self.done;
@@ -212,19 +195,13 @@ impl<T: Drop> Segments<T> {
     /// Moves all to a target: DONE goes in front of the target's DONE, and the rest without its
     /// numbers to the end of its NEXT. Where that is wanted, a marker stands behind what moves.
     pub(crate) fn carry_into(&mut self, target: &mut Segments<T>, marked: bool)
-        requires kept { IsCut self.old }
-        requires there { IsCut target.old }
         requires some { marked ≡ true → is_empty (seen self.old) ≡ false }
         requires room { deque_len target.old.items + deque_len self.old.items
             + (if marked then 1 else 0) ≤ deque_capacity target.old.items }
-        ensures kept { IsCut self.new }
-        ensures emptied { seen self.new ≡ [] }
-        ensures there { IsCut target.new }
+        ensures state { listed self.new ≡ on_items (λ _. []) (listed self.old) }
         ensures target { seen target.new
             ≡ after_migrate (seen target.old) (as_it_leaves (seen self.old) marked) }
-        ensures capacity { deque_capacity self.new.items ≡ deque_capacity self.old.items }
-        ensures target_capacity { deque_capacity target.old.items
-            ≤ deque_capacity target.new.items }
+        ensures room { (listed target.old).room ≤ (listed target.new).room }
     {
         self.lose_numbers();
         // With no numbers WAIT and NEXT_READY are empty: `ready` stands where DONE ends.
@@ -245,7 +222,6 @@ impl<T: Drop> Segments<T> {
 
     /// The greatest number that a segment with items waits for, none where none does.
     pub(crate) fn greatest_waiting(&self) -> Option<u64>
-        requires kept { IsCut self.now }
         ensures { result ≡ greatest (numbers (seen self.now)) }
     {
         if self.wait.items < self.ready.items {
@@ -259,7 +235,6 @@ impl<T: Drop> Segments<T> {
 
     /// How many items each segment has.
     pub(crate) fn lengths(&self) -> [u64; 4]
-        requires kept { IsCut self.now }
         ensures { result ≡ segments (seen self.now) }
     {
         [

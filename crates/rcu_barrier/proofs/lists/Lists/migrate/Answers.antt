@@ -34,7 +34,7 @@ invariant_of-self-2 g c =
     let owes : owes_visit old cpu ≡ owed =
     subst (λ v. owes_visit v.all cpu ≡ owed) (sym c.self.view_is) (sym c.owes_visit-owed.ensures) in
     let moved : items_in c.move_to_first.new.lists ≡ lists_after_move (items_in i.lists.items) cpu owed =
-    c.in_ok-moved.ensures.ok ∙ ap (λ l. lists_after_move (items_in l) cpu owed) c.as_mut_slice.ensures.value in
+    c.in_ok-moved.ensures.state ∙ ap (λ l. lists_after_move (items_in l) cpu owed) c.as_mut_slice.ensures.value in
     let first =
     after_migrate (list_at (items_in i.lists.items) 0)
     (as_it_leaves (list_at (items_in i.lists.items) cpu) owed) in

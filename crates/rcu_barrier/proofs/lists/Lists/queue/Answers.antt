@@ -24,15 +24,15 @@ returns-in-Err-clause-unchanged g c =
     ap (λ l. record { lists = l; visited = i.visits; running = i.running; queued = i.queued; most = i.most }) same
     ∙ ap (λ v. v.all) c.self.view_is
 
-pub returns-clause-ok : goal.returns-clause-ok
-returns-clause-ok g c =
+pub returns-clause-state : goal.returns-clause-state
+returns-clause-state g c =
     let i = c.self.inside in
     let inside : c.args.cpu < length (items_in i.lists.items) =
     subst (λ v. c.args.cpu < length v.all.lists) (sym c.self.view_is) c.requires in
     let item = Of (record { ord = i.queued + 1; at = c.args.at; value = c.args.value }) Unmarked in
     let longer =
     changed_items (λ xs. xs ++ item ∷ []) i.lists.items c.args.cpu c.index_mut-list.result.now c.queue.new.self
-    inside c.index_mut-list.ensures.value c.in-Ok.ensures.ok in
+    inside c.index_mut-list.ensures.value c.in-Ok.ensures.state in
     rw (← c.self.view_is)
     (ap (λ l. record { lists = l; visited = i.visits; running = i.running; queued = i.queued + 1; most = i.most }) longer)
 
@@ -43,7 +43,7 @@ invariant_of-self-2 g c =
     let old = c.index_mut-list.result.now in
     let inside : c.args.cpu < length (items_in i.lists.items) =
     subst (λ v. c.args.cpu < length v.all.lists) (sym c.self.view_is) c.requires in
-    let after = c.in-Ok.ensures.ok in
+    let after = c.in-Ok.ensures.state in
     let same = ap markers after ∙ markers_append old.items _ in
     let most = k.1.counted in
     let few = c.if-self.false in
@@ -56,29 +56,19 @@ returns-in-Err-clause-room g c =
     let i = c.self.inside in
     let inside : c.args.cpu < length (items_in i.lists.items) =
     subst (λ v. c.args.cpu < length v.all.lists) (sym c.self.view_is) c.requires in
-    rw (← c.self.view_is)
-    (rooms_rise i.lists.items c.args.cpu c.index_mut-list.result.now c.queue.new.self inside c.index_mut-list.ensures.value
-    c.queue.ensures.room)
-
-pub returns-in-Err-clause-others : goal.returns-in-Err-clause-others
-returns-in-Err-clause-others g c =
-    let i = c.self.inside in
-    let inside : c.args.cpu < length (items_in i.lists.items) =
-    subst (λ v. c.args.cpu < length v.all.lists) (sym c.self.view_is) c.requires in
-    rw (← c.self.view_is) (other_rooms i.lists.items c.args.cpu c.queue.new.self inside)
+    rw (← c.self.view_is) (record {
+      own = rooms_rise i.lists.items c.args.cpu c.index_mut-list.result.now c.queue.new.self inside
+          c.index_mut-list.ensures.value c.queue.ensures.room;
+      others = other_rooms i.lists.items c.args.cpu c.queue.new.self inside;
+    })
 
 pub returns-clause-room : goal.returns-clause-room
 returns-clause-room g c =
     let i = c.self.inside in
     let inside : c.args.cpu < length (items_in i.lists.items) =
     subst (λ v. c.args.cpu < length v.all.lists) (sym c.self.view_is) c.requires in
-    rw (← c.self.view_is)
-    (rooms_rise i.lists.items c.args.cpu c.index_mut-list.result.now c.queue.new.self inside c.index_mut-list.ensures.value
-    c.queue.ensures.room)
-
-pub returns-clause-others : goal.returns-clause-others
-returns-clause-others g c =
-    let i = c.self.inside in
-    let inside : c.args.cpu < length (items_in i.lists.items) =
-    subst (λ v. c.args.cpu < length v.all.lists) (sym c.self.view_is) c.requires in
-    rw (← c.self.view_is) (other_rooms i.lists.items c.args.cpu c.queue.new.self inside)
+    rw (← c.self.view_is) (record {
+      own = rooms_rise i.lists.items c.args.cpu c.index_mut-list.result.now c.queue.new.self inside
+          c.index_mut-list.ensures.value c.queue.ensures.room;
+      others = other_rooms i.lists.items c.args.cpu c.queue.new.self inside;
+    })

@@ -1,9 +1,9 @@
 use Rattle.std.proofs.Common.{◌≡◌, ◌<◌, [], length, set, get_or, refl, ap, sym, subst, ◌∙◌, arith}
-use Rattle.rcu_cblist.specs.SegList.{IsAtMost, behind, callbacks, front, markers}
+use Rattle.rcu_cblist.specs.SegList.{IsAtMost, after_accelerate, after_advance, behind, callbacks, front, markers}
 use Rattle.rcu_barrier.specs.Tending.{AreFours, after_tend}
 use Rattle.rcu_seq.specs.Numbers.{snapshot}
 use Rattle.rcu_barrier.proofs.Fours.{fours_get, fours_tended, most_advanced, tend_is}
-use Rattle.rcu_barrier.proofs.Rooms.{read_items, relisted_in, same_rooms, set_items}
+use Rattle.rcu_barrier.proofs.Rooms.{both_same, read_items, relisted_in, same_rooms, set_items}
 use Rattle.rcu_barrier.specs.Lists.{items_in}
 use Rattle.rcu_cblist.proofs.SegListLemmas.{markers_remarked}
 use Rattle.rcu_barrier.proofs.lists.Lists.tend.Goals as goal
@@ -18,8 +18,9 @@ accelerate-requires g c =
     let within : IsAtMost (snapshot number) (get_or (items_in i.lists.items) c.args.cpu []) =
     subst (λ v. IsAtMost (snapshot number) (get_or v.all.lists c.args.cpu [])) (sym c.self.view_is) c.requires.within in
     let snap = c.snapshot.ensures in
+    let advanced : c.advance.new.self.items ≡ after_advance old.items number = ap (λ l. l.items) c.advance.ensures in
     let is = read_items i.lists.items c.args.cpu old inside c.index_mut-list.ensures.value in
-    rw (snap, c.advance.ensures.items) (most_advanced number (snapshot number) old.items (subst (IsAtMost (snapshot number)) (sym is) within))
+    rw (snap, advanced) (most_advanced number (snapshot number) old.items (subst (IsAtMost (snapshot number)) (sym is) within))
 
 pub invariant_of-self : goal.invariant_of-self
 invariant_of-self g c =
@@ -33,8 +34,11 @@ invariant_of-self g c =
     let fours : AreFours old.items =
     subst AreFours (sym is) (fours_get (items_in i.lists.items) c.args.cpu k.1.fours) in
     let snap = c.snapshot.ensures in
+    let accelerated : c.accelerate.new.self.items ≡ after_accelerate c.advance.new.self.items c.snapshot.result =
+    ap (λ l. l.items) c.accelerate.ensures in
+    let advanced : c.advance.new.self.items ≡ after_advance old.items number = ap (λ l. l.items) c.advance.ensures in
     let after : c.accelerate.new.self.items ≡ after_tend old.items number =
-    c.accelerate.ensures.items ∙ (rw (snap, c.advance.ensures.items) (tend_is number old.items c.requires.state fours)) in
+    accelerated ∙ (rw (snap, advanced) (tend_is number old.items c.requires.state fours)) in
     let same = ap markers after ∙ markers_remarked _ old.items in
     relisted_in i.lists.items i.visits i.visits i.running i.queued i.markers i.markers
     i.queued i.most c.args.cpu old c.accelerate.new.self k.0 k.1 inside c.index_mut-list.ensures.value refl (omega arith)
@@ -52,11 +56,17 @@ returns-clause-state g c =
     let fours : AreFours old.items =
     subst AreFours (sym is) (fours_get (items_in i.lists.items) c.args.cpu k.1.fours) in
     let snap = c.snapshot.ensures in
+    let accelerated : c.accelerate.new.self.items ≡ after_accelerate c.advance.new.self.items c.snapshot.result =
+    ap (λ l. l.items) c.accelerate.ensures in
+    let advanced : c.advance.new.self.items ≡ after_advance old.items number = ap (λ l. l.items) c.advance.ensures in
     let after : c.accelerate.new.self.items ≡ after_tend (get_or (items_in i.lists.items) c.args.cpu []) number =
-    c.accelerate.ensures.items ∙ (rw (snap, c.advance.ensures.items) (tend_is number old.items c.requires.state fours) ∙ ap (λ l. after_tend l number) is) in
-    rw (← c.self.view_is)
+    accelerated ∙ (rw (snap, advanced) (tend_is number old.items c.requires.state fours) ∙ ap (λ l. after_tend l number) is) in
+    let rooms = same_rooms i.lists.items c.args.cpu old c.accelerate.new.self c.index_mut-list.ensures.value
+    (ap (λ l. l.room) c.accelerate.ensures ∙ ap (λ l. l.room) c.advance.ensures) in
+    rw (← c.self.view_is) (both_same _ _ _ _
     (ap (λ l. record { lists = l; visited = i.visits; running = i.running; queued = i.queued; most = i.most })
     (set_items i.lists.items c.args.cpu c.accelerate.new.self ∙ ap (λ l. set (items_in i.lists.items) c.args.cpu l) after))
+    rooms)
 
 pub returns-clause-done : goal.returns-clause-done
 returns-clause-done g c =
@@ -70,8 +80,11 @@ returns-clause-done g c =
     let fours : AreFours old.items =
     subst AreFours (sym is) (fours_get (items_in i.lists.items) c.args.cpu k.1.fours) in
     let snap = c.snapshot.ensures in
+    let accelerated : c.accelerate.new.self.items ≡ after_accelerate c.advance.new.self.items c.snapshot.result =
+    ap (λ l. l.items) c.accelerate.ensures in
+    let advanced : c.advance.new.self.items ≡ after_advance old.items number = ap (λ l. l.items) c.advance.ensures in
     let after : c.accelerate.new.self.items ≡ after_tend (get_or (items_in i.lists.items) c.args.cpu []) number =
-    c.accelerate.ensures.items ∙ (rw (snap, c.advance.ensures.items) (tend_is number old.items c.requires.state fours) ∙ ap (λ l. after_tend l number) is) in
+    accelerated ∙ (rw (snap, advanced) (tend_is number old.items c.requires.state fours) ∙ ap (λ l. after_tend l number) is) in
     rw (← c.self.view_is, c.done_count.ensures.count ∙ ap (λ l. length (callbacks (front l))) after) refl
 
 pub returns-clause-waiting : goal.returns-clause-waiting
@@ -86,11 +99,9 @@ returns-clause-waiting g c =
     let fours : AreFours old.items =
     subst AreFours (sym is) (fours_get (items_in i.lists.items) c.args.cpu k.1.fours) in
     let snap = c.snapshot.ensures in
+    let accelerated : c.accelerate.new.self.items ≡ after_accelerate c.advance.new.self.items c.snapshot.result =
+    ap (λ l. l.items) c.accelerate.ensures in
+    let advanced : c.advance.new.self.items ≡ after_advance old.items number = ap (λ l. l.items) c.advance.ensures in
     let after : c.accelerate.new.self.items ≡ after_tend (get_or (items_in i.lists.items) c.args.cpu []) number =
-    c.accelerate.ensures.items ∙ (rw (snap, c.advance.ensures.items) (tend_is number old.items c.requires.state fours) ∙ ap (λ l. after_tend l number) is) in
+    accelerated ∙ (rw (snap, advanced) (tend_is number old.items c.requires.state fours) ∙ ap (λ l. after_tend l number) is) in
     rw (← c.self.view_is, c.waiting_count.ensures ∙ ap (λ l. length (callbacks (behind l))) after) refl
-
-pub returns-clause-rooms : goal.returns-clause-rooms
-returns-clause-rooms g c =
-    same_rooms c.self.inside.lists.items c.args.cpu c.index_mut-list.result.now c.accelerate.new.self
-    c.index_mut-list.ensures.value (c.accelerate.ensures.room ∙ c.advance.ensures.room) ∙ ap (λ v. v.rooms) c.self.view_is

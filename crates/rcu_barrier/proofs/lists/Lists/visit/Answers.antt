@@ -22,13 +22,13 @@ invariant_of-self-then-not-marked g c =
     let fewer = unvisited_set i.visits c.args.cpu (omega arith) off in
     let after = c.in_ok-marked.ensures in
     let none : is_empty old.items ≡ true =
-    unmarked_none old.items c.in_ok-marked.marked after.marked c.if-not-marked.true in
-    let same = ap markers (after.ok ∙ entrained_empty old.items none) in
+    unmarked_none old.items c.in_ok-marked.marked after.answer c.if-not-marked.true in
+    let same = ap markers (after.state ∙ entrained_empty old.items none) in
     let flags = ap unvisited c.insert.ensures in
     relisted_in i.lists.items i.visits c.insert.new.self i.running i.queued i.markers i.markers
     i.queued i.most c.args.cpu old c.entrain.new.self k.0 k.1 inside c.index_mut-list.ensures.value
     (ap length c.insert.ensures ∙ length-set i.visits c.args.cpu true) (omega arith) (omega arith) k.1.counted
-    (λ fours. subst AreFours (sym after.ok) (fours_leaving true old.items fours))
+    (λ fours. subst AreFours (sym after.state) (fours_leaving true old.items fours))
 
 pub invariant_of-self-2 : goal.invariant_of-self-2
 invariant_of-self-2 g c =
@@ -42,13 +42,13 @@ invariant_of-self-2 g c =
     let fewer = unvisited_set i.visits c.args.cpu (omega arith) off in
     let after = c.in_ok-marked.ensures in
     let some : is_empty old.items ≡ false =
-    marked_some old.items c.in_ok-marked.marked after.marked c.if-not-marked.false in
-    let more = ap markers after.ok ∙ markers_entrained old.items some in
+    marked_some old.items c.in_ok-marked.marked after.answer c.if-not-marked.false in
+    let more = ap markers after.state ∙ markers_entrained old.items some in
     let flags = ap unvisited c.insert.ensures in
     relisted_in i.lists.items i.visits c.insert.new.self i.running i.queued i.markers
     (i.markers + 1) i.queued i.most c.args.cpu old c.entrain.new.self k.0 k.1 inside c.index_mut-list.ensures.value
     (ap length c.insert.ensures ∙ length-set i.visits c.args.cpu true) (omega arith) (omega arith) k.1.counted
-    (λ fours. subst AreFours (sym after.ok) (fours_leaving true old.items fours))
+    (λ fours. subst AreFours (sym after.state) (fours_leaving true old.items fours))
 
 pub invariant_of-self : goal.invariant_of-self
 invariant_of-self g c =
@@ -66,24 +66,24 @@ returns-in_err-marked-clause-unchanged g c =
     let p = err_from_is_err_and c.from_residual.result c.from_residual.ensures.1 in
     rw (p.1) (ap (λ l. record { lists = l; visited = i.visits; running = i.running; queued = i.queued; most = i.most }) same ∙ ap (λ v. v.all) c.self.view_is)
 
-pub returns-then-not-marked-clause-ok : goal.returns-then-not-marked-clause-ok
-returns-then-not-marked-clause-ok g c =
+pub returns-then-not-marked-clause-state : goal.returns-then-not-marked-clause-state
+returns-then-not-marked-clause-state g c =
     let i = c.self.inside in
     let inside : c.args.cpu < length (items_in i.lists.items) =
     subst (λ v. c.args.cpu < length v.all.lists) (sym c.self.view_is) c.requires in
     let put = changed_items after_entrain i.lists.items c.args.cpu c.index_mut-list.result.now c.entrain.new.self inside
-    c.index_mut-list.ensures.value c.in_ok-marked.ensures.ok in
+    c.index_mut-list.ensures.value c.in_ok-marked.ensures.state in
     let off : get_or i.visits c.args.cpu false ≡ false = sym c.contains.ensures ∙ c.if-contains.false in
     let flags = c.insert.ensures in
     rw (← c.self.view_is, off, put, flags) refl
 
-pub returns-clause-ok : goal.returns-clause-ok
-returns-clause-ok g c =
+pub returns-clause-state : goal.returns-clause-state
+returns-clause-state g c =
     let i = c.self.inside in
     let inside : c.args.cpu < length (items_in i.lists.items) =
     subst (λ v. c.args.cpu < length v.all.lists) (sym c.self.view_is) c.requires in
     let put = changed_items after_entrain i.lists.items c.args.cpu c.index_mut-list.result.now c.entrain.new.self inside
-    c.index_mut-list.ensures.value c.in_ok-marked.ensures.ok in
+    c.index_mut-list.ensures.value c.in_ok-marked.ensures.state in
     let off : get_or i.visits c.args.cpu false ≡ false = sym c.contains.ensures ∙ c.if-contains.false in
     let flags = c.insert.ensures in
     rw (← c.self.view_is, off, put, flags) refl
@@ -93,45 +93,30 @@ returns-in_err-marked-clause-room g c =
     let i = c.self.inside in
     let inside : c.args.cpu < length (items_in i.lists.items) =
     subst (λ v. c.args.cpu < length v.all.lists) (sym c.self.view_is) c.requires in
-    rw (← c.self.view_is)
-    (rooms_rise i.lists.items c.args.cpu c.index_mut-list.result.now c.entrain.new.self inside c.index_mut-list.ensures.value
-    c.entrain.ensures.room)
-
-pub returns-in_err-marked-clause-others : goal.returns-in_err-marked-clause-others
-returns-in_err-marked-clause-others g c =
-    let i = c.self.inside in
-    let inside : c.args.cpu < length (items_in i.lists.items) =
-    subst (λ v. c.args.cpu < length v.all.lists) (sym c.self.view_is) c.requires in
-    rw (← c.self.view_is) (other_rooms i.lists.items c.args.cpu c.entrain.new.self inside)
+    rw (← c.self.view_is) (record {
+      own = rooms_rise i.lists.items c.args.cpu c.index_mut-list.result.now c.entrain.new.self inside
+          c.index_mut-list.ensures.value c.entrain.ensures.room;
+      others = other_rooms i.lists.items c.args.cpu c.entrain.new.self inside;
+    })
 
 pub returns-then-not-marked-clause-room : goal.returns-then-not-marked-clause-room
 returns-then-not-marked-clause-room g c =
     let i = c.self.inside in
     let inside : c.args.cpu < length (items_in i.lists.items) =
     subst (λ v. c.args.cpu < length v.all.lists) (sym c.self.view_is) c.requires in
-    rw (← c.self.view_is)
-    (rooms_rise i.lists.items c.args.cpu c.index_mut-list.result.now c.entrain.new.self inside c.index_mut-list.ensures.value
-    c.entrain.ensures.room)
-
-pub returns-then-not-marked-clause-others : goal.returns-then-not-marked-clause-others
-returns-then-not-marked-clause-others g c =
-    let i = c.self.inside in
-    let inside : c.args.cpu < length (items_in i.lists.items) =
-    subst (λ v. c.args.cpu < length v.all.lists) (sym c.self.view_is) c.requires in
-    rw (← c.self.view_is) (other_rooms i.lists.items c.args.cpu c.entrain.new.self inside)
+    rw (← c.self.view_is) (record {
+      own = rooms_rise i.lists.items c.args.cpu c.index_mut-list.result.now c.entrain.new.self inside
+          c.index_mut-list.ensures.value c.entrain.ensures.room;
+      others = other_rooms i.lists.items c.args.cpu c.entrain.new.self inside;
+    })
 
 pub returns-clause-room : goal.returns-clause-room
 returns-clause-room g c =
     let i = c.self.inside in
     let inside : c.args.cpu < length (items_in i.lists.items) =
     subst (λ v. c.args.cpu < length v.all.lists) (sym c.self.view_is) c.requires in
-    rw (← c.self.view_is)
-    (rooms_rise i.lists.items c.args.cpu c.index_mut-list.result.now c.entrain.new.self inside c.index_mut-list.ensures.value
-    c.entrain.ensures.room)
-
-pub returns-clause-others : goal.returns-clause-others
-returns-clause-others g c =
-    let i = c.self.inside in
-    let inside : c.args.cpu < length (items_in i.lists.items) =
-    subst (λ v. c.args.cpu < length v.all.lists) (sym c.self.view_is) c.requires in
-    rw (← c.self.view_is) (other_rooms i.lists.items c.args.cpu c.entrain.new.self inside)
+    rw (← c.self.view_is) (record {
+      own = rooms_rise i.lists.items c.args.cpu c.index_mut-list.result.now c.entrain.new.self inside
+          c.index_mut-list.ensures.value c.entrain.ensures.room;
+      others = other_rooms i.lists.items c.args.cpu c.entrain.new.self inside;
+    })

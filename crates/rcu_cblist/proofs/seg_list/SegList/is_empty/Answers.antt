@@ -6,4 +6,4 @@ pub returns-clause-empty : goal.returns-clause-empty
 returns-clause-empty g c =
     let s = c.self.inside.segments in
     let ok = s.items.ok in
-    rw (← c.self.view_is) (c.is_empty.ensures ∙ seen_empty s s.items.len c.self.invariant (omega arith))
+    rw (← c.self.view_is) (c.is_empty.ensures ∙ seen_empty s s.items.len (omega arith))

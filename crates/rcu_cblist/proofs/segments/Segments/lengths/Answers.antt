@@ -6,7 +6,7 @@ use Rattle.rcu_cblist.proofs.segments.Segments.lengths.Goals as goal
 pub returns : goal.returns
 returns g c =
     let s = c.args.self.now in
-    let k = c.requires.kept in
+    let k = c.args.self.now.cut in
     let xs = s.items.items in
     let within = k.done_tail.within in
     let first : length (take s.done.items xs) ≡ s.done.items = omega (arith, length-take s.done.items xs) in

@@ -8,10 +8,10 @@ overflow_add-self g c =
     let few = calls_within s.items.items in
     let ok = s.items.ok in
     let small = s.items.small in
-    let counted = c.requires.kept.counted in
+    let counted = c.args.self.now.cut.counted in
     omega arith
 
-pub returns-clause-kept : goal.returns-clause-kept
-returns-clause-kept g c =
+pub invariant_of-self : goal.invariant_of-self
+invariant_of-self g c =
     let s = c.args.self.now in
-    rw c.push_back_reserved.ensures.items (pushed s.items.items c.args.call s.done s.wait s.ready s.calls s.wait_number s.ready_number c.requires.kept)
+    record { cut = rw c.push_back_reserved.ensures.items (pushed s.items.items c.args.call s.done s.wait s.ready s.calls s.wait_number s.ready_number c.args.self.now.cut) }

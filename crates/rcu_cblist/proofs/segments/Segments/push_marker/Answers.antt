@@ -1,7 +1,8 @@
 use Rattle.std.proofs.Common.{◌≡◌, ◌∷◌, ◌++◌, [], length, ◌∙◌, arith}
 use Rattle.rcu_cblist.specs.declared.kept.Kept.TheVariants as kept
-use Rattle.rcu_cblist.specs.Segments.{AreTails}
+use Rattle.rcu_cblist.specs.Cuts.{AreTails}
 use Rattle.rcu_cblist.proofs.Marking.{Marked, entrained, push_marked, some_kept}
+use Rattle.rcu_cblist.proofs.Refusals.{list_is}
 use Rattle.rcu_cblist.proofs.segments.Segments.push_marker.Goals as goal
 
 -- what the places are once the marker is there
@@ -15,7 +16,7 @@ ends : (g : _) (c : goal.After-pass_marker-3 g) →
     × Marked s.wait_number s.ready_number s.items.items ys s.done.items s.wait.items s.ready.items done.items wait.items ready.items
 ends g c =
     let s = c.args.self.now in
-    let k = c.requires.kept in
+    let k = c.args.self.now.cut in
     let xs = s.items.items in
     let some = some_kept s.wait_number s.ready_number s.done.items s.wait.items s.ready.items xs k.wait_behind k.ready_behind c.requires.some in
     let end : c.len-end.result ≡ length xs = (let ok = s.items.ok in let len = c.len-end.ensures in omega arith) in
@@ -24,9 +25,11 @@ ends g c =
     c.pass_marker.ensures.items c.pass_marker.ensures.calls c.pass_marker-2.ensures.items c.pass_marker-2.ensures.calls
     c.pass_marker-3.ensures.items c.pass_marker-3.ensures.calls
 
-pub returns-clause-kept : goal.returns-clause-kept
-returns-clause-kept g c = rw c.push_back_reserved.ensures.items (ends g c).0
+pub invariant_of-self : goal.invariant_of-self
+invariant_of-self g c = record { cut = rw c.push_back_reserved.ensures.items (ends g c).0 }
 
-pub returns-clause-items : goal.returns-clause-items
-returns-clause-items g c =
-    rw c.push_back_reserved.ensures.items ((ends g c).1.seen ∙ entrained _ c.requires.some)
+pub returns : goal.returns
+returns g c =
+    list_is _ _ _ _
+    (rw c.push_back_reserved.ensures.items ((ends g c.before).1.seen ∙ entrained _ c.requires.some))
+    c.push_back_reserved.ensures.capacity

@@ -1,0 +1,39 @@
+-- Where a sequence of items is cut into four segments, and what is kept of that.
+use Rattle.std.specs.Prelude.{ℕ, ◌<◌, ◌≤◌, ◌≡◌, false, List, length, take, drop}
+use Rattle.rcu_seq.specs.Numbers.{Number}
+use Rattle.rcu_cblist.specs.SegList.{begins_with_marker, callbacks}
+use Rattle.rcu_cblist.specs.Kept.{unmarked}
+use Rattle.rcu_cblist.specs.declared.kept.Kept.{Kept}
+use Rattle.rcu_cblist.specs.declared.tail.Tail.{Tail}
+
+module _ {X : Type 0} where
+  -- the items from one place to another
+  abbrev pub between : ℕ → ℕ → List (Kept X) → List (Kept X)
+  between i j xs = drop i (take j xs)
+
+  -- four segments: the third has items only where the second has, and the lower number is the
+  -- second's; none begins with a marker
+  pub record AreSegments (a b : Number) (done wait ready next : List (Kept X)) : Type 0 where
+    pub filled : 0 < length ready → 0 < length wait
+    pub ascending : 0 < length ready → a < b
+    pub done_first : begins_with_marker (unmarked done) ≡ false
+    pub wait_first : begins_with_marker (unmarked wait) ≡ false
+    pub ready_first : begins_with_marker (unmarked ready) ≡ false
+    pub next_first : begins_with_marker (unmarked next) ≡ false
+
+  -- a place in a list, with as many callbacks before it as it says
+  pub record IsTail (xs : List (Kept X)) (tail : Tail) : Type 0 where
+    pub within : tail.items ≤ length xs
+    pub calls : tail.calls ≡ length (callbacks (unmarked (take tail.items xs)))
+
+  -- tail places that cut a list into segments
+  pub record AreTails (xs : List (Kept X)) (done wait ready : Tail) (calls : ℕ) (a b : Number) :
+      Type 0 where
+    pub done_tail : IsTail xs done
+    pub wait_tail : IsTail xs wait
+    pub ready_tail : IsTail xs ready
+    pub counted : calls ≡ length (callbacks (unmarked xs))
+    pub wait_behind : done.items ≤ wait.items
+    pub ready_behind : wait.items ≤ ready.items
+    pub segments : AreSegments a b (take done.items xs) (between done.items wait.items xs)
+        (between wait.items ready.items xs) (drop ready.items xs)
