@@ -1,5 +1,6 @@
 -- Numbers counted on over all epochs.
-use Rattle.std.proofs.Common.{◌≡◌, ℕ, ◌+◌, ◌*◌, ◌<◌, ◌≤◌, Bool, true, false, [], ◌∷◌, None, refl, sym, ap, ap₂, ◌∙◌, arith, cond}
+use Rattle.std.proofs.Common.{◌≡◌, ℕ, ◌+◌, ◌*◌, ◌<◌, ◌≤◌, Bool, true, false, [], ◌∷◌, None, refl}
+use Rattle.std.proofs.Common.{sym, ap, ap₂, ◌∙◌, arith, cond}
 use Rattle.std.specs.Prelude.{count_by, nat_lt, ◌&&◌}
 use Rattle.std.proofs.lemmas.Bool.Decides.{nat_tests}
 use Rattle.std.proofs.lemmas.List.Sums.{sum_by-cons}
@@ -9,10 +10,11 @@ use Rattle.rcu_seq.specs.declared.tag.Tag.{Tag}
 use Rattle.std.proofs.Common.{◌%◌, Some, not, inl, inr}
 use Rattle.std.proofs.lemmas.Bool.{cases_Bool, true≢false}
 use Rattle.rcu_seq.specs.declared.fault.Fault.TheVariants as fault
-use Rattle.rcu_seq.proofs.Clocks.{before_by_clock, before_same, by_fours, done_by_clock, done_same, is_before_from}
-use Rattle.rcu_seq.proofs.Clocks.{last_fours, next_epoch}
+use Rattle.rcu_seq.proofs.Clocks.{before_by_clock, before_same, by_fours, done_by_clock, done_same}
+use Rattle.rcu_seq.proofs.Clocks.{is_before_from, last_fours, next_epoch}
 use Rattle.rcu_state.proofs.Periods.{running_number}
-use Rattle.rcu_core.specs.History.{History, ends, enters, depth, ends_in_epoch, epoch, number, opening, renumbers, running, tag_now}
+use Rattle.rcu_core.specs.History.{History, ends, enters, depth, ends_in_epoch, epoch, number}
+use Rattle.rcu_core.specs.History.{opening, renumbers, running, tag_now}
 use Rattle.std.specs.Prelude.{◌==◌}
 use Rattle.rcu_core.specs.Replies.{Size, fault_in, AreAccepted}
 use Rattle.rcu_core.specs.Situation.{situation}
@@ -27,8 +29,9 @@ clock h = number_at (count_by ends h) (running h)
 pub renumber_counts : (h : History) → epoch (Renumber ∷ h) ≡ 1 + epoch h
 renumber_counts h = sum_by-cons (λ e. cond (renumbers e) 1 0) Renumber h
 
--- the clock counts on what the number counts in its epoch, since each epoch that has passed had as many grace periods as
--- the last number says; and the number is at most that. Where the last number is none, all is in the first epoch
+-- the clock counts on what the number counts in its epoch, since each epoch that has passed had as
+-- many grace periods as the last number says; and the number is at most that. Where the last number
+-- is none, all is in the first epoch
 pub record InEpoch (s : Size) (h : History) : Type 0 where
   pub ticks : clock h ≡ clock_of s.last (tag_now h)
   pub within : is_last s.last ≡ true → number h ≤ s.last
@@ -66,7 +69,9 @@ in_epoch_step s Renumber h p t i =
     turned n = omega arith
 
     none_so : (a b c d : Bool)
-        → cond a (Some fault.Running) (cond (not (b && c)) (Some fault.NotLast) (cond d (Some fault.Exhausted) None)) ≡ None
+        → cond a (Some fault.Running)
+        (cond (not (b && c)) (Some fault.NotLast) (cond d (Some fault.Exhausted) None))
+        ≡ None
         → b ≡ true
     none_so true b c d p = absurd (cc)
     none_so false true c d p = refl
@@ -88,16 +93,20 @@ base_is_by_fours s h p = elim (cases_Bool (is_last s.last)) [
     none last = omega arith
 
 -- the history at the opening of a section is one of accepted events
-accepted_if : (s : Size) (b : Bool) (x y : History) → AreAccepted s x → AreAccepted s y → AreAccepted s (cond b x y)
+accepted_if : (s : Size) (b : Bool) (x y : History) → AreAccepted s x → AreAccepted s y
+    → AreAccepted s (cond b x y)
 accepted_if s true x y p q = p
 accepted_if s false x y p q = q
 
-pub opening_accepted : (s : Size) (c : ℕ) (h : History) → AreAccepted s h → AreAccepted s (opening c h)
+pub opening_accepted : (s : Size) (c : ℕ) (h : History) → AreAccepted s h
+    → AreAccepted s (opening c h)
 opening_accepted s c [] p = p
 opening_accepted s c (e ∷ h) p =
-    accepted_if s (enters c e && depth c h == 0) (e ∷ h) (opening c h) p (opening_accepted s c h p.1)
+    accepted_if s (enters c e && depth c h == 0) (e ∷ h) (opening c h) p
+    (opening_accepted s c h p.1)
 
-first_done : (last : ℕ) (t n : Tag) → t.epoch ≡ 0 → n.epoch ≡ 0 → is_done_at last (cookie_at t) n ≡ true
+first_done : (last : ℕ) (t n : Tag)
+    → t.epoch ≡ 0 → n.epoch ≡ 0 → is_done_at last (cookie_at t) n ≡ true
     → snapshot (clock_of last t) ≤ clock_of last n
 first_done last t n e f d =
     let a : t.epoch * last ≡ 0 = ap (λ k. k * last) e ∙ omega arith in
@@ -127,22 +136,28 @@ pub before_ticks : (s : Size) (g h : History) → AreAccepted s g → AreAccepte
 before_ticks s g h p q r =
     let i = in_epoch s g p in let j = in_epoch s h q in
     (elim (cases_Bool (is_last s.last)) [
-      | inl l ↦ before_by_clock s.last (tag_now g) (tag_now h) (i.within l) (running_number (ends_in_epoch h) (running h) r) (j.within l)
-      | inr l ↦ before_same (epoch g * s.last) (tag_now g) (tag_now h) (i.alone l ∙ sym (j.alone l))
-          ∙ ap (λ n. nat_lt (epoch g * s.last + number g) (n * s.last + number h)) (i.alone l ∙ sym (j.alone l))
+      | inl l ↦ before_by_clock s.last (tag_now g) (tag_now h) (i.within l)
+          (running_number (ends_in_epoch h) (running h) r) (j.within l)
+      | inr l ↦
+          before_same (epoch g * s.last) (tag_now g) (tag_now h) (i.alone l ∙ sym (j.alone l))
+          ∙ ap (λ n. nat_lt (epoch g * s.last + number g) (n * s.last + number h))
+          (i.alone l ∙ sym (j.alone l))
     ])
     ∙ ap₂ (λ a b. nat_lt a b) (sym i.ticks) (sym j.ticks)
 
 -- a lower clock is that of a tag before
-pub before_where_lower : (s : Size) (t : Tag) (h : History) → AreAccepted s h → (is_last s.last ≡ false → t.epoch ≡ 0)
-    → clock_of s.last t < clock h → is_before t (tag_now h) ≡ true
+pub before_where_lower : (s : Size) (t : Tag) (h : History)
+    → AreAccepted s h → (is_last s.last ≡ false → t.epoch ≡ 0) → clock_of s.last t < clock h
+    → is_before t (tag_now h) ≡ true
 before_where_lower s t h p alone l =
     let j = in_epoch s h p in
     let m : clock_of s.last t < clock_of s.last (tag_now h) = rw j.ticks at l in
     elim (cases_Bool (is_last s.last)) [
       | inl k ↦ is_before_from s.last t (tag_now h) (j.within k) m
-      | inr k ↦ (let same = alone k ∙ sym (j.alone k) in
+      | inr k ↦
+          (let same = alone k ∙ sym (j.alone k) in
           let q = ap (λ n. n * s.last) same in
-          let low : nat_lt (t.epoch * s.last + t.number) (t.epoch * s.last + number h) ≡ true = grind (arith, nat_tests, q, m) in
+          let low : nat_lt (t.epoch * s.last + t.number) (t.epoch * s.last + number h) ≡ true =
+          grind (arith, nat_tests, q, m) in
           before_same (t.epoch * s.last) t (tag_now h) same ∙ low)
     ]

@@ -1,6 +1,7 @@
 -- Counts and lists of the processors that pass a test.
-use Rattle.std.proofs.Common.{◌≡◌, ℕ, ◌+◌, ◌<◌, ◌≤◌, Bool, true, false, not, cond, List, [], ◌∷◌, ◌++◌, length, get_or}
-use Rattle.std.proofs.Common.{zero, suc, inl, inr, refl, sym, ap, ◌∙◌, append-nil, arith}
+use Rattle.std.proofs.Common.{◌≡◌, ℕ, ◌+◌, ◌<◌, ◌≤◌, Bool, true, false, not, cond, List, [], ◌∷◌}
+use Rattle.std.proofs.Common.{◌++◌, length, get_or, zero, suc, inl, inr, refl, sym, ap, ◌∙◌}
+use Rattle.std.proofs.Common.{append-nil, arith}
 use Rattle.std.proofs.Math.Nat.{eq-or-lt_of_le}
 use Rattle.std.proofs.lemmas.List.{length-append}
 use Rattle.std.specs.Prelude.{filter, count_by, sum_by}
@@ -17,7 +18,8 @@ use Rattle.rcu_barrier.specs.Lists.{markers_in, unvisited}
 pub markers_of_each : (lists : List (List (Item ℕ))) (n : ℕ) → n ≡ length lists
     → sum_by (λ c. markers (get_or lists c [])) (range_with_len 0 n) ≡ markers_in lists
 markers_of_each lists n e =
-    sym (sum_by-map (λ (xs : List (Item ℕ)). markers xs) (λ c. get_or lists c []) (range_with_len 0 n))
+    sym
+    (sum_by-map (λ (xs : List (Item ℕ)). markers xs) (λ c. get_or lists c []) (range_with_len 0 n))
     ∙ ap (λ (ls : List (List (Item ℕ))). sum_by (λ (xs : List (Item ℕ)). markers xs) ls)
     (sym (fill_by_all (λ c. get_or lists c []) lists n [] (sym e) (λ k lt. refl)))
 
@@ -34,23 +36,26 @@ at_most_none true n le e = absurd (omega arith)
 at_most_none false n le e = refl
 
 -- where no processor passes a test, each of them fails it
-pub none_passes : (n : ℕ) (p : ℕ → Bool) → count_by p (range_with_len 0 n) ≡ 0 → (c : ℕ) → c < n → p c ≡ false
+pub none_passes : (n : ℕ) (p : ℕ → Bool) → count_by p (range_with_len 0 n) ≡ 0 → (c : ℕ) → c < n
+    → p c ≡ false
 none_passes n p e c lt =
     let here : c < length (range_with_len 0 n) = omega (arith, length-range_with_len 0 n) in
-    let le : cond (p (get_or (range_with_len 0 n) c 0)) 1 0 ≤ count_by p (range_with_len 0 n) = get_or-le-sum_by
-    (λ k. cond (p k) 1 0) (range_with_len 0 n) c 0 here in
+    let le : cond (p (get_or (range_with_len 0 n) c 0)) 1 0 ≤ count_by p (range_with_len 0 n) =
+    get_or-le-sum_by (λ k. cond (p k) 1 0) (range_with_len 0 n) c 0 here in
     let at : get_or (range_with_len 0 n) c 0 ≡ c = get_or-range_with_len 0 n c 0 lt ∙ omega arith in
     at_most_none (p c) _ (rw at at le) e
 
 -- one processor more, which passes
-pub which_yes : (p : ℕ → Bool) (n : ℕ) (old new : List ℕ) → p n ≡ true → old ≡ filter p (range_with_len 0 n)
-    → new ≡ old ++ n ∷ [] → new ≡ filter p (range_with_len 0 (n + 1))
+pub which_yes : (p : ℕ → Bool) (n : ℕ) (old new : List ℕ)
+    → p n ≡ true → old ≡ filter p (range_with_len 0 n) → new ≡ old ++ n ∷ []
+    → new ≡ filter p (range_with_len 0 (n + 1))
 which_yes p n old new passes so_far grown = grown ∙ ap (λ (l : List ℕ). l ++ n ∷ []) so_far
     ∙ sym (filter-range_more p n ∙ rw passes refl)
 
 -- one processor more, which fails
-pub which_no : (p : ℕ → Bool) (n : ℕ) (old new : List ℕ) → p n ≡ false → old ≡ filter p (range_with_len 0 n)
-    → new ≡ old → new ≡ filter p (range_with_len 0 (n + 1))
+pub which_no : (p : ℕ → Bool) (n : ℕ) (old new : List ℕ)
+    → p n ≡ false → old ≡ filter p (range_with_len 0 n) → new ≡ old
+    → new ≡ filter p (range_with_len 0 (n + 1))
 which_no p n old new fails so_far same = same ∙ so_far
     ∙ sym (filter-range_more p n ∙ rw fails (append-nil (filter p (range_with_len 0 n))))
 

@@ -1,4 +1,3 @@
-pub mod Changes
 pub mod Clocks
 pub mod Counting
 pub mod Covered
@@ -20,7 +19,6 @@ pub mod SinceQueueing
 pub mod Situations
 pub mod Sound
 pub mod Steps
-pub mod Timely
 pub mod Waited
 pub mod Wanted
 pub mod Writes

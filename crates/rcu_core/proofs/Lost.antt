@@ -16,19 +16,23 @@ use Rattle.rcu_core.proofs.Once.{lies_below, queued_once, sum_below}
 use Rattle.rcu_core.proofs.Readers.{possible}
 
 -- a sum over the processors, from the last one and from the first
-sums_are : (n : ℕ) (f g : ℕ → ℕ) → ((c : ℕ) → f c ≡ g c) → sum_by f (range_with_len 0 n) ≡ sum_below n g
+sums_are : (n : ℕ) (f g : ℕ → ℕ) → ((c : ℕ) → f c ≡ g c)
+    → sum_by f (range_with_len 0 n) ≡ sum_below n g
 sums_are zero f g e = refl
 sums_are (suc n) f g e =
     let one = e n in let rest = sums_are n f g e in
-    ap (λ (xs : List ℕ). sum_by f xs) (range_last 0 n n (omega arith)) ∙ sum_by_push f (range_with_len 0 n) n ∙ omega
-    (arith, one, rest)
+    ap (λ (xs : List ℕ). sum_by f xs) (range_last 0 n n (omega arith))
+    ∙ sum_by_push f (range_with_len 0 n) n
+    ∙ omega (arith, one, rest)
 
 listed_are : (n j : ℕ) (h : History) → times_listed n j h ≡ lies_below n j h
 listed_are n j h =
-    sums_are n (λ c. copies j (callbacks (list c h))) (λ c. lies j (list c h)) (λ c. copies_are j (list c h))
+    sums_are n (λ c. copies j (callbacks (list c h))) (λ c. lies j (list c h))
+    (λ c. copies_are j (list c h))
 
-pub no_loss : (s : Size) (run : Trace) (j : ℕ) → IsLegalRun s run → 0 < j → j ≤ queue_count (history run)
+pub no_loss : (s : Size) (run : Trace) (j : ℕ)
+    → IsLegalRun s run → 0 < j → j ≤ queue_count (history run)
     → times_handed_out j (history run) + times_listed s.cpus j (history run) ≡ 1
 no_loss s run j l z b =
-    ap (λ n. times_handed_out j (history run) + n) (listed_are s.cpus j (history run)) ∙ queued_once s j (history run)
-    (possible s run l) z b
+    ap (λ n. times_handed_out j (history run) + n) (listed_are s.cpus j (history run))
+    ∙ queued_once s j (history run) (possible s run l) z b

@@ -1,19 +1,20 @@
--- A callback stays what it was at its queueing, and who reads when it is handed out began after that.
-use Rattle.std.proofs.Common.{◌≡◌, ℕ, ◌+◌, ◌<◌, ◌≤◌, Bool, true, false, ◌&&◌, List, [], ◌∷◌, ◌++◌, length}
-use Rattle.std.proofs.Common.{Some, refl, subst, arith, cond, eqb, ne_eqb, slice_get, map, inl, inr}
+-- A callback stays what it was at its queueing, and who reads when it is handed out began after
+-- that.
+use Rattle.std.proofs.Common.{◌≡◌, ℕ, ◌+◌, ◌<◌, ◌≤◌, Bool, true, false, ◌&&◌, List, [], ◌∷◌, ◌++◌}
+use Rattle.std.proofs.Common.{length, Some, refl, subst, arith, cond, eqb, ne_eqb, slice_get, map}
+use Rattle.std.proofs.Common.{inl, inr}
 use Rattle.std.specs.Prelude.{All}
 use Rattle.std.proofs.lemmas.Bool.{cases_eq}
 use Rattle.std.proofs.lemmas.Bool.Decides.{nat_tests}
 use Rattle.std.proofs.lemmas.List.{length-map}
-use Rattle.std.proofs.lemmas.List.Elements.{All-nil, All-cons, All-head, All-tail, All-push, All-weaker}
-use Rattle.std.proofs.lemmas.List.Elements.{All-take, All-map}
+use Rattle.std.proofs.lemmas.List.Elements.{All-nil, All-cons, All-head, All-tail, All-push}
+use Rattle.std.proofs.lemmas.List.Elements.{All-weaker, All-take, All-map}
 use Rattle.rcu_seq.specs.Numbers.{snapshot}
 use Rattle.rcu_seq.specs.Tags.{clock_of, is_before}
 use Rattle.rcu_cblist.specs.SegList.{mark_renumbered}
 use Rattle.rcu_cblist.specs.declared.queued.Queued.{Queued}
-use Rattle.rcu_cblist.specs.SegList.{Item, Of, Marker, Mark, Unmarked, callbacks, front, after_migrate, remarked}
-use Rattle.rcu_cblist.specs.SegList.{take_answer, after_take}
-use Rattle.rcu_cblist.specs.SegList.{as_it_leaves}
+use Rattle.rcu_cblist.specs.SegList.{Item, Of, Marker, Mark, Unmarked, callbacks, front}
+use Rattle.rcu_cblist.specs.SegList.{after_migrate, remarked, take_answer, after_take, as_it_leaves}
 use Rattle.rcu_barrier.specs.Tending.{mark_after_tend, after_tend}
 use Rattle.rcu_core.specs.Callbacks.{handed_out, is_owed, list, queue_count}
 use Rattle.rcu_core.specs.History.{History, depth, enters, epoch, number, opening, section, tag_now}
@@ -21,15 +22,18 @@ use Rattle.rcu_core.specs.Links.{queued_as}
 use Rattle.rcu_core.specs.Replies.{Size, AreAccepted}
 use Rattle.rcu_core.specs.Runs.{IsLegalRun, history, Run as Trace}
 use Rattle.rcu_core.specs.declared.event.Event.{Event}
-use Rattle.rcu_core.specs.declared.event.Event.TheVariants.{Enter, Offline, Queue, Tend, Run, Visit, Renumber}
+use Rattle.rcu_core.specs.declared.event.Event.TheVariants.{Enter, Offline, Queue, Tend, Run, Visit}
+use Rattle.rcu_core.specs.declared.event.Event.TheVariants.{Renumber}
 use Rattle.rcu_core.specs.declared.reply.Reply.TheVariants as reply
-use Rattle.rcu_core.proofs.Clocks.{before_where_lower, clock, in_epoch, opening_accepted, renumber_counts}
+use Rattle.rcu_core.proofs.Clocks.{before_where_lower, clock, in_epoch, opening_accepted}
+use Rattle.rcu_core.proofs.Clocks.{renumber_counts}
 use Rattle.rcu_core.proofs.Facts.{Facts, facts}
 use Rattle.rcu_core.proofs.Kept.{queue_counts}
 use Rattle.rcu_core.proofs.Readers.{Open, open_from, possible}
 use Rattle.rcu_state.proofs.Timely.{all_at}
-use Rattle.rcu_core.proofs.Waited.{Waited, each_cond, each_from, each_front, each_leaving, each_moved}
-use Rattle.rcu_core.proofs.Waited.{front_waited, lists_kept, clock_at_queueing, ran_values}
+use Rattle.rcu_core.proofs.Waited.{Waited, each_cond, each_from, each_front, each_leaving}
+use Rattle.rcu_core.proofs.Waited.{each_moved, front_waited, lists_kept, clock_at_queueing}
+use Rattle.rcu_core.proofs.Waited.{ran_values}
 use Rattle.rcu_core.proofs.Writes.{eqb_self}
 
 -- the callback was queued, and is what it was then
@@ -49,41 +53,52 @@ call_stays (Queue c y) h call k =
     let other = ne_eqb (queue_count h + 1) call.ord (λ i. absurd (omega (arith, i, w))) in
     record { was = omega (arith, n, w); found = rw other k.found; epoch = k.epoch }
 call_stays Renumber h call k =
-    let n = renumber_counts h in let le = k.epoch in record { was = k.was; found = k.found; epoch = omega (arith, n, le) }
+    let n = renumber_counts h in
+    let le = k.epoch in record { was = k.was; found = k.found; epoch = omega (arith, n, le) }
 call_stays _ h call k = record { was = k.was; found = k.found; epoch = k.epoch }
 
 stays : (e : Event) (h : History) (x : Item ℕ) → IsAsQueued h x → IsAsQueued (e ∷ h) x
 stays e h (Of call mark) k = call_stays e h call k
 stays e h Marker k = tt
 
-remarked_stays : (h : History) (f : Mark → Mark) (x : Item ℕ) → IsAsQueued h x → IsAsQueued h (remarked f x)
+remarked_stays : (h : History) (f : Mark → Mark) (x : Item ℕ) → IsAsQueued h x
+    → IsAsQueued h (remarked f x)
 remarked_stays h f (Of call mark) k = k
 remarked_stays h f Marker k = tt
 
 queued_now : (c y : ℕ) (h : History)
     → AsQueued (Queue c y ∷ h) (record { ord = queue_count h + 1; at = tag_now h; value = y })
 queued_now c y h =
-    let n = queue_counts c y h in record { was = omega (arith, n); found = rw (eqb_self (queue_count h + 1)) refl; epoch = omega arith }
+    let n = queue_counts c y h in
+    record {
+      was = omega (arith, n);
+      found = rw (eqb_self (queue_count h + 1)) refl;
+      epoch = omega arith;
+    }
 
 lists_step : (e : Event) (h : History) → ((c : ℕ) → All (IsAsQueued h) (list c h)) → (c : ℕ)
     → All (IsAsQueued (e ∷ h)) (list c (e ∷ h))
 lists_step (Queue d y) h a c =
-    let P = IsAsQueued (Queue d y ∷ h) in let b = All-weaker (IsAsQueued h) P (stays (Queue d y) h) (list c h) (a c) in
-    each_cond P (eqb d c) (list c h ++ Of (record { ord = queue_count h + 1; at = tag_now h; value = y }) Unmarked ∷ [])
-    (list c h)
-    (All-push P (list c h) _ b (queued_now d y h)) b
+    let P = IsAsQueued (Queue d y ∷ h) in
+    let b = All-weaker (IsAsQueued h) P (stays (Queue d y) h) (list c h) (a c) in
+    each_cond P (eqb d c)
+    (list c h ++ Of (record { ord = queue_count h + 1; at = tag_now h; value = y }) Unmarked ∷ [])
+    (list c h) (All-push P (list c h) _ b (queued_now d y h)) b
 lists_step (Tend d) h a c =
-    let P = IsAsQueued (Tend d ∷ h) in let b = All-weaker (IsAsQueued h) P (stays (Tend d) h) (list c h) (a c) in
+    let P = IsAsQueued (Tend d ∷ h) in
+    let b = All-weaker (IsAsQueued h) P (stays (Tend d) h) (list c h) (a c) in
     let change = remarked (mark_after_tend (number h)) in
     let same = remarked_stays (Tend d ∷ h) (mark_after_tend (number h)) in
     each_cond P (eqb d c) (after_tend (list c h) (number h)) (list c h)
     (All-map P change (list c h) (All-weaker P (λ x. P (change x)) same (list c h) b)) b
 lists_step (Run d m) h a c =
-    let P = IsAsQueued (Run d m ∷ h) in let b = All-weaker (IsAsQueued h) P (stays (Run d m) h) (list c h) (a c) in
+    let P = IsAsQueued (Run d m ∷ h) in
+    let b = All-weaker (IsAsQueued h) P (stays (Run d m) h) (list c h) (a c) in
     each_cond P (eqb d c) (after_take (list c h) m) (list c h)
     (each_from P (length (take_answer (list c h) m)) (list c h) b) b
 lists_step (Visit d) h a c =
-    let P = IsAsQueued (Visit d ∷ h) in let b = All-weaker (IsAsQueued h) P (stays (Visit d) h) (list c h) (a c) in
+    let P = IsAsQueued (Visit d ∷ h) in
+    let b = All-weaker (IsAsQueued h) P (stays (Visit d) h) (list c h) (a c) in
     each_cond P (eqb d c) (as_it_leaves (list c h) (is_owed d h)) (list c h)
     (each_leaving P (is_owed d h) (list c h) tt b) b
 lists_step (Offline d) h a c =
@@ -95,7 +110,8 @@ lists_step (Offline d) h a c =
     (each_moved P xs (list c h) (remarked_stays (Offline d ∷ h) (λ _. Unmarked))
     (each_leaving P (is_owed d h) (list d h) tt (b d)) (b c)) (b c))
 lists_step Renumber h a c =
-    let P = IsAsQueued (Renumber ∷ h) in let b = All-weaker (IsAsQueued h) P (stays Renumber h) (list c h) (a c) in
+    let P = IsAsQueued (Renumber ∷ h) in
+    let b = All-weaker (IsAsQueued h) P (stays Renumber h) (list c h) (a c) in
     let change = remarked mark_renumbered in
     All-map P change (list c h)
     (All-weaker P (λ x. P (change x)) (remarked_stays (Renumber ∷ h) mark_renumbered) (list c h) b)
@@ -105,15 +121,17 @@ all_as_queued : (h : History) (c : ℕ) → All (IsAsQueued h) (list c h)
 all_as_queued [] c = All-nil (IsAsQueued [])
 all_as_queued (e ∷ h) c = lists_step e h (all_as_queued h) c
 
-callbacks_as_queued : (h : History) (xs : List (Item ℕ)) → All (IsAsQueued h) xs → All (AsQueued h) (callbacks xs)
+callbacks_as_queued : (h : History) (xs : List (Item ℕ)) → All (IsAsQueued h) xs
+    → All (AsQueued h) (callbacks xs)
 callbacks_as_queued h [] a = All-nil (AsQueued h)
-callbacks_as_queued h (Marker ∷ xs) a = callbacks_as_queued h xs (All-tail (IsAsQueued h) Marker xs a)
+callbacks_as_queued h (Marker ∷ xs) a =
+    callbacks_as_queued h xs (All-tail (IsAsQueued h) Marker xs a)
 callbacks_as_queued h (Of call mark ∷ xs) a =
     All-cons (AsQueued h) call (callbacks xs) (All-head (IsAsQueued h) (Of call mark) xs a)
     (callbacks_as_queued h xs (All-tail (IsAsQueued h) (Of call mark) xs a))
 
-handed_as_queued : (h : History) (c m k : ℕ) (call : Queued ℕ) → slice_get (handed_out c m h) k ≡ Some call
-    → AsQueued h call
+handed_as_queued : (h : History) (c m k : ℕ) (call : Queued ℕ)
+    → slice_get (handed_out c m h) k ≡ Some call → AsQueued h call
 handed_as_queued h c m k call e =
     let done = front (list c h) in
     let as_queued = each_front (IsAsQueued h) (list c h) (all_as_queued h c) in
@@ -121,12 +139,13 @@ handed_as_queued h c m k call e =
     (All-take (AsQueued h) m (callbacks done) (callbacks_as_queued h done as_queued)) e
 
 -- each callback that a run hands out is one that was queued
-pub handed_was_queued : (s : Size) (run : Trace) (c m k : ℕ) (call : Queued ℕ) → IsLegalRun s run
-    → slice_get (handed_out c m (history run)) k ≡ Some call → queued_as call.ord (history run) ≡ Some call
+pub handed_was_queued : (s : Size) (run : Trace) (c m k : ℕ) (call : Queued ℕ)
+    → IsLegalRun s run → slice_get (handed_out c m (history run)) k ≡ Some call
+    → queued_as call.ord (history run) ≡ Some call
 handed_was_queued s run c m k call l e = (handed_as_queued (history run) c m k call e).found
 
-same_length : (values : List ℕ) (calls : List (Queued ℕ)) → values ≡ map (λ (call : Queued ℕ). call.value) calls
-    → length values ≡ length calls
+same_length : (values : List ℕ) (calls : List (Queued ℕ))
+    → values ≡ map (λ (call : Queued ℕ). call.value) calls → length values ≡ length calls
 same_length values calls i = rw i (length-map calls (λ (call : Queued ℕ). call.value))
 
 pub as_many_values : (s : Size) (run : Trace) (c m : ℕ) (values : List ℕ)
@@ -139,19 +158,23 @@ waited_when_handed : (s : Size) (h : History) (c m k : ℕ) (call : Queued ℕ) 
     → slice_get (handed_out c m h) k ≡ Some call → Waited s h call
 waited_when_handed s h c m k call p e =
     all_at (Waited s h) (handed_out c m h) k call
-    (All-take (Waited s h) m (callbacks (front (list c h))) (front_waited s h (list c h) (lists_kept s h p c))) e
+    (All-take (Waited s h) m (callbacks (front (list c h)))
+    (front_waited s h (list c h) (lists_kept s h p c)))
+    e
 
 later_clock : (at opened now : ℕ) → snapshot at ≤ now → now < snapshot opened → at < opened
 later_clock at opened now l b = omega arith
 
-opened_later : (s : Size) (h x : History) (reader : ℕ) (call : Queued ℕ) → Facts s reader h → Waited s h call
-    → Open reader h x → clock_of s.last call.at < clock x
+opened_later : (s : Size) (h x : History) (reader : ℕ) (call : Queued ℕ)
+    → Facts s reader h → Waited s h call → Open reader h x → clock_of s.last call.at < clock x
 opened_later s h x reader call f w o =
     let b : clock h < snapshot (clock x) = rw o.at at (f.below_snap o.deep) in
     later_clock (clock_of s.last call.at) (clock x) (clock h) w.reached b
 
-opened_later_run : (s : Size) (run : Trace) (c m k reader : ℕ) (call : Queued ℕ) (opened : History) → IsLegalRun s run
-    → slice_get (handed_out c m (history run)) k ≡ Some call → section reader (history run) ≡ Some opened
+opened_later_run : (s : Size) (run : Trace) (c m k reader : ℕ) (call : Queued ℕ) (opened : History)
+    → IsLegalRun s run
+    → slice_get (handed_out c m (history run)) k ≡ Some call
+    → section reader (history run) ≡ Some opened
     → clock_of s.last call.at < clock opened
 opened_later_run s run c m k reader call opened l e o =
     let p = possible s run l in
@@ -159,11 +182,14 @@ opened_later_run s run c m k reader call opened l e o =
     (waited_when_handed s (history run) c m k call p e)
     (open_from reader (history run) opened o)
 
--- a section that is open when a callback is handed out was opened at a later number than that of the queueing
-pub readers_are_later : (s : Size) (run : Trace) (c m k reader : ℕ) (call : Queued ℕ) (opened : History)
+-- a section that is open when a callback is handed out was opened at a later number than that of
+-- the queueing
+pub readers_are_later : (s : Size) (run : Trace) (c m k reader : ℕ) (call : Queued ℕ)
+    (opened : History)
     → IsLegalRun s run
-    → slice_get (handed_out c m (history run)) k ≡ Some call → section reader
-    (history run) ≡ Some opened → is_before call.at (tag_now opened) ≡ true
+    → slice_get (handed_out c m (history run)) k ≡ Some call
+    → section reader (history run) ≡ Some opened
+    → is_before call.at (tag_now opened) ≡ true
 readers_are_later s run c m k reader call opened l e o =
     let p = possible s run l in
     let x = open_from reader (history run) opened o in
@@ -185,15 +211,16 @@ queued_before : (s : Size) (c j : ℕ) (h : History) → AreAccepted s h → j �
     → clock_at_queueing j h < clock (opening c h) → j ≤ queue_count (opening c h)
 queued_before s c j [] p q l = q
 queued_before s c j (Enter d ∷ h) p q l =
-    pick (enters c (Enter d) && eqb (depth c h) 0) (Enter d ∷ h) (opening c h) j (clock_at_queueing j h) q
-    (queued_before s c j h p.1 q) l
+    pick (enters c (Enter d) && eqb (depth c h) 0) (Enter d ∷ h) (opening c h) j
+    (clock_at_queueing j h) q (queued_before s c j h p.1 q) l
 queued_before s c j (Queue d y ∷ h) p q l =
     let n = queue_counts d y h in
     let f = (facts s c h p.1).opening_le in
     let at = λ (b : Bool). cond b (clock h) (clock_at_queueing j h) in
     elim (cases_eq (queue_count h + 1) j) [
       | inl i ↦
-          let u : clock h < clock (opening c h) = subst (λ b. at b < clock (opening c h)) (same i) l in
+          let u : clock h < clock (opening c h) =
+          subst (λ b. at b < clock (opening c h)) (same i) l in
           absurd (omega (arith, u, f))
       | inr i ↦
           let before = subst (λ b. at b < clock (opening c h)) (ne_eqb (queue_count h + 1) j i) l in
@@ -204,18 +231,25 @@ queued_before s c j (Queue d y ∷ h) p q l =
     same {a} {b} i = grind (arith, nat_tests)
 queued_before s c j (_ ∷ h) p q l = queued_before s c j h p.1 q l
 
-opened_after : (s : Size) (h x : History) (reader : ℕ) (call : Queued ℕ) → AreAccepted s h → AsQueued h call
-    → Waited s h call → Open reader h x → clock_of s.last call.at < clock x
+opened_after : (s : Size) (h x : History) (reader : ℕ) (call : Queued ℕ)
+    → AreAccepted s h
+    → AsQueued h call
+    → Waited s h call
+    → Open reader h x
+    → clock_of s.last call.at < clock x
     → call.ord ≤ queue_count x
 opened_after s h x reader call p a w o l =
-    subst (λ g. call.ord ≤ queue_count g) o.at (queued_before s reader call.ord h p a.was (rw (← w.at, o.at) l))
+    subst (λ g. call.ord ≤ queue_count g) o.at
+    (queued_before s reader call.ord h p a.was (rw (← w.at, o.at) l))
 
-pub readers_are_after : (s : Size) (run : Trace) (c m k reader : ℕ) (call : Queued ℕ) (opened : History)
+pub readers_are_after : (s : Size) (run : Trace) (c m k reader : ℕ) (call : Queued ℕ)
+    (opened : History)
     → IsLegalRun s run
-    → slice_get (handed_out c m (history run)) k ≡ Some call → section reader
-    (history run) ≡ Some opened → call.ord ≤ queue_count opened
+    → slice_get (handed_out c m (history run)) k ≡ Some call
+    → section reader (history run) ≡ Some opened
+    → call.ord ≤ queue_count opened
 readers_are_after s run c m k reader call opened l e o =
     let p = possible s run l in
     opened_after s (history run) opened reader call p (handed_as_queued (history run) c m k call e)
-    (waited_when_handed s (history run) c m k call p e)
-    (open_from reader (history run) opened o) (opened_later_run s run c m k reader call opened l e o)
+    (waited_when_handed s (history run) c m k call p e) (open_from reader (history run) opened o)
+    (opened_later_run s run c m k reader call opened l e o)

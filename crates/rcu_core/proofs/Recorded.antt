@@ -3,12 +3,15 @@ use Rattle.std.proofs.Common.{◌≡◌, ℕ, ◌+◌, Bool, true, false, cond, 
 use Rattle.std.specs.Prelude.{◌==◌}
 use Rattle.rcu_seq.specs.Numbers.{number_at}
 use Rattle.rcu_core.specs.History.{History}
-use Rattle.rcu_core.specs.Replies.{Size, accepted_reply, turn_reply, waits_for, how_many, history_event, with_event}
+use Rattle.rcu_core.specs.Replies.{Size, accepted_reply, turn_reply, waits_for, how_many}
+use Rattle.rcu_core.specs.Replies.{history_event, with_event}
 use Rattle.rcu_core.specs.Situation.{Situation}
 use Rattle.rcu_state.specs.Periods.{wants_begin}
 use Rattle.rcu_core.specs.declared.event.Event.{Event}
-use Rattle.rcu_core.specs.declared.event.Event.TheVariants.{Enter, Exit, Note, Quiesce, Deliver, Online, Offline, Turn}
-use Rattle.rcu_core.specs.declared.event.Event.TheVariants.{Poll, Queue, Tend, Run, Visit, BarTest, Idle, Wake, Scan}
+use Rattle.rcu_core.specs.declared.event.Event.TheVariants.{Enter, Exit, Note, Quiesce, Deliver}
+use Rattle.rcu_core.specs.declared.event.Event.TheVariants.{Online, Offline, Turn, Poll, Queue}
+use Rattle.rcu_core.specs.declared.event.Event.TheVariants.{Tend, Run, Visit, BarTest, Idle, Wake}
+use Rattle.rcu_core.specs.declared.event.Event.TheVariants.{Scan}
 use Rattle.rcu_core.specs.declared.reply.Reply.{Reply}
 use Rattle.rcu_core.specs.declared.reply.Reply.TheVariants as reply
 
@@ -48,8 +51,8 @@ after_said s u h (Online c) n = refl
 after_said s u h (Offline c) n = refl
 after_said s u h Turn n =
     turned_after h u.periods.running (how_many s u.cpus.awaits == 0) (wants_begin u.periods)
-    (number_at (u.periods.ends + 1) false) (how_many s u.cpus.awaits) (number_at u.periods.ends true)
-    (how_many s u.cpus.online) (turn_reply s u) refl
+    (number_at (u.periods.ends + 1) false) (how_many s u.cpus.awaits)
+    (number_at u.periods.ends true) (how_many s u.cpus.online) (turn_reply s u) refl
 after_said s u h (Poll k epoch) n = refl
 after_said s u h (Queue c x) n = refl
 after_said s u h (Tend c) n = refl

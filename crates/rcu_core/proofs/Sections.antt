@@ -1,8 +1,9 @@
 -- What each event does to a read section.
-use Rattle.std.proofs.Common.{◌≡◌, ◌≢◌, ℕ, ◌+◌, ◌<◌, ◌≤◌, Bool, true, false, ◌&&◌, ◌∷◌, Some, None, refl}
-use Rattle.std.proofs.Common.{sym, ap, ap₂, ◌∙◌, arith, cond, eqb, ltb, ne_eqb}
+use Rattle.std.proofs.Common.{◌≡◌, ◌≢◌, ℕ, ◌+◌, ◌<◌, ◌≤◌, Bool, true, false, ◌&&◌, ◌∷◌, Some, None}
+use Rattle.std.proofs.Common.{refl, sym, ap, ap₂, ◌∙◌, arith, cond, eqb, ltb, ne_eqb}
 use Rattle.std.proofs.lemmas.Bool.Decides.{nat_tests}
-use Rattle.rcu_core.specs.History.{History, depth, enter_count, exit_count, is_old, opening, running, section}
+use Rattle.rcu_core.specs.History.{History, depth, enter_count, exit_count, is_old, opening}
+use Rattle.rcu_core.specs.History.{running, section}
 use Rattle.rcu_core.specs.Replies.{Size, AreAccepted}
 use Rattle.rcu_core.specs.declared.event.Event.{Event}
 use Rattle.rcu_core.specs.declared.event.Event.TheVariants.{Enter, Exit, Begin}
@@ -13,8 +14,10 @@ use Rattle.rcu_core.proofs.Kept.{Turns, begin_counts, enter_counts, exit_counts,
 use Rattle.rcu_core.proofs.Readers.{open_from}
 use Rattle.rcu_core.proofs.Writes.{eqb_self}
 
-deep_section : (c n : ℕ) (h x : History) → depth c h ≡ n + 1 → opening c h ≡ x → section c h ≡ Some x
-deep_section c n h x d o = ap₂ (λ (b : Bool) (y : History). cond b (Some y) None) (above (depth c h) n d) o
+deep_section : (c n : ℕ) (h x : History) → depth c h ≡ n + 1 → opening c h ≡ x
+    → section c h ≡ Some x
+deep_section c n h x d o =
+    ap₂ (λ (b : Bool) (y : History). cond b (Some y) None) (above (depth c h) n d) o
   where
     above : (m n : ℕ) → m ≡ n + 1 → ltb 0 m ≡ true
     above m n e = grind (arith, nat_tests)
@@ -25,10 +28,12 @@ no_section c h d = ap (λ (b : Bool). cond b (Some (opening c h)) None) (none (d
     none : (m : ℕ) → m ≡ 0 → ltb 0 m ≡ false
     none m e = grind (arith, nat_tests)
 
-same_section : (c : ℕ) (g h : History) → depth c g ≡ depth c h → opening c g ≡ opening c h → section c g ≡ section c h
+same_section : (c : ℕ) (g h : History) → depth c g ≡ depth c h → opening c g ≡ opening c h
+    → section c g ≡ section c h
 same_section c g h d o = ap₂ (λ (n : ℕ) (y : History). cond (ltb 0 n) (Some y) None) d o
 
-one_deeper : (c : ℕ) (h : History) → exit_count c h ≤ enter_count c h → depth c (Enter c ∷ h) ≡ depth c h + 1
+one_deeper : (c : ℕ) (h : History) → exit_count c h ≤ enter_count c h
+    → depth c (Enter c ∷ h) ≡ depth c h + 1
 one_deeper c h le = let n = enter_counts c c h in let i = eqb_self c in grind (arith, nat_tests)
 
 one_less : (c : ℕ) (h : History) → 0 < depth c h → depth c h ≡ depth c (Exit c ∷ h) + 1
@@ -49,7 +54,8 @@ pub opened_by_enter : (s : Size) (h : History) (c : ℕ) → AreAccepted s h →
     → section c (Enter c ∷ h) ≡ Some (Enter c ∷ h)
 opened_by_enter s h c p d =
     deep_section c (depth c h) (Enter c ∷ h) (Enter c ∷ h) (one_deeper c h (exits_le s c h p))
-    (opens (eqb c c) (eqb (depth c h) 0) (Enter c ∷ h) (opening c h) (eqb_self c) (zero_is (depth c h) d))
+    (opens (eqb c c) (eqb (depth c h) 0) (Enter c ∷ h) (opening c h) (eqb_self c)
+    (zero_is (depth c h) d))
   where
     zero_is : (n : ℕ) → n ≡ 0 → eqb n 0 ≡ true
     zero_is n e = grind (arith, nat_tests)
@@ -79,10 +85,12 @@ kept_by_exit h c l =
 
 -- an exit to depth 0 ends it
 pub ended_by_exit : (h : History) (c : ℕ) → depth c h ≡ 1 → section c (Exit c ∷ h) ≡ None
-ended_by_exit h c d = let one = one_less c h (omega (arith, d)) in no_section c (Exit c ∷ h) (omega (arith, d, one))
+ended_by_exit h c d =
+    let one = one_less c h (omega (arith, d)) in no_section c (Exit c ∷ h) (omega (arith, d, one))
 
 -- no other event changes it
-pub kept_by_others : (h : History) (c : ℕ) (e : Event) → e ≢ Enter c → e ≢ Exit c → section c (e ∷ h) ≡ section c h
+pub kept_by_others : (h : History) (c : ℕ) (e : Event) → e ≢ Enter c → e ≢ Exit c
+    → section c (e ∷ h) ≡ section c h
 kept_by_others h c (Enter d) n m =
     let i : eqb d c ≡ false = ne_eqb d c (λ e. n (ap (λ k. Enter k) e)) in
     let counts = enter_counts c d h in
@@ -101,7 +109,8 @@ old_at_begin : (s : Size) (c : ℕ) (h : History) → AreAccepted s (Begin ∷ h
 old_at_begin s c h p t o l =
     let n = begin_counts h in let a = t.ends_le in let b = t.begins_le in let q = p.0 in
     let runs : running (Begin ∷ h) ≡ true = grind (arith, nat_tests) in
-    let higher : nat_lt (clock (opening c h)) (clock (Begin ∷ h)) ≡ true = grind (arith, nat_tests) in
+    let higher : nat_lt (clock (opening c h)) (clock (Begin ∷ h)) ≡ true =
+    grind (arith, nat_tests) in
     let deep : nat_lt 0 (depth c h) ≡ true = grind (arith, nat_tests) in
     let told = before_ticks s (opening c h) (Begin ∷ h) (opening_accepted s c h p.1) p runs in
     all_three (running (Begin ∷ h)) (nat_lt 0 (depth c h)) _ runs deep (told ∙ higher)
@@ -110,7 +119,7 @@ old_at_begin s c h p t o l =
     all_three a b d i j k = rw (i, j, k) refl
 
 -- one that is open at a begin is old after it
-pub old_after_begin : (s : Size) (h opened : History) (c : ℕ) → AreAccepted s (Begin ∷ h) → section c h ≡ Some opened
-    → is_old c (Begin ∷ h) ≡ true
+pub old_after_begin : (s : Size) (h opened : History) (c : ℕ)
+    → AreAccepted s (Begin ∷ h) → section c h ≡ Some opened → is_old c (Begin ∷ h) ≡ true
 old_after_begin s h opened c p i =
     old_at_begin s c h p (turns s h p.1) (facts s c h p.1).opening_le (open_from c h opened i).deep

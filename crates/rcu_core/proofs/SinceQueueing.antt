@@ -1,6 +1,6 @@
 -- What came since a callback was queued, and since a barrier began.
-use Rattle.std.proofs.Common.{◌≡◌, ◌≢◌, ℕ, ◌+◌, ◌<◌, ◌≤◌, Bool, true, [], ◌∷◌, ◌++◌, refl, sym, ap, ◌∙◌, arith, cond}
-use Rattle.std.proofs.Common.{eqb, ne_eqb, inl, inr}
+use Rattle.std.proofs.Common.{◌≡◌, ◌≢◌, ℕ, ◌+◌, ◌<◌, ◌≤◌, Bool, true, [], ◌∷◌, ◌++◌, refl, sym, ap}
+use Rattle.std.proofs.Common.{◌∙◌, arith, cond, eqb, ne_eqb, inl, inr}
 use Rattle.std.proofs.lemmas.Bool.{cases_eq}
 use Rattle.std.proofs.lemmas.Bool.Decides.{nat_tests}
 use Rattle.rcu_core.specs.Callbacks.{queue_count, queued_before_barrier, since}
@@ -27,14 +27,18 @@ queued_at j (Queue d y ∷ h) z b =
         is = ap (λ t. cut t (Queue d y ∷ h)) (sym (same_place (queue_count h + 1) j i));
         place = i;
       }
-      | inr i ↦ let o = queued_at j h z (omega (arith, n, b, i)) in record {
-        cpu = o.cpu;
-        value = o.value;
-        earlier = o.earlier;
-        is = ap (λ (xs : History). Queue d y ∷ xs) o.is
-            ∙ ap (λ t. cut t (Queue o.cpu o.value ∷ o.earlier)) (sym (ne_eqb (queue_count h + 1) j i));
-        place = o.place;
-      }
+      | inr i ↦
+          let o = queued_at j h z (omega (arith, n, b, i)) in
+          record {
+            cpu = o.cpu;
+            value = o.value;
+            earlier = o.earlier;
+            is =
+                ap (λ (xs : History). Queue d y ∷ xs) o.is
+                ∙ ap (λ t. cut t (Queue o.cpu o.value ∷ o.earlier))
+                (sym (ne_eqb (queue_count h + 1) j i));
+            place = o.place;
+          }
     ]
 queued_at j (e ∷ h) z b = let o = queued_at j h z b in record {
   cpu = o.cpu;
@@ -45,6 +49,7 @@ queued_at j (e ∷ h) z b = let o = queued_at j h z b in record {
 }
 
 -- no event but the begin of a barrier changes how many were queued before it
-pub before_kept : (h : History) (e : Event) → e ≢ BarBegin → queued_before_barrier (e ∷ h) ≡ queued_before_barrier h
+pub before_kept : (h : History) (e : Event) → e ≢ BarBegin
+    → queued_before_barrier (e ∷ h) ≡ queued_before_barrier h
 before_kept h BarBegin n = absurd (n refl)
 before_kept h _ n = refl

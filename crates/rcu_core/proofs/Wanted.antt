@@ -1,6 +1,7 @@
 -- Memory is wanted only where the answer would have told of something kept.
-use Rattle.std.proofs.Common.{◌≡◌, ℕ, suc, ◌+◌, Bool, true, false, not, ◌&&◌, List, [], ◌∷◌, ◌++◌, length, Some, None}
-use Rattle.std.proofs.Common.{refl, sym, ap, ◌∙◌, subst, arith, cond, eqb, ltb, ◌⊎◌, ◌<◌, inl, inr}
+use Rattle.std.proofs.Common.{◌≡◌, ℕ, suc, ◌+◌, Bool, true, false, not, ◌&&◌, List, [], ◌∷◌, ◌++◌}
+use Rattle.std.proofs.Common.{length, Some, None, refl, sym, ap, ◌∙◌, subst, arith, cond, eqb, ltb}
+use Rattle.std.proofs.Common.{◌⊎◌, ◌<◌, inl, inr}
 use Rattle.std.specs.List.{list_any, range_with_len}
 use Rattle.std.proofs.lemmas.Bool.{or_parts}
 use Rattle.std.proofs.lemmas.Bool.Decides.{nat_tests}
@@ -10,8 +11,8 @@ use Rattle.rcu_seq.specs.Fault.{first_fault}
 use Rattle.rcu_seq.specs.declared.fault.Fault.{Fault}
 use Rattle.rcu_seq.specs.declared.fault.Fault.TheVariants as fault
 use Rattle.rcu_cblist.specs.declared.queued.Queued.{Queued}
-use Rattle.rcu_cblist.specs.SegList.{Item, Of, Marker, Unmarked, after_migrate, after_take, begins_with_marker}
-use Rattle.rcu_cblist.specs.SegList.{callbacks, is_empty, take_answer}
+use Rattle.rcu_cblist.specs.SegList.{Item, Of, Marker, Unmarked, after_migrate, after_take}
+use Rattle.rcu_cblist.specs.SegList.{begins_with_marker, callbacks, is_empty, take_answer}
 use Rattle.rcu_cblist.proofs.SegListLemmas.{first_from, first_moved, first_queued, first_remarked}
 use Rattle.rcu_cblist.specs.SegList.{as_it_leaves, mark_renumbered}
 use Rattle.rcu_barrier.specs.Tending.{mark_after_tend, after_tend}
@@ -37,8 +38,8 @@ is_want _ = false
 abbrev has_want : List (Bool × Fault) → Bool
 has_want causes = list_any (λ cause. is_want (reply.Fault cause.1)) causes
 
-pick_want : (b : Bool) (f : Fault) (o : Reply) (cs : List (Bool × Fault)) → is_want (reply.Fault f) ≡ false
-    → is_want (or_fault (first_fault cs) o) ≡ false
+pick_want : (b : Bool) (f : Fault) (o : Reply) (cs : List (Bool × Fault))
+    → is_want (reply.Fault f) ≡ false → is_want (or_fault (first_fault cs) o) ≡ false
     → is_want (or_fault (cond b (Some f) (first_fault cs)) o) ≡ false
 pick_want true f o cs i j = i
 pick_want false f o cs i j = j
@@ -55,13 +56,15 @@ no_cause_wants s v (Enter c) = refl
 no_cause_wants s v _ = refl
 
 no_turn_wants : (a b d : Bool) (k l m n : ℕ) (r : Reply)
-    → r ≡ cond a (cond b (reply.Ended k) (reply.Waiting l)) (cond d (reply.Begun m n) reply.Nothing) → is_want r ≡ false
+    → r ≡ cond a (cond b (reply.Ended k) (reply.Waiting l)) (cond d (reply.Begun m n) reply.Nothing)
+    → is_want r ≡ false
 no_turn_wants true true d k l m n r e = rw e refl
 no_turn_wants true false d k l m n r e = rw e refl
 no_turn_wants false b true k l m n r e = rw e refl
 no_turn_wants false b false k l m n r e = rw e refl
 
-no_test_wants : (b : Bool) (n : ℕ) (r : Reply) → r ≡ cond b reply.BarDone (reply.BarWaits n) → is_want r ≡ false
+no_test_wants : (b : Bool) (n : ℕ) (r : Reply) → r ≡ cond b reply.BarDone (reply.BarWaits n)
+    → is_want r ≡ false
 no_test_wants true n r e = rw e refl
 no_test_wants false n r e = rw e refl
 
@@ -72,9 +75,11 @@ no_reply_wants s v _ = refl
 
 -- no answer is want of memory
 no_answer_wants : (s : Size) (v : Situation) (e : Event) → is_want (answer s v e) ≡ false
-no_answer_wants s v e = not_wanted (causes s v e) (accepted_reply s v e) (no_cause_wants s v e) (no_reply_wants s v e)
+no_answer_wants s v e =
+    not_wanted (causes s v e) (accepted_reply s v e) (no_cause_wants s v e) (no_reply_wants s v e)
 
-unled_if : (b : Bool) (xs ys : List (Item ℕ)) → begins_with_marker xs ≡ false → begins_with_marker ys ≡ false
+unled_if : (b : Bool) (xs ys : List (Item ℕ))
+    → begins_with_marker xs ≡ false → begins_with_marker ys ≡ false
     → begins_with_marker (cond b xs ys) ≡ false
 unled_if true xs ys i j = i
 unled_if false xs ys i j = j
@@ -89,9 +94,11 @@ unled_leaving true (x ∷ xs) i = i
 unled : (h : History) (c : ℕ) → begins_with_marker (list c h) ≡ false
 unled [] c = refl
 unled (Queue d y ∷ h) c =
-    unled_if (eqb d c) (list c h ++ Of (record { ord = queue_count h + 1; at = tag_now h; value = y }) Unmarked ∷ [])
+    unled_if (eqb d c)
+    (list c h ++ Of (record { ord = queue_count h + 1; at = tag_now h; value = y }) Unmarked ∷ [])
     (list c h)
-    (first_queued (list c h) (record { ord = queue_count h + 1; at = tag_now h; value = y }) Unmarked (unled h c))
+    (first_queued (list c h) (record { ord = queue_count h + 1; at = tag_now h; value = y })
+    Unmarked (unled h c))
     (unled h c)
 unled (Tend d ∷ h) c =
     unled_if (eqb d c) (after_tend (list c h) (number h)) (list c h)
@@ -106,7 +113,8 @@ unled (Offline d ∷ h) c =
     let xs = as_it_leaves (list d h) (is_owed d h) in
     unled_if (eqb d c) [] (cond (eqb c 0) (after_migrate (list c h) xs) (list c h)) refl
     (unled_if (eqb c 0) (after_migrate (list c h) xs) (list c h)
-    (first_moved xs (list c h) (unled_leaving (is_owed d h) (list d h) (unled h d)) (unled h c)) (unled h c))
+    (first_moved xs (list c h) (unled_leaving (is_owed d h) (list d h) (unled h d)) (unled h c))
+    (unled h c))
 unled (Renumber ∷ h) c = first_remarked mark_renumbered (list c h) ∙ unled h c
 unled (_ ∷ h) c = unled h c
 
@@ -129,9 +137,11 @@ does_mark true false i = refl
 does_mark false empty i = absurd (cc)
 
 -- memory is wanted where the event stores something, and no fault holds
-wanted_stores : (s : Size) (h : History) (e : Event) → IsLegalReply s (situation h) e (reply.Fault fault.NoMemory)
+wanted_stores : (s : Size) (h : History) (e : Event)
+    → IsLegalReply s (situation h) e (reply.Fault fault.NoMemory)
     → (stores s (situation h) e ≡ true) × (fault_in s (situation h) e ≡ None)
-wanted_stores s h e (inl i) = absurd (let a = no_answer_wants s (situation h) e in let b = ap (λ r. is_want r) i in cc)
+wanted_stores s h e (inl i) =
+    absurd (let a = no_answer_wants s (situation h) e in let b = ap (λ r. is_want r) i in cc)
 wanted_stores s h e (inr i) = (i.0, i.1)
 
 is_accepted : (s : Size) (h : History) (e : Event) → fault_in s (situation h) e ≡ None
@@ -157,7 +167,8 @@ pub wanting_event : (s : Size) (h : History) (e : Event)
 wanting_event s h e l = storing s h e (wanted_stores s h e l).0
 
 -- by a list of the awaited that is not empty
-pub wants_to_list : (s : Size) (h : History) → IsLegalReply s (situation h) Awaits (reply.Fault fault.NoMemory)
+pub wants_to_list : (s : Size) (h : History)
+    → IsLegalReply s (situation h) Awaits (reply.Fault fault.NoMemory)
     → (cpus : List ℕ) × (answer s (situation h) Awaits ≡ reply.Awaits cpus) × (0 < length cpus)
 wants_to_list s h l =
     let i = wanted_stores s h Awaits l in
@@ -175,7 +186,9 @@ wants_to_move s h c l =
 -- by a run that hands out callbacks
 pub wants_to_hand_out : (s : Size) (h : History) (c m : ℕ)
     → IsLegalReply s (situation h) (Run c m) (reply.Fault fault.NoMemory)
-    → (values : List ℕ) × (answer s (situation h) (Run c m) ≡ reply.Ran values) × (0 < length values)
+    → (values : List ℕ)
+    × (answer s (situation h) (Run c m) ≡ reply.Ran values)
+    × (0 < length values)
 wants_to_hand_out s h c m l =
     let i = wanted_stores s h (Run c m) l in
     let n = length-map (take_answer (list c h) m) (λ (call : Queued ℕ). call.value) in
@@ -187,4 +200,5 @@ pub wants_to_mark : (s : Size) (h : History) (c : ℕ)
     → answer s (situation h) (Visit c) ≡ reply.Visited Marked
 wants_to_mark s h c l =
     let i = wanted_stores s h (Visit c) l in
-    is_accepted s h (Visit c) i.1 ∙ ap (λ v. reply.Visited v) (does_mark (is_owed c h) (is_empty (list c h)) i.0)
+    is_accepted s h (Visit c) i.1
+    ∙ ap (λ v. reply.Visited v) (does_mark (is_owed c h) (is_empty (list c h)) i.0)

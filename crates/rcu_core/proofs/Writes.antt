@@ -1,6 +1,6 @@
 -- What a write of one place leaves of what is read.
-use Rattle.std.proofs.Common.{◌≡◌, ℕ, ◌<◌, Bool, true, false, cond, ◌||◌, List, length, refl, sym, subst, ◌∙◌, arith}
-use Rattle.std.proofs.Common.{eqb, get_or, slice_set, ne_eqb, inl, inr}
+use Rattle.std.proofs.Common.{◌≡◌, ℕ, ◌<◌, Bool, true, false, cond, ◌||◌, List, length, refl, sym}
+use Rattle.std.proofs.Common.{subst, ◌∙◌, arith, eqb, get_or, slice_set, ne_eqb, inl, inr}
 use Rattle.std.proofs.lemmas.Bool.Decides.{nat_tests}
 use Rattle.std.proofs.lemmas.Bool.{cases_eq}
 use Rattle.std.proofs.lemmas.List.{get_or-set_same, get_or-set_other}
@@ -13,7 +13,8 @@ pub one_written : {X : Type 0} (d : X) (xs : List X) (c : ℕ) (x : X) (f g : �
     → ((k : ℕ) → get_or xs k d ≡ f k) → g c ≡ x
     → ((k : ℕ) → eqb c k ≡ false → g k ≡ f k) → (k : ℕ) → get_or (slice_set xs c x) k d ≡ g k
 one_written {X} d xs c x f g l h at other k = elim (cases_eq k c) [
-  | inl i ↦ subst (λ (j : ℕ). get_or (slice_set xs c x) j d ≡ g j) (sym i) (get_or-set_same xs c x d l ∙ sym at)
+  | inl i ↦ subst (λ (j : ℕ). get_or (slice_set xs c x) j d ≡ g j) (sym i)
+      (get_or-set_same xs c x d l ∙ sym at)
   | inr n ↦ get_or-set_other xs c k x d n ∙ h k ∙ sym (other k (ne_eqb c k (λ i. n (sym i))))
 ]
 

@@ -1,17 +1,19 @@
--- What the accepted events so far say of callbacks: each processor's list, the barrier, and who was handed out.
-use Rattle.std.specs.Prelude.{ℕ, ◌+◌, nat_lt, ◌==◌, Bool, true, false, not, ◌&&◌, max, if◌then◌else◌}
-use Rattle.std.specs.Prelude.{List, [], ◌∷◌, ◌++◌, count_by}
+-- What the accepted events so far say of callbacks: each processor's list, the barrier, and who was
+-- handed out.
+use Rattle.std.specs.Prelude.{ℕ, ◌+◌, nat_lt, ◌==◌, Bool, true, false, not, ◌&&◌, max}
+use Rattle.std.specs.Prelude.{if◌then◌else◌, List, [], ◌∷◌, ◌++◌, count_by}
 use Rattle.rcu_seq.specs.Histories.{has_full, is_on, latest, some_since}
 use Rattle.rcu_seq.specs.Numbers.{Number, snapshot}
 use Rattle.rcu_cblist.specs.declared.queued.Queued.{Queued}
-use Rattle.rcu_cblist.specs.SegList.{Item, Of, Unmarked, after_migrate, after_renumber, numbers, take_answer, after_take, as_it_leaves}
+use Rattle.rcu_cblist.specs.SegList.{Item, Of, Unmarked, after_migrate, after_renumber, numbers}
+use Rattle.rcu_cblist.specs.SegList.{take_answer, after_take, as_it_leaves}
 use Rattle.rcu_barrier.specs.Runs.{copies}
 use Rattle.rcu_barrier.specs.Tending.{after_tend}
 use Rattle.rcu_state.specs.Periods.{greatest_from}
 use Rattle.rcu_core.specs.History.{History, begins, ends, number, tag_now}
 use Rattle.rcu_core.specs.declared.event.Event.{Event}
-use Rattle.rcu_core.specs.declared.event.Event.TheVariants.{Offline, StartPoll, Queue, Tend, Run, BarBegin, Visit}
-use Rattle.rcu_core.specs.declared.event.Event.TheVariants.{BarTest, Renumber}
+use Rattle.rcu_core.specs.declared.event.Event.TheVariants.{Offline, StartPoll, Queue, Tend, Run}
+use Rattle.rcu_core.specs.declared.event.Event.TheVariants.{BarBegin, Visit, BarTest, Renumber}
 
 -- a callback is queued
 abbrev pub queues : Event → Bool
@@ -50,27 +52,33 @@ is_owed cpu h = barrier_runs h && not (was_visited cpu h)
 abbrev pub queue_count : History → ℕ
 queue_count h = count_by queues h
 
--- the processor's list, in order. A queued callback goes to its end. A tend at the number gives marks. A run takes away
--- the first callbacks of the done part. A visit puts a marker behind it. The list of a processor that departs moves to
--- processor 0: its done part in front of that list, the rest behind it without marks. Where the numbers start anew, each
--- list loses those that it has
+-- the processor's list, in order. A queued callback goes to its end. A tend at the number gives
+-- marks. A run takes away the first callbacks of the done part. A visit puts a marker behind it.
+-- The list of a processor that departs moves to processor 0: its done part in front of that list,
+-- the rest behind it without marks. Where the numbers start anew, each list loses those that it has
 abbrev pub list : ℕ → History → List (Item ℕ)
 list cpu [] = []
 list cpu (Queue c value ∷ h) =
-    if c == cpu then list cpu h ++ Of (record { ord = queue_count h + 1; at = tag_now h; value = value }) Unmarked ∷ []
+    if c == cpu
+    then list cpu h
+    ++ Of (record { ord = queue_count h + 1; at = tag_now h; value = value }) Unmarked ∷ []
     else list cpu h
 list cpu (Tend c ∷ h) = if c == cpu then after_tend (list cpu h) (number h) else list cpu h
 list cpu (Run c most ∷ h) = if c == cpu then after_take (list cpu h) most else list cpu h
 list cpu (Visit c ∷ h) = if c == cpu then as_it_leaves (list cpu h) (is_owed c h) else list cpu h
 list cpu (Offline c ∷ h) =
-    if c == cpu then []
-    else (if cpu == 0 then after_migrate (list cpu h) (as_it_leaves (list c h) (is_owed c h)) else list cpu h)
+    if c == cpu
+    then []
+    else (if cpu == 0
+    then after_migrate (list cpu h) (as_it_leaves (list c h) (is_owed c h))
+    else list cpu h)
 list cpu (Renumber ∷ h) = after_renumber (list cpu h)
 list cpu (_ ∷ h) = list cpu h
 
--- the needed number: the greatest among the cookies of started polls and, for each tend, the numbers that its list then
--- waits for; 0 before any. Where the numbers start anew, what is needed above the number, which is the last one then, is
--- the first grace period of the next epoch, and else nothing is needed
+-- the needed number: the greatest among the cookies of started polls and, for each tend, the
+-- numbers that its list then waits for; 0 before any. Where the numbers start anew, what is needed
+-- above the number, which is the last one then, is the first grace period of the next epoch, and
+-- else nothing is needed
 abbrev pub needed : History → Number
 needed [] = 0
 needed (StartPoll ∷ h) = max (needed h) (snapshot (number h))
@@ -85,7 +93,8 @@ handed_out cpu most h = take_answer (list cpu h) most
 -- how often the callback of this place was handed out
 abbrev pub times_handed_out : ℕ → History → ℕ
 times_handed_out ord [] = 0
-times_handed_out ord (Run cpu most ∷ h) = copies ord (handed_out cpu most h) + times_handed_out ord h
+times_handed_out ord (Run cpu most ∷ h) =
+    copies ord (handed_out cpu most h) + times_handed_out ord h
 times_handed_out ord (_ ∷ h) = times_handed_out ord h
 
 -- the events since the callback of this place was queued

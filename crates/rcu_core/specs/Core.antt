@@ -1,6 +1,7 @@
 -- What the engine holds, and how it says what a history says.
-use Rattle.std.specs.Prelude.{ℕ, ◌<◌, ◌≡◌, Bool, false, List, [], ◌∷◌, ◌++◌, length, slice_index_or, slice_set, All}
-use Rattle.std.specs.Prelude.{Option, Some, None}
+use Rattle.std.specs.Prelude.{ℕ, ◌<◌, ◌≡◌, Bool, false, List, [], ◌∷◌, ◌++◌, length, slice_index_or}
+use Rattle.std.specs.Prelude.{slice_set, All, Option, Some, None, Result, Ok, Err}
+use Rattle.rcu_seq.specs.Fault.{first_fault}
 use Rattle.rcu_seq.specs.Seq.{tag_of}
 use Rattle.rcu_seq.specs.declared.fault.Fault.{Fault}
 use Rattle.rcu_node.specs.CpuSet.{is_in}
@@ -13,18 +14,21 @@ use Rattle.rcu_barrier.specs.Lists.{AllLists, list_of, owes_visit}
 use Rattle.rcu_state.specs.GpState as grace
 use Rattle.rcu_state.specs.GpState.{Grace, periods_of}
 use Rattle.rcu_core.specs.History.{History, report_at}
-use Rattle.rcu_core.specs.Replies.{Size, AreAccepted, IsLegalReply, with_event}
+use Rattle.rcu_core.specs.Replies.{Size, AreAccepted, IsLegalReply, no_cpu, with_event}
 use Rattle.rcu_core.specs.Situation.{Situation, CpuSituation, CallbackSituation}
 use Rattle.rcu_state.specs.Periods.{PeriodSituation}
 use Rattle.rcu_core.specs.Situation.{periods_in, cpus_in, calls_in, situation}
 use Rattle.rcu_core.specs.declared.event.Event.{Event}
-use Rattle.rcu_core.specs.declared.event.Event.TheVariants.{Enter, Exit, Note, Quiesce, Deliver, Online, Offline, Begin}
-use Rattle.rcu_core.specs.declared.event.Event.TheVariants.{End, Turn, Awaits, Take, StartPoll, Poll, Queue, Tend, Run}
-use Rattle.rcu_core.specs.declared.event.Event.TheVariants.{BarBegin, Visit, BarTest, Renumber, Idle, Wake, Scan}
+use Rattle.rcu_core.specs.declared.event.Event.TheVariants.{Enter, Exit, Note, Quiesce, Deliver}
+use Rattle.rcu_core.specs.declared.event.Event.TheVariants.{Online, Offline, Begin, End, Turn}
+use Rattle.rcu_core.specs.declared.event.Event.TheVariants.{Awaits, Take, StartPoll, Poll, Queue}
+use Rattle.rcu_core.specs.declared.event.Event.TheVariants.{Tend, Run, BarBegin, Visit, BarTest}
+use Rattle.rcu_core.specs.declared.event.Event.TheVariants.{Renumber, Idle, Wake, Scan}
 use Rattle.rcu_core.specs.declared.reply.Reply.{Reply}
 use Rattle.rcu_core.specs.declared.reply.Reply.TheVariants as reply
 
--- the state of the grace periods and the callbacks, each processor at its place, and all reports, the first one first
+-- the state of the grace periods and the callbacks, each processor at its place, and all reports,
+-- the first one first
 pub record State (X : Type 0) : Type 0 where
   pub grace : Grace X
   pub cpus : List Processor
@@ -32,7 +36,15 @@ pub record State (X : Type 0) : Type 0 where
 
 -- how many processors there are, the last number, and how many callbacks may be queued
 abbrev pub size_at : {X : Type 0} → State X → Size
-size_at v = record { cpus = cpus_of v.grace.processors; last = v.grace.seq.last; most = v.grace.lists.most }
+size_at v = record {
+  cpus = cpus_of v.grace.processors;
+  last = v.grace.seq.last;
+  most = v.grace.lists.most;
+}
+
+-- why a processor is not found: there is none of this number
+abbrev pub cpu_refusal : {X : Type 0} → State X → ℕ → Option Fault
+cpu_refusal v cpu = first_fault (no_cpu (size_at v) cpu ∷ [])
 
 -- the processor at a place
 abbrev pub processor : List Processor → ℕ → Processor
@@ -59,10 +71,15 @@ calls_said all = record {
 
 -- what a state says
 abbrev pub says : State ℕ → Situation
-says v = record { periods = periods_of v.grace; cpus = cpus_said v; calls = calls_said v.grace.lists }
+says v = record {
+  periods = periods_of v.grace;
+  cpus = cpus_said v;
+  calls = calls_said v.grace.lists;
+}
 
--- what always holds: there are as many processors as flags, each at its place, and online where the set of the online
--- says so; each has a list, and a flag for the barrier's visit; and each report is of a processor
+-- what always holds: there are as many processors as flags, each at its place, and online where the
+-- set of the online says so; each has a list, and a flag for the barrier's visit; and each report
+-- is of a processor
 pub record IsSound {X : Type 0} (v : State X) : Type 0 where
   pub flags : length v.grace.processors.online ≡ cpus_of v.grace.processors
   pub sized : length v.cpus ≡ cpus_of v.grace.processors
@@ -85,7 +102,9 @@ awaited_by g (Some report) = grace.awaited_after g report
 abbrev pub after_event : State ℕ → Event → State ℕ
 after_event v (Enter cpu) = record v { cpus = with_cpu v.cpus cpu cpu_data.Enter }
 after_event v (Exit cpu) = record v { cpus = with_cpu v.cpus cpu cpu_data.Exit }
-after_event v (Note cpu) = record v { cpus = with_cpu v.cpus cpu (cpu_data.Note (tag_of v.grace.seq)) }
+after_event v (Note cpu) = record v {
+  cpus = with_cpu v.cpus cpu (cpu_data.Note (tag_of v.grace.seq));
+}
 after_event v (Quiesce cpu) = record v { made = v.made ++ report_of (processor v.cpus cpu) ∷ [] }
 after_event v (Deliver place) =
     record v { grace = grace.with_awaited v.grace (awaited_by v.grace (report_at place v.made)) }
@@ -125,9 +144,11 @@ pub record StepsLegally (v : State ℕ) (e : Event) (r : Reply) (w : State ℕ) 
   pub legal : IsLegalReply (size_at v) (says v) e r
   pub left : w ≡ after_reply v e r
 
--- the event is refused by a fault, and nothing changes
-abbrev pub Refuses : State ℕ → Event → Fault → State ℕ → Type 0
-Refuses v e fault w = StepsLegally v e (reply.Fault fault) w
+-- a call takes an event: its reply, or the fault that it is refused by, is a legal reply, and what
+-- that leaves is left
+abbrev pub Takes : State ℕ → Event → Result Reply Fault → State ℕ → Type 0
+Takes v e (Ok r) w = StepsLegally v e r w
+Takes v e (Err fault) w = StepsLegally v e (reply.Fault fault) w
 
 -- the counter and the needed number are as a situation says
 pub record RepresentsPeriods (p u : PeriodSituation) : Type 0 where
@@ -147,8 +168,8 @@ processor_in u cpu = record {
 }
 
 -- the processors and the reports are as a situation says
-pub record RepresentsCpus (processors : Processors) (cpus : List Processor) (reports : List Report) (u : CpuSituation)
-    : Type 0 where
+pub record RepresentsCpus (processors : Processors) (cpus : List Processor) (reports : List Report)
+    (u : CpuSituation) : Type 0 where
   pub online : (cpu : ℕ) → is_in processors.online cpu ≡ u.online cpu
   pub awaits : (cpu : ℕ) → is_in processors.awaited cpu ≡ u.awaits cpu
   pub each : (cpu : ℕ) → processor cpus cpu ≡ processor_in u cpu
@@ -168,8 +189,8 @@ pub record Represents (v : State ℕ) (h : History) : Type 0 where
   pub cpus : RepresentsCpus v.grace.processors v.cpus v.made (cpus_in h)
   pub calls : RepresentsCalls v.grace.lists (calls_in h)
 
--- a step after a history: the reply is legal, and the engine is left in the situation of the history, with the event
--- where it was accepted, at the same size
+-- a step after a history: the reply is legal, and the engine is left in the situation of the
+-- history, with the event where it was accepted, at the same size
 pub record Follows (v : State ℕ) (h : History) (e : Event) (r : Reply) (w : State ℕ) : Type 0 where
   pub legal : IsLegalReply (size_at v) (situation h) e r
   pub has : Represents w (with_event h e r)

@@ -1,15 +1,17 @@
--- What the accepted events so far say. A history is the list of the accepted events, the newest first. So the
--- history as it was at an earlier event is the part of the list from that event on. A turn that began or ended a
--- grace period stands in it as that begin or end.
-use Rattle.std.specs.Prelude.{ℕ, ◌+◌, ◌-◌, ◌==◌, Bool, true, false, not, ◌&&◌, nat_lt, if◌then◌else◌}
-use Rattle.std.specs.Prelude.{List, [], ◌∷◌, ◌++◌, count_by, slice_get, Option, Some, None}
+-- What the accepted events so far say. A history is the list of the accepted events, the newest
+-- first. So the history as it was at an earlier event is the part of the list from that event on. A
+-- turn that began or ended a grace period stands in it as that begin or end.
+use Rattle.std.specs.Prelude.{ℕ, ◌+◌, ◌-◌, ◌==◌, Bool, true, false, not, ◌&&◌, nat_lt}
+use Rattle.std.specs.Prelude.{if◌then◌else◌, List, [], ◌∷◌, ◌++◌, count_by, slice_get, Option, Some}
+use Rattle.std.specs.Prelude.{None}
 use Rattle.rcu_seq.specs.Histories.{is_on, latest, some_since}
 use Rattle.rcu_seq.specs.Numbers.{Number, number_at}
 use Rattle.rcu_seq.specs.Tags.{first_tag, is_before, same_tag}
 use Rattle.rcu_seq.specs.declared.tag.Tag.{Tag}
 use Rattle.rcu_core.specs.declared.event.Event.{Event}
-use Rattle.rcu_core.specs.declared.event.Event.TheVariants.{Enter, Exit, Note, Quiesce, Deliver, Online, Offline, Begin}
-use Rattle.rcu_core.specs.declared.event.Event.TheVariants.{End, Renumber, Idle, Wake, Scan}
+use Rattle.rcu_core.specs.declared.event.Event.TheVariants.{Enter, Exit, Note, Quiesce, Deliver}
+use Rattle.rcu_core.specs.declared.event.Event.TheVariants.{Online, Offline, Begin, End, Renumber}
+use Rattle.rcu_core.specs.declared.event.Event.TheVariants.{Idle, Wake, Scan}
 use Rattle.rcu_report.specs.declared.report.Report.{Report}
 
 abbrev pub History : Type 0
@@ -91,7 +93,8 @@ number h = number_at (ends_in_epoch h) (running h)
 abbrev pub tag_now : History → Tag
 tag_now h = record { epoch = epoch h; number = number h }
 
--- the processor is online: its last arrival or departure is an arrival; before any, it is processor 0
+-- the processor is online: its last arrival or departure is an arrival; before any, it is processor
+-- 0
 abbrev pub online : ℕ → History → Bool
 online cpu h = is_on (cpu == 0) (arrives cpu) (departs cpu) h
 
@@ -116,21 +119,24 @@ exit_count cpu h = count_by (exits cpu) h
 abbrev pub depth : ℕ → History → ℕ
 depth cpu h = enter_count cpu h - exit_count cpu h
 
--- the history as it was when its latest section was opened, by an enter at depth 0, that enter included
+-- the history as it was when its latest section was opened, by an enter at depth 0, that enter
+-- included
 abbrev pub opening : ℕ → History → History
 opening cpu [] = []
 opening cpu (e ∷ h) = if enters cpu e && depth cpu h == 0 then e ∷ h else opening cpu h
 
--- its open section, named by the history at its opening: from an enter at depth 0 to the exit that brings the depth
--- back to 0, or up to now
+-- its open section, named by the history at its opening: from an enter at depth 0 to the exit that
+-- brings the depth back to 0, or up to now
 abbrev pub section : ℕ → History → Option History
 section cpu h = if nat_lt 0 (depth cpu h) then Some (opening cpu h) else None
 
 -- a section of it is open that began before the running grace period
 abbrev pub is_old : ℕ → History → Bool
-is_old cpu h = running h && (nat_lt 0 (depth cpu h) && is_before (tag_now (opening cpu h)) (tag_now h))
+is_old cpu h =
+    running h && (nat_lt 0 (depth cpu h) && is_before (tag_now (opening cpu h)) (tag_now h))
 
--- all reports, the first one first: each quiescent state made one, of its processor and the noted tag
+-- all reports, the first one first: each quiescent state made one, of its processor and the noted
+-- tag
 abbrev pub reports_made : History → List Report
 reports_made [] = []
 reports_made (Quiesce cpu ∷ h) = reports_made h ++ record { cpu = cpu; tag = noted cpu h } ∷ []
@@ -145,8 +151,8 @@ abbrev pub is_of : ℕ → Tag → Option Report → Bool
 is_of cpu tag None = false
 is_of cpu tag (Some report) = report.cpu == cpu && same_tag report.tag tag
 
--- by this event the processor is heard in the grace period of this tag: a report of both is delivered, it departs, or a
--- scan finds it idle
+-- by this event the processor is heard in the grace period of this tag: a report of both is
+-- delivered, it departs, or a scan finds it idle
 abbrev pub hears : ℕ → Tag → Event → History → Bool
 hears cpu tag (Deliver place) h = is_of cpu tag (report_at place (reports_made h))
 hears cpu tag (Offline c) h = c == cpu
@@ -157,6 +163,7 @@ hears cpu tag _ h = false
 abbrev pub is_heard : ℕ → Tag → History → Bool
 is_heard cpu tag h = some_since begins (hears cpu tag) h
 
--- the processor is awaited: a grace period runs at whose begin it was online, and it was not heard since
+-- the processor is awaited: a grace period runs at whose begin it was online, and it was not heard
+-- since
 abbrev pub awaits : ℕ → History → Bool
 awaits cpu h = running h && (online cpu (latest begins h) && not (is_heard cpu (tag_now h) h))

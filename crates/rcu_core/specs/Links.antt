@@ -1,7 +1,7 @@
--- What ties runs and histories to the laws: a run made longer, the latest grace period whether it runs or has ended,
--- who was heard in it, and callbacks as they were queued.
-use Rattle.std.specs.Prelude.{ℕ, ◌+◌, ◌≡◌, ◌==◌, ◌&&◌, Bool, true, false, if◌then◌else◌, List, [], ◌∷◌, ◌++◌}
-use Rattle.std.specs.Prelude.{Option, Some, None, sum_by}
+-- What ties runs and histories to the laws: a run made longer, the latest grace period whether it
+-- runs or has ended, who was heard in it, and callbacks as they were queued.
+use Rattle.std.specs.Prelude.{ℕ, ◌+◌, ◌≡◌, ◌==◌, ◌&&◌, Bool, true, false, if◌then◌else◌, List, []}
+use Rattle.std.specs.Prelude.{◌∷◌, ◌++◌, Option, Some, None, sum_by}
 use Rattle.std.specs.List.{list_any, range_with_len}
 use Rattle.rcu_seq.specs.Histories.{latest}
 use Rattle.rcu_seq.specs.declared.tag.Tag.{Tag}
@@ -21,15 +21,18 @@ onto (e ∷ events) (r ∷ replies) run = onto events replies ((e, r) ∷ run)
 onto [] replies run = run
 onto (e ∷ events) [] run = run
 
--- the tag of the latest grace period, whether it runs or has ended: the one at its begin; number 0 of epoch 0 before any
+-- the tag of the latest grace period, whether it runs or has ended: the one at its begin; number 0
+-- of epoch 0 before any
 abbrev pub tag : History → Tag
 tag h = tag_now (latest begins h)
 
--- the processor is in the start set of the latest grace period: one began, and the processor was online then
+-- the processor is in the start set of the latest grace period: one began, and the processor was
+-- online then
 abbrev pub starts : ℕ → History → Bool
 starts cpu h = list_any begins h && online cpu (latest begins h)
 
--- an event since the latest begin tells that the processor was heard in the grace period of this tag
+-- an event since the latest begin tells that the processor was heard in the grace period of this
+-- tag
 pub record ToldSince (cpu : ℕ) (tag : Tag) (h : History) : Type 0 where
   pub later : History
   pub event : Event
@@ -39,7 +42,8 @@ pub record ToldSince (cpu : ℕ) (tag : Tag) (h : History) : Type 0 where
   pub is_no_begin : begins event ≡ false
   pub tells : hears cpu tag event earlier ≡ true
 
--- the callback of this place among all that were queued, as it was queued: its place, the tag then, and its value
+-- the callback of this place among all that were queued, as it was queued: its place, the tag then,
+-- and its value
 abbrev pub queued_as : ℕ → History → Option (Queued ℕ)
 queued_as ord [] = None
 queued_as ord (Queue cpu value ∷ h) =
@@ -48,7 +52,8 @@ queued_as ord (Queue cpu value ∷ h) =
     else queued_as ord h
 queued_as ord (_ ∷ h) = queued_as ord h
 
--- the callback of this place was queued just before what came since: on which processor, its value, and what was before
+-- the callback of this place was queued just before what came since: on which processor, its value,
+-- and what was before
 pub record QueuedAt (ord : ℕ) (h : History) : Type 0 where
   pub cpu : ℕ
   pub value : ℕ
@@ -58,4 +63,5 @@ pub record QueuedAt (ord : ℕ) (h : History) : Type 0 where
 
 -- how often the callback of this place lies in the lists of this many processors
 abbrev pub times_listed : ℕ → ℕ → History → ℕ
-times_listed cpus ord h = sum_by (λ cpu. copies ord (callbacks (list cpu h))) (range_with_len 0 cpus)
+times_listed cpus ord h =
+    sum_by (λ cpu. copies ord (callbacks (list cpu h))) (range_with_len 0 cpus)

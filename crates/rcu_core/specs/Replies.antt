@@ -1,6 +1,7 @@
 -- Which replies are legal to an event after a history.
-use Rattle.std.specs.Prelude.{ℕ, ◌+◌, ◌-◌, ◌≡◌, ◌⊎◌, ◌==◌, Bool, true, false, not, ◌&&◌, nat_lt, nat_le, if◌then◌else◌}
-use Rattle.std.specs.Prelude.{List, [], ◌∷◌, length, count_by, map, sum_by, Option, Some, None, is_none}
+use Rattle.std.specs.Prelude.{ℕ, ◌+◌, ◌-◌, ◌≡◌, ◌⊎◌, ◌==◌, Bool, true, false, not, ◌&&◌, nat_lt}
+use Rattle.std.specs.Prelude.{nat_le, if◌then◌else◌, List, [], ◌∷◌, length, count_by, map, sum_by}
+use Rattle.std.specs.Prelude.{Option, Some, None, is_none}
 use Rattle.std.specs.List.{range_with_len}
 use Rattle.rcu_seq.specs.Numbers.{Number, is_last, number_at, same_number}
 use Rattle.rcu_seq.specs.Tags.{cookie_at, is_done_at, last_epoch, same_tag}
@@ -20,9 +21,11 @@ use Rattle.rcu_core.specs.Situation.{Situation, situation}
 use Rattle.rcu_state.specs.GpState.{which}
 use Rattle.rcu_state.specs.Periods.{number_in, tag_in, wants_begin}
 use Rattle.rcu_core.specs.declared.event.Event.{Event}
-use Rattle.rcu_core.specs.declared.event.Event.TheVariants.{Enter, Exit, Note, Quiesce, Deliver, Online, Offline, Begin}
-use Rattle.rcu_core.specs.declared.event.Event.TheVariants.{End, Turn, Awaits, Take, StartPoll, Poll, Queue, Tend, Run}
-use Rattle.rcu_core.specs.declared.event.Event.TheVariants.{BarBegin, Visit, BarTest, Renumber, Idle, Wake, Scan}
+use Rattle.rcu_core.specs.declared.event.Event.TheVariants.{Enter, Exit, Note, Quiesce, Deliver}
+use Rattle.rcu_core.specs.declared.event.Event.TheVariants.{Online, Offline, Begin, End, Turn}
+use Rattle.rcu_core.specs.declared.event.Event.TheVariants.{Awaits, Take, StartPoll, Poll, Queue}
+use Rattle.rcu_core.specs.declared.event.Event.TheVariants.{Tend, Run, BarBegin, Visit, BarTest}
+use Rattle.rcu_core.specs.declared.event.Event.TheVariants.{Renumber, Idle, Wake, Scan}
 use Rattle.rcu_core.specs.declared.reply.Reply.{Reply}
 use Rattle.rcu_core.specs.declared.reply.Reply.TheVariants as reply
 
@@ -46,10 +49,11 @@ tended_list v cpu = after_tend (v.calls.list cpu) (number_in v.periods)
 
 -- what the running barrier waits for: markers, and processors that it did not visit
 abbrev pub waits_for : Size → Situation → ℕ
-waits_for s v = sum_by (λ cpu. markers (v.calls.list cpu)) (range_with_len 0 s.cpus) + how_many s v.calls.owed
+waits_for s v =
+    sum_by (λ cpu. markers (v.calls.list cpu)) (range_with_len 0 s.cpus) + how_many s v.calls.owed
 
--- causes that several events test: there is no such processor, it is offline, it is idle, it is not idle, a section of
--- it is open
+-- causes that several events test: there is no such processor, it is offline, it is idle, it is not
+-- idle, a section of it is open
 abbrev pub no_cpu : Size → ℕ → Bool × Fault
 no_cpu s cpu = (nat_le s.cpus cpu, fault.BadCpu)
 
@@ -68,7 +72,8 @@ is_inside v cpu = (nat_lt 0 (v.cpus.depth cpu), fault.InSection)
 -- what is tested for an event, in order: a cause, and the fault that it is answered by
 abbrev pub causes : Size → Situation → Event → List (Bool × Fault)
 causes s v (Enter cpu) =
-    no_cpu s cpu ∷ is_offline v cpu ∷ is_asleep v cpu ∷ (v.cpus.depth cpu == deepest, fault.NestFull) ∷ []
+    no_cpu s cpu ∷ is_offline v cpu ∷ is_asleep v cpu
+    ∷ (v.cpus.depth cpu == deepest, fault.NestFull) ∷ []
 causes s v (Exit cpu) = no_cpu s cpu ∷ (v.cpus.depth cpu == 0, fault.NotOpen) ∷ []
 causes s v (Note cpu) = no_cpu s cpu ∷ is_offline v cpu ∷ []
 causes s v (Quiesce cpu) = no_cpu s cpu ∷ is_offline v cpu ∷ is_asleep v cpu ∷ is_inside v cpu ∷ []
@@ -102,8 +107,9 @@ causes s v (Scan cpu) = no_cpu s cpu ∷ is_offline v cpu ∷ is_awake v cpu ∷
 abbrev pub fault_in : Size → Situation → Event → Option Fault
 fault_in s v e = first_fault (causes s v e)
 
--- what a delivered report does: it is stale where no grace period runs or its tag is not that of now, a repeat where
--- its processor is not awaited, the last where that alone is awaited, and taken else
+-- what a delivered report does: it is stale where no grace period runs or its tag is not that of
+-- now, a repeat where its processor is not awaited, the last where that alone is awaited, and taken
+-- else
 abbrev pub answer_to_report : Size → Situation → Option Report → Answer
 answer_to_report s v None = Stale
 answer_to_report s v (Some report) =
@@ -123,20 +129,27 @@ begin_reply s v = reply.Begun (number_at v.periods.ends true) (how_many s v.cpus
 abbrev pub end_reply : Situation → Reply
 end_reply v = reply.Ended (number_at (v.periods.ends + 1) false)
 
--- a turn: a running grace period ends where nobody is awaited; where none runs, one begins if a later number is needed
+-- a turn: a running grace period ends where nobody is awaited; where none runs, one begins if a
+-- later number is needed
 abbrev pub turn_reply : Size → Situation → Reply
 turn_reply s v =
     if v.periods.running
-    then (if how_many s v.cpus.awaits == 0 then end_reply v else reply.Waiting (how_many s v.cpus.awaits))
+    then (if how_many s v.cpus.awaits == 0
+    then end_reply v
+    else reply.Waiting (how_many s v.cpus.awaits))
     else (if wants_begin v.periods then begin_reply s v else reply.Nothing)
 
 -- a visit: where the processor is owed one, a marker goes behind its list, if that is not empty
 abbrev pub visit_in : Situation → ℕ → Visited
-visit_in v cpu = if not (v.calls.owed cpu) then Already else (if is_empty (v.calls.list cpu) then Empty else Marked)
+visit_in v cpu =
+    if not (v.calls.owed cpu)
+    then Already
+    else (if is_empty (v.calls.list cpu) then Empty else Marked)
 
 -- a test of the barrier: it is done where it waits for nothing
 abbrev pub barrier_test_reply : Size → Situation → Reply
-barrier_test_reply s v = if waits_for s v == 0 then reply.BarDone else reply.BarWaits (waits_for s v)
+barrier_test_reply s v =
+    if waits_for s v == 0 then reply.BarDone else reply.BarWaits (waits_for s v)
 
 -- the reply to an event of which no cause holds
 abbrev pub accepted_reply : Size → Situation → Event → Reply
@@ -145,7 +158,8 @@ accepted_reply s v (Exit cpu) = reply.Depth (v.cpus.depth cpu - 1)
 accepted_reply s v (Note cpu) = reply.Noted (number_in v.periods) (v.cpus.awaits cpu)
 accepted_reply s v (Quiesce cpu) =
     reply.Made (length v.cpus.made + 1) (record { cpu = cpu; tag = v.cpus.noted cpu })
-accepted_reply s v (Deliver place) = reply.Answer (answer_to_report s v (report_at place v.cpus.made))
+accepted_reply s v (Deliver place) =
+    reply.Answer (answer_to_report s v (report_at place v.cpus.made))
 accepted_reply s v (Online cpu) = reply.Online
 accepted_reply s v (Offline cpu) = reply.Moved (length (callbacks (v.calls.list cpu)))
 accepted_reply s v Begin = begin_reply s v
@@ -158,8 +172,10 @@ accepted_reply s v (Poll number epoch) =
     reply.Polled (is_done_at s.last (record { epoch = epoch; number = number }) (tag_in v.periods))
 accepted_reply s v (Queue cpu value) = reply.Queued (v.calls.queued + 1)
 accepted_reply s v (Tend cpu) =
-    let xs = tended_list v cpu in reply.Tended (length (callbacks (front xs))) (length (callbacks (behind xs)))
-accepted_reply s v (Run cpu most) = reply.Ran (map (λ call. call.value) (take_answer (v.calls.list cpu) most))
+    let xs = tended_list v cpu in
+    reply.Tended (length (callbacks (front xs))) (length (callbacks (behind xs)))
+accepted_reply s v (Run cpu most) =
+    reply.Ran (map (λ call. call.value) (take_answer (v.calls.list cpu) most))
 accepted_reply s v BarBegin = reply.BarBegun
 accepted_reply s v (Visit cpu) = reply.Visited (visit_in v cpu)
 accepted_reply s v BarTest = barrier_test_reply s v
@@ -187,10 +203,12 @@ stores s v (Run cpu most) = nat_lt 0 (length (take_answer (v.calls.list cpu) mos
 stores s v (Visit cpu) = v.calls.owed cpu && not (is_empty (v.calls.list cpu))
 stores s v _ = false
 
--- the reply is the answer; or memory is wanted, where the event stores something and no other fault holds
+-- the reply is the answer; or memory is wanted, where the event stores something and no other fault
+-- holds
 abbrev pub IsLegalReply : Size → Situation → Event → Reply → Type 0
 IsLegalReply s v e r =
-    (r ≡ answer s v e) ⊎ ((stores s v e ≡ true) × (fault_in s v e ≡ None) × (r ≡ reply.Fault fault.NoMemory))
+    (r ≡ answer s v e)
+    ⊎ ((stores s v e ≡ true) × (fault_in s v e ≡ None) × (r ≡ reply.Fault fault.NoMemory))
 
 -- what a turn was: a begin, an end, or neither
 abbrev pub turn_as : Reply → Event
@@ -203,7 +221,8 @@ abbrev pub history_event : Event → Reply → Event
 history_event Turn r = turn_as r
 history_event e r = e
 
--- the history after an event and its reply: a refused event is not in it, nor is a test that found the barrier waiting
+-- the history after an event and its reply: a refused event is not in it, nor is a test that found
+-- the barrier waiting
 abbrev pub with_event : History → Event → Reply → History
 with_event h e (reply.Fault f) = h
 with_event h e (reply.BarWaits left) = h

@@ -4,12 +4,12 @@ use Rattle.rcu_seq.specs.declared.tag.Tag.{Tag}
 use Rattle.rcu_report.specs.declared.report.Report.{Report}
 use Rattle.rcu_cblist.specs.SegList.{Item}
 use Rattle.rcu_core.specs.Callbacks.{barrier_runs, is_owed, list, needed, queue_count}
-use Rattle.rcu_core.specs.History.{History, awaits, depth, ends_in_epoch, epoch, noted, online, reports_made}
-use Rattle.rcu_core.specs.History.{is_idle, running}
+use Rattle.rcu_core.specs.History.{History, awaits, depth, ends_in_epoch, epoch, noted, online}
+use Rattle.rcu_core.specs.History.{reports_made, is_idle, running}
 use Rattle.rcu_state.specs.Periods.{PeriodSituation}
 
--- what the events so far say of the processors: which are online, which are idle, which are awaited, how deep the sections of each
--- nest, which tag it noted last; and all reports
+-- what the events so far say of the processors: which are online, which are idle, which are
+-- awaited, how deep the sections of each nest, which tag it noted last; and all reports
 pub record CpuSituation : Type 0 where
   pub online : ℕ → Bool
   pub idle : ℕ → Bool
@@ -18,8 +18,8 @@ pub record CpuSituation : Type 0 where
   pub noted : ℕ → Tag
   pub made : List Report
 
--- what they say of callbacks: how many were queued, each processor's list, whether a barrier runs, and which processors
--- it owes a visit
+-- what they say of callbacks: how many were queued, each processor's list, whether a barrier runs,
+-- and which processors it owes a visit
 pub record CallbackSituation : Type 0 where
   pub queued : ℕ
   pub list : ℕ → List (Item ℕ)
@@ -34,7 +34,12 @@ pub record Situation : Type 0 where
 
 -- the three parts of what a history says
 abbrev pub periods_in : History → PeriodSituation
-periods_in h = record { epoch = epoch h; ends = ends_in_epoch h; running = running h; needed = needed h }
+periods_in h = record {
+  epoch = epoch h;
+  ends = ends_in_epoch h;
+  running = running h;
+  needed = needed h;
+}
 
 abbrev pub cpus_in : History → CpuSituation
 cpus_in h = record {

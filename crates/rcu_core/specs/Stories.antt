@@ -1,5 +1,5 @@
--- Stories: a run, and in between the publications of a value's versions and the loads of the current one. The newest
--- comes first. Versions are named by numbers.
+-- Stories: a run, and in between the publications of a value's versions and the loads of the
+-- current one. The newest comes first. Versions are named by numbers.
 use Rattle.std.specs.Prelude.{ℕ, ◌==◌, ◌&&◌, ◌||◌, Bool, false, nat_lt, List, [], ◌∷◌}
 use Rattle.rcu_core.specs.History.{depth}
 use Rattle.rcu_core.specs.Runs.{Run, history}
@@ -43,7 +43,8 @@ is_open cpu story = nat_lt 0 (depth cpu (history (run_of story)))
 -- the processor holds the version: its open section loaded it
 abbrev pub holds_version : ℕ → ℕ → Story → Bool
 holds_version cpu version [] = false
-holds_version cpu version (Replied e r ∷ story) = is_open cpu (Replied e r ∷ story) && holds_version cpu version story
+holds_version cpu version (Replied e r ∷ story) =
+    is_open cpu (Replied e r ∷ story) && holds_version cpu version story
 holds_version cpu version (Publish other ∷ story) = holds_version cpu version story
 holds_version cpu version (Load c ∷ story) =
     (c == cpu && (is_open cpu story && current story == version)) || holds_version cpu version story

@@ -1,17 +1,18 @@
 //! The machine over events.
-ghost use Rattle.std.specs.Prelude.{◌≡◌, ◌<◌, ◌≤◌, ◌^◌, ℕ, true, false, [], Some, None, length};
-ghost use Rattle.std.specs.Prelude.{replicate, IfErr, IfOk, OnErr, OnOk};
-ghost use Rattle.rcu_seq.specs.Numbers.{is_last};
+ghost use Rattle.std.specs.Prelude.{◌≡◌, ◌<◌, ◌≤◌, ◌^◌, false, [], length, replicate, IfErr, IfOk};
+ghost use Rattle.std.specs.Prelude.{OnErr};
+ghost use Rattle.std.specs.Result.{result_err};
+ghost use Rattle.rcu_seq.specs.Memory.{tested_fault};
+ghost use Rattle.rcu_seq.specs.Seq.{last_refusal};
 ghost use Rattle.rcu_seq.specs.Tags.{first_tag};
 ghost use Rattle.rcu_node.specs.CpuSet.{is_in, size_of};
-ghost use Rattle.rcu_hotplug.specs.Hotplug.{cpus_of};
 ghost use Rattle.rcu_barrier.specs.Lists.{most_queued};
 ghost use Rattle.rcu_state.specs.GpState.{which};
 ghost use Rattle.rcu_core.specs.History.{History, report_at};
 ghost use Rattle.rcu_core.specs.Replies.{fault_in};
 ghost use Rattle.rcu_core.specs.Links.{onto};
 ghost use Rattle.rcu_core.specs.Runs.{IsLegalRun, RunsLegally};
-ghost use Rattle.rcu_core.specs.Core.{Follows, Refuses, Represents, StepsLegally, says, size_at};
+ghost use Rattle.rcu_core.specs.Core.{Follows, Represents, Takes, cpu_refusal, says, size_at};
 
 use crate::cpu_list::CpuList;
 use crate::event::Event;
@@ -71,9 +72,9 @@ fn report_of(reports: &[Report], place: u64) -> Option<Report>
 
 /// The awaited processors, ascending, once there is room for all of them.
 fn list_awaited<A: Awaited>(alloc: Global, awaited: &A) -> Result<CpuList, AllocError>
-    ensures ok { IfOk result (λ list.
+    ensures answer { IfOk result (λ list.
         list ≡ which (length (A.awaited awaited.now)) (is_in (A.awaited awaited.now))) }
-    ensures err { OnErr result (0 < size_of (A.awaited awaited.now)) }
+    ensures memory { OnErr result (0 < size_of (A.awaited awaited.now)) }
 {
     let mut list = Vec::with_capacity(alloc, awaited.count() as usize)?;
     for cpu in 0..awaited.cpus() {
@@ -93,12 +94,10 @@ impl<A: Awaited> Core<A, u64> {
     pub fn new(alloc: Global, inner: A, last: u64) -> Result<Self, Fault>
         requires tag { A.tag inner ≡ first_tag }
         requires empty { A.start_set inner ≡ replicate (length (A.awaited inner)) false }
-        ensures ok { IfOk result (λ made. Represents made []) }
+        ensures fault { tested_fault result ≡ last_refusal last }
+        ensures situation { IfOk result (λ made. Represents made []) }
         ensures size { IfOk result (λ made. size_at made
             ≡ record { cpus = length (A.awaited inner); last = last; most = most_queued }) }
-        ensures accepted { OnOk result (is_last last ≡ true) }
-        ensures err { IfErr result (λ fault. is_last last ≡ false → fault ≡ Fault.BadLast) }
-        ensures memory { IfErr result (λ fault. is_last last ≡ true → fault ≡ Fault.NoMemory) }
     {
         Core::with_most(alloc, inner, last, MOST_QUEUED)
     }
@@ -111,12 +110,10 @@ impl<A: Awaited> Core<A, u64> {
         requires empty { A.start_set inner ≡ replicate (length (A.awaited inner)) false }
         requires most_some { 1 ≤ most }
         requires most_few { most ≤ 2 ^ 62 }
-        ensures ok { IfOk result (λ made. Represents made []) }
+        ensures fault { tested_fault result ≡ last_refusal last }
+        ensures situation { IfOk result (λ made. Represents made []) }
         ensures size { IfOk result (λ made. size_at made
             ≡ record { cpus = length (A.awaited inner); last = last; most = most }) }
-        ensures accepted { OnOk result (is_last last ≡ true) }
-        ensures err { IfErr result (λ fault. is_last last ≡ false → fault ≡ Fault.BadLast) }
-        ensures memory { IfErr result (λ fault. is_last last ≡ true → fault ≡ Fault.NoMemory) }
     {
         let gp = GpState::with_most(alloc, inner, last, most)?;
         let mut cpus = Vec::with_capacity(alloc, gp.cpus() as usize)?;
@@ -155,11 +152,11 @@ impl<A: Awaited> Core<A, u64> {
     ///
     /// Fault `NoMemory` (16): no event was taken.
     pub fn run(&mut self, events: &[Event]) -> Result<Vec<Reply>, Fault>
-        ensures ok { IfOk result (λ replies. (h : History) → Represents self.old h →
+        ensures legal { IfOk result (λ replies. (h : History) → Represents self.old h →
             RunsLegally self.old h events.now replies.items self.new) }
         ensures anew { IfOk result (λ replies. Represents self.old []
             → IsLegalRun (size_at self.old) (onto events.now replies.items [])) }
-        ensures err { IfErr result (λ fault. fault ≡ Fault.NoMemory) }
+        ensures fault { IfErr result (λ fault. fault ≡ Fault.NoMemory) }
         ensures unchanged { OnErr result (self.new ≡ self.old) }
     {
         let mut replies = Vec::with_capacity(self.alloc, events.len())?;
@@ -171,8 +168,7 @@ impl<A: Awaited> Core<A, u64> {
     }
 
     fn apply(&mut self, event: Event) -> Result<Reply, Fault>
-        ensures ok { IfOk result (λ reply. StepsLegally self.old event reply self.new) }
-        ensures err { IfErr result (λ fault. Refuses self.old event fault self.new) }
+        ensures { Takes self.old event result self.new }
     {
         match event {
             Event::Enter(cpu) => self.enter(cpu),
@@ -204,10 +200,8 @@ impl<A: Awaited> Core<A, u64> {
 
     /// The processor's place. Fault `BadCpu` (1): there is none.
     fn place_of(&self, cpu: u32) -> Result<usize, Fault>
+        ensures fault { result_err result ≡ cpu_refusal self.now cpu }
         ensures place { IfOk result (λ place. place ≡ cpu) }
-        ensures there { OnOk result (cpu < cpus_of self.now.grace.processors) }
-        ensures fault { IfErr result (λ fault. fault ≡ Fault.BadCpu) }
-        ensures none { OnErr result (cpus_of self.now.grace.processors ≤ cpu) }
     {
         if cpu >= self.gp.cpus() {
             return Err(Fault::BadCpu);
@@ -216,24 +210,21 @@ impl<A: Awaited> Core<A, u64> {
     }
 
     fn enter(&mut self, cpu: u32) -> Result<Reply, Fault>
-        ensures ok { IfOk result (λ reply. StepsLegally self.old (Event.Enter cpu) reply self.new) }
-        ensures err { IfErr result (λ fault. Refuses self.old (Event.Enter cpu) fault self.new) }
+        ensures { Takes self.old (Event.Enter cpu) result self.new }
     {
         let place = self.place_of(cpu)?;
         Ok(Reply::Depth(self.cpus[place].enter()?))
     }
 
     fn exit(&mut self, cpu: u32) -> Result<Reply, Fault>
-        ensures ok { IfOk result (λ reply. StepsLegally self.old (Event.Exit cpu) reply self.new) }
-        ensures err { IfErr result (λ fault. Refuses self.old (Event.Exit cpu) fault self.new) }
+        ensures { Takes self.old (Event.Exit cpu) result self.new }
     {
         let place = self.place_of(cpu)?;
         Ok(Reply::Depth(self.cpus[place].exit()?))
     }
 
     fn note(&mut self, cpu: u32) -> Result<Reply, Fault>
-        ensures ok { IfOk result (λ reply. StepsLegally self.old (Event.Note cpu) reply self.new) }
-        ensures err { IfErr result (λ fault. Refuses self.old (Event.Note cpu) fault self.new) }
+        ensures { Takes self.old (Event.Note cpu) result self.new }
     {
         let place = self.place_of(cpu)?;
         let now = self.gp.tag();
@@ -242,9 +233,7 @@ impl<A: Awaited> Core<A, u64> {
     }
 
     fn quiesce(&mut self, cpu: u32) -> Result<Reply, Fault>
-        ensures ok { IfOk result (λ reply.
-            StepsLegally self.old (Event.Quiesce cpu) reply self.new) }
-        ensures err { IfErr result (λ fault. Refuses self.old (Event.Quiesce cpu) fault self.new) }
+        ensures { Takes self.old (Event.Quiesce cpu) result self.new }
     {
         let place = self.place_of(cpu)?;
         let report = self.cpus[place].quiesce()?;
@@ -253,19 +242,14 @@ impl<A: Awaited> Core<A, u64> {
     }
 
     fn deliver(&mut self, place: u64) -> Result<Reply, Fault>
-        ensures ok { IfOk result (λ reply.
-            StepsLegally self.old (Event.Deliver place) reply self.new) }
-        ensures err { IfErr result (λ fault.
-            Refuses self.old (Event.Deliver place) fault self.new) }
+        ensures { Takes self.old (Event.Deliver place) result self.new }
     {
         let report = report_of(self.reports.as_slice(), place).ok_or(Fault::NoReport)?;
         Ok(Reply::Answer(self.gp.report(report)))
     }
 
     fn arrive(&mut self, cpu: u32) -> Result<Reply, Fault>
-        ensures ok { IfOk result (λ reply.
-            StepsLegally self.old (Event.Online cpu) reply self.new) }
-        ensures err { IfErr result (λ fault. Refuses self.old (Event.Online cpu) fault self.new) }
+        ensures { Takes self.old (Event.Online cpu) result self.new }
     {
         self.gp.arrive(cpu)?;
         let now = self.gp.tag();
@@ -277,11 +261,9 @@ impl<A: Awaited> Core<A, u64> {
 
     /// The place of a processor that departs, where nothing speaks against it.
     fn departing(&self, cpu: u32) -> Result<usize, Fault>
+        ensures fault { result_err result
+            ≡ fault_in (size_at self.now) (says self.now) (Event.Offline cpu) }
         ensures place { IfOk result (λ place. place ≡ cpu) }
-        ensures ok { OnOk result
-            (fault_in (size_at self.now) (says self.now) (Event.Offline cpu) ≡ None) }
-        ensures err { IfErr result (λ fault.
-            fault_in (size_at self.now) (says self.now) (Event.Offline cpu) ≡ Some fault) }
     {
         let place = self.place_of(cpu)?;
         if cpu == 0 {
@@ -297,9 +279,7 @@ impl<A: Awaited> Core<A, u64> {
     }
 
     fn depart(&mut self, cpu: u32) -> Result<Reply, Fault>
-        ensures ok { IfOk result (λ reply.
-            StepsLegally self.old (Event.Offline cpu) reply self.new) }
-        ensures err { IfErr result (λ fault. Refuses self.old (Event.Offline cpu) fault self.new) }
+        ensures { Takes self.old (Event.Offline cpu) result self.new }
     {
         let place = self.departing(cpu)?;
         let moved = self.gp.migrate(cpu)?;
@@ -310,23 +290,20 @@ impl<A: Awaited> Core<A, u64> {
     }
 
     fn begin(&mut self) -> Result<Reply, Fault>
-        ensures ok { IfOk result (λ reply. StepsLegally self.old Event.Begin reply self.new) }
-        ensures err { IfErr result (λ fault. Refuses self.old Event.Begin fault self.new) }
+        ensures { Takes self.old Event.Begin result self.new }
     {
         let (number, awaited) = self.gp.begin()?;
         Ok(Reply::Begun(number, awaited))
     }
 
     fn end(&mut self) -> Result<Reply, Fault>
-        ensures ok { IfOk result (λ reply. StepsLegally self.old Event.End reply self.new) }
-        ensures err { IfErr result (λ fault. Refuses self.old Event.End fault self.new) }
+        ensures { Takes self.old Event.End result self.new }
     {
         Ok(Reply::Ended(self.gp.end()?))
     }
 
     fn turn(&mut self) -> Result<Reply, Fault>
-        ensures ok { IfOk result (λ reply. StepsLegally self.old Event.Turn reply self.new) }
-        ensures err { IfErr result (λ fault. Refuses self.old Event.Turn fault self.new) }
+        ensures { Takes self.old Event.Turn result self.new }
     {
         Ok(match self.gp.turn()? {
             Turned::Begun(number, awaited) => Reply::Begun(number, awaited),
@@ -337,45 +314,37 @@ impl<A: Awaited> Core<A, u64> {
     }
 
     fn awaits(&self) -> Result<Reply, Fault>
-        ensures ok { IfOk result (λ reply. StepsLegally self.now Event.Awaits reply self.now) }
-        ensures err { IfErr result (λ fault. Refuses self.now Event.Awaits fault self.now) }
+        ensures { Takes self.now Event.Awaits result self.now }
     {
         Ok(Reply::Awaits(list_awaited(self.alloc, self.gp.awaited())?))
     }
 
     fn take(&self) -> Result<Reply, Fault>
-        ensures ok { IfOk result (λ reply. StepsLegally self.now Event.Take reply self.now) }
-        ensures err { IfErr result (λ fault. Refuses self.now Event.Take fault self.now) }
+        ensures { Takes self.now Event.Take result self.now }
     {
         Ok(Reply::Cookie(self.gp.take()))
     }
 
     fn start_poll(&mut self) -> Result<Reply, Fault>
-        ensures ok { IfOk result (λ reply. StepsLegally self.old Event.StartPoll reply self.new) }
-        ensures err { IfErr result (λ fault. Refuses self.old Event.StartPoll fault self.new) }
+        ensures { Takes self.old Event.StartPoll result self.new }
     {
         Ok(Reply::Cookie(self.gp.start_poll()))
     }
 
     fn poll(&self, number: u64, epoch: u64) -> Result<Reply, Fault>
-        ensures ok { IfOk result (λ reply.
-            StepsLegally self.now (Event.Poll number epoch) reply self.now) }
-        ensures err { IfErr result (λ fault.
-            Refuses self.now (Event.Poll number epoch) fault self.now) }
+        ensures { Takes self.now (Event.Poll number epoch) result self.now }
     {
         Ok(Reply::Polled(self.gp.done(Cookie { epoch, number })))
     }
 
     fn renumber(&mut self) -> Result<Reply, Fault>
-        ensures ok { IfOk result (λ reply. StepsLegally self.old Event.Renumber reply self.new) }
-        ensures err { IfErr result (λ fault. Refuses self.old Event.Renumber fault self.new) }
+        ensures { Takes self.old Event.Renumber result self.new }
     {
         Ok(Reply::Renumbered(self.gp.renumber()?))
     }
 
     fn idle(&mut self, cpu: u32) -> Result<Reply, Fault>
-        ensures ok { IfOk result (λ reply. StepsLegally self.old (Event.Idle cpu) reply self.new) }
-        ensures err { IfErr result (λ fault. Refuses self.old (Event.Idle cpu) fault self.new) }
+        ensures { Takes self.old (Event.Idle cpu) result self.new }
     {
         let place = self.place_of(cpu)?;
         self.cpus[place].idle()?;
@@ -383,8 +352,7 @@ impl<A: Awaited> Core<A, u64> {
     }
 
     fn wake(&mut self, cpu: u32) -> Result<Reply, Fault>
-        ensures ok { IfOk result (λ reply. StepsLegally self.old (Event.Wake cpu) reply self.new) }
-        ensures err { IfErr result (λ fault. Refuses self.old (Event.Wake cpu) fault self.new) }
+        ensures { Takes self.old (Event.Wake cpu) result self.new }
     {
         let place = self.place_of(cpu)?;
         self.cpus[place].wake()?;
@@ -392,8 +360,7 @@ impl<A: Awaited> Core<A, u64> {
     }
 
     fn scan(&mut self, cpu: u32) -> Result<Reply, Fault>
-        ensures ok { IfOk result (λ reply. StepsLegally self.old (Event.Scan cpu) reply self.new) }
-        ensures err { IfErr result (λ fault. Refuses self.old (Event.Scan cpu) fault self.new) }
+        ensures { Takes self.old (Event.Scan cpu) result self.new }
     {
         let place = self.place_of(cpu)?;
         if !self.gp.online(cpu) {
@@ -406,10 +373,7 @@ impl<A: Awaited> Core<A, u64> {
     }
 
     fn queue(&mut self, cpu: u32, value: u64) -> Result<Reply, Fault>
-        ensures ok { IfOk result (λ reply.
-            StepsLegally self.old (Event.Queue cpu value) reply self.new) }
-        ensures err { IfErr result (λ fault.
-            Refuses self.old (Event.Queue cpu value) fault self.new) }
+        ensures { Takes self.old (Event.Queue cpu value) result self.new }
     {
         self.place_of(cpu)?;
         if !self.gp.online(cpu) {
@@ -422,8 +386,7 @@ impl<A: Awaited> Core<A, u64> {
     }
 
     fn tend(&mut self, cpu: u32) -> Result<Reply, Fault>
-        ensures ok { IfOk result (λ reply. StepsLegally self.old (Event.Tend cpu) reply self.new) }
-        ensures err { IfErr result (λ fault. Refuses self.old (Event.Tend cpu) fault self.new) }
+        ensures { Takes self.old (Event.Tend cpu) result self.new }
     {
         self.place_of(cpu)?;
         let (done, waiting) = self.gp.tend(cpu);
@@ -431,33 +394,28 @@ impl<A: Awaited> Core<A, u64> {
     }
 
     fn run_callbacks(&mut self, cpu: u32, most: u64) -> Result<Reply, Fault>
-        ensures ok { IfOk result (λ reply.
-            StepsLegally self.old (Event.Run cpu most) reply self.new) }
-        ensures err { IfErr result (λ fault. Refuses self.old (Event.Run cpu most) fault self.new) }
+        ensures { Takes self.old (Event.Run cpu most) result self.new }
     {
         self.place_of(cpu)?;
         Ok(Reply::Ran(ValueList::new(self.gp.run(cpu, most)?)))
     }
 
     fn begin_barrier(&mut self) -> Result<Reply, Fault>
-        ensures ok { IfOk result (λ reply. StepsLegally self.old Event.BarBegin reply self.new) }
-        ensures err { IfErr result (λ fault. Refuses self.old Event.BarBegin fault self.new) }
+        ensures { Takes self.old Event.BarBegin result self.new }
     {
         self.gp.barrier_begin()?;
         Ok(Reply::BarBegun)
     }
 
     fn visit(&mut self, cpu: u32) -> Result<Reply, Fault>
-        ensures ok { IfOk result (λ reply. StepsLegally self.old (Event.Visit cpu) reply self.new) }
-        ensures err { IfErr result (λ fault. Refuses self.old (Event.Visit cpu) fault self.new) }
+        ensures { Takes self.old (Event.Visit cpu) result self.new }
     {
         self.place_of(cpu)?;
         Ok(Reply::Visited(self.gp.visit(cpu)?))
     }
 
     fn test_barrier(&mut self) -> Result<Reply, Fault>
-        ensures ok { IfOk result (λ reply. StepsLegally self.old Event.BarTest reply self.new) }
-        ensures err { IfErr result (λ fault. Refuses self.old Event.BarTest fault self.new) }
+        ensures { Takes self.old Event.BarTest result self.new }
     {
         Ok(match self.gp.barrier_test()? {
             BarrierState::Done => Reply::BarDone,

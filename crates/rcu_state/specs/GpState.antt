@@ -1,10 +1,11 @@
 -- The state of the grace periods and the callbacks: what each call leaves, and when it is refused.
-use Rattle.std.specs.Prelude.{ℕ, ◌+◌, ◌≤◌, ◌≡◌, ◌==◌, ◌&&◌, Bool, true, false, not, max, nat_lt, if◌then◌else◌}
-use Rattle.std.specs.Prelude.{List, [], ◌∷◌, All, Option, Some, None, filter, slice_set}
+use Rattle.std.specs.Prelude.{ℕ, ◌+◌, ◌≤◌, ◌≡◌, ◌==◌, ◌&&◌, Bool, true, false, not, max, nat_lt}
+use Rattle.std.specs.Prelude.{if◌then◌else◌, List, [], ◌∷◌, All, Option, filter, slice_set}
 use Rattle.std.specs.List.{range_with_len}
+use Rattle.rcu_seq.specs.Fault.{first_fault}
 use Rattle.rcu_seq.specs.Numbers.{Number, same_number, snapshot}
-use Rattle.rcu_seq.specs.Tags.{last_epoch}
 use Rattle.rcu_seq.specs.declared.tag.Tag.{Tag}
+use Rattle.rcu_seq.specs.Seq as counter
 use Rattle.rcu_seq.specs.Seq.{Periods, cookie_of, number_of, renumbered, tag_of}
 use Rattle.rcu_seq.specs.declared.fault.Fault.{Fault}
 use Rattle.rcu_seq.specs.declared.fault.Fault.TheVariants as fault
@@ -24,15 +25,17 @@ use Rattle.rcu_state.specs.declared.current_answer.CurrentAnswer.TheVariants as 
 use Rattle.rcu_state.specs.declared.turned.Turned.{Turned}
 use Rattle.rcu_state.specs.declared.turned.Turned.TheVariants as turned
 
--- the counter of grace periods, the greatest number that was asked for, the processors, which are the online ones and
--- those that the latest grace period awaits, and each processor's list of callbacks
+-- the counter of grace periods, the greatest number that was asked for, the processors, which are
+-- the online ones and those that the latest grace period awaits, and each processor's list of
+-- callbacks
 pub record Grace (X : Type 0) : Type 0 where
   pub seq : Periods
   pub needed : Number
   pub processors : Processors
   pub lists : AllLists X
 
--- what contracts see of the state: what it says, and for how many items each list has room before it grows
+-- what contracts see of the state: what it says, and for how many items each list has room before
+-- it grows
 pub record GraceWithRooms (X : Type 0) : Type 0 where
   pub grace : Grace X
   pub rooms : List ℕ
@@ -45,9 +48,10 @@ IsNoLater now at = (at.epoch ≤ now.epoch) × (at.epoch ≡ now.epoch → at.nu
 abbrev pub IsDue : Tag → Tag → Number → Type 0
 IsDue now at n = at.epoch ≡ now.epoch → snapshot at.number ≤ n
 
--- a callback that was queued at one tag has this mark at another: it was queued no later; what it waits for is no sooner
--- than the snapshot of its queueing, if that was in this epoch, and no later than that of now; and where it is done, the
--- number has reached the snapshot of its queueing, if that was in this epoch
+-- a callback that was queued at one tag has this mark at another: it was queued no later; what it
+-- waits for is no sooner than the snapshot of its queueing, if that was in this epoch, and no later
+-- than that of now; and where it is done, the number has reached the snapshot of its queueing, if
+-- that was in this epoch
 abbrev pub IsTimely : Tag → Tag → Mark → Type 0
 IsTimely now at Unmarked = IsNoLater now at
 IsTimely now at (Until n) = IsNoLater now at × IsDue now at n × (n ≤ snapshot now.number)
@@ -66,7 +70,12 @@ module _ {X : Type 0} where
   abbrev pub lists_of : GraceWithRooms X → ListsWithRooms X
   lists_of g = record { all = g.grace.lists; rooms = g.rooms }
 
-  -- before any call nothing ran, nothing is needed, processor 0 alone is online, and the lists are empty
+  -- with what it says changed, and as much room
+  abbrev pub on_grace : (Grace X → Grace X) → GraceWithRooms X → GraceWithRooms X
+  on_grace change g = record g { grace = change g.grace }
+
+  -- before any call nothing ran, nothing is needed, processor 0 alone is online, and the lists are
+  -- empty
   abbrev pub at_first : ℕ → Number → ℕ → Grace X
   at_first cpus last most = record {
     seq = record { epoch = 0; ends = 0; running = false; last = last };
@@ -85,20 +94,18 @@ module _ {X : Type 0} where
 
   -- why no grace period begins: one runs, or the number is the last one
   abbrev pub begin_refusal : Grace X → Option Fault
-  begin_refusal g =
-      if g.seq.running then Some fault.Running
-      else (if same_number (number_of g.seq) g.seq.last then Some fault.Exhausted else None)
+  begin_refusal g = counter.refusal g.seq counter.Begin
 
   -- a grace period began: it awaits the online processors, and its tag is that of now
   abbrev pub after_begin : Grace X → Grace X
   after_begin g =
-      let seq = record g.seq { running = true } in record (with_call g (Begin (tag_of seq))) { seq = seq }
+      let seq = record g.seq { running = true } in
+      record (with_call g (Begin (tag_of seq))) { seq = seq }
 
   -- why none ends: none runs, or a processor is awaited
   abbrev pub end_refusal : Grace X → Option Fault
   end_refusal g =
-      if not g.seq.running then Some fault.Idle
-      else (if nat_lt 0 (awaited_in g) then Some fault.Waiting else None)
+      first_fault ((not g.seq.running, fault.Idle) ∷ (nat_lt 0 (awaited_in g), fault.Waiting) ∷ [])
 
   -- the grace period ended
   abbrev pub after_end : Grace X → Grace X
@@ -107,12 +114,15 @@ module _ {X : Type 0} where
   -- the answer to a report: while no grace period runs each is stale
   abbrev pub report_answer_in : Grace X → Report → Answer
   report_answer_in g report =
-      if g.seq.running then report_answer (tag_of g.seq) g.processors.awaited report.cpu report.tag else Stale
+      if g.seq.running
+      then report_answer (tag_of g.seq) g.processors.awaited report.cpu report.tag
+      else Stale
 
   -- who is awaited after a report: one that is not stale clears its processor
   abbrev pub awaited_after : Grace X → Report → List Bool
   awaited_after g report =
-      if g.seq.running then awaited_after_report (tag_of g.seq) g.processors.awaited report.cpu report.tag
+      if g.seq.running
+      then awaited_after_report (tag_of g.seq) g.processors.awaited report.cpu report.tag
       else g.processors.awaited
 
   -- with these processors awaited
@@ -147,19 +157,32 @@ module _ {X : Type 0} where
 
   -- what its counter and its needed number say
   abbrev pub periods_of : Grace X → PeriodSituation
-  periods_of g = record { epoch = g.seq.epoch; ends = g.seq.ends; running = g.seq.running; needed = g.needed }
+  periods_of g = record {
+    epoch = g.seq.epoch;
+    ends = g.seq.ends;
+    running = g.seq.running;
+    needed = g.needed;
+  }
 
   -- why a turn is refused: it would begin a grace period, and the number is the last one
   abbrev pub turn_refusal : Grace X → Option Fault
   turn_refusal g =
-      if wants_begin (periods_of g) && same_number (number_of g.seq) g.seq.last then Some fault.Exhausted else None
+      first_fault ((
+        wants_begin (periods_of g) && same_number (number_of g.seq) g.seq.last,
+        fault.Exhausted,
+      )
+      ∷ [])
 
-  -- what a turn does: a running grace period ends where nobody is awaited; where none runs, one begins if it is needed
+  -- what a turn does: a running grace period ends where nobody is awaited; where none runs, one
+  -- begins if it is needed
   abbrev pub turn_answer : Grace X → Turned
   turn_answer g =
       if g.seq.running
-      then (if awaited_in g == 0 then turned.Ended (number_of (after_end g).seq) else turned.Waiting (awaited_in g))
-      else (if wants_begin (periods_of g) then turned.Begun (number_of (after_begin g).seq) (awaited_in (after_begin g))
+      then (if awaited_in g == 0
+      then turned.Ended (number_of (after_end g).seq)
+      else turned.Waiting (awaited_in g))
+      else (if wants_begin (periods_of g)
+      then turned.Begun (number_of (after_begin g).seq) (awaited_in (after_begin g))
       else turned.Nothing)
 
   -- what a turn leaves
@@ -182,7 +205,8 @@ module _ {X : Type 0} where
 
   -- a processor's list was tended at the number; what it then waits for is needed
   abbrev pub after_tend : Grace X → ℕ → Grace X
-  after_tend g cpu = let tended = on_lists (λ all. lists.lists_after_tend all cpu (number_of g.seq)) g in
+  after_tend g cpu =
+      let tended = on_lists (λ all. lists.lists_after_tend all cpu (number_of g.seq)) g in
       record tended { needed = greatest_from g.needed (numbers (lists.list_of tended.lists cpu)) }
 
   -- at most so many callbacks were handed out of a processor's done part
@@ -205,15 +229,13 @@ module _ {X : Type 0} where
   abbrev pub after_barrier_test : Grace X → Grace X
   after_barrier_test g = on_lists lists.lists_after_barrier_test g
 
-  -- why the numbers do not start anew: a grace period runs, the number is not the last one, or the epoch is the last one
+  -- why the numbers do not start anew: a grace period runs, the number is not the last one, or the
+  -- epoch is the last one
   abbrev pub renumber_refusal : Grace X → Option Fault
-  renumber_refusal g =
-      if g.seq.running then Some fault.Running
-      else (if not (same_number (number_of g.seq) g.seq.last) then Some fault.NotLast
-      else (if g.seq.epoch == last_epoch then Some fault.Exhausted else None))
+  renumber_refusal g = counter.refusal g.seq counter.Renumber
 
-  -- the numbers start anew in the next epoch: what waits has none, and what was needed above the number, which was the
-  -- last one, is the first grace period of this epoch
+  -- the numbers start anew in the next epoch: what waits has none, and what was needed above the
+  -- number, which was the last one, is the first grace period of this epoch
   abbrev pub after_renumber : Grace X → Grace X
   after_renumber g = record (on_lists lists.lists_after_renumber g) {
     seq = renumbered g.seq;
@@ -226,8 +248,8 @@ module _ {X : Type 0} where
   AreTimely now (Of call mark ∷ xs) = IsTimely now call.at mark × AreTimely now xs
   AreTimely now (Marker ∷ xs) = AreTimely now xs
 
-  -- what always holds: a list for each processor; while a grace period runs, the tag of now is that of the awaited set;
-  -- and each callback is timely at it
+  -- what always holds: a list for each processor; while a grace period runs, the tag of now is that
+  -- of the awaited set; and each callback is timely at it
   pub record IsSound (g : Grace X) : Type 0 where
     pub tag : g.seq.running ≡ true → g.processors.tag ≡ tag_of g.seq
     pub sized : lists.cpus_of g.lists ≡ hotplug.cpus_of g.processors

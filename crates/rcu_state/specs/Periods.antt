@@ -3,7 +3,8 @@ use Rattle.std.specs.Prelude.{ℕ, ◌&&◌, Bool, not, nat_lt, List, max, fold}
 use Rattle.rcu_seq.specs.Numbers.{Number, number_at}
 use Rattle.rcu_seq.specs.declared.tag.Tag.{Tag}
 
--- what is said of grace periods: the epoch, how many ended in it, whether one runs, and which number is needed
+-- what is said of grace periods: the epoch, how many ended in it, whether one runs, and which
+-- number is needed
 pub record PeriodSituation : Type 0 where
   pub epoch : ℕ
   pub ends : ℕ

@@ -1,16 +1,18 @@
 //! The callbacks of the state, and the barrier over them.
-ghost use Rattle.std.specs.Prelude.{◌≡◌, ◌≢◌, ◌<◌, ◌≤◌, ◌==◌, ◌^◌, if◌then◌else◌, All, [], true};
-ghost use Rattle.std.specs.Prelude.{false, length, slice_get, IfErr, IfOk, IfSome, IsOk, OnErr};
-ghost use Rattle.std.specs.Prelude.{OnOk};
+ghost use Rattle.std.specs.Prelude.{◌≡◌, ◌<◌, ◌≤◌, ◌^◌, All, Some, false, length, slice_get, true};
+ghost use Rattle.std.specs.Prelude.{IfErr, IfOk, IfSome, OnErr, OnOk};
+ghost use Rattle.std.specs.Result.{result_err};
 ghost use Rattle.rcu_seq.specs.Seq.{tag_of};
 ghost use Rattle.rcu_hotplug.specs.Hotplug.{cpus_of};
 ghost use Rattle.rcu_cblist.specs.SegList.{begins_with_marker, behind, callbacks, front, is_empty};
 ghost use Rattle.rcu_cblist.specs.SegList.{take_answer};
 ghost use Rattle.rcu_barrier.specs.Lists as lists;
-ghost use Rattle.rcu_barrier.specs.Lists.{HasRoomIn, KeepsOtherRooms, barrier_test_answer};
-ghost use Rattle.rcu_barrier.specs.Lists.{leaving_list, list_of, room_of, visit_answer};
+ghost use Rattle.rcu_barrier.specs.Lists.{Grows, Shrinks, barrier_begin_refusal};
+ghost use Rattle.rcu_barrier.specs.Lists.{barrier_test_answer, barrier_test_refusal, list_of};
+ghost use Rattle.rcu_barrier.specs.Lists.{migrate_refusal, queue_refusal, run_refusal};
+ghost use Rattle.rcu_barrier.specs.Lists.{visit_answer, visit_refusal};
 ghost use Rattle.rcu_state.specs.GpState as grace;
-ghost use Rattle.rcu_state.specs.GpState.{lists_of};
+ghost use Rattle.rcu_state.specs.GpState.{lists_of, on_grace};
 
 use crate::gp_state::GpState;
 use rcu_barrier::{BarrierState, Lists, Visit};
@@ -26,19 +28,15 @@ impl<A: Awaited, T: Drop> GpState<A, T> {
     /// (16).
     pub fn queue(&mut self, cpu: u32, value: T) -> Result<u64, Refused<T>>
         requires { cpu < cpus_of self.old.grace.processors }
+        ensures fault { IfErr result (λ refused.
+            queue_refusal (lists_of self.old) cpu ≡ Some refused.fault) }
+        ensures value { IfErr result (λ refused. refused.value ≡ value) }
+        ensures few { OnOk result (self.old.grace.lists.queued < self.old.grace.lists.most) }
         ensures count { IfOk result (λ count. count ≡ self.new.grace.lists.queued) }
         ensures bounded { IfOk result (λ count. count ≤ 2 ^ 62) }
-        ensures few { OnOk result (self.old.grace.lists.queued < self.old.grace.lists.most) }
         ensures state { OnOk result (self.new.grace ≡ grace.after_queue self.old.grace cpu value) }
-        ensures fault { IfErr result (λ refused. refused.fault ≡
-            (if self.old.grace.lists.queued == self.old.grace.lists.most then Fault.CallbacksFull
-            else Fault.NoMemory)) }
-        ensures value { IfErr result (λ refused. refused.value ≡ value) }
         ensures unchanged { OnErr result (self.new.grace ≡ self.old.grace) }
-        ensures succeeds { HasRoomIn (lists_of self.old) cpu 1 →
-            self.old.grace.lists.queued < self.old.grace.lists.most → IsOk result }
-        ensures room { room_of (lists_of self.old) cpu ≤ room_of (lists_of self.new) cpu }
-        ensures others { KeepsOtherRooms (lists_of self.old) cpu (lists_of self.new) }
+        ensures room { Grows (lists_of self.old) cpu (lists_of self.new) }
     {
         let now = self.seq.tag();
         self.lists.queue(cpu, now, value)
@@ -57,10 +55,7 @@ impl<A: Awaited, T: Drop> GpState<A, T> {
     pub fn shrink(&mut self, cpu: u32)
         requires { cpu < cpus_of self.old.grace.processors }
         ensures state { self.new.grace ≡ self.old.grace }
-        ensures room { room_of (lists_of self.new) cpu ≤ room_of (lists_of self.old) cpu }
-        ensures empty { list_of self.old.grace.lists cpu ≡ [] →
-            room_of (lists_of self.new) cpu ≡ 0 }
-        ensures others { KeepsOtherRooms (lists_of self.old) cpu (lists_of self.new) }
+        ensures room { Shrinks (lists_of self.old) cpu (lists_of self.new) }
     {
         self.lists.shrink(cpu);
     }
@@ -78,11 +73,10 @@ impl<A: Awaited, T: Drop> GpState<A, T> {
     /// many wait then.
     pub fn tend(&mut self, cpu: u32) -> (u64, u64)
         requires { cpu < cpus_of self.old.grace.processors }
-        ensures state { self.new.grace ≡ grace.after_tend self.old.grace cpu }
+        ensures state { self.new ≡ on_grace (λ g. grace.after_tend g cpu) self.old }
         ensures done { result.0 ≡ length (callbacks (front (list_of self.new.grace.lists cpu))) }
         ensures waiting { result.1
             ≡ length (callbacks (behind (list_of self.new.grace.lists cpu))) }
-        ensures rooms { self.new.rooms ≡ self.old.rooms }
     {
         let tended = self.lists.tend(cpu, self.seq.value());
         if let Some(greatest) = self.lists.greatest_waiting(cpu) {
@@ -98,15 +92,15 @@ impl<A: Awaited, T: Drop> GpState<A, T> {
     /// Fault `NoMemory` (16), only where it has a callback to hand out.
     pub fn run(&mut self, cpu: u32, max: u64) -> Result<Vec<Queued<T>>, Fault>
         requires { cpu < cpus_of self.old.grace.processors }
-        ensures ok { IfOk result (λ calls.
+        ensures fault { IfErr result (λ fault.
+            run_refusal self.old.grace.lists cpu max ≡ Some fault) }
+        ensures calls { IfOk result (λ calls.
             calls.items ≡ take_answer (list_of self.old.grace.lists cpu) max) }
-        ensures state { OnOk result (self.new.grace ≡ grace.after_run self.old.grace cpu max) }
+        ensures state { OnOk result
+            (self.new ≡ on_grace (λ g. grace.after_run g cpu max) self.old) }
         ensures waited { IfOk result (λ calls.
             All (λ call. grace.HasWaited (tag_of self.old.grace.seq) call.at) calls.items) }
-        ensures fault { IfErr result (λ fault. fault ≡ Fault.NoMemory) }
-        ensures some { OnErr result (take_answer (list_of self.old.grace.lists cpu) max ≢ []) }
         ensures unchanged { OnErr result (self.new ≡ self.old) }
-        ensures rooms { self.new.rooms ≡ self.old.rooms }
     {
         self.lists.run(cpu, max)
     }
@@ -125,10 +119,9 @@ impl<A: Awaited, T: Drop> GpState<A, T> {
     pub fn pop_done(&mut self, cpu: u32) -> Option<Queued<T>>
         requires { cpu < cpus_of self.old.grace.processors }
         ensures call { result ≡ slice_get (take_answer (list_of self.old.grace.lists cpu) 1) 0 }
-        ensures state { self.new.grace ≡ grace.after_run self.old.grace cpu 1 }
+        ensures state { self.new ≡ on_grace (λ g. grace.after_run g cpu 1) self.old }
         ensures waited { IfSome result (λ call.
             grace.HasWaited (tag_of self.old.grace.seq) call.at) }
-        ensures rooms { self.new.rooms ≡ self.old.rooms }
     {
         self.lists.pop_done(cpu)
     }
@@ -141,16 +134,13 @@ impl<A: Awaited, T: Drop> GpState<A, T> {
     pub fn migrate(&mut self, cpu: u32) -> Result<u64, Fault>
         requires other { 0 < cpu }
         requires cpu { cpu < cpus_of self.old.grace.processors }
+        ensures fault { IfErr result (λ fault.
+            migrate_refusal (lists_of self.old) cpu ≡ Some fault) }
         ensures moved { IfOk result (λ moved.
             moved ≡ length (callbacks (list_of self.old.grace.lists cpu))) }
         ensures state { OnOk result (self.new.grace ≡ grace.after_migrate self.old.grace cpu) }
-        ensures fault { IfErr result (λ fault. fault ≡ Fault.NoMemory) }
-        ensures some { OnErr result (is_empty (list_of self.old.grace.lists cpu) ≡ false) }
         ensures unchanged { OnErr result (self.new.grace ≡ self.old.grace) }
-        ensures succeeds { HasRoomIn (lists_of self.old) 0
-            (length (leaving_list self.old.grace.lists cpu)) → IsOk result }
-        ensures room { room_of (lists_of self.old) 0 ≤ room_of (lists_of self.new) 0 }
-        ensures others { KeepsOtherRooms (lists_of self.old) 0 (lists_of self.new) }
+        ensures room { Grows (lists_of self.old) 0 (lists_of self.new) }
     {
         self.lists.migrate(cpu)
     }
@@ -159,12 +149,9 @@ impl<A: Awaited, T: Drop> GpState<A, T> {
     ///
     /// Fault `BarrierBusy` (13): one runs.
     pub fn barrier_begin(&mut self) -> Result<(), Fault>
-        ensures idle { OnOk result (self.old.grace.lists.running ≡ false) }
-        ensures state { OnOk result (self.new.grace ≡ grace.after_barrier_begin self.old.grace) }
-        ensures fault { IfErr result (λ fault. fault ≡ Fault.BarrierBusy) }
-        ensures running { OnErr result (self.old.grace.lists.running ≡ true) }
+        ensures fault { result_err result ≡ barrier_begin_refusal self.old.grace.lists }
+        ensures state { OnOk result (self.new ≡ on_grace grace.after_barrier_begin self.old) }
         ensures unchanged { OnErr result (self.new ≡ self.old) }
-        ensures rooms { self.new.rooms ≡ self.old.rooms }
     {
         self.lists.barrier_begin()
     }
@@ -174,18 +161,13 @@ impl<A: Awaited, T: Drop> GpState<A, T> {
     /// Faults: `NoBarrier` (14) where none runs; `NoMemory` (16), only where it would put a marker.
     pub fn visit(&mut self, cpu: u32) -> Result<Visit, Fault>
         requires { cpu < cpus_of self.old.grace.processors }
-        ensures ok { IfOk result (λ visit. visit ≡ visit_answer self.old.grace.lists cpu) }
-        ensures running { OnOk result (self.old.grace.lists.running ≡ true) }
-        ensures state { OnOk result (self.new.grace ≡ grace.after_visit self.old.grace cpu) }
         ensures fault { IfErr result (λ fault.
-            fault ≡ (if self.old.grace.lists.running then Fault.NoMemory else Fault.NoBarrier)) }
-        ensures memory { OnErr result (self.old.grace.lists.running ≡ true
-            → visit_answer self.old.grace.lists cpu ≡ Visit.Marked) }
+            visit_refusal (lists_of self.old) cpu ≡ Some fault) }
+        ensures running { OnOk result (self.old.grace.lists.running ≡ true) }
+        ensures answer { IfOk result (λ visit. visit ≡ visit_answer self.old.grace.lists cpu) }
+        ensures state { OnOk result (self.new.grace ≡ grace.after_visit self.old.grace cpu) }
         ensures unchanged { OnErr result (self.new.grace ≡ self.old.grace) }
-        ensures succeeds { HasRoomIn (lists_of self.old) cpu 1 →
-            self.old.grace.lists.running ≡ true → IsOk result }
-        ensures room { room_of (lists_of self.old) cpu ≤ room_of (lists_of self.new) cpu }
-        ensures others { KeepsOtherRooms (lists_of self.old) cpu (lists_of self.new) }
+        ensures room { Grows (lists_of self.old) cpu (lists_of self.new) }
     {
         self.lists.visit(cpu)
     }
@@ -194,13 +176,11 @@ impl<A: Awaited, T: Drop> GpState<A, T> {
     ///
     /// Fault `NoBarrier` (14): none runs.
     pub fn barrier_test(&mut self) -> Result<BarrierState, Fault>
-        ensures ok { IfOk result (λ found. found ≡ barrier_test_answer self.old.grace.lists) }
-        ensures running { OnOk result (self.old.grace.lists.running ≡ true) }
-        ensures state { OnOk result (self.new.grace ≡ grace.after_barrier_test self.old.grace) }
-        ensures fault { IfErr result (λ fault. fault ≡ Fault.NoBarrier) }
-        ensures idle { OnErr result (self.old.grace.lists.running ≡ false) }
+        ensures fault { result_err result ≡ barrier_test_refusal self.old.grace.lists }
+        ensures answer { IfOk result (λ found.
+            found ≡ barrier_test_answer self.old.grace.lists) }
+        ensures state { OnOk result (self.new ≡ on_grace grace.after_barrier_test self.old) }
         ensures unchanged { OnErr result (self.new ≡ self.old) }
-        ensures rooms { self.new.rooms ≡ self.old.rooms }
     {
         self.lists.barrier_test()
     }

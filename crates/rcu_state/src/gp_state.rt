@@ -1,14 +1,18 @@
 //! The state of the grace periods and the callbacks.
-ghost use Rattle.std.specs.Prelude.{◌≡◌, ◌<◌, ◌≤◌, ◌==◌, ◌^◌, Some, None, true, false, length};
-ghost use Rattle.std.specs.Prelude.{replicate, IfErr, IfOk, OnErr, OnOk};
+ghost use Rattle.std.specs.Prelude.{◌≡◌, ◌<◌, ◌≤◌, ◌^◌, true, false, length, replicate, IfOk};
+ghost use Rattle.std.specs.Prelude.{OnErr, OnOk};
+ghost use Rattle.std.specs.Result.{result_err};
+ghost use Rattle.rcu_seq.specs.Memory.{tested_fault};
 ghost use Rattle.rcu_seq.specs.Numbers.{is_last};
-ghost use Rattle.rcu_seq.specs.Seq.{cookie_of, is_done, number_of, tag_of};
+ghost use Rattle.rcu_seq.specs.Seq.{cookie_of, is_done, last_refusal, number_of, tag_of};
 ghost use Rattle.rcu_seq.specs.Tags.{first_tag};
 ghost use Rattle.rcu_node.specs.CpuSet.{is_in};
+ghost use Rattle.rcu_node.specs.Merging.{standing};
 ghost use Rattle.rcu_hotplug.specs.Hotplug as hotplug;
-ghost use Rattle.rcu_hotplug.specs.Hotplug.{Arrive, Depart, cpus_of};
+ghost use Rattle.rcu_hotplug.specs.Hotplug.{Arrive, Depart, cpus_of, standing_of};
 ghost use Rattle.rcu_barrier.specs.Lists.{most_queued};
 ghost use Rattle.rcu_state.specs.GpState as grace;
+ghost use Rattle.rcu_state.specs.GpState.{on_grace};
 ghost use Rattle.rcu_state.specs.Periods.{wants_begin};
 
 use crate::current_answer::CurrentAnswer;
@@ -72,11 +76,9 @@ impl<A: Awaited, T: Drop> GpState<A, T> {
     pub fn new(alloc: Global, inner: A, last: u64) -> Result<Self, Fault>
         requires tag { A.tag inner ≡ first_tag }
         requires empty { A.start_set inner ≡ replicate (length (A.awaited inner)) false }
-        ensures ok { IfOk result (λ made. made.grace
+        ensures fault { tested_fault result ≡ last_refusal last }
+        ensures state { IfOk result (λ made. made.grace
             ≡ grace.at_first (length (A.awaited inner)) last most_queued) }
-        ensures accepted { OnOk result (is_last last ≡ true) }
-        ensures err { IfErr result (λ fault. is_last last ≡ false → fault ≡ Fault.BadLast) }
-        ensures memory { IfErr result (λ fault. is_last last ≡ true → fault ≡ Fault.NoMemory) }
     {
         GpState::with_most(alloc, inner, last, MOST_QUEUED)
     }
@@ -89,11 +91,9 @@ impl<A: Awaited, T: Drop> GpState<A, T> {
         requires empty { A.start_set inner ≡ replicate (length (A.awaited inner)) false }
         requires most_some { 1 ≤ most }
         requires most_few { most ≤ 2 ^ 62 }
-        ensures ok { IfOk result (λ made. made.grace
+        ensures fault { tested_fault result ≡ last_refusal last }
+        ensures state { IfOk result (λ made. made.grace
             ≡ grace.at_first (length (A.awaited inner)) last most) }
-        ensures accepted { OnOk result (is_last last ≡ true) }
-        ensures err { IfErr result (λ fault. is_last last ≡ false → fault ≡ Fault.BadLast) }
-        ensures memory { IfErr result (λ fault. is_last last ≡ true → fault ≡ Fault.NoMemory) }
     {
         let seq = Seq::new(last)?;
         let lists = Lists::with_most(alloc, inner.cpus(), most)?;
@@ -152,8 +152,7 @@ impl<A: Awaited, T: Drop> GpState<A, T> {
         ensures number { IfOk result (λ number.
             number ≡ number_of (grace.after_begin self.now.grace).seq) }
         ensures bounded { IfOk result (λ number. number < 2 ^ 62) }
-        ensures accepted { OnOk result (grace.begin_refusal self.now.grace ≡ None) }
-        ensures fault { IfErr result (λ fault. grace.begin_refusal self.now.grace ≡ Some fault) }
+        ensures fault { result_err result ≡ grace.begin_refusal self.now.grace }
     {
         if self.is_running() {
             return Err(Fault::Running);
@@ -174,9 +173,8 @@ impl<A: Awaited, T: Drop> GpState<A, T> {
 
     /// The awaited set.
     pub fn awaited(&self) -> &A
-        ensures value { A.awaited result.now ≡ self.now.grace.processors.awaited }
-        ensures tag { A.tag result.now ≡ self.now.grace.processors.tag }
-        ensures start_set { A.start_set result.now ≡ self.now.grace.processors.start_set }
+        ensures standing { standing (A.tag result.now) (A.start_set result.now)
+            (A.awaited result.now) ≡ standing_of self.now.grace.processors }
         ensures kept { hotplug.IsSound self.now.grace.processors }
     {
         self.hotplug.awaited()
@@ -190,11 +188,9 @@ impl<A: Awaited, T: Drop> GpState<A, T> {
     pub fn begin(&mut self) -> Result<(u64, u32), Fault>
         ensures number { IfOk result (λ began. began.0 ≡ number_of self.new.grace.seq) }
         ensures awaited { IfOk result (λ began. began.1 ≡ grace.awaited_in self.new.grace) }
-        ensures accepted { OnOk result (grace.begin_refusal self.old.grace ≡ None) }
-        ensures state { OnOk result (self.new.grace ≡ grace.after_begin self.old.grace) }
-        ensures fault { IfErr result (λ fault. grace.begin_refusal self.old.grace ≡ Some fault) }
+        ensures fault { result_err result ≡ grace.begin_refusal self.old.grace }
+        ensures state { OnOk result (self.new ≡ on_grace grace.after_begin self.old) }
         ensures unchanged { OnErr result (self.new ≡ self.old) }
-        ensures rooms { self.new.rooms ≡ self.old.rooms }
     {
         let number = self.seq.start()?;
         self.hotplug.begin(self.seq.tag());
@@ -206,11 +202,9 @@ impl<A: Awaited, T: Drop> GpState<A, T> {
     /// Faults: `Idle` (9) where none runs; `Waiting` (10) where a processor is awaited.
     pub fn end(&mut self) -> Result<u64, Fault>
         ensures number { IfOk result (λ number. number ≡ number_of self.new.grace.seq) }
-        ensures accepted { OnOk result (grace.end_refusal self.old.grace ≡ None) }
-        ensures state { OnOk result (self.new.grace ≡ grace.after_end self.old.grace) }
-        ensures fault { IfErr result (λ fault. grace.end_refusal self.old.grace ≡ Some fault) }
+        ensures fault { result_err result ≡ grace.end_refusal self.old.grace }
+        ensures state { OnOk result (self.new ≡ on_grace grace.after_end self.old) }
         ensures unchanged { OnErr result (self.new ≡ self.old) }
-        ensures rooms { self.new.rooms ≡ self.old.rooms }
     {
         if self.is_running() && !self.hotplug.awaited().is_empty() {
             return Err(Fault::Waiting);
@@ -224,8 +218,7 @@ impl<A: Awaited, T: Drop> GpState<A, T> {
     pub fn report(&mut self, report: Report) -> Answer
         requires { report.cpu < cpus_of self.old.grace.processors }
         ensures answer { result ≡ grace.report_answer_in self.old.grace report }
-        ensures state { self.new.grace ≡ grace.after_report self.old.grace report }
-        ensures rooms { self.new.rooms ≡ self.old.rooms }
+        ensures state { self.new ≡ on_grace (λ g. grace.after_report g report) self.old }
     {
         // The awaited set keeps its tag when its grace period has ended: idleness is tested here.
         if !self.is_running() {
@@ -239,8 +232,7 @@ impl<A: Awaited, T: Drop> GpState<A, T> {
     pub fn hear(&mut self, cpu: u32) -> Answer
         requires { cpu < cpus_of self.old.grace.processors }
         ensures answer { result ≡ grace.hear_answer self.old.grace cpu }
-        ensures state { self.new.grace ≡ grace.after_hear self.old.grace cpu }
-        ensures rooms { self.new.rooms ≡ self.old.rooms }
+        ensures state { self.new ≡ on_grace (λ g. grace.after_hear g cpu) self.old }
     {
         let tag = self.tag();
         self.report(Report { cpu, tag })
@@ -251,8 +243,7 @@ impl<A: Awaited, T: Drop> GpState<A, T> {
         requires cpu { cpu < cpus_of self.old.grace.processors }
         requires running { self.old.grace.seq.running ≡ true }
         ensures answer { result ≡ grace.current_answer self.old.grace cpu }
-        ensures state { self.new.grace ≡ grace.after_current_report self.old.grace cpu }
-        ensures rooms { self.new.rooms ≡ self.old.rooms }
+        ensures state { self.new ≡ on_grace (λ g. grace.after_current_report g cpu) self.old }
     {
         let tag = self.tag();
         match self.hotplug.report(cpu, tag) {
@@ -270,11 +261,9 @@ impl<A: Awaited, T: Drop> GpState<A, T> {
     /// Fault `Exhausted` (11): one would begin, and the number is the last one.
     pub fn turn(&mut self) -> Result<Turned, Fault>
         ensures answer { IfOk result (λ turned. turned ≡ grace.turn_answer self.old.grace) }
-        ensures accepted { OnOk result (grace.turn_refusal self.old.grace ≡ None) }
-        ensures state { OnOk result (self.new.grace ≡ grace.after_turn self.old.grace) }
-        ensures fault { IfErr result (λ fault. grace.turn_refusal self.old.grace ≡ Some fault) }
+        ensures fault { result_err result ≡ grace.turn_refusal self.old.grace }
+        ensures state { OnOk result (self.new ≡ on_grace grace.after_turn self.old) }
         ensures unchanged { OnErr result (self.new ≡ self.old) }
-        ensures rooms { self.new.rooms ≡ self.old.rooms }
     {
         if self.is_running() {
             let awaited = self.hotplug.awaited().count();
@@ -294,13 +283,11 @@ impl<A: Awaited, T: Drop> GpState<A, T> {
     ///
     /// Faults: `BadCpu` (1), `AlreadyOnline` (3).
     pub fn arrive(&mut self, cpu: u32) -> Result<(), Fault>
-        ensures accepted { OnOk result
-            (hotplug.refusal self.old.grace.processors (Arrive cpu) ≡ None) }
-        ensures state { OnOk result (self.new.grace ≡ grace.with_call self.old.grace (Arrive cpu)) }
-        ensures fault { IfErr result (λ fault.
-            hotplug.refusal self.old.grace.processors (Arrive cpu) ≡ Some fault) }
+        ensures fault { result_err result
+            ≡ hotplug.refusal self.old.grace.processors (Arrive cpu) }
+        ensures state { OnOk result
+            (self.new ≡ on_grace (λ g. grace.with_call g (Arrive cpu)) self.old) }
         ensures unchanged { OnErr result (self.new ≡ self.old) }
-        ensures rooms { self.new.rooms ≡ self.old.rooms }
     {
         self.hotplug.arrive(cpu)
     }
@@ -310,13 +297,11 @@ impl<A: Awaited, T: Drop> GpState<A, T> {
     ///
     /// Faults: `BadCpu` (1), `BootStays` (12), `Offline` (2).
     pub fn depart(&mut self, cpu: u32) -> Result<(), Fault>
-        ensures accepted { OnOk result
-            (hotplug.refusal self.old.grace.processors (Depart cpu) ≡ None) }
-        ensures state { OnOk result (self.new.grace ≡ grace.with_call self.old.grace (Depart cpu)) }
-        ensures fault { IfErr result (λ fault.
-            hotplug.refusal self.old.grace.processors (Depart cpu) ≡ Some fault) }
+        ensures fault { result_err result
+            ≡ hotplug.refusal self.old.grace.processors (Depart cpu) }
+        ensures state { OnOk result
+            (self.new ≡ on_grace (λ g. grace.with_call g (Depart cpu)) self.old) }
         ensures unchanged { OnErr result (self.new ≡ self.old) }
-        ensures rooms { self.new.rooms ≡ self.old.rooms }
     {
         self.hotplug.depart(cpu)
     }
@@ -332,8 +317,7 @@ impl<A: Awaited, T: Drop> GpState<A, T> {
     /// `start_poll_synchronize_rcu`).
     pub fn start_poll(&mut self) -> Cookie
         ensures cookie { result ≡ cookie_of self.old.grace.seq }
-        ensures state { self.new.grace ≡ grace.after_start_poll self.old.grace }
-        ensures rooms { self.new.rooms ≡ self.old.rooms }
+        ensures state { self.new ≡ on_grace grace.after_start_poll self.old }
     {
         let cookie = self.seq.snap();
         self.needed = self.needed.max(cookie.number);
@@ -356,11 +340,9 @@ impl<A: Awaited, T: Drop> GpState<A, T> {
     pub fn renumber(&mut self) -> Result<u64, Fault>
         ensures last { is_last self.old.grace.seq.last ≡ true }
         ensures epoch { IfOk result (λ epoch. epoch ≡ self.new.grace.seq.epoch) }
-        ensures accepted { OnOk result (grace.renumber_refusal self.old.grace ≡ None) }
-        ensures state { OnOk result (self.new.grace ≡ grace.after_renumber self.old.grace) }
-        ensures fault { IfErr result (λ fault. grace.renumber_refusal self.old.grace ≡ Some fault) }
+        ensures fault { result_err result ≡ grace.renumber_refusal self.old.grace }
+        ensures state { OnOk result (self.new ≡ on_grace grace.after_renumber self.old) }
         ensures unchanged { OnErr result (self.new ≡ self.old) }
-        ensures rooms { self.new.rooms ≡ self.old.rooms }
     {
         let last = self.seq.last();
         let is_needed = self.needed > last;

@@ -1,4 +1,5 @@
-use Rattle.rcu_core.proofs.Sections.{ended_by_exit, kept_by_enter, kept_by_exit, kept_by_others, opened_by_enter}
+use Rattle.rcu_core.proofs.Sections.{ended_by_exit, kept_by_enter, kept_by_exit, kept_by_others}
+use Rattle.rcu_core.proofs.Sections.{opened_by_enter}
 use Rattle.rcu_core.proofs.definition_laws.a_section_goes_from_its_enter_to_its_exit.Goals as goal
 
 pub returns-clause-opened : goal.returns-clause-opened

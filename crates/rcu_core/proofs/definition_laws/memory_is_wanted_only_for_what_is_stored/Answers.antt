@@ -1,4 +1,5 @@
-use Rattle.rcu_core.proofs.Wanted.{wanting_event, wants_to_hand_out, wants_to_list, wants_to_mark, wants_to_move}
+use Rattle.rcu_core.proofs.Wanted.{wanting_event, wants_to_hand_out, wants_to_list, wants_to_mark}
+use Rattle.rcu_core.proofs.Wanted.{wants_to_move}
 use Rattle.rcu_core.proofs.definition_laws.memory_is_wanted_only_for_what_is_stored.Goals as goal
 
 pub returns-clause-events : goal.returns-clause-events

@@ -9,8 +9,12 @@ pub invariant_of-self-2 : goal.invariant_of-self-2
 invariant_of-self-2 g c =
     let within : c.args.cpu < cpus_of c.self.inside.gp.grace.processors = search rules in
     let here : c.index.result.now ≡ processor c.self.inside.cpus.items c.args.cpu =
-    at_place _ _ _ c.self.invariant.sound within (rw c.in_ok-place.ensures.place at c.index.ensures) in
+    at_place _ _ _ c.self.invariant.sound within
+    (rw c.in_ok-place.ensures.place at c.index.ensures) in
     let made : c.in_ok-report.report ≡ report_of (processor c.self.inside.cpus.items c.args.cpu) =
-    c.in_ok-report.ensures.ok ∙ ap (λ (p : Processor). report_of p) here in
-    let pushed : c.push.new.self.items ≡ c.self.inside.reports.items ++ c.in_ok-report.report ∷ [] = search rules in
-    record { sound = sound_made _ c.args.cpu _ within (pushed ∙ rw made refl) c.self.invariant.sound }
+    c.in_ok-report.ensures.report ∙ ap (λ (p : Processor). report_of p) here in
+    let pushed : c.push.new.self.items ≡ c.self.inside.reports.items ++ c.in_ok-report.report ∷ [] =
+    search rules in
+    record {
+      sound = sound_made _ c.args.cpu _ within (pushed ∙ rw made refl) c.self.invariant.sound;
+    }

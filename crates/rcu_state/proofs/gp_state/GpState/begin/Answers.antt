@@ -1,5 +1,6 @@
-use Rattle.std.proofs.Common.{◌≡◌, subst}
+use Rattle.std.proofs.Common.{◌≡◌, subst, sym}
 use Rattle.rcu_seq.specs.declared.tag.Tag.{Tag}
+use Rattle.rcu_seq.proofs.Accepted.{accepted_begin}
 use Rattle.rcu_hotplug.specs.Hotplug.{Begin, after_call}
 use Rattle.rcu_state.specs.GpState.{Grace}
 use Rattle.rcu_state.proofs.Changes.{begun_kept}
@@ -15,6 +16,8 @@ invariant_of-self-2 g c =
       lists = i.lists.all;
     } in
     let started = c.in_ok-number.ensures in
-    begun_kept old c.start.new.self c.begin.new.self c.self.invariant started.idle started.begun
+    begun_kept old c.start.new.self c.begin.new.self c.self.invariant
+    (accepted_begin i.seq (sym started.fault)).0 started.state
     (subst (λ (n : Tag). c.begin.new.self ≡ after_call i.hotplug
-    (Begin n)) c.tag.ensures.value c.begin.ensures.state) c.begin.ensures.sized
+    (Begin n)) c.tag.ensures.value c.begin.ensures.state)
+    c.begin.ensures.sized

@@ -11,6 +11,6 @@ invariant_of-self g c =
       processors = i.hotplug;
       lists = i.lists.all;
     } in
-    on_either c.end.result _ _ c.end.ensures.ended c.end.ensures.unchanged
+    on_either c.end.result _ _ c.end.ensures.state c.end.ensures.unchanged
     (λ _ h. ended_kept old c.end.new.self c.self.invariant h)
     (λ _ h. idle_kept old c.end.new.self c.self.invariant h)

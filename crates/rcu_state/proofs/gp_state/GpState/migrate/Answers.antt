@@ -11,6 +11,6 @@ invariant_of-self g c =
       processors = i.hotplug;
       lists = i.lists.all;
     } in
-    on_either c.migrate.result _ _ c.migrate.ensures.ok c.migrate.ensures.unchanged
+    on_either c.migrate.result _ _ c.migrate.ensures.state c.migrate.ensures.unchanged
     (λ _ h. migrated_kept old c.args.cpu c.migrate.new.self.all c.self.invariant h)
     (λ _ h. same_kept old c.migrate.new.self.all c.self.invariant h)

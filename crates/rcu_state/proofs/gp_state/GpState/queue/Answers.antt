@@ -11,7 +11,7 @@ invariant_of-self g c =
       processors = i.hotplug;
       lists = i.lists.all;
     } in
-    on_either c.queue.result _ _ c.queue.ensures.ok c.queue.ensures.unchanged
-    (λ _ h. queued_kept old c.args.cpu c.tag-now.result c.args.value c.queue.new.self.all c.self.invariant
-    c.tag-now.ensures.value h)
+    on_either c.queue.result _ _ c.queue.ensures.state c.queue.ensures.unchanged
+    (λ _ h. queued_kept old c.args.cpu c.tag-now.result c.args.value c.queue.new.self.all
+    c.self.invariant c.tag-now.ensures.value h)
     (λ _ h. same_kept old c.queue.new.self.all c.self.invariant h)

@@ -1,10 +1,10 @@
-use Rattle.std.proofs.Common.{sym, subst, ◌∙◌}
+use Rattle.std.proofs.Common.{ℕ, List, ap, ap₂, sym, subst, ◌∙◌}
 use Rattle.rcu_cblist.specs.SegList.{IsAtMost}
-use Rattle.rcu_barrier.specs.Lists.{list_of}
+use Rattle.rcu_barrier.specs.Lists.{ListsWithRooms, list_of}
 use Rattle.rcu_seq.specs.Numbers.{snapshot}
 use Rattle.rcu_seq.specs.Seq.{tag_of}
 use Rattle.rcu_state.specs.GpState.{Grace}
-use Rattle.rcu_state.proofs.Changes.{tended_is, tended_kept}
+use Rattle.rcu_state.proofs.Changes.{all_of, tended_is, tended_kept}
 use Rattle.rcu_state.proofs.Timely.{timely_at_most, timely_get}
 use Rattle.rcu_state.proofs.gp_state.GpState.tend.Goals as goal
 
@@ -31,8 +31,8 @@ invariant_of-self g c =
       processors = i.hotplug;
       lists = i.lists.all;
     } in
-    tended_kept old c.max-self-inside.result c.args.cpu c.value.result c.tend-tended.new.self.all c.self.invariant
-    c.value.ensures.value c.tend-tended.ensures.state
+    tended_kept old c.max-self-inside.result c.args.cpu c.value.result c.tend-tended.new.self.all
+    c.self.invariant c.value.ensures.value (all_of c.tend-tended.ensures.state)
 
 pub invariant_of-self-in_default : goal.invariant_of-self-in_default
 invariant_of-self-in_default g c =
@@ -43,8 +43,8 @@ invariant_of-self-in_default g c =
       processors = i.hotplug;
       lists = i.lists.all;
     } in
-    tended_kept old i.needed c.args.cpu c.value.result c.tend-tended.new.self.all c.self.invariant c.value.ensures.value
-    c.tend-tended.ensures.state
+    tended_kept old i.needed c.args.cpu c.value.result c.tend-tended.new.self.all c.self.invariant
+    c.value.ensures.value (all_of c.tend-tended.ensures.state)
 
 pub returns-in-Some-clause-state : goal.returns-in-Some-clause-state
 returns-in-Some-clause-state g c =
@@ -55,7 +55,9 @@ returns-in-Some-clause-state g c =
       processors = i.hotplug;
       lists = i.lists.all;
     } in
+    let left = tended_is old c.max-self-inside.result c.args.cpu c.value.result c.in-Some.greatest
+    c.tend-tended.new.self.all c.value.ensures.value (all_of c.tend-tended.ensures.state)
+    (sym c.greatest_waiting.ensures ∙ c.in-Some.is) c.max-self-inside.ensures in
     rw (← c.self.view_is)
-    (tended_is old c.max-self-inside.result c.args.cpu c.value.result c.in-Some.greatest c.tend-tended.new.self.all
-    c.value.ensures.value c.tend-tended.ensures.state (sym c.greatest_waiting.ensures
-    ∙ c.in-Some.is) c.max-self-inside.ensures)
+    (ap₂ (λ (says : Grace g.row.T.Denot) (rooms : List ℕ). record { grace = says; rooms = rooms })
+    left (ap (λ (lists : ListsWithRooms g.row.T.Denot). lists.rooms) c.tend-tended.ensures.state))

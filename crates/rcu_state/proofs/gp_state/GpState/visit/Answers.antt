@@ -11,6 +11,6 @@ invariant_of-self g c =
       processors = i.hotplug;
       lists = i.lists.all;
     } in
-    on_either c.visit.result _ _ c.visit.ensures.ok c.visit.ensures.unchanged
+    on_either c.visit.result _ _ c.visit.ensures.state c.visit.ensures.unchanged
     (λ _ h. visited_kept old c.args.cpu c.visit.new.self.all c.self.invariant h)
     (λ _ h. same_kept old c.visit.new.self.all c.self.invariant h)
