@@ -2,12 +2,13 @@
 use Rattle.std.proofs.Common.{◌≡◌, ℕ, zero, suc, ◌+◌, ◌-◌, ◌<◌, ◌≤◌, nat_le, List, [], ◌∷◌, ◌++◌}
 use Rattle.std.proofs.Common.{length, take, drop, replicate, get_or, refl, ap, ◌∙◌, subst, arith, inl, inr}
 use Rattle.std.proofs.Common.{length-append, length-drop}
-use Rattle.std.specs.Prelude.{All, IfSome, slice_get}
+use Rattle.std.specs.Prelude.{All, IfSome, slice_get, true}
 use Rattle.std.proofs.lemmas.List.{get_or-append_right, get_or_append_left, get_or-drop, get_or-replicate, length-replicate}
 use Rattle.std.proofs.lemmas.List.Elements.{All-nil, All-cons}
 use Rattle.std.proofs.lemmas.Bool.{cases_Bool, cases_lt}
 use Rattle.std.proofs.lemmas.Bool.Decides.{nat_tests}
 use Rattle.rcu_seq.specs.Numbers.{Number, snapshot}
+use Rattle.rcu_seq.specs.Seq.{Periods, Turn, after_turns, cookie_of, has_full_period, is_done, number_of}
 use Rattle.rcu_defer.specs.Marks.{Marking, after_tend, deferred_of, due}
 use Rattle.rcu_defer.specs.Histories.{Call, Defer, Tend, Take, HasWaited, deferred_in, marks_after}
 
@@ -198,3 +199,10 @@ module _ {X : Type 0} where
   -- each deferral that is done has waited
   pub done_has_waited : (calls : List (Call X)) (k : ℕ) → k < (marks_after calls).done → HasWaited calls k
   done_has_waited calls k low = (told calls).out k low
+
+-- where the number went from one to the snapshot of that or further, a full grace period lies between
+pub full_between : (first : Periods) (turns : List Turn) →
+    is_done (cookie_of first) (after_turns first turns) ≡ has_full_period turns →
+    first.epoch ≡ 0 → (after_turns first turns).epoch ≡ 0 →
+    snapshot (number_of first) ≤ number_of (after_turns first turns) → has_full_period turns ≡ true
+full_between first turns law start still reached = grind (law, start, still, reached, arith, nat_tests)
