@@ -1,4 +1,5 @@
--- How a run ends, from its opening on. Which texts answer which lines is a relation `IsText` throughout.
+-- How a run ends, from its opening on. Which texts answer which lines is a relation `IsText`
+-- throughout.
 use Rattle.std.specs.Prelude.{◌≡◌, ◌⊎◌, ℕ, List, Option, Some, None, Result, Ok, Err}
 use Rattle.rcu_seq.specs.declared.fault.Fault.{Fault}
 use Rattle.rcu_seq.specs.declared.fault.Fault.TheVariants.{NoMemory}
@@ -13,13 +14,15 @@ abbrev pub fault_of : StreamFault → RunFault
 fault_of stream.Read = Read
 fault_of stream.Write = Write
 
--- an opening is refused by the first fault that is tested, and where there is none, for want of memory
+-- an opening is refused by the first fault that is tested, and where there is none, for want of
+-- memory
 abbrev pub IsRefusedBy : Option Fault → Fault → Type 0
 IsRefusedBy first fault = (first ≡ Some fault) ⊎ ((first ≡ None) × (fault ≡ NoMemory))
 
--- how a run ends, where this is the first fault of its opening: where it is refused, nothing was read or written
-abbrev pub RunsFromOpening : Result (Unit {0}) RunFault → Option Fault → (List (List ℕ) → List ℕ → Type 0)
-    → Ends → Ends → Type 0
+-- how a run ends, where this is the first fault of its opening: where it is refused, nothing was
+-- read or written
+abbrev pub RunsFromOpening : Result (Unit {0}) RunFault
+    → Option Fault → (List (List ℕ) → List ℕ → Type 0) → Ends → Ends → Type 0
 RunsFromOpening (Ok x) first IsText old new = (first ≡ None) × Finished IsText old new
 RunsFromOpening (Err (Open fault)) first IsText old new = IsRefusedBy first fault × (new ≡ old)
 RunsFromOpening (Err Read) first IsText old new = (first ≡ None) × StoppedReading IsText old new

@@ -12,6 +12,6 @@ returns-in-Ok-run g c =
 
 pub returns : goal.returns
 returns g c =
-    stopped_from _ _ (λ lines text told. told.1
-    ∙ ap (λ (p : Pair). pair_replies p lines) c.in-Ok.ensures.ok) _ _ _ _ _ c.stopped.ensures c.in-Ok.ensures.accepted
-    (c.in-Err-run.ensures (refl, refl))
+    stopped_from _ _
+    (λ lines text told. told.1 ∙ ap (λ (p : Pair). pair_replies p lines) c.in-Ok.ensures.ok) _ _ _ _
+    _ c.stopped.ensures c.in-Ok.ensures.accepted (c.in-Err-run.ensures (refl, refl))
