@@ -10,7 +10,8 @@ from checks import files, read
 EXPORT = re.compile(r"no_mangle\)\]\n(?:pub )?extern \"C\" fn (\w+)(.*?)^\{",
                     re.DOTALL | re.MULTILINE)
 # A definition whose value is a fault, or has faults in it: its name, and its text.
-DEFINITION = re.compile(r"^ *(?:abbrev )?pub (\w+) : [^\n]*\b(?:Fault|Refusal)\b[^\n]*\n"
+DEFINITION = re.compile(r"^ *(?:abbrev )?pub (\w+) : (?:[^\n]*\n +→)*?[^\n]*\b(?:Fault|Refusal)\b"
+                        r"[^\n]*\n(?: +→[^\n]*\n)*"
                         r"((?: *\1\b[^\n]*\n(?: +(?!\1\b)(?!--)\S[^\n]*\n)*)+)", re.MULTILINE)
 # Of these the text names the faults in another order than they are tested in.
 OTHER_ORDER = {"if_own", "queue_refusal"}
@@ -34,7 +35,8 @@ class Specs:
             for name, body in DEFINITION.findall(read(path)):
                 if name != "first_fault":
                     self.known.setdefault(name, {})[path.split("/")[1]] = body
-        self.causes = dict(re.findall(r"^causes r \(?(\w+).*?\)? = (.*)$", text, re.MULTILINE))
+        self.causes = dict(re.findall(r"^causes r \(?(\w+).*?\)? =(.*(?:\n +.*)*)", text,
+                                      re.MULTILINE))
         self.numbers = {name: int(number) for name, number in re.findall(
             r"^(?:fault|refusal)_number (\w+) = (\d+)$", text, re.MULTILINE)}
 

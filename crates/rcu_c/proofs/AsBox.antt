@@ -12,7 +12,17 @@ use Rattle.rcu_c.specs.contracts.raw_box.RawBox as RawBox
 use Rattle.rcu_c.specs.contracts.handle.Handle as Handle
 
 abbrev pub E : Bx
-E = record { row = Contents.the_row; laws = contents.the_row_laws; al = record { row = Heap.the_row; laws = heap.the_row_laws; g = ghosts; d = dict; drops = impl [] tnil dnil } }
+E = record {
+  row = Contents.the_row;
+  laws = contents.the_row_laws;
+  al = record {
+    row = Heap.the_row;
+    laws = heap.the_row_laws;
+    g = ghosts;
+    d = dict;
+    drops = impl [] tnil dnil;
+  };
+}
 
 abbrev pub FromRawBox : Slot 0
 FromRawBox = plain (λ _. RawBox.the_row Contents.the_row Heap.the_row ghosts)

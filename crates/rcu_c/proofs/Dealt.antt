@@ -5,7 +5,8 @@ use Rattle.std.specs.List.{range_with_len}
 -- the first of what is made of the numbers from i up to n, and the others
 first : {A : Type 0} (f : ℕ → A) (i n : ℕ) → i < n
     → map f (range_with_len i (n - i)) ≡ f i ∷ map f (range_with_len (i + 1) (n - (i + 1)))
-first f i n low = let e : n - i ≡ suc (n - (i + 1)) = omega arith in ap (λ k. map f (range_with_len i k)) e
+first f i n low =
+    let e : n - i ≡ suc (n - (i + 1)) = omega arith in ap (λ k. map f (range_with_len i k)) e
 
 abbrev head_or : {A : Type 0} → A → List A → A
 head_or x [] = x

@@ -1,9 +1,10 @@
 -- Processors that are listed in a buffer, as far as there is room.
-use Rattle.std.proofs.Common.{◌≡◌, ℕ, ◌+◌, ◌<◌, ◌≤◌, Bool, true, false, List, [], ◌∷◌, ◌++◌, length, take, ap, refl, sym, ◌∙◌, arith}
-use Rattle.std.proofs.Common.{append-nil}
+use Rattle.std.proofs.Common.{◌≡◌, ℕ, ◌+◌, ◌<◌, ◌≤◌, Bool, true, false, List, [], ◌∷◌, ◌++◌, length}
+use Rattle.std.proofs.Common.{take, ap, refl, sym, ◌∙◌, arith, append-nil}
 use Rattle.std.specs.Prelude.{filter, slice_set}
 use Rattle.std.specs.List.{range_with_len}
-use Rattle.std.proofs.lemmas.List.{length-append, length-take, take-append-le, take_all, take_more_set}
+use Rattle.std.proofs.lemmas.List.{length-append, length-take, take-append-le, take_all}
+use Rattle.std.proofs.lemmas.List.{take_more_set}
 use Rattle.rcu_node.proofs.RangeLemmas.{filter-range_more}
 
 -- one more of so many, which is listed
@@ -12,7 +13,8 @@ more_yes : (p : ℕ → Bool) (n : ℕ) → p n ≡ true
 more_yes p n passes = filter-range_more p n ∙ rw passes refl
 
 -- one more of so many, which is not
-more_no : (p : ℕ → Bool) (n : ℕ) → p n ≡ false → filter p (range_with_len 0 (n + 1)) ≡ filter p (range_with_len 0 n)
+more_no : (p : ℕ → Bool) (n : ℕ) → p n ≡ false
+    → filter p (range_with_len 0 (n + 1)) ≡ filter p (range_with_len 0 n)
 more_no p n fails = filter-range_more p n ∙ rw fails (append-nil (filter p (range_with_len 0 n)))
 
 -- where there is room for more than these, it is for all of them
@@ -29,7 +31,9 @@ fits_yes room count xs now x free is same inside =
     let all : take room xs ≡ xs = take_all room xs fit in
     let size : count ≡ length xs = is ∙ ap (λ (l : List ℕ). length l) all in
     let long : length (xs ++ x ∷ []) ≤ room = omega (arith, length-append xs (x ∷ []), size) in
-    take_more_set now count x inside ∙ ap (λ l. l ++ x ∷ []) (same ∙ all) ∙ sym (take_all room (xs ++ x ∷ []) long)
+    take_more_set now count x inside
+    ∙ ap (λ l. l ++ x ∷ []) (same ∙ all)
+    ∙ sym (take_all room (xs ++ x ∷ []) long)
 
 counted_yes : (room count : ℕ) (xs : List ℕ) (x : ℕ) → count < room → count ≡ length (take room xs)
     → count + 1 ≡ length (take room (xs ++ x ∷ []))
@@ -37,10 +41,12 @@ counted_yes room count xs x free is =
     omega (arith, length-append xs (x ∷ []), length-take room xs, length-take room (xs ++ x ∷ []))
 
 -- there is none
-full : (room : ℕ) (xs : List ℕ) (x : ℕ) → room ≤ length (take room xs) → take room (xs ++ x ∷ []) ≡ take room xs
+full : (room : ℕ) (xs : List ℕ) (x : ℕ) → room ≤ length (take room xs)
+    → take room (xs ++ x ∷ []) ≡ take room xs
 full room xs x none = take-append-le room xs (x ∷ []) (omega (arith, none, length-take room xs))
 
--- what is listed of one processor more: it passes and there is room; it does not pass; or there is no room
+-- what is listed of one processor more: it passes and there is room; it does not pass; or there is
+-- no room
 pub listed_yes : (p : ℕ → Bool) (n room count : ℕ) (now : List ℕ) → p n ≡ true → count < room
     → count ≡ length (take room (filter p (range_with_len 0 n)))
     → take count now ≡ take room (filter p (range_with_len 0 n)) → count < length now
@@ -60,12 +66,14 @@ pub listed_no : (p : ℕ → Bool) (n room : ℕ) → p n ≡ false
     → take room (filter p (range_with_len 0 (n + 1))) ≡ take room (filter p (range_with_len 0 n))
 listed_no p n room fails = ap (λ l. take room l) (more_no p n fails)
 
-full_more : (p : ℕ → Bool) (n room : ℕ) (b : Bool) → p n ≡ b → room ≤ length (take room (filter p (range_with_len 0 n)))
+full_more : (p : ℕ → Bool) (n room : ℕ) (b : Bool)
+    → p n ≡ b → room ≤ length (take room (filter p (range_with_len 0 n)))
     → take room (filter p (range_with_len 0 (n + 1))) ≡ take room (filter p (range_with_len 0 n))
 full_more p n room true is none =
     ap (λ l. take room l) (more_yes p n is) ∙ full room (filter p (range_with_len 0 n)) n none
 full_more p n room false is none = listed_no p n room is
 
-pub listed_full : (p : ℕ → Bool) (n room : ℕ) → room ≤ length (take room (filter p (range_with_len 0 n)))
+pub listed_full : (p : ℕ → Bool) (n room : ℕ)
+    → room ≤ length (take room (filter p (range_with_len 0 n)))
     → take room (filter p (range_with_len 0 (n + 1))) ≡ take room (filter p (range_with_len 0 n))
 listed_full p n room none = full_more p n room (p n) refl none

@@ -1,10 +1,11 @@
 -- Callbacks that are taken from a processor's list, one after another, into a buffer.
-use Rattle.std.proofs.Common.{◌≡◌, ℕ, ◌+◌, ◌<◌, false, None, Some, List, [], ◌∷◌, ◌++◌, length, map, take, min}
-use Rattle.std.proofs.Common.{sym, ap, ◌∙◌, arith}
+use Rattle.std.proofs.Common.{◌≡◌, ℕ, ◌+◌, ◌<◌, false, None, Some, List, [], ◌∷◌, ◌++◌, length, map}
+use Rattle.std.proofs.Common.{take, min, sym, ap, ◌∙◌, arith}
 use Rattle.std.specs.Prelude.{All, slice_get, slice_set}
 use Rattle.std.proofs.lemmas.List.{length-drop, map-append, set-get_or, take_more_set}
 use Rattle.std.proofs.lemmas.List.Elements.{All-push}
-use Rattle.rcu_cblist.specs.SegList.{Item, after_take, begins_with_marker, callbacks, from_callback, front, take_answer}
+use Rattle.rcu_cblist.specs.SegList.{Item, after_take, begins_with_marker, callbacks, from_callback}
+use Rattle.rcu_cblist.specs.SegList.{front, take_answer}
 use Rattle.rcu_cblist.specs.declared.queued.Queued.{Queued}
 use Rattle.rcu_cblist.proofs.Lists.{length_taken}
 use Rattle.rcu_cblist.proofs.Popping.{done_left, taken_both, untaken_first}
@@ -27,23 +28,26 @@ abbrev relisted : Locked (Unit {0}) ℕ → ℕ → List (Item ℕ) → Locked (
 relisted e cpu xs = on_grace (λ g. record g { lists = with_list g.lists cpu xs }) e
 
 -- nothing was handed out yet
-pub ran_none : (e : Locked (Unit {0}) ℕ) (cpu : ℕ) → begins_with_marker (listed e cpu) ≡ false → e ≡ ran e cpu 0
+pub ran_none : (e : Locked (Unit {0}) ℕ) (cpu : ℕ) → begins_with_marker (listed e cpu) ≡ false
+    → e ≡ ran e cpu 0
 ran_none e cpu first =
     sym (ap (relisted e cpu) (untaken_first (listed e cpu) first)
     ∙ ap (λ l. record e { grace = record e.grace { lists = record e.grace.lists { lists = l } } })
     (set-get_or e.grace.lists.lists cpu []))
 
 -- as many as are done, or as there is room for, are all
-pub ran_least : (e : Locked (Unit {0}) ℕ) (cpu n most : ℕ) → most ≡ min (length (callbacks (front (listed e cpu)))) n →
-    ran e cpu most ≡ ran e cpu n
+pub ran_least : (e : Locked (Unit {0}) ℕ) (cpu n most : ℕ)
+    → most ≡ min (length (callbacks (front (listed e cpu)))) n → ran e cpu most ≡ ran e cpu n
 ran_least e cpu n most least =
     let few = length_taken most (listed e cpu) in
     let all = length_taken n (listed e cpu) in
-    let same : length (take_answer (listed e cpu) most) ≡ length (take_answer (listed e cpu) n) = omega arith in
+    let same : length (take_answer (listed e cpu) most) ≡ length (take_answer (listed e cpu) n) =
+    omega arith in
     ap (λ k. relisted e cpu (from_callback k (listed e cpu))) same
 
 -- the first of one is all of it
-only : (ys : List (Queued ℕ)) (call : Queued ℕ) → Some call ≡ slice_get (take 1 ys) 0 → take 1 ys ≡ call ∷ []
+only : (ys : List (Queued ℕ)) (call : Queued ℕ) → Some call ≡ slice_get (take 1 ys) 0
+    → take 1 ys ≡ call ∷ []
 only [] call is = absurd cc
 only (y ∷ ys) call is = cc
 
@@ -60,8 +64,10 @@ module _ (e now : Locked (Unit {0}) ℕ) (cpu i : ℕ) (so_far : now ≡ ran e c
   -- one more
   pub ran_more : (next : Locked (Unit {0}) ℕ) → next ≡ ran now cpu 1 → next ≡ ran e cpu (i + 1)
   ran_more next one =
-      one ∙ (ap (λ l. ran l cpu 1) so_far
-      ∙ ap (λ all. record e { grace = record e.grace { lists = all } }) (sym (runs_both e.grace.lists cpu i 1)))
+      one
+      ∙ (ap (λ l. ran l cpu 1) so_far
+      ∙ ap (λ all. record e { grace = record e.grace { lists = all } })
+      (sym (runs_both e.grace.lists cpu i 1)))
 
   -- the callback that comes next is behind those so far
   pub took_more : (call : Queued ℕ) → Some call ≡ slice_get (take_answer (listed now cpu) 1) 0 →
@@ -81,17 +87,23 @@ module _ (e now : Locked (Unit {0}) ℕ) (cpu i : ℕ) (so_far : now ≡ ran e c
       some_first (callbacks (front (listed now cpu))) some is
 
   -- its value is written behind theirs
-  pub wrote_more : (call : Queued ℕ) (values : List ℕ) → Some call ≡ slice_get (take_answer (listed now cpu) 1) 0 →
-      i < length values → take i values ≡ map (λ call. call.value) (take_answer (listed e cpu) i) →
-      take (i + 1) (slice_set values i call.value) ≡ map (λ call. call.value) (take_answer (listed e cpu) (i + 1))
+  pub wrote_more : (call : Queued ℕ) (values : List ℕ)
+      → Some call ≡ slice_get (take_answer (listed now cpu) 1) 0
+      → i < length values
+      → take i values ≡ map (λ call. call.value) (take_answer (listed e cpu) i)
+      → take (i + 1) (slice_set values i call.value)
+      ≡ map (λ call. call.value) (take_answer (listed e cpu) (i + 1))
   wrote_more call values is inside same =
       take_more_set values i call.value inside ∙ (ap (λ l. l ++ call.value ∷ []) same
       ∙ sym (ap (map (λ call. call.value)) (took_more call is)
       ∙ map-append (λ call. call.value) (take_answer (listed e cpu) i) (call ∷ [])))
 
   -- it waited as they did
-  pub waited_more : (n : ℕ) (call : Queued ℕ) → Some call ≡ slice_get (take_answer (listed now cpu) 1) 0 →
-      HasWaited n call.at → All (λ call. HasWaited n call.at) (take_answer (listed e cpu) i) →
-      All (λ call. HasWaited n call.at) (take_answer (listed e cpu) (i + 1))
+  pub waited_more : (n : ℕ) (call : Queued ℕ)
+      → Some call ≡ slice_get (take_answer (listed now cpu) 1) 0
+      → HasWaited n call.at
+      → All (λ call. HasWaited n call.at) (take_answer (listed e cpu) i)
+      → All (λ call. HasWaited n call.at) (take_answer (listed e cpu) (i + 1))
   waited_more n call is waited so =
-      rw (took_more call is) (All-push (λ call. HasWaited n call.at) (take_answer (listed e cpu) i) call so waited)
+      rw (took_more call is)
+      (All-push (λ call. HasWaited n call.at) (take_answer (listed e cpu) i) call so waited)

@@ -13,7 +13,8 @@ use Rattle.rcu_live.specs.declared.collection.Collected.{Collected}
 use Rattle.rcu_live.specs.declared.collection.Collected.TheVariants as collected
 use Rattle.rcu_c.specs.declared.grace_periods.Turn.{Turn}
 use Rattle.rcu_c.specs.declared.refusal.Refusal.{Refusal}
-use Rattle.rcu_c.specs.declared.refusal.Refusal.TheVariants.{Engine, SeatDealt, OtherEngine, Closed, OtherKind}
+use Rattle.rcu_c.specs.declared.refusal.Refusal.TheVariants.{Engine, SeatDealt, OtherEngine, Closed}
+use Rattle.rcu_c.specs.declared.refusal.Refusal.TheVariants.{OtherKind}
 
 -- the number of a refusal, 0 where there is none
 abbrev pub number_for : Option Fault → ℕ

@@ -1,5 +1,6 @@
 -- The engine of an open handle, as contracts see it.
-use Rattle.std.specs.Prelude.{ℕ, ◌^◌, ◌==◌, ◌&&◌, Bool, nat_lt, List, map, Option, Some, None, slice_index_or, slice_set}
+use Rattle.std.specs.Prelude.{ℕ, ◌^◌, ◌==◌, ◌&&◌, Bool, nat_lt, List, map, Option, Some, None}
+use Rattle.std.specs.Prelude.{slice_index_or, slice_set}
 use Rattle.std.specs.List.{range_with_len}
 use Rattle.atomic_table.specs.Seated.{TableId}
 use Rattle.rcu_seq.specs.Numbers.{Number}
@@ -13,15 +14,16 @@ use Rattle.rcu_c.specs.declared.identity.Identity.{Identity}
 abbrev pub is_same : Identity → Identity → Bool
 is_same a b = (a.place == b.place) && (a.count == b.count)
 
--- the running engine, the seat of each processor, none where it is dealt, what it knows of wishes, and what tells the
--- engine from others
+-- the running engine, the seat of each processor, none where it is dealt, what it knows of wishes,
+-- and what tells the engine from others
 pub record EngineAndSeats : Type 0 where
   pub engine : Locked (Unit {0}) ℕ
   pub seats : List (Option Seat)
   pub wishes : Wishing
   pub identity : Identity
 
--- whether an engine takes a seat as one that it dealt: its identity is the engine's, and its processor is one of those
+-- whether an engine takes a seat as one that it dealt: its identity is the engine's, and its
+-- processor is one of those
 abbrev pub is_own : EngineAndSeats → Seat → Bool
 is_own o s = is_same o.identity s.identity && nat_lt s.cpu.cpu o.engine.cpus
 
@@ -41,7 +43,8 @@ with_seat o s = record o { seats = slice_set o.seats s.cpu.cpu (Some s) }
 abbrev pub most_in_c : ℕ
 most_in_c = 2 ^ 62
 
--- an engine of so many processors as it is opened, with a seat for each, with these words, and these for wishes
+-- an engine of so many processors as it is opened, with a seat for each, with these words, and
+-- these for wishes
 abbrev pub opened_at_first : Identity → TableId → TableId → ℕ → Number → EngineAndSeats
 opened_at_first identity table wishes cpus last = record {
   engine = engine_at_first table cpus last most_in_c tt;

@@ -1,4 +1,5 @@
--- What a handle owns: where it is open, what a box of the thing that it holds owns; where it is closed it is null.
+-- What a handle owns: where it is open, what a box of the thing that it holds owns; where it is
+-- closed it is null.
 use base.Fml.{Fml, feq}
 use base.Stored.{Coded}
 use denote.RawPtr.{Ptr, null_ptr}

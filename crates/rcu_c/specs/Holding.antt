@@ -35,7 +35,15 @@ HoldsSeat (Some contents.Room) = ⊥
 
 -- no object: it stands for that of a handle that holds none
 abbrev pub no_table : TableId
-no_table = record { words = 0; slots = 0; views_name = 0; atom = 0; block = 0; offset = 0; slot_names = [] }
+no_table = record {
+  words = 0;
+  slots = 0;
+  views_name = 0;
+  atom = 0;
+  block = 0;
+  offset = 0;
+  slot_names = [];
+}
 
 -- no identity: it stands for that of a handle that holds none
 abbrev pub no_identity : Identity
@@ -114,7 +122,8 @@ abbrev pub on_opened : (EngineAndSeats → EngineAndSeats) → Option Contents �
 on_opened change h = Some (contents.Engine (change (opened_of h)))
 
 -- an engine's handle with its running engine changed
-abbrev pub on_engine : (Locked (Unit {0}) ℕ → Locked (Unit {0}) ℕ) → Option Contents → Option Contents
+abbrev pub on_engine : (Locked (Unit {0}) ℕ → Locked (Unit {0}) ℕ) → Option Contents
+    → Option Contents
 on_engine change = on_opened (λ o. record o { engine = change o.engine })
 
 -- an engine's handle with the state of its grace periods and callbacks changed
@@ -125,15 +134,16 @@ on_grace change = on_engine (λ e. record e { grace = change e.grace })
 abbrev pub on_cpu : (Seated (Unit {0}) → Seated (Unit {0})) → Option Contents → Option Contents
 on_cpu change h = Some (contents.Seat (record (seat_of h) { cpu = change (cpu_of h) }))
 
--- a call of a seat was accepted at the number n, which is at least all that its processor's seat saw before: this is what
--- it leaves
-pub record AcceptedAt (after : Seated (Unit {0}) → Number → Seated (Unit {0})) (h : Option Contents) (n : Number)
-    (now : Option Contents) : Type 0 where
+-- a call of a seat was accepted at the number n, which is at least all that its processor's seat
+-- saw before: this is what it leaves
+pub record AcceptedAt (after : Seated (Unit {0}) → Number → Seated (Unit {0})) (h : Option Contents)
+    (n : Number) (now : Option Contents) : Type 0 where
   pub state : now ≡ on_cpu (λ s. after s n) h
   pub later : (cpu_of h).view.seen ≤ n
 
--- a seat's section was renewed: a quiescent state was passed at the number n, which is at least all that its processor's
--- seat saw before, and the next section began at a number that is no less; this is what it leaves
+-- a seat's section was renewed: a quiescent state was passed at the number n, which is at least all
+-- that its processor's seat saw before, and the next section began at a number that is no less;
+-- this is what it leaves
 pub record RenewedAt (h : Option Contents) (n : Number) (now : Option Contents) : Type 0 where
   pub state : now ≡ on_cpu (λ s. after_renew (λ c. c) s n (cpu_of now).view.seen) h
   pub later : (cpu_of h).view.seen ≤ n
@@ -148,7 +158,8 @@ abbrev pub on_links : (Links → Links) → Option Contents → Option Contents
 on_links change h = Some (contents.Seat (record (seat_of h) { links = change (links_of h) }))
 
 -- a seat's handle with its watcher changed
-abbrev pub on_watcher : (Watching (Unit {0}) → Watching (Unit {0})) → Option Contents → Option Contents
+abbrev pub on_watcher : (Watching (Unit {0}) → Watching (Unit {0})) → Option Contents
+    → Option Contents
 on_watcher change h = Some (contents.Seat (record (seat_of h) { watcher = change (watcher_of h) }))
 
 -- one load more of a seat's watcher, which saw n, at least all that it saw before
@@ -158,7 +169,8 @@ pub record WatchedAt (h : Option Contents) (n : Number) (now : Option Contents) 
 
 -- the seat reads the words that this engine writes
 abbrev pub ReadsWordsOf : Option Contents → Option Contents → Type 0
-ReadsWordsOf seat rcu = (seat_of seat).words ≡ record { table = (engine_of rcu).table; cpus = (engine_of rcu).cpus }
+ReadsWordsOf seat rcu =
+    (seat_of seat).words ≡ record { table = (engine_of rcu).table; cpus = (engine_of rcu).cpus }
 
 -- a seat's handle with what it knows of wishes changed
 abbrev pub on_wisher : (Wishing → Wishing) → Option Contents → Option Contents

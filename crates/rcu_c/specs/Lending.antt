@@ -25,24 +25,30 @@ lends_contents h lent = Lends handle.the_row holding.the_row h lent (with_conten
 
 -- an engine's handle lends its engine
 abbrev pub lends_engine : MutBor Handle → MutBor EngineAndSeats → Fml
-lends_engine h lent = Lends handle.the_row engine.the_row h lent (λ o. with_contents h.now (contents.Engine o))
+lends_engine h lent =
+    Lends handle.the_row engine.the_row h lent (λ o. with_contents h.now (contents.Engine o))
 
 -- a seat's handle lends its seat
 abbrev pub lends_seat : MutBor Handle → MutBor Seat → Fml
-lends_seat h lent = Lends handle.the_row seat_parts.the_row h lent (λ s. with_contents h.now (contents.Seat s))
+lends_seat h lent =
+    Lends handle.the_row seat_parts.the_row h lent (λ s. with_contents h.now (contents.Seat s))
 
 -- a replica's handle lends its replica
 abbrev pub lends_replica : MutBor Handle → MutBor Replicated → Fml
-lends_replica h lent = Lends handle.the_row replica.the_row h lent (λ r. with_contents h.now (contents.Replica r))
+lends_replica h lent =
+    Lends handle.the_row replica.the_row h lent (λ r. with_contents h.now (contents.Replica r))
 
 -- a handle lends its engine where it has one, and else ends as it is
 abbrev pub lends_engine_if_ok : MutBor Handle → Result (MutBor EngineAndSeats) Refusal → Fml
-lends_engine_if_ok h lent = LendsIfOk handle.the_row engine.the_row h lent (λ o. with_contents h.now (contents.Engine o)) h.now
+lends_engine_if_ok h lent = LendsIfOk handle.the_row engine.the_row h lent
+    (λ o. with_contents h.now (contents.Engine o)) h.now
 
 -- a handle lends its seat where it has one, and else ends as it is
 abbrev pub lends_seat_if_ok : MutBor Handle → Result (MutBor Seat) Refusal → Fml
-lends_seat_if_ok h lent = LendsIfOk handle.the_row seat_parts.the_row h lent (λ s. with_contents h.now (contents.Seat s)) h.now
+lends_seat_if_ok h lent = LendsIfOk handle.the_row seat_parts.the_row h lent
+    (λ s. with_contents h.now (contents.Seat s)) h.now
 
 -- a handle lends its replica where it has one, and else ends as it is
 abbrev pub lends_replica_if_ok : MutBor Handle → Result (MutBor Replicated) Refusal → Fml
-lends_replica_if_ok h lent = LendsIfOk handle.the_row replica.the_row h lent (λ r. with_contents h.now (contents.Replica r)) h.now
+lends_replica_if_ok h lent = LendsIfOk handle.the_row replica.the_row h lent
+    (λ r. with_contents h.now (contents.Replica r)) h.now

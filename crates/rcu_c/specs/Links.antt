@@ -1,7 +1,8 @@
 -- What a thread defers by its seat: links, and for which cookie it waits.
 use Rattle.std.specs.Prelude.{ℕ, ◌==◌, if◌then◌else◌, max, unwrap_or}
 use Rattle.rcu_seq.specs.Numbers.{Number}
-use Rattle.rcu_defer.specs.Marks.{Marking, after_defer, after_take, after_tend, at_first, count_of, last_number, ready_of}
+use Rattle.rcu_defer.specs.Marks.{Marking, after_defer, after_take, after_tend, at_first, count_of}
+use Rattle.rcu_defer.specs.Marks.{last_number, ready_of}
 use Rattle.rcu_c.specs.declared.links.Links.{Links}
 
 -- no link

@@ -9,11 +9,13 @@ use Rattle.rcu_c.specs.Engines.{EngineAndSeats, is_own, seat_at}
 use Rattle.rcu_c.specs.Holding.{cpu_of, opened_of, seat_of}
 use Rattle.rcu_c.specs.declared.contents.Contents.{Contents}
 use Rattle.rcu_c.specs.declared.refusal.Refusal.{Refusal}
-use Rattle.rcu_c.specs.declared.refusal.Refusal.TheVariants.{Engine, SeatDealt, OtherEngine, Closed, OtherKind}
+use Rattle.rcu_c.specs.declared.refusal.Refusal.TheVariants.{Engine, SeatDealt, OtherEngine, Closed}
+use Rattle.rcu_c.specs.declared.refusal.Refusal.TheVariants.{OtherKind}
 use Rattle.rcu_c.specs.declared.contents.Contents.TheVariants as contents
 use Rattle.rcu_c.specs.Answers.{number_or}
 
--- where a processor's callback is queued: there is such a processor, it is online in the engine, and there is room
+-- where a processor's callback is queued: there is such a processor, it is online in the engine,
+-- and there is room
 pub record CanQueue (e : Locked (Unit {0}) ℕ) (cpu : ℕ) : Type 0 where
   pub inside : cpu < e.cpus
   pub online : is_in e.grace.processors.online cpu ≡ true
@@ -35,11 +37,13 @@ seat_refusal (Some (contents.Seat _)) = None
 seat_refusal (Some (contents.Replica _)) = Some OtherKind
 seat_refusal (Some contents.Room) = Some OtherKind
 
--- the number that a call of an engine's handle returns: why the handle is not taken for one, and else this
+-- the number that a call of an engine's handle returns: why the handle is not taken for one, and
+-- else this
 abbrev pub engine_number : Option Contents → ℕ → ℕ
 engine_number rcu number = number_or (engine_refusal rcu) number
 
--- the number that a call of a seat's handle returns: why the handle is not taken for one, and else this
+-- the number that a call of a seat's handle returns: why the handle is not taken for one, and else
+-- this
 abbrev pub seat_number : Option Contents → ℕ → ℕ
 seat_number seat number = number_or (seat_refusal seat) number
 
@@ -53,8 +57,8 @@ abbrev pub by_engine : Option Fault → Option Refusal
 by_engine None = None
 by_engine (Some fault) = Some (Engine fault)
 
--- why an engine does not take a seat: the engine's handle is not taken for one; the seat's is not; the seat is of another
--- engine; and else this
+-- why an engine does not take a seat: the engine's handle is not taken for one; the seat's is not;
+-- the seat is of another engine; and else this
 abbrev pub if_own : Option Contents → Option Contents → Option Fault → Option Refusal
 if_own rcu seat fault =
     first_of (engine_refusal rcu) (first_of (seat_refusal seat)

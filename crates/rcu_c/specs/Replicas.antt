@@ -1,4 +1,5 @@
--- What a replica's handle holds, why a call does not take a handle for one, and what a call changes of it.
+-- What a replica's handle holds, why a call does not take a handle for one, and what a call changes
+-- of it.
 use Rattle.std.specs.Prelude.{ℕ, Bool, List, Option, Some, None, take, ⊤}
 use Rattle.rcu_node.specs.CpuSet.{is_in}
 use Rattle.rcu_node.specs.Words.{flags_in}
@@ -40,7 +41,8 @@ replica_refusal (Some (contents.Seat _)) = Some OtherKind
 replica_refusal (Some (contents.Replica _)) = None
 replica_refusal (Some contents.Room) = Some OtherKind
 
--- the number that a call of a replica's handle returns: why the handle is not taken for one, and else this
+-- the number that a call of a replica's handle returns: why the handle is not taken for one, and
+-- else this
 abbrev pub replica_number : Option Contents → ℕ → ℕ
 replica_number replica number = number_or (replica_refusal replica) number
 

@@ -15,8 +15,8 @@ pub record Words : Type 0 where
   pub table : TableId
   pub cpus : ℕ
 
--- which words it reads, what its processor's seat is, what its watcher has seen, what its thread deferred, what it knows of
--- wishes, and what tells its engine from others
+-- which words it reads, what its processor's seat is, what its watcher has seen, what its thread
+-- deferred, what it knows of wishes, and what tells its engine from others
 pub record Seat : Type 0 where
   pub words : Words
   pub cpu : Seated (Unit {0})

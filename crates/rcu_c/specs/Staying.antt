@@ -1,4 +1,5 @@
--- What a refused call leaves as it was: a handle, and what it would have written, or another handle.
+-- What a refused call leaves as it was: a handle, and what it would have written, or another
+-- handle.
 use Rattle.std.specs.Prelude.{◌≡◌}
 
 -- two things stay

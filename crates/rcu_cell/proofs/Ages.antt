@@ -1,5 +1,6 @@
 -- Looks at the number, one after another.
-use Rattle.std.proofs.Common.{◌≡◌, ◌≤◌, ◌+◌, Bool, true, if◌then◌else◌, List, [], ◌∷◌, refl, sym, ap, ◌∙◌, arith, inl, inr}
+use Rattle.std.proofs.Common.{◌≡◌, ◌≤◌, ◌+◌, Bool, true, if◌then◌else◌, List, [], ◌∷◌, refl, sym}
+use Rattle.std.proofs.Common.{ap, ◌∙◌, arith, inl, inr}
 use Rattle.std.proofs.lemmas.Bool.{cases_Bool}
 use Rattle.std.proofs.lemmas.Bool.Decides.{nat_tests}
 use Rattle.rcu_seq.specs.Numbers.{Number}
@@ -20,7 +21,8 @@ past_later : (at last n : Number) → last ≤ n → is_past at last ≡ true �
 past_later at last n later past = grind (arith, nat_tests)
 
 -- a look in between makes no difference to a slot that was looked at before
-retired_again : (at last n : Number) → last ≤ n → aged_state n (aged_state last (Retired at)) ≡ aged_state n (Retired at)
+retired_again : (at last n : Number) → last ≤ n
+    → aged_state n (aged_state last (Retired at)) ≡ aged_state n (Retired at)
 retired_again at last n later = elim (cases_Bool (is_past at last)) [
   | inl past ↦ ap (λ (b : Bool). aged_state n (if b then Free else Retired at)) past
       ∙ sym (ap (λ (b : Bool). if b then Free else Retired at) (past_later at last n later past))
@@ -33,9 +35,11 @@ state_again first last n Free later = refl
 state_again first last n Shown later = refl
 state_again first last n Replaced later = retired_again first last n later
 state_again first last n (Retired at) later = elim (cases_Bool (is_past at first)) [
-  | inl past ↦ ap (λ (b : Bool). aged_state n (aged_state last (if b then Free else Retired at))) past
+  | inl past ↦
+      ap (λ (b : Bool). aged_state n (aged_state last (if b then Free else Retired at))) past
       ∙ sym (ap (λ (b : Bool). aged_state n (if b then Free else Retired at)) past)
-  | inr current ↦ ap (λ (b : Bool). aged_state n (aged_state last (if b then Free else Retired at))) current
+  | inr current ↦
+      ap (λ (b : Bool). aged_state n (aged_state last (if b then Free else Retired at))) current
       ∙ retired_again at last n later
       ∙ sym (ap (λ (b : Bool). aged_state n (if b then Free else Retired at)) current)
 ]
@@ -67,35 +71,54 @@ slots_twice n (v ∷ vs) =
     λ i. record { state = here i; words = v.words } ∷ rest i
 
 -- a first look, and a look more
-pub aged_once : (k m : Watching Known) (n : Number) → k.view.seen ≤ n → m ≡ after_age k n → HasAged k m
+pub aged_once : (k m : Watching Known) (n : Number) → k.view.seen ≤ n → m ≡ after_age k n
+    → HasAged k m
 aged_once k m n later new =
     let seen : m.view.seen ≡ n = ap (λ (w : Watching Known). w.view.seen) new in
     let loads : m.view.loads ≡ k.view.loads + 1 = ap (λ (w : Watching Known). w.view.loads) new in
     let slots : List Version = slots_in k.view.client in
     let same : aged n slots ≡ aged m.view.seen (aged n slots) =
-    sym (slots_twice n slots) ∙ ap (λ (j : Number). aged j (aged n slots)) (sym seen) in record {
+    sym (slots_twice n slots) ∙ ap (λ (j : Number). aged j (aged n slots)) (sym seen) in
+    record {
       first = n;
       later = later;
       onward = omega (arith, seen);
-      state = new ∙ (λ i. record k {
-        view = record k.view { seen = sym seen i; loads = sym loads i; client = Keeper (slot_in k.view.client) (same i) };
-      });
+      state =
+          new
+          ∙ (λ i. record k {
+            view = record k.view {
+              seen = sym seen i;
+              loads = sym loads i;
+              client = Keeper (slot_in k.view.client) (same i);
+            };
+          });
     }
 
-pub aged_more : (k l m : Watching Known) (n : Number) → HasAged k l → l.view.seen ≤ n → m ≡ after_age l n → HasAged k m
+pub aged_more : (k l m : Watching Known) (n : Number)
+    → HasAged k l → l.view.seen ≤ n → m ≡ after_age l n → HasAged k m
 aged_more k l m n r later new =
     let seen : m.view.seen ≡ n = ap (λ (w : Watching Known). w.view.seen) new in
     let loads : m.view.loads ≡ l.view.loads + 1 = ap (λ (w : Watching Known). w.view.loads) new in
     let slots : List Version = slots_in k.view.client in
     let onward = r.onward in
-    let same : aged n (aged l.view.seen (aged r.first slots)) ≡ aged m.view.seen (aged r.first slots) =
-    slots_again r.first l.view.seen n slots later ∙ ap (λ (j : Number). aged j (aged r.first slots)) (sym seen) in record {
+    let same : aged n (aged l.view.seen (aged r.first slots))
+    ≡ aged m.view.seen (aged r.first slots) =
+    slots_again r.first l.view.seen n slots later
+    ∙ ap (λ (j : Number). aged j (aged r.first slots)) (sym seen) in
+    record {
       first = r.first;
       later = r.later;
       onward = omega (arith, seen, onward, later);
-      state = new ∙ ap (λ (w : Watching Known). after_age w n) r.state ∙ (λ i. record k {
-        view = record k.view { seen = sym seen i; loads = sym loads i; client = Keeper (slot_in k.view.client) (same i) };
-      });
+      state =
+          new
+          ∙ ap (λ (w : Watching Known). after_age w n) r.state
+          ∙ (λ i. record k {
+            view = record k.view {
+              seen = sym seen i;
+              loads = sym loads i;
+              client = Keeper (slot_in k.view.client) (same i);
+            };
+          });
     }
 
 -- the slot that is shown stays

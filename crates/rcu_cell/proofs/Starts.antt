@@ -1,6 +1,7 @@
 -- The rule of a cell at its opening: the first slot is shown, and the others are free.
-use Rattle.std.proofs.Common.{◌≡◌, ◌⊎◌, ℕ, zero, suc, ◌+◌, ◌*◌, ◌-◌, ◌<◌, ◌≤◌, List, [], ◌∷◌, length, replicate, None}
-use Rattle.std.proofs.Common.{inl, inr, refl, sym, ap, ◌∙◌, subst, ⊎_elim, arith}
+use Rattle.std.proofs.Common.{◌≡◌, ◌⊎◌, ℕ, zero, suc, ◌+◌, ◌*◌, ◌-◌, ◌<◌, ◌≤◌, List, [], ◌∷◌}
+use Rattle.std.proofs.Common.{length, replicate, None, inl, inr, refl, sym, ap, ◌∙◌, subst, ⊎_elim}
+use Rattle.std.proofs.Common.{arith}
 use Rattle.std.specs.Prelude.{slice_index}
 use Rattle.std.proofs.Math.Nat.{mul-suc, mul-zero}
 use Rattle.std.proofs.lemmas.List.{get_or-replicate, length-replicate}
@@ -29,7 +30,8 @@ one_or_free : (width count : ℕ) (words : List ℕ) (i : ℕ) (v : Version)
     → get_elem? (first_slots width count words) i ≡ some v
     → ((i ≡ 0) × (shown_one words ≡ v)) ⊎ ((0 < i) × (free_one width ≡ v))
 one_or_free width count words zero v e = inl (refl, some-injective _ _ e)
-one_or_free width count words (suc i) v e = inr (omega arith, in_replicate (count - 1) i (free_one width) v e)
+one_or_free width count words (suc i) v e =
+    inr (omega arith, in_replicate (count - 1) i (free_one width) v e)
 
 not_shown : Free ≡ Shown → ⊥
 not_shown e = cc
@@ -39,8 +41,10 @@ module _ (holds : List ℕ → Type 0) (width count : ℕ) where
   each_first : (words : List ℕ) (P : ℕ → Version → Type 0) → P 0 (shown_one words)
       → ((i : ℕ) → 0 < i → P i (free_one width))
       → (i : ℕ) (v : Version) → get_elem? (first_slots width count words) i ≡ some v → P i v
-  each_first words P first others i v at = ⊎_elim
-      (λ (t : (i ≡ 0) × (shown_one words ≡ v)). subst (λ (y : ℕ × Version). P y.0 y.1) (λ z. (sym t.0 z, t.1 z)) first)
+  each_first words P first others i v at =
+      ⊎_elim
+      (λ (t : (i ≡ 0) × (shown_one words ≡ v)).
+      subst (λ (y : ℕ × Version). P y.0 y.1) (λ z. (sym t.0 z, t.1 z)) first)
       (λ (t : (0 < i) × (free_one width ≡ v)). subst (λ (x : Version). P i x) t.1 (others i t.0))
       (one_or_free width count words i v at)
 
@@ -56,10 +60,14 @@ module _ (holds : List ℕ → Type 0) (width count : ℕ) where
       (words, is, refl, refl)
   alone slots words is (suc id) x e = absurd (some-ne-none x (sym e))
 
-  pub starts : (words behind : List ℕ) (homes : Slots (Unit {0})) → 0 < count → length words ≡ width
+  pub starts : (words behind : List ℕ) (homes : Slots (Unit {0}))
+      → 0 < count
+      → length words ≡ width
       → length behind ≡ first_place + width * count
-      → slice_index behind 0 ≡ 0 → ((k : ℕ) → k < width → slice_index behind (first_place + k) ≡ slice_index words k)
-      → ((j : ℕ) → first_place + width ≤ j → slice_index behind j ≡ 0) → holds words
+      → slice_index behind 0 ≡ 0
+      → ((k : ℕ) → k < width → slice_index behind (first_place + k) ≡ slice_index words k)
+      → ((j : ℕ) → first_place + width ≤ j → slice_index behind j ≡ 0)
+      → holds words
       → IsKept holds width count behind homes ((None, None, Owner) ∷ [])
   starts words behind homes any size long shown copied rest whole = record {
     slots = first_slots width count words;
@@ -70,12 +78,18 @@ module _ (holds : List ℕ → Type 0) (width count : ℕ) where
     at_shown = shown;
     words_shown = words;
     current = refl;
-    lone = each_first words (λ i v. v.state ≡ Shown → i ≡ 0) (λ e. refl) (λ i low e. absurd (not_shown e));
+    lone = each_first words (λ i v. v.state ≡ Shown → i ≡ 0) (λ e. refl)
+        (λ i low e. absurd (not_shown e));
     written =
-        each_first words (λ i v. (k : ℕ) → k < width → slice_index behind (word_of width i k) ≡ slice_index v.words k)
-        (λ k low. ap (λ (n : ℕ). slice_index behind (first_place + n + k)) (mul-zero width) ∙ copied k low)
-        (λ i low k small. rest (word_of width i k) (row_past i k low) ∙ sym (get_or-replicate width k 0 0 small));
-    sized = each_first words (λ i v. length v.words ≡ width) size (λ i low. length-replicate width 0);
+        each_first words (λ i v.
+        (k : ℕ) → k < width → slice_index behind (word_of width i k) ≡ slice_index v.words k)
+        (λ k low.
+        ap (λ (n : ℕ). slice_index behind (first_place + n + k)) (mul-zero width) ∙ copied k low)
+        (λ i low k small.
+        rest (word_of width i k) (row_past i k low) ∙ sym (get_or-replicate width k 0 0 small));
+    sized =
+        each_first words (λ i v. length v.words ≡ width) size (λ i low. length-replicate width 0);
     whole = each_first words (λ i v. IsWhole holds v.state v.words) whole (λ i low. tt);
-    seats = λ id cpu section known at. alone (first_slots width count words) words refl id (cpu, section, known) at;
+    seats = λ id cpu section known at.
+        alone (first_slots width count words) words refl id (cpu, section, known) at;
   }

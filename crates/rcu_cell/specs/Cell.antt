@@ -10,9 +10,12 @@ use Rattle.rcu_cell.specs.Versions.{IsReading, slot_in}
 use Rattle.rcu_cell.specs.declared.known.Known.{Known}
 use Rattle.rcu_cell.specs.declared.known.Known.TheVariants.{Idle}
 
--- the seat of a processor whose section was opened, loaded a version and was closed again: its last load saw n
+-- the seat of a processor whose section was opened, loaded a version and was closed again: its last
+-- load saw n
 abbrev pub after_section : Seated Known → Number → Seated Known
-after_section s n = record s { view = record s.view { seen = n; loads = s.view.loads + 2; section = None; client = Idle } }
+after_section s n = record s {
+  view = record s.view { seen = n; loads = s.view.loads + 2; section = None; client = Idle };
+}
 
 -- a processor's seat of the cell, whose open section may load a version
 pub record MayLoad (cell : Object) (seat : Seated Known) : Type 0 where

@@ -2,9 +2,11 @@
 use Rattle.std.specs.Prelude.{◌≡◌, ℕ, ◌^◌, ◌<◌, ◌≤◌, true, false, List, length}
 use Rattle.rcu_seq.specs.Numbers.{Number}
 use Rattle.rcu_live.specs.Board.{Object}
-use Rattle.rcu_live.specs.Watcher.{IsWatcherOf, KnowsBy, Watching, after_number_step, after_word_step}
+use Rattle.rcu_live.specs.Watcher.{IsWatcherOf, KnowsBy, Watching, after_number_step}
+use Rattle.rcu_live.specs.Watcher.{after_word_step}
 use Rattle.rcu_cell.specs.Steps.{IsClaimed}
-use Rattle.rcu_cell.specs.Versions.{IsKeeping, aged, filled, is_free, published, slot_in, slots_in, version_at}
+use Rattle.rcu_cell.specs.Versions.{IsKeeping, aged, filled, is_free, published, slot_in, slots_in}
+use Rattle.rcu_cell.specs.Versions.{version_at}
 use Rattle.rcu_cell.specs.declared.keeper.Retired.{Retired}
 use Rattle.rcu_cell.specs.declared.known.Known.{Known}
 use Rattle.rcu_cell.specs.declared.known.Known.TheVariants.{Keeper}
@@ -29,8 +31,10 @@ pub record MayFill (cell : Object) (count : ℕ) (seat : Watching Known) (slot :
   pub inside : slot < count
   pub keeps : KeepsFree seat.view.client slot
 
--- the keeper of a cell of so many slots of so many words, as it is dealt by this seat: it knows the slots as at first
-pub record IsDealtBy (holds : List ℕ → Type 0) (width count : ℕ) (cell : Object) (seat keeper : Watching Known) : Type 0 where
+-- the keeper of a cell of so many slots of so many words, as it is dealt by this seat: it knows the
+-- slots as at first
+pub record IsDealtBy (holds : List ℕ → Type 0) (width count : ℕ) (cell : Object)
+    (seat keeper : Watching Known) : Type 0 where
   pub keeper_of : IsWatcherOf cell keeper
   pub claimed : KnowsBy (λ _ now. IsClaimed holds width count now) seat keeper
 
@@ -41,15 +45,19 @@ IsFull slots = (i : ℕ) → i < length slots → is_free (version_at slots i).s
 -- after an update: the slot has these words, and is shown in place of the one that was
 abbrev pub after_update : Watching Known → ℕ → List ℕ → Watching Known
 after_update keeper slot words =
-    after_word_step keeper (Keeper slot (published (filled (slots_in keeper.view.client) slot words) (slot_in keeper.view.client) slot))
+    after_word_step keeper
+    (Keeper slot
+    (published (filled (slots_in keeper.view.client) slot words) (slot_in keeper.view.client) slot))
 
 -- after a look, which saw the number
 abbrev pub after_age : Watching Known → Number → Watching Known
 after_age keeper number =
-    after_number_step keeper number (Keeper (slot_in keeper.view.client) (aged number (slots_in keeper.view.client)))
+    after_number_step keeper number
+    (Keeper (slot_in keeper.view.client) (aged number (slots_in keeper.view.client)))
 
 -- an update replaced the shown slot by the first free one: it has these words, and is shown
-pub record Updated (keeper : Watching Known) (words : List ℕ) (retired : Retired) (now : Watching Known) : Type 0 where
+pub record Updated (keeper : Watching Known) (words : List ℕ) (retired : Retired)
+    (now : Watching Known) : Type 0 where
   pub slot : IsFirstFree (slots_in keeper.view.client) retired.by
   pub replaced : retired.slot ≡ slot_in keeper.view.client
   pub state : now ≡ after_update keeper retired.by words

@@ -7,8 +7,8 @@ use Rattle.rcu_cell.specs.Versions.{words_in}
 use Rattle.rcu_cell.specs.declared.version_guard.VersionGuard.{VersionGuard}
 use Rattle.rcu_cell.specs.declared.known.Known.{Known}
 
--- the cell, the seat whose section reads the version, the slot that it stays in, and which seat is borrowed: a name
--- that tells one borrowed seat from another
+-- the cell, the seat whose section reads the version, the slot that it stays in, and which seat is
+-- borrowed: a name that tells one borrowed seat from another
 pub record Lent : Type 0 where
   pub cell : Object
   pub seat : Seated Known
@@ -19,13 +19,19 @@ pub record Lent : Type 0 where
 abbrev pub version_of : Lent → List ℕ
 version_of loaded = words_in loaded.seat.view.client
 
--- lent is a version of this cell, by the borrowed seat of this name, of which what it knows has changed and nothing else
-pub record IsLentBy (cell : Object) (seat : Seated Known) (name : GName) (loaded : Lent) : Type 0 where
+-- lent is a version of this cell, by the borrowed seat of this name, of which what it knows has
+-- changed and nothing else
+pub record IsLentBy (cell : Object) (seat : Seated Known) (name : GName)
+    (loaded : Lent) : Type 0 where
   pub of_cell : loaded.cell ≡ cell
   pub by_name : loaded.name ≡ name
   pub state : loaded.seat ≡ after_word_step seat loaded.seat.view.client
 
 module _ {LEAF FAN : ℕ} {T F : Type 0} {W N : ℕ} where
   abbrev pub lent : VersionGuard LEAF FAN T F W N → Lent
-  lent loaded =
-      record { cell = loaded.cell.now; seat = loaded.seat.now; slot = loaded.slot; name = loaded.seat.ghost_name }
+  lent loaded = record {
+    cell = loaded.cell.now;
+    seat = loaded.seat.now;
+    slot = loaded.slot;
+    name = loaded.seat.ghost_name;
+  }

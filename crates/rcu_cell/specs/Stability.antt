@@ -1,6 +1,7 @@
--- The rule of a cell is kept where sections open and close, where a seat is dealt, and where what a seat knows is
--- handed over.
-use Rattle.std.specs.Prelude.{◌≡◌, ◌≢◌, ℕ, List, [], ◌∷◌, ◌++◌, length, Option, Some, None, slice_set}
+-- The rule of a cell is kept where sections open and close, where a seat is dealt, and where what a
+-- seat knows is handed over.
+use Rattle.std.specs.Prelude.{◌≡◌, ◌≢◌, ℕ, List, [], ◌∷◌, ◌++◌, length, Option, Some, None}
+use Rattle.std.specs.Prelude.{slice_set}
 use Rattle.std.proofs.Common.{refl, sym, ◌∙◌, subst, ⊎_elim}
 use mathlib.Core.Option.{some}
 use lib.ListN.{get_elem?}
@@ -26,7 +27,8 @@ module _ (width count : ℕ) (slots : List Version) (shown : ℕ) where
   abbrev pub SeatKnows : ℕ → ℕ → ClientView Known → Type 0
   SeatKnows keeper id x = Knows width count slots shown keeper id x.1 x.2
 
-  knows_opened : (keeper id : ℕ) (number : Number) (known : Known) → Knows width count slots shown keeper id None known
+  knows_opened : (keeper id : ℕ) (number : Number) (known : Known)
+      → Knows width count slots shown keeper id None known
       → Knows width count slots shown keeper id (Some number) known
   knows_opened keeper id number Idle k = tt
   knows_opened keeper id number Owner k = k
@@ -49,7 +51,8 @@ module _ (width count : ℕ) (slots : List Version) (shown : ℕ) where
   keeper_after keeper new (Keeper s known) = new
 
   -- the seat to which it is handed over knows it
-  knows_handed : (keeper id new : ℕ) (known : Known) → Knows width count slots shown keeper id None known
+  knows_handed : (keeper id new : ℕ) (known : Known)
+      → Knows width count slots shown keeper id None known
       → Knows width count slots shown (keeper_after keeper new known) new None known
   knows_handed keeper id new Idle k = tt
   knows_handed keeper id new Owner k = (k.0, k.1, k.2, refl)
@@ -57,8 +60,8 @@ module _ (width count : ℕ) (slots : List Version) (shown : ℕ) where
   knows_handed keeper id new (Keeper s known) k = (k.0, k.1, refl)
 
   -- another seat has kept them only where it is not that one which hands them over
-  still_keeps : (keeper id new j : ℕ) (known : Known) → Knows width count slots shown keeper id None known → j ≢ id
-      → keeper ≡ j
+  still_keeps : (keeper id new j : ℕ) (known : Known)
+      → Knows width count slots shown keeper id None known → j ≢ id → keeper ≡ j
       → keeper_after keeper new known ≡ j
   still_keeps keeper id new j Idle k apart e = e
   still_keeps keeper id new j Owner k apart e = absurd (apart (sym e ∙ k.3))
@@ -80,7 +83,8 @@ module _ (holds : List ℕ → Type 0) (width count : ℕ) where
   -- the rule is kept where the seats know what is so
   pub reseated : (words : List ℕ) (homes : Slots (Unit {0})) (xs ys : Views Known)
       (h : IsKept holds width count words homes xs) (keeper : ℕ)
-      → ((j : ℕ) (y : ClientView Known) → get_elem? ys j ≡ some y → SeatKnows width count h.slots h.shown keeper j y)
+      → ((j : ℕ) (y : ClientView Known) → get_elem? ys j ≡ some y → SeatKnows width count h.slots
+      h.shown keeper j y)
       → IsKept holds width count words homes ys
   reseated words homes xs ys h keeper seats = record {
     slots = h.slots;
@@ -101,14 +105,17 @@ module _ (holds : List ℕ → Type 0) (width count : ℕ) where
   -- one seat changes
   pub one_changes : (words : List ℕ) (homes : Slots (Unit {0})) (xs : Views Known)
       (h : IsKept holds width count words homes xs) (id : ℕ) (x : ClientView Known)
-      → SeatKnows width count h.slots h.shown h.keeper id x → IsKept holds width count words homes (slice_set xs id x)
+      → SeatKnows width count h.slots h.shown h.keeper id x
+      → IsKept holds width count words homes (slice_set xs id x)
   one_changes words homes xs h id x mine = reseated words homes xs (slice_set xs id x) h h.keeper
-      (reseat (SeatKnows width count h.slots h.shown h.keeper) xs id x mine (λ j y apart at. h.seats j y.0 y.1 y.2 at))
+      (reseat (SeatKnows width count h.slots h.shown h.keeper) xs id x mine
+      (λ j y apart at. h.seats j y.0 y.1 y.2 at))
 
   handed : (words : List ℕ) (homes : Slots (Unit {0})) (xs : Views Known) (id : ℕ) (known : Known)
       (h : IsKept holds width count words homes xs)
       → get_elem? xs id ≡ some (None, None, known)
-      → IsKept holds width count words homes (slice_set xs id (None, None, Idle) ++ (None, None, known) ∷ [])
+      → IsKept holds width count words homes
+      (slice_set xs id (None, None, Idle) ++ (None, None, known) ∷ [])
   handed words homes xs id known h at =
       let left : Views Known = slice_set xs id (None, None, Idle) in
       let new : ℕ = length left in
@@ -117,22 +124,31 @@ module _ (holds : List ℕ → Type 0) (width count : ℕ) where
       let front : (j : ℕ) (y : ClientView Known) → get_elem? left j ≡ some y
       → SeatKnows width count h.slots h.shown keeper j y =
       reseat (SeatKnows width count h.slots h.shown keeper) xs id (None, None, Idle) tt
-      (λ j y apart e. knows_still width count h.slots h.shown h.keeper id new j known y.1 y.2 mine apart (h.seats j y.0 y.1 y.2 e)) in
-      reseated words homes xs (left ++ (None, None, known) ∷ []) h keeper (λ j y e. ⊎_elim
-      (λ (old : get_elem? left j ≡ some y). front j y old)
-      (λ (last : (j ≡ new) × ((None, None, known) ≡ y)). subst (λ (z : ℕ × ClientView Known). SeatKnows width count h.slots h.shown keeper z.0 z.1)
-      (λ i. (sym last.0 i, last.1 i)) (knows_handed width count h.slots h.shown h.keeper id new known mine))
+      (λ j y apart e. knows_still width count h.slots h.shown h.keeper id new j known y.1 y.2 mine
+      apart (h.seats j y.0 y.1 y.2 e)) in
+      reseated words homes xs (left ++ (None, None, known) ∷ []) h keeper
+      (λ j y e. ⊎_elim (λ (old : get_elem? left j ≡ some y). front j y old)
+      (λ (last : (j ≡ new) × ((None, None, known) ≡ y)).
+      subst (λ (z : ℕ × ClientView Known). SeatKnows width count h.slots h.shown keeper z.0 z.1)
+      (λ i. (sym last.0 i, last.1 i))
+      (knows_handed width count h.slots h.shown h.keeper id new known mine))
       (at_end left (None, None, known) y j e))
 
   pub is_stable : IsStable (IsKept holds width count) Idle closed
   is_stable = record {
-    opens = λ words homes xs id number cpu known h at. one_changes words homes xs h id (cpu, Some number, known)
-        (knows_opened width count h.slots h.shown h.keeper id number known (h.seats id cpu None known at));
-    closes = λ words homes xs id cpu section known h at. one_changes words homes xs h id (cpu, None, closed known)
-        (knows_closed width count h.slots h.shown h.keeper id section known (h.seats id cpu section known at));
-    deals = λ words homes xs cpu h. reseated words homes xs (xs ++ (cpu, None, Idle) ∷ []) h h.keeper (λ j y e. ⊎_elim
-        (λ (old : get_elem? xs j ≡ some y). h.seats j y.0 y.1 y.2 old)
-        (λ (last : (j ≡ length xs) × ((cpu, None, Idle) ≡ y)). subst (λ (z : ClientView Known). SeatKnows width count h.slots h.shown h.keeper j z) last.1 tt)
+    opens = λ words homes xs id number cpu known h at.
+        one_changes words homes xs h id (cpu, Some number, known)
+        (knows_opened width count h.slots h.shown h.keeper id number known
+        (h.seats id cpu None known at));
+    closes = λ words homes xs id cpu section known h at.
+        one_changes words homes xs h id (cpu, None, closed known)
+        (knows_closed width count h.slots h.shown h.keeper id section known
+        (h.seats id cpu section known at));
+    deals = λ words homes xs cpu h. reseated words homes xs (xs ++ (cpu, None, Idle) ∷ []) h
+        h.keeper (λ j y e. ⊎_elim (λ (old : get_elem? xs j ≡ some y). h.seats j y.0 y.1 y.2 old)
+        (λ (last : (j ≡ length xs) × ((cpu, None, Idle) ≡ y)).
+        subst (λ (z : ClientView Known). SeatKnows width count h.slots h.shown h.keeper j z) last.1
+        tt)
         (at_end xs (cpu, None, Idle) y j e));
     hands = λ words homes xs id known h at. handed words homes xs id known h at;
   }

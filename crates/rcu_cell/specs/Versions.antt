@@ -1,6 +1,8 @@
--- Versions of a value in slots: what state each slot is in, and what a look at the number makes of it.
-use Rattle.std.specs.Prelude.{◌≡◌, ℕ, ◌+◌, ◌*◌, ◌-◌, ◌^◌, ◌<◌, ◌≤◌, if◌then◌else◌, Bool, true, false, List, [], ◌∷◌, length}
-use Rattle.std.specs.Prelude.{map, replicate, slice_index, slice_index_or, slice_set}
+-- Versions of a value in slots: what state each slot is in, and what a look at the number makes of
+-- it.
+use Rattle.std.specs.Prelude.{◌≡◌, ℕ, ◌+◌, ◌*◌, ◌-◌, ◌^◌, ◌<◌, ◌≤◌, if◌then◌else◌, Bool, true}
+use Rattle.std.specs.Prelude.{false, List, [], ◌∷◌, length, map, replicate, slice_index}
+use Rattle.std.specs.Prelude.{slice_index_or, slice_set}
 use Rattle.rcu_seq.specs.Numbers.{Number}
 use Rattle.rcu_live.specs.Numbers.{is_past}
 use Rattle.rcu_cell.specs.declared.known.Known.{Known}
@@ -9,7 +11,8 @@ use Rattle.rcu_cell.specs.declared.known.Version.{Version}
 use Rattle.rcu_cell.specs.declared.slot_state.SlotState.{SlotState}
 use Rattle.rcu_cell.specs.declared.slot_state.SlotState.TheVariants.{Free, Shown, Replaced, Retired}
 
--- where the words of the slots begin, behind the word that names the shown one: apart, so that they share no cache line
+-- where the words of the slots begin, behind the word that names the shown one: apart, so that they
+-- share no cache line
 abbrev pub first_place : ℕ
 first_place = 16
 
@@ -22,7 +25,8 @@ pub record AreSizes (width count : ℕ) : Type 0 where
 abbrev pub word_of : ℕ → ℕ → ℕ → ℕ
 word_of width i k = first_place + width * i + k
 
--- the words of a cell at first, behind the engine's: the slot 0 is shown, with these words, and all that follows is 0
+-- the words of a cell at first, behind the engine's: the slot 0 is shown, with these words, and all
+-- that follows is 0
 pub record AreFirstWords (width count : ℕ) (words behind : List ℕ) : Type 0 where
   pub size : length behind ≡ first_place + width * count
   pub shown : slice_index behind 0 ≡ 0
@@ -62,11 +66,13 @@ version_at slots i = slice_index_or slots i no_version
 
 -- the slot i is in this state, and its words stay
 abbrev pub with_state : List Version → ℕ → SlotState → List Version
-with_state slots i state = slice_set slots i record { state = state; words = (version_at slots i).words }
+with_state slots i state =
+    slice_set slots i record { state = state; words = (version_at slots i).words }
 
 -- the word k of the slot i, which is free, is x
 abbrev pub with_word : List Version → ℕ → ℕ → ℕ → List Version
-with_word slots i k x = slice_set slots i record { state = Free; words = slice_set (version_at slots i).words k x }
+with_word slots i k x =
+    slice_set slots i record { state = Free; words = slice_set (version_at slots i).words k x }
 
 -- the slot i, which is free, has these words
 abbrev pub filled : List Version → ℕ → List ℕ → List Version
@@ -76,7 +82,8 @@ filled slots i words = slice_set slots i record { state = Free; words = words }
 abbrev pub published : List Version → ℕ → ℕ → List Version
 published slots from to = with_state (with_state slots from Replaced) to Shown
 
--- at the number n: what was replaced is so no later than now, and what was replaced a full grace period ago is free
+-- at the number n: what was replaced is so no later than now, and what was replaced a full grace
+-- period ago is free
 abbrev pub aged_state : Number → SlotState → SlotState
 aged_state n Free = Free
 aged_state n Shown = Shown
@@ -92,7 +99,8 @@ aged n slots = map (aged_version n) slots
 -- so many slots of so many words at first: the first one is shown, with these words
 abbrev pub first_slots : ℕ → ℕ → List ℕ → List Version
 first_slots width count words =
-    record { state = Shown; words = words } ∷ replicate (count - 1) record { state = Free; words = replicate width 0 }
+    record { state = Shown; words = words }
+    ∷ replicate (count - 1) record { state = Free; words = replicate width 0 }
 
 -- and their states
 abbrev pub first_states : ℕ → List SlotState

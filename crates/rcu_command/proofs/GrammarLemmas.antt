@@ -1,7 +1,7 @@
 -- Commands that get options and subcommands.
 use Rattle.std.proofs.Common.{◌≡◌, ◌∙◌, ◌||◌, Bool, false, IfOk, Result, Ok, Err, ap}
-use Rattle.clap.specs.Words.{AddsArg, AddsSubcommand, App, Rule, app_of, rule_of, shape_of, with_rule}
-use Rattle.clap.specs.Words.{with_subcommand}
+use Rattle.clap.specs.Words.{AddsArg, AddsSubcommand, App, Rule, app_of, rule_of, shape_of}
+use Rattle.clap.specs.Words.{with_rule, with_subcommand}
 use Rattle.clap.specs.declared.builder.arg.Arg.{Arg}
 use Rattle.clap.specs.declared.builder.command.Command.{Command}
 use Rattle.clap.specs.declared.builder.command.Command.TheViews.{out-Command as fields_of}
@@ -12,8 +12,9 @@ pub record IsLocal (command : Command) (simple : App) : Type 0 where
   pub local : (fields_of command).has_globals ≡ false
 
 -- with an option more
-pub with_option : (old : Command) (a : Arg) (new : Command) (app : App) (rule : Rule) → AddsArg old a new
-    → rule_of a ≡ rule → a.global ≡ false → IsLocal old app → IsLocal new (with_rule app rule)
+pub with_option : (old : Command) (a : Arg) (new : Command) (app : App) (rule : Rule)
+    → AddsArg old a new → rule_of a ≡ rule → a.global ≡ false → IsLocal old app
+    → IsLocal new (with_rule app rule)
 with_option old a new app rule adds ruled local is = record {
   app = adds.shape local
       ∙ ap (λ (x : App). with_rule x (rule_of a)) is.app
@@ -22,10 +23,15 @@ with_option old a new app rule adds ruled local is = record {
 }
 
 -- with the last one, where that is added
-pub with_last_option : {E : Type 0} (r : Result Command E) (old : Command) (a : Arg) (app : App) (rule : Rule)
-    → IfOk r (λ new. AddsArg old a new) → rule_of a ≡ rule → a.global ≡ false → IsLocal old app
+pub with_last_option : {E : Type 0} (r : Result Command E) (old : Command) (a : Arg) (app : App)
+    (rule : Rule)
+    → IfOk r (λ new. AddsArg old a new)
+    → rule_of a ≡ rule
+    → a.global ≡ false
+    → IsLocal old app
     → IfOk r (λ new. IsLocal new (with_rule app rule))
-with_last_option (Ok new) old a app rule adds ruled local is = with_option old a new app rule adds ruled local is
+with_last_option (Ok new) old a app rule adds ruled local is =
+    with_option old a new app rule adds ruled local is
 with_last_option (Err e) old a app rule adds ruled local is = tt
 
 -- what it is then
@@ -40,8 +46,12 @@ local_kept (Ok new) app is = is.local
 local_kept (Err e) app is = tt
 
 -- with a subcommand more that has no global option
-pub with_below : (old sub new : Command) (app below : App) → AddsSubcommand old sub new → app_of old ≡ app
-    → app_of sub ≡ below → (fields_of sub).has_globals ≡ false → app_of new ≡ with_subcommand app below.top
+pub with_below : (old sub new : Command) (app below : App)
+    → AddsSubcommand old sub new
+    → app_of old ≡ app
+    → app_of sub ≡ below
+    → (fields_of sub).has_globals ≡ false
+    → app_of new ≡ with_subcommand app below.top
 with_below old sub new app below adds is sub_is local =
     adds.shape local
     ∙ ap (λ (x : App). with_subcommand x (shape_of sub)) is
@@ -49,7 +59,11 @@ with_below old sub new app below adds is sub_is local =
 
 -- with the last one, where that is added
 pub with_last_below : {E : Type 0} (r : Result Command E) (old sub : Command) (app below : App)
-    → IfOk r (λ new. AddsSubcommand old sub new) → app_of old ≡ app → app_of sub ≡ below
-    → (fields_of sub).has_globals ≡ false → IfOk r (λ new. app_of new ≡ with_subcommand app below.top)
-with_last_below (Ok new) old sub app below adds is sub_is local = with_below old sub new app below adds is sub_is local
+    → IfOk r (λ new. AddsSubcommand old sub new)
+    → app_of old ≡ app
+    → app_of sub ≡ below
+    → (fields_of sub).has_globals ≡ false
+    → IfOk r (λ new. app_of new ≡ with_subcommand app below.top)
+with_last_below (Ok new) old sub app below adds is sub_is local =
+    with_below old sub new app below adds is sub_is local
 with_last_below (Err e) old sub app below adds is sub_is local = tt

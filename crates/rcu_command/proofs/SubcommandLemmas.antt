@@ -1,6 +1,7 @@
--- The subcommands: where a parse of the words of one has no fault, each of its options has a number.
-use Rattle.std.proofs.Common.{◌≡◌, ℕ, true, false, List, [], ◌∷◌, Option, Some, None, is_some, codes, refl, sym, ap}
-use Rattle.std.proofs.Common.{subst, arith, ◌≤◌, ◌||◌, if◌then◌else◌}
+-- The subcommands: where a parse of the words of one has no fault, each of its options has a
+-- number.
+use Rattle.std.proofs.Common.{◌≡◌, ℕ, true, false, List, [], ◌∷◌, Option, Some, None, is_some}
+use Rattle.std.proofs.Common.{codes, refl, sym, ap, subst, arith, ◌≤◌, ◌||◌, if◌then◌else◌}
 use Rattle.std.specs.Prelude.{option_and_then, pos}
 use Rattle.std.specs.Str.{bytes_eq}
 use Rattle.clap.specs.Simple.{Shape, built_leaf, inherited, marked_built, on_top, with_leaf_noted}
@@ -11,17 +12,20 @@ use Rattle.clap.specs.ValueTests.{accepts}
 use Rattle.clap.specs.Walk.{Held, Row, Text, nothing_held, one_of, rows_after, settled, walk}
 use Rattle.clap.specs.Words.{App}
 use Rattle.clap.specs.declared.builder.value_parser.ValueParser.TheVariants as vp
-use Rattle.rcu_command.specs.CommandLine.{any_u32, any_u64, number_up_to, pair, rcu, script, torture, u32_max, u64_max}
+use Rattle.rcu_command.specs.CommandLine.{any_u32, any_u64, number_up_to, pair, rcu, script}
+use Rattle.rcu_command.specs.CommandLine.{torture, u32_max, u64_max}
 use Rattle.rcu_stress.specs.Ledger.{most_rounds, most_workers}
 use Rattle.rcu_command.proofs.GetterLemmas.{number_at_most, number_within}
-use Rattle.rcu_command.proofs.RowLemmas.{AllKeep, AllRead, IsNumber, Keeps, Range, all_defaulted, given_there}
-use Rattle.rcu_command.proofs.RowLemmas.{help_keeps}
-use Rattle.rcu_command.proofs.RowLemmas.{number_there, option_keeps, option_rule}
-use Rattle.rcu_command.proofs.LevelLemmas.{AllDefault, all_given, rows_read, u64_takes, within_takes}
+use Rattle.rcu_command.proofs.RowLemmas.{AllKeep, AllRead, IsNumber, Keeps, Range, all_defaulted}
+use Rattle.rcu_command.proofs.RowLemmas.{given_there, help_keeps, number_there, option_keeps}
+use Rattle.rcu_command.proofs.RowLemmas.{option_rule}
+use Rattle.rcu_command.proofs.LevelLemmas.{AllDefault, all_given, rows_read, u64_takes}
+use Rattle.rcu_command.proofs.LevelLemmas.{within_takes}
 
 -- a subcommand as `rcu` builds it
 abbrev pub built_below : App → Shape
-built_below command = built_leaf (inherited (on_top with_leaf_noted (on_top marked_built rcu)).top command.top)
+built_below command =
+    built_leaf (inherited (on_top with_leaf_noted (on_top marked_built rcu)).top command.top)
 
 abbrev pub built_script : Shape
 built_script = built_below script
@@ -49,15 +53,18 @@ range_of name = if bytes_eq name (codes "help") then None else
 -- ---- each use of an option leaves it a number
 
 -- those of a u32 in a range
-within_keeps : (least most : ℕ) → most ≤ u32_max → (name : Text) → range_of name ≡ Some (least, most)
+within_keeps : (least most : ℕ)
+    → most ≤ u32_max → (name : Text) → range_of name ≡ Some (least, most)
     → Keeps range_of (option_rule name (vp.Signed (pos least) (pos most)) true [])
 within_keeps least most fits name is =
     option_keeps range_of name (vp.Signed (pos least) (pos most)) true []
-    (subst (λ (range : Option Range). (text : Text) → accepts false (vp.Signed (pos least) (pos most)) text ≡ true
-    → IsNumber range_of range (reading_of (vp.Signed (pos least) (pos most))) (text ∷ []))
+    (subst (λ (range : Option Range).
+    (text : Text) → accepts false (vp.Signed (pos least) (pos most)) text ≡ true → IsNumber range_of
+    range (reading_of (vp.Signed (pos least) (pos most))) (text ∷ []))
     (sym is) (within_takes least most fits))
 
-u32_keeps : (name : Text) → range_of name ≡ Some small → Keeps range_of (option_rule name any_u32 true [])
+u32_keeps : (name : Text) → range_of name ≡ Some small
+    → Keeps range_of (option_rule name any_u32 true [])
 u32_keeps name is = within_keeps 0 u32_max (omega arith) name is
 
 last_keeps : Keeps range_of (option_rule (codes "last") (vp.Unsigned 0 u64_max) false
@@ -68,7 +75,10 @@ last_keeps = option_keeps range_of (codes "last") (vp.Unsigned 0 u64_max) false
 script_keeps : AllKeep range_of built_script.rules
 script_keeps = (
   u32_keeps (codes "leaf") refl,
-  (u32_keeps (codes "inner") refl, (u32_keeps (codes "cpus") refl, (last_keeps, (help_keeps range_of, tt)))),
+  (
+    u32_keeps (codes "inner") refl,
+    (u32_keeps (codes "cpus") refl, (last_keeps, (help_keeps range_of, tt))),
+  ),
 )
 
 torture_keeps : AllKeep range_of built_torture.rules
@@ -155,10 +165,12 @@ pub record HasNumbers (second_leaf second_inner : Text) (rows : List Row) : Type
 -- an option that was given has one
 u32_there : (id : Text) (rows : List Row) → range_of id ≡ Some small → AllRead range_of rows
     → is_given id rows ≡ true → is_some (number_up_to u32_max rows id) ≡ true
-u32_there id rows is read given = number_there range_of small id rows is read (given_there id rows given)
+u32_there id rows is read given =
+    number_there range_of small id rows is read (given_there id rows given)
 
 -- so it is after a parse of `script` that has no fault
-pub script_numbers : (words : List Text) → level_fault built_script [] nothing_held words false [] ≡ []
+pub script_numbers : (words : List Text)
+    → level_fault built_script [] nothing_held words false [] ≡ []
     → HasNumbers (codes "leaf") (codes "inner") (rows_after built_script.rules [] words)
 script_numbers words e =
     let rows : List Row = rows_after built_script.rules [] words in
@@ -192,17 +204,23 @@ pair_numbers words e =
       leaf2 = u32_there (codes "leaf2") rows refl read (given.1.1.0 refl);
       inner2 = u32_there (codes "inner2") rows refl read (given.1.1.1.0 refl);
       cpus = u32_there (codes "cpus") rows refl read (given.1.1.1.1.0 refl);
-      last = number_there range_of large (codes "last") rows refl read (defaulted.1.1.1.1.1.0 _ _ refl);
+      last = number_there range_of large (codes "last") rows refl read
+          (defaulted.1.1.1.1.1.0 _ _ refl);
     }
 
 -- the numbers of a torture run, each in its range
 pub record HasTortureNumbers (rows : List Row) : Type 0 where
-  pub workers : is_some (option_and_then (number_within 1 most_workers) (one_of (codes "workers") rows)) ≡ true
-  pub rounds : is_some (option_and_then (number_within 1 most_rounds) (one_of (codes "rounds") rows)) ≡ true
+  pub workers : is_some
+      (option_and_then (number_within 1 most_workers) (one_of (codes "workers") rows))
+      ≡ true
+  pub rounds : is_some
+      (option_and_then (number_within 1 most_rounds) (one_of (codes "rounds") rows))
+      ≡ true
   pub seed : is_some (number_up_to u64_max rows (codes "seed")) ≡ true
 
 -- and of `torture`
-pub torture_numbers : (words : List Text) → level_fault built_torture [] nothing_held words false [] ≡ []
+pub torture_numbers : (words : List Text)
+    → level_fault built_torture [] nothing_held words false [] ≡ []
     → HasTortureNumbers (rows_after built_torture.rules [] words)
 torture_numbers words e =
     let rows : List Row = rows_after built_torture.rules [] words in

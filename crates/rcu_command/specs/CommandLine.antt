@@ -1,10 +1,11 @@
 -- The command line, as a simple command of `clap`.
-use Rattle.std.specs.Prelude.{◌≡◌, ◌≤◌, ℕ, true, List, [], ◌∷◌, Option, Some, None, codes, pos, option_and_then}
-use Rattle.std.specs.Prelude.{if◌then◌else◌}
+use Rattle.std.specs.Prelude.{◌≡◌, ◌≤◌, ℕ, true, List, [], ◌∷◌, Option, Some, None, codes, pos}
+use Rattle.std.specs.Prelude.{option_and_then, if◌then◌else◌}
 use Rattle.std.specs.Str.Parse.{digits_value, without_leading_plus}
 use Rattle.clap.specs.ValueTests.{is_unsigned_in}
 use Rattle.clap.specs.Simple.{on_top}
-use Rattle.clap.specs.Words.{App, Row, Rule, Text, new_app, new_rule, one_of, with_rule, with_subcommand}
+use Rattle.clap.specs.Words.{App, Row, Rule, Text, new_app, new_rule, one_of, with_rule}
+use Rattle.clap.specs.Words.{with_subcommand}
 use Rattle.clap.specs.declared.builder.value_parser.ValueParser.{ValueParser}
 use Rattle.clap.specs.declared.builder.value_parser.ValueParser.TheVariants as vp
 use Rattle.rcu_command.specs.declared.command.Order.{Order}
@@ -46,7 +47,9 @@ required_rule rule = record rule { required = true }
 
 -- the option `--last`, which may be left out
 abbrev pub last_rule : Rule
-last_rule = record (number_rule (codes "last") any_u64) { defaults = codes "4611686018427387904" ∷ [] }
+last_rule = record (number_rule (codes "last") any_u64) {
+  defaults = codes "4611686018427387904" ∷ [];
+}
 
 -- ---- the commands
 
@@ -75,8 +78,8 @@ torture = with_rule (with_rule (with_rule (new_app (codes "torture"))
     (required_rule (number_rule (codes "rounds") (u32_from_1_to most_rounds))))
     (required_rule (number_rule (codes "seed") any_u64))
 
--- `rcu` with its subcommands: its words come without the program's name, one of them has to name a subcommand,
--- `help` is no subcommand, and it has a version
+-- `rcu` with its subcommands: its words come without the program's name, one of them has to name a
+-- subcommand, `help` is no subcommand, and it has a version
 abbrev pub rcu : App
 rcu = with_subcommand (with_subcommand (with_subcommand (on_top (λ top. record top {
   no_binary_name = true;
@@ -89,11 +92,14 @@ rcu = with_subcommand (with_subcommand (with_subcommand (on_top (λ top. record 
 
 -- the number that an option has among the matches, where it has a numeral of at most `most`
 abbrev pub number_up_to : ℕ → List Row → Text → Option ℕ
-number_up_to most rows name = option_and_then (λ text.
-    if is_unsigned_in 0 most text then Some (digits_value 10 (without_leading_plus text)) else None) (one_of name rows)
+number_up_to most rows name = option_and_then
+    (λ text.
+    if is_unsigned_in 0 most text then Some (digits_value 10 (without_leading_plus text)) else None)
+    (one_of name rows)
 
 -- the setup has the numbers of the options; those of the second replica's tree have these names
-pub record IsSetupOf (second_leaf second_inner : Text) (rows : List Row) (setup : Setup) : Type 0 where
+pub record IsSetupOf (second_leaf second_inner : Text) (rows : List Row)
+    (setup : Setup) : Type 0 where
   pub leaf : number_up_to u32_max rows (codes "leaf") ≡ Some setup.leaf
   pub inner : number_up_to u32_max rows (codes "inner") ≡ Some setup.inner
   pub leaf2 : number_up_to u32_max rows second_leaf ≡ Some setup.leaf2
@@ -107,11 +113,15 @@ pub record IsTortureOf (rows : List Row) (workers rounds seed : ℕ) : Type 0 wh
   pub of_rounds : number_up_to u32_max rows (codes "rounds") ≡ Some rounds
   pub of_seed : number_up_to u64_max rows (codes "seed") ≡ Some seed
 
--- the order is what the subcommand of this name says with its matches: the second replica of a script is as the first
+-- the order is what the subcommand of this name says with its matches: the second replica of a
+-- script is as the first
 abbrev pub IsOrder : Text → List Row → Order → Type 0
-IsOrder name rows (Script setup) = (name ≡ codes "script") × IsSetupOf (codes "leaf") (codes "inner") rows setup
-IsOrder name rows (Pair setup) = (name ≡ codes "pair") × IsSetupOf (codes "leaf2") (codes "inner2") rows setup
-IsOrder name rows (Torture workers rounds seed) = (name ≡ codes "torture") × IsTortureOf rows workers rounds seed
+IsOrder name rows (Script setup) =
+    (name ≡ codes "script") × IsSetupOf (codes "leaf") (codes "inner") rows setup
+IsOrder name rows (Pair setup) =
+    (name ≡ codes "pair") × IsSetupOf (codes "leaf2") (codes "inner2") rows setup
+IsOrder name rows (Torture workers rounds seed) =
+    (name ≡ codes "torture") × IsTortureOf rows workers rounds seed
 
 -- the order is what the subcommand says, if there is one
 abbrev pub IsOrderOf : Option (Text × List Row) → Order → Type 0
@@ -120,7 +130,8 @@ IsOrderOf (Some met) order = IsOrder met.0 met.1 order
 
 -- no setup has the numbers of the options
 abbrev pub HasNoSetup : Text → Text → List Row → Type 0
-HasNoSetup second_leaf second_inner rows = (setup : Setup) → ¬ (IsSetupOf second_leaf second_inner rows setup)
+HasNoSetup second_leaf second_inner rows =
+    (setup : Setup) → ¬ (IsSetupOf second_leaf second_inner rows setup)
 
 -- the subcommand says no order
 abbrev pub HasNoOrder : Option (Text × List Row) → Type 0

@@ -1,12 +1,15 @@
 -- Over all calls whose numbers never fall: a deferral that has waited is done.
-use Rattle.std.proofs.Common.{◌≡◌, ℕ, suc, true, ◌+◌, ◌-◌, ◌<◌, ◌≤◌, nat_le, List, [], ◌∷◌, ◌++◌, length, drop, replicate}
-use Rattle.std.proofs.Common.{get_or, refl, sym, ◌∙◌, subst, arith, inl, inr, length-append, length-drop}
-use Rattle.std.proofs.lemmas.List.{get_or-append_right, get_or_append_left, get_or-drop, get_or-replicate, length-replicate}
+use Rattle.std.proofs.Common.{◌≡◌, ℕ, suc, true, ◌+◌, ◌-◌, ◌<◌, ◌≤◌, nat_le, List, [], ◌∷◌, ◌++◌}
+use Rattle.std.proofs.Common.{length, drop, replicate, get_or, refl, sym, ◌∙◌, subst, arith, inl}
+use Rattle.std.proofs.Common.{inr, length-append, length-drop}
+use Rattle.std.proofs.lemmas.List.{get_or-append_right, get_or_append_left, get_or-drop}
+use Rattle.std.proofs.lemmas.List.{get_or-replicate, length-replicate}
 use Rattle.std.proofs.lemmas.Bool.{cases_Bool, cases_lt}
 use Rattle.std.proofs.lemmas.Bool.Decides.{nat_tests}
 use Rattle.rcu_seq.specs.Numbers.{Number, snapshot}
 use Rattle.rcu_defer.specs.Marks.{due}
-use Rattle.rcu_defer.specs.Histories.{Call, Defer, Tend, Take, HasWaited, NeverFalls, deferred_in, marks_after}
+use Rattle.rcu_defer.specs.Histories.{Call, Defer, Tend, Take, HasWaited, NeverFalls, deferred_in}
+use Rattle.rcu_defer.specs.Histories.{marks_after}
 use Rattle.rcu_defer.proofs.Waits.{all_counted, due_within}
 
 -- at a greater number no less is due
@@ -29,7 +32,8 @@ due_behind b (u ∷ us) vs = elim (cases_Bool (nat_le u b)) [
 ]
 
 -- what is due of a list is due of what a tend leaves of it, or is done
-due_rest : (b n : Number) (us vs : List Number) → due b us ≤ due n us + due b (drop (due n us) us ++ vs)
+due_rest : (b n : Number) (us vs : List Number)
+    → due b us ≤ due n us + due b (drop (due n us) us ++ vs)
 due_rest b n [] vs = omega arith
 due_rest b n (u ∷ us) vs = elim (cases_Bool (nat_le u n)) [
   | inl reached ↦
@@ -43,7 +47,8 @@ due_rest b n (u ∷ us) vs = elim (cases_Bool (nat_le u n)) [
 ]
 
 -- all is due where each number is reached
-due_all : (b : Number) (us : List Number) → ((j d : ℕ) → j < length us → get_or us j d ≤ b) → due b us ≡ length us
+due_all : (b : Number) (us : List Number) → ((j d : ℕ) → j < length us → get_or us j d ≤ b)
+    → due b us ≡ length us
 due_all b [] each = omega arith
 due_all b (u ∷ us) each =
     let first = each 0 0 (omega arith) in
@@ -53,15 +58,17 @@ due_all b (u ∷ us) each =
 
 module _ {X : Type 0} where
   -- the earlier ones of calls whose numbers never fall
-  earlier_never_fall : (later earlier : List (Call X)) → NeverFalls (later ++ earlier) → NeverFalls earlier
+  earlier_never_fall : (later earlier : List (Call X)) → NeverFalls (later ++ earlier)
+      → NeverFalls earlier
   earlier_never_fall [] earlier h = h
   earlier_never_fall (Defer x ∷ later) earlier h = earlier_never_fall later earlier h
   earlier_never_fall (Tend n ∷ later) earlier h = earlier_never_fall later earlier h.1
   earlier_never_fall (Take most ∷ later) earlier h = earlier_never_fall later earlier h
 
   -- each waits for at most the snapshot of the last tend's number
-  bounded : (calls : List (Call X)) → NeverFalls calls → (j d : ℕ) → j < length (marks_after calls).waiting →
-      get_or (marks_after calls).waiting j d ≤ snapshot (marks_after calls).seen
+  bounded : (calls : List (Call X))
+      → NeverFalls calls → (j d : ℕ) → j < length (marks_after calls).waiting
+      → get_or (marks_after calls).waiting j d ≤ snapshot (marks_after calls).seen
   bounded [] h j d low = absurd (omega arith)
   bounded (Defer x ∷ calls) h j d low = bounded calls h j d low
   bounded (Take most ∷ calls) h j d low = bounded calls h j d low
@@ -102,24 +109,29 @@ module _ {X : Type 0} where
       omega arith
 
   -- what is done stays done
-  stays_done : (later earlier : List (Call X)) → (marks_after earlier).done ≤ (marks_after (later ++ earlier)).done
+  stays_done : (later earlier : List (Call X))
+      → (marks_after earlier).done ≤ (marks_after (later ++ earlier)).done
   stays_done [] earlier = omega arith
   stays_done (Defer x ∷ later) earlier = stays_done later earlier
   stays_done (Take most ∷ later) earlier = stays_done later earlier
   stays_done (Tend n ∷ later) earlier = let before = stays_done later earlier in omega arith
 
   -- a deferral that has waited is done
-  pub waited_is_done : (calls : List (Call X)) (k : ℕ) → NeverFalls calls → HasWaited calls k → k < (marks_after calls).done
+  pub waited_is_done : (calls : List (Call X)) (k : ℕ) → NeverFalls calls → HasWaited calls k
+      → k < (marks_after calls).done
   waited_is_done calls k never h =
       let marked = Tend h.at ∷ h.earlier in
       let reached = h.between ++ marked in
       let whole : NeverFalls (h.later ++ Tend h.now ∷ reached) = subst NeverFalls h.is never in
-      let since = earlier_never_fall h.between marked (earlier_never_fall h.later (Tend h.now ∷ reached) whole).1 in
+      let since = earlier_never_fall h.between marked
+      (earlier_never_fall h.later (Tend h.now ∷ reached) whole).1 in
       let m = marks_after marked in
       let all = all_counted marked in
       let due_then = due_all (snapshot h.at) m.waiting (bounded marked since) in
-      let base : length (deferred_in h.earlier) ≤ m.done + due (snapshot h.at) m.waiting = omega arith in
-      let later = stays_due (snapshot h.at) (length (deferred_in h.earlier)) h.between marked base in
+      let base : length (deferred_in h.earlier) ≤ m.done + due (snapshot h.at) m.waiting =
+      omega arith in
+      let later =
+      stays_due (snapshot h.at) (length (deferred_in h.earlier)) h.between marked base in
       let more = due_more (snapshot h.at) h.now (marks_after reached).waiting h.reached in
       let end = stays_done h.later (Tend h.now ∷ reached) in
       let before = h.before in

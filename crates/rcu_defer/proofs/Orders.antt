@@ -4,7 +4,8 @@ use Rattle.std.proofs.Common.{append_assoc, length-append, length-take, arith}
 use Rattle.std.proofs.lemmas.List.{take-append-drop, take_at}
 use Rattle.rcu_defer.specs.Marks.{after_defer, after_take, after_tend, ready_of}
 use Rattle.rcu_defer.specs.DeferList.{taken_values}
-use Rattle.rcu_defer.specs.Histories.{Call, Defer, Tend, Take, deferred_in, list_after, marks_after, taken_in}
+use Rattle.rcu_defer.specs.Histories.{Call, Defer, Tend, Take, deferred_in, list_after, marks_after}
+use Rattle.rcu_defer.specs.Histories.{taken_in}
 use Rattle.rcu_defer.proofs.Waits.{all_counted, taken_done}
 
 module _ {X : Type 0} where
@@ -16,10 +17,12 @@ module _ {X : Type 0} where
   same_marks (Take most ∷ calls) = ap (λ m. after_take m most) (same_marks calls)
 
   -- what was taken out, and what is there
-  pub in_order : (calls : List (Call X)) → taken_in calls ++ (list_after calls).values ≡ deferred_in calls
+  pub in_order : (calls : List (Call X))
+      → taken_in calls ++ (list_after calls).values ≡ deferred_in calls
   in_order [] = refl
   in_order (Defer x ∷ calls) =
-      sym (append_assoc (taken_in calls) (list_after calls).values (x ∷ [])) ∙ ap (λ l. l ++ x ∷ []) (in_order calls)
+      sym (append_assoc (taken_in calls) (list_after calls).values (x ∷ []))
+      ∙ ap (λ l. l ++ x ∷ []) (in_order calls)
   in_order (Tend n ∷ calls) = in_order calls
   in_order (Take most ∷ calls) =
       let s = list_after calls in
@@ -28,10 +31,12 @@ module _ {X : Type 0} where
       ∙ (ap (λ l. taken_in calls ++ l) (take-append-drop count s.values) ∙ in_order calls)
 
   -- what was taken out came first
-  pub taken_first : (calls : List (Call X)) → taken_in calls ≡ take (length (taken_in calls)) (deferred_in calls)
+  pub taken_first : (calls : List (Call X))
+      → taken_in calls ≡ take (length (taken_in calls)) (deferred_in calls)
   taken_first calls =
       let count = length (taken_in calls) in
-      sym (take_at (taken_in calls) (list_after calls).values count refl) ∙ ap (take count) (in_order calls)
+      sym (take_at (taken_in calls) (list_after calls).values count refl)
+      ∙ ap (take count) (in_order calls)
 
   -- how many were taken out
   pub taken_counted : (calls : List (Call X)) → length (taken_in calls) ≡ (marks_after calls).taken

@@ -1,6 +1,6 @@
 -- While a section stays open, nothing that was deferred since is done.
-use Rattle.std.proofs.Common.{◌≡◌, ℕ, suc, false, ◌≤◌, ◌⊎◌, List, [], ◌∷◌, ◌++◌, length}
-use Rattle.std.proofs.Common.{drop, get_or, ap, sym, ◌∙◌, append_assoc, length-append, arith, inl, inr}
+use Rattle.std.proofs.Common.{◌≡◌, ℕ, suc, false, ◌≤◌, ◌⊎◌, List, [], ◌∷◌, ◌++◌, length, drop}
+use Rattle.std.proofs.Common.{get_or, ap, sym, ◌∙◌, append_assoc, length-append, arith, inl, inr}
 use Rattle.std.specs.Prelude.{All, Some, slice_index}
 use mathlib.Core.Option.{some}
 use lib.ListN.{get_elem?}
@@ -25,7 +25,10 @@ module _ {A : Type 0} where
   split_at [] b c d x h = inr (c, h)
   split_at (y ∷ a) b [] d x h = inl (a, ap (λ z. z ∷ a) (ap (λ l. get_or l 0 x) h))
   split_at (y ∷ a) b (z ∷ c) d x h = elim (split_at a b c d x (ap (λ l. drop 1 l) h)) [
-    | inl first ↦ inl (first.0, ap (λ l. y ∷ l) first.1 ∙ ap (λ w. w ∷ (c ++ x ∷ first.0)) (ap (λ l. get_or l 0 x) h))
+    | inl first ↦ inl (
+      first.0,
+      ap (λ l. y ∷ l) first.1 ∙ ap (λ w. w ∷ (c ++ x ∷ first.0)) (ap (λ l. get_or l 0 x) h),
+    )
     | inr second ↦ inr second
   ]
 
@@ -35,7 +38,8 @@ module _ {X : Type 0} where
       length (deferred_in earlier) ≤ length (deferred_in (later ++ earlier))
   deferred_more [] earlier = omega arith
   deferred_more (Defer x ∷ later) earlier =
-      let e = deferred_more later earlier in omega (arith, length-append (deferred_in (later ++ earlier)) (x ∷ []))
+      let e = deferred_more later earlier in
+      omega (arith, length-append (deferred_in (later ++ earlier)) (x ∷ []))
   deferred_more (Tend n ∷ later) earlier = deferred_more later earlier
   deferred_more (Take most ∷ later) earlier = deferred_more later earlier
 
@@ -47,8 +51,12 @@ module _ {S C X : Type 0} where
     second : Q moment
     is : moment.call ≡ call
 
-  found : (P Q : Moment S C X → Type 0) (moments : List (Moment S C X)) (c d : List (Call X)) (x : Call X) →
-      All P moments → All Q moments → calls_of moments ≡ c ++ x ∷ d → Found P Q x
+  found : (P Q : Moment S C X → Type 0) (moments : List (Moment S C X)) (c d : List (Call X))
+      (x : Call X)
+      → All P moments
+      → All Q moments
+      → calls_of moments ≡ c ++ x ∷ d
+      → Found P Q x
   found P Q [] c d x p q h =
       absurd (let e = ap length h in omega (arith, length-append c (x ∷ d)))
   found P Q (m ∷ ms) [] d x p q h = record {
@@ -58,39 +66,58 @@ module _ {S C X : Type 0} where
     is = ap (λ l. get_or l 0 x) h;
   }
   found P Q (m ∷ ms) (y ∷ c) d x p q h =
-      found P Q ms c d x (λ k e low. p (suc k) e (omega arith)) (λ k e low. q (suc k) e (omega arith))
-      (ap (λ l. drop 1 l) h)
+      found P Q ms c d x (λ k e low. p (suc k) e (omega arith))
+      (λ k e low. q (suc k) e (omega arith)) (ap (λ l. drop 1 l) h)
 
 -- a number that is reached is not one that is not
-reached_not : (taken now : Number) → is_done_first (cookie_at (of_first_epoch taken)) now ≡ false → snapshot taken ≤ now → ⊥
+reached_not : (taken now : Number)
+    → is_done_first (cookie_at (of_first_epoch taken)) now ≡ false → snapshot taken ≤ now → ⊥
 reached_not taken now waits reached = grind (arith, nat_tests)
 
 module _ {S C : Type 0} where
   -- the law of sections and cookies
   abbrev pub FinishesBeforeDone : (List ℕ → Slots S → Views C → Type 0) → Type 0
-  FinishesBeforeDone holds = (cpus : ℕ) (before after : State S (View C)) (i j : ℕ) (first later : View C) (at : ℕ) →
-      IsKept holds cpus before → IsKept holds cpus after → get_elem? before.views i ≡ some first → first.role ≡ Cpu →
-      first.section ≡ Some at → get_elem? after.views j ≡ some later → later.role ≡ Cpu → later.section ≡ Some at →
-      is_done_first (cookie_at (of_first_epoch (slice_index before.words 0))) (slice_index after.words 0) ≡ false
+  FinishesBeforeDone holds =
+      (cpus : ℕ) (before after : State S (View C)) (i j : ℕ) (first later : View C) (at : ℕ)
+      → IsKept holds cpus before
+      → IsKept holds cpus after
+      → get_elem? before.views i ≡ some first
+      → first.role ≡ Cpu
+      → first.section ≡ Some at
+      → get_elem? after.views j ≡ some later
+      → later.role ≡ Cpu
+      → later.section ≡ Some at
+      → is_done_first (cookie_at (of_first_epoch (slice_index before.words 0)))
+      (slice_index after.words 0)
+      ≡ false
 
 module _ {S C X : Type 0} where
   -- a section is open where a deferral is marked, and where that is done
-  both_open : (holds : List ℕ → Slots S → Views C → Type 0) → FinishesBeforeDone holds → (cpus seat : ℕ) (at marked now : Number) →
-      Found {X = X} (IsMoment holds cpus) (HasOpen seat at) (Tend marked) →
-      Found {X = X} (IsMoment holds cpus) (HasOpen seat at) (Tend now) → snapshot marked ≤ now → ⊥
+  both_open : (holds : List ℕ → Slots S → Views C → Type 0)
+      → FinishesBeforeDone holds
+      → (cpus seat : ℕ) (at marked now : Number)
+      → Found {X = X} (IsMoment holds cpus) (HasOpen seat at) (Tend marked)
+      → Found {X = X} (IsMoment holds cpus) (HasOpen seat at) (Tend now)
+      → snapshot marked ≤ now
+      → ⊥
   both_open holds law cpus seat at marked now first later reached =
       let a = first.second in
       let b = later.second in
       let p = first.first.number marked first.is in
       let q = later.first.number now later.is in
       reached_not (slice_index first.moment.state.words 0) (slice_index later.moment.state.words 0)
-      (law cpus first.moment.state later.moment.state seat seat a.view b.view at first.first.kept later.first.kept
-      a.is a.cpu a.section b.is b.cpu b.section) (omega arith)
+      (law cpus first.moment.state later.moment.state seat seat a.view b.view at first.first.kept
+      later.first.kept a.is a.cpu a.section b.is b.cpu b.section)
+      (omega arith)
 
   -- a deferral of these moments has waited
-  early : (holds : List ℕ → Slots S → Views C → Type 0) → FinishesBeforeDone holds → (cpus seat : ℕ) (at : Number)
-      (later earlier : List (Moment S C X)) → All (IsMoment holds cpus) later → All (HasOpen seat at) later →
-      HasWaited (calls_of (later ++ earlier)) (length (deferred_in (calls_of earlier))) → ⊥
+  early : (holds : List ℕ → Slots S → Views C → Type 0)
+      → FinishesBeforeDone holds
+      → (cpus seat : ℕ) (at : Number) (later earlier : List (Moment S C X))
+      → All (IsMoment holds cpus) later
+      → All (HasOpen seat at) later
+      → HasWaited (calls_of (later ++ earlier)) (length (deferred_in (calls_of earlier)))
+      → ⊥
   early holds law cpus seat at later earlier kept held h =
       let newer = h.later ++ Tend h.now ∷ h.between in
       let joined : calls_of later ++ calls_of earlier ≡ newer ++ Tend h.at ∷ h.earlier =
@@ -99,9 +126,11 @@ module _ {S C X : Type 0} where
       elim (split_at (calls_of later) (calls_of earlier) newer h.earlier (Tend h.at) joined) [
         | inl inside ↦
             both_open holds law cpus seat at h.at h.now
-            (found (IsMoment holds cpus) (HasOpen seat at) later newer inside.0 (Tend h.at) kept held inside.1)
-            (found (IsMoment holds cpus) (HasOpen seat at) later h.later (h.between ++ Tend h.at ∷ inside.0) (Tend h.now)
-            kept held (inside.1 ∙ append_assoc h.later (Tend h.now ∷ h.between) (Tend h.at ∷ inside.0)))
+            (found (IsMoment holds cpus) (HasOpen seat at) later newer inside.0 (Tend h.at) kept
+            held inside.1)
+            (found (IsMoment holds cpus) (HasOpen seat at) later h.later
+            (h.between ++ Tend h.at ∷ inside.0) (Tend h.now) kept held
+            (inside.1 ∙ append_assoc h.later (Tend h.now ∷ h.between) (Tend h.at ∷ inside.0)))
             h.reached
         | inr behind ↦
             let low = h.before in
@@ -111,13 +140,17 @@ module _ {S C X : Type 0} where
       ]
 
   -- so no more is done than was deferred before
-  pub none_done : (holds : List ℕ → Slots S → Views C → Type 0) → FinishesBeforeDone holds → (cpus seat : ℕ) (at : Number)
-      (later earlier : List (Moment S C X)) → All (IsMoment holds cpus) later → All (HasOpen seat at) later →
-      (marks_after (calls_of (later ++ earlier))).done ≤ length (deferred_in (calls_of earlier))
+  pub none_done : (holds : List ℕ → Slots S → Views C → Type 0)
+      → FinishesBeforeDone holds
+      → (cpus seat : ℕ) (at : Number) (later earlier : List (Moment S C X))
+      → All (IsMoment holds cpus) later
+      → All (HasOpen seat at) later
+      → (marks_after (calls_of (later ++ earlier))).done ≤ length (deferred_in (calls_of earlier))
   none_done holds law cpus seat at later earlier kept held =
       let calls = calls_of (later ++ earlier) in
       let before = length (deferred_in (calls_of earlier)) in
       elim (cases_lt before (marks_after calls).done) [
-        | inl more ↦ absurd (early holds law cpus seat at later earlier kept held (done_has_waited calls before more))
+        | inl more ↦ absurd (early holds law cpus seat at later earlier kept held
+            (done_has_waited calls before more))
         | inr none ↦ none
       ]

@@ -1,13 +1,16 @@
 -- Over all calls: what is due, how many there are, and that none is done early.
 use Rattle.std.proofs.Common.{◌≡◌, ℕ, zero, suc, ◌+◌, ◌-◌, ◌<◌, ◌≤◌, nat_le, List, [], ◌∷◌, ◌++◌}
-use Rattle.std.proofs.Common.{length, take, drop, replicate, get_or, refl, ap, ◌∙◌, subst, arith, inl, inr}
-use Rattle.std.proofs.Common.{length-append, length-drop}
-use Rattle.std.specs.Prelude.{All, IfSome, slice_get}
-use Rattle.std.proofs.lemmas.List.{get_or-append_right, get_or_append_left, get_or-drop, get_or-replicate, length-replicate}
+use Rattle.std.proofs.Common.{length, take, drop, replicate, get_or, refl, ap, ◌∙◌, subst, arith}
+use Rattle.std.proofs.Common.{inl, inr, length-append, length-drop}
+use Rattle.std.specs.Prelude.{All, IfSome, slice_get, true}
+use Rattle.std.proofs.lemmas.List.{get_or-append_right, get_or_append_left, get_or-drop}
+use Rattle.std.proofs.lemmas.List.{get_or-replicate, length-replicate}
 use Rattle.std.proofs.lemmas.List.Elements.{All-nil, All-cons}
 use Rattle.std.proofs.lemmas.Bool.{cases_Bool, cases_lt}
 use Rattle.std.proofs.lemmas.Bool.Decides.{nat_tests}
 use Rattle.rcu_seq.specs.Numbers.{Number, snapshot}
+use Rattle.rcu_seq.specs.Seq.{Periods, Turn, after_turns, cookie_of, has_full_period, is_done}
+use Rattle.rcu_seq.specs.Seq.{number_of}
 use Rattle.rcu_defer.specs.Marks.{Marking, after_tend, deferred_of, due}
 use Rattle.rcu_defer.specs.Histories.{Call, Defer, Tend, Take, HasWaited, deferred_in, marks_after}
 
@@ -28,7 +31,8 @@ due_reached n (u ∷ us) zero d low = elim (cases_Bool (nat_le u n)) [
 ]
 due_reached n (u ∷ us) (suc j) d low = elim (cases_Bool (nat_le u n)) [
   | inl reached ↦
-      let here : due n (u ∷ us) ≡ suc (due n us) = rw reached refl in due_reached n us j d (omega arith)
+      let here : due n (u ∷ us) ≡ suc (due n us) = rw reached refl in
+      due_reached n us j d (omega arith)
   | inr none ↦ absurd (let here : due n (u ∷ us) ≡ 0 = rw none refl in omega arith)
 ]
 
@@ -37,12 +41,15 @@ pub due_front : (n : Number) (us : List Number) → All (λ until. until ≤ n) 
 due_front n [] = All-nil (λ until. until ≤ n)
 due_front n (u ∷ us) = elim (cases_Bool (nat_le u n)) [
   | inl reached ↦
-      rw reached (All-cons (λ until. until ≤ n) u (take (due n us) us) (grind (arith, nat_tests)) (due_front n us))
+      rw reached
+      (All-cons (λ until. until ≤ n) u (take (due n us) us) (grind (arith, nat_tests))
+      (due_front n us))
   | inr none ↦ rw none (All-nil (λ until. until ≤ n))
 ]
 
 -- what comes behind it is not
-pub due_longest : (n : Number) (us : List Number) → IfSome (slice_get us (due n us)) (λ until. n < until)
+pub due_longest : (n : Number) (us : List Number)
+    → IfSome (slice_get us (due n us)) (λ until. n < until)
 due_longest n [] = tt
 due_longest n (u ∷ us) = elim (cases_Bool (nat_le u n)) [
   | inl reached ↦ rw reached (due_longest n us)
@@ -63,7 +70,8 @@ tended_counted m n =
 
 module _ {X : Type 0} where
   -- each deferral is counted
-  pub all_counted : (calls : List (Call X)) → deferred_of (marks_after calls) ≡ length (deferred_in calls)
+  pub all_counted : (calls : List (Call X))
+      → deferred_of (marks_after calls) ≡ length (deferred_in calls)
   all_counted [] = refl
   all_counted (Defer x ∷ calls) =
       let e = all_counted calls in omega (arith, length-append (deferred_in calls) (x ∷ []))
@@ -77,7 +85,8 @@ module _ {X : Type 0} where
   taken_done (Tend n ∷ calls) = let e = taken_done calls in omega arith
   taken_done (Take most ∷ calls) = let e = taken_done calls in omega arith
 
-  -- the deferral of this place waits for a number: the snapshot of that of a tend which came behind it
+  -- the deferral of this place waits for a number: the snapshot of that of a tend which came behind
+  -- it
   record IsMarked (calls : List (Call X)) (k : ℕ) (u : Number) : Type 0 where
     at : Number
     later : List (Call X)
@@ -93,7 +102,8 @@ module _ {X : Type 0} where
         IsMarked calls ((marks_after calls).done + j) (get_or (marks_after calls).waiting j 0)
 
   -- a call more
-  waited_later : (call : Call X) (calls : List (Call X)) (k : ℕ) → HasWaited calls k → HasWaited (call ∷ calls) k
+  waited_later : (call : Call X) (calls : List (Call X)) (k : ℕ) → HasWaited calls k
+      → HasWaited (call ∷ calls) k
   waited_later call calls k h = record {
     at = h.at;
     now = h.now;
@@ -105,8 +115,8 @@ module _ {X : Type 0} where
     reached = h.reached;
   }
 
-  marked_later : (call : Call X) (calls : List (Call X)) (k l : ℕ) (u v : Number) → k ≡ l → v ≡ u → IsMarked calls k u →
-      IsMarked (call ∷ calls) l v
+  marked_later : (call : Call X) (calls : List (Call X)) (k l : ℕ) (u v : Number)
+      → k ≡ l → v ≡ u → IsMarked calls k u → IsMarked (call ∷ calls) l v
   marked_later call calls k l u v p q h = record {
     at = h.at;
     later = call ∷ h.later;
@@ -117,8 +127,8 @@ module _ {X : Type 0} where
   }
 
   -- a tend at a number that a deferral waits for, or at a later one
-  waited_now : (n : Number) (calls : List (Call X)) (k : ℕ) (u : Number) → IsMarked calls k u → u ≤ n →
-      HasWaited (Tend n ∷ calls) k
+  waited_now : (n : Number) (calls : List (Call X)) (k : ℕ) (u : Number)
+      → IsMarked calls k u → u ≤ n → HasWaited (Tend n ∷ calls) k
   waited_now n calls k u h reached = record {
     at = h.at;
     now = n;
@@ -147,9 +157,11 @@ module _ {X : Type 0} where
       ]
 
   -- what waits then
-  waiting_tended : (n : Number) (calls : List (Call X)) → IsTold calls → (j : ℕ) →
-      j < length (marks_after (Tend n ∷ calls)).waiting →
-      IsMarked (Tend n ∷ calls) ((marks_after (Tend n ∷ calls)).done + j) (get_or (marks_after (Tend n ∷ calls)).waiting j 0)
+  waiting_tended : (n : Number) (calls : List (Call X))
+      → IsTold calls
+      → (j : ℕ) → j < length (marks_after (Tend n ∷ calls)).waiting
+      → IsMarked (Tend n ∷ calls) ((marks_after (Tend n ∷ calls)).done + j)
+      (get_or (marks_after (Tend n ∷ calls)).waiting j 0)
   waiting_tended n calls t j low =
       let m = marks_after calls in
       let gone = due n m.waiting in
@@ -162,8 +174,8 @@ module _ {X : Type 0} where
       let many : length new ≡ m.fresh = length-replicate m.fresh (snapshot n) in
       elim (cases_lt j (length left)) [
         | inl old ↦
-            marked_later (Tend n) calls (m.done + (gone + j)) (m.done + gone + j) (get_or m.waiting (gone + j) 0)
-            (get_or (left ++ new) j 0) (omega arith)
+            marked_later (Tend n) calls (m.done + (gone + j)) (m.done + gone + j)
+            (get_or m.waiting (gone + j) 0) (get_or (left ++ new) j 0) (omega arith)
             (get_or_append_left left new 0 j old ∙ get_or-drop gone m.waiting j 0)
             (t.waiting (gone + j) (omega arith))
         | inr behind ↦ record {
@@ -196,5 +208,16 @@ module _ {X : Type 0} where
       }
 
   -- each deferral that is done has waited
-  pub done_has_waited : (calls : List (Call X)) (k : ℕ) → k < (marks_after calls).done → HasWaited calls k
+  pub done_has_waited : (calls : List (Call X)) (k : ℕ) → k < (marks_after calls).done
+      → HasWaited calls k
   done_has_waited calls k low = (told calls).out k low
+
+-- where the number went from one to the snapshot of that or further, a full grace period lies
+-- between
+pub full_between : (first : Periods) (turns : List Turn)
+    → is_done (cookie_of first) (after_turns first turns) ≡ has_full_period turns
+    → first.epoch ≡ 0 → (after_turns first turns).epoch ≡ 0
+    → snapshot (number_of first) ≤ number_of (after_turns first turns)
+    → has_full_period turns ≡ true
+full_between first turns law start still reached =
+    grind (law, start, still, reached, arith, nat_tests)

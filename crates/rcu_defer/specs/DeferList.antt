@@ -3,10 +3,11 @@ use Rattle.std.specs.Prelude.{ℕ, min, List, [], ◌∷◌, ◌++◌, take, dro
 use Rattle.rcu_seq.specs.Numbers.{Number}
 use Rattle.rcu_seq.specs.declared.fault.Fault.{Fault}
 use Rattle.rcu_seq.specs.declared.fault.Fault.TheVariants.{NoMemory}
-use Rattle.rcu_defer.specs.Marks.{Marking, after_defer, after_take, after_tend, at_first, defer_refusal, ready_of}
+use Rattle.rcu_defer.specs.Marks.{Marking, after_defer, after_take, after_tend, at_first}
+use Rattle.rcu_defer.specs.Marks.{defer_refusal, ready_of}
 
--- what contracts see of a list: the values that were not taken out, the oldest first; the marks; and how many values there is
--- room for before the list grows
+-- what contracts see of a list: the values that were not taken out, the oldest first; the marks;
+-- and how many values there is room for before the list grows
 pub record Deferring (X : Type 0) : Type 0 where
   pub values : List X
   pub marks : Marking

@@ -1,14 +1,16 @@
 -- What one thread's deferrals wait for, in order.
-use Rattle.std.specs.Prelude.{◌≡◌, ℕ, suc, ◌+◌, ◌-◌, ◌<◌, ◌≤◌, ◌%◌, ◌^◌, ◌==◌, min, nat_le, if◌then◌else◌, List, [], ◌∷◌, ◌++◌}
-use Rattle.std.specs.Prelude.{drop, length, replicate, Option, Some, None}
+use Rattle.std.specs.Prelude.{◌≡◌, ℕ, suc, ◌+◌, ◌-◌, ◌<◌, ◌≤◌, ◌%◌, ◌^◌, ◌==◌, min, nat_le}
+use Rattle.std.specs.Prelude.{if◌then◌else◌, List, [], ◌∷◌, ◌++◌, drop, length, replicate, Option}
+use Rattle.std.specs.Prelude.{Some, None}
 use Rattle.rcu_seq.specs.Fault.{first_fault}
 use Rattle.rcu_seq.specs.Numbers.{Number, snapshot}
 use Rattle.rcu_seq.specs.declared.fault.Fault.{Fault}
 use Rattle.rcu_seq.specs.declared.fault.Fault.TheVariants.{CallbacksFull}
 use Rattle.rcu_defer.specs.declared.batch.Batch.{Batch}
 
--- what contracts see of them: how many were taken out; how many are done, with those; for what number each of those waits
--- that come behind, in order; how many came since the last tend; and the number of that tend
+-- what contracts see of them: how many were taken out; how many are done, with those; for what
+-- number each of those waits that come behind, in order; how many came since the last tend; and the
+-- number of that tend
 pub record Marking : Type 0 where
   pub taken : ℕ
   pub done : ℕ
@@ -51,7 +53,11 @@ due n (until ∷ others) = if nat_le until n then suc (due n others) else 0
 
 -- once the number is reached
 abbrev pub after_advance : Marking → Number → Marking
-after_advance m n = record m { done = m.done + due n m.waiting; waiting = drop (due n m.waiting) m.waiting; seen = n }
+after_advance m n = record m {
+  done = m.done + due n m.waiting;
+  waiting = drop (due n m.waiting) m.waiting;
+  seen = n;
+}
 
 -- once those that came since the last tend wait for the snapshot of its number
 abbrev pub after_mark : Marking → Marking
@@ -90,15 +96,17 @@ shown taken done first second deferred seen = record {
   seen = seen;
 }
 
--- a number that deferrals may wait for since a tend at the other one: it was not reached then, and is at most the snapshot
+-- a number that deferrals may wait for since a tend at the other one: it was not reached then, and
+-- is at most the snapshot
 pub record IsAhead (seen until : Number) : Type 0 where
   pub above : seen < until
   pub within : until ≤ snapshot seen
   pub even : until % 4 ≡ 0
 
--- two batches behind those that are done, of so many deferrals: the second one has any only where the first has, and its
--- number is the greater one then
-pub record AreBatches (taken done : ℕ) (first second : Batch) (deferred : ℕ) (seen : Number) : Type 0 where
+-- two batches behind those that are done, of so many deferrals: the second one has any only where
+-- the first has, and its number is the greater one then
+pub record AreBatches (taken done : ℕ) (first second : Batch) (deferred : ℕ)
+    (seen : Number) : Type 0 where
   pub order : taken ≤ done
   pub inside : done + first.count + second.count ≤ deferred
   pub few : deferred ≤ most_deferred

@@ -21,7 +21,8 @@ module _ {S C X : Type 0} where
   calls_of moments = map (λ m. m.call) moments
 
   -- the engine's rule holds, and a tend is at the number of the moment
-  pub record IsMoment (holds : List ℕ → Slots S → Views C → Type 0) (cpus : ℕ) (m : Moment S C X) : Type 0 where
+  pub record IsMoment (holds : List ℕ → Slots S → Views C → Type 0) (cpus : ℕ)
+      (m : Moment S C X) : Type 0 where
     pub kept : IsKept holds cpus m.state
     pub number : (n : Number) → m.call ≡ Tend n → n ≡ slice_index m.state.words 0
 

@@ -1,7 +1,9 @@
 //! What deferrals promise over all that a thread does to them.
 ghost use Rattle.std.specs.Prelude.{◌≡◌, ℕ, ◌<◌, ◌≤◌, ◌++◌, All, IfSome, List, length};
-ghost use Rattle.std.specs.Prelude.{slice_get, take};
+ghost use Rattle.std.specs.Prelude.{slice_get, take, true};
 ghost use Rattle.rcu_seq.specs.Numbers.{Number};
+ghost use Rattle.rcu_seq.specs.Seq.{AreAccepted, IsWithin, Periods, Turn, after_turns};
+ghost use Rattle.rcu_seq.specs.Seq.{has_full_period, number_of};
 ghost use Rattle.rcu_defer.specs.Histories.{Call, HasWaited, deferred_in, list_after, marks_after};
 ghost use Rattle.rcu_defer.specs.Histories.{NeverFalls, taken_in};
 ghost use Rattle.rcu_defer.specs.Marks.{deferred_of, due};
@@ -9,6 +11,7 @@ ghost use Rattle.rcu_defer.specs.Moments.{HasOpen, IsMoment, Moment, calls_of};
 
 use rcu_live::Client;
 use rcu_live::laws::readers_finish_before_done;
+use rcu_seq::laws::done_means_a_full_grace_period;
 
 /// The numbers that are due are the longest front of those that are reached.
 pub fn due_is_the_longest_front()
@@ -28,11 +31,18 @@ pub fn deferrals_are_counted_once<T>()
 {}
 
 /// No value comes early: a deferral that is done came before a tend, and a full grace period lies
-/// between that one and a later one. Those that were taken out are done.
+/// between that one and a later one: whichever begins and ends led the engine's number from the one
+/// to the other, one began among them and ended. Those that were taken out are done.
 pub fn no_value_comes_early<T>()
-    ensures { (calls : List (Call T)) (k : ℕ) → k < (marks_after calls).done →
+    ensures waited { (calls : List (Call T)) (k : ℕ) → k < (marks_after calls).done →
         HasWaited calls k }
-{}
+    ensures period { (calls : List (Call T)) (k : ℕ) (waited : HasWaited calls k) (first : Periods)
+        (turns : List Turn) → IsWithin first → AreAccepted first turns → first.epoch ≡ 0 →
+        (after_turns first turns).epoch ≡ 0 → number_of first ≡ waited.at →
+        number_of (after_turns first turns) ≡ waited.now → has_full_period turns ≡ true }
+{
+    done_means_a_full_grace_period();
+}
 
 /// Where the numbers of the tends never fall, none is done late: one that came before a tend is
 /// done once a full grace period lies between that one and a later one.

@@ -8,7 +8,8 @@ use Rattle.std.proofs.Math.Nat.{pow-le-pow_left, pow-le-pow_right, one-le-pow, p
 use Rattle.rcu_geometry.specs.Geometry.{Shape, IsLegalShape, capacity, levels, ceil}
 
 -- a place below the quotient rounded up begins below the whole
-pub begins_below : (whole part place : ℕ) → 0 < part → place < ceil whole part → place * part < whole
+pub begins_below : (whole part place : ℕ) → 0 < part → place < ceil whole part
+    → place * part < whole
 begins_below whole part place some below =
     let rounded = div_ceil_times whole part some in
     let product = mul-le (place + 1) part (ceil whole part) part (omega arith) (omega arith) in
@@ -41,7 +42,8 @@ capacity_some s legal height =
     omega (arith, product)
 
 -- the higher a node, the more it holds
-pub capacity_rises : (s : Shape) → IsLegalShape s → (low high : ℕ) → low ≤ high → capacity s low ≤ capacity s high
+pub capacity_rises : (s : Shape) → IsLegalShape s → (low high : ℕ) → low ≤ high
+    → capacity s low ≤ capacity s high
 capacity_rises s legal low high order =
     let fan = legal.fan_low in
     let power = pow-le-pow_right {n = s.fan} (omega arith) order in
@@ -55,7 +57,8 @@ power_within fan height few low =
     omega (arith, bases, exponents)
 
 -- the capacities of the four levels are below 2^25
-pub capacity_within : (leaf fan height : ℕ) → leaf ≤ 64 → fan ≤ 64 → height ≤ 3 → leaf * fan ^ height ≤ 64 * 64 ^ 3
+pub capacity_within : (leaf fan height : ℕ) → leaf ≤ 64 → fan ≤ 64 → height ≤ 3
+    → leaf * fan ^ height ≤ 64 * 64 ^ 3
 capacity_within leaf fan height leaf_few fan_few low =
     mul-le leaf (fan ^ height) 64 (64 ^ 3) leaf_few (power_within fan height fan_few low)
 

@@ -1,17 +1,20 @@
 -- The children of a node and the processors of a leaf: how many there are, and that there is one.
-use Rattle.std.proofs.Common.{◌≡◌, ℕ, ◌+◌, ◌-◌, ◌*◌, ◌<◌, ◌≤◌, ◌==◌, true, count_by, refl, sym, ap, subst, ◌∙◌, arith}
-use Rattle.std.proofs.Common.{inl, inr}
+use Rattle.std.proofs.Common.{◌≡◌, ℕ, ◌+◌, ◌-◌, ◌*◌, ◌<◌, ◌≤◌, ◌==◌, true, count_by, refl, sym, ap}
+use Rattle.std.proofs.Common.{subst, ◌∙◌, arith, inl, inr}
 use Rattle.std.specs.List.{range_with_len}
 use Rattle.std.proofs.lemmas.Bool.{cases_lt}
 use Rattle.std.proofs.lemmas.Bool.Decides.{nat_tests}
 use Rattle.std.proofs.lemmas.Nat.{mod_below}
 use Rattle.std.proofs.Math.Nat.{mul-div_cancel, mul-mod_left, mul_assoc, mul-one, pow-zero}
-use Rattle.rcu_geometry.specs.Geometry.{Shape, IsLegalShape, capacity, levels, level_start, nodes, level_of, place_of}
-use Rattle.rcu_geometry.specs.Geometry.{parent, bit_in_parent, first_leaf, leaf_of, bit_of}
+use Rattle.rcu_geometry.specs.Geometry.{Shape, IsLegalShape, capacity, levels, level_start, nodes}
+use Rattle.rcu_geometry.specs.Geometry.{level_of, place_of, parent, bit_in_parent, first_leaf}
+use Rattle.rcu_geometry.specs.Geometry.{leaf_of, bit_of}
 use Rattle.rcu_geometry.proofs.Counts.{count-within}
 use Rattle.rcu_geometry.proofs.Capacities.{capacity_up, levels_range}
-use Rattle.rcu_geometry.proofs.Levels.{start_next, start_zero, in_level, to_level, level_some, start_rises, level_at}
-use Rattle.rcu_geometry.proofs.Places.{Lies, lies, lies_below, parent_is, bit_is, same_child, same_cpu}
+use Rattle.rcu_geometry.proofs.Levels.{start_next, start_zero, in_level, to_level, level_some}
+use Rattle.rcu_geometry.proofs.Levels.{start_rises, level_at}
+use Rattle.rcu_geometry.proofs.Places.{Lies, lies, lies_below, parent_is, bit_is, same_child}
+use Rattle.rcu_geometry.proofs.Places.{same_cpu}
 
 -- every bit is below the fanout
 bit_below : (s : Shape) → IsLegalShape s → (node : ℕ) → bit_in_parent s node < s.fan
@@ -41,12 +44,14 @@ few_cpus s node legal =
     count-within (λ cpu. leaf_of s cpu == node) (bit_of s) 0 s.cpus s.leaf
     (record {
       same = λ one two from_one below_one from_two below_two is_one is_two bits.
-          same_cpu s one two (equal_if (leaf_of s one) node is_one ∙ sym (equal_if (leaf_of s two) node is_two)) bits;
+          same_cpu s one two
+          (equal_if (leaf_of s one) node is_one ∙ sym (equal_if (leaf_of s two) node is_two)) bits;
     })
     (λ cpu. let leaf = legal.leaf_low in mod_below cpu s.leaf (omega arith))
 
 -- a node before the leaves is above the last level
-inner_level : (s : Shape) (node : ℕ) → node < first_leaf s → node < nodes s → level_of s node + 1 < levels s
+inner_level : (s : Shape) (node : ℕ) → node < first_leaf s → node < nodes s
+    → level_of s node + 1 < levels s
 inner_level s node inner below =
     let there = lies s node below in
     elim (cases_lt (level_of s node) (levels s - 1)) [
@@ -56,11 +61,13 @@ inner_level s node inner below =
     ]
 
 -- a leaf's level is the last
-pub leaf_level : (s : Shape) (node : ℕ) → first_leaf s ≤ node → node < nodes s → level_of s node ≡ levels s - 1
+pub leaf_level : (s : Shape) (node : ℕ) → first_leaf s ≤ node → node < nodes s
+    → level_of s node ≡ levels s - 1
 leaf_level s node from below =
     let range = levels_range s in
     let last : levels s - 1 + 1 ≡ levels s = omega arith in
-    level_at s node (levels s - 1) (omega arith) from (subst (λ i. node < level_start s i) (sym last) below)
+    level_at s node (levels s - 1) (omega arith) from
+    (subst (λ i. node < level_start s i) (sym last) below)
 
 -- a child with this parent and the first bit there
 pub record IsFirstChild (s : Shape) (node child : ℕ) : Type 0 where
@@ -70,14 +77,16 @@ pub record IsFirstChild (s : Shape) (node child : ℕ) : Type 0 where
   pub bit : bit_in_parent s child ≡ 0
 
 -- a node above the last level has a first child
-pub first_child : (s : Shape) (node level place : ℕ) → IsLegalShape s → Lies s node level place → level + 1 < levels s
+pub first_child : (s : Shape) (node level place : ℕ)
+    → IsLegalShape s → Lies s node level place → level + 1 < levels s
     → IsFirstChild s node (level_start s (level + 1) + place * s.fan)
 first_child s node level place legal there inner =
     let fan = legal.fan_low in
     let height = levels s - 1 - (level + 1) in
     let begins = in_level s level place legal there.below in
     let up : capacity s (levels s - 1 - level) ≡ s.fan * capacity s height =
-    ap (capacity s) (let above : levels s - 1 - level ≡ height + 1 = omega arith in above) ∙ capacity_up s height in
+    ap (capacity s) (let above : levels s - 1 - level ≡ height + 1 = omega arith in above)
+    ∙ capacity_up s height in
     let product : place * capacity s (levels s - 1 - level) ≡ place * s.fan * capacity s height =
     ap (λ held. place * held) up ∙ sym (mul_assoc place s.fan (capacity s height)) in
     let child : Lies s (level_start s (level + 1) + place * s.fan) (level + 1) (place * s.fan) =
@@ -94,21 +103,26 @@ first_child s node level place legal there inner =
     let quotient = mul-div_cancel place {n = s.fan} (omega arith) in
     record {
       other = omega arith;
-      below = lies_below s (level_start s (level + 1) + place * s.fan) (level + 1) (place * s.fan) child;
+      below = lies_below s (level_start s (level + 1) + place * s.fan) (level + 1) (place * s.fan)
+          child;
       parent =
           parent_is s (level_start s (level + 1) + place * s.fan) level (place * s.fan) child
           ∙ ap (λ p. level_start s level + p) quotient ∙ sym is;
-      bit = bit_is s (level_start s (level + 1) + place * s.fan) level (place * s.fan) child ∙ mul-mod_left place s.fan;
+      bit =
+          bit_is s (level_start s (level + 1) + place * s.fan) level (place * s.fan) child
+          ∙ mul-mod_left place s.fan;
     }
 
 -- each inner node has a child
-pub some_child : (s : Shape) (node : ℕ) → IsLegalShape s → node < first_leaf s → (child : ℕ) × IsFirstChild s node child
+pub some_child : (s : Shape) (node : ℕ) → IsLegalShape s → node < first_leaf s
+    → (child : ℕ) × IsFirstChild s node child
 some_child s node legal inner =
     let range = levels_range s in
     let rises = start_rises s (levels s - 1) (levels s) (omega arith) in
     let below : node < nodes s = omega arith in (
       level_start s (level_of s node + 1) + place_of s node * s.fan,
-      first_child s node (level_of s node) (place_of s node) legal (lies s node below) (inner_level s node inner below),
+      first_child s node (level_of s node) (place_of s node) legal (lies s node below)
+          (inner_level s node inner below),
     )
 
 -- a processor of this leaf with the first bit there
@@ -139,5 +153,6 @@ pub some_cpu : (s : Shape) (node : ℕ) → IsLegalShape s → first_leaf s ≤ 
     → (cpu : ℕ) × IsFirstCpu s node cpu
 some_cpu s node legal from below =
     let there =
-    subst (λ level. Lies s node level (place_of s node)) (leaf_level s node from below) (lies s node below) in
+    subst (λ level. Lies s node level (place_of s node)) (leaf_level s node from below)
+    (lies s node below) in
     (place_of s node * s.leaf, first_cpu s node (place_of s node) legal there)

@@ -1,15 +1,16 @@
 -- The levels of a tree: how many nodes each has, where it begins, and which level a node is in.
-use Rattle.std.proofs.Common.{◌≡◌, ℕ, zero, suc, ◌+◌, ◌-◌, ◌*◌, ◌/◌, ◌^◌, ◌<◌, ◌≤◌, List, [], ◌∷◌, ◌++◌, length}
-use Rattle.std.proofs.Common.{slice_index, refl, sym, ap, subst, ◌∙◌, arith, inl, inr, add-one}
+use Rattle.std.proofs.Common.{◌≡◌, ℕ, zero, suc, ◌+◌, ◌-◌, ◌*◌, ◌/◌, ◌^◌, ◌<◌, ◌≤◌, List, [], ◌∷◌}
+use Rattle.std.proofs.Common.{◌++◌, length, slice_index, refl, sym, ap, subst, ◌∙◌, arith, inl, inr}
+use Rattle.std.proofs.Common.{add-one}
 use Rattle.std.proofs.lemmas.Bool.{cases_lt}
 use Rattle.std.proofs.lemmas.Bool.Decides.{nat_tests}
 use Rattle.std.proofs.lemmas.List.{length_push, get_or_push, get_or_append_left}
 use Rattle.std.proofs.lemmas.Nat.{mul-le}
 use Rattle.std.proofs.Math.Nat.{div-mul-le_self, mul-one, pow-zero, mul_assoc}
-use Rattle.rcu_geometry.specs.Geometry.{Shape, IsLegalShape, capacity, levels, ceil, level_nodes, level_start, level_of}
-use Rattle.rcu_geometry.specs.Geometry.{nodes, first_leaf}
-use Rattle.rcu_geometry.proofs.Capacities.{levels_range, begins_below, below_ceil, capacity_up, capacity_some}
-use Rattle.rcu_geometry.proofs.Capacities.{levels_hold}
+use Rattle.rcu_geometry.specs.Geometry.{Shape, IsLegalShape, capacity, levels, ceil, level_nodes}
+use Rattle.rcu_geometry.specs.Geometry.{level_start, level_of, nodes, first_leaf}
+use Rattle.rcu_geometry.proofs.Capacities.{levels_range, begins_below, below_ceil, capacity_up}
+use Rattle.rcu_geometry.proofs.Capacities.{capacity_some, levels_hold}
 
 -- the next level begins behind the nodes of this one
 pub start_next : (s : Shape) (i : ℕ) → level_start s (i + 1) ≡ level_start s i + level_nodes s i
@@ -26,14 +27,16 @@ pub in_level : (s : Shape) (i place : ℕ) → IsLegalShape s → place < level_
     → place * capacity s (levels s - 1 - i) < s.cpus
 unfolding level_nodes
 in_level s i place legal below =
-    begins_below s.cpus (capacity s (levels s - 1 - i)) place (capacity_some s legal (levels s - 1 - i)) below
+    begins_below s.cpus (capacity s (levels s - 1 - i)) place
+    (capacity_some s legal (levels s - 1 - i)) below
 
 -- and a place whose first processor is there is in the level
-pub to_level : (s : Shape) (i place : ℕ) → IsLegalShape s → place * capacity s (levels s - 1 - i) < s.cpus
-    → place < level_nodes s i
+pub to_level : (s : Shape) (i place : ℕ)
+    → IsLegalShape s → place * capacity s (levels s - 1 - i) < s.cpus → place < level_nodes s i
 unfolding level_nodes
 to_level s i place legal begins =
-    below_ceil s.cpus (capacity s (levels s - 1 - i)) place (capacity_some s legal (levels s - 1 - i)) begins
+    below_ceil s.cpus (capacity s (levels s - 1 - i)) place
+    (capacity_some s legal (levels s - 1 - i)) begins
 
 -- each level has a node
 pub level_some : (s : Shape) (i : ℕ) → IsLegalShape s → 0 < level_nodes s i
@@ -48,10 +51,12 @@ one_root s legal =
     let hold = levels_hold s legal in
     let root = level_some s 0 legal in
     elim (cases_lt 1 (level_nodes s 0)) [
-      | inl more ↦ (
-          let second = in_level s 0 1 legal more in
-          let top = ap (capacity s) (let height : levels s - 1 - 0 ≡ levels s - 1 = omega arith in height) in
-          let held : 1 * capacity s (levels s - 1 - 0) ≡ capacity s (levels s - 1) = omega (arith, top) in
+      | inl more ↦
+          (let second = in_level s 0 1 legal more in
+          let top =
+          ap (capacity s) (let height : levels s - 1 - 0 ≡ levels s - 1 = omega arith in height) in
+          let held : 1 * capacity s (levels s - 1 - 0) ≡ capacity s (levels s - 1) =
+          omega (arith, top) in
           absurd (let no : ⊥ = omega (arith, second, hold, held) in no))
       | inr one ↦ omega arith
     ]
@@ -59,11 +64,12 @@ one_root s legal =
 -- a level has at most as many nodes as there are processors
 pub level_within : (s : Shape) (i : ℕ) → IsLegalShape s → level_nodes s i ≤ 4096
 level_within s i legal = elim (cases_lt 4096 (level_nodes s i)) [
-  | inl more ↦ (
-      let few = legal.few in
+  | inl more ↦
+      (let few = legal.few in
       let last = in_level s i 4096 legal more in
       let product =
-      mul-le 4096 1 4096 (capacity s (levels s - 1 - i)) (omega arith) (capacity_some s legal (levels s - 1 - i)) in
+      mul-le 4096 1 4096 (capacity s (levels s - 1 - i)) (omega arith)
+      (capacity_some s legal (levels s - 1 - i)) in
       omega (arith, last, product, few))
   | inr few ↦ few
 ]
@@ -73,10 +79,11 @@ pub start_rises : (s : Shape) (i j : ℕ) → i ≤ j → level_start s i ≤ le
 start_rises s i zero order = let same : i ≡ 0 = omega arith in rw same (omega arith)
 start_rises s i (suc j) order = elim (cases_lt j i) [
   | inl above ↦ (let same : i ≡ suc j = omega arith in rw same (omega arith))
-  | inr below ↦ (
-      let rises = start_rises s i j below in
+  | inr below ↦
+      (let rises = start_rises s i j below in
       let next = start_next s j in
-      let same : level_start s (suc j) ≡ level_start s (j + 1) = ap (level_start s) (sym (add-one j)) in
+      let same : level_start s (suc j) ≡ level_start s (j + 1) =
+      ap (level_start s) (sym (add-one j)) in
       omega arith)
 ]
 
@@ -85,7 +92,8 @@ pub leaves_some : (s : Shape) → IsLegalShape s → first_leaf s < nodes s
 leaves_some s legal =
     let range = levels_range s in
     let next = start_next s (levels s - 1) in
-    let last = ap (level_start s) (let behind : levels s - 1 + 1 ≡ levels s = omega arith in behind) in
+    let last =
+    ap (level_start s) (let behind : levels s - 1 + 1 ≡ levels s = omega arith in behind) in
     let some = level_some s (levels s - 1) legal in
     omega arith
 
@@ -96,13 +104,14 @@ start_within s (suc i) legal =
     let before = start_within s i legal in
     let few = level_within s i legal in
     let next = start_next s i in
-    let same : level_start s (suc i) ≡ level_start s (i + 1) = ap (level_start s) (sym (add-one i)) in
+    let same : level_start s (suc i) ≡ level_start s (i + 1) =
+    ap (level_start s) (sym (add-one i)) in
     let product : 4096 * suc i ≡ 4096 * i + 4096 = omega arith in
     omega arith
 
 -- the level of a node that lies between two starts
-pub level_at : (s : Shape) (node i : ℕ) → i < 4 → level_start s i ≤ node → node < level_start s (i + 1)
-    → level_of s node ≡ i
+pub level_at : (s : Shape) (node i : ℕ)
+    → i < 4 → level_start s i ≤ node → node < level_start s (i + 1) → level_of s node ≡ i
 unfolding level_of
 level_at s node zero few from below =
     let second = start_rises s 1 2 (omega arith) in
@@ -121,30 +130,35 @@ level_at s node (suc (suc (suc zero))) few from below =
 level_at s node (suc (suc (suc (suc i)))) few from below = absurd (let no : ⊥ = omega arith in no)
 
 -- the parent's place is in the level above
-pub parent_place : (s : Shape) (i place : ℕ) → IsLegalShape s → i + 1 < levels s → place < level_nodes s (i + 1)
+pub parent_place : (s : Shape) (i place : ℕ)
+    → IsLegalShape s → i + 1 < levels s → place < level_nodes s (i + 1)
     → place / s.fan < level_nodes s i
 parent_place s i place legal inner below =
     let height = levels s - 1 - (i + 1) in
     let begins = in_level s (i + 1) place legal below in
     let up : capacity s (levels s - 1 - i) ≡ s.fan * capacity s height =
-    ap (capacity s) (let above : levels s - 1 - i ≡ height + 1 = omega arith in above) ∙ capacity_up s height in
+    ap (capacity s) (let above : levels s - 1 - i ≡ height + 1 = omega arith in above)
+    ∙ capacity_up s height in
     let product =
-    mul-le (place / s.fan * s.fan) (capacity s height) place (capacity s height) (div-mul-le_self place s.fan)
-    (omega arith) in
+    mul-le (place / s.fan * s.fan) (capacity s height) place (capacity s height)
+    (div-mul-le_self place s.fan) (omega arith) in
     let grouped = mul_assoc (place / s.fan) s.fan (capacity s height) in
     to_level s i (place / s.fan) legal (rw up (omega (arith, product, grouped, begins)))
 
 -- a processor's leaf is in the last level
-pub leaf_place : (s : Shape) (cpu : ℕ) → IsLegalShape s → cpu < s.cpus → cpu / s.leaf < level_nodes s (levels s - 1)
+pub leaf_place : (s : Shape) (cpu : ℕ) → IsLegalShape s → cpu < s.cpus
+    → cpu / s.leaf < level_nodes s (levels s - 1)
 leaf_place s cpu legal below =
     let height : levels s - 1 - (levels s - 1) ≡ 0 = omega arith in
-    let capacity_zero : s.leaf * s.fan ^ 0 ≡ s.leaf = ap (λ power. s.leaf * power) (pow-zero s.fan) ∙ mul-one s.leaf in
+    let capacity_zero : s.leaf * s.fan ^ 0 ≡ s.leaf =
+    ap (λ power. s.leaf * power) (pow-zero s.fan) ∙ mul-one s.leaf in
     let product = div-mul-le_self cpu s.leaf in
-    to_level s (levels s - 1) (cpu / s.leaf) legal (rw (height, capacity_zero) (omega (arith, product)))
+    to_level s (levels s - 1) (cpu / s.leaf) legal
+    (rw (height, capacity_zero) (omega (arith, product)))
 
 -- the level of a node by the next level
-pub level_by : (s : Shape) (node level next : ℕ) → level + 1 ≡ next → level < 4 → level_start s level ≤ node
-    → node < level_start s next
+pub level_by : (s : Shape) (node level next : ℕ)
+    → level + 1 ≡ next → level < 4 → level_start s level ≤ node → node < level_start s next
     → level ≡ level_of s node
 level_by s node level next e few from below =
     sym (level_at s node level few from (subst (λ i. node < level_start s i) (sym e) below))
@@ -165,7 +179,8 @@ pub record AreStarts (s : Shape) (starts : List ℕ) (next i : ℕ) : Type 0 whe
   pub started : (j : ℕ) → j ≤ i → slice_index starts j ≡ level_start s j
 
 -- the table that has the root alone
-pub starts_first : (s : Shape) (starts : List ℕ) (i : ℕ) → starts ≡ 0 ∷ [] → i ≡ 0 → AreStarts s starts 0 i
+pub starts_first : (s : Shape) (starts : List ℕ) (i : ℕ) → starts ≡ 0 ∷ [] → i ≡ 0
+    → AreStarts s starts 0 i
 starts_first s starts i e z = rw (e, z) (record {
   sized = refl;
   begins = sym (start_zero s);
@@ -175,7 +190,10 @@ starts_first s starts i e z = rw (e, z) (record {
 
 -- the table with one more level
 pub starts_more : (s : Shape) (starts more : List ℕ) (next count i k : ℕ)
-    → IsLegalShape s → AreStarts s starts next i → count ≡ level_nodes s i → more ≡ starts ++ (next + count) ∷ []
+    → IsLegalShape s
+    → AreStarts s starts next i
+    → count ≡ level_nodes s i
+    → more ≡ starts ++ (next + count) ∷ []
     → k ≡ i + 1
     → AreStarts s more (next + count) k
 starts_more s starts more next count i k legal before counted pushed e =
@@ -195,9 +213,11 @@ starts_more s starts more next count i k legal before counted pushed e =
     })
 
 -- how many leaves there are
-pub leaves_by : (s : Shape) (i leaf : ℕ) → i + 1 ≡ levels s → s.leaf ≡ leaf → level_nodes s i ≡ ceil s.cpus leaf
+pub leaves_by : (s : Shape) (i leaf : ℕ) → i + 1 ≡ levels s → s.leaf ≡ leaf
+    → level_nodes s i ≡ ceil s.cpus leaf
 unfolding level_nodes
 leaves_by s i leaf last same =
     let height : levels s - 1 - i ≡ 0 = omega arith in
-    let own : capacity s 0 ≡ leaf = ap (λ power. s.leaf * power) (pow-zero s.fan) ∙ mul-one s.leaf ∙ same in
+    let own : capacity s 0 ≡ leaf =
+    ap (λ power. s.leaf * power) (pow-zero s.fan) ∙ mul-one s.leaf ∙ same in
     rw (height, own) refl

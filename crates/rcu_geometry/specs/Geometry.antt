@@ -1,12 +1,14 @@
--- The levels and nodes of a combining tree, by formula. The root is level 0 and node 0; the last level has the leaves.
-use Rattle.std.specs.Prelude.{ℕ, zero, suc, ◌+◌, ◌-◌, ◌*◌, ◌/◌, ◌%◌, ◌^◌, ◌<◌, ◌≤◌, ◌≡◌, ◌⊎◌, ◌&&◌, Bool, not, nat_lt}
-use Rattle.std.specs.Prelude.{nat_le, min, List, [], ◌∷◌, Option, Some, None, count_by}
+-- The levels and nodes of a combining tree, by formula. The root is level 0 and node 0; the last
+-- level has the leaves.
+use Rattle.std.specs.Prelude.{ℕ, zero, suc, ◌+◌, ◌-◌, ◌*◌, ◌/◌, ◌%◌, ◌^◌, ◌<◌, ◌≤◌, ◌≡◌, ◌⊎◌, ◌&&◌}
+use Rattle.std.specs.Prelude.{Bool, not, nat_lt, nat_le, min, List, [], ◌∷◌, Option, Some, None}
+use Rattle.std.specs.Prelude.{count_by}
 use Rattle.rcu_seq.specs.Fault.{first_fault}
 use Rattle.rcu_seq.specs.declared.fault.Fault.{Fault}
 use Rattle.rcu_seq.specs.declared.fault.Fault.TheVariants.{BadFanout, NoMemory, TooManyCpus}
 
--- how many processors a leaf has at most, how many children an inner node has at most, and how many processors there
--- are
+-- how many processors a leaf has at most, how many children an inner node has at most, and how many
+-- processors there are
 pub record Shape : Type 0 where
   pub leaf : ℕ
   pub fan : ℕ
@@ -29,13 +31,15 @@ is_held s = nat_lt 0 s.cpus && (nat_le s.cpus 4096 && nat_le s.cpus (capacity s 
 
 -- what is tested of a shape, in order: a cause, and the fault that it is answered by
 abbrev pub causes : Shape → List (Bool × Fault)
-causes s = (not (is_fanout s.leaf && is_fanout s.fan), BadFanout) ∷ (not (is_held s), TooManyCpus) ∷ []
+causes s =
+    (not (is_fanout s.leaf && is_fanout s.fan), BadFanout) ∷ (not (is_held s), TooManyCpus) ∷ []
 
 -- why there is no tree of this shape, if there is none: the fault of the first cause that holds
 abbrev pub refusal : Shape → Option Fault
 refusal s = first_fault (causes s)
 
--- the fault of a tree of this shape that is not made: its refusal, or where there is none, want of memory
+-- the fault of a tree of this shape that is not made: its refusal, or where there is none, want of
+-- memory
 abbrev pub IsTreeFault : Shape → Fault → Type 0
 IsTreeFault s fault = (refusal s ≡ Some fault) ⊎ ((fault ≡ NoMemory) × (refusal s ≡ None))
 
@@ -49,8 +53,8 @@ pub record IsLegalShape (s : Shape) : Type 0 where
   pub few : s.cpus ≤ 4096
   pub held : s.cpus ≤ capacity s 3
 
--- the least number of levels, of up to four, whose capacity holds all processors: one more than the capacities that are
--- too small
+-- the least number of levels, of up to four, whose capacity holds all processors: one more than the
+-- capacities that are too small
 unfoldable pub levels : Shape → ℕ
 levels s = 1 + count_by (λ height. nat_lt (capacity s height) s.cpus) (0 ∷ 1 ∷ 2 ∷ [])
 

@@ -6,7 +6,9 @@ use Rattle.rcu_seq.specs.declared.fault.Fault.{Fault}
 use Rattle.rcu_seq.specs.declared.fault.Fault.TheVariants.{BadLast}
 use Rattle.rcu_geometry.specs.Geometry.{causes, shape}
 
--- the first fault of the opening of an engine over the tree of these fanouts, for so many processors and with this last
--- number: the shape is tested first. Want of memory comes after all of these
+-- the first fault of the opening of an engine over the tree of these fanouts, for so many
+-- processors and with this last number: the shape is tested first. Want of memory comes after all
+-- of these
 abbrev pub opening_refusal : ℕ → ℕ → ℕ → Number → Option Fault
-opening_refusal leaf fan cpus last = first_fault (causes (shape leaf fan cpus) ++ (not (is_last last), BadLast) ∷ [])
+opening_refusal leaf fan cpus last =
+    first_fault (causes (shape leaf fan cpus) ++ (not (is_last last), BadLast) ∷ [])

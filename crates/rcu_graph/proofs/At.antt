@@ -1,89 +1,139 @@
 -- The same steps where a section is open, at a view that reads, and at one that keeps the nodes.
-use Rattle.std.proofs.Common.{◌≡◌, ℕ, suc, ◌+◌, ◌<◌, ◌≤◌, List, length, Some, None, Option, sym, subst}
+use Rattle.std.proofs.Common.{◌≡◌, ℕ, suc, ◌+◌, ◌<◌, ◌≤◌, List, length, Some, None, Option, sym}
+use Rattle.std.proofs.Common.{subst}
 use Rattle.std.specs.Prelude.{IsSome}
 use Rattle.rcu_live.specs.Client.{AllowsNumber, AllowsWord}
 use Rattle.rcu_graph.specs.Keeper.{CanLink, IsReady}
-use Rattle.rcu_graph.specs.Nodes.{IsKeeping, IsOn, IsReader, IsUnlinked, node_at, nodes_in, place_of, state_at}
+use Rattle.rcu_graph.specs.Nodes.{IsKeeping, IsOn, IsReader, IsUnlinked, node_at, nodes_in}
+use Rattle.rcu_graph.specs.Nodes.{place_of, state_at}
 use Rattle.rcu_graph.specs.Rule.{IsKept}
-use Rattle.rcu_graph.specs.Steps.{IsAged, IsClaimed, IsFollowed, IsLeft, IsLinked, IsPublished, IsRead, IsWritten}
+use Rattle.rcu_graph.specs.Steps.{IsAged, IsClaimed, IsFollowed, IsLeft, IsLinked, IsPublished}
+use Rattle.rcu_graph.specs.Steps.{IsRead, IsWritten}
 use Rattle.rcu_graph.specs.declared.known.Known.{Known}
 use Rattle.rcu_graph.specs.declared.known.Known.TheVariants.{Idle, Owner, Reader, Keeper}
 use Rattle.rcu_graph.specs.declared.node_state.NodeState.TheVariants.{Free, Live}
-use Rattle.rcu_graph.proofs.Moves.{ages, claims, follows, leaves, links_to, publishes, reads_word, writes}
+use Rattle.rcu_graph.proofs.Moves.{ages, claims, follows, leaves, links_to, publishes, reads_word}
+use Rattle.rcu_graph.proofs.Moves.{writes}
 
 module _ (fits : List ℕ → Type 0) (joins : ℕ → List ℕ → List ℕ → Type 0) (first : ℕ → List ℕ)
     (roots links width count : ℕ) where
-  pub follows_at : (cpu section : Option ℕ) (was : Known) (i l place : ℕ) → IsSome section → IsReader was
-      → (words : List ℕ) × IsOn first roots was i words → l < links → place ≡ place_of (links + width) i l
-      → AllowsWord (IsKept fits joins first roots links width count) cpu section was place (λ n. n) (IsFollowed fits joins first roots links width count place was)
+  pub follows_at : (cpu section : Option ℕ) (was : Known) (i l place : ℕ)
+      → IsSome section
+      → IsReader was
+      → (words : List ℕ) × IsOn first roots was i words
+      → l < links
+      → place ≡ place_of (links + width) i l
+      → AllowsWord (IsKept fits joins first roots links width count) cpu section was place (λ n. n)
+      (IsFollowed fits joins first roots links width count place was)
   follows_at cpu None was i l place is_open reads on low e = absurd (cc)
   follows_at cpu (Some at) was i l place is_open reads on low e =
-      subst (λ (p : ℕ). AllowsWord (IsKept fits joins first roots links width count) cpu (Some at) was p (λ n. n) (IsFollowed fits joins first roots links width count p was))
+      subst (λ (p : ℕ). AllowsWord (IsKept fits joins first roots links width count) cpu (Some at)
+      was p (λ n. n) (IsFollowed fits joins first roots links width count p was))
       (sym e) (follows fits joins first roots links width count cpu at was i l on.0 reads on.1 low)
 
-  pub reads_at : (cpu section : Option ℕ) (was : Known) (i k place : ℕ) → IsSome section → IsReader was
-      → (words : List ℕ) × IsOn first roots was i words → k < width → place ≡ place_of (links + width) i (links + k)
-      → AllowsWord (IsKept fits joins first roots links width count) cpu section was place (λ n. n) (IsRead first roots links width place was)
+  pub reads_at : (cpu section : Option ℕ) (was : Known) (i k place : ℕ)
+      → IsSome section
+      → IsReader was
+      → (words : List ℕ) × IsOn first roots was i words
+      → k < width
+      → place ≡ place_of (links + width) i (links + k)
+      → AllowsWord (IsKept fits joins first roots links width count) cpu section was place (λ n. n)
+      (IsRead first roots links width place was)
   reads_at cpu None was i k place is_open reads on low e = absurd (cc)
   reads_at cpu (Some at) was i k place is_open reads on low e =
-      subst (λ (p : ℕ). AllowsWord (IsKept fits joins first roots links width count) cpu (Some at) was p (λ n. n) (IsRead first roots links width p was))
-      (sym e) (reads_word fits joins first roots links width count cpu at was i k on.0 reads on.1 low)
+      subst (λ (p : ℕ). AllowsWord (IsKept fits joins first roots links width count) cpu (Some at)
+      was p (λ n. n) (IsRead first roots links width p was))
+      (sym e)
+      (reads_word fits joins first roots links width count cpu at was i k on.0 reads on.1 low)
 
-  pub writes_at : (cpu section : Option ℕ) (was : Known) (i k place x : ℕ) → IsKeeping was → i < length (nodes_in was)
-      → state_at (nodes_in was) i ≡ Free → k < width → place ≡ place_of (links + width) i (links + k)
-      → AllowsWord (IsKept fits joins first roots links width count) cpu section was place (λ _. x) (λ _ now. IsWritten links width place was x now)
+  pub writes_at : (cpu section : Option ℕ) (was : Known) (i k place x : ℕ)
+      → IsKeeping was
+      → i < length (nodes_in was)
+      → state_at (nodes_in was) i ≡ Free
+      → k < width
+      → place ≡ place_of (links + width) i (links + k)
+      → AllowsWord (IsKept fits joins first roots links width count) cpu section was place (λ _. x)
+      (λ _ now. IsWritten links width place was x now)
   writes_at cpu section Idle i k place x keeps bound free low e = absurd keeps
   writes_at cpu section Owner i k place x keeps bound free low e = absurd keeps
   writes_at cpu section (Reader held) i k place x keeps bound free low e = absurd keeps
   writes_at cpu section (Keeper t s) i k place x keeps bound free low e =
-      subst (λ (p : ℕ). AllowsWord (IsKept fits joins first roots links width count) cpu section (Keeper t s) p (λ _. x) (λ _ now. IsWritten links width p (Keeper t s) x now))
+      subst (λ (p : ℕ). AllowsWord (IsKept fits joins first roots links width count) cpu section
+      (Keeper t s) p (λ _. x) (λ _ now. IsWritten links width p (Keeper t s) x now))
       (sym e) (writes fits joins first roots links width count cpu section t i k x s bound free low)
 
-  pub links_at : (cpu section : Option ℕ) (was : Known) (i l place x : ℕ) → IsKeeping was → i < length (nodes_in was)
-      → l < links → CanLink (joins l) (nodes_in was) i x
+  pub links_at : (cpu section : Option ℕ) (was : Known) (i l place x : ℕ)
+      → IsKeeping was
+      → i < length (nodes_in was)
+      → l < links
+      → CanLink (joins l) (nodes_in was) i x
       → place ≡ place_of (links + width) i l
-      → AllowsWord (IsKept fits joins first roots links width count) cpu section was place (λ _. x) (λ _ now. IsLinked links width place was x now)
+      → AllowsWord (IsKept fits joins first roots links width count) cpu section was place (λ _. x)
+      (λ _ now. IsLinked links width place was x now)
   links_at cpu section Idle i l place x keeps bound low allowed e = absurd keeps
   links_at cpu section Owner i l place x keeps bound low allowed e = absurd keeps
   links_at cpu section (Reader held) i l place x keeps bound low allowed e = absurd keeps
   links_at cpu section (Keeper t s) i l place x keeps bound low allowed e =
-      subst (λ (p : ℕ). AllowsWord (IsKept fits joins first roots links width count) cpu section (Keeper t s) p (λ _. x) (λ _ now. IsLinked links width p (Keeper t s) x now))
-      (sym e) (links_to fits joins first roots links width count cpu section t i l x s bound low allowed)
+      subst (λ (p : ℕ). AllowsWord (IsKept fits joins first roots links width count) cpu section
+      (Keeper t s) p (λ _. x) (λ _ now. IsLinked links width p (Keeper t s) x now))
+      (sym e)
+      (links_to fits joins first roots links width count cpu section t i l x s bound low allowed)
 
-  pub publishes_at : (cpu section : Option ℕ) (was : Known) (i l j place x : ℕ) → IsKeeping was
-      → i < length (nodes_in was) → j < length (nodes_in was) → l < links
-      → state_at (nodes_in was) i ≡ Live → IsReady fits joins links (nodes_in was) j
+  pub publishes_at : (cpu section : Option ℕ) (was : Known) (i l j place x : ℕ)
+      → IsKeeping was
+      → i < length (nodes_in was)
+      → j < length (nodes_in was)
+      → l < links
+      → state_at (nodes_in was) i ≡ Live
+      → IsReady fits joins links (nodes_in was) j
       → joins l (node_at (nodes_in was) i).words (node_at (nodes_in was) j).words
-      → place ≡ place_of (links + width) i l → x ≡ suc j
-      → AllowsWord (IsKept fits joins first roots links width count) cpu section was place (λ _. x) (λ _ now. IsPublished links width place was x now)
+      → place ≡ place_of (links + width) i l
+      → x ≡ suc j
+      → AllowsWord (IsKept fits joins first roots links width count) cpu section was place (λ _. x)
+      (λ _ now. IsPublished links width place was x now)
   publishes_at cpu section Idle i l j place x keeps a b low live ready joined e is = absurd keeps
   publishes_at cpu section Owner i l j place x keeps a b low live ready joined e is = absurd keeps
-  publishes_at cpu section (Reader held) i l j place x keeps a b low live ready joined e is = absurd keeps
+  publishes_at cpu section (Reader held) i l j place x keeps a b low live ready joined e is =
+      absurd keeps
   publishes_at cpu section (Keeper t s) i l j place x keeps a b low live ready joined e is =
-      subst (λ (y : ℕ × ℕ). AllowsWord (IsKept fits joins first roots links width count) cpu section (Keeper t s) y.0 (λ _. y.1) (λ _ now. IsPublished links width y.0 (Keeper t s) y.1 now))
-      (λ z. (sym e z, sym is z)) (publishes fits joins first roots links width count cpu section t i l j s a b low live ready.free ready.whole ready.led joined)
+      subst (λ (y : ℕ × ℕ). AllowsWord (IsKept fits joins first roots links width count) cpu section
+      (Keeper t s) y.0 (λ _. y.1) (λ _ now. IsPublished links width y.0 (Keeper t s) y.1 now))
+      (λ z. (sym e z, sym is z))
+      (publishes fits joins first roots links width count cpu section t i l j s a b low live
+      ready.free ready.whole ready.led joined)
 
-  pub leaves_at : (cpu section : Option ℕ) (was : Known) (i place : ℕ) → IsKeeping was → i < length (nodes_in was)
-      → 0 < links + width → roots ≤ i → state_at (nodes_in was) i ≡ Live → IsUnlinked links (nodes_in was) i
+  pub leaves_at : (cpu section : Option ℕ) (was : Known) (i place : ℕ)
+      → IsKeeping was
+      → i < length (nodes_in was)
+      → 0 < links + width
+      → roots ≤ i
+      → state_at (nodes_in was) i ≡ Live
+      → IsUnlinked links (nodes_in was) i
       → place ≡ place_of (links + width) i 0
-      → AllowsWord (IsKept fits joins first roots links width count) cpu section was place (λ n. n) (IsLeft links width place was)
+      → AllowsWord (IsKept fits joins first roots links width count) cpu section was place (λ n. n)
+      (IsLeft links width place was)
   leaves_at cpu section Idle i place keeps bound low past live unlinked e = absurd keeps
   leaves_at cpu section Owner i place keeps bound low past live unlinked e = absurd keeps
   leaves_at cpu section (Reader held) i place keeps bound low past live unlinked e = absurd keeps
   leaves_at cpu section (Keeper t s) i place keeps bound low past live unlinked e =
-      subst (λ (p : ℕ). AllowsWord (IsKept fits joins first roots links width count) cpu section (Keeper t s) p (λ n. n) (IsLeft links width p (Keeper t s)))
-      (sym e) (leaves fits joins first roots links width count cpu section t i 0 s bound low past live unlinked)
+      subst (λ (p : ℕ). AllowsWord (IsKept fits joins first roots links width count) cpu section
+      (Keeper t s) p (λ n. n) (IsLeft links width p (Keeper t s)))
+      (sym e)
+      (leaves fits joins first roots links width count cpu section t i 0 s bound low past live
+      unlinked)
 
   pub ages_at : (cpu section : Option ℕ) (was : Known) → IsKeeping was
       → AllowsNumber (IsKept fits joins first roots links width count) cpu section was (IsAged was)
   ages_at cpu section Idle keeps = absurd keeps
   ages_at cpu section Owner keeps = absurd keeps
   ages_at cpu section (Reader held) keeps = absurd keeps
-  ages_at cpu section (Keeper t s) keeps = ages fits joins first roots links width count cpu section t s
+  ages_at cpu section (Keeper t s) keeps =
+      ages fits joins first roots links width count cpu section t s
 
   pub claims_at : (cpu section : Option ℕ) (was : Known) → was ≡ Owner
       → AllowsWord (IsKept fits joins first roots links width count) cpu section was 0 (λ n. n)
       (λ _ now. IsClaimed first roots links width count now)
   claims_at cpu section was is =
-      subst (λ (k : Known). AllowsWord (IsKept fits joins first roots links width count) cpu section k 0 (λ n. n) (λ _ now. IsClaimed first roots links width count now))
+      subst (λ (k : Known). AllowsWord (IsKept fits joins first roots links width count) cpu section
+      k 0 (λ n. n) (λ _ now. IsClaimed first roots links width count now))
       (sym is) (claims fits joins first roots links width count cpu section 0)

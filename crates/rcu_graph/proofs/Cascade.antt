@@ -1,6 +1,7 @@
 -- What a keeper knows on the way of a change, step by step.
-use Rattle.std.proofs.Common.{◌≡◌, ◌⊎◌, inr, ℕ, zero, suc, ◌+◌, ◌*◌, ◌<◌, ◌≤◌, List, [], ◌∷◌, ◌++◌, Option, length, get_or, set, take, drop}
-use Rattle.std.proofs.Common.{refl, sym, ap, ◌∙◌, arith, subst, length-set}
+use Rattle.std.proofs.Common.{◌≡◌, ◌⊎◌, inr, ℕ, zero, suc, ◌+◌, ◌*◌, ◌<◌, ◌≤◌, List, [], ◌∷◌, ◌++◌}
+use Rattle.std.proofs.Common.{Option, length, get_or, set, take, drop, refl, sym, ap, ◌∙◌, arith}
+use Rattle.std.proofs.Common.{subst, length-set}
 use Rattle.std.specs.Prelude.{All, IfSome, None, Some, nat_eq, slice_index}
 use Rattle.std.proofs.lemmas.List.{drop_more}
 use Rattle.std.proofs.lemmas.List.Elements.{All-from_get_or}
@@ -10,7 +11,8 @@ use Rattle.rcu_graph.specs.Counts.{counted_up, links_to, one_if, times_in}
 use Rattle.rcu_graph.specs.Graph.{word_to}
 use Rattle.rcu_graph.specs.Keeper.{IsReady, after_step}
 use Rattle.rcu_graph.specs.Mirror.{AreSized}
-use Rattle.rcu_graph.specs.Nodes.{IsKeeping, IsTarget, IsUnlinked, in_state, linked_to, node_at, nodes_in, renewed, state_at}
+use Rattle.rcu_graph.specs.Nodes.{IsKeeping, IsTarget, IsUnlinked, in_state, linked_to, node_at}
+use Rattle.rcu_graph.specs.Nodes.{nodes_in, renewed, state_at}
 use Rattle.rcu_graph.specs.Tended.{IsReached}
 use Rattle.rcu_graph.specs.Trimming.{IsCounted, IsInside, IsTrimming}
 use Rattle.rcu_graph.specs.declared.known.Known.{Known}
@@ -18,39 +20,53 @@ use Rattle.rcu_graph.specs.declared.known.Node.{Node}
 use Rattle.rcu_graph.specs.declared.node_state.NodeState.TheVariants.{Left, Live}
 use Rattle.rcu_graph.proofs.Counting.{leads_counts, live_in-left, live_inside}
 use Rattle.rcu_graph.proofs.Filling.{known_is}
-use Rattle.rcu_graph.proofs.Tending.{AreWhole, are_whole, at_here, counts_are, led_there, links_to-le, promoted_counts, promoted_links, promoted_state}
-use Rattle.rcu_graph.proofs.Trims.{kept_let_go, left_let_go, none_let_go, owed_is_counted, owed_is_inside, unlinked}
-use Rattle.rcu_graph.proofs.Tending.{promoted_up, promoted_whole, promoted_words, starts_trimming, still_live, stored_whole, tended}
+use Rattle.rcu_graph.proofs.Tending.{AreWhole, are_whole, at_here, counts_are, led_there}
+use Rattle.rcu_graph.proofs.Tending.{links_to-le, promoted_counts, promoted_links, promoted_state}
+use Rattle.rcu_graph.proofs.Trims.{kept_let_go, left_let_go, none_let_go, owed_is_counted}
+use Rattle.rcu_graph.proofs.Trims.{owed_is_inside, unlinked}
+use Rattle.rcu_graph.proofs.Tending.{promoted_up, promoted_whole, promoted_words, starts_trimming}
+use Rattle.rcu_graph.proofs.Tending.{still_live, stored_whole, tended}
 
 -- nothing is done, one step, and a step after others
-pub no_step : (s : Watching Known) → IsKeeping s.view.client → s ≡ after_step s (nodes_in s.view.client)
+pub no_step : (s : Watching Known) → IsKeeping s.view.client
+    → s ≡ after_step s (nodes_in s.view.client)
 no_step s keeps = ap (λ (k : Known). after_word_step s k) (known_is s.view.client keeps)
 
-pub nodes_are : (a c : Watching Known) (nodes : List Node) → c ≡ after_step a nodes → nodes_in c.view.client ≡ nodes
+pub nodes_are : (a c : Watching Known) (nodes : List Node) → c ≡ after_step a nodes
+    → nodes_in c.view.client ≡ nodes
 nodes_are a c nodes e = ap (λ (w : Watching Known). nodes_in w.view.client) e
 
-pub one_step : (a c : Watching Known) (nodes : List Node) → c ≡ after_step a nodes → c ≡ after_step a (nodes_in c.view.client)
+pub one_step : (a c : Watching Known) (nodes : List Node) → c ≡ after_step a nodes
+    → c ≡ after_step a (nodes_in c.view.client)
 one_step a c nodes e = e ∙ ap (λ (l : List Node). after_step a l) (sym (nodes_are a c nodes e))
 
-pub step_on : (a b c : Watching Known) → b ≡ after_step a (nodes_in b.view.client) → c ≡ after_step b (nodes_in c.view.client)
+pub step_on : (a b c : Watching Known)
+    → b ≡ after_step a (nodes_in b.view.client) → c ≡ after_step b (nodes_in c.view.client)
     → c ≡ after_step a (nodes_in c.view.client)
 step_on a b c e f = f ∙ ap (λ (w : Watching Known). after_step w (nodes_in c.view.client)) e
 
 -- where none is counted, no live node leads there
-pub none_lead : (links : ℕ) (nodes : List Node) (i : ℕ) → links_to nodes i ≡ 0 → IsUnlinked links nodes i
+pub none_lead : (links : ℕ) (nodes : List Node) (i : ℕ) → links_to nodes i ≡ 0
+    → IsUnlinked links nodes i
 none_lead links nodes i none = λ j l v is live low leads.
     let e : node_at nodes j ≡ v = at_here nodes j v is in
-    let a = leads_counts nodes j l i (ap (λ (w : Node). w.state) e ∙ live) (ap (λ (w : Node). slice_index w.links l) e ∙ leads) in
+    let a = leads_counts nodes j l i (ap (λ (w : Node). w.state) e ∙ live)
+    (ap (λ (w : Node). slice_index w.links l) e ∙ leads) in
     omega (arith, a, none)
 
-module _ (count roots links : ℕ) (stored nodes : List Node) (counts leaving : List ℕ) (from to : ℕ) where
+module _ (count roots links : ℕ) (stored nodes : List Node) (counts leaving : List ℕ)
+    (from to : ℕ) where
   -- there is room for a node more
-  pub room_left : (words : List ℕ) (i : ℕ) → IsTrimming count roots links stored nodes counts leaving from to words
-      → state_at nodes i ≡ Live → to < length leaving
+  pub room_left : (words : List ℕ) (i : ℕ)
+      → IsTrimming count roots links stored nodes counts leaving from to words
+      → state_at nodes i ≡ Live
+      → to < length leaving
   room_left words i t live =
-      let a = t.enough in let b = live_in-left nodes i live in let c = t.room in omega (arith, a, b, c)
+      let a = t.enough in
+      let b = live_in-left nodes i live in let c = t.room in omega (arith, a, b, c)
 
-  pub in_room : (words : List ℕ) → IsTrimming count roots links stored nodes counts leaving from to words → to ≤ length leaving
+  pub in_room : (words : List ℕ)
+      → IsTrimming count roots links stored nodes counts leaving from to words → to ≤ length leaving
   in_room words t = let a = t.enough in let c = t.room in omega (arith, a, c)
 
   -- the next link of a node that was left, and no further one
@@ -58,20 +74,25 @@ module _ (count roots links : ℕ) (stored nodes : List Node) (counts leaving : 
     abbrev own : List ℕ
     own = (node_at stored i).links
 
-    pub next_link : (l : ℕ) → l < links → IsTrimming count roots links stored nodes counts leaving from to (drop l own)
-        → IsTrimming count roots links stored nodes counts leaving from to (slice_index (node_at nodes i).links l ∷ drop (l + 1) own)
+    pub next_link : (l : ℕ)
+        → l < links
+        → IsTrimming count roots links stored nodes counts leaving from to (drop l own)
+        → IsTrimming count roots links stored nodes counts leaving from to
+        (slice_index (node_at nodes i).links l ∷ drop (l + 1) own)
     next_link l low t =
-        subst (λ (words : List ℕ). IsTrimming count roots links stored nodes counts leaving from to words)
+        subst
+        (λ (words : List ℕ). IsTrimming count roots links stored nodes counts leaving from to words)
         (drop_more own l 0 (let size = t.sized i inside in omega (arith, low, size))
         ∙ ap (λ (c : List ℕ). slice_index c l ∷ drop (l + 1) own) (sym (t.links_stay i)))
         t
 
-    pub no_link_more : IsTrimming count roots links stored nodes counts leaving from to (drop links own)
+    pub no_link_more : IsTrimming count roots links stored nodes counts leaving from to
+        (drop links own)
         → IsTrimming count roots links stored nodes counts leaving from to []
     no_link_more t =
-        subst (λ (words : List ℕ). IsTrimming count roots links stored nodes counts leaving from to words)
-        (none links own (t.sized i inside))
-        t
+        subst
+        (λ (words : List ℕ). IsTrimming count roots links stored nodes counts leaving from to words)
+        (none links own (t.sized i inside)) t
       where
         none : (n : ℕ) (l : List ℕ) → length l ≡ n → drop n l ≡ []
         none zero [] e = refl
@@ -80,12 +101,16 @@ module _ (count roots links : ℕ) (stored nodes : List Node) (counts leaving : 
         none (suc n) (x ∷ l) e = none n l (omega (arith, e))
 
 -- one link more of a row
-pub times_more : (cells : List ℕ) (l word : ℕ) → l < length cells
-    → times_in (take (l + 1) cells) word ≡ times_in (take l cells) word + one_if (nat_eq (get_or cells l 0) word)
+pub times_more : (cells : List ℕ) (l word : ℕ)
+    → l < length cells
+    → times_in (take (l + 1) cells) word
+    ≡ times_in (take l cells) word + one_if (nat_eq (get_or cells l 0) word)
 times_more cells l word low =
-    let a : times_in (take (l + 1) cells) word ≡ times_in (take l cells ++ (get_or cells l 0 ∷ [])) word =
+    let a : times_in (take (l + 1) cells) word
+    ≡ times_in (take l cells ++ (get_or cells l 0 ∷ [])) word =
     ap (λ (c : List ℕ). times_in c word) (taken cells l low) in
-    let b = sum_by-append (λ (c : ℕ). one_if (nat_eq c word)) (take l cells) (get_or cells l 0 ∷ []) in
+    let b =
+    sum_by-append (λ (c : ℕ). one_if (nat_eq c word)) (take l cells) (get_or cells l 0 ∷ []) in
     let d : times_in (get_or cells l 0 ∷ []) word ≡ one_if (nat_eq (get_or cells l 0) word) + 0 =
     sum_by-cons (λ (c : ℕ). one_if (nat_eq c word)) (get_or cells l 0) [] in
     omega (arith, a, b, d)
@@ -101,7 +126,8 @@ times_more cells l word low =
     taken : (c : List ℕ) (l : ℕ) → l < length c → take (l + 1) c ≡ take l c ++ (get_or c l 0 ∷ [])
     taken c l low = ap (λ (n : ℕ). take n c) (after l) ∙ on c l low
 
-pub times_all : (cells : List ℕ) (n word : ℕ) → length cells ≡ n → times_in (take n cells) word ≡ times_in cells word
+pub times_all : (cells : List ℕ) (n word : ℕ) → length cells ≡ n
+    → times_in (take n cells) word ≡ times_in cells word
 times_all cells n word e = ap (λ (c : List ℕ). times_in c word) (all cells n e)
   where
     all : (c : List ℕ) (n : ℕ) → length c ≡ n → take n c ≡ c
@@ -124,7 +150,8 @@ pub as_many_up : (counts : List ℕ) (word : ℕ) → length (counted_up counts 
 as_many_up counts zero = refl
 as_many_up counts (suc i) = length-set counts i (slice_index counts i + 1)
 
-module _ (fits : List ℕ → Type 0) (joins : ℕ → List ℕ → List ℕ → Type 0) (count roots links : ℕ) where
+module _ (fits : List ℕ → Type 0) (joins : ℕ → List ℕ → List ℕ → Type 0)
+    (count roots links : ℕ) where
   -- a target is inside
   pub target_inside : (nodes : List Node) (l : ℕ) (words : List ℕ) (x : ℕ) → length nodes ≡ count
       → IsTarget (joins l) words nodes x → IsInside count x
@@ -157,27 +184,37 @@ module _ (fits : List ℕ → Type 0) (joins : ℕ → List ℕ → List ℕ →
 
   -- a link of a live node is led elsewhere
   module _ (width : ℕ) (nodes : List Node) (counts leaving : List ℕ) (few : length nodes ≡ count)
-      (sizes : AreSized count links width nodes) (c : IsCounted fits joins count roots links nodes counts leaving) where
+      (sizes : AreSized count links width nodes)
+      (c : IsCounted fits joins count roots links nodes counts leaving) where
     module _ (i l x : ℕ) (live : state_at nodes i ≡ Live) (low : l < links)
         (target : IsTarget (joins l) (node_at nodes i).words nodes x) where
-      there : (j : ℕ) → x ≡ suc j → (state_at nodes j ≡ Live) × joins l (node_at nodes i).words (node_at nodes j).words
-      there j is = led_there fits joins count roots links width nodes l (node_at nodes i).words x j target is
+      there : (j : ℕ) → x ≡ suc j
+          → (state_at nodes j ≡ Live) × joins l (node_at nodes i).words (node_at nodes j).words
+      there j is =
+          led_there fits joins count roots links width nodes l (node_at nodes i).words x j target is
 
-      rising : (k : ℕ) → state_at nodes k ≡ Live → roots ≤ k → (x ≡ suc k) ⊎ (0 < slice_index counts k)
+      rising : (k : ℕ) → state_at nodes k ≡ Live → roots ≤ k
+          → (x ≡ suc k) ⊎ (0 < slice_index counts k)
       rising k on past = inr (counted_live nodes counts leaving few c k on past)
 
-      pub relinked_starts : IsTrimming count roots links (renewed nodes i (linked_to l x)) (renewed nodes i (linked_to l x))
-          (counted_up counts x) leaving 0 0 (slice_index (node_at nodes i).links l ∷ [])
-      relinked_starts = starts_trimming fits joins count roots links width nodes counts leaving i l x few sizes c.many c.room
-          (are_whole fits joins count roots links width nodes c.tended) c.counted rising live low there
+      pub relinked_starts : IsTrimming count roots links (renewed nodes i (linked_to l x))
+          (renewed nodes i (linked_to l x)) (counted_up counts x) leaving 0 0
+          (slice_index (node_at nodes i).links l ∷ [])
+      relinked_starts = starts_trimming fits joins count roots links width nodes counts leaving i l
+          x few sizes c.many c.room (are_whole fits joins count roots links width nodes c.tended)
+          c.counted rising live low there
 
-      pub relinked_whole : AreWhole fits joins count roots links width (renewed nodes i (linked_to l x))
-      relinked_whole = stored_whole fits joins count roots links width nodes counts leaving i l x few sizes c.many c.room
-          (are_whole fits joins count roots links width nodes c.tended) c.counted rising live low there
+      pub relinked_whole : AreWhole fits joins count roots links width
+          (renewed nodes i (linked_to l x))
+      relinked_whole = stored_whole fits joins count roots links width nodes counts leaving i l x
+          few sizes c.many c.room (are_whole fits joins count roots links width nodes c.tended)
+          c.counted rising live low there
 
     -- one link more is counted
     pub count_fits : (k : ℕ) → k < count → slice_index counts k ≤ links * count
-    count_fits k low = let a = links_to-le links width count nodes k few sizes in let b = c.counted k low in omega (arith, a, b)
+    count_fits k low =
+        let a = links_to-le links width count nodes k few sizes in
+        let b = c.counted k low in omega (arith, a, b)
 
     -- a live node is linked to a free one, whose links are counted
     module _ (i l j : ℕ) (inside : j < count) (ready : IsReady fits joins links nodes j) where
@@ -188,10 +225,12 @@ module _ (fits : List ℕ → Type 0) (joins : ℕ → List ℕ → List ℕ →
       few_promoted = length-set nodes j (in_state Live (node_at nodes j)) ∙ few
 
       same_links : (k : ℕ) → (node_at promoted k).links ≡ (node_at nodes k).links
-      same_links k = promoted_links fits joins count roots links width nodes counts j few c.tended c.counted inside ready k
+      same_links k = promoted_links fits joins count roots links width nodes counts j few c.tended
+          c.counted inside ready k
 
       same_words : (k : ℕ) → (node_at promoted k).words ≡ (node_at nodes k).words
-      same_words k = promoted_words fits joins count roots links width nodes counts j few c.tended c.counted inside ready k
+      same_words k = promoted_words fits joins count roots links width nodes counts j few c.tended
+          c.counted inside ready k
 
       sizes_promoted : AreSized count links width promoted
       sizes_promoted = λ k low. (
@@ -200,12 +239,16 @@ module _ (fits : List ℕ → Type 0) (joins : ℕ → List ℕ → List ℕ →
       )
 
       whole_promoted : AreWhole fits joins count roots links width promoted
-      whole_promoted = promoted_whole fits joins count roots links width nodes counts j few c.tended c.counted inside ready
+      whole_promoted = promoted_whole fits joins count roots links width nodes counts j few c.tended
+          c.counted inside ready
 
-      counts_promoted : (k : ℕ) → links_to promoted k ≡ links_to nodes k + times_in (node_at nodes j).links (suc k)
-      counts_promoted k = promoted_counts fits joins count roots links width nodes counts j few c.tended c.counted inside ready k
+      counts_promoted : (k : ℕ)
+          → links_to promoted k ≡ links_to nodes k + times_in (node_at nodes j).links (suc k)
+      counts_promoted k = promoted_counts fits joins count roots links width nodes counts j few
+          c.tended c.counted inside ready k
 
-      pub counts_fit : (k : ℕ) → k < count → slice_index counts k + times_in (node_at nodes j).links (suc k) ≤ links * count
+      pub counts_fit : (k : ℕ) → k < count
+          → slice_index counts k + times_in (node_at nodes j).links (suc k) ≤ links * count
       counts_fit k low =
           let a = links_to-le links width count promoted k few_promoted sizes_promoted in
           let b = counts_promoted k in
@@ -213,81 +256,118 @@ module _ (fits : List ℕ → Type 0) (joins : ℕ → List ℕ → List ℕ →
           omega (arith, a, b, d)
 
       pub ready_inside : All (IsInside count) (node_at nodes j).links
-      ready_inside = All-from_get_or (IsInside count) (node_at nodes j).links 0 (λ m small k is.
+      ready_inside = All-from_get_or (IsInside count) (node_at nodes j).links 0
+          (λ m small k is.
           let size = (sizes j inside).0 in
-          target_inside nodes m (node_at nodes j).words (slice_index (node_at nodes j).links m) few (ready.led m (omega (arith, small, size))) k is)
+          target_inside nodes m (node_at nodes j).words (slice_index (node_at nodes j).links m) few
+          (ready.led m (omega (arith, small, size))) k is)
 
       module _ (new : List ℕ) (many : length new ≡ count)
-          (are : (k : ℕ) → k < count → slice_index new k ≡ slice_index counts k + times_in (node_at nodes j).links (suc k))
+          (are : (k : ℕ) → k < count → slice_index new k
+          ≡ slice_index counts k + times_in (node_at nodes j).links (suc k))
           (live : state_at nodes i ≡ Live) (low : l < links)
           (joined : joins l (node_at nodes i).words (node_at nodes j).words) where
         counted_promoted : (k : ℕ) → k < count → slice_index new k ≡ links_to promoted k
         counted_promoted k small =
-            let a = are k small in let b = counts_promoted k in let d = c.counted k small in omega (arith, a, b, d)
+            let a = are k small in
+            let b = counts_promoted k in let d = c.counted k small in omega (arith, a, b, d)
 
         pub live_promoted : state_at promoted i ≡ Live
-        live_promoted = still_live fits joins count roots links width nodes counts j few c.tended c.counted inside ready i live
+        live_promoted = still_live fits joins count roots links width nodes counts j few c.tended
+            c.counted inside ready i live
 
-        there_promoted : (k : ℕ) → suc j ≡ suc k
-            → (state_at promoted k ≡ Live) × joins l (node_at promoted i).words (node_at promoted k).words
+        there_promoted : (k : ℕ)
+            → suc j ≡ suc k
+            → (state_at promoted k ≡ Live)
+            × joins l (node_at promoted i).words (node_at promoted k).words
         there_promoted k is =
-            subst (λ (n : ℕ). (state_at promoted n ≡ Live) × joins l (node_at promoted i).words (node_at promoted n).words)
+            subst (λ (n : ℕ).
+            (state_at promoted n ≡ Live)
+            × joins l (node_at promoted i).words (node_at promoted n).words)
             (same_number j k is) (
-              promoted_state fits joins count roots links width nodes counts j few c.tended c.counted inside ready,
+              promoted_state fits joins count roots links width nodes counts j few c.tended
+                  c.counted inside ready,
               subst (λ (ws : List ℕ). joins l ws (node_at promoted j).words) (sym (same_words i))
-                  (subst (λ (ws : List ℕ). joins l (node_at nodes i).words ws) (sym (same_words j)) joined),
+                  (subst (λ (ws : List ℕ). joins l (node_at nodes i).words ws) (sym (same_words j))
+                  joined),
             )
           where
             same_number : (a b : ℕ) → suc a ≡ suc b → a ≡ b
             same_number a b e = omega (arith, e)
 
-        rising_promoted : (k : ℕ) → state_at promoted k ≡ Live → roots ≤ k → (suc j ≡ suc k) ⊎ (0 < slice_index new k)
-        rising_promoted = promoted_up fits joins count roots links width nodes counts j few c.tended c.counted inside ready new counted_promoted
+        rising_promoted : (k : ℕ) → state_at promoted k ≡ Live → roots ≤ k
+            → (suc j ≡ suc k) ⊎ (0 < slice_index new k)
+        rising_promoted = promoted_up fits joins count roots links width nodes counts j few c.tended
+            c.counted inside ready new counted_promoted
 
-        pub published_starts : IsTrimming count roots links (renewed promoted i (linked_to l (suc j)))
-            (renewed promoted i (linked_to l (suc j))) (counted_up new (suc j)) leaving 0 0 (slice_index (node_at nodes i).links l ∷ [])
+        pub published_starts : IsTrimming count roots links
+            (renewed promoted i (linked_to l (suc j))) (renewed promoted i (linked_to l (suc j)))
+            (counted_up new (suc j)) leaving 0 0 (slice_index (node_at nodes i).links l ∷ [])
         published_starts =
-            subst (λ (cells : List ℕ). IsTrimming count roots links (renewed promoted i (linked_to l (suc j)))
-            (renewed promoted i (linked_to l (suc j))) (counted_up new (suc j)) leaving 0 0 (slice_index cells l ∷ []))
+            subst (λ (cells : List ℕ). IsTrimming count roots links
+            (renewed promoted i (linked_to l (suc j))) (renewed promoted i (linked_to l (suc j)))
+            (counted_up new (suc j)) leaving 0 0 (slice_index cells l ∷ []))
             (same_links i)
-            (starts_trimming fits joins count roots links width promoted new leaving i l (suc j) few_promoted sizes_promoted many c.room
-            whole_promoted counted_promoted rising_promoted live_promoted low there_promoted)
+            (starts_trimming fits joins count roots links width promoted new leaving i l (suc j)
+            few_promoted sizes_promoted many c.room whole_promoted counted_promoted rising_promoted
+            live_promoted low there_promoted)
 
-        pub published_whole : AreWhole fits joins count roots links width (renewed promoted i (linked_to l (suc j)))
-        published_whole = stored_whole fits joins count roots links width promoted new leaving i l (suc j) few_promoted sizes_promoted many c.room
-            whole_promoted counted_promoted rising_promoted live_promoted low there_promoted
+        pub published_whole : AreWhole fits joins count roots links width
+            (renewed promoted i (linked_to l (suc j)))
+        published_whole = stored_whole fits joins count roots links width promoted new leaving i l
+            (suc j) few_promoted sizes_promoted many c.room whole_promoted counted_promoted
+            rising_promoted live_promoted low there_promoted
 
         pub new_fits : (k : ℕ) → k < count → slice_index new k ≤ links * count
         new_fits k small = let a = are k small in let b = counts_fit k small in omega (arith, a, b)
 
 -- the word of such a link fits
-pub word_fits : (to : Option ℕ) (count most : ℕ) → IsInside count (word_to to) → count ≤ most → IfSome to (λ node. node < most)
+pub word_fits : (to : Option ℕ) (count most : ℕ) → IsInside count (word_to to) → count ≤ most
+    → IfSome to (λ node. node < most)
 word_fits None count most inside fit = tt
 word_fits (Some node) count most inside fit = let low = inside node refl in omega (arith, low, fit)
 
 -- of equal nodes, counts and words
-pub same_trimming : (count roots links : ℕ) (stored stored' nodes nodes' : List Node) (counts counts' leaving leaving' : List ℕ) (from to : ℕ)
-    (words words' : List ℕ) → stored ≡ stored' → nodes ≡ nodes' → counts ≡ counts' → leaving ≡ leaving' → words ≡ words'
+pub same_trimming : (count roots links : ℕ) (stored stored' nodes nodes' : List Node)
+    (counts counts' leaving leaving' : List ℕ) (from to : ℕ) (words words' : List ℕ)
+    → stored ≡ stored'
+    → nodes ≡ nodes'
+    → counts ≡ counts'
+    → leaving ≡ leaving'
+    → words ≡ words'
     → IsTrimming count roots links stored' nodes' counts' leaving' from to words'
     → IsTrimming count roots links stored nodes counts leaving from to words
-same_trimming count roots links stored stored' nodes nodes' counts counts' leaving leaving' from to words words' a b d e f t =
-    subst (λ (l : List Node). IsTrimming count roots links l nodes counts leaving from to words) (sym a)
-    (subst (λ (l : List Node). IsTrimming count roots links stored' l counts leaving from to words) (sym b)
-    (subst (λ (l : List ℕ). IsTrimming count roots links stored' nodes' l leaving from to words) (sym d)
-    (subst (λ (l : List ℕ). IsTrimming count roots links stored' nodes' counts' l from to words) (sym e)
-    (subst (λ (l : List ℕ). IsTrimming count roots links stored' nodes' counts' leaving' from to l) (sym f) t))))
+same_trimming count roots links stored stored' nodes nodes' counts counts' leaving leaving' from
+    to words words' a b d e f t =
+    subst (λ (l : List Node). IsTrimming count roots links l nodes counts leaving from to words)
+    (sym a)
+    (subst (λ (l : List Node). IsTrimming count roots links stored' l counts leaving from to words)
+    (sym b)
+    (subst (λ (l : List ℕ). IsTrimming count roots links stored' nodes' l leaving from to words)
+    (sym d)
+    (subst (λ (l : List ℕ). IsTrimming count roots links stored' nodes' counts' l from to words)
+    (sym e)
+    (subst (λ (l : List ℕ). IsTrimming count roots links stored' nodes' counts' leaving' from to l)
+    (sym f) t))))
 
 -- a link is let go of: nowhere, to a node that stays, or to one that is left
-module _ (count roots links : ℕ) (stored nodes : List Node) (counts leaving : List ℕ) (from to : ℕ) (words : List ℕ) where
-  pub let_go_nowhere : (word : ℕ) → word ≡ 0 → IsTrimming count roots links stored nodes counts leaving from to (word ∷ words)
+module _ (count roots links : ℕ) (stored nodes : List Node) (counts leaving : List ℕ) (from to : ℕ)
+    (words : List ℕ) where
+  pub let_go_nowhere : (word : ℕ)
+      → word ≡ 0 → IsTrimming count roots links stored nodes counts leaving from to (word ∷ words)
       → IsTrimming count roots links stored nodes counts leaving from to words
   let_go_nowhere word e t =
       none_let_go count roots links stored nodes counts leaving from to words
-      (subst (λ (w : ℕ). IsTrimming count roots links stored nodes counts leaving from to (w ∷ words)) e t)
+      (subst
+      (λ (w : ℕ). IsTrimming count roots links stored nodes counts leaving from to (w ∷ words)) e t)
 
-  module _ (i word : ℕ) (e : suc i ≡ word) (t : IsTrimming count roots links stored nodes counts leaving from to (word ∷ words)) where
+  module _ (i word : ℕ) (e : suc i ≡ word)
+      (t : IsTrimming count roots links stored nodes counts leaving from to (word ∷ words)) where
     turned : IsTrimming count roots links stored nodes counts leaving from to (suc i ∷ words)
-    turned = subst (λ (w : ℕ). IsTrimming count roots links stored nodes counts leaving from to (w ∷ words)) (sym e) t
+    turned =
+        subst
+        (λ (w : ℕ). IsTrimming count roots links stored nodes counts leaving from to (w ∷ words))
+        (sym e) t
 
     pub led_inside : i < count
     led_inside = owed_is_inside count roots links stored nodes counts leaving from to words i turned
@@ -296,16 +376,24 @@ module _ (count roots links : ℕ) (stored nodes : List Node) (counts leaving : 
     led_within = let a = led_inside in let b = t.counts_many in omega (arith, a, b)
 
     pub led_counted : 0 < slice_index counts i
-    led_counted = let a = owed_is_counted count roots links stored nodes counts leaving from to words i turned in omega (arith, a)
+    led_counted =
+        let a =
+        owed_is_counted count roots links stored nodes counts leaving from to words i turned in
+        omega (arith, a)
 
     module _ (x : ℕ) (less : x + 1 ≡ slice_index counts i) where
       pub let_go_kept : (state_at nodes i ≡ Live → roots ≤ i → 0 < x)
           → IsTrimming count roots links stored nodes (set counts i x) leaving from to words
-      let_go_kept stays = kept_let_go count roots links stored nodes counts leaving from to words i x turned less stays
+      let_go_kept stays = kept_let_go count roots links stored nodes counts leaving from to words i
+          x turned less stays
 
       module _ (live : state_at nodes i ≡ Live) (past : roots ≤ i) (last : x ≡ 0) where
         pub let_go_unlinked : IsUnlinked links nodes i
-        let_go_unlinked = none_lead links nodes i (unlinked count roots links stored nodes counts leaving from to words i x turned less live past last)
+        let_go_unlinked = none_lead links nodes i
+            (unlinked count roots links stored nodes counts leaving from to words i x turned less
+            live past last)
 
-        pub let_go_left : IsTrimming count roots links stored (renewed nodes i (in_state Left)) (set counts i x) (set leaving to i) from (to + 1) words
-        let_go_left = left_let_go count roots links stored nodes counts leaving from to words i x turned less live past last
+        pub let_go_left : IsTrimming count roots links stored (renewed nodes i (in_state Left))
+            (set counts i x) (set leaving to i) from (to + 1) words
+        let_go_left = left_let_go count roots links stored nodes counts leaving from to words i x
+            turned less live past last

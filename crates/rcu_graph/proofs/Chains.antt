@@ -1,5 +1,6 @@
 -- Chains at one moment, and what a step of the keeper leaves of them.
-use Rattle.std.proofs.Common.{◌≡◌, ◌≢◌, ◌⊎◌, ℕ, suc, ◌<◌, ◌≤◌, List, Bool, length, refl, sym, ap, ◌∙◌, subst, inl, inr, arith, ⊎_elim}
+use Rattle.std.proofs.Common.{◌≡◌, ◌≢◌, ◌⊎◌, ℕ, suc, ◌<◌, ◌≤◌, List, Bool, length, refl, sym, ap}
+use Rattle.std.proofs.Common.{◌∙◌, subst, inl, inr, arith, ⊎_elim}
 use Rattle.std.specs.Prelude.{IsTrue, slice_index}
 use Rattle.std.proofs.lemmas.List.{get_or-set_other, get_or-set_same, get_or_past}
 use mathlib.Core.Option.{some, some-injective}
@@ -8,9 +9,10 @@ use native.Mathlib.Decide.{dec_lt, ℕ_discrete}
 use lib.ListN.{get_elem?}
 use Rattle.atomic_table.proofs.Lists.{at_map}
 use Rattle.rcu_live.proofs.ClientRows.{at_inside, inside}
-use Rattle.rcu_graph.specs.Absence.{IsChained, IsKeeperStep, IsOnIfOurs, Reaches, arrived, key_at, linked, looked, next_of}
-use Rattle.rcu_graph.specs.Absence.{onwards, published, took_off, wrote}
-use Rattle.rcu_graph.specs.Nodes.{MayRead, aged, aged_node, in_state, linked_to, no_node, node_at, renewed, state_at, worded}
+use Rattle.rcu_graph.specs.Absence.{IsChained, IsKeeperStep, IsOnIfOurs, Reaches, arrived, key_at}
+use Rattle.rcu_graph.specs.Absence.{linked, looked, next_of, onwards, published, took_off, wrote}
+use Rattle.rcu_graph.specs.Nodes.{MayRead, aged, aged_node, in_state, linked_to, no_node, node_at}
+use Rattle.rcu_graph.specs.Nodes.{renewed, state_at, worded}
 use Rattle.rcu_graph.specs.declared.known.Node.{Node}
 use Rattle.rcu_graph.specs.declared.node_state.NodeState.{NodeState}
 use Rattle.rcu_graph.specs.declared.node_state.NodeState.TheVariants.{Free, Left, Live}
@@ -26,7 +28,8 @@ not_both : (st : NodeState) → st ≡ Live → st ≡ Free → ⊥
 not_both st a b = cc
 
 -- one node changes: another is as it was
-other_node : (nodes : List Node) (i j : ℕ) (f : Node → Node) → j ≢ i → node_at (renewed nodes i f) j ≡ node_at nodes j
+other_node : (nodes : List Node) (i j : ℕ) (f : Node → Node) → j ≢ i
+    → node_at (renewed nodes i f) j ≡ node_at nodes j
 other_node nodes i j f ne = get_or-set_other nodes i j (f (node_at nodes i)) no_node ne
 
 -- and that one is what was made of it
@@ -35,7 +38,8 @@ this_node : (nodes : List Node) (i : ℕ) (f : Node → Node) → i < length nod
 this_node nodes i f low = get_or-set_same nodes i (f (node_at nodes i)) no_node low
 
 -- a node that a section may be on is one of the nodes
-is_inside : (opened : ℕ) (nodes : List Node) (j : ℕ) → MayRead opened (state_at nodes j) → j < length nodes
+is_inside : (opened : ℕ) (nodes : List Node) (j : ℕ) → MayRead opened (state_at nodes j)
+    → j < length nodes
 is_inside opened nodes j may = dite (dec_lt j (length nodes))
     (λ (low : j < length nodes). low)
     (λ (high : j < length nodes → ⊥). absurd (subst (λ (v : Node). MayRead opened v.state)
@@ -46,17 +50,24 @@ aged_at : (n m : ℕ) (nodes : List Node) (j : ℕ) → j < length nodes
 aged_at n m nodes j low =
     let there : get_elem? (aged n m nodes) j ≡ some (aged_node n m (node_at nodes j)) =
     at_map (aged_node n m) nodes j (node_at nodes j) (at_inside nodes j no_node low) in
-    some-injective _ _ (sym (at_inside (aged n m nodes) j no_node (inside (aged n m nodes) j (aged_node n m (node_at nodes j)) there)) ∙ there)
+    some-injective _ _
+    (sym (at_inside (aged n m nodes) j no_node
+    (inside (aged n m nodes) j (aged_node n m (node_at nodes j)) there))
+    ∙ there)
 
 module _ (nodes : List Node) where
   -- a chain of live nodes goes on to live nodes with greater keys
-  pub live_to : (ours : List ℕ → Bool) (root : ℕ) → IsChained ours root nodes → (to from : ℕ) → Reaches nodes to from
+  pub live_to : (ours : List ℕ → Bool) (root : ℕ)
+      → IsChained ours root nodes
+      → (to from : ℕ) → Reaches nodes to from
       → state_at nodes from ≡ Live
-      → (state_at nodes to ≡ Live) × (key_at nodes from ≤ key_at nodes to)
+      → (state_at nodes to ≡ Live)
+      × (key_at nodes from ≤ key_at nodes to)
       × (IsTrue (ours (node_at nodes from).words) → IsTrue (ours (node_at nodes to).words))
   live_to ours root c to from (arrived _ e) live = (
     subst (λ (n : ℕ). state_at nodes n ≡ Live) e live,
-    let same : key_at nodes from ≡ key_at nodes to = ap (λ (n : ℕ). key_at nodes n) e in omega (arith, same),
+    let same : key_at nodes from ≡ key_at nodes to = ap (λ (n : ℕ). key_at nodes n) e in
+        omega (arith, same),
     λ o. subst (λ (n : ℕ). IsTrue (ours (node_at nodes n).words)) e o,
   )
   live_to ours root c to from (onwards _ next e r) live =
@@ -67,10 +78,18 @@ module _ (nodes : List Node) where
         λ o. rest.2 (c.stays from next live e o),
       )
 
-  -- of two nodes on a chain, that with the lesser key leads on, to a node whose key is at most the other's
-  pub leads_on : (ours : List ℕ → Bool) (root : ℕ) → IsChained ours root nodes → (j x from : ℕ)
-      → state_at nodes from ≡ Live → Reaches nodes j from → Reaches nodes x from → key_at nodes j < key_at nodes x
-      → (n : ℕ) × (next_of nodes j ≡ suc n) × Reaches nodes n from × (key_at nodes n ≤ key_at nodes x)
+  -- of two nodes on a chain, that with the lesser key leads on, to a node whose key is at most the
+  -- other's
+  pub leads_on : (ours : List ℕ → Bool) (root : ℕ)
+      → IsChained ours root nodes
+      → (j x from : ℕ) → state_at nodes from ≡ Live
+      → Reaches nodes j from
+      → Reaches nodes x from
+      → key_at nodes j < key_at nodes x
+      → (n : ℕ)
+      × (next_of nodes j ≡ suc n)
+      × Reaches nodes n from
+      × (key_at nodes n ≤ key_at nodes x)
   leads_on ours root c j x from live (arrived _ e) (arrived _ f) less =
       let same : key_at nodes j ≡ key_at nodes x = ap (λ (n : ℕ). key_at nodes n) (sym e ∙ f) in
       absurd (omega (arith, less, same))
@@ -87,34 +106,47 @@ module _ (nodes : List Node) where
       absurd (omega (arith, less, up, rest, same))
   leads_on ours root c j x from live (onwards _ n is r) (onwards _ m at q) less =
       let one : m ≡ n = the_same m n (sym at ∙ is) in
-      let rest = leads_on ours root c j x n (c.live from n live is) r (subst (Reaches nodes x) one q) less in
+      let rest =
+      leads_on ours root c j x n (c.live from n live is) r (subst (Reaches nodes x) one q) less in
       (rest.0, rest.1, onwards from n is rest.2, rest.3)
 
   -- a chain to a node stays, where no other live node changes its link
-  pub still_reached : (ours : List ℕ → Bool) (root : ℕ) → IsChained ours root nodes → (after : List Node) (i from : ℕ)
+  pub still_reached : (ours : List ℕ → Bool) (root : ℕ)
+      → IsChained ours root nodes
+      → (after : List Node) (i from : ℕ)
       → ((y : ℕ) → state_at nodes y ≡ Live → y ≢ i → next_of after y ≡ next_of nodes y)
-      → state_at nodes from ≡ Live → Reaches nodes i from → Reaches after i from
+      → state_at nodes from ≡ Live
+      → Reaches nodes i from
+      → Reaches after i from
   still_reached ours root c after i from same live (arrived _ e) = arrived from e
   still_reached ours root c after i from same live (onwards _ n is r) =
       let on = c.live from n live is in
       let up = c.ascends from n live is in
       let rest = (live_to ours root c i n r on).1 in
-      let apart : from ≢ i = λ e. let k : key_at nodes from ≡ key_at nodes i = ap (λ (m : ℕ). key_at nodes m) e in omega (arith, up, rest, k) in
+      let apart : from ≢ i = λ e.
+      let k : key_at nodes from ≡ key_at nodes i = ap (λ (m : ℕ). key_at nodes m) e in
+      omega (arith, up, rest, k) in
       onwards from n (same from live apart ∙ is) (still_reached ours root c after i n same on r)
 
 module _ (opened : ℕ) where
   -- what a section may be on stays so where a node changes, with its words
-  stays_where : (nodes : List Node) (i : ℕ) (f : Node → Node) (j : ℕ) → MayRead opened (state_at nodes j)
-      → (MayRead opened (state_at nodes i) → MayRead opened (f (node_at nodes i)).state × ((f (node_at nodes i)).words ≡ (node_at nodes i).words))
-      → MayRead opened (state_at (renewed nodes i f) j) × ((node_at (renewed nodes i f) j).words ≡ (node_at nodes j).words)
+  stays_where : (nodes : List Node) (i : ℕ) (f : Node → Node) (j : ℕ)
+      → MayRead opened (state_at nodes j)
+      → (MayRead opened (state_at nodes i) → MayRead opened (f (node_at nodes i)).state
+      × ((f (node_at nodes i)).words ≡ (node_at nodes i).words))
+      → MayRead opened (state_at (renewed nodes i f) j)
+      × ((node_at (renewed nodes i f) j).words ≡ (node_at nodes j).words)
   stays_where nodes i f j may made = dite (ℕ_discrete j i)
       (λ (is : j ≡ i).
-      let here : MayRead opened (state_at nodes i) = subst (λ (n : ℕ). MayRead opened (state_at nodes n)) is may in
+      let here : MayRead opened (state_at nodes i) =
+      subst (λ (n : ℕ). MayRead opened (state_at nodes n)) is may in
       let made_of : node_at (renewed nodes i f) j ≡ f (node_at nodes i) =
-      ap (λ (n : ℕ). node_at (renewed nodes i f) n) is ∙ this_node nodes i f (is_inside opened nodes i here) in
+      ap (λ (n : ℕ). node_at (renewed nodes i f) n) is
+      ∙ this_node nodes i f (is_inside opened nodes i here) in
       let t = made here in (
         subst (λ (v : Node). MayRead opened v.state) (sym made_of) t.0,
-        ap (λ (v : Node). v.words) made_of ∙ (t.1 ∙ ap (λ (n : ℕ). (node_at nodes n).words) (sym is)),
+        ap (λ (v : Node). v.words) made_of
+            ∙ (t.1 ∙ ap (λ (n : ℕ). (node_at nodes n).words) (sym is)),
       ))
       (λ (ne : j ≢ i). (
         subst (λ (v : Node). MayRead opened v.state) (sym (other_node nodes i j f ne)) may,
@@ -122,15 +154,19 @@ module _ (opened : ℕ) where
       ))
 
   abbrev StaysSo : List Node → ℕ → List Node → Type 0
-  StaysSo before j nodes = MayRead opened (state_at nodes j) × ((node_at nodes j).words ≡ (node_at before j).words)
+  StaysSo before j nodes =
+      MayRead opened (state_at nodes j) × ((node_at nodes j).words ≡ (node_at before j).words)
 
   -- a step leaves what the section may be on as it is
   pub stays_readable : (ours : List ℕ → Bool) (root : ℕ) (before after : List Node) (j : ℕ)
       → IsKeeperStep ours opened root before after → MayRead opened (state_at before j)
       → MayRead opened (state_at after j) × ((node_at after j).words ≡ (node_at before j).words)
-  stays_readable ours root before after j (wrote i k x free is) may = subst (StaysSo before j) (sym is)
-      (stays_where before i (worded k x) j may (λ m. absurd (free_unread opened (state_at before i) free m)))
-  stays_readable ours root before after j (linked i l x on is) may = subst (StaysSo before j) (sym is)
+  stays_readable ours root before after j (wrote i k x free is) may =
+      subst (StaysSo before j) (sym is)
+      (stays_where before i (worded k x) j may
+      (λ m. absurd (free_unread opened (state_at before i) free m)))
+  stays_readable ours root before after j (linked i l x on is) may =
+      subst (StaysSo before j) (sym is)
       (stays_where before i (linked_to l x) j may (λ m. (m, refl)))
   stays_readable ours root before after j (published i l k live free on is) may =
       let mid : List Node = renewed before k (in_state Live) in
@@ -142,58 +178,75 @@ module _ (opened : ℕ) where
   stays_readable ours root before after j (looked n m up opens is) may =
       let here = aged_at n m before j (is_inside opened before j may) in
       subst (StaysSo before j) (sym is) (
-        subst (λ (v : Node). MayRead opened v.state) (sym here) (may_aged opened n m (state_at before j) up opens may),
+        subst (λ (v : Node). MayRead opened v.state) (sym here)
+            (may_aged opened n m (state_at before j) up opens may),
         ap (λ (v : Node). v.words) here,
       )
 
-next_else : (i y : ℕ) (f : Node → Node) (nodes : List Node) → y ≢ i → next_of (renewed nodes i f) y ≡ next_of nodes y
+next_else : (i y : ℕ) (f : Node → Node) (nodes : List Node) → y ≢ i
+    → next_of (renewed nodes i f) y ≡ next_of nodes y
 next_else i y f nodes ne = ap (λ (v : Node). slice_index v.links 0) (other_node nodes i y f ne)
 
 next_kept : (i y : ℕ) (st : NodeState) (nodes : List Node) → y < length nodes
     → next_of (renewed nodes i (in_state st)) y ≡ next_of nodes y
 next_kept i y st nodes low = dite (ℕ_discrete y i)
-    (λ (is : y ≡ i). ap (λ (n : ℕ). next_of (renewed nodes i (in_state st)) n) is
-    ∙ (ap (λ (v : Node). slice_index v.links 0) (this_node nodes i (in_state st) (subst (λ (n : ℕ). n < length nodes) is low))
+    (λ (is : y ≡ i).
+    ap (λ (n : ℕ). next_of (renewed nodes i (in_state st)) n) is
+    ∙ (ap (λ (v : Node). slice_index v.links 0)
+    (this_node nodes i (in_state st) (subst (λ (n : ℕ). n < length nodes) is low))
     ∙ ap (λ (n : ℕ). next_of nodes n) (sym is)))
     (λ (ne : y ≢ i). next_else i y (in_state st) nodes ne)
 
-module _ (opened : ℕ) (ours : List ℕ → Bool) (root : ℕ) (before : List Node) (j : ℕ) (c : IsChained ours root before)
-    (may : MayRead opened (state_at before j)) (own : IsTrue (ours (node_at before j).words)) where
+module _ (opened : ℕ) (ours : List ℕ → Bool) (root : ℕ) (before : List Node) (j : ℕ)
+    (c : IsChained ours root before) (may : MayRead opened (state_at before j))
+    (own : IsTrue (ours (node_at before j).words)) where
   abbrev IsOnStill : List Node → Type 0
   IsOnStill nodes = (next_of nodes j ≡ next_of before j) ⊎ Reaches nodes j root
 
   not_free : (i : ℕ) → state_at before i ≡ Free → j ≢ i
-  not_free i free e = free_unread opened (state_at before j) (ap (λ (n : ℕ). state_at before n) e ∙ free) may
+  not_free i free e =
+      free_unread opened (state_at before j) (ap (λ (n : ℕ). state_at before n) e ∙ free) may
 
   -- where it is the node whose link is stored
-  on_after : (after : List Node) (i : ℕ) → j ≡ i → IsOnIfOurs ours root before i
-      → ((y : ℕ) → state_at before y ≡ Live → y ≢ i → next_of after y ≡ next_of before y) → IsOnStill after
+  on_after : (after : List Node) (i : ℕ)
+      → j ≡ i
+      → IsOnIfOurs ours root before i
+      → ((y : ℕ) → state_at before y ≡ Live → y ≢ i → next_of after y ≡ next_of before y)
+      → IsOnStill after
   on_after after i e still same =
-      let mine : IsTrue (ours (node_at before i).words) = subst (λ (n : ℕ). IsTrue (ours (node_at before n).words)) e own in
+      let mine : IsTrue (ours (node_at before i).words) =
+      subst (λ (n : ℕ). IsTrue (ours (node_at before n).words)) e own in
       inr (subst (λ (n : ℕ). Reaches after n root) (sym e)
       (still_reached before ours root c after i root same c.rooted (still mine)))
 
-  -- a node of the chain, which the section may be on, leads where it led, or it is on the chain after the step
+  -- a node of the chain, which the section may be on, leads where it led, or it is on the chain
+  -- after the step
   pub stays_or_on : (after : List Node) → IsKeeperStep ours opened root before after
       → (next_of after j ≡ next_of before j) ⊎ Reaches after j root
   stays_or_on after (wrote i k x free is) =
       subst IsOnStill (sym is) (inl (next_else i j (worded k x) before (not_free i free)))
   stays_or_on after (linked i l x on is) =
       let now : List Node = renewed before i (linked_to l x) in
-      subst IsOnStill (sym is) (dite (ℕ_discrete j i)
-      (λ (e : j ≡ i). ⊎_elim
-      (λ (free : state_at before i ≡ Free). absurd (not_free i free e))
-      (λ (still : IsOnIfOurs ours root before i). on_after now i e still (λ y live ne. next_else i y (linked_to l x) before ne))
+      subst IsOnStill (sym is)
+      (dite (ℕ_discrete j i)
+      (λ (e : j ≡ i). ⊎_elim (λ (free : state_at before i ≡ Free). absurd (not_free i free e))
+      (λ (still : IsOnIfOurs ours root before i).
+      on_after now i e still (λ y live ne. next_else i y (linked_to l x) before ne))
       on)
       (λ (ne : j ≢ i). inl (next_else i j (linked_to l x) before ne)))
   stays_or_on after (published i l k live free still is) =
       let mid : List Node = renewed before k (in_state Live) in
       let now : List Node = renewed mid i (linked_to l (suc k)) in
-      subst IsOnStill (sym is) (dite (ℕ_discrete j i)
-      (λ (e : j ≡ i). on_after now i e still (λ y on ne. next_else i y (linked_to l (suc k)) mid ne
-      ∙ next_else k y (in_state Live) before (λ f. not_both (state_at before y) on (ap (λ (n : ℕ). state_at before n) f ∙ free))))
-      (λ (ne : j ≢ i). inl (next_else i j (linked_to l (suc k)) mid ne ∙ next_else k j (in_state Live) before (not_free k free))))
+      subst IsOnStill (sym is)
+      (dite (ℕ_discrete j i)
+      (λ (e : j ≡ i). on_after now i e still (λ y on ne.
+      next_else i y (linked_to l (suc k)) mid ne
+      ∙ next_else k y (in_state Live) before
+      (λ f. not_both (state_at before y) on (ap (λ (n : ℕ). state_at before n) f ∙ free))))
+      (λ (ne : j ≢ i). inl (next_else i j (linked_to l (suc k)) mid ne
+      ∙ next_else k j (in_state Live) before (not_free k free))))
   stays_or_on after (took_off i is) =
       subst IsOnStill (sym is) (inl (next_kept i j Left before (is_inside opened before j may)))
   stays_or_on after (looked n m up opens is) = subst IsOnStill (sym is)
-      (inl (ap (λ (v : Node). slice_index v.links 0) (aged_at n m before j (is_inside opened before j may))))
+      (inl (ap (λ (v : Node). slice_index v.links 0)
+      (aged_at n m before j (is_inside opened before j may))))

@@ -1,8 +1,9 @@
 -- A search does not pass a key that is linked from the section's beginning to the search's end.
-use Rattle.std.proofs.Common.{◌≡◌, ℕ, zero, suc, ◌+◌, ◌-◌, ◌<◌, ◌≤◌, List, [], ◌∷◌, Bool, Option, Some, None, refl, sym, ap, ◌∙◌, subst, arith, ⊎_elim}
+use Rattle.std.proofs.Common.{◌≡◌, ℕ, zero, suc, ◌+◌, ◌-◌, ◌<◌, ◌≤◌, List, [], ◌∷◌, Bool, Option}
+use Rattle.std.proofs.Common.{Some, None, refl, sym, ap, ◌∙◌, subst, arith, ⊎_elim}
 use Rattle.std.specs.Prelude.{IsSome, IsTrue, slice_index}
-use Rattle.rcu_graph.specs.Absence.{AreMadeBy, IsHistory, IsLinkedKey, IsTrueOf, Reaches, arrived, key_at}
-use Rattle.rcu_graph.specs.Absence.{next_of, onwards}
+use Rattle.rcu_graph.specs.Absence.{AreMadeBy, IsHistory, IsLinkedKey, IsTrueOf, Reaches, arrived}
+use Rattle.rcu_graph.specs.Absence.{key_at, next_of, onwards}
 use Rattle.rcu_graph.specs.Nodes.{MayRead, node_at, state_at}
 use Rattle.rcu_graph.specs.Search.{Decides, IsPath, IsSearched, key_after}
 use Rattle.rcu_graph.specs.declared.known.Hop.{Hop}
@@ -21,23 +22,37 @@ may_live opened st live = subst (MayRead opened) (sym live) tt
 module _ (ours : List ℕ → Bool) (opened root key last : ℕ) (nodes : ℕ → List Node)
     (history : IsHistory ours opened root last nodes)
     (linked : (t : ℕ) → t ≤ last → IsLinkedKey root key (nodes t)) where
-  -- a node that was on the chain at one moment is one that the section may be on, with its words, at each later one
-  stays : (j s d t : ℕ) → t ≡ s + d → t ≤ last → Reaches (nodes s) j root
-      → MayRead opened (state_at (nodes t) j) × ((node_at (nodes t) j).words ≡ (node_at (nodes s) j).words)
+  -- a node that was on the chain at one moment is one that the section may be on, with its words,
+  -- at each later one
+  stays : (j s d t : ℕ)
+      → t ≡ s + d
+      → t ≤ last
+      → Reaches (nodes s) j root
+      → MayRead opened (state_at (nodes t) j)
+      × ((node_at (nodes t) j).words ≡ (node_at (nodes s) j).words)
   stays j s zero t e up r =
       let now : s ≡ t = omega (arith, e) in
       let c = history.chained s (omega (arith, e, up)) in
-      subst (λ (n : ℕ). MayRead opened (state_at (nodes n) j) × ((node_at (nodes n) j).words ≡ (node_at (nodes s) j).words)) now
-      (may_live opened (state_at (nodes s) j) (live_to (nodes s) ours root c j root r c.rooted).0, refl)
+      subst (λ (n : ℕ).
+      MayRead opened (state_at (nodes n) j)
+      × ((node_at (nodes n) j).words ≡ (node_at (nodes s) j).words))
+      now (
+        may_live opened (state_at (nodes s) j) (live_to (nodes s) ours root c j root r c.rooted).0,
+        refl,
+      )
   stays j s (suc d) t e up r =
       let u : ℕ = s + d in
       let next : suc u ≡ t = omega (arith, e) in
       let was = stays j s d u refl (omega (arith, e, up)) r in
-      let then = stays_readable opened ours root (nodes u) (nodes (suc u)) j (history.steps u (omega (arith, e, up))) was.0 in
-      subst (λ (n : ℕ). MayRead opened (state_at (nodes n) j) × ((node_at (nodes n) j).words ≡ (node_at (nodes s) j).words)) next
-      (then.0, then.1 ∙ was.1)
+      let then = stays_readable opened ours root (nodes u) (nodes (suc u)) j
+      (history.steps u (omega (arith, e, up))) was.0 in
+      subst (λ (n : ℕ).
+      MayRead opened (state_at (nodes n) j)
+      × ((node_at (nodes n) j).words ≡ (node_at (nodes s) j).words))
+      next (then.0, then.1 ∙ was.1)
 
-  -- at this moment the node j leads to one that was on the chain by then, with a key that is at most the one sought
+  -- at this moment the node j leads to one that was on the chain by then, with a key that is at
+  -- most the one sought
   record LeadsOn (t j : ℕ) : Type 0 where
     pub to : ℕ
     pub is : next_of (nodes t) j ≡ suc to
@@ -46,15 +61,26 @@ module _ (ours : List ℕ → Bool) (opened root key last : ℕ) (nodes : ℕ �
     pub reached : Reaches (nodes seen) to root
     pub most : key_at (nodes seen) to ≤ key
 
-  leads_now : (t j : ℕ) → t ≤ last → Reaches (nodes t) j root → key_at (nodes t) j < key → LeadsOn t j
+  leads_now : (t j : ℕ) → t ≤ last → Reaches (nodes t) j root → key_at (nodes t) j < key
+      → LeadsOn t j
   leads_now t j up r low =
       let k = linked t up in
       let c = history.chained t up in
-      let less : key_at (nodes t) j < key_at (nodes t) k.holder = let h = k.has in omega (arith, h, low) in
-      let n = leads_on (nodes t) ours root c j k.holder root c.rooted r (onwards root k.begin k.begins k.reached) less in
-      record { to = n.0; is = n.1; seen = t; by = omega arith; reached = n.2; most = let h = k.has in let m = n.3 in omega (arith, h, m) }
+      let less : key_at (nodes t) j < key_at (nodes t) k.holder =
+      let h = k.has in omega (arith, h, low) in
+      let n = leads_on (nodes t) ours root c j k.holder root c.rooted r
+      (onwards root k.begin k.begins k.reached) less in
+      record {
+        to = n.0;
+        is = n.1;
+        seen = t;
+        by = omega arith;
+        reached = n.2;
+        most = let h = k.has in let m = n.3 in omega (arith, h, m);
+      }
 
-  leads_later : (j s d t : ℕ) → t ≡ s + d → t ≤ last → Reaches (nodes s) j root → key_at (nodes s) j < key → LeadsOn t j
+  leads_later : (j s d t : ℕ)
+      → t ≡ s + d → t ≤ last → Reaches (nodes s) j root → key_at (nodes s) j < key → LeadsOn t j
   leads_later j s zero t e up r low =
       let now : s ≡ t = omega (arith, e) in
       subst (λ (n : ℕ). LeadsOn n j) now (leads_now s j (omega (arith, e, up)) r low)
@@ -66,10 +92,13 @@ module _ (ours : List ℕ → Bool) (opened root key last : ℕ) (nodes : ℕ �
       let was : LeadsOn u j = leads_later j s d u refl below r low in
       let mine = stays j s d u refl below r in
       let start = history.chained s (omega (arith, e, up)) in
-      let own : IsTrue (ours (node_at (nodes s) j).words) = (live_to (nodes s) ours root start j root r start.rooted).2 start.own in
+      let own : IsTrue (ours (node_at (nodes s) j).words) =
+      (live_to (nodes s) ours root start j root r start.rooted).2 start.own in
       let after = stays j s (suc d) (suc u) (omega arith) (omega (arith, under)) r in
-      let same : key_at (nodes (suc u)) j ≡ key_at (nodes s) j = ap (λ (words : List ℕ). slice_index words 0) after.1 in
-      subst (λ (n : ℕ). LeadsOn n j) next (⊎_elim
+      let same : key_at (nodes (suc u)) j ≡ key_at (nodes s) j =
+      ap (λ (words : List ℕ). slice_index words 0) after.1 in
+      subst (λ (n : ℕ). LeadsOn n j) next
+      (⊎_elim
       (λ (kept : next_of (nodes (suc u)) j ≡ next_of (nodes u) j). record {
         to = was.to;
         is = kept ∙ was.is;
@@ -78,9 +107,11 @@ module _ (ours : List ℕ → Bool) (opened root key last : ℕ) (nodes : ℕ �
         reached = was.reached;
         most = was.most;
       })
-      (λ (on : Reaches (nodes (suc u)) j root). leads_now (suc u) j (omega (arith, under)) on (omega (arith, same, low)))
+      (λ (on : Reaches (nodes (suc u)) j root).
+      leads_now (suc u) j (omega (arith, under)) on (omega (arith, same, low)))
       (stays_or_on opened ours root (nodes u) j (history.chained u below) mine.0
-      (subst (λ (words : List ℕ). IsTrue (ours words)) (sym mine.1) own) (nodes (suc u)) (history.steps u under)))
+      (subst (λ (words : List ℕ). IsTrue (ours words)) (sym mine.1) own) (nodes (suc u))
+      (history.steps u under)))
 
   -- by this moment the node j was on the chain, and had a key below the one sought
   record IsPassed (t j : ℕ) : Type 0 where
@@ -94,9 +125,16 @@ module _ (ours : List ℕ → Bool) (opened root key last : ℕ) (nodes : ℕ �
       let c = history.chained 0 (omega arith) in
       let k = linked 0 (omega arith) in
       let up = c.ascends root k.begin c.rooted k.begins in
-      let rest = (live_to (nodes 0) ours root c k.holder k.begin k.reached (c.live root k.begin c.rooted k.begins)).1 in
+      let rest =
+      (live_to (nodes 0) ours root c k.holder k.begin k.reached
+      (c.live root k.begin c.rooted k.begins)).1 in
       let h = k.has in
-      record { seen = 0; by = omega arith; reached = arrived root refl; low = omega (arith, up, rest, h) }
+      record {
+        seen = 0;
+        by = omega arith;
+        reached = arrived root refl;
+        low = omega (arith, up, rest, h);
+      }
 
   -- what a hop from a passed node found
   record IsFoundBy (t : ℕ) (hop : Hop) : Type 0 where
@@ -108,12 +146,14 @@ module _ (ours : List ℕ → Bool) (opened root key last : ℕ) (nodes : ℕ �
     pub same : key_after hop ≡ key_at (nodes seen) to
     pub most : key_at (nodes seen) to ≤ key
 
-  hops_on : (u t : ℕ) (hop : Hop) → u ≤ t → t ≤ last → IsPassed u hop.from → hop.link ≡ 0 → IsTrueOf (nodes t) hop
+  hops_on : (u t : ℕ) (hop : Hop)
+      → u ≤ t → t ≤ last → IsPassed u hop.from → hop.link ≡ 0 → IsTrueOf (nodes t) hop
       → IsFoundBy t hop
   hops_on u t hop up end p along true =
       let b = p.by in
       let n : LeadsOn t hop.from = later (t - p.seen) (omega (arith, b, up)) in
-      let is : hop.to ≡ suc n.to = true.to ∙ (ap (λ (l : ℕ). slice_index (node_at (nodes t) hop.from).links l) along ∙ n.is) in
+      let is : hop.to ≡ suc n.to =
+      true.to ∙ (ap (λ (l : ℕ). slice_index (node_at (nodes t) hop.from).links l) along ∙ n.is) in
       let m = n.by in
       let kept = stays n.to n.seen (t - n.seen) t (omega (arith, m)) end n.reached in record {
         to = n.to;
@@ -128,14 +168,16 @@ module _ (ours : List ℕ → Bool) (opened root key last : ℕ) (nodes : ℕ �
       later : (d : ℕ) → t ≡ p.seen + d → LeadsOn t hop.from
       later d e = leads_later hop.from p.seen d t e end p.reached p.low
 
-  passes : (path : List Hop) (node t : ℕ) → t ≤ last → IsPath root key path node → AreMadeBy nodes t path
-      → IsPassed t node
+  passes : (path : List Hop) (node t : ℕ)
+      → t ≤ last → IsPath root key path node → AreMadeBy nodes t path → IsPassed t node
   passes [] node t end is made = subst (IsPassed t) (sym is) (begins t)
   passes (hop ∷ before) node t end is made =
       let when : ℕ = made.0 in
       let by : when ≤ t = made.1 in
-      let p : IsPassed when hop.from = passes before hop.from when (omega (arith, by, end)) is.3 made.3 in
-      let f : IsFoundBy when hop = hops_on when when hop (omega arith) (omega (arith, by, end)) p is.1 made.2 in
+      let p : IsPassed when hop.from =
+      passes before hop.from when (omega (arith, by, end)) is.3 made.3 in
+      let f : IsFoundBy when hop =
+      hops_on when when hop (omega arith) (omega (arith, by, end)) p is.1 made.2 in
       let one : f.to ≡ node = the_same f.to node (sym f.is ∙ is.0) in
       let b = f.by in
       let s = f.same in
@@ -150,13 +192,16 @@ module _ (ours : List ℕ → Bool) (opened root key last : ℕ) (nodes : ℕ �
       → AreMadeBy nodes last (search.last ∷ search.path) → IsSome found
   not_absent was now found search made =
       let when : ℕ = made.0 in
-      let p : IsPassed when search.last.from = passes search.path search.last.from when made.1 search.is_path made.3 in
-      let f : IsFoundBy when search.last = hops_on when when search.last (omega arith) made.1 p search.along made.2 in
+      let p : IsPassed when search.last.from =
+      passes search.path search.last.from when made.1 search.is_path made.3 in
+      let f : IsFoundBy when search.last =
+      hops_on when when search.last (omega arith) made.1 p search.along made.2 in
       by found search.decided f
     where
       by : (o : Option ℕ) → Decides key o search.last → IsFoundBy made.0 search.last → IsSome o
       by (Some node) d f = refl
       by None d f = absurd (⊎_elim
           (λ (nowhere : search.last.to ≡ 0). let i = f.is in omega (arith, nowhere, i))
-          (λ (past : key < key_after search.last). let s = f.same in let m = f.most in omega (arith, past, s, m))
+          (λ (past : key < key_after search.last).
+          let s = f.same in let m = f.most in omega (arith, past, s, m))
           d)

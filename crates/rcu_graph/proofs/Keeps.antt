@@ -1,6 +1,7 @@
--- The nodes stay tended and counted where a free node is written and where the nodes age, and are so at first.
-use Rattle.std.proofs.Common.{◌≡◌, ◌≢◌, ℕ, zero, suc, ◌+◌, ◌<◌, ◌≤◌, Bool, true, false, List, [], ◌∷◌, length, get_or, replicate}
-use Rattle.std.proofs.Common.{refl, sym, ap, ◌∙◌, arith, subst}
+-- The nodes stay tended and counted where a free node is written and where the nodes age, and are
+-- so at first.
+use Rattle.std.proofs.Common.{◌≡◌, ◌≢◌, ℕ, zero, suc, ◌+◌, ◌<◌, ◌≤◌, Bool, true, false, List, []}
+use Rattle.std.proofs.Common.{◌∷◌, length, get_or, replicate, refl, sym, ap, ◌∙◌, arith, subst}
 use Rattle.std.specs.Prelude.{if◌then◌else◌, nat_lt, slice_index}
 use Rattle.std.proofs.lemmas.Bool.Decides.{nat_tests}
 use Rattle.std.proofs.lemmas.List.{get_or-replicate, length-replicate}
@@ -10,14 +11,15 @@ use Rattle.std.proofs.Math.ListN.{get_or-map}
 use mathlib.Core.Logic.{dite}
 use native.Mathlib.Decide.{ℕ_discrete}
 use Rattle.rcu_graph.specs.Counts.{links_from, links_to, times_in}
-use Rattle.rcu_graph.specs.Nodes.{aged, aged_node, aged_state, first_node, first_nodes, free_node, is_live, no_node, node_at}
-use Rattle.rcu_graph.specs.Nodes.{renewed, root, state_at}
+use Rattle.rcu_graph.specs.Nodes.{aged, aged_node, aged_state, first_node, first_nodes, free_node}
+use Rattle.rcu_graph.specs.Nodes.{is_live, no_node, node_at, renewed, root, state_at}
 use Rattle.rcu_graph.specs.Tended.{IsReached}
 use Rattle.rcu_graph.specs.Trimming.{IsCounted}
 use Rattle.rcu_graph.specs.declared.known.Node.{Node}
 use Rattle.rcu_graph.specs.declared.node_state.NodeState.{NodeState}
 use Rattle.rcu_graph.specs.declared.node_state.NodeState.TheVariants.{Free, Left, Live, Retired}
-use Rattle.rcu_graph.proofs.Counting.{found_node, from_others, kept_at, links_to-set, live_inside, other_node}
+use Rattle.rcu_graph.proofs.Counting.{found_node, from_others, kept_at, links_to-set, live_inside}
+use Rattle.rcu_graph.proofs.Counting.{other_node}
 use Rattle.rcu_graph.proofs.States.{live_aged}
 use Rattle.rcu_graph.proofs.Tending.{are_whole, here_at}
 
@@ -34,8 +36,10 @@ is_live_aged n m (Retired a) = past _
     past true = refl
     past false = refl
 
-module _ (fits : List ℕ → Type 0) (joins : ℕ → List ℕ → List ℕ → Type 0) (count roots links : ℕ) where
-  module _ (nodes : List Node) (counts leaving : List ℕ) (c : IsCounted fits joins count roots links nodes counts leaving) where
+module _ (fits : List ℕ → Type 0) (joins : ℕ → List ℕ → List ℕ → Type 0)
+    (count roots links : ℕ) where
+  module _ (nodes : List Node) (counts leaving : List ℕ)
+      (c : IsCounted fits joins count roots links nodes counts leaving) where
     -- a free node is written
     module _ (i : ℕ) (f : Node → Node) (inside : i < length nodes) (free : state_at nodes i ≡ Free)
         (same : (f (node_at nodes i)).state ≡ (node_at nodes i).state) where
@@ -46,7 +50,8 @@ module _ (fits : List ℕ → Type 0) (joins : ℕ → List ℕ → List ℕ →
       states j = kept_at (λ (v : Node). v.state) nodes i j f inside same
 
       apart : (j : ℕ) → state_at nodes j ≡ Live → j ≢ i
-      apart j on is = free_or_live (state_at nodes i) free (ap (λ (k : ℕ). state_at nodes k) (sym is) ∙ on)
+      apart j on is =
+          free_or_live (state_at nodes i) free (ap (λ (k : ℕ). state_at nodes k) (sym is) ∙ on)
 
       alike : (j : ℕ) → state_at nodes j ≡ Live → node_at new j ≡ node_at nodes j
       alike j on = other_node nodes i j f (apart j on)
@@ -59,34 +64,43 @@ module _ (fits : List ℕ → Type 0) (joins : ℕ → List ℕ → List ℕ →
 
       same_counts : (k : ℕ) → links_to new k ≡ links_to nodes k
       same_counts k =
-          let a : links_to new k + links_from (node_at nodes i) k ≡ links_to nodes k + links_from (f (node_at nodes i)) k =
+          let a : links_to new k + links_from (node_at nodes i) k
+          ≡ links_to nodes k + links_from (f (node_at nodes i)) k =
           links_to-set nodes i k (f (node_at nodes i)) inside in
-          let b : links_from (node_at nodes i) k ≡ 0 = from_others (node_at nodes i) k (not_live (state_at nodes i) free) in
-          let d : links_from (f (node_at nodes i)) k ≡ 0 = from_others (f (node_at nodes i)) k (not_live (f (node_at nodes i)).state (same ∙ free)) in
+          let b : links_from (node_at nodes i) k ≡ 0 =
+          from_others (node_at nodes i) k (not_live (state_at nodes i) free) in
+          let d : links_from (f (node_at nodes i)) k ≡ 0 =
+          from_others (f (node_at nodes i)) k
+          (not_live (f (node_at nodes i)).state (same ∙ free)) in
           omega (arith, a, b, d)
 
       pub counted_written : IsCounted fits joins count roots links new counts leaving
       counted_written = record {
         tended = record {
           rooted = λ j low. states j ∙ c.tended.rooted j low;
-          whole = λ j on. subst (λ (v : Node). fits v.words) (sym (alike j (was j on))) (c.tended.whole j (was j on));
+          whole = λ j on. subst (λ (v : Node). fits v.words) (sym (alike j (was j on)))
+              (c.tended.whole j (was j on));
           led = λ j l on low k is.
-              let r = (are_whole fits joins count roots links 0 nodes c.tended).led j l k (was j on) low
-              (ap (λ (v : Node). slice_index v.links l) (sym (alike j (was j on))) ∙ is) in
+              let r = (are_whole fits joins count roots links 0 nodes c.tended).led j l k (was j on)
+              low (ap (λ (v : Node). slice_index v.links l) (sym (alike j (was j on))) ∙ is) in
               let there = states k ∙ r.0 in (
                 node_at new k,
                 here_at new k (live_inside new k there),
                 there,
-                subst (λ (v : Node). joins l v.words (node_at new k).words) (sym (alike j (was j on)))
-                    (subst (λ (v : Node). joins l (node_at nodes j).words v.words) (sym (alike k r.0)) r.1),
+                subst (λ (v : Node). joins l v.words (node_at new k).words)
+                    (sym (alike j (was j on)))
+                    (subst (λ (v : Node). joins l (node_at nodes j).words v.words)
+                    (sym (alike k r.0)) r.1),
               );
           reached = λ j on past.
-              let r : IsReached links nodes j = c.tended.reached j (was j on) past in record {
+              let r : IsReached links nodes j = c.tended.reached j (was j on) past in
+              record {
                 from = r.from;
                 link = r.link;
                 live = states r.from ∙ r.live;
                 inside = r.inside;
-                leads = ap (λ (v : Node). slice_index v.links r.link) (alike r.from r.live) ∙ r.leads;
+                leads =
+                    ap (λ (v : Node). slice_index v.links r.link) (alike r.from r.live) ∙ r.leads;
               };
         };
         many = c.many;
@@ -106,14 +120,17 @@ module _ (fits : List ℕ → Type 0) (joins : ℕ → List ℕ → List ℕ →
       still j on = ap (λ (v : Node). v.state) (at j) ∙ ap (aged_state n m) on
 
       from_aged : (v : Node) (k : ℕ) → links_from (aged_node n m v) k ≡ links_from v k
-      from_aged v k = ap (λ (b : Bool). if b then times_in v.links (suc k) else 0) (is_live_aged n m v.state)
+      from_aged v k =
+          ap (λ (b : Bool). if b then times_in v.links (suc k) else 0) (is_live_aged n m v.state)
 
       as_many : (l : List Node) (k : ℕ) → links_to (aged n m l) k ≡ links_to l k
       as_many [] k = refl
       as_many (v ∷ l) k =
-          let a : links_to (aged n m (v ∷ l)) k ≡ links_from (aged_node n m v) k + links_to (aged n m l) k =
+          let a : links_to (aged n m (v ∷ l)) k
+          ≡ links_from (aged_node n m v) k + links_to (aged n m l) k =
           sum_by-cons (λ (x : Node). links_from x k) (aged_node n m v) (aged n m l) in
-          let b : links_to (v ∷ l) k ≡ links_from v k + links_to l k = sum_by-cons (λ (x : Node). links_from x k) v l in
+          let b : links_to (v ∷ l) k ≡ links_from v k + links_to l k =
+          sum_by-cons (λ (x : Node). links_from x k) v l in
           let d = from_aged v k in
           let e = as_many l k in
           omega (arith, a, b, d, e)
@@ -122,16 +139,19 @@ module _ (fits : List ℕ → Type 0) (joins : ℕ → List ℕ → List ℕ →
       counted_aged = record {
         tended = record {
           rooted = λ j low. still j (c.tended.rooted j low);
-          whole = λ j on. subst (λ (v : Node). fits v.words) (sym (at j)) (c.tended.whole j (before j on));
+          whole = λ j on.
+              subst (λ (v : Node). fits v.words) (sym (at j)) (c.tended.whole j (before j on));
           led = λ j l on low k is.
-              let r = (are_whole fits joins count roots links 0 nodes c.tended).led j l k (before j on) low
-              (ap (λ (v : Node). slice_index v.links l) (sym (at j)) ∙ is) in
+              let r = (are_whole fits joins count roots links 0 nodes c.tended).led j l k
+              (before j on) low (ap (λ (v : Node). slice_index v.links l) (sym (at j)) ∙ is) in
               let there = still k r.0 in (
                 node_at (aged n m nodes) k,
                 here_at (aged n m nodes) k (live_inside (aged n m nodes) k there),
                 there,
-                subst (λ (v : Node). joins l v.words (node_at (aged n m nodes) k).words) (sym (at j))
-                    (subst (λ (v : Node). joins l (node_at nodes j).words v.words) (sym (at k)) r.1),
+                subst (λ (v : Node). joins l v.words (node_at (aged n m nodes) k).words)
+                    (sym (at j))
+                    (subst (λ (v : Node). joins l (node_at nodes j).words v.words) (sym (at k))
+                    r.1),
               );
           reached = λ j on past.
               let r : IsReached links nodes j = c.tended.reached j (before j on) past in record {
@@ -153,7 +173,8 @@ module _ (fits : List ℕ → Type 0) (joins : ℕ → List ℕ → List ℕ →
     begin = first_nodes links width first roots count
 
     begin_at : (i : ℕ) → i < count → node_at begin i ≡ first_node links width first roots i
-    begin_at i low = get_or-map-range_with_len (first_node links width first roots) 0 count i i no_node low (omega arith)
+    begin_at i low = get_or-map-range_with_len (first_node links width first roots) 0 count i i
+        no_node low (omega arith)
 
     is_below : (i n : ℕ) → i < n → nat_lt i n ≡ true
     is_below i n e = grind (arith, nat_tests)
@@ -162,47 +183,67 @@ module _ (fits : List ℕ → Type 0) (joins : ℕ → List ℕ → List ℕ →
     below i n e = grind (arith, nat_tests)
 
     root_at : (i : ℕ) → i < roots → node_at begin i ≡ root links (first i)
-    root_at i low = begin_at i (omega (arith, low, enough)) ∙ ap (λ (b : Bool). if b then root links (first i) else free_node links width) (is_below i roots low)
+    root_at i low =
+        begin_at i (omega (arith, low, enough))
+        ∙ ap (λ (b : Bool). if b then root links (first i) else free_node links width)
+        (is_below i roots low)
 
     size : length begin ≡ count
     size = length-map-range_with_len (first_node links width first roots) 0 count
 
     no_links : (i l x : ℕ) → i < count → slice_index (node_at begin i).links l ≡ suc x → ⊥
-    no_links i l x low leads = by (nat_lt i roots) (ap (λ (v : Node). slice_index v.links l) (sym (begin_at i low)) ∙ leads)
+    no_links i l x low leads = by (nat_lt i roots)
+        (ap (λ (v : Node). slice_index v.links l) (sym (begin_at i low)) ∙ leads)
       where
         zeros : (n l : ℕ) → get_or (replicate {A = ℕ} n 0) l 0 ≡ 0
         zeros zero l = refl
         zeros (suc n) zero = refl
         zeros (suc n) (suc l) = zeros n l
 
-        by : (b : Bool) → slice_index (if b then root links (first i) else free_node links width).links l ≡ suc x → ⊥
+        by : (b : Bool)
+            → slice_index (if b then root links (first i) else free_node links width).links l
+            ≡ suc x
+            → ⊥
         by true e = let z = zeros links l in absurd (omega (arith, z, e))
         by false e = let z = zeros links l in absurd (omega (arith, z, e))
 
     live_root : (i : ℕ) → state_at begin i ≡ Live → i < roots
-    live_root i on = by (nat_lt i roots) refl (ap (λ (v : Node). v.state) (sym (begin_at i (let b = live_inside begin i on in let e = size in omega (arith, b, e)))) ∙ on)
+    live_root i on = by (nat_lt i roots) refl
+        (ap (λ (v : Node). v.state)
+        (sym (begin_at i (let b = live_inside begin i on in let e = size in omega (arith, b, e))))
+        ∙ on)
       where
-        by : (b : Bool) → nat_lt i roots ≡ b → (if b then root links (first i) else free_node links width).state ≡ Live → i < roots
+        by : (b : Bool)
+            → nat_lt i roots ≡ b
+            → (if b then root links (first i) else free_node links width).state ≡ Live
+            → i < roots
         by true is e = below i roots is
         by false is e = absurd (free_or_live Free refl e)
 
     none_counted : (k : ℕ) → links_to begin k ≡ 0
-    none_counted k = dite (ℕ_discrete (links_to begin k) 0)
-        (λ (is : links_to begin k ≡ 0). is)
+    none_counted k = dite (ℕ_discrete (links_to begin k) 0) (λ (is : links_to begin k ≡ 0). is)
         (λ (ne : links_to begin k ≢ 0).
         let f = found_node begin k (omega (arith, ne)) in
-        absurd (no_links f.0 f.2 k (let b = live_inside begin f.0 f.1 in let e = size in omega (arith, b, e)) f.4))
+        absurd (no_links f.0 f.2 k
+        (let b = live_inside begin f.0 f.1 in let e = size in omega (arith, b, e)) f.4))
 
-    pub counted_first : (counts leaving : List ℕ) → ((i : ℕ) → i < roots → fits (first i)) → counts ≡ replicate count 0
-        → length leaving ≡ count → IsCounted fits joins count roots links begin counts leaving
+    pub counted_first : (counts leaving : List ℕ)
+        → ((i : ℕ) → i < roots → fits (first i))
+        → counts ≡ replicate count 0
+        → length leaving ≡ count
+        → IsCounted fits joins count roots links begin counts leaving
     counted_first counts leaving fit zeros room = record {
       tended = record {
         rooted = λ i low. ap (λ (v : Node). v.state) (root_at i low);
-        whole = λ i on. subst (λ (v : Node). fits v.words) (sym (root_at i (live_root i on))) (fit i (live_root i on));
-        led = λ i l on low j is. absurd (no_links i l j (let b = live_root i on in omega (arith, b, enough)) is);
+        whole = λ i on. subst (λ (v : Node). fits v.words) (sym (root_at i (live_root i on)))
+            (fit i (live_root i on));
+        led = λ i l on low j is.
+            absurd (no_links i l j (let b = live_root i on in omega (arith, b, enough)) is);
         reached = λ i on past. absurd (let b = live_root i on in omega (arith, b, past));
       };
       many = ap (λ (l : List ℕ). length l) zeros ∙ length-replicate count 0;
       room = room;
-      counted = λ i low. ap (λ (l : List ℕ). slice_index l i) zeros ∙ (get_or-replicate count i 0 0 low ∙ sym (none_counted i));
+      counted = λ i low.
+          ap (λ (l : List ℕ). slice_index l i) zeros
+          ∙ (get_or-replicate count i 0 0 low ∙ sym (none_counted i));
     }

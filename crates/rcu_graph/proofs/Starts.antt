@@ -1,11 +1,14 @@
 -- The rule of the nodes holds at first.
-use Rattle.std.proofs.Common.{◌≡◌, ◌≢◌, ℕ, zero, suc, ◌+◌, ◌-◌, ◌*◌, ◌<◌, ◌≤◌, List, [], ◌∷◌, ◌++◌, None, length, get_or, map}
-use Rattle.std.proofs.Common.{replicate, Bool, true, false, refl, sym, ap, ◌∙◌, subst, arith}
+use Rattle.std.proofs.Common.{◌≡◌, ◌≢◌, ℕ, zero, suc, ◌+◌, ◌-◌, ◌*◌, ◌<◌, ◌≤◌, List, [], ◌∷◌, ◌++◌}
+use Rattle.std.proofs.Common.{None, length, get_or, map, replicate, Bool, true, false, refl, sym}
+use Rattle.std.proofs.Common.{ap, ◌∙◌, subst, arith}
 use Rattle.std.specs.Prelude.{slice_index, if◌then◌else◌, nat_lt}
 use Rattle.std.specs.List.{All, range_with_len}
 use Rattle.std.proofs.lemmas.Bool.Decides.{nat_tests}
-use Rattle.std.proofs.lemmas.List.{get_or_append_left, get_or-append_right, get_or-replicate, length-replicate}
-use Rattle.std.proofs.lemmas.List.FromFn.{get_or-map-range_with_len, get_or-range_with_len, length-range_with_len, length-map-range_with_len}
+use Rattle.std.proofs.lemmas.List.{get_or_append_left, get_or-append_right, get_or-replicate}
+use Rattle.std.proofs.lemmas.List.{length-replicate}
+use Rattle.std.proofs.lemmas.List.FromFn.{get_or-map-range_with_len, get_or-range_with_len}
+use Rattle.std.proofs.lemmas.List.FromFn.{length-range_with_len, length-map-range_with_len}
 use mathlib.Core.Option.{some, some-injective, some-ne-none}
 use mathlib.Core.Logic.{dite}
 use native.Mathlib.Decide.{dec_le, ℕ_discrete}
@@ -14,7 +17,8 @@ use Rattle.atomic_table.proofs.Lists.{at_map}
 use Rattle.rcu_live.specs.Client.{Slots, ClientView}
 use Rattle.rcu_live.proofs.ClientLemmas.{at_map_back}
 use Rattle.rcu_live.proofs.ClientRows.{at_inside, inside, row_told, word_told}
-use Rattle.rcu_graph.specs.Nodes.{IsBy, IsUsed, first_node, first_place, first_nodes, free_node, place_of, root, row_of}
+use Rattle.rcu_graph.specs.Nodes.{IsBy, IsUsed, first_node, first_place, first_nodes, free_node}
+use Rattle.rcu_graph.specs.Nodes.{place_of, root, row_of}
 use Rattle.rcu_graph.specs.Opening.{AreFirst}
 use Rattle.rcu_graph.specs.Rule.{IsKept, IsLed, Knows}
 use Rattle.rcu_graph.specs.declared.known.Known.{Known}
@@ -27,7 +31,8 @@ at_range n i x e =
     let size = length-range_with_len 0 n in
     let low : i < n = omega (arith, bound, size) in
     let is : get_or (range_with_len 0 n) i 0 ≡ 0 + i = get_or-range_with_len 0 n i 0 low in
-    let same : get_or (range_with_len 0 n) i 0 ≡ x = some-injective _ _ (sym (at_inside (range_with_len 0 n) i 0 bound) ∙ e) in
+    let same : get_or (range_with_len 0 n) i 0 ≡ x =
+    some-injective _ _ (sym (at_inside (range_with_len 0 n) i 0 bound) ∙ e) in
     (omega (arith, is, same), low)
 
 in_range : (n i : ℕ) → i < n → get_elem? (range_with_len 0 n) i ≡ some i
@@ -47,16 +52,19 @@ is_below : (i n : ℕ) → i < n → nat_lt i n ≡ true
 is_below i n e = grind (arith, nat_tests)
 
 -- a row of zeros and of words, where they stand so
-row_is : (links width row i : ℕ) (behind words : List ℕ) → length words ≡ width
+row_is : (links width row i : ℕ) (behind words : List ℕ)
+    → length words ≡ width
     → ((l : ℕ) → l < links → slice_index behind (place_of row i l) ≡ 0)
     → ((k : ℕ) → k < width → slice_index behind (place_of row i (links + k)) ≡ slice_index words k)
-    → (k : ℕ) → k < links + width → slice_index behind (place_of row i k) ≡ slice_index (replicate links 0 ++ words) k
+    → (k : ℕ) → k < links + width
+    → slice_index behind (place_of row i k) ≡ slice_index (replicate links 0 ++ words) k
 row_is links width row i behind words size zeros same k low = by (dec_le links k)
   where
     many : length {A = ℕ} (replicate links 0) ≡ links
     many = length-replicate links 0
 
-    by : Dec (links ≤ k) → slice_index behind (place_of row i k) ≡ slice_index (replicate links 0 ++ words) k
+    by : Dec (links ≤ k)
+        → slice_index behind (place_of row i k) ≡ slice_index (replicate links 0 ++ words) k
     by (yes high) =
         let back : links + (k - links) ≡ k = omega (arith, high) in
         ap (λ (m : ℕ). slice_index behind (place_of row i m)) (sym back)
@@ -65,41 +73,55 @@ row_is links width row i behind words size zeros same k low = by (dec_le links k
     by (no high) =
         let small : k < links = omega (arith, high) in
         zeros k small
-        ∙ sym (get_or_append_left (replicate links 0) words 0 k (omega (arith, small, many)) ∙ get_or-replicate links k 0 0 small)
+        ∙ sym (get_or_append_left (replicate links 0) words 0 k (omega (arith, small, many))
+        ∙ get_or-replicate links k 0 0 small)
 
 module _ (fits : List ℕ → Type 0) (joins : ℕ → List ℕ → List ℕ → Type 0) (first : ℕ → List ℕ)
     (roots links width count : ℕ) where
   -- what holds of each root and of each free node, holds of each node at first
-  each : (P : ℕ → Node → Type 0) → ((i : ℕ) → i < count → i < roots → P i (root links (first i)))
+  each : (P : ℕ → Node → Type 0)
+      → ((i : ℕ) → i < count → i < roots → P i (root links (first i)))
       → ((i : ℕ) → i < count → roots ≤ i → P i (free_node links width))
-      → (i : ℕ) (v : Node) → get_elem? (first_nodes links width first roots count) i ≡ some v → P i v
+      → (i : ℕ) (v : Node)
+      → get_elem? (first_nodes links width first roots count) i ≡ some v
+      → P i v
   each P of_root of_free i v e =
       let t = at_map_back (first_node links width first roots) (range_with_len 0 count) i v e in
       let r = at_range count i t.0 t.1 in
-      subst (P i) (ap (first_node links width first roots) (sym r.0) ∙ t.2) (by (nat_lt i roots) refl r.1)
+      subst (P i) (ap (first_node links width first roots) (sym r.0) ∙ t.2)
+      (by (nat_lt i roots) refl r.1)
     where
-      by : (b : Bool) → nat_lt i roots ≡ b → i < count → P i (if b then root links (first i) else free_node links width)
+      by : (b : Bool) → nat_lt i roots ≡ b → i < count
+          → P i (if b then root links (first i) else free_node links width)
       by true is low = of_root i low (below i roots is)
       by false is low = of_free i low (not_below i roots is)
 
   root_is : (i : ℕ) → i < roots → first_node links width first roots i ≡ root links (first i)
-  root_is i low = ap (λ (b : Bool). if b then root links (first i) else free_node links width) (is_below i roots low)
+  root_is i low = ap (λ (b : Bool). if b then root links (first i) else free_node links width)
+      (is_below i roots low)
 
-  none_led : (v : Node) → v.links ≡ replicate links 0 → IsLed joins links (first_nodes links width first roots count) v
+  none_led : (v : Node) → v.links ≡ replicate links 0
+      → IsLed joins links (first_nodes links width first roots count) v
   none_led v zeros l j low link =
       let none : slice_index v.links l ≡ 0 =
       ap (λ (x : List ℕ). slice_index x l) zeros ∙ get_or-replicate links l 0 0 low in
       absurd (omega (arith, none, link))
 
-  alone : (id : ℕ) (x : ClientView Known) → get_elem? ((None, None, Owner) ∷ []) id ≡ some x
-      → Knows first roots links width count (first_nodes links width first roots count) 0 0 id x.1 x.2
+  alone : (id : ℕ) (x : ClientView Known)
+      → get_elem? ((None, None, Owner) ∷ []) id ≡ some x
+      → Knows first roots links width count (first_nodes links width first roots count) 0 0 id x.1
+      x.2
   alone zero x e =
-      subst (λ (y : ClientView Known). Knows first roots links width count (first_nodes links width first roots count) 0 0 0 y.1 y.2)
+      subst (λ (y : ClientView Known).
+      Knows first roots links width count (first_nodes links width first roots count) 0 0 0 y.1 y.2)
       (some-injective _ _ e) (refl, refl, refl)
   alone (suc id) x e = absurd (some-ne-none x (sym e))
 
-  pub starts : (rows : List (List ℕ)) (behind : List ℕ) (homes : Slots (Unit {0})) → roots ≤ count
-      → length behind ≡ first_place + (links + width) * count → rows ≡ map first (range_with_len 0 roots) → All fits rows
+  pub starts : (rows : List (List ℕ)) (behind : List ℕ) (homes : Slots (Unit {0}))
+      → roots ≤ count
+      → length behind ≡ first_place + (links + width) * count
+      → rows ≡ map first (range_with_len 0 roots)
+      → All fits rows
       → AreFirst rows roots links width behind
       → IsKept fits joins first roots links width count behind homes ((None, None, Owner) ∷ [])
   starts rows behind homes many long is all h = record {
@@ -111,37 +133,52 @@ module _ (fits : List ℕ → Type 0) (joins : ℕ → List ℕ → List ℕ →
       long = long;
       rooted = λ i low. (
         root links (first i),
-        at_map (first_node links width first roots) (range_with_len 0 count) i i (in_range count i (omega (arith, low, many)))
+        at_map (first_node links width first roots) (range_with_len 0 count) i i
+            (in_range count i (omega (arith, low, many)))
             ∙ ap some (root_is i low),
         refl,
         refl,
       );
-      linked = each (λ i v. length v.links ≡ links) (λ i low r. length-replicate links 0) (λ i low r. length-replicate links 0);
-      sized = each (λ i v. length v.words ≡ width) (λ i low r. size i r) (λ i low r. length-replicate width 0);
-      written = each (λ i v. (k : ℕ) → k < links + width → slice_index behind (place_of (links + width) i k) ≡ slice_index (row_of v) k)
-          (λ i low r. row_is links width (links + width) i behind (first i) (size i r) (λ l small. h.no_links i l small) (λ k small. h.stored i k r small ∙ ap (λ (row : List ℕ). slice_index row k) (here i r)))
-          (λ i low r. row_is links width (links + width) i behind (replicate width 0) (length-replicate width 0) (λ l small. h.no_links i l small)
+      linked = each (λ i v. length v.links ≡ links) (λ i low r. length-replicate links 0)
+          (λ i low r. length-replicate links 0);
+      sized = each (λ i v. length v.words ≡ width) (λ i low r. size i r)
+          (λ i low r. length-replicate width 0);
+      written = each (λ i v.
+          (k : ℕ) → k < links + width → slice_index behind (place_of (links + width) i k)
+          ≡ slice_index (row_of v) k)
+          (λ i low r. row_is links width (links + width) i behind (first i) (size i r)
+          (λ l small. h.no_links i l small)
+          (λ k small. h.stored i k r small ∙ ap (λ (row : List ℕ). slice_index row k) (here i r)))
+          (λ i low r. row_is links width (links + width) i behind (replicate width 0)
+          (length-replicate width 0) (λ l small. h.no_links i l small)
           (λ k small. h.rest i k r small ∙ sym (get_or-replicate width k 0 0 small)));
-      whole = each (λ i v. IsUsed v.state → fits v.words) (λ i low r used. whole i r) (λ i low r used. absurd used);
+      whole = each (λ i v. IsUsed v.state → fits v.words) (λ i low r used. whole i r)
+          (λ i low r used. absurd used);
       by = each (λ i v. IsBy 0 v.state) (λ i low r. tt) (λ i low r. tt);
-      led = each (λ i v. IsUsed v.state → IsLed joins links (first_nodes links width first roots count) v)
+      led =
+          each
+          (λ i v. IsUsed v.state → IsLed joins links (first_nodes links width first roots count) v)
           (λ i low r used. none_led (root links (first i)) refl) (λ i low r used. absurd used);
     };
     seats = λ id cpu section known at. alone id (cpu, section, known) at;
   }
     where
       here : (i : ℕ) → i < roots → get_or rows i [] ≡ first i
-      here i low = ap (λ (l : List (List ℕ)). get_or l i []) is ∙ get_or-map-range_with_len first 0 roots i i [] low (omega arith)
+      here i low =
+          ap (λ (l : List (List ℕ)). get_or l i []) is
+          ∙ get_or-map-range_with_len first 0 roots i i [] low (omega arith)
 
       size : (i : ℕ) → i < roots → length (first i) ≡ width
       size i low = ap length (sym (here i low)) ∙ h.sized i low
 
       whole : (i : ℕ) → i < roots → fits (first i)
       whole i low = subst fits (here i low)
-          (all i [] (let n = ap length is ∙ length-map-range_with_len first 0 roots in omega (arith, n, low)))
+          (all i []
+          (let n = ap length is ∙ length-map-range_with_len first 0 roots in omega (arith, n, low)))
 
 -- nothing is stored yet
-pub none_stored : (rows : List (List ℕ)) (links width n : ℕ) → AreFirst rows 0 links width (replicate n 0)
+pub none_stored : (rows : List (List ℕ)) (links width n : ℕ)
+    → AreFirst rows 0 links width (replicate n 0)
 none_stored rows links width n = record {
   sized = λ i low. absurd (omega (arith, low));
   no_links = λ i l low. zeros n (place_of (links + width) i l);
@@ -155,7 +192,8 @@ none_stored rows links width n = record {
     zeros (suc m) (suc p) = zeros m p
 
 -- the words of one root more
-pub one_stored : (rows : List (List ℕ)) (r links width place : ℕ) (old new : List ℕ) → AreFirst rows r links width old
+pub one_stored : (rows : List (List ℕ)) (r links width place : ℕ) (old new : List ℕ)
+    → AreFirst rows r links width old
     → place ≡ place_of (links + width) r links
     → length (get_or rows r []) ≡ width
     → ((k : ℕ) → k < width → slice_index new (place + k) ≡ slice_index (get_or rows r []) k)
@@ -169,25 +207,34 @@ one_stored rows r links width place old new h is size mine others = record {
       (λ k small e. link_apart i l k low small (e ∙ shifted k))
       ∙ h.no_links i l low;
   stored = λ i k low small. dite (ℕ_discrete i r)
-      (λ (e : i ≡ r). ap (λ (j : ℕ). slice_index new (place_of (links + width) j (links + k))) e
-      ∙ (ap (λ (p : ℕ). slice_index new p) (sym (shifted k)) ∙ (mine k small ∙ ap (λ (j : ℕ). slice_index (get_or rows j []) k) (sym e))))
-      (λ (ne : i ≢ r). others (place_of (links + width) i (links + k)) (λ m little e. word_apart i k m ne small little (e ∙ shifted m))
+      (λ (e : i ≡ r).
+      ap (λ (j : ℕ). slice_index new (place_of (links + width) j (links + k))) e
+      ∙ (ap (λ (p : ℕ). slice_index new p) (sym (shifted k))
+      ∙ (mine k small ∙ ap (λ (j : ℕ). slice_index (get_or rows j []) k) (sym e))))
+      (λ (ne : i ≢ r).
+      others (place_of (links + width) i (links + k))
+      (λ m little e. word_apart i k m ne small little (e ∙ shifted m))
       ∙ h.stored i k (omega (arith, low, ne)) small);
-  rest = λ i k low small. others (place_of (links + width) i (links + k))
-      (λ m little e. word_apart i k m (λ (same : i ≡ r). omega (arith, low, same)) small little (e ∙ shifted m))
+  rest = λ i k low small.
+      others (place_of (links + width) i (links + k))
+      (λ m little e.
+      word_apart i k m (λ (same : i ≡ r). omega (arith, low, same)) small little (e ∙ shifted m))
       ∙ h.rest i k (omega (arith, low)) small;
 }
   where
     shifted : (k : ℕ) → place + k ≡ place_of (links + width) r (links + k)
     shifted k = omega (arith, is)
 
-    link_apart : (i l k : ℕ) → l < links → k < width → place_of (links + width) i l ≢ place_of (links + width) r (links + k)
+    link_apart : (i l k : ℕ) → l < links → k < width
+        → place_of (links + width) i l ≢ place_of (links + width) r (links + k)
     link_apart i l k low small e =
-        let same : i ≡ r = row_told first_place (links + width) i r l (links + k) (omega (arith, low)) (omega (arith, small)) e in
+        let same : i ≡ r = row_told first_place (links + width) i r l (links + k)
+        (omega (arith, low)) (omega (arith, small)) e in
         let at : l ≡ links + k = word_told first_place (links + width) i r l (links + k) same e in
         omega (arith, at, low)
 
     word_apart : (i k m : ℕ) → i ≢ r → k < width → m < width
         → place_of (links + width) i (links + k) ≢ place_of (links + width) r (links + m)
     word_apart i k m ne small little e =
-        ne (row_told first_place (links + width) i r (links + k) (links + m) (omega (arith, small)) (omega (arith, little)) e)
+        ne (row_told first_place (links + width) i r (links + k) (links + m) (omega (arith, small))
+        (omega (arith, little)) e)

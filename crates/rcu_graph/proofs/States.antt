@@ -1,4 +1,5 @@
--- States of nodes: who may be on a node in one may go on to one in another, and after a look at the number too.
+-- States of nodes: who may be on a node in one may go on to one in another, and after a look at the
+-- number too.
 use Rattle.std.proofs.Common.{◌≡◌, ◌≤◌, Bool, true, false, refl, sym, ◌∙◌, arith}
 use Rattle.std.specs.Prelude.{if◌then◌else◌}
 use Rattle.std.proofs.lemmas.Bool.Decides.{nat_tests}
@@ -10,7 +11,8 @@ use Rattle.rcu_graph.specs.Nodes.{IsBy, IsUsed, MayRead, Outlives, aged_state}
 use Rattle.rcu_graph.specs.declared.node_state.NodeState.{NodeState}
 use Rattle.rcu_graph.specs.declared.node_state.NodeState.TheVariants.{Free, Live, Left, Retired}
 
-pub may_follow : (at : Number) (from to : NodeState) → Outlives from to → MayRead at from → MayRead at to
+pub may_follow : (at : Number) (from to : NodeState) → Outlives from to → MayRead at from
+    → MayRead at to
 may_follow at Free to o may = absurd may
 may_follow at Live Free o may = absurd o
 may_follow at Live Live o may = tt
@@ -23,7 +25,8 @@ may_follow at Left (Retired b) o may = absurd o
 may_follow at (Retired a) Free o may = absurd o
 may_follow at (Retired a) Live o may = tt
 may_follow at (Retired a) Left o may = tt
-may_follow at (Retired a) (Retired b) o may = let h : at ≤ a = may in let k : a ≤ b = o in omega (arith, h, k)
+may_follow at (Retired a) (Retired b) o may =
+    let h : at ≤ a = may in let k : a ≤ b = o in omega (arith, h, k)
 
 pub may_is_used : (at : Number) (st : NodeState) → MayRead at st → IsUsed st
 may_is_used at Free may = may
@@ -66,7 +69,8 @@ live_aged n m (Retired a) e = past (is_past a n) e
     past true e = absurd (cc)
     past false e = e
 
-pub by_aged : (n m latest : Number) (st : NodeState) → latest ≤ m → IsBy latest st → IsBy m (aged_state n m st)
+pub by_aged : (n m latest : Number) (st : NodeState) → latest ≤ m → IsBy latest st
+    → IsBy m (aged_state n m st)
 by_aged n m latest Free up by = tt
 by_aged n m latest Live up by = tt
 by_aged n m latest Left up by = omega arith
@@ -77,8 +81,9 @@ by_aged n m latest (Retired a) up by = past (is_past a n)
     past false = let h : a ≤ latest = by in omega (arith, h, up)
 
 -- the heart: a node that is not free yet leads to none that is
-pub outlives_aged : (n m latest : Number) (from to : NodeState) → latest ≤ m → IsBy latest from → Outlives from to
-    → IsUsed (aged_state n m from) → Outlives (aged_state n m from) (aged_state n m to)
+pub outlives_aged : (n m latest : Number) (from to : NodeState)
+    → latest ≤ m → IsBy latest from → Outlives from to → IsUsed (aged_state n m from)
+    → Outlives (aged_state n m from) (aged_state n m to)
 outlives_aged n m latest Free to up by o used = absurd used
 outlives_aged n m latest Live Free up by o used = o
 outlives_aged n m latest Live Live up by o used = tt
@@ -91,15 +96,18 @@ outlives_aged n m latest Left (Retired b) up by o used = absurd o
 outlives_aged n m latest (Retired a) Free up by o used = absurd o
 outlives_aged n m latest (Retired a) Live up by o used = past (is_past a n) used
   where
-    past : (x : Bool) → IsUsed (if x then Free else Retired a) → Outlives (if x then Free else Retired a) Live
+    past : (x : Bool) → IsUsed (if x then Free else Retired a)
+        → Outlives (if x then Free else Retired a) Live
     past true used = tt
     past false used = tt
 outlives_aged n m latest (Retired a) Left up by o used = past (is_past a n) used
   where
-    past : (x : Bool) → IsUsed (if x then Free else Retired a) → Outlives (if x then Free else Retired a) (Retired m)
+    past : (x : Bool) → IsUsed (if x then Free else Retired a)
+        → Outlives (if x then Free else Retired a) (Retired m)
     past true used = tt
     past false used = let h : a ≤ latest = by in omega (arith, h, up)
-outlives_aged n m latest (Retired a) (Retired b) up by o used = past (is_past a n) (is_past b n) refl refl used
+outlives_aged n m latest (Retired a) (Retired b) up by o used =
+    past (is_past a n) (is_past b n) refl refl used
   where
     past : (x y : Bool) → is_past a n ≡ x → is_past b n ≡ y → IsUsed (if x then Free else Retired a)
         → Outlives (if x then Free else Retired a) (if y then Free else Retired b)

@@ -17,20 +17,27 @@ module _ (fits joins : List ℕ → Type 0) (width count : ℕ) (was : Known) (i
       → Came fits joins width count j f.words
   came_to j now f = led f.words f.led
     where
-      led : (words : List ℕ) → IsLedTo fits joins width count (suc j) words → Came fits joins width count j words
+      led : (words : List ℕ) → IsLedTo fits joins width count (suc j) words
+          → Came fits joins width count j words
       led words (inl none) = absurd (omega (arith, none.0))
       led words (inr some) =
-          subst (λ (n : ℕ). Came fits joins width count n words) (sym (the_same j some.0 some.1)) some.2
+          subst (λ (n : ℕ). Came fits joins width count n words) (sym (the_same j some.0 some.1))
+          some.2
 
-  pub still_reads : (x : ℕ) (now : Known) → Followed fits joins width count was i l x now → IsReader now
+  pub still_reads : (x : ℕ) (now : Known) → Followed fits joins width count was i l x now
+      → IsReader now
   still_reads x now f = subst IsReader (sym f.is) tt
 
-  pub came_holds : (j : ℕ) (now : Known) (f : Followed fits joins width count was i l (suc j) now) → IsHeld now j f.words
+  pub came_holds : (j : ℕ) (now : Known) (f : Followed fits joins width count was i l (suc j) now)
+      → IsHeld now j f.words
   came_holds j now f = subst (λ (k : Known). IsHeld k j f.words) (sym f.is)
       (0, record { from = i; link = l; to = suc j; words = f.words }, refl, refl, refl)
 
-  pub found_it : (key found j : ℕ) (now : Known) (f : Followed fits joins width count was i l (suc j) now)
-      → found ≡ slice_index f.words 0 → found ≡ key → IsFound fits key now j
+  pub found_it : (key found j : ℕ) (now : Known)
+      (f : Followed fits joins width count was i l (suc j) now)
+      → found ≡ slice_index f.words 0
+      → found ≡ key
+      → IsFound fits key now j
   found_it key found j now f told is =
       let c = came_to j now f in
       record { words = f.words; held = came_holds j now f; whole = c.whole; is = sym told ∙ is }
@@ -39,16 +46,21 @@ module _ (fits joins : List ℕ → Type 0) (width count : ℕ) (was : Known) (i
 pub walks_on : (graph : Object) (old new : Seated Known) → new ≡ after_word_step old new.view.client
     → IsWalking graph old → IsReader new.view.client → IsWalking graph new
 walks_on graph old new same w reads =
-    subst (IsWalking graph) (sym same) (record { seat_of = w.seat_of; is_open = w.is_open; reads = reads })
+    subst (IsWalking graph) (sym same)
+    (record { seat_of = w.seat_of; is_open = w.is_open; reads = reads })
 
-module _ (fits joins : List ℕ → Type 0) (width count : ℕ) (graph : Object) (old new : Seated Known) (i l : ℕ) where
+module _ (fits joins : List ℕ → Type 0) (width count : ℕ) (graph : Object) (old new : Seated Known)
+    (i l : ℕ) where
   pub followed_walks : (x : ℕ) → new ≡ after_word_step old new.view.client → IsWalking graph old
       → Followed fits joins width count old.view.client i l x new.view.client → IsWalking graph new
   followed_walks x same w f =
-      walks_on graph old new same w (still_reads fits joins width count old.view.client i l x new.view.client f)
+      walks_on graph old new same w
+      (still_reads fits joins width count old.view.client i l x new.view.client f)
 
-  pub followed_at : (first : ℕ → List ℕ) (roots j : ℕ) → new ≡ after_word_step old new.view.client
-      → IsWalking graph old → Followed fits joins width count old.view.client i l (suc j) new.view.client
+  pub followed_at : (first : ℕ → List ℕ) (roots j : ℕ)
+      → new ≡ after_word_step old new.view.client
+      → IsWalking graph old
+      → Followed fits joins width count old.view.client i l (suc j) new.view.client
       → IsAt first roots count graph new j
   followed_at first roots j same w f =
       let c = came_to fits joins width count old.view.client i l j new.view.client f in record {
@@ -59,15 +71,23 @@ module _ (fits joins : List ℕ → Type 0) (width count : ℕ) (graph : Object)
       }
 
 -- where the section is on a node still
-pub walks_at : (first : ℕ → List ℕ) (roots count : ℕ) (graph : Object) (old new : Seated Known) (i : ℕ) (words : List ℕ)
-    → new ≡ after_word_step old new.view.client → IsWalking graph old → IsReader new.view.client
-    → IsOn first roots new.view.client i words → i < count → IsAt first roots count graph new i
+pub walks_at : (first : ℕ → List ℕ) (roots count : ℕ) (graph : Object) (old new : Seated Known)
+    (i : ℕ) (words : List ℕ)
+    → new ≡ after_word_step old new.view.client
+    → IsWalking graph old
+    → IsReader new.view.client
+    → IsOn first roots new.view.client i words
+    → i < count
+    → IsAt first roots count graph new i
 walks_at first roots count graph old new i words same w reads on low =
     record { walking = walks_on graph old new same w reads; words = words; on = on; inside = low }
 
 -- a hop behind others, and a read
-pub hops_on : (start old mid new : Seated Known) → old ≡ after_word_step start old.view.client
-    → mid ≡ after_word_step old mid.view.client → new ≡ mid → new ≡ after_word_step start new.view.client
+pub hops_on : (start old mid new : Seated Known)
+    → old ≡ after_word_step start old.view.client
+    → mid ≡ after_word_step old mid.view.client
+    → new ≡ mid
+    → new ≡ after_word_step start new.view.client
 hops_on start old mid new was hop same =
     subst (λ (s : Seated Known). s ≡ after_word_step start s.view.client) (sym same)
     (hop ∙ ap (λ (s : Seated Known). after_word_step s mid.view.client) was)

@@ -1,5 +1,7 @@
--- A search that finds nothing, over the nodes as the keeper knows them at the moments of the section.
-use Rattle.std.specs.Prelude.{◌≡◌, ◌⊎◌, ℕ, suc, ◌<◌, ◌≤◌, Bool, true, List, [], ◌∷◌, IsTrue, slice_index}
+-- A search that finds nothing, over the nodes as the keeper knows them at the moments of the
+-- section.
+use Rattle.std.specs.Prelude.{◌≡◌, ◌⊎◌, ℕ, suc, ◌<◌, ◌≤◌, Bool, true, List, [], ◌∷◌, IsTrue}
+use Rattle.std.specs.Prelude.{slice_index}
 use Rattle.rcu_seq.specs.Numbers.{Number}
 use Rattle.rcu_live.specs.Numbers.{is_open_at}
 use Rattle.rcu_graph.specs.Nodes.{aged, in_state, linked_to, node_at, renewed, state_at, worded}
@@ -17,7 +19,8 @@ key_at nodes i = slice_index (node_at nodes i).words 0
 -- the links 0 lead from a node to this one
 pub data Reaches (nodes : List Node) (to : ℕ) : ℕ → Type 0 where
   arrived : (from : ℕ) → from ≡ to → Reaches nodes to from
-  onwards : (from next : ℕ) → next_of nodes from ≡ suc next → Reaches nodes to next → Reaches nodes to from
+  onwards : (from next : ℕ) → next_of nodes from ≡ suc next → Reaches nodes to next
+      → Reaches nodes to from
 
 -- the key is linked: the chain behind the root leads to a node with the key
 pub record IsLinkedKey (root key : ℕ) (nodes : List Node) : Type 0 where
@@ -27,13 +30,14 @@ pub record IsLinkedKey (root key : ℕ) (nodes : List Node) : Type 0 where
   pub reached : Reaches nodes holder begin
   pub has : key_at nodes holder ≡ key
 
--- some words are those of nodes of the root's chain. The root is live and of its chain, and the link 0 of a live node
--- leads to a live one with a greater key, of the same chain
+-- some words are those of nodes of the root's chain. The root is live and of its chain, and the
+-- link 0 of a live node leads to a live one with a greater key, of the same chain
 pub record IsChained (ours : List ℕ → Bool) (root : ℕ) (nodes : List Node) : Type 0 where
   pub rooted : state_at nodes root ≡ Live
   pub own : IsTrue (ours (node_at nodes root).words)
   pub live : (i j : ℕ) → state_at nodes i ≡ Live → next_of nodes i ≡ suc j → state_at nodes j ≡ Live
-  pub ascends : (i j : ℕ) → state_at nodes i ≡ Live → next_of nodes i ≡ suc j → key_at nodes i < key_at nodes j
+  pub ascends : (i j : ℕ) → state_at nodes i ≡ Live → next_of nodes i ≡ suc j
+      → key_at nodes i < key_at nodes j
   pub stays : (i j : ℕ) → state_at nodes i ≡ Live → next_of nodes i ≡ suc j
       → IsTrue (ours (node_at nodes i).words) → IsTrue (ours (node_at nodes j).words)
 
@@ -41,25 +45,32 @@ pub record IsChained (ours : List ℕ → Bool) (root : ℕ) (nodes : List Node)
 abbrev pub IsOnIfOurs : (List ℕ → Bool) → ℕ → List Node → ℕ → Type 0
 IsOnIfOurs ours root nodes i = IsTrue (ours (node_at nodes i).words) → Reaches nodes i root
 
--- a step of the keeper beside a section that began at this number. A word of a free node was stored; or a link of a free
--- node, or of one that is on its chain; or such a node was linked to a free one, which is live then; or a node was taken
--- off; or the nodes aged by a number at which the section may be open. So a node that was taken off the chain leads where
--- it led while the section is open
-pub data IsKeeperStep (ours : List ℕ → Bool) (opened : Number) (root : ℕ) (before after : List Node) : Type 0 where
+-- a step of the keeper beside a section that began at this number. A word of a free node was
+-- stored; or a link of a free node, or of one that is on its chain; or such a node was linked to a
+-- free one, which is live then; or a node was taken off; or the nodes aged by a number at which the
+-- section may be open. So a node that was taken off the chain leads where it led while the section
+-- is open
+pub data IsKeeperStep (ours : List ℕ → Bool) (opened : Number) (root : ℕ)
+    (before after : List Node) : Type 0 where
   wrote : (i k x : ℕ) → state_at before i ≡ Free → after ≡ renewed before i (worded k x)
       → IsKeeperStep ours opened root before after
   linked : (i l x : ℕ) → (state_at before i ≡ Free) ⊎ IsOnIfOurs ours root before i
       → after ≡ renewed before i (linked_to l x) → IsKeeperStep ours opened root before after
-  published : (i l j : ℕ) → state_at before i ≡ Live → state_at before j ≡ Free → IsOnIfOurs ours root before i
+  published : (i l j : ℕ)
+      → state_at before i ≡ Live
+      → state_at before j ≡ Free
+      → IsOnIfOurs ours root before i
       → after ≡ renewed (renewed before j (in_state Live)) i (linked_to l (suc j))
       → IsKeeperStep ours opened root before after
-  took_off : (i : ℕ) → after ≡ renewed before i (in_state Left) → IsKeeperStep ours opened root before after
+  took_off : (i : ℕ) → after ≡ renewed before i (in_state Left)
+      → IsKeeperStep ours opened root before after
   looked : (number latest : Number) → number ≤ latest → is_open_at number opened ≡ true
       → after ≡ aged number latest before → IsKeeperStep ours opened root before after
 
--- the nodes at each moment from the section's beginning, which is 0, to the search's end: each moment is a step of the
--- keeper after the one before
-pub record IsHistory (ours : List ℕ → Bool) (opened : Number) (root last : ℕ) (nodes : ℕ → List Node) : Type 0 where
+-- the nodes at each moment from the section's beginning, which is 0, to the search's end: each
+-- moment is a step of the keeper after the one before
+pub record IsHistory (ours : List ℕ → Bool) (opened : Number) (root last : ℕ)
+    (nodes : ℕ → List Node) : Type 0 where
   pub chained : (t : ℕ) → t ≤ last → IsChained ours root (nodes t)
   pub steps : (t : ℕ) → t < last → IsKeeperStep ours opened root (nodes t) (nodes (suc t))
 
@@ -68,8 +79,8 @@ pub record IsTrueOf (nodes : List Node) (hop : Hop) : Type 0 where
   pub to : hop.to ≡ slice_index (node_at nodes hop.from).links hop.link
   pub words : (j : ℕ) → hop.to ≡ suc j → hop.words ≡ (node_at nodes j).words
 
--- these hops, the latest one first, were made by this moment, each true at a moment of its own, which is no earlier than
--- that of the hop before
+-- these hops, the latest one first, were made by this moment, each true at a moment of its own,
+-- which is no earlier than that of the hop before
 abbrev pub AreMadeBy : (ℕ → List Node) → ℕ → List Hop → Type 0
 AreMadeBy nodes moment [] = Unit {0}
 AreMadeBy nodes moment (hop ∷ before) =

@@ -1,5 +1,6 @@
 -- How many links lead to a node.
-use Rattle.std.specs.Prelude.{ℕ, zero, suc, ◌+◌, Bool, true, false, List, nat_eq, slice_index, slice_set, sum_by, if◌then◌else◌}
+use Rattle.std.specs.Prelude.{ℕ, zero, suc, ◌+◌, Bool, true, false, List, nat_eq, slice_index}
+use Rattle.std.specs.Prelude.{slice_set, sum_by, if◌then◌else◌}
 use Rattle.rcu_graph.specs.Nodes.{is_live}
 use Rattle.rcu_graph.specs.declared.known.Node.{Node}
 

@@ -15,21 +15,26 @@ with_links links v = record { state = v.state; links = links; words = v.words }
 
 -- after the words of the node i were written, and after its links were
 abbrev pub after_words : Watching Known → ℕ → List ℕ → Watching Known
-after_words keeper i words = after_step keeper (renewed (nodes_in keeper.view.client) i (with_words words))
+after_words keeper i words =
+    after_step keeper (renewed (nodes_in keeper.view.client) i (with_words words))
 
 abbrev pub after_links : Watching Known → ℕ → List ℕ → Watching Known
-after_links keeper i links = after_step keeper (renewed (nodes_in keeper.view.client) i (with_links links))
+after_links keeper i links =
+    after_step keeper (renewed (nodes_in keeper.view.client) i (with_links links))
 
--- a watcher of the graph may store the k-th of so many words, or links, of the node i, one of so many: the node is free
-pub record CanStore (count row : ℕ) (graph : Object) (keeper : Watching Known) (i k : ℕ) : Type 0 where
+-- a watcher of the graph may store the k-th of so many words, or links, of the node i, one of so
+-- many: the node is free
+pub record CanStore (count row : ℕ) (graph : Object) (keeper : Watching Known)
+    (i k : ℕ) : Type 0 where
   pub watches : IsWatcherOf graph keeper
   pub inside : i < count
   pub free : state_at (nodes_in keeper.view.client) i ≡ Free
   pub cell : k < row
 
--- a watcher of the graph may fill the node i, one of the so many that it keeps: the node is free, and has so many links
--- and words
-pub record CanFill (count links width : ℕ) (graph : Object) (keeper : Watching Known) (i : ℕ) : Type 0 where
+-- a watcher of the graph may fill the node i, one of the so many that it keeps: the node is free,
+-- and has so many links and words
+pub record CanFill (count links width : ℕ) (graph : Object) (keeper : Watching Known)
+    (i : ℕ) : Type 0 where
   pub watches : IsWatcherOf graph keeper
   pub keeps : IsKeeping keeper.view.client
   pub few : length (nodes_in keeper.view.client) ≡ count

@@ -18,9 +18,10 @@ pub record IsWalking (graph : Object) (seat : Seated Known) : Type 0 where
   pub is_open : IsSome seat.view.section
   pub reads : IsReader seat.view.client
 
--- of so many nodes, the first ones roots with their first words: the section is on this one, a root or a node that it
--- came to
-pub record IsAt (first : ℕ → List ℕ) (roots count : ℕ) (graph : Object) (seat : Seated Known) (node : ℕ) : Type 0 where
+-- of so many nodes, the first ones roots with their first words: the section is on this one, a root
+-- or a node that it came to
+pub record IsAt (first : ℕ → List ℕ) (roots count : ℕ) (graph : Object) (seat : Seated Known)
+    (node : ℕ) : Type 0 where
   pub walking : IsWalking graph seat
   pub words : List ℕ
   pub on : IsOn first roots seat.view.client node words

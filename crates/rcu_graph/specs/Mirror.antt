@@ -19,7 +19,8 @@ with_words words v = record { state = v.state; links = v.links; words = words }
 -- each of so many nodes has so many links and words
 abbrev pub AreSized : ℕ → ℕ → ℕ → List Node → Type 0
 AreSized count links width nodes =
-    (i : ℕ) → i < count → (length (node_at nodes i).links ≡ links) × (length (node_at nodes i).words ≡ width)
+    (i : ℕ) → i < count
+    → (length (node_at nodes i).links ≡ links) × (length (node_at nodes i).words ≡ width)
 
 -- none of the nodes was retired after this number
 abbrev pub AreBy : Number → List Node → Type 0
@@ -27,8 +28,16 @@ AreBy latest nodes = (i : ℕ) → IsBy latest (state_at nodes i)
 
 -- the node with other words as far as the place k
 abbrev pub with_words_to : ℕ → List ℕ → Node → Node
-with_words_to k words v = record { state = v.state; links = v.links; words = take k words ++ drop k v.words }
+with_words_to k words v = record {
+  state = v.state;
+  links = v.links;
+  words = take k words ++ drop k v.words;
+}
 
 -- the node with other links as far as the place l
 abbrev pub with_links_to : ℕ → List ℕ → Node → Node
-with_links_to l links v = record { state = v.state; links = take l links ++ drop l v.links; words = v.words }
+with_links_to l links v = record {
+  state = v.state;
+  links = take l links ++ drop l v.links;
+  words = v.words;
+}

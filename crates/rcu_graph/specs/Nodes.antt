@@ -1,6 +1,7 @@
 -- Nodes that lead to one another: what state each is in, and what a look at the number makes of it.
-use Rattle.std.specs.Prelude.{◌≡◌, ◌≢◌, ℕ, suc, ◌+◌, ◌*◌, ◌⊎◌, ◌<◌, ◌≤◌, if◌then◌else◌, Bool, true, false, List, [], ◌++◌, ◌∷◌}
-use Rattle.std.specs.Prelude.{map, replicate, slice_index, slice_index_or, slice_set, nat_lt}
+use Rattle.std.specs.Prelude.{◌≡◌, ◌≢◌, ℕ, suc, ◌+◌, ◌*◌, ◌⊎◌, ◌<◌, ◌≤◌, if◌then◌else◌, Bool, true}
+use Rattle.std.specs.Prelude.{false, List, [], ◌++◌, ◌∷◌, map, replicate, slice_index}
+use Rattle.std.specs.Prelude.{slice_index_or, slice_set, nat_lt}
 use Rattle.std.specs.Coded.{Unit-prop}
 use Rattle.std.specs.List.{range_with_len}
 use mathlib.Core.Option.{some}
@@ -47,7 +48,8 @@ is_live Live = true
 is_live Left = false
 is_live (Retired number) = false
 
--- whoever may be on a node in the first state may go on to one in the second, now and after each look at the number
+-- whoever may be on a node in the first state may go on to one in the second, now and after each
+-- look at the number
 abbrev pub Outlives : NodeState → NodeState → Type 0
 Outlives Free to = Unit {0}
 Outlives Live Free = ⊥
@@ -98,8 +100,8 @@ worded k x v = record { state = v.state; links = v.links; words = slice_set v.wo
 abbrev pub renewed : List Node → ℕ → (Node → Node) → List Node
 renewed nodes i change = slice_set nodes i (change (node_at nodes i))
 
--- at the number n, of which m is no less: what was left is so no later than m, and what was left a full grace period
--- ago is free
+-- at the number n, of which m is no less: what was left is so no later than m, and what was left a
+-- full grace period ago is free
 abbrev pub aged_state : Number → Number → NodeState → NodeState
 aged_state n m Free = Free
 aged_state n m Live = Live
@@ -117,23 +119,31 @@ abbrev pub root : ℕ → List ℕ → Node
 root links words = record { state = Live; links = replicate links 0; words = words }
 
 abbrev pub free_node : ℕ → ℕ → Node
-free_node links width = record { state = Free; links = replicate links 0; words = replicate width 0 }
+free_node links width = record {
+  state = Free;
+  links = replicate links 0;
+  words = replicate width 0;
+}
 
 abbrev pub first_node : ℕ → ℕ → (ℕ → List ℕ) → ℕ → ℕ → Node
-first_node links width first roots i = if nat_lt i roots then root links (first i) else free_node links width
+first_node links width first roots i =
+    if nat_lt i roots then root links (first i) else free_node links width
 
 abbrev pub first_nodes : ℕ → ℕ → (ℕ → List ℕ) → ℕ → ℕ → List Node
-first_nodes links width first roots count = map (first_node links width first roots) (range_with_len 0 count)
+first_nodes links width first roots count =
+    map (first_node links width first roots) (range_with_len 0 count)
 
 -- no live node leads to the node i
 abbrev pub IsUnlinked : ℕ → List Node → ℕ → Type 0
-IsUnlinked links nodes i = (j l : ℕ) (v : Node) → get_elem? nodes j ≡ some v → v.state ≡ Live → l < links
+IsUnlinked links nodes i =
+    (j l : ℕ) (v : Node) → get_elem? nodes j ≡ some v → v.state ≡ Live → l < links
     → slice_index v.links l ≢ suc i
 
 -- each link of these leads nowhere, or to a live node to which it may lead
 abbrev pub IsTarget : (List ℕ → List ℕ → Type 0) → List ℕ → List Node → ℕ → Type 0
 IsTarget joins words nodes x =
-    (j : ℕ) → x ≡ suc j → (to : Node) × (get_elem? nodes j ≡ some to) × (to.state ≡ Live) × joins words to.words
+    (j : ℕ) → x ≡ suc j
+    → (to : Node) × (get_elem? nodes j ≡ some to) × (to.state ≡ Live) × joins words to.words
 
 -- the hops of a section, the latest one first
 abbrev pub hops_in : Known → List Hop
@@ -142,9 +152,11 @@ hops_in Owner = []
 hops_in (Reader hops) = hops
 hops_in (Keeper latest nodes) = []
 
--- a section made one hop more: from the node i along the link l it found the word x, and came to these words
+-- a section made one hop more: from the node i along the link l it found the word x, and came to
+-- these words
 abbrev pub after_hop : Known → ℕ → ℕ → ℕ → List ℕ → Known
-after_hop was i l x words = Reader (record { from = i; link = l; to = x; words = words } ∷ hops_in was)
+after_hop was i l x words =
+    Reader (record { from = i; link = l; to = x; words = words } ∷ hops_in was)
 
 -- it reads, it keeps the nodes
 abbrev pub IsReader : Known → Type 0
@@ -181,7 +193,11 @@ latest_in (Keeper latest nodes) = latest
 -- the section came to the node i, which has these words: one of its hops led there
 abbrev pub IsHeld : Known → ℕ → List ℕ → Type 0
 IsHeld known i words =
-    (k : ℕ) × (h : Hop) × (get_elem? (hops_in known) k ≡ some h) × (h.to ≡ suc i) × (h.words ≡ words)
+    (k : ℕ)
+    × (h : Hop)
+    × (get_elem? (hops_in known) k ≡ some h)
+    × (h.to ≡ suc i)
+    × (h.words ≡ words)
 
 -- the node i has these words: it is a root, or the section holds it
 abbrev pub IsOn : (ℕ → List ℕ) → ℕ → Known → ℕ → List ℕ → Type 0

@@ -1,5 +1,6 @@
 -- Nodes that stand round a ring, each at a place of its own.
-use Rattle.std.specs.Prelude.{◌≡◌, ◌+◌, ◌-◌, ◌<◌, ℕ, if◌then◌else◌, List, length, nat_lt, slice_index, slice_set}
+use Rattle.std.specs.Prelude.{◌≡◌, ◌+◌, ◌-◌, ◌<◌, ℕ, if◌then◌else◌, List, length, nat_lt}
+use Rattle.std.specs.Prelude.{slice_index, slice_set}
 
 -- each of so many nodes stands at one place, and at each place stands one node
 pub record IsRing (count : ℕ) (nodes places : List ℕ) : Type 0 where
@@ -12,7 +13,8 @@ pub record IsRing (count : ℕ) (nodes places : List ℕ) : Type 0 where
 
 -- the place so many steps on from another
 abbrev pub place_on : ℕ → ℕ → ℕ → ℕ
-place_on count place steps = if nat_lt (place + steps) count then place + steps else place + steps - count
+place_on count place steps =
+    if nat_lt (place + steps) count then place + steps else place + steps - count
 
 -- how many steps on from the first place the other one is
 abbrev pub steps_to : ℕ → ℕ → ℕ → ℕ
@@ -20,4 +22,5 @@ steps_to count first place = if nat_lt place first then place + count - first el
 
 -- the places after the node changed places with the other one
 abbrev pub exchanged : List ℕ → ℕ → ℕ → List ℕ
-exchanged places node other = slice_set (slice_set places other (slice_index places node)) node (slice_index places other)
+exchanged places node other =
+    slice_set (slice_set places other (slice_index places node)) node (slice_index places other)

@@ -1,5 +1,6 @@
 -- What a search in a chain finds, and what it has looked at when it ends.
-use Rattle.std.specs.Prelude.{◌≡◌, ◌⊎◌, ℕ, suc, ◌<◌, List, [], ◌∷◌, ◌++◌, Option, Some, None, slice_index}
+use Rattle.std.specs.Prelude.{◌≡◌, ◌⊎◌, ℕ, suc, ◌<◌, List, [], ◌∷◌, ◌++◌, Option, Some, None}
+use Rattle.std.specs.Prelude.{slice_index}
 use Rattle.rcu_graph.specs.Nodes.{IsHeld, hops_in}
 use Rattle.rcu_graph.specs.declared.known.Hop.{Hop}
 use Rattle.rcu_graph.specs.declared.known.Known.{Known}
@@ -19,20 +20,21 @@ pub record IsFound (fits : List ℕ → Type 0) (key : ℕ) (known : Known) (nod
 abbrev pub key_after : Hop → ℕ
 key_after hop = slice_index hop.words 0
 
--- these hops, the latest one first, are a path from the root to the node: each is along the link 0, from the node to
--- which the one before it led, and it led to a node whose key is below this one
+-- these hops, the latest one first, are a path from the root to the node: each is along the link 0,
+-- from the node to which the one before it led, and it led to a node whose key is below this one
 abbrev pub IsPath : ℕ → ℕ → List Hop → ℕ → Type 0
 IsPath root key [] node = node ≡ root
 IsPath root key (hop ∷ before) node =
     (hop.to ≡ suc node) × (hop.link ≡ 0) × (key_after hop < key) × IsPath root key before hop.from
 
--- by this hop a search for the key is decided: it led to the node with the key, or else nowhere or to a greater key
+-- by this hop a search for the key is decided: it led to the node with the key, or else nowhere or
+-- to a greater key
 abbrev pub Decides : ℕ → Option ℕ → Hop → Type 0
 Decides key (Some node) hop = (hop.to ≡ suc node) × (key_after hop ≡ key)
 Decides key None hop = (hop.to ≡ 0) ⊎ (key < key_after hop)
 
--- a section searched the chain of the root for the key: its hops are those before, a path from the root over lesser
--- keys, and from the path's end the one that decides
+-- a section searched the chain of the root for the key: its hops are those before, a path from the
+-- root over lesser keys, and from the path's end the one that decides
 pub record IsSearched (root key : ℕ) (was : Known) (found : Option ℕ) (now : Known) : Type 0 where
   pub path : List Hop
   pub last : Hop

@@ -1,6 +1,7 @@
--- The rule of the nodes is kept where sections open and close, where a seat is dealt, and where what a seat knows is
--- handed over.
-use Rattle.std.specs.Prelude.{◌≡◌, ◌≢◌, ℕ, List, [], ◌∷◌, ◌++◌, length, Option, Some, None, slice_set}
+-- The rule of the nodes is kept where sections open and close, where a seat is dealt, and where
+-- what a seat knows is handed over.
+use Rattle.std.specs.Prelude.{◌≡◌, ◌≢◌, ℕ, List, [], ◌∷◌, ◌++◌, length, Option, Some, None}
+use Rattle.std.specs.Prelude.{slice_set}
 use Rattle.std.proofs.Common.{refl, sym, ◌∙◌, subst, ⊎_elim}
 use mathlib.Core.Option.{some}
 use lib.ListN.{get_elem?}
@@ -26,7 +27,8 @@ module _ (first : ℕ → List ℕ) (roots links width count : ℕ) (nodes : Lis
   abbrev pub SeatKnows : ℕ → ℕ → ClientView Known → Type 0
   SeatKnows keeper id x = Knows first roots links width count nodes latest keeper id x.1 x.2
 
-  knows_opened : (keeper id : ℕ) (number : Number) (known : Known) → Knows first roots links width count nodes latest keeper id None known
+  knows_opened : (keeper id : ℕ) (number : Number) (known : Known)
+      → Knows first roots links width count nodes latest keeper id None known
       → Knows first roots links width count nodes latest keeper id (Some number) known
   knows_opened keeper id number Idle k = tt
   knows_opened keeper id number Owner k = k
@@ -50,16 +52,18 @@ module _ (first : ℕ → List ℕ) (roots links width count : ℕ) (nodes : Lis
   keeper_after keeper new (Keeper s known) = new
 
   -- the seat to which it is handed over knows it
-  knows_handed : (keeper id new : ℕ) (known : Known) → Knows first roots links width count nodes latest keeper id None known
-      → Knows first roots links width count nodes latest (keeper_after keeper new known) new None known
+  knows_handed : (keeper id new : ℕ) (known : Known)
+      → Knows first roots links width count nodes latest keeper id None known
+      → Knows first roots links width count nodes latest (keeper_after keeper new known) new None
+      known
   knows_handed keeper id new Idle k = tt
   knows_handed keeper id new Owner k = (k.0, k.1, refl)
   knows_handed keeper id new (Reader hops) k = k
   knows_handed keeper id new (Keeper s known) k = (k.0, k.1, refl)
 
   -- another seat has kept them only where it is not that one which hands them over
-  still_keeps : (keeper id new j : ℕ) (known : Known) → Knows first roots links width count nodes latest keeper id None known → j ≢ id
-      → keeper ≡ j
+  still_keeps : (keeper id new j : ℕ) (known : Known)
+      → Knows first roots links width count nodes latest keeper id None known → j ≢ id → keeper ≡ j
       → keeper_after keeper new known ≡ j
   still_keeps keeper id new j Idle k apart e = e
   still_keeps keeper id new j Owner k apart e = absurd (apart (sym e ∙ k.2))
@@ -67,9 +71,11 @@ module _ (first : ℕ → List ℕ) (roots links width count : ℕ) (nodes : Lis
   still_keeps keeper id new j (Keeper s known) k apart e = absurd (apart (sym e ∙ k.2))
 
   knows_still : (keeper id new j : ℕ) (known : Known) (section : Option Number) (other : Known)
-      → Knows first roots links width count nodes latest keeper id None known → j ≢ id
+      → Knows first roots links width count nodes latest keeper id None known
+      → j ≢ id
       → Knows first roots links width count nodes latest keeper j section other
-      → Knows first roots links width count nodes latest (keeper_after keeper new known) j section other
+      → Knows first roots links width count nodes latest (keeper_after keeper new known) j section
+      other
   knows_still keeper id new j known section Idle mine apart k = tt
   knows_still keeper id new j known section Owner mine apart k =
       (k.0, k.1, still_keeps keeper id new j known mine apart k.2)
@@ -82,7 +88,8 @@ module _ (fits : List ℕ → Type 0) (joins : ℕ → List ℕ → List ℕ →
   -- the rule is kept where the seats know what is so
   pub reseated : (words : List ℕ) (homes : Slots (Unit {0})) (xs ys : Views Known)
       (h : IsKept fits joins first roots links width count words homes xs) (keeper : ℕ)
-      → ((j : ℕ) (y : ClientView Known) → get_elem? ys j ≡ some y → SeatKnows first roots links width count h.nodes h.latest keeper j y)
+      → ((j : ℕ) (y : ClientView Known) → get_elem? ys j ≡ some y → SeatKnows first roots links
+      width count h.nodes h.latest keeper j y)
       → IsKept fits joins first roots links width count words homes ys
   reseated words homes xs ys h keeper seats = record {
     nodes = h.nodes;
@@ -94,39 +101,56 @@ module _ (fits : List ℕ → Type 0) (joins : ℕ → List ℕ → List ℕ →
 
   -- one seat changes
   pub one_changes : (words : List ℕ) (homes : Slots (Unit {0})) (xs : Views Known)
-      (h : IsKept fits joins first roots links width count words homes xs) (id : ℕ) (x : ClientView Known)
-      → SeatKnows first roots links width count h.nodes h.latest h.keeper id x → IsKept fits joins first roots links width count words homes (slice_set xs id x)
+      (h : IsKept fits joins first roots links width count words homes xs) (id : ℕ)
+      (x : ClientView Known)
+      → SeatKnows first roots links width count h.nodes h.latest h.keeper id x
+      → IsKept fits joins first roots links width count words homes (slice_set xs id x)
   one_changes words homes xs h id x mine = reseated words homes xs (slice_set xs id x) h h.keeper
-      (reseat (SeatKnows first roots links width count h.nodes h.latest h.keeper) xs id x mine (λ j y apart at. h.seats j y.0 y.1 y.2 at))
+      (reseat (SeatKnows first roots links width count h.nodes h.latest h.keeper) xs id x mine
+      (λ j y apart at. h.seats j y.0 y.1 y.2 at))
 
   handed : (words : List ℕ) (homes : Slots (Unit {0})) (xs : Views Known) (id : ℕ) (known : Known)
       (h : IsKept fits joins first roots links width count words homes xs)
       → get_elem? xs id ≡ some (None, None, known)
-      → IsKept fits joins first roots links width count words homes (slice_set xs id (None, None, Idle) ++ (None, None, known) ∷ [])
+      → IsKept fits joins first roots links width count words homes
+      (slice_set xs id (None, None, Idle) ++ (None, None, known) ∷ [])
   handed words homes xs id known h at =
       let left : Views Known = slice_set xs id (None, None, Idle) in
       let new : ℕ = length left in
       let mine = h.seats id None None known at in
-      let keeper : ℕ = keeper_after first roots links width count h.nodes h.latest h.keeper new known in
+      let keeper : ℕ =
+      keeper_after first roots links width count h.nodes h.latest h.keeper new known in
       let front : (j : ℕ) (y : ClientView Known) → get_elem? left j ≡ some y
       → SeatKnows first roots links width count h.nodes h.latest keeper j y =
-      reseat (SeatKnows first roots links width count h.nodes h.latest keeper) xs id (None, None, Idle) tt
-      (λ j y apart e. knows_still first roots links width count h.nodes h.latest h.keeper id new j known y.1 y.2 mine apart (h.seats j y.0 y.1 y.2 e)) in
-      reseated words homes xs (left ++ (None, None, known) ∷ []) h keeper (λ j y e. ⊎_elim
-      (λ (old : get_elem? left j ≡ some y). front j y old)
-      (λ (last : (j ≡ new) × ((None, None, known) ≡ y)). subst (λ (z : ℕ × ClientView Known). SeatKnows first roots links width count h.nodes h.latest keeper z.0 z.1)
-      (λ i. (sym last.0 i, last.1 i)) (knows_handed first roots links width count h.nodes h.latest h.keeper id new known mine))
+      reseat (SeatKnows first roots links width count h.nodes h.latest keeper) xs id
+      (None, None, Idle) tt
+      (λ j y apart e. knows_still first roots links width count h.nodes h.latest h.keeper id new j
+      known y.1 y.2 mine apart (h.seats j y.0 y.1 y.2 e)) in
+      reseated words homes xs (left ++ (None, None, known) ∷ []) h keeper
+      (λ j y e. ⊎_elim (λ (old : get_elem? left j ≡ some y). front j y old)
+      (λ (last : (j ≡ new) × ((None, None, known) ≡ y)).
+      subst (λ (z : ℕ × ClientView Known).
+      SeatKnows first roots links width count h.nodes h.latest keeper z.0 z.1)
+      (λ i. (sym last.0 i, last.1 i))
+      (knows_handed first roots links width count h.nodes h.latest h.keeper id new known mine))
       (at_end left (None, None, known) y j e))
 
   pub is_stable : IsStable (IsKept fits joins first roots links width count) Idle closed
   is_stable = record {
-    opens = λ words homes xs id number cpu known h at. one_changes words homes xs h id (cpu, Some number, known)
-        (knows_opened first roots links width count h.nodes h.latest h.keeper id number known (h.seats id cpu None known at));
-    closes = λ words homes xs id cpu section known h at. one_changes words homes xs h id (cpu, None, closed known)
-        (knows_closed first roots links width count h.nodes h.latest h.keeper id section known (h.seats id cpu section known at));
-    deals = λ words homes xs cpu h. reseated words homes xs (xs ++ (cpu, None, Idle) ∷ []) h h.keeper (λ j y e. ⊎_elim
-        (λ (old : get_elem? xs j ≡ some y). h.seats j y.0 y.1 y.2 old)
-        (λ (last : (j ≡ length xs) × ((cpu, None, Idle) ≡ y)). subst (λ (z : ClientView Known). SeatKnows first roots links width count h.nodes h.latest h.keeper j z) last.1 tt)
+    opens = λ words homes xs id number cpu known h at.
+        one_changes words homes xs h id (cpu, Some number, known)
+        (knows_opened first roots links width count h.nodes h.latest h.keeper id number known
+        (h.seats id cpu None known at));
+    closes = λ words homes xs id cpu section known h at.
+        one_changes words homes xs h id (cpu, None, closed known)
+        (knows_closed first roots links width count h.nodes h.latest h.keeper id section known
+        (h.seats id cpu section known at));
+    deals = λ words homes xs cpu h. reseated words homes xs (xs ++ (cpu, None, Idle) ∷ []) h
+        h.keeper (λ j y e. ⊎_elim (λ (old : get_elem? xs j ≡ some y). h.seats j y.0 y.1 y.2 old)
+        (λ (last : (j ≡ length xs) × ((cpu, None, Idle) ≡ y)).
+        subst (λ (z : ClientView Known).
+        SeatKnows first roots links width count h.nodes h.latest h.keeper j z)
+        last.1 tt)
         (at_end xs (cpu, None, Idle) y j e));
     hands = λ words homes xs id known h at. handed words homes xs id known h at;
   }

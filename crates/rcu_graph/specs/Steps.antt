@@ -1,46 +1,53 @@
 -- What each step on the nodes tells.
 use Rattle.std.specs.Prelude.{◌≡◌, ◌⊎◌, ℕ, suc, ◌+◌, ◌<◌, List, [], length, slice_index, max}
 use Rattle.rcu_seq.specs.Numbers.{Number}
-use Rattle.rcu_graph.specs.Nodes.{IsOn, after_hop, aged, first_nodes, in_state, latest_in, linked_to, nodes_in, place_of}
-use Rattle.rcu_graph.specs.Nodes.{renewed, worded}
+use Rattle.rcu_graph.specs.Nodes.{IsOn, after_hop, aged, first_nodes, in_state, latest_in}
+use Rattle.rcu_graph.specs.Nodes.{linked_to, nodes_in, place_of, renewed, worded}
 use Rattle.rcu_graph.specs.declared.known.Known.{Known}
 use Rattle.rcu_graph.specs.declared.known.Known.TheVariants.{Keeper}
 use Rattle.rcu_graph.specs.declared.node_state.NodeState.TheVariants.{Left, Live}
 
--- the section came to the node j, which has these words, by a link that may lead there: the node is whole
+-- the section came to the node j, which has these words, by a link that may lead there: the node is
+-- whole
 pub record Came (fits joins : List ℕ → Type 0) (width count j : ℕ) (words : List ℕ) : Type 0 where
   pub inside : j < count
   pub size : length words ≡ width
   pub whole : fits words
   pub joined : joins words
 
--- where this word of a link leads: nowhere, where there are no words, or to a node which has these words
+-- where this word of a link leads: nowhere, where there are no words, or to a node which has these
+-- words
 abbrev pub IsLedTo : (List ℕ → Type 0) → (List ℕ → Type 0) → ℕ → ℕ → ℕ → List ℕ → Type 0
 IsLedTo fits joins width count x words =
     ((x ≡ 0) × (words ≡ [])) ⊎ ((j : ℕ) × (x ≡ suc j) × Came fits joins width count j words)
 
--- the link l of the node i was loaded, and this word was found there: the hops of the section are those before, and this
--- one
-pub record Followed (fits joins : List ℕ → Type 0) (width count : ℕ) (was : Known) (i l x : ℕ) (now : Known) : Type 0 where
+-- the link l of the node i was loaded, and this word was found there: the hops of the section are
+-- those before, and this one
+pub record Followed (fits joins : List ℕ → Type 0) (width count : ℕ) (was : Known) (i l x : ℕ)
+    (now : Known) : Type 0 where
   pub words : List ℕ
   pub is : now ≡ after_hop was i l x words
   pub led : IsLedTo fits joins width count x words
 
-abbrev pub IsFollowed : (List ℕ → Type 0) → (ℕ → List ℕ → List ℕ → Type 0) → (ℕ → List ℕ) → ℕ → ℕ → ℕ → ℕ → ℕ → Known
-    → ℕ → Known → Type 0
+abbrev pub IsFollowed : (List ℕ → Type 0)
+    → (ℕ → List ℕ → List ℕ → Type 0) → (ℕ → List ℕ) → ℕ → ℕ → ℕ → ℕ → ℕ → Known → ℕ → Known → Type 0
 IsFollowed fits joins first roots links width count place was x now =
-    (i l : ℕ) (words : List ℕ) → l < links → place ≡ place_of (links + width) i l → IsOn first roots was i words
+    (i l : ℕ) (words : List ℕ)
+    → l < links → place ≡ place_of (links + width) i l → IsOn first roots was i words
     → Followed fits (joins l words) width count was i l x now
 
 -- a word of a node was loaded: the one that it had when the section came to it
 abbrev pub IsRead : (ℕ → List ℕ) → ℕ → ℕ → ℕ → ℕ → Known → ℕ → Known → Type 0
 IsRead first roots links width place was x now =
     (now ≡ was)
-    × ((i k : ℕ) (words : List ℕ) → k < width → place ≡ place_of (links + width) i (links + k) → IsOn first roots was i words → x ≡ slice_index words k)
+    × ((i k : ℕ) (words : List ℕ)
+    → k < width → place ≡ place_of (links + width) i (links + k) → IsOn first roots was i words
+    → x ≡ slice_index words k)
 
 -- the nodes are kept from now on, as they were at first
 abbrev pub IsClaimed : (ℕ → List ℕ) → ℕ → ℕ → ℕ → ℕ → Known → Type 0
-IsClaimed first roots links width count now = now ≡ Keeper 0 (first_nodes links width first roots count)
+IsClaimed first roots links width count now =
+    now ≡ Keeper 0 (first_nodes links width first roots count)
 
 -- a word was stored, and a link
 abbrev pub IsWritten : ℕ → ℕ → ℕ → Known → ℕ → Known → Type 0
@@ -56,8 +63,12 @@ IsLinked links width place was x now =
 -- a link was stored that leads to a node which is live from now on
 abbrev pub IsPublished : ℕ → ℕ → ℕ → Known → ℕ → Known → Type 0
 IsPublished links width place was x now =
-    (i l j : ℕ) → l < links → place ≡ place_of (links + width) i l → x ≡ suc j
-    → now ≡ Keeper (latest_in was) (renewed (renewed (nodes_in was) j (in_state Live)) i (linked_to l x))
+    (i l j : ℕ)
+    → l < links
+    → place ≡ place_of (links + width) i l
+    → x ≡ suc j
+    → now
+    ≡ Keeper (latest_in was) (renewed (renewed (nodes_in was) j (in_state Live)) i (linked_to l x))
 
 -- a node was left
 abbrev pub IsLeft : ℕ → ℕ → ℕ → Known → ℕ → Known → Type 0
@@ -68,4 +79,5 @@ IsLeft links width place was x now =
 -- the nodes are a look at the number older
 abbrev pub IsAged : Known → Number → Known → Type 0
 IsAged was number now =
-    now ≡ Keeper (max number (latest_in was)) (aged number (max number (latest_in was)) (nodes_in was))
+    now
+    ≡ Keeper (max number (latest_in was)) (aged number (max number (latest_in was)) (nodes_in was))

@@ -1,9 +1,11 @@
 -- What a keeper keeps of the live nodes, and what it leaves by itself.
-use Rattle.std.specs.Prelude.{◌≡◌, ◌⊎◌, ◌<◌, ◌≤◌, ℕ, suc, Bool, true, List, Option, length, map, slice_index}
+use Rattle.std.specs.Prelude.{◌≡◌, ◌⊎◌, ◌<◌, ◌≤◌, ℕ, suc, Bool, true, List, Option, length, map}
+use Rattle.std.specs.Prelude.{slice_index}
 use Rattle.rcu_live.specs.Watcher.{Watching}
 use Rattle.rcu_graph.specs.Graph.{word_to}
 use Rattle.rcu_graph.specs.Keeper.{after_step}
-use Rattle.rcu_graph.specs.Nodes.{IsTarget, in_state, linked_to, node_at, nodes_in, renewed, state_at}
+use Rattle.rcu_graph.specs.Nodes.{IsTarget, in_state, linked_to, node_at, nodes_in, renewed}
+use Rattle.rcu_graph.specs.Nodes.{state_at}
 use Rattle.rcu_graph.specs.declared.known.Known.{Known}
 use Rattle.rcu_graph.specs.declared.known.Node.{Node}
 use Rattle.rcu_graph.specs.declared.node_state.NodeState.TheVariants.{Free, Left, Live}
@@ -16,10 +18,10 @@ pub record IsReached (links : ℕ) (nodes : List Node) (j : ℕ) : Type 0 where
   pub inside : link < links
   pub leads : slice_index (node_at nodes from).links link ≡ suc j
 
--- each root is live; each live node is whole, its links lead nowhere or to live nodes to which they may lead, and it is
--- a root or a live node leads to it
-pub record AreTended (fits : List ℕ → Type 0) (joins : ℕ → List ℕ → List ℕ → Type 0) (roots links : ℕ) (nodes : List Node)
-    : Type 0 where
+-- each root is live; each live node is whole, its links lead nowhere or to live nodes to which they
+-- may lead, and it is a root or a live node leads to it
+pub record AreTended (fits : List ℕ → Type 0) (joins : ℕ → List ℕ → List ℕ → Type 0)
+    (roots links : ℕ) (nodes : List Node) : Type 0 where
   pub rooted : (i : ℕ) → i < roots → state_at nodes i ≡ Live
   pub whole : (i : ℕ) → state_at nodes i ≡ Live → fits (node_at nodes i).words
   pub led : (i l : ℕ) → state_at nodes i ≡ Live → l < links
@@ -39,8 +41,8 @@ pub record AreHeldUp (roots links : ℕ) (nodes : List Node) (these : ℕ → Bo
   pub live : (i : ℕ) → these i ≡ true → state_at nodes i ≡ Live
   pub held : (i : ℕ) → these i ≡ true → (i < roots) ⊎ IsReachedFrom links nodes these i
 
--- of the nodes as they were stored those are left that are no roots and to which no live node leads any more, and nothing
--- else changes: nodes that hold one another up stay live
+-- of the nodes as they were stored those are left that are no roots and to which no live node leads
+-- any more, and nothing else changes: nodes that hold one another up stay live
 pub record AreTrimmed (roots links : ℕ) (stored nodes : List Node) : Type 0 where
   pub few : length nodes ≡ length stored
   pub links_stay : (i : ℕ) → (node_at nodes i).links ≡ (node_at stored i).links
@@ -48,7 +50,8 @@ pub record AreTrimmed (roots links : ℕ) (stored nodes : List Node) : Type 0 wh
   pub states : (i : ℕ) → (state_at nodes i ≡ state_at stored i)
       ⊎ ((roots ≤ i) × (state_at stored i ≡ Live) × (state_at nodes i ≡ Left))
   pub reached : (i : ℕ) → state_at nodes i ≡ Live → roots ≤ i → IsReached links nodes i
-  pub stay : (these : ℕ → Bool) → AreHeldUp roots links stored these → (i : ℕ) → these i ≡ true → state_at nodes i ≡ Live
+  pub stay : (these : ℕ → Bool) → AreHeldUp roots links stored these → (i : ℕ) → these i ≡ true
+      → state_at nodes i ≡ Live
 
 -- the nodes after a link of the node i was led to the free node j, which is live then
 abbrev pub published : List Node → ℕ → ℕ → ℕ → List Node
@@ -64,7 +67,8 @@ filled_with links words v = record { state = v.state; links = links; words = wor
 
 -- after the links and words of the node i were written
 abbrev pub after_fill : Watching Known → ℕ → List ℕ → List (Option ℕ) → Watching Known
-after_fill keeper i words links = after_step keeper (renewed (nodes_in keeper.view.client) i (filled_with (map word_to links) words))
+after_fill keeper i words links = after_step keeper
+    (renewed (nodes_in keeper.view.client) i (filled_with (map word_to links) words))
 
 -- no node is free
 abbrev pub AreAllUsed : List Node → Type 0

@@ -6,8 +6,8 @@ use Rattle.rcu_live.specs.CpuSeat.{Seated, after_word_step}
 use Rattle.rcu_graph.specs.declared.known.Known.{Known}
 use Rattle.rcu_graph.specs.declared.walk.Walk.{Walk}
 
--- the graph, the seat whose section walks it, and which seat is borrowed: a name that tells one borrowed seat from
--- another
+-- the graph, the seat whose section walks it, and which seat is borrowed: a name that tells one
+-- borrowed seat from another
 pub record Walked : Type 0 where
   pub graph : Object
   pub seat : Seated Known

@@ -1,12 +1,12 @@
 -- What collections from the first processors leave, one after another.
-use Rattle.std.proofs.Common.{◌≡◌, ℕ, zero, suc, ◌+◌, ◌<◌, ◌&&◌, ◌++◌, Bool, true, false, not, nat_lt, if◌then◌else◌}
-use Rattle.std.proofs.Common.{List, ◌∷◌, length, refl, sym, ap, ◌∙◌, arith, inl, inr}
+use Rattle.std.proofs.Common.{◌≡◌, ℕ, zero, suc, ◌+◌, ◌-◌, ◌<◌, ◌≤◌, ◌&&◌, ◌++◌, Bool, true, false, not, nat_lt, if◌then◌else◌}
+use Rattle.std.proofs.Common.{List, ◌∷◌, length, refl, sym, ap, ◌∙◌, subst, arith, inl, inr}
 use Rattle.std.proofs.lemmas.Bool.{cases_Bool}
 use Rattle.std.proofs.lemmas.Bool.Decides.{nat_tests}
 use Rattle.rcu_seq.specs.Numbers.{Number}
 use Rattle.rcu_seq.specs.Seq.{number_of}
 use Rattle.rcu_node.specs.CpuSet.{is_in, unheard}
-use Rattle.rcu_node.proofs.CpuSetLemmas.{is_in-listed}
+use Rattle.rcu_node.proofs.CpuSetLemmas.{is_in-unheard, length-unheard}
 use Rattle.rcu_state.specs.GpState.{after_current_report, with_awaited}
 use Rattle.rcu_live.specs.Drive.{after_collections, loads_of}
 use Rattle.rcu_live.specs.Engine.{Locked, after_collect, latest_word, latest_words, loaded_word}
@@ -59,19 +59,25 @@ module _ {C X : Type 0} where
       let flags = sym (none_below e.grace.processors.awaited (reported_by (number_of e.grace.seq) word)) in
       λ i. record e { view = record e.view { loads = loads i }; grace = with_awaited e.grace (flags i) }
 
-  -- the next one is awaited where it was
-  pub awaited_still : (e now : Locked C X) (n : ℕ) (word : ℕ → ℕ) → n < length e.grace.processors.awaited
-      → now ≡ collected_below e n word
-      → is_in now.grace.processors.awaited n ≡ is_in e.grace.processors.awaited n
-  awaited_still e now n word inside is =
+  -- those that are not passed yet are awaited where they were
+  pub awaited_still : (e now : Locked C X) (n c : ℕ) (word : ℕ → ℕ) → n ≤ c → now ≡ collected_below e n word
+      → is_in now.grace.processors.awaited c ≡ is_in e.grace.processors.awaited c
+  awaited_still e now n c word later is =
       let set : List Bool = e.grace.processors.awaited in
       let t : Number = number_of e.grace.seq in
-      ap (λ (y : Locked C X). is_in y.grace.processors.awaited n) is
-      ∙ is_in-listed (length set) (λ c. is_in set c && not (heard_below n (reported_by t word) c)) n inside
-      ∙ still (is_in set n) (reports_quiescence t (word n)) n
+      ap (λ (y : Locked C X). is_in y.grace.processors.awaited c) is
+      ∙ is_in-unheard set (heard_below n (reported_by t word)) c
+      ∙ still (is_in set c) (reports_quiescence t (word c)) c n later
     where
-      still : (here there : Bool) (n : ℕ) → (here && not (nat_lt n n && there)) ≡ here
-      still here there n = grind (arith, nat_tests)
+      still : (here there : Bool) (c n : ℕ) → n ≤ c → (here && not (nat_lt c n && there)) ≡ here
+      still here there c n later = grind (arith, nat_tests, later)
+
+  -- there are as many processors as there were
+  pub cpus_still : (e now : Locked C X) (n : ℕ) (word : ℕ → ℕ) → now ≡ collected_below e n word
+      → length now.grace.processors.awaited ≡ length e.grace.processors.awaited
+  cpus_still e now n word is =
+      ap (λ (y : Locked C X). length y.grace.processors.awaited) is
+      ∙ length-unheard e.grace.processors.awaited (heard_below n (reported_by (number_of e.grace.seq) word))
 
   -- from one more
   pub one_collected : (e now next : Locked C X) (n : ℕ) → e.grace.seq.running ≡ true
@@ -130,6 +136,28 @@ module _ {C X : Type 0} where
         view = record e.view { loads = e.view.loads + length (sym loads i); own_word_loads = sym loads i ++ e.view.own_word_loads };
         grace = with_awaited e.grace (flags i);
       })
+
+  -- none of some more is awaited
+  some_passed_by : (e now : Locked C X) (n k : ℕ)
+      → ((c : ℕ) → n ≤ c → c < n + k → is_in e.grace.processors.awaited c ≡ false)
+      → now ≡ collected_below e n (latest_words now) → now ≡ collected_below e (n + k) (latest_words now)
+  some_passed_by e now n zero out old =
+      let same : n ≡ n + 0 = omega arith in
+      subst (λ (m : ℕ). now ≡ collected_below e m (latest_words now)) same old
+  some_passed_by e now n (suc k) out old =
+      let before = some_passed_by e now n k (λ c after less. out c after (omega (arith, less))) old in
+      let next : n + k + 1 ≡ n + suc k = omega arith in
+      subst (λ (m : ℕ). now ≡ collected_below e m (latest_words now)) next
+      (one_passed_by e now (n + k) (out (n + k) (omega arith) (omega arith)) before)
+
+  -- up to another one
+  pub passed_by : (e now : Locked C X) (n m : ℕ) → n ≤ m
+      → ((c : ℕ) → n ≤ c → c < m → is_in e.grace.processors.awaited c ≡ false)
+      → now ≡ collected_below e n (latest_words now) → now ≡ collected_below e m (latest_words now)
+  passed_by e now n m more out old =
+      let all : n + (m - n) ≡ m = omega (arith, more) in
+      subst (λ (k : ℕ). now ≡ collected_below e k (latest_words now)) all
+      (some_passed_by e now n (m - n) (λ c after less. out c after (omega (arith, less, all))) old)
 
   -- from all
   pub all_collected : (e now : Locked C X) (n : ℕ) → length e.grace.processors.awaited ≡ n → e.cpus ≡ n

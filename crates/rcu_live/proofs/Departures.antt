@@ -5,7 +5,7 @@ use Rattle.std.proofs.lemmas.Bool.Decides.{nat_tests}
 use Rattle.rcu_seq.specs.declared.fault.Fault.{Fault}
 use Rattle.rcu_node.specs.CpuSet.{is_in}
 use Rattle.rcu_hotplug.specs.Hotplug.{Depart, cpus_of, refusal}
-use Rattle.rcu_state.specs.GpState.{Grace, with_call}
+use Rattle.rcu_state.specs.GpState.{Grace, after_migrate, with_call}
 use Rattle.rcu_live.specs.EngineLists.{with_departure}
 
 -- a processor other than 0 departs where it is online
@@ -19,3 +19,9 @@ departed g now cpu (Ok u) inside other accepted state refused unchanged =
 departed g now cpu (Err fault) inside other accepted state refused unchanged =
     let gone : is_in g.processors.online cpu ≡ false = grind (arith, nat_tests) in
     unchanged ∙ sym (ap (λ (b : Bool). if b then with_call g (Depart cpu) else g) gone)
+
+-- where a list moves, or stays for want of memory, the processors stay
+pub moved_alone : {X U : Type 0} (g now : Grace X) (cpu : ℕ) (o : Result U Fault) → OnOk o (now ≡ after_migrate g cpu)
+    → OnErr o (now ≡ g) → now.processors ≡ g.processors
+moved_alone g now cpu (Ok u) state unchanged = ap (λ (y : Grace _). y.processors) state
+moved_alone g now cpu (Err fault) state unchanged = ap (λ (y : Grace _). y.processors) unchanged

@@ -64,3 +64,17 @@ none_more set n test other out same =
     stays : (here there new : Bool) (c n : ℕ) → (c < n → new ≡ there) → (c ≡ n → (here && new) ≡ false)
         → (here && not (nat_lt c n && there)) ≡ (here && not (nat_lt c (n + 1) && new))
     stays here there new c n is out = grind (arith, nat_tests, is, out)
+
+-- up to a processor before which nobody more was heard of that is in the set
+pub same_below : (set : List Bool) (n m : ℕ) (test : ℕ → Bool) → n ≤ m
+    → ((c : ℕ) → n ≤ c → c < m → (is_in set c && test c) ≡ false)
+    → unheard set (heard_below m test) ≡ unheard set (heard_below n test)
+same_below set n m test more none =
+    listed_same (length set) (λ c. is_in set c && not (heard_below m test c)) (unheard set (heard_below n test))
+    (length-listed (length set) (λ c. is_in set c && not (heard_below n test c)))
+    (λ c low. same (is_in set c) (test c) c n m more (λ after less. none c after less)
+    ∙ sym (is_in-listed (length set) (λ k. is_in set k && not (heard_below n test k)) c low))
+  where
+    same : (here there : Bool) (c n m : ℕ) → n ≤ m → (n ≤ c → c < m → (here && there) ≡ false)
+        → (here && not (nat_lt c m && there)) ≡ (here && not (nat_lt c n && there))
+    same here there c n m more out = grind (arith, nat_tests, more, out)

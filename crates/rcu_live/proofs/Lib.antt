@@ -16,6 +16,7 @@ pub mod HeardBelow
 pub mod ListRuns
 pub mod Loads
 pub mod Meetings
+pub mod NextCpus
 pub mod Numbers
 pub mod OldSections
 pub mod Openings

@@ -5,6 +5,7 @@ pub mod Drive
 pub mod Engine
 pub mod EngineLists
 pub mod Met
+pub mod NextCpu
 pub mod Numbers
 pub mod Opening
 pub mod Rule

@@ -1,15 +1,19 @@
 //! What a begin loads, and what it makes of it.
-ghost use Rattle.std.specs.Prelude.{◌≡◌, ◌<◌, ◌==◌, [], not, true, nat_lt, length, slice_set};
+ghost use Rattle.std.specs.Prelude.{◌≡◌, ◌<◌, ◌==◌, [], false, not, true, nat_lt, length};
+ghost use Rattle.std.specs.Prelude.{replicate, slice_set};
 ghost use Rattle.rcu_node.specs.CpuSet.{is_in, listed, unheard};
 ghost use Rattle.rcu_hotplug.specs.Hotplug.{cpus_of};
 ghost use Rattle.rcu_state.specs.GpState.{with_awaited};
 ghost use Rattle.rcu_live.specs.Engine.{OnlineBecomes, after_own_word_loads, loaded_word};
+ghost use Rattle.rcu_live.specs.Numbers.{reports_quiescence};
 ghost use Rattle.rcu_live.specs.View.{IsOfEngine};
 
 use crate::board::{Board, TableSeat};
 use crate::client::Client;
-use rcu_node::{Awaited, CpuSet};
+use crate::next_cpu::next_from;
+use crate::word_sets::WordSets;
 use rcu_state::GpState;
+use rcu_node::{Awaited, CpuSet};
 
 /// The processor is online from now on exactly where it is here. Processor 0 is.
 fn set_online<A: Awaited, T: Drop>(gp: &mut GpState<A, T>, cpu: u32, is_here: bool)
@@ -18,7 +22,10 @@ fn set_online<A: Awaited, T: Drop>(gp: &mut GpState<A, T>, cpu: u32, is_here: bo
     ensures { OnlineBecomes (slice_set gp.old.grace.processors.online cpu is_here)
         gp.old.grace gp.new.grace }
 {
-    // The call is refused where the processor is so already. Then nothing has to change.
+    if gp.online(cpu) == is_here {
+        return;
+    }
+    // Neither call is refused, since the processor is not so yet.
     let _ = if is_here {
         gp.arrive(cpu)
     } else {
@@ -26,32 +33,20 @@ fn set_online<A: Awaited, T: Drop>(gp: &mut GpState<A, T>, cpu: u32, is_here: bo
     };
 }
 
-/// The processor is in the set from now on exactly where it is already quiescent.
-fn mark(already_quiescent: &mut CpuSet, cpu: u32, is_already_quiescent: bool)
-    requires { cpu < length already_quiescent.old }
-    ensures { already_quiescent.new ≡ slice_set already_quiescent.old cpu is_already_quiescent }
-{
-    if is_already_quiescent {
-        already_quiescent.insert(cpu);
-    } else {
-        already_quiescent.remove(cpu);
-    }
-}
-
-/// Loads each own word, in turn. Online are the processors whose word is not 0, and already
-/// quiescent those whose word is above the number.
+/// Loads each own word, in turn. Online are the processors whose word is not 0: already quiescent
+/// where it is above the number, else awaited.
 pub(crate) fn load_own_words<A: Awaited, T: Drop, P: Client>(
     board: &Board<P>,
     seat: &mut TableSeat<P>,
     gp: &mut GpState<A, T>,
-    already_quiescent: &mut CpuSet,
-    number: u64,
+    by_word: &mut WordSets,
 )
     requires table { seat.old.table_id ≡ board.now.table }
     requires engine { IsOfEngine seat.old.me.0 }
     requires begun { seat.old.me.0.own_word_loads ≡ [] }
     requires cpus { cpus_of gp.old.grace.processors ≡ board.now.cpus }
-    requires already_quiescent { length already_quiescent.old ≡ board.now.cpus }
+    requires already_quiescent { by_word.old.already_quiescent ≡ replicate board.now.cpus false }
+    requires awaited { by_word.old.awaited ≡ replicate board.now.cpus false }
     ensures table { seat.new.table_id ≡ seat.old.table_id }
     ensures view { seat.new.me.0
         ≡ after_own_word_loads seat.old.me.0 (loaded_word seat.new.me.0.own_word_loads)
@@ -59,14 +54,16 @@ pub(crate) fn load_own_words<A: Awaited, T: Drop, P: Client>(
     ensures state { OnlineBecomes
         (listed board.now.cpus (λ cpu. not (loaded_word seat.new.me.0.own_word_loads cpu == 0)))
         gp.old.grace gp.new.grace }
-    ensures already_quiescent { already_quiescent.new
-        ≡ listed board.now.cpus
-        (λ cpu. nat_lt number (loaded_word seat.new.me.0.own_word_loads cpu)) }
+    ensures already_quiescent { by_word.new.already_quiescent
+        ≡ listed board.now.cpus (λ cpu.
+        nat_lt by_word.old.number (loaded_word seat.new.me.0.own_word_loads cpu)) }
+    ensures awaited { by_word.new.awaited ≡ listed board.now.cpus (λ cpu. not
+        (reports_quiescence by_word.old.number (loaded_word seat.new.me.0.own_word_loads cpu))) }
 {
     for cpu in 0..gp.cpus() {
         let word = board.load_own(seat, cpu);
         set_online(gp, cpu, word != 0);
-        mark(already_quiescent, cpu, word > number);
+        by_word.add(cpu, word);
     }
 }
 
@@ -77,9 +74,9 @@ pub(crate) fn report_all<A: Awaited, T: Drop>(gp: &mut GpState<A, T>, already_qu
     ensures { gp.new.grace ≡ with_awaited gp.old.grace
         (unheard gp.old.grace.processors.awaited (is_in already_quiescent.now)) }
 {
-    for cpu in 0..already_quiescent.cpus() {
-        if already_quiescent.contains(cpu) {
-            gp.report_current(cpu);
-        }
+    let mut from = 0;
+    while let Some(cpu) = next_from(already_quiescent, from) {
+        gp.report_current(cpu);
+        from = cpu + 1;
     }
 }

@@ -1,13 +1,17 @@
 //! What lies under the engine's lock.
-ghost use Rattle.std.specs.Prelude.{◌≡◌, length};
+ghost use Rattle.std.specs.Prelude.{◌≡◌, ◌<◌, ◌≤◌, ℕ, IfSome, None, false, length};
 ghost use Rattle.std.specs.Arc.{arc_value};
+ghost use Rattle.rcu_node.specs.CpuSet.{is_in};
 ghost use Rattle.rcu_hotplug.specs.Hotplug.{cpus_of};
 ghost use Rattle.rcu_live.specs.Engine.{ArePieces};
+ghost use Rattle.rcu_live.specs.NextCpu.{IsNextFrom};
 
 use crate::board::{Board, TableSeat};
 use crate::client::{Client, NoClient};
-use rcu_node::{Awaited, CpuSet};
+use crate::next_cpu::next_from;
+use crate::word_sets::WordSets;
 use rcu_state::GpState;
+use rcu_node::Awaited;
 use std::alloc::Global;
 use std::marker::Model;
 use std::sync::Arc;
@@ -22,8 +26,9 @@ pub struct Engine<A: Awaited, T: Drop, P: Client = NoClient> {
     pub(crate) board: Arc<Board<P>, Global>,
     pub(crate) seat: TableSeat<P>,
     pub(crate) gp: GpState<A, T>,
-    /// Room for the processors that a begin finds quiescent already.
-    pub(crate) already_quiescent: CpuSet,
+    /// The processors as the last begin found them, and those awaited once more, for walks that
+    /// pass over 64 at a time.
+    pub(crate) by_word: WordSets,
 }
 
 impl<A: Awaited, T: Drop, P: Client> Model for Engine<A, T, P> {
@@ -49,8 +54,9 @@ impl<A: Awaited, T: Drop, P: Client> Model for Engine<A, T, P> {
       number : e.seat.me.0.seen ≡ number_of e.gp.grace.seq;
       epoch : e.gp.grace.seq.epoch ≡ 0;
       cpus : cpus_of e.gp.grace.processors ≡ (arc_value e.board).cpus;
-      already_quiescent : length e.already_quiescent ≡ (arc_value e.board).cpus;
+      already_quiescent : length e.by_word.already_quiescent ≡ (arc_value e.board).cpus;
       awaited : AwaitsTheOthers (arc_value e.board).cpus e.seat.me.0.own_word_loads e.gp.grace;
+      same : e.by_word.awaited ≡ e.gp.grace.processors.awaited;
     } };
 }
 
@@ -60,11 +66,12 @@ impl<A: Awaited, T: Drop, P: Client> Engine<A, T, P> {
         board: Arc<Board<P>, Global>,
         seat: TableSeat<P>,
         gp: GpState<A, T>,
-        already_quiescent: CpuSet,
+        by_word: WordSets,
     ) -> Self
         requires table { seat.table_id ≡ (arc_value board).table }
         requires pieces { ArePieces (arc_value board).cpus seat.me.0 gp.grace
-            (length already_quiescent) }
+            (length by_word.already_quiescent) }
+        requires awaited { by_word.awaited ≡ gp.grace.processors.awaited }
         ensures { result ≡ record {
           table = (arc_value board).table;
           cpus = (arc_value board).cpus;
@@ -76,7 +83,7 @@ impl<A: Awaited, T: Drop, P: Client> Engine<A, T, P> {
             board,
             seat,
             gp,
-            already_quiescent,
+            by_word,
         }
     }
 
@@ -94,5 +101,18 @@ impl<A: Awaited, T: Drop, P: Client> Engine<A, T, P> {
         ensures epoch { result.now.grace.seq.epoch ≡ 0 }
     {
         &self.gp
+    }
+
+    /// The first processor from this one on that is awaited. Costs a step, and one more for every
+    /// 64 processors that it passes over.
+    pub fn next_awaited(&self, from: u32) -> Option<u32>
+        ensures first { IfSome result (λ cpu.
+            IsNextFrom self.now.grace.processors.awaited from cpu) }
+        ensures few { IfSome result (λ cpu. cpu < 4096) }
+        ensures none { result ≡ None → (cpu : ℕ) → from ≤ cpu →
+            is_in self.now.grace.processors.awaited cpu ≡ false }
+        ensures cpus { cpus_of self.now.grace.processors ≡ self.now.cpus }
+    {
+        next_from(&self.by_word.awaited, from)
     }
 }

@@ -4,13 +4,30 @@ ghost use Rattle.rcu_cblist.specs.SegList.{callbacks, is_empty};
 ghost use Rattle.rcu_barrier.specs.Lists.{list_of};
 ghost use Rattle.rcu_live.specs.Engine.{latest_word};
 ghost use Rattle.rcu_seq.specs.Memory.{tested_fault};
-ghost use Rattle.rcu_live.specs.EngineLists.{leave_refusal};
+ghost use Rattle.rcu_hotplug.specs.Hotplug.{cpus_of};
+ghost use Rattle.rcu_live.specs.EngineLists.{leave_refusal, with_departure};
 ghost use Rattle.rcu_live.specs.Runs.{Call, Makes};
 
 use crate::client::Client;
 use crate::engine::Engine;
-use rcu_node::Awaited;
+use rcu_state::GpState;
+use rcu_node::{Awaited, CpuSet};
 use rcu_seq::Fault;
+
+/// The processor departs, unless a begin has found it gone, and is awaited no more.
+#[tactic(auto, using(crate::proofs::Departures::departed))]
+fn depart<A: Awaited, T: Drop>(gp: &mut GpState<A, T>, awaited: &mut CpuSet, cpu: u32)
+    requires cpu { cpu < cpus_of gp.old.grace.processors }
+    requires other { cpu ≢ 0 }
+    requires awaited { awaited.old ≡ gp.old.grace.processors.awaited }
+    ensures state { gp.new.grace ≡ with_departure gp.old.grace cpu }
+    ensures awaited { awaited.new ≡ gp.new.grace.processors.awaited }
+{
+    if gp.online(cpu) {
+        let _ = gp.depart(cpu);
+        awaited.remove(cpu);
+    }
+}
 
 impl<A: Awaited, T: Drop, P: Client> Engine<A, T, P> {
     /// The processor is online here too, where no begin has found it. It is awaited from the next
@@ -29,7 +46,6 @@ impl<A: Awaited, T: Drop, P: Client> Engine<A, T, P> {
     /// Faults: `AlreadyOnline` (3) where its word is not 0; `Offline` (2) where it was offline
     /// before and its list is empty; `NoMemory` (16), only where its list is not empty: then it has
     /// departed, and its list stays.
-    #[tactic(auto, using(crate::proofs::Departures::departed))]
     pub fn leave(&mut self, cpu: u32, again: bool) -> Result<u64, Fault>
         requires { cpu < self.old.cpus }
         ensures other { OnOk result (0 < cpu) }
@@ -52,7 +68,7 @@ impl<A: Awaited, T: Drop, P: Client> Engine<A, T, P> {
         if again && self.gp.is_list_empty(cpu) {
             return Err(Fault::Offline);
         }
-        let _ = self.gp.depart(cpu);
+        depart(&mut self.gp, &mut self.by_word.awaited, cpu);
         self.gp.migrate(cpu)
     }
 }

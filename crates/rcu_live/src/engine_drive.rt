@@ -2,7 +2,6 @@
 ghost use Rattle.std.specs.Prelude.{◌≡◌, ◌<◌, IfOk, OnErr, OnOk, true};
 ghost use Rattle.std.specs.Result.{result_err};
 ghost use Rattle.rcu_seq.specs.Seq.{cookie_of};
-ghost use Rattle.rcu_node.specs.CpuSet.{is_in};
 ghost use Rattle.rcu_state.specs.GpState as grace;
 ghost use Rattle.rcu_live.specs.Drive.{after_collections, after_drive, drive_answer};
 ghost use Rattle.rcu_live.specs.Drive.{drive_refusal, wants_begin, wants_for};
@@ -12,19 +11,11 @@ ghost use Rattle.rcu_live.specs.Runs.{Call, Makes};
 
 use crate::client::Client;
 use crate::engine::Engine;
+use rcu_state::Turned;
 use rcu_node::Awaited;
 use rcu_seq::{Cookie, Fault};
-use rcu_state::Turned;
 
 impl<A: Awaited, T: Drop, P: Client> Engine<A, T, P> {
-    /// Whether the processor is awaited.
-    fn awaits(&self, cpu: u32) -> bool
-        requires { cpu < self.now.cpus }
-        ensures { result ≡ is_in self.now.grace.processors.awaited cpu }
-    {
-        self.grace().awaited().awaits(cpu)
-    }
-
     /// Collects from a processor while a grace period runs.
     fn collect_from(&mut self, cpu: u32)
         requires cpu { cpu < self.old.cpus }
@@ -34,15 +25,15 @@ impl<A: Awaited, T: Drop, P: Client> Engine<A, T, P> {
     }
 
     /// Collects from each processor that the running grace period awaits. Costs a load for each of
-    /// them, and a test of its flag for any other one.
+    /// them, and a step for every 64 others.
     pub fn collect_awaited(&mut self)
         requires { self.old.grace.seq.running ≡ true }
         ensures { Makes (Call.CollectAwaited (latest_words self.new)) self.old self.new }
     {
-        for cpu in 0..self.grace().cpus() {
-            if self.awaits(cpu) {
-                self.collect_from(cpu);
-            }
+        let mut from = 0;
+        while let Some(cpu) = self.next_awaited(from) {
+            self.collect_from(cpu);
+            from = cpu + 1;
         }
     }
 

@@ -42,17 +42,12 @@ impl<A: Awaited, T: Drop, P: Client> Engine<A, T, P> {
     {
         let number = self.gp.next_number()?;
         self.board.begin(&mut self.seat, number);
-        load_own_words(
-            &self.board,
-            &mut self.seat,
-            &mut self.gp,
-            &mut self.already_quiescent,
-            number,
-        );
+        self.by_word.start(number);
+        load_own_words(&self.board, &mut self.seat, &mut self.gp, &mut self.by_word);
         let Ok((number, _)) = self.gp.begin() else {
             unreachable!()
         };
-        report_all(&mut self.gp, &self.already_quiescent);
+        report_all(&mut self.gp, &self.by_word.already_quiescent);
         Ok((number, self.gp.awaited().count()))
     }
 
@@ -118,6 +113,7 @@ impl<A: Awaited, T: Drop, P: Client> Engine<A, T, P> {
         if word != 0 && word <= self.gp.value() {
             return Ok(Collected::NotYet);
         }
+        self.by_word.awaited.remove(cpu);
         Ok(collected(self.gp.report_current(cpu)))
     }
 }

@@ -19,6 +19,7 @@ pub mod live;
 mod locked;
 mod locked_lists;
 pub mod meeting;
+mod next_cpu;
 pub mod opening;
 pub mod parts;
 pub mod reading;
@@ -28,6 +29,7 @@ mod seats;
 pub mod shared;
 pub mod view;
 pub mod watcher;
+mod word_sets;
 pub mod words;
 
 pub use board::Board;

@@ -18,9 +18,10 @@ use crate::live::Live;
 use crate::parts::Parts;
 use crate::seats::{BoardParts, open_board};
 use crate::watcher::Watcher;
+use crate::word_sets::WordSets;
 use rcu_barrier::lists::MOST_QUEUED;
 use rcu_geometry::check_size;
-use rcu_node::{CpuSet, Tree};
+use rcu_node::Tree;
 use rcu_seq::Fault;
 use rcu_state::GpState;
 use std::alloc::{AllocError, Global};
@@ -81,8 +82,8 @@ impl<const LEAF: u32, const FAN: u32, T: Drop, P: Client> Parts<LEAF, FAN, T, P>
             watchers,
             own,
         } = open_board(alloc, cpus, last, most, behind, slots)?;
-        let (gp, already_quiescent) = make_state(alloc, cpus, last, most)?;
-        let engine = Engine::new(Arc::try_clone(&board)?, engine_seat, gp, already_quiescent);
+        let (gp, by_word) = make_state(alloc, cpus, last, most)?;
+        let engine = Engine::new(Arc::try_clone(&board)?, engine_seat, gp, by_word);
         Ok(Parts {
             board,
             engine,
@@ -205,23 +206,23 @@ impl<const LEAF: u32, const FAN: u32, T: Drop, P: Client> Live<LEAF, FAN, T, P> 
     }
 }
 
-/// The state of the grace periods at first, and a set of the processors, empty.
+/// The state of the grace periods at first, and the processors by their words, in no set.
 fn make_state<const LEAF: u32, const FAN: u32, T: Drop>(
     alloc: Global,
     cpus: u32,
     last: u64,
     most: u64,
-) -> Result<(GpState<Tree<LEAF, FAN>, T>, CpuSet), AllocError>
+) -> Result<(GpState<Tree<LEAF, FAN>, T>, WordSets), AllocError>
     requires { (1 ≤ most) × (most ≤ 2 ^ 62) }
     ensures state { IfOk result (λ made. made.0.grace ≡ grace.at_first cpus last most) }
-    ensures already_quiescent { IfOk result (λ made. length made.1 ≡ cpus) }
+    ensures already_quiescent { IfOk result (λ made. length made.1.already_quiescent ≡ cpus) }
+    ensures awaited { IfOk result (λ made. made.1.awaited ≡ made.0.grace.processors.awaited) }
 {
-    let (Ok(tree), Ok(already_quiescent)) = (Tree::new(alloc, cpus), CpuSet::new(alloc, cpus))
-    else {
+    let (Ok(tree), Ok(by_word)) = (Tree::new(alloc, cpus), WordSets::new(alloc, cpus)) else {
         return Err(AllocError);
     };
     let Ok(gp) = GpState::with_most(alloc, tree, last, most) else {
         return Err(AllocError);
     };
-    Ok((gp, already_quiescent))
+    Ok((gp, by_word))
 }

@@ -1,5 +1,6 @@
 -- What a map's keeper may do.
-use Rattle.std.proofs.Common.{◌≡◌, ℕ, suc, ◌<◌, ◌∙◌, Option, Some, None, List, sym, subst, arith, refl}
+use Rattle.std.proofs.Common.{◌≡◌, ℕ, suc, ◌<◌, ◌∙◌, Option, Some, None, List, sym, subst, arith}
+use Rattle.std.proofs.Common.{refl}
 use Rattle.rcu_live.specs.Board.{Object}
 use Rattle.rcu_live.specs.Watcher.{Watching}
 use Rattle.rcu_graph.specs.Absence.{next_of}
@@ -24,21 +25,27 @@ placed buckets w v key k previous was o place e f h =
     (subst (λ (n : ℕ). IsPlace buckets n (nodes_in w.view.client) previous o) f
     (subst (λ (n : Option ℕ). IsPlace buckets key (nodes_in w.view.client) previous n) h place))
 
-module _ (holds : List ℕ → Type 0) (buckets width count : ℕ) (graph : Object) (keeper : Watching Known)
-    (m : IsMap holds buckets width count (nodes_in keeper.view.client)) (watches : IsWatcherOf graph keeper) where
+module _ (holds : List ℕ → Type 0) (buckets width count : ℕ) (graph : Object)
+    (keeper : Watching Known) (m : IsMap holds buckets width count (nodes_in keeper.view.client))
+    (watches : IsWatcherOf graph keeper) where
   abbrev A : List Node
   A = nodes_in keeper.view.client
 
-  module _ (previous : ℕ) (words : List ℕ) (some : 0 < key_in words) (whole : IsWhole holds width words) where
-    joined : (there : Option ℕ) → IsPlace buckets (key_in words) A previous there → GoesUp buckets (node_at A previous).words words
+  module _ (previous : ℕ) (words : List ℕ) (some : 0 < key_in words)
+      (whole : IsWhole holds width words) where
+    joined : (there : Option ℕ) → IsPlace buckets (key_in words) A previous there
+        → GoesUp buckets (node_at A previous).words words
     joined there place = record {
       up = place.less;
       same = place.bucket ∙ sym (entry_bucket buckets (key_in words) words some refl);
     }
 
-    can_put : (there next : Option ℕ) → IsPlace buckets (key_in words) A previous there
-        → ((j : ℕ) → word_to next ≡ suc j → (state_at A j ≡ Live) × GoesUp buckets words (node_at A j).words)
-        → CanPut (IsWhole holds width) (λ _ from to. GoesUp buckets from to) count graph keeper previous words next
+    can_put : (there next : Option ℕ)
+        → IsPlace buckets (key_in words) A previous there
+        → ((j : ℕ) → word_to next ≡ suc j → (state_at A j ≡ Live)
+        × GoesUp buckets words (node_at A j).words)
+        → CanPut (IsWhole holds width) (λ _ from to. GoesUp buckets from to) count graph keeper
+        previous words next
     can_put there next place onward = record {
       watches = watches;
       few = m.few;
@@ -48,24 +55,36 @@ module _ (holds : List ℕ → Type 0) (buckets width count : ℕ) (graph : Obje
       target = target_of (λ from to. GoesUp buckets from to) words A (word_to next) onward;
     }
 
-    pub can_insert : (next : Option ℕ) → IsPlace buckets (key_in words) A previous None → word_to next ≡ next_of A previous
-        → CanPut (IsWhole holds width) (λ _ from to. GoesUp buckets from to) count graph keeper previous words next
+    pub can_insert : (next : Option ℕ)
+        → IsPlace buckets (key_in words) A previous None
+        → word_to next ≡ next_of A previous
+        → CanPut (IsWhole holds width) (λ _ from to. GoesUp buckets from to) count graph keeper
+        previous words next
     can_insert next place to = can_put None next place (λ j e.
         let leads : next_of A previous ≡ suc j = sym to ∙ e in
         let r = led holds buckets width count A m previous j place.live leads in
         (r.0, record { up = place.leads j leads; same = sym (joined None place).same ∙ r.1.same }))
 
-    pub can_replace : (old : ℕ) (next : Option ℕ) → IsPlace buckets (key_in words) A previous (Some old) → word_to next ≡ next_of A old
-        → CanPut (IsWhole holds width) (λ _ from to. GoesUp buckets from to) count graph keeper previous words next
+    pub can_replace : (old : ℕ) (next : Option ℕ)
+        → IsPlace buckets (key_in words) A previous (Some old)
+        → word_to next ≡ next_of A old
+        → CanPut (IsWhole holds width) (λ _ from to. GoesUp buckets from to) count graph keeper
+        previous words next
     can_replace old next place to = can_put (Some old) next place (λ j e.
         let first = led holds buckets width count A m previous old place.live place.leads.0 in
         let r = led holds buckets width count A m old j first.0 (sym to ∙ e) in
-        let is = place.leads.1 in let up = r.1.up in
-        (r.0, record { up = omega (arith, is, up); same = sym (joined (Some old) place).same ∙ (first.1.same ∙ r.1.same) }))
+        let is = place.leads.1 in let up = r.1.up in (
+          r.0,
+          record {
+            up = omega (arith, is, up);
+            same = sym (joined (Some old) place).same ∙ (first.1.same ∙ r.1.same);
+          },
+        ))
 
   pub old_inside : (key previous old : ℕ) → IsPlace buckets key A previous (Some old) → old < count
   old_inside key previous old place =
-      inside holds buckets width count A m old (led holds buckets width count A m previous old place.live place.leads.0).0
+      inside holds buckets width count A m old
+      (led holds buckets width count A m previous old place.live place.leads.0).0
 
   pub can_remove : (key previous old : ℕ) → IsPlace buckets key A previous (Some old)
       → CanPass (λ _ from to. GoesUp buckets from to) count graph keeper previous old
@@ -74,7 +93,8 @@ module _ (holds : List ℕ → Type 0) (buckets width count : ℕ) (graph : Obje
     few = m.few;
     live = place.live;
     inside = old_inside key previous old place;
-    target = target_of (λ from to. GoesUp buckets from to) (node_at A previous).words A (next_of A old) (λ j e.
+    target = target_of (λ from to. GoesUp buckets from to) (node_at A previous).words A
+        (next_of A old) (λ j e.
         let first = led holds buckets width count A m previous old place.live place.leads.0 in
         let r = led holds buckets width count A m old j first.0 e in
         let a = first.1.up in let b = r.1.up in

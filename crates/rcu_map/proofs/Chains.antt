@@ -1,5 +1,6 @@
 -- What holds of the chains of a map.
-use Rattle.std.proofs.Common.{◌≡◌, ℕ, suc, ◌<◌, ◌≤◌, ◌↔◌, ⊎_elim, true, false, List, Option, Some, None, Result, Ok, Err, length, refl, sym, ap, ◌∙◌, subst, arith}
+use Rattle.std.proofs.Common.{◌≡◌, ℕ, suc, ◌<◌, ◌≤◌, ◌↔◌, ⊎_elim, true, false, List, Option, Some}
+use Rattle.std.proofs.Common.{None, Result, Ok, Err, length, refl, sym, ap, ◌∙◌, subst, arith}
 use Rattle.std.specs.Prelude.{IsTrue, MatchOption, is_some, slice_index}
 use Rattle.std.proofs.lemmas.Bool.{cases_lt}
 use Rattle.rcu_graph.specs.Absence.{key_at, next_of}
@@ -20,13 +21,16 @@ bucket_at buckets nodes i = bucket_in buckets (node_at nodes i).words
 
 -- what the place of a key tells
 pub not_there : (buckets key : ℕ) (nodes : List Node) (node : Option ℕ)
-    → MatchOption node (HasKey buckets nodes key → ⊥) (λ n. IsNodeOf buckets nodes key n) → is_some node ≡ false
-    → HasKey buckets nodes key → ⊥
+    → MatchOption node (HasKey buckets nodes key → ⊥) (λ n. IsNodeOf buckets nodes key n)
+    → is_some node ≡ false
+    → HasKey buckets nodes key
+    → ⊥
 not_there buckets key nodes None t e = t
 not_there buckets key nodes (Some n) t e = absurd (cc)
 
 pub one_there : (buckets key : ℕ) (nodes : List Node) (node : Option ℕ)
-    → MatchOption node (HasKey buckets nodes key → ⊥) (λ n. IsNodeOf buckets nodes key n) → is_some node ≡ true
+    → MatchOption node (HasKey buckets nodes key → ⊥) (λ n. IsNodeOf buckets nodes key n)
+    → is_some node ≡ true
     → HasKey buckets nodes key
 one_there buckets key nodes None t e = absurd (cc)
 one_there buckets key nodes (Some n) t e = (n, t)
@@ -38,7 +42,8 @@ pub nothing_in : (o : Option ℕ) → is_some o ≡ false → o ≡ None
 nothing_in None e = refl
 nothing_in (Some n) e = absurd (cc)
 
-module _ (holds : List ℕ → Type 0) (buckets width count : ℕ) (A : List Node) (m : IsMap holds buckets width count A) where
+module _ (holds : List ℕ → Type 0) (buckets width count : ℕ) (A : List Node)
+    (m : IsMap holds buckets width count A) where
   -- where a live node leads
   pub led : (i j : ℕ) → state_at A i ≡ Live → next_of A i ≡ suc j
       → (state_at A j ≡ Live) × GoesUp buckets (node_at A i).words (node_at A j).words
@@ -53,7 +58,12 @@ module _ (holds : List ℕ → Type 0) (buckets width count : ℕ) (A : List Nod
   sized i live = (m.tended.whole i live).sized
 
   -- a live node does not lead past a live one of its bucket
-  not_past : (i j k : ℕ) → AreOfOneBucket buckets A i j → key_at A i < key_at A j → next_of A i ≡ suc k → key_at A j < key_at A k → ⊥
+  not_past : (i j k : ℕ)
+      → AreOfOneBucket buckets A i j
+      → key_at A i < key_at A j
+      → next_of A i ≡ suc k
+      → key_at A j < key_at A k
+      → ⊥
   not_past i j k one less leads more =
       let t = m.next i j one less in
       let there = t.leads in
@@ -62,13 +72,19 @@ module _ (holds : List ℕ → Type 0) (buckets width count : ℕ) (A : List Nod
       omega (arith, near, more)
 
   -- one live node alone leads to a node
-  pub one_way : (i j k : ℕ) → state_at A i ≡ Live → state_at A j ≡ Live → next_of A i ≡ suc k → next_of A j ≡ suc k → i ≡ j
+  pub one_way : (i j k : ℕ)
+      → state_at A i ≡ Live → state_at A j ≡ Live → next_of A i ≡ suc k → next_of A j ≡ suc k
+      → i ≡ j
   one_way i j k a b p q =
       let f = led i k a p in
       let g = led j k b q in
       let same : bucket_at buckets A i ≡ bucket_at buckets A j = f.1.same ∙ sym g.1.same in
       let one : AreOfOneBucket buckets A i j = record { first = a; second = b; same = same } in
-      let other : AreOfOneBucket buckets A j i = record { first = b; second = a; same = sym same } in
+      let other : AreOfOneBucket buckets A j i = record {
+        first = b;
+        second = a;
+        same = sym same;
+      } in
       ⊎_elim
       (λ (less : key_at A i < key_at A j). absurd (not_past i j k one less p g.1.up))
       (λ (more : key_at A j ≤ key_at A i). ⊎_elim
@@ -78,12 +94,16 @@ module _ (holds : List ℕ → Type 0) (buckets width count : ℕ) (A : List Nod
       (cases_lt (key_at A i) (key_at A j))
 
   -- a live node that is no root has a live one before it
-  pub reached : (i : ℕ) → state_at A i ≡ Live → buckets ≤ i → (j : ℕ) × (state_at A j ≡ Live) × (next_of A j ≡ suc i)
+  pub reached : (i : ℕ) → state_at A i ≡ Live → buckets ≤ i
+      → (j : ℕ) × (state_at A j ≡ Live) × (next_of A j ≡ suc i)
   reached i live past =
       let r = m.tended.reached i live past in
       let low = r.inside in
-      let first : r.link ≡ 0 = omega (arith, low) in
-      (r.from, r.live, subst (λ (l : ℕ). slice_index (node_at A r.from).links l ≡ suc i) first r.leads)
+      let first : r.link ≡ 0 = omega (arith, low) in (
+        r.from,
+        r.live,
+        subst (λ (l : ℕ). slice_index (node_at A r.from).links l ≡ suc i) first r.leads,
+      )
 
   pub root_key_at : (i : ℕ) → i < buckets → key_at A i ≡ 0
   root_key_at i low = ap key_in (m.roots i low) ∙ root_key width i
@@ -100,13 +120,19 @@ module _ (holds : List ℕ → Type 0) (buckets width count : ℕ) (A : List Nod
       (λ (past : buckets ≤ i). past)
       (cases_lt i buckets)
 
-  pub of_its_bucket : (key node : ℕ) → 0 < key → IsNodeOf buckets A key node → bucket_at buckets A node ≡ bucket_of buckets key
+  pub of_its_bucket : (key node : ℕ) → 0 < key → IsNodeOf buckets A key node
+      → bucket_at buckets A node ≡ bucket_of buckets key
   of_its_bucket key node some is = entry_bucket buckets key (node_at A node).words some is.is
 
   -- no two entries have one key
-  pub one_entry : (key i j : ℕ) → 0 < key → IsNodeOf buckets A key i → IsNodeOf buckets A key j → i ≡ j
+  pub one_entry : (key i j : ℕ) → 0 < key → IsNodeOf buckets A key i → IsNodeOf buckets A key j
+      → i ≡ j
   one_entry key i j some a b = m.apart i j
-      (record { first = a.entry.live; second = b.entry.live; same = of_its_bucket key i some a ∙ sym (of_its_bucket key j some b) })
+      (record {
+        first = a.entry.live;
+        second = b.entry.live;
+        same = of_its_bucket key i some a ∙ sym (of_its_bucket key j some b);
+      })
       (a.is ∙ sym b.is)
 
   -- where a key belongs
@@ -115,14 +141,18 @@ module _ (holds : List ℕ → Type 0) (buckets width count : ℕ) (A : List Nod
     absent place has =
         let is = has.1.is in
         let low = place.less in
-        let one : AreOfOneBucket buckets A previous has.0 =
-        record { first = place.live; second = has.1.entry.live; same = place.bucket ∙ sym (of_its_bucket key has.0 some has.1) } in
+        let one : AreOfOneBucket buckets A previous has.0 = record {
+          first = place.live;
+          second = has.1.entry.live;
+          same = place.bucket ∙ sym (of_its_bucket key has.0 some has.1);
+        } in
         let t = m.next previous has.0 one (omega (arith, low, is)) in
         let far : key < key_at A t.to = place.leads t.to t.leads in
         let near = t.near in
         omega (arith, far, near, is)
 
-    pub there : (node : ℕ) → IsPlace buckets key A previous (Some node) → IsNodeOf buckets A key node
+    pub there : (node : ℕ) → IsPlace buckets key A previous (Some node)
+        → IsNodeOf buckets A key node
     there node place =
         let is : key_at A node ≡ key = place.leads.1 in record {
           entry = record {
@@ -138,7 +168,9 @@ module _ (holds : List ℕ → Type 0) (buckets width count : ℕ) (A : List Nod
 
   -- an entry has a key
   pub no_entry_of_0 : HasKey buckets A 0 → ⊥
-  no_entry_of_0 has = let is = has.1.is in let up = has_key has.0 has.1.entry.live has.1.entry.behind in omega (arith, is, up)
+  no_entry_of_0 has =
+      let is = has.1.is in
+      let up = has_key has.0 has.1.entry.live has.1.entry.behind in omega (arith, is, up)
 
   -- whether there is an entry is told by the place of its key
   pub told : (key previous : ℕ) (node : Option ℕ) → 0 < key → IsPlace buckets key A previous node
@@ -147,19 +179,25 @@ module _ (holds : List ℕ → Type 0) (buckets width count : ℕ) (A : List Nod
   told key previous (Some node) some place = there key previous some node place
 
   -- a lookup says whether there is an entry
-  pub is_there : (key : ℕ) (node : Option ℕ) → MatchOption node (HasKey buckets A key → ⊥) (λ n. IsNodeOf buckets A key n)
+  pub is_there : (key : ℕ) (node : Option ℕ)
+      → MatchOption node (HasKey buckets A key → ⊥) (λ n. IsNodeOf buckets A key n)
       → IsTrue (is_some node) ↔ HasKey buckets A key
   is_there key None none = (λ e. absurd (cc), λ has. absurd (none has))
   is_there key (Some node) one = (λ e. (node, one), λ has. refl)
 
   -- the root of a key's bucket is where its search begins
-  pub begins : (key : ℕ) → 0 < buckets → 1 < width → 0 < key
-      → (state_at A (bucket_of buckets key) ≡ Live) × (bucket_at buckets A (bucket_of buckets key) ≡ bucket_of buckets key)
+  pub begins : (key : ℕ)
+      → 0 < buckets
+      → 1 < width
+      → 0 < key
+      → (state_at A (bucket_of buckets key) ≡ Live)
+      × (bucket_at buckets A (bucket_of buckets key) ≡ bucket_of buckets key)
       × (key_at A (bucket_of buckets key) < key)
   begins key some room up =
       let low : bucket_of buckets key < buckets = omega (arith, some) in
       let none = root_key_at (bucket_of buckets key) low in (
         m.tended.rooted (bucket_of buckets key) low,
-        ap (λ (words : List ℕ). bucket_in buckets words) (m.roots (bucket_of buckets key) low) ∙ root_bucket buckets width (bucket_of buckets key) room,
+        ap (λ (words : List ℕ). bucket_in buckets words) (m.roots (bucket_of buckets key) low)
+            ∙ root_bucket buckets width (bucket_of buckets key) room,
         omega (arith, none, up),
       )

@@ -1,5 +1,6 @@
 -- How many entries there are where the state of one node changes, and where none does.
-use Rattle.std.proofs.Common.{◌≡◌, ◌≢◌, ℕ, zero, suc, ◌+◌, ◌-◌, ◌<◌, ◌≤◌, Bool, true, false, List, [], ◌∷◌, length, drop, refl, sym, ap, ◌∙◌, arith}
+use Rattle.std.proofs.Common.{◌≡◌, ◌≢◌, ℕ, zero, suc, ◌+◌, ◌-◌, ◌<◌, ◌≤◌, Bool, true, false, List}
+use Rattle.std.proofs.Common.{[], ◌∷◌, length, drop, refl, sym, ap, ◌∙◌, arith}
 use Rattle.std.proofs.lemmas.List.{get_or-drop, length-drop}
 use Rattle.std.proofs.lemmas.List.Sums.{sum_by-cons}
 use Rattle.rcu_graph.specs.Counts.{one_if}
@@ -13,10 +14,12 @@ use Rattle.rcu_map.specs.Entries.{entries_in}
 abbrev live_at : List Node → ℕ → Bool
 live_at nodes i = is_live (state_at nodes i)
 
-live_in-cons : (v : Node) (nodes : List Node) → live_in (v ∷ nodes) ≡ one_if (is_live v.state) + live_in nodes
+live_in-cons : (v : Node) (nodes : List Node)
+    → live_in (v ∷ nodes) ≡ one_if (is_live v.state) + live_in nodes
 live_in-cons v nodes = sum_by-cons (λ (x : Node). one_if (is_live x.state)) v nodes
 
-none_live : (nodes : List Node) → ((i : ℕ) → i < length nodes → live_at nodes i ≡ false) → live_in nodes ≡ 0
+none_live : (nodes : List Node) → ((i : ℕ) → i < length nodes → live_at nodes i ≡ false)
+    → live_in nodes ≡ 0
 none_live [] none = refl
 none_live (v ∷ nodes) none =
     let a = live_in-cons v nodes in
@@ -24,7 +27,8 @@ none_live (v ∷ nodes) none =
     let d = none_live nodes (λ i low. none (suc i) (omega (arith, low))) in
     omega (arith, a, b, d)
 
-as_many_live : (xs ys : List Node) → length ys ≡ length xs → ((i : ℕ) → live_at ys i ≡ live_at xs i) → live_in ys ≡ live_in xs
+as_many_live : (xs ys : List Node) → length ys ≡ length xs → ((i : ℕ) → live_at ys i ≡ live_at xs i)
+    → live_in ys ≡ live_in xs
 as_many_live [] [] few same = refl
 as_many_live [] (w ∷ ys) few same = absurd (omega (arith, few))
 as_many_live (v ∷ xs) [] few same = absurd (omega (arith, few))
@@ -35,8 +39,13 @@ as_many_live (v ∷ xs) (w ∷ ys) few same =
     let e = as_many_live xs ys (omega (arith, few)) (λ i. same (suc i)) in
     omega (arith, a, b, d, e)
 
-one_more_live : (xs ys : List Node) (i : ℕ) → length ys ≡ length xs → i < length xs → live_at xs i ≡ false → live_at ys i ≡ true
-    → ((j : ℕ) → j ≢ i → live_at ys j ≡ live_at xs j) → live_in ys ≡ live_in xs + 1
+one_more_live : (xs ys : List Node) (i : ℕ)
+    → length ys ≡ length xs
+    → i < length xs
+    → live_at xs i ≡ false
+    → live_at ys i ≡ true
+    → ((j : ℕ) → j ≢ i → live_at ys j ≡ live_at xs j)
+    → live_in ys ≡ live_in xs + 1
 one_more_live [] ys i few low off on same = absurd (omega (arith, low))
 one_more_live (v ∷ xs) [] i few low off on same = absurd (omega (arith, few))
 one_more_live (v ∷ xs) (w ∷ ys) zero few low off on same =
@@ -49,41 +58,61 @@ one_more_live (v ∷ xs) (w ∷ ys) zero few low off on same =
 one_more_live (v ∷ xs) (w ∷ ys) (suc i) few low off on same =
     let a = live_in-cons v xs in
     let b = live_in-cons w ys in
-    let d : one_if (is_live w.state) ≡ one_if (is_live v.state) = ap one_if (same 0 (λ is. omega (arith, is))) in
-    let f = one_more_live xs ys i (omega (arith, few)) (omega (arith, low)) off on (λ j ne. same (suc j) (λ is. ne (omega (arith, is)))) in
+    let d : one_if (is_live w.state) ≡ one_if (is_live v.state) =
+    ap one_if (same 0 (λ is. omega (arith, is))) in
+    let f = one_more_live xs ys i (omega (arith, few)) (omega (arith, low)) off on
+    (λ j ne. same (suc j) (λ is. ne (omega (arith, is)))) in
     omega (arith, a, b, d, f)
 
 -- of the nodes behind the roots
-behind : (buckets : ℕ) (nodes : List Node) (i : ℕ) → live_at (drop buckets nodes) i ≡ live_at nodes (buckets + i)
+behind : (buckets : ℕ) (nodes : List Node) (i : ℕ)
+    → live_at (drop buckets nodes) i ≡ live_at nodes (buckets + i)
 behind buckets nodes i = ap (λ (v : Node). is_live v.state) (get_or-drop buckets nodes i no_node)
 
-few_behind : (buckets : ℕ) (xs ys : List Node) → length ys ≡ length xs → length (drop buckets ys) ≡ length (drop buckets xs)
-few_behind buckets xs ys few = let a = length-drop buckets xs in let b = length-drop buckets ys in omega (arith, a, b, few)
+few_behind : (buckets : ℕ) (xs ys : List Node) → length ys ≡ length xs
+    → length (drop buckets ys) ≡ length (drop buckets xs)
+few_behind buckets xs ys few =
+    let a = length-drop buckets xs in let b = length-drop buckets ys in omega (arith, a, b, few)
 
-pub no_entries : (buckets : ℕ) (nodes : List Node) → ((i : ℕ) → buckets ≤ i → i < length nodes → is_live (state_at nodes i) ≡ false)
+pub no_entries : (buckets : ℕ) (nodes : List Node)
+    → ((i : ℕ) → buckets ≤ i → i < length nodes → is_live (state_at nodes i) ≡ false)
     → entries_in buckets nodes ≡ 0
 no_entries buckets nodes none = none_live (drop buckets nodes)
-    (λ i low. let long = length-drop buckets nodes in behind buckets nodes i ∙ none (buckets + i) (omega arith) (omega (arith, low, long)))
+    (λ i low.
+    let long = length-drop buckets nodes in
+    behind buckets nodes i ∙ none (buckets + i) (omega arith) (omega (arith, low, long)))
 
-pub as_many_entries : (buckets : ℕ) (xs ys : List Node) → length ys ≡ length xs
-    → ((i : ℕ) → is_live (state_at ys i) ≡ is_live (state_at xs i)) → entries_in buckets ys ≡ entries_in buckets xs
-as_many_entries buckets xs ys few same = as_many_live (drop buckets xs) (drop buckets ys) (few_behind buckets xs ys few)
+pub as_many_entries : (buckets : ℕ) (xs ys : List Node)
+    → length ys ≡ length xs → ((i : ℕ) → is_live (state_at ys i) ≡ is_live (state_at xs i))
+    → entries_in buckets ys ≡ entries_in buckets xs
+as_many_entries buckets xs ys few same =
+    as_many_live (drop buckets xs) (drop buckets ys) (few_behind buckets xs ys few)
     (λ i. behind buckets ys i ∙ (same (buckets + i) ∙ sym (behind buckets xs i)))
 
-pub one_entry_more : (buckets : ℕ) (xs ys : List Node) (i : ℕ) → length ys ≡ length xs → buckets ≤ i → i < length xs
-    → is_live (state_at xs i) ≡ false → is_live (state_at ys i) ≡ true
-    → ((j : ℕ) → j ≢ i → is_live (state_at ys j) ≡ is_live (state_at xs j)) → entries_in buckets ys ≡ entries_in buckets xs + 1
+pub one_entry_more : (buckets : ℕ) (xs ys : List Node) (i : ℕ)
+    → length ys ≡ length xs
+    → buckets ≤ i
+    → i < length xs
+    → is_live (state_at xs i) ≡ false
+    → is_live (state_at ys i) ≡ true
+    → ((j : ℕ) → j ≢ i → is_live (state_at ys j) ≡ is_live (state_at xs j))
+    → entries_in buckets ys ≡ entries_in buckets xs + 1
 one_entry_more buckets xs ys i few past low off on same =
     let long = length-drop buckets xs in
     let back : buckets + (i - buckets) ≡ i = omega (arith, past) in
-    one_more_live (drop buckets xs) (drop buckets ys) (i - buckets) (few_behind buckets xs ys few) (omega (arith, low, long, past))
+    one_more_live (drop buckets xs) (drop buckets ys) (i - buckets) (few_behind buckets xs ys few)
+    (omega (arith, low, long, past))
     (behind buckets xs (i - buckets) ∙ (ap (λ (n : ℕ). is_live (state_at xs n)) back ∙ off))
     (behind buckets ys (i - buckets) ∙ (ap (λ (n : ℕ). is_live (state_at ys n)) back ∙ on))
-    (λ j ne. behind buckets ys j ∙ (same (buckets + j) (λ is. ne (omega (arith, is, past))) ∙ sym (behind buckets xs j)))
+    (λ j ne.
+    behind buckets ys j
+    ∙ (same (buckets + j) (λ is. ne (omega (arith, is, past))) ∙ sym (behind buckets xs j)))
 
 -- no more entries than nodes
 pub entries_few : (buckets : ℕ) (nodes : List Node) → entries_in buckets nodes ≤ length nodes
-entries_few buckets nodes = let a = live_in-le (drop buckets nodes) in let b = length-drop buckets nodes in omega (arith, a, b)
+entries_few buckets nodes =
+    let a = live_in-le (drop buckets nodes) in
+    let b = length-drop buckets nodes in omega (arith, a, b)
 
 -- where as many nodes are live as there are, each is
 one_most : (b : Bool) → one_if b ≤ 1
@@ -94,7 +123,8 @@ one_up : (b : Bool) → 1 ≤ one_if b → b ≡ true
 one_up true up = refl
 one_up false up = absurd (omega (arith, up))
 
-all_live : (nodes : List Node) → length nodes ≤ live_in nodes → (i : ℕ) → i < length nodes → live_at nodes i ≡ true
+all_live : (nodes : List Node) → length nodes ≤ live_in nodes → (i : ℕ) → i < length nodes
+    → live_at nodes i ≡ true
 all_live [] many i low = absurd (omega (arith, low))
 all_live (v ∷ nodes) many zero low =
     let a = live_in-cons v nodes in
@@ -105,7 +135,8 @@ all_live (v ∷ nodes) many (suc i) low =
     let most = one_most (is_live v.state) in
     all_live nodes (omega (arith, a, most, many)) i (omega (arith, low))
 
-many_live : (nodes : List Node) → ((i : ℕ) → i < length nodes → live_at nodes i ≡ true) → live_in nodes ≡ length nodes
+many_live : (nodes : List Node) → ((i : ℕ) → i < length nodes → live_at nodes i ≡ true)
+    → live_in nodes ≡ length nodes
 many_live [] all = refl
 many_live (v ∷ nodes) all =
     let a = live_in-cons v nodes in
@@ -113,21 +144,29 @@ many_live (v ∷ nodes) all =
     let d = many_live nodes (λ i low. all (suc i) (omega (arith, low))) in
     omega (arith, a, b, d)
 
-pub all_behind_live : (buckets : ℕ) (nodes : List Node) → length nodes ≤ entries_in buckets nodes + buckets
-    → (i : ℕ) → buckets ≤ i → i < length nodes → is_live (state_at nodes i) ≡ true
+pub all_behind_live : (buckets : ℕ) (nodes : List Node)
+    → length nodes ≤ entries_in buckets nodes + buckets → (i : ℕ) → buckets ≤ i → i < length nodes
+    → is_live (state_at nodes i) ≡ true
 all_behind_live buckets nodes many i past low =
     let long = length-drop buckets nodes in
     let back : buckets + (i - buckets) ≡ i = omega (arith, past) in
     ap (λ (n : ℕ). is_live (state_at nodes n)) (sym back)
-    ∙ (sym (behind buckets nodes (i - buckets)) ∙ all_live (drop buckets nodes) (omega (arith, long, many)) (i - buckets) (omega (arith, low, long, past)))
+    ∙ (sym (behind buckets nodes (i - buckets))
+    ∙ all_live (drop buckets nodes) (omega (arith, long, many)) (i - buckets)
+    (omega (arith, low, long, past)))
 
-pub many_behind : (buckets : ℕ) (nodes : List Node) → buckets ≤ length nodes
-    → ((i : ℕ) → i < length nodes → is_live (state_at nodes i) ≡ true) → entries_in buckets nodes + buckets ≡ length nodes
+pub many_behind : (buckets : ℕ) (nodes : List Node)
+    → buckets ≤ length nodes → ((i : ℕ) → i < length nodes → is_live (state_at nodes i) ≡ true)
+    → entries_in buckets nodes + buckets ≡ length nodes
 many_behind buckets nodes room all =
     let long = length-drop buckets nodes in
-    let many = many_live (drop buckets nodes) (λ i low. behind buckets nodes i ∙ all (buckets + i) (omega (arith, low, long))) in
+    let many = many_live (drop buckets nodes)
+    (λ i low. behind buckets nodes i ∙ all (buckets + i) (omega (arith, low, long))) in
     omega (arith, long, many, room)
 
 -- entries and roots are no more than the nodes
-pub entries_and_roots : (buckets : ℕ) (nodes : List Node) → buckets ≤ length nodes → entries_in buckets nodes + buckets ≤ length nodes
-entries_and_roots buckets nodes room = let a = live_in-le (drop buckets nodes) in let b = length-drop buckets nodes in omega (arith, a, b, room)
+pub entries_and_roots : (buckets : ℕ) (nodes : List Node) → buckets ≤ length nodes
+    → entries_in buckets nodes + buckets ≤ length nodes
+entries_and_roots buckets nodes room =
+    let a = live_in-le (drop buckets nodes) in
+    let b = length-drop buckets nodes in omega (arith, a, b, room)

@@ -1,5 +1,7 @@
--- Of the live nodes that stay each is a root, or is led to by another one, after a node was put in and after one was passed.
-use Rattle.std.proofs.Common.{◌≡◌, ◌≢◌, ℕ, suc, ◌<◌, ◌≤◌, ◌⊎◌, inl, inr, ⊎_elim, Bool, true, List, refl, sym, ap, ◌∙◌}
+-- Of the live nodes that stay each is a root, or is led to by another one, after a node was put in
+-- and after one was passed.
+use Rattle.std.proofs.Common.{◌≡◌, ◌≢◌, ℕ, suc, ◌<◌, ◌≤◌, ◌⊎◌, inl, inr, ⊎_elim, Bool, true, List}
+use Rattle.std.proofs.Common.{refl, sym, ap, ◌∙◌}
 use Rattle.std.proofs.lemmas.Bool.{cases_lt}
 use mathlib.Core.Logic.{dite}
 use native.Mathlib.Decide.{ℕ_discrete}
@@ -18,10 +20,16 @@ pub left_or_live : (s : NodeState) → s ≡ Left → s ≡ Live → ⊥
 left_or_live s a b = cc
 
 -- the entry of the node i is in the map still
-pub still_there : (buckets : ℕ) (A B : List Node) (w : List ℕ) (i : ℕ) → buckets ≤ i → state_at B i ≡ Live → (node_at B i).words ≡ w → HasEntry buckets B w
-still_there buckets A B w i past live is = record { node = i; entry = record { behind = past; live = live }; is = is }
+pub still_there : (buckets : ℕ) (A B : List Node) (w : List ℕ) (i : ℕ)
+    → buckets ≤ i → state_at B i ≡ Live → (node_at B i).words ≡ w → HasEntry buckets B w
+still_there buckets A B w i past live is = record {
+  node = i;
+  entry = record { behind = past; live = live };
+  is = is;
+}
 
-module _ (holds : List ℕ → Type 0) (buckets width count : ℕ) (A : List Node) (m : IsMap holds buckets width count A) where
+module _ (holds : List ℕ → Type 0) (buckets width count : ℕ) (A : List Node)
+    (m : IsMap holds buckets width count A) where
   pub node_behind : (node : ℕ) → state_at A node ≡ Free → buckets ≤ node
   node_behind node free = ⊎_elim
       (λ (low : node < buckets). absurd (not_free A node node free (m.tended.rooted node low) refl))
@@ -32,28 +40,50 @@ module _ (holds : List ℕ → Type 0) (buckets width count : ℕ) (A : List Nod
       (passes : (i j : ℕ) → state_at A j ≡ Live → next_of A j ≡ suc i → stays i ≡ true
       → (word ≡ suc i) ⊎ ((j ≢ previous) × (stays j ≡ true))) where
     -- where a node was put in
-    pub held_with : (S : List Node) (node : ℕ) (words : List ℕ) → IsPut A S previous node words word → state_at A node ≡ Free
-        → state_at A previous ≡ Live → stays previous ≡ true → stays node ≡ true → AreHeld buckets S stays
-    held_with S node words p free live keeps new i on kept = ⊎_elim
-        (λ (low : i < buckets). inl low)
+    pub held_with : (S : List Node) (node : ℕ) (words : List ℕ)
+        → IsPut A S previous node words word
+        → state_at A node ≡ Free
+        → state_at A previous ≡ Live
+        → stays previous ≡ true
+        → stays node ≡ true
+        → AreHeld buckets S stays
+    held_with S node words p free live keeps new i on kept =
+        ⊎_elim (λ (low : i < buckets). inl low)
         (λ (past : buckets ≤ i). inr (dite (ℕ_discrete i node)
-        (λ (is : i ≡ node). (previous, p.states previous (not_free A node previous free live) ∙ live, keeps, p.led ∙ ap suc (sym is)))
+        (λ (is : i ≡ node). (
+          previous,
+          p.states previous (not_free A node previous free live) ∙ live,
+          keeps,
+          p.led ∙ ap suc (sym is),
+        ))
         (λ (ne : i ≢ node).
         let r = reached holds buckets width count A m i (sym (p.states i ne) ∙ on) past in
         let nj = not_free A node r.0 free r.1 in
-        ⊎_elim
-        (λ (here : word ≡ suc i). (node, p.live, new, p.onward ∙ here))
-        (λ (q : (r.0 ≢ previous) × (stays r.0 ≡ true)). (r.0, p.states r.0 nj ∙ r.1, q.1, p.leads r.0 nj q.0 ∙ r.2))
+        ⊎_elim (λ (here : word ≡ suc i). (node, p.live, new, p.onward ∙ here))
+        (λ (q : (r.0 ≢ previous) × (stays r.0 ≡ true)). (
+          r.0,
+          p.states r.0 nj ∙ r.1,
+          q.1,
+          p.leads r.0 nj q.0 ∙ r.2,
+        ))
         (passes i r.0 r.1 r.2 kept))))
         (cases_lt i buckets)
 
     -- where one was passed
-    pub held_past : (S : List Node) → IsPassed A S previous word → state_at A previous ≡ Live → stays previous ≡ true → AreHeld buckets S stays
-    held_past S p live keeps i on kept = ⊎_elim
-        (λ (low : i < buckets). inl low)
+    pub held_past : (S : List Node)
+        → IsPassed A S previous word → state_at A previous ≡ Live → stays previous ≡ true
+        → AreHeld buckets S stays
+    held_past S p live keeps i on kept =
+        ⊎_elim (λ (low : i < buckets). inl low)
         (λ (past : buckets ≤ i).
-        let r = reached holds buckets width count A m i (sym (p.states i) ∙ on) past in inr (⊎_elim
+        let r = reached holds buckets width count A m i (sym (p.states i) ∙ on) past in
+        inr (⊎_elim
         (λ (here : word ≡ suc i). (previous, p.states previous ∙ live, keeps, p.led ∙ here))
-        (λ (q : (r.0 ≢ previous) × (stays r.0 ≡ true)). (r.0, p.states r.0 ∙ r.1, q.1, p.leads r.0 q.0 ∙ r.2))
+        (λ (q : (r.0 ≢ previous) × (stays r.0 ≡ true)). (
+          r.0,
+          p.states r.0 ∙ r.1,
+          q.1,
+          p.leads r.0 q.0 ∙ r.2,
+        ))
         (passes i r.0 r.1 r.2 kept)))
         (cases_lt i buckets)

@@ -1,5 +1,6 @@
 -- What is left of a map after an entry was put in.
-use Rattle.std.proofs.Common.{◌≡◌, ◌≢◌, ℕ, ◌+◌, ◌<◌, inl, inr, ⊎_elim, List, Option, None, length, refl, sym, ap, ◌∙◌, subst, arith}
+use Rattle.std.proofs.Common.{◌≡◌, ◌≢◌, ℕ, ◌+◌, ◌<◌, inl, inr, ⊎_elim, List, Option, None, length}
+use Rattle.std.proofs.Common.{refl, sym, ap, ◌∙◌, subst, arith}
 use mathlib.Core.Logic.{dite}
 use native.Mathlib.Decide.{ℕ_discrete}
 use Rattle.rcu_graph.specs.Absence.{next_of}
@@ -21,11 +22,14 @@ use Rattle.rcu_map.proofs.Held.{held_with, node_behind, still_there}
 use Rattle.rcu_map.proofs.Stored.{few_put, is_put}
 use Rattle.rcu_map.proofs.Trimmed.{AreHeld, map_after, same_state}
 
-module _ (holds : List ℕ → Type 0) (buckets width count : ℕ) (A : List Node) (m : IsMap holds buckets width count A) where
+module _ (holds : List ℕ → Type 0) (buckets width count : ℕ) (A : List Node)
+    (m : IsMap holds buckets width count A) where
   -- an entry is put in
-  module _ (previous node : ℕ) (words : List ℕ) (next : Option ℕ) (B : List Node) (some : 0 < key_in words)
-      (place : IsPlace buckets (key_in words) A previous None) (to : word_to next ≡ next_of A previous)
-      (inside : node < count) (free : state_at A node ≡ Free) (t : AreTrimmed buckets 1 (put A previous node words next) B) where
+  module _ (previous node : ℕ) (words : List ℕ) (next : Option ℕ) (B : List Node)
+      (some : 0 < key_in words) (place : IsPlace buckets (key_in words) A previous None)
+      (to : word_to next ≡ next_of A previous) (inside : node < count)
+      (free : state_at A node ≡ Free)
+      (t : AreTrimmed buckets 1 (put A previous node words next) B) where
     abbrev S : List Node
     S = put A previous node words next
 
@@ -36,7 +40,8 @@ module _ (holds : List ℕ → Type 0) (buckets width count : ℕ) (A : List Nod
     apart is = not_free A node previous free place.live (sym is)
 
     p : IsPut A S previous node words (word_to next)
-    p = is_put A previous (live_inside A previous place.live) (m.linked previous place.live) node words next low apart
+    p = is_put A previous (live_inside A previous place.live) (m.linked previous place.live) node
+        words next low apart
 
     gap : IsGap buckets A all previous (key_in words) (word_to next)
     gap = subst (λ (w : ℕ). IsGap buckets A all previous (key_in words) w) (sym to)
@@ -64,28 +69,40 @@ module _ (holds : List ℕ → Type 0) (buckets width count : ℕ) (A : List Nod
     state_there : (i : ℕ) → i ≢ node → state_at B i ≡ state_at A i
     state_there i ne = states i ∙ p.states i ne
 
-    pub inserted_map : length B ≡ count → AreTended (IsWhole holds width) (λ _ from to. GoesUp buckets from to) buckets 1 B
+    pub inserted_map : length B ≡ count
+        → AreTended (IsWhole holds width) (λ _ from to. GoesUp buckets from to) buckets 1 B
         → IsMap holds buckets width count B
     inserted_map few tended = map_after buckets S B t all holds width count
-        (ordered_with holds buckets width count A m all S previous node (word_to next) words gap p free bucket)
+        (ordered_with holds buckets width count A m all S previous node (word_to next) words gap p
+        free bucket)
         (λ i live. refl) few tended
 
     pub inserted_count : entries_in buckets B ≡ entries_in buckets A + 1
     inserted_count =
-        one_entry_more buckets A B node (t.few ∙ few_put A previous (live_inside A previous place.live) (m.linked previous place.live) node words next low apart)
-        (node_behind holds buckets width count A m node free) low (ap is_live free) (ap is_live (states node ∙ p.live)) (λ j ne. ap is_live (state_there j ne))
+        one_entry_more buckets A B node
+        (t.few
+        ∙ few_put A previous (live_inside A previous place.live) (m.linked previous place.live) node
+        words next low apart)
+        (node_behind holds buckets width count A m node free) low (ap is_live free)
+        (ap is_live (states node ∙ p.live)) (λ j ne. ap is_live (state_there j ne))
 
     pub inserted : IsInserted buckets A words B
     inserted = record {
       entries = λ w. (
         (λ h. dite (ℕ_discrete h.node node)
-            (λ (is : h.node ≡ node). inr (sym h.is ∙ (ap (λ (n : ℕ). (node_at B n).words) is ∙ words_here)))
+            (λ (is : h.node ≡ node).
+            inr (sym h.is ∙ (ap (λ (n : ℕ). (node_at B n).words) is ∙ words_here)))
             (λ (ne : h.node ≢ node). inl (still_there buckets B A w h.node h.entry.behind
             (sym (state_there h.node ne) ∙ h.entry.live) (sym (words_there h.node ne) ∙ h.is)))),
-        (λ s. ⊎_elim
-            (λ (h : HasEntry buckets A w). let ne = not_free A node h.node free h.entry.live in
-            still_there buckets A B w h.node h.entry.behind (state_there h.node ne ∙ h.entry.live) (words_there h.node ne ∙ h.is))
-            (λ (is : w ≡ words). still_there buckets A B w node (node_behind holds buckets width count A m node free) (states node ∙ p.live) (words_here ∙ sym is))
+        (λ s.
+            ⊎_elim
+            (λ (h : HasEntry buckets A w).
+            let ne = not_free A node h.node free h.entry.live in
+            still_there buckets A B w h.node h.entry.behind (state_there h.node ne ∙ h.entry.live)
+            (words_there h.node ne ∙ h.is))
+            (λ (is : w ≡ words). still_there buckets A B w node
+            (node_behind holds buckets width count A m node free) (states node ∙ p.live)
+            (words_here ∙ sym is))
             s),
       );
       node = node;

@@ -1,5 +1,6 @@
 -- A section that went over all chains came to each key that was linked all the while.
-use Rattle.std.proofs.Common.{◌≡◌, ℕ, zero, suc, ◌+◌, ◌<◌, ◌≤◌, List, [], ◌∷◌, ◌++◌, Bool, Option, None, refl, sym, ap, subst, inl, inr, arith}
+use Rattle.std.proofs.Common.{◌≡◌, ℕ, zero, suc, ◌+◌, ◌<◌, ◌≤◌, List, [], ◌∷◌, ◌++◌, Bool, Option}
+use Rattle.std.proofs.Common.{None, refl, sym, ap, subst, inl, inr, arith}
 use Rattle.std.specs.Prelude.{IsSome}
 use mathlib.Core.Logic.{dite}
 use native.Mathlib.Decide.{dec_lt, ℕ_discrete}
@@ -13,25 +14,33 @@ use Rattle.rcu_map.specs.Keys.{bucket_of}
 use Rattle.rcu_map.specs.Listing.{GoOn, GoesOn, IsListed, at_root, led_from}
 use Rattle.rcu_map.specs.declared.cursor.Cursor.{Cursor}
 
-pub go_on_further : (buckets : ℕ) (start mid at : Cursor) (before after : List Hop) → GoOn buckets start before mid
-    → GoOn buckets mid after at → GoOn buckets start (after ++ before) at
-go_on_further buckets start mid at before [] first none = subst (GoOn buckets start before) (sym none) first
+pub go_on_further : (buckets : ℕ) (start mid at : Cursor) (before after : List Hop)
+    → GoOn buckets start before mid → GoOn buckets mid after at
+    → GoOn buckets start (after ++ before) at
+go_on_further buckets start mid at before [] first none =
+    subst (GoOn buckets start before) (sym none) first
 go_on_further buckets start mid at before (hop ∷ after) first more =
     (more.0, go_on_further buckets start mid more.0 before after first more.1, more.2, more.3)
 
 -- hops that were made by a moment, less the latest ones, and less the first ones
-made_before : (nodes : ℕ → List Node) (newer hops : List Hop) (t last : ℕ) → t ≤ last → AreMadeBy nodes t (newer ++ hops)
-    → AreMadeBy nodes last hops
+made_before : (nodes : ℕ → List Node) (newer hops : List Hop) (t last : ℕ)
+    → t ≤ last → AreMadeBy nodes t (newer ++ hops) → AreMadeBy nodes last hops
 made_before nodes [] [] t last up made = tt
 made_before nodes [] (hop ∷ hops) t last up made =
     let by : made.0 ≤ t = made.1 in (made.0, omega (arith, by, up), made.2, made.3)
 made_before nodes (hop ∷ newer) hops t last up made =
-    let by : made.0 ≤ t = made.1 in made_before nodes newer hops made.0 last (omega (arith, by, up)) made.3
+    let by : made.0 ≤ t = made.1 in
+    made_before nodes newer hops made.0 last (omega (arith, by, up)) made.3
 
-made_after : (nodes : ℕ → List Node) (hops older : List Hop) (t : ℕ) → AreMadeBy nodes t (hops ++ older)
-    → AreMadeBy nodes t hops
+made_after : (nodes : ℕ → List Node) (hops older : List Hop) (t : ℕ)
+    → AreMadeBy nodes t (hops ++ older) → AreMadeBy nodes t hops
 made_after nodes [] older t made = tt
-made_after nodes (hop ∷ hops) older t made = (made.0, made.1, made.2, made_after nodes hops older made.0 made.3)
+made_after nodes (hop ∷ hops) older t made = (
+  made.0,
+  made.1,
+  made.2,
+  made_after nodes hops older made.0 made.3,
+)
 
 module _ (root key : ℕ) where
   -- the latest hops are a path from the root over lesser keys to the cursor
@@ -62,8 +71,14 @@ module _ (root key : ℕ) where
     missed : IsMissed hops → Progress hops at
 
   still_listed : (hop : Hop) (hops : List Hop) → IsListed key hops → IsListed key (hop ∷ hops)
-  still_listed hop hops l =
-      record { index = suc l.index; hop = l.hop; there = l.there; node = l.node; led = l.led; has = l.has }
+  still_listed hop hops l = record {
+    index = suc l.index;
+    hop = l.hop;
+    there = l.there;
+    node = l.node;
+    led = l.led;
+    has = l.has;
+  }
 
   still_missed : (hop : Hop) (hops : List Hop) → IsMissed hops → IsMissed (hop ∷ hops)
   still_missed hop hops m = record {
@@ -78,8 +93,10 @@ module _ (root key : ℕ) where
   }
 
   -- a hop that led nowhere, and one that led to a node
-  module _ (buckets : ℕ) (hop : Hop) (hops : List Hop) (last : Cursor) (goes : GoesOn buckets last hop) where
-    nowhere : 0 < key → hop.to ≡ 0 → Progress hops last → Progress (hop ∷ hops) (at_root (last.bucket + 1))
+  module _ (buckets : ℕ) (hop : Hop) (hops : List Hop) (last : Cursor)
+      (goes : GoesOn buckets last hop) where
+    nowhere : 0 < key → hop.to ≡ 0 → Progress hops last
+        → Progress (hop ∷ hops) (at_root (last.bucket + 1))
     nowhere keyed none (before low) = dite (ℕ_discrete (last.bucket + 1) root)
         (λ (e : last.bucket + 1 ≡ root). on_way (record {
           here = e;
@@ -106,7 +123,8 @@ module _ (root key : ℕ) where
     to_node : (node : ℕ) → hop.to ≡ suc node → Progress hops last
         → Progress (hop ∷ hops) (record { bucket = last.bucket; node = node; key = key_after hop })
     to_node node led (before low) = before low
-    to_node node led (on_way w) = dite (ℕ_discrete (key_after hop) key)
+    to_node node led (on_way w) =
+        dite (ℕ_discrete (key_after hop) key)
         (λ (e : key_after hop ≡ key). listed (record {
           index = 0;
           hop = hop;
@@ -115,14 +133,20 @@ module _ (root key : ℕ) where
           led = led;
           has = e;
         }))
-        (λ (ne : key_after hop ≡ key → ⊥). dite (dec_lt (key_after hop) key)
+        (λ (ne : key_after hop ≡ key → ⊥).
+        dite (dec_lt (key_after hop) key)
         (λ (low : key_after hop < key). on_way (record {
           here = w.here;
           low = low;
           path = hop ∷ w.path;
           older = w.older;
           are = ap (λ (l : List Hop). hop ∷ l) w.are;
-          is_path = (led, goes.along, low, subst (IsPath root key w.path) (sym goes.here) w.is_path);
+          is_path = (
+            led,
+            goes.along,
+            low,
+            subst (IsPath root key w.path) (sym goes.here) w.is_path,
+          );
         }))
         (λ (high : key_after hop < key → ⊥). missed (record {
           newer = [];
@@ -142,8 +166,8 @@ module _ (root key : ℕ) where
     steps zero led keyed p = nowhere keyed led p
     steps (suc node) led keyed p = to_node node led p
 
-  progress : (buckets : ℕ) (hops : List Hop) (at : Cursor) → 0 < key → GoOn buckets (at_root 0) hops at
-      → Progress hops at
+  progress : (buckets : ℕ) (hops : List Hop) (at : Cursor)
+      → 0 < key → GoOn buckets (at_root 0) hops at → Progress hops at
   progress buckets [] at keyed none = subst (Progress []) (sym none) (dite (ℕ_discrete 0 root)
       (λ (e : 0 ≡ root). on_way (record {
         here = e;
@@ -161,14 +185,22 @@ module _ (root key : ℕ) where
 nothing : IsSome {T = ℕ} None → ⊥
 nothing e = cc
 
-module _ (found : (ours : List ℕ → Bool) (opened root key last : ℕ) (nodes : ℕ → List Node) (was now : Known)
-    (found : Option ℕ) (search : IsSearched root key was found now) → IsHistory ours opened root last nodes
-    → ((t : ℕ) → t ≤ last → IsLinkedKey root key (nodes t)) → AreMadeBy nodes last (search.last ∷ search.path)
+module _
+    (found : (ours : List ℕ → Bool) (opened root key last : ℕ) (nodes : ℕ → List Node)
+    (was now : Known) (found : Option ℕ) (search : IsSearched root key was found now)
+    → IsHistory ours opened root last nodes
+    → ((t : ℕ) → t ≤ last → IsLinkedKey root key (nodes t))
+    → AreMadeBy nodes last (search.last ∷ search.path)
     → IsSome found) where
-  pub are_listed : (ours : List ℕ → Bool) (opened buckets key last : ℕ) (nodes : ℕ → List Node) (hops : List Hop)
-      (at : Cursor) → bucket_of buckets key < buckets → 0 < key → GoOn buckets (at_root 0) hops at → at.bucket ≡ buckets
+  pub are_listed : (ours : List ℕ → Bool) (opened buckets key last : ℕ) (nodes : ℕ → List Node)
+      (hops : List Hop) (at : Cursor)
+      → bucket_of buckets key < buckets
+      → 0 < key
+      → GoOn buckets (at_root 0) hops at
+      → at.bucket ≡ buckets
       → IsHistory ours opened (bucket_of buckets key) last nodes
-      → ((t : ℕ) → t ≤ last → IsLinkedKey (bucket_of buckets key) key (nodes t)) → AreMadeBy nodes last hops
+      → ((t : ℕ) → t ≤ last → IsLinkedKey (bucket_of buckets key) key (nodes t))
+      → AreMadeBy nodes last hops
       → IsListed key hops
   are_listed ours opened buckets key last nodes hops at low keyed goes ended history linked made =
       by (progress (bucket_of buckets key) key buckets hops at keyed goes)
@@ -178,11 +210,14 @@ module _ (found : (ours : List ℕ → Bool) (opened root key last : ℕ) (nodes
 
       by : Progress root key hops at → IsListed key hops
       by (before early) = absurd (omega (arith, early, ended, low))
-      by (on_way w) = let here : at.bucket ≡ root = w.here in absurd (omega (arith, here, ended, low))
+      by (on_way w) =
+          let here : at.bucket ≡ root = w.here in absurd (omega (arith, here, ended, low))
       by (listed l) = l
       by (missed m) =
-          let rest = made_before nodes m.newer (m.last ∷ (m.path ++ m.older)) last last (omega arith) (subst (AreMadeBy nodes last) m.are made) in
-          absurd (nothing (found ours opened root key last nodes (Reader m.older) (Reader (m.last ∷ (m.path ++ m.older))) None
+          let rest = made_before nodes m.newer (m.last ∷ (m.path ++ m.older)) last last
+          (omega arith) (subst (AreMadeBy nodes last) m.are made) in
+          absurd (nothing (found ours opened root key last nodes (Reader m.older)
+          (Reader (m.last ∷ (m.path ++ m.older))) None
           (record {
             path = m.path;
             last = m.last;
@@ -190,4 +225,5 @@ module _ (found : (ours : List ℕ → Bool) (opened root key last : ℕ) (nodes
             is_path = m.is_path;
             along = m.along;
             decided = m.decided;
-          }) history linked (made_after nodes (m.last ∷ m.path) m.older last rest)))
+          })
+          history linked (made_after nodes (m.last ∷ m.path) m.older last rest)))

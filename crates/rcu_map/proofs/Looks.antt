@@ -1,6 +1,7 @@
--- Looks at the number while no node is free, one after another, and where there is nothing to wait for.
-use Rattle.std.proofs.Common.{◌≡◌, ℕ, suc, ◌+◌, ◌-◌, ◌<◌, ◌≤◌, ⊎_elim, Bool, true, false, List, length, refl, sym, ap, ◌∙◌, arith}
-use Rattle.std.proofs.Common.{Err, IfOk, Ok, OnErr, Result}
+-- Looks at the number while no node is free, one after another, and where there is nothing to wait
+-- for.
+use Rattle.std.proofs.Common.{◌≡◌, ℕ, suc, ◌+◌, ◌-◌, ◌<◌, ◌≤◌, ⊎_elim, Bool, true, false, List}
+use Rattle.std.proofs.Common.{length, refl, sym, ap, ◌∙◌, arith, Err, IfOk, Ok, OnErr, Result}
 use Rattle.std.specs.Result.{is_ok}
 use Rattle.std.proofs.lemmas.Bool.{cases_lt}
 use Rattle.rcu_seq.specs.Numbers.{Number}
@@ -22,8 +23,8 @@ use Rattle.rcu_map.specs.declared.not_put.NotPut.TheVariants.{Fault, Full}
 use Rattle.rcu_map.proofs.Counted.{all_behind_live, entries_and_roots, many_behind}
 
 -- a look, a first one, and one more
-look : (k m : Watching Known) (n : Number) → AreAllUsed (nodes_in k.view.client) → k.view.seen ≤ n → m ≡ after_look k n
-    → IsLook k m
+look : (k m : Watching Known) (n : Number)
+    → AreAllUsed (nodes_in k.view.client) → k.view.seen ≤ n → m ≡ after_look k n → IsLook k m
 look k m n full later new =
     let seen : m.view.seen ≡ n = ap (λ (w : Watching Known). w.view.seen) new in record {
       full = full;
@@ -31,16 +32,24 @@ look k m n full later new =
       state = new ∙ ap (λ (j : Number). after_look k j) (sym seen);
     }
 
-pub aged_once : (buckets : ℕ) (k m : Watching Known) (n : Number) → AreAllUsed (nodes_in k.view.client) → k.view.seen ≤ n
-    → m ≡ after_look k n → AreSameEntries buckets (nodes_in k.view.client) (nodes_in m.view.client) → HasAged buckets k m
+pub aged_once : (buckets : ℕ) (k m : Watching Known) (n : Number)
+    → AreAllUsed (nodes_in k.view.client)
+    → k.view.seen ≤ n
+    → m ≡ after_look k n
+    → AreSameEntries buckets (nodes_in k.view.client) (nodes_in m.view.client)
+    → HasAged buckets k m
 aged_once buckets k m n full later new same = record {
   more = 0;
   looks = (k, refl, look k m n full later new);
   entries = same;
 }
 
-pub aged_more : (buckets : ℕ) (k l m : Watching Known) (n : Number) → HasAged buckets k l → AreAllUsed (nodes_in l.view.client)
-    → l.view.seen ≤ n → m ≡ after_look l n → AreSameEntries buckets (nodes_in l.view.client) (nodes_in m.view.client)
+pub aged_more : (buckets : ℕ) (k l m : Watching Known) (n : Number)
+    → HasAged buckets k l
+    → AreAllUsed (nodes_in l.view.client)
+    → l.view.seen ≤ n
+    → m ≡ after_look l n
+    → AreSameEntries buckets (nodes_in l.view.client) (nodes_in m.view.client)
     → HasAged buckets k m
 aged_more buckets k l m n r full later new same = record {
   more = suc r.more;
@@ -49,9 +58,11 @@ aged_more buckets k l m n r full later new same = record {
 }
 
 -- a key that an entry has is one of the same entries
-pub key_kept : (buckets : ℕ) (A B : List Node) (key : ℕ) → AreSameEntries buckets A B → HasKey buckets B key → HasKey buckets A key
+pub key_kept : (buckets : ℕ) (A B : List Node) (key : ℕ)
+    → AreSameEntries buckets A B → HasKey buckets B key → HasKey buckets A key
 key_kept buckets A B key same (node, one) =
-    let h = (same (node_at B node).words).0 (record { node = node; entry = one.entry; is = refl }) in
+    let h =
+    (same (node_at B node).words).0 (record { node = node; entry = one.entry; is = refl }) in
     (h.node, record { entry = h.entry; is = ap key_in h.is ∙ one.is })
 
 -- what asks for a free node found none; it found one, and so not all are used
@@ -63,17 +74,27 @@ pub on_err : {T F P : Type 0} (r : Result T F) → P → OnErr r P
 on_err (Ok _) told = tt
 on_err (Err _) told = told
 
-pub found_one : {F : Type 0} (nodes : List Node) (count : ℕ) (r : Result ℕ F) → is_ok r ≡ true → length nodes ≡ count
-    → IfOk r (λ node. node < count) → IfOk r (λ node. state_at nodes node ≡ Free) → AreAllUsed nodes → ⊥
+pub found_one : {F : Type 0} (nodes : List Node) (count : ℕ) (r : Result ℕ F)
+    → is_ok r ≡ true
+    → length nodes ≡ count
+    → IfOk r (λ node. node < count)
+    → IfOk r (λ node. state_at nodes node ≡ Free)
+    → AreAllUsed nodes
+    → ⊥
 found_one nodes count (Ok node) e few inside free full = full node (omega (arith, few, inside)) free
 found_one nodes count (Err _) e few inside free full = absurd (cc)
 
 -- an error of a wait is that each node is live, just where each is
-pub why_full : (buckets : ℕ) (seat now : Seated Known) (before : Watching Known) (why : NotPut) (after : Watching Known)
+pub why_full : (buckets : ℕ) (seat now : Seated Known) (before : Watching Known) (why : NotPut)
+    (after : Watching Known)
     → WaitedFor buckets seat now before (Err why) after
-    → (why ≡ Full → AreAllLive (nodes_in before.view.client)) × (AreAllLive (nodes_in before.view.client) → why ≡ Full)
+    → (why ≡ Full → AreAllLive (nodes_in before.view.client))
+    × (AreAllLive (nodes_in before.view.client) → why ≡ Full)
 why_full buckets seat now before Full after end = (λ _. end.0, λ _. refl)
-why_full buckets seat now before (Fault fault) after end = (λ e. absurd (cc), λ all. absurd (end.0 all))
+why_full buckets seat now before (Fault fault) after end = (
+  λ e. absurd (cc),
+  λ all. absurd (end.0 all),
+)
 
 -- answers that are told apart
 pub not_false : (b : Bool) → (b ≡ false → ⊥) → b ≡ true
@@ -83,28 +104,34 @@ not_false false never = absurd (never refl)
 pub same_ok : {E : Type 0} (a b : Bool) → a ≡ b → ◌≡◌ {A = Result Bool E} (Ok a) (Ok b)
 same_ok a b e = cc
 
-pub ok_not_false : {E : Type 0} (b : Bool) → b ≡ true → ◌≡◌ {A = Result Bool E} (Ok b) (Ok false) → ⊥
+pub ok_not_false : {E : Type 0} (b : Bool) → b ≡ true → ◌≡◌ {A = Result Bool E} (Ok b) (Ok false)
+    → ⊥
 ok_not_false b is e = cc
 
 pub same_err : {T E : Type 0} (x y : E) → ◌≡◌ {A = Result T E} (Err x) (Err y) → x ≡ y
 same_err x y e = cc
 
-module _ (holds : List ℕ → Type 0) (buckets width count : ℕ) (A : List Node) (m : IsMap holds buckets width count A)
-    (some : 0 < buckets) where
+module _ (holds : List ℕ → Type 0) (buckets width count : ℕ) (A : List Node)
+    (m : IsMap holds buckets width count A) (some : 0 < buckets) where
   roots_fit : buckets ≤ length A
   roots_fit =
-      let root = live_inside A (buckets - 1) (m.tended.rooted (buckets - 1) (omega (arith, some))) in
+      let root =
+      live_inside A (buckets - 1) (m.tended.rooted (buckets - 1) (omega (arith, some))) in
       omega (arith, root, some)
 
   pub no_more_than_nodes : entries_in buckets A + buckets ≤ count
-  no_more_than_nodes = let few = m.few in let most = entries_and_roots buckets A roots_fit in omega (arith, few, most)
+  no_more_than_nodes =
+      let few = m.few in
+      let most = entries_and_roots buckets A roots_fit in omega (arith, few, most)
 
   -- each node is live just where there are as many entries as nodes that are no roots
   pub all_are_live : entries_in buckets A + buckets ≡ count → AreAllLive A
-  all_are_live many i low = ⊎_elim
-      (λ (root : i < buckets). m.tended.rooted i root)
-      (λ (past : buckets ≤ i). let few = m.few in test_live (state_at A i) (all_behind_live buckets A (omega (arith, many, few)) i past low))
+  all_are_live many i low = ⊎_elim (λ (root : i < buckets). m.tended.rooted i root)
+      (λ (past : buckets ≤ i).
+      let few = m.few in
+      test_live (state_at A i) (all_behind_live buckets A (omega (arith, many, few)) i past low))
       (cases_lt i buckets)
 
   pub as_many_as_nodes : AreAllLive A → entries_in buckets A + buckets ≡ count
-  as_many_as_nodes all = many_behind buckets A roots_fit (λ i low. live_test (state_at A i) (all i low)) ∙ m.few
+  as_many_as_nodes all =
+      many_behind buckets A roots_fit (λ i low. live_test (state_at A i) (all i low)) ∙ m.few

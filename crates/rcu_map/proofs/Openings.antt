@@ -1,8 +1,10 @@
 -- The words of the roots of all buckets.
-use Rattle.std.proofs.Common.{◌≡◌, ℕ, ◌<◌, ◌+◌, List, [], ◌∷◌, ◌++◌, length, map, sym, ap, ◌∙◌, subst, arith}
+use Rattle.std.proofs.Common.{◌≡◌, ℕ, ◌<◌, ◌+◌, List, [], ◌∷◌, ◌++◌, length, map, sym, ap, ◌∙◌}
+use Rattle.std.proofs.Common.{subst, arith}
 use Rattle.std.specs.Prelude.{All}
 use Rattle.std.specs.List.{range_with_len}
-use Rattle.std.proofs.lemmas.List.FromFn.{get_or-map-range_with_len, length-map-range_with_len, map-range_with_len_more}
+use Rattle.std.proofs.lemmas.List.FromFn.{get_or-map-range_with_len, length-map-range_with_len}
+use Rattle.std.proofs.lemmas.List.FromFn.{map-range_with_len_more}
 use Rattle.rcu_map.specs.Keys.{IsWhole, root_words}
 use Rattle.rcu_map.proofs.Rows.{root_whole}
 
@@ -11,13 +13,15 @@ pub rows_whole : (holds : List ℕ → Type 0) (width buckets : ℕ)
 rows_whole holds width buckets i d low =
     let long = length-map-range_with_len (root_words width) 0 buckets in
     let inside : i < buckets = omega (arith, low, long) in
-    subst (IsWhole holds width) (sym (get_or-map-range_with_len (root_words width) 0 buckets i i d inside (omega arith)))
+    subst (IsWhole holds width)
+    (sym (get_or-map-range_with_len (root_words width) 0 buckets i i d inside (omega arith)))
     (root_whole holds width i)
 
-pub rows_many : (width buckets : ℕ) (rows : List (List ℕ)) → rows ≡ map (root_words width) (range_with_len 0 buckets)
-    → length rows ≡ buckets
+pub rows_many : (width buckets : ℕ) (rows : List (List ℕ))
+    → rows ≡ map (root_words width) (range_with_len 0 buckets) → length rows ≡ buckets
 rows_many width buckets rows are =
-    ap (λ (l : List (List ℕ)). length l) are ∙ length-map-range_with_len (root_words width) 0 buckets
+    ap (λ (l : List (List ℕ)). length l) are
+    ∙ length-map-range_with_len (root_words width) 0 buckets
 
 -- one root more
 pub rows_more : (width bucket : ℕ) (rows : List (List ℕ)) (row : List ℕ)

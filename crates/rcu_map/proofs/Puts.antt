@@ -1,5 +1,6 @@
 -- What a keeper's steps on chains ask for.
-use Rattle.std.proofs.Common.{◌≡◌, ◌≢◌, ℕ, zero, suc, ◌<◌, List, [], ◌∷◌, Option, Some, None, length, map, refl, sym, ap, ◌∙◌, subst, arith}
+use Rattle.std.proofs.Common.{◌≡◌, ◌≢◌, ℕ, zero, suc, ◌<◌, List, [], ◌∷◌, Option, Some, None}
+use Rattle.std.proofs.Common.{length, map, refl, sym, ap, ◌∙◌, subst, arith}
 use Rattle.std.specs.Prelude.{All, IfSome, slice_index, slice_index_or}
 use Rattle.rcu_live.specs.Board.{Object}
 use Rattle.rcu_live.specs.Watcher.{Watching}
@@ -27,22 +28,27 @@ one_inside count next low k d inside = go next low k inside
     go o low (suc k) inside = absurd (omega (arith, inside))
 
 -- of a target: it is live, and the words join
-pub target_there : (joins : List ℕ → List ℕ → Type 0) (words : List ℕ) (nodes : List Node) (x j : ℕ) → IsTarget joins words nodes x
-    → x ≡ suc j → (state_at nodes j ≡ Live) × joins words (node_at nodes j).words
+pub target_there : (joins : List ℕ → List ℕ → Type 0) (words : List ℕ) (nodes : List Node) (x j : ℕ)
+    → IsTarget joins words nodes x → x ≡ suc j
+    → (state_at nodes j ≡ Live) × joins words (node_at nodes j).words
 target_there joins words nodes x j t e =
     let r = t j e in
-    let same : node_at nodes j ≡ r.0 = at_here nodes j r.0 r.1 in
-    (ap (λ (v : Node). v.state) same ∙ r.2, subst (λ (v : Node). joins words v.words) (sym same) r.3)
+    let same : node_at nodes j ≡ r.0 = at_here nodes j r.0 r.1 in (
+      ap (λ (v : Node). v.state) same ∙ r.2,
+      subst (λ (v : Node). joins words v.words) (sym same) r.3,
+    )
 
 pub target_of : (joins : List ℕ → List ℕ → Type 0) (words : List ℕ) (nodes : List Node) (x : ℕ)
-    → ((j : ℕ) → x ≡ suc j → (state_at nodes j ≡ Live) × joins words (node_at nodes j).words) → IsTarget joins words nodes x
+    → ((j : ℕ) → x ≡ suc j → (state_at nodes j ≡ Live) × joins words (node_at nodes j).words)
+    → IsTarget joins words nodes x
 target_of joins words nodes x there j e =
     let r = there j e in
     (node_at nodes j, here_at nodes j (live_inside nodes j r.0), r.0, r.1)
 
-module _ (fits : List ℕ → Type 0) (joins : ℕ → List ℕ → List ℕ → Type 0) (count : ℕ) (graph : Object) (keeper : Watching Known)
-    (previous : ℕ) (words : List ℕ) (next : Option ℕ) (can : CanPut fits joins count graph keeper previous words next)
-    (node : ℕ) (low : node < count) (free : state_at (nodes_in keeper.view.client) node ≡ Free) where
+module _ (fits : List ℕ → Type 0) (joins : ℕ → List ℕ → List ℕ → Type 0) (count : ℕ)
+    (graph : Object) (keeper : Watching Known) (previous : ℕ) (words : List ℕ) (next : Option ℕ)
+    (can : CanPut fits joins count graph keeper previous words next) (node : ℕ) (low : node < count)
+    (free : state_at (nodes_in keeper.view.client) node ≡ Free) where
   abbrev A : List Node
   A = nodes_in keeper.view.client
 
@@ -61,15 +67,21 @@ module _ (fits : List ℕ → Type 0) (joins : ℕ → List ℕ → List ℕ →
   pub still_live : state_at (renewed A node written) previous ≡ Live
   still_live = ap (λ (v : Node). v.state) (other_node A node previous written apart) ∙ can.live
 
-  pub joins_it : joins 0 (node_at (renewed A node written) previous).words (node_at (renewed A node written) node).words
-  joins_it = subst (λ (w : List ℕ). joins 0 (node_at (renewed A node written) previous).words w) (sym (ap (λ (v : Node). v.words) here))
-      (subst (λ (w : List ℕ). joins 0 w words) (sym (ap (λ (v : Node). v.words) (other_node A node previous written apart))) can.joined)
+  pub joins_it : joins 0 (node_at (renewed A node written) previous).words
+      (node_at (renewed A node written) node).words
+  joins_it = subst (λ (w : List ℕ). joins 0 (node_at (renewed A node written) previous).words w)
+      (sym (ap (λ (v : Node). v.words) here))
+      (subst (λ (w : List ℕ). joins 0 w words)
+      (sym (ap (λ (v : Node). v.words) (other_node A node previous written apart))) can.joined)
 
   target : IsTarget (joins 0) words (renewed A node written) (word_to next)
-  target = target_of (joins 0) words (renewed A node written) (word_to next) (λ j e.
+  target = target_of (joins 0) words (renewed A node written) (word_to next)
+      (λ j e.
       let r = target_there (joins 0) words A (word_to next) j can.target e in
-      let same = other_node A node j written (not_free A node j free r.0) in
-      (ap (λ (v : Node). v.state) same ∙ r.0, subst (λ (v : Node). joins 0 words v.words) (sym same) r.1))
+      let same = other_node A node j written (not_free A node j free r.0) in (
+        ap (λ (v : Node). v.state) same ∙ r.0,
+        subst (λ (v : Node). joins 0 words v.words) (sym same) r.1,
+      ))
 
   pub is_ready : IsReady fits joins 1 (renewed A node written) node
   is_ready = record {
@@ -77,12 +89,17 @@ module _ (fits : List ℕ → Type 0) (joins : ℕ → List ℕ → List ℕ →
     whole = subst fits (sym (ap (λ (v : Node). v.words) here)) can.whole;
     led = λ l small.
         let first : l ≡ 0 = omega (arith, small) in
-        subst (λ (v : Node). IsTarget (joins l) v.words (renewed A node written) (slice_index v.links l)) (sym here)
-        (subst (λ (n : ℕ). IsTarget (joins n) words (renewed A node written) (slice_index (map word_to (next ∷ [])) n)) (sym first) target);
+        subst
+        (λ (v : Node). IsTarget (joins l) v.words (renewed A node written) (slice_index v.links l))
+        (sym here)
+        (subst (λ (n : ℕ).
+        IsTarget (joins n) words (renewed A node written) (slice_index (map word_to (next ∷ [])) n))
+        (sym first) target);
   }
 
   pub previous_inside : previous < count
-  previous_inside = let bound = live_inside A previous can.live in let few = can.few in omega (arith, bound, few)
+  previous_inside =
+      let bound = live_inside A previous can.live in let few = can.few in omega (arith, bound, few)
 
   pub next_inside : (j : ℕ) → word_to next ≡ suc j → j < count
   next_inside j e =

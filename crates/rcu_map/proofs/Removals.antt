@@ -1,5 +1,6 @@
 -- What is left of a map after an entry was taken out.
-use Rattle.std.proofs.Common.{◌≡◌, ◌≢◌, ℕ, suc, ◌+◌, ◌<◌, ◌≤◌, ◌⊎◌, inl, inr, true, List, Option, Some, length, sym, ap, ◌∙◌, subst, arith}
+use Rattle.std.proofs.Common.{◌≡◌, ◌≢◌, ℕ, suc, ◌+◌, ◌<◌, ◌≤◌, ◌⊎◌, inl, inr, true, List, Option}
+use Rattle.std.proofs.Common.{Some, length, sym, ap, ◌∙◌, subst, arith}
 use mathlib.Core.Logic.{dite}
 use native.Mathlib.Decide.{ℕ_discrete}
 use Rattle.rcu_graph.specs.Absence.{key_at, next_of}
@@ -20,22 +21,32 @@ use Rattle.rcu_map.proofs.Held.{held_past, left_or_live, still_there}
 use Rattle.rcu_map.proofs.Stored.{is_passed}
 use Rattle.rcu_map.proofs.Trimmed.{AreHeld, is_left, map_after, same_state}
 
-module _ (holds : List ℕ → Type 0) (buckets width count : ℕ) (A : List Node) (m : IsMap holds buckets width count A) where
+module _ (holds : List ℕ → Type 0) (buckets width count : ℕ) (A : List Node)
+    (m : IsMap holds buckets width count A) where
   -- of an old entry, which is passed
-  module _ (key previous old : ℕ) (some : 0 < key) (place : IsPlace buckets key A previous (Some old)) where
+  module _ (key previous old : ℕ) (some : 0 < key)
+      (place : IsPlace buckets key A previous (Some old)) where
     pub had : IsNodeOf buckets A key old
     had = there holds buckets width count A m key previous some old place
 
     pub previous_stays : but old previous ≡ true
-    previous_stays = other_but old previous (λ is. let less = place.less in let has = had.is in
-        let e : key_at A previous ≡ key_at A old = ap (λ (n : ℕ). key_at A n) is in omega (arith, less, has, e))
+    previous_stays = other_but old previous (λ is.
+        let less = place.less in let has = had.is in
+        let e : key_at A previous ≡ key_at A old = ap (λ (n : ℕ). key_at A n) is in
+        omega (arith, less, has, e))
 
     -- the old node does not lead to itself
     pub no_ring : next_of A old ≡ suc old → ⊥
-    no_ring leads = let up = (led holds buckets width count A m old old had.entry.live leads).1.up in omega (arith, up)
+    no_ring leads =
+        let up = (led holds buckets width count A m old old had.entry.live leads).1.up in
+        omega (arith, up)
 
     -- who led to a node that stays is led to it still
-    pub passes : (word : ℕ) → word ≡ next_of A old → (i j : ℕ) → state_at A j ≡ Live → next_of A j ≡ suc i → but old i ≡ true
+    pub passes : (word : ℕ)
+        → word ≡ next_of A old
+        → (i j : ℕ) → state_at A j ≡ Live
+        → next_of A j ≡ suc i
+        → but old i ≡ true
         → (word ≡ suc i) ⊎ ((j ≢ previous) × (but old j ≡ true))
     passes word to i j on leads kept = dite (ℕ_discrete j old)
         (λ (is : j ≡ old). inl (to ∙ (ap (λ (n : ℕ). next_of A n) (sym is) ∙ leads)))
@@ -48,7 +59,8 @@ module _ (holds : List ℕ → Type 0) (buckets width count : ℕ) (A : List Nod
         ))
 
     -- an entry of another node has another key
-    pub other_key : (w : List ℕ) (i : ℕ) → buckets ≤ i → state_at A i ≡ Live → (node_at A i).words ≡ w → i ≢ old → key_in w ≢ key
+    pub other_key : (w : List ℕ) (i : ℕ)
+        → buckets ≤ i → state_at A i ≡ Live → (node_at A i).words ≡ w → i ≢ old → key_in w ≢ key
     other_key w i past live is ne e = ne (one_entry holds buckets width count A m key i old some
         (record { entry = record { behind = past; live = live }; is = ap key_in is ∙ e }) had)
 
@@ -56,25 +68,30 @@ module _ (holds : List ℕ → Type 0) (buckets width count : ℕ) (A : List Nod
     not_old w i is ne same = ne (ap key_in (sym is) ∙ (ap (λ (n : ℕ). key_at A n) same ∙ had.is))
 
     -- it is taken out
-    module _ (next : Option ℕ) (B : List Node) (to : word_to next ≡ next_of A old) (t : AreTrimmed buckets 1 (relinked A previous 0 next) B) where
+    module _ (next : Option ℕ) (B : List Node) (to : word_to next ≡ next_of A old)
+        (t : AreTrimmed buckets 1 (relinked A previous 0 next) B) where
       abbrev S : List Node
       S = relinked A previous 0 next
 
       p : IsPassed A S previous (word_to next)
-      p = is_passed A previous (live_inside A previous place.live) (m.linked previous place.live) next
+      p = is_passed A previous (live_inside A previous place.live) (m.linked previous place.live)
+          next
 
       held : AreHeld buckets S (but old)
-      held = held_past holds buckets width count A m (but old) previous (word_to next) (passes (word_to next) to) S p place.live previous_stays
+      held = held_past holds buckets width count A m (but old) previous (word_to next)
+          (passes (word_to next) to) S p place.live previous_stays
 
       pub out : state_at B old ≡ Left
       out = is_left buckets S B t old (p.states old ∙ had.entry.live) had.entry.behind
           (λ j on leads. dite (ℕ_discrete j previous)
-          (λ (is : j ≡ previous). no_ring (sym to ∙ (sym p.led ∙ (ap (λ (n : ℕ). next_of S n) (sym is) ∙ leads))))
-          (λ (ne : j ≢ previous). ne (one_way holds buckets width count A m j previous old (sym (p.states j) ∙ on) place.live
-          (sym (p.leads j ne) ∙ leads) place.leads.0)))
+          (λ (is : j ≡ previous).
+          no_ring (sym to ∙ (sym p.led ∙ (ap (λ (n : ℕ). next_of S n) (sym is) ∙ leads))))
+          (λ (ne : j ≢ previous). ne (one_way holds buckets width count A m j previous old
+          (sym (p.states j) ∙ on) place.live (sym (p.leads j ne) ∙ leads) place.leads.0)))
 
       kept : (i : ℕ) → state_at B i ≡ Live → but old i ≡ true
-      kept i live = other_but old i (λ is. left_or_live (state_at B old) out (ap (λ (n : ℕ). state_at B n) (sym is) ∙ live))
+      kept i live = other_but old i
+          (λ is. left_or_live (state_at B old) out (ap (λ (n : ℕ). state_at B n) (sym is) ∙ live))
 
       words_same : (i : ℕ) → (node_at B i).words ≡ (node_at A i).words
       words_same i = t.words_stay i ∙ p.same i
@@ -82,7 +99,8 @@ module _ (holds : List ℕ → Type 0) (buckets width count : ℕ) (A : List Nod
       state_there : (i : ℕ) → i ≢ old → state_at B i ≡ state_at A i
       state_there i ne = same_state buckets S B t (but old) held i (other_but old i ne) ∙ p.states i
 
-      pub removed_map : length B ≡ count → AreTended (IsWhole holds width) (λ _ from to. GoesUp buckets from to) buckets 1 B
+      pub removed_map : length B ≡ count
+          → AreTended (IsWhole holds width) (λ _ from to. GoesUp buckets from to) buckets 1 B
           → IsMap holds buckets width count B
       removed_map few tended = map_after buckets S B t (but old) holds width count
           (ordered_past holds buckets width count A m key previous old place S
@@ -90,7 +108,8 @@ module _ (holds : List ℕ → Type 0) (buckets width count : ℕ) (A : List Nod
 
       pub removed_count : length B ≡ count → entries_in buckets A ≡ entries_in buckets B + 1
       removed_count few = one_entry_more buckets B A old (m.few ∙ sym few) had.entry.behind
-          (let bound = live_inside A old had.entry.live in let many = m.few in omega (arith, bound, many, few))
+          (let bound = live_inside A old had.entry.live in
+          let many = m.few in omega (arith, bound, many, few))
           (ap is_live out) (ap is_live had.entry.live) (λ j ne. ap is_live (sym (state_there j ne)))
 
       pub removed : IsRemoved buckets A key B
@@ -99,11 +118,14 @@ module _ (holds : List ℕ → Type 0) (buckets width count : ℕ) (A : List Nod
           (λ h.
               let ne = but_other old h.node (kept h.node h.entry.live) in
               let live = sym (state_there h.node ne) ∙ h.entry.live in
-              let is = sym (words_same h.node) ∙ h.is in
-              (still_there buckets B A w h.node h.entry.behind live is, other_key w h.node h.entry.behind live is ne)),
+              let is = sym (words_same h.node) ∙ h.is in (
+                still_there buckets B A w h.node h.entry.behind live is,
+                other_key w h.node h.entry.behind live is ne,
+              )),
           (λ q.
               let ne = not_old w q.0.node q.0.is q.1 in
-              still_there buckets A B w q.0.node q.0.entry.behind (state_there q.0.node ne ∙ q.0.entry.live) (words_same q.0.node ∙ q.0.is)),
+              still_there buckets A B w q.0.node q.0.entry.behind
+              (state_there q.0.node ne ∙ q.0.entry.live) (words_same q.0.node ∙ q.0.is)),
         );
         old = old;
         had = had;

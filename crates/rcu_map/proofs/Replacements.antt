@@ -1,5 +1,6 @@
 -- What is left of a map after an entry was put in the place of another one.
-use Rattle.std.proofs.Common.{◌≡◌, ◌≢◌, ℕ, ◌<◌, inl, inr, ⊎_elim, true, List, Option, Some, length, refl, sym, ap, ◌∙◌, subst, arith}
+use Rattle.std.proofs.Common.{◌≡◌, ◌≢◌, ℕ, ◌<◌, inl, inr, ⊎_elim, true, List, Option, Some, length}
+use Rattle.std.proofs.Common.{refl, sym, ap, ◌∙◌, subst, arith}
 use mathlib.Core.Logic.{dite}
 use native.Mathlib.Decide.{ℕ_discrete}
 use Rattle.rcu_graph.specs.Absence.{next_of}
@@ -16,17 +17,20 @@ use Rattle.rcu_map.specs.Splices.{IsPlace, put}
 use Rattle.rcu_map.proofs.Buckets.{entry_bucket}
 use Rattle.rcu_map.proofs.Chains.{bucket_at, one_way}
 use Rattle.rcu_map.proofs.Counted.{one_entry_more}
-use Rattle.rcu_map.proofs.Gaps.{IsGap, IsPut, but, but_other, not_free, ordered_with, other_but, replacement_gap}
+use Rattle.rcu_map.proofs.Gaps.{IsGap, IsPut, but, but_other, not_free, ordered_with, other_but}
+use Rattle.rcu_map.proofs.Gaps.{replacement_gap}
 use Rattle.rcu_map.proofs.Held.{held_with, left_or_live, node_behind, still_there}
 use Rattle.rcu_map.proofs.Removals.{had, no_ring, not_old, other_key, passes, previous_stays}
 use Rattle.rcu_map.proofs.Stored.{few_put, is_put}
 use Rattle.rcu_map.proofs.Trimmed.{AreHeld, is_left, map_after, same_state}
 
-module _ (holds : List ℕ → Type 0) (buckets width count : ℕ) (A : List Node) (m : IsMap holds buckets width count A) where
+module _ (holds : List ℕ → Type 0) (buckets width count : ℕ) (A : List Node)
+    (m : IsMap holds buckets width count A) where
   -- an entry is put in the place of an old one
-  module _ (previous node old : ℕ) (words : List ℕ) (next : Option ℕ) (B : List Node) (some : 0 < key_in words)
-      (place : IsPlace buckets (key_in words) A previous (Some old)) (to : word_to next ≡ next_of A old)
-      (inside : node < count) (free : state_at A node ≡ Free) (t : AreTrimmed buckets 1 (put A previous node words next) B) where
+  module _ (previous node old : ℕ) (words : List ℕ) (next : Option ℕ) (B : List Node)
+      (some : 0 < key_in words) (place : IsPlace buckets (key_in words) A previous (Some old))
+      (to : word_to next ≡ next_of A old) (inside : node < count) (free : state_at A node ≡ Free)
+      (t : AreTrimmed buckets 1 (put A previous node words next) B) where
     abbrev S : List Node
     S = put A previous node words next
 
@@ -37,7 +41,8 @@ module _ (holds : List ℕ → Type 0) (buckets width count : ℕ) (A : List Nod
     apart is = not_free A node previous free place.live (sym is)
 
     p : IsPut A S previous node words (word_to next)
-    p = is_put A previous (live_inside A previous place.live) (m.linked previous place.live) node words next low apart
+    p = is_put A previous (live_inside A previous place.live) (m.linked previous place.live) node
+        words next low apart
 
     old_is : IsNodeOf buckets A (key_in words) old
     old_is = had holds buckets width count A m (key_in words) previous old some place
@@ -56,23 +61,30 @@ module _ (holds : List ℕ → Type 0) (buckets width count : ℕ) (A : List Nod
     bucket = place.bucket ∙ sym (entry_bucket buckets (key_in words) words some refl)
 
     held : AreHeld buckets S (but old)
-    held = held_with holds buckets width count A m (but old) previous (word_to next) (passes holds buckets width count A m (key_in words) previous old some place (word_to next) to)
-        S node words p free place.live (previous_stays holds buckets width count A m (key_in words) previous old some place) new_stays
+    held = held_with holds buckets width count A m (but old) previous (word_to next)
+        (passes holds buckets width count A m (key_in words) previous old some place (word_to next)
+        to)
+        S node words p free place.live
+        (previous_stays holds buckets width count A m (key_in words) previous old some place)
+        new_stays
 
     pub passed_out : state_at B old ≡ Left
-    passed_out = is_left buckets S B t old (p.states old old_is_not ∙ old_is.entry.live) old_is.entry.behind
+    passed_out = is_left buckets S B t old (p.states old old_is_not ∙ old_is.entry.live)
+        old_is.entry.behind
         (λ j on leads. dite (ℕ_discrete j node)
-        (λ (is : j ≡ node). no_ring holds buckets width count A m (key_in words) previous old some place (sym to ∙ (sym p.onward ∙ (ap (λ (n : ℕ). next_of S n) (sym is) ∙ leads))))
+        (λ (is : j ≡ node). no_ring holds buckets width count A m (key_in words) previous old some
+        place (sym to ∙ (sym p.onward ∙ (ap (λ (n : ℕ). next_of S n) (sym is) ∙ leads))))
         (λ (nj : j ≢ node). dite (ℕ_discrete j previous)
         (λ (is : j ≡ previous).
         let e : next_of S j ≡ next_of S previous = ap (λ (n : ℕ). next_of S n) is in
         let here = p.led in
         old_is_not (omega (arith, e, here, leads)))
-        (λ (np : j ≢ previous). np (one_way holds buckets width count A m j previous old (sym (p.states j nj) ∙ on) place.live
-        (sym (p.leads j nj np) ∙ leads) place.leads.0))))
+        (λ (np : j ≢ previous). np (one_way holds buckets width count A m j previous old
+        (sym (p.states j nj) ∙ on) place.live (sym (p.leads j nj np) ∙ leads) place.leads.0))))
 
     kept : (i : ℕ) → state_at B i ≡ Live → but old i ≡ true
-    kept i live = other_but old i (λ is. left_or_live (state_at B old) passed_out (ap (λ (n : ℕ). state_at B n) (sym is) ∙ live))
+    kept i live = other_but old i (λ is.
+        left_or_live (state_at B old) passed_out (ap (λ (n : ℕ). state_at B n) (sym is) ∙ live))
 
     states : (i : ℕ) → i ≢ old → state_at B i ≡ state_at S i
     states i ne = same_state buckets S B t (but old) held i (other_but old i ne)
@@ -89,20 +101,26 @@ module _ (holds : List ℕ → Type 0) (buckets width count : ℕ) (A : List Nod
     state_there : (i : ℕ) → i ≢ node → i ≢ old → state_at B i ≡ state_at A i
     state_there i ne apart_old = states i apart_old ∙ p.states i ne
 
-    pub replaced_map : length B ≡ count → AreTended (IsWhole holds width) (λ _ from to. GoesUp buckets from to) buckets 1 B
+    pub replaced_map : length B ≡ count
+        → AreTended (IsWhole holds width) (λ _ from to. GoesUp buckets from to) buckets 1 B
         → IsMap holds buckets width count B
     replaced_map few tended = map_after buckets S B t (but old) holds width count
-        (ordered_with holds buckets width count A m (but old) S previous node (word_to next) words gap p free bucket)
+        (ordered_with holds buckets width count A m (but old) S previous node (word_to next) words
+        gap p free bucket)
         kept few tended
 
     pub replaced_count : entries_in buckets B ≡ entries_in buckets A
     replaced_count =
-        let many = few_put A previous (live_inside A previous place.live) (m.linked previous place.live) node words next low apart in
-        let more = one_entry_more buckets A S node many (node_behind holds buckets width count A m node free) low (ap is_live free) (ap is_live p.live)
-        (λ j ne. ap is_live (p.states j ne)) in
+        let many = few_put A previous (live_inside A previous place.live)
+        (m.linked previous place.live) node words next low apart in
+        let more = one_entry_more buckets A S node many
+        (node_behind holds buckets width count A m node free) low (ap is_live free)
+        (ap is_live p.live) (λ j ne. ap is_live (p.states j ne)) in
         let less = one_entry_more buckets B S old (sym t.few) old_is.entry.behind
-        (let bound = live_inside A old old_is.entry.live in let few = t.few in omega (arith, bound, few, many))
-        (ap is_live passed_out) (ap is_live (p.states old old_is_not ∙ old_is.entry.live)) (λ j ne. ap is_live (sym (states j ne))) in
+        (let bound = live_inside A old old_is.entry.live in
+        let few = t.few in omega (arith, bound, few, many))
+        (ap is_live passed_out) (ap is_live (p.states old old_is_not ∙ old_is.entry.live))
+        (λ j ne. ap is_live (sym (states j ne))) in
         omega (arith, more, less)
 
     pub replaced : IsReplaced buckets A words B
@@ -111,20 +129,26 @@ module _ (holds : List ℕ → Type 0) (buckets width count : ℕ) (A : List Nod
         (λ h.
             let other = but_other old h.node (kept h.node h.entry.live) in
             dite (ℕ_discrete h.node node)
-            (λ (is : h.node ≡ node). inr (sym h.is ∙ (ap (λ (n : ℕ). (node_at B n).words) is ∙ words_here)))
+            (λ (is : h.node ≡ node).
+            inr (sym h.is ∙ (ap (λ (n : ℕ). (node_at B n).words) is ∙ words_here)))
             (λ (ne : h.node ≢ node).
             let live = sym (state_there h.node ne other) ∙ h.entry.live in
             let is = sym (words_there h.node ne) ∙ h.is in
             inl (
               still_there buckets B A w h.node h.entry.behind live is,
-              other_key holds buckets width count A m (key_in words) previous old some place w h.node h.entry.behind live is other,
+              other_key holds buckets width count A m (key_in words) previous old some place w
+                  h.node h.entry.behind live is other,
             ))),
-        (λ s. ⊎_elim
+        (λ s.
+            ⊎_elim
             (λ (q : HasEntry buckets A w × (key_in w ≢ key_in words)).
             let ne = not_free A node q.0.node free q.0.entry.live in
-            let other = not_old holds buckets width count A m (key_in words) previous old some place w q.0.node q.0.is q.1 in
-            still_there buckets A B w q.0.node q.0.entry.behind (state_there q.0.node ne other ∙ q.0.entry.live) (words_there q.0.node ne ∙ q.0.is))
-            (λ (is : w ≡ words). still_there buckets A B w node (node_behind holds buckets width count A m node free) live_here (words_here ∙ sym is))
+            let other = not_old holds buckets width count A m (key_in words) previous old some place
+            w q.0.node q.0.is q.1 in
+            still_there buckets A B w q.0.node q.0.entry.behind
+            (state_there q.0.node ne other ∙ q.0.entry.live) (words_there q.0.node ne ∙ q.0.is))
+            (λ (is : w ≡ words). still_there buckets A B w node
+            (node_behind holds buckets width count A m node free) live_here (words_here ∙ sym is))
             s),
       );
       node = node;

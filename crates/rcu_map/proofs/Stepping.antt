@@ -1,5 +1,7 @@
 -- A section goes on from a cursor by one hop.
-use Rattle.std.proofs.Common.{◌≡◌, ℕ, zero, suc, ◌+◌, ◌<◌, ◌≤◌, ◌==◌, List, [], ◌∷◌, ◌++◌, ◌^◌, Some, Bool, true, false, replicate, refl, sym, ap, ◌∙◌, subst, inl, inr, arith}
+use Rattle.std.proofs.Common.{◌≡◌, ℕ, zero, suc, ◌+◌, ◌<◌, ◌≤◌, ◌==◌, List, [], ◌∷◌, ◌++◌, ◌^◌}
+use Rattle.std.proofs.Common.{Some, Bool, true, false, replicate, refl, sym, ap, ◌∙◌, subst, inl}
+use Rattle.std.proofs.Common.{inr, arith}
 use Rattle.std.specs.Prelude.{if◌then◌else◌, slice_index}
 use Rattle.std.proofs.lemmas.Bool.Decides.{nat_tests}
 use Rattle.std.proofs.lemmas.List.{get_or-set_same}
@@ -16,9 +18,11 @@ use Rattle.rcu_graph.specs.Steps.{Followed}
 use Rattle.rcu_graph.specs.declared.known.Hop.{Hop}
 use Rattle.rcu_graph.specs.declared.known.Known.{Known}
 use Rattle.rcu_graph.proofs.Walking.{came_holds, came_to}
-use Rattle.rcu_map.specs.Cursors.{HasListed, HasStepped, IsOnCursor, IsOnEntry, MayGoOn, latest_to, latest_words}
+use Rattle.rcu_map.specs.Cursors.{HasListed, HasStepped, IsOnCursor, IsOnEntry, MayGoOn, latest_to}
+use Rattle.rcu_map.specs.Cursors.{latest_words}
 use Rattle.rcu_map.specs.Keys.{GoesUp, IsWhole, bucket_in, bucket_of, key_in, root_words}
-use Rattle.rcu_map.specs.Listing.{GoOn, IsAtEnd, IsNextEntry, LedNowhere, at_root, led_from, left_from}
+use Rattle.rcu_map.specs.Listing.{GoOn, IsAtEnd, IsNextEntry, LedNowhere, at_root, led_from}
+use Rattle.rcu_map.specs.Listing.{left_from}
 use Rattle.rcu_map.specs.declared.cursor.Cursor.{Cursor}
 use Rattle.rcu_map.proofs.Rows.{root_key, zeros}
 
@@ -26,14 +30,21 @@ the_same : (a b : ℕ) → suc a ≡ suc b → a ≡ b
 the_same a b e = omega (arith, e)
 
 -- of the words of a node: of a root, and of one that has a key
-bucket_at_root : (buckets bucket width : ℕ) → 2 ≤ width → bucket_in buckets (root_words width bucket) ≡ bucket
+bucket_at_root : (buckets bucket width : ℕ) → 2 ≤ width
+    → bucket_in buckets (root_words width bucket) ≡ bucket
 bucket_at_root buckets bucket width keyed =
     let many = zeros width in
-    let none : (key_in (root_words width bucket) == 0) ≡ true = let k = root_key width bucket in grind (arith, nat_tests) in
-    ap (λ (b : Bool). if b then slice_index (root_words width bucket) 1 else bucket_of buckets (key_in (root_words width bucket))) none
+    let none : (key_in (root_words width bucket) == 0) ≡ true =
+    let k = root_key width bucket in grind (arith, nat_tests) in
+    ap (λ (b : Bool).
+    if b
+    then slice_index (root_words width bucket) 1
+    else bucket_of buckets (key_in (root_words width bucket)))
+    none
     ∙ get_or-set_same (replicate width 0) 1 bucket 0 (omega (arith, many, keyed))
 
-bucket_keyed : (buckets : ℕ) (words : List ℕ) → 0 < key_in words → bucket_in buckets words ≡ bucket_of buckets (key_in words)
+bucket_keyed : (buckets : ℕ) (words : List ℕ) → 0 < key_in words
+    → bucket_in buckets words ≡ bucket_of buckets (key_in words)
 bucket_keyed buckets words keyed =
     let not_none : (key_in words == 0) ≡ false = grind (arith, nat_tests) in
     ap (λ (b : Bool). if b then slice_index words 1 else bucket_of buckets (key_in words)) not_none
@@ -46,8 +57,13 @@ latest_held known node led = by (hops_in known) refl led
     by : (hops : List Hop) → hops_in known ≡ hops → latest_to hops ≡ suc node
         → IsHeld known node (latest_words (hops_in known))
     by [] are none = absurd (omega (arith, none))
-    by (hop ∷ before) are led = subst (λ (hops : List Hop). (k : ℕ) × (h : Hop) × (get_elem? hops k ≡ some h) × (h.to ≡ suc node) × (h.words ≡ latest_words hops)) (sym are)
-        (0, hop, refl, led, refl)
+    by (hop ∷ before) are led = subst (λ (hops : List Hop).
+        (k : ℕ)
+        × (h : Hop)
+        × (get_elem? hops k ≡ some h)
+        × (h.to ≡ suc node)
+        × (h.words ≡ latest_words hops))
+        (sym are) (0, hop, refl, led, refl)
 
 module _ (count buckets width : ℕ) (known : Known) (at : Cursor) where
   -- the words of the cursor's node
@@ -68,19 +84,24 @@ module _ (count buckets width : ℕ) (known : Known) (at : Cursor) where
       })
       (λ (ne : at.key ≡ 0 → ⊥).
       let up : 0 < at.key = omega (arith, ne) in
-      let is = c.key up in record {
+      let is = c.key up in
+      record {
         words = latest_words (hops_in known);
         on = inr (latest_held known at.node (c.led up));
         key = is;
-        bucket = bucket_keyed buckets (latest_words (hops_in known)) (omega (arith, is, up)) ∙ (ap (bucket_of buckets) is ∙ c.same up);
+        bucket =
+            bucket_keyed buckets (latest_words (hops_in known)) (omega (arith, is, up))
+            ∙ (ap (bucket_of buckets) is ∙ c.same up);
       })
 
-module _ (holds : List ℕ → Type 0) (count buckets width : ℕ) (map : Object) (old new : Seated Known) (start : Cursor)
-    (inside : start.bucket < buckets) (o : IsOnWords count buckets width old.view.client start)
+module _ (holds : List ℕ → Type 0) (count buckets width : ℕ) (map : Object) (old new : Seated Known)
+    (start : Cursor) (inside : start.bucket < buckets)
+    (o : IsOnWords count buckets width old.view.client start)
     (same : new ≡ after_word_step old new.view.client) (walking : IsWalking map new) where
   -- the link led nowhere
   pub stepped_over : buckets ≤ count
-      → Followed (IsWhole holds width) (GoesUp buckets o.words) width count old.view.client start.node 0 0 new.view.client
+      → Followed (IsWhole holds width) (GoesUp buckets o.words) width count old.view.client
+      start.node 0 0 new.view.client
       → HasStepped holds count buckets width map old start new (at_root (start.bucket + 1))
   stepped_over few f = record {
     same = same;
@@ -111,13 +132,18 @@ module _ (holds : List ℕ → Type 0) (count buckets width : ℕ) (map : Object
 
   -- it led to a node
   pub stepped_on : (node key : ℕ)
-      → (f : Followed (IsWhole holds width) (GoesUp buckets o.words) width count old.view.client start.node 0 (suc node) new.view.client)
-      → ((words : List ℕ) → IsOn (root_words width) buckets new.view.client node words → key ≡ slice_index words 0)
+      → (f : Followed (IsWhole holds width) (GoesUp buckets o.words) width count old.view.client
+      start.node 0 (suc node) new.view.client)
+      → ((words : List ℕ) → IsOn (root_words width) buckets new.view.client node words → key
+      ≡ slice_index words 0)
       → key < 2 ^ 64
-      → HasStepped holds count buckets width map old start new (record { bucket = start.bucket; node = node; key = key })
+      → HasStepped holds count buckets width map old start new
+      (record { bucket = start.bucket; node = node; key = key })
   stepped_on node key f is small =
-      let c = came_to (IsWhole holds width) (GoesUp buckets o.words) width count old.view.client start.node 0 node new.view.client f in
-      let held = came_holds (IsWhole holds width) (GoesUp buckets o.words) width count old.view.client start.node 0 node new.view.client f in
+      let c = came_to (IsWhole holds width) (GoesUp buckets o.words) width count old.view.client
+      start.node 0 node new.view.client f in
+      let held = came_holds (IsWhole holds width) (GoesUp buckets o.words) width count
+      old.view.client start.node 0 node new.view.client f in
       let told : key ≡ key_in f.words = is f.words (inr held) in
       let here = o.key in
       let up : start.key < key_in f.words = let u = c.joined.up in omega (arith, u, here) in
@@ -150,8 +176,8 @@ module _ (holds : List ℕ → Type 0) (count buckets width : ℕ) (map : Object
         whole = λ more. c.whole;
       }
 
-module _ (holds : List ℕ → Type 0) (count buckets width : ℕ) (map : Object) (old new : Seated Known) (start at : Cursor)
-    (s : HasStepped holds count buckets width map old start new at) where
+module _ (holds : List ℕ → Type 0) (count buckets width : ℕ) (map : Object) (old new : Seated Known)
+    (start at : Cursor) (s : HasStepped holds count buckets width map old start new at) where
   led_to : (to : ℕ) → s.hop.to ≡ to → at ≡ led_from start to (key_after s.hop)
   led_to to e = s.led ∙ ap (λ (n : ℕ). led_from start n (key_after s.hop)) e
 
@@ -177,7 +203,8 @@ module _ (holds : List ℕ → Type 0) (count buckets width : ℕ) (map : Object
     where
       by : (to : ℕ) → s.hop.to ≡ to → HasLed
       by zero e =
-          let none : at.key ≡ 0 = ap (λ (c : Cursor). c.key) (led_to zero e) in absurd (omega (arith, none, keyed))
+          let none : at.key ≡ 0 = ap (λ (c : Cursor). c.key) (led_to zero e) in
+          absurd (omega (arith, none, keyed))
       by (suc node) e =
           let here = led_to (suc node) e in
           let is : at.key ≡ key_after s.hop = ap (λ (c : Cursor). c.key) here in
@@ -191,14 +218,21 @@ module _ (holds : List ℕ → Type 0) (count buckets width : ℕ) (map : Object
   pub step_held : 0 < at.key → IsHeld new.view.client at.node s.hop.words
   step_held keyed =
       let w = went_on keyed in
-      subst (λ (hops : List Hop). (k : ℕ) × (h : Hop) × (get_elem? hops k ≡ some h) × (h.to ≡ suc at.node) × (h.words ≡ s.hop.words)) (sym s.are)
-      (0, s.hop, refl, w.to, refl)
+      subst (λ (hops : List Hop).
+      (k : ℕ)
+      × (h : Hop)
+      × (get_elem? hops k ≡ some h)
+      × (h.to ≡ suc at.node)
+      × (h.words ≡ s.hop.words))
+      (sym s.are) (0, s.hop, refl, w.to, refl)
 
   pub on_entry : 0 < at.key → IsOnEntry holds count width map new at.node
   on_entry keyed =
       let w = went_on keyed in
       let k = w.key in
-      let inside = s.may.on (let e = w.bucket in let low = s.goes.inside in omega (arith, e, low)) in record {
+      let inside =
+      s.may.on (let e = w.bucket in let low = s.goes.inside in omega (arith, e, low)) in
+      record {
         walking = s.may.walking;
         inside = inside.inside;
         words = s.hop.words;
@@ -208,7 +242,8 @@ module _ (holds : List ℕ → Type 0) (count buckets width : ℕ) (map : Object
       }
 
 -- a section that goes over chains, and came to no entry yet
-pub record IsPassing (buckets : ℕ) (was : Known) (start : Cursor) (now : Known) (at : Cursor) : Type 0 where
+pub record IsPassing (buckets : ℕ) (was : Known) (start : Cursor) (now : Known)
+    (at : Cursor) : Type 0 where
   pub over : List Hop
   pub are : hops_in now ≡ over ++ hops_in was
   pub nowhere : LedNowhere over
@@ -217,9 +252,9 @@ pub record IsPassing (buckets : ℕ) (was : Known) (start : Cursor) (now : Known
 pub begins : (buckets : ℕ) (was : Known) (start : Cursor) → IsPassing buckets was start was start
 begins buckets was start = record { over = []; are = refl; nowhere = tt; goes = refl }
 
-module _ (holds : List ℕ → Type 0) (count buckets width : ℕ) (map : Object) (old new : Seated Known) (mid at : Cursor)
-    (s : HasStepped holds count buckets width map old mid new at) (was : Known) (start : Cursor)
-    (p : IsPassing buckets was start old.view.client mid) where
+module _ (holds : List ℕ → Type 0) (count buckets width : ℕ) (map : Object) (old new : Seated Known)
+    (mid at : Cursor) (s : HasStepped holds count buckets width map old mid new at) (was : Known)
+    (start : Cursor) (p : IsPassing buckets was start old.view.client mid) where
   pub passes_on : at.key ≡ 0 → IsPassing buckets was start new.view.client at
   passes_on none = record {
     over = s.hop ∷ p.over;
@@ -228,7 +263,8 @@ module _ (holds : List ℕ → Type 0) (count buckets width : ℕ) (map : Object
     goes = (mid, p.goes, s.goes, s.led);
   }
 
-  pub comes_to : {E : Type 0} (decode : List ℕ → E) (entry : E) (keyed : 0 < at.key) → entry ≡ decode s.hop.words
+  pub comes_to : {E : Type 0} (decode : List ℕ → E) (entry : E) (keyed : 0 < at.key)
+      → entry ≡ decode s.hop.words
       → IsNextEntry holds decode buckets was start new.view.client at entry
   comes_to decode entry keyed told =
       let w = went_on holds count buckets width map old new mid at s keyed in
@@ -244,8 +280,8 @@ module _ (holds : List ℕ → Type 0) (count buckets width : ℕ) (map : Object
         told = told;
       }
 
-pub is_at_end : (buckets : ℕ) (was now : Known) (start at : Cursor) → IsPassing buckets was start now at → at.bucket ≡ buckets
-    → IsAtEnd buckets was start now at
+pub is_at_end : (buckets : ℕ) (was now : Known) (start at : Cursor)
+    → IsPassing buckets was start now at → at.bucket ≡ buckets → IsAtEnd buckets was start now at
 is_at_end buckets was now start at p ended =
     record { over = p.over; are = p.are; nowhere = p.nowhere; goes = p.goes; ended = ended }
 
@@ -254,7 +290,8 @@ pub left_over : (buckets : ℕ) (at : Cursor) → at.bucket < buckets → at.key
     → left_from buckets (at_root (at.bucket + 1)) ≤ left_from buckets at
 left_over buckets at low small = omega (arith, low, small)
 
-pub left_on : (buckets : ℕ) (at to : Cursor) → at.bucket < buckets → at.key < 2 ^ 64 → to.bucket ≡ at.bucket → at.key < to.key
+pub left_on : (buckets : ℕ) (at to : Cursor)
+    → at.bucket < buckets → at.key < 2 ^ 64 → to.bucket ≡ at.bucket → at.key < to.key
     → left_from buckets to < left_from buckets at
 left_on buckets at to low small same up = omega (arith, low, small, same, up)
 
@@ -264,8 +301,9 @@ at_most a b c low high = omega (arith, low, high)
 below : (a b c : ℕ) → a < b → b ≤ c → a < c
 below a b c low high = omega (arith, low, high)
 
-module _ (holds : List ℕ → Type 0) (count buckets width : ℕ) (map : Object) (begun old new : Seated Known)
-    (start mid at : Cursor) (s : HasStepped holds count buckets width map old mid new at)
+module _ (holds : List ℕ → Type 0) (count buckets width : ℕ) (map : Object)
+    (begun old new : Seated Known) (start mid at : Cursor)
+    (s : HasStepped holds count buckets width map old mid new at)
     (same : old ≡ after_word_step begun old.view.client) (may : MayGoOn count buckets map old mid)
     (p : IsPassing buckets begun.view.client start old.view.client mid)
     (left : left_from buckets mid ≤ left_from buckets start) where
@@ -276,18 +314,25 @@ module _ (holds : List ℕ → Type 0) (count buckets width : ℕ) (map : Object
   left_less none =
       let over = went_over holds count buckets width map old new mid at s none in
       subst (λ (c : Cursor). left_from buckets c ≤ left_from buckets start) (sym over.1)
-      (at_most (left_from buckets (at_root (mid.bucket + 1))) (left_from buckets mid) (left_from buckets start) (left_over buckets mid s.goes.inside may.small) left)
+      (at_most (left_from buckets (at_root (mid.bucket + 1))) (left_from buckets mid)
+      (left_from buckets start) (left_over buckets mid s.goes.inside may.small) left)
 
-  pub listed_entry : {E : Type 0} (decode : List ℕ → E) (valid : E → Type 0) (key_of : E → ℕ) (entry : E)
-      → ((words : List ℕ) → holds words → key_of (decode words) ≡ key_in words) → 0 < at.key → entry ≡ decode s.hop.words
-      → valid entry → HasListed holds decode valid key_of count buckets map begun start new at (Some entry)
+  pub listed_entry : {E : Type 0} (decode : List ℕ → E) (valid : E → Type 0) (key_of : E → ℕ)
+      (entry : E)
+      → ((words : List ℕ) → holds words → key_of (decode words) ≡ key_in words)
+      → 0 < at.key
+      → entry ≡ decode s.hop.words
+      → valid entry
+      → HasListed holds decode valid key_of count buckets map begun start new at (Some entry)
   listed_entry decode valid key_of entry tells keyed told sound =
       let w = went_on holds count buckets width map old new mid at s keyed in
       let k = w.key in
-      let whole = (s.whole keyed).entry (omega (arith, k, keyed)) in record {
+      let whole = (s.whole keyed).entry (omega (arith, k, keyed)) in
+      record {
         same = same_on;
         may = s.may;
-        went = comes_to holds count buckets width map old new mid at s begun.view.client start p decode entry keyed told;
+        went = comes_to holds count buckets width map old new mid at s begun.view.client start p
+            decode entry keyed told;
         keyed = ap key_of told ∙ (tells s.hop.words whole ∙ k);
         sound = sound;
         nearer = below (left_from buckets at) (left_from buckets mid) (left_from buckets start)

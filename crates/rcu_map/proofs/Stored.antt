@@ -1,5 +1,6 @@
 -- The nodes as they are stored: after a node was put in, and after a link was led past one.
-use Rattle.std.proofs.Common.{◌≡◌, ◌≢◌, ℕ, suc, ◌<◌, List, [], ◌∷◌, Option, length, map, refl, sym, ap, ◌∙◌, arith, length-set}
+use Rattle.std.proofs.Common.{◌≡◌, ◌≢◌, ℕ, suc, ◌<◌, List, [], ◌∷◌, Option, length, map, refl, sym}
+use Rattle.std.proofs.Common.{ap, ◌∙◌, arith, length-set}
 use Rattle.std.specs.Prelude.{slice_index}
 use Rattle.std.proofs.lemmas.List.{get_or-set_same}
 use mathlib.Core.Logic.{dite}
@@ -13,19 +14,27 @@ use Rattle.rcu_graph.proofs.Counting.{kept_at, other_node, same_node}
 use Rattle.rcu_map.specs.Splices.{put}
 use Rattle.rcu_map.proofs.Gaps.{IsPassed, IsPut}
 
-module _ (A : List Node) (previous : ℕ) (inside : previous < length A) (single : length (node_at A previous).links ≡ 1) where
-  pub is_passed : (next : Option ℕ) → IsPassed A (relinked A previous 0 next) previous (word_to next)
+module _ (A : List Node) (previous : ℕ) (inside : previous < length A)
+    (single : length (node_at A previous).links ≡ 1) where
+  pub is_passed : (next : Option ℕ)
+      → IsPassed A (relinked A previous 0 next) previous (word_to next)
   is_passed next = record {
-    states = λ i. kept_at (λ (v : Node). v.state) A previous i (linked_to 0 (word_to next)) inside refl;
-    same = λ i. kept_at (λ (v : Node). v.words) A previous i (linked_to 0 (word_to next)) inside refl;
-    led = ap (λ (v : Node). slice_index v.links 0) (same_node A previous (linked_to 0 (word_to next)) inside)
+    states =
+        λ i. kept_at (λ (v : Node). v.state) A previous i (linked_to 0 (word_to next)) inside refl;
+    same =
+        λ i. kept_at (λ (v : Node). v.words) A previous i (linked_to 0 (word_to next)) inside refl;
+    led =
+        ap (λ (v : Node). slice_index v.links 0)
+        (same_node A previous (linked_to 0 (word_to next)) inside)
         ∙ get_or-set_same (node_at A previous).links 0 (word_to next) 0 (omega (arith, single));
-    leads = λ i ne. ap (λ (v : Node). slice_index v.links 0) (other_node A previous i (linked_to 0 (word_to next)) ne);
-    linked = λ i. kept_at (λ (v : Node). length v.links) A previous i (linked_to 0 (word_to next)) inside
-        (length-set (node_at A previous).links 0 (word_to next));
+    leads = λ i ne. ap (λ (v : Node). slice_index v.links 0)
+        (other_node A previous i (linked_to 0 (word_to next)) ne);
+    linked = λ i. kept_at (λ (v : Node). length v.links) A previous i (linked_to 0 (word_to next))
+        inside (length-set (node_at A previous).links 0 (word_to next));
   }
 
-  module _ (node : ℕ) (words : List ℕ) (next : Option ℕ) (low : node < length A) (apart : node ≢ previous) where
+  module _ (node : ℕ) (words : List ℕ) (next : Option ℕ) (low : node < length A)
+      (apart : node ≢ previous) where
     abbrev written : Node → Node
     written = filled_with (map word_to (next ∷ [])) words
 
@@ -42,10 +51,14 @@ module _ (A : List Node) (previous : ℕ) (inside : previous < length A) (single
     few_then = length-set filled node (in_state Live (node_at filled node)) ∙ few
 
     pub few_put : length (put A previous node words next) ≡ length A
-    few_put = length-set live_then previous (linked_to 0 (suc node) (node_at live_then previous)) ∙ few_then
+    few_put =
+        length-set live_then previous (linked_to 0 (suc node) (node_at live_then previous))
+        ∙ few_then
 
     new_node : node_at live_then node ≡ in_state Live (written (node_at A node))
-    new_node = same_node filled node (in_state Live) (omega (arith, low, few)) ∙ ap (in_state Live) (same_node A node written low)
+    new_node =
+        same_node filled node (in_state Live) (omega (arith, low, few))
+        ∙ ap (in_state Live) (same_node A node written low)
 
     others : (i : ℕ) → i ≢ node → node_at live_then i ≡ node_at A i
     others i ne = other_node filled node i (in_state Live) ne ∙ other_node A node i written ne
@@ -53,16 +66,20 @@ module _ (A : List Node) (previous : ℕ) (inside : previous < length A) (single
     here : node_at (put A previous node words next) node ≡ in_state Live (written (node_at A node))
     here = other_node live_then previous node (linked_to 0 (suc node)) apart ∙ new_node
 
-    before : node_at (put A previous node words next) previous ≡ linked_to 0 (suc node) (node_at A previous)
+    before : node_at (put A previous node words next) previous
+        ≡ linked_to 0 (suc node) (node_at A previous)
     before = same_node live_then previous (linked_to 0 (suc node)) (omega (arith, inside, few_then))
         ∙ ap (linked_to 0 (suc node)) (others previous (λ is. apart (sym is)))
 
-    elsewhere : (i : ℕ) → i ≢ node → i ≢ previous → node_at (put A previous node words next) i ≡ node_at A i
+    elsewhere : (i : ℕ) → i ≢ node → i ≢ previous
+        → node_at (put A previous node words next) i ≡ node_at A i
     elsewhere i ni np = other_node live_then previous i (linked_to 0 (suc node)) np ∙ others i ni
 
     -- of all nodes but the new one stays what a link does not change
-    stays : {X : Type 0} (part : Node → X) → part (linked_to 0 (suc node) (node_at A previous)) ≡ part (node_at A previous)
-        → (i : ℕ) → i ≢ node → part (node_at (put A previous node words next) i) ≡ part (node_at A i)
+    stays : {X : Type 0} (part : Node → X)
+        → part (linked_to 0 (suc node) (node_at A previous)) ≡ part (node_at A previous)
+        → (i : ℕ) → i ≢ node
+        → part (node_at (put A previous node words next) i) ≡ part (node_at A i)
     stays part same i ni = dite (ℕ_discrete i previous)
         (λ (is : i ≡ previous). ap (λ (n : ℕ). part (node_at (put A previous node words next) n)) is
         ∙ (ap part before ∙ (same ∙ ap (λ (n : ℕ). part (node_at A n)) (sym is))))
@@ -79,5 +96,6 @@ module _ (A : List Node) (previous : ℕ) (inside : previous < length A) (single
           ∙ get_or-set_same (node_at A previous).links 0 (suc node) 0 (omega (arith, single));
       leads = λ i ni np. ap (λ (v : Node). slice_index v.links 0) (elsewhere i ni np);
       one = ap (λ (v : Node). length v.links) here;
-      linked = stays (λ (v : Node). length v.links) (length-set (node_at A previous).links 0 (suc node));
+      linked =
+          stays (λ (v : Node). length v.links) (length-set (node_at A previous).links 0 (suc node));
     }

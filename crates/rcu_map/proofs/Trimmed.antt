@@ -1,5 +1,7 @@
--- A map's nodes after what no live node leads to was left: those that stay are in order, and no others are live.
-use Rattle.std.proofs.Common.{◌≡◌, ℕ, suc, ◌<◌, ◌≤◌, ◌⊎◌, inl, inr, ⊎_elim, Bool, true, false, ◌&&◌, List, length, refl, sym, ap, ◌∙◌, subst, arith}
+-- A map's nodes after what no live node leads to was left: those that stay are in order, and no
+-- others are live.
+use Rattle.std.proofs.Common.{◌≡◌, ℕ, suc, ◌<◌, ◌≤◌, ◌⊎◌, inl, inr, ⊎_elim, Bool, true, false, ◌&&◌}
+use Rattle.std.proofs.Common.{List, length, refl, sym, ap, ◌∙◌, subst, arith}
 use Rattle.std.specs.Prelude.{slice_index}
 use Rattle.rcu_graph.specs.Absence.{key_at, next_of}
 use Rattle.rcu_graph.specs.Nodes.{is_live, node_at, state_at}
@@ -30,8 +32,11 @@ these nodes stays i = is_live (state_at nodes i) && stays i
 -- each live node that stays is a root, or another one that stays leads to it
 abbrev pub AreHeld : ℕ → List Node → (ℕ → Bool) → Type 0
 AreHeld buckets nodes stays =
-    (i : ℕ) → state_at nodes i ≡ Live → stays i ≡ true
-    → (i < buckets) ⊎ ((j : ℕ) × (state_at nodes j ≡ Live) × (stays j ≡ true) × (next_of nodes j ≡ suc i))
+    (i : ℕ)
+    → state_at nodes i ≡ Live
+    → stays i ≡ true
+    → (i < buckets)
+    ⊎ ((j : ℕ) × (state_at nodes j ≡ Live) × (stays j ≡ true) × (next_of nodes j ≡ suc i))
 
 module _ (buckets : ℕ) (S B : List Node) (t : AreTrimmed buckets 1 S B) where
   pub was_live : (i : ℕ) → state_at B i ≡ Live → state_at S i ≡ Live
@@ -46,64 +51,83 @@ module _ (buckets : ℕ) (S B : List Node) (t : AreTrimmed buckets 1 S B) where
   -- a node to which none leads is left
   pub is_left : (old : ℕ) → state_at S old ≡ Live → buckets ≤ old
       → ((j : ℕ) → state_at S j ≡ Live → next_of S j ≡ suc old → ⊥) → state_at B old ≡ Left
-  is_left old live past none = ⊎_elim
+  is_left old live past none =
+      ⊎_elim
       (λ (e : state_at B old ≡ state_at S old).
       let r = t.reached old (e ∙ live) past in
       let low = r.inside in
       let first : r.link ≡ 0 = omega (arith, low) in
-      let leads : next_of B r.from ≡ suc old = subst (λ (l : ℕ). slice_index (node_at B r.from).links l ≡ suc old) first r.leads in
-      absurd (none r.from (was_live r.from r.live) (ap (λ (cells : List ℕ). slice_index cells 0) (sym (t.links_stay r.from)) ∙ leads)))
+      let leads : next_of B r.from ≡ suc old =
+      subst (λ (l : ℕ). slice_index (node_at B r.from).links l ≡ suc old) first r.leads in
+      absurd (none r.from (was_live r.from r.live)
+      (ap (λ (cells : List ℕ). slice_index cells 0) (sym (t.links_stay r.from)) ∙ leads)))
       (λ (q : (buckets ≤ old) × (state_at S old ≡ Live) × (state_at B old ≡ Left)). q.2)
       (t.states old)
 
   module _ (stays : ℕ → Bool) where
-    pub still_live : AreHeld buckets S stays → (i : ℕ) → state_at S i ≡ Live → stays i ≡ true → state_at B i ≡ Live
-    still_live held i live kept = t.stay (these S stays) up i (both (is_live (state_at S i)) (stays i) (live_test (state_at S i) live) kept)
+    pub still_live : AreHeld buckets S stays → (i : ℕ) → state_at S i ≡ Live → stays i ≡ true
+        → state_at B i ≡ Live
+    still_live held i live kept = t.stay (these S stays) up i
+        (both (is_live (state_at S i)) (stays i) (live_test (state_at S i) live) kept)
       where
         up : AreHeldUp buckets 1 S (these S stays)
         up = record {
-          live = λ j one. test_live (state_at S j) (first_of_both (is_live (state_at S j)) (stays j) one);
-          held = λ j one. ⊎_elim
-              (λ (low : j < buckets). inl low)
-              (λ (r : (k : ℕ) × (state_at S k ≡ Live) × (stays k ≡ true) × (next_of S k ≡ suc j)). inr (record {
+          live = λ j one.
+              test_live (state_at S j) (first_of_both (is_live (state_at S j)) (stays j) one);
+          held = λ j one. ⊎_elim (λ (low : j < buckets). inl low)
+              (λ (r : (k : ℕ) × (state_at S k ≡ Live) × (stays k ≡ true) × (next_of S k ≡ suc j)).
+              inr (record {
                 from = r.0;
                 link = 0;
-                one = both (is_live (state_at S r.0)) (stays r.0) (live_test (state_at S r.0) r.1) r.2;
+                one = both (is_live (state_at S r.0)) (stays r.0) (live_test (state_at S r.0) r.1)
+                    r.2;
                 inside = omega arith;
                 leads = r.3;
               }))
-              (held j (test_live (state_at S j) (first_of_both (is_live (state_at S j)) (stays j) one)) (second_of_both (is_live (state_at S j)) (stays j) one));
+              (held j
+              (test_live (state_at S j) (first_of_both (is_live (state_at S j)) (stays j) one))
+              (second_of_both (is_live (state_at S j)) (stays j) one));
         }
 
-    pub same_state : AreHeld buckets S stays → (i : ℕ) → stays i ≡ true → state_at B i ≡ state_at S i
-    same_state held i kept = ⊎_elim
-        (λ (e : state_at B i ≡ state_at S i). e)
-        (λ (q : (buckets ≤ i) × (state_at S i ≡ Live) × (state_at B i ≡ Left)). still_live held i q.1 kept ∙ sym q.1)
+    pub same_state : AreHeld buckets S stays → (i : ℕ) → stays i ≡ true
+        → state_at B i ≡ state_at S i
+    same_state held i kept = ⊎_elim (λ (e : state_at B i ≡ state_at S i). e)
+        (λ (q : (buckets ≤ i) × (state_at S i ≡ Live) × (state_at B i ≡ Left)).
+        still_live held i q.1 kept ∙ sym q.1)
         (t.states i)
 
-    pub map_after : (holds : List ℕ → Type 0) (width count : ℕ) → AreOrdered buckets width S stays
-        → ((i : ℕ) → state_at B i ≡ Live → stays i ≡ true) → length B ≡ count
-        → AreTended (IsWhole holds width) (λ _ from to. GoesUp buckets from to) buckets 1 B → IsMap holds buckets width count B
+    pub map_after : (holds : List ℕ → Type 0) (width count : ℕ)
+        → AreOrdered buckets width S stays
+        → ((i : ℕ) → state_at B i ≡ Live → stays i ≡ true)
+        → length B ≡ count
+        → AreTended (IsWhole holds width) (λ _ from to. GoesUp buckets from to) buckets 1 B
+        → IsMap holds buckets width count B
     map_after holds width count o kept few tended = record {
       few = few;
       tended = tended;
       roots = λ i low. t.words_stay i ∙ o.roots i low;
-      linked = λ i live. ap (λ (cells : List ℕ). length cells) (t.links_stay i) ∙ o.linked i (was_live i live);
+      linked = λ i live.
+          ap (λ (cells : List ℕ). length cells) (t.links_stay i) ∙ o.linked i (was_live i live);
       next = λ i j one less.
           let a = same_key i in let b = same_key j in
-          let l = o.next i j (before i j one) (kept i one.first) (kept j one.second) (omega (arith, less, a, b)) in
+          let l = o.next i j (before i j one) (kept i one.first) (kept j one.second)
+          (omega (arith, less, a, b)) in
           let near = l.near in let d = same_key l.to in record {
             to = l.to;
             leads = ap (λ (cells : List ℕ). slice_index cells 0) (t.links_stay i) ∙ l.leads;
             near = omega (arith, near, b, d);
           };
-      apart = λ i j one same. let a = same_key i in let b = same_key j in
-          o.apart i j (before i j one) (kept i one.first) (kept j one.second) (omega (arith, same, a, b));
+      apart = λ i j one same.
+          let a = same_key i in let b = same_key j in
+          o.apart i j (before i j one) (kept i one.first) (kept j one.second)
+          (omega (arith, same, a, b));
     }
       where
         before : (i j : ℕ) → AreOfOneBucket buckets B i j → AreOfOneBucket buckets S i j
         before i j one = record {
           first = was_live i one.first;
           second = was_live j one.second;
-          same = ap (λ (w : List ℕ). bucket_in buckets w) (sym (t.words_stay i)) ∙ (one.same ∙ ap (λ (w : List ℕ). bucket_in buckets w) (t.words_stay j));
+          same =
+              ap (λ (w : List ℕ). bucket_in buckets w) (sym (t.words_stay i))
+              ∙ (one.same ∙ ap (λ (w : List ℕ). bucket_in buckets w) (t.words_stay j));
         }

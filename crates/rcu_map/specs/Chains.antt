@@ -24,13 +24,15 @@ pub record LeadsTowards (nodes : List Node) (i j : ℕ) : Type 0 where
   pub leads : next_of nodes i ≡ suc to
   pub near : key_at nodes to ≤ key_at nodes j
 
--- so many nodes are those of a map of so many buckets. The live ones are tended, and have a link each; the roots have their
--- words. The live nodes of a bucket are one chain, in the order of their keys: each leads to the one with the next greater
--- key. No two have one key
-pub record IsMap (holds : List ℕ → Type 0) (buckets width count : ℕ) (nodes : List Node) : Type 0 where
+-- so many nodes are those of a map of so many buckets. The live ones are tended, and have a link
+-- each; the roots have their words. The live nodes of a bucket are one chain, in the order of their
+-- keys: each leads to the one with the next greater key. No two have one key
+pub record IsMap (holds : List ℕ → Type 0) (buckets width count : ℕ)
+    (nodes : List Node) : Type 0 where
   pub few : length nodes ≡ count
   pub tended : AreTended (IsWhole holds width) (λ _ from to. GoesUp buckets from to) buckets 1 nodes
   pub roots : (i : ℕ) → i < buckets → (node_at nodes i).words ≡ root_words width i
   pub linked : (i : ℕ) → state_at nodes i ≡ Live → length (node_at nodes i).links ≡ 1
-  pub next : (i j : ℕ) → AreOfOneBucket buckets nodes i j → key_at nodes i < key_at nodes j → LeadsTowards nodes i j
+  pub next : (i j : ℕ) → AreOfOneBucket buckets nodes i j → key_at nodes i < key_at nodes j
+      → LeadsTowards nodes i j
   pub apart : (i j : ℕ) → AreOfOneBucket buckets nodes i j → key_at nodes i ≡ key_at nodes j → i ≡ j

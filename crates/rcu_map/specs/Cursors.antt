@@ -1,5 +1,6 @@
 -- A section on the node of a cursor.
-use Rattle.std.specs.Prelude.{◌≡◌, ℕ, suc, ◌^◌, ◌<◌, ◌≤◌, List, [], ◌∷◌, Option, IfSome, MatchOption}
+use Rattle.std.specs.Prelude.{◌≡◌, ℕ, suc, ◌^◌, ◌<◌, ◌≤◌, List, [], ◌∷◌, Option, IfSome}
+use Rattle.std.specs.Prelude.{MatchOption}
 use Rattle.rcu_live.specs.Board.{Object}
 use Rattle.rcu_live.specs.CpuSeat.{Seated, after_word_step}
 use Rattle.rcu_graph.specs.Graph.{IsWalking}
@@ -19,8 +20,8 @@ abbrev pub latest_words : List Hop → List ℕ
 latest_words [] = []
 latest_words (hop ∷ before) = hop.words
 
--- of so many nodes and buckets: the section is on the cursor's node, the root of its bucket where there is no key, else
--- the node of this key and bucket to which its latest hop led
+-- of so many nodes and buckets: the section is on the cursor's node, the root of its bucket where
+-- there is no key, else the node of this key and bucket to which its latest hop led
 pub record IsOnCursor (count buckets : ℕ) (known : Known) (at : Cursor) : Type 0 where
   pub inside : at.node < count
   pub root : at.key ≡ 0 → at.node ≡ at.bucket
@@ -29,14 +30,16 @@ pub record IsOnCursor (count buckets : ℕ) (known : Known) (at : Cursor) : Type
   pub same : 0 < at.key → bucket_of buckets at.key ≡ at.bucket
 
 -- an open section may go on from a cursor, which is on a node or at the end
-pub record MayGoOn (count buckets : ℕ) (map : Object) (seat : Seated Known) (at : Cursor) : Type 0 where
+pub record MayGoOn (count buckets : ℕ) (map : Object) (seat : Seated Known)
+    (at : Cursor) : Type 0 where
   pub walking : IsWalking map seat
   pub within : at.bucket ≤ buckets
   pub small : at.key < 2 ^ 64
   pub on : at.bucket < buckets → IsOnCursor count buckets seat.view.client at
 
 -- an open section is on a node that has the words of an entry
-pub record IsOnEntry (holds : List ℕ → Type 0) (count width : ℕ) (map : Object) (seat : Seated Known) (node : ℕ) : Type 0 where
+pub record IsOnEntry (holds : List ℕ → Type 0) (count width : ℕ) (map : Object)
+    (seat : Seated Known) (node : ℕ) : Type 0 where
   pub walking : IsWalking map seat
   pub inside : node < count
   pub words : List ℕ
@@ -45,8 +48,8 @@ pub record IsOnEntry (holds : List ℕ → Type 0) (count width : ℕ) (map : Ob
   pub keyed : 0 < key_in words
 
 -- an open section went on from a cursor by one hop, and is where that led
-pub record HasStepped (holds : List ℕ → Type 0) (count buckets width : ℕ) (map : Object) (old : Seated Known)
-    (start : Cursor) (new : Seated Known) (at : Cursor) : Type 0 where
+pub record HasStepped (holds : List ℕ → Type 0) (count buckets width : ℕ) (map : Object)
+    (old : Seated Known) (start : Cursor) (new : Seated Known) (at : Cursor) : Type 0 where
   pub same : new ≡ after_word_step old new.view.client
   pub hop : Hop
   pub are : hops_in new.view.client ≡ hop ∷ hops_in old.view.client
@@ -56,9 +59,9 @@ pub record HasStepped (holds : List ℕ → Type 0) (count buckets width : ℕ) 
   pub whole : 0 < at.key → IsWhole holds width hop.words
 
 -- an open section went on from a cursor to the next entry, or to the end where there is none
-pub record HasListed {E : Type 0} (holds : List ℕ → Type 0) (decode : List ℕ → E) (valid : E → Type 0) (key_of : E → ℕ)
-    (count buckets : ℕ) (map : Object) (old : Seated Known) (start : Cursor) (new : Seated Known) (at : Cursor)
-    (result : Option E) : Type 0 where
+pub record HasListed {E : Type 0} (holds : List ℕ → Type 0) (decode : List ℕ → E)
+    (valid : E → Type 0) (key_of : E → ℕ) (count buckets : ℕ) (map : Object) (old : Seated Known)
+    (start : Cursor) (new : Seated Known) (at : Cursor) (result : Option E) : Type 0 where
   pub same : new ≡ after_word_step old new.view.client
   pub may : MayGoOn count buckets map new at
   pub went : MatchOption result (IsAtEnd buckets old.view.client start new.view.client at)

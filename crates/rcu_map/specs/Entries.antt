@@ -41,9 +41,10 @@ pub record IsFreeNode (nodes : List Node) (node : ℕ) : Type 0 where
   pub inside : node < length nodes
   pub free : state_at nodes node ≡ Free
 
--- the entry of these words was put in: beside the entries that were there it is in the map, and nothing else. It has a node
--- that was free, and the other nodes are the same
-pub record IsInserted (buckets : ℕ) (before : List Node) (words : List ℕ) (after : List Node) : Type 0 where
+-- the entry of these words was put in: beside the entries that were there it is in the map, and
+-- nothing else. It has a node that was free, and the other nodes are the same
+pub record IsInserted (buckets : ℕ) (before : List Node) (words : List ℕ)
+    (after : List Node) : Type 0 where
   pub entries : (w : List ℕ) → HasEntry buckets after w ↔ (HasEntry buckets before w ⊎ (w ≡ words))
   pub node : ℕ
   pub was_free : IsFreeNode before node
@@ -51,11 +52,14 @@ pub record IsInserted (buckets : ℕ) (before : List Node) (words : List ℕ) (a
   pub is : (node_at after node).words ≡ words
   pub others : (i : ℕ) → i ≢ node → IsSame before after i
 
--- the entry of these words was put in the place of the one that had its key: beside those of other keys it is in the map,
--- and nothing else. It has a node that was free, the node of the old one was left, and the other nodes are the same
-pub record IsReplaced (buckets : ℕ) (before : List Node) (words : List ℕ) (after : List Node) : Type 0 where
+-- the entry of these words was put in the place of the one that had its key: beside those of other
+-- keys it is in the map, and nothing else. It has a node that was free, the node of the old one was
+-- left, and the other nodes are the same
+pub record IsReplaced (buckets : ℕ) (before : List Node) (words : List ℕ)
+    (after : List Node) : Type 0 where
   pub entries : (w : List ℕ)
-      → HasEntry buckets after w ↔ ((HasEntry buckets before w × (key_in w ≢ key_in words)) ⊎ (w ≡ words))
+      → HasEntry buckets after w
+      ↔ ((HasEntry buckets before w × (key_in w ≢ key_in words)) ⊎ (w ≡ words))
   pub node : ℕ
   pub was_free : IsFreeNode before node
   pub live : state_at after node ≡ Live
@@ -66,10 +70,11 @@ pub record IsReplaced (buckets : ℕ) (before : List Node) (words : List ℕ) (a
   pub stays : (node_at after old).words ≡ (node_at before old).words
   pub others : (i : ℕ) → i ≢ node → i ≢ old → IsSame before after i
 
--- the entry of this key was taken out: those of other keys are in the map, and nothing else. Its node was left, and the
--- other nodes are the same
+-- the entry of this key was taken out: those of other keys are in the map, and nothing else. Its
+-- node was left, and the other nodes are the same
 pub record IsRemoved (buckets : ℕ) (before : List Node) (key : ℕ) (after : List Node) : Type 0 where
-  pub entries : (w : List ℕ) → HasEntry buckets after w ↔ (HasEntry buckets before w × (key_in w ≢ key))
+  pub entries : (w : List ℕ)
+      → HasEntry buckets after w ↔ (HasEntry buckets before w × (key_in w ≢ key))
   pub old : ℕ
   pub had : IsNodeOf buckets before key old
   pub left : state_at after old ≡ Left
@@ -78,10 +83,12 @@ pub record IsRemoved (buckets : ℕ) (before : List Node) (key : ℕ) (after : L
 
 -- the entries are those that were there
 abbrev pub AreSameEntries : ℕ → List Node → List Node → Type 0
-AreSameEntries buckets before after = (w : List ℕ) → HasEntry buckets after w ↔ HasEntry buckets before w
+AreSameEntries buckets before after =
+    (w : List ℕ) → HasEntry buckets after w ↔ HasEntry buckets before w
 
 -- the map has an entry of this key, whose words tell this one
-pub record IsEntryOf {E : Type 0} (decode : List ℕ → E) (buckets : ℕ) (nodes : List Node) (key : ℕ) (entry : E) : Type 0 where
+pub record IsEntryOf {E : Type 0} (decode : List ℕ → E) (buckets : ℕ) (nodes : List Node) (key : ℕ)
+    (entry : E) : Type 0 where
   pub words : List ℕ
   pub has : HasEntry buckets nodes words
   pub is : key_in words ≡ key

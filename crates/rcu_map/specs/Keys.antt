@@ -1,5 +1,6 @@
 -- The keys of entries, and the buckets that they belong to.
-use Rattle.std.specs.Prelude.{◌≡◌, ℕ, ◌%◌, ◌<◌, ◌==◌, if◌then◌else◌, List, length, replicate, slice_index, slice_set}
+use Rattle.std.specs.Prelude.{◌≡◌, ℕ, ◌%◌, ◌<◌, ◌==◌, if◌then◌else◌, List, length, replicate}
+use Rattle.std.specs.Prelude.{slice_index, slice_set}
 
 -- the key in a node's words: word 0, which is 0 in a root
 abbrev pub key_in : List ℕ → ℕ
@@ -15,7 +16,8 @@ root_words width bucket = slice_set (replicate width 0) 1 bucket
 
 -- the bucket that a node of these words belongs to
 abbrev pub bucket_in : ℕ → List ℕ → ℕ
-bucket_in buckets words = if key_in words == 0 then slice_index words 1 else bucket_of buckets (key_in words)
+bucket_in buckets words =
+    if key_in words == 0 then slice_index words 1 else bucket_of buckets (key_in words)
 
 -- a node of these words may lead to one of those: of the same bucket, with a greater key
 pub record GoesUp (buckets : ℕ) (from to : List ℕ) : Type 0 where

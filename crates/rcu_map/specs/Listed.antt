@@ -8,8 +8,8 @@ use Rattle.rcu_map.specs.Listing.{IsAtEnd, IsNextEntry}
 use Rattle.rcu_map.specs.declared.cursor.Cursor.{Cursor}
 use Rattle.rcu_map.specs.declared.entries.Entries.{Entries}
 
--- the map, the seat whose section reads it, which seat is borrowed (a name that tells one borrowed seat from another),
--- and where it stands
+-- the map, the seat whose section reads it, which seat is borrowed (a name that tells one borrowed
+-- seat from another), and where it stands
 pub record Listing : Type 0 where
   pub map : Object
   pub seat : Seated Known
@@ -28,10 +28,11 @@ module _ {LEAF FAN : ℕ} {T E : Type 0} {BUCKETS W N : ℕ} where
   abbrev pub listing : Entries LEAF FAN T E BUCKETS W N → Listing
   listing s = record { map = s.map.now; seat = s.seat.now; name = s.seat.ghost_name; at = s.at }
 
--- a call went on to the next entry, of which the user's fact holds, or to the end where it returned none. Nothing changes
--- but what the section knows and where it stands
-pub record Listed {E : Type 0} (holds : List ℕ → Type 0) (decode : List ℕ → E) (valid : E → Type 0) (key_of : E → ℕ)
-    (buckets : ℕ) (old : Listing) (result : Option E) (new : Listing) : Type 0 where
+-- a call went on to the next entry, of which the user's fact holds, or to the end where it returned
+-- none. Nothing changes but what the section knows and where it stands
+pub record Listed {E : Type 0} (holds : List ℕ → Type 0) (decode : List ℕ → E) (valid : E → Type 0)
+    (key_of : E → ℕ) (buckets : ℕ) (old : Listing) (result : Option E)
+    (new : Listing) : Type 0 where
   pub same : new ≡ after_hops old (known_in new) new.at
   pub went : MatchOption result (IsAtEnd buckets (known_in old) old.at (known_in new) new.at)
       (λ entry. IsNextEntry holds decode buckets (known_in old) old.at (known_in new) new.at entry)

@@ -15,17 +15,21 @@ use Rattle.rcu_graph.specs.declared.known.Known.TheVariants.{Idle, Keeper, Owner
 use Rattle.rcu_map.specs.Keys.{IsWhole, root_words}
 
 -- a graph may be opened with these words of the roots of all buckets
-pub record MayOpen (leaf fan : ℕ) (holds : List ℕ → Type 0) (buckets width count : ℕ) (roots : List (List ℕ)) : Type 0 where
+pub record MayOpen (leaf fan : ℕ) (holds : List ℕ → Type 0) (buckets width count : ℕ)
+    (roots : List (List ℕ)) : Type 0 where
   pub fanouts : AreFanouts leaf fan
   pub sizes : AreSizes buckets 1 width count
   pub first : roots ≡ map (root_words width) (range_with_len 0 buckets)
   pub whole : All (IsWhole holds width) roots
 
--- what an opening deals of a map of so many processors, with this last number, of so many buckets, words and nodes: a seat and a watcher a processor, and
--- the watcher that keeps the nodes, which are the roots of all buckets and others, free, so that there is no entry
-pub record IsOpened (cpus : ℕ) (last : Number) (buckets width count : ℕ) (map : Object) (seats : List (Seated Known))
-    (watchers : List (Watching Known)) (keeper : Watching Known) : Type 0 where
-  pub dealt : AreDealt cpus last (2 ^ 62) (first_place + (1 + width) * count) 0 Idle map seats watchers
+-- what an opening deals of a map of so many processors, with this last number, of so many buckets,
+-- words and nodes: a seat and a watcher a processor, and the watcher that keeps the nodes, which
+-- are the roots of all buckets and others, free, so that there is no entry
+pub record IsOpened (cpus : ℕ) (last : Number) (buckets width count : ℕ) (map : Object)
+    (seats : List (Seated Known)) (watchers : List (Watching Known))
+    (keeper : Watching Known) : Type 0 where
+  pub dealt : AreDealt cpus last (2 ^ 62) (first_place + (1 + width) * count) 0 Idle map seats
+      watchers
   pub keeps : IsKeeperOf count map keeper
   pub own : keeper ≡ after_word_step (watcher_at_first map.table (base_of cpus) Owner)
       (Keeper 0 (first_nodes 1 width (root_words width) buckets count))

@@ -5,6 +5,9 @@ use Rattle.rcu_live.specs.CpuSeat.{Seated}
 use Rattle.rcu_graph.specs.declared.known.Known.{Known}
 use Rattle.rcu_graph.specs.declared.known.Known.TheVariants.{Idle}
 
--- the seat of a processor whose section was opened, made some hops and was closed again: its last load saw n
+-- the seat of a processor whose section was opened, made some hops and was closed again: its last
+-- load saw n
 abbrev pub after_section : Seated Known → Number → Seated Known
-after_section s n = record s { view = record s.view { seen = n; loads = s.view.loads + 2; section = None; client = Idle } }
+after_section s n = record s {
+  view = record s.view { seen = n; loads = s.view.loads + 2; section = None; client = Idle };
+}

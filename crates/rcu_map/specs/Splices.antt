@@ -8,41 +8,48 @@ use Rattle.rcu_graph.specs.Graph.{IsWatcherOf, word_to}
 use Rattle.rcu_graph.specs.Keeper.{IsKeeperOf, after_step}
 use Rattle.rcu_graph.specs.Nodes.{IsTarget, node_at, nodes_in, renewed, state_at}
 use Rattle.rcu_graph.specs.Steps.{IsClaimed}
-use Rattle.rcu_graph.specs.Tended.{AreAllUsed, AreTended, AreTrimmed, filled_with, published, relinked}
+use Rattle.rcu_graph.specs.Tended.{AreAllUsed, AreTended, AreTrimmed, filled_with, published}
+use Rattle.rcu_graph.specs.Tended.{relinked}
 use Rattle.rcu_graph.specs.declared.known.Known.{Known}
 use Rattle.rcu_graph.specs.declared.known.Node.{Node}
 use Rattle.rcu_graph.specs.declared.node_state.NodeState.TheVariants.{Free, Live}
 use Rattle.rcu_map.specs.Keys.{bucket_in, bucket_of}
 
--- the node leads to this one, which has the key; or to none that has it: nowhere, or to one with a greater key
+-- the node leads to this one, which has the key; or to none that has it: nowhere, or to one with a
+-- greater key
 abbrev pub LeadsToKey : ℕ → List Node → ℕ → Option ℕ → Type 0
 LeadsToKey key nodes i (Some node) = (next_of nodes i ≡ suc node) × (key_at nodes node ≡ key)
 LeadsToKey key nodes i None = (to : ℕ) → next_of nodes i ≡ suc to → key < key_at nodes to
 
--- a key belongs behind this node of its bucket, whose key is less: it leads to the node that has the key, or to none
-pub record IsPlace (buckets key : ℕ) (nodes : List Node) (previous : ℕ) (node : Option ℕ) : Type 0 where
+-- a key belongs behind this node of its bucket, whose key is less: it leads to the node that has
+-- the key, or to none
+pub record IsPlace (buckets key : ℕ) (nodes : List Node) (previous : ℕ)
+    (node : Option ℕ) : Type 0 where
   pub live : state_at nodes previous ≡ Live
   pub bucket : bucket_in buckets (node_at nodes previous).words ≡ bucket_of buckets key
   pub less : key_at nodes previous < key
   pub leads : LeadsToKey key nodes previous node
 
 -- so many nodes are tended, along the one link that each has
-pub record AreKept (fits : List ℕ → Type 0) (joins : ℕ → List ℕ → List ℕ → Type 0) (roots count : ℕ) (nodes : List Node)
-    : Type 0 where
+pub record AreKept (fits : List ℕ → Type 0) (joins : ℕ → List ℕ → List ℕ → Type 0) (roots count : ℕ)
+    (nodes : List Node) : Type 0 where
   pub few : length nodes ≡ count
   pub tended : AreTended fits joins roots 1 nodes
 
--- the seat may keep the graph's nodes, which are as at first, and of which the roots have these words
-pub record CanKeep (fits : List ℕ → Type 0) (first : ℕ → List ℕ) (roots width count : ℕ) (graph : Object)
-    (seat : Watching Known) (words : List (List ℕ)) : Type 0 where
+-- the seat may keep the graph's nodes, which are as at first, and of which the roots have these
+-- words
+pub record CanKeep (fits : List ℕ → Type 0) (first : ℕ → List ℕ) (roots width count : ℕ)
+    (graph : Object) (seat : Watching Known) (words : List (List ℕ)) : Type 0 where
   pub keeper : IsKeeperOf count graph seat
   pub nodes : IsClaimed first roots 1 width count seat.view.client
   pub rows : words ≡ map first (range_with_len 0 roots)
   pub whole : All fits words
 
--- the keeper may put a node of these words behind this one, which may lead to it, as it may to the next one
-pub record CanPut (fits : List ℕ → Type 0) (joins : ℕ → List ℕ → List ℕ → Type 0) (count : ℕ) (graph : Object)
-    (keeper : Watching Known) (previous : ℕ) (words : List ℕ) (next : Option ℕ) : Type 0 where
+-- the keeper may put a node of these words behind this one, which may lead to it, as it may to the
+-- next one
+pub record CanPut (fits : List ℕ → Type 0) (joins : ℕ → List ℕ → List ℕ → Type 0) (count : ℕ)
+    (graph : Object) (keeper : Watching Known) (previous : ℕ) (words : List ℕ)
+    (next : Option ℕ) : Type 0 where
   pub watches : IsWatcherOf graph keeper
   pub few : length (nodes_in keeper.view.client) ≡ count
   pub live : state_at (nodes_in keeper.view.client) previous ≡ Live
@@ -50,21 +57,25 @@ pub record CanPut (fits : List ℕ → Type 0) (joins : ℕ → List ℕ → Lis
   pub joined : joins 0 (node_at (nodes_in keeper.view.client) previous).words words
   pub target : IsTarget (joins 0) words (nodes_in keeper.view.client) (word_to next)
 
--- the nodes after these words were written to a node, with a link to the next one, and the previous one was led to it
+-- the nodes after these words were written to a node, with a link to the next one, and the previous
+-- one was led to it
 abbrev pub put : List Node → ℕ → ℕ → List ℕ → Option ℕ → List Node
 put nodes previous node words next =
     published (renewed nodes node (filled_with (map word_to (next ∷ [])) words)) previous 0 node
 
--- a node that was free was put behind the previous one by one store, and what no live node leads to any more was left
-pub record HasPut (fits : List ℕ → Type 0) (joins : ℕ → List ℕ → List ℕ → Type 0) (roots count : ℕ) (graph : Object)
-    (before now : Watching Known) (previous : ℕ) (words : List ℕ) (next : Option ℕ) : Type 0 where
+-- a node that was free was put behind the previous one by one store, and what no live node leads to
+-- any more was left
+pub record HasPut (fits : List ℕ → Type 0) (joins : ℕ → List ℕ → List ℕ → Type 0) (roots count : ℕ)
+    (graph : Object) (before now : Watching Known) (previous : ℕ) (words : List ℕ)
+    (next : Option ℕ) : Type 0 where
   pub node : ℕ
   pub inside : node < count
   pub free : state_at (nodes_in before.view.client) node ≡ Free
   pub watches : IsWatcherOf graph now
   pub state : now ≡ after_step before (nodes_in now.view.client)
   pub kept : AreKept fits joins roots count (nodes_in now.view.client)
-  pub trimmed : AreTrimmed roots 1 (put (nodes_in before.view.client) previous node words next) (nodes_in now.view.client)
+  pub trimmed : AreTrimmed roots 1 (put (nodes_in before.view.client) previous node words next)
+      (nodes_in now.view.client)
 
 -- no node was free, and nothing changed
 pub record IsFull (before now : Watching Known) : Type 0 where
@@ -72,24 +83,27 @@ pub record IsFull (before now : Watching Known) : Type 0 where
   pub unchanged : now ≡ before
 
 -- the keeper may lead the one node to where the other one leads
-pub record CanPass (joins : ℕ → List ℕ → List ℕ → Type 0) (count : ℕ) (graph : Object) (keeper : Watching Known)
-    (previous old : ℕ) : Type 0 where
+pub record CanPass (joins : ℕ → List ℕ → List ℕ → Type 0) (count : ℕ) (graph : Object)
+    (keeper : Watching Known) (previous old : ℕ) : Type 0 where
   pub watches : IsWatcherOf graph keeper
   pub few : length (nodes_in keeper.view.client) ≡ count
   pub live : state_at (nodes_in keeper.view.client) previous ≡ Live
   pub inside : old < count
-  pub target : IsTarget (joins 0) (node_at (nodes_in keeper.view.client) previous).words (nodes_in keeper.view.client)
-      (next_of (nodes_in keeper.view.client) old)
+  pub target : IsTarget (joins 0) (node_at (nodes_in keeper.view.client) previous).words
+      (nodes_in keeper.view.client) (next_of (nodes_in keeper.view.client) old)
 
--- the previous node was led to where the old one leads, by one store, and what no live node leads to any more was left
-pub record HasPassed (fits : List ℕ → Type 0) (joins : ℕ → List ℕ → List ℕ → Type 0) (roots count : ℕ) (graph : Object)
-    (before now : Watching Known) (previous old : ℕ) : Type 0 where
+-- the previous node was led to where the old one leads, by one store, and what no live node leads
+-- to any more was left
+pub record HasPassed (fits : List ℕ → Type 0) (joins : ℕ → List ℕ → List ℕ → Type 0)
+    (roots count : ℕ) (graph : Object) (before now : Watching Known)
+    (previous old : ℕ) : Type 0 where
   pub next : Option ℕ
   pub leads : word_to next ≡ next_of (nodes_in before.view.client) old
   pub watches : IsWatcherOf graph now
   pub state : now ≡ after_step before (nodes_in now.view.client)
   pub kept : AreKept fits joins roots count (nodes_in now.view.client)
-  pub trimmed : AreTrimmed roots 1 (relinked (nodes_in before.view.client) previous 0 next) (nodes_in now.view.client)
+  pub trimmed : AreTrimmed roots 1 (relinked (nodes_in before.view.client) previous 0 next)
+      (nodes_in now.view.client)
 
 -- the keeper has the graph's nodes as its seat had them
 pub record HasKept (fits : List ℕ → Type 0) (joins : ℕ → List ℕ → List ℕ → Type 0) (roots count : ℕ)

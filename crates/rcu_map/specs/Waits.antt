@@ -20,7 +20,8 @@ use Rattle.rcu_map.specs.declared.not_put.NotPut.TheVariants.{Fault, Full}
 abbrev pub AreAllLive : List Node → Type 0
 AreAllLive nodes = (i : ℕ) → i < length nodes → state_at nodes i ≡ Live
 
--- where no node was free, the keeper looked at the number, which is no less than all that it saw before
+-- where no node was free, the keeper looked at the number, which is no less than all that it saw
+-- before
 pub record IsLook (before after : Watching Known) : Type 0 where
   pub full : AreAllUsed (nodes_in before.view.client)
   pub later : before.view.seen ≤ after.view.seen
@@ -29,10 +30,11 @@ pub record IsLook (before after : Watching Known) : Type 0 where
 -- so many looks, one after another, led from one state of the keeper to the other
 abbrev pub AreLooks : ℕ → Watching Known → Watching Known → Type 0
 AreLooks zero before after = after ≡ before
-AreLooks (suc looks) before after = (last : Watching Known) × AreLooks looks before last × IsLook last after
+AreLooks (suc looks) before after =
+    (last : Watching Known) × AreLooks looks before last × IsLook last after
 
--- from one state of the keeper to the other it looked at the number, once or more often, and did nothing else: no entry
--- changed
+-- from one state of the keeper to the other it looked at the number, once or more often, and did
+-- nothing else: no entry changed
 pub record HasAged (buckets : ℕ) (before after : Watching Known) : Type 0 where
   pub more : ℕ
   pub looks : AreLooks (suc more) before after
@@ -43,23 +45,26 @@ pub record AreOf (map : Object) (keeper : Watching Known) (seat : Seated Known) 
   pub keeper_of : IsWatcherOf map keeper
   pub seat_of : IsSeatOf map seat
 
--- a keeper of the map none of whose nodes is free, and a processor's seat of the map, outside of sections
+-- a keeper of the map none of whose nodes is free, and a processor's seat of the map, outside of
+-- sections
 pub record CanWait (map : Object) (seat : Seated Known) (keeper : Watching Known) : Type 0 where
   pub of_map : AreOf map keeper seat
   pub outside : seat.depth ≡ 0
   pub full : AreAllUsed (nodes_in keeper.view.client)
 
--- from one state of the keeper to the other it looked at the number until a node was free; from one state of the caller's
--- seat to the other it passed quiescent states, one less than there were looks, or two less where the last number was found
--- to be reached before the last look
-pub record HasMadeRoom (buckets : ℕ) (seat now : Seated Known) (before after : Watching Known) : Type 0 where
+-- from one state of the keeper to the other it looked at the number until a node was free; from one
+-- state of the caller's seat to the other it passed quiescent states, one less than there were
+-- looks, or two less where the last number was found to be reached before the last look
+pub record HasMadeRoom (buckets : ℕ) (seat now : Seated Known)
+    (before after : Watching Known) : Type 0 where
   pub looked : HasAged buckets before after
   pub free : ¬ AreAllUsed (nodes_in after.view.client)
   pub rounds : AreRounds 1 seat now before after ⊎ AreRounds 2 seat now before after
 
--- a wait was given up: no node became free at any look, of which there was one more after the last number was found to be
--- reached
-pub record HasGivenUp (buckets : ℕ) (seat now : Seated Known) (before after : Watching Known) : Type 0 where
+-- a wait was given up: no node became free at any look, of which there was one more after the last
+-- number was found to be reached
+pub record HasGivenUp (buckets : ℕ) (seat now : Seated Known)
+    (before after : Watching Known) : Type 0 where
   pub looked : HasAged buckets before after
   pub full : AreAllUsed (nodes_in after.view.client)
   pub rounds : AreRounds 2 seat now before after
@@ -69,32 +74,40 @@ pub record HasStayed (seat now : Seated Known) (before after : Watching Known) :
   pub seat_stays : now ≡ seat
   pub keeper_stays : after ≡ before
 
--- what a wait for a free node comes to, outside of sections: each node is live, and nothing happened; or some node is not,
--- and then one is free, or the wait was given up
-abbrev pub WaitedFor : ℕ → Seated Known → Seated Known → Watching Known → Result (Unit {0}) NotPut → Watching Known → Type 0
+-- what a wait for a free node comes to, outside of sections: each node is live, and nothing
+-- happened; or some node is not, and then one is free, or the wait was given up
+abbrev pub WaitedFor : ℕ
+    → Seated Known → Seated Known → Watching Known → Result (Unit {0}) NotPut → Watching Known
+    → Type 0
 WaitedFor buckets seat now before (Ok _) after =
     (¬ AreAllLive (nodes_in before.view.client)) × HasMadeRoom buckets seat now before after
-WaitedFor buckets seat now before (Err Full) after = AreAllLive (nodes_in before.view.client) × HasStayed seat now before after
+WaitedFor buckets seat now before (Err Full) after =
+    AreAllLive (nodes_in before.view.client) × HasStayed seat now before after
 WaitedFor buckets seat now before (Err (Fault fault)) after =
-    (¬ AreAllLive (nodes_in before.view.client)) × (fault ≡ Exhausted) × HasGivenUp buckets seat now before after
+    (¬ AreAllLive (nodes_in before.view.client))
+    × (fault ≡ Exhausted)
+    × HasGivenUp buckets seat now before after
 
 -- one step of the keeper made this change of the nodes
-pub record HasChanged (change : List Node → List Node → Type 0) (before after : Watching Known) : Type 0 where
+pub record HasChanged (change : List Node → List Node → Type 0)
+    (before after : Watching Known) : Type 0 where
   pub state : after ≡ after_step before (nodes_in after.view.client)
   pub nodes : change (nodes_in before.view.client) (nodes_in after.view.client)
 
 -- the keeper waited for a free node, and then made this change
-pub record HasChangedLater (change : List Node → List Node → Type 0) (buckets : ℕ) (seat now : Seated Known)
-    (before after : Watching Known) : Type 0 where
+pub record HasChangedLater (change : List Node → List Node → Type 0) (buckets : ℕ)
+    (seat now : Seated Known) (before after : Watching Known) : Type 0 where
   pub looked : Watching Known
   pub waited : HasMadeRoom buckets seat now before looked
   pub changed : HasChanged change looked after
 
--- the keeper of a caller with this seat, which is outside of sections, made this change: at once where a node was free, and
--- else as soon as one was
-pub record HasChangedInTime (change : List Node → List Node → Type 0) (buckets : ℕ) (seat now : Seated Known)
-    (before after : Watching Known) : Type 0 where
+-- the keeper of a caller with this seat, which is outside of sections, made this change: at once
+-- where a node was free, and else as soon as one was
+pub record HasChangedInTime (change : List Node → List Node → Type 0) (buckets : ℕ)
+    (seat now : Seated Known) (before after : Watching Known) : Type 0 where
   pub outside : seat.depth ≡ 0
   pub no_wait : (node : ℕ) → IsFreeNode (nodes_in before.view.client) node → now ≡ seat
-  pub at_once : (node : ℕ) → IsFreeNode (nodes_in before.view.client) node → HasChanged change before after
-  pub waited : AreAllUsed (nodes_in before.view.client) → HasChangedLater change buckets seat now before after
+  pub at_once : (node : ℕ) → IsFreeNode (nodes_in before.view.client) node
+      → HasChanged change before after
+  pub waited : AreAllUsed (nodes_in before.view.client)
+      → HasChangedLater change buckets seat now before after

@@ -4,8 +4,11 @@ use Rattle.std.proofs.lemmas.List.{map-set, set-get_or}
 use Rattle.rcu_node.specs.declared.node.Node.{Node}
 
 -- what stays at the node stays in the list
-pub map_kept : (read : Node → ℕ) (nodes : List Node) (i : ℕ) (new old : Node) → old ≡ get_or nodes i old
-    → read new ≡ read old → map read (slice_set nodes i new) ≡ map read nodes
+pub map_kept : (read : Node → ℕ) (nodes : List Node) (i : ℕ) (new old : Node)
+    → old ≡ get_or nodes i old → read new ≡ read old
+    → map read (slice_set nodes i new) ≡ map read nodes
 map_kept read nodes i new old was same =
-    map-set read nodes i new ∙ ap (λ v. slice_set (map read nodes) i v) same ∙ sym (map-set read nodes i old)
+    map-set read nodes i new
+    ∙ ap (λ v. slice_set (map read nodes) i v) same
+    ∙ sym (map-set read nodes i old)
     ∙ ap (map read) (ap (slice_set nodes i) was ∙ set-get_or nodes i old)

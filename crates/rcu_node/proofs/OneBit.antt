@@ -1,10 +1,12 @@
 -- Words with a bit, and words that lost one.
-use Rattle.std.proofs.Common.{◌≡◌, ◌≢◌, ℕ, ◌*◌, ◌%◌, ◌^◌, ◌<◌, true, false, bit_and, sym, ap, ◌∙◌, inl, inr}
+use Rattle.std.proofs.Common.{◌≡◌, ◌≢◌, ℕ, ◌*◌, ◌%◌, ◌^◌, ◌<◌, true, false, bit_and, sym, ap, ◌∙◌}
+use Rattle.std.proofs.Common.{inl, inr}
 use Rattle.std.specs.Int.{bit_not, w64}
 use Rattle.std.proofs.lemmas.Bool.{cases_Bool, false≢true}
 use Rattle.std.proofs.lemmas.Nat.{one_shl}
 use Rattle.rcu_node.specs.Words.{has_bit}
-use Rattle.rcu_node.proofs.Bits.{has_bit-zero, has_bit_and_none, has_bit_clear_same, has_bit_clear_other}
+use Rattle.rcu_node.proofs.Bits.{has_bit-zero, has_bit_and_none, has_bit_clear_same}
+use Rattle.rcu_node.proofs.Bits.{has_bit_clear_other}
 
 -- a word without one of its bits
 pub record Clears (old new bit : ℕ) : Type 0 where
@@ -20,7 +22,8 @@ part_of word other i set = elim (cases_Bool (has_bit word i)) [
 ]
 
 -- a mask of one bit clears it
-pub clears : (old mask bit : ℕ) → bit < 64 → mask ≡ 2 ^ bit → Clears old (bit_and old (bit_not w64 mask)) bit
+pub clears : (old mask bit : ℕ) → bit < 64 → mask ≡ 2 ^ bit
+    → Clears old (bit_and old (bit_not w64 mask)) bit
 clears old mask bit low is =
     let shifted : mask ≡ 1 * 2 ^ bit % 2 ^ 64 = is ∙ sym (one_shl bit 64 low) in
     record {

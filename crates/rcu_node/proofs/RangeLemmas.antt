@@ -1,5 +1,6 @@
 -- The numbers below n, for all who go over the processors: one more of them, and counts over them.
-use Rattle.std.proofs.Common.{◌≡◌, ℕ, zero, suc, ◌+◌, Bool, cond, List, [], ◌∷◌, ◌++◌, map, refl, sym, ap, ◌∙◌, arith}
+use Rattle.std.proofs.Common.{◌≡◌, ℕ, zero, suc, ◌+◌, Bool, cond, List, [], ◌∷◌, ◌++◌, map, refl}
+use Rattle.std.proofs.Common.{sym, ap, ◌∙◌, arith}
 use Rattle.std.specs.Prelude.{filter, count_by, sum_by}
 use Rattle.std.specs.List.{range_with_len}
 use Rattle.std.proofs.lemmas.List.Elements.{filter-append}
@@ -20,7 +21,8 @@ filter-range_more p n =
     ∙ filter-append p (range_with_len 0 n) (n ∷ [])
 
 -- a sum over results is one over what they are the results of
-pub sum_by-map : {X Y : Type 0} (g : Y → ℕ) (f : X → Y) (xs : List X) → sum_by g (map f xs) ≡ sum_by (λ x. g (f x)) xs
+pub sum_by-map : {X Y : Type 0} (g : Y → ℕ) (f : X → Y) (xs : List X)
+    → sum_by g (map f xs) ≡ sum_by (λ x. g (f x)) xs
 sum_by-map g f [] = refl
 sum_by-map g f (x ∷ xs) =
     sum_by-cons g (f x) (map f xs)

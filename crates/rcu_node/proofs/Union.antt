@@ -1,6 +1,6 @@
 -- Sets of processors put together by words.
-use Rattle.std.proofs.Common.{◌≡◌, ℕ, ◌*◌, ◌/◌, ◌%◌, ◌<◌, ◌≤◌, ◌||◌, Bool, List, ◌++◌, length, take, drop, slice_index}
-use Rattle.std.proofs.Common.{bit_or, sym, ap, ◌∙◌, arith, inl, inr}
+use Rattle.std.proofs.Common.{◌≡◌, ℕ, ◌*◌, ◌/◌, ◌%◌, ◌<◌, ◌≤◌, ◌||◌, Bool, List, ◌++◌, length, take}
+use Rattle.std.proofs.Common.{drop, slice_index, bit_or, sym, ap, ◌∙◌, arith, inl, inr}
 use Rattle.std.proofs.lemmas.Bool.{cases_lt}
 use Rattle.std.proofs.lemmas.List.{take-append-le, take_all}
 use Rattle.rcu_node.specs.CpuSet.{is_in, size_of, union}
@@ -29,22 +29,25 @@ flag_in-merged words others new cpu h = elim (cases_lt (cpu / 64) (length words)
 ]
 
 -- words put together are the sets put together
-pub union-is : (cpus : ℕ) (words others new : List ℕ) (set other : List Bool) → flags_in cpus words ≡ set
-    → flags_in cpus others ≡ other
-    → AreMerged words others new → flags_in cpus new ≡ union set other
+pub union-is : (cpus : ℕ) (words others new : List ℕ) (set other : List Bool)
+    → flags_in cpus words ≡ set → flags_in cpus others ≡ other → AreMerged words others new
+    → flags_in cpus new ≡ union set other
 union-is cpus words others new set other e f h =
     let size = cpus-is cpus words set e in
     let both = λ (cpu : ℕ). is_in set cpu || is_in other cpu in
     listed_same cpus (flag_in new) (union set other) (length-listed (length set) both ∙ sym size)
     (λ cpu l.
-    let first = sym (is_in-listed cpus (flag_in words) cpu l) ∙ ap (λ (s : List Bool). is_in s cpu) e in
-    let second = sym (is_in-listed cpus (flag_in others) cpu l) ∙ ap (λ (s : List Bool). is_in s cpu) f in
+    let first =
+    sym (is_in-listed cpus (flag_in words) cpu l) ∙ ap (λ (s : List Bool). is_in s cpu) e in
+    let second =
+    sym (is_in-listed cpus (flag_in others) cpu l) ∙ ap (λ (s : List Bool). is_in s cpu) f in
     flag_in-merged words others new cpu h
     ∙ rw (first, second) (sym (is_in-listed (length set) both cpu (omega (arith, l, size)))))
 
 -- and no bit beyond the set is set
 pub none_beyond-merged : (cpus : ℕ) (words others new : List ℕ)
-    → HasNoneFrom cpus words → HasNoneFrom cpus others → AreMerged words others new → HasNoneFrom cpus new
+    → HasNoneFrom cpus words → HasNoneFrom cpus others → AreMerged words others new
+    → HasNoneFrom cpus new
 none_beyond-merged cpus words others new none neither h = λ i beyond.
     let first = none i beyond in
     let second = neither i beyond in

@@ -1,6 +1,7 @@
--- Sets of processors, as lists of flags: the processor c is in the set where the flag at place c is true.
-use Rattle.std.specs.Prelude.{ℕ, ◌≡◌, ◌⊎◌, ◌<◌, ◌≤◌, Bool, false, not, ◌&&◌, ◌||◌, List, length, map, count_by}
-use Rattle.std.specs.Prelude.{slice_index_or}
+-- Sets of processors, as lists of flags: the processor c is in the set where the flag at place c is
+-- true.
+use Rattle.std.specs.Prelude.{ℕ, ◌≡◌, ◌⊎◌, ◌<◌, ◌≤◌, Bool, false, not, ◌&&◌, ◌||◌, List, length}
+use Rattle.std.specs.Prelude.{map, count_by, slice_index_or}
 use Rattle.std.specs.List.{range_with_len}
 use Rattle.rcu_seq.specs.declared.fault.Fault.{Fault}
 use Rattle.rcu_seq.specs.declared.fault.Fault.TheVariants.{NoMemory, TooManyCpus}
@@ -29,8 +30,9 @@ intersection a b = listed (length a) (λ cpu. is_in a cpu && is_in b cpu)
 abbrev pub unheard : List Bool → (ℕ → Bool) → List Bool
 unheard set heard = listed (length set) (λ cpu. is_in set cpu && not (heard cpu))
 
--- the fault of a set of so many processors that is not made: there is no processor, or there are more than 4,096; else
--- memory was wanted
+-- the fault of a set of so many processors that is not made: there is no processor, or there are
+-- more than 4,096; else memory was wanted
 abbrev pub IsSetFault : ℕ → Fault → Type 0
 IsSetFault cpus fault =
-    ((fault ≡ TooManyCpus) × ((cpus ≡ 0) ⊎ (4096 < cpus))) ⊎ ((fault ≡ NoMemory) × (0 < cpus) × (cpus ≤ 4096))
+    ((fault ≡ TooManyCpus) × ((cpus ≡ 0) ⊎ (4096 < cpus)))
+    ⊎ ((fault ≡ NoMemory) × (0 < cpus) × (cpus ≤ 4096))

@@ -1,6 +1,6 @@
 -- Masks between two steps of a walk or of a begin.
-use Rattle.std.specs.Prelude.{ℕ, ◌+◌, ◌-◌, ◌*◌, ◌<◌, ◌≤◌, ◌≡◌, ◌≢◌, ◌&&◌, Bool, true, false, nat_lt, nat_le, List}
-use Rattle.std.specs.Prelude.{length, slice_index}
+use Rattle.std.specs.Prelude.{ℕ, ◌+◌, ◌-◌, ◌*◌, ◌<◌, ◌≤◌, ◌≡◌, ◌≢◌, ◌&&◌, Bool, true, false, nat_lt}
+use Rattle.std.specs.Prelude.{nat_le, List, length, slice_index}
 use Rattle.rcu_geometry.specs.Geometry.{Shape, nodes, parent, bit_in_parent, first_leaf}
 use Rattle.rcu_node.specs.CpuSet.{is_in}
 use Rattle.rcu_node.specs.Masks.{AreOwned, IsLinked, group_of}
@@ -16,7 +16,8 @@ pub record AreLinkedBut (s : Shape) (masks : List ℕ) (node : ℕ) : Type 0 whe
 -- what a leaf's bit is to be: its processor is in the set
 abbrev pub leaf_bit : Shape → List Bool → ℕ → ℕ → Bool
 leaf_bit s set node bit =
-    nat_le (first_leaf s) node && (nat_lt bit s.leaf && is_in set ((node - first_leaf s) * s.leaf + bit))
+    nat_le (first_leaf s) node
+    && (nat_lt bit s.leaf && is_in set ((node - first_leaf s) * s.leaf + bit))
 
 -- the nodes below this one have the bits of a set in the leaves, and none above
 pub record AreFilled (s : Shape) (set : List Bool) (masks : List ℕ) (node : ℕ) : Type 0 where

@@ -1,6 +1,7 @@
 -- A script whose line ran callbacks, or found the barrier done, ran as the laws of callbacks ask.
-use Rattle.std.proofs.Common.{◌≡◌, ◌==◌, ◌∙◌, ℕ, Bool, true, false, List, [], ◌∷◌, ◌++◌, refl, sym, ap, inl, inr, codes}
-use Rattle.std.proofs.Common.{append-nil, arith, get_or, if◌then◌else◌, subst, true≢false}
+use Rattle.std.proofs.Common.{◌≡◌, ◌==◌, ◌∙◌, ℕ, Bool, true, false, List, [], ◌∷◌, ◌++◌, refl, sym}
+use Rattle.std.proofs.Common.{ap, inl, inr, codes, append-nil, arith, get_or, if◌then◌else◌, subst}
+use Rattle.std.proofs.Common.{true≢false}
 use Rattle.std.specs.Prelude.{map, nat_le, not}
 use Rattle.rcu_seq.specs.Fault.{first_fault}
 use Rattle.rcu_seq.specs.declared.fault.Fault.TheVariants as fault
@@ -29,8 +30,9 @@ no_f : {P : Type 0} → ◌≡◌ {A = ℕ} 102 114 → P
 no_f e = absurd (omega (arith, e))
 
 -- the reply is legal after a run that leads to this history
-legal_after : (size : Size) (run : Run) (h : History) (e : Event) (r q : Reply) → history run ≡ h → r ≡ q
-    → IsLegalReply size (situation h) e r → IsLegalReply size (situation (history run)) e q
+legal_after : (size : Size) (run : Run) (h : History) (e : Event) (r q : Reply)
+    → history run ≡ h → r ≡ q → IsLegalReply size (situation h) e r
+    → IsLegalReply size (situation (history run)) e q
 legal_after size run h e r q reached is legal =
     subst (λ (p : Reply). IsLegalReply size (situation (history run)) e p) is
     (subst (λ (g : History). IsLegalReply size (situation g) e r) (sym reached) legal)
@@ -42,7 +44,8 @@ abbrev pub ran : ℕ → ℕ → History → Reply
 ran cpu most h = reply.Ran (map (λ call. call.value) (handed_out cpu most h))
 
 run_told : (size : Size) (h : History) (cpu most : ℕ) (r : Reply) (x more : List ℕ)
-    → IsLegalReply size (situation h) (event.Run cpu most) r → text_of r ++ x ≡ codes "ran" ++ more → r ≡ ran cpu most h
+    → IsLegalReply size (situation h) (event.Run cpu most) r → text_of r ++ x ≡ codes "ran" ++ more
+    → r ≡ ran cpu most h
 run_told size h cpu most r x more (inl is) text =
     is ∙ go (nat_le size.cpus cpu) (byte_at 0 (ap (λ (q : Reply). text_of q ++ x) (sym is) ∙ text))
   where
@@ -62,9 +65,13 @@ pub record RanAfter (size : Size) (cpu most : ℕ) (at_run : History) (text : Li
   pub reached : history run ≡ at_run
   pub tells : text ≡ text_of (ran cpu most at_run)
 
-pub ran_after : (size : Size) (before : List (List ℕ)) (running told text more : List ℕ) (cpu most : ℕ)
-    (at_run end : History) → Answers size [] before told at_run → asked_by running ≡ Ask (event.Run cpu most)
-    → Answers size at_run (running ∷ []) text end → text ≡ codes "ran" ++ more → RanAfter size cpu most at_run text
+pub ran_after : (size : Size) (before : List (List ℕ)) (running told text more : List ℕ)
+    (cpu most : ℕ) (at_run end : History)
+    → Answers size [] before told at_run
+    → asked_by running ≡ Ask (event.Run cpu most)
+    → Answers size at_run (running ∷ []) text end
+    → text ≡ codes "ran" ++ more
+    → RanAfter size cpu most at_run text
 ran_after size before running told text more cpu most at_run end first asks second begins =
     let start = lines_from_first size before told at_run first in
     let a = asked_line size at_run running (event.Run cpu most) second.0 second.1 asks second.3 in
@@ -72,22 +79,32 @@ ran_after size before running told text more cpu most at_run end first asks seco
     (ap (λ (l : List ℕ). l ++ second.2) (sym a.2) ∙ sym second.4 ∙ begins) in
     record {
       run = start.run;
-      legal = (legal_after size start.run at_run (event.Run cpu most) a.0 _ start.reached is a.1, start.legal);
+      legal = (
+        legal_after size start.run at_run (event.Run cpu most) a.0 _ start.reached is a.1,
+        start.legal,
+      );
       reached = start.reached;
-      tells = second.4 ∙ ap (λ (l : List ℕ). second.0 ++ l) second.5.0 ∙ append-nil second.0 ∙ a.2 ∙ ap text_of is;
+      tells =
+          second.4
+          ∙ ap (λ (l : List ℕ). second.0 ++ l) second.5.0
+          ∙ append-nil second.0
+          ∙ a.2
+          ∙ ap text_of is;
     }
 
 -- ---- a line that found the barrier done
 
-barrier_told : (size : Size) (h : History) (r : Reply) (x : List ℕ) → IsLegalReply size (situation h) event.BarTest r
-    → text_of r ++ x ≡ text_of reply.BarDone → r ≡ reply.BarDone
+barrier_told : (size : Size) (h : History) (r : Reply) (x : List ℕ)
+    → IsLegalReply size (situation h) event.BarTest r → text_of r ++ x ≡ text_of reply.BarDone
+    → r ≡ reply.BarDone
 barrier_told size h r x (inl is) text =
     let n = waits_for size (situation h) in
     let told = ap (λ (q : Reply). text_of q ++ x) (sym is) ∙ text in
     is ∙ go (not (barrier_runs h)) (n == 0) n (byte_at 0 told) (byte_at 8 told)
   where
     said : Bool → Bool → ℕ → Reply
-    said t b n = or_fault (first_fault ((t, fault.NoBarrier) ∷ [])) (if b then reply.BarDone else reply.BarWaits n)
+    said t b n = or_fault (first_fault ((t, fault.NoBarrier) ∷ []))
+        (if b then reply.BarDone else reply.BarWaits n)
 
     -- `f` is not `b`, and `w` is not `d`
     go : (t b : Bool) (n : ℕ) → get_or (text_of (said t b n) ++ x) 0 0 ≡ 98
@@ -103,15 +120,22 @@ pub record DoneAfter (size : Size) (at_test : History) : Type 0 where
   pub legal : IsLegalRun size ((event.BarTest, reply.BarDone) ∷ run)
   pub reached : history run ≡ at_test
 
-pub done_after : (size : Size) (before : List (List ℕ)) (testing told : List ℕ) (at_test end : History)
-    → Answers size [] before told at_test → asked_by testing ≡ Ask event.BarTest
-    → Answers size at_test (testing ∷ []) (text_of reply.BarDone) end → DoneAfter size at_test
+pub done_after : (size : Size) (before : List (List ℕ)) (testing told : List ℕ)
+    (at_test end : History)
+    → Answers size [] before told at_test
+    → asked_by testing ≡ Ask event.BarTest
+    → Answers size at_test (testing ∷ []) (text_of reply.BarDone) end
+    → DoneAfter size at_test
 done_after size before testing told at_test end first asks second =
     let start = lines_from_first size before told at_test first in
     let a = asked_line size at_test testing event.BarTest second.0 second.1 asks second.3 in
-    let is = barrier_told size at_test a.0 second.2 a.1 (ap (λ (l : List ℕ). l ++ second.2) (sym a.2) ∙ sym second.4) in
+    let is = barrier_told size at_test a.0 second.2 a.1
+    (ap (λ (l : List ℕ). l ++ second.2) (sym a.2) ∙ sym second.4) in
     record {
       run = start.run;
-      legal = (legal_after size start.run at_test event.BarTest a.0 _ start.reached is a.1, start.legal);
+      legal = (
+        legal_after size start.run at_test event.BarTest a.0 _ start.reached is a.1,
+        start.legal,
+      );
       reached = start.reached;
     }

@@ -1,5 +1,6 @@
 -- The right text of lines begins the right text of those and later ones.
-use Rattle.std.proofs.Common.{◌≡◌, ◌++◌, ◌∷◌, ◌∙◌, ℕ, List, [], false, Option, refl, sym, ap, append_assoc}
+use Rattle.std.proofs.Common.{◌≡◌, ◌++◌, ◌∷◌, ◌∙◌, ℕ, List, [], false, Option, refl, sym, ap}
+use Rattle.std.proofs.Common.{append_assoc}
 use Rattle.std.specs.Io.KnownBytes.{Appends}
 use Rattle.rcu_core.specs.History.{History}
 use Rattle.rcu_core.specs.Replies.{Size}
@@ -19,11 +20,13 @@ replies_front size h (line ∷ lines) later =
     let first = reply_to size h (asked_by line) in
     let more = replies_front size next lines later in (
       more.0,
-      ap (λ (l : List ℕ). first ++ l) more.1 ∙ sym (append_assoc first (replies size next lines) more.0),
+      ap (λ (l : List ℕ). first ++ l) more.1
+          ∙ sym (append_assoc first (replies size next lines) more.0),
     )
 
-pub right_text_front : (size : Size) (lines later : List (List ℕ)) (text : List ℕ) → IsAnswer size lines text
-    → wants_memory text ≡ false → (rest : List ℕ) × (replies size [] (lines ++ later) ≡ text ++ rest)
+pub right_text_front : (size : Size) (lines later : List (List ℕ)) (text : List ℕ)
+    → IsAnswer size lines text → wants_memory text ≡ false
+    → (rest : List ℕ) × (replies size [] (lines ++ later) ≡ text ++ rest)
 right_text_front size lines later text is none =
     let more = replies_front size [] lines later in
     (more.0, more.1 ∙ ap (λ (l : List ℕ). l ++ more.0) (sym (is.exact none)))
@@ -36,16 +39,19 @@ pair_front p (line ∷ lines) later =
     let first = answer_to_line p (pair_asked_by line) in
     let more = pair_front next lines later in (
       more.0,
-      ap (λ (l : List ℕ). first ++ l) more.1 ∙ sym (append_assoc first (pair_replies next lines) more.0),
+      ap (λ (l : List ℕ). first ++ l) more.1
+          ∙ sym (append_assoc first (pair_replies next lines) more.0),
     )
 
-pub pair_text_front : (p : Pair) (lines later : List (List ℕ)) (text : List ℕ) → text ≡ pair_replies p lines
+pub pair_text_front : (p : Pair) (lines later : List (List ℕ)) (text : List ℕ)
+    → text ≡ pair_replies p lines
     → (rest : List ℕ) × (text ++ rest ≡ pair_replies p (lines ++ later))
 pair_text_front p lines later text is =
     let more = pair_front p lines later in
     (more.0, ap (λ (l : List ℕ). l ++ more.0) is ∙ sym more.1)
 
-pub pair_text_begins : (p : Pair) (lines later : List (List ℕ)) (text : List ℕ) → text ≡ pair_replies p lines
+pub pair_text_begins : (p : Pair) (lines later : List (List ℕ)) (text : List ℕ)
+    → text ≡ pair_replies p lines
     → (rest : List ℕ) × (pair_replies p (lines ++ later) ≡ text ++ rest)
 pair_text_begins p lines later text is =
     let more = pair_text_front p lines later text is in
@@ -54,14 +60,17 @@ pair_text_begins p lines later text is =
 -- ---- what was written where a stream failed
 
 -- the right text of the lines that were read begins with this one, and that is written
-pub begun_reading : (right : List (List ℕ) → List ℕ) (ended later : List (List ℕ)) (all text : List ℕ)
-    (old new : Option (List ℕ)) → lines_of all ≡ ended ++ later
+pub begun_reading : (right : List (List ℕ) → List ℕ) (ended later : List (List ℕ))
+    (all text : List ℕ) (old new : Option (List ℕ))
+    → lines_of all ≡ ended ++ later
     → (rest : List ℕ) × (right (ended ++ later) ≡ text ++ rest)
-    → Appends old new text → BegunToWrite (right (lines_of all)) old new
+    → Appends old new text
+    → BegunToWrite (right (lines_of all)) old new
 begun_reading right ended later all text old new lines more out =
     record { written = text; unwritten = more.0; split = ap right lines ∙ more.1; out = out }
 
--- the right text of a front of the lines that were read begins with this one, and a beginning of it is written
+-- the right text of a front of the lines that were read begins with this one, and a beginning of it
+-- is written
 pub begun_writing : (right : List (List ℕ) → List ℕ) (read front later behind : List (List ℕ))
     (all written unwritten : List ℕ) (old new : Option (List ℕ)) → lines_of all ≡ read ++ behind
     → read ≡ front ++ later

@@ -6,7 +6,8 @@ use Rattle.rcu_text.specs.Texts.{space_and_number}
 use Rattle.rcu_text.proofs.CallerLemmas.{Stops-before}
 use Rattle.rcu_script.specs.ScriptTexts.{listed_text}
 
-pub none_listed : (word items : List ℕ) → length items ≡ 0 → listed_text word items ≡ word ++ codes " none\n"
+pub none_listed : (word items : List ℕ) → length items ≡ 0
+    → listed_text word items ≡ word ++ codes " none\n"
 none_listed word [] e = refl
 none_listed word (x ∷ l) e = absurd (omega (arith, e))
 
@@ -16,6 +17,8 @@ some_listed word [] e = absurd (omega (arith, e))
 some_listed word (x ∷ l) e = refl
 
 -- the writer failed in the word
-pub word_stops : (a b : Out) (word items : List ℕ) → Stops a b word → Stops a b (listed_text word items)
+pub word_stops : (a b : Out) (word items : List ℕ) → Stops a b word
+    → Stops a b (listed_text word items)
 word_stops a b word [] s = Stops-before a b word (codes " none\n") s
-word_stops a b word (x ∷ l) s = Stops-before a b word (flat_map space_and_number (x ∷ l) ++ codes "\n") s
+word_stops a b word (x ∷ l) s =
+    Stops-before a b word (flat_map space_and_number (x ∷ l) ++ codes "\n") s

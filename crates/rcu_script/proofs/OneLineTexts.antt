@@ -1,6 +1,7 @@
 -- Texts of one line, and the numbers in them.
-use Rattle.std.proofs.Common.{◌≡◌, ◌==◌, ◌∙◌, ◌%◌, ◌/◌, ◌<◌, ℕ, zero, suc, Bool, true, false, List, [], ◌∷◌, ◌++◌}
-use Rattle.std.proofs.Common.{length, refl, sym, ap, codes, arith, append_assoc, if◌then◌else◌}
+use Rattle.std.proofs.Common.{◌≡◌, ◌==◌, ◌∙◌, ◌%◌, ◌/◌, ◌<◌, ℕ, zero, suc, Bool, true, false, List}
+use Rattle.std.proofs.Common.{[], ◌∷◌, ◌++◌, length, refl, sym, ap, codes, arith, append_assoc}
+use Rattle.std.proofs.Common.{if◌then◌else◌}
 use Rattle.std.specs.Prelude.{flat_map, nat_le, slice_index_or}
 use Rattle.std.specs.Fmt.{decimal, digit_glyph, digits, digits_onto}
 use Rattle.std.specs.List.{list_any, slice_split}
@@ -38,13 +39,15 @@ module _ (test : ℕ → Bool) (is_low : (d : ℕ) → d < 10 → test (digit_gl
 decimal_no_end : (n : ℕ) → list_any is_end (decimal n) ≡ false
 decimal_no_end n = decimal_without is_end (λ d low. grind (arith, nat_tests)) n
 
-no_end_in : (a b : List ℕ) → list_any is_end a ≡ false → list_any is_end b ≡ false → list_any is_end (a ++ b) ≡ false
+no_end_in : (a b : List ℕ) → list_any is_end a ≡ false → list_any is_end b ≡ false
+    → list_any is_end (a ++ b) ≡ false
 no_end_in a b p q = list_any-append is_end a b ∙ rw (p, q) refl
 
 listed_no_end : (items : List ℕ) → list_any is_end (flat_map space_and_number items) ≡ false
 listed_no_end [] = refl
 listed_no_end (item ∷ items) =
-    no_end_in (space_and_number item) (flat_map space_and_number items) (decimal_no_end item) (listed_no_end items)
+    no_end_in (space_and_number item) (flat_map space_and_number items) (decimal_no_end item)
+    (listed_no_end items)
 
 -- ---- texts of one line
 
@@ -67,7 +70,8 @@ line_behind word line text none one = record {
   ended = ap (λ (l : List ℕ). word ++ l) one.ended ∙ sym (append_assoc word line (10 ∷ []));
 }
 
-pub line_of_number : (word line text : List ℕ) (n : ℕ) → list_any is_end word ≡ false → OneLine line text
+pub line_of_number : (word line text : List ℕ) (n : ℕ)
+    → list_any is_end word ≡ false → OneLine line text
     → OneLine (word ++ (decimal n ++ line)) (word ++ (decimal n ++ text))
 line_of_number word line text n none one =
     line_behind word (decimal n ++ line) (decimal n ++ text) none
@@ -92,7 +96,8 @@ line_listed word item items none =
     line_behind word (flat_map space_and_number (item ∷ items)) _ none
     (line_alone (flat_map space_and_number (item ∷ items)) (listed_no_end (item ∷ items)))
 
-all_without : (test : ℕ → Bool) (line : List ℕ) → list_any test line ≡ false → All (λ b. test b ≡ false) line
+all_without : (test : ℕ → Bool) (line : List ℕ) → list_any test line ≡ false
+    → All (λ b. test b ≡ false) line
 all_without test line none = λ k d within. go k d within _ refl
   where
     go : (k d : ℕ) → k < length line → (t : Bool) → test (slice_index_or line k d) ≡ t
@@ -111,7 +116,9 @@ pub first_number : (n b : ℕ) (more : List ℕ) → is_break b ≡ true
     → slice_split is_break (decimal n ++ b ∷ more) ≡ decimal n ∷ slice_split is_break more
 first_number n b more breaks =
     slice_split_at is_break (decimal n) b more
-    (all_without is_break (decimal n) (decimal_without is_break (λ d low. grind (arith, nat_tests)) n)) breaks
+    (all_without is_break (decimal n)
+    (decimal_without is_break (λ d low. grind (arith, nat_tests)) n))
+    breaks
 
 -- the line is the first piece of what begins with the text
 pub first_piece : (line text more : List ℕ) → OneLine line text

@@ -1,6 +1,6 @@
 -- Both replicas are what their accepted calls make them.
-use Rattle.std.proofs.Common.{◌≡◌, ℕ, Bool, true, false, not, List, [], ◌∷◌, Option, Some, None, refl, ap, ◌∙◌, subst}
-use Rattle.std.proofs.Common.{codes, if◌then◌else◌}
+use Rattle.std.proofs.Common.{◌≡◌, ℕ, Bool, true, false, not, List, [], ◌∷◌, Option, Some, None}
+use Rattle.std.proofs.Common.{refl, ap, ◌∙◌, subst, codes, if◌then◌else◌}
 use Rattle.std.specs.List.{list_all}
 use Rattle.std.specs.Prelude.{nat_lt}
 use Rattle.rcu_seq.specs.Numbers.{Number}
@@ -14,12 +14,14 @@ use Rattle.rcu_core.specs.Replies.{Size}
 use Rattle.rcu_text.specs.declared.line_shape.Line.{Line}
 use Rattle.rcu_text.specs.declared.line_shape.Line.TheVariants.{Blank, Malformed, Ask}
 use Rattle.rcu_script.specs.PairLines.{pair_asked_by}
-use Rattle.rcu_script.specs.PairHistory.{Calls, call_of, calls_after, calls_after_line, calls_of, calls_with}
+use Rattle.rcu_script.specs.PairHistory.{Calls, call_of, calls_after, calls_after_line, calls_of}
+use Rattle.rcu_script.specs.PairHistory.{calls_with}
 use Rattle.rcu_script.specs.PairState.{Pair, after_event, pair_at, event_refusal, set_of}
 use Rattle.rcu_script.specs.PairTexts.{compared_text, pair_after, pair_after_line, replica_after}
 use Rattle.rcu_script.specs.declared.pair.event.Side.TheVariants.{A, B}
 use Rattle.rcu_script.specs.declared.pair.event.PairEvent.{PairEvent}
-use Rattle.rcu_script.specs.declared.pair.event.PairEvent.TheVariants.{Begin, Report, Depart, End, Awaits, Merge}
+use Rattle.rcu_script.specs.declared.pair.event.PairEvent.TheVariants.{Begin, Report, Depart, End}
+use Rattle.rcu_script.specs.declared.pair.event.PairEvent.TheVariants.{Awaits, Merge}
 use Rattle.rcu_script.specs.declared.pair.event.PairAsk.{PairAsk}
 use Rattle.rcu_script.specs.declared.pair.event.PairAsk.TheVariants.{Same, Of}
 use Rattle.rcu_node.proofs.CpuSetLemmas.{length-listed, same_when_all_agree}
@@ -30,8 +32,11 @@ pub record IsMade (cpus : ℕ) (last : Number) (r : Replicated) (h : History) : 
   pub accepted : AreAccepted cpus last h
 
 -- with one call more, where that is accepted
-one_more : (cpus : ℕ) (last : Number) (mine left : Replicated) (made : Call) (refused : Option Fault) (h : History)
-    → IsMade cpus last mine h → left ≡ after_call mine made → CanBeMade mine made
+one_more : (cpus : ℕ) (last : Number) (mine left : Replicated) (made : Call)
+    (refused : Option Fault) (h : History)
+    → IsMade cpus last mine h
+    → left ≡ after_call mine made
+    → CanBeMade mine made
     → (refused ≡ None → refusal mine made ≡ None)
     → IsMade cpus last (replica_after refused mine left) (calls_with refused (Some made) h)
 one_more cpus last mine left made None h m e can allowed = record {
@@ -45,23 +50,28 @@ one_more cpus last mine left made None h m e can allowed = record {
 }
 one_more cpus last mine left made (Some fault) h m e can allowed = m
 
-begin_allowed : (all : Bool) (o : Option Fault) → (if not all then Some BadCpu else o) ≡ None → o ≡ None
+begin_allowed : (all : Bool) (o : Option Fault) → (if not all then Some BadCpu else o) ≡ None
+    → o ≡ None
 begin_allowed true o e = e
 begin_allowed false o e = cc
 
 one_event : (cpus : ℕ) (last : Number) (mine its : Replicated) (event : PairEvent) (h : History)
     → IsMade cpus last mine h
-    → IsMade cpus last (replica_after (event_refusal mine its event) mine (after_event mine its event))
+    → IsMade cpus last
+    (replica_after (event_refusal mine its event) mine (after_event mine its event))
     (calls_with (event_refusal mine its event) (call_of mine its event) h)
 one_event cpus last mine its (Begin listed) h m =
-    one_more cpus last mine _ (call.Begin (set_of (cpus_of mine) listed)) _ h m refl (length-listed (cpus_of mine) _)
+    one_more cpus last mine _ (call.Begin (set_of (cpus_of mine) listed)) _ h m refl
+    (length-listed (cpus_of mine) _)
     (begin_allowed (list_all (λ c. nat_lt c (cpus_of mine)) listed) _)
 one_event cpus last mine its (Report cpu tag) h m =
     one_more cpus last mine _ (call.Report cpu tag) _ h m refl tt (λ e. e)
-one_event cpus last mine its (Depart cpu) h m = one_more cpus last mine _ (call.Depart cpu) _ h m refl tt (λ e. e)
+one_event cpus last mine its (Depart cpu) h m =
+    one_more cpus last mine _ (call.Depart cpu) _ h m refl tt (λ e. e)
 one_event cpus last mine its End h m = one_more cpus last mine _ call.End _ h m refl tt (λ e. e)
 one_event cpus last mine its Awaits h m = m
-one_event cpus last mine its Merge h m = one_more cpus last mine _ (call.Merge its) _ h m refl tt (λ e. e)
+one_event cpus last mine its Merge h m =
+    one_more cpus last mine _ (call.Merge its) _ h m refl tt (λ e. e)
 
 -- both replicas
 pub record AreMade (size : Size) (p : Pair) (c : Calls) : Type 0 where
@@ -86,16 +96,22 @@ all_lines : (size : Size) (p : Pair) (lines : List (List ℕ)) (c : Calls) → A
     → AreMade size (pair_after p lines) (calls_after p lines c)
 all_lines size p [] c m = m
 all_lines size p (line ∷ lines) c m =
-    all_lines size (pair_after_line p (pair_asked_by line)) lines _ (one_line size p (pair_asked_by line) c m)
+    all_lines size (pair_after_line p (pair_asked_by line)) lines _
+    (one_line size p (pair_asked_by line) c m)
 
 -- so after lines on two fresh replicas
 pub are_made : (size : Size) (lines : List (List ℕ))
     → AreMade size (pair_after (pair_at size) lines) (calls_of size lines)
 are_made size lines =
     all_lines size _ lines (record { a = []; b = [] })
-    (record { first = record { is = refl; accepted = tt }; second = record { is = refl; accepted = tt } })
+    (record {
+      first = record { is = refl; accepted = tt };
+      second = record { is = refl; accepted = tt };
+    })
 
 -- equal sets are answered by `same`
 pub equal_sets_are_same : (a b : List Bool) → a ≡ b → compared_text (same_set a b) ≡ codes "same\n"
 equal_sets_are_same a b e =
-    ap compared_text (subst (λ (s : List Bool). same_set a s ≡ true) e (same_when_all_agree a a refl (λ cpu l. refl)))
+    ap compared_text
+    (subst (λ (s : List Bool). same_set a s ≡ true) e
+    (same_when_all_agree a a refl (λ cpu l. refl)))

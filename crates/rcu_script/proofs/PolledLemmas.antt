@@ -1,7 +1,8 @@
 -- A script that takes a cookie and later finds it done ran as the law of cookies asks.
-use Rattle.std.proofs.Common.{◌≡◌, ◌==◌, ◌∙◌, ◌&&◌, ◌+◌, ◌^◌, ◌/◌, ◌%◌, ◌≤◌, ◌<◌, ℕ, zero, suc, Bool, true, false, List}
-use Rattle.std.proofs.Common.{[], ◌∷◌, ◌++◌, length, Option, Some, None, refl, sym, ap, subst, inl, inr, codes, arith}
-use Rattle.std.proofs.Common.{append_assoc, eqb-true, if◌then◌else◌}
+use Rattle.std.proofs.Common.{◌≡◌, ◌==◌, ◌∙◌, ◌&&◌, ◌+◌, ◌^◌, ◌/◌, ◌%◌, ◌≤◌, ◌<◌, ℕ, zero, suc}
+use Rattle.std.proofs.Common.{Bool, true, false, List, [], ◌∷◌, ◌++◌, length, Option, Some, None}
+use Rattle.std.proofs.Common.{refl, sym, ap, subst, inl, inr, codes, arith, append_assoc, eqb-true}
+use Rattle.std.proofs.Common.{if◌then◌else◌}
 use Rattle.std.specs.Prelude.{nat_le, nat_lt}
 use Rattle.std.specs.Fmt.{decimal, digit_glyph, digits, digits_onto}
 use Rattle.std.specs.Str.Parse.{digits_value}
@@ -27,8 +28,8 @@ use Rattle.rcu_text.specs.Words.{is_digit, is_number, number_in_word, value_of, 
 use Rattle.rcu_text.specs.declared.line_shape.Line.{Line}
 use Rattle.rcu_text.specs.declared.line_shape.Line.TheVariants.{Ask, Malformed}
 use Rattle.rcu_script.specs.ScriptAnswers.{Answers, AnswersLine}
-use Rattle.rcu_script.specs.ScriptLines.{asked_by, cpu_of, event_alone, event_of, event_with_cpu, event_with_number}
-use Rattle.rcu_script.specs.ScriptLines.{event_with_numbers}
+use Rattle.rcu_script.specs.ScriptLines.{asked_by, cpu_of, event_alone, event_of, event_with_cpu}
+use Rattle.rcu_script.specs.ScriptLines.{event_with_number, event_with_numbers}
 use Rattle.rcu_script.specs.ScriptTexts.{epoch_text, text_of}
 use Rattle.rcu_script.proofs.OneLineTexts.{first_number, is_break}
 use Rattle.rcu_script.proofs.ScriptRunLemmas.{lines_from_first, lines_further}
@@ -78,13 +79,16 @@ fits_with_cpu name cpu e found =
     (named_fits e (codes "wake") name _ _ tt
     (named_fits e (codes "scan") name _ _ tt (λ none. cc))))))))))) found
 
-fits_with_number : (name : List ℕ) (n : ℕ) (e : Event) → n < 2 ^ 64 → event_with_number name n ≡ Some e → Fits e
+fits_with_number : (name : List ℕ) (n : ℕ) (e : Event)
+    → n < 2 ^ 64 → event_with_number name n ≡ Some e → Fits e
 fits_with_number name n e fits found =
     named_fits e (codes "deliver") name _ _ tt
-    (named_fits e (codes "poll") name _ _ (fits, omega arith) (λ later. fits_with_cpu name (cpu_of n) e later)) found
+    (named_fits e (codes "poll") name _ _ (fits, omega arith)
+    (λ later. fits_with_cpu name (cpu_of n) e later))
+    found
 
-fits_with_numbers : (name : List ℕ) (first second : ℕ) (e : Event) → first < 2 ^ 64 → second < 2 ^ 64
-    → event_with_numbers name first second ≡ Some e → Fits e
+fits_with_numbers : (name : List ℕ) (first second : ℕ) (e : Event)
+    → first < 2 ^ 64 → second < 2 ^ 64 → event_with_numbers name first second ≡ Some e → Fits e
 fits_with_numbers name first second e fits fits_too found =
     named_fits e (codes "queue") name _ _ tt
     (named_fits e (codes "run") name _ _ tt
@@ -103,7 +107,8 @@ number_fits word n found = go (is_number word) refl found
     value_in None = 0
     value_in (Some m) = m
 
-    go : (t : Bool) → is_number word ≡ t → (if t then Some (value_of word) else None) ≡ Some n → n < 2 ^ 64
+    go : (t : Bool) → is_number word ≡ t → (if t then Some (value_of word) else None) ≡ Some n
+        → n < 2 ^ 64
     go true e found =
         let low : nat_lt (value_of word) (2 ^ 64) ≡ true =
         last_of (nat_lt 0 (length word)) (nat_le (length word) 20) (list_all is_digit word) _ e in
@@ -116,27 +121,36 @@ fits_word : (name word : List ℕ) (e : Event) (o : Option ℕ) → number_in_wo
 fits_word name word e None is found = cc
 fits_word name word e (Some n) is found = fits_with_number name n e (number_fits word n is) found
 
-fits_next : (name next : List ℕ) (first : ℕ) (e : Event) (o : Option ℕ) → first < 2 ^ 64 → number_in_word next ≡ o
-    → option_map_or (event_with_numbers name first) o None ≡ Some e → Fits e
+fits_next : (name next : List ℕ) (first : ℕ) (e : Event) (o : Option ℕ)
+    → first < 2 ^ 64
+    → number_in_word next ≡ o
+    → option_map_or (event_with_numbers name first) o None ≡ Some e
+    → Fits e
 fits_next name next first e None fits is found = cc
 fits_next name next first e (Some second) fits is found =
     fits_with_numbers name first second e fits (number_fits next second is) found
 
-fits_words : (name word next : List ℕ) (e : Event) (o : Option ℕ) → number_in_word word ≡ o
-    → option_map_or (λ first. option_map_or (event_with_numbers name first) (number_in_word next) None) o None ≡ Some e
+fits_words : (name word next : List ℕ) (e : Event) (o : Option ℕ)
+    → number_in_word word ≡ o
+    → option_map_or
+    (λ first. option_map_or (event_with_numbers name first) (number_in_word next) None) o None
+    ≡ Some e
     → Fits e
 fits_words name word next e None is found = cc
 fits_words name word next e (Some first) is found =
     fits_next name next first e (number_in_word next) (number_fits word first is) refl found
 
-fits_of : (name : List ℕ) (words : List (List ℕ)) (e : Event) → event_of name words ≡ Some e → Fits e
+fits_of : (name : List ℕ) (words : List (List ℕ)) (e : Event) → event_of name words ≡ Some e
+    → Fits e
 fits_of name [] e found = fits_alone name e found
 fits_of name (word ∷ []) e found = fits_word name word e (number_in_word word) refl found
-fits_of name (word ∷ next ∷ []) e found = fits_words name word next e (number_in_word word) refl found
+fits_of name (word ∷ next ∷ []) e found =
+    fits_words name word next e (number_in_word word) refl found
 fits_of name (word ∷ next ∷ more ∷ words) e found = cc
 
-fits_ask : (name : List ℕ) (words : List (List ℕ)) (e : Event) (o : Option Event) → event_of name words ≡ o
-    → option_map_or (λ (event : Event). Ask event) o Malformed ≡ Ask e → Fits e
+fits_ask : (name : List ℕ) (words : List (List ℕ)) (e : Event) (o : Option Event)
+    → event_of name words ≡ o → option_map_or (λ (event : Event). Ask event) o Malformed ≡ Ask e
+    → Fits e
 fits_ask name words e None is asks = cc
 fits_ask name words e (Some event) is asks =
     fits_of name words e (is ∙ ap (λ (event : Event). Some event) (ap (in_line event) asks))
@@ -152,14 +166,16 @@ fits_line (name ∷ words) e asks = fits_ask name words e (event_of name words) 
 polled_fits : (line : List ℕ) (e : Event) → asked_by line ≡ Ask e → Fits e
 polled_fits line e asks = go (is_well_formed line) asks
   where
-    go : (t : Bool) → (if t then line_of_words event_of (words_of line) else Malformed) ≡ Ask e → Fits e
+    go : (t : Bool) → (if t then line_of_words event_of (words_of line) else Malformed) ≡ Ask e
+        → Fits e
     go true asks = fits_line (words_of line) e asks
     go false asks = cc
 
 -- ---- the cookie in a line is the one that was told
 
 -- a number of more digits than are printed fills them all
-long_digits : (k n : ℕ) (acc : List ℕ) → 10 ^ k ≤ n → length (digits_onto k 10 false n acc) ≡ k + length acc
+long_digits : (k n : ℕ) (acc : List ℕ) → 10 ^ k ≤ n
+    → length (digits_onto k 10 false n acc) ≡ k + length acc
 long_digits zero n acc many = omega arith
 long_digits (suc k) n acc many =
     let power = pow-succ' 10 k in
@@ -181,10 +197,13 @@ printed_alike : (n k : ℕ) → k < 2 ^ 64 → decimal n ≡ decimal k → n ≡
 printed_alike n k fits same = elim (cases_lt n (10 ^ 64)) [
   | inl low ↦
       let wide : k < 10 ^ 64 = omega arith in
-      sym (decimal_is_IsNumeral_wide n low).1 ∙ ap (digits_value 10) same ∙ (decimal_is_IsNumeral_wide k wide).1
+      sym (decimal_is_IsNumeral_wide n low).1
+      ∙ ap (digits_value 10) same
+      ∙ (decimal_is_IsNumeral_wide k wide).1
   | inr many ↦
       let long = long_decimal n many in
-      let short : length (decimal k) ≤ 20 = length-decimal-le 20 k (omega arith) (omega arith) fits in
+      let short : length (decimal k) ≤ 20 =
+      length-decimal-le 20 k (omega arith) (omega arith) fits in
       let alike : length (decimal n) ≡ length (decimal k) = ap (λ (l : List ℕ). length l) same in
       absurd (omega arith)
 ]
@@ -210,7 +229,8 @@ record Broken (rest : List ℕ) : Type 0 where
 epoch_breaks : (epoch : ℕ) (x : List ℕ) → Broken (epoch_text epoch ++ x)
 epoch_breaks epoch x = go (epoch == 0)
   where
-    go : (t : Bool) → Broken ((if t then codes "\n" else numbered_text (codes " epoch ") epoch) ++ x)
+    go : (t : Bool)
+        → Broken ((if t then codes "\n" else numbered_text (codes " epoch ") epoch) ++ x)
     go true = record { byte = 10; more = x; breaks = refl; is = refl }
     go false = record { byte = 32; more = _; breaks = refl; is = refl }
 
@@ -235,8 +255,10 @@ cookie_alike : (c d : Cookie) (x y : List ℕ) → d.number < 2 ^ 64 → d.epoch
 cookie_alike c d x y fits fits_too same =
     let a = epoch_breaks c.epoch x in
     let b = epoch_breaks d.epoch y in
-    let behind : decimal c.number ++ (epoch_text c.epoch ++ x) ≡ decimal d.number ++ (epoch_text d.epoch ++ y) =
-    sym (append_assoc (decimal c.number) (epoch_text c.epoch) x) ∙ append_cancel_left (codes "cookie ") _ _ same
+    let behind : decimal c.number ++ (epoch_text c.epoch ++ x)
+    ≡ decimal d.number ++ (epoch_text d.epoch ++ y) =
+    sym (append_assoc (decimal c.number) (epoch_text c.epoch) x)
+    ∙ append_cancel_left (codes "cookie ") _ _ same
     ∙ append_assoc (decimal d.number) (epoch_text d.epoch) y in
     let number : c.number ≡ d.number =
     number_alike c.number d.number a.byte b.byte a.more b.more fits a.breaks b.breaks
@@ -250,8 +272,8 @@ cookie_alike c d x y fits fits_too same =
 
 -- ---- the run behind the answers
 
-cookie_told : (size : Size) (h : History) (e : Event) (r : Reply) → takes e ≡ true → IsLegalReply size (situation h) e r
-    → (c : Cookie) × (r ≡ reply.Cookie c)
+cookie_told : (size : Size) (h : History) (e : Event) (r : Reply)
+    → takes e ≡ true → IsLegalReply size (situation h) e r → (c : Cookie) × (r ≡ reply.Cookie c)
 cookie_told size h Take r t (inl is) = (_, is)
 cookie_told size h Take r t (inr want) = absurd (cc)
 cookie_told size h StartPoll r t (inl is) = (_, is)
@@ -263,34 +285,43 @@ done_told : (size : Size) (h : History) (number epoch : ℕ) (r : Reply) (x : Li
     → text_of (reply.Polled true) ≡ text_of r ++ x → r ≡ reply.Polled true
 done_told size h number epoch r x none (inl is) text = is ∙ go _ (text ∙ rw (is, none) refl)
   where
-    go : (t : Bool) → text_of (reply.Polled true) ≡ text_of (reply.Polled t) ++ [] → reply.Polled t ≡ reply.Polled true
+    go : (t : Bool) → text_of (reply.Polled true) ≡ text_of (reply.Polled t) ++ []
+        → reply.Polled t ≡ reply.Polled true
     go true e = refl
     go false e = cc
 done_told size h number epoch r x none (inr want) text = absurd (cc)
 
--- a legal run that takes a cookie after one history and polls it after another one, and finds it done
-pub record DoneRun (size : Size) (event : Event) (cookie : Cookie) (at_taking at_poll : History) : Type 0 where
+-- a legal run that takes a cookie after one history and polls it after another one, and finds it
+-- done
+pub record DoneRun (size : Size) (event : Event) (cookie : Cookie)
+    (at_taking at_poll : History) : Type 0 where
   pub earlier : Run
   pub later : Run
   pub legal : IsLegalRun size
-      ((Poll cookie.number cookie.epoch, reply.Polled true) ∷ later ++ (event, reply.Cookie cookie) ∷ earlier)
+      ((Poll cookie.number cookie.epoch, reply.Polled true) ∷ later ++ (event, reply.Cookie cookie)
+      ∷ earlier)
   pub taken : history earlier ≡ at_taking
   pub polled : history (later ++ (event, reply.Cookie cookie) ∷ earlier) ≡ at_poll
 
-pub asked_line : (size : Size) (h : History) (line : List ℕ) (event : Event) (text : List ℕ) (next : History)
+pub asked_line : (size : Size) (h : History) (line : List ℕ) (event : Event) (text : List ℕ)
+    (next : History)
     → asked_by line ≡ Ask event
-    → AnswersLine size h (asked_by line) text next → AnswersLine size h (Ask event) text next
-asked_line size h line event text next asks a = subst (λ (l : Line Event). AnswersLine size h l text next) asks a
+    → AnswersLine size h (asked_by line) text next
+    → AnswersLine size h (Ask event) text next
+asked_line size h line event text next asks a =
+    subst (λ (l : Line Event). AnswersLine size h l text next) asks a
 
-pub done_run : (size : Size) (before between : List (List ℕ)) (taking polling told more : List ℕ) (event : Event)
-    (cookie : Cookie) (at_taking at_poll end : History) → Answers size [] before told at_taking
-    → asked_by taking ≡ Ask event → takes event ≡ true
+pub done_run : (size : Size) (before between : List (List ℕ)) (taking polling told more : List ℕ)
+    (event : Event) (cookie : Cookie) (at_taking at_poll end : History)
+    → Answers size [] before told at_taking
+    → asked_by taking ≡ Ask event
+    → takes event ≡ true
     → Answers size at_taking (taking ∷ between) (text_of (reply.Cookie cookie) ++ more) at_poll
     → asked_by polling ≡ Ask (Poll cookie.number cookie.epoch)
     → Answers size at_poll (polling ∷ []) (text_of (reply.Polled true)) end
     → DoneRun size event cookie at_taking at_poll
-done_run size before between taking polling told more event cookie at_taking at_poll end first asks t second
-    polls third =
+done_run size before between taking polling told more event cookie at_taking at_poll end first
+    asks t second polls third =
     let start = lines_from_first size before told at_taking first in
     let took = asked_line size at_taking taking event second.0 second.1 asks second.3 in
     let said = cookie_told size at_taking event took.0 t took.1 in
@@ -308,7 +339,8 @@ done_run size before between taking polling told more event cookie at_taking at_
     ∙ ap (with_event at_taking event) (sym is) ∙ sym took.3 in
     let on = lines_further size taken second.1 at_poll between second.2 legal reached second.5 in
     let poll =
-    asked_line size at_poll polling (Poll cookie.number cookie.epoch) third.0 third.1 polls third.3 in
+    asked_line size at_poll polling (Poll cookie.number cookie.epoch) third.0 third.1 polls
+    third.3 in
     let done =
     done_told size at_poll cookie.number cookie.epoch poll.0 third.2 third.5.0 poll.1
     (third.4 ∙ ap (λ (l : List ℕ). l ++ third.2) poll.2) in

@@ -9,5 +9,8 @@ pub number_and_text : (a b c d : Out) (word : List ℕ) (n : ℕ) (text : List �
     → c ≡ after_put_text b (text_and_number word n) → d ≡ after_put_text c text
     → Sends a d (word ++ (decimal n ++ text))
 number_and_text a b c d word n text room first second =
-    let e = second ∙ ap (λ (o : Out). after_put_text o text) first ∙ put_twice b (text_and_number word n) text in
+    let e =
+    second
+    ∙ ap (λ (o : Out). after_put_text o text) first
+    ∙ put_twice b (text_and_number word n) text in
     subst (Sends a d) (append_assoc word (decimal n) text) (sends_behind _ _ _ _ room e)

@@ -10,8 +10,10 @@ use Rattle.rcu_script.specs.declared.runs.Setup.{Setup}
 
 -- the pairs of fanouts that the program offers
 abbrev pub is_offered : ℕ → ℕ → Bool
-is_offered leaf inner = (leaf == 2 && inner == 2) || ((leaf == 2 && inner == 3) || ((leaf == 4 && inner == 4)
-    || ((leaf == 16 && inner == 64) || (leaf == 64 && inner == 64))))
+is_offered leaf inner =
+    (leaf == 2 && inner == 2)
+    || ((leaf == 2 && inner == 3)
+    || ((leaf == 4 && inner == 4) || ((leaf == 16 && inner == 64) || (leaf == 64 && inner == 64))))
 
 -- the first fault of a setup
 abbrev pub opening_fault : Setup → Option Fault

@@ -12,7 +12,8 @@ use Rattle.rcu_script.specs.PairState.{Pair, pair_at, event_refusal, set_of}
 use Rattle.rcu_script.specs.PairTexts.{pair_after_line}
 use Rattle.rcu_script.specs.declared.pair.event.Side.TheVariants.{A, B}
 use Rattle.rcu_script.specs.declared.pair.event.PairEvent.{PairEvent}
-use Rattle.rcu_script.specs.declared.pair.event.PairEvent.TheVariants.{Begin, Report, Depart, End, Awaits, Merge}
+use Rattle.rcu_script.specs.declared.pair.event.PairEvent.TheVariants.{Begin, Report, Depart, End}
+use Rattle.rcu_script.specs.declared.pair.event.PairEvent.TheVariants.{Awaits, Merge}
 use Rattle.rcu_script.specs.declared.pair.event.PairAsk.{PairAsk}
 use Rattle.rcu_script.specs.declared.pair.event.PairAsk.TheVariants.{Of}
 
@@ -48,7 +49,8 @@ calls_after_line p _ c = c
 abbrev pub calls_after : Pair → List (List ℕ) → Calls → Calls
 calls_after p [] c = c
 calls_after p (line ∷ lines) c =
-    calls_after (pair_after_line p (pair_asked_by line)) lines (calls_after_line p (pair_asked_by line) c)
+    calls_after (pair_after_line p (pair_asked_by line)) lines
+    (calls_after_line p (pair_asked_by line) c)
 
 -- the accepted calls that lines make of two fresh replicas of a size
 abbrev pub calls_of : Size → List (List ℕ) → Calls

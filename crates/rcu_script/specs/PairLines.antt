@@ -9,13 +9,17 @@ use Rattle.rcu_script.specs.ScriptLines.{cpu_of}
 use Rattle.rcu_script.specs.declared.pair.event.Side.{Side}
 use Rattle.rcu_script.specs.declared.pair.event.Side.TheVariants.{A, B}
 use Rattle.rcu_script.specs.declared.pair.event.PairEvent.{PairEvent}
-use Rattle.rcu_script.specs.declared.pair.event.PairEvent.TheVariants.{Begin, Report, Depart, End, Awaits, Merge}
+use Rattle.rcu_script.specs.declared.pair.event.PairEvent.TheVariants.{Begin, Report, Depart, End}
+use Rattle.rcu_script.specs.declared.pair.event.PairEvent.TheVariants.{Awaits, Merge}
 use Rattle.rcu_script.specs.declared.pair.event.PairAsk.{PairAsk}
 use Rattle.rcu_script.specs.declared.pair.event.PairAsk.TheVariants.{Same, Of}
 
 -- the replica of a name
 abbrev pub side_of : List ℕ → Option Side
-side_of name = if bytes_eq name (codes "a") then Some A else (if bytes_eq name (codes "b") then Some B else None)
+side_of name =
+    if bytes_eq name (codes "a")
+    then Some A
+    else (if bytes_eq name (codes "b") then Some B else None)
 
 -- a processor before those of the words behind it, where these are processors
 abbrev pub before : ℕ → Option (List ℕ) → Option (List ℕ)
@@ -25,7 +29,8 @@ before cpu (Some cpus) = Some (cpu ∷ cpus)
 -- the processors that words list, where each word is a number
 abbrev pub named_cpus : List (List ℕ) → Option (List ℕ)
 named_cpus [] = Some []
-named_cpus (word ∷ words) = option_map_or (λ n. before (cpu_of n) (named_cpus words)) (number_in_word word) None
+named_cpus (word ∷ words) =
+    option_map_or (λ n. before (cpu_of n) (named_cpus words)) (number_in_word word) None
 
 -- `begin` stands before one processor or more
 abbrev pub begin_in_words : List (List ℕ) → Option PairEvent
@@ -61,11 +66,13 @@ pair_event_of name (word ∷ words) =
     else (if bytes_eq name (codes "report") then report_in_words word words
     else None))
 
--- what a first word and the words behind it ask for: `same` alone, or a replica's name before an event's words
+-- what a first word and the words behind it ask for: `same` alone, or a replica's name before an
+-- event's words
 abbrev pub pair_ask_of : List ℕ → List (List ℕ) → Option PairAsk
 pair_ask_of first [] = if bytes_eq first (codes "same") then Some Same else None
 pair_ask_of first (name ∷ words) =
-    option_map_or (λ side. option_map_or (λ event. Some (Of side event)) (pair_event_of name words) None)
+    option_map_or
+    (λ side. option_map_or (λ event. Some (Of side event)) (pair_event_of name words) None)
     (side_of first) None
 
 -- what a line of a pair asks for

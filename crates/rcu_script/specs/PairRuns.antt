@@ -11,7 +11,8 @@ use Rattle.rcu_script.specs.RunEnds.{RunsFromOpening}
 use Rattle.rcu_script.specs.declared.runs.Setup.{Setup}
 use Rattle.rcu_script.specs.declared.runs.RunFault.{RunFault}
 
--- the first fault of two trees, by that of each: fanouts are tested of both before the number of processors is
+-- the first fault of two trees, by that of each: fanouts are tested of both before the number of
+-- processors is
 abbrev pub first_of_both : Option Fault → Option Fault → Option Fault
 first_of_both None second = second
 first_of_both first None = first
@@ -30,7 +31,8 @@ or_last_fault None last = if not (is_last last) then Some BadLast else None
 
 -- the first fault of a pair over the trees of these fanouts
 abbrev pub trees_fault : ℕ → ℕ → ℕ → ℕ → ℕ → Number → Option Fault
-trees_fault leaf inner leaf2 inner2 cpus last = or_last_fault (shapes_fault leaf inner leaf2 inner2 cpus) last
+trees_fault leaf inner leaf2 inner2 cpus last =
+    or_last_fault (shapes_fault leaf inner leaf2 inner2 cpus) last
 
 -- the first fault of a setup whose first pair of fanouts is offered and is this one
 abbrev pub fault_beside : ℕ → ℕ → Setup → Option Fault
@@ -44,4 +46,5 @@ pair_fault setup = if not (is_offered setup.leaf setup.inner) then Some BadFanou
 
 -- how a run of a setup ends: what is written is the one right text
 abbrev pub RunsPair : Result (Unit {0}) RunFault → Setup → Ends → Ends → Type 0
-RunsPair result setup old new = RunsFromOpening result (pair_fault setup) (IsPairText (size_of_setup setup)) old new
+RunsPair result setup old new =
+    RunsFromOpening result (pair_fault setup) (IsPairText (size_of_setup setup)) old new

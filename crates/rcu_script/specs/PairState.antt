@@ -5,13 +5,15 @@ use Rattle.rcu_seq.specs.Seq.{number_of}
 use Rattle.rcu_seq.specs.declared.fault.Fault.{Fault}
 use Rattle.rcu_seq.specs.declared.fault.Fault.TheVariants.{BadCpu}
 use Rattle.rcu_node.specs.CpuSet.{listed, size_of}
-use Rattle.rcu_report.specs.Replica.{Replicated, Call, answer_of, at_first, cpus_of, after_call, refusal}
+use Rattle.rcu_report.specs.Replica.{Replicated, Call, answer_of, at_first, cpus_of, after_call}
+use Rattle.rcu_report.specs.Replica.{refusal}
 use Rattle.rcu_report.specs.Replica as call
 use Rattle.rcu_core.specs.Replies.{Size}
 use Rattle.rcu_script.specs.declared.pair.event.Side.{Side}
 use Rattle.rcu_script.specs.declared.pair.event.Side.TheVariants.{A, B}
 use Rattle.rcu_script.specs.declared.pair.event.PairEvent.{PairEvent}
-use Rattle.rcu_script.specs.declared.pair.event.PairEvent.TheVariants.{Begin, Report, Depart, End, Awaits, Merge}
+use Rattle.rcu_script.specs.declared.pair.event.PairEvent.TheVariants.{Begin, Report, Depart, End}
+use Rattle.rcu_script.specs.declared.pair.event.PairEvent.TheVariants.{Awaits, Merge}
 use Rattle.rcu_script.specs.declared.pair.event.PairReply.{PairReply}
 use Rattle.rcu_script.specs.declared.pair.event.PairReply.TheVariants as reply
 
@@ -43,7 +45,8 @@ with_own B p r = record p { b = r }
 abbrev pub set_of : ℕ → List ℕ → List Bool
 set_of n cpus = listed n (λ cpu. list_any (λ c. c == cpu) cpus)
 
--- why a begin of the listed processors is refused, if it is: one of them is none, or else as the replica's begin
+-- why a begin of the listed processors is refused, if it is: one of them is none, or else as the
+-- replica's begin
 abbrev pub pair_begin_refusal : Replicated → List ℕ → Option Fault
 pair_begin_refusal mine cpus =
     if not (list_all (λ c. nat_lt c (cpus_of mine)) cpus) then Some BadCpu
@@ -70,7 +73,8 @@ after_event mine its Merge = after_call mine (call.Merge its)
 -- the reply to an accepted event, by what it leaves
 abbrev pub event_reply : Replicated → Replicated → PairEvent → PairReply
 event_reply mine its (Begin cpus) =
-    let left = after_event mine its (Begin cpus) in reply.Begun (number_of left.periods) (size_of left.awaited)
+    let left = after_event mine its (Begin cpus) in
+    reply.Begun (number_of left.periods) (size_of left.awaited)
 event_reply mine its (Report cpu tag) = reply.Answer (answer_of mine cpu tag)
 event_reply mine its (Depart cpu) = reply.Departed
 event_reply mine its End = reply.Ended (number_of (after_event mine its End).periods)

@@ -1,5 +1,6 @@
 -- The one right text that answers the lines of a pair.
-use Rattle.std.specs.Prelude.{◌≡◌, ℕ, Bool, true, false, List, [], ◌∷◌, ◌++◌, length, codes, Option, Some, None}
+use Rattle.std.specs.Prelude.{◌≡◌, ℕ, Bool, true, false, List, [], ◌∷◌, ◌++◌, length, codes, Option}
+use Rattle.std.specs.Prelude.{Some, None}
 use Rattle.rcu_seq.specs.declared.fault.Fault.{Fault}
 use Rattle.rcu_seq.specs.declared.fault.Fault.TheVariants.{BadLine}
 use Rattle.rcu_node.specs.CpuSet.{is_in}
@@ -12,12 +13,14 @@ use Rattle.rcu_text.specs.Texts.{numbered_text}
 use Rattle.rcu_text.specs.declared.line_shape.Line.{Line}
 use Rattle.rcu_text.specs.declared.line_shape.Line.TheVariants.{Blank, Malformed, Ask}
 use Rattle.rcu_script.specs.PairLines.{pair_asked_by}
-use Rattle.rcu_script.specs.PairState.{Pair, after_event, other, own, pair_at, event_refusal, event_reply, with_own}
+use Rattle.rcu_script.specs.PairState.{Pair, after_event, other, own, pair_at, event_refusal}
+use Rattle.rcu_script.specs.PairState.{event_reply, with_own}
 use Rattle.rcu_script.specs.ScriptTexts.{text_of}
 use Rattle.rcu_script.specs.declared.pair.event.PairAsk.{PairAsk}
 use Rattle.rcu_script.specs.declared.pair.event.PairAsk.TheVariants.{Same, Of}
 use Rattle.rcu_script.specs.declared.pair.event.PairReply.{PairReply}
-use Rattle.rcu_script.specs.declared.pair.event.PairReply.TheVariants.{Begun, Answer, Departed, Ended, Awaits, Merged}
+use Rattle.rcu_script.specs.declared.pair.event.PairReply.TheVariants.{Begun, Answer, Departed}
+use Rattle.rcu_script.specs.declared.pair.event.PairReply.TheVariants.{Ended, Awaits, Merged}
 
 -- the processors of a set, ascending
 abbrev pub members_of : List Bool → List ℕ
@@ -53,7 +56,8 @@ answer_to_line p Malformed = text_of (say.Fault BadLine)
 answer_to_line p (Ask Same) = same_text p
 answer_to_line p (Ask (Of side event)) =
     let mine = own side p in let its = other side p in
-    outcome_text (event_refusal mine its event) (after_event mine its event).awaited (event_reply mine its event)
+    outcome_text (event_refusal mine its event) (after_event mine its event).awaited
+    (event_reply mine its event)
 
 -- the replica after an event: a refused one changes nothing
 abbrev pub replica_after : Option Fault → Replicated → Replicated → Replicated
@@ -76,7 +80,8 @@ pair_after p (line ∷ lines) = pair_after (pair_after_line p (pair_asked_by lin
 abbrev pub pair_replies : Pair → List (List ℕ) → List ℕ
 pair_replies p [] = []
 pair_replies p (line ∷ lines) =
-    answer_to_line p (pair_asked_by line) ++ pair_replies (pair_after_line p (pair_asked_by line)) lines
+    answer_to_line p (pair_asked_by line)
+    ++ pair_replies (pair_after_line p (pair_asked_by line)) lines
 
 -- the text is the one right text of the lines, on two fresh replicas of a size
 abbrev pub IsPairText : Size → List (List ℕ) → List ℕ → Type 0

@@ -20,20 +20,28 @@ use Rattle.rcu_script.specs.ScriptTexts.{text_of}
 use Rattle.rcu_script.specs.declared.runs.RunFault.{RunFault}
 use Rattle.rcu_script.specs.declared.runs.Setup.{Setup}
 
--- the text answers one line after a history, and the history goes on to the next one: nothing answers a blank line,
--- `fault 21` a malformed one, and the text of a legal reply a line that asks for an event
+-- the text answers one line after a history, and the history goes on to the next one: nothing
+-- answers a blank line, `fault 21` a malformed one, and the text of a legal reply a line that asks
+-- for an event
 abbrev pub AnswersLine : Size → History → Line Event → List ℕ → History → Type 0
 AnswersLine size h Blank text next = (text ≡ []) × (next ≡ h)
 AnswersLine size h Malformed text next = (text ≡ text_of (reply.Fault fault.BadLine)) × (next ≡ h)
 AnswersLine size h (Ask event) text next =
-    (r : Reply) × IsLegalReply size (situation h) event r × (text ≡ text_of r) × (next ≡ with_event h event r)
+    (r : Reply)
+    × IsLegalReply size (situation h) event r
+    × (text ≡ text_of r)
+    × (next ≡ with_event h event r)
 
 -- the text answers the lines, one after another
 abbrev pub Answers : Size → History → List (List ℕ) → List ℕ → History → Type 0
 Answers size h [] text end = (text ≡ []) × (end ≡ h)
 Answers size h (line ∷ lines) text end =
-    (first : List ℕ) × (next : History) × (rest : List ℕ)
-    × AnswersLine size h (asked_by line) first next × (text ≡ first ++ rest) × Answers size next lines rest end
+    (first : List ℕ)
+    × (next : History)
+    × (rest : List ℕ)
+    × AnswersLine size h (asked_by line) first next
+    × (text ≡ first ++ rest)
+    × Answers size next lines rest end
 
 -- the reply to a line, where memory is not wanted
 abbrev pub reply_to : Size → History → Line Event → List ℕ
@@ -57,7 +65,8 @@ replies size h (line ∷ lines) =
 abbrev pub wants_memory : List ℕ → Bool
 wants_memory text = list_any (bytes_eq (codes "fault 16")) (lines_of text)
 
--- the text answers the lines from the first event on; where no line of it is `fault 16`, it is the one right text
+-- the text answers the lines from the first event on; where no line of it is `fault 16`, it is the
+-- one right text
 pub record IsAnswer (size : Size) (lines : List (List ℕ)) (text : List ℕ) : Type 0 where
   pub end : History
   pub answers : Answers size [] lines text end
@@ -65,4 +74,5 @@ pub record IsAnswer (size : Size) (lines : List (List ℕ)) (text : List ℕ) : 
 
 -- how a run of a setup ends: what is written is an answer to the lines
 abbrev pub RunsScript : Result (Unit {0}) RunFault → Setup → Ends → Ends → Type 0
-RunsScript result setup old new = RunsFromOpening result (opening_fault setup) (IsAnswer (size_of_setup setup)) old new
+RunsScript result setup old new =
+    RunsFromOpening result (opening_fault setup) (IsAnswer (size_of_setup setup)) old new

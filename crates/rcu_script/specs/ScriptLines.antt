@@ -1,16 +1,20 @@
 -- What a line of a script asks for.
-use Rattle.std.specs.Prelude.{ℕ, ◌-◌, ◌^◌, List, [], ◌∷◌, min, codes, if◌then◌else◌, Option, Some, None}
+use Rattle.std.specs.Prelude.{ℕ, ◌-◌, ◌^◌, List, [], ◌∷◌, min, codes, if◌then◌else◌, Option, Some}
+use Rattle.std.specs.Prelude.{None}
 use Rattle.std.specs.Str.{bytes_eq}
 use Rattle.std.specs.Option.{option_map_or}
 use Rattle.rcu_core.specs.declared.event.Event.{Event}
-use Rattle.rcu_core.specs.declared.event.Event.TheVariants.{Enter, Exit, Note, Quiesce, Deliver, Online, Offline, Begin}
-use Rattle.rcu_core.specs.declared.event.Event.TheVariants.{End, Turn, Awaits, Take, StartPoll, Poll, Queue, Tend, Run}
-use Rattle.rcu_core.specs.declared.event.Event.TheVariants.{BarBegin, Visit, BarTest, Renumber, Idle, Wake, Scan}
+use Rattle.rcu_core.specs.declared.event.Event.TheVariants.{Enter, Exit, Note, Quiesce, Deliver}
+use Rattle.rcu_core.specs.declared.event.Event.TheVariants.{Online, Offline, Begin, End, Turn}
+use Rattle.rcu_core.specs.declared.event.Event.TheVariants.{Awaits, Take, StartPoll, Poll, Queue}
+use Rattle.rcu_core.specs.declared.event.Event.TheVariants.{Tend, Run, BarBegin, Visit, BarTest}
+use Rattle.rcu_core.specs.declared.event.Event.TheVariants.{Renumber, Idle, Wake, Scan}
 use Rattle.rcu_text.specs.Lines.{line_by}
 use Rattle.rcu_text.specs.Words.{number_in_word}
 use Rattle.rcu_text.specs.declared.line_shape.Line.{Line}
 
--- the processor of a number: one that does not fit 32 bits is as little a processor as the greatest that does
+-- the processor of a number: one that does not fit 32 bits is as little a processor as the greatest
+-- that does
 abbrev pub cpu_of : ℕ → ℕ
 cpu_of n = min n (2 ^ 32 - 1)
 
@@ -44,8 +48,8 @@ event_with_cpu name cpu =
     else (if bytes_eq name (codes "scan") then Some (Scan cpu)
     else None))))))))))
 
--- the event of a name that stands before a number: a report's place, the number of a cookie of the first epoch, or else
--- a processor
+-- the event of a name that stands before a number: a report's place, the number of a cookie of the
+-- first epoch, or else a processor
 abbrev pub event_with_number : List ℕ → ℕ → Option Event
 event_with_number name n =
     if bytes_eq name (codes "deliver") then Some (Deliver n)
@@ -56,8 +60,8 @@ event_with_number name n =
 abbrev pub event_with_word : List ℕ → List ℕ → Option Event
 event_with_word name word = option_map_or (event_with_number name) (number_in_word word) None
 
--- the event of a name that stands before two numbers: a processor and a callback's value, a processor and how many run
--- at most, or a cookie's number and its epoch
+-- the event of a name that stands before two numbers: a processor and a callback's value, a
+-- processor and how many run at most, or a cookie's number and its epoch
 abbrev pub event_with_numbers : List ℕ → ℕ → ℕ → Option Event
 event_with_numbers name first second =
     if bytes_eq name (codes "queue") then Some (Queue (cpu_of first) second)
@@ -68,7 +72,8 @@ event_with_numbers name first second =
 -- the event of a name and two words, which have to be numbers
 abbrev pub event_with_words : List ℕ → List ℕ → List ℕ → Option Event
 event_with_words name word next =
-    option_map_or (λ first. option_map_or (event_with_numbers name first) (number_in_word next) None)
+    option_map_or
+    (λ first. option_map_or (event_with_numbers name first) (number_in_word next) None)
     (number_in_word word) None
 
 -- the event of a name and the words behind it: the name decides how many they are

@@ -19,19 +19,20 @@ events_of [] = []
 events_of (Ask event ∷ lines) = event ∷ events_of lines
 events_of (_ ∷ lines) = events_of lines
 
--- what is printed where these are the replies to the events that lines ask for: nothing for a blank line, `fault 21` for
--- a malformed one, and for any other the text of its reply
+-- what is printed where these are the replies to the events that lines ask for: nothing for a blank
+-- line, `fault 21` for a malformed one, and for any other the text of its reply
 abbrev pub text_of_replies : List (Line Event) → List Reply → List ℕ
 text_of_replies [] replies = []
 text_of_replies (Blank ∷ lines) replies = text_of_replies lines replies
-text_of_replies (Malformed ∷ lines) replies = text_of (reply.Fault fault.BadLine) ++ text_of_replies lines replies
+text_of_replies (Malformed ∷ lines) replies =
+    text_of (reply.Fault fault.BadLine) ++ text_of_replies lines replies
 text_of_replies (Ask event ∷ lines) [] = []
 text_of_replies (Ask event ∷ lines) (r ∷ replies) = text_of r ++ text_of_replies lines replies
 
--- a run goes on to this history by the events that lines ask for, with a legal reply to each, and these print to the
--- text
-pub record IsPrintedRun (size : Size) (earlier : Run) (lines : List (Line Event)) (text : List ℕ) (end : History)
-    : Type 0 where
+-- a run goes on to this history by the events that lines ask for, with a legal reply to each, and
+-- these print to the text
+pub record IsPrintedRun (size : Size) (earlier : Run) (lines : List (Line Event)) (text : List ℕ)
+    (end : History) : Type 0 where
   pub replies : List Reply
   pub each : length replies ≡ length (events_of lines)
   pub legal : IsLegalRun size (onto (events_of lines) replies earlier)
@@ -39,8 +40,8 @@ pub record IsPrintedRun (size : Size) (earlier : Run) (lines : List (Line Event)
   pub printed : text ≡ text_of_replies lines replies
 
 -- the text answers these lines, and from the history that they end at the later ones
-pub record AnswersInTurn (size : Size) (h : History) (lines later : List (List ℕ)) (text : List ℕ) (end : History)
-    : Type 0 where
+pub record AnswersInTurn (size : Size) (h : History) (lines later : List (List ℕ)) (text : List ℕ)
+    (end : History) : Type 0 where
   pub first : List ℕ
   pub between : History
   pub second : List ℕ

@@ -1,5 +1,6 @@
 -- The texts of replies.
-use Rattle.std.specs.Prelude.{ℕ, ◌==◌, Bool, true, false, List, [], ◌∷◌, ◌++◌, flat_map, codes, decimal, if◌then◌else◌}
+use Rattle.std.specs.Prelude.{ℕ, ◌==◌, Bool, true, false, List, [], ◌∷◌, ◌++◌, flat_map, codes}
+use Rattle.std.specs.Prelude.{decimal, if◌then◌else◌}
 use Rattle.rcu_seq.specs.Fault.{fault_number}
 use Rattle.rcu_seq.specs.declared.cookie.Cookie.{Cookie}
 use Rattle.rcu_node.specs.declared.answer.Answer.{Answer}
@@ -8,10 +9,12 @@ use Rattle.rcu_report.specs.declared.report.Report.{Report}
 use Rattle.rcu_barrier.specs.declared.visit.Visit.{Visit}
 use Rattle.rcu_barrier.specs.declared.visit.Visit.TheVariants.{Marked, Empty, Already}
 use Rattle.rcu_core.specs.declared.reply.Reply.{Reply}
-use Rattle.rcu_core.specs.declared.reply.Reply.TheVariants.{Depth, Noted, Made, Answer as Answered, Online, Moved}
-use Rattle.rcu_core.specs.declared.reply.Reply.TheVariants.{Begun, Ended, Waiting, Nothing, Awaits, Cookie as Told, Polled}
-use Rattle.rcu_core.specs.declared.reply.Reply.TheVariants.{Queued, Tended, Ran, BarBegun, Visited, BarDone, BarWaits}
-use Rattle.rcu_core.specs.declared.reply.Reply.TheVariants.{Renumbered, Idle, Awake, Fault}
+use Rattle.rcu_core.specs.declared.reply.Reply.TheVariants.{Depth, Noted, Made, Answer as Answered}
+use Rattle.rcu_core.specs.declared.reply.Reply.TheVariants.{Online, Moved, Begun, Ended, Waiting}
+use Rattle.rcu_core.specs.declared.reply.Reply.TheVariants.{Nothing, Awaits, Cookie as Told, Polled}
+use Rattle.rcu_core.specs.declared.reply.Reply.TheVariants.{Queued, Tended, Ran, BarBegun, Visited}
+use Rattle.rcu_core.specs.declared.reply.Reply.TheVariants.{BarDone, BarWaits, Renumbered, Idle}
+use Rattle.rcu_core.specs.declared.reply.Reply.TheVariants.{Awake, Fault}
 use Rattle.rcu_text.specs.Texts.{numbered_text, space_and_number}
 
 -- what a processor noted: it is needed where the processor is awaited
@@ -38,7 +41,8 @@ answer_text Stale = codes "stale\n"
 
 -- the grace period that began, and how many processors it awaits
 abbrev pub begun_text : ℕ → ℕ → List ℕ
-begun_text n cpus = codes "begun " ++ (decimal n ++ (codes " awaits " ++ (decimal cpus ++ codes "\n")))
+begun_text n cpus =
+    codes "begun " ++ (decimal n ++ (codes " awaits " ++ (decimal cpus ++ codes "\n")))
 
 -- a word and the numbers that are listed behind it, or `none`
 abbrev pub listed_text : List ℕ → List ℕ → List ℕ
@@ -56,7 +60,8 @@ polled_text false = codes "not yet\n"
 
 -- how many callbacks of a list are done, and how many wait
 abbrev pub tended_text : ℕ → ℕ → List ℕ
-tended_text done waiting = codes "tended " ++ (decimal done ++ (codes " " ++ (decimal waiting ++ codes "\n")))
+tended_text done waiting =
+    codes "tended " ++ (decimal done ++ (codes " " ++ (decimal waiting ++ codes "\n")))
 
 -- the word for what a visit did
 abbrev pub visited_text : Visit → List ℕ

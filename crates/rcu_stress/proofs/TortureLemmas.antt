@@ -16,7 +16,8 @@ pub none_early : (n : ℕ) (calls : List (Queued ℕ)) → All (λ call. HasWait
 none_early n [] waited = omega arith
 none_early n (call ∷ calls) waited =
     let first : ◌≡◌ {A = ℕ} (cond (is_early n call) 1 0) 0 =
-    rw (le-ltb n (snapshot call.at.number) (All-head (λ c. HasWaited n c.at) call calls waited).1) in
+    rw
+    (le-ltb n (snapshot call.at.number) (All-head (λ c. HasWaited n c.at) call calls waited).1) in
     let rest = none_early n calls (All-tail (λ c. HasWaited n c.at) call calls waited) in
     omega (arith, sum_by-cons (λ c. cond (is_early n c) 1 0) call calls, first, rest)
 
@@ -28,5 +29,6 @@ all_below n = λ k d inside.
     omega (arith, at, inside, long)
 
 -- what all are, the first ones are
-pub first_ones_are : {X : Type 0} (P : X → Type 0) (n : ℕ) (xs ys : List X) → ys ≡ take n xs → All P xs → All P ys
+pub first_ones_are : {X : Type 0} (P : X → Type 0) (n : ℕ) (xs ys : List X)
+    → ys ≡ take n xs → All P xs → All P ys
 first_ones_are P n xs ys is each = rw is (All-take P n xs each)

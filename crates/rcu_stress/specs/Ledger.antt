@@ -1,6 +1,6 @@
 -- What workers did: the share of each, and the ledger over all of them.
-use Rattle.std.specs.Prelude.{ℕ, ◌+◌, ◌-◌, ◌*◌, ◌≤◌, ◌==◌, Bool, List, [], ◌∷◌, ◌++◌, count_by, if◌then◌else◌, length}
-use Rattle.std.specs.Prelude.{map, nat_lt, sum_by}
+use Rattle.std.specs.Prelude.{ℕ, ◌+◌, ◌-◌, ◌*◌, ◌≤◌, ◌==◌, Bool, List, [], ◌∷◌, ◌++◌, count_by}
+use Rattle.std.specs.Prelude.{if◌then◌else◌, length, map, nat_lt, sum_by}
 use Rattle.std.specs.List.{flat_map}
 use Rattle.std.specs.Set.{distinct_count}
 use Rattle.rcu_seq.specs.Numbers.{Number, snapshot}
@@ -13,8 +13,8 @@ most_workers = 64
 abbrev pub most_rounds : ℕ
 most_rounds = 10000
 
--- a share: how many callbacks were queued, how often something came early, the ids of the callbacks that were handed
--- out, in order, and for how many more of them there is room
+-- a share: how many callbacks were queued, how often something came early, the ids of the callbacks
+-- that were handed out, in order, and for how many more of them there is room
 pub record Counts : Type 0 where
   pub queued : ℕ
   pub early : ℕ
@@ -25,8 +25,9 @@ pub record Counts : Type 0 where
 abbrev pub most_in_round : ℕ
 most_in_round = 8
 
--- what a worker counts in so many rounds, at most: a callback queued and a cookie that came early in each, and so many
--- handed out after each queueing. A callback that is handed out never comes early
+-- what a worker counts in so many rounds, at most: a callback queued and a cookie that came early
+-- in each, and so many handed out after each queueing. A callback that is handed out never comes
+-- early
 pub record IsOfRounds (rounds : ℕ) (s : Counts) : Type 0 where
   pub queued : s.queued ≤ rounds
   pub early : s.early ≤ rounds
@@ -40,7 +41,8 @@ ran_of s = length s.ids
 abbrev pub after_poll : Counts → Bool → Counts
 after_poll s done = record s { early = s.early + (if done then 1 else 0) }
 
--- whether a callback that was handed out at this number came early: the snapshot of its queueing is above the number
+-- whether a callback that was handed out at this number came early: the snapshot of its queueing is
+-- above the number
 abbrev pub is_early : Number → Queued ℕ → Bool
 is_early number call = nat_lt number (snapshot call.at.number)
 

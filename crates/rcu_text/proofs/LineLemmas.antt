@@ -1,6 +1,6 @@
 -- What is kept of a line.
-use Rattle.std.proofs.Common.{◌≡◌, ◌⊎◌, inl, inr, ◌<◌, ◌≤◌, ◌+◌, ℕ, false, List, [], ◌∷◌, ◌++◌, length, take, refl, sym}
-use Rattle.std.proofs.Common.{ap, ◌∙◌, arith, append-nil, min}
+use Rattle.std.proofs.Common.{◌≡◌, ◌⊎◌, inl, inr, ◌<◌, ◌≤◌, ◌+◌, ℕ, false, List, [], ◌∷◌, ◌++◌}
+use Rattle.std.proofs.Common.{length, take, refl, sym, ap, ◌∙◌, arith, append-nil, min}
 use Rattle.std.proofs.lemmas.List.{take-append-le, length-take-le, take_all, take_min}
 use Rattle.std.proofs.lemmas.Bool.{cases_lt}
 use Rattle.std.proofs.lemmas.Bool.Decides.{nat_tests}
@@ -9,12 +9,13 @@ use Rattle.std.specs.Prelude.{nat_le, Option}
 use Rattle.rcu_text.specs.Lines.{is_well_formed, kept_of, line_by}
 
 -- as many bytes more as there is room for
-pub kept_more : (line more : List ℕ) (room n : ℕ) → room + length line ≡ 81 → n ≡ min (length more) room
+pub kept_more : (line more : List ℕ) (room n : ℕ)
+    → room + length line ≡ 81 → n ≡ min (length more) room
     → line ++ take n more ≡ take 81 (line ++ more)
 kept_more line more room n full least =
     let count : 81 ≡ length line + room = omega arith in
-    let same : take n more ≡ take room more = ap (λ (k : ℕ). take k more) (least ∙ min_swap (length more) room)
-    ∙ take_min room more in
+    let same : take n more ≡ take room more =
+    ap (λ (k : ℕ). take k more) (least ∙ min_swap (length more) room) ∙ take_min room more in
     ap (λ (l : List ℕ). line ++ l) same ∙ sym (take-append-add line more room)
     ∙ ap (λ (k : ℕ). take k (line ++ more)) (sym count)
   where
@@ -24,11 +25,13 @@ kept_more line more room n full least =
 -- what is kept of a line's front decides what is kept of the line
 pub kept_again : (line more : List ℕ) → kept_of (kept_of line ++ more) ≡ kept_of (line ++ more)
 kept_again line more =
-    elim (cases_lt (length line) 81) as (λ _. kept_of (kept_of line ++ more) ≡ kept_of (line ++ more)) [
+    elim (cases_lt (length line) 81) as
+    (λ _. kept_of (kept_of line ++ more) ≡ kept_of (line ++ more)) [
       | inl short ↦ ap (λ (l : List ℕ). kept_of (l ++ more)) (take_all 81 line (omega arith))
       | inr long ↦
           let full : length (kept_of line) ≡ 81 = length-take-le 81 line long in
-          take-append-le 81 (kept_of line) more (omega arith) ∙ take_all 81 (kept_of line) (omega arith)
+          take-append-le 81 (kept_of line) more (omega arith)
+          ∙ take_all 81 (kept_of line) (omega arith)
           ∙ sym (take-append-le 81 line more long)
     ]
 
@@ -65,11 +68,13 @@ nothing_kept [] e = refl
 nothing_kept (b ∷ bs) e = absurd (omega arith)
 
 kept_twice : (line : List ℕ) → kept_of (kept_of line) ≡ kept_of line
-kept_twice line = ap kept_of (sym (append-nil (kept_of line))) ∙ kept_again line [] ∙ ap kept_of (append-nil line)
+kept_twice line =
+    ap kept_of (sym (append-nil (kept_of line))) ∙ kept_again line [] ∙ ap kept_of (append-nil line)
 
 -- of the line that these bytes end the same is kept
-pub kept_begun : (begun line longer front slice : List ℕ) → line ≡ kept_of begun → longer ≡ kept_of (line ++ front)
-    → slice ≡ longer → kept_of slice ≡ kept_of (begun ++ front)
+pub kept_begun : (begun line longer front slice : List ℕ)
+    → line ≡ kept_of begun → longer ≡ kept_of (line ++ front) → slice ≡ longer
+    → kept_of slice ≡ kept_of (begun ++ front)
 kept_begun begun line longer front slice k e s =
     ap kept_of (s ∙ e) ∙ kept_twice (line ++ front) ∙ ap (λ (l : List ℕ). kept_of (l ++ front)) k
     ∙ kept_again begun front
@@ -81,7 +86,8 @@ nothing_begun begun line front k none =
     ap (λ (l : List ℕ). kept_of (l ++ front)) (sym (nothing_kept begun (sym (ap length k) ∙ none)))
 
 -- of a line that has no end the same is kept
-pub kept_whole : (begun line slice : List ℕ) → line ≡ kept_of begun → slice ≡ line → kept_of slice ≡ kept_of begun
+pub kept_whole : (begun line slice : List ℕ) → line ≡ kept_of begun → slice ≡ line
+    → kept_of slice ≡ kept_of begun
 kept_whole begun line slice k s = ap kept_of (s ∙ k) ∙ kept_twice begun
 
 -- lines of which the same is kept are the same to whoever parses them

@@ -1,7 +1,8 @@
 -- Printed numbers read back.
-use Rattle.std.proofs.Common.{◌≡◌, ◌∙◌, ◌<◌, ◌≤◌, ◌+◌, ◌*◌, ◌-◌, ◌/◌, ◌%◌, ◌^◌, ◌&&◌, ℕ, zero, suc, Bool, true, false}
-use Rattle.std.proofs.Common.{List, [], ◌∷◌, ◌++◌, length, replicate, take, drop, Some, None, Result, Ok, Err}
-use Rattle.std.proofs.Common.{refl, sym, ap, ap₂, arith, length-append, length-drop, take-append-drop, if◌then◌else◌}
+use Rattle.std.proofs.Common.{◌≡◌, ◌∙◌, ◌<◌, ◌≤◌, ◌+◌, ◌*◌, ◌-◌, ◌/◌, ◌%◌, ◌^◌, ◌&&◌, ℕ, zero, suc}
+use Rattle.std.proofs.Common.{Bool, true, false, List, [], ◌∷◌, ◌++◌, length, replicate, take, drop}
+use Rattle.std.proofs.Common.{Some, None, Result, Ok, Err, refl, sym, ap, ap₂, arith, length-append}
+use Rattle.std.proofs.Common.{length-drop, take-append-drop, if◌then◌else◌}
 use Rattle.std.specs.Prelude.{decimal, nat_le, nat_lt}
 use Rattle.std.specs.List.{list_all}
 use Rattle.std.specs.Result.{OkIff, result_ok}
@@ -29,7 +30,8 @@ spells_one n low = record {
   some = omega arith;
 }
 
-spells_more : (n : ℕ) (digits : List ℕ) → 10 ≤ n → Spells (n / 10) digits → Spells n (digits ++ (48 + n % 10) ∷ [])
+spells_more : (n : ℕ) (digits : List ℕ) → 10 ≤ n → Spells (n / 10) digits
+    → Spells n (digits ++ (48 + n % 10) ∷ [])
 spells_more n digits many s =
     let low : n % 10 < 10 = omega arith in
     let last = digit (n % 10) low in
@@ -46,11 +48,13 @@ spells_more n digits many s =
 spells : (n : ℕ) → n < 2 ^ 64 → Spells n (decimal n)
 spells n fits = decimal_by_steps Spells spells_one spells_more n fits
 
-zeros_only : (zeros : ℕ) (digits : List ℕ) → list_all is_digit (replicate zeros 48 ++ digits) ≡ list_all is_digit digits
+zeros_only : (zeros : ℕ) (digits : List ℕ)
+    → list_all is_digit (replicate zeros 48 ++ digits) ≡ list_all is_digit digits
 zeros_only zero digits = refl
 zeros_only (suc zeros) digits = zeros_only zeros digits
 
-zeros_value : (zeros : ℕ) (digits : List ℕ) → value_of (replicate zeros 48 ++ digits) ≡ value_of digits
+zeros_value : (zeros : ℕ) (digits : List ℕ)
+    → value_of (replicate zeros 48 ++ digits) ≡ value_of digits
 zeros_value zero digits = refl
 zeros_value (suc zeros) digits = zeros_value zeros digits
 
@@ -61,13 +65,19 @@ reads_back zeros n fits short =
     let word = replicate zeros 48 ++ decimal n in
     let only : list_all is_digit word ≡ true = zeros_only zeros (decimal n) ∙ s.only in
     let value : value_of word ≡ n = zeros_value zeros (decimal n) ∙ s.value in
-    let count : length word ≡ zeros + length (decimal n) = length-append (replicate zeros 48) (decimal n)
+    let count : length word ≡ zeros + length (decimal n) =
+    length-append (replicate zeros 48) (decimal n)
     ∙ ap (λ (k : ℕ). k + length (decimal n)) (length-replicate zeros 48) in
     let some = s.some in
     spelled word n only value (omega arith) (omega arith) fits
   where
-    spelled : (word : List ℕ) (n : ℕ) → list_all is_digit word ≡ true → value_of word ≡ n → 0 < length word
-        → length word ≤ 20 → n < 2 ^ 64 → number_in_word word ≡ Some n
+    spelled : (word : List ℕ) (n : ℕ)
+        → list_all is_digit word ≡ true
+        → value_of word ≡ n
+        → 0 < length word
+        → length word ≤ 20
+        → n < 2 ^ 64
+        → number_in_word word ≡ Some n
     spelled word n only value some short fits =
         let a : nat_lt 0 (length word) ≡ true = grind (arith, nat_tests) in
         let b : nat_le (length word) 20 ≡ true = grind (arith, nat_tests) in
@@ -115,7 +125,8 @@ long_digits word = ap (list_all is_digit) (sym (take-append-drop 19 word))
     ∙ list_all-append is_digit (take 19 word) (drop 19 word)
 
 -- a value that was found is that of digits
-found_digits : (ds : List ℕ) (n : ℕ) → Some n ≡ (if list_all is_digit ds then Some (value_of ds) else None)
+found_digits : (ds : List ℕ) (n : ℕ)
+    → Some n ≡ (if list_all is_digit ds then Some (value_of ds) else None)
     → (list_all is_digit ds ≡ true) × (n ≡ value_of ds)
 found_digits ds n found = go (list_all is_digit ds) refl found
   where
@@ -125,15 +136,21 @@ found_digits ds n found = go (list_all is_digit ds) refl found
     go false e found = cc
 
 -- the number of 20 digits, read as 19 and one more
-pub long_read : {E : Type 0} (word front last : List ℕ) (a b c d : ℕ) (t : Result ℕ E) → length word ≡ 20
-    → front ≡ take 19 word → last ≡ drop 19 word
+pub long_read : {E : Type 0} (word front last : List ℕ) (a b c d : ℕ) (t : Result ℕ E)
+    → length word ≡ 20
+    → front ≡ take 19 word
+    → last ≡ drop 19 word
     → Some a ≡ (if list_all is_digit front then Some (value_of front) else None)
     → Some b ≡ (if list_all is_digit last then Some (value_of last) else None)
-    → c ≡ a → d ≡ b → OkIff t (10 * c + d < 2 ^ 64) (10 * c + d) → result_ok t ≡ number_in_word word
+    → c ≡ a
+    → d ≡ b
+    → OkIff t (10 * c + d < 2 ^ 64) (10 * c + d)
+    → result_ok t ≡ number_in_word word
 long_read word front last a b c d t n of_front of_last first later wide wide2 h =
     let f = found_digits front a first in
     let l = found_digits last b later in
-    let f0 : list_all is_digit (take 19 word) ≡ true = ap (list_all is_digit) (sym of_front) ∙ f.0 in
+    let f0 : list_all is_digit (take 19 word) ≡ true =
+    ap (list_all is_digit) (sym of_front) ∙ f.0 in
     let l0 : list_all is_digit (drop 19 word) ≡ true = ap (list_all is_digit) (sym of_last) ∙ l.0 in
     let f1 : a ≡ value_of (take 19 word) = f.1 ∙ ap value_of of_front in
     let l1 : b ≡ value_of (drop 19 word) = l.1 ∙ ap value_of of_last in
@@ -143,13 +160,15 @@ long_read word front last a b c d t n of_front of_last first later wide wide2 h 
     let y : nat_le (length word) 20 ≡ true = grind (arith, nat_tests) in
     rw (x, y, e) (by_fit t h same)
   where
-    by_fit : {E : Type 0} (t : Result ℕ E) → OkIff t (10 * c + d < 2 ^ 64) (10 * c + d) → 10 * c + d ≡ value_of word
+    by_fit : {E : Type 0} (t : Result ℕ E)
+        → OkIff t (10 * c + d < 2 ^ 64) (10 * c + d) → 10 * c + d ≡ value_of word
         → result_ok t ≡ (if nat_lt (value_of word) (2 ^ 64) then Some (value_of word) else None)
     by_fit (Ok v) h same =
         let fits : nat_lt (value_of word) (2 ^ 64) ≡ true = grind (arith, nat_tests) in
         rw fits (ap (λ (k : ℕ). Some k) (h.1 ∙ same))
     by_fit (Err e) h same = go (nat_lt (value_of word) (2 ^ 64)) refl
       where
-        go : (u : Bool) → nat_lt (value_of word) (2 ^ 64) ≡ u → None ≡ (if u then Some (value_of word) else None)
+        go : (u : Bool) → nat_lt (value_of word) (2 ^ 64) ≡ u
+            → None ≡ (if u then Some (value_of word) else None)
         go false f = refl
         go true f = absurd (h (grind (arith, nat_tests)))

@@ -1,6 +1,6 @@
 -- The first byte that passes a test.
-use Rattle.std.proofs.Common.{◌≡◌, ◌≢◌, ◌==◌, ◌<◌, ◌≤◌, ℕ, suc, Bool, true, false, not, List, [], ◌∷◌, length}
-use Rattle.std.proofs.Common.{take, drop, Option, refl, ap, ◌∙◌, arith}
+use Rattle.std.proofs.Common.{◌≡◌, ◌≢◌, ◌==◌, ◌<◌, ◌≤◌, ℕ, suc, Bool, true, false, not, List, []}
+use Rattle.std.proofs.Common.{◌∷◌, length, take, drop, Option, refl, ap, ◌∙◌, arith}
 use Rattle.std.proofs.lemmas.Bool.Decides.{nat_tests}
 use Rattle.std.proofs.lemmas.List.Elements.{All-cons, All-nil}
 use Rattle.std.proofs.lemmas.List.Sums.{prefix_len-le-length}
@@ -12,7 +12,8 @@ pub place_fits : (p : ℕ → Bool) (xs : List ℕ) → position_or_len p xs ≤
 place_fits p xs = prefix_len-le-length (λ x. not (p x)) xs
 
 -- where there is none, the length stands for it
-pub place_or_length : (p : ℕ → Bool) (xs : List ℕ) → unwrap_or (position p xs) (length xs) ≡ position_or_len p xs
+pub place_or_length : (p : ℕ → Bool) (xs : List ℕ)
+    → unwrap_or (position p xs) (length xs) ≡ position_or_len p xs
 place_or_length p xs = go (nat_lt (position_or_len p xs) (length xs)) refl
   where
     go : (t : Bool) → nat_lt (position_or_len p xs) (length xs) ≡ t
@@ -63,7 +64,8 @@ front_open (b ∷ bs) = go (is_end b) refl (front_open bs)
     go false e ih = let n = place_later b bs e in
         rw n (All-cons (λ x. x ≢ 10) b (take (end_place bs) bs) (no_end b e) ih)
 
-end_stands : (bs : List ℕ) → end_place bs < length bs → drop (end_place bs) bs ≡ 10 ∷ drop 1 (drop (end_place bs) bs)
+end_stands : (bs : List ℕ) → end_place bs < length bs
+    → drop (end_place bs) bs ≡ 10 ∷ drop 1 (drop (end_place bs) bs)
 end_stands [] lt = absurd (omega arith)
 end_stands (b ∷ bs) lt = go (is_end b) refl lt (end_stands bs)
   where

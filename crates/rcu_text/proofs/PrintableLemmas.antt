@@ -1,6 +1,6 @@
 -- A line is printable where its words are, so who knows all words has no need to look at each byte.
-use Rattle.std.proofs.Common.{◌≡◌, ◌==◌, ◌&&◌, ◌∙◌, ℕ, Bool, true, false, cond, List, [], ◌∷◌, Option, Some, None, refl}
-use Rattle.std.proofs.Common.{sym, ap, arith, if◌then◌else◌}
+use Rattle.std.proofs.Common.{◌≡◌, ◌==◌, ◌&&◌, ◌∙◌, ℕ, Bool, true, false, cond, List, [], ◌∷◌}
+use Rattle.std.proofs.Common.{Option, Some, None, refl, sym, ap, arith, if◌then◌else◌}
 use Rattle.std.proofs.Math.Bool.{and_assoc}
 use Rattle.std.specs.List.{list_all, onto_first, slice_split}
 use Rattle.std.specs.Prelude.{filter}
@@ -24,15 +24,20 @@ space_printable b e =
     let same : b ≡ 32 = grind (arith, nat_tests) in
     rw same refl
 
-parts_printable : (bs : List ℕ) → list_all is_word (slice_split (λ b. b == 32) bs) ≡ list_all is_printable bs
+parts_printable : (bs : List ℕ)
+    → list_all is_word (slice_split (λ b. b == 32) bs) ≡ list_all is_printable bs
 parts_printable [] = refl
 parts_printable (b ∷ bs) = go (b == 32) refl (parts_printable bs)
   where
-    go : (t : Bool) → (b == 32) ≡ t → list_all is_word (slice_split (λ c. c == 32) bs) ≡ list_all is_printable bs
-        → list_all is_word (cond t ([] ∷ slice_split (λ c. c == 32) bs)
-        (onto_first b (slice_split (λ c. c == 32) bs))) ≡ (is_printable b && list_all is_printable bs)
+    go : (t : Bool)
+        → (b == 32) ≡ t
+        → list_all is_word (slice_split (λ c. c == 32) bs) ≡ list_all is_printable bs
+        → list_all is_word
+        (cond t ([] ∷ slice_split (λ c. c == 32) bs) (onto_first b (slice_split (λ c. c == 32) bs)))
+        ≡ (is_printable b && list_all is_printable bs)
     go true e ih = let p = space_printable b e in rw p ih
-    go false e ih = onto_word b (slice_split (λ c. c == 32) bs) ∙ ap (λ (t : Bool). is_printable b && t) ih
+    go false e ih =
+        onto_word b (slice_split (λ c. c == 32) bs) ∙ ap (λ (t : Bool). is_printable b && t) ih
 
 filter_words : (ws : List (List ℕ)) → list_all is_word (filter has_byte ws) ≡ list_all is_word ws
 filter_words [] = refl
@@ -40,7 +45,8 @@ filter_words ([] ∷ ws) = filter_words ws
 filter_words ((b ∷ bs) ∷ ws) = ap (λ (t : Bool). is_word (b ∷ bs) && t) (filter_words ws)
 
 -- a line is printable where each of its words is
-pub words_printable : (line : List ℕ) → list_all is_printable line ≡ list_all is_word (words_of line)
+pub words_printable : (line : List ℕ)
+    → list_all is_printable line ≡ list_all is_word (words_of line)
 words_printable line = sym (filter_words (slice_split (λ b. b == 32) line) ∙ parts_printable line)
 
 digit_printable : (b : ℕ) → is_digit b ≡ true → is_printable b ≡ true
@@ -66,16 +72,20 @@ number_printable word n found = go (is_number word) refl found
     all_three true false c d e = cc
     all_three false b c d e = cc
 
-    go : (t : Bool) → is_number word ≡ t → (if t then Some (value_of word) else None) ≡ Some n → is_word word ≡ true
+    go : (t : Bool) → is_number word ≡ t → (if t then Some (value_of word) else None) ≡ Some n
+        → is_word word ≡ true
     go true e found = digits_printable word (all_three _ _ (list_all is_digit word) _ e)
     go false e found = cc
 
 -- a name that something is found by, among printable names, is printable
-pub named : {E : Type 0} (found : E) (text name : List ℕ) (x : E) (rest : Option E) → is_word text ≡ true
-    → (rest ≡ Some found → is_word name ≡ true) → (if bytes_eq name text then Some x else rest) ≡ Some found
+pub named : {E : Type 0} (found : E) (text name : List ℕ) (x : E) (rest : Option E)
+    → is_word text ≡ true
+    → (rest ≡ Some found → is_word name ≡ true)
+    → (if bytes_eq name text then Some x else rest) ≡ Some found
     → is_word name ≡ true
 named found text name x rest printable later e = go (bytes_eq name text) refl e
   where
-    go : (t : Bool) → bytes_eq name text ≡ t → (if t then Some x else rest) ≡ Some found → is_word name ≡ true
+    go : (t : Bool) → bytes_eq name text ≡ t → (if t then Some x else rest) ≡ Some found
+        → is_word name ≡ true
     go true is e = ap is_word ((bytes_eq-Decides name text).0 is) ∙ printable
     go false is e = later e

@@ -1,12 +1,14 @@
 -- A run between two reads, and at its end.
-use Rattle.std.proofs.Common.{◌≡◌, ◌<◌, ◌≤◌, ◌+◌, ◌-◌, ◌^◌, ℕ, true, List, [], ◌∷◌, ◌++◌, length, take, Option, Some}
-use Rattle.std.proofs.Common.{None, refl, sym, ap, ◌∙◌, subst, arith, append-nil, append_assoc, length-append, IfSome}
+use Rattle.std.proofs.Common.{◌≡◌, ◌<◌, ◌≤◌, ◌+◌, ◌-◌, ◌^◌, ℕ, true, List, [], ◌∷◌, ◌++◌, length}
+use Rattle.std.proofs.Common.{take, Option, Some, None, refl, sym, ap, ◌∙◌, subst, arith}
+use Rattle.std.proofs.Common.{append-nil, append_assoc, length-append, IfSome}
 use Rattle.std.proofs.KnownBytes.{Consumes-nil, Consumes-trans, Consumes-kept, Consumes-whole}
 use Rattle.std.proofs.lemmas.List.{length-take-le}
 use Rattle.std.specs.Io.KnownBytes.{Consumes, Keeps, IsAtEnd}
 use Rattle.rcu_text.specs.Lines.{cut_of, lines_of, lines_read}
 use Rattle.rcu_text.specs.Outputs.{Out, Sends, Stops}
-use Rattle.rcu_text.specs.Runs.{Answered, BrokenOff, Finished, StoppedReading, StoppedWriting, ends_of}
+use Rattle.rcu_text.specs.Runs.{Answered, BrokenOff, Finished, StoppedReading, StoppedWriting}
+use Rattle.rcu_text.specs.Runs.{ends_of}
 use Rattle.rcu_text.specs.Streams.{Incoming}
 use Rattle.rcu_text.specs.Underway.{LinesAreAnswered, StoppedAmong, Underway}
 use Rattle.rcu_text.proofs.CutLemmas.{ended_among_lines}
@@ -17,15 +19,15 @@ abbrev Past : Type 1
 Past = List (List ℕ) → List ℕ → Type 0
 
 -- the reads so far gave these bytes, and their lines are answered
-pub record Midway (past : List (List ℕ) → List ℕ → Type 0) (source_old source_new : Option (List ℕ)) (old new : Out)
-    (line : List ℕ) (turns : ℕ) : Type 0 where
+pub record Midway (past : List (List ℕ) → List ℕ → Type 0) (source_old source_new : Option (List ℕ))
+    (old new : Out) (line : List ℕ) (turns : ℕ) : Type 0 where
   pub bytes : List ℕ
   pub read : Consumes source_old source_new bytes
   pub underway : Underway past old new line bytes
   pub count : turns ≤ length bytes
 
-pub midway_start : (past : Past) (s : Option (List ℕ)) (a : Out) (line : List ℕ) → past [] [] → line ≡ []
-    → Midway past s s a a line 0
+pub midway_start : (past : Past) (s : Option (List ℕ)) (a : Out) (line : List ℕ)
+    → past [] [] → line ≡ [] → Midway past s s a a line 0
 unfolding cut_of
 midway_start past s a line told begun = record {
   bytes = [];
@@ -37,9 +39,13 @@ midway_start past s a line told begun = record {
   count = omega arith;
 }
 
-pub midway_next : (past later : Past) (s0 s1 s2 : Option (List ℕ)) (a b c : Out) (line next : List ℕ) (turns n : ℕ)
-    (block piece : List ℕ)
-    → Midway past s0 s1 a b line turns → Consumes s1 s2 (take n block) → 0 < n → n ≤ length block → piece ≡ take n block
+pub midway_next : (past later : Past) (s0 s1 s2 : Option (List ℕ)) (a b c : Out)
+    (line next : List ℕ) (turns n : ℕ) (block piece : List ℕ)
+    → Midway past s0 s1 a b line turns
+    → Consumes s1 s2 (take n block)
+    → 0 < n
+    → n ≤ length block
+    → piece ≡ take n block
     → ((bytes : List ℕ) → Underway past a b line bytes → Underway later a c next (bytes ++ piece))
     → Midway later s0 s2 a c next (turns + 1)
 midway_next past later s0 s1 s2 a b c line next turns n block piece m r some fit e go =
@@ -61,7 +67,8 @@ nothing_more s0 s1 s2 bytes block n r none q =
 
 -- a read of nothing is the end of the input
 pub whole_input : (s0 s1 s2 : Option (List ℕ)) (bytes block : List ℕ) (n : ℕ) (P : List ℕ → Type 0)
-    → Consumes s0 s1 bytes → n ≡ 0 → Consumes s1 s2 (take n block) → IsAtEnd s2 → P bytes → IfSome s0 P
+    → Consumes s0 s1 bytes → n ≡ 0 → Consumes s1 s2 (take n block) → IsAtEnd s2 → P bytes
+    → IfSome s0 P
 whole_input s0 s1 s2 bytes block n P r none q end p =
     Consumes-whole s0 s2 bytes P (nothing_more s0 s1 s2 bytes block n r none q) end p
 
@@ -72,8 +79,9 @@ pub answered : (past : Past) (lines : List (List ℕ)) (a b : Out) → a.waiting
 answered past lines a b before after s =
     record { text = s.text; answer = s.told; out = Sends-taken a b s.text before after s.out }
 
-pub broken_off : (past : Past) (front later all : List (List ℕ)) (a b : Out) → all ≡ front ++ later → a.waiting ≡ []
-    → LinesAreAnswered past front (Stops a b) → BrokenOff past all a.writer.taken b.writer.taken
+pub broken_off : (past : Past) (front later all : List (List ℕ)) (a b : Out)
+    → all ≡ front ++ later → a.waiting ≡ [] → LinesAreAnswered past front (Stops a b)
+    → BrokenOff past all a.writer.taken b.writer.taken
 broken_off past front later all a b split before s = record {
   front = front;
   later = later;
@@ -102,7 +110,10 @@ read_failed past r0 r1 r2 a b line turns m before after k e = record {
 -- as many reads as there are gave too many bytes
 
 pub reads_over : (past : Past) (r0 r1 : Incoming) (a b : Out) (line : List ℕ) (turns : ℕ)
-    → Midway past r0.remaining r1.remaining a b line turns → a.waiting ≡ [] → b.waiting ≡ [] → 2 ^ 64 - 1 ≤ turns
+    → Midway past r0.remaining r1.remaining a b line turns
+    → a.waiting ≡ []
+    → b.waiting ≡ []
+    → 2 ^ 64 - 1 ≤ turns
     → StoppedReading past (ends_of r0 a.writer) (ends_of r1 b.writer)
 reads_over past r0 r1 a b line turns m before after most = record {
   bytes = m.bytes;
@@ -113,10 +124,15 @@ reads_over past r0 r1 a b line turns m before after most = record {
 }
 
 -- the input is over, and all is answered
-pub finished : (past later : Past) (r0 r1 r2 : Incoming) (a b c : Out) (line block : List ℕ) (turns n : ℕ)
+pub finished : (past later : Past) (r0 r1 r2 : Incoming) (a b c : Out) (line block : List ℕ)
+    (turns n : ℕ)
     → (m : Midway past r0.remaining r1.remaining a b line turns) → n ≡ 0
-    → Consumes r1.remaining r2.remaining (take n block) → IsAtEnd r2.remaining
-    → LinesAreAnswered later (lines_of m.bytes) (Sends a c) → a.waiting ≡ [] → c.waiting ≡ [] → r2.failed ≡ r0.failed
+    → Consumes r1.remaining r2.remaining (take n block)
+    → IsAtEnd r2.remaining
+    → LinesAreAnswered later (lines_of m.bytes) (Sends a c)
+    → a.waiting ≡ []
+    → c.waiting ≡ []
+    → r2.failed ≡ r0.failed
     → Finished later (ends_of r0 a.writer) (ends_of r2 c.writer)
 finished past later r0 r1 r2 a b c line block turns n m zero q end s before after e = record {
   read_whole = end;
@@ -129,16 +145,21 @@ finished past later r0 r1 r2 a b c line block turns n m zero q end s before afte
 }
 
 -- at the end of the input all lines were read whole
-read_to_end : (bytes : List ℕ) (left : Option (List ℕ)) → IsAtEnd left → lines_read bytes left ≡ lines_of bytes
+read_to_end : (bytes : List ℕ) (left : Option (List ℕ)) → IsAtEnd left
+    → lines_read bytes left ≡ lines_of bytes
 read_to_end bytes None end = refl
 read_to_end bytes (Some []) end = refl
 read_to_end bytes (Some (b ∷ left)) end = absurd (omega (arith, ap length end))
 
 -- the input is over, and the writer failed
-pub finish_failed : (past later : Past) (r0 r1 r2 : Incoming) (a b c : Out) (line block : List ℕ) (turns n : ℕ)
+pub finish_failed : (past later : Past) (r0 r1 r2 : Incoming) (a b c : Out) (line block : List ℕ)
+    (turns n : ℕ)
     → (m : Midway past r0.remaining r1.remaining a b line turns) → n ≡ 0
-    → Consumes r1.remaining r2.remaining (take n block) → IsAtEnd r2.remaining
-    → LinesAreAnswered later (lines_of m.bytes) (Stops a c) → a.waiting ≡ [] → r2.failed ≡ r0.failed
+    → Consumes r1.remaining r2.remaining (take n block)
+    → IsAtEnd r2.remaining
+    → LinesAreAnswered later (lines_of m.bytes) (Stops a c)
+    → a.waiting ≡ []
+    → r2.failed ≡ r0.failed
     → StoppedWriting later (ends_of r0 a.writer) (ends_of r2 c.writer)
 finish_failed past later r0 r1 r2 a b c line block turns n m zero q end s before e = record {
   bytes = m.bytes;
@@ -168,10 +189,14 @@ broken_among past left a c bytes before s =
     broken_off past s.front (s.later ++ k.0) (lines_read bytes left) a c split before s.stands
 
 -- the writer failed in the answers to a piece
-pub piece_failed : (past later : Past) (r0 r1 r2 : Incoming) (a b c : Out) (line block piece : List ℕ) (turns n : ℕ)
-    → (m : Midway past r0.remaining r1.remaining a b line turns) → Consumes r1.remaining r2.remaining (take n block)
+pub piece_failed : (past later : Past) (r0 r1 r2 : Incoming) (a b c : Out)
+    (line block piece : List ℕ) (turns n : ℕ)
+    → (m : Midway past r0.remaining r1.remaining a b line turns)
+    → Consumes r1.remaining r2.remaining (take n block)
     → piece ≡ take n block
-    → StoppedAmong later (cut_of (m.bytes ++ piece)).ended (Stops a c) → a.waiting ≡ [] → r2.failed ≡ r0.failed
+    → StoppedAmong later (cut_of (m.bytes ++ piece)).ended (Stops a c)
+    → a.waiting ≡ []
+    → r2.failed ≡ r0.failed
     → StoppedWriting later (ends_of r0 a.writer) (ends_of r2 c.writer)
 piece_failed past later r0 r1 r2 a b c line block piece turns n m q e s before same = record {
   bytes = m.bytes ++ piece;

@@ -13,8 +13,9 @@ pub record TakesFront (old new : Outgoing) (bytes rest : List ℕ) : Type 0 wher
   pub sound : new.failed ≡ old.failed
 
 -- a front of the rest is taken
-pub takes_more : (a b c : Outgoing) (bytes rest : List ℕ) (n : ℕ) → TakesFront a b bytes rest
-    → Appends b.taken c.taken (take n rest) → c.failed ≡ b.failed → TakesFront a c bytes (drop n rest)
+pub takes_more : (a b c : Outgoing) (bytes rest : List ℕ) (n : ℕ)
+    → TakesFront a b bytes rest → Appends b.taken c.taken (take n rest) → c.failed ≡ b.failed
+    → TakesFront a c bytes (drop n rest)
 takes_more a b c bytes rest n t more still = record {
   front = t.front ++ take n rest;
   whole = t.whole ∙ ap (λ (l : List ℕ). t.front ++ l) (sym (take-append-drop n rest))

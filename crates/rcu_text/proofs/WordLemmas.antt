@@ -1,6 +1,6 @@
 -- The first word of a line, and the rest.
-use Rattle.std.proofs.Common.{◌≡◌, ◌==◌, ◌<◌, ℕ, suc, Bool, true, false, List, [], ◌∷◌, take, drop, refl, ap, ◌∙◌}
-use Rattle.std.proofs.Common.{arith}
+use Rattle.std.proofs.Common.{◌≡◌, ◌==◌, ◌<◌, ℕ, suc, Bool, true, false, List, [], ◌∷◌, take, drop}
+use Rattle.std.proofs.Common.{refl, ap, ◌∙◌, arith}
 use Rattle.std.specs.Prelude.{filter}
 use Rattle.std.specs.List.{slice_split, position_or_len}
 use Rattle.rcu_text.specs.Words.{words_of, has_byte}
@@ -23,13 +23,16 @@ len_at_space b bs e = rw e refl
 len_else : (b : ℕ) (bs : List ℕ) → space b ≡ false → first_len (b ∷ bs) ≡ suc (first_len bs)
 len_else b bs e = rw e (omega arith)
 
-split_first : (bs : List ℕ) → slice_split space bs ≡ take (first_len bs) bs ∷ later_parts (drop (first_len bs) bs)
+split_first : (bs : List ℕ)
+    → slice_split space bs ≡ take (first_len bs) bs ∷ later_parts (drop (first_len bs) bs)
 split_first [] = refl
 split_first (b ∷ bs) = go (space b) refl (split_first bs)
   where
-    go : (t : Bool) → space b ≡ t → slice_split space bs ≡ take (first_len bs) bs ∷ later_parts (drop (first_len bs) bs)
-        → slice_split space (b ∷ bs) ≡ take (first_len (b ∷ bs)) (b ∷ bs) ∷ later_parts
-        (drop (first_len (b ∷ bs)) (b ∷ bs))
+    go : (t : Bool)
+        → space b ≡ t
+        → slice_split space bs ≡ take (first_len bs) bs ∷ later_parts (drop (first_len bs) bs)
+        → slice_split space (b ∷ bs)
+        ≡ take (first_len (b ∷ bs)) (b ∷ bs) ∷ later_parts (drop (first_len (b ∷ bs)) (b ∷ bs))
     go true e ih =
         let n = len_at_space b bs e in
         rw n (rw e refl)
@@ -37,7 +40,8 @@ split_first (b ∷ bs) = go (space b) refl (split_first bs)
         let n = len_else b bs e in
         rw n (rw (e, ih) refl)
 
-words_later : (bs : List ℕ) → filter has_byte (later_parts (drop (first_len bs) bs)) ≡ words_of (drop (first_len bs) bs)
+words_later : (bs : List ℕ)
+    → filter has_byte (later_parts (drop (first_len bs) bs)) ≡ words_of (drop (first_len bs) bs)
 words_later [] = refl
 words_later (b ∷ bs) = go (space b) refl (words_later bs)
   where
@@ -71,5 +75,7 @@ pub words_first : (bs : List ℕ) (n : ℕ) → n ≡ position_or_len (λ b. b =
     → words_of bs ≡ take n bs ∷ words_of (drop n bs)
 words_first bs n e lt =
     let some : 0 < first_len bs = omega arith in
-    rw e (ap (filter has_byte) (split_first bs) ∙ word_there bs (later_parts (drop (first_len bs) bs)) some
+    rw e
+    (ap (filter has_byte) (split_first bs)
+    ∙ word_there bs (later_parts (drop (first_len bs) bs)) some
     ∙ ap (λ (ws : List (List ℕ)). take (first_len bs) bs ∷ ws) (words_later bs))

@@ -4,8 +4,8 @@ use Rattle.std.specs.Borrow.{GName}
 use Rattle.std.specs.Io.KnownBytes.{Appends}
 use Rattle.rcu_text.specs.Streams.{Outgoing}
 
--- the writer, the bytes that wait for it, how many more may wait, and which writer it is: a name that
--- tells one borrowed writer from another
+-- the writer, the bytes that wait for it, how many more may wait, and which writer it is: a name
+-- that tells one borrowed writer from another
 pub record Out : Type 0 where
   pub writer : Outgoing
   pub waiting : List ℕ
@@ -18,7 +18,10 @@ waiting_for writer name room = record { writer = writer; waiting = []; room = ro
 
 -- with the text behind what waits
 abbrev pub after_put_text : Out → List ℕ → Out
-after_put_text out text = record out { waiting = out.waiting ++ text; room = out.room - length text }
+after_put_text out text = record out {
+  waiting = out.waiting ++ text;
+  room = out.room - length text;
+}
 
 -- the text went behind what waited: the writer took a front of these bytes, and the others wait
 pub record Sends (old new : Out) (text : List ℕ) : Type 0 where

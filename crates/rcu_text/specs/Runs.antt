@@ -1,6 +1,7 @@
--- What a run over the lines of a reader answers and leaves. Which texts answer which lines is a relation `IsText`
--- throughout.
-use Rattle.std.specs.Prelude.{◌≡◌, ◌<◌, ◌^◌, ◌-◌, ◌++◌, ℕ, true, List, length, Option, Result, Ok, Err, IfSome}
+-- What a run over the lines of a reader answers and leaves. Which texts answer which lines is a
+-- relation `IsText` throughout.
+use Rattle.std.specs.Prelude.{◌≡◌, ◌<◌, ◌^◌, ◌-◌, ◌++◌, ℕ, true, List, length, Option, Result, Ok}
+use Rattle.std.specs.Prelude.{Err, IfSome}
 use Rattle.std.specs.Io.KnownBytes.{Appends, Consumes, IsAtEnd}
 use Rattle.rcu_text.specs.Lines.{cut_of, lines_of, lines_read}
 use Rattle.rcu_text.specs.Streams.{Incoming, Outgoing}
@@ -44,12 +45,13 @@ pub record BegunToWrite (text : List ℕ) (old new : Option (List ℕ)) : Type 0
 -- the input was read to its end, and all its lines are answered
 pub record Finished (IsText : List (List ℕ) → List ℕ → Type 0) (old new : Ends) : Type 0 where
   pub read_whole : IsAtEnd new.reader.remaining
-  pub answered : IfSome old.reader.remaining (λ bytes. Answered IsText (lines_of bytes) old.writer.taken new.writer.taken)
+  pub answered : IfSome old.reader.remaining
+      (λ bytes. Answered IsText (lines_of bytes) old.writer.taken new.writer.taken)
   pub read_sound : new.reader.failed ≡ old.reader.failed
   pub write_sound : new.writer.failed ≡ old.writer.failed
 
--- a read failed, and the lines that were read whole are answered. Only after 2^64 - 1 bytes does a run stop so
--- although no read failed
+-- a read failed, and the lines that were read whole are answered. Only after 2^64 - 1 bytes does a
+-- run stop so although no read failed
 pub record StoppedReading (IsText : List (List ℕ) → List ℕ → Type 0) (old new : Ends) : Type 0 where
   pub bytes : List ℕ
   pub read : Consumes old.reader.remaining new.reader.remaining bytes
@@ -61,12 +63,14 @@ pub record StoppedReading (IsText : List (List ℕ) → List ℕ → Type 0) (ol
 pub record StoppedWriting (IsText : List (List ℕ) → List ℕ → Type 0) (old new : Ends) : Type 0 where
   pub bytes : List ℕ
   pub read : Consumes old.reader.remaining new.reader.remaining bytes
-  pub broken : BrokenOff IsText (lines_read bytes new.reader.remaining) old.writer.taken new.writer.taken
+  pub broken : BrokenOff IsText (lines_read bytes new.reader.remaining) old.writer.taken
+      new.writer.taken
   pub failed : new.writer.failed ≡ true
   pub read_sound : new.reader.failed ≡ old.reader.failed
 
 -- how a run over the lines of a reader ends
-abbrev pub RunsThrough : Result (Unit {0}) StreamFault → (List (List ℕ) → List ℕ → Type 0) → Ends → Ends → Type 0
+abbrev pub RunsThrough : Result (Unit {0}) StreamFault
+    → (List (List ℕ) → List ℕ → Type 0) → Ends → Ends → Type 0
 RunsThrough (Ok x) IsText old new = Finished IsText old new
 RunsThrough (Err Read) IsText old new = StoppedReading IsText old new
 RunsThrough (Err Write) IsText old new = StoppedWriting IsText old new

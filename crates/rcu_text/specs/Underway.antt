@@ -1,14 +1,14 @@
--- Lines on their way: read in part, answered in part, written in part. What holds of the lines that were answered and
--- the text that answered them is a relation `past` throughout.
+-- Lines on their way: read in part, answered in part, written in part. What holds of the lines that
+-- were answered and the text that answered them is a relation `past` throughout.
 use Rattle.std.specs.Prelude.{◌≡◌, ℕ, List, [], ◌∷◌, ◌++◌, Result, MatchResult}
 use Rattle.rcu_text.specs.Lines.{cut_of, kept_of}
 use Rattle.rcu_text.specs.Outputs.{Out, Sends, Stops}
 
--- the line is answered by a reply that went out in this way: whatever held of the lines and the text before, for
--- whoever was opened, holds now with the line and the reply behind them. Of the line only what is kept of it makes a
--- difference
-pub record LineIsAnswered {S : Type 0} (before after : S → List (List ℕ) → List ℕ → Type 0) (line : List ℕ)
-    (went : List ℕ → Type 0) : Type 0 where
+-- the line is answered by a reply that went out in this way: whatever held of the lines and the
+-- text before, for whoever was opened, holds now with the line and the reply behind them. Of the
+-- line only what is kept of it makes a difference
+pub record LineIsAnswered {S : Type 0} (before after : S → List (List ℕ) → List ℕ → Type 0)
+    (line : List ℕ) (went : List ℕ → Type 0) : Type 0 where
   pub reply : List ℕ
   pub out : went reply
   pub told : (opened : S) (lines : List (List ℕ)) (text whole : List ℕ) → before opened lines text
@@ -22,15 +22,17 @@ pub record LinesAreAnswered (past : List (List ℕ) → List ℕ → Type 0) (li
   pub told : past lines text
   pub out : went text
 
--- behind these lines and their text one line more was answered, by a reply that went out in this way
-pub record OneMoreIsAnswered (past : List (List ℕ) → List ℕ → Type 0) (lines : List (List ℕ)) (text line : List ℕ)
-    (went : List ℕ → Type 0) : Type 0 where
+-- behind these lines and their text one line more was answered, by a reply that went out in this
+-- way
+pub record OneMoreIsAnswered (past : List (List ℕ) → List ℕ → Type 0) (lines : List (List ℕ))
+    (text line : List ℕ) (went : List ℕ → Type 0) : Type 0 where
   pub reply : List ℕ
   pub told : past (lines ++ line ∷ []) (text ++ reply)
   pub out : went reply
 
 -- of the bytes so far, the ended lines are answered, and of the rest what is kept is in hand
-pub record Underway (past : List (List ℕ) → List ℕ → Type 0) (old new : Out) (line bytes : List ℕ) : Type 0 where
+pub record Underway (past : List (List ℕ) → List ℕ → Type 0) (old new : Out)
+    (line bytes : List ℕ) : Type 0 where
   pub stands : LinesAreAnswered past (cut_of bytes).ended (Sends old new)
   pub holds : line ≡ kept_of (cut_of bytes).rest
 
@@ -43,7 +45,8 @@ pub record StoppedAmong (past : List (List ℕ) → List ℕ → Type 0) (lines 
   pub stands : LinesAreAnswered past front went
 
 -- the lines that these bytes end are answered, or the writer failed in an answer to a front of them
-abbrev pub GoesOn : {X E : Type 0} → Result X E → (List (List ℕ) → List ℕ → Type 0) → Out → Out → List ℕ → List ℕ
-    → Type 0
+abbrev pub GoesOn : {X E : Type 0}
+    → Result X E → (List (List ℕ) → List ℕ → Type 0) → Out → Out → List ℕ → List ℕ → Type 0
 GoesOn r past old new line bytes =
-    MatchResult r (λ _. Underway past old new line bytes) (λ _. StoppedAmong past (cut_of bytes).ended (Stops old new))
+    MatchResult r (λ _. Underway past old new line bytes)
+    (λ _. StoppedAmong past (cut_of bytes).ended (Stops old new))

@@ -1,6 +1,7 @@
 -- The words of a line, and the numbers among them.
-use Rattle.std.specs.Prelude.{ℕ, ◌+◌, ◌-◌, ◌*◌, ◌^◌, ◌==◌, ◌&&◌, Bool, true, false, List, [], ◌∷◌, length, filter, fold}
-use Rattle.std.specs.Prelude.{nat_lt, nat_le, if◌then◌else◌, Option, Some, None}
+use Rattle.std.specs.Prelude.{ℕ, ◌+◌, ◌-◌, ◌*◌, ◌^◌, ◌==◌, ◌&&◌, Bool, true, false, List, [], ◌∷◌}
+use Rattle.std.specs.Prelude.{length, filter, fold, nat_lt, nat_le, if◌then◌else◌, Option, Some}
+use Rattle.std.specs.Prelude.{None}
 use Rattle.std.specs.List.{slice_split, list_all}
 
 -- it has a byte
@@ -23,7 +24,8 @@ value_of digits = fold (λ n b. 10 * n + (b - 48)) 0 digits
 -- a number: 1 to 20 digits whose value fits 64 bits; leading zeros may stand
 abbrev pub is_number : List ℕ → Bool
 is_number word =
-    nat_lt 0 (length word) && (nat_le (length word) 20 && (list_all is_digit word && nat_lt (value_of word) (2 ^ 64)))
+    nat_lt 0 (length word)
+    && (nat_le (length word) 20 && (list_all is_digit word && nat_lt (value_of word) (2 ^ 64)))
 
 -- the number that a word spells
 abbrev pub number_in_word : List ℕ → Option ℕ

@@ -14,18 +14,22 @@ use Rattle.rcu_command.specs.declared.command.Order.TheVariants.{Script, Pair, T
 use Rattle.rcu_stress.specs.Ledger.{Account}
 use Rattle.rcu_torture.specs.LedgerText.{ledger_text}
 
--- the ledger of a run with a share for each worker was printed, or the writer failed in its lines; at a fault nothing
--- was
+-- the ledger of a run with a share for each worker was printed, or the writer failed in its lines;
+-- at a fault nothing was
 abbrev pub PrintsRun : Result (Unit {0}) RunFault → ℕ → ℕ → Outgoing → Outgoing → Type 0
 PrintsRun (Ok x) workers rounds old new =
-    (ledger : Account) × (length ledger.shares ≡ workers) × Takes old new (ledger_text workers rounds ledger)
+    (ledger : Account)
+    × (length ledger.shares ≡ workers)
+    × Takes old new (ledger_text workers rounds ledger)
 PrintsRun (Err Read) workers rounds old new = ⊥
 PrintsRun (Err Write) workers rounds old new =
-    (ledger : Account) × (length ledger.shares ≡ workers) × BreaksOff old new (ledger_text workers rounds ledger)
+    (ledger : Account)
+    × (length ledger.shares ≡ workers)
+    × BreaksOff old new (ledger_text workers rounds ledger)
 PrintsRun (Err (Open fault)) workers rounds old new = new ≡ old
 
--- it was done as the order says: the lines were answered as those of a script, or of a pair; or nothing was read, and
--- the ledger of a torture run was printed
+-- it was done as the order says: the lines were answered as those of a script, or of a pair; or
+-- nothing was read, and the ledger of a torture run was printed
 abbrev pub Answers : Result (Unit {0}) RunFault → Order → Ends → Ends → Type 0
 Answers ran (Script setup) old new = RunsScript ran setup old new
 Answers ran (Pair setup) old new = RunsPair ran setup old new
@@ -43,15 +47,18 @@ TellsFault fault (Err Read) old new = ⊥
 TellsFault fault (Err Write) old new = BreaksOff old new (fault_line fault)
 TellsFault fault (Err (Open told)) old new = (told ≡ fault) × Takes old new (fault_line fault)
 
--- a run that ended so was told: the fault for which it was refused is printed, and of any other end nothing
-abbrev pub Tells : Result (Unit {0}) RunFault → Result (Unit {0}) RunFault → Outgoing → Outgoing → Type 0
+-- a run that ended so was told: the fault for which it was refused is printed, and of any other end
+-- nothing
+abbrev pub Tells : Result (Unit {0}) RunFault → Result (Unit {0}) RunFault → Outgoing → Outgoing
+    → Type 0
 Tells (Ok x) result old new = (result ≡ Ok x) × (new ≡ old)
 Tells (Err Read) result old new = (result ≡ Err Read) × (new ≡ old)
 Tells (Err Write) result old new = (result ≡ Err Write) × (new ≡ old)
 Tells (Err (Open fault)) result old new = TellsFault fault result old new
 
 -- the order was performed: it was done, which ended so, and then that was told
-pub record Performs (result : Result (Unit {0}) RunFault) (order : Order) (old new : Ends) : Type 0 where
+pub record Performs (result : Result (Unit {0}) RunFault) (order : Order)
+    (old new : Ends) : Type 0 where
   pub ran : Result (Unit {0}) RunFault
   pub between : Ends
   pub answered : Answers ran order old between

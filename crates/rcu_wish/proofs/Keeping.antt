@@ -1,6 +1,7 @@
 -- The rule where the view of one end changes: what the others keep.
-use Rattle.std.proofs.Common.{◌≡◌, ◌≢◌, ◌⊎◌, ℕ, zero, suc, ◌<◌, ◌≤◌, List, [], ◌∷◌, ◌++◌, length, get_or, set, true, false}
-use Rattle.std.proofs.Common.{Bool, inl, inr, refl, sym, ap, ◌∙◌, subst, ⊎_elim, arith}
+use Rattle.std.proofs.Common.{◌≡◌, ◌≢◌, ◌⊎◌, ℕ, zero, suc, ◌<◌, ◌≤◌, List, [], ◌∷◌, ◌++◌, length}
+use Rattle.std.proofs.Common.{get_or, set, true, false, Bool, inl, inr, refl, sym, ap, ◌∙◌, subst}
+use Rattle.std.proofs.Common.{⊎_elim, arith}
 use mathlib.Core.Logic.{dite}
 use mathlib.Core.Option.{some, some-injective, some-ne-none}
 use native.Mathlib.Decide.{ℕ_discrete}
@@ -25,7 +26,10 @@ pub made_still : (s : Moment) → IsKept s → (id : ℕ) (v w : Knowledge) (wor
 made_still s k id v w words at same number =
     let m : IsRaised s = k.made in
     dite (ℕ_discrete m.by id)
-    (λ (e : m.by ≡ id). let is : m.knows ≡ v = some-injective _ _ (sym m.here ∙ ap (λ (i : ℕ). get_elem? s.views i) e ∙ at) in record {
+    (λ (e : m.by ≡ id).
+    let is : m.knows ≡ v =
+    some-injective _ _ (sym m.here ∙ ap (λ (i : ℕ). get_elem? s.views i) e ∙ at) in
+    record {
       by = id;
       knows = w;
       here = set_here s.views id w (inside s.views id v at);
@@ -40,8 +44,12 @@ made_still s k id v w words at same number =
 
 -- one view changes, and words do: the rule is kept where the others fit, and the changed one does
 pub changed : (s : Moment) (k : IsKept s) (id : ℕ) (v w : Knowledge) (words : List ℕ)
-    → get_elem? s.views id ≡ some v → asleep_index < length words → 1 ≤ get_or words 0 0 → w.drives ≡ v.drives
-    → ((j : ℕ) (u : Knowledge) → j ≢ id → get_elem? s.views j ≡ some u → Fits (get_or words 0 0) (get_or words 16 0) u)
+    → get_elem? s.views id ≡ some v
+    → asleep_index < length words
+    → 1 ≤ get_or words 0 0
+    → w.drives ≡ v.drives
+    → ((j : ℕ) (u : Knowledge) → j ≢ id → get_elem? s.views j ≡ some u → Fits (get_or words 0 0)
+    (get_or words 16 0) u)
     → Fits (get_or words 0 0) (get_or words 16 0) w
     → ((j : ℕ) (u : Knowledge) → j ≢ id → get_elem? s.views j ≡ some u → IsTold w u)
     → ((j : ℕ) (u : Knowledge) → j ≢ id → get_elem? s.views j ≡ some u → IsTold u w)
@@ -50,25 +58,37 @@ pub changed : (s : Moment) (k : IsKept s) (id : ℕ) (v w : Knowledge) (words : 
 changed s k id v w words at room least role others mine tells is_told made =
     let old : (j : ℕ) (u : Knowledge) → get_elem? (set s.views id w) j ≡ some u
     → (x : Knowledge) × (get_elem? s.views j ≡ some x) × (x.drives ≡ u.drives) =
-    λ j u here. ⊎_elim
-    (λ (t : (j ≡ id) × (w ≡ u)). (v, ap (λ (i : ℕ). get_elem? s.views i) t.0 ∙ at, sym role ∙ ap (λ (x : Knowledge). x.drives) t.1))
+    λ j u here.
+    ⊎_elim
+    (λ (t : (j ≡ id) × (w ≡ u)). (
+      v,
+      ap (λ (i : ℕ). get_elem? s.views i) t.0 ∙ at,
+      sym role ∙ ap (λ (x : Knowledge). x.drives) t.1,
+    ))
     (λ (t : (j ≢ id) × (get_elem? s.views j ≡ some u)). (u, t.1, refl))
-    (at_set s.views id j w u here) in record {
+    (at_set s.views id j w u here) in
+    record {
       room = room;
-      fits = λ j u here. ⊎_elim
-          (λ (t : (j ≡ id) × (w ≡ u)). subst (λ (y : Knowledge). Fits (get_or words 0 0) (get_or words 16 0) y) t.1 mine)
+      fits = λ j u here.
+          ⊎_elim
+          (λ (t : (j ≡ id) × (w ≡ u)).
+          subst (λ (y : Knowledge). Fits (get_or words 0 0) (get_or words 16 0) y) t.1 mine)
           (λ (t : (j ≢ id) × (get_elem? s.views j ≡ some u)). others j u t.0 t.1)
           (at_set s.views id j w u here);
       lone = λ i j a b here there da db.
           let x = old i a here in
           let y = old j b there in k.lone i j x.0 y.0 x.1 y.1 (x.2 ∙ da) (y.2 ∙ db);
-      told = λ i j a b here there. ⊎_elim
-          (λ (t : (i ≡ id) × (w ≡ a)). ⊎_elim
-          (λ (r : (j ≡ id) × (w ≡ b)). both_told a b (sym t.1 ∙ r.1))
-          (λ (r : (j ≢ id) × (get_elem? s.views j ≡ some b)). subst (λ (y : Knowledge). IsTold y b) t.1 (tells j b r.0 r.1))
+      told = λ i j a b here there.
+          ⊎_elim
+          (λ (t : (i ≡ id) × (w ≡ a)).
+          ⊎_elim (λ (r : (j ≡ id) × (w ≡ b)). both_told a b (sym t.1 ∙ r.1))
+          (λ (r : (j ≢ id) × (get_elem? s.views j ≡ some b)).
+          subst (λ (y : Knowledge). IsTold y b) t.1 (tells j b r.0 r.1))
           (at_set s.views id j w b there))
-          (λ (t : (i ≢ id) × (get_elem? s.views i ≡ some a)). ⊎_elim
-          (λ (r : (j ≡ id) × (w ≡ b)). subst (λ (y : Knowledge). IsTold a y) r.1 (is_told i a t.0 t.1))
+          (λ (t : (i ≢ id) × (get_elem? s.views i ≡ some a)).
+          ⊎_elim
+          (λ (r : (j ≡ id) × (w ≡ b)).
+          subst (λ (y : Knowledge). IsTold a y) r.1 (is_told i a t.0 t.1))
           (λ (r : (j ≢ id) × (get_elem? s.views j ≡ some b)). k.told i j a b t.1 r.1)
           (at_set s.views id j w b there))
           (at_set s.views id i w a here);
@@ -78,7 +98,8 @@ changed s k id v w words at room least role others mine tells is_told made =
   where
     both_told : (a b : Knowledge) → a ≡ b → IsTold a b
     both_told a b e drives asleep looked not_drives tlooked less =
-        absurd (true_or_false b.drives (sym (ap (λ (x : Knowledge). x.drives) e) ∙ drives) not_drives)
+        absurd
+        (true_or_false b.drives (sym (ap (λ (x : Knowledge). x.drives) e) ∙ drives) not_drives)
 
 -- a thread's view comes in
 pub dealt : (s : Moment) → IsKept s
@@ -106,16 +127,19 @@ dealt s k = added
     added : IsKept record { words = s.words; homes = s.homes; views = new }
     added = record {
       room = k.room;
-      fits = λ j u here. ⊎_elim
-          (λ (e : get_elem? s.views j ≡ some u). k.fits j u e)
-          (λ (e : t ≡ u). subst (λ (y : Knowledge). Fits (get_or s.words 0 0) (get_or s.words 16 0) y) e fresh)
+      fits = λ j u here. ⊎_elim (λ (e : get_elem? s.views j ≡ some u). k.fits j u e)
+          (λ (e : t ≡ u).
+          subst (λ (y : Knowledge). Fits (get_or s.words 0 0) (get_or s.words 16 0) y) e fresh)
           (at_snoc s.views t u j here);
-      lone = λ i j a b here there da db. ⊎_elim
-          (λ (e : get_elem? s.views i ≡ some a). ⊎_elim
-          (λ (f : get_elem? s.views j ≡ some b). k.lone i j a b e f da db)
-          (λ (f : t ≡ b). absurd (true_or_false b.drives db (sym (ap (λ (x : Knowledge). x.drives) f))))
+      lone = λ i j a b here there da db.
+          ⊎_elim
+          (λ (e : get_elem? s.views i ≡ some a).
+          ⊎_elim (λ (f : get_elem? s.views j ≡ some b). k.lone i j a b e f da db)
+          (λ (f : t ≡ b).
+          absurd (true_or_false b.drives db (sym (ap (λ (x : Knowledge). x.drives) f))))
           (at_snoc s.views t b j there))
-          (λ (e : t ≡ a). absurd (true_or_false a.drives da (sym (ap (λ (x : Knowledge). x.drives) e))))
+          (λ (e : t ≡ a).
+          absurd (true_or_false a.drives da (sym (ap (λ (x : Knowledge). x.drives) e))))
           (at_snoc s.views t a i here);
       told = λ i j a b here there. ⊎_elim
           (λ (e : get_elem? s.views i ≡ some a). ⊎_elim
@@ -134,11 +158,19 @@ dealt s k = added
     }
 
 -- who raised the greatest wish, where that is one that the sleeping driver did not find
-pub woken : (s : Moment) (id : ℕ) (driver : Knowledge) → IsKept s → get_elem? s.views id ≡ some driver
-    → driver.drives ≡ true → driver.asleep ≡ true → driver.has_looked ≡ true
+pub woken : (s : Moment) (id : ℕ) (driver : Knowledge)
+    → IsKept s
+    → get_elem? s.views id ≡ some driver
+    → driver.drives ≡ true
+    → driver.asleep ≡ true
+    → driver.has_looked ≡ true
     → driver.found < get_or s.words 0 0
-    → (at : ℕ) × (thread : Knowledge) × (get_elem? s.views at ≡ some thread) × (thread.drives ≡ false)
-    × (thread.raised ≡ get_or s.words 0 0) × (thread.has_looked ≡ true → thread.asleep ≡ true)
+    → (at : ℕ)
+    × (thread : Knowledge)
+    × (get_elem? s.views at ≡ some thread)
+    × (thread.drives ≡ false)
+    × (thread.raised ≡ get_or s.words 0 0)
+    × (thread.has_looked ≡ true → thread.asleep ≡ true)
 woken s id driver k at drives asleep looked under =
     let m : IsRaised s = k.made in
     let is : m.knows.raised ≡ get_or s.words 0 0 = m.is in
@@ -148,7 +180,8 @@ woken s id driver k at drives asleep looked under =
       m.here,
       other,
       is,
-      λ has_looked. k.told id m.by driver m.knows at m.here drives asleep looked other has_looked (omega (arith, is, under)),
+      λ has_looked. k.told id m.by driver m.knows at m.here drives asleep looked other has_looked
+          (omega (arith, is, under)),
     )
   where
     not_driver : (b : Bool) → k.made.knows.drives ≡ b → b ≡ false
@@ -156,7 +189,8 @@ woken s id driver k at drives asleep looked under =
     not_driver true e =
         let m : IsRaised s = k.made in
         let same : m.by ≡ id = k.lone m.by id m.knows driver m.here at e drives in
-        let it : m.knows ≡ driver = some-injective _ _ (sym m.here ∙ ap (λ (i : ℕ). get_elem? s.views i) same ∙ at) in
+        let it : m.knows ≡ driver =
+        some-injective _ _ (sym m.here ∙ ap (λ (i : ℕ). get_elem? s.views i) same ∙ at) in
         let is : m.knows.raised ≡ get_or s.words 0 0 = m.is in
         let own : m.knows.raised ≡ driver.raised = ap (λ (x : Knowledge). x.raised) it in
         let f = k.fits id driver at in

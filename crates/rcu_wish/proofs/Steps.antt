@@ -1,6 +1,7 @@
 -- Each step keeps the rule.
-use Rattle.std.proofs.Common.{◌≡◌, ◌≢◌, ℕ, zero, suc, ◌<◌, ◌≤◌, ◌==◌, Bool, List, [], ◌∷◌, length, get_or, set, true, false, max}
-use Rattle.std.proofs.Common.{nat_lt, refl, sym, ap, ◌∙◌, subst, arith, length-set, if◌then◌else◌, eq-eqb}
+use Rattle.std.proofs.Common.{◌≡◌, ◌≢◌, ℕ, zero, suc, ◌<◌, ◌≤◌, ◌==◌, Bool, List, [], ◌∷◌, length}
+use Rattle.std.proofs.Common.{get_or, set, true, false, max, nat_lt, refl, sym, ap, ◌∙◌, subst}
+use Rattle.std.proofs.Common.{arith, length-set, if◌then◌else◌, eq-eqb}
 use Rattle.std.proofs.lemmas.Bool.{ltb-false, ltb-true}
 use Rattle.std.proofs.lemmas.List.{get_or-set_other, get_or-set_same, set-get_or}
 use mathlib.Core.Option.{some, some-injective, some-ne-none}
@@ -8,8 +9,9 @@ use lib.ListN.{get_elem?}
 use Rattle.atomic_table.specs.Table.{Allows, Enters, Me, keeps, opening}
 use Rattle.atomic_table.proofs.Lists.{set_here}
 use Rattle.rcu_wish.specs.Rule.{Fits, IsKept, IsRaised, IsTold, Moment}
-use Rattle.rcu_wish.specs.Wishes.{Found, Raised, after_finding, after_look_at_driver, after_raise, after_saying, asleep_index}
-use Rattle.rcu_wish.specs.Wishes.{asleep_word, driver_at_first, first_words, thread_at_first}
+use Rattle.rcu_wish.specs.Wishes.{Found, Raised, after_finding, after_look_at_driver, after_raise}
+use Rattle.rcu_wish.specs.Wishes.{after_saying, asleep_index, asleep_word, driver_at_first}
+use Rattle.rcu_wish.specs.Wishes.{first_words, thread_at_first}
 use Rattle.rcu_wish.specs.declared.knowledge.Knowledge.{Knowledge}
 use Rattle.rcu_wish.proofs.Keeping.{changed, dealt, inside, made_still, true_or_false}
 
@@ -30,9 +32,15 @@ fits_up greatest more word same u up is f = let r = f.raised in let g = f.found 
 -- a thread that raises the greatest wish, or finds it to be as great
 abbrev raised_by : Bool → Knowledge → ℕ → ℕ → Knowledge
 raised_by b v cookie n =
-    if b then record v { raised = cookie; found = n; has_looked = false } else record v { found = n }
+    if b
+    then record v { raised = cookie; found = n; has_looked = false }
+    else record v { found = n }
 
-raise_kept : (s : Moment) → IsKept s → (id cookie : ℕ) (v : Knowledge) → get_elem? s.views id ≡ some v → v.drives ≡ false
+raise_kept : (s : Moment)
+    → IsKept s
+    → (id cookie : ℕ) (v : Knowledge)
+    → get_elem? s.views id ≡ some v
+    → v.drives ≡ false
     → (b : Bool) → nat_lt (get_or s.words 0 0) cookie ≡ b
     → IsKept record {
       words = set s.words 0 (max (get_or s.words 0 0) cookie);
@@ -49,21 +57,24 @@ raise_kept s k id cookie v at thread true e =
     let now : get_or words 0 0 ≡ more = get_or-set_same s.words 0 more 0 low in
     let less : n < cookie = ltb-true n cookie e in
     let is : more ≡ cookie = omega (arith, less) in
-    let same : get_or words 16 0 ≡ get_or s.words 16 0 = get_or-set_other s.words 0 16 more 0 (λ x. absurd (omega (arith, x))) in
+    let same : get_or words 16 0 ≡ get_or s.words 16 0 =
+    get_or-set_other s.words 0 16 more 0 (λ x. absurd (omega (arith, x))) in
     let up : n ≤ get_or words 0 0 = omega (arith, now, is, less) in
     let f = k.fits id v at in
     let first = f.raised in
     let least = k.least in
     let w : Knowledge = raised_by true v cookie n in
     changed s k id v w words at (omega (arith, long, room)) (omega (arith, least, up)) refl
-    (λ j u apart here. fits_up n (get_or words 0 0) (get_or s.words 16 0) (get_or words 16 0) u up same (k.fits j u here))
+    (λ j u apart here. fits_up n (get_or words 0 0) (get_or s.words 16 0) (get_or words 16 0) u up
+    same (k.fits j u here))
     (record {
       raised = omega (arith, now, is);
       found = up;
       driver = λ d. absurd (true_or_false v.drives d thread);
       says = λ d. absurd (true_or_false v.drives d thread);
     })
-    (λ j u apart here drives asleep looked not_drives tlooked under. absurd (true_or_false v.drives drives thread))
+    (λ j u apart here drives asleep looked not_drives tlooked under.
+    absurd (true_or_false v.drives drives thread))
     (λ j u apart here drives asleep looked not_drives tlooked under. absurd (cc))
     (record {
       by = id;
@@ -81,26 +92,30 @@ raise_kept s k id cookie v at thread false e =
     let now : get_or words 0 0 ≡ more = get_or-set_same s.words 0 more 0 low in
     let less : cookie ≤ n = ltb-false n cookie e in
     let is : more ≡ n = omega (arith, less) in
-    let same : get_or words 16 0 ≡ get_or s.words 16 0 = get_or-set_other s.words 0 16 more 0 (λ x. absurd (omega (arith, x))) in
+    let same : get_or words 16 0 ≡ get_or s.words 16 0 =
+    get_or-set_other s.words 0 16 more 0 (λ x. absurd (omega (arith, x))) in
     let up : n ≤ get_or words 0 0 = omega (arith, now, is) in
     let f = k.fits id v at in
     let first = f.raised in
     let least = k.least in
     let w : Knowledge = raised_by false v cookie n in
     changed s k id v w words at (omega (arith, long, room)) (omega (arith, least, up)) refl
-    (λ j u apart here. fits_up n (get_or words 0 0) (get_or s.words 16 0) (get_or words 16 0) u up same (k.fits j u here))
+    (λ j u apart here. fits_up n (get_or words 0 0) (get_or s.words 16 0) (get_or words 16 0) u up
+    same (k.fits j u here))
     (record {
       raised = omega (arith, first, up);
       found = up;
       driver = λ d. absurd (true_or_false v.drives d thread);
       says = λ d. absurd (true_or_false v.drives d thread);
     })
-    (λ j u apart here drives asleep looked not_drives tlooked under. absurd (true_or_false v.drives drives thread))
-    (λ j u apart here. k.told j id u v here at)
-    (made_still s k id v w words at refl (now ∙ is))
+    (λ j u apart here drives asleep looked not_drives tlooked under.
+    absurd (true_or_false v.drives drives thread))
+    (λ j u apart here. k.told j id u v here at) (made_still s k id v w words at refl (now ∙ is))
 
-pub raises : (slots id cookie : ℕ) (me : Me (Unit {0}) Knowledge) → me.0.drives ≡ false
-    → Allows IsKept slots id me 0 (λ n. max n cookie) (λ n m. Raised cookie me.0 n m.0 × (m.1 ≡ me.1))
+pub raises : (slots id cookie : ℕ) (me : Me (Unit {0}) Knowledge)
+    → me.0.drives ≡ false
+    → Allows IsKept slots id me 0 (λ n. max n cookie)
+    (λ n m. Raised cookie me.0 n m.0 × (m.1 ≡ me.1))
 raises slots id cookie me thread s k _ at _ =
     let n : ℕ = get_or s.words 0 0 in
     let f = k.fits id me.0 at in (
@@ -112,7 +127,9 @@ raises slots id cookie me thread s k _ at _ =
     )
 
 -- a load: no word changes
-unchanged : (s : Moment) (k : IsKept s) (id at_word : ℕ) (v w : Knowledge) → get_elem? s.views id ≡ some v → w.drives ≡ v.drives
+unchanged : (s : Moment) (k : IsKept s) (id at_word : ℕ) (v w : Knowledge)
+    → get_elem? s.views id ≡ some v
+    → w.drives ≡ v.drives
     → Fits (get_or s.words 0 0) (get_or s.words 16 0) w
     → ((j : ℕ) (u : Knowledge) → get_elem? s.views j ≡ some u → IsTold w u)
     → ((j : ℕ) (u : Knowledge) → get_elem? s.views j ≡ some u → IsTold u w)
@@ -123,14 +140,17 @@ unchanged : (s : Moment) (k : IsKept s) (id at_word : ℕ) (v w : Knowledge) →
       views = set s.views id w;
     }
 unchanged s k id at_word v w at role mine tells is_told same =
-    subst (λ (words : List ℕ). IsKept record { words = words; homes = s.homes; views = set s.views id w })
+    subst
+    (λ (words : List ℕ). IsKept record { words = words; homes = s.homes; views = set s.views id w })
     (sym (set-get_or s.words at_word 0))
     (changed s k id v w s.words at k.room k.least role (λ j u apart here. k.fits j u here) mine
     (λ j u apart here. tells j u here) (λ j u apart here. is_told j u here)
     (made_still s k id v w s.words at same refl))
 
-pub looks_at_driver : (slots id : ℕ) (me : Me (Unit {0}) Knowledge) → me.0.drives ≡ false
-    → Allows IsKept slots id me 16 (λ n. n) (λ n m. (m.0 ≡ after_look_at_driver me.0 n) × (m.1 ≡ me.1))
+pub looks_at_driver : (slots id : ℕ) (me : Me (Unit {0}) Knowledge)
+    → me.0.drives ≡ false
+    → Allows IsKept slots id me 16 (λ n. n)
+    (λ n m. (m.0 ≡ after_look_at_driver me.0 n) × (m.1 ≡ me.1))
 looks_at_driver slots id me thread s k _ at _ =
     let v : Knowledge = me.0 in
     let word : ℕ = get_or s.words 16 0 in
@@ -146,7 +166,8 @@ looks_at_driver slots id me thread s k _ at _ =
             driver = f.driver;
             says = λ d. absurd (true_or_false v.drives d thread);
           })
-          (λ j u here drives asleep looked not_drives tlooked under. absurd (true_or_false v.drives drives thread))
+          (λ j u here drives asleep looked not_drives tlooked under.
+          absurd (true_or_false v.drives drives thread))
           (λ j u here drives asleep looked not_drives tlooked under.
           let g = k.fits j u here in
           eq-eqb word 1 (g.says drives ∙ ap asleep_word asleep))
@@ -159,8 +180,11 @@ word_says zero low = refl
 word_says (suc zero) low = refl
 word_says (suc (suc n)) low = absurd (omega (arith, low))
 
-pub says : (slots id word : ℕ) (me : Me (Unit {0}) Knowledge) → me.0.drives ≡ true → word < 2
-    → Allows IsKept slots id me 16 (λ _. word) (λ _ m. (m.0 ≡ after_saying me.0 word) × (m.1 ≡ me.1))
+pub says : (slots id word : ℕ) (me : Me (Unit {0}) Knowledge)
+    → me.0.drives ≡ true
+    → word < 2
+    → Allows IsKept slots id me 16 (λ _. word)
+    (λ _ m. (m.0 ≡ after_saying me.0 word) × (m.1 ≡ me.1))
 says slots id word me driver low s k _ at _ =
     let v : Knowledge = me.0 in
     let w : Knowledge = after_saying v word in
@@ -168,7 +192,8 @@ says slots id word me driver low s k _ at _ =
     let room : 16 < length s.words = k.room in
     let long : length words ≡ length s.words = length-set s.words 16 word in
     let now : get_or words 16 0 ≡ word = get_or-set_same s.words 16 word 0 room in
-    let same : get_or words 0 0 ≡ get_or s.words 0 0 = get_or-set_other s.words 16 0 word 0 (λ x. absurd (omega (arith, x))) in
+    let same : get_or words 0 0 ≡ get_or s.words 0 0 =
+    get_or-set_other s.words 16 0 word 0 (λ x. absurd (omega (arith, x))) in
     let f = k.fits id v at in
     let raised = f.raised in
     let found = f.found in
@@ -177,7 +202,11 @@ says slots id word me driver low s k _ at _ =
       keeps,
       tt,
       changed s k id v w words at (omega (arith, long, room)) (omega (arith, same, least)) refl
-          (λ j u apart here. let g = k.fits j u here in let r = g.raised in let m = g.found in record {
+          (λ j u apart here.
+          let g = k.fits j u here in
+          let r = g.raised in
+          let m = g.found in
+          record {
             raised = omega (arith, same, r);
             found = omega (arith, same, m);
             driver = g.driver;
@@ -190,7 +219,8 @@ says slots id word me driver low s k _ at _ =
             says = λ d. now ∙ word_says word low;
           })
           (λ j u apart here drives asleep looked not_drives tlooked under. absurd (cc))
-          (λ j u apart here drives asleep looked not_drives tlooked under. absurd (true_or_false v.drives driver not_drives))
+          (λ j u apart here drives asleep looked not_drives tlooked under.
+          absurd (true_or_false v.drives driver not_drives))
           (made_still s k id v w words at refl same),
       (refl, refl),
     )
@@ -210,7 +240,8 @@ finds slots id me driver s k _ at _ =
           (record { raised = f.raised; found = top; driver = λ d. f.raised; says = f.says })
           (λ j u here drives asleep looked not_drives tlooked under.
           let r = (k.fits j u here).raised in absurd (omega (arith, r, under)))
-          (λ j u here drives asleep looked not_drives tlooked under. absurd (true_or_false v.drives driver not_drives))
+          (λ j u here drives asleep looked not_drives tlooked under.
+          absurd (true_or_false v.drives driver not_drives))
           refl,
       (record { state = refl; found = f.found; raised = f.raised }, refl),
     )

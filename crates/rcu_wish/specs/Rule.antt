@@ -14,7 +14,8 @@ Moment = State (Unit {0}) Knowledge
 abbrev pub greatest_at : Moment → ℕ
 greatest_at s = slice_index s.words greatest_index
 
--- what holds of an end, where the greatest wish is this, and the word by which the driver says whether it sleeps
+-- what holds of an end, where the greatest wish is this, and the word by which the driver says
+-- whether it sleeps
 pub record Fits (greatest word : ℕ) (v : Knowledge) : Type 0 where
   -- it knows of no greater wish
   pub raised : v.raised ≤ greatest
@@ -23,11 +24,18 @@ pub record Fits (greatest word : ℕ) (v : Knowledge) : Type 0 where
   pub driver : v.drives ≡ true → v.raised ≤ v.found
   pub says : v.drives ≡ true → word ≡ asleep_word v.asleep
 
--- a driver that sleeps, and looked since it said so, and a thread that looked at the driver since it raised the greatest
--- wish: where that is a wish that the driver did not find, the thread found it asleep
+-- a driver that sleeps, and looked since it said so, and a thread that looked at the driver since
+-- it raised the greatest wish: where that is a wish that the driver did not find, the thread found
+-- it asleep
 abbrev pub IsTold : Knowledge → Knowledge → Type 0
-IsTold driver thread = driver.drives ≡ true → driver.asleep ≡ true → driver.has_looked ≡ true → thread.drives ≡ false
-    → thread.has_looked ≡ true → driver.found < thread.raised → thread.asleep ≡ true
+IsTold driver thread =
+    driver.drives ≡ true
+    → driver.asleep ≡ true
+    → driver.has_looked ≡ true
+    → thread.drives ≡ false
+    → thread.has_looked ≡ true
+    → driver.found < thread.raised
+    → thread.asleep ≡ true
 
 -- an end that raised the greatest wish to what it is
 pub record IsRaised (s : Moment) : Type 0 where
@@ -40,9 +48,15 @@ pub record IsKept (s : Moment) : Type 0 where
   pub room : asleep_index < length s.words
   pub fits : (id : ℕ) (v : Knowledge) → get_elem? s.views id ≡ some v
       → Fits (greatest_at s) (slice_index s.words asleep_index) v
-  pub lone : (i j : ℕ) (v w : Knowledge) → get_elem? s.views i ≡ some v → get_elem? s.views j ≡ some w
-      → v.drives ≡ true → w.drives ≡ true → i ≡ j
-  pub told : (i j : ℕ) (v w : Knowledge) → get_elem? s.views i ≡ some v → get_elem? s.views j ≡ some w → IsTold v w
-  -- the greatest wish is at least the cookie that is done at any number, and some end raised it to what it is
+  pub lone : (i j : ℕ) (v w : Knowledge)
+      → get_elem? s.views i ≡ some v
+      → get_elem? s.views j ≡ some w
+      → v.drives ≡ true
+      → w.drives ≡ true
+      → i ≡ j
+  pub told : (i j : ℕ) (v w : Knowledge)
+      → get_elem? s.views i ≡ some v → get_elem? s.views j ≡ some w → IsTold v w
+  -- the greatest wish is at least the cookie that is done at any number, and some end raised it to
+  -- what it is
   pub least : 1 ≤ greatest_at s
   pub made : IsRaised s

@@ -1,9 +1,11 @@
 -- The ends of the wishes, and what a step leaves of one.
-use Rattle.std.specs.Prelude.{◌≡◌, ℕ, ◌≤◌, ◌==◌, nat_lt, Bool, true, false, if◌then◌else◌, List, replicate, slice_set}
+use Rattle.std.specs.Prelude.{◌≡◌, ℕ, ◌≤◌, ◌==◌, nat_lt, Bool, true, false, if◌then◌else◌, List}
+use Rattle.std.specs.Prelude.{replicate, slice_set}
 use Rattle.atomic_table.specs.Seated.{TableId}
 use Rattle.rcu_wish.specs.declared.knowledge.Knowledge.{Knowledge}
 
--- the place of the greatest wish, and the place of the word by which the driver says whether it sleeps: 128 bytes apart
+-- the place of the greatest wish, and the place of the word by which the driver says whether it
+-- sleeps: 128 bytes apart
 abbrev pub greatest_index : ℕ
 greatest_index = 0
 
@@ -20,11 +22,23 @@ first_words = slice_set (replicate 17 0) 0 1
 
 -- the driver at first: nobody wished but for the cookie 1, which is done at any number
 abbrev pub driver_at_first : Knowledge
-driver_at_first = record { drives = true; raised = 1; found = 1; asleep = false; has_looked = false }
+driver_at_first = record {
+  drives = true;
+  raised = 1;
+  found = 1;
+  asleep = false;
+  has_looked = false;
+}
 
 -- a thread at first
 abbrev pub thread_at_first : Knowledge
-thread_at_first = record { drives = false; raised = 1; found = 1; asleep = false; has_looked = false }
+thread_at_first = record {
+  drives = false;
+  raised = 1;
+  found = 1;
+  asleep = false;
+  has_looked = false;
+}
 
 -- after the driver said whether it sleeps
 abbrev pub after_saying : Knowledge → ℕ → Knowledge
@@ -71,7 +85,9 @@ after_wish w cookie n asleep = record w {
 
 -- after the driver said whether it sleeps, and found the greatest wish, n
 abbrev pub after_look : Wishing → Bool → ℕ → Wishing
-after_look w sleeps n = record w { knows = record w.knows { found = n; asleep = sleeps; has_looked = true } }
+after_look w sleeps n = record w {
+  knows = record w.knows { found = n; asleep = sleeps; has_looked = true };
+}
 
 -- the greatest wish n is at least all that the end knew of
 pub record IsNoLess (w : Wishing) (n : ℕ) : Type 0 where

@@ -15,20 +15,26 @@ loop-i-preserved c =
     let call = c.in-Some.call in
     let values = c.loop-i.values in
     let so_far = c.loop-i.invariant in
-    let inside : i < length values = omega (arith, c.loop-i-test.true, c.min-most.ensures, so_far.same) in
+    let inside : i < length values =
+    omega (arith, c.loop-i-test.true, c.min-most.ensures, so_far.same) in
     record {
-      engine = ran_more e now c.args.cpu i so_far.engine c.pop_done.new.self c.in-Some.ensures.made.left;
-      head = wrote_more e now c.args.cpu i so_far.engine call values c.in-Some.ensures.call inside so_far.head;
+      engine =
+          ran_more e now c.args.cpu i so_far.engine c.pop_done.new.self c.in-Some.ensures.made.left;
+      head = wrote_more e now c.args.cpu i so_far.engine call values c.in-Some.ensures.call inside
+          so_far.head;
       rest = rest_more i call.value c.args.values.now values so_far.rest;
       same = length-set values i call.value ∙ so_far.same;
       few = omega (arith, c.loop-i-test.true);
-      waited = waited_more e now c.args.cpu i so_far.engine (number_of e.grace.seq) call c.in-Some.ensures.call
-          (subst (λ l. HasWaited (number_of l.grace.seq) call.at) so_far.engine c.in-Some.ensures.waited) so_far.waited;
+      waited = waited_more e now c.args.cpu i so_far.engine (number_of e.grace.seq) call
+          c.in-Some.ensures.call
+          (subst (λ l. HasWaited (number_of l.grace.seq) call.at) so_far.engine
+          c.in-Some.ensures.waited)
+          so_far.waited;
     }
 
 pub unreachable-requires : goal.unreachable-requires
 unreachable-requires c =
     let inside : c.loop-i.i < length (callbacks (front (listed c.args.engine.now c.args.cpu))) =
     omega (arith, c.loop-i-test.true, c.min-most.ensures, c.done_count.ensures.count) in
-    one_comes c.args.engine.now c.loop-i.engine c.args.cpu c.loop-i.i c.loop-i.invariant.engine inside
-    c.in_default.ensures.call
+    one_comes c.args.engine.now c.loop-i.engine c.args.cpu c.loop-i.i c.loop-i.invariant.engine
+    inside c.in_default.ensures.call

@@ -7,8 +7,12 @@ use Rattle.rcu_c.proofs.driving.put_awaited.Given as goal
 -- the awaited of the processors so far, as many as there is room for, lie at the head of the buffer
 abbrev pub invariant-loop-cpu : goal.invariant-loop-cpu
 invariant-loop-cpu g l = record {
-  count : l.count ≡ length (take (length l.fn.cpus) (filter (is_in (g.A.Awaited.awaited l.awaited)) (range_with_len 0 l.cpu)));
-  head : take l.count l.cpus ≡ take (length l.fn.cpus) (filter (is_in (g.A.Awaited.awaited l.awaited)) (range_with_len 0 l.cpu));
+  count : l.count
+      ≡ length (take (length l.fn.cpus)
+      (filter (is_in (g.A.Awaited.awaited l.awaited)) (range_with_len 0 l.cpu)));
+  head : take l.count l.cpus
+      ≡ take (length l.fn.cpus)
+      (filter (is_in (g.A.Awaited.awaited l.awaited)) (range_with_len 0 l.cpu));
   rest : drop l.count l.cpus ≡ drop l.count l.fn.cpus;
   same : length l.cpus ≡ length l.fn.cpus;
   few : l.count ≤ l.cpu;

@@ -8,4 +8,5 @@ pub returns : goal.returns
 returns c =
     let read : c.unwrap_or-word.result ≡ slice_index c.args.words.now (c.args.cpu / 64) =
     let e = c.get.ensures in search (rules, common_steps) in
-    has_bit_shr c.unwrap_or-word.result (c.args.cpu % 64) ∙ ap (λ w. has_bit w (c.args.cpu % 64)) read
+    has_bit_shr c.unwrap_or-word.result (c.args.cpu % 64)
+    ∙ ap (λ w. has_bit w (c.args.cpu % 64)) read

@@ -10,5 +10,6 @@ pub returns : goal.returns
 unfolding listed
 returns c = λ identity table wishes last value.
     c.barrier_covers_earlier_callbacks.ensures (opened_at_first identity table wishes 1 last).engine
-    (Run 0 1 ∷ Tend 0 ∷ Drive true (λ _. idle_word) ∷ Tend 0 ∷ Visit 0 ∷ BarrierBegin ∷ Queue 0 value ∷ [])
+    (Run 0 1 ∷ Tend 0 ∷ Drive true (λ _. idle_word) ∷ Tend 0 ∷ Visit 0 ∷ BarrierBegin
+    ∷ Queue 0 value ∷ [])
     1 (search rules) (search rules) refl (omega arith) (omega arith)

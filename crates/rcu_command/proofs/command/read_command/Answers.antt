@@ -11,7 +11,8 @@ pub returns-clause-limits : goal.returns-clause-limits
 returns-clause-limits c =
     order_within _ _ c.order_of.result c.unwrap.result
     (met_as _ _ c.in_ok-matches.matches c.in_ok-rcu_command.ensures c.in_ok-matches.ensures.matches)
-    (no_fault _ _ c.in_ok-rcu_command.ensures c.in_ok-matches.ensures.kinds) c.order_of.ensures c.unwrap.ensures
+    (no_fault _ _ c.in_ok-rcu_command.ensures c.in_ok-matches.ensures.kinds) c.order_of.ensures
+    c.unwrap.ensures
 
 pub returns-clause-fails : goal.returns-clause-fails
 returns-clause-fails c = no_fault _ _ c.in_ok-rcu_command.ensures c.in_ok-matches.ensures.kinds

@@ -10,4 +10,5 @@ pub returns : goal.returns
 returns c =
     subst (λ (t : Option (List ℕ)). c.get_one.result ≡ option_and_then (number_at_most u32_max) t)
     (one_text-rows (found_of c.args.matches.now) c.args.id.now)
-    (reads_number 32 u32_max refl (lit< tt) _ c.get_one.result c.get_one.ensures.none c.get_one.ensures.value)
+    (reads_number 32 u32_max refl (lit< tt) _ c.get_one.result c.get_one.ensures.none
+    c.get_one.ensures.value)

@@ -5,7 +5,8 @@ use Rattle.rcu_geometry.proofs.Capacities.{power_within, capacity_within}
 use Rattle.rcu_geometry.proofs.geometry.capacity.Goals as goal
 
 pub pow-requires : goal.pow-requires
-pow-requires c = omega (arith, power_within c.args.fan c.args.height c.requires.fan c.requires.height)
+pow-requires c =
+    omega (arith, power_within c.args.fan c.args.height c.requires.fan c.requires.height)
 
 pub overflow_mul-result : goal.overflow_mul-result
 overflow_mul-result c =

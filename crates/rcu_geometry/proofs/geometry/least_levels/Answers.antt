@@ -7,5 +7,5 @@ pub returns : goal.returns
 returns c =
     let kept = c.loop-levels.invariant in
     sym
-    (levels_at (shape c.args.leaf c.args.fan c.args.cpus) c.loop-levels.levels c.requires kept.some kept.least
-    (omega arith))
+    (levels_at (shape c.args.leaf c.args.fan c.args.cpus) c.loop-levels.levels c.requires kept.some
+    kept.least (omega arith))

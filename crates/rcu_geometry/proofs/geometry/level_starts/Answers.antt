@@ -6,7 +6,8 @@ use Rattle.rcu_geometry.proofs.geometry.level_starts.Goals as goal
 
 pub loop-height-init : goal.loop-height-init
 loop-height-init c =
-    starts_first (shape c.args.leaf c.args.fan c.args.cpus) c.push.new.self.items (c.args.levels - c.args.levels)
+    starts_first (shape c.args.leaf c.args.fan c.args.cpus) c.push.new.self.items
+    (c.args.levels - c.args.levels)
     (c.push.ensures.items ∙ ap (λ starts. starts ++ 0 ∷ []) c.new-starts.ensures) (omega arith)
 
 pub nodes_at-next-requires-clause-height : goal.nodes_at-next-requires-clause-height
@@ -21,7 +22,8 @@ overflow_add-next c =
     let within = level_within s i c.requires.legal in
     let before = c.loop-height.invariant.few in
     let counted =
-    level_nodes_by s i (c.loop-height.height - 1) c.nodes_at-next.result (omega arith) c.nodes_at-next.ensures in
+    level_nodes_by s i (c.loop-height.height - 1) c.nodes_at-next.result (omega arith)
+    c.nodes_at-next.ensures in
     omega arith
 
 pub push-requires-in-loop-height : goal.push-requires-in-loop-height
@@ -36,8 +38,8 @@ loop-height-preserved c =
     let i = c.args.levels - c.loop-height.height in
     let range = levels_range s in
     let counted =
-    level_nodes_by s i (c.loop-height.height - 1) c.nodes_at-next.result (omega arith) c.nodes_at-next.ensures in
+    level_nodes_by s i (c.loop-height.height - 1) c.nodes_at-next.result (omega arith)
+    c.nodes_at-next.ensures in
     starts_more s c.loop-height.starts.items c.push-in-loop-height.new.self.items c.loop-height.next
-    c.nodes_at-next.result i
-    (c.args.levels - (c.loop-height.height - 1))
-    c.requires.legal c.loop-height.invariant counted c.push-in-loop-height.ensures.items (omega arith)
+    c.nodes_at-next.result i (c.args.levels - (c.loop-height.height - 1)) c.requires.legal
+    c.loop-height.invariant counted c.push-in-loop-height.ensures.items (omega arith)

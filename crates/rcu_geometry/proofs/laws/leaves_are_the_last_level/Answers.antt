@@ -10,7 +10,8 @@ returns-clause-below c = λ s cpu legal below.
     lies_below s (leaf_of s cpu) (levels s - 1) (cpu / s.leaf) (leaf_lies s cpu legal below)
 
 pub returns-clause-bit : goal.returns-clause-bit
-returns-clause-bit c = λ s cpu legal. let leaf = legal.leaf_low in mod_below cpu s.leaf (omega arith)
+returns-clause-bit c =
+    λ s cpu legal. let leaf = legal.leaf_low in mod_below cpu s.leaf (omega arith)
 
 pub returns-clause-level : goal.returns-clause-level
 returns-clause-level c = leaf_level

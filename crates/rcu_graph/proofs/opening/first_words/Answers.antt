@@ -7,5 +7,6 @@ loop-root-preserved g c =
     let i = c.loop-root.invariant in
     let e = c.store_row.ensures in (
       e.length ∙ i.0,
-      one_stored c.args.roots.now c.loop-root.root g.row.L g.row.W c.place_of.result _ _ i.1 c.place_of.ensures.place e.sized e.stored e.others,
+      one_stored c.args.roots.now c.loop-root.root g.row.L g.row.W c.place_of.result _ _ i.1
+          c.place_of.ensures.place e.sized e.stored e.others,
     )

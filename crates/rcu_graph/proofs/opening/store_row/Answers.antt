@@ -14,8 +14,12 @@ loop-word-preserved g c =
     let low = c.loop-word-test.true in (
       length-set old p x ∙ i.0,
       λ k small. dite (ℕ_discrete k w)
-          (λ (e : k ≡ w). ap (λ (m : ℕ). get_or (set old p x) (c.args.place + m) 0) e
-          ∙ (get_or-set_same old p x 0 (omega (arith, low, i.0, c.requires)) ∙ sym (ap (λ (m : ℕ). get_or c.args.words.now m 0) e)))
-          (λ (ne : k ≢ w). get_or-set_other old p (c.args.place + k) x 0 (λ e. ne (omega (arith, e))) ∙ i.1 k (omega (arith, small, ne))),
+          (λ (e : k ≡ w).
+          ap (λ (m : ℕ). get_or (set old p x) (c.args.place + m) 0) e
+          ∙ (get_or-set_same old p x 0 (omega (arith, low, i.0, c.requires))
+          ∙ sym (ap (λ (m : ℕ). get_or c.args.words.now m 0) e)))
+          (λ (ne : k ≢ w).
+          get_or-set_other old p (c.args.place + k) x 0 (λ e. ne (omega (arith, e)))
+          ∙ i.1 k (omega (arith, small, ne))),
       λ q apart. get_or-set_other old p q x 0 (apart w low) ∙ i.2 q apart,
     )

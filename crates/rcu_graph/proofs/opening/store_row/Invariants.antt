@@ -6,4 +6,5 @@ abbrev pub invariant-loop-word : goal.invariant-loop-word
 invariant-loop-word g l =
     (length l.behind.items ≡ length l.initial.behind.items)
     × ((k : ℕ) → k < l.word → slice_index l.behind.items (l.place + k) ≡ slice_index l.words k)
-    × ((p : ℕ) → ((k : ℕ) → k < g.row.W → p ≢ l.place + k) → slice_index l.behind.items p ≡ slice_index l.initial.behind.items p)
+    × ((p : ℕ) → ((k : ℕ) → k < g.row.W → p ≢ l.place + k) → slice_index l.behind.items p
+    ≡ slice_index l.initial.behind.items p)

@@ -8,7 +8,9 @@ pub returns : goal.returns
 returns g c =
     let many = c.loop-number.invariant.0 in
     let n = g.row.N in
-    ext_get_or 0 c.loop-number.numbers.items (range_with_len 0 n) (many ∙ sym (length-range_with_len 0 n))
+    ext_get_or 0 c.loop-number.numbers.items (range_with_len 0 n)
+    (many ∙ sym (length-range_with_len 0 n))
     (λ i low.
-    c.loop-number.invariant.1 i (omega (arith, low, many, c.loop-number-test.false, c.loop-number.auto.number-end))
+    c.loop-number.invariant.1 i
+    (omega (arith, low, many, c.loop-number-test.false, c.loop-number.auto.number-end))
     ∙ sym (get_or-range_with_len 0 n i 0 (omega (arith, low, many)) ∙ omega arith))

@@ -9,4 +9,5 @@ inside buckets key some = omega (arith, some)
 
 pub returns : goal.returns
 returns c = λ ours opened buckets key last nodes hops at some keyed goes ended history linked made.
-    are_listed c.linked_keys_are_found.ensures ours opened buckets key last nodes hops at (inside buckets key some) keyed goes ended history linked made
+    are_listed c.linked_keys_are_found.ensures ours opened buckets key last nodes hops at
+    (inside buckets key some) keyed goes ended history linked made

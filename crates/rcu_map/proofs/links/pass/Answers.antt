@@ -8,7 +8,8 @@ link_of-next-requires g c = (omega arith, (c.requires.inside, omega arith))
 
 pub link-requires : goal.link-requires
 link-requires g c =
-    let bound = live_inside (nodes_in c.args.keeper.now.view.client) c.args.previous c.requires.live in
+    let bound =
+    live_inside (nodes_in c.args.keeper.now.view.client) c.args.previous c.requires.live in
     let few = c.requires.few in (
       omega arith,
       (
@@ -21,7 +22,9 @@ link-requires g c =
               omega arith,
               (
                 c.requires.live,
-                subst (λ (x : ℕ). IsTarget (g.F.Shape.joins 0) (node_at (nodes_in c.args.keeper.now.view.client) c.args.previous).words (nodes_in c.args.keeper.now.view.client) x)
+                subst (λ (x : ℕ). IsTarget (g.F.Shape.joins 0)
+                    (node_at (nodes_in c.args.keeper.now.view.client) c.args.previous).words
+                    (nodes_in c.args.keeper.now.view.client) x)
                     (sym c.link_of-next.ensures) c.requires.target,
               ),
             ),

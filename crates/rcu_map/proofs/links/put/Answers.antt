@@ -5,7 +5,8 @@ use Rattle.rcu_graph.specs.Nodes.{node_at, nodes_in, state_at}
 use Rattle.rcu_graph.specs.Tended.{AreTrimmed, published}
 use Rattle.rcu_graph.specs.declared.known.Known.{Known}
 use Rattle.rcu_graph.specs.declared.node_state.NodeState.TheVariants.{Live}
-use Rattle.rcu_map.proofs.Puts.{is_ready, joins_it, next_inside, one_inside, previous_inside, still_live}
+use Rattle.rcu_map.proofs.Puts.{is_ready, joins_it, next_inside, one_inside, previous_inside}
+use Rattle.rcu_map.proofs.Puts.{still_live}
 use Rattle.rcu_map.proofs.links.put.Goals as goal
 
 pub fill-requires : goal.fill-requires
@@ -24,7 +25,8 @@ fill-requires g c = (
             (
               c.in_ok-node.ensures.free,
               one_inside g.row.N c.args.next
-                  (next_inside _ _ _ _ _ _ _ _ c.requires c.in_ok-node.node c.in_ok-node.ensures.inside c.in_ok-node.ensures.free),
+                  (next_inside _ _ _ _ _ _ _ _ c.requires c.in_ok-node.node
+                  c.in_ok-node.ensures.inside c.in_ok-node.ensures.free),
             ),
           ),
         ),
@@ -42,19 +44,31 @@ publish-requires g c =
         (
           c.fill.ensures.graph,
           (
-            previous_inside _ _ _ _ _ _ _ _ c.requires c.in_ok-node.node c.in_ok-node.ensures.inside c.in_ok-node.ensures.free,
+            previous_inside _ _ _ _ _ _ _ _ c.requires c.in_ok-node.node c.in_ok-node.ensures.inside
+                c.in_ok-node.ensures.free,
             (
               c.in_ok-node.ensures.inside,
               (
                 omega arith,
                 (
-                  subst (λ (w : Watching Known). state_at (nodes_in w.view.client) c.args.previous ≡ Live) e
-                      (still_live _ _ _ _ _ _ _ _ c.requires c.in_ok-node.node c.in_ok-node.ensures.inside c.in_ok-node.ensures.free),
+                  subst (λ (w : Watching Known).
+                      state_at (nodes_in w.view.client) c.args.previous ≡ Live)
+                      e
+                      (still_live _ _ _ _ _ _ _ _ c.requires c.in_ok-node.node
+                      c.in_ok-node.ensures.inside c.in_ok-node.ensures.free),
                   (
-                    subst (λ (w : Watching Known). IsReady g.F.Shape.fits g.F.Shape.joins 1 (nodes_in w.view.client) c.in_ok-node.node) e
-                        (is_ready _ _ _ _ _ _ _ _ c.requires c.in_ok-node.node c.in_ok-node.ensures.inside c.in_ok-node.ensures.free),
-                    subst (λ (w : Watching Known). g.F.Shape.joins 0 (node_at (nodes_in w.view.client) c.args.previous).words (node_at (nodes_in w.view.client) c.in_ok-node.node).words) e
-                        (joins_it _ _ _ _ _ _ _ _ c.requires c.in_ok-node.node c.in_ok-node.ensures.inside c.in_ok-node.ensures.free),
+                    subst (λ (w : Watching Known).
+                        IsReady g.F.Shape.fits g.F.Shape.joins 1 (nodes_in w.view.client)
+                        c.in_ok-node.node)
+                        e
+                        (is_ready _ _ _ _ _ _ _ _ c.requires c.in_ok-node.node
+                        c.in_ok-node.ensures.inside c.in_ok-node.ensures.free),
+                    subst (λ (w : Watching Known). g.F.Shape.joins 0
+                        (node_at (nodes_in w.view.client) c.args.previous).words
+                        (node_at (nodes_in w.view.client) c.in_ok-node.node).words)
+                        e
+                        (joins_it _ _ _ _ _ _ _ _ c.requires c.in_ok-node.node
+                        c.in_ok-node.ensures.inside c.in_ok-node.ensures.free),
                   ),
                 ),
               ),
@@ -70,8 +84,13 @@ returns g c = record {
   inside = c.in_ok-node.ensures.inside;
   free = c.in_ok-node.ensures.free;
   watches = c.publish.ensures.graph;
-  state = c.publish.ensures.state ∙ ap (λ (w : Watching Known). after_step w (nodes_in c.publish.new.self.view.client)) c.fill.ensures.state;
+  state =
+      c.publish.ensures.state
+      ∙ ap (λ (w : Watching Known). after_step w (nodes_in c.publish.new.self.view.client))
+      c.fill.ensures.state;
   kept = record { few = c.tends.ensures.keeper.few; tended = c.tends.ensures.tended };
-  trimmed = subst (λ (w : Watching Known). AreTrimmed g.row.K 1 (published (nodes_in w.view.client) c.args.previous 0 c.in_ok-node.node) (nodes_in c.publish.new.self.view.client))
+  trimmed = subst (λ (w : Watching Known). AreTrimmed g.row.K 1
+      (published (nodes_in w.view.client) c.args.previous 0 c.in_ok-node.node)
+      (nodes_in c.publish.new.self.view.client))
       c.fill.ensures.state c.publish.ensures.trimmed;
 }

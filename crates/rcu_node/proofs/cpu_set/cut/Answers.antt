@@ -5,7 +5,10 @@ use Rattle.rcu_node.proofs.cpu_set.cut.Goals as goal
 
 pub returns : goal.returns
 returns c =
-    let both : c.from.result * 2 ^ 64 % 2 ^ 128 + c.from-2.result ≡ c.args.next * 2 ^ 64 + c.args.word =
+    let both : c.from.result * 2 ^ 64 % 2 ^ 128 + c.from-2.result
+    ≡ c.args.next * 2 ^ 64 + c.args.word =
     omega (arith, c.from.ensures, c.from-2.ensures, c.ranges.next.fits) in
-    let ones : 1 * 2 ^ c.args.width % 2 ^ 128 ≡ 2 ^ c.args.width = one_shl c.args.width 128 (omega arith) in
-    rw (both, ones) (λ bit. cut-is c.args.word c.args.next c.args.place c.args.width bit c.ranges.word.fits)
+    let ones : 1 * 2 ^ c.args.width % 2 ^ 128 ≡ 2 ^ c.args.width =
+    one_shl c.args.width 128 (omega arith) in
+    rw (both, ones)
+    (λ bit. cut-is c.args.word c.args.next c.args.place c.args.width bit c.ranges.word.fits)

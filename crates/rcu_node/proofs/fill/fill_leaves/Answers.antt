@@ -10,7 +10,9 @@ returns-clause-masks g c =
     let s = c.args.geometry.now in
     let masks = now_masks c.loop-node.nodes.items in
     let end : c.loop-node.node ≡ nodes s =
-    (let count = c.nodes-node-end.ensures in let below = c.loop-node.auto.node-end in let last = c.loop-node-test.false in omega (arith, count, below, last)) in
+    (let count = c.nodes-node-end.ensures in
+    let below = c.loop-node.auto.node-end in
+    let last = c.loop-node-test.false in omega (arith, count, below, last)) in
     filled_all s c.args.set.now masks c.requires.legal c.requires.set
     (subst (λ node. AreFilled s c.args.set.now masks node) end c.loop-node.invariant.filled)
 
@@ -19,6 +21,8 @@ returns-clause-members g c =
     let s = c.args.geometry.now in
     let masks = now_masks c.loop-node.nodes.items in
     let end : c.loop-node.node ≡ nodes s =
-    (let count = c.nodes-node-end.ensures in let below = c.loop-node.auto.node-end in let last = c.loop-node-test.false in omega (arith, count, below, last)) in
+    (let count = c.nodes-node-end.ensures in
+    let below = c.loop-node.auto.node-end in
+    let last = c.loop-node-test.false in omega (arith, count, below, last)) in
     filled_members s c.args.set.now masks c.requires.legal c.requires.set
     (subst (λ node. AreFilled s c.args.set.now masks node) end c.loop-node.invariant.filled)

@@ -9,7 +9,8 @@ abbrev pub invariant-loop-node : goal.invariant-loop-node
 invariant-loop-node g l = record {
   here : l.node ≤ nodes l.geometry;
   linked : AreLinkedFrom l.geometry (now_masks l.nodes.items) l.node;
-  members : members l.geometry (now_masks l.nodes.items) ≡ members l.geometry (now_masks l.fn.nodes.items);
+  members : members l.geometry (now_masks l.nodes.items)
+      ≡ members l.geometry (now_masks l.fn.nodes.items);
   start : start_masks l.nodes.items ≡ start_masks l.fn.nodes.items;
   group : group_masks l.nodes.items ≡ group_masks l.fn.nodes.items;
 }

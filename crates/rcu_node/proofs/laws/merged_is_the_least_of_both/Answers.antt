@@ -1,4 +1,5 @@
-use Rattle.rcu_node.proofs.MergingLemmas.{merged-at_least_first, merged-at_least_second, merged-least}
+use Rattle.rcu_node.proofs.MergingLemmas.{merged-at_least_first, merged-at_least_second}
+use Rattle.rcu_node.proofs.MergingLemmas.{merged-least}
 use Rattle.rcu_node.proofs.laws.merged_is_the_least_of_both.Goals as goal
 
 pub returns-clause-first : goal.returns-clause-first

@@ -7,7 +7,8 @@ use Rattle.rcu_node.proofs.merging.merge.Goals as goal
 pub returns-clause-awaited : goal.returns-clause-awaited
 returns-clause-awaited g c =
     let set = g.A.Awaited.awaited c.args.to.now in
-    let all : length set ≤ c.loop-cpu.cpu = omega (arith, c.cpus-cpu-end.ensures, c.loop-cpu-test.false) in
+    let all : length set ≤ c.loop-cpu.cpu =
+    omega (arith, c.cpus-cpu-end.ensures, c.loop-cpu-test.false) in
     cut_all c.loop-cpu.cpu set (g.B.Awaited.awaited c.args.from.now)
     (g.A.Awaited.awaited c.loop-cpu.to) all c.loop-cpu.invariant.cut
 
@@ -22,5 +23,5 @@ returns-clause-ok g c =
     let after =
     standing (g.A.Awaited.tag c.loop-cpu.to) (g.A.Awaited.start_set c.loop-cpu.to)
     (g.A.Awaited.awaited c.loop-cpu.to) in
-    same_standing after (after_merge before other) c.loop-cpu.invariant.tag c.loop-cpu.invariant.start_set
-    (returns-clause-awaited g c)
+    same_standing after (after_merge before other) c.loop-cpu.invariant.tag
+    c.loop-cpu.invariant.start_set (returns-clause-awaited g c)

@@ -7,5 +7,6 @@ abbrev pub invariant-loop-cpu : goal.invariant-loop-cpu
 invariant-loop-cpu g l = record {
   tag : g.A.Awaited.tag l.to ≡ g.A.Awaited.tag l.initial.to;
   start_set : g.A.Awaited.start_set l.to ≡ g.A.Awaited.start_set l.initial.to;
-  cut : IsCutBelow l.cpu (g.A.Awaited.awaited l.initial.to) (g.B.Awaited.awaited l.from) (g.A.Awaited.awaited l.to);
+  cut : IsCutBelow l.cpu (g.A.Awaited.awaited l.initial.to) (g.B.Awaited.awaited l.from)
+      (g.A.Awaited.awaited l.to);
 }

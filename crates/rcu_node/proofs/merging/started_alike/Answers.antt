@@ -8,7 +8,8 @@ returns-then-starts g c =
     let second = g.B.Awaited.start_set c.args.second.now in
     let cpu = c.loop-cpu.cpu in
     sym
-    (other_where_one_differs first second cpu c.starts.result c.starts-in-loop-cpu.result c.starts.ensures c.starts-in-loop-cpu.ensures c.if-starts.true)
+    (other_where_one_differs first second cpu c.starts.result c.starts-in-loop-cpu.result
+    c.starts.ensures c.starts-in-loop-cpu.ensures c.if-starts.true)
 
 pub returns : goal.returns
 returns g c =

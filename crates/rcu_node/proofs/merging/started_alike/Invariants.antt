@@ -5,4 +5,5 @@ use Rattle.rcu_node.proofs.merging.started_alike.Given as goal
 -- so far the start sets agree
 abbrev pub invariant-loop-cpu : goal.invariant-loop-cpu
 invariant-loop-cpu g l =
-    (cpu : ℕ) → cpu < l.cpu → is_in (g.A.Awaited.start_set l.first) cpu ≡ is_in (g.B.Awaited.start_set l.second) cpu
+    (cpu : ℕ) → cpu < l.cpu
+    → is_in (g.A.Awaited.start_set l.first) cpu ≡ is_in (g.B.Awaited.start_set l.second) cpu

@@ -6,15 +6,29 @@ use Rattle.rcu_node.proofs.node.put_start.Goals as goal
 
 pub returns-clause-now : goal.returns-clause-now
 returns-clause-now c =
-    let new : Node = record { qsmask = c.index_mut-at.result.now.qsmask; qsmaskinit = c.args.mask; grpmask = c.index_mut-at.result.now.grpmask } in
-    map_kept (λ node. node.qsmask) c.args.nodes.now.items c.args.node new c.index_mut-at.result.now c.index_mut-at.ensures.value refl
+    let new : Node = record {
+      qsmask = c.index_mut-at.result.now.qsmask;
+      qsmaskinit = c.args.mask;
+      grpmask = c.index_mut-at.result.now.grpmask;
+    } in
+    map_kept (λ node. node.qsmask) c.args.nodes.now.items c.args.node new c.index_mut-at.result.now
+    c.index_mut-at.ensures.value refl
 
 pub returns-clause-start : goal.returns-clause-start
 returns-clause-start c =
-    let new : Node = record { qsmask = c.index_mut-at.result.now.qsmask; qsmaskinit = c.args.mask; grpmask = c.index_mut-at.result.now.grpmask } in
+    let new : Node = record {
+      qsmask = c.index_mut-at.result.now.qsmask;
+      qsmaskinit = c.args.mask;
+      grpmask = c.index_mut-at.result.now.grpmask;
+    } in
     map-set (λ (node : Node). node.qsmaskinit) c.args.nodes.now.items c.args.node new
 
 pub returns-clause-group : goal.returns-clause-group
 returns-clause-group c =
-    let new : Node = record { qsmask = c.index_mut-at.result.now.qsmask; qsmaskinit = c.args.mask; grpmask = c.index_mut-at.result.now.grpmask } in
-    map_kept (λ node. node.grpmask) c.args.nodes.now.items c.args.node new c.index_mut-at.result.now c.index_mut-at.ensures.value refl
+    let new : Node = record {
+      qsmask = c.index_mut-at.result.now.qsmask;
+      qsmaskinit = c.args.mask;
+      grpmask = c.index_mut-at.result.now.grpmask;
+    } in
+    map_kept (λ node. node.grpmask) c.args.nodes.now.items c.args.node new c.index_mut-at.result.now
+    c.index_mut-at.ensures.value refl

@@ -11,7 +11,8 @@ use Rattle.rcu_script.proofs.listed.put_listed.Goals as goal
 pub returns-in_err-put_line : goal.returns-in_err-put_line
 returns-in_err-put_line g c =
     let p = err_from_is_err_and c.from_residual.result c.from_residual.ensures.1 in
-    rw (p.1) (word_stops _ _ c.args.word.now (g.L.Listed.items c.args.listed.now) c.in_err-put_line.ensures)
+    rw (p.1)
+    (word_stops _ _ c.args.word.now (g.L.Listed.items c.args.listed.now) c.in_err-put_line.ensures)
 
 pub returns-then-is_empty : goal.returns-then-is_empty
 returns-then-is_empty g c =
@@ -23,7 +24,8 @@ returns-then-is_empty g c =
 
 pub returns-in_err-put_items : goal.returns-in_err-put_items
 returns-in_err-put_items g c =
-    let p = err_from_is_err_and c.from_residual-in_err-put_items.result c.from_residual-in_err-put_items.ensures.1 in
+    let p = err_from_is_err_and c.from_residual-in_err-put_items.result
+    c.from_residual-in_err-put_items.ensures.1 in
     let items = g.L.Listed.items c.args.listed.now in
     let some : 0 < length items = grind (arith, nat_tests) in
     rw (p.1) (subst (Stops _ _) (sym (some_listed c.args.word.now items some))

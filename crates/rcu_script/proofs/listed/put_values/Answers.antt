@@ -9,12 +9,13 @@ returns-in_err-put_spaced g c =
     let p = err_from_is_err_and c.from_residual.result c.from_residual.ensures.1 in
     let inside : c.loop-place.place < length c.args.values.now = omega
     (arith, c.loop-place-test.true, c.len-place-end.ensures) in
-    rw (p.1) (item_stops space_and_number _ _ _ c.args.values.now c.loop-place.place 0 inside c.loop-place.invariant
-    (rw c.value.ensures at c.in_err-put_spaced.ensures))
+    rw (p.1)
+    (item_stops space_and_number _ _ _ c.args.values.now c.loop-place.place 0 inside
+    c.loop-place.invariant (rw c.value.ensures at c.in_err-put_spaced.ensures))
 
 pub loop-place-preserved : goal.loop-place-preserved
 loop-place-preserved g c =
     let inside : c.loop-place.place < length c.args.values.now = omega
     (arith, c.loop-place-test.true, c.len-place-end.ensures) in
-    item_sent space_and_number _ _ _ c.args.values.now c.loop-place.place 0 inside c.loop-place.invariant
-    (rw c.value.ensures at c.in_ok-put_spaced.ensures)
+    item_sent space_and_number _ _ _ c.args.values.now c.loop-place.place 0 inside
+    c.loop-place.invariant (rw c.value.ensures at c.in_ok-put_spaced.ensures)

@@ -8,5 +8,7 @@ use Rattle.rcu_stress.proofs.run.torture.Goals as goal
 
 pub deal_jobs-requires-clause-each_cpu : goal.deal_jobs-requires-clause-each_cpu
 deal_jobs-requires-clause-each_cpu g c =
-    rw c.in_ok-live.ensures.dealt.each_seat (All-map (λ seat. seat.cpu < c.args.workers) (at_first c.in_ok-live.live.table (base_of c.args.workers) tt)
-    (range_with_len 0 c.args.workers) (all_below c.args.workers))
+    rw c.in_ok-live.ensures.dealt.each_seat
+    (All-map (λ seat. seat.cpu < c.args.workers)
+    (at_first c.in_ok-live.live.table (base_of c.args.workers) tt) (range_with_len 0 c.args.workers)
+    (all_below c.args.workers))

@@ -14,10 +14,14 @@ returns-then-is_empty-clause-goes g c = λ opened lines text begun told kept.
 pub returns-in_err-reply_to-clause-goes : goal.returns-in_err-reply_to-clause-goes
 returns-in_err-reply_to-clause-goes g c = λ opened lines text begun told kept.
     let p = err_from_is_err_and c.from_residual.result c.from_residual.ensures.1 in
-    let e = kept_begun begun c.args.line.now c.extend.new.self c.args.front.now _ kept c.extend.ensures c.as_slice.ensures in
-    rw (p.1) (one_more _ _ _ opened lines text (begun ++ c.args.front.now) _ c.in_err-reply_to.ensures told e)
+    let e = kept_begun begun c.args.line.now c.extend.new.self c.args.front.now _ kept
+    c.extend.ensures c.as_slice.ensures in
+    rw (p.1)
+    (one_more _ _ _ opened lines text (begun ++ c.args.front.now) _ c.in_err-reply_to.ensures told
+    e)
 
 pub returns-clause-goes : goal.returns-clause-goes
 returns-clause-goes g c = λ opened lines text begun told kept.
-    let e = kept_begun begun c.args.line.now c.extend.new.self c.args.front.now _ kept c.extend.ensures c.as_slice.ensures in
+    let e = kept_begun begun c.args.line.now c.extend.new.self c.args.front.now _ kept
+    c.extend.ensures c.as_slice.ensures in
     one_more _ _ _ opened lines text (begun ++ c.args.front.now) _ c.in_ok-reply_to.ensures told e

@@ -9,8 +9,10 @@ invariant-loop-front g l = record {
   done : List ℕ;
   whole : l.piece ≡ done ++ l.rest;
   goes : (opened : g.row.A.Denot) (start : Out) (bytes : List ℕ)
-      → Underway (g.A.Responder.past opened l.fn.responder) start (g.O.Output.out l.fn.out) l.fn.line bytes
-      → Underway (g.A.Responder.past opened l.responder) start (g.O.Output.out l.out) l.line (bytes ++ done);
+      → Underway (g.A.Responder.past opened l.fn.responder) start (g.O.Output.out l.fn.out)
+      l.fn.line bytes
+      → Underway (g.A.Responder.past opened l.responder) start (g.O.Output.out l.out) l.line
+      (bytes ++ done);
   same : (g.O.Output.out l.out).name ≡ (g.O.Output.out l.fn.out).name;
 }
 

@@ -9,4 +9,5 @@ returns-in_err-put_reply-clause-bytes g c =
 
 pub returns-clause-bytes : goal.returns-clause-bytes
 returns-clause-bytes g c =
-    writes_flushed c.flush.result _ _ _ _ c.requires c.in_ok-put_reply.ensures c.flush.ensures.bytes c.flush.ensures.empty
+    writes_flushed c.flush.result _ _ _ _ c.requires c.in_ok-put_reply.ensures c.flush.ensures.bytes
+    c.flush.ensures.empty

@@ -8,6 +8,9 @@ use Rattle.rcu_cell.proofs.cell.Cell.fill.Given as goal
 abbrev pub invariant-loop-word : goal.invariant-loop-word
 invariant-loop-word g l =
     (stored : List ℕ)
-    × (l.seat ≡ after_word_step l.initial.seat (Keeper (slot_in l.initial.seat.view.client) (filled (slots_in l.initial.seat.view.client) l.slot stored)))
+    × (l.seat
+    ≡ after_word_step l.initial.seat
+    (Keeper (slot_in l.initial.seat.view.client)
+    (filled (slots_in l.initial.seat.view.client) l.slot stored)))
     × (length stored ≡ length l.words)
     × ((j : ℕ) → j < l.word → slice_index stored j ≡ slice_index l.words j)

@@ -11,5 +11,15 @@ open_for-requires g c =
     let r = c.requires in
     let e = c.in-Ok-Ok.ensures in
     let homes : Slots (Unit {0}) = map some c.new.result.items in
-    let client = starts g.F.Invariant.holds _ _ c.args.words.now c.in-Ok-Ok.behind.items homes r.sizes.some c.told-words e.words.size e.words.shown e.words.copied e.words.rest r.whole in
-    (omega arith, (r.fanouts, ((omega arith, omega arith), subst (λ (l : List ℕ). IsKept g.F.Invariant.holds _ _ l homes ((None, None, Owner) ∷ [])) (sym c.as_slice.ensures.value) client)))
+    let client = starts g.F.Invariant.holds _ _ c.args.words.now c.in-Ok-Ok.behind.items homes
+    r.sizes.some c.told-words e.words.size e.words.shown e.words.copied e.words.rest r.whole in (
+      omega arith,
+      (
+        r.fanouts,
+        (
+          (omega arith, omega arith),
+          subst (λ (l : List ℕ). IsKept g.F.Invariant.holds _ _ l homes ((None, None, Owner) ∷ []))
+              (sym c.as_slice.ensures.value) client,
+        ),
+      ),
+    )

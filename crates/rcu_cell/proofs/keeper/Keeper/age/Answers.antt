@@ -12,7 +12,9 @@ invariant_of-self g c =
     let n = c.look-number.result in
     let was : IsKeptBeside _ old items c.self.inside.shown =
     record { keeps = k.keeps; same = k.shown; states = k.states; sized = k.sized } in
-    let now = kept_aged _ old c.look-number.new.seat items c.age_all.new.states.items c.self.inside.shown n was c.look-number.ensures.state.state c.age_all.ensures in record {
+    let now = kept_aged _ old c.look-number.new.seat items c.age_all.new.states.items
+    c.self.inside.shown n was c.look-number.ensures.state.state c.age_all.ensures in
+    record {
       keeps = now.keeps;
       shown = now.same;
       inside = k.inside;

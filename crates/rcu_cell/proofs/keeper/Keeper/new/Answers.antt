@@ -10,12 +10,19 @@ use Rattle.rcu_cell.proofs.keeper.Keeper.new.Goals as goal
 pub invariant_of-result : goal.invariant_of-result
 invariant_of-result g c =
     let t = c.claim.ensures.told in
-    let states = c.requires.states in record {
+    let states = c.requires.states in
+    record {
       keeps = subst IsKeeping (sym t.is) tt;
       shown = ap slot_in t.is;
       inside = c.requires.some;
       states =
-          ap (λ (k : Known). map state_of (slots_in k)) t.is ∙ states_first _ _ t.words c.requires.some ∙ sym states;
-      count = ap (λ (l : List SlotState). length l) states ∙ length-set _ 0 Shown ∙ length-replicate _ Free;
-      sized = subst (λ (k : Known). AreSized _ (slots_in k)) (sym t.is) (sized_first _ _ t.words t.size);
+          ap (λ (k : Known). map state_of (slots_in k)) t.is
+          ∙ states_first _ _ t.words c.requires.some
+          ∙ sym states;
+      count =
+          ap (λ (l : List SlotState). length l) states
+          ∙ length-set _ 0 Shown
+          ∙ length-replicate _ Free;
+      sized = subst (λ (k : Known). AreSized _ (slots_in k)) (sym t.is)
+          (sized_first _ _ t.words t.size);
     }

@@ -18,12 +18,16 @@ invariant_of-self g c =
     (sym c.self.view_is) c.in-Some.ensures.first in
     let was : IsKeptBeside _ old items c.self.inside.shown =
     record { keeps = k.keeps; same = k.shown; states = k.states; sized = k.sized } in
-    let now = kept_updated _ old c.fill.new.seat c.show.new.seat items c.self.inside.shown c.in-Some.by c.args.words.now was first c.told-words c.fill.ensures c.show.ensures in record {
+    let now = kept_updated _ old c.fill.new.seat c.show.new.seat items c.self.inside.shown
+    c.in-Some.by c.args.words.now was first c.told-words c.fill.ensures c.show.ensures in
+    record {
       keeps = now.keeps;
       shown = now.same;
       inside =
-          let many = as_many (slots_in old.view.client) items k.states in omega (arith, many, first.inside, k.count);
+          let many = as_many (slots_in old.view.client) items k.states in
+          omega (arith, many, first.inside, k.count);
       states = now.states;
-      count = length-set _ c.in-Some.by Shown ∙ length-set items c.self.inside.shown Replaced ∙ k.count;
+      count =
+          length-set _ c.in-Some.by Shown ∙ length-set items c.self.inside.shown Replaced ∙ k.count;
       sized = now.sized;
     }

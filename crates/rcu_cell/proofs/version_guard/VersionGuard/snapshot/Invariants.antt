@@ -7,4 +7,5 @@ abbrev pub invariant-loop-word : goal.invariant-loop-word
 invariant-loop-word g l =
     (lent l.self ≡ lent l.initial.self)
     × (length l.words ≡ length l.initial.words)
-    × ((j : ℕ) → j < l.word → slice_index l.words j ≡ slice_index (version_of (lent l.initial.self)) j)
+    × ((j : ℕ) → j < l.word → slice_index l.words j
+    ≡ slice_index (version_of (lent l.initial.self)) j)

@@ -16,4 +16,5 @@ pub returns-clause-here : goal.returns-clause-here
 returns-clause-here g c =
     let s = c.args.self.now in
     rw (returns-clause-value g c)
-    (lies_below s (leaf_of s c.args.cpu) (levels s - 1) _ (leaf_lies s c.args.cpu c.start.ensures.shape c.requires))
+    (lies_below s (leaf_of s c.args.cpu) (levels s - 1) _
+    (leaf_lies s c.args.cpu c.start.ensures.shape c.requires))

@@ -12,5 +12,6 @@ returns-clause-few g c =
 pub returns-clause-leaves : goal.returns-clause-leaves
 returns-clause-leaves g c last =
     let next = start_next c.args.self.now c.args.i in
-    let difference : c.start.result - c.start-2.result ≡ level_nodes c.args.self.now c.args.i = omega arith in
+    let difference : c.start.result - c.start-2.result ≡ level_nodes c.args.self.now c.args.i =
+    omega arith in
     difference ∙ leaves_by c.args.self.now c.args.i g.row.LEAF last c.start.ensures.leaf

@@ -14,8 +14,8 @@ returns-then-node-start-clause-value g c =
     let range = levels_range c.args.self.now in
     let end = c.loop-i-test.true in let from = c.loop-i.auto.i in let last = c.loop-i.auto.i-end in
     let start = c.start.ensures.value in let before = c.if-node-start.true in
-    level_by c.args.self.now c.args.node (c.loop-i.i - 1) c.loop-i.i (omega arith) (omega arith) c.loop-i.invariant
-    (omega arith)
+    level_by c.args.self.now c.args.node (c.loop-i.i - 1) c.loop-i.i (omega arith) (omega arith)
+    c.loop-i.invariant (omega arith)
 
 pub overflow_sub-result-2 : goal.overflow_sub-result-2
 overflow_sub-result-2 g c =

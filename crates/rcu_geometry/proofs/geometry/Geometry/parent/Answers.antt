@@ -3,14 +3,16 @@ use Rattle.rcu_geometry.proofs.Places.{has_parent, parent_by}
 use Rattle.rcu_geometry.proofs.geometry.Geometry.parent.Goals as goal
 
 pub overflow_sub-level : goal.overflow_sub-level
-overflow_sub-level g c = c.level_of-level.ensures.below_root (let other = c.if-node-eq0.false in grind (arith, other))
+overflow_sub-level g c =
+    c.level_of-level.ensures.below_root (let other = c.if-node-eq0.false in grind (arith, other))
 
 pub overflow_add-result : goal.overflow_add-result
 overflow_add-result g c =
     let s = c.args.self.now in
     let value =
     parent_by s c.args.node c.level_of-level.result c.start.result c.start-2.result g.row.FAN
-    (sym c.start.ensures.fanout) c.level_of-level.ensures.value c.start.ensures.value c.start-2.ensures.value in
+    (sym c.start.ensures.fanout) c.level_of-level.ensures.value c.start.ensures.value
+    c.start-2.ensures.value in
     let up =
     has_parent s c.args.node c.start.ensures.shape
     (let other = c.if-node-eq0.false in grind (arith, other)) c.requires in
@@ -21,7 +23,8 @@ returns g c =
     let s = c.args.self.now in
     let value =
     parent_by s c.args.node c.level_of-level.result c.start.result c.start-2.result g.row.FAN
-    (sym c.start.ensures.fanout) c.level_of-level.ensures.value c.start.ensures.value c.start-2.ensures.value in
+    (sym c.start.ensures.fanout) c.level_of-level.ensures.value c.start.ensures.value
+    c.start-2.ensures.value in
     let up =
     has_parent s c.args.node c.start.ensures.shape
     (let other = c.if-node-eq0.false in grind (arith, other)) c.requires in

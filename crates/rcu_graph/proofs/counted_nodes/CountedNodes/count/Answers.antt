@@ -4,7 +4,8 @@ use Rattle.rcu_graph.proofs.counted_nodes.CountedNodes.count.Goals as goal
 
 pub index_mut-requires : goal.index_mut-requires
 index_mut-requires g c =
-    let inside = c.requires.inside c.in-Some.node (sym c.in-Some.ensures) in omega (arith, inside, c.args.self.now.counts.ok.0)
+    let inside = c.requires.inside c.in-Some.node (sym c.in-Some.ensures) in
+    omega (arith, inside, c.args.self.now.counts.ok.0)
 
 pub overflow_add-index_mut : goal.overflow_add-index_mut
 overflow_add-index_mut g c =

@@ -1,4 +1,5 @@
-use Rattle.std.proofs.Common.{◌≡◌, ◌∙◌, ◌+◌, ◌<◌, ℕ, List, ap, arith, get_or, length, refl, suc, sym}
+use Rattle.std.proofs.Common.{◌≡◌, ◌∙◌, ◌+◌, ◌<◌, ℕ, List, ap, arith, get_or, length, refl, suc}
+use Rattle.std.proofs.Common.{sym}
 use Rattle.std.specs.Prelude.{nat_eq, slice_index}
 use Rattle.rcu_live.specs.Watcher.{Watching}
 use Rattle.rcu_graph.specs.Counts.{one_if}
@@ -10,7 +11,12 @@ use Rattle.rcu_graph.proofs.Tending.{counted_up_at}
 use Rattle.rcu_graph.proofs.counted_nodes.CountedNodes.count_links_of.Goals as goal
 
 pub loop-link-init : goal.loop-link-init
-loop-link-init g c = record { nodes = refl; leaving = refl; many = c.requires.many; counts = λ k low. omega arith }
+loop-link-init g c = record {
+  nodes = refl;
+  leaving = refl;
+  many = c.requires.many;
+  counts = λ k low. omega arith;
+}
 
 pub link_word-word-requires : goal.link_word-word-requires
 link_word-word-requires g c = (omega arith, (c.requires.node, c.loop-link-test.true))
@@ -22,9 +28,13 @@ count-requires g c =
     let links : List ℕ = (node_at (nodes_in c.args.self.now.nodes.view.client) c.args.node).links in
     let long : length links ≡ g.row.L = (c.sizes.ensures.sized c.args.node c.requires.node).0 in
     let here : l < length links = omega (arith, long, c.loop-link-test.true) in
-    let word_is : c.link_word-word.result ≡ get_or links l 0 = c.link_word-word.ensures
-    ∙ ap (λ (w : Watching Known). slice_index (node_at (nodes_in w.view.client) c.args.node).links l) i.nodes in
-    let inside : (k : ℕ) → c.link_word-word.result ≡ suc k → k < g.row.N = λ k is. c.requires.inside l 0 here k (sym word_is ∙ is) in (
+    let word_is : c.link_word-word.result ≡ get_or links l 0 =
+    c.link_word-word.ensures
+    ∙ ap
+    (λ (w : Watching Known). slice_index (node_at (nodes_in w.view.client) c.args.node).links l)
+    i.nodes in
+    let inside : (k : ℕ) → c.link_word-word.result ≡ suc k → k < g.row.N =
+    λ k is. c.requires.inside l 0 here k (sym word_is ∙ is) in (
       omega arith,
       (
         (λ k is. let a = inside k is in omega (arith, a, i.many)),
@@ -33,7 +43,8 @@ count-requires g c =
             let a = i.counts k low in
             let b = times_more links l (suc k) here in
             let d = times_le links (l + 1) (suc k) in
-            let one : one_if (nat_eq (get_or links l 0) (suc k)) ≡ 1 = one_same (get_or links l 0) (suc k) (sym word_is ∙ is) in
+            let one : one_if (nat_eq (get_or links l 0) (suc k)) ≡ 1 =
+            one_same (get_or links l 0) (suc k) (sym word_is ∙ is) in
             let few = c.requires.few k low in
             omega (arith, a, b, d, one, few)),
       ),
@@ -48,19 +59,28 @@ loop-link-preserved g c =
     let links : List ℕ = (node_at (nodes_in c.args.self.now.nodes.view.client) c.args.node).links in
     let long : length links ≡ g.row.L = (c.sizes.ensures.sized c.args.node c.requires.node).0 in
     let here : l < length links = omega (arith, long, c.loop-link-test.true) in
-    let word_is : word ≡ get_or links l 0 = c.link_word-word.ensures
-    ∙ ap (λ (w : Watching Known). slice_index (node_at (nodes_in w.view.client) c.args.node).links l) i.nodes in
+    let word_is : word ≡ get_or links l 0 =
+    c.link_word-word.ensures
+    ∙ ap
+    (λ (w : Watching Known). slice_index (node_at (nodes_in w.view.client) c.args.node).links l)
+    i.nodes in
     let inside : (k : ℕ) → word ≡ suc k → k < length old =
-    λ k is. let a = c.requires.inside l 0 here k (sym word_is ∙ is) in omega (arith, a, i.many) in record {
+    λ k is. let a = c.requires.inside l 0 here k (sym word_is ∙ is) in omega (arith, a, i.many) in
+    record {
       nodes = c.count.ensures.nodes ∙ i.nodes;
       leaving = c.count.ensures.leaving ∙ i.leaving;
-      many = ap (λ (x : List ℕ). length x) c.count.ensures.counts ∙ (Rattle.rcu_graph.proofs.Cascade.as_many_up old word ∙ i.many);
+      many =
+          ap (λ (x : List ℕ). length x) c.count.ensures.counts
+          ∙ (Rattle.rcu_graph.proofs.Cascade.as_many_up old word ∙ i.many);
       counts = λ k low.
           let a = i.counts k low in
           let b = times_more links l (suc k) here in
-          let d : slice_index c.count.new.self.counts.items k ≡ slice_index old k + one_if (nat_eq word (suc k)) =
-          ap (λ (x : List ℕ). slice_index x k) c.count.ensures.counts ∙ counted_up_at old word k inside in
-          let e : one_if (nat_eq word (suc k)) ≡ one_if (nat_eq (get_or links l 0) (suc k)) = ap (λ (x : ℕ). one_if (nat_eq x (suc k))) word_is in
+          let d : slice_index c.count.new.self.counts.items k
+          ≡ slice_index old k + one_if (nat_eq word (suc k)) =
+          ap (λ (x : List ℕ). slice_index x k) c.count.ensures.counts
+          ∙ counted_up_at old word k inside in
+          let e : one_if (nat_eq word (suc k)) ≡ one_if (nat_eq (get_or links l 0) (suc k)) =
+          ap (λ (x : ℕ). one_if (nat_eq x (suc k))) word_is in
           omega (arith, a, b, d, e);
     }
 
@@ -78,6 +98,7 @@ returns-clause-counts g c = λ k low.
     let a = c.loop-link.invariant.counts k low in
     let links : List ℕ = (node_at (nodes_in c.args.self.now.nodes.view.client) c.args.node).links in
     let long : length links ≡ g.row.L = (c.sizes.ensures.sized c.args.node c.requires.node).0 in
-    let end : length links ≡ c.loop-link.link = omega (arith, long, c.loop-link-test.false, c.loop-link.auto.link-end) in
+    let end : length links ≡ c.loop-link.link =
+    omega (arith, long, c.loop-link-test.false, c.loop-link.auto.link-end) in
     let b = times_all links c.loop-link.link (suc k) end in
     omega (arith, a, b)

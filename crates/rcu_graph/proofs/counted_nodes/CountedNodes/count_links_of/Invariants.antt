@@ -9,6 +9,10 @@ invariant-loop-link g l = record {
   nodes : l.self.nodes ≡ l.initial.self.nodes;
   leaving : l.self.leaving ≡ l.initial.self.leaving;
   many : length l.self.counts.items ≡ g.row.N;
-  counts : (k : ℕ) → k < g.row.N → slice_index l.self.counts.items k ≡ slice_index l.initial.self.counts.items k
-      + times_in (take l.link (node_at (nodes_in l.initial.self.nodes.view.client) l.node).links) (suc k);
+  counts : (k : ℕ)
+      → k < g.row.N
+      → slice_index l.self.counts.items k
+      ≡ slice_index l.initial.self.counts.items k
+      + times_in (take l.link (node_at (nodes_in l.initial.self.nodes.view.client) l.node).links)
+      (suc k);
 }

@@ -6,25 +6,31 @@ use Rattle.rcu_graph.specs.Nodes.{in_state, is_live, nodes_in, renewed, state_at
 use Rattle.rcu_graph.specs.Trimming.{IsTrimming}
 use Rattle.rcu_graph.specs.declared.known.Node.{Node}
 use Rattle.rcu_graph.specs.declared.node_state.NodeState.TheVariants.{Left, Live}
-use Rattle.rcu_graph.proofs.Cascade.{led_counted, led_inside, led_within, let_go_kept, let_go_left, let_go_nowhere, let_go_unlinked, nodes_are, room_left}
+use Rattle.rcu_graph.proofs.Cascade.{led_counted, led_inside, led_within, let_go_kept, let_go_left}
+use Rattle.rcu_graph.proofs.Cascade.{let_go_nowhere, let_go_unlinked, nodes_are, room_left}
 use Rattle.rcu_graph.proofs.Counting.{test_live}
 use Rattle.rcu_graph.proofs.counted_nodes.CountedNodes.let_go.Goals as goal
 
 pub returns-in_default-clause-trimming : goal.returns-in_default-clause-trimming
 returns-in_default-clause-trimming g c = λ stored from words t.
-    let_go_nowhere g.row.N g.row.K g.row.L stored (nodes_in c.args.self.now.nodes.view.client) c.args.self.now.counts.items c.args.self.now.leaving.items from c.args.left words c.args.word
+    let_go_nowhere g.row.N g.row.K g.row.L stored (nodes_in c.args.self.now.nodes.view.client)
+    c.args.self.now.counts.items c.args.self.now.leaving.items from c.args.left words c.args.word
     (sym c.node_of.ensures ∙ ap word_to c.in_default.is) t
 
 pub index-requires : goal.index-requires
 index-requires g c =
     let r = c.requires.trimming in
-    let low = led_within g.row.N g.row.K g.row.L r.0 (nodes_in c.args.self.now.nodes.view.client) c.args.self.now.counts.items c.args.self.now.leaving.items r.1 c.args.left r.2 c.in-Some.node c.args.word c.in-Some.ensures r.3 in
+    let low = led_within g.row.N g.row.K g.row.L r.0 (nodes_in c.args.self.now.nodes.view.client)
+    c.args.self.now.counts.items c.args.self.now.leaving.items r.1 c.args.left r.2 c.in-Some.node
+    c.args.word c.in-Some.ensures r.3 in
     omega (arith, low, c.args.self.now.counts.ok.0)
 
 pub index_mut-requires : goal.index_mut-requires
 index_mut-requires g c =
     let r = c.requires.trimming in
-    let low = led_within g.row.N g.row.K g.row.L r.0 (nodes_in c.args.self.now.nodes.view.client) c.args.self.now.counts.items c.args.self.now.leaving.items r.1 c.args.left r.2 c.in-Some.node c.args.word c.in-Some.ensures r.3 in
+    let low = led_within g.row.N g.row.K g.row.L r.0 (nodes_in c.args.self.now.nodes.view.client)
+    c.args.self.now.counts.items c.args.self.now.leaving.items r.1 c.args.left r.2 c.in-Some.node
+    c.args.word c.in-Some.ensures r.3 in
     omega (arith, low, c.args.self.now.counts.ok.0)
 
 pub overflow_sub-count : goal.overflow_sub-count
@@ -33,9 +39,12 @@ overflow_sub-count g c =
     let nodes : List Node = nodes_in c.args.self.now.nodes.view.client in
     let counts : List ℕ = c.args.self.now.counts.items in
     let leaving : List ℕ = c.args.self.now.leaving.items in
-    let low = led_within g.row.N g.row.K g.row.L r.0 nodes counts leaving r.1 c.args.left r.2 c.in-Some.node c.args.word c.in-Some.ensures r.3 in
-    let some = led_counted g.row.N g.row.K g.row.L r.0 nodes counts leaving r.1 c.args.left r.2 c.in-Some.node c.args.word c.in-Some.ensures r.3 in
-    let value : c.index.result.now ≡ get_or counts c.in-Some.node 0 = get_or_read counts c.in-Some.node _ low c.index.ensures 0 in
+    let low = led_within g.row.N g.row.K g.row.L r.0 nodes counts leaving r.1 c.args.left r.2
+    c.in-Some.node c.args.word c.in-Some.ensures r.3 in
+    let some = led_counted g.row.N g.row.K g.row.L r.0 nodes counts leaving r.1 c.args.left r.2
+    c.in-Some.node c.args.word c.in-Some.ensures r.3 in
+    let value : c.index.result.now ≡ get_or counts c.in-Some.node 0 =
+    get_or_read counts c.in-Some.node _ low c.index.ensures 0 in
     omega (arith, some, value)
 
 pub returns-then-count-gt0-clause-trimming : goal.returns-then-count-gt0-clause-trimming
@@ -43,37 +52,56 @@ returns-then-count-gt0-clause-trimming g c = λ stored from words t.
     let nodes : List Node = nodes_in c.args.self.now.nodes.view.client in
     let counts : List ℕ = c.args.self.now.counts.items in
     let leaving : List ℕ = c.args.self.now.leaving.items in
-    let low = led_within g.row.N g.row.K g.row.L stored nodes counts leaving from c.args.left words c.in-Some.node c.args.word c.in-Some.ensures t in
-    let some = led_counted g.row.N g.row.K g.row.L stored nodes counts leaving from c.args.left words c.in-Some.node c.args.word c.in-Some.ensures t in
-    let value : c.index.result.now ≡ get_or counts c.in-Some.node 0 = get_or_read counts c.in-Some.node _ low c.index.ensures 0 in
-    let_go_kept g.row.N g.row.K g.row.L stored nodes counts leaving from c.args.left words c.in-Some.node c.args.word c.in-Some.ensures t (c.index.result.now - 1) (omega (arith, some, value)) (λ live past. c.if-count-gt0.true)
+    let low = led_within g.row.N g.row.K g.row.L stored nodes counts leaving from c.args.left words
+    c.in-Some.node c.args.word c.in-Some.ensures t in
+    let some = led_counted g.row.N g.row.K g.row.L stored nodes counts leaving from c.args.left
+    words c.in-Some.node c.args.word c.in-Some.ensures t in
+    let value : c.index.result.now ≡ get_or counts c.in-Some.node 0 =
+    get_or_read counts c.in-Some.node _ low c.index.ensures 0 in
+    let_go_kept g.row.N g.row.K g.row.L stored nodes counts leaving from c.args.left words
+    c.in-Some.node c.args.word c.in-Some.ensures t (c.index.result.now - 1)
+    (omega (arith, some, value)) (λ live past. c.if-count-gt0.true)
 
 pub returns-then-node-clause-trimming : goal.returns-then-node-clause-trimming
 returns-then-node-clause-trimming g c = λ stored from words t.
     let nodes : List Node = nodes_in c.args.self.now.nodes.view.client in
     let counts : List ℕ = c.args.self.now.counts.items in
     let leaving : List ℕ = c.args.self.now.leaving.items in
-    let low = led_within g.row.N g.row.K g.row.L stored nodes counts leaving from c.args.left words c.in-Some.node c.args.word c.in-Some.ensures t in
-    let some = led_counted g.row.N g.row.K g.row.L stored nodes counts leaving from c.args.left words c.in-Some.node c.args.word c.in-Some.ensures t in
-    let value : c.index.result.now ≡ get_or counts c.in-Some.node 0 = get_or_read counts c.in-Some.node _ low c.index.ensures 0 in
-    let_go_kept g.row.N g.row.K g.row.L stored nodes counts leaving from c.args.left words c.in-Some.node c.args.word c.in-Some.ensures t (c.index.result.now - 1) (omega (arith, some, value))
-    (λ live past. absurd (omega (arith, past, c.if-node.true)))
+    let low = led_within g.row.N g.row.K g.row.L stored nodes counts leaving from c.args.left words
+    c.in-Some.node c.args.word c.in-Some.ensures t in
+    let some = led_counted g.row.N g.row.K g.row.L stored nodes counts leaving from c.args.left
+    words c.in-Some.node c.args.word c.in-Some.ensures t in
+    let value : c.index.result.now ≡ get_or counts c.in-Some.node 0 =
+    get_or_read counts c.in-Some.node _ low c.index.ensures 0 in
+    let_go_kept g.row.N g.row.K g.row.L stored nodes counts leaving from c.args.left words
+    c.in-Some.node c.args.word c.in-Some.ensures t (c.index.result.now - 1)
+    (omega (arith, some, value)) (λ live past. absurd (omega (arith, past, c.if-node.true)))
 
 pub state-requires : goal.state-requires
 state-requires g c =
-    let r = c.requires.trimming in
-    (omega arith, led_inside g.row.N g.row.K g.row.L r.0 (nodes_in c.args.self.now.nodes.view.client) c.args.self.now.counts.items c.args.self.now.leaving.items r.1 c.args.left r.2 c.in-Some.node c.args.word c.in-Some.ensures r.3)
+    let r = c.requires.trimming in (
+      omega arith,
+      led_inside g.row.N g.row.K g.row.L r.0 (nodes_in c.args.self.now.nodes.view.client)
+          c.args.self.now.counts.items c.args.self.now.leaving.items r.1 c.args.left r.2
+          c.in-Some.node c.args.word c.in-Some.ensures r.3,
+    )
 
 pub returns-then-not-is_live-clause-trimming : goal.returns-then-not-is_live-clause-trimming
 returns-then-not-is_live-clause-trimming g c = λ stored from words t.
     let nodes : List Node = nodes_in c.args.self.now.nodes.view.client in
     let counts : List ℕ = c.args.self.now.counts.items in
     let leaving : List ℕ = c.args.self.now.leaving.items in
-    let low = led_within g.row.N g.row.K g.row.L stored nodes counts leaving from c.args.left words c.in-Some.node c.args.word c.in-Some.ensures t in
-    let some = led_counted g.row.N g.row.K g.row.L stored nodes counts leaving from c.args.left words c.in-Some.node c.args.word c.in-Some.ensures t in
-    let value : c.index.result.now ≡ get_or counts c.in-Some.node 0 = get_or_read counts c.in-Some.node _ low c.index.ensures 0 in
-    let_go_kept g.row.N g.row.K g.row.L stored nodes counts leaving from c.args.left words c.in-Some.node c.args.word c.in-Some.ensures t (c.index.result.now - 1) (omega (arith, some, value))
-    (λ live past. absurd (false≢true (sym c.if-not-is_live.true ∙ (c.is_live.ensures ∙ ap is_live (c.state.ensures ∙ live)))))
+    let low = led_within g.row.N g.row.K g.row.L stored nodes counts leaving from c.args.left words
+    c.in-Some.node c.args.word c.in-Some.ensures t in
+    let some = led_counted g.row.N g.row.K g.row.L stored nodes counts leaving from c.args.left
+    words c.in-Some.node c.args.word c.in-Some.ensures t in
+    let value : c.index.result.now ≡ get_or counts c.in-Some.node 0 =
+    get_or_read counts c.in-Some.node _ low c.index.ensures 0 in
+    let_go_kept g.row.N g.row.K g.row.L stored nodes counts leaving from c.args.left words
+    c.in-Some.node c.args.word c.in-Some.ensures t (c.index.result.now - 1)
+    (omega (arith, some, value))
+    (λ live past. absurd (false≢true
+    (sym c.if-not-is_live.true ∙ (c.is_live.ensures ∙ ap is_live (c.state.ensures ∙ live)))))
 
 pub leave-requires : goal.leave-requires
 leave-requires g c =
@@ -81,23 +109,31 @@ leave-requires g c =
     let nodes : List Node = nodes_in c.args.self.now.nodes.view.client in
     let counts : List ℕ = c.args.self.now.counts.items in
     let leaving : List ℕ = c.args.self.now.leaving.items in
-    let low = led_within g.row.N g.row.K g.row.L r.0 nodes counts leaving r.1 c.args.left r.2 c.in-Some.node c.args.word c.in-Some.ensures r.3 in
-    let some = led_counted g.row.N g.row.K g.row.L r.0 nodes counts leaving r.1 c.args.left r.2 c.in-Some.node c.args.word c.in-Some.ensures r.3 in
-    let value : c.index.result.now ≡ get_or counts c.in-Some.node 0 = get_or_read counts c.in-Some.node _ low c.index.ensures 0 in
+    let low = led_within g.row.N g.row.K g.row.L r.0 nodes counts leaving r.1 c.args.left r.2
+    c.in-Some.node c.args.word c.in-Some.ensures r.3 in
+    let some = led_counted g.row.N g.row.K g.row.L r.0 nodes counts leaving r.1 c.args.left r.2
+    c.in-Some.node c.args.word c.in-Some.ensures r.3 in
+    let value : c.index.result.now ≡ get_or counts c.in-Some.node 0 =
+    get_or_read counts c.in-Some.node _ low c.index.ensures 0 in
     let live : state_at nodes c.in-Some.node ≡ Live =
-    test_live (state_at nodes c.in-Some.node) (sym (c.is_live.ensures ∙ ap is_live c.state.ensures) ∙ c.if-not-is_live.false) in (
+    test_live (state_at nodes c.in-Some.node)
+    (sym (c.is_live.ensures ∙ ap is_live c.state.ensures) ∙ c.if-not-is_live.false) in (
       omega arith,
       (
         omega arith,
         (
           c.requires.graph,
           (
-            led_inside g.row.N g.row.K g.row.L r.0 nodes counts leaving r.1 c.args.left r.2 c.in-Some.node c.args.word c.in-Some.ensures r.3,
+            led_inside g.row.N g.row.K g.row.L r.0 nodes counts leaving r.1 c.args.left r.2
+                c.in-Some.node c.args.word c.in-Some.ensures r.3,
             (
               c.if-node.false,
               (
                 live,
-                let_go_unlinked g.row.N g.row.K g.row.L r.0 nodes counts leaving r.1 c.args.left r.2 c.in-Some.node c.args.word c.in-Some.ensures r.3 (c.index.result.now - 1) (omega (arith, some, value)) live c.if-node.false (omega (arith, c.if-count-gt0.false)),
+                let_go_unlinked g.row.N g.row.K g.row.L r.0 nodes counts leaving r.1 c.args.left r.2
+                    c.in-Some.node c.args.word c.in-Some.ensures r.3 (c.index.result.now - 1)
+                    (omega (arith, some, value)) live c.if-node.false
+                    (omega (arith, c.if-count-gt0.false)),
               ),
             ),
           ),
@@ -110,8 +146,10 @@ index_mut-requires-2 g c =
     let r = c.requires.trimming in
     let nodes : List Node = nodes_in c.args.self.now.nodes.view.client in
     let live : state_at nodes c.in-Some.node ≡ Live =
-    test_live (state_at nodes c.in-Some.node) (sym (c.is_live.ensures ∙ ap is_live c.state.ensures) ∙ c.if-not-is_live.false) in
-    let room = room_left g.row.N g.row.K g.row.L r.0 nodes c.args.self.now.counts.items c.args.self.now.leaving.items r.1 c.args.left (c.args.word ∷ r.2) c.in-Some.node r.3 live in
+    test_live (state_at nodes c.in-Some.node)
+    (sym (c.is_live.ensures ∙ ap is_live c.state.ensures) ∙ c.if-not-is_live.false) in
+    let room = room_left g.row.N g.row.K g.row.L r.0 nodes c.args.self.now.counts.items
+    c.args.self.now.leaving.items r.1 c.args.left (c.args.word ∷ r.2) c.in-Some.node r.3 live in
     omega (arith, room, c.args.self.now.leaving.ok.0)
 
 pub overflow_add-result : goal.overflow_add-result
@@ -119,8 +157,10 @@ overflow_add-result g c =
     let r = c.requires.trimming in
     let nodes : List Node = nodes_in c.args.self.now.nodes.view.client in
     let live : state_at nodes c.in-Some.node ≡ Live =
-    test_live (state_at nodes c.in-Some.node) (sym (c.is_live.ensures ∙ ap is_live c.state.ensures) ∙ c.if-not-is_live.false) in
-    let room = room_left g.row.N g.row.K g.row.L r.0 nodes c.args.self.now.counts.items c.args.self.now.leaving.items r.1 c.args.left (c.args.word ∷ r.2) c.in-Some.node r.3 live in
+    test_live (state_at nodes c.in-Some.node)
+    (sym (c.is_live.ensures ∙ ap is_live c.state.ensures) ∙ c.if-not-is_live.false) in
+    let room = room_left g.row.N g.row.K g.row.L r.0 nodes c.args.self.now.counts.items
+    c.args.self.now.leaving.items r.1 c.args.left (c.args.word ∷ r.2) c.in-Some.node r.3 live in
     let many = r.3.room in
     omega (arith, room, many, g.N.fits)
 
@@ -129,11 +169,20 @@ returns-clause-trimming g c = λ stored from words t.
     let nodes : List Node = nodes_in c.args.self.now.nodes.view.client in
     let counts : List ℕ = c.args.self.now.counts.items in
     let leaving : List ℕ = c.args.self.now.leaving.items in
-    let low = led_within g.row.N g.row.K g.row.L stored nodes counts leaving from c.args.left words c.in-Some.node c.args.word c.in-Some.ensures t in
-    let some = led_counted g.row.N g.row.K g.row.L stored nodes counts leaving from c.args.left words c.in-Some.node c.args.word c.in-Some.ensures t in
-    let value : c.index.result.now ≡ get_or counts c.in-Some.node 0 = get_or_read counts c.in-Some.node _ low c.index.ensures 0 in
+    let low = led_within g.row.N g.row.K g.row.L stored nodes counts leaving from c.args.left words
+    c.in-Some.node c.args.word c.in-Some.ensures t in
+    let some = led_counted g.row.N g.row.K g.row.L stored nodes counts leaving from c.args.left
+    words c.in-Some.node c.args.word c.in-Some.ensures t in
+    let value : c.index.result.now ≡ get_or counts c.in-Some.node 0 =
+    get_or_read counts c.in-Some.node _ low c.index.ensures 0 in
     let live : state_at nodes c.in-Some.node ≡ Live =
-    test_live (state_at nodes c.in-Some.node) (sym (c.is_live.ensures ∙ ap is_live c.state.ensures) ∙ c.if-not-is_live.false) in
-    subst (λ (l : List Node). IsTrimming g.row.N g.row.K g.row.L stored l (set counts c.in-Some.node (c.index.result.now - 1)) (set leaving c.args.left c.in-Some.node) from (c.args.left + 1) words)
-    (sym (nodes_are c.args.self.now.nodes c.leave.new.self (renewed nodes c.in-Some.node (in_state Left)) c.leave.ensures.state))
-    (let_go_left g.row.N g.row.K g.row.L stored nodes counts leaving from c.args.left words c.in-Some.node c.args.word c.in-Some.ensures t (c.index.result.now - 1) (omega (arith, some, value)) live c.if-node.false (omega (arith, c.if-count-gt0.false)))
+    test_live (state_at nodes c.in-Some.node)
+    (sym (c.is_live.ensures ∙ ap is_live c.state.ensures) ∙ c.if-not-is_live.false) in
+    subst (λ (l : List Node). IsTrimming g.row.N g.row.K g.row.L stored l
+    (set counts c.in-Some.node (c.index.result.now - 1)) (set leaving c.args.left c.in-Some.node)
+    from (c.args.left + 1) words)
+    (sym (nodes_are c.args.self.now.nodes c.leave.new.self
+    (renewed nodes c.in-Some.node (in_state Left)) c.leave.ensures.state))
+    (let_go_left g.row.N g.row.K g.row.L stored nodes counts leaving from c.args.left words
+    c.in-Some.node c.args.word c.in-Some.ensures t (c.index.result.now - 1)
+    (omega (arith, some, value)) live c.if-node.false (omega (arith, c.if-count-gt0.false)))

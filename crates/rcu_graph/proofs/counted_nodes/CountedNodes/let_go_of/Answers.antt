@@ -31,8 +31,13 @@ let_go-gone-requires g c =
             t.0,
             t.1,
             rest,
-            subst (λ (w : ℕ). IsTrimming g.row.N g.row.K g.row.L t.0 nodes c.loop-link.self.counts.items c.loop-link.self.leaving.items t.1 c.loop-link.gone (w ∷ rest)) (sym c.link_word-word.ensures)
-                (next_link g.row.N g.row.K g.row.L t.0 nodes c.loop-link.self.counts.items c.loop-link.self.leaving.items t.1 c.loop-link.gone c.args.node c.requires.node l c.loop-link-test.true (i.trimming t.0 t.1 t.2)),
+            subst (λ (w : ℕ). IsTrimming g.row.N g.row.K g.row.L t.0 nodes
+                c.loop-link.self.counts.items c.loop-link.self.leaving.items t.1 c.loop-link.gone
+                (w ∷ rest))
+                (sym c.link_word-word.ensures)
+                (next_link g.row.N g.row.K g.row.L t.0 nodes c.loop-link.self.counts.items
+                c.loop-link.self.leaving.items t.1 c.loop-link.gone c.args.node c.requires.node l
+                c.loop-link-test.true (i.trimming t.0 t.1 t.2)),
           ),
         ),
       ),
@@ -42,14 +47,21 @@ pub loop-link-preserved : goal.loop-link-preserved
 loop-link-preserved g c =
     let i = c.loop-link.invariant in
     let l = c.loop-link.link in
-    let nodes : List Node = nodes_in c.loop-link.self.nodes.view.client in record {
+    let nodes : List Node = nodes_in c.loop-link.self.nodes.view.client in
+    record {
       graph = c.let_go-gone.ensures.graph;
-      state = step_on c.args.self.now.nodes c.loop-link.self.nodes c.let_go-gone.new.self.nodes i.state c.let_go-gone.ensures.state;
+      state = step_on c.args.self.now.nodes c.loop-link.self.nodes c.let_go-gone.new.self.nodes
+          i.state c.let_go-gone.ensures.state;
       trimming = λ stored from t.
           let rest : List ℕ = drop (l + 1) (node_at stored c.args.node).links in
           c.let_go-gone.ensures.trimming stored from rest
-          (subst (λ (w : ℕ). IsTrimming g.row.N g.row.K g.row.L stored nodes c.loop-link.self.counts.items c.loop-link.self.leaving.items from c.loop-link.gone (w ∷ rest)) (sym c.link_word-word.ensures)
-          (next_link g.row.N g.row.K g.row.L stored nodes c.loop-link.self.counts.items c.loop-link.self.leaving.items from c.loop-link.gone c.args.node c.requires.node l c.loop-link-test.true (i.trimming stored from t)));
+          (subst (λ (w : ℕ). IsTrimming g.row.N g.row.K g.row.L stored nodes
+          c.loop-link.self.counts.items c.loop-link.self.leaving.items from c.loop-link.gone
+          (w ∷ rest))
+          (sym c.link_word-word.ensures)
+          (next_link g.row.N g.row.K g.row.L stored nodes c.loop-link.self.counts.items
+          c.loop-link.self.leaving.items from c.loop-link.gone c.args.node c.requires.node l
+          c.loop-link-test.true (i.trimming stored from t)));
     }
 
 pub returns-clause-graph : goal.returns-clause-graph
@@ -61,7 +73,11 @@ returns-clause-state g c = c.loop-link.invariant.state
 pub returns-clause-trimming : goal.returns-clause-trimming
 returns-clause-trimming g c = λ stored from t.
     let nodes : List Node = nodes_in c.loop-link.self.nodes.view.client in
-    let end : c.loop-link.link ≡ g.row.L = omega (arith, c.loop-link-test.false, c.loop-link.auto.link-end) in
-    no_link_more g.row.N g.row.K g.row.L stored nodes c.loop-link.self.counts.items c.loop-link.self.leaving.items from c.loop-link.gone c.args.node c.requires.node
-    (subst (λ (n : ℕ). IsTrimming g.row.N g.row.K g.row.L stored nodes c.loop-link.self.counts.items c.loop-link.self.leaving.items from c.loop-link.gone (drop n (node_at stored c.args.node).links)) end
-    (c.loop-link.invariant.trimming stored from t))
+    let end : c.loop-link.link ≡ g.row.L =
+    omega (arith, c.loop-link-test.false, c.loop-link.auto.link-end) in
+    no_link_more g.row.N g.row.K g.row.L stored nodes c.loop-link.self.counts.items
+    c.loop-link.self.leaving.items from c.loop-link.gone c.args.node c.requires.node
+    (subst (λ (n : ℕ). IsTrimming g.row.N g.row.K g.row.L stored nodes c.loop-link.self.counts.items
+    c.loop-link.self.leaving.items from c.loop-link.gone
+    (drop n (node_at stored c.args.node).links))
+    end (c.loop-link.invariant.trimming stored from t))

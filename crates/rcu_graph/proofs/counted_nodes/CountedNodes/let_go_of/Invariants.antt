@@ -11,6 +11,10 @@ invariant-loop-link g l = record {
   graph : IsWatcherOf l.graph l.self.nodes;
   state : l.self.nodes ≡ after_step l.initial.self.nodes (nodes_in l.self.nodes.view.client);
   trimming : (stored : List Node) (from : ℕ)
-      → IsTrimming g.row.N g.row.K g.row.L stored (nodes_in l.initial.self.nodes.view.client) l.initial.self.counts.items l.initial.self.leaving.items from l.left (node_at stored l.node).links
-      → IsTrimming g.row.N g.row.K g.row.L stored (nodes_in l.self.nodes.view.client) l.self.counts.items l.self.leaving.items from l.gone (drop l.link (node_at stored l.node).links);
+      → IsTrimming g.row.N g.row.K g.row.L stored (nodes_in l.initial.self.nodes.view.client)
+      l.initial.self.counts.items l.initial.self.leaving.items from l.left
+      (node_at stored l.node).links
+      → IsTrimming g.row.N g.row.K g.row.L stored (nodes_in l.self.nodes.view.client)
+      l.self.counts.items l.self.leaving.items from l.gone
+      (drop l.link (node_at stored l.node).links);
 }

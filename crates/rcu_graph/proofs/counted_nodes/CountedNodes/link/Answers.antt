@@ -8,14 +8,20 @@ use Rattle.rcu_graph.specs.Nodes.{linked_to, node_at, nodes_in, renewed}
 use Rattle.rcu_graph.specs.Trimming.{IsTrimming}
 use Rattle.rcu_graph.specs.declared.known.Known.{Known}
 use Rattle.rcu_graph.specs.declared.known.Node.{Node}
-use Rattle.rcu_graph.proofs.Cascade.{count_fits, counted_after, nodes_are, one_step, relinked_starts, relinked_whole, same_trimming, step_on, target_inside, word_fits}
+use Rattle.rcu_graph.proofs.Cascade.{count_fits, counted_after, nodes_are, one_step}
+use Rattle.rcu_graph.proofs.Cascade.{relinked_starts, relinked_whole, same_trimming, step_on}
+use Rattle.rcu_graph.proofs.Cascade.{target_inside, word_fits}
 use Rattle.rcu_graph.proofs.Tending.{trimmed}
 use Rattle.rcu_graph.proofs.counted_nodes.CountedNodes.link.Goals as goal
 
 pub word_of-word-requires : goal.word_of-word-requires
 word_of-word-requires g c =
     let s = c.sizes.ensures in
-    word_fits c.args.to g.row.N _ (target_inside g.F.Shape.fits g.F.Shape.joins g.row.N g.row.K g.row.L (nodes_in c.args.self.now.nodes.view.client) c.args.link _ (word_to c.args.to) s.few c.requires.target) (omega (arith, g.N.fits))
+    word_fits c.args.to g.row.N _
+    (target_inside g.F.Shape.fits g.F.Shape.joins g.row.N g.row.K g.row.L
+    (nodes_in c.args.self.now.nodes.view.client) c.args.link _ (word_to c.args.to) s.few
+    c.requires.target)
+    (omega (arith, g.N.fits))
 
 pub link_word-before-requires : goal.link_word-before-requires
 link_word-before-requires g c = (omega arith, (c.requires.from_inside, c.requires.link_inside))
@@ -31,8 +37,9 @@ link-requires g c = (
         c.requires.from_inside,
         (
           c.requires.link_inside,
-          subst (λ (x : ℕ). CanLink (g.F.Shape.joins c.args.link) (nodes_in c.args.self.now.nodes.view.client) c.args.from x) (sym c.word_of-word.ensures)
-              (inr (c.requires.live, c.requires.target)),
+          subst (λ (x : ℕ). CanLink (g.F.Shape.joins c.args.link)
+              (nodes_in c.args.self.now.nodes.view.client) c.args.from x)
+              (sym c.word_of-word.ensures) (inr (c.requires.live, c.requires.target)),
         ),
       ),
     ),
@@ -44,13 +51,16 @@ count-requires g c =
     let s = c.sizes.ensures in
     let nodes : List Node = nodes_in c.args.self.now.nodes.view.client in
     let inside : (k : ℕ) → c.word_of-word.result ≡ suc k → k < g.row.N =
-    λ k is. target_inside g.F.Shape.fits g.F.Shape.joins g.row.N g.row.K g.row.L nodes c.args.link _ (word_to c.args.to) s.few c.requires.target k (sym c.word_of-word.ensures ∙ is) in (
+    λ k is. target_inside g.F.Shape.fits g.F.Shape.joins g.row.N g.row.K g.row.L nodes c.args.link _
+    (word_to c.args.to) s.few c.requires.target k (sym c.word_of-word.ensures ∙ is) in (
       omega arith,
       (
         (λ k is. let low = inside k is in omega (arith, low, c.requires.counted.many)),
         (λ k is.
             let low = inside k is in
-            let a = count_fits g.F.Shape.fits g.F.Shape.joins g.row.N g.row.K g.row.L g.row.W nodes c.args.self.now.counts.items c.args.self.now.leaving.items s.few s.sized c.requires.counted k low in
+            let a = count_fits g.F.Shape.fits g.F.Shape.joins g.row.N g.row.K g.row.L g.row.W nodes
+            c.args.self.now.counts.items c.args.self.now.leaving.items s.few s.sized
+            c.requires.counted k low in
             omega (arith, a, s.fit)),
       ),
     )
@@ -66,19 +76,27 @@ trim-requires g c =
     let now : Watching Known = c.count.new.self.nodes in
     let nodes_is : nodes_in now.view.client ≡ stored =
     ap (λ (w : Watching Known). nodes_in w.view.client) c.count.ensures.nodes
-    ∙ (nodes_are c.args.self.now.nodes c.link.new.self (renewed nodes c.args.from (linked_to c.args.link c.word_of-word.result)) c.link.ensures.state
+    ∙ (nodes_are c.args.self.now.nodes c.link.new.self
+    (renewed nodes c.args.from (linked_to c.args.link c.word_of-word.result)) c.link.ensures.state
     ∙ ap (λ (w : ℕ). renewed nodes c.args.from (linked_to c.args.link w)) c.word_of-word.ensures) in
     let counts_is : c.count.new.self.counts.items ≡ counted_up counts x =
     c.count.ensures.counts ∙ ap (λ (w : ℕ). counted_up counts w) c.word_of-word.ensures in
-    let leaving_is : c.count.new.self.leaving.items ≡ leaving = ap (λ v. v.items) c.count.ensures.leaving in (
+    let leaving_is : c.count.new.self.leaving.items ≡ leaving =
+    ap (λ v. v.items) c.count.ensures.leaving in (
       omega arith,
       (
         omega arith,
         (
-          subst (λ (w : Watching Known). IsWatcherOf c.args.graph.now w) (sym c.count.ensures.nodes) c.link.ensures.graph,
-          same_trimming g.row.N g.row.K g.row.L (nodes_in now.view.client) stored (nodes_in now.view.client) stored c.count.new.self.counts.items (counted_up counts x) c.count.new.self.leaving.items leaving 0 0
-              (c.link_word-before.result ∷ []) (slice_index (node_at nodes c.args.from).links c.args.link ∷ []) nodes_is nodes_is counts_is leaving_is (ap (λ (w : ℕ). w ∷ []) c.link_word-before.ensures)
-              (relinked_starts g.F.Shape.fits g.F.Shape.joins g.row.N g.row.K g.row.L g.row.W nodes counts leaving s.few s.sized c.requires.counted c.args.from c.args.link x c.requires.live c.requires.link_inside c.requires.target),
+          subst (λ (w : Watching Known). IsWatcherOf c.args.graph.now w) (sym c.count.ensures.nodes)
+              c.link.ensures.graph,
+          same_trimming g.row.N g.row.K g.row.L (nodes_in now.view.client) stored
+              (nodes_in now.view.client) stored c.count.new.self.counts.items (counted_up counts x)
+              c.count.new.self.leaving.items leaving 0 0 (c.link_word-before.result ∷ [])
+              (slice_index (node_at nodes c.args.from).links c.args.link ∷ []) nodes_is nodes_is
+              counts_is leaving_is (ap (λ (w : ℕ). w ∷ []) c.link_word-before.ensures)
+              (relinked_starts g.F.Shape.fits g.F.Shape.joins g.row.N g.row.K g.row.L g.row.W nodes
+              counts leaving s.few s.sized c.requires.counted c.args.from c.args.link x
+              c.requires.live c.requires.link_inside c.requires.target),
         ),
       ),
     )
@@ -93,21 +111,37 @@ returns g c =
     let stored : List Node = renewed nodes c.args.from (linked_to c.args.link x) in
     let nodes_is : nodes_in c.count.new.self.nodes.view.client ≡ stored =
     ap (λ (w : Watching Known). nodes_in w.view.client) c.count.ensures.nodes
-    ∙ (nodes_are c.args.self.now.nodes c.link.new.self (renewed nodes c.args.from (linked_to c.args.link c.word_of-word.result)) c.link.ensures.state
+    ∙ (nodes_are c.args.self.now.nodes c.link.new.self
+    (renewed nodes c.args.from (linked_to c.args.link c.word_of-word.result)) c.link.ensures.state
     ∙ ap (λ (w : ℕ). renewed nodes c.args.from (linked_to c.args.link w)) c.word_of-word.ensures) in
     let t = c.trim.ensures.trimming in
     record {
       watches = c.trim.ensures.graph;
       state =
           step_on c.args.self.now.nodes c.count.new.self.nodes c.trim.new.self.nodes
-          (one_step c.args.self.now.nodes c.count.new.self.nodes _ (c.count.ensures.nodes ∙ c.link.ensures.state))
+          (one_step c.args.self.now.nodes c.count.new.self.nodes _
+          (c.count.ensures.nodes ∙ c.link.ensures.state))
           c.trim.ensures.state;
       counted =
-          counted_after g.F.Shape.fits g.F.Shape.joins g.row.N g.row.K g.row.L g.row.W stored (nodes_in c.trim.new.self.nodes.view.client) c.trim.new.self.counts.items c.trim.new.self.leaving.items t.0
-          (relinked_whole g.F.Shape.fits g.F.Shape.joins g.row.N g.row.K g.row.L g.row.W nodes counts leaving s.few s.sized c.requires.counted c.args.from c.args.link x c.requires.live c.requires.link_inside c.requires.target)
-          (subst (λ (l : List Node). IsTrimming g.row.N g.row.K g.row.L l (nodes_in c.trim.new.self.nodes.view.client) c.trim.new.self.counts.items c.trim.new.self.leaving.items t.0 t.0 []) nodes_is t.1);
+          counted_after g.F.Shape.fits g.F.Shape.joins g.row.N g.row.K g.row.L g.row.W stored
+          (nodes_in c.trim.new.self.nodes.view.client) c.trim.new.self.counts.items
+          c.trim.new.self.leaving.items t.0
+          (relinked_whole g.F.Shape.fits g.F.Shape.joins g.row.N g.row.K g.row.L g.row.W nodes
+          counts leaving s.few s.sized c.requires.counted c.args.from c.args.link x c.requires.live
+          c.requires.link_inside c.requires.target)
+          (subst (λ (l : List Node). IsTrimming g.row.N g.row.K g.row.L l
+          (nodes_in c.trim.new.self.nodes.view.client) c.trim.new.self.counts.items
+          c.trim.new.self.leaving.items t.0 t.0 [])
+          nodes_is t.1);
       trimmed =
-          trimmed g.F.Shape.fits g.F.Shape.joins g.row.N g.row.K g.row.L g.row.W stored (nodes_in c.trim.new.self.nodes.view.client) c.trim.new.self.counts.items c.trim.new.self.leaving.items t.0
-          (relinked_whole g.F.Shape.fits g.F.Shape.joins g.row.N g.row.K g.row.L g.row.W nodes counts leaving s.few s.sized c.requires.counted c.args.from c.args.link x c.requires.live c.requires.link_inside c.requires.target)
-          (subst (λ (l : List Node). IsTrimming g.row.N g.row.K g.row.L l (nodes_in c.trim.new.self.nodes.view.client) c.trim.new.self.counts.items c.trim.new.self.leaving.items t.0 t.0 []) nodes_is t.1);
+          trimmed g.F.Shape.fits g.F.Shape.joins g.row.N g.row.K g.row.L g.row.W stored
+          (nodes_in c.trim.new.self.nodes.view.client) c.trim.new.self.counts.items
+          c.trim.new.self.leaving.items t.0
+          (relinked_whole g.F.Shape.fits g.F.Shape.joins g.row.N g.row.K g.row.L g.row.W nodes
+          counts leaving s.few s.sized c.requires.counted c.args.from c.args.link x c.requires.live
+          c.requires.link_inside c.requires.target)
+          (subst (λ (l : List Node). IsTrimming g.row.N g.row.K g.row.L l
+          (nodes_in c.trim.new.self.nodes.view.client) c.trim.new.self.counts.items
+          c.trim.new.self.leaving.items t.0 t.0 [])
+          nodes_is t.1);
     }

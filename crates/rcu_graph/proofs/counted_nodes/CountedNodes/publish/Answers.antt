@@ -10,7 +10,9 @@ use Rattle.rcu_graph.specs.Trimming.{IsTrimming}
 use Rattle.rcu_graph.specs.declared.known.Known.{Known}
 use Rattle.rcu_graph.specs.declared.known.Node.{Node}
 use Rattle.rcu_graph.specs.declared.node_state.NodeState.TheVariants.{Live}
-use Rattle.rcu_graph.proofs.Cascade.{counted_after, counts_fit, new_fits, one_step, published_starts, published_whole, ready_inside, same_trimming, step_on}
+use Rattle.rcu_graph.proofs.Cascade.{counted_after, counts_fit, new_fits, one_step}
+use Rattle.rcu_graph.proofs.Cascade.{published_starts, published_whole, ready_inside, same_trimming}
+use Rattle.rcu_graph.proofs.Cascade.{step_on}
 use Rattle.rcu_graph.proofs.Tending.{trimmed}
 use Rattle.rcu_graph.proofs.counted_nodes.CountedNodes.publish.Goals as goal
 
@@ -29,9 +31,13 @@ count_links_of-requires g c =
         (
           c.requires.counted.many,
           (
-            ready_inside g.F.Shape.fits g.F.Shape.joins g.row.N g.row.K g.row.L g.row.W nodes counts leaving s.few s.sized c.requires.counted c.args.from c.args.link c.args.to c.requires.to_inside c.requires.ready,
+            ready_inside g.F.Shape.fits g.F.Shape.joins g.row.N g.row.K g.row.L g.row.W nodes counts
+                leaving s.few s.sized c.requires.counted c.args.from c.args.link c.args.to
+                c.requires.to_inside c.requires.ready,
             (λ k low.
-                let a = counts_fit g.F.Shape.fits g.F.Shape.joins g.row.N g.row.K g.row.L g.row.W nodes counts leaving s.few s.sized c.requires.counted c.args.from c.args.link c.args.to c.requires.to_inside c.requires.ready k low in
+                let a = counts_fit g.F.Shape.fits g.F.Shape.joins g.row.N g.row.K g.row.L g.row.W
+                nodes counts leaving s.few s.sized c.requires.counted c.args.from c.args.link
+                c.args.to c.requires.to_inside c.requires.ready k low in
                 omega (arith, a, s.fit)),
           ),
         ),
@@ -45,13 +51,21 @@ publish-requires g c =
       (
         omega arith,
         record {
-          watches = subst (λ (w : Watching Known). IsWatcherOf c.args.graph.now w) (sym e) c.requires.watches;
+          watches = subst (λ (w : Watching Known). IsWatcherOf c.args.graph.now w) (sym e)
+              c.requires.watches;
           from_inside = c.requires.from_inside;
           to_inside = c.requires.to_inside;
           link_inside = c.requires.link_inside;
-          live = subst (λ (w : Watching Known). state_at (nodes_in w.view.client) c.args.from ≡ Live) (sym e) c.requires.live;
-          ready = subst (λ (w : Watching Known). IsReady g.F.Shape.fits g.F.Shape.joins g.row.L (nodes_in w.view.client) c.args.to) (sym e) c.requires.ready;
-          joined = subst (λ (w : Watching Known). g.F.Shape.joins c.args.link (node_at (nodes_in w.view.client) c.args.from).words (node_at (nodes_in w.view.client) c.args.to).words) (sym e) c.requires.joined;
+          live =
+              subst (λ (w : Watching Known). state_at (nodes_in w.view.client) c.args.from ≡ Live)
+              (sym e) c.requires.live;
+          ready = subst (λ (w : Watching Known).
+              IsReady g.F.Shape.fits g.F.Shape.joins g.row.L (nodes_in w.view.client) c.args.to)
+              (sym e) c.requires.ready;
+          joined = subst (λ (w : Watching Known).
+              g.F.Shape.joins c.args.link (node_at (nodes_in w.view.client) c.args.from).words
+              (node_at (nodes_in w.view.client) c.args.to).words)
+              (sym e) c.requires.joined;
         },
       ),
     )
@@ -67,12 +81,17 @@ count-requires g c =
     let counts : List ℕ = c.args.self.now.counts.items in
     let leaving : List ℕ = c.args.self.now.leaving.items in
     let inside : (k : ℕ) → c.word_of.result ≡ suc k → k < g.row.N =
-    λ k is. let e : suc c.args.to ≡ suc k = sym c.word_of.ensures ∙ is in omega (arith, e, c.requires.to_inside) in (
+    λ k is.
+    let e : suc c.args.to ≡ suc k = sym c.word_of.ensures ∙ is in
+    omega (arith, e, c.requires.to_inside) in (
       omega arith,
       (
         (λ k is. let low = inside k is in omega (arith, low, n.many)),
         (λ k is.
-            let a = new_fits g.F.Shape.fits g.F.Shape.joins g.row.N g.row.K g.row.L g.row.W nodes counts leaving s.few s.sized c.requires.counted c.args.from c.args.link c.args.to c.requires.to_inside c.requires.ready c.count_links_of.new.self.counts.items n.many n.counts c.requires.live c.requires.link_inside c.requires.joined k (inside k is) in
+            let a = new_fits g.F.Shape.fits g.F.Shape.joins g.row.N g.row.K g.row.L g.row.W nodes
+            counts leaving s.few s.sized c.requires.counted c.args.from c.args.link c.args.to
+            c.requires.to_inside c.requires.ready c.count_links_of.new.self.counts.items n.many
+            n.counts c.requires.live c.requires.link_inside c.requires.joined k (inside k is) in
             omega (arith, a, s.fit)),
       ),
     )
@@ -87,21 +106,32 @@ trim-requires g c =
     let leaving : List ℕ = c.args.self.now.leaving.items in
     let stored : List Node = published nodes c.args.from c.args.link c.args.to in
     let now : Watching Known = c.count.new.self.nodes in
-    let stored_is : c.publish.new.self ≡ after_publish c.args.self.now.nodes c.args.from c.args.link c.args.to =
-    c.publish.ensures.state ∙ ap (λ (w : Watching Known). after_publish w c.args.from c.args.link c.args.to) n.nodes in
+    let stored_is : c.publish.new.self
+    ≡ after_publish c.args.self.now.nodes c.args.from c.args.link c.args.to =
+    c.publish.ensures.state
+    ∙ ap (λ (w : Watching Known). after_publish w c.args.from c.args.link c.args.to) n.nodes in
     let nodes_is : nodes_in now.view.client ≡ stored =
     ap (λ (w : Watching Known). nodes_in w.view.client) (c.count.ensures.nodes ∙ stored_is) in
     let counts_is : c.count.new.self.counts.items ≡ counted_up new (suc c.args.to) =
     c.count.ensures.counts ∙ ap (λ (w : ℕ). counted_up new w) c.word_of.ensures in
-    let leaving_is : c.count.new.self.leaving.items ≡ leaving = ap (λ v. v.items) c.count.ensures.leaving ∙ ap (λ v. v.items) n.leaving in (
+    let leaving_is : c.count.new.self.leaving.items ≡ leaving =
+    ap (λ v. v.items) c.count.ensures.leaving ∙ ap (λ v. v.items) n.leaving in (
       omega arith,
       (
         omega arith,
         (
-          subst (λ (w : Watching Known). IsWatcherOf c.args.graph.now w) (sym c.count.ensures.nodes) c.publish.ensures.graph,
-          same_trimming g.row.N g.row.K g.row.L (nodes_in now.view.client) stored (nodes_in now.view.client) stored c.count.new.self.counts.items (counted_up new (suc c.args.to)) c.count.new.self.leaving.items leaving 0 0
-              (c.link_word-before.result ∷ []) (slice_index (node_at nodes c.args.from).links c.args.link ∷ []) nodes_is nodes_is counts_is leaving_is (ap (λ (w : ℕ). w ∷ []) c.link_word-before.ensures)
-              (published_starts g.F.Shape.fits g.F.Shape.joins g.row.N g.row.K g.row.L g.row.W nodes counts leaving s.few s.sized c.requires.counted c.args.from c.args.link c.args.to c.requires.to_inside c.requires.ready new n.many n.counts c.requires.live c.requires.link_inside c.requires.joined),
+          subst (λ (w : Watching Known). IsWatcherOf c.args.graph.now w) (sym c.count.ensures.nodes)
+              c.publish.ensures.graph,
+          same_trimming g.row.N g.row.K g.row.L (nodes_in now.view.client) stored
+              (nodes_in now.view.client) stored c.count.new.self.counts.items
+              (counted_up new (suc c.args.to)) c.count.new.self.leaving.items leaving 0 0
+              (c.link_word-before.result ∷ [])
+              (slice_index (node_at nodes c.args.from).links c.args.link ∷ []) nodes_is nodes_is
+              counts_is leaving_is (ap (λ (w : ℕ). w ∷ []) c.link_word-before.ensures)
+              (published_starts g.F.Shape.fits g.F.Shape.joins g.row.N g.row.K g.row.L g.row.W nodes
+              counts leaving s.few s.sized c.requires.counted c.args.from c.args.link c.args.to
+              c.requires.to_inside c.requires.ready new n.many n.counts c.requires.live
+              c.requires.link_inside c.requires.joined),
         ),
       ),
     )
@@ -116,21 +146,44 @@ returns g c =
     let leaving : List ℕ = c.args.self.now.leaving.items in
     let stored : List Node = published nodes c.args.from c.args.link c.args.to in
     let nodes_is : nodes_in c.count.new.self.nodes.view.client ≡ stored =
-    ap (λ (w : Watching Known). nodes_in w.view.client) (c.count.ensures.nodes ∙ (c.publish.ensures.state ∙ ap (λ (w : Watching Known). after_publish w c.args.from c.args.link c.args.to) n.nodes)) in
+    ap (λ (w : Watching Known). nodes_in w.view.client)
+    (c.count.ensures.nodes
+    ∙ (c.publish.ensures.state
+    ∙ ap (λ (w : Watching Known). after_publish w c.args.from c.args.link c.args.to) n.nodes)) in
     let t = c.trim.ensures.trimming in
     record {
       watches = c.trim.ensures.graph;
       state =
           step_on c.args.self.now.nodes c.count.new.self.nodes c.trim.new.self.nodes
-          (one_step c.args.self.now.nodes c.count.new.self.nodes (published (nodes_in c.args.self.now.nodes.view.client) c.args.from c.args.link c.args.to)
-          (c.count.ensures.nodes ∙ (c.publish.ensures.state ∙ ap (λ (w : Watching Known). after_publish w c.args.from c.args.link c.args.to) c.count_links_of.ensures.nodes)))
+          (one_step c.args.self.now.nodes c.count.new.self.nodes
+          (published (nodes_in c.args.self.now.nodes.view.client) c.args.from c.args.link c.args.to)
+          (c.count.ensures.nodes
+          ∙ (c.publish.ensures.state
+          ∙ ap (λ (w : Watching Known). after_publish w c.args.from c.args.link c.args.to)
+          c.count_links_of.ensures.nodes)))
           c.trim.ensures.state;
       counted =
-          counted_after g.F.Shape.fits g.F.Shape.joins g.row.N g.row.K g.row.L g.row.W stored (nodes_in c.trim.new.self.nodes.view.client) c.trim.new.self.counts.items c.trim.new.self.leaving.items t.0
-          (published_whole g.F.Shape.fits g.F.Shape.joins g.row.N g.row.K g.row.L g.row.W nodes counts leaving s.few s.sized c.requires.counted c.args.from c.args.link c.args.to c.requires.to_inside c.requires.ready new n.many n.counts c.requires.live c.requires.link_inside c.requires.joined)
-          (subst (λ (l : List Node). IsTrimming g.row.N g.row.K g.row.L l (nodes_in c.trim.new.self.nodes.view.client) c.trim.new.self.counts.items c.trim.new.self.leaving.items t.0 t.0 []) nodes_is t.1);
+          counted_after g.F.Shape.fits g.F.Shape.joins g.row.N g.row.K g.row.L g.row.W stored
+          (nodes_in c.trim.new.self.nodes.view.client) c.trim.new.self.counts.items
+          c.trim.new.self.leaving.items t.0
+          (published_whole g.F.Shape.fits g.F.Shape.joins g.row.N g.row.K g.row.L g.row.W nodes
+          counts leaving s.few s.sized c.requires.counted c.args.from c.args.link c.args.to
+          c.requires.to_inside c.requires.ready new n.many n.counts c.requires.live
+          c.requires.link_inside c.requires.joined)
+          (subst (λ (l : List Node). IsTrimming g.row.N g.row.K g.row.L l
+          (nodes_in c.trim.new.self.nodes.view.client) c.trim.new.self.counts.items
+          c.trim.new.self.leaving.items t.0 t.0 [])
+          nodes_is t.1);
       trimmed =
-          trimmed g.F.Shape.fits g.F.Shape.joins g.row.N g.row.K g.row.L g.row.W stored (nodes_in c.trim.new.self.nodes.view.client) c.trim.new.self.counts.items c.trim.new.self.leaving.items t.0
-          (published_whole g.F.Shape.fits g.F.Shape.joins g.row.N g.row.K g.row.L g.row.W nodes counts leaving s.few s.sized c.requires.counted c.args.from c.args.link c.args.to c.requires.to_inside c.requires.ready new n.many n.counts c.requires.live c.requires.link_inside c.requires.joined)
-          (subst (λ (l : List Node). IsTrimming g.row.N g.row.K g.row.L l (nodes_in c.trim.new.self.nodes.view.client) c.trim.new.self.counts.items c.trim.new.self.leaving.items t.0 t.0 []) nodes_is t.1);
+          trimmed g.F.Shape.fits g.F.Shape.joins g.row.N g.row.K g.row.L g.row.W stored
+          (nodes_in c.trim.new.self.nodes.view.client) c.trim.new.self.counts.items
+          c.trim.new.self.leaving.items t.0
+          (published_whole g.F.Shape.fits g.F.Shape.joins g.row.N g.row.K g.row.L g.row.W nodes
+          counts leaving s.few s.sized c.requires.counted c.args.from c.args.link c.args.to
+          c.requires.to_inside c.requires.ready new n.many n.counts c.requires.live
+          c.requires.link_inside c.requires.joined)
+          (subst (λ (l : List Node). IsTrimming g.row.N g.row.K g.row.L l
+          (nodes_in c.trim.new.self.nodes.view.client) c.trim.new.self.counts.items
+          c.trim.new.self.leaving.items t.0 t.0 [])
+          nodes_is t.1);
     }

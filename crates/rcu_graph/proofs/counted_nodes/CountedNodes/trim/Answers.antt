@@ -8,8 +8,13 @@ use Rattle.rcu_graph.proofs.Tending.{take_next}
 use Rattle.rcu_graph.proofs.counted_nodes.CountedNodes.trim.Goals as goal
 
 pub let_go-left-requires : goal.let_go-left-requires
-let_go-left-requires g c =
-    (omega arith, (omega arith, (c.requires.graph, (nodes_in c.args.self.now.nodes.view.client, 0, [], c.requires.trimming))))
+let_go-left-requires g c = (
+  omega arith,
+  (
+    omega arith,
+    (c.requires.graph, (nodes_in c.args.self.now.nodes.view.client, 0, [], c.requires.trimming)),
+  ),
+)
 
 pub leaving-init : goal.leaving-init
 leaving-init g c = record {
@@ -20,8 +25,12 @@ leaving-init g c = record {
 
 pub index-node-requires : goal.index-node-requires
 index-node-requires g c =
-    let t = c.leaving.invariant.trimming (nodes_in c.args.self.now.nodes.view.client) (c.let_go-left.ensures.trimming (nodes_in c.args.self.now.nodes.view.client) 0 [] c.requires.trimming) in
-    let a = in_room g.row.N g.row.K g.row.L (nodes_in c.args.self.now.nodes.view.client) (nodes_in c.leaving.self.nodes.view.client) c.leaving.self.counts.items c.leaving.self.leaving.items c.leaving.done c.leaving.left [] t in
+    let t = c.leaving.invariant.trimming (nodes_in c.args.self.now.nodes.view.client)
+    (c.let_go-left.ensures.trimming (nodes_in c.args.self.now.nodes.view.client) 0 []
+    c.requires.trimming) in
+    let a = in_room g.row.N g.row.K g.row.L (nodes_in c.args.self.now.nodes.view.client)
+    (nodes_in c.leaving.self.nodes.view.client) c.leaving.self.counts.items
+    c.leaving.self.leaving.items c.leaving.done c.leaving.left [] t in
     omega (arith, a, c.leaving-test.true, c.leaving.self.leaving.ok.0)
 
 pub let_go_of-left-requires : goal.let_go_of-left-requires
@@ -36,19 +45,37 @@ let_go_of-left-requires g c =
     let room = in_room g.row.N g.row.K g.row.L stored nodes counts leaving n c.leaving.left [] t in
     let node_is : c.index-node.result.now ≡ get_or leaving n 0 =
     get_or_read leaving n _ (omega (arith, room, c.leaving-test.true)) c.index-node.ensures 0 in
-    let next = subst (λ (x : ℕ). IsTrimming g.row.N g.row.K g.row.L stored nodes counts leaving (n + 1) c.leaving.left (node_at stored x).links) (sym node_is)
-    (take_next g.row.N g.row.K g.row.L stored nodes counts leaving n c.leaving.left c.leaving-test.true t) in
-    (omega arith, (omega arith, (i.graph, (subst (λ (x : ℕ). x < g.row.N) (sym node_is) (t.ordered n c.leaving-test.true), (stored, n + 1, next)))))
+    let next = subst (λ (x : ℕ). IsTrimming g.row.N g.row.K g.row.L stored nodes counts leaving
+    (n + 1) c.leaving.left (node_at stored x).links)
+    (sym node_is)
+    (take_next g.row.N g.row.K g.row.L stored nodes counts leaving n c.leaving.left
+    c.leaving-test.true t) in (
+      omega arith,
+      (
+        omega arith,
+        (
+          i.graph,
+          (
+            subst (λ (x : ℕ). x < g.row.N) (sym node_is) (t.ordered n c.leaving-test.true),
+            (stored, n + 1, next),
+          ),
+        ),
+      ),
+    )
 
 pub overflow_add-done : goal.overflow_add-done
 overflow_add-done g c =
-    let t = c.leaving.invariant.trimming (nodes_in c.args.self.now.nodes.view.client) (c.let_go-left.ensures.trimming (nodes_in c.args.self.now.nodes.view.client) 0 [] c.requires.trimming) in
+    let t = c.leaving.invariant.trimming (nodes_in c.args.self.now.nodes.view.client)
+    (c.let_go-left.ensures.trimming (nodes_in c.args.self.now.nodes.view.client) 0 []
+    c.requires.trimming) in
     let a = t.enough in
     omega (arith, a, c.leaving-test.true, g.N.fits)
 
 pub leaving-smaller : goal.leaving-smaller
 leaving-smaller g c =
-    let t = c.leaving.invariant.trimming (nodes_in c.args.self.now.nodes.view.client) (c.let_go-left.ensures.trimming (nodes_in c.args.self.now.nodes.view.client) 0 [] c.requires.trimming) in
+    let t = c.leaving.invariant.trimming (nodes_in c.args.self.now.nodes.view.client)
+    (c.let_go-left.ensures.trimming (nodes_in c.args.self.now.nodes.view.client) 0 []
+    c.requires.trimming) in
     let a = t.enough in
     omega (arith, a, c.leaving-test.true)
 
@@ -58,28 +85,43 @@ leaving-preserved g c =
     let n = c.leaving.done in
     let nodes : List Node = nodes_in c.leaving.self.nodes.view.client in
     let counts : List ℕ = c.leaving.self.counts.items in
-    let leaving : List ℕ = c.leaving.self.leaving.items in record {
+    let leaving : List ℕ = c.leaving.self.leaving.items in
+    record {
       graph = c.let_go_of-left.ensures.graph;
-      state = λ before e. step_on before c.leaving.self.nodes c.let_go_of-left.new.self.nodes (i.state before e) c.let_go_of-left.ensures.state;
+      state = λ before e. step_on before c.leaving.self.nodes c.let_go_of-left.new.self.nodes
+          (i.state before e) c.let_go_of-left.ensures.state;
       trimming = λ stored first.
           let t = i.trimming stored first in
-          let room = in_room g.row.N g.row.K g.row.L stored nodes counts leaving n c.leaving.left [] t in
+          let room =
+          in_room g.row.N g.row.K g.row.L stored nodes counts leaving n c.leaving.left [] t in
           let node_is : c.index-node.result.now ≡ get_or leaving n 0 =
-          get_or_read leaving n _ (omega (arith, room, c.leaving-test.true)) c.index-node.ensures 0 in
+          get_or_read leaving n _ (omega (arith, room, c.leaving-test.true)) c.index-node.ensures
+          0 in
           c.let_go_of-left.ensures.trimming stored (n + 1)
-          (subst (λ (x : ℕ). IsTrimming g.row.N g.row.K g.row.L stored nodes counts leaving (n + 1) c.leaving.left (node_at stored x).links) (sym node_is)
-          (take_next g.row.N g.row.K g.row.L stored nodes counts leaving n c.leaving.left c.leaving-test.true t));
+          (subst (λ (x : ℕ). IsTrimming g.row.N g.row.K g.row.L stored nodes counts leaving (n + 1)
+          c.leaving.left (node_at stored x).links)
+          (sym node_is)
+          (take_next g.row.N g.row.K g.row.L stored nodes counts leaving n c.leaving.left
+          c.leaving-test.true t));
     }
 
 pub returns-clause-graph : goal.returns-clause-graph
 returns-clause-graph g c = c.leaving.invariant.graph
 
 pub returns-clause-state : goal.returns-clause-state
-returns-clause-state g c = c.leaving.invariant.state c.args.self.now.nodes c.let_go-left.ensures.state
+returns-clause-state g c =
+    c.leaving.invariant.state c.args.self.now.nodes c.let_go-left.ensures.state
 
 pub returns-clause-trimming : goal.returns-clause-trimming
 returns-clause-trimming g c =
-    let t = c.leaving.invariant.trimming (nodes_in c.args.self.now.nodes.view.client) (c.let_go-left.ensures.trimming (nodes_in c.args.self.now.nodes.view.client) 0 [] c.requires.trimming) in
+    let t = c.leaving.invariant.trimming (nodes_in c.args.self.now.nodes.view.client)
+    (c.let_go-left.ensures.trimming (nodes_in c.args.self.now.nodes.view.client) 0 []
+    c.requires.trimming) in
     let going = t.going in
-    let end : c.leaving.left ≡ c.leaving.done = omega (arith, going, c.leaving-test.false) in
-    (c.leaving.done, subst (λ (n : ℕ). IsTrimming g.row.N g.row.K g.row.L (nodes_in c.args.self.now.nodes.view.client) (nodes_in c.leaving.self.nodes.view.client) c.leaving.self.counts.items c.leaving.self.leaving.items c.leaving.done n []) end t)
+    let end : c.leaving.left ≡ c.leaving.done = omega (arith, going, c.leaving-test.false) in (
+      c.leaving.done,
+      subst (λ (n : ℕ). IsTrimming g.row.N g.row.K g.row.L
+          (nodes_in c.args.self.now.nodes.view.client) (nodes_in c.leaving.self.nodes.view.client)
+          c.leaving.self.counts.items c.leaving.self.leaving.items c.leaving.done n [])
+          end t,
+    )

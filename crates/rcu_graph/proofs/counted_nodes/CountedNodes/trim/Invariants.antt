@@ -11,11 +11,14 @@ use Rattle.rcu_graph.proofs.counted_nodes.CountedNodes.trim.Given as goal
 abbrev pub invariant-leaving : goal.invariant-leaving
 invariant-leaving g l = record {
   graph : IsWatcherOf l.graph l.self.nodes;
-  state : (before : Watching Known) → l.initial.self.nodes ≡ after_step before (nodes_in l.initial.self.nodes.view.client)
+  state : (before : Watching Known)
+      → l.initial.self.nodes ≡ after_step before (nodes_in l.initial.self.nodes.view.client)
       → l.self.nodes ≡ after_step before (nodes_in l.self.nodes.view.client);
   trimming : (stored : List Node)
-      → IsTrimming g.row.N g.row.K g.row.L stored (nodes_in l.initial.self.nodes.view.client) l.initial.self.counts.items l.initial.self.leaving.items 0 l.initial.left []
-      → IsTrimming g.row.N g.row.K g.row.L stored (nodes_in l.self.nodes.view.client) l.self.counts.items l.self.leaving.items l.done l.left [];
+      → IsTrimming g.row.N g.row.K g.row.L stored (nodes_in l.initial.self.nodes.view.client)
+      l.initial.self.counts.items l.initial.self.leaving.items 0 l.initial.left []
+      → IsTrimming g.row.N g.row.K g.row.L stored (nodes_in l.self.nodes.view.client)
+      l.self.counts.items l.self.leaving.items l.done l.left [];
 }
 
 abbrev pub decreases-leaving : goal.decreases-leaving

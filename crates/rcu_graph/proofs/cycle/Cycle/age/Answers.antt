@@ -9,11 +9,13 @@ use Rattle.rcu_graph.proofs.cycle.Cycle.age.Goals as goal
 pub retire_all-requires : goal.retire_all-requires
 retire_all-requires g c = (
   omega arith,
-  subst (λ (l : List NodeState). (i : ℕ) → i < length l → IsBy c.args.number (state_in l i)) (sym c.free_all.ensures)
-      (late_freed c.args.number c.args.self.now c.requires.late),
+  subst (λ (l : List NodeState). (i : ℕ) → i < length l → IsBy c.args.number (state_in l i))
+      (sym c.free_all.ensures) (late_freed c.args.number c.args.self.now c.requires.late),
 )
 
 pub returns : goal.returns
 returns g c =
     c.retire_all.ensures
-    ∙ (ap (λ (l : List NodeState). map (turned is_left (Retired c.args.number)) l) c.free_all.ensures ∙ all_age c.args.number c.args.self.now)
+    ∙ (ap (λ (l : List NodeState). map (turned is_left (Retired c.args.number)) l)
+    c.free_all.ensures
+    ∙ all_age c.args.number c.args.self.now)

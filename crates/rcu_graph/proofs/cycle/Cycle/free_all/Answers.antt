@@ -6,10 +6,12 @@ use Rattle.rcu_graph.proofs.cycle.Cycle.free_all.Goals as goal
 
 pub loop-preserved : goal.loop-preserved
 loop-preserved g c =
-    turn_goes_on (is_over c.args.number) Free c.loop.self c.free_next.new.self c.free_next.result c.loop-test.true c.free_next.ensures
+    turn_goes_on (is_over c.args.number) Free c.loop.self c.free_next.new.self c.free_next.result
+    c.loop-test.true c.free_next.ensures
     ∙ c.loop.invariant
 
 pub returns : goal.returns
 returns g c =
-    turn_ends (is_over c.args.number) Free c.loop.self c.free_next.new.self c.free_next.result c.loop-test.false c.free_next.ensures
+    turn_ends (is_over c.args.number) Free c.loop.self c.free_next.new.self c.free_next.result
+    c.loop-test.false c.free_next.ensures
     ∙ c.loop.invariant

@@ -10,7 +10,11 @@ invariant_of-self g c =
     let begins = k.begins (let low = e.inside in omega (arith, low)) in
     let some = c.if-self-eq0.false in
     let fit = k.fit in
-    cycle_freed g.row.N i.states.items i.ring i.start i.free i.retired i.left k c.node_at-node.result e.inside
-    (stands_there g.row.N i.states.items i.ring i.start i.free i.retired i.left k i.free c.place_on.result c.node_at-node.result begins e.all c.place_on.ensures.place (omega (arith, some, fit)) e.there)
-    (stands_alone g.row.N i.states.items i.ring i.start i.free i.retired i.left k i.free c.place_on.result c.node_at-node.result begins e.all c.place_on.ensures.place e.alone)
+    cycle_freed g.row.N i.states.items i.ring i.start i.free i.retired i.left k
+    c.node_at-node.result e.inside
+    (stands_there g.row.N i.states.items i.ring i.start i.free i.retired i.left k i.free
+    c.place_on.result c.node_at-node.result begins e.all c.place_on.ensures.place
+    (omega (arith, some, fit)) e.there)
+    (stands_alone g.row.N i.states.items i.ring i.start i.free i.retired i.left k i.free
+    c.place_on.result c.node_at-node.result begins e.all c.place_on.ensures.place e.alone)
     (omega (arith, some))

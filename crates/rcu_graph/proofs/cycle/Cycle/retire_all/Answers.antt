@@ -6,12 +6,15 @@ use Rattle.rcu_graph.proofs.cycle.Cycle.retire_all.Goals as goal
 
 pub loop-preserved : goal.loop-preserved
 loop-preserved g c = (
-  turn_goes_on is_left (Retired c.args.number) c.loop.self c.retire_next.new.self c.retire_next.result c.loop-test.true c.retire_next.ensures
+  turn_goes_on is_left (Retired c.args.number) c.loop.self c.retire_next.new.self
+      c.retire_next.result c.loop-test.true c.retire_next.ensures
       ∙ c.loop.invariant.0,
-  late_after c.args.number c.loop.self c.retire_next.new.self c.retire_next.result c.retire_next.ensures c.loop.invariant.1,
+  late_after c.args.number c.loop.self c.retire_next.new.self c.retire_next.result
+      c.retire_next.ensures c.loop.invariant.1,
 )
 
 pub returns : goal.returns
 returns g c =
-    turn_ends is_left (Retired c.args.number) c.loop.self c.retire_next.new.self c.retire_next.result c.loop-test.false c.retire_next.ensures
+    turn_ends is_left (Retired c.args.number) c.loop.self c.retire_next.new.self
+    c.retire_next.result c.loop-test.false c.retire_next.ensures
     ∙ c.loop.invariant.0

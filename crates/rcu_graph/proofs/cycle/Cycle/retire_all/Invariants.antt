@@ -6,7 +6,8 @@ use Rattle.rcu_graph.proofs.cycle.Cycle.retire_all.Given as goal
 
 abbrev pub invariant-loop : goal.invariant-loop
 invariant-loop g l =
-    (map (turned is_left (Retired l.number)) l.self ≡ map (turned is_left (Retired l.number)) l.initial.self)
+    (map (turned is_left (Retired l.number)) l.self
+    ≡ map (turned is_left (Retired l.number)) l.initial.self)
     × ((i : ℕ) → i < length l.self → IsBy l.number (state_in l.self i))
 
 abbrev pub decreases-loop : goal.decreases-loop

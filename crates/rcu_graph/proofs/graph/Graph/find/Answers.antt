@@ -11,13 +11,24 @@ use Rattle.rcu_graph.proofs.graph.Graph.find.Goals as goal
 
 pub key_of-least-requires : goal.key_of-least-requires
 key_of-least-requires g c =
-    let inside : c.args.root < g.row.N = omega (arith, c.requires.root, c.self.invariant.roots) in
-    (omega arith, (omega arith, record { walking = c.requires.walking; words = g.F.Shape.first c.args.root; on = inl (c.requires.root, refl); inside = inside }))
+    let inside : c.args.root < g.row.N = omega (arith, c.requires.root, c.self.invariant.roots) in (
+      omega arith,
+      (
+        omega arith,
+        record {
+          walking = c.requires.walking;
+          words = g.F.Shape.first c.args.root;
+          on = inl (c.requires.root, refl);
+          inside = inside;
+        },
+      ),
+    )
 
 pub chain-init : goal.chain-init
 chain-init g c = record {
   same = refl;
-  reader = subst (λ (s : Seated Known). IsReader s.view.client) (sym c.key_of-least.ensures.same) c.requires.walking.reads;
+  reader = subst (λ (s : Seated Known). IsReader s.view.client) (sym c.key_of-least.ensures.same)
+      c.requires.walking.reads;
   inside = omega (arith, c.requires.root, c.self.invariant.roots);
   on = (
     g.F.Shape.first c.args.root,
@@ -30,8 +41,16 @@ chain-init g c = record {
 pub follow-requires : goal.follow-requires
 follow-requires g c =
     let i = c.chain.invariant in
-    let first = subst (IsWalking _) (sym c.key_of-least.ensures.same) c.requires.walking in
-    (omega arith, (omega arith, (walks_at _ _ _ _ _ c.chain.seat _ i.on.0 i.same first i.reader i.on.1 i.inside, c.requires.link)))
+    let first = subst (IsWalking _) (sym c.key_of-least.ensures.same) c.requires.walking in (
+      omega arith,
+      (
+        omega arith,
+        (
+          walks_at _ _ _ _ _ c.chain.seat _ i.on.0 i.same first i.reader i.on.1 i.inside,
+          c.requires.link,
+        ),
+      ),
+    )
 
 pub key_of-found-requires : goal.key_of-found-requires
 key_of-found-requires g c = (omega arith, (omega arith, c.in-Some.ensures.on))
@@ -42,15 +61,19 @@ returns-then-found-key-clause-walking g c =
 
 pub returns-then-found-key-clause-on : goal.returns-then-found-key-clause-on
 returns-then-found-key-clause-on g c =
-    subst (λ (s : Seated Known). IsAt g.F.Shape.first g.row.K g.row.N c.args.self.now s c.in-Some.next) (sym c.key_of-found.ensures.same) c.in-Some.ensures.on
+    subst
+    (λ (s : Seated Known). IsAt g.F.Shape.first g.row.K g.row.N c.args.self.now s c.in-Some.next)
+    (sym c.key_of-found.ensures.same) c.in-Some.ensures.on
 
 pub returns-then-found-key-clause-found : goal.returns-then-found-key-clause-found
 returns-then-found-key-clause-found g c =
     let on = c.chain.invariant.on in
     let f = c.in-Some.ensures.came on.0 on.1 in
     let held = came_holds _ _ _ _ _ _ _ _ _ f in
-    subst (λ (s : Seated Known). IsFound g.F.Shape.fits c.args.key s.view.client c.in-Some.next) (sym c.key_of-found.ensures.same)
-    (found_it _ _ _ _ _ _ _ _ _ _ _ f (c.key_of-found.ensures.told f.words (inr held)) c.if-found-key.true)
+    subst (λ (s : Seated Known). IsFound g.F.Shape.fits c.args.key s.view.client c.in-Some.next)
+    (sym c.key_of-found.ensures.same)
+    (found_it _ _ _ _ _ _ _ _ _ _ _ f (c.key_of-found.ensures.told f.words (inr held))
+    c.if-found-key.true)
 
 pub returns-then-found-key-clause-searched : goal.returns-then-found-key-clause-searched
 returns-then-found-key-clause-searched g c =
@@ -58,9 +81,11 @@ returns-then-found-key-clause-searched g c =
     let f = c.in-Some.ensures.came i.on.0 i.on.1 in
     let held = came_holds _ _ _ _ _ _ _ _ _ f in
     let told = c.key_of-found.ensures.told f.words (inr held) in
-    subst (λ (s : Seated Known × Seated Known). IsSearched c.args.root c.args.key s.0.view.client (Some c.in-Some.next) s.1.view.client)
+    subst (λ (s : Seated Known × Seated Known).
+    IsSearched c.args.root c.args.key s.0.view.client (Some c.in-Some.next) s.1.view.client)
     (λ z. (c.key_of-least.ensures.same z, sym c.key_of-found.ensures.same z))
-    (arrives _ _ _ _ _ _ _ _ _ _ _ (Some c.in-Some.next) i.path f (refl, omega (arith, told, c.if-found-key.true)))
+    (arrives _ _ _ _ _ _ _ _ _ _ _ (Some c.in-Some.next) i.path f
+    (refl, omega (arith, told, c.if-found-key.true)))
 
 pub returns-then-found-key-2-clause-searched : goal.returns-then-found-key-2-clause-searched
 returns-then-found-key-2-clause-searched g c =
@@ -68,7 +93,8 @@ returns-then-found-key-2-clause-searched g c =
     let f = c.in-Some.ensures.came i.on.0 i.on.1 in
     let held = came_holds _ _ _ _ _ _ _ _ _ f in
     let told = c.key_of-found.ensures.told f.words (inr held) in
-    subst (λ (s : Seated Known × Seated Known). IsSearched c.args.root c.args.key s.0.view.client None s.1.view.client)
+    subst (λ (s : Seated Known × Seated Known).
+    IsSearched c.args.root c.args.key s.0.view.client None s.1.view.client)
     (λ z. (c.key_of-least.ensures.same z, sym c.key_of-found.ensures.same z))
     (arrives _ _ _ _ _ _ _ _ _ _ _ None i.path f (inr (omega (arith, told, c.if-found-key-2.true))))
 
@@ -76,9 +102,9 @@ pub returns-in_default-clause-searched : goal.returns-in_default-clause-searched
 returns-in_default-clause-searched g c =
     let i = c.chain.invariant in
     let f = c.in_default.ensures.came i.on.0 i.on.1 in
-    subst (λ (s : Seated Known). IsSearched c.args.root c.args.key s.view.client None c.follow.new.seat.view.client)
-    c.key_of-least.ensures.same
-    (arrives _ _ _ _ _ _ _ _ _ _ _ None i.path f (inl refl))
+    subst (λ (s : Seated Known).
+    IsSearched c.args.root c.args.key s.view.client None c.follow.new.seat.view.client)
+    c.key_of-least.ensures.same (arrives _ _ _ _ _ _ _ _ _ _ _ None i.path f (inl refl))
 
 pub returns-then-found-key-2-clause-walking : goal.returns-then-found-key-2-clause-walking
 returns-then-found-key-2-clause-walking g c =
@@ -90,7 +116,8 @@ chain-smaller g c =
     let f = c.in-Some.ensures.came on.0 on.1 in
     let came = came_to _ _ _ _ _ _ _ _ _ f in
     let held = came_holds _ _ _ _ _ _ _ _ _ f in
-    let up : slice_index on.0 0 < slice_index f.words 0 = c.requires.ascends on.0 f.words came.joined in
+    let up : slice_index on.0 0 < slice_index f.words 0 =
+    c.requires.ascends on.0 f.words came.joined in
     let told = c.key_of-found.ensures.told f.words (inr held) in
     omega (arith, up, told, on.2, c.if-found-key.false, c.if-found-key-2.false)
 
@@ -100,12 +127,21 @@ chain-preserved g c =
     let f = c.in-Some.ensures.came i.on.0 i.on.1 in
     let came = came_to _ _ _ _ _ _ _ _ _ f in
     let held = came_holds _ _ _ _ _ _ _ _ _ f in
-    let told = c.key_of-found.ensures.told f.words (inr held) in record {
-      same = hops_on c.key_of-least.new.seat c.chain.seat c.follow.new.seat c.key_of-found.new.seat i.same c.in-Some.ensures.same c.key_of-found.ensures.same;
-      reader = subst (λ (s : Seated Known). IsReader s.view.client) (sym c.key_of-found.ensures.same) c.in-Some.ensures.walking.reads;
+    let told = c.key_of-found.ensures.told f.words (inr held) in
+    record {
+      same = hops_on c.key_of-least.new.seat c.chain.seat c.follow.new.seat c.key_of-found.new.seat
+          i.same c.in-Some.ensures.same c.key_of-found.ensures.same;
+      reader = subst (λ (s : Seated Known). IsReader s.view.client)
+          (sym c.key_of-found.ensures.same) c.in-Some.ensures.walking.reads;
       inside = came.inside;
-      on = subst (λ (s : Seated Known). (words : List ℕ) × IsOn g.F.Shape.first g.row.K s.view.client c.in-Some.next words × (slice_index words 0 ≡ c.key_of-found.result)) (sym c.key_of-found.ensures.same)
-          (f.words, inr held, sym told);
-      path = subst (λ (s : Seated Known). IsOnPath c.args.root c.args.key c.key_of-least.new.seat.view.client s.view.client c.in-Some.next) (sym c.key_of-found.ensures.same)
-          (goes_on _ _ _ _ _ _ _ _ _ _ _ i.path f (omega (arith, told, c.if-found-key.false, c.if-found-key-2.false)));
+      on = subst (λ (s : Seated Known).
+          (words : List ℕ)
+          × IsOn g.F.Shape.first g.row.K s.view.client c.in-Some.next words
+          × (slice_index words 0 ≡ c.key_of-found.result))
+          (sym c.key_of-found.ensures.same) (f.words, inr held, sym told);
+      path = subst (λ (s : Seated Known). IsOnPath c.args.root c.args.key
+          c.key_of-least.new.seat.view.client s.view.client c.in-Some.next)
+          (sym c.key_of-found.ensures.same)
+          (goes_on _ _ _ _ _ _ _ _ _ _ _ i.path f
+          (omega (arith, told, c.if-found-key.false, c.if-found-key-2.false)));
     }

@@ -10,7 +10,9 @@ invariant-chain g l = record {
   same : l.seat ≡ after_word_step l.initial.seat l.seat.view.client;
   reader : IsReader l.seat.view.client;
   inside : l.on < g.row.N;
-  on : (words : List ℕ) × IsOn g.F.Shape.first g.row.K l.seat.view.client l.on words × (slice_index words 0 ≡ l.least);
+  on : (words : List ℕ)
+      × IsOn g.F.Shape.first g.row.K l.seat.view.client l.on words
+      × (slice_index words 0 ≡ l.least);
   path : IsOnPath l.root l.key l.initial.seat.view.client l.seat.view.client l.on;
 }
 

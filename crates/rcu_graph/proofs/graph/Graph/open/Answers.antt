@@ -12,10 +12,23 @@ open_for-requires g c =
     let r = c.requires in
     let e = c.in-Ok.ensures in
     let homes : Slots (Unit {0}) = map some c.new.result.items in
-    let client = starts g.F.Shape.fits g.F.Shape.joins g.F.Shape.first g.row.K g.row.L g.row.W g.row.N c.args.roots.now c.in-Ok.behind.items homes r.sizes.inside e.length r.first r.whole e.first in
-    (omega arith, (r.fanouts, ((omega arith, omega arith), subst (λ (l : List ℕ). IsKept g.F.Shape.fits g.F.Shape.joins g.F.Shape.first g.row.K g.row.L g.row.W g.row.N l homes ((None, None, Owner) ∷ [])) (sym c.as_slice.ensures.value) client)))
+    let client = starts g.F.Shape.fits g.F.Shape.joins g.F.Shape.first g.row.K g.row.L g.row.W
+    g.row.N c.args.roots.now c.in-Ok.behind.items homes r.sizes.inside e.length r.first r.whole
+    e.first in (
+      omega arith,
+      (
+        r.fanouts,
+        (
+          (omega arith, omega arith),
+          subst (λ (l : List ℕ). IsKept g.F.Shape.fits g.F.Shape.joins g.F.Shape.first g.row.K
+              g.row.L g.row.W g.row.N l homes ((None, None, Owner) ∷ []))
+              (sym c.as_slice.ensures.value) client,
+        ),
+      ),
+    )
 
 pub returns-clause-keeper : goal.returns-clause-keeper
 returns-clause-keeper g c =
-    keeps_first g.row.L g.row.W g.row.K g.row.N c.args.cpus g.F.Shape.first c.in_ok-live.live c.in_ok-live.own c.claim.new.seat
-    c.in_ok-live.ensures.dealt.size.count c.in_ok-live.ensures.own c.claim.ensures
+    keeps_first g.row.L g.row.W g.row.K g.row.N c.args.cpus g.F.Shape.first c.in_ok-live.live
+    c.in_ok-live.own c.claim.new.seat c.in_ok-live.ensures.dealt.size.count c.in_ok-live.ensures.own
+    c.claim.ensures

@@ -5,5 +5,6 @@ use Rattle.rcu_graph.proofs.graph.Graph.write.Goals as goal
 pub returns-clause-keeper : goal.returns-clause-keeper
 returns-clause-keeper g c =
     let e = c.store_word.ensures in
-    keeps_on _ _ _ _ _ _ e.state (e.told c.args.node c.args.word c.requires.word c.place_of-place.ensures.place)
+    keeps_on _ _ _ _ _ _ e.state
+    (e.told c.args.node c.args.word c.requires.word c.place_of-place.ensures.place)
     (length-set _ _ _ ∙ c.requires.keeper.few) c.requires.keeper

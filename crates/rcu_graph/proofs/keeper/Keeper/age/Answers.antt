@@ -13,12 +13,16 @@ pub invariant_of-self : goal.invariant_of-self
 invariant_of-self g c =
     let s : Watching Known = c.self.inside.counted.nodes in
     let counted = c.self.inside.counted in
-    subst (λ (l : List Node). IsCounted g.F.Shape.fits g.F.Shape.joins g.row.N g.row.K g.row.L l counted.counts.items counted.leaving.items)
+    subst (λ (l : List Node). IsCounted g.F.Shape.fits g.F.Shape.joins g.row.N g.row.K g.row.L l
+    counted.counts.items counted.leaving.items)
     (sym (ap (λ (w : Watching Known). nodes_in w.view.client) c.look.ensures.state))
-    (counted_aged g.F.Shape.fits g.F.Shape.joins g.row.N g.row.K g.row.L (nodes_in s.view.client) counted.counts.items counted.leaving.items c.self.invariant c.look.result (max c.look.result (latest_in s.view.client)))
+    (counted_aged g.F.Shape.fits g.F.Shape.joins g.row.N g.row.K g.row.L (nodes_in s.view.client)
+    counted.counts.items counted.leaving.items c.self.invariant c.look.result
+    (max c.look.result (latest_in s.view.client)))
 
 pub returns-clause-graph : goal.returns-clause-graph
 returns-clause-graph g c = c.look.ensures.graph
 
 pub returns-clause-state : goal.returns-clause-state
-returns-clause-state g c = c.look.ensures.state ∙ ap (λ (w : Watching Known). after_look w c.look.result) c.self.view_is
+returns-clause-state g c =
+    c.look.ensures.state ∙ ap (λ (w : Watching Known). after_look w c.look.result) c.self.view_is

@@ -16,15 +16,21 @@ invariant_of-self g c =
     let counted = c.self.inside.counted in
     let nodes : List Node = nodes_in s.view.client in
     let change : Node → Node = filled_with (map word_to c.args.links.now) c.args.words.now in
-    subst (λ (l : List Node). IsCounted g.F.Shape.fits g.F.Shape.joins g.row.N g.row.K g.row.L l counted.counts.items counted.leaving.items)
+    subst (λ (l : List Node). IsCounted g.F.Shape.fits g.F.Shape.joins g.row.N g.row.K g.row.L l
+    counted.counts.items counted.leaving.items)
     (sym (nodes_are s c.fill.new.self (renewed nodes c.args.node change) c.fill.ensures.state))
-    (counted_written g.F.Shape.fits g.F.Shape.joins g.row.N g.row.K g.row.L nodes counted.counts.items counted.leaving.items c.self.invariant c.args.node change
+    (counted_written g.F.Shape.fits g.F.Shape.joins g.row.N g.row.K g.row.L nodes
+    counted.counts.items counted.leaving.items c.self.invariant c.args.node change
     (let few = c.sizes.ensures.few in omega (arith, few, c.requires.node))
-    (ap (λ (w : Watching Known). state_at (nodes_in w.view.client) c.args.node) c.self.view_is ∙ c.requires.free) refl)
+    (ap (λ (w : Watching Known). state_at (nodes_in w.view.client) c.args.node) c.self.view_is
+    ∙ c.requires.free)
+    refl)
 
 pub returns-clause-graph : goal.returns-clause-graph
 returns-clause-graph g c = c.fill.ensures.graph
 
 pub returns-clause-state : goal.returns-clause-state
 returns-clause-state g c =
-    c.fill.ensures.state ∙ ap (λ (w : Watching Known). after_fill w c.args.node c.args.words.now c.args.links.now) c.self.view_is
+    c.fill.ensures.state
+    ∙ ap (λ (w : Watching Known). after_fill w c.args.node c.args.words.now c.args.links.now)
+    c.self.view_is

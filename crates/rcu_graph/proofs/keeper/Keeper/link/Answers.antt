@@ -15,12 +15,19 @@ link-requires g c =
       (
         omega arith,
         record {
-          watches = subst (λ (w : Watching Known). IsWatcherOf c.args.graph.now w) e c.requires.graph;
+          watches =
+              subst (λ (w : Watching Known). IsWatcherOf c.args.graph.now w) e c.requires.graph;
           counted = c.self.invariant;
           from_inside = c.requires.from;
           link_inside = c.requires.link;
-          live = subst (λ (w : Watching Known). state_at (nodes_in w.view.client) c.args.from ≡ Live) e c.requires.live;
-          target = subst (λ (w : Watching Known). IsTarget (g.F.Shape.joins c.args.link) (node_at (nodes_in w.view.client) c.args.from).words (nodes_in w.view.client) (word_to c.args.to)) e c.requires.target;
+          live =
+              subst (λ (w : Watching Known). state_at (nodes_in w.view.client) c.args.from ≡ Live) e
+              c.requires.live;
+          target = subst (λ (w : Watching Known).
+              IsTarget (g.F.Shape.joins c.args.link)
+              (node_at (nodes_in w.view.client) c.args.from).words (nodes_in w.view.client)
+              (word_to c.args.to))
+              e c.requires.target;
         },
       ),
     )
@@ -33,9 +40,13 @@ returns-clause-graph g c = c.link.ensures.watches
 
 pub returns-clause-state : goal.returns-clause-state
 returns-clause-state g c =
-    c.link.ensures.state ∙ ap (λ (w : Watching Known). after_step w (nodes_in c.link.new.self.nodes.view.client)) c.self.view_is
+    c.link.ensures.state
+    ∙ ap (λ (w : Watching Known). after_step w (nodes_in c.link.new.self.nodes.view.client))
+    c.self.view_is
 
 pub returns-clause-trimmed : goal.returns-clause-trimmed
 returns-clause-trimmed g c =
-    subst (λ (w : Watching Known). AreTrimmed g.row.K g.row.L (relinked (nodes_in w.view.client) c.args.from c.args.link c.args.to) (nodes_in c.link.new.self.nodes.view.client))
+    subst (λ (w : Watching Known). AreTrimmed g.row.K g.row.L
+    (relinked (nodes_in w.view.client) c.args.from c.args.link c.args.to)
+    (nodes_in c.link.new.self.nodes.view.client))
     c.self.view_is c.link.ensures.trimmed

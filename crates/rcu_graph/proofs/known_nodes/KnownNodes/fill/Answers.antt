@@ -28,7 +28,8 @@ fill_words-requires g c = (
 
 pub fill_links-requires : goal.fill_links-requires
 fill_links-requires g c =
-    let can : CanFill g.row.N g.row.L g.row.W c.args.graph.now c.args.self.now c.args.node = record {
+    let can : CanFill g.row.N g.row.L g.row.W c.args.graph.now c.args.self.now c.args.node =
+    record {
       watches = c.requires.graph;
       keeps = c.sizes.ensures.keeps;
       few = c.sizes.ensures.few;
@@ -43,7 +44,8 @@ fill_links-requires g c =
         (
           search rules,
           (
-            can_fill_on c.args.self.now c.args.node g.row.N g.row.L g.row.W c.args.graph.now c.args.words.now c.fill_words.new.self can c.told-words c.fill_words.ensures,
+            can_fill_on c.args.self.now c.args.node g.row.N g.row.L g.row.W c.args.graph.now
+                c.args.words.now c.fill_words.new.self can c.told-words c.fill_words.ensures,
             c.requires.inside,
           ),
         ),
@@ -53,9 +55,11 @@ fill_links-requires g c =
 pub returns-clause-graph : goal.returns-clause-graph
 returns-clause-graph g c =
     subst (λ (w : Watching Known). IsWatcherOf c.args.graph.now w) (sym c.fill_links.ensures)
-    (subst (λ (w : Watching Known). IsWatcherOf c.args.graph.now w) (sym c.fill_words.ensures) c.requires.graph)
+    (subst (λ (w : Watching Known). IsWatcherOf c.args.graph.now w) (sym c.fill_words.ensures)
+    c.requires.graph)
 
 pub returns-clause-state : goal.returns-clause-state
 returns-clause-state g c =
-    all_filled c.args.self.now c.args.node c.args.words.now c.args.links.now c.fill_words.new.self c.fill_links.new.self
-    (low_in c.args.node g.row.N _ c.sizes.ensures.few c.requires.node) c.fill_words.ensures c.fill_links.ensures
+    all_filled c.args.self.now c.args.node c.args.words.now c.args.links.now c.fill_words.new.self
+    c.fill_links.new.self (low_in c.args.node g.row.N _ c.sizes.ensures.few c.requires.node)
+    c.fill_words.ensures c.fill_links.ensures

@@ -7,4 +7,7 @@ use Rattle.rcu_graph.proofs.known_nodes.KnownNodes.fill_links.Given as goal
 
 abbrev pub invariant-loop-link : goal.invariant-loop-link
 invariant-loop-link g l =
-    l.self ≡ after_step l.initial.self (renewed (nodes_in l.initial.self.view.client) l.node (with_links_to l.link (map word_to l.links)))
+    l.self
+    ≡ after_step l.initial.self
+    (renewed (nodes_in l.initial.self.view.client) l.node
+    (with_links_to l.link (map word_to l.links)))

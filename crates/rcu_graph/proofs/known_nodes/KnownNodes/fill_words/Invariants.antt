@@ -6,4 +6,6 @@ use Rattle.rcu_graph.proofs.known_nodes.KnownNodes.fill_words.Given as goal
 
 abbrev pub invariant-loop-word : goal.invariant-loop-word
 invariant-loop-word g l =
-    l.self ≡ after_step l.initial.self (renewed (nodes_in l.initial.self.view.client) l.node (with_words_to l.word l.words))
+    l.self
+    ≡ after_step l.initial.self
+    (renewed (nodes_in l.initial.self.view.client) l.node (with_words_to l.word l.words))

@@ -11,10 +11,13 @@ link-requires g c =
     let is : c.self.inside.seat ≡ c.args.self.now = c.self.view_is in
     let k = c.self.invariant in
     let keeper : IsKeeperOf g.row.N c.args.graph.now c.self.inside.seat = record {
-      watches = subst (λ (w : Watching Known). IsWatcherOf c.args.graph.now w) (sym is) c.requires.graph;
+      watches =
+          subst (λ (w : Watching Known). IsWatcherOf c.args.graph.now w) (sym is) c.requires.graph;
       role = k.role;
       keeps = k.keeps;
       few = k.few;
     } in
-    let can = subst (λ (w : Watching Known). CanLink (g.F.Shape.joins c.args.link) (nodes_in w.view.client) c.args.node c.args.value) (sym is) c.requires.can in
+    let can = subst (λ (w : Watching Known).
+    CanLink (g.F.Shape.joins c.args.link) (nodes_in w.view.client) c.args.node c.args.value)
+    (sym is) c.requires.can in
     (omega arith, (omega arith, (keeper, (c.requires.node, (c.requires.link, can)))))

@@ -18,11 +18,14 @@ invariant_of-self g c =
     let seen = k.late in
     let later = e.later in
     let low : latest_in was ≤ n = omega (arith, seen, later) in
-    let up : max n (latest_in was) ≤ n = max-le {a = n} {b = latest_in was} {k = n} (omega arith) low in
+    let up : max n (latest_in was) ≤ n =
+    max-le {a = n} {b = latest_in was} {k = n} (omega arith) low in
     let over : n ≤ max n (latest_in was) = le-max_left n (latest_in was) in
     let same : max n (latest_in was) ≡ n = omega (arith, up, over) in
-    let latest : latest_in c.look-number.new.seat.view.client ≡ n = ap (λ (w : Watching Known). latest_in w.view.client) e.state ∙ same in
-    let now : c.look-number.new.seat.view.seen ≡ n = ap (λ (w : Watching Known). w.view.seen) e.state in
+    let latest : latest_in c.look-number.new.seat.view.client ≡ n =
+    ap (λ (w : Watching Known). latest_in w.view.client) e.state ∙ same in
+    let now : c.look-number.new.seat.view.seen ≡ n =
+    ap (λ (w : Watching Known). w.view.seen) e.state in
     record {
       role = e.keeper.role;
       keeps = e.keeper.keeps;
@@ -30,8 +33,10 @@ invariant_of-self g c =
       late = omega (arith, latest, now);
       same =
           ap (λ (w : Watching Known). nodes_in w.view.client) e.state
-          ∙ (ap (λ (m : ℕ). aged n m (nodes_in was)) same ∙ (ap (λ (l : List Node). aged n n l) k.same ∙ sym c.age.ensures));
+          ∙ (ap (λ (m : ℕ). aged n m (nodes_in was)) same
+          ∙ (ap (λ (l : List Node). aged n n l) k.same ∙ sym c.age.ensures));
       by =
           subst (λ (m : ℕ). AreBy m c.age.new.self) (sym latest)
-          (subst (λ (l : List Node). AreBy n l) (sym c.age.ensures) (by_aged (latest_in was) n c.self.inside.mirror low k.by));
+          (subst (λ (l : List Node). AreBy n l) (sym c.age.ensures)
+          (by_aged (latest_in was) n c.self.inside.mirror low k.by));
     }

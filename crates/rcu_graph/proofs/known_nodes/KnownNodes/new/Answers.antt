@@ -19,5 +19,6 @@ invariant_of-result g c =
       same = ap nodes_in first ∙ sym is;
       by =
           subst (λ (k : Known). AreBy (latest_in k) made) (sym first)
-          (subst (λ (l : List Node). AreBy 0 l) (sym is) (by_first g.row.L g.row.W g.F.Shape.first g.row.K g.row.N));
+          (subst (λ (l : List Node). AreBy 0 l) (sym is)
+          (by_first g.row.L g.row.W g.F.Shape.first g.row.K g.row.N));
     }

@@ -11,9 +11,11 @@ returns-clause-keeps g c =
 
 pub returns-clause-few : goal.returns-clause-few
 returns-clause-few g c =
-    ap (λ (w : Watching Known). length (nodes_in w.view.client)) (sym c.self.view_is) ∙ c.self.invariant.few
+    ap (λ (w : Watching Known). length (nodes_in w.view.client)) (sym c.self.view_is)
+    ∙ c.self.invariant.few
 
 pub returns-clause-sized : goal.returns-clause-sized
 returns-clause-sized g c =
-    subst (λ (w : Watching Known). AreSized g.row.N g.row.L g.row.W (nodes_in w.view.client)) c.self.view_is
+    subst (λ (w : Watching Known). AreSized g.row.N g.row.L g.row.W (nodes_in w.view.client))
+    c.self.view_is
     (subst (AreSized g.row.N g.row.L g.row.W) (sym c.self.invariant.same) c.sizes.ensures.sized)

@@ -10,7 +10,8 @@ use Rattle.rcu_graph.proofs.mirror.Mirror.age.Goals as goal
 pub returns : goal.returns
 returns g c =
     let i = c.self.inside in
-    ap (λ (s : List NodeState). nodes_of g.row.L g.row.W s i.links.items i.words.items) c.age.ensures
+    ap (λ (s : List NodeState). nodes_of g.row.L g.row.W s i.links.items i.words.items)
+    c.age.ensures
     ∙ (aged_of g.row.L g.row.W c.args.number i.states i.links.items i.words.items
     ∙ ap (λ (l : List Node). aged c.args.number c.args.number l) c.self.view_is)
 
@@ -20,6 +21,7 @@ age-requires g c =
       omega arith,
       (
         c.requires.small,
-        states_by g.row.L g.row.W i.states i.links.items i.words.items c.args.self.now c.self.view_is c.args.number c.requires.late,
+        states_by g.row.L g.row.W i.states i.links.items i.words.items c.args.self.now
+            c.self.view_is c.args.number c.requires.late,
       ),
     )

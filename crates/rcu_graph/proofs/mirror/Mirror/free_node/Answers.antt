@@ -4,9 +4,11 @@ use Rattle.rcu_graph.proofs.mirror.Mirror.free_node.Goals as goal
 pub returns-clause-free : goal.returns-clause-free
 returns-clause-free g c =
     let i = c.self.inside in
-    node_free g.row.L g.row.W i.states i.links.items i.words.items c.args.self.now c.self.view_is c.free_node.result c.free_node.ensures.free
+    node_free g.row.L g.row.W i.states i.links.items i.words.items c.args.self.now c.self.view_is
+    c.free_node.result c.free_node.ensures.free
 
 pub returns-clause-none : goal.returns-clause-none
 returns-clause-none g c =
     let i = c.self.inside in
-    none_free g.row.L g.row.W i.states i.links.items i.words.items c.args.self.now c.self.view_is g.row.N c.self.invariant.count c.free_node.result c.free_node.ensures.none
+    none_free g.row.L g.row.W i.states i.links.items i.words.items c.args.self.now c.self.view_is
+    g.row.N c.self.invariant.count c.free_node.result c.free_node.ensures.none

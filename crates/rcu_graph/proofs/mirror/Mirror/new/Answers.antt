@@ -13,13 +13,15 @@ loop-root-init g c = c.in_ok-mirror.ensures ∙ none_first g.row.L g.row.W g.row
 pub publish-requires : goal.publish-requires
 publish-requires g c =
     let i = c.loop-root.root in
-    let low : i < g.row.N = (let test = c.loop-root-test.true in omega (arith, test, c.requires.roots)) in (
+    let low : i < g.row.N =
+    (let test = c.loop-root-test.true in omega (arith, test, c.requires.roots)) in (
       omega arith,
       (
         low,
         ap (λ (l : List Node). state_at l i) c.loop-root.invariant
             ∙ ap (λ (v : Node). v.state)
-            (first_at g.row.L g.row.W g.row.N g.F.Shape.first i i low ∙ is_free g.row.L g.row.W g.row.N g.F.Shape.first i i (omega arith)),
+            (first_at g.row.L g.row.W g.row.N g.F.Shape.first i i low
+            ∙ is_free g.row.L g.row.W g.row.N g.F.Shape.first i i (omega arith)),
       ),
     )
 
@@ -29,11 +31,17 @@ loop-root-preserved g c =
     let row = get_or c.args.roots.now i [] in
     let low = c.loop-root-test.true in
     c.set_words.ensures
-    ∙ (ap (λ (l : List Node). renewed l i (with_words row)) (c.publish.ensures ∙ ap (λ (l : List Node). renewed l i (in_state Live)) c.loop-root.invariant)
-    ∙ (ap (λ (ws : List ℕ). renewed (renewed (first_nodes g.row.L g.row.W g.F.Shape.first i g.row.N) i (in_state Live)) i (with_words ws)) (row_first g.row.L g.row.W g.row.N g.F.Shape.first c.args.roots.now g.row.K i [] c.requires.first low)
+    ∙ (ap (λ (l : List Node). renewed l i (with_words row))
+    (c.publish.ensures ∙ ap (λ (l : List Node). renewed l i (in_state Live)) c.loop-root.invariant)
+    ∙ (ap (λ (ws : List ℕ).
+    renewed (renewed (first_nodes g.row.L g.row.W g.F.Shape.first i g.row.N) i (in_state Live)) i
+    (with_words ws))
+    (row_first g.row.L g.row.W g.row.N g.F.Shape.first c.args.roots.now g.row.K i []
+    c.requires.first low)
     ∙ one_first g.row.L g.row.W g.row.N g.F.Shape.first i (omega (arith, low, c.requires.roots))))
 
 pub returns : goal.returns
 returns g c =
     c.loop-root.invariant
-    ∙ ap (λ (n : ℕ). first_nodes g.row.L g.row.W g.F.Shape.first n g.row.N) (omega (arith, c.loop-root-test.false, c.loop-root.auto.root-end))
+    ∙ ap (λ (n : ℕ). first_nodes g.row.L g.row.W g.F.Shape.first n g.row.N)
+    (omega (arith, c.loop-root-test.false, c.loop-root.auto.root-end))

@@ -11,7 +11,8 @@ use Rattle.rcu_graph.proofs.mirror.Mirror.publish.Goals as goal
 pub returns : goal.returns
 returns g c =
     let i = c.self.inside in
-    ap (λ (s : List NodeState). nodes_of g.row.L g.row.W s i.links.items i.words.items) c.publish.ensures
+    ap (λ (s : List NodeState). nodes_of g.row.L g.row.W s i.links.items i.words.items)
+    c.publish.ensures
     ∙ (state_set g.row.L g.row.W i.states i.links.items i.words.items c.args.node Live
     ∙ ap (λ (l : List Node). renewed l c.args.node (in_state Live)) c.self.view_is)
 
@@ -21,6 +22,8 @@ publish-requires g c =
       omega arith,
       (
         c.requires.node,
-        state_is g.row.L g.row.W i.states i.links.items i.words.items c.args.self.now c.self.view_is c.args.node ∙ c.requires.free,
+        state_is g.row.L g.row.W i.states i.links.items i.words.items c.args.self.now c.self.view_is
+            c.args.node
+            ∙ c.requires.free,
       ),
     )

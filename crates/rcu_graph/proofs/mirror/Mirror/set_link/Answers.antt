@@ -11,6 +11,9 @@ returns g c =
     let states = c.self.inside.states in
     let items = c.self.inside.links.items in
     let words = c.self.inside.words.items in
-    ap (λ (n : ℕ). nodes_of g.row.L g.row.W states (set items n c.args.value) words) c.cell_of.ensures.place
-    ∙ (link_set g.row.L g.row.W states items words c.args.node c.args.link c.args.value (omega (arith, k.count, c.requires.node)) c.requires.link
-    ∙ ap (λ (l : List Node). renewed l c.args.node (linked_to c.args.link c.args.value)) c.self.view_is)
+    ap (λ (n : ℕ). nodes_of g.row.L g.row.W states (set items n c.args.value) words)
+    c.cell_of.ensures.place
+    ∙ (link_set g.row.L g.row.W states items words c.args.node c.args.link c.args.value
+    (omega (arith, k.count, c.requires.node)) c.requires.link
+    ∙ ap (λ (l : List Node). renewed l c.args.node (linked_to c.args.link c.args.value))
+    c.self.view_is)

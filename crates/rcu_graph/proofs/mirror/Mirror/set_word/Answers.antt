@@ -11,6 +11,9 @@ returns g c =
     let states = c.self.inside.states in
     let links = c.self.inside.links.items in
     let items = c.self.inside.words.items in
-    ap (λ (n : ℕ). nodes_of g.row.L g.row.W states links (set items n c.args.value)) c.cell_of.ensures.place
-    ∙ (word_set g.row.L g.row.W states links items c.args.node c.args.word c.args.value (omega (arith, k.count, c.requires.node)) c.requires.word
-    ∙ ap (λ (l : List Node). renewed l c.args.node (worded c.args.word c.args.value)) c.self.view_is)
+    ap (λ (n : ℕ). nodes_of g.row.L g.row.W states links (set items n c.args.value))
+    c.cell_of.ensures.place
+    ∙ (word_set g.row.L g.row.W states links items c.args.node c.args.word c.args.value
+    (omega (arith, k.count, c.requires.node)) c.requires.word
+    ∙ ap (λ (l : List Node). renewed l c.args.node (worded c.args.word c.args.value))
+    c.self.view_is)

@@ -11,9 +11,18 @@ invariant_of-self g c =
     let places = c.self.inside.places.items in
     let many = r.places_many in
     let p : c.index-place.result.now ≡ get_or places c.args.node 0 =
-    get_or_read places c.args.node _ (omega (arith, many, c.requires.node)) c.index-place.ensures 0 in
+    get_or_read places c.args.node _ (omega (arith, many, c.requires.node)) c.index-place.ensures
+    0 in
     let q : c.index-other_place.result.now ≡ get_or places c.args.other 0 =
-    get_or_read places c.args.other _ (omega (arith, many, c.requires.other)) c.index-other_place.ensures 0 in
-    subst (λ (x : ℕ). IsRing g.row.N (set (set nodes x c.args.other) c.index-other_place.result.now c.args.node) (set (set places c.args.other x) c.args.node c.index-other_place.result.now)) (sym p)
-    (subst (λ (y : ℕ). IsRing g.row.N (set (set nodes (get_or places c.args.node 0) c.args.other) y c.args.node) (set (set places c.args.other (get_or places c.args.node 0)) c.args.node y)) (sym q)
-    (ring_exchanged g.row.N nodes places r c.args.node c.args.other c.requires.node c.requires.other))
+    get_or_read places c.args.other _ (omega (arith, many, c.requires.other))
+    c.index-other_place.ensures 0 in
+    subst (λ (x : ℕ). IsRing g.row.N
+    (set (set nodes x c.args.other) c.index-other_place.result.now c.args.node)
+    (set (set places c.args.other x) c.args.node c.index-other_place.result.now))
+    (sym p)
+    (subst (λ (y : ℕ). IsRing g.row.N
+    (set (set nodes (get_or places c.args.node 0) c.args.other) y c.args.node)
+    (set (set places c.args.other (get_or places c.args.node 0)) c.args.node y))
+    (sym q)
+    (ring_exchanged g.row.N nodes places r c.args.node c.args.other c.requires.node
+    c.requires.other))

@@ -1,12 +1,14 @@
-use Rattle.std.proofs.Common.{◌≡◌, ℕ, ◌<◌, Bool, true, false, List, length, None, Some, refl, ap, sym, subst, ◌∙◌}
+use Rattle.std.proofs.Common.{◌≡◌, ℕ, ◌<◌, Bool, true, false, not, nat_lt, List, length, None, Some, refl, ap, sym, subst, ◌∙◌}
 use Rattle.std.specs.Prelude.{if◌then◌else◌}
 use Rattle.std.specs.Arc.{arc_value}
 use Rattle.rcu_seq.specs.Seq.{number_of}
 use Rattle.rcu_seq.specs.declared.fault.Fault.TheVariants as fault
+use Rattle.rcu_node.specs.CpuSet.{listed}
 use Rattle.rcu_node.proofs.CpuSetLemmas.{length-listed}
 use Rattle.rcu_state.specs.GpState.{Grace}
 use Rattle.rcu_live.specs.Board.{Object}
 use Rattle.rcu_live.specs.Engine.{after_own_word_loads, begun_from, loaded_word, next_number}
+use Rattle.rcu_live.specs.Numbers.{reports_quiescence}
 use Rattle.rcu_live.specs.View.{after_begin_store}
 use Rattle.rcu_live.specs.declared.view.View.{View}
 use Rattle.rcu_live.proofs.Begins.{begun_awaits, begun_is}
@@ -27,10 +29,11 @@ invariant_of-self g c =
     let cpus = c.deref-2.result.now.cpus in
     let same : cpus ≡ (arc_value c.self.inside.board).cpus = ap (λ (o : Object). o.cpus) c.deref-2.ensures in
     let number = c.in_ok-number.ensures.number in
+    let quiescent = f.already_quiescent ∙ ap (λ (n : ℕ). listed cpus (λ d. nat_lt n (loaded_word own_word_loads d))) c.start.ensures.number in
     let state : c.report_all.new.gp.grace ≡ begun_from cpus (loaded_word own_word_loads) old =
     begun_is old c.load_own_words.new.gp.grace c.begin-2.new.self.grace c.report_all.new.gp.grace cpus
-    (loaded_word own_word_loads) c.load_own_words.new.already_quiescent c.in_ok-number.number
-    f.state.seq f.state.needed f.state.lists f.state.these f.already_quiescent number c.in-Ok.ensures.state c.report_all.ensures in
+    (loaded_word own_word_loads) c.load_own_words.new.by_word.already_quiescent c.in_ok-number.number
+    f.state.seq f.state.needed f.state.lists f.state.these quiescent number c.in-Ok.ensures.state c.report_all.ensures in
     let view : c.load_own_words.new.seat.me.0
     ≡ after_own_word_loads (after_begin_store c.self.inside.seat.me.0 c.in_ok-number.number) (loaded_word own_word_loads) cpus =
     f.view ∙ ap (λ (v : View g.row.P-Known.Denot). after_own_word_loads v (loaded_word own_word_loads) cpus) c.begin.ensures.told in
@@ -47,6 +50,9 @@ invariant_of-self g c =
           λ runs d low none. begun_awaits old c.report_all.new.gp.grace cpus (loaded_word own_word_loads) own_word_loads state
           (ap (λ (v : View g.row.P-Known.Denot). v.own_word_loads) view) runs d
           (subst (λ (n : ℕ). d < n) (sym same) low) none;
+      same =
+          f.awaited ∙ ap (λ (n : ℕ). listed cpus (λ d. not (reports_quiescence n (loaded_word own_word_loads d)))) (c.start.ensures.number ∙ number)
+          ∙ sym (ap (λ (y : Grace g.row.T.Denot). y.processors.awaited) state);
     }
 
 -- where a begin is not refused no grace period runs
@@ -64,10 +70,11 @@ returns-clause-made g c =
     let cpus = c.deref-2.result.now.cpus in
     let same : cpus ≡ (arc_value c.self.inside.board).cpus = ap (λ (o : Object). o.cpus) c.deref-2.ensures in
     let number = c.in_ok-number.ensures.number in
+    let quiescent = f.already_quiescent ∙ ap (λ (n : ℕ). listed cpus (λ d. nat_lt n (loaded_word own_word_loads d))) c.start.ensures.number in
     let state : c.report_all.new.gp.grace ≡ begun_from cpus (loaded_word own_word_loads) old =
     begun_is old c.load_own_words.new.gp.grace c.begin-2.new.self.grace c.report_all.new.gp.grace cpus
-    (loaded_word own_word_loads) c.load_own_words.new.already_quiescent c.in_ok-number.number
-    f.state.seq f.state.needed f.state.lists f.state.these f.already_quiescent number c.in-Ok.ensures.state c.report_all.ensures in
+    (loaded_word own_word_loads) c.load_own_words.new.by_word.already_quiescent c.in_ok-number.number
+    f.state.seq f.state.needed f.state.lists f.state.these quiescent number c.in-Ok.ensures.state c.report_all.ensures in
     let view : c.load_own_words.new.seat.me.0 ≡ after_own_word_loads (after_begin_store v (next_number old)) (loaded_word own_word_loads) cpus =
     f.view ∙ ap (λ (u : View g.row.P-Known.Denot). after_own_word_loads u (loaded_word own_word_loads) cpus)
     (c.begin.ensures.told ∙ ap (after_begin_store v) number) in

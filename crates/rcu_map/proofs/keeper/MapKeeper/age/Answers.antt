@@ -14,14 +14,24 @@ pub invariant_of-self : goal.invariant_of-self
 invariant_of-self g c =
     let e = c.age-number.ensures.state in
     let latest = max c.age-number.result (latest_in c.self.inside.nodes.view.client) in
-    let few = subst (λ (w : Watching Known). length (nodes_in w.view.client) ≡ g.row.N) e c.tends.ensures.keeper.few in
-    let tended = subst (λ (w : Watching Known). AreTended (IsWhole g.E.Invariant.holds g.row.W) (λ _ from to. GoesUp g.row.BUCKETS from to) g.row.BUCKETS 1 (nodes_in w.view.client))
-    e c.tends.ensures.tended in record {
+    let few = subst (λ (w : Watching Known). length (nodes_in w.view.client) ≡ g.row.N) e
+    c.tends.ensures.keeper.few in
+    let tended = subst (λ (w : Watching Known). AreTended (IsWhole g.E.Invariant.holds g.row.W)
+    (λ _ from to. GoesUp g.row.BUCKETS from to) g.row.BUCKETS 1 (nodes_in w.view.client))
+    e c.tends.ensures.tended in
+    record {
       some = c.self.invariant.some;
-      map = subst (λ (w : Watching Known). IsMap g.E.Invariant.holds g.row.BUCKETS g.row.W g.row.N (nodes_in w.view.client)) (sym e)
-          (aged_map g.E.Invariant.holds g.row.BUCKETS g.row.W g.row.N (nodes_in c.self.inside.nodes.view.client) c.self.invariant.map c.age-number.result latest few tended);
-      count = c.self.invariant.count
-          ∙ (sym (aged_count g.E.Invariant.holds g.row.BUCKETS g.row.W g.row.N (nodes_in c.self.inside.nodes.view.client) c.self.invariant.map c.age-number.result latest)
+      map = subst (λ (w : Watching Known).
+          IsMap g.E.Invariant.holds g.row.BUCKETS g.row.W g.row.N (nodes_in w.view.client))
+          (sym e)
+          (aged_map g.E.Invariant.holds g.row.BUCKETS g.row.W g.row.N
+          (nodes_in c.self.inside.nodes.view.client) c.self.invariant.map c.age-number.result latest
+          few tended);
+      count =
+          c.self.invariant.count
+          ∙ (sym (aged_count g.E.Invariant.holds g.row.BUCKETS g.row.W g.row.N
+          (nodes_in c.self.inside.nodes.view.client) c.self.invariant.map c.age-number.result
+          latest)
           ∙ ap (λ (w : Watching Known). entries_in g.row.BUCKETS (nodes_in w.view.client)) (sym e));
     }
 
@@ -29,6 +39,11 @@ pub returns-clause-entries : goal.returns-clause-entries
 returns-clause-entries g c =
     let e = c.age-number.ensures.state in
     let latest = max c.age-number.result (latest_in c.self.inside.nodes.view.client) in
-    subst (λ (w : Watching Known). AreSameEntries g.row.BUCKETS (nodes_in w.view.client) (nodes_in c.age-number.new.self.view.client)) c.self.view_is
-    (subst (λ (w : Watching Known). AreSameEntries g.row.BUCKETS (nodes_in c.self.inside.nodes.view.client) (nodes_in w.view.client)) (sym e)
-    (aged_entries g.E.Invariant.holds g.row.BUCKETS g.row.W g.row.N (nodes_in c.self.inside.nodes.view.client) c.self.invariant.map c.age-number.result latest))
+    subst (λ (w : Watching Known). AreSameEntries g.row.BUCKETS (nodes_in w.view.client)
+    (nodes_in c.age-number.new.self.view.client))
+    c.self.view_is
+    (subst (λ (w : Watching Known). AreSameEntries g.row.BUCKETS
+    (nodes_in c.self.inside.nodes.view.client) (nodes_in w.view.client))
+    (sym e)
+    (aged_entries g.E.Invariant.holds g.row.BUCKETS g.row.W g.row.N
+    (nodes_in c.self.inside.nodes.view.client) c.self.invariant.map c.age-number.result latest))

@@ -8,8 +8,10 @@ use Rattle.rcu_map.proofs.keeper.MapKeeper.find.Goals as goal
 
 pub returns-then-key-eq0 : goal.returns-then-key-eq0
 returns-then-key-eq0 g c = λ has. no_entry_of_0 _ _ _ _ _ c.self.invariant.map
-    (subst (λ (w : Watching Known). HasKey g.row.BUCKETS (nodes_in w.view.client) 0) (sym c.self.view_is)
-    (subst (λ (n : ℕ). HasKey g.row.BUCKETS (nodes_in c.args.self.now.view.client) n) c.if-key-eq0.true has))
+    (subst (λ (w : Watching Known). HasKey g.row.BUCKETS (nodes_in w.view.client) 0)
+    (sym c.self.view_is)
+    (subst (λ (n : ℕ). HasKey g.row.BUCKETS (nodes_in c.args.self.now.view.client) n)
+    c.if-key-eq0.true has))
 
 pub returns : goal.returns
 returns g c = c.place_of.ensures.told

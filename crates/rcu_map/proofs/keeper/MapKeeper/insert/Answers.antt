@@ -19,14 +19,19 @@ place_of-place-requires g c =
     let words = c.to_words-words.result in
     let whole = c.to_words-words.ensures.whole in
     let some : 0 < key_in words = g.met.E.Entry.keyed words whole in
-    let own : c.key.result ≡ key_in words = c.key.ensures ∙ (ap g.E.Entry.key_of (sym c.to_words-words.ensures.inverse) ∙ g.met.E.Entry.tells words whole) in
+    let own : c.key.result ≡ key_in words =
+    c.key.ensures
+    ∙ (ap g.E.Entry.key_of (sym c.to_words-words.ensures.inverse)
+    ∙ g.met.E.Entry.tells words whole) in
     (omega arith, omega (arith, some, own))
 
 pub returns-then-is_some-clause-there : goal.returns-then-is_some-clause-there
 returns-then-is_some-clause-there g c = (
   λ has. refl,
-  λ e. subst (λ (n : ℕ). HasKey g.row.BUCKETS (nodes_in c.args.self.now.view.client) n) c.key.ensures
-      (one_there g.row.BUCKETS c.key.result (nodes_in c.args.self.now.view.client) c.place_of-place.result.node c.place_of-place.ensures.told
+  λ e. subst (λ (n : ℕ). HasKey g.row.BUCKETS (nodes_in c.args.self.now.view.client) n)
+      c.key.ensures
+      (one_there g.row.BUCKETS c.key.result (nodes_in c.args.self.now.view.client)
+      c.place_of-place.result.node c.place_of-place.ensures.told
       (sym c.is_some.ensures ∙ c.if-is_some.true)),
 )
 
@@ -36,19 +41,29 @@ put-requires g c =
     let words = c.to_words-words.result in
     let whole = c.to_words-words.ensures.whole in
     let some : 0 < key_in words = g.met.E.Entry.keyed words whole in
-    let own : c.key.result ≡ key_in words = c.key.ensures ∙ (ap g.E.Entry.key_of (sym c.to_words-words.ensures.inverse) ∙ g.met.E.Entry.tells words whole) in
-    let place = placed g.row.BUCKETS c.args.self.now c.self.inside.nodes c.key.result (key_in words) c.place_of-place.result.previous c.place_of-place.result.node None
-    c.place_of-place.ensures.place c.self.view_is own (nothing_in c.place_of-place.result.node (sym c.is_some.ensures ∙ c.if-is_some.false)) in
-    let watches = subst (λ (w : Watching Known). IsWatcherOf c.args.map.now w) (sym c.self.view_is) c.requires.graph in (
+    let own : c.key.result ≡ key_in words =
+    c.key.ensures
+    ∙ (ap g.E.Entry.key_of (sym c.to_words-words.ensures.inverse)
+    ∙ g.met.E.Entry.tells words whole) in
+    let place = placed g.row.BUCKETS c.args.self.now c.self.inside.nodes c.key.result (key_in words)
+    c.place_of-place.result.previous c.place_of-place.result.node None
+    c.place_of-place.ensures.place c.self.view_is own
+    (nothing_in c.place_of-place.result.node (sym c.is_some.ensures ∙ c.if-is_some.false)) in
+    let watches = subst (λ (w : Watching Known). IsWatcherOf c.args.map.now w) (sym c.self.view_is)
+    c.requires.graph in (
       omega arith,
       (
         omega arith,
         (
           omega (arith, small),
-          subst (λ (o : Object). CanPut (IsWhole g.E.Invariant.holds g.row.W) (λ _ from to. GoesUp g.row.BUCKETS from to) g.row.N o c.self.inside.nodes c.place_of-place.result.previous words c.link_of-next.result)
+          subst (λ (o : Object). CanPut (IsWhole g.E.Invariant.holds g.row.W)
+              (λ _ from to. GoesUp g.row.BUCKETS from to) g.row.N o c.self.inside.nodes
+              c.place_of-place.result.previous words c.link_of-next.result)
               (sym c.graph.ensures)
-              (can_insert g.E.Invariant.holds g.row.BUCKETS g.row.W g.row.N c.args.map.now c.self.inside.nodes c.self.invariant.map watches c.place_of-place.result.previous words some
-              (record { sized = omega arith; entry = λ up. whole }) c.link_of-next.result place c.link_of-next.ensures),
+              (can_insert g.E.Invariant.holds g.row.BUCKETS g.row.W g.row.N c.args.map.now
+              c.self.inside.nodes c.self.invariant.map watches c.place_of-place.result.previous
+              words some (record { sized = omega arith; entry = λ up. whole }) c.link_of-next.result
+              place c.link_of-next.ensures),
         ),
       ),
     )
@@ -56,15 +71,21 @@ put-requires g c =
 pub returns-in_err-put-clause-there : goal.returns-in_err-put-clause-there
 returns-in_err-put-clause-there g c =
     let p = err_from_is_err_and c.from_residual.result c.from_residual.ensures.1 in (
-      λ has. absurd (not_there g.row.BUCKETS c.key.result (nodes_in c.args.self.now.view.client) c.place_of-place.result.node c.place_of-place.ensures.told
-          (sym c.is_some.ensures ∙ c.if-is_some.false) (subst (λ (n : ℕ). HasKey g.row.BUCKETS (nodes_in c.args.self.now.view.client) n) (sym c.key.ensures) has)),
+      λ has. absurd (not_there g.row.BUCKETS c.key.result (nodes_in c.args.self.now.view.client)
+          c.place_of-place.result.node c.place_of-place.ensures.told
+          (sym c.is_some.ensures ∙ c.if-is_some.false)
+          (subst (λ (n : ℕ). HasKey g.row.BUCKETS (nodes_in c.args.self.now.view.client) n)
+          (sym c.key.ensures) has)),
       λ e. absurd (err_not_ok p.0 false (sym p.1 ∙ e)),
     )
 
 pub returns-clause-there : goal.returns-clause-there
 returns-clause-there g c = (
-  λ has. absurd (not_there g.row.BUCKETS c.key.result (nodes_in c.args.self.now.view.client) c.place_of-place.result.node c.place_of-place.ensures.told
-      (sym c.is_some.ensures ∙ c.if-is_some.false) (subst (λ (n : ℕ). HasKey g.row.BUCKETS (nodes_in c.args.self.now.view.client) n) (sym c.key.ensures) has)),
+  λ has. absurd (not_there g.row.BUCKETS c.key.result (nodes_in c.args.self.now.view.client)
+      c.place_of-place.result.node c.place_of-place.ensures.told
+      (sym c.is_some.ensures ∙ c.if-is_some.false)
+      (subst (λ (n : ℕ). HasKey g.row.BUCKETS (nodes_in c.args.self.now.view.client) n)
+      (sym c.key.ensures) has)),
   λ e. absurd (cc),
 )
 
@@ -73,12 +94,20 @@ overflow_add-self g c =
     let words = c.to_words-words.result in
     let whole = c.to_words-words.ensures.whole in
     let some : 0 < key_in words = g.met.E.Entry.keyed words whole in
-    let own : c.key.result ≡ key_in words = c.key.ensures ∙ (ap g.E.Entry.key_of (sym c.to_words-words.ensures.inverse) ∙ g.met.E.Entry.tells words whole) in
-    let place = placed g.row.BUCKETS c.args.self.now c.self.inside.nodes c.key.result (key_in words) c.place_of-place.result.previous c.place_of-place.result.node None
-    c.place_of-place.ensures.place c.self.view_is own (nothing_in c.place_of-place.result.node (sym c.is_some.ensures ∙ c.if-is_some.false)) in
+    let own : c.key.result ≡ key_in words =
+    c.key.ensures
+    ∙ (ap g.E.Entry.key_of (sym c.to_words-words.ensures.inverse)
+    ∙ g.met.E.Entry.tells words whole) in
+    let place = placed g.row.BUCKETS c.args.self.now c.self.inside.nodes c.key.result (key_in words)
+    c.place_of-place.result.previous c.place_of-place.result.node None
+    c.place_of-place.ensures.place c.self.view_is own
+    (nothing_in c.place_of-place.result.node (sym c.is_some.ensures ∙ c.if-is_some.false)) in
     let done = c.in_ok-put.ensures in
     let now = c.self.invariant.count in
-    let more = inserted_count g.E.Invariant.holds g.row.BUCKETS g.row.W g.row.N (nodes_in c.self.inside.nodes.view.client) c.self.invariant.map c.place_of-place.result.previous done.node words c.link_of-next.result (nodes_in c.put.new.keeper.view.client) some place c.link_of-next.ensures done.inside done.free done.trimmed in
+    let more = inserted_count g.E.Invariant.holds g.row.BUCKETS g.row.W g.row.N
+    (nodes_in c.self.inside.nodes.view.client) c.self.invariant.map c.place_of-place.result.previous
+    done.node words c.link_of-next.result (nodes_in c.put.new.keeper.view.client) some place
+    c.link_of-next.ensures done.inside done.free done.trimmed in
     let most = entries_few g.row.BUCKETS (nodes_in c.put.new.keeper.view.client) in
     let few = done.kept.few in
     let fits = g.N.fits in
@@ -89,14 +118,30 @@ invariant_of-self-2 g c =
     let words = c.to_words-words.result in
     let whole = c.to_words-words.ensures.whole in
     let some : 0 < key_in words = g.met.E.Entry.keyed words whole in
-    let own : c.key.result ≡ key_in words = c.key.ensures ∙ (ap g.E.Entry.key_of (sym c.to_words-words.ensures.inverse) ∙ g.met.E.Entry.tells words whole) in
-    let place = placed g.row.BUCKETS c.args.self.now c.self.inside.nodes c.key.result (key_in words) c.place_of-place.result.previous c.place_of-place.result.node None
-    c.place_of-place.ensures.place c.self.view_is own (nothing_in c.place_of-place.result.node (sym c.is_some.ensures ∙ c.if-is_some.false)) in
-    let done = c.in_ok-put.ensures in record {
+    let own : c.key.result ≡ key_in words =
+    c.key.ensures
+    ∙ (ap g.E.Entry.key_of (sym c.to_words-words.ensures.inverse)
+    ∙ g.met.E.Entry.tells words whole) in
+    let place = placed g.row.BUCKETS c.args.self.now c.self.inside.nodes c.key.result (key_in words)
+    c.place_of-place.result.previous c.place_of-place.result.node None
+    c.place_of-place.ensures.place c.self.view_is own
+    (nothing_in c.place_of-place.result.node (sym c.is_some.ensures ∙ c.if-is_some.false)) in
+    let done = c.in_ok-put.ensures in
+    record {
       some = c.self.invariant.some;
-      map = inserted_map g.E.Invariant.holds g.row.BUCKETS g.row.W g.row.N (nodes_in c.self.inside.nodes.view.client) c.self.invariant.map c.place_of-place.result.previous done.node words c.link_of-next.result (nodes_in c.put.new.keeper.view.client) some place c.link_of-next.ensures done.inside done.free done.trimmed done.kept.few done.kept.tended;
-      count = let now = c.self.invariant.count in
-          let more = inserted_count g.E.Invariant.holds g.row.BUCKETS g.row.W g.row.N (nodes_in c.self.inside.nodes.view.client) c.self.invariant.map c.place_of-place.result.previous done.node words c.link_of-next.result (nodes_in c.put.new.keeper.view.client) some place c.link_of-next.ensures done.inside done.free done.trimmed in omega (arith, now, more);
+      map = inserted_map g.E.Invariant.holds g.row.BUCKETS g.row.W g.row.N
+          (nodes_in c.self.inside.nodes.view.client) c.self.invariant.map
+          c.place_of-place.result.previous done.node words c.link_of-next.result
+          (nodes_in c.put.new.keeper.view.client) some place c.link_of-next.ensures done.inside
+          done.free done.trimmed done.kept.few done.kept.tended;
+      count =
+          let now = c.self.invariant.count in
+          let more = inserted_count g.E.Invariant.holds g.row.BUCKETS g.row.W g.row.N
+          (nodes_in c.self.inside.nodes.view.client) c.self.invariant.map
+          c.place_of-place.result.previous done.node words c.link_of-next.result
+          (nodes_in c.put.new.keeper.view.client) some place c.link_of-next.ensures done.inside
+          done.free done.trimmed in
+          omega (arith, now, more);
     }
 
 pub returns-clause-inserted : goal.returns-clause-inserted
@@ -104,10 +149,22 @@ returns-clause-inserted g c = λ e.
     let words = c.to_words-words.result in
     let whole = c.to_words-words.ensures.whole in
     let some : 0 < key_in words = g.met.E.Entry.keyed words whole in
-    let own : c.key.result ≡ key_in words = c.key.ensures ∙ (ap g.E.Entry.key_of (sym c.to_words-words.ensures.inverse) ∙ g.met.E.Entry.tells words whole) in
-    let place = placed g.row.BUCKETS c.args.self.now c.self.inside.nodes c.key.result (key_in words) c.place_of-place.result.previous c.place_of-place.result.node None
-    c.place_of-place.ensures.place c.self.view_is own (nothing_in c.place_of-place.result.node (sym c.is_some.ensures ∙ c.if-is_some.false)) in
+    let own : c.key.result ≡ key_in words =
+    c.key.ensures
+    ∙ (ap g.E.Entry.key_of (sym c.to_words-words.ensures.inverse)
+    ∙ g.met.E.Entry.tells words whole) in
+    let place = placed g.row.BUCKETS c.args.self.now c.self.inside.nodes c.key.result (key_in words)
+    c.place_of-place.result.previous c.place_of-place.result.node None
+    c.place_of-place.ensures.place c.self.view_is own
+    (nothing_in c.place_of-place.result.node (sym c.is_some.ensures ∙ c.if-is_some.false)) in
     let done = c.in_ok-put.ensures in
-    subst (λ (w : Watching Known). IsInserted g.row.BUCKETS (nodes_in w.view.client) (g.E.Value.in_words c.args.entry) (nodes_in c.put.new.keeper.view.client)) c.self.view_is
-    (subst (λ (l : List ℕ). IsInserted g.row.BUCKETS (nodes_in c.self.inside.nodes.view.client) l (nodes_in c.put.new.keeper.view.client)) c.to_words-words.ensures.words
-    (inserted g.E.Invariant.holds g.row.BUCKETS g.row.W g.row.N (nodes_in c.self.inside.nodes.view.client) c.self.invariant.map c.place_of-place.result.previous done.node words c.link_of-next.result (nodes_in c.put.new.keeper.view.client) some place c.link_of-next.ensures done.inside done.free done.trimmed))
+    subst (λ (w : Watching Known). IsInserted g.row.BUCKETS (nodes_in w.view.client)
+    (g.E.Value.in_words c.args.entry) (nodes_in c.put.new.keeper.view.client))
+    c.self.view_is
+    (subst (λ (l : List ℕ). IsInserted g.row.BUCKETS (nodes_in c.self.inside.nodes.view.client) l
+    (nodes_in c.put.new.keeper.view.client))
+    c.to_words-words.ensures.words
+    (inserted g.E.Invariant.holds g.row.BUCKETS g.row.W g.row.N
+    (nodes_in c.self.inside.nodes.view.client) c.self.invariant.map c.place_of-place.result.previous
+    done.node words c.link_of-next.result (nodes_in c.put.new.keeper.view.client) some place
+    c.link_of-next.ensures done.inside done.free done.trimmed))

@@ -10,7 +10,8 @@ use Rattle.rcu_map.proofs.keeper.MapKeeper.is_all_live.Goals as goal
 pub overflow_add-result : goal.overflow_add-result
 overflow_add-result g c =
     let k = c.self.invariant in
-    let most = no_more_than_nodes g.E.Invariant.holds g.row.BUCKETS g.row.W g.row.N (nodes_in c.self.inside.nodes.view.client) k.map k.some in
+    let most = no_more_than_nodes g.E.Invariant.holds g.row.BUCKETS g.row.W g.row.N
+    (nodes_in c.self.inside.nodes.view.client) k.map k.some in
     let count = k.count in
     let fits = g.N.fits in
     omega (arith, most, count, fits)
@@ -22,9 +23,12 @@ returns g c =
       λ e.
           let same = eqb-true (c.self.inside.len + g.row.BUCKETS) g.row.N e in
           subst (λ (w : Watching Known). AreAllLive (nodes_in w.view.client)) c.self.view_is
-          (all_are_live g.E.Invariant.holds g.row.BUCKETS g.row.W g.row.N (nodes_in c.self.inside.nodes.view.client) k.map k.some (omega (arith, same, count))),
+          (all_are_live g.E.Invariant.holds g.row.BUCKETS g.row.W g.row.N
+          (nodes_in c.self.inside.nodes.view.client) k.map k.some (omega (arith, same, count))),
       λ all.
-          let many = as_many_as_nodes g.E.Invariant.holds g.row.BUCKETS g.row.W g.row.N (nodes_in c.self.inside.nodes.view.client) k.map k.some
-          (subst (λ (w : Watching Known). AreAllLive (nodes_in w.view.client)) (sym c.self.view_is) all) in
+          let many = as_many_as_nodes g.E.Invariant.holds g.row.BUCKETS g.row.W g.row.N
+          (nodes_in c.self.inside.nodes.view.client) k.map k.some
+          (subst (λ (w : Watching Known). AreAllLive (nodes_in w.view.client)) (sym c.self.view_is)
+          all) in
           eq-eqb (c.self.inside.len + g.row.BUCKETS) g.row.N (omega (arith, many, count)),
     )

@@ -8,7 +8,8 @@ use Rattle.rcu_map.proofs.keeper.MapKeeper.place_of.Given as goal
 abbrev pub invariant-chain : goal.invariant-chain
 invariant-chain g l = record {
   live : state_at (nodes_in l.nodes.view.client) l.previous ≡ Live;
-  bucket : bucket_in g.row.BUCKETS (node_at (nodes_in l.nodes.view.client) l.previous).words ≡ bucket_of g.row.BUCKETS l.key;
+  bucket : bucket_in g.row.BUCKETS (node_at (nodes_in l.nodes.view.client) l.previous).words
+      ≡ bucket_of g.row.BUCKETS l.key;
   less : key_at (nodes_in l.nodes.view.client) l.previous < l.key;
 }
 

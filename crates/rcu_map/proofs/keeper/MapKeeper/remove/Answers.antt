@@ -17,66 +17,95 @@ pub returns-then-key-eq0-clause-there : goal.returns-then-key-eq0-clause-there
 returns-then-key-eq0-clause-there g c = (
   λ e. absurd (cc),
   λ has. absurd (no_entry_of_0 _ _ _ _ _ c.self.invariant.map
-      (subst (λ (w : Watching Known). HasKey g.row.BUCKETS (nodes_in w.view.client) 0) (sym c.self.view_is)
-      (subst (λ (n : ℕ). HasKey g.row.BUCKETS (nodes_in c.args.self.now.view.client) n) c.if-key-eq0.true has))),
+      (subst (λ (w : Watching Known). HasKey g.row.BUCKETS (nodes_in w.view.client) 0)
+      (sym c.self.view_is)
+      (subst (λ (n : ℕ). HasKey g.row.BUCKETS (nodes_in c.args.self.now.view.client) n)
+      c.if-key-eq0.true has))),
 )
 
 pub returns-in_default-clause-there : goal.returns-in_default-clause-there
 returns-in_default-clause-there g c = (
   λ e. absurd (cc),
-  λ has. absurd (not_there g.row.BUCKETS c.args.key (nodes_in c.args.self.now.view.client) c.place_of-place.result.node c.place_of-place.ensures.told
+  λ has. absurd (not_there g.row.BUCKETS c.args.key (nodes_in c.args.self.now.view.client)
+      c.place_of-place.result.node c.place_of-place.ensures.told
       (ap (λ o. is_some o) c.in_default.is) has),
 )
 
 pub pass-requires : goal.pass-requires
 pass-requires g c =
     let some : 0 < c.args.key = omega arith in
-    let place = placed g.row.BUCKETS c.args.self.now c.self.inside.nodes c.args.key c.args.key c.place_of-place.result.previous c.place_of-place.result.node (Some c.in-Some.old)
+    let place = placed g.row.BUCKETS c.args.self.now c.self.inside.nodes c.args.key c.args.key
+    c.place_of-place.result.previous c.place_of-place.result.node (Some c.in-Some.old)
     c.place_of-place.ensures.place c.self.view_is refl c.in-Some.is in
-    let watches = subst (λ (w : Watching Known). IsWatcherOf c.args.map.now w) (sym c.self.view_is) c.requires in (
+    let watches = subst (λ (w : Watching Known). IsWatcherOf c.args.map.now w) (sym c.self.view_is)
+    c.requires in (
       omega arith,
       (
         omega arith,
-        subst (λ (o : Object). CanPass (λ _ from to. GoesUp g.row.BUCKETS from to) g.row.N o c.self.inside.nodes c.place_of-place.result.previous c.in-Some.old)
+        subst (λ (o : Object). CanPass (λ _ from to. GoesUp g.row.BUCKETS from to) g.row.N o
+            c.self.inside.nodes c.place_of-place.result.previous c.in-Some.old)
             (sym c.graph.ensures)
-            (can_remove g.E.Invariant.holds g.row.BUCKETS g.row.W g.row.N c.args.map.now c.self.inside.nodes c.self.invariant.map watches c.args.key c.place_of-place.result.previous c.in-Some.old place),
+            (can_remove g.E.Invariant.holds g.row.BUCKETS g.row.W g.row.N c.args.map.now
+            c.self.inside.nodes c.self.invariant.map watches c.args.key
+            c.place_of-place.result.previous c.in-Some.old place),
       ),
     )
 
 pub overflow_sub-self : goal.overflow_sub-self
 overflow_sub-self g c =
     let some : 0 < c.args.key = omega arith in
-    let place = placed g.row.BUCKETS c.args.self.now c.self.inside.nodes c.args.key c.args.key c.place_of-place.result.previous c.place_of-place.result.node (Some c.in-Some.old)
+    let place = placed g.row.BUCKETS c.args.self.now c.self.inside.nodes c.args.key c.args.key
+    c.place_of-place.result.previous c.place_of-place.result.node (Some c.in-Some.old)
     c.place_of-place.ensures.place c.self.view_is refl c.in-Some.is in
     let done = c.pass.ensures in
     let now = c.self.invariant.count in
-    let less = removed_count g.E.Invariant.holds g.row.BUCKETS g.row.W g.row.N (nodes_in c.self.inside.nodes.view.client) c.self.invariant.map c.args.key c.place_of-place.result.previous c.in-Some.old some place done.next (nodes_in c.pass.new.keeper.view.client) done.leads done.trimmed done.kept.few in
+    let less = removed_count g.E.Invariant.holds g.row.BUCKETS g.row.W g.row.N
+    (nodes_in c.self.inside.nodes.view.client) c.self.invariant.map c.args.key
+    c.place_of-place.result.previous c.in-Some.old some place done.next
+    (nodes_in c.pass.new.keeper.view.client) done.leads done.trimmed done.kept.few in
     omega (arith, now, less)
 
 pub invariant_of-self : goal.invariant_of-self
 invariant_of-self g c =
     let some : 0 < c.args.key = omega arith in
-    let place = placed g.row.BUCKETS c.args.self.now c.self.inside.nodes c.args.key c.args.key c.place_of-place.result.previous c.place_of-place.result.node (Some c.in-Some.old)
+    let place = placed g.row.BUCKETS c.args.self.now c.self.inside.nodes c.args.key c.args.key
+    c.place_of-place.result.previous c.place_of-place.result.node (Some c.in-Some.old)
     c.place_of-place.ensures.place c.self.view_is refl c.in-Some.is in
-    let done = c.pass.ensures in record {
+    let done = c.pass.ensures in
+    record {
       some = c.self.invariant.some;
-      map = removed_map g.E.Invariant.holds g.row.BUCKETS g.row.W g.row.N (nodes_in c.self.inside.nodes.view.client) c.self.invariant.map c.args.key c.place_of-place.result.previous c.in-Some.old some place done.next (nodes_in c.pass.new.keeper.view.client) done.leads done.trimmed done.kept.few done.kept.tended;
-      count = let now = c.self.invariant.count in
-          let less = removed_count g.E.Invariant.holds g.row.BUCKETS g.row.W g.row.N (nodes_in c.self.inside.nodes.view.client) c.self.invariant.map c.args.key c.place_of-place.result.previous c.in-Some.old some place done.next (nodes_in c.pass.new.keeper.view.client) done.leads done.trimmed done.kept.few in omega (arith, now, less);
+      map = removed_map g.E.Invariant.holds g.row.BUCKETS g.row.W g.row.N
+          (nodes_in c.self.inside.nodes.view.client) c.self.invariant.map c.args.key
+          c.place_of-place.result.previous c.in-Some.old some place done.next
+          (nodes_in c.pass.new.keeper.view.client) done.leads done.trimmed done.kept.few
+          done.kept.tended;
+      count =
+          let now = c.self.invariant.count in
+          let less = removed_count g.E.Invariant.holds g.row.BUCKETS g.row.W g.row.N
+          (nodes_in c.self.inside.nodes.view.client) c.self.invariant.map c.args.key
+          c.place_of-place.result.previous c.in-Some.old some place done.next
+          (nodes_in c.pass.new.keeper.view.client) done.leads done.trimmed done.kept.few in
+          omega (arith, now, less);
     }
 
 pub returns-clause-there : goal.returns-clause-there
 returns-clause-there g c = (
-  λ e. one_there g.row.BUCKETS c.args.key (nodes_in c.args.self.now.view.client) c.place_of-place.result.node c.place_of-place.ensures.told
-      (ap (λ o. is_some o) c.in-Some.is),
+  λ e. one_there g.row.BUCKETS c.args.key (nodes_in c.args.self.now.view.client)
+      c.place_of-place.result.node c.place_of-place.ensures.told (ap (λ o. is_some o) c.in-Some.is),
   λ has. refl,
 )
 
 pub returns-clause-removed : goal.returns-clause-removed
 returns-clause-removed g c = λ e.
     let some : 0 < c.args.key = omega arith in
-    let place = placed g.row.BUCKETS c.args.self.now c.self.inside.nodes c.args.key c.args.key c.place_of-place.result.previous c.place_of-place.result.node (Some c.in-Some.old)
+    let place = placed g.row.BUCKETS c.args.self.now c.self.inside.nodes c.args.key c.args.key
+    c.place_of-place.result.previous c.place_of-place.result.node (Some c.in-Some.old)
     c.place_of-place.ensures.place c.self.view_is refl c.in-Some.is in
     let done = c.pass.ensures in
-    subst (λ (w : Watching Known). IsRemoved g.row.BUCKETS (nodes_in w.view.client) c.args.key (nodes_in c.pass.new.keeper.view.client)) c.self.view_is
-    (removed g.E.Invariant.holds g.row.BUCKETS g.row.W g.row.N (nodes_in c.self.inside.nodes.view.client) c.self.invariant.map c.args.key c.place_of-place.result.previous c.in-Some.old some place done.next (nodes_in c.pass.new.keeper.view.client) done.leads done.trimmed)
+    subst (λ (w : Watching Known). IsRemoved g.row.BUCKETS (nodes_in w.view.client) c.args.key
+    (nodes_in c.pass.new.keeper.view.client))
+    c.self.view_is
+    (removed g.E.Invariant.holds g.row.BUCKETS g.row.W g.row.N
+    (nodes_in c.self.inside.nodes.view.client) c.self.invariant.map c.args.key
+    c.place_of-place.result.previous c.in-Some.old some place done.next
+    (nodes_in c.pass.new.keeper.view.client) done.leads done.trimmed)

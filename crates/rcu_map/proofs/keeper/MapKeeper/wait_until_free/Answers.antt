@@ -2,7 +2,8 @@ use Rattle.std.proofs.Common.{◌≡◌, ◌∙◌, ℕ, IfErr, OnErr, OnOk, Res
 use Rattle.rcu_seq.specs.declared.fault.Fault.{Fault}
 use Rattle.rcu_live.specs.Waits.{AreRounds, wait_fault}
 use Rattle.rcu_live.specs.Watcher.{Watching}
-use Rattle.rcu_live.proofs.WaitLemmas.{rested_none, rested_round, rounds_at_end, rounds_none, rounds_round, rounds_then_look}
+use Rattle.rcu_live.proofs.WaitLemmas.{rested_none, rested_round, rounds_at_end, rounds_none}
+use Rattle.rcu_live.proofs.WaitLemmas.{rounds_round, rounds_then_look}
 use Rattle.rcu_graph.specs.Nodes.{nodes_in}
 use Rattle.rcu_graph.specs.Tended.{AreAllUsed}
 use Rattle.rcu_graph.specs.declared.known.Known.{Known}
@@ -12,38 +13,48 @@ use Rattle.rcu_map.proofs.keeper.MapKeeper.wait_until_free.Goals as goal
 
 pub loop-init : goal.loop-init
 loop-init g c =
-    let a = c.age.ensures in record {
+    let a = c.age.ensures in
+    record {
       of_map = record { keeper_of = a.graph; seat_of = c.requires.of_map.seat_of };
       depth = c.requires.outside;
       rested = rested_none c.args.seat.now;
-      aged = aged_once g.row.BUCKETS c.args.self.now c.age.new.self c.age.result c.requires.full a.later a.state a.entries;
+      aged = aged_once g.row.BUCKETS c.args.self.now c.age.new.self c.age.result c.requires.full
+          a.later a.state a.entries;
       waited = tt;
       rounds =
-          rounds_then_look 0 1 c.args.seat.now c.args.seat.now c.args.self.now c.args.self.now c.age.new.self (omega arith)
-          (rounds_none c.args.seat.now c.args.self.now) (ap (λ (k : Watching Known). k.view.loads) a.state);
+          rounds_then_look 0 1 c.args.seat.now c.args.seat.now c.args.self.now c.args.self.now
+          c.age.new.self (omega arith) (rounds_none c.args.seat.now c.args.self.now)
+          (ap (λ (k : Watching Known). k.view.loads) a.state);
       last = tt;
     }
 
 pub returns-then-is_ok-clause-waited : goal.returns-then-is_ok-clause-waited
 returns-then-is_ok-clause-waited g c =
     let i = c.loop.invariant in
-    let f = c.free_node.ensures in record {
+    let f = c.free_node.ensures in
+    record {
       looked = i.aged;
       free =
           subst (λ (w : Watching Known). AreAllUsed (nodes_in w.view.client) → ⊥) c.self.view_is
-          (found_one (nodes_in c.self.inside.nodes.view.client) g.row.N c.free_node.result (sym c.is_ok.ensures.value ∙ c.if-is_ok.true) c.self.invariant.map.few f.inside f.free);
-      rounds = rounds_at_end c.loop.waited c.args.seat.now c.loop.seat c.args.self.now c.loop.self c.loop.self i.rounds i.last refl;
+          (found_one (nodes_in c.self.inside.nodes.view.client) g.row.N c.free_node.result
+          (sym c.is_ok.ensures.value ∙ c.if-is_ok.true) c.self.invariant.map.few f.inside f.free);
+      rounds = rounds_at_end c.loop.waited c.args.seat.now c.loop.seat c.args.self.now c.loop.self
+          c.loop.self i.rounds i.last refl;
     }
 
 pub returns-in_err-waited-clause-given_up : goal.returns-in_err-waited-clause-given_up
 returns-in_err-waited-clause-given_up g c =
     let i = c.loop.invariant in
-    let given_up : HasGivenUp g.row.BUCKETS c.args.seat.now c.loop.seat c.args.self.now c.loop.self = record {
+    let given_up : HasGivenUp g.row.BUCKETS c.args.seat.now c.loop.seat c.args.self.now
+    c.loop.self = record {
       looked = i.aged;
       full =
           subst (λ (w : Watching Known). AreAllUsed (nodes_in w.view.client)) c.self.view_is
-          (refused c.free_node.result (sym c.is_ok.ensures.value ∙ c.if-is_ok.false) c.free_node.ensures.full);
-      rounds = subst (λ (x : Result (Unit {0}) Fault). OnErr x (AreRounds 2 c.args.seat.now c.loop.seat c.args.self.now c.loop.self)) c.in_err-waited.was i.last;
+          (refused c.free_node.result (sym c.is_ok.ensures.value ∙ c.if-is_ok.false)
+          c.free_node.ensures.full);
+      rounds = subst (λ (x : Result (Unit {0}) Fault).
+          OnErr x (AreRounds 2 c.args.seat.now c.loop.seat c.args.self.now c.loop.self))
+          c.in_err-waited.was i.last;
     } in
     on_err c.from_residual.result given_up
 
@@ -55,17 +66,24 @@ loop-preserved g c =
     let a = c.age-in-loop in
     let full =
     subst (λ (x : Watching Known). AreAllUsed (nodes_in x.view.client)) c.self.view_is
-    (refused c.free_node.result (sym c.is_ok.ensures.value ∙ c.if-is_ok.false) c.free_node.ensures.full) in
-    let rounds = subst (λ (x : Result (Unit {0}) Fault). OnOk x (AreRounds 1 c.args.seat.now c.loop.seat c.args.self.now c.loop.self)) c.in_ok-waited.was i.rounds in
-    let next = rounds_round r c.args.seat.now c.loop.seat c.wait_once-waited.new.seat c.args.self.now c.loop.self a.new.self rounds w.state w.unchanged
-    (ap (λ (k : Watching Known). k.view.loads) a.ensures.state) in record {
+    (refused c.free_node.result (sym c.is_ok.ensures.value ∙ c.if-is_ok.false)
+    c.free_node.ensures.full) in
+    let rounds = subst (λ (x : Result (Unit {0}) Fault).
+    OnOk x (AreRounds 1 c.args.seat.now c.loop.seat c.args.self.now c.loop.self))
+    c.in_ok-waited.was i.rounds in
+    let next = rounds_round r c.args.seat.now c.loop.seat c.wait_once-waited.new.seat
+    c.args.self.now c.loop.self a.new.self rounds w.state w.unchanged
+    (ap (λ (k : Watching Known). k.view.loads) a.ensures.state) in
+    record {
       of_map = record {
         keeper_of = a.ensures.graph;
         seat_of = (w.table ∙ i.of_map.seat_of.0, w.base ∙ i.of_map.seat_of.1);
       };
       depth = w.depth ∙ i.depth;
-      rested = rested_round r c.args.seat.now c.loop.seat c.wait_once-waited.new.seat i.rested w.state w.unchanged;
-      aged = aged_more g.row.BUCKETS c.args.self.now c.loop.self a.new.self a.result i.aged full a.ensures.later a.ensures.state a.ensures.entries;
+      rested = rested_round r c.args.seat.now c.loop.seat c.wait_once-waited.new.seat i.rested
+          w.state w.unchanged;
+      aged = aged_more g.row.BUCKETS c.args.self.now c.loop.self a.new.self a.result i.aged full
+          a.ensures.later a.ensures.state a.ensures.entries;
       waited = subst (λ (d : ℕ). IfErr r (λ (fault : Fault). fault ≡ wait_fault d)) i.depth w.fault;
       rounds = next.0;
       last = next.1;

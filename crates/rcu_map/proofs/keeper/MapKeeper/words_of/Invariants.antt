@@ -6,5 +6,6 @@ use Rattle.rcu_map.proofs.keeper.MapKeeper.words_of.Given as goal
 abbrev pub invariant-loop-word : goal.invariant-loop-word
 invariant-loop-word g l = record {
   size : length l.words ≡ length l.initial.words;
-  told : (j : ℕ) → j < l.word → slice_index l.words j ≡ slice_index (node_at (nodes_in l.nodes.view.client) l.node).words j;
+  told : (j : ℕ) → j < l.word
+      → slice_index l.words j ≡ slice_index (node_at (nodes_in l.nodes.view.client) l.node).words j;
 }

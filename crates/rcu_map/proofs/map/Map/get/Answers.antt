@@ -7,11 +7,15 @@ use Rattle.rcu_map.proofs.map.Map.get.Goals as goal
 pub returns-clause-found : goal.returns-clause-found
 returns-clause-found g c =
     let f = c.in_ok-node.ensures.found in
-    let up = c.in_ok-node.ensures.keyed in record {
+    let up = c.in_ok-node.ensures.keyed in
+    record {
       node = c.in_ok-node.node;
       words = f.words;
-      held = subst (λ (s : Seated Known). IsHeld s.view.client c.in_ok-node.node f.words) (sym c.words_at.ensures.same) f.held;
+      held = subst (λ (s : Seated Known). IsHeld s.view.client c.in_ok-node.node f.words)
+          (sym c.words_at.ensures.same) f.held;
       whole = f.whole.entry (let is = f.is in omega (arith, is, up));
       is = f.is;
-      told = c.of_words.ensures.told ∙ ap g.E.Value.decode (c.words_at.ensures.told f.words (inr f.held) f.whole);
+      told =
+          c.of_words.ensures.told
+          ∙ ap g.E.Value.decode (c.words_at.ensures.told f.words (inr f.held) f.whole);
     }

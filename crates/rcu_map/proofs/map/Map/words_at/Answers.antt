@@ -7,13 +7,21 @@ use Rattle.rcu_map.proofs.Rows.{read_all, read_more, zeros}
 use Rattle.rcu_map.proofs.map.Map.words_at.Goals as goal
 
 pub loop-word-preserved : goal.loop-word-preserved
-loop-word-preserved g c = let i = c.loop-word.invariant in record {
-  same = c.read.ensures.same ∙ i.same;
-  size = length-set c.loop-word.words c.loop-word.word c.read.result ∙ i.size;
-  told = λ words on. let many = zeros g.row.W in let size = i.size in let low : c.loop-word.word < length c.loop-word.words = omega arith in
-      read_more c.loop-word.words words c.loop-word.word c.read.result low (i.told words on)
-      (c.read.ensures.told words (subst (λ (s : Seated Known). IsOn (root_words g.row.W) g.row.BUCKETS s.view.client c.args.node words) (sym i.same) on));
-}
+loop-word-preserved g c =
+    let i = c.loop-word.invariant in
+    record {
+      same = c.read.ensures.same ∙ i.same;
+      size = length-set c.loop-word.words c.loop-word.word c.read.result ∙ i.size;
+      told = λ words on.
+          let many = zeros g.row.W in
+          let size = i.size in
+          let low : c.loop-word.word < length c.loop-word.words = omega arith in
+          read_more c.loop-word.words words c.loop-word.word c.read.result low (i.told words on)
+          (c.read.ensures.told words
+          (subst (λ (s : Seated Known).
+          IsOn (root_words g.row.W) g.row.BUCKETS s.view.client c.args.node words)
+          (sym i.same) on));
+    }
 
 pub returns-clause-told : goal.returns-clause-told
 returns-clause-told g c = λ words on whole. let i = c.loop-word.invariant in

@@ -16,9 +16,11 @@ pub loop-preserved : goal.loop-preserved
 loop-preserved g c =
     let i = c.loop.invariant in
     let w = c.wait_once-waited.ensures in
-    let r = c.wait_once-waited.result in record {
+    let r = c.wait_once-waited.result in
+    record {
       seat = (w.table ∙ i.seat.0, w.base ∙ i.seat.1);
       depth = w.depth ∙ i.depth;
-      rested = rested_round r c.args.seat.now c.loop.seat c.wait_once-waited.new.seat i.rested w.state w.unchanged;
+      rested = rested_round r c.args.seat.now c.loop.seat c.wait_once-waited.new.seat i.rested
+          w.state w.unchanged;
       waited = subst (λ (d : ℕ). IfErr r (λ (fault : Fault). fault ≡ wait_fault d)) i.depth w.fault;
     }

@@ -7,7 +7,8 @@ invariant_of-self c =
     let s = c.self.inside in
     let kept = c.self.invariant in
     let empty =
-    zeros s.cpus s.words.len c.fill.new.self.items (c.fill.ensures.items (λ y e. e)) (omega (arith, s.words.ok)) in
+    zeros s.cpus s.words.len c.fill.new.self.items (c.fill.ensures.items (λ y e. e))
+    (omega (arith, s.words.ok)) in
     let same = s.words.ok in
     record {
       some = kept.some;
@@ -23,5 +24,7 @@ returns c =
     let s = c.self.inside in
     let kept = c.self.invariant in
     let empty =
-    zeros s.cpus s.words.len c.fill.new.self.items (c.fill.ensures.items (λ y e. e)) (omega (arith, s.words.ok)) in
-    empty.flags ∙ ap (λ n. replicate n false) (cpus-is s.cpus s.words.items c.args.self.now c.self.view_is)
+    zeros s.cpus s.words.len c.fill.new.self.items (c.fill.ensures.items (λ y e. e))
+    (omega (arith, s.words.ok)) in
+    empty.flags
+    ∙ ap (λ n. replicate n false) (cpus-is s.cpus s.words.items c.args.self.now c.self.view_is)

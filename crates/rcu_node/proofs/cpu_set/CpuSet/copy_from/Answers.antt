@@ -20,7 +20,8 @@ returns c =
     let other = cpus-is f.cpus f.words.items c.args.from.now c.from.view_is in
     let same : s.cpus ≡ f.cpus = omega arith in
     ap (λ n. flags_in n c.copy_from_slice.new.self.items) same
-    ∙ ap (λ (words : List ℕ). flags_in f.cpus words) (c.copy_from_slice.ensures.items ∙ c.deref.ensures.value)
+    ∙ ap (λ (words : List ℕ). flags_in f.cpus words)
+    (c.copy_from_slice.ensures.items ∙ c.deref.ensures.value)
     ∙ c.from.view_is
 
 pub invariant_of-self : goal.invariant_of-self
@@ -30,12 +31,15 @@ invariant_of-self c =
     let kept = c.self.invariant in
     let size = cpus-is s.cpus s.words.items c.args.self.now c.self.view_is in
     let other = cpus-is f.cpus f.words.items c.args.from.now c.from.view_is in
-    let words = ap (λ (words : List ℕ). length words) (c.copy_from_slice.ensures.items ∙ c.deref.ensures.value) in
+    let words = ap (λ (words : List ℕ). length words)
+    (c.copy_from_slice.ensures.items ∙ c.deref.ensures.value) in
     let copied = c.copy_from_slice.ensures.items ∙ c.deref.ensures.value in
     let same : f.cpus ≡ s.cpus = omega arith in
     let none_beyond = subst (λ (words : List ℕ). HasNoneFrom s.cpus words) (sym copied)
     (subst (λ (n : ℕ). HasNoneFrom n f.words.items) same c.from.invariant.none_beyond) in
-    let counted = c.from.invariant.counted ∙ ap (λ (set : List Bool). size_of set) (c.from.view_is ∙ sym (returns c)) in
+    let counted =
+    c.from.invariant.counted
+    ∙ ap (λ (set : List Bool). size_of set) (c.from.view_is ∙ sym (returns c)) in
     record {
       some = kept.some;
       few = kept.few;

@@ -10,7 +10,11 @@ pub index_mut-requires : goal.index_mut-requires
 index_mut-requires c =
     let s = c.self.inside in
     let size = cpus-is s.cpus s.words.items c.args.self.now c.self.view_is in
-    omega (arith, s.words.ok, word_below s.cpus c.args.cpu (length s.words.items) (omega arith) c.self.invariant.enough)
+    omega (
+      arith,
+      s.words.ok,
+      word_below s.cpus c.args.cpu (length s.words.items) (omega arith) c.self.invariant.enough,
+    )
 
 pub overflow_add-self : goal.overflow_add-self
 overflow_add-self c =
@@ -29,7 +33,8 @@ returns-clause-set c =
     let s = c.self.inside in
     let size = cpus-is s.cpus s.words.items c.args.self.now c.self.view_is in
     let below : c.args.cpu < s.cpus = omega arith in
-    insert-is s.cpus s.words.items c.args.self.now c.args.cpu c.index_mut.result.now c.self.view_is below c.self.invariant.enough c.index_mut.ensures.value
+    insert-is s.cpus s.words.items c.args.self.now c.args.cpu c.index_mut.result.now c.self.view_is
+    below c.self.invariant.enough c.index_mut.ensures.value
 
 pub invariant_of-self : goal.invariant_of-self
 invariant_of-self c =
@@ -37,7 +42,8 @@ invariant_of-self c =
     let kept = c.self.invariant in
     let before = kept.counted ∙ ap (λ (set : List Bool). size_of set) c.self.view_is in
     let after = ap (λ (set : List Bool). size_of set) (returns-clause-set c) in
-    let more = size_of-insert c.args.self.now c.args.cpu c.requires (sym c.contains.ensures ∙ c.if-contains.false) in
+    let more = size_of-insert c.args.self.now c.args.cpu c.requires
+    (sym c.contains.ensures ∙ c.if-contains.false) in
     let stays = length-set s.words.items in
     let size = cpus-is s.cpus s.words.items c.args.self.now c.self.view_is in
     let below : c.args.cpu < s.cpus = omega arith in

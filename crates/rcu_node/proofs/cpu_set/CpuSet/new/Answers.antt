@@ -7,7 +7,8 @@ pub invariant_of-result : goal.invariant_of-result
 invariant_of-result c =
     let made : c.in_ok-words.words.items ≡ replicate c.div_ceil.result 0 = search rules in
     let bounds = div_ceil_times c.args.cpus 64 (omega arith) in
-    let empty = zeros c.args.cpus c.div_ceil.result c.in_ok-words.words.items made (omega (arith, bounds)) in
+    let empty =
+    zeros c.args.cpus c.div_ceil.result c.in_ok-words.words.items made (omega (arith, bounds)) in
     record {
       some = grind (arith, c.if-cpus-eq0.false);
       few = c.if-cpus-gt-MOST_CPUS.false;
@@ -21,5 +22,6 @@ pub returns-clause-ok : goal.returns-clause-ok
 returns-clause-ok c =
     let made : c.in_ok-words.words.items ≡ replicate c.div_ceil.result 0 = search rules in
     let bounds = div_ceil_times c.args.cpus 64 (omega arith) in
-    let empty = zeros c.args.cpus c.div_ceil.result c.in_ok-words.words.items made (omega (arith, bounds)) in
+    let empty =
+    zeros c.args.cpus c.div_ceil.result c.in_ok-words.words.items made (omega (arith, bounds)) in
     empty.flags

@@ -9,14 +9,19 @@ pub index_mut-requires : goal.index_mut-requires
 index_mut-requires c =
     let s = c.self.inside in
     let size = cpus-is s.cpus s.words.items c.args.self.now c.self.view_is in
-    omega (arith, s.words.ok, word_below s.cpus c.args.cpu (length s.words.items) (omega arith) c.self.invariant.enough)
+    omega (
+      arith,
+      s.words.ok,
+      word_below s.cpus c.args.cpu (length s.words.items) (omega arith) c.self.invariant.enough,
+    )
 
 pub returns-clause-set : goal.returns-clause-set
 returns-clause-set c =
     let s = c.self.inside in
     let size = cpus-is s.cpus s.words.items c.args.self.now c.self.view_is in
     let below : c.args.cpu < s.cpus = omega arith in
-    remove-is s.cpus s.words.items c.args.self.now c.args.cpu c.index_mut.result.now c.self.view_is below c.self.invariant.enough c.index_mut.ensures.value
+    remove-is s.cpus s.words.items c.args.self.now c.args.cpu c.index_mut.result.now c.self.view_is
+    below c.self.invariant.enough c.index_mut.ensures.value
 
 pub invariant_of-self : goal.invariant_of-self
 invariant_of-self c =

@@ -17,23 +17,30 @@ invariant_of-result g c =
     let none = zeros_members s start c.in_ok-nodes.ensures.start in
     record {
       legal = made.legal;
-      shaped = made.ok ∙ ap (λ cpus. shape g.row.LEAF g.row.FAN cpus) (sym (ap (λ s. s.cpus) made.ok));
+      shaped =
+          made.ok ∙ ap (λ cpus. shape g.row.LEAF g.row.FAN cpus) (sym (ap (λ s. s.cpus) made.ok));
       awaited = zeros_linked s now c.in_ok-nodes.ensures.now;
       started = zeros_linked s start c.in_ok-nodes.ensures.start;
       groups = c.in_ok-nodes.ensures.group;
       counted = sym (ap (λ (set : List Bool). size_of set) nobody ∙ size_of-none s.cpus);
-      some = (let sized = length-members s now in let some = made.legal.some in omega (arith, sized, some));
-      few = (let sized = length-members s now in let few = made.legal.few in omega (arith, sized, few));
+      some =
+          (let sized = length-members s now in
+          let some = made.legal.some in omega (arith, sized, some));
+      few =
+          (let sized = length-members s now in
+          let few = made.legal.few in omega (arith, sized, few));
       alike = length-members s start ∙ sym (length-members s now);
       within = λ cpu there. ap (λ (set : List Bool). is_in set cpu) (none ∙ sym nobody) ∙ there;
     }
 
 pub returns-clause-awaited : goal.returns-clause-awaited
 returns-clause-awaited g c =
-    zeros_members c.in_ok-geometry.geometry (now_masks c.in_ok-nodes.nodes.items) c.in_ok-nodes.ensures.now
+    zeros_members c.in_ok-geometry.geometry (now_masks c.in_ok-nodes.nodes.items)
+    c.in_ok-nodes.ensures.now
     ∙ ap (λ s. replicate s.cpus false) c.in_ok-geometry.ensures.ok
 
 pub returns-clause-start_set : goal.returns-clause-start_set
 returns-clause-start_set g c =
-    zeros_members c.in_ok-geometry.geometry (start_masks c.in_ok-nodes.nodes.items) c.in_ok-nodes.ensures.start
+    zeros_members c.in_ok-geometry.geometry (start_masks c.in_ok-nodes.nodes.items)
+    c.in_ok-nodes.ensures.start
     ∙ ap (λ s. replicate s.cpus false) c.in_ok-geometry.ensures.ok

@@ -19,5 +19,6 @@ pub returns : goal.returns
 returns g c =
     let tree = c.args.self.now in
     let sized = length-members tree.geometry (now_masks tree.nodes.items) in
-    is_member tree.geometry (now_masks tree.nodes.items) c.args.cpu c.leaf_of.result c.bit_of.result c.now_mask-mask.result
-    (omega (arith, c.requires, sized)) c.leaf_of.ensures.value c.bit_of.ensures.value c.now_mask-mask.ensures
+    is_member tree.geometry (now_masks tree.nodes.items) c.args.cpu c.leaf_of.result c.bit_of.result
+    c.now_mask-mask.result (omega (arith, c.requires, sized)) c.leaf_of.ensures.value
+    c.bit_of.ensures.value c.now_mask-mask.ensures

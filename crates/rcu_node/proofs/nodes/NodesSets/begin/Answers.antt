@@ -9,5 +9,10 @@ pub fill-requires : goal.fill-requires
 fill-requires g c =
     let tree = c.args.self.now in
     let same = length-map tree.nodes.items (λ (node : Node). node.qsmask) in
-    let set = c.requires ∙ length-members tree.geometry (now_masks tree.nodes.items) in
-    (lit< tt, (tree.legal, (ap (λ s. s.leaf) tree.shaped, (sym same ∙ tree.awaited.owned.sized, (set, tree.groups)))))
+    let set = c.requires ∙ length-members tree.geometry (now_masks tree.nodes.items) in (
+      lit< tt,
+      (
+        tree.legal,
+        (ap (λ s. s.leaf) tree.shaped, (sym same ∙ tree.awaited.owned.sized, (set, tree.groups))),
+      ),
+    )

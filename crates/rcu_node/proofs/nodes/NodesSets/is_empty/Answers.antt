@@ -19,5 +19,5 @@ returns g c =
     let tree = c.args.self.now in
     let masks = now_masks tree.nodes.items in
     ap (λ mask. mask == 0) c.now_mask.ensures
-    ∙ root_tells tree.geometry (members tree.geometry masks) masks tree.legal (length-members tree.geometry masks)
-    (masks_of_members tree.geometry masks tree.awaited)
+    ∙ root_tells tree.geometry (members tree.geometry masks) masks tree.legal
+    (length-members tree.geometry masks) (masks_of_members tree.geometry masks tree.awaited)

@@ -7,5 +7,13 @@ pub walk-requires : goal.walk-requires
 walk-requires g c =
     let tree = c.args.self.now in
     let sized = length-members tree.geometry (now_masks tree.nodes.items) in
-    let found : c.awaits.result ≡ true = (let there = c.if-not-awaits.false in search rules) in
-    (lit< tt, (tree.legal, (omega (arith, c.requires, sized), (tree.awaited, (tree.groups, sym c.awaits.ensures ∙ found)))))
+    let found : c.awaits.result ≡ true = (let there = c.if-not-awaits.false in search rules) in (
+      lit< tt,
+      (
+        tree.legal,
+        (
+          omega (arith, c.requires, sized),
+          (tree.awaited, (tree.groups, sym c.awaits.ensures ∙ found)),
+        ),
+      ),
+    )

@@ -19,4 +19,6 @@ returns g c =
     let flags = shape_of_flags s g.row.LEAF g.row.FAN (now_masks tree.nodes.items) tree.shaped in
     let same = ap (λ (s : Shape). nodes s) flags in
     let here : c.args.node < nodes s = omega (arith, c.requires, same) in
-    c.grpmask.ensures ∙ tree.groups.bit c.args.node here ∙ ap (λ (s : Shape). group_of s c.args.node) flags
+    c.grpmask.ensures
+    ∙ tree.groups.bit c.args.node here
+    ∙ ap (λ (s : Shape). group_of s c.args.node) flags

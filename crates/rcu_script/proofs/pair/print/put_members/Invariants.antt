@@ -9,4 +9,5 @@ use Rattle.rcu_script.proofs.pair.print.put_members.Given as goal
 abbrev pub invariant-loop-cpu : goal.invariant-loop-cpu
 invariant-loop-cpu g l =
     Sends (g.O.Output.out l.fn.out) (g.O.Output.out l.out)
-    (flat_map space_and_number (filter (is_in (g.A.Awaited.awaited l.awaited)) (range_with_len 0 l.cpu)))
+    (flat_map space_and_number
+    (filter (is_in (g.A.Awaited.awaited l.awaited)) (range_with_len 0 l.cpu)))

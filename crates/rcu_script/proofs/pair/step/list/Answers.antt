@@ -15,8 +15,9 @@ insert-requires c =
 
 pub loop-cpu-preserved : goal.loop-cpu-preserved
 loop-cpu-preserved c =
-    set_more (length c.args.set.now) c.args.cpus.now c.loop-cpu.cpu-index c.loop-cpu.set c.insert.new.self c.loop-cpu-test.true
-    (c.requires c.loop-cpu.cpu-index 0 c.loop-cpu-test.true) c.loop-cpu.invariant c.insert.ensures.set
+    set_more (length c.args.set.now) c.args.cpus.now c.loop-cpu.cpu-index c.loop-cpu.set
+    c.insert.new.self c.loop-cpu-test.true (c.requires c.loop-cpu.cpu-index 0 c.loop-cpu-test.true)
+    c.loop-cpu.invariant c.insert.ensures.set
 
 pub returns-clause-set : goal.returns-clause-set
 returns-clause-set c =

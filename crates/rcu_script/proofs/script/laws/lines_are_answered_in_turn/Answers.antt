@@ -5,4 +5,5 @@ pub returns-clause-cut : goal.returns-clause-cut
 returns-clause-cut c = λ size h end lines later text. answered_in_turn size h lines later text end
 
 pub returns-clause-joined : goal.returns-clause-joined
-returns-clause-joined c = λ size h end lines later text. answered_together size h lines later text end
+returns-clause-joined c =
+    λ size h end lines later text. answered_together size h lines later text end

@@ -9,12 +9,14 @@ use Rattle.rcu_script.proofs.script.laws.no_callback_is_printed_early.Goals as g
 pub returns-clause-values : goal.returns-clause-values
 returns-clause-values c =
     λ size before running told text more cpu most at_run end first asks second begins.
-    (ran_after size before running told text more cpu most at_run end first asks second begins).tells
+    (ran_after size before running told text more cpu most at_run end first asks second
+    begins).tells
 
 pub returns-clause-late : goal.returns-clause-late
 returns-clause-late c =
     λ size before running told text more cpu most at_run end first asks second begins place d there.
-    let ran = ran_after size before running told text more cpu most at_run end first asks second begins in
+    let ran =
+    ran_after size before running told text more cpu most at_run end first asks second begins in
     let call = get_or (handed_out cpu most at_run) place d in
     let early = c.no_callback_runs_early.ensures size ran.run cpu most place _ call ran.legal
     (ap (λ (h : History). slice_get (handed_out cpu most h) place) ran.reached

@@ -11,5 +11,5 @@ returns-in-None c =
 pub returns-in-Some-parse_event : goal.returns-in-Some-parse_event
 returns-in-Some-parse_event c =
     let short : length c.args.line.now ≤ 80 = omega arith in
-    asks c.args.line.now c.in-Some.name.now
-    (words_of c.in-Some.rest.now) c.in-Some-parse_event.event short c.in-Some.ensures.some c.in-Some-parse_event.ensures
+    asks c.args.line.now c.in-Some.name.now (words_of c.in-Some.rest.now)
+    c.in-Some-parse_event.event short c.in-Some.ensures.some c.in-Some-parse_event.ensures

@@ -18,5 +18,7 @@ invariant_of-result c =
       queued = sum_in-from_first (λ s. s.queued) a _ _ _ _ same all kept.queued added.queued;
       ran = c.len.ensures ∙ len ∙ ap length ids ∙ ran_in-is a;
       early = sum_in-from_first (λ s. s.early) a _ _ _ _ same all kept.early added.early;
-      twice = c.in_ok-twice.ensures ∙ ap (λ xs. length xs - distinct_count eqb xs) (c.deref.ensures.value ∙ ids);
+      twice =
+          c.in_ok-twice.ensures
+          ∙ ap (λ xs. length xs - distinct_count eqb xs) (c.deref.ensures.value ∙ ids);
     }

@@ -7,7 +7,8 @@ invariant-loop-call l = record {
   ids : l.self-inside.ids.items ≡ l.initial.self-inside.ids.items
       ++ map (λ call. call.value) (take l.call-index l.call-items);
   early : l.self-inside.early
-      ≡ l.initial.self-inside.early + count_by (is_early l.ran.number) (take l.call-index l.call-items);
+      ≡ l.initial.self-inside.early
+      + count_by (is_early l.ran.number) (take l.call-index l.call-items);
   queued : l.self-inside.queued ≡ l.initial.self-inside.queued;
   len : vec_len l.self-inside.ids ≡ vec_len l.initial.self-inside.ids + l.call-index;
   room : vec_capacity l.self-inside.ids ≡ vec_capacity l.initial.self-inside.ids;

@@ -3,4 +3,8 @@ use Rattle.rcu_wish.proofs.Steps.{looks_at_driver}
 use Rattle.rcu_wish.proofs.wish_words.WishWords.look_at_driver.Goals as goal
 
 pub load-requires : goal.load-requires
-load-requires c = (search rules, omega (arith, c.self.invariant), looks_at_driver _ _ _ c.requires.thread)
+load-requires c = (
+  search rules,
+  omega (arith, c.self.invariant),
+  looks_at_driver _ _ _ c.requires.thread,
+)

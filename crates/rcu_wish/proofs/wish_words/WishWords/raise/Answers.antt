@@ -3,4 +3,8 @@ use Rattle.rcu_wish.proofs.Steps.{raises}
 use Rattle.rcu_wish.proofs.wish_words.WishWords.raise.Goals as goal
 
 pub fetch_max-requires : goal.fetch_max-requires
-fetch_max-requires c = (search rules, omega (arith, c.self.invariant), raises _ _ _ _ c.requires.thread)
+fetch_max-requires c = (
+  search rules,
+  omega (arith, c.self.invariant),
+  raises _ _ _ _ c.requires.thread,
+)

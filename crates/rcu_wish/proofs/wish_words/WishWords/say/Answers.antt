@@ -3,4 +3,8 @@ use Rattle.rcu_wish.proofs.Steps.{says}
 use Rattle.rcu_wish.proofs.wish_words.WishWords.say.Goals as goal
 
 pub store-requires : goal.store-requires
-store-requires c = (search rules, omega (arith, c.self.invariant), says _ _ _ _ c.requires.driver c.requires.word)
+store-requires c = (
+  search rules,
+  omega (arith, c.self.invariant),
+  says _ _ _ _ c.requires.driver c.requires.word,
+)

@@ -8,5 +8,6 @@ abbrev pub invariant-loop : goal.invariant-loop
 invariant-loop l = record {
   map : (listing l.entries).map ≡ (listing l.initial.entries).map;
   name : (listing l.entries).name ≡ (listing l.initial.entries).name;
-  seat : (listing l.entries).seat ≡ after_word_step (listing l.initial.entries).seat (known_in (listing l.entries));
+  seat : (listing l.entries).seat
+      ≡ after_word_step (listing l.initial.entries).seat (known_in (listing l.entries));
 }

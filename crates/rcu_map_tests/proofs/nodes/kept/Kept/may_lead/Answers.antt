@@ -18,4 +18,5 @@ returns c = λ up.
     let first : c.word.result ≡ slice_index (node_at nodes c.args.from).words 0 = c.word.ensures in
     let second : c.word-2.result ≡ slice_index (node_at nodes n).words 0 = c.word-2.ensures in
     let less : c.word.result < c.word-2.result = grind (arith, nat_tests, up) in
-    greater_target nodes c.args.from n (word_to c.args.to) here low live (omega (arith, first, second, less))
+    greater_target nodes c.args.from n (word_to c.args.to) here low live
+    (omega (arith, first, second, less))

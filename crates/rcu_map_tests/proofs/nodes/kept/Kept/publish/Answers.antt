@@ -22,7 +22,13 @@ publish-requires c =
             c.requires.from,
             (
               c.requires.to,
-              (omega arith, (told_live (state_at nodes c.args.from) live, (c.is_ready.ensures ready, omega (arith, first, second, test)))),
+              (
+                omega arith,
+                (
+                  told_live (state_at nodes c.args.from) live,
+                  (c.is_ready.ensures ready, omega (arith, first, second, test)),
+                ),
+              ),
             ),
           ),
         ),

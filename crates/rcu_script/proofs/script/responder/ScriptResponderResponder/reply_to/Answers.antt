@@ -31,8 +31,13 @@ returns-in-Malformed g c =
       told = λ opened lines text whole told alike.
           let size = size_at opened.core in
           let a : AnswersLine size told.0 (asked_by whole) reply told.0 =
-          said_to size told.0 c.args.line.now whole reply told.0 _ alike c.in-Malformed.ensures (refl, refl) in
-          (told.0, answers_more size [] lines text told.0 whole reply told.0 told.1 a, told.2, told.3);
+          said_to size told.0 c.args.line.now whole reply told.0 _ alike c.in-Malformed.ensures
+          (refl, refl) in (
+            told.0,
+            answers_more size [] lines text told.0 whole reply told.0 told.1 a,
+            told.2,
+            told.3,
+          );
     }
 
 pub returns-in-Ask : goal.returns-in-Ask
@@ -49,6 +54,10 @@ returns-in-Ask g c =
           (λ (s : Size). IsLegalReply s (situation told.0) c.in-Ask.event said) told.2 went.legal in
           let a : AnswersLine size told.0 (asked_by whole) (text_of said) end =
           said_to size told.0 c.args.line.now whole (text_of said) end _ alike c.in-Ask.ensures
-          (said, legal, refl, refl) in
-          (end, answers_more size [] lines text told.0 whole (text_of said) end told.1 a, went.size ∙ told.2, went.has);
+          (said, legal, refl, refl) in (
+            end,
+            answers_more size [] lines text told.0 whole (text_of said) end told.1 a,
+            went.size ∙ told.2,
+            went.has,
+          );
     }

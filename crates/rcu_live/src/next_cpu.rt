@@ -1,0 +1,28 @@
+//! A walk over the processors of a set that passes over those that are not in it 64 at a time.
+ghost use Rattle.std.specs.Prelude.{◌≡◌, ◌<◌, ◌≤◌, ℕ, IfSome, None, false};
+ghost use Rattle.rcu_node.specs.CpuSet.{is_in};
+ghost use Rattle.rcu_live.specs.NextCpu.{IsNextFrom};
+
+use rcu_node::CpuSet;
+
+/// How many processors are passed over in one step.
+const WIDTH: u32 = 64;
+
+/// The first processor of a set from this one on (Linux's `cpumask_next`). Costs a step, and one
+/// more for every 64 processors that it passes over.
+pub(crate) fn next_from(set: &CpuSet, from: u32) -> Option<u32>
+    ensures first { IfSome result (λ cpu. IsNextFrom set.now from cpu) }
+    ensures few { IfSome result (λ cpu. cpu < 4096) }
+    ensures none { result ≡ None → (cpu : ℕ) → from ≤ cpu → is_in set.now cpu ≡ false }
+{
+    let end = set.cpus();
+    let mut cpu = from;
+    while cpu < end {
+        let flags = set.bits_from(cpu, WIDTH);
+        if flags != 0 {
+            return Some(cpu + flags.trailing_zeros());
+        }
+        cpu += WIDTH;
+    }
+    None
+}
