@@ -1,10 +1,11 @@
 -- For callers: a fact of each callback of a list.
-use Rattle.std.proofs.Common.{◌≡◌, ◌≢◌, ℕ, zero, suc, Bool, true, false, List, [], ◌∷◌, ◌++◌, Some, refl, subst, arith}
-use Rattle.std.proofs.Common.{map, set, get_or}
+use Rattle.std.proofs.Common.{◌≡◌, ◌≢◌, ℕ, zero, suc, Bool, true, false, List, [], ◌∷◌, ◌++◌, Some}
+use Rattle.std.proofs.Common.{refl, subst, arith, map, set, get_or}
 use Rattle.std.specs.Prelude.{slice_get}
 use Rattle.rcu_cblist.specs.declared.queued.Queued.{Queued}
-use Rattle.rcu_cblist.specs.SegList.{Item, Of, Marker, Mark, Unmarked, Until, Done, after_migrate, after_renumber, as_it_leaves}
-use Rattle.rcu_cblist.specs.SegList.{behind, from_callback, front, remarked, take_answer, without_mark}
+use Rattle.rcu_cblist.specs.SegList.{Item, Of, Marker, Mark, Unmarked, Until, Done, after_migrate}
+use Rattle.rcu_cblist.specs.SegList.{after_renumber, as_it_leaves, behind, from_callback, front}
+use Rattle.rcu_cblist.specs.SegList.{remarked, take_answer, without_mark}
 
 -- a fact of the one at a place, once one of them is another
 pub at_set : {Y : Type 0} (P : Y → Type 0) (xs : List Y) (i c : ℕ) (y d : Y) → P d → (c ≡ i → P y)
@@ -18,7 +19,8 @@ at_set P (x ∷ xs) (suc i) (suc c) y d none same other =
 
 module _ {X : Type 0} where
   -- one of the lists, once the numbers start anew
-  pub renumbered_at : (lists : List (List (Item X))) (c : ℕ) → get_or (map after_renumber lists) c [] ≡ after_renumber (get_or lists c [])
+  pub renumbered_at : (lists : List (List (Item X))) (c : ℕ)
+      → get_or (map after_renumber lists) c [] ≡ after_renumber (get_or lists c [])
   renumbered_at [] c = refl
   renumbered_at (xs ∷ lists) zero = refl
   renumbered_at (xs ∷ lists) (suc c) = renumbered_at lists c
@@ -29,17 +31,20 @@ module _ {X : Type 0} where
   Each P (Marker ∷ xs) = Each P xs
   Each P (Of call mark ∷ xs) = P call × Each P xs
 
-  pub each-append : (P : Queued X → Type 0) (xs ys : List (Item X)) → Each P xs → Each P ys → Each P (xs ++ ys)
+  pub each-append : (P : Queued X → Type 0) (xs ys : List (Item X)) → Each P xs → Each P ys
+      → Each P (xs ++ ys)
   each-append P [] ys a b = b
   each-append P (Marker ∷ xs) ys a b = each-append P xs ys a b
   each-append P (Of call mark ∷ xs) ys a b = (a.0, each-append P xs ys a.1 b)
 
-  pub each-remarked : (P : Queued X → Type 0) (f : Mark → Mark) (xs : List (Item X)) → Each P xs → Each P (map (remarked f) xs)
+  pub each-remarked : (P : Queued X → Type 0) (f : Mark → Mark) (xs : List (Item X)) → Each P xs
+      → Each P (map (remarked f) xs)
   each-remarked P f [] a = tt
   each-remarked P f (Marker ∷ xs) a = each-remarked P f xs a
   each-remarked P f (Of call mark ∷ xs) a = (a.0, each-remarked P f xs a.1)
 
-  pub each-from : (P : Queued X → Type 0) (n : ℕ) (xs : List (Item X)) → Each P xs → Each P (from_callback n xs)
+  pub each-from : (P : Queued X → Type 0) (n : ℕ) (xs : List (Item X)) → Each P xs
+      → Each P (from_callback n xs)
   each-from P n [] a = a
   each-from P n (Marker ∷ xs) a = each-from P n xs a
   each-from P zero (Of call mark ∷ xs) a = a
@@ -59,29 +64,35 @@ module _ {X : Type 0} where
   each-behind P (Of call (Until n) ∷ xs) a = a
   each-behind P (Of call Done ∷ xs) a = each-behind P xs a.1
 
-  pub each-leaving : (P : Queued X → Type 0) (b : Bool) (xs : List (Item X)) → Each P xs → Each P (as_it_leaves xs b)
+  pub each-leaving : (P : Queued X → Type 0) (b : Bool) (xs : List (Item X)) → Each P xs
+      → Each P (as_it_leaves xs b)
   each-leaving P false xs a = a
   each-leaving P true [] a = a
   each-leaving P true (x ∷ xs) a = each-append P (x ∷ xs) (Marker ∷ []) a tt
 
-  pub each-moved : (P : Queued X → Type 0) (xs ys : List (Item X)) → Each P xs → Each P ys → Each P (after_migrate ys xs)
+  pub each-moved : (P : Queued X → Type 0) (xs ys : List (Item X)) → Each P xs → Each P ys
+      → Each P (after_migrate ys xs)
   each-moved P xs ys a b =
-      each-append P (front xs ++ ys) (map without_mark (behind xs)) (each-append P (front xs) ys (each-front P xs a) b)
+      each-append P (front xs ++ ys) (map without_mark (behind xs))
+      (each-append P (front xs) ys (each-front P xs a) b)
       (each-remarked P (λ _. Unmarked) (behind xs) (each-behind P xs a))
 
-  pub each-weaker : (P Q : Queued X → Type 0) → ((callback : Queued X) → P callback → Q callback) → (xs : List (Item X)) → Each P xs → Each Q xs
+  pub each-weaker : (P Q : Queued X → Type 0)
+      → ((callback : Queued X) → P callback → Q callback) → (xs : List (Item X)) → Each P xs
+      → Each Q xs
   each-weaker P Q f [] a = tt
   each-weaker P Q f (Marker ∷ xs) a = each-weaker P Q f xs a
   each-weaker P Q f (Of call mark ∷ xs) a = (f call a.0, each-weaker P Q f xs a.1)
 
   -- and so of each that a take hands out
-  pub each-taken : (P : Queued X → Type 0) (xs : List (Item X)) (most at : ℕ) (call : Queued X) → Each P xs
-      → slice_get (take_answer xs most) at ≡ Some call → P call
+  pub each-taken : (P : Queued X → Type 0) (xs : List (Item X)) (most at : ℕ) (call : Queued X)
+      → Each P xs → slice_get (take_answer xs most) at ≡ Some call → P call
   each-taken P [] zero at call a is = absurd (cc)
   each-taken P [] (suc most) at call a is = absurd (cc)
   each-taken P (Marker ∷ xs) most at call a is = each-taken P xs most at call a is
   each-taken P (Of c mark ∷ xs) zero at call a is = absurd (cc)
   each-taken P (Of c Unmarked ∷ xs) (suc most) at call a is = absurd (cc)
   each-taken P (Of c (Until n) ∷ xs) (suc most) at call a is = absurd (cc)
-  each-taken P (Of c Done ∷ xs) (suc most) zero call a is = let same : c ≡ call = cc in subst P same a.0
+  each-taken P (Of c Done ∷ xs) (suc most) zero call a is =
+      let same : c ≡ call = cc in subst P same a.0
   each-taken P (Of c Done ∷ xs) (suc most) (suc at) call a is = each-taken P xs most at call a.1 is

@@ -1,32 +1,38 @@
 -- What is kept where one list changes, and where one moves to the first.
-use Rattle.std.proofs.Common.{◌≡◌, ◌≢◌, get_or-set_other, ℕ, ◌+◌, ◌<◌, ◌≤◌, Bool, true, false, not, ◌&&◌, ◌∙◌, List, []}
-use Rattle.std.proofs.Common.{length, set, get_or, refl, ap, sym, subst, arith}
+use Rattle.std.proofs.Common.{◌≡◌, ◌≢◌, get_or-set_other, ℕ, ◌+◌, ◌<◌, ◌≤◌, Bool, true, false, not}
+use Rattle.std.proofs.Common.{◌&&◌, ◌∙◌, List, [], length, set, get_or, refl, ap, sym, subst, arith}
 use Rattle.std.specs.Prelude.{◌%◌, ◌^◌, ◌∷◌, if◌then◌else◌, replicate}
 use Rattle.std.proofs.lemmas.List.{length-replicate, length-set, get_or_default}
 use Rattle.rcu_cblist.specs.SegList.{Item, after_migrate, as_it_leaves, is_empty, markers}
 use Rattle.rcu_cblist.proofs.SegListLemmas.{markers_entrained, markers_moved}
 use Rattle.std.proofs.lemmas.List.Elements.{All-nil}
 use Rattle.rcu_barrier.specs.Tending.{AreFours}
-use Rattle.rcu_barrier.specs.Lists.{AllFours, AllLists, IsSound, list_of, lists_after_move, markers_in}
-use Rattle.rcu_barrier.specs.Lists.{unvisited}
+use Rattle.rcu_barrier.specs.Lists.{AllFours, AllLists, IsSound, list_of, lists_after_move}
+use Rattle.rcu_barrier.specs.Lists.{markers_in, unvisited}
 use Rattle.rcu_barrier.proofs.Fours.{fours_get, fours_none, fours_moved, fours_set}
 use Rattle.rcu_barrier.proofs.Markers.{markers_none, markers_set, unvisited_all}
 
 -- a list that was read is the processor's
-pub list_is : {X : Type 0} (lists : List (List (Item X))) (cpu : ℕ) (old : List (Item X)) → cpu < length lists →
-    old ≡ get_or lists cpu old → old ≡ get_or lists cpu []
+pub list_is : {X : Type 0} (lists : List (List (Item X))) (cpu : ℕ) (old : List (Item X))
+    → cpu < length lists → old ≡ get_or lists cpu old → old ≡ get_or lists cpu []
 list_is lists cpu old within read = read ∙ get_or_default lists cpu old [] within
 
 -- where a visit is owed, a barrier runs, and the processor is unvisited
-pub owed_parts : (running visited : Bool) → (running && not visited) ≡ true → (running ≡ true) × (visited ≡ false)
+pub owed_parts : (running visited : Bool) → (running && not visited) ≡ true
+    → (running ≡ true) × (visited ≡ false)
 owed_parts true false owed = (refl, refl)
 owed_parts true true owed = cc
 owed_parts false visited owed = cc
 
 -- what is kept at first
-pub kept_first : (X : Type 0) (cpus most : ℕ) (lists : List (List (Item X))) (flags : List Bool) → 1 ≤ cpus →
-    cpus ≤ 4096 → 1 ≤ most → most ≤ 2 ^ 62 → lists ≡ replicate cpus [] → flags ≡ replicate cpus true →
-    (0 ≡ markers_in lists)
+pub kept_first : (X : Type 0) (cpus most : ℕ) (lists : List (List (Item X))) (flags : List Bool)
+    → 1 ≤ cpus
+    → cpus ≤ 4096
+    → 1 ≤ most
+    → most ≤ 2 ^ 62
+    → lists ≡ replicate cpus []
+    → flags ≡ replicate cpus true
+    → (0 ≡ markers_in lists)
     × IsSound (record { lists = lists; visited = flags; running = false; queued = 0; most = most })
 kept_first X cpus most lists flags some few most_some most_few empty all =
     let long : length lists ≡ cpus = ap length empty ∙ length-replicate cpus [] in
@@ -48,19 +54,25 @@ kept_first X cpus most lists flags some few most_some most_few empty all =
     )
 
 -- one list changes, and perhaps visits and the count of queued callbacks
-pub relisted : {X : Type 0} (all : AllLists X) (m n queued cpu : ℕ) (old xs : List (Item X)) (flags : List Bool) →
-    m ≡ markers_in all.lists → IsSound all → cpu < length all.lists → old ≡ get_or all.lists cpu old →
-    length flags ≡ length all.visited → n + markers old ≡ m + markers xs →
-    n + unvisited flags ≤ m + unvisited all.visited →
-    queued ≤ all.most → (AreFours old → AreFours xs) →
-    (n ≡ markers_in (set all.lists cpu xs))
-    × IsSound (record {
-      lists = set all.lists cpu xs;
-      visited = flags;
-      running = all.running;
-      queued = queued;
-      most = all.most;
-    })
+pub relisted : {X : Type 0} (all : AllLists X) (m n queued cpu : ℕ) (old xs : List (Item X))
+    (flags : List Bool)
+    → m ≡ markers_in all.lists
+    → IsSound all
+    → cpu < length all.lists
+    → old ≡ get_or all.lists cpu old
+    → length flags ≡ length all.visited
+    → n + markers old ≡ m + markers xs
+    → n + unvisited flags ≤ m + unvisited all.visited
+    → queued ≤ all.most
+    → (AreFours old → AreFours xs)
+    → (n ≡ markers_in (set all.lists cpu xs))
+      × IsSound (record {
+        lists = set all.lists cpu xs;
+        visited = flags;
+        running = all.running;
+        queued = queued;
+        most = all.most;
+      })
 relisted all m n queued cpu old xs flags count kept inside read sized now fewer few keeps =
     let is = list_is all.lists cpu old inside read in
     let change = markers_set all.lists cpu xs inside in
@@ -98,18 +110,22 @@ marked_within true false = omega arith
 marked_within false empty = omega arith
 
 -- a list moves to the first one, with a marker behind it where a visit is owed
-pub moved_kept : {X : Type 0} (all : AllLists X) (m n cpu : ℕ) (owed : Bool) (flags : List Bool) →
-    m ≡ markers_in all.lists → IsSound all → 0 < cpu → cpu < length all.lists → length flags ≡ length all.visited →
-    n ≡ m + (if owed && not (is_empty (list_of all cpu)) then 1 else 0) →
-    unvisited flags + (if owed then 1 else 0) ≡ unvisited all.visited →
-    (n ≡ markers_in (lists_after_move all.lists cpu owed))
-    × IsSound (record {
-      lists = lists_after_move all.lists cpu owed;
-      visited = flags;
-      running = all.running;
-      queued = all.queued;
-      most = all.most;
-    })
+pub moved_kept : {X : Type 0} (all : AllLists X) (m n cpu : ℕ) (owed : Bool) (flags : List Bool)
+    → m ≡ markers_in all.lists
+    → IsSound all
+    → 0 < cpu
+    → cpu < length all.lists
+    → length flags ≡ length all.visited
+    → n ≡ m + (if owed && not (is_empty (list_of all cpu)) then 1 else 0)
+    → unvisited flags + (if owed then 1 else 0) ≡ unvisited all.visited
+    → (n ≡ markers_in (lists_after_move all.lists cpu owed))
+      × IsSound (record {
+        lists = lists_after_move all.lists cpu owed;
+        visited = flags;
+        running = all.running;
+        queued = all.queued;
+        most = all.most;
+      })
 moved_kept all m n cpu owed flags count kept other inside sized now fewer =
     let old = get_or all.lists cpu [] in
     let xs = as_it_leaves old owed in

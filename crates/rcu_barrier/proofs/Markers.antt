@@ -1,14 +1,15 @@
 -- Counts of markers and of unvisited processors.
-use Rattle.std.proofs.Common.{◌≡◌, ℕ, zero, suc, ◌+◌, ◌<◌, Bool, true, false, not, List, [], length, set, get_or, refl}
-use Rattle.std.proofs.Common.{ap, arith}
+use Rattle.std.proofs.Common.{◌≡◌, ℕ, zero, suc, ◌+◌, ◌<◌, Bool, true, false, not, List, [], length}
+use Rattle.std.proofs.Common.{set, get_or, refl, ap, arith}
 use Rattle.std.specs.Prelude.{if◌then◌else◌, replicate}
 use Rattle.std.proofs.lemmas.List.Sums.{sum_by-cons, sum_by-set}
 use Rattle.rcu_cblist.specs.SegList.{Item, markers}
 use Rattle.rcu_barrier.specs.Lists.{markers_in, unvisited}
 
 -- the markers of all lists once one of them is another
-pub markers_set : {X : Type 0} (lists : List (List (Item X))) (cpu : ℕ) (xs : List (Item X)) → cpu < length lists →
-    markers_in (set lists cpu xs) + markers (get_or lists cpu []) ≡ markers_in lists + markers xs
+pub markers_set : {X : Type 0} (lists : List (List (Item X))) (cpu : ℕ) (xs : List (Item X))
+    → cpu < length lists
+    → markers_in (set lists cpu xs) + markers (get_or lists cpu []) ≡ markers_in lists + markers xs
 markers_set lists cpu xs within = sum_by-set markers lists cpu xs [] within
 
 -- empty lists have no marker
@@ -21,8 +22,9 @@ abbrev count_one : Bool → ℕ
 count_one flag = if not flag then 1 else 0
 
 -- one that is visited is unvisited no more
-pub unvisited_set : (flags : List Bool) (cpu : ℕ) → cpu < length flags → get_or flags cpu false ≡ false →
-    unvisited (set flags cpu true) + 1 ≡ unvisited flags
+pub unvisited_set : (flags : List Bool) (cpu : ℕ)
+    → cpu < length flags → get_or flags cpu false ≡ false
+    → unvisited (set flags cpu true) + 1 ≡ unvisited flags
 unvisited_set flags cpu within off =
     let change = sum_by-set count_one flags cpu true false within in
     let before : count_one (get_or flags cpu false) ≡ 1 = ap count_one off in

@@ -1,12 +1,13 @@
 -- Lists and their items: what a change of one list with room changes in the list of the items.
-use Rattle.std.proofs.Common.{◌≡◌, ℕ, zero, suc, ◌+◌, ◌-◌, ◌<◌, ◌≤◌, Bool, List, [], ◌∷◌, ◌++◌, length, set, get_or}
-use Rattle.std.proofs.Common.{take, drop, ap, sym, subst, ◌∙◌, arith}
-use Rattle.std.proofs.lemmas.List.{get_or-map, get_or-set_same, get_or_default, length-map, map-set, set-get_or}
+use Rattle.std.proofs.Common.{◌≡◌, ℕ, zero, suc, ◌+◌, ◌-◌, ◌<◌, ◌≤◌, Bool, List, [], ◌∷◌, ◌++◌}
+use Rattle.std.proofs.Common.{length, set, get_or, take, drop, ap, sym, subst, ◌∙◌, arith}
+use Rattle.std.proofs.lemmas.List.{get_or-map, get_or-set_same, get_or_default, length-map, map-set}
+use Rattle.std.proofs.lemmas.List.{set-get_or}
 use Rattle.std.proofs.Math.Seq.{map-set_same}
 use Rattle.rcu_cblist.specs.SegList.{Item, Segmented, after_migrate, as_it_leaves, markers}
 use Rattle.rcu_barrier.specs.Tending.{AreFours}
-use Rattle.rcu_barrier.specs.Lists.{AllLists, IsSound, ListsWithRooms, items_in, list_at, lists_after_move}
-use Rattle.rcu_barrier.specs.Lists.{markers_in, rooms_in, unvisited}
+use Rattle.rcu_barrier.specs.Lists.{AllLists, IsSound, ListsWithRooms, items_in, list_at}
+use Rattle.rcu_barrier.specs.Lists.{lists_after_move, markers_in, rooms_in, unvisited}
 use Rattle.rcu_barrier.proofs.Kept.{relisted}
 
 module _ {X : Type 0} where
@@ -19,8 +20,8 @@ module _ {X : Type 0} where
   with_rooms all rooms = record { all = all; rooms = rooms }
 
   -- what contracts see is the same where the lists are and the rooms are
-  pub both_same : (all now : AllLists X) (rooms rooms_now : List ℕ) → all ≡ now → rooms ≡ rooms_now →
-      with_rooms all rooms ≡ with_rooms now rooms_now
+  pub both_same : (all now : AllLists X) (rooms rooms_now : List ℕ) → all ≡ now → rooms ≡ rooms_now
+      → with_rooms all rooms ≡ with_rooms now rooms_now
   both_same all now rooms rooms_now lists same =
       ap (λ l. with_rooms l rooms) lists ∙ ap (λ r. with_rooms now r) same
 
@@ -29,8 +30,9 @@ module _ {X : Type 0} where
   long_in lists = length-map lists items_of
 
   -- a list that was read has the items of its place
-  pub read_items : (lists : List (Segmented X)) (cpu : ℕ) (old : Segmented X) → cpu < length (items_in lists) →
-      old ≡ get_or lists cpu old → old.items ≡ list_at (items_in lists) cpu
+  pub read_items : (lists : List (Segmented X)) (cpu : ℕ) (old : Segmented X)
+      → cpu < length (items_in lists) → old ≡ get_or lists cpu old
+      → old.items ≡ list_at (items_in lists) cpu
   read_items lists cpu old inside read =
       let long = long_in lists in
       ap items_of read ∙ sym (get_or-map items_of lists cpu old [] (omega arith))
@@ -41,22 +43,26 @@ module _ {X : Type 0} where
   set_items lists cpu new = map-set items_of lists cpu new
 
   -- one list is another with the same items
-  pub same_items : (lists : List (Segmented X)) (cpu : ℕ) (old new : Segmented X) → old ≡ get_or lists cpu old →
-      new.items ≡ old.items → items_in (set lists cpu new) ≡ items_in lists
-  same_items lists cpu old new read same = map-set_same items_of lists cpu new old (same ∙ ap items_of read)
+  pub same_items : (lists : List (Segmented X)) (cpu : ℕ) (old new : Segmented X)
+      → old ≡ get_or lists cpu old → new.items ≡ old.items
+      → items_in (set lists cpu new) ≡ items_in lists
+  same_items lists cpu old new read same =
+      map-set_same items_of lists cpu new old (same ∙ ap items_of read)
 
   -- the room of a list
   abbrev room_in : Segmented X → ℕ
   room_in list = list.room
 
   -- one list is another with the same room
-  pub same_rooms : (lists : List (Segmented X)) (cpu : ℕ) (old new : Segmented X) → old ≡ get_or lists cpu old →
-      new.room ≡ old.room → rooms_in (set lists cpu new) ≡ rooms_in lists
-  same_rooms lists cpu old new read same = map-set_same room_in lists cpu new old (same ∙ ap room_in read)
+  pub same_rooms : (lists : List (Segmented X)) (cpu : ℕ) (old new : Segmented X)
+      → old ≡ get_or lists cpu old → new.room ≡ old.room
+      → rooms_in (set lists cpu new) ≡ rooms_in lists
+  same_rooms lists cpu old new read same =
+      map-set_same room_in lists cpu new old (same ∙ ap room_in read)
 
   -- the room of the list that was changed
-  pub room_now : (lists : List (Segmented X)) (cpu : ℕ) (new : Segmented X) → cpu < length (items_in lists) →
-      get_or (rooms_in (set lists cpu new)) cpu 0 ≡ new.room
+  pub room_now : (lists : List (Segmented X)) (cpu : ℕ) (new : Segmented X)
+      → cpu < length (items_in lists) → get_or (rooms_in (set lists cpu new)) cpu 0 ≡ new.room
   room_now lists cpu new inside =
       let long = long_in lists in
       let sized = length-map lists room_in in
@@ -64,79 +70,97 @@ module _ {X : Type 0} where
       ∙ get_or-set_same (rooms_in lists) cpu new.room 0 (omega arith)
 
   -- the room that it had
-  pub room_was : (lists : List (Segmented X)) (cpu : ℕ) (old : Segmented X) → cpu < length (items_in lists) →
-      old ≡ get_or lists cpu old → get_or (rooms_in lists) cpu 0 ≡ old.room
+  pub room_was : (lists : List (Segmented X)) (cpu : ℕ) (old : Segmented X)
+      → cpu < length (items_in lists) → old ≡ get_or lists cpu old
+      → get_or (rooms_in lists) cpu 0 ≡ old.room
   room_was lists cpu old inside read =
       let long = long_in lists in
       get_or-map room_in lists cpu old 0 (omega arith) ∙ sym (ap room_in read)
 
   -- a list that changed has no less room
-  pub rooms_rise : (lists : List (Segmented X)) (cpu : ℕ) (old new : Segmented X) → cpu < length (items_in lists) →
-      old ≡ get_or lists cpu old → old.room ≤ new.room →
-      get_or (rooms_in lists) cpu 0 ≤ get_or (rooms_in (set lists cpu new)) cpu 0
+  pub rooms_rise : (lists : List (Segmented X)) (cpu : ℕ) (old new : Segmented X)
+      → cpu < length (items_in lists) → old ≡ get_or lists cpu old → old.room ≤ new.room
+      → get_or (rooms_in lists) cpu 0 ≤ get_or (rooms_in (set lists cpu new)) cpu 0
   rooms_rise lists cpu old new inside read more =
       let was = room_was lists cpu old inside read in
       let now = room_now lists cpu new inside in
       omega (arith, was, now, more)
 
   -- it has no more
-  pub rooms_fall : (lists : List (Segmented X)) (cpu : ℕ) (old new : Segmented X) → cpu < length (items_in lists) →
-      old ≡ get_or lists cpu old → new.room ≤ old.room →
-      get_or (rooms_in (set lists cpu new)) cpu 0 ≤ get_or (rooms_in lists) cpu 0
+  pub rooms_fall : (lists : List (Segmented X)) (cpu : ℕ) (old new : Segmented X)
+      → cpu < length (items_in lists) → old ≡ get_or lists cpu old → new.room ≤ old.room
+      → get_or (rooms_in (set lists cpu new)) cpu 0 ≤ get_or (rooms_in lists) cpu 0
   rooms_fall lists cpu old new inside read less =
       let was = room_was lists cpu old inside read in
       let now = room_now lists cpu new inside in
       omega (arith, was, now, less)
 
   -- where one list is another, only its room may be another one
-  pub other_rooms : (lists : List (Segmented X)) (cpu : ℕ) (new : Segmented X) → cpu < length (items_in lists) →
-      rooms_in (set lists cpu new) ≡ set (rooms_in lists) cpu (get_or (rooms_in (set lists cpu new)) cpu 0)
+  pub other_rooms : (lists : List (Segmented X)) (cpu : ℕ) (new : Segmented X)
+      → cpu < length (items_in lists)
+      → rooms_in (set lists cpu new)
+      ≡ set (rooms_in lists) cpu (get_or (rooms_in (set lists cpu new)) cpu 0)
   other_rooms lists cpu new inside =
       map-set room_in lists cpu new
       ∙ ap (λ room. set (rooms_in lists) cpu room) (sym (room_now lists cpu new inside))
 
   -- one list is what a change makes of it
-  pub changed_items : (change : List (Item X) → List (Item X)) (lists : List (Segmented X)) (cpu : ℕ)
-      (old new : Segmented X) →
-      cpu < length (items_in lists) → old ≡ get_or lists cpu old → new.items ≡ change old.items →
-      items_in (set lists cpu new) ≡ set (items_in lists) cpu (change (list_at (items_in lists) cpu))
+  pub changed_items : (change : List (Item X) → List (Item X)) (lists : List (Segmented X))
+      (cpu : ℕ) (old new : Segmented X)
+      → cpu < length (items_in lists)
+      → old ≡ get_or lists cpu old
+      → new.items ≡ change old.items
+      → items_in (set lists cpu new)
+      ≡ set (items_in lists) cpu (change (list_at (items_in lists) cpu))
   changed_items change lists cpu old new inside read after =
-      set_items lists cpu new ∙
-      ap (λ l. set (items_in lists) cpu l) (after ∙ ap change (read_items lists cpu old inside read))
+      set_items lists cpu new
+      ∙ ap (λ l. set (items_in lists) cpu l)
+      (after ∙ ap change (read_items lists cpu old inside read))
 
   -- the first list, read off the front one
-  first_read : (lists front : List (Segmented X)) (d : Segmented X) → front ≡ take 1 lists → 0 < length lists →
-      (get_or front 0 d).items ≡ list_at (items_in lists) 0
+  first_read : (lists front : List (Segmented X)) (d : Segmented X)
+      → front ≡ take 1 lists → 0 < length lists
+      → (get_or front 0 d).items ≡ list_at (items_in lists) 0
   first_read [] front d is some = absurd (omega arith)
   first_read (x ∷ xs) front d is some = ap (λ l. (get_or l 0 d).items) is
 
   -- another list, read off the lists behind the first
-  other_read : (lists back : List (Segmented X)) (from : ℕ) (d : Segmented X) → back ≡ drop 1 lists → 0 < from →
-      from < length lists → (get_or back (from - 1) d).items ≡ list_at (items_in lists) from
+  other_read : (lists back : List (Segmented X)) (from : ℕ) (d : Segmented X)
+      → back ≡ drop 1 lists → 0 < from → from < length lists
+      → (get_or back (from - 1) d).items ≡ list_at (items_in lists) from
   other_read [] back from d is above inside = absurd (omega arith)
   other_read (x ∷ xs) back zero d is above inside = absurd (omega arith)
   other_read (x ∷ xs) back (suc n) d is above inside =
       let same : suc n - 1 ≡ n = omega arith in
-      rw same (ap (λ l. (get_or l n d).items) is ∙ sym (get_or-map items_of xs n d [] (omega arith)))
+      rw same
+      (ap (λ l. (get_or l n d).items) is ∙ sym (get_or-map items_of xs n d [] (omega arith)))
 
   -- the first list and another one are others
-  two_items : (lists front back : List (Segmented X)) (from : ℕ) (first other : Segmented X) → front ≡ take 1 lists →
-      back ≡ drop 1 lists → 0 < from → from < length lists →
-      items_in (set front 0 first ++ set back (from - 1) other)
-      ≡ set (set (items_in lists) 0 first.items) from other.items
+  two_items : (lists front back : List (Segmented X)) (from : ℕ) (first other : Segmented X)
+      → front ≡ take 1 lists
+      → back ≡ drop 1 lists
+      → 0 < from
+      → from < length lists
+      → items_in (set front 0 first ++ set back (from - 1) other)
+        ≡ set (set (items_in lists) 0 first.items) from other.items
   two_items [] front back from first other is_front is_back above inside = absurd (omega arith)
-  two_items (x ∷ xs) front back zero first other is_front is_back above inside = absurd (omega arith)
+  two_items (x ∷ xs) front back zero first other is_front is_back above inside =
+      absurd (omega arith)
   two_items (x ∷ xs) front back (suc n) first other is_front is_back above inside =
       let same : suc n - 1 ≡ n = omega arith in
       rw same (rw (is_front, is_back) (ap (λ l. first.items ∷ l) (set_items xs n other)))
 
   -- they are others with the same items
   pub two_same : (lists front back : List (Segmented X)) (from : ℕ) (first other d e : Segmented X)
-      → front ≡ take 1 lists →
-      back ≡ drop 1 lists → 0 < from → from < length lists → first.items ≡ (get_or front 0 d).items →
-      other.items ≡ (get_or back (from - 1) e).items →
-      items_in (set front 0 first ++ set back (from - 1) other) ≡ items_in lists
-  two_same lists front back from first other d e is_front is_back above inside same_first same_other =
+      → front ≡ take 1 lists
+      → back ≡ drop 1 lists
+      → 0 < from
+      → from < length lists
+      → first.items ≡ (get_or front 0 d).items
+      → other.items ≡ (get_or back (from - 1) e).items
+      → items_in (set front 0 first ++ set back (from - 1) other) ≡ items_in lists
+  two_same lists front back from first other d e is_front is_back above inside same_first
+      same_other =
       let firsts = same_first ∙ first_read lists front d is_front (omega arith) in
       let others = same_other ∙ other_read lists back from e is_back above inside in
       two_items lists front back from first other is_front is_back above inside ∙
@@ -145,37 +169,54 @@ module _ {X : Type 0} where
       (ap (λ l. set (items_in lists) from l) others ∙ set-get_or (items_in lists) from [])))
 
   -- one moved to the first
-  pub two_moved : (lists front back : List (Segmented X)) (from : ℕ) (owed : Bool) (first other d e : Segmented X) →
-      front ≡ take 1 lists → back ≡ drop 1 lists → 0 < from → from < length lists →
-      first.items ≡ after_migrate (get_or front 0 d).items (as_it_leaves (get_or back (from - 1) e).items owed) →
-      other.items ≡ [] → items_in (set front 0 first ++ set back (from - 1) other)
+  pub two_moved : (lists front back : List (Segmented X)) (from : ℕ) (owed : Bool)
+      (first other d e : Segmented X)
+      → front ≡ take 1 lists
+      → back ≡ drop 1 lists
+      → 0 < from
+      → from < length lists
+      → first.items
+      ≡ after_migrate (get_or front 0 d).items (as_it_leaves (get_or back (from - 1) e).items owed)
+      → other.items ≡ []
+      → items_in (set front 0 first ++ set back (from - 1) other)
       ≡ lists_after_move (items_in lists) from owed
   two_moved lists front back from owed first other d e is_front is_back above inside moved left =
       let firsts = first_read lists front d is_front (omega arith) in
       let others = other_read lists back from e is_back above inside in
-      let now = moved ∙ (ap (λ l. after_migrate l (as_it_leaves (get_or back (from - 1) e).items owed)) firsts ∙
-      ap (λ l. after_migrate (list_at (items_in lists) 0) (as_it_leaves l owed)) others) in
+      let now =
+      moved
+      ∙ (ap (λ l. after_migrate l (as_it_leaves (get_or back (from - 1) e).items owed)) firsts
+      ∙ ap (λ l. after_migrate (list_at (items_in lists) 0) (as_it_leaves l owed)) others) in
       two_items lists front back from first other is_front is_back above inside ∙
       (ap (λ l. set (set (items_in lists) 0 l) from other.items) now ∙
       ap (λ l. set (set (items_in lists) 0 (after_migrate (list_at (items_in lists) 0)
       (as_it_leaves (list_at (items_in lists) from) owed))) from l) left)
 
   -- only the first list's room may be another one
-  pub two_rooms : (lists front back : List (Segmented X)) (from : ℕ) (first other e : Segmented X) →
-      front ≡ take 1 lists → back ≡ drop 1 lists → 0 < from → from < length lists →
-      other.room ≡ (get_or back (from - 1) e).room →
-      rooms_in (set front 0 first ++ set back (from - 1) other)
-      ≡ set (rooms_in lists) 0 (get_or (rooms_in (set front 0 first ++ set back (from - 1) other)) 0 0)
-  two_rooms [] front back from first other e is_front is_back above inside same = absurd (omega arith)
-  two_rooms (x ∷ xs) front back zero first other e is_front is_back above inside same = absurd (omega arith)
+  pub two_rooms : (lists front back : List (Segmented X)) (from : ℕ) (first other e : Segmented X)
+      → front ≡ take 1 lists
+      → back ≡ drop 1 lists
+      → 0 < from
+      → from < length lists
+      → other.room ≡ (get_or back (from - 1) e).room
+      → rooms_in (set front 0 first ++ set back (from - 1) other)
+      ≡ set (rooms_in lists) 0
+      (get_or (rooms_in (set front 0 first ++ set back (from - 1) other)) 0 0)
+  two_rooms [] front back from first other e is_front is_back above inside same =
+      absurd (omega arith)
+  two_rooms (x ∷ xs) front back zero first other e is_front is_back above inside same =
+      absurd (omega arith)
   two_rooms (x ∷ xs) front back (suc n) first other e is_front is_back above inside same =
       let less : suc n - 1 ≡ n = omega arith in
-      let kept = same ∙ (ap (λ k. (get_or back k e).room) less ∙ ap (λ l. (get_or l n e).room) is_back) in
-      rw less (rw (is_front, is_back) (ap (λ rooms. first.room ∷ rooms) (map-set_same room_in xs n other e kept)))
+      let kept =
+      same ∙ (ap (λ k. (get_or back k e).room) less ∙ ap (λ l. (get_or l n e).room) is_back) in
+      rw less
+      (rw (is_front, is_back)
+      (ap (λ rooms. first.room ∷ rooms) (map-set_same room_in xs n other e kept)))
 
   -- there are as many lists where there are as many rooms
-  pub long_rooms : (lists new : List (Segmented X)) → length (rooms_in new) ≡ length (rooms_in lists) →
-      length new ≡ length lists
+  pub long_rooms : (lists new : List (Segmented X))
+      → length (rooms_in new) ≡ length (rooms_in lists) → length new ≡ length lists
   long_rooms lists new same = sym (length-map new room_in) ∙ (same ∙ length-map lists room_in)
 
   -- what is kept where one list changes, and perhaps visits and the count of queued callbacks
@@ -201,11 +242,14 @@ module _ {X : Type 0} where
         queued = queued;
         most = most;
       })
-  relisted_in lists visited flags running before m n queued most cpu old new count kept inside read sized now fewer few keeps =
+  relisted_in lists visited flags running before m n queued most cpu old new count kept inside
+      read sized now fewer few keeps =
       let is = read_items lists cpu old inside read in
       let default = get_or_default (items_in lists) cpu old.items [] inside in
-      subst (λ l. (n ≡ markers_in l)
-      × IsSound (record { lists = l; visited = flags; running = running; queued = queued; most = most }))
+      subst (λ l.
+      (n ≡ markers_in l)
+      × IsSound
+      (record { lists = l; visited = flags; running = running; queued = queued; most = most }))
       (sym (set_items lists cpu new))
       (relisted (record {
         lists = items_in lists;

@@ -1,24 +1,24 @@
 -- All processors' lists, and the barrier over them: what each call leaves, and what it answers.
 use Rattle.std.specs.Prelude.{ℕ, ◌≡◌, ◌≤◌, ◌+◌, ◌^◌, ◌==◌, ◌&&◌, Bool, true, false, nat_le, not}
-use Rattle.std.specs.Prelude.{if◌then◌else◌, Option, List, [], ◌∷◌, ◌++◌, All, count_by, length, map}
-use Rattle.std.specs.Prelude.{replicate, slice_index_or, slice_set, sum_by}
+use Rattle.std.specs.Prelude.{if◌then◌else◌, Option, List, [], ◌∷◌, ◌++◌, All, count_by, length}
+use Rattle.std.specs.Prelude.{map, replicate, slice_index_or, slice_set, sum_by}
 use Rattle.rcu_seq.specs.Fault.{first_fault}
 use Rattle.rcu_seq.specs.Numbers.{Number}
 use Rattle.rcu_seq.specs.declared.tag.Tag.{Tag}
 use Rattle.rcu_seq.specs.declared.fault.Fault.{Fault}
 use Rattle.rcu_seq.specs.declared.fault.Fault.TheVariants as fault
 use Rattle.rcu_cblist.specs.declared.queued.Queued.{Queued}
-use Rattle.rcu_cblist.specs.SegList.{Item, Segmented, Of, Unmarked, after_entrain, after_migrate, after_renumber}
-use Rattle.rcu_cblist.specs.SegList.{after_take}
-use Rattle.rcu_cblist.specs.SegList.{as_it_leaves, is_empty, markers, take_refusal}
+use Rattle.rcu_cblist.specs.SegList.{Item, Segmented, Of, Unmarked, after_entrain, after_migrate}
+use Rattle.rcu_cblist.specs.SegList.{after_renumber, after_take, as_it_leaves, is_empty, markers}
+use Rattle.rcu_cblist.specs.SegList.{take_refusal}
 use Rattle.rcu_barrier.specs.Tending.{AreFours, after_tend}
 use Rattle.rcu_barrier.specs.declared.visit.Visit.{Visit}
 use Rattle.rcu_barrier.specs.declared.visit.Visit.TheVariants as visit
 use Rattle.rcu_barrier.specs.declared.barrier_state.BarrierState.{BarrierState}
 use Rattle.rcu_barrier.specs.declared.barrier_state.BarrierState.TheVariants as state
 
--- each processor's list, whether the barrier visited it, whether a barrier runs, how many callbacks were queued, and how
--- many may be
+-- each processor's list, whether the barrier visited it, whether a barrier runs, how many callbacks
+-- were queued, and how many may be
 pub record AllLists (X : Type 0) : Type 0 where
   pub lists : List (List (Item X))
   pub visited : List Bool
@@ -26,7 +26,8 @@ pub record AllLists (X : Type 0) : Type 0 where
   pub queued : ℕ
   pub most : ℕ
 
--- what contracts see of all lists: what they say, and for how many items each list has room before it grows
+-- what contracts see of all lists: what they say, and for how many items each list has room before
+-- it grows
 pub record ListsWithRooms (X : Type 0) : Type 0 where
   pub all : AllLists X
   pub rooms : List ℕ
@@ -133,7 +134,9 @@ module _ {X : Type 0} where
   abbrev pub lists_after_queue : AllLists X → ℕ → Tag → X → AllLists X
   lists_after_queue all cpu at x =
       let call : Queued X = record { ord = all.queued + 1; at = at; value = x } in
-      record (with_list all cpu (list_of all cpu ++ Of call Unmarked ∷ [])) { queued = all.queued + 1 }
+      record (with_list all cpu (list_of all cpu ++ Of call Unmarked ∷ [])) {
+        queued = all.queued + 1
+      }
 
   -- the processor's list is tended at this number
   abbrev pub lists_after_tend : AllLists X → ℕ → Number → AllLists X
@@ -169,10 +172,13 @@ module _ {X : Type 0} where
         fault.NoMemory,
       ) ∷ [])
 
-  -- the lists once the one at a place moved to the first, with a marker behind it where a visit is owed
+  -- the lists once the one at a place moved to the first, with a marker behind it where a visit is
+  -- owed
   abbrev pub lists_after_move : List (List (Item X)) → ℕ → Bool → List (List (Item X))
   lists_after_move lists from owed =
-      slice_set (slice_set lists 0 (after_migrate (list_at lists 0) (as_it_leaves (list_at lists from) owed))) from []
+      slice_set
+      (slice_set lists 0 (after_migrate (list_at lists 0) (as_it_leaves (list_at lists from) owed)))
+      from []
 
   -- the processor is visited where that is owed, and its list moved to processor 0
   abbrev pub lists_after_migrate : AllLists X → ℕ → AllLists X
@@ -187,13 +193,19 @@ module _ {X : Type 0} where
 
   -- a barrier begins, with each processor unvisited
   abbrev pub lists_after_barrier_begin : AllLists X → AllLists X
-  lists_after_barrier_begin all = record all { visited = replicate (cpus_of all) false; running = true }
+  lists_after_barrier_begin all = record all {
+    visited = replicate (cpus_of all) false;
+    running = true
+  }
 
   -- a visit of a processor: where it is unvisited, a marker behind its list, if that is not empty
   abbrev pub lists_after_visit : AllLists X → ℕ → AllLists X
   lists_after_visit all cpu =
-      if is_visited all cpu then all
-      else record (with_list all cpu (after_entrain (list_of all cpu))) { visited = slice_set all.visited cpu true }
+      if is_visited all cpu
+      then all
+      else record (with_list all cpu (after_entrain (list_of all cpu))) {
+        visited = slice_set all.visited cpu true
+      }
 
   -- why a visit is refused: no barrier runs, or memory was refused
   abbrev pub visit_fault : AllLists X → Fault
@@ -225,15 +237,17 @@ module _ {X : Type 0} where
 
   -- a test ends the barrier where it waits for nothing
   abbrev pub lists_after_barrier_test : AllLists X → AllLists X
-  lists_after_barrier_test all = if barrier_left all == 0 then record all { running = false } else all
+  lists_after_barrier_test all =
+      if barrier_left all == 0 then record all { running = false } else all
 
   -- what a test answers
   abbrev pub barrier_test_answer : AllLists X → BarrierState
-  barrier_test_answer all = if barrier_left all == 0 then state.Done else state.Waits (barrier_left all)
+  barrier_test_answer all =
+      if barrier_left all == 0 then state.Done else state.Waits (barrier_left all)
 
-  -- what always holds: 1 to 4,096 processors, each with a flag; a barrier waits for at most one thing a processor, and
-  -- for nothing while none runs, so that no marker is left then; from 1 to 2^62 callbacks may be queued, and no more were;
-  -- numbers are multiples of 4
+  -- what always holds: 1 to 4,096 processors, each with a flag; a barrier waits for at most one
+  -- thing a processor, and for nothing while none runs, so that no marker is left then; from 1 to
+  -- 2^62 callbacks may be queued, and no more were; numbers are multiples of 4
   pub record IsSound (all : AllLists X) : Type 0 where
     pub some : 1 ≤ cpus_of all
     pub few : cpus_of all ≤ 4096

@@ -1,18 +1,19 @@
--- Runs of calls on all lists, whoever makes them, one at a time: what they leave, and what is handed out. The newest call
--- stands first.
-use Rattle.std.specs.Prelude.{ℕ, ◌+◌, ◌≡◌, ◌<◌, ◌==◌, true, false, if◌then◌else◌, List, [], ◌∷◌, Option, Some, None}
-use Rattle.std.specs.Prelude.{count_by, sum_by}
+-- Runs of calls on all lists, whoever makes them, one at a time: what they leave, and what is
+-- handed out. The newest call stands first.
+use Rattle.std.specs.Prelude.{ℕ, ◌+◌, ◌≡◌, ◌<◌, ◌==◌, true, false, if◌then◌else◌, List, [], ◌∷◌}
+use Rattle.std.specs.Prelude.{Option, Some, None, count_by, sum_by}
 use Rattle.rcu_seq.specs.Numbers.{Number}
 use Rattle.rcu_seq.specs.declared.tag.Tag.{Tag}
 use Rattle.rcu_cblist.specs.declared.queued.Queued.{Queued}
 use Rattle.rcu_cblist.specs.SegList.{callbacks, take_answer}
 use Rattle.rcu_barrier.specs.Lists.{AllLists, at_first, cpus_of, list_of, lists_after_barrier_begin}
-use Rattle.rcu_barrier.specs.Lists.{lists_after_barrier_test, lists_after_migrate, lists_after_queue, lists_after_renumber}
-use Rattle.rcu_barrier.specs.Lists.{lists_after_run, lists_after_tend, lists_after_visit}
+use Rattle.rcu_barrier.specs.Lists.{lists_after_barrier_test, lists_after_migrate}
+use Rattle.rcu_barrier.specs.Lists.{lists_after_queue, lists_after_renumber, lists_after_run}
+use Rattle.rcu_barrier.specs.Lists.{lists_after_tend, lists_after_visit}
 
--- a call that was accepted: a callback is queued on a processor at a tag; a processor's list is tended at a number; at
--- most so many of its callbacks are handed out; it moves to processor 0; a barrier begins, visits a processor, is tested;
--- the numbers start anew
+-- a call that was accepted: a callback is queued on a processor at a tag; a processor's list is
+-- tended at a number; at most so many of its callbacks are handed out; it moves to processor 0; a
+-- barrier begins, visits a processor, is tested; the numbers start anew
 pub data Call (X : Type 0) : Type 0 where
   Queue : ℕ → Tag → X → Call X
   Tend : ℕ → Number → Call X
@@ -32,8 +33,8 @@ module _ {X : Type 0} where
   abbrev pub IsNew : AllLists X → Type 0
   IsNew all = all ≡ at_first (cpus_of all) all.most
 
-  -- the call may be made: it names a processor; processor 0's list does not move; no barrier begins while one runs, and
-  -- a visit and a test are of one that runs
+  -- the call may be made: it names a processor; processor 0's list does not move; no barrier begins
+  -- while one runs, and a visit and a test are of one that runs
   abbrev pub MayCall : AllLists X → Call X → Type 0
   MayCall all (Queue cpu at value) = cpu < cpus_of all
   MayCall all (Tend cpu number) = cpu < cpus_of all
@@ -69,7 +70,8 @@ module _ {X : Type 0} where
   abbrev pub times_handed_out : ℕ → AllLists X → List (Call X) → ℕ
   times_handed_out place first [] = 0
   times_handed_out place first (Run cpu most ∷ calls) =
-      copies place (take_answer (list_of (lists_after first calls) cpu) most) + times_handed_out place first calls
+      copies place (take_answer (list_of (lists_after first calls) cpu) most)
+      + times_handed_out place first calls
   times_handed_out place first (_ ∷ calls) = times_handed_out place first calls
 
   -- how often it lies in the lists

@@ -4,11 +4,13 @@ use Rattle.rcu_seq.specs.Numbers.{Number, snapshot}
 use Rattle.rcu_cblist.specs.SegList.{Item, Mark, mark_advanced, mark_given, numbers}
 use Rattle.rcu_cblist.specs.SegList.{remarked}
 
--- the mark after a tend: a number at most the given one becomes done, and where there was none it is the snapshot
+-- the mark after a tend: a number at most the given one becomes done, and where there was none it
+-- is the snapshot
 abbrev pub mark_after_tend : Number → Mark → Mark
 mark_after_tend number mark = mark_given (snapshot number) (mark_advanced number mark)
 
--- a number that a callback may wait for: a multiple of 4 above the given number and at most its snapshot
+-- a number that a callback may wait for: a multiple of 4 above the given number and at most its
+-- snapshot
 pub record MayWait (number n : Number) : Type 0 where
   pub above : number < n
   pub within : n ≤ snapshot number

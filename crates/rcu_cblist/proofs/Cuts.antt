@@ -1,9 +1,9 @@
 -- Segments: how tail places cut a list.
-use Rattle.std.proofs.Common.{◌≡◌, ◌==◌, ℕ, false, ◌+◌, ◌-◌, ◌<◌, ◌≤◌, if◌then◌else◌, inl, inr, List, [], ◌∷◌, ◌++◌}
-use Rattle.std.proofs.Common.{length, take, drop, refl, ap, sym, ◌∙◌, append_assoc, length-append, length-take}
-use Rattle.std.proofs.Common.{length-drop, arith}
-use Rattle.std.proofs.lemmas.List.{append_cancel_left, map-append, take-take, take-append-drop, take-append-le}
-use Rattle.std.proofs.lemmas.List.{drop-append-le, take_all, drop_all}
+use Rattle.std.proofs.Common.{◌≡◌, ◌==◌, ℕ, false, ◌+◌, ◌-◌, ◌<◌, ◌≤◌, if◌then◌else◌, inl, inr}
+use Rattle.std.proofs.Common.{List, [], ◌∷◌, ◌++◌, length, take, drop, refl, ap, sym, ◌∙◌}
+use Rattle.std.proofs.Common.{append_assoc, length-append, length-take, length-drop, arith}
+use Rattle.std.proofs.lemmas.List.{append_cancel_left, map-append, take-take, take-append-drop}
+use Rattle.std.proofs.lemmas.List.{take-append-le, drop-append-le, take_all, drop_all}
 use Rattle.std.proofs.lemmas.List.Elements.{filter_map-append}
 use Rattle.std.proofs.lemmas.Bool.Decides.{nat_tests}
 use Rattle.std.proofs.lemmas.Bool.{cases_eq}
@@ -26,22 +26,25 @@ module _ {X : Type 0} where
 
   -- what stands before a place, and what stands from it to another one
   pub joins : (i j : ℕ) (xs : List (Kept X)) → i ≤ j → take i xs ++ between i j xs ≡ take j xs
-  joins i j xs order = ap (λ l. l ++ between i j xs) (sym (take-take i j xs order)) ∙ take-append-drop i (take j xs)
+  joins i j xs order =
+      ap (λ l. l ++ between i j xs) (sym (take-take i j xs order)) ∙ take-append-drop i (take j xs)
 
   -- no item stands between a place and itself
   pub nothing : (i : ℕ) (xs : List (Kept X)) → between i i xs ≡ []
   nothing i xs = drop_all i (take i xs) (omega (arith, length-take i xs))
 
   -- how many items stand between two places
-  pub length_between : (i j : ℕ) (xs : List (Kept X)) → j ≤ length xs → length (between i j xs) ≡ j - i
+  pub length_between : (i j : ℕ) (xs : List (Kept X)) → j ≤ length xs
+      → length (between i j xs) ≡ j - i
   length_between i j xs within = omega (arith, length-drop i (take j xs), length-take j xs)
 
   -- what stands before a place, and the rest
   pub rest_of : (i j : ℕ) (xs : List (Kept X)) → i ≤ j → between i j xs ++ drop j xs ≡ drop i xs
   rest_of i j xs order =
       let both : take i xs ++ (between i j xs ++ drop j xs) ≡ take i xs ++ drop i xs =
-      sym (append_assoc (take i xs) (between i j xs) (drop j xs)) ∙
-      (ap (λ l. l ++ drop j xs) (joins i j xs order) ∙ (take-append-drop j xs ∙ sym (take-append-drop i xs))) in
+      sym (append_assoc (take i xs) (between i j xs) (drop j xs))
+      ∙ (ap (λ l. l ++ drop j xs) (joins i j xs order)
+      ∙ (take-append-drop j xs ∙ sym (take-append-drop i xs))) in
       append_cancel_left (take i xs) (between i j xs ++ drop j xs) (drop i xs) both
 
   -- the whole list
@@ -68,14 +71,16 @@ module _ {X : Type 0} where
   first_joined (x ∷ xs) ys none others = none
 
   -- a list with an item more at its end, where it has one already
-  pub first_pushed : (xs : List (Kept X)) (x : Kept X) → 0 < length xs → begins_with_marker (unmarked xs) ≡ false →
-      begins_with_marker (unmarked (xs ++ x ∷ [])) ≡ false
+  pub first_pushed : (xs : List (Kept X)) (x : Kept X)
+      → 0 < length xs → begins_with_marker (unmarked xs) ≡ false
+      → begins_with_marker (unmarked (xs ++ x ∷ [])) ≡ false
   first_pushed [] x some none = absurd (omega arith)
   first_pushed (y ∷ xs) x some none = none
 
   -- the callbacks of two lists together
-  pub calls_joined : (xs ys : List (Kept X)) →
-      length (callbacks (unmarked (xs ++ ys))) ≡ length (callbacks (unmarked xs)) + length (callbacks (unmarked ys))
+  pub calls_joined : (xs ys : List (Kept X))
+      → length (callbacks (unmarked (xs ++ ys)))
+      ≡ length (callbacks (unmarked xs)) + length (callbacks (unmarked ys))
   calls_joined xs ys =
       ap (λ l. length (callbacks l)) (map-append (item_of Unmarked) xs ys) ∙
       (ap length (filter_map-append callback_of (unmarked xs) (unmarked ys)) ∙
@@ -101,49 +106,56 @@ module _ {X : Type 0} where
       let within = h.within in
       record {
         within = omega arith;
-        calls = h.calls ∙ ap (λ l. length (callbacks (unmarked l))) (sym (take-append-le tail.items xs ys h.within));
+        calls =
+            h.calls
+            ∙ ap (λ l. length (callbacks (unmarked l)))
+            (sym (take-append-le tail.items xs ys h.within));
       }
 
   -- the end of a list is a place in it
   pub tail_end : (xs : List (Kept X)) (tail : Tail) → tail.items ≡ length xs →
       tail.calls ≡ length (callbacks (unmarked xs)) → IsTail xs tail
-  tail_end xs tail items calls =
-      record {
-        within = omega arith;
-        calls = calls ∙ ap (λ l. length (callbacks (unmarked l))) (sym (take_all tail.items xs (omega arith)));
-      }
+  tail_end xs tail items calls = record {
+    within = omega arith;
+    calls =
+        calls
+        ∙ ap (λ l. length (callbacks (unmarked l))) (sym (take_all tail.items xs (omega arith)));
+  }
 
   -- a list that lost its numbers is cut behind what is done alone
   pub cut_lost : (xs : List (Kept X)) (d w r : ℕ) → d ≤ w → w ≤ r →
       Cuts xs (take d xs) [] [] (between d w xs ++ (between w r xs ++ drop r xs)) d d d
-  cut_lost xs d w r first second =
-      record {
-        is_done = refl;
-        is_wait = nothing d xs;
-        is_ready = nothing d xs;
-        is_next = sym (ap (λ l. between d w xs ++ l) (rest_of w r xs second) ∙ rest_of d w xs first);
-      }
+  cut_lost xs d w r first second = record {
+    is_done = refl;
+    is_wait = nothing d xs;
+    is_ready = nothing d xs;
+    is_next = sym (ap (λ l. between d w xs ++ l) (rest_of w r xs second) ∙ rest_of d w xs first);
+  }
 
   -- its segments are as they have to be
   pub segments_lost : (a b : ℕ) (D W R N : List (Kept X)) → AreSegments a b D W R N →
       AreSegments a b D [] [] (W ++ (R ++ N))
-  segments_lost a b D W R N h =
-      record {
-        filled = λ some. absurd (omega arith);
-        ascending = λ some. absurd (omega arith);
-        done_first = h.done_first;
-        wait_first = refl;
-        ready_first = refl;
-        next_first = first_joined W (R ++ N) h.wait_first (first_joined R N h.ready_first h.next_first);
-      }
+  segments_lost a b D W R N h = record {
+    filled = λ some. absurd (omega arith);
+    ascending = λ some. absurd (omega arith);
+    done_first = h.done_first;
+    wait_first = refl;
+    ready_first = refl;
+    next_first = first_joined W (R ++ N) h.wait_first (first_joined R N h.ready_first h.next_first);
+  }
 
   -- cut after an advance to the first number
   pub cut_one : (xs : List (Kept X)) (d w r : ℕ) → d ≤ w →
       Cuts xs (take d xs ++ between d w xs) (between w r xs) [] (drop r xs) w r r
-  cut_one xs d w r first =
-      record { is_done = sym (joins d w xs first); is_wait = refl; is_ready = nothing r xs; is_next = refl }
+  cut_one xs d w r first = record {
+    is_done = sym (joins d w xs first);
+    is_wait = refl;
+    is_ready = nothing r xs;
+    is_next = refl
+  }
 
-  pub segments_one : (a b : ℕ) (D W R N : List (Kept X)) → AreSegments a b D W R N → AreSegments b b (D ++ W) R [] N
+  pub segments_one : (a b : ℕ) (D W R N : List (Kept X)) → AreSegments a b D W R N
+      → AreSegments b b (D ++ W) R [] N
   segments_one a b D W R N h =
       record {
         filled = λ some. absurd (omega arith);
@@ -168,15 +180,14 @@ module _ {X : Type 0} where
 
   pub segments_both : (a b : ℕ) (D W R N : List (Kept X)) → AreSegments a b D W R N →
       AreSegments a b (D ++ (W ++ R)) [] [] N
-  segments_both a b D W R N h =
-      record {
-        filled = λ some. absurd (omega arith);
-        ascending = λ some. absurd (omega arith);
-        done_first = first_joined D (W ++ R) h.done_first (first_joined W R h.wait_first h.ready_first);
-        wait_first = refl;
-        ready_first = refl;
-        next_first = h.next_first;
-      }
+  segments_both a b D W R N h = record {
+    filled = λ some. absurd (omega arith);
+    ascending = λ some. absurd (omega arith);
+    done_first = first_joined D (W ++ R) h.done_first (first_joined W R h.wait_first h.ready_first);
+    wait_first = refl;
+    ready_first = refl;
+    next_first = h.next_first;
+  }
 
   -- items behind a list leave its places as they are
   pub cut_more : (xs ys : List (Kept X)) (d w r : ℕ) → d ≤ w → w ≤ r → r ≤ length xs →
@@ -203,8 +214,9 @@ module _ {X : Type 0} where
       }
 
   -- a callback at the end
-  pub pushed : (xs : List (Kept X)) (call : Queued X) (done wait ready : Tail) (calls a b : ℕ) →
-      AreTails xs done wait ready calls a b → AreTails (xs ++ kept.Call call ∷ []) done wait ready (calls + 1) a b
+  pub pushed : (xs : List (Kept X)) (call : Queued X) (done wait ready : Tail) (calls a b : ℕ)
+      → AreTails xs done wait ready calls a b
+      → AreTails (xs ++ kept.Call call ∷ []) done wait ready (calls + 1) a b
   pushed xs call done wait ready calls a b k =
       let more = kept.Call call ∷ [] in
       let counted = k.counted in
@@ -217,13 +229,15 @@ module _ {X : Type 0} where
         wait_behind = k.wait_behind;
         ready_behind = k.ready_behind;
         segments = segments_at a b (xs ++ more) _ _ _ _ _ _ _
-            (cut_more xs more done.items wait.items ready.items k.wait_behind k.ready_behind k.ready_tail.within)
-            (segments_more a b _ _ _ _ more k.segments (first_joined (drop ready.items xs) more k.segments.next_first refl));
+            (cut_more xs more done.items wait.items ready.items k.wait_behind k.ready_behind
+            k.ready_tail.within)
+            (segments_more a b _ _ _ _ more k.segments
+            (first_joined (drop ready.items xs) more k.segments.next_first refl));
       }
 
   -- cut where the third segment takes in the last one
-  pub cut_late : (xs : List (Kept X)) (d w r n : ℕ) → d ≤ w → w ≤ r → r ≤ length xs → n ≡ length xs →
-      Cuts xs (take d xs) (between d w xs) (between w r xs ++ drop r xs) [] d w n
+  pub cut_late : (xs : List (Kept X)) (d w r n : ℕ) → d ≤ w → w ≤ r → r ≤ length xs → n ≡ length xs
+      → Cuts xs (take d xs) (between d w xs) (between w r xs ++ drop r xs) [] d w n
   cut_late xs d w r n first second within end =
       record {
         is_done = refl;
@@ -232,8 +246,8 @@ module _ {X : Type 0} where
         is_next = drop_all n xs (omega arith);
       }
 
-  pub segments_late : (a b snap : ℕ) (D W R N : List (Kept X)) → AreSegments a b D W R N → 0 < length W → a < snap →
-      AreSegments a snap D W (R ++ N) []
+  pub segments_late : (a b snap : ℕ) (D W R N : List (Kept X))
+      → AreSegments a b D W R N → 0 < length W → a < snap → AreSegments a snap D W (R ++ N) []
   segments_late a b snap D W R N h some below =
       record {
         filled = λ _. some;
@@ -245,8 +259,8 @@ module _ {X : Type 0} where
       }
 
   -- cut where the second segment takes in both behind it
-  pub cut_early : (xs : List (Kept X)) (d w r n : ℕ) → d ≤ w → w ≤ r → r ≤ length xs → n ≡ length xs →
-      Cuts xs (take d xs) (between d w xs ++ (between w r xs ++ drop r xs)) [] [] d n n
+  pub cut_early : (xs : List (Kept X)) (d w r n : ℕ) → d ≤ w → w ≤ r → r ≤ length xs → n ≡ length xs
+      → Cuts xs (take d xs) (between d w xs ++ (between w r xs ++ drop r xs)) [] [] d n n
   cut_early xs d w r n first second within end =
       record {
         is_done = refl;
@@ -258,15 +272,14 @@ module _ {X : Type 0} where
 
   pub segments_early : (a b snap : ℕ) (D W R N : List (Kept X)) → AreSegments a b D W R N →
       AreSegments snap b D (W ++ (R ++ N)) [] []
-  segments_early a b snap D W R N h =
-      record {
-        filled = λ some. absurd (omega arith);
-        ascending = λ some. absurd (omega arith);
-        done_first = h.done_first;
-        wait_first = first_joined W (R ++ N) h.wait_first (first_joined R N h.ready_first h.next_first);
-        ready_first = refl;
-        next_first = refl;
-      }
+  segments_early a b snap D W R N h = record {
+    filled = λ some. absurd (omega arith);
+    ascending = λ some. absurd (omega arith);
+    done_first = h.done_first;
+    wait_first = first_joined W (R ++ N) h.wait_first (first_joined R N h.ready_first h.next_first);
+    ready_first = refl;
+    next_first = refl;
+  }
 
   -- a marker at the end is no callback
   pub calls_marked : (xs : List (Kept X)) →
@@ -274,37 +287,45 @@ module _ {X : Type 0} where
   calls_marked xs = omega (arith, calls_joined xs (kept.Marker ∷ []))
 
   -- a place that is before the end stays where it is, and one at the end is behind the marker then
-  pub tail_passed : (xs : List (Kept X)) (n : ℕ) (tail after : Tail) → IsTail xs tail → n ≡ length xs →
-      after.items ≡ (if tail.items == n then tail.items + 1 else tail.items) → after.calls ≡ tail.calls →
-      IsTail (xs ++ kept.Marker ∷ []) after
-  tail_passed xs n tail after k end items calls =
-      elim (cases_eq tail.items n) [
-        | inl same ↦
-            let long = length-append xs (kept.Marker ∷ []) in
-            let passed : after.items ≡ n + 1 = grind (arith, nat_tests) in
-            tail_end (xs ++ kept.Marker ∷ []) after (omega arith) (calls ∙ (k.calls ∙
-            (ap (λ l. length (callbacks (unmarked l))) (take_all tail.items xs (omega arith)) ∙ sym (calls_marked xs))))
-        | inr differ ↦
-            let stays : after.items ≡ tail.items = grind (arith, nat_tests) in
-            tail_same (xs ++ kept.Marker ∷ []) tail after stays calls (tail_kept xs (kept.Marker ∷ []) tail k)
-      ]
+  pub tail_passed : (xs : List (Kept X)) (n : ℕ) (tail after : Tail)
+      → IsTail xs tail
+      → n ≡ length xs
+      → after.items ≡ (if tail.items == n then tail.items + 1 else tail.items)
+      → after.calls ≡ tail.calls
+      → IsTail (xs ++ kept.Marker ∷ []) after
+  tail_passed xs n tail after k end items calls = elim (cases_eq tail.items n) [
+    | inl same ↦
+        let long = length-append xs (kept.Marker ∷ []) in
+        let passed : after.items ≡ n + 1 = grind (arith, nat_tests) in
+        tail_end (xs ++ kept.Marker ∷ []) after (omega arith)
+        (calls
+        ∙ (k.calls
+        ∙ (ap (λ l. length (callbacks (unmarked l))) (take_all tail.items xs (omega arith))
+        ∙ sym (calls_marked xs))))
+    | inr differ ↦
+        let stays : after.items ≡ tail.items = grind (arith, nat_tests) in
+        tail_same (xs ++ kept.Marker ∷ []) tail after stays calls
+        (tail_kept xs (kept.Marker ∷ []) tail k)
+  ]
     where
-      tail_same : (ys : List (Kept X)) (tail after : Tail) → after.items ≡ tail.items → after.calls ≡ tail.calls →
-          IsTail ys tail → IsTail ys after
+      tail_same : (ys : List (Kept X)) (tail after : Tail)
+          → after.items ≡ tail.items → after.calls ≡ tail.calls → IsTail ys tail → IsTail ys after
       tail_same ys tail after items calls k =
           let within = k.within in
           record {
             within = omega arith;
-            calls = calls ∙ (k.calls ∙ ap (λ n. length (callbacks (unmarked (take n ys)))) (sym items));
+            calls =
+                calls ∙ (k.calls ∙ ap (λ n. length (callbacks (unmarked (take n ys)))) (sym items));
           }
 
   -- what stands from a place to the end, with an item more there
-  pub from_pushed : (xs : List (Kept X)) (x : Kept X) (i j n : ℕ) → i ≤ j → j ≡ length xs → n ≡ j + 1 →
-      between i n (xs ++ x ∷ []) ≡ between i j xs ++ x ∷ []
+  pub from_pushed : (xs : List (Kept X)) (x : Kept X) (i j n : ℕ)
+      → i ≤ j → j ≡ length xs → n ≡ j + 1 → between i n (xs ++ x ∷ []) ≡ between i j xs ++ x ∷ []
   from_pushed xs x i j n order end after =
       let long = length-append xs (x ∷ []) in
-      ap (drop i) (take_all n (xs ++ x ∷ []) (omega arith)) ∙ (drop-append-le i xs (x ∷ []) (omega arith) ∙
-      ap (λ l. drop i l ++ x ∷ []) (sym (take_all j xs (omega arith))))
+      ap (drop i) (take_all n (xs ++ x ∷ []) (omega arith))
+      ∙ (drop-append-le i xs (x ∷ []) (omega arith)
+      ∙ ap (λ l. drop i l ++ x ∷ []) (sym (take_all j xs (omega arith))))
 
   -- what stands between places before the end
   pub to_pushed : (xs : List (Kept X)) (x : Kept X) (i j n : ℕ) → j ≤ length xs → n ≡ j →

@@ -1,31 +1,37 @@
 -- Segments: a marker at the end of the last one that has items.
-use Rattle.std.proofs.Common.{◌≡◌, ◌==◌, ℕ, false, ◌+◌, ◌<◌, ◌≤◌, if◌then◌else◌, inl, inr, List, [], ◌∷◌, ◌++◌, length}
-use Rattle.std.proofs.Common.{take, drop, refl, ap, sym, ◌∙◌, append_assoc, length-append, length-take, length-drop}
-use Rattle.std.proofs.Common.{arith}
-use Rattle.std.proofs.lemmas.List.{append-nil, length-map, map_push, take_all, drop_all, take-append-le}
+use Rattle.std.proofs.Common.{◌≡◌, ◌==◌, ℕ, false, ◌+◌, ◌<◌, ◌≤◌, if◌then◌else◌, inl, inr, List, []}
+use Rattle.std.proofs.Common.{◌∷◌, ◌++◌, length, take, drop, refl, ap, sym, ◌∙◌, append_assoc}
+use Rattle.std.proofs.Common.{length-append, length-take, length-drop, arith}
+use Rattle.std.proofs.lemmas.List.{append-nil, length-map, map_push, take_all, drop_all}
+use Rattle.std.proofs.lemmas.List.{take-append-le}
 use Rattle.std.proofs.lemmas.Bool.Decides.{nat_tests}
 use Rattle.std.proofs.lemmas.Bool.{cases_eq}
 use Rattle.rcu_cblist.specs.declared.kept.Kept.{Kept}
 use Rattle.rcu_cblist.specs.declared.kept.Kept.TheVariants as kept
 use Rattle.rcu_cblist.specs.declared.tail.Tail.{Tail}
-use Rattle.rcu_cblist.specs.SegList.{Item, Marker, Unmarked, Until, Done, after_entrain, is_empty, without_mark}
+use Rattle.rcu_cblist.specs.SegList.{Item, Marker, Unmarked, Until, Done, after_entrain, is_empty}
+use Rattle.rcu_cblist.specs.SegList.{without_mark}
 use Rattle.rcu_cblist.specs.Kept.{item_of, marked, unmarked}
 use Rattle.rcu_cblist.specs.Cuts.{AreSegments, AreTails, between}
 use Rattle.rcu_cblist.specs.Segments.{joined}
-use Rattle.rcu_cblist.proofs.Cuts.{Cuts, calls_marked, cut_more, first_pushed, from_pushed, length_between, seen_at}
-use Rattle.rcu_cblist.proofs.Cuts.{segments_at, tail_passed, to_pushed, whole}
+use Rattle.rcu_cblist.proofs.Cuts.{Cuts, calls_marked, cut_more, first_pushed, from_pushed}
+use Rattle.rcu_cblist.proofs.Cuts.{length_between, seen_at, segments_at, tail_passed, to_pushed}
+use Rattle.rcu_cblist.proofs.Cuts.{whole}
 use Rattle.rcu_cblist.proofs.Views.{stripped}
 
 -- where a place goes once a marker is put at the end
-pub passed : (n place after : ℕ) → after ≡ (if place == n then place + 1 else place) → place ≡ n → after ≡ n + 1
+pub passed : (n place after : ℕ) → after ≡ (if place == n then place + 1 else place) → place ≡ n
+    → after ≡ n + 1
 passed n place after is end = grind (arith, nat_tests)
 
-pub stays : (n place after : ℕ) → after ≡ (if place == n then place + 1 else place) → place < n → after ≡ place
+pub stays : (n place after : ℕ) → after ≡ (if place == n then place + 1 else place) → place < n
+    → after ≡ place
 stays n place after is before = grind (arith, nat_tests)
 
 module _ {X : Type 0} where
   -- one more behind four lists
-  pub behind_four : (P Q S T M : List (Item X)) → (P ++ (Q ++ (S ++ T))) ++ M ≡ P ++ (Q ++ (S ++ (T ++ M)))
+  pub behind_four : (P Q S T M : List (Item X))
+      → (P ++ (Q ++ (S ++ T))) ++ M ≡ P ++ (Q ++ (S ++ (T ++ M)))
   behind_four P Q S T M =
       append_assoc P (Q ++ (S ++ T)) M ∙
       ap (λ l. P ++ l) (append_assoc Q (S ++ T) M ∙ ap (λ l. Q ++ l) (append_assoc S T M))
@@ -34,29 +40,33 @@ module _ {X : Type 0} where
   pub end_next : (a b : ℕ) (D W R N : List (Kept X))
       → joined a b D W R (N ++ kept.Marker ∷ []) ≡ joined a b D W R N ++ Marker ∷ []
   end_next a b D W R N =
-      sym (behind_four (marked Done D) (marked (Until a) W) (marked (Until b) R) (unmarked N) (Marker ∷ []) ∙
-      ap (λ l. marked Done D ++ (marked (Until a) W ++ (marked (Until b) R ++ l)))
+      sym (behind_four (marked Done D) (marked (Until a) W) (marked (Until b) R) (unmarked N)
+      (Marker ∷ [])
+      ∙ ap (λ l. marked Done D ++ (marked (Until a) W ++ (marked (Until b) R ++ l)))
       (sym (map_push (item_of Unmarked) N kept.Marker)))
 
-  end_ready : (a b : ℕ) (D W R : List (Kept X)) → joined a b D W (R ++ kept.Marker ∷ []) [] ≡ joined a b D W R []
-      ++ Marker ∷ []
+  end_ready : (a b : ℕ) (D W R : List (Kept X))
+      → joined a b D W (R ++ kept.Marker ∷ []) [] ≡ joined a b D W R [] ++ Marker ∷ []
   end_ready a b D W R =
-      sym (behind_four (marked Done D) (marked (Until a) W) (marked (Until b) R) [] (Marker ∷ []) ∙
-      ap (λ l. marked Done D ++ (marked (Until a) W ++ l))
-      (sym (map_push (item_of (Until b)) R kept.Marker) ∙ sym (append-nil (marked (Until b) (R ++ kept.Marker ∷ [])))))
+      sym (behind_four (marked Done D) (marked (Until a) W) (marked (Until b) R) [] (Marker ∷ [])
+      ∙ ap (λ l. marked Done D ++ (marked (Until a) W ++ l))
+      (sym (map_push (item_of (Until b)) R kept.Marker)
+      ∙ sym (append-nil (marked (Until b) (R ++ kept.Marker ∷ [])))))
 
-  end_wait : (a b : ℕ) (D W : List (Kept X)) → joined a b D (W ++ kept.Marker ∷ []) [] [] ≡ joined a b D W [] []
-      ++ Marker ∷ []
+  end_wait : (a b : ℕ) (D W : List (Kept X))
+      → joined a b D (W ++ kept.Marker ∷ []) [] [] ≡ joined a b D W [] [] ++ Marker ∷ []
   end_wait a b D W =
-      sym (behind_four (marked Done D) (marked (Until a) W) [] [] (Marker ∷ []) ∙
-      ap (λ l. marked Done D ++ l)
-      (sym (map_push (item_of (Until a)) W kept.Marker) ∙ sym (append-nil (marked (Until a) (W ++ kept.Marker ∷ [])))))
+      sym (behind_four (marked Done D) (marked (Until a) W) [] [] (Marker ∷ [])
+      ∙ ap (λ l. marked Done D ++ l)
+      (sym (map_push (item_of (Until a)) W kept.Marker)
+      ∙ sym (append-nil (marked (Until a) (W ++ kept.Marker ∷ [])))))
 
-  end_done : (a b : ℕ) (D : List (Kept X)) → joined a b (D ++ kept.Marker ∷ []) [] [] [] ≡ joined a b D [] [] []
-      ++ Marker ∷ []
+  end_done : (a b : ℕ) (D : List (Kept X))
+      → joined a b (D ++ kept.Marker ∷ []) [] [] [] ≡ joined a b D [] [] [] ++ Marker ∷ []
   end_done a b D =
-      sym (behind_four (marked Done D) [] [] [] (Marker ∷ []) ∙
-      (sym (map_push (item_of Done) D kept.Marker) ∙ sym (append-nil (marked Done (D ++ kept.Marker ∷ [])))))
+      sym (behind_four (marked Done D) [] [] [] (Marker ∷ [])
+      ∙ (sym (map_push (item_of Done) D kept.Marker)
+      ∙ sym (append-nil (marked Done (D ++ kept.Marker ∷ [])))))
 
   -- the segments once a marker is at the end: as they have to be, and seen with it at the end
   pub record Marked (a b : ℕ) (xs ys : List (Kept X)) (d w r d' w' r' : ℕ) : Type 0 where
@@ -67,9 +77,14 @@ module _ {X : Type 0} where
     pub ready_behind : w' ≤ r'
 
   -- from the cuts before and after
-  marked_from : (a b : ℕ) (xs ys D W R N D' W' R' N' : List (Kept X)) (d w r d' w' r' : ℕ) → Cuts xs D W R N d w r →
-      Cuts ys D' W' R' N' d' w' r' → AreSegments a b D' W' R' N' →
-      joined a b D' W' R' N' ≡ joined a b D W R N ++ Marker ∷ [] → d' ≤ w' → w' ≤ r' → Marked a b xs ys d w r d' w' r'
+  marked_from : (a b : ℕ) (xs ys D W R N D' W' R' N' : List (Kept X)) (d w r d' w' r' : ℕ)
+      → Cuts xs D W R N d w r
+      → Cuts ys D' W' R' N' d' w' r'
+      → AreSegments a b D' W' R' N'
+      → joined a b D' W' R' N' ≡ joined a b D W R N ++ Marker ∷ []
+      → d' ≤ w'
+      → w' ≤ r'
+      → Marked a b xs ys d w r d' w' r'
   marked_from a b xs ys D W R N D' W' R' N' d w r d' w' r' before after kept is first second =
       record {
         segments = segments_at a b ys D' W' R' N' d' w' r' after kept;
@@ -94,8 +109,10 @@ module _ {X : Type 0} where
         let same_wait = stays n w w' wait (omega arith) in
         let same_ready = stays n r r' ready some in
         let long = length-drop r xs in
-        marked_from a b xs more _ _ _ _ _ _ _ _ d w r d' w' r' (record { is_done = refl; is_wait = refl; is_ready = refl; is_next = refl })
-        (rw (same_done, same_wait, same_ready) (cut_more xs (kept.Marker ∷ []) d w r first second (omega arith)))
+        marked_from a b xs more _ _ _ _ _ _ _ _ d w r d' w' r'
+        (record { is_done = refl; is_wait = refl; is_ready = refl; is_next = refl })
+        (rw (same_done, same_wait, same_ready)
+        (cut_more xs (kept.Marker ∷ []) d w r first second (omega arith)))
         (record {
           filled = h.filled;
           ascending = h.ascending;
@@ -104,7 +121,8 @@ module _ {X : Type 0} where
           ready_first = h.ready_first;
           next_first = first_pushed (drop r xs) kept.Marker (omega arith) h.next_first;
         })
-        (end_next a b (take d xs) (between d w xs) (between w r xs) (drop r xs)) (omega arith) (omega arith)
+        (end_next a b (take d xs) (between d w xs) (between w r xs) (drop r xs)) (omega arith)
+        (omega arith)
 
     marked_ready : r ≡ n → w < n → Marked a b xs more d w r d' w' r'
     marked_ready at some =
@@ -114,12 +132,21 @@ module _ {X : Type 0} where
         let long = length_between w r xs (omega arith) in
         let has : 0 < length (between w r xs) = omega arith in
         let all = length-append xs (kept.Marker ∷ []) in
-        marked_from a b xs more (take d xs) (between d w xs) (between w r xs) [] (take d xs) (between d w xs)
-        (between w r xs ++ kept.Marker ∷ []) [] d w r d' w' r'
-        (record { is_done = refl; is_wait = refl; is_ready = refl; is_next = drop_all r xs (omega arith) })
+        marked_from a b xs more (take d xs) (between d w xs) (between w r xs) [] (take d xs)
+        (between d w xs) (between w r xs ++ kept.Marker ∷ []) [] d w r d' w' r'
         (record {
-          is_done = ap (λ k. take k more) same_done ∙ take-append-le d xs (kept.Marker ∷ []) (omega arith);
-          is_wait = ap (λ k. between k w' more) same_done ∙ to_pushed xs kept.Marker d w w' (omega arith) same_wait;
+          is_done = refl;
+          is_wait = refl;
+          is_ready = refl;
+          is_next = drop_all r xs (omega arith)
+        })
+        (record {
+          is_done =
+              ap (λ k. take k more) same_done
+              ∙ take-append-le d xs (kept.Marker ∷ []) (omega arith);
+          is_wait =
+              ap (λ k. between k w' more) same_done
+              ∙ to_pushed xs kept.Marker d w w' (omega arith) same_wait;
           is_ready =
               ap (λ k. between k r' more) same_wait
               ∙ from_pushed xs kept.Marker w r r' second (omega arith) (omega arith);
@@ -151,7 +178,9 @@ module _ {X : Type 0} where
           is_next = drop_all r xs (omega arith);
         })
         (record {
-          is_done = ap (λ k. take k more) same_done ∙ take-append-le d xs (kept.Marker ∷ []) (omega arith);
+          is_done =
+              ap (λ k. take k more) same_done
+              ∙ take-append-le d xs (kept.Marker ∷ []) (omega arith);
           is_wait =
               ap (λ k. between k w' more) same_done
               ∙ from_pushed xs kept.Marker d w w' first (omega arith) (omega arith);
@@ -175,7 +204,8 @@ module _ {X : Type 0} where
         let more_ready = passed n r r' ready (omega arith) in
         let all = length-append xs (kept.Marker ∷ []) in
         let long = length-take d xs in
-        marked_from a b xs more (take d xs) [] [] [] (take d xs ++ kept.Marker ∷ []) [] [] [] d w r d' w' r'
+        marked_from a b xs more (take d xs) [] [] [] (take d xs ++ kept.Marker ∷ []) [] [] [] d w r
+        d' w' r'
         (record {
           is_done = refl;
           is_wait = drop_all d (take w xs) (omega (arith, length-take w xs));
@@ -184,7 +214,8 @@ module _ {X : Type 0} where
         })
         (record {
           is_done =
-              take_all d' more (omega arith) ∙ ap (λ l. l ++ kept.Marker ∷ []) (sym (take_all d xs (omega arith)));
+              take_all d' more (omega arith)
+              ∙ ap (λ l. l ++ kept.Marker ∷ []) (sym (take_all d xs (omega arith)));
           is_wait = drop_all d' (take w' more) (omega (arith, length-take w' more));
           is_ready = drop_all w' (take r' more) (omega (arith, length-take r' more));
           is_next = drop_all r' more (omega arith);
@@ -214,17 +245,24 @@ module _ {X : Type 0} where
         ]
 
   -- a marker at the end
-  pub push_marked : (a b calls n : ℕ) (xs : List (Kept X)) (done wait ready done' wait' ready' : Tail) →
-      AreTails xs done wait ready calls a b → n ≡ length xs → 0 < n →
-      done'.items ≡ (if done.items == n then done.items + 1 else done.items) → done'.calls ≡ done.calls →
-      wait'.items ≡ (if wait.items == n then wait.items + 1 else wait.items) → wait'.calls ≡ wait.calls →
-      ready'.items ≡ (if ready.items == n then ready.items + 1 else ready.items) → ready'.calls ≡ ready.calls →
-      AreTails (xs ++ kept.Marker ∷ []) done' wait' ready' calls a b
-      × Marked a b xs (xs ++ kept.Marker ∷ []) done.items wait.items ready.items done'.items wait'.items ready'.items
+  pub push_marked : (a b calls n : ℕ) (xs : List (Kept X))
+      (done wait ready done' wait' ready' : Tail)
+      → AreTails xs done wait ready calls a b
+      → n ≡ length xs
+      → 0 < n
+      → done'.items ≡ (if done.items == n then done.items + 1 else done.items)
+      → done'.calls ≡ done.calls
+      → wait'.items ≡ (if wait.items == n then wait.items + 1 else wait.items)
+      → wait'.calls ≡ wait.calls
+      → ready'.items ≡ (if ready.items == n then ready.items + 1 else ready.items)
+      → ready'.calls ≡ ready.calls
+      → AreTails (xs ++ kept.Marker ∷ []) done' wait' ready' calls a b
+      × Marked a b xs (xs ++ kept.Marker ∷ []) done.items wait.items ready.items done'.items
+      wait'.items ready'.items
   push_marked a b calls n xs done wait ready done' wait' ready' k end some d dc w wc r rc =
       let within = k.ready_tail.within in
-      let m = marked_last a b xs done.items wait.items ready.items done'.items wait'.items ready'.items n k.segments
-      k.wait_behind k.ready_behind (omega arith) end d w r some in (
+      let m = marked_last a b xs done.items wait.items ready.items done'.items wait'.items
+      ready'.items n k.segments k.wait_behind k.ready_behind (omega arith) end d w r some in (
         record {
           done_tail = tail_passed xs n done done' k.done_tail end d dc;
           wait_tail = tail_passed xs n wait wait' k.wait_tail end w wc;
@@ -238,8 +276,11 @@ module _ {X : Type 0} where
       )
 
   -- where an item is seen, one is kept
-  pub some_kept : (a b d w r : ℕ) (xs : List (Kept X)) → d ≤ w → w ≤ r →
-      is_empty (joined a b (take d xs) (between d w xs) (between w r xs) (drop r xs)) ≡ false → 0 < length xs
+  pub some_kept : (a b d w r : ℕ) (xs : List (Kept X))
+      → d ≤ w
+      → w ≤ r
+      → is_empty (joined a b (take d xs) (between d w xs) (between w r xs) (drop r xs)) ≡ false
+      → 0 < length xs
   some_kept a b d w r xs first second some =
       let seen = joined a b (take d xs) (between d w xs) (between w r xs) (drop r xs) in
       let long : length seen ≡ length xs =

@@ -14,15 +14,17 @@ fold_max_bounds n (m ∷ numbers) =
     (omega arith, All-cons (λ k. k ≤ fold max (max n m) numbers) m numbers (omega arith) rest.1)
 
 -- where there is no greatest number, none is above the snapshot
-pub at_most_none : (snap : Number) (numbers : List Number) → greatest numbers ≡ None → All (λ n. n ≤ snap) numbers
+pub at_most_none : (snap : Number) (numbers : List Number) → greatest numbers ≡ None
+    → All (λ n. n ≤ snap) numbers
 at_most_none snap [] none = All-nil (λ n. n ≤ snap)
 at_most_none snap (n ∷ numbers) none = cc
 
 -- where the greatest number is at most the snapshot, each is
-pub at_most_some : (snap most : Number) (numbers : List Number) → greatest numbers ≡ Some most → most ≤ snap →
-    All (λ n. n ≤ snap) numbers
+pub at_most_some : (snap most : Number) (numbers : List Number)
+    → greatest numbers ≡ Some most → most ≤ snap → All (λ n. n ≤ snap) numbers
 at_most_some snap most [] some within = cc
 at_most_some snap most (n ∷ numbers) some within =
     let bounds = fold_max_bounds n numbers in
     let same : fold max n numbers ≡ most = cc in
-    All-cons (λ k. k ≤ snap) n numbers (omega arith) (λ k default inside. let here = bounds.1 k default inside in omega arith)
+    All-cons (λ k. k ≤ snap) n numbers (omega arith)
+    (λ k default inside. let here = bounds.1 k default inside in omega arith)

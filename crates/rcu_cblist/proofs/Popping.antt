@@ -1,11 +1,12 @@
 -- Takes one after another: what several hand out, and what they leave.
-use Rattle.std.proofs.Common.{◌≡◌, ℕ, zero, suc, ◌+◌, ◌≤◌, false, List, [], ◌∷◌, ◌++◌, length, take, drop, min, refl}
-use Rattle.std.proofs.Common.{ap, sym, ◌∙◌, arith, length-drop}
+use Rattle.std.proofs.Common.{◌≡◌, ℕ, zero, suc, ◌+◌, ◌≤◌, false, List, [], ◌∷◌, ◌++◌, length, take}
+use Rattle.std.proofs.Common.{drop, min, refl, ap, sym, ◌∙◌, arith, length-drop}
 use Rattle.std.specs.Prelude.{None, Some, option_map, slice_get}
 use Rattle.std.proofs.lemmas.List.{drop_min}
 use Rattle.std.proofs.Math.Seq.{take-add}
-use Rattle.rcu_cblist.specs.SegList.{Item, Of, Marker, Unmarked, Until, Done, after_take, begins_with_marker, callbacks}
-use Rattle.rcu_cblist.specs.SegList.{from_callback, front, markers_passed, pop_answer, take_answer}
+use Rattle.rcu_cblist.specs.SegList.{Item, Of, Marker, Unmarked, Until, Done, after_take}
+use Rattle.rcu_cblist.specs.SegList.{begins_with_marker, callbacks, from_callback, front}
+use Rattle.rcu_cblist.specs.SegList.{markers_passed, pop_answer, take_answer}
 use Rattle.rcu_cblist.specs.declared.queued.Queued.{Queued}
 use Rattle.rcu_cblist.proofs.Lists.{length_taken}
 
@@ -49,7 +50,8 @@ module _ {X : Type 0} where
       at (call ∷ calls) none = absurd (omega arith)
 
   -- from one of its callbacks on, and from one of these on
-  from_both : (m n : ℕ) (xs : List (Item X)) → from_callback m (from_callback n xs) ≡ from_callback (n + m) xs
+  from_both : (m n : ℕ) (xs : List (Item X))
+      → from_callback m (from_callback n xs) ≡ from_callback (n + m) xs
   from_both m n [] = refl
   from_both m n (Marker ∷ xs) = from_both m n xs
   from_both m zero (Of call mark ∷ xs) =
@@ -74,7 +76,8 @@ module _ {X : Type 0} where
       callbacks (front (after_take xs most)) ≡ drop most (callbacks (front xs))
   done_left most xs =
       let done = callbacks (front xs) in
-      let least : length (take_answer xs most) ≡ min most (length done) = omega (arith, length_taken most xs) in
+      let least : length (take_answer xs most) ≡ min most (length done) =
+      omega (arith, length_taken most xs) in
       done_from (length (take_answer xs most)) xs (omega arith)
       ∙ (ap (λ n. drop n done) least ∙ drop_min most done)
 
@@ -82,10 +85,12 @@ module _ {X : Type 0} where
   pub taken_both : (a b : ℕ) (xs : List (Item X)) →
       take_answer xs (a + b) ≡ take_answer xs a ++ take_answer (after_take xs a) b
   taken_both a b xs =
-      take-add a b (callbacks (front xs)) ∙ ap (λ l. take_answer xs a ++ take b l) (sym (done_left a xs))
+      take-add a b (callbacks (front xs))
+      ∙ ap (λ l. take_answer xs a ++ take b l) (sym (done_left a xs))
 
   -- and leave what that leaves
-  pub left_both : (a b : ℕ) (xs : List (Item X)) → after_take xs (a + b) ≡ after_take (after_take xs a) b
+  pub left_both : (a b : ℕ) (xs : List (Item X))
+      → after_take xs (a + b) ≡ after_take (after_take xs a) b
   left_both a b xs =
       let first = length_taken a xs in
       let second = length_taken b (after_take xs a) in

@@ -1,7 +1,7 @@
 -- Segments: the list of their items, and what the calls make of it.
-use Rattle.std.proofs.Common.{◌≡◌, ◌==◌, ℕ, Bool, true, false, not, ◌<◌, ◌≤◌, max, nat_lt, nat_le, ◌&&◌, ◌||◌}
-use Rattle.std.proofs.Common.{if◌then◌else◌, inl, inr, Some, None, List, [], ◌∷◌, ◌++◌, length, map, drop, refl, ap}
-use Rattle.std.proofs.Common.{sym, subst, ◌∙◌, append_assoc, arith}
+use Rattle.std.proofs.Common.{◌≡◌, ◌==◌, ℕ, Bool, true, false, not, ◌<◌, ◌≤◌, max, nat_lt, nat_le}
+use Rattle.std.proofs.Common.{◌&&◌, ◌||◌, if◌then◌else◌, inl, inr, Some, None, List, [], ◌∷◌, ◌++◌}
+use Rattle.std.proofs.Common.{length, map, drop, refl, ap, sym, subst, ◌∙◌, append_assoc, arith}
 use Rattle.std.specs.Prelude.{All, fold}
 use Rattle.std.proofs.lemmas.List.{append-nil, drop_at, length-map, map-append}
 use Rattle.std.proofs.lemmas.List.Elements.{All-nil, All-cons, All-head, All-tail, All-append}
@@ -10,10 +10,11 @@ use Rattle.std.proofs.lemmas.Bool.{cases_Bool}
 use Rattle.rcu_seq.specs.Numbers.{Number}
 use Rattle.rcu_cblist.specs.declared.kept.Kept.{Kept}
 use Rattle.rcu_cblist.specs.declared.kept.Kept.TheVariants as kept
-use Rattle.rcu_cblist.specs.SegList.{Item, Mark, Of, Marker, Unmarked, Until, Done, IsAtMost, after_accelerate}
-use Rattle.rcu_cblist.specs.SegList.{after_advance, after_renumber, behind, begins_with_marker, front, front_with, greatest, has_other}
-use Rattle.rcu_cblist.specs.SegList.{has_two, mark_advanced, mark_given, mark_renumbered, numbered, numbers, past_numbered, remarked}
-use Rattle.rcu_cblist.specs.SegList.{segments, without_mark}
+use Rattle.rcu_cblist.specs.SegList.{Item, Mark, Of, Marker, Unmarked, Until, Done, IsAtMost}
+use Rattle.rcu_cblist.specs.SegList.{after_accelerate, after_advance, after_renumber, behind}
+use Rattle.rcu_cblist.specs.SegList.{begins_with_marker, front, front_with, greatest, has_other}
+use Rattle.rcu_cblist.specs.SegList.{has_two, mark_advanced, mark_given, mark_renumbered, numbered}
+use Rattle.rcu_cblist.specs.SegList.{numbers, past_numbered, remarked, segments, without_mark}
 use Rattle.rcu_cblist.specs.Kept.{item_of, marked, unmarked}
 use Rattle.rcu_cblist.specs.Cuts.{AreSegments}
 use Rattle.rcu_cblist.specs.Segments.{joined}
@@ -33,20 +34,25 @@ unreached v n most = ap (λ test. if test then Done else Until n) is
     is = grind (arith, nat_tests)
 
 -- what a test of a place and a number tells
-pub test_true : (i j m n : ℕ) (test : Bool) → test ≡ (nat_lt i j && nat_le m n) → test ≡ true → (i < j) × (m ≤ n)
+pub test_true : (i j m n : ℕ) (test : Bool) → test ≡ (nat_lt i j && nat_le m n) → test ≡ true
+    → (i < j) × (m ≤ n)
 test_true i j m n test is passes = (grind (arith, nat_tests), grind (arith, nat_tests))
 
-pub test_false : (i j m n : ℕ) (test : Bool) → test ≡ (nat_lt i j && nat_le m n) → test ≡ false → i < j → n < m
+pub test_false : (i j m n : ℕ) (test : Bool)
+    → test ≡ (nat_lt i j && nat_le m n) → test ≡ false → i < j → n < m
 test_false i j m n test is fails some = grind (arith, nat_tests)
 
-pub below_true : (i j m n : ℕ) (test : Bool) → test ≡ (nat_lt i j && nat_lt m n) → test ≡ true → (i < j) × (m < n)
+pub below_true : (i j m n : ℕ) (test : Bool) → test ≡ (nat_lt i j && nat_lt m n) → test ≡ true
+    → (i < j) × (m < n)
 below_true i j m n test is passes = (grind (arith, nat_tests), grind (arith, nat_tests))
 
-pub below_false : (i j m n : ℕ) (test : Bool) → test ≡ (nat_lt i j && nat_lt m n) → test ≡ false → i < j → n ≤ m
+pub below_false : (i j m n : ℕ) (test : Bool)
+    → test ≡ (nat_lt i j && nat_lt m n) → test ≡ false → i < j → n ≤ m
 below_false i j m n test is fails some = grind (arith, nat_tests)
 
 -- where each number below the snapshot is this one, none differs
-no_other : (snap n : Number) (ns : List Number) → All (λ k. k < snap → k ≡ n) ns → has_other snap n ns ≡ false
+no_other : (snap n : Number) (ns : List Number) → All (λ k. k < snap → k ≡ n) ns
+    → has_other snap n ns ≡ false
 no_other snap n [] each = refl
 no_other snap n (k ∷ ns) each =
     let rest = no_other snap n ns (All-tail (λ k. k < snap → k ≡ n) k ns each) in
@@ -61,7 +67,8 @@ no_other snap n (k ∷ ns) each =
     at k test same rest = grind (arith, nat_tests)
 
 -- a number below it that is not this one does
-other_found : (snap n k : Number) (ms ns : List Number) → k < snap → n < k → has_other snap n (ms ++ (k ∷ ns)) ≡ true
+other_found : (snap n k : Number) (ms ns : List Number) → k < snap → n < k
+    → has_other snap n (ms ++ (k ∷ ns)) ≡ true
 other_found snap n k [] ns under above = found (has_other snap n ns)
   where
     found : (rest : Bool) → ((nat_lt k snap && not (k == n)) || rest) ≡ true
@@ -75,13 +82,15 @@ other_found snap n k (m ∷ ms) ns under above =
     last false = refl
 
 -- a fold over two lists goes over one after the other
-fold_joined : (most : Number) (ms ns : List Number) → fold max most (ms ++ ns) ≡ fold max (fold max most ms) ns
+fold_joined : (most : Number) (ms ns : List Number)
+    → fold max most (ms ++ ns) ≡ fold max (fold max most ms) ns
 fold_joined most [] ns = refl
 fold_joined most (m ∷ ms) ns = fold_joined (max most m) ms ns
 
 module _ {X : Type 0} where
   -- four lists one behind another, each under its mark
-  abbrev pub each_under : Mark → Mark → Mark → Mark → List (Kept X) → List (Kept X) → List (Kept X) → List (Kept X)
+  abbrev pub each_under : Mark
+      → Mark → Mark → Mark → List (Kept X) → List (Kept X) → List (Kept X) → List (Kept X)
       → List (Item X)
   each_under m n o p D W R N = marked m D ++ (marked n W ++ (marked o R ++ marked p N))
 
@@ -89,7 +98,8 @@ module _ {X : Type 0} where
   pub marked_remarked : (change : Mark → Mark) (m : Mark) (xs : List (Kept X)) →
       map (remarked change) (marked m xs) ≡ marked (change m) xs
   marked_remarked change m [] = refl
-  marked_remarked change m (kept.Call call ∷ xs) = ap (λ l. Of call (change m) ∷ l) (marked_remarked change m xs)
+  marked_remarked change m (kept.Call call ∷ xs) =
+      ap (λ l. Of call (change m) ∷ l) (marked_remarked change m xs)
   marked_remarked change m (kept.Marker ∷ xs) = ap (λ l. Marker ∷ l) (marked_remarked change m xs)
 
   pub under_remarked : (change : Mark → Mark) (m n o p : Mark) (D W R N : List (Kept X)) →
@@ -107,13 +117,15 @@ module _ {X : Type 0} where
       ) refl
 
   -- the mark of an empty list means nothing
-  marked_same : (m n : Mark) (xs : List (Kept X)) → (0 < length xs → m ≡ n) → marked m xs ≡ marked n xs
+  marked_same : (m n : Mark) (xs : List (Kept X)) → (0 < length xs → m ≡ n)
+      → marked m xs ≡ marked n xs
   marked_same m n [] same = refl
   marked_same m n (x ∷ xs) same = ap (λ k. marked k (x ∷ xs)) (same (omega arith))
 
   -- the two in the middle, under other marks where they have items
-  pub under_same : (n o n' o' p : Mark) (D W R N : List (Kept X)) → (0 < length W → n ≡ n') → (0 < length R → o ≡ o') →
-      each_under Done n o p D W R N ≡ each_under Done n' o' p D W R N
+  pub under_same : (n o n' o' p : Mark) (D W R N : List (Kept X))
+      → (0 < length W → n ≡ n') → (0 < length R → o ≡ o')
+      → each_under Done n o p D W R N ≡ each_under Done n' o' p D W R N
   under_same n o n' o' p D W R N first second =
       ap (λ l. marked Done D ++ (l ++ (marked o R ++ marked p N))) (marked_same n n' W first) ∙
       ap (λ l. marked Done D ++ (marked n' W ++ (l ++ marked p N))) (marked_same o o' R second)
@@ -135,13 +147,13 @@ module _ {X : Type 0} where
       sym (map-append (item_of Unmarked) D (W ++ (R ++ N)))))
 
   -- an advance that reaches no number
-  pub advanced_none : (v a b : Number) (D W R N : List (Kept X)) → AreSegments a b D W R N → (0 < length W → v < a) →
-      joined a b D W R N ≡ after_advance (joined a b D W R N) v
+  pub advanced_none : (v a b : Number) (D W R N : List (Kept X))
+      → AreSegments a b D W R N → (0 < length W → v < a)
+      → joined a b D W R N ≡ after_advance (joined a b D W R N) v
   advanced_none v a b D W R N h before =
-      sym (under_remarked (mark_advanced v) Done (Until a) (Until b) Unmarked D W R N ∙
-      under_same (mark_advanced v (Until a)) (mark_advanced v (Until b)) (Until a) (Until b) Unmarked D W R N
-      (λ some. unreached v a (before some))
-      (λ some. unreached v b (later some)))
+      sym (under_remarked (mark_advanced v) Done (Until a) (Until b) Unmarked D W R N
+      ∙ under_same (mark_advanced v (Until a)) (mark_advanced v (Until b)) (Until a) (Until b)
+      Unmarked D W R N (λ some. unreached v a (before some)) (λ some. unreached v b (later some)))
     where
       later : 0 < length R → v < b
       later some = let lower = before (h.filled some) in let order = h.ascending some in omega arith
@@ -150,10 +162,10 @@ module _ {X : Type 0} where
   pub advanced_one : (v a b : Number) (D W R N : List (Kept X)) → a ≤ v → (0 < length R → v < b) →
       joined b b (D ++ W) R [] N ≡ after_advance (joined a b D W R N) v
   advanced_one v a b D W R N least before =
-      sym (under_remarked (mark_advanced v) Done (Until a) (Until b) Unmarked D W R N ∙
-      (under_same (mark_advanced v (Until a)) (mark_advanced v (Until b)) Done (Until b) Unmarked D W R N
-      (λ some. reached v a least) (λ some. unreached v b (before some)) ∙
-      first_two Done (Until b) Unmarked D W R N))
+      sym (under_remarked (mark_advanced v) Done (Until a) (Until b) Unmarked D W R N
+      ∙ (under_same (mark_advanced v (Until a)) (mark_advanced v (Until b)) Done (Until b) Unmarked
+      D W R N (λ some. reached v a least) (λ some. unreached v b (before some))
+      ∙ first_two Done (Until b) Unmarked D W R N))
 
   -- an advance that reaches both
   pub advanced_both : (v a b : Number) (D W R N : List (Kept X)) → a ≤ v → b ≤ v →
@@ -177,7 +189,8 @@ module _ {X : Type 0} where
   waits_behind a b D [] [] (kept.Call call ∷ N) h = (refl, refl)
   waits_behind a b D [] [] (kept.Marker ∷ N) h = let first = h.next_first in absurd cc
 
-  front_done : (D : List (Kept X)) (ys : List (Item X)) → front (marked Done D ++ ys) ≡ marked Done D ++ front ys
+  front_done : (D : List (Kept X)) (ys : List (Item X))
+      → front (marked Done D ++ ys) ≡ marked Done D ++ front ys
   front_done [] ys = refl
   front_done (kept.Call call ∷ D) ys = ap (λ l. Of call Done ∷ l) (front_done D ys)
   front_done (kept.Marker ∷ D) ys = ap (λ l. Marker ∷ l) (front_done D ys)
@@ -198,16 +211,20 @@ module _ {X : Type 0} where
   pub behind_joined : (a b : Number) (D W R N : List (Kept X)) → AreSegments a b D W R N →
       behind (joined a b D W R N) ≡ marked (Until a) W ++ (marked (Until b) R ++ unmarked N)
   behind_joined a b D W R N h =
-      behind_done D (marked (Until a) W ++ (marked (Until b) R ++ unmarked N)) ∙ (waits_behind a b D W R N h).1
+      behind_done D (marked (Until a) W ++ (marked (Until b) R ++ unmarked N))
+      ∙ (waits_behind a b D W R N h).1
 
   -- without marks, they are one list
   pub behind_stripped : (a b : Number) (D W R N : List (Kept X)) → AreSegments a b D W R N →
       map without_mark (behind (joined a b D W R N)) ≡ unmarked (W ++ (R ++ N))
-  behind_stripped a b D W R N h = ap (map without_mark) (behind_joined a b D W R N h) ∙ stripped a b [] W R N
+  behind_stripped a b D W R N h =
+      ap (map without_mark) (behind_joined a b D W R N h) ∙ stripped a b [] W R N
 
   -- a list that lost its numbers
-  pub lost : (a b : Number) (D W R N : List (Kept X)) → AreSegments a b D W R N →
-      joined a b D [] [] (W ++ (R ++ N)) ≡ front (joined a b D W R N) ++ map without_mark (behind (joined a b D W R N))
+  pub lost : (a b : Number) (D W R N : List (Kept X))
+      → AreSegments a b D W R N
+      → joined a b D [] [] (W ++ (R ++ N))
+      ≡ front (joined a b D W R N) ++ map without_mark (behind (joined a b D W R N))
   lost a b D W R N h = rw (front_joined a b D W R N h, behind_stripped a b D W R N h) refl
 
   -- that is the list with each number taken away
@@ -215,7 +232,8 @@ module _ {X : Type 0} where
       joined a b D [] [] (W ++ (R ++ N)) ≡ after_renumber (joined a b D W R N)
   renumbered a b D W R N =
       ap (λ l. marked Done D ++ l)
-      (map-append (item_of Unmarked) W (R ++ N) ∙ ap (λ l. unmarked W ++ l) (map-append (item_of Unmarked) R N))
+      (map-append (item_of Unmarked) W (R ++ N)
+      ∙ ap (λ l. unmarked W ++ l) (map-append (item_of Unmarked) R N))
       ∙ sym (under_remarked mark_renumbered Done (Until a) (Until b) Unmarked D W R N)
 
   -- the numbers of a list under one mark
@@ -242,8 +260,9 @@ module _ {X : Type 0} where
       numbers_next (kept.Marker ∷ N) = numbers_next N
 
   -- where a segment has items its number stands first, and then nothing but it
-  pub numbers_led : (a : Number) (W : List (Kept X)) → 0 < length W → begins_with_marker (unmarked W) ≡ false →
-      numbers (marked (Until a) W) ≡ a ∷ numbers (marked (Until a) (drop 1 W))
+  pub numbers_led : (a : Number) (W : List (Kept X))
+      → 0 < length W → begins_with_marker (unmarked W) ≡ false
+      → numbers (marked (Until a) W) ≡ a ∷ numbers (marked (Until a) (drop 1 W))
   numbers_led a [] some none = absurd (omega arith)
   numbers_led a (kept.Call call ∷ W) some none = refl
   numbers_led a (kept.Marker ∷ W) some none = absurd cc
@@ -263,19 +282,25 @@ module _ {X : Type 0} where
   most_wait snap a b D W R N h most some =
       let all : All (λ n. n ≤ snap) (numbers (marked (Until a) W) ++ numbers (marked (Until b) R)) =
       subst (All (λ n. n ≤ snap)) (numbers_joined a b D W R N) most in
-      let led : All (λ n. n ≤ snap) ((a ∷ numbers (marked (Until a) (drop 1 W))) ++ numbers (marked (Until b) R)) =
-      subst (λ l. All (λ n. n ≤ snap) (l ++ numbers (marked (Until b) R))) (numbers_led a W some h.wait_first) all in
-      All-head (λ n. n ≤ snap) a (numbers (marked (Until a) (drop 1 W)) ++ numbers (marked (Until b) R)) led
+      let led : All (λ n. n ≤ snap)
+      ((a ∷ numbers (marked (Until a) (drop 1 W))) ++ numbers (marked (Until b) R)) =
+      subst (λ l. All (λ n. n ≤ snap) (l ++ numbers (marked (Until b) R)))
+      (numbers_led a W some h.wait_first) all in
+      All-head (λ n. n ≤ snap) a
+      (numbers (marked (Until a) (drop 1 W)) ++ numbers (marked (Until b) R)) led
 
   pub most_ready : (snap a b : Number) (D W R N : List (Kept X)) → AreSegments a b D W R N →
       IsAtMost snap (joined a b D W R N) → 0 < length R → b ≤ snap
   most_ready snap a b D W R N h most some =
       let all : All (λ n. n ≤ snap) (numbers (marked (Until a) W) ++ numbers (marked (Until b) R)) =
       subst (All (λ n. n ≤ snap)) (numbers_joined a b D W R N) most in
-      let led : All (λ n. n ≤ snap) (numbers (marked (Until a) W) ++ (b ∷ numbers (marked (Until b) (drop 1 R)))) =
-      subst (λ l. All (λ n. n ≤ snap) (numbers (marked (Until a) W) ++ l)) (numbers_led b R some h.ready_first) all in
+      let led : All (λ n. n ≤ snap)
+      (numbers (marked (Until a) W) ++ (b ∷ numbers (marked (Until b) (drop 1 R)))) =
+      subst (λ l. All (λ n. n ≤ snap) (numbers (marked (Until a) W) ++ l))
+      (numbers_led b R some h.ready_first) all in
       All-head (λ n. n ≤ snap) b (numbers (marked (Until b) (drop 1 R)))
-      (All-behind (λ n. n ≤ snap) (numbers (marked (Until a) W)) (b ∷ numbers (marked (Until b) (drop 1 R))) led)
+      (All-behind (λ n. n ≤ snap) (numbers (marked (Until a) W))
+      (b ∷ numbers (marked (Until b) (drop 1 R))) led)
     where
       All-behind : (P : Number → Type 0) (ms ns : List Number) → All P (ms ++ ns) → All P ns
       All-behind P [] ns each = each
@@ -289,8 +314,8 @@ module _ {X : Type 0} where
       rw (numbers_joined a b D W R N)
       (no_two snap a (numbers (marked (Until a) W) ++ numbers (marked (Until b) R))
       (no_other snap a (numbers (marked (Until a) W) ++ numbers (marked (Until b) R))
-      (All-append one (numbers (marked (Until a) W)) (numbers (marked (Until b) R)) (numbers_same one a W first)
-      (numbers_same one b R second))))
+      (All-append one (numbers (marked (Until a) W)) (numbers (marked (Until b) R))
+      (numbers_same one a W first) (numbers_same one b R second))))
 
   -- where both have items and numbers below it, two do
   two_found : (snap a b : Number) (D W R N : List (Kept X)) →
@@ -299,7 +324,9 @@ module _ {X : Type 0} where
       has_two snap (numbers (joined a b D W R N)) ≡ true
   two_found snap a b D W R N first second order under =
       rw (numbers_joined a b D W R N, first, second)
-      (found _ _ (other_found snap a b (a ∷ numbers (marked (Until a) (drop 1 W))) (numbers (marked (Until b) (drop 1 R))) under order))
+      (found _ _
+      (other_found snap a b (a ∷ numbers (marked (Until a) (drop 1 W)))
+      (numbers (marked (Until b) (drop 1 R))) under order))
     where
       found : (other rest : Bool) → other ≡ true → ((nat_lt a snap && other) || rest) ≡ true
       found other rest is = grind (arith, nat_tests)
@@ -310,14 +337,19 @@ module _ {X : Type 0} where
       joined a snap D W (R ++ N) [] ≡ after_accelerate (joined a b D W R N) snap
   accelerated_late snap a b D W R N h most above =
       let same : 0 < length R → b ≡ snap =
-      λ some. (let least = above some in let least_too = most_ready snap a b D W R N h most some in omega arith) in
+      λ some.
+      (let least = above some in
+       let least_too = most_ready snap a b D W R N h most some in omega arith) in
       let alone =
       numbers_two snap a b D W R N (λ some under. refl)
       (λ some under. absurd (let is = same some in omega arith)) in
-      let given = under_remarked (mark_given snap) Done (Until a) (Until b) Unmarked D W R N ∙
-      (under_same (Until a) (Until b) (Until a) (Until snap) (Until snap) D W R N (λ some. refl) (λ some. ap Until (same some))
+      let given =
+      under_remarked (mark_given snap) Done (Until a) (Until b) Unmarked D W R N
+      ∙ (under_same (Until a) (Until b) (Until a) (Until snap) (Until snap) D W R N (λ some. refl)
+      (λ some. ap Until (same some))
       ∙ ap (λ l. marked Done D ++ (marked (Until a) W ++ l))
-      (sym (map-append (item_of (Until snap)) R N) ∙ sym (append-nil (marked (Until snap) (R ++ N))))) in
+      (sym (map-append (item_of (Until snap)) R N)
+      ∙ sym (append-nil (marked (Until snap) (R ++ N))))) in
       rw alone (sym given)
 
   -- one that gives it to the last list, and puts all behind the first one together
@@ -326,37 +358,45 @@ module _ {X : Type 0} where
       joined snap b D (W ++ (R ++ N)) [] [] ≡ after_accelerate (joined a b D W R N) snap
   accelerated_early snap a b D W R N h most above =
       let same : 0 < length W → a ≡ snap =
-      λ some. (let least = above some in let least_too = most_wait snap a b D W R N h most some in omega arith) in
+      λ some.
+      (let least = above some in
+       let least_too = most_wait snap a b D W R N h most some in omega arith) in
       let none : 0 < length R → ⊥ =
       λ some. (let is = same (h.filled some) in let order = h.ascending some in
       let least = most_ready snap a b D W R N h most some in omega arith) in
-      let alone = numbers_two snap a b D W R N (λ some under. refl) (λ some under. absurd (none some)) in
-      let given = under_remarked (mark_given snap) Done (Until a) (Until b) Unmarked D W R N ∙
-      (under_same (Until a) (Until b) (Until snap) (Until snap) (Until snap) D W R N (λ some. ap Until (same some))
-      (λ some. absurd (none some))
+      let alone =
+      numbers_two snap a b D W R N (λ some under. refl) (λ some under. absurd (none some)) in
+      let given =
+      under_remarked (mark_given snap) Done (Until a) (Until b) Unmarked D W R N
+      ∙ (under_same (Until a) (Until b) (Until snap) (Until snap) (Until snap) D W R N
+      (λ some. ap Until (same some)) (λ some. absurd (none some))
       ∙ ap (λ l. marked Done D ++ l)
-      (ap (λ l. marked (Until snap) W ++ l) (sym (map-append (item_of (Until snap)) R N)) ∙
-      (sym (map-append (item_of (Until snap)) W (R ++ N)) ∙ sym (append-nil (marked (Until snap) (W ++ (R ++ N))))))) in
+      (ap (λ l. marked (Until snap) W ++ l) (sym (map-append (item_of (Until snap)) R N))
+      ∙ (sym (map-append (item_of (Until snap)) W (R ++ N))
+      ∙ sym (append-nil (marked (Until snap) (W ++ (R ++ N))))))) in
       rw alone (sym given)
 
   -- one that changes nothing
-  pub accelerated_none : (snap a b : Number) (D W R N : List (Kept X)) → AreSegments a b D W R N → 0 < length R
-      → b < snap →
-      joined a b D W R N ≡ after_accelerate (joined a b D W R N) snap
+  pub accelerated_none : (snap a b : Number) (D W R N : List (Kept X))
+      → AreSegments a b D W R N → 0 < length R → b < snap
+      → joined a b D W R N ≡ after_accelerate (joined a b D W R N) snap
   accelerated_none snap a b D W R N h some below =
-      rw (two_found snap a b D W R N (numbers_led a W (h.filled some) h.wait_first) (numbers_led b R some h.ready_first)
-      (h.ascending some) below) refl
+      rw
+      (two_found snap a b D W R N (numbers_led a W (h.filled some) h.wait_first)
+      (numbers_led b R some h.ready_first) (h.ascending some) below)
+      refl
 
   -- a fold of the greatest over numbers that are no greater
-  fold_same : (most a : Number) (W : List (Kept X)) → a ≤ most → fold max most (numbers (marked (Until a) W)) ≡ most
+  fold_same : (most a : Number) (W : List (Kept X)) → a ≤ most
+      → fold max most (numbers (marked (Until a) W)) ≡ most
   fold_same most a [] within = refl
   fold_same most a (kept.Call call ∷ W) within =
       ap (λ n. fold max n (numbers (marked (Until a) W))) (omega arith) ∙ fold_same most a W within
   fold_same most a (kept.Marker ∷ W) within = fold_same most a W within
 
   -- the greatest number where both segments have items, where the first one has, and where none has
-  pub greatest_ready : (a b : Number) (D W R N : List (Kept X)) → AreSegments a b D W R N → 0 < length R →
-      Some b ≡ greatest (numbers (joined a b D W R N))
+  pub greatest_ready : (a b : Number) (D W R N : List (Kept X))
+      → AreSegments a b D W R N → 0 < length R → Some b ≡ greatest (numbers (joined a b D W R N))
   greatest_ready a b D W R N h some =
       let ms = numbers (marked (Until a) (drop 1 W)) in
       let ns = numbers (marked (Until b) (drop 1 R)) in
@@ -371,8 +411,9 @@ module _ {X : Type 0} where
       (ap (λ n. fold max n ns) (omega arith) ∙ fold_same b b (drop 1 R) (omega arith))) in
       sym (ap greatest all ∙ ap Some most)
 
-  pub greatest_wait : (a b : Number) (D W R N : List (Kept X)) → AreSegments a b D W R N → 0 < length W → length R ≡ 0 →
-      Some a ≡ greatest (numbers (joined a b D W R N))
+  pub greatest_wait : (a b : Number) (D W R N : List (Kept X))
+      → AreSegments a b D W R N → 0 < length W → length R ≡ 0
+      → Some a ≡ greatest (numbers (joined a b D W R N))
   greatest_wait a b D W (x ∷ R) N h some none = absurd (omega arith)
   greatest_wait a b D W [] N h some none =
       let ms = numbers (marked (Until a) (drop 1 W)) in
@@ -392,8 +433,9 @@ module _ {X : Type 0} where
       front_with n (marked (Until n) W ++ ys) ≡ marked (Until n) W
   front_with_same n [] ys none = none
   front_with_same n (kept.Call call ∷ W) ys none =
-      ap (λ test. if test then Of call (Until n) ∷ front_with n (marked (Until n) W ++ ys) else []) is ∙
-      ap (λ l. Of call (Until n) ∷ l) (front_with_same n W ys none)
+      ap (λ test. if test then Of call (Until n) ∷ front_with n (marked (Until n) W ++ ys) else [])
+      is
+      ∙ ap (λ l. Of call (Until n) ∷ l) (front_with_same n W ys none)
     where
       is : (n == n) ≡ true
       is = grind (arith, nat_tests)
@@ -404,7 +446,8 @@ module _ {X : Type 0} where
       begins_with_marker (unmarked R) ≡ false → begins_with_marker (unmarked N) ≡ false →
       front_with n (marked (Until b) R ++ unmarked N) ≡ []
   front_with_none n b (kept.Call call ∷ R) N above first second =
-      ap (λ test. if test then Of call (Until b) ∷ front_with n (marked (Until b) R ++ unmarked N) else [])
+      ap (λ test.
+      if test then Of call (Until b) ∷ front_with n (marked (Until b) R ++ unmarked N) else [])
       (differ (above (omega arith)))
     where
       differ : n < b → (b == n) ≡ false
@@ -415,8 +458,10 @@ module _ {X : Type 0} where
   front_with_none n b [] (kept.Marker ∷ N) above first second = absurd cc
 
   -- a segment with a number is the front with that number
-  numbered_is : (n : Number) (W : List (Kept X)) (ys : List (Item X)) → begins_with_marker (unmarked W) ≡ false →
-      front_with n ys ≡ [] → (length W ≡ 0 → numbered ys ≡ [])
+  numbered_is : (n : Number) (W : List (Kept X)) (ys : List (Item X))
+      → begins_with_marker (unmarked W) ≡ false
+      → front_with n ys ≡ []
+      → (length W ≡ 0 → numbered ys ≡ [])
       → numbered (marked (Until n) W ++ ys) ≡ marked (Until n) W
   numbered_is n [] ys first none nothing = nothing refl
   numbered_is n (kept.Call call ∷ W) ys first none nothing =
@@ -431,7 +476,8 @@ module _ {X : Type 0} where
       ap (λ l. drop (length l) (marked (Until n) W ++ ys)) is ∙
       drop_at (marked (Until n) W) ys (length (marked (Until n) W)) refl
 
-  numbered_next : (N : List (Kept X)) → begins_with_marker (unmarked N) ≡ false → numbered (unmarked N) ≡ []
+  numbered_next : (N : List (Kept X)) → begins_with_marker (unmarked N) ≡ false
+      → numbered (unmarked N) ≡ []
   numbered_next [] first = refl
   numbered_next (kept.Call call ∷ N) first = refl
   numbered_next (kept.Marker ∷ N) first = absurd cc
@@ -442,9 +488,10 @@ module _ {X : Type 0} where
   lengths_joined a b D W R N h =
       let others = marked (Until b) R ++ unmarked N in
       let next = numbered_next N h.next_first in
-      let second = numbered_is b R (unmarked N) h.ready_first (front_with_none b b [] N (λ some. absurd (omega arith)) refl h.next_first)
-      (λ none. next) in
-      let first = numbered_is a W others h.wait_first (front_with_none a b R N h.ascending h.ready_first h.next_first)
+      let second = numbered_is b R (unmarked N) h.ready_first
+      (front_with_none b b [] N (λ some. absurd (omega arith)) refl h.next_first) (λ none. next) in
+      let first = numbered_is a W others h.wait_first
+      (front_with_none a b R N h.ascending h.ready_first h.next_first)
       (λ none. second ∙ empty R (no_ready none)) in
       let waiting = behind_joined a b D W R N h in
       let past : past_numbered (behind (joined a b D W R N)) ≡ others =

@@ -1,7 +1,8 @@
 -- One processor's list, in order: callbacks, each with its mark, and markers.
-use Rattle.std.specs.Prelude.{ℕ, zero, suc, ◌+◌, ◌-◌, ◌==◌, ◌≤◌, ◌&&◌, nat_le, nat_lt, max, fold, if◌then◌else◌, Bool}
-use Rattle.std.specs.Prelude.{true, false, not, Option, Some, None, List, [], ◌∷◌, ◌++◌, length, map, take, drop}
-use Rattle.std.specs.Prelude.{filter_map, count_by, option_map, slice_get, All}
+use Rattle.std.specs.Prelude.{ℕ, zero, suc, ◌+◌, ◌-◌, ◌==◌, ◌≤◌, ◌&&◌, nat_le, nat_lt, max, fold}
+use Rattle.std.specs.Prelude.{if◌then◌else◌, Bool, true, false, not, Option, Some, None, List, []}
+use Rattle.std.specs.Prelude.{◌∷◌, ◌++◌, length, map, take, drop, filter_map, count_by, option_map}
+use Rattle.std.specs.Prelude.{slice_get, All}
 use Rattle.std.specs.List.{list_any}
 use Rattle.rcu_seq.specs.Fault.{first_fault}
 use Rattle.rcu_seq.specs.Numbers.{Number}
@@ -15,7 +16,8 @@ pub data Mark : Type 0 where
   Until : Number → Mark
   Done : Mark
 
--- a callback with its mark, or a marker, which a barrier leaves behind the callbacks that it waits for
+-- a callback with its mark, or a marker, which a barrier leaves behind the callbacks that it waits
+-- for
 pub data Item (X : Type 0) : Type 0 where
   Of : Queued X → Mark → Item X
   Marker : Item X
@@ -140,10 +142,11 @@ module _ {X : Type 0} where
   abbrev pub IsAtMost : Number → List (Item X) → Type 0
   IsAtMost snap xs = All (λ n. n ≤ snap) (numbers xs)
 
-  -- the list once each unmarked callback is given the snapshot, which changes nothing where callbacks carry two
-  -- different numbers below it
+  -- the list once each unmarked callback is given the snapshot, which changes nothing where
+  -- callbacks carry two different numbers below it
   abbrev pub after_accelerate : List (Item X) → Number → List (Item X)
-  after_accelerate xs snap = if has_two snap (numbers xs) then xs else map (remarked (mark_given snap)) xs
+  after_accelerate xs snap =
+      if has_two snap (numbers xs) then xs else map (remarked (mark_given snap)) xs
 
   -- the done part: the longest front with no callback that waits
   abbrev pub front : List (Item X) → List (Item X)
@@ -178,8 +181,8 @@ module _ {X : Type 0} where
   abbrev pub pop_answer : List (Item X) → Option (Queued X × ℕ)
   pop_answer xs = option_map (λ call. (call, markers_passed xs 1)) (slice_get (take_answer xs 1) 0)
 
-  -- what a target that had ys has once xs moved there: the done part in front of ys, and the rest behind it without
-  -- its marks
+  -- what a target that had ys has once xs moved there: the done part in front of ys, and the rest
+  -- behind it without its marks
   abbrev pub after_migrate : List (Item X) → List (Item X) → List (Item X)
   after_migrate ys xs = (front xs ++ ys) ++ map without_mark (behind xs)
 
@@ -195,7 +198,8 @@ module _ {X : Type 0} where
   front_with n [] = []
   front_with n (x ∷ xs) = if is_with n x then x ∷ front_with n xs else []
 
-  -- the longest front of markers and of callbacks with one number, that of its first item; empty where that has none
+  -- the longest front of markers and of callbacks with one number, that of its first item; empty
+  -- where that has none
   abbrev pub numbered : List (Item X) → List (Item X)
   numbered [] = []
   numbered (Of call (Until n) ∷ xs) = Of call (Until n) ∷ front_with n xs
@@ -207,11 +211,13 @@ module _ {X : Type 0} where
   abbrev pub past_numbered : List (Item X) → List (Item X)
   past_numbered xs = drop (length (numbered xs)) xs
 
-  -- how many items each segment has, where the list is cut where its marks change, and a marker belongs to what stands
-  -- before it: the done part, what waits for the first number, what waits for the next one, and the rest
+  -- how many items each segment has, where the list is cut where its marks change, and a marker
+  -- belongs to what stands before it: the done part, what waits for the first number, what waits
+  -- for the next one, and the rest
   abbrev pub segments : List (Item X) → List ℕ
   segments xs =
-      length (front xs) ∷ length (numbered (behind xs)) ∷ length (numbered (past_numbered (behind xs)))
+      length (front xs) ∷ length (numbered (behind xs))
+      ∷ length (numbered (past_numbered (behind xs)))
       ∷ length (past_numbered (past_numbered (behind xs))) ∷ []
 
   -- why a callback may be refused: there is no room for it

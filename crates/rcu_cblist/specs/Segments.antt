@@ -9,8 +9,10 @@ use Rattle.rcu_cblist.specs.declared.kept.Kept.{Kept}
 use Rattle.rcu_cblist.specs.declared.segments.Segments.{Segments}
 
 module _ {X : Type 0} where
-  -- four segments one behind another: what is done, what waits for the numbers a and b, and what has none
-  abbrev pub joined : Number → Number → List (Kept X) → List (Kept X) → List (Kept X) → List (Kept X) → List (Item X)
+  -- four segments one behind another: what is done, what waits for the numbers a and b, and what
+  -- has none
+  abbrev pub joined : Number
+      → Number → List (Kept X) → List (Kept X) → List (Kept X) → List (Kept X) → List (Item X)
   joined a b done wait ready next =
       marked Done done ++ (marked (Until a) wait ++ (marked (Until b) ready ++ unmarked next))
 
@@ -18,8 +20,8 @@ module _ {X : Type 0} where
   abbrev pub seen : Segments X → List (Item X)
   seen s =
       joined s.wait_number s.ready_number (take s.done.items s.items.items)
-      (between s.done.items s.wait.items s.items.items) (between s.wait.items s.ready.items s.items.items)
-      (drop s.ready.items s.items.items)
+      (between s.done.items s.wait.items s.items.items)
+      (between s.wait.items s.ready.items s.items.items) (drop s.ready.items s.items.items)
 
   -- the list, with its room
   abbrev pub listed : Segments X → Segmented X

@@ -12,8 +12,8 @@ use crate::board::{Board, TableSeat};
 use crate::client::Client;
 use crate::next_cpu::next_from;
 use crate::word_sets::WordSets;
-use rcu_state::GpState;
 use rcu_node::{Awaited, CpuSet};
+use rcu_state::GpState;
 
 /// The processor is online from now on exactly where it is here. Processor 0 is.
 fn set_online<A: Awaited, T: Drop>(gp: &mut GpState<A, T>, cpu: u32, is_here: bool)

@@ -10,9 +10,9 @@ ghost use Rattle.rcu_live.specs.Runs.{Call, Makes};
 
 use crate::client::Client;
 use crate::engine::Engine;
-use rcu_state::GpState;
 use rcu_node::{Awaited, CpuSet};
 use rcu_seq::Fault;
+use rcu_state::GpState;
 
 /// The processor departs, unless a begin has found it gone, and is awaited no more.
 #[tactic(auto, using(crate::proofs::Departures::departed))]

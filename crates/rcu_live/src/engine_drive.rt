@@ -11,9 +11,9 @@ ghost use Rattle.rcu_live.specs.Runs.{Call, Makes};
 
 use crate::client::Client;
 use crate::engine::Engine;
-use rcu_state::Turned;
 use rcu_node::Awaited;
 use rcu_seq::{Cookie, Fault};
+use rcu_state::Turned;
 
 impl<A: Awaited, T: Drop, P: Client> Engine<A, T, P> {
     /// Collects from a processor while a grace period runs.

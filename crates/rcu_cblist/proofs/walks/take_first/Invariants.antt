@@ -8,13 +8,15 @@ use Rattle.rcu_cblist.proofs.walks.take_first.Given as goal
 -- what is taken already and what is still to be taken is what was to be taken
 abbrev pub invariant-loop-items : goal.invariant-loop-items
 invariant-loop-items g l =
-    (vec_len l.calls + l.left ≤ vec_capacity l.calls) × (l.markers + length l.items.items < 2 ^ 63)
+    (vec_len l.calls + l.left ≤ vec_capacity l.calls)
+    × (l.markers + length l.items.items < 2 ^ 63)
     × (l.left ≤ length (callbacks (unmarked l.items.items)))
     × (l.most + l.markers + length l.items.items ≡ length l.initial.items.items + l.left)
     × (l.items.items ≡ drop (l.most + l.markers - l.left) l.initial.items.items)
     × (l.initial.calls.items ++ take l.most (callbacks (unmarked l.initial.items.items))
     ≡ l.calls.items ++ take l.left (callbacks (unmarked l.items.items)))
-    × (from_callback l.most (unmarked l.initial.items.items) ≡ from_callback l.left (unmarked l.items.items))
+    × (from_callback l.most (unmarked l.initial.items.items)
+    ≡ from_callback l.left (unmarked l.items.items))
     × (l.markers + markers (unmarked l.items.items) ≡ markers (unmarked l.initial.items.items))
     × (deque_capacity l.items ≡ deque_capacity l.initial.items)
 

@@ -11,8 +11,9 @@ overflow_sub-self g c =
     let inside : c.args.cpu < length (items_in i.lists.items) =
     subst (λ v. c.args.cpu < length v.all.lists) (sym c.self.view_is) c.requires in
     taken_markers i.lists.items i.visits i.running i.queued i.most c.args.cpu c.args.max
-    c.index_mut-list.result.now c.take_done.new.self inside c.index_mut-list.ensures.value c.in_ok-calls.ensures.state
-    i.markers c.in_ok-calls.field-0.markers c.self.invariant.0 c.in_ok-calls.ensures.markers
+    c.index_mut-list.result.now c.take_done.new.self inside c.index_mut-list.ensures.value
+    c.in_ok-calls.ensures.state i.markers c.in_ok-calls.field-0.markers c.self.invariant.0
+    c.in_ok-calls.ensures.markers
 
 pub invariant_of-self-2 : goal.invariant_of-self-2
 invariant_of-self-2 g c =
@@ -20,16 +21,25 @@ invariant_of-self-2 g c =
     let inside : c.args.cpu < length (items_in i.lists.items) =
     subst (λ v. c.args.cpu < length v.all.lists) (sym c.self.view_is) c.requires in
     taken_kept i.lists.items i.visits i.running i.queued i.most c.args.cpu c.args.max
-    c.index_mut-list.result.now c.take_done.new.self inside c.index_mut-list.ensures.value c.in_ok-calls.ensures.state
-    i.markers c.in_ok-calls.field-0.markers c.self.invariant.0 c.self.invariant.1 c.in_ok-calls.ensures.markers
+    c.index_mut-list.result.now c.take_done.new.self inside c.index_mut-list.ensures.value
+    c.in_ok-calls.ensures.state i.markers c.in_ok-calls.field-0.markers c.self.invariant.0
+    c.self.invariant.1 c.in_ok-calls.ensures.markers
 
 pub invariant_of-self : goal.invariant_of-self
 invariant_of-self g c =
     let i = c.self.inside in
     let same = same_items i.lists.items c.args.cpu c.index_mut-list.result.now c.take_done.new.self
     c.index_mut-list.ensures.value (ap (λ l. l.items) c.in_err-calls.ensures.unchanged) in
-    subst (λ l. (i.markers ≡ markers_in l)
-    × IsSound (record { lists = l; visited = i.visits; running = i.running; queued = i.queued; most = i.most })) (sym same) c.self.invariant
+    subst (λ l.
+    (i.markers ≡ markers_in l)
+    × IsSound (record {
+      lists = l;
+      visited = i.visits;
+      running = i.running;
+      queued = i.queued;
+      most = i.most
+    }))
+    (sym same) c.self.invariant
 
 pub returns-in_err-calls-clause-unchanged : goal.returns-in_err-calls-clause-unchanged
 returns-in_err-calls-clause-unchanged g c =
@@ -39,14 +49,25 @@ returns-in_err-calls-clause-unchanged g c =
     let rooms = same_rooms i.lists.items c.args.cpu c.index_mut-list.result.now c.take_done.new.self
     c.index_mut-list.ensures.value (ap (λ l. l.room) c.in_err-calls.ensures.unchanged) in
     let p = err_from_is_err_and c.from_residual.result c.from_residual.ensures.1 in
-    rw (p.1) (both_same _ _ _ _
-    (ap (λ l. record { lists = l; visited = i.visits; running = i.running; queued = i.queued; most = i.most }) same)
-    rooms ∙ c.self.view_is)
+    rw (p.1)
+    (both_same _ _ _ _
+    (ap (λ l. record {
+      lists = l;
+      visited = i.visits;
+      running = i.running;
+      queued = i.queued;
+      most = i.most
+    })
+    same)
+    rooms
+    ∙ c.self.view_is)
 
 pub returns-clause-state : goal.returns-clause-state
 returns-clause-state g c =
     let i = c.self.inside in
     let inside : c.args.cpu < length (items_in i.lists.items) =
     subst (λ v. c.args.cpu < length v.all.lists) (sym c.self.view_is) c.requires in
-    rw (← c.self.view_is) (taken_view i.lists.items i.visits i.running i.queued i.most c.args.cpu c.args.max
-    c.index_mut-list.result.now c.take_done.new.self inside c.index_mut-list.ensures.value c.in_ok-calls.ensures.state)
+    rw (← c.self.view_is)
+    (taken_view i.lists.items i.visits i.running i.queued i.most c.args.cpu c.args.max
+    c.index_mut-list.result.now c.take_done.new.self inside c.index_mut-list.ensures.value
+    c.in_ok-calls.ensures.state)

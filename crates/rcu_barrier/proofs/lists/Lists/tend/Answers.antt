@@ -1,5 +1,6 @@
 use Rattle.std.proofs.Common.{◌≡◌, ◌<◌, [], length, set, get_or, refl, ap, sym, subst, ◌∙◌, arith}
-use Rattle.rcu_cblist.specs.SegList.{IsAtMost, after_accelerate, after_advance, behind, callbacks, front, markers}
+use Rattle.rcu_cblist.specs.SegList.{IsAtMost, after_accelerate, after_advance, behind, callbacks}
+use Rattle.rcu_cblist.specs.SegList.{front, markers}
 use Rattle.rcu_barrier.specs.Tending.{AreFours, after_tend}
 use Rattle.rcu_seq.specs.Numbers.{snapshot}
 use Rattle.rcu_barrier.proofs.Fours.{fours_get, fours_tended, most_advanced, tend_is}
@@ -16,11 +17,15 @@ accelerate-requires g c =
     let inside : c.args.cpu < length (items_in i.lists.items) =
     subst (λ v. c.args.cpu < length v.all.lists) (sym c.self.view_is) c.requires.cpu in
     let within : IsAtMost (snapshot number) (get_or (items_in i.lists.items) c.args.cpu []) =
-    subst (λ v. IsAtMost (snapshot number) (get_or v.all.lists c.args.cpu [])) (sym c.self.view_is) c.requires.within in
+    subst (λ v. IsAtMost (snapshot number) (get_or v.all.lists c.args.cpu [])) (sym c.self.view_is)
+    c.requires.within in
     let snap = c.snapshot.ensures in
-    let advanced : c.advance.new.self.items ≡ after_advance old.items number = ap (λ l. l.items) c.advance.ensures in
+    let advanced : c.advance.new.self.items ≡ after_advance old.items number =
+    ap (λ l. l.items) c.advance.ensures in
     let is = read_items i.lists.items c.args.cpu old inside c.index_mut-list.ensures.value in
-    rw (snap, advanced) (most_advanced number (snapshot number) old.items (subst (IsAtMost (snapshot number)) (sym is) within))
+    rw (snap, advanced)
+    (most_advanced number (snapshot number) old.items
+    (subst (IsAtMost (snapshot number)) (sym is) within))
 
 pub invariant_of-self : goal.invariant_of-self
 invariant_of-self g c =
@@ -34,15 +39,18 @@ invariant_of-self g c =
     let fours : AreFours old.items =
     subst AreFours (sym is) (fours_get (items_in i.lists.items) c.args.cpu k.1.fours) in
     let snap = c.snapshot.ensures in
-    let accelerated : c.accelerate.new.self.items ≡ after_accelerate c.advance.new.self.items c.snapshot.result =
+    let accelerated : c.accelerate.new.self.items
+    ≡ after_accelerate c.advance.new.self.items c.snapshot.result =
     ap (λ l. l.items) c.accelerate.ensures in
-    let advanced : c.advance.new.self.items ≡ after_advance old.items number = ap (λ l. l.items) c.advance.ensures in
+    let advanced : c.advance.new.self.items ≡ after_advance old.items number =
+    ap (λ l. l.items) c.advance.ensures in
     let after : c.accelerate.new.self.items ≡ after_tend old.items number =
     accelerated ∙ (rw (snap, advanced) (tend_is number old.items c.requires.state fours)) in
     let same = ap markers after ∙ markers_remarked _ old.items in
-    relisted_in i.lists.items i.visits i.visits i.running i.queued i.markers i.markers
-    i.queued i.most c.args.cpu old c.accelerate.new.self k.0 k.1 inside c.index_mut-list.ensures.value refl (omega arith)
-    (omega arith) k.1.counted (λ _. subst AreFours (sym after) (fours_tended number old.items fours))
+    relisted_in i.lists.items i.visits i.visits i.running i.queued i.markers i.markers i.queued
+    i.most c.args.cpu old c.accelerate.new.self k.0 k.1 inside c.index_mut-list.ensures.value refl
+    (omega arith) (omega arith) k.1.counted
+    (λ _. subst AreFours (sym after) (fours_tended number old.items fours))
 
 pub returns-clause-state : goal.returns-clause-state
 returns-clause-state g c =
@@ -56,16 +64,30 @@ returns-clause-state g c =
     let fours : AreFours old.items =
     subst AreFours (sym is) (fours_get (items_in i.lists.items) c.args.cpu k.1.fours) in
     let snap = c.snapshot.ensures in
-    let accelerated : c.accelerate.new.self.items ≡ after_accelerate c.advance.new.self.items c.snapshot.result =
+    let accelerated : c.accelerate.new.self.items
+    ≡ after_accelerate c.advance.new.self.items c.snapshot.result =
     ap (λ l. l.items) c.accelerate.ensures in
-    let advanced : c.advance.new.self.items ≡ after_advance old.items number = ap (λ l. l.items) c.advance.ensures in
-    let after : c.accelerate.new.self.items ≡ after_tend (get_or (items_in i.lists.items) c.args.cpu []) number =
-    accelerated ∙ (rw (snap, advanced) (tend_is number old.items c.requires.state fours) ∙ ap (λ l. after_tend l number) is) in
-    let rooms = same_rooms i.lists.items c.args.cpu old c.accelerate.new.self c.index_mut-list.ensures.value
+    let advanced : c.advance.new.self.items ≡ after_advance old.items number =
+    ap (λ l. l.items) c.advance.ensures in
+    let after : c.accelerate.new.self.items
+    ≡ after_tend (get_or (items_in i.lists.items) c.args.cpu []) number =
+    accelerated
+    ∙ (rw (snap, advanced) (tend_is number old.items c.requires.state fours)
+    ∙ ap (λ l. after_tend l number) is) in
+    let rooms = same_rooms i.lists.items c.args.cpu old c.accelerate.new.self
+    c.index_mut-list.ensures.value
     (ap (λ l. l.room) c.accelerate.ensures ∙ ap (λ l. l.room) c.advance.ensures) in
-    rw (← c.self.view_is) (both_same _ _ _ _
-    (ap (λ l. record { lists = l; visited = i.visits; running = i.running; queued = i.queued; most = i.most })
-    (set_items i.lists.items c.args.cpu c.accelerate.new.self ∙ ap (λ l. set (items_in i.lists.items) c.args.cpu l) after))
+    rw (← c.self.view_is)
+    (both_same _ _ _ _
+    (ap (λ l. record {
+      lists = l;
+      visited = i.visits;
+      running = i.running;
+      queued = i.queued;
+      most = i.most
+    })
+    (set_items i.lists.items c.args.cpu c.accelerate.new.self
+    ∙ ap (λ l. set (items_in i.lists.items) c.args.cpu l) after))
     rooms)
 
 pub returns-clause-done : goal.returns-clause-done
@@ -80,12 +102,18 @@ returns-clause-done g c =
     let fours : AreFours old.items =
     subst AreFours (sym is) (fours_get (items_in i.lists.items) c.args.cpu k.1.fours) in
     let snap = c.snapshot.ensures in
-    let accelerated : c.accelerate.new.self.items ≡ after_accelerate c.advance.new.self.items c.snapshot.result =
+    let accelerated : c.accelerate.new.self.items
+    ≡ after_accelerate c.advance.new.self.items c.snapshot.result =
     ap (λ l. l.items) c.accelerate.ensures in
-    let advanced : c.advance.new.self.items ≡ after_advance old.items number = ap (λ l. l.items) c.advance.ensures in
-    let after : c.accelerate.new.self.items ≡ after_tend (get_or (items_in i.lists.items) c.args.cpu []) number =
-    accelerated ∙ (rw (snap, advanced) (tend_is number old.items c.requires.state fours) ∙ ap (λ l. after_tend l number) is) in
-    rw (← c.self.view_is, c.done_count.ensures.count ∙ ap (λ l. length (callbacks (front l))) after) refl
+    let advanced : c.advance.new.self.items ≡ after_advance old.items number =
+    ap (λ l. l.items) c.advance.ensures in
+    let after : c.accelerate.new.self.items
+    ≡ after_tend (get_or (items_in i.lists.items) c.args.cpu []) number =
+    accelerated
+    ∙ (rw (snap, advanced) (tend_is number old.items c.requires.state fours)
+    ∙ ap (λ l. after_tend l number) is) in
+    rw (← c.self.view_is, c.done_count.ensures.count ∙ ap (λ l. length (callbacks (front l))) after)
+    refl
 
 pub returns-clause-waiting : goal.returns-clause-waiting
 returns-clause-waiting g c =
@@ -99,9 +127,15 @@ returns-clause-waiting g c =
     let fours : AreFours old.items =
     subst AreFours (sym is) (fours_get (items_in i.lists.items) c.args.cpu k.1.fours) in
     let snap = c.snapshot.ensures in
-    let accelerated : c.accelerate.new.self.items ≡ after_accelerate c.advance.new.self.items c.snapshot.result =
+    let accelerated : c.accelerate.new.self.items
+    ≡ after_accelerate c.advance.new.self.items c.snapshot.result =
     ap (λ l. l.items) c.accelerate.ensures in
-    let advanced : c.advance.new.self.items ≡ after_advance old.items number = ap (λ l. l.items) c.advance.ensures in
-    let after : c.accelerate.new.self.items ≡ after_tend (get_or (items_in i.lists.items) c.args.cpu []) number =
-    accelerated ∙ (rw (snap, advanced) (tend_is number old.items c.requires.state fours) ∙ ap (λ l. after_tend l number) is) in
-    rw (← c.self.view_is, c.waiting_count.ensures ∙ ap (λ l. length (callbacks (behind l))) after) refl
+    let advanced : c.advance.new.self.items ≡ after_advance old.items number =
+    ap (λ l. l.items) c.advance.ensures in
+    let after : c.accelerate.new.self.items
+    ≡ after_tend (get_or (items_in i.lists.items) c.args.cpu []) number =
+    accelerated
+    ∙ (rw (snap, advanced) (tend_is number old.items c.requires.state fours)
+    ∙ ap (λ l. after_tend l number) is) in
+    rw (← c.self.view_is, c.waiting_count.ensures ∙ ap (λ l. length (callbacks (behind l))) after)
+    refl

@@ -4,5 +4,6 @@ use Rattle.rcu_barrier.proofs.lists.Lists.with_most.Goals as goal
 
 pub invariant_of-result : goal.invariant_of-result
 invariant_of-result g c =
-    kept_first _ c.args.cpus c.args.most (items_in c.in_ok-lists.lists.items) c.in_ok-visits.visits c.requires.some
-    c.requires.few c.requires.most_some c.requires.most_few c.in_ok-lists.ensures.state c.in_ok-visits.ensures.state
+    kept_first _ c.args.cpus c.args.most (items_in c.in_ok-lists.lists.items) c.in_ok-visits.visits
+    c.requires.some c.requires.few c.requires.most_some c.requires.most_few
+    c.in_ok-lists.ensures.state c.in_ok-visits.ensures.state

@@ -10,4 +10,5 @@ pub returns-clause-first : goal.returns-clause-first
 returns-clause-first g c =
     let s = c.self.inside.segments in
     subst (λ v. begins_with_marker v.items ≡ false) c.self.view_is
-    (now_first s.wait_number s.ready_number s.items.items s.done s.wait s.ready s.calls c.self.inside.segments.cut)
+    (now_first s.wait_number s.ready_number s.items.items s.done s.wait s.ready s.calls
+    c.self.inside.segments.cut)

@@ -11,4 +11,5 @@ returns-in_default-clause-fault g c =
     let room = ap (λ l. l.room) c.self.view_is in
     let items = ap (λ l. length l.items) c.self.view_is in
     let full = c.in_default.ensures.full in
-    entrain_refused c.args.self.now (sym c.is_empty.ensures.empty ∙ c.if-is_empty.false) (omega arith)
+    entrain_refused c.args.self.now (sym c.is_empty.ensures.empty ∙ c.if-is_empty.false)
+    (omega arith)

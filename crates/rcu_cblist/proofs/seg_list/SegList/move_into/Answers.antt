@@ -11,9 +11,15 @@ returns-clause-target g c =
     let s = c.self.inside.segments in
     let t = c.target.inside.segments in
     let leaving = as_it_leaves (seen s) c.args.marked in
-    rw (← c.self.view_is, ← c.target.view_is) (c.carry_into.ensures.target ∙
-    ap (λ xs. after_migrate (joined t.wait_number t.ready_number (take t.done.items xs) (between t.done.items t.wait.items xs)
-    (between t.wait.items t.ready.items xs) (drop t.ready.items xs)) leaving) c.reserve.ensures.items)
+    rw (← c.self.view_is, ← c.target.view_is)
+    (c.carry_into.ensures.target
+    ∙ ap (λ xs.
+    after_migrate
+    (joined t.wait_number t.ready_number (take t.done.items xs)
+    (between t.done.items t.wait.items xs) (between t.wait.items t.ready.items xs)
+    (drop t.ready.items xs))
+    leaving)
+    c.reserve.ensures.items)
 
 pub returns-then-is_empty-clause-state : goal.returns-then-is_empty-clause-state
 returns-then-is_empty-clause-state g c =

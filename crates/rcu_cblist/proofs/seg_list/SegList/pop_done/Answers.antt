@@ -20,7 +20,8 @@ returns-then-done_count-eq0-clause-state g c =
     let test = c.if-done_count-eq0.true in
     let first : begins_with_marker c.args.self.now.items ≡ false =
     subst (λ v. begins_with_marker v.items ≡ false) c.self.view_is
-    (now_first s.wait_number s.ready_number s.items.items s.done s.wait s.ready s.calls c.self.inside.segments.cut) in
+    (now_first s.wait_number s.ready_number s.items.items s.done s.wait s.ready s.calls
+    c.self.inside.segments.cut) in
     list_is _ _ _ _ (sym (untaken_none 1 c.args.self.now.items first (omega arith))) refl
 
 pub returns-then-done_count-eq0-clause-answer : goal.returns-then-done_count-eq0-clause-answer

@@ -16,8 +16,9 @@ take-markers-requires-clause-done g c =
     omega arith
 
 -- as many as may be taken, or all that are done
-fewer : (g : _) (c : goal.After-take-markers g) →
-    take_answer (seen c.self.inside.segments) c.min-most.result ≡ take_answer (seen c.self.inside.segments) c.args.max
+fewer : (g : _) (c : goal.After-take-markers g)
+    → take_answer (seen c.self.inside.segments) c.min-most.result
+    ≡ take_answer (seen c.self.inside.segments) c.args.max
 fewer g c =
     let most = c.min-most.ensures in
     let done = c.done_count.ensures.count in
@@ -27,8 +28,11 @@ fewer g c =
 pub returns-clause-calls : goal.returns-clause-calls
 returns-clause-calls g c =
     let s = seen c.self.inside.segments in
-    rw (← c.self.view_is) (c.take-markers.ensures.calls ∙
-    (ap (λ l. l ++ take_answer s c.min-most.result) (c.reserve.ensures.items ∙ c.new-calls.ensures.items) ∙ fewer g c))
+    rw (← c.self.view_is)
+    (c.take-markers.ensures.calls
+    ∙ (ap (λ l. l ++ take_answer s c.min-most.result)
+    (c.reserve.ensures.items ∙ c.new-calls.ensures.items)
+    ∙ fewer g c))
 
 pub returns-clause-markers : goal.returns-clause-markers
 returns-clause-markers g c =

@@ -1,9 +1,11 @@
-use Rattle.std.proofs.Common.{◌≡◌, ◌<◌, ◌+◌, ◌++◌, length, take, drop, ap, sym, ◌∙◌, take-append-drop, arith}
+use Rattle.std.proofs.Common.{◌≡◌, ◌<◌, ◌+◌, ◌++◌, length, take, drop, ap, sym, ◌∙◌}
+use Rattle.std.proofs.Common.{take-append-drop, arith}
 use Rattle.rcu_cblist.specs.SegList.{as_it_leaves, callbacks}
 use Rattle.rcu_cblist.specs.Kept.{moved_behind, moved_in_front, unmarked}
 use Rattle.rcu_cblist.specs.Segments.{seen}
 use Rattle.rcu_cblist.proofs.Cuts.{calls_joined, calls_within}
-use Rattle.rcu_cblist.proofs.Carrying.{Leaves, behind_calls, carried_seen, carried_tails, front_calls, leaves, tail_few}
+use Rattle.rcu_cblist.proofs.Carrying.{Leaves, behind_calls, carried_seen, carried_tails}
+use Rattle.rcu_cblist.proofs.Carrying.{front_calls, leaves, tail_few}
 use Rattle.rcu_cblist.proofs.segments.Segments.carry_into.Goals as goal
 
 pub rise-requires-clause-calls : goal.rise-requires-clause-calls
@@ -17,7 +19,8 @@ rise-requires-clause-calls g c =
     let ok_there = t.items.ok in
     let small = s.items.small in
     let small_there = t.items.small in
-    let fits : t.done.calls + c.lose_numbers.new.self.ready.calls < 18446744073709551616 = omega arith in
+    let fits : t.done.calls + c.lose_numbers.new.self.ready.calls < 18446744073709551616 =
+    omega arith in
     fits
 
 pub rise-requires-2-clause-calls : goal.rise-requires-2-clause-calls
@@ -62,15 +65,16 @@ overflow_add-target g c =
     omega arith
 
 -- what goes in front and behind
-parts : (g : _) (c : goal.After-rise-3 g) →
-    let s = c.args.self.now in
-    Leaves (as_it_leaves (seen s) c.args.marked) (moved_in_front s.items.items s.done.items c.args.marked)
-    (moved_behind s.items.items s.done.items c.args.marked)
+parts : (g : _) (c : goal.After-rise-3 g)
+    → let s = c.args.self.now in
+      Leaves (as_it_leaves (seen s) c.args.marked)
+      (moved_in_front s.items.items s.done.items c.args.marked)
+      (moved_behind s.items.items s.done.items c.args.marked)
 parts g c =
     let s = c.args.self.now in
     let k = c.args.self.now.cut in
-    leaves s.wait_number s.ready_number s.done.items s.wait.items s.ready.items s.items.items c.args.marked k.wait_behind
-    k.ready_behind k.ready_tail.within k.segments c.requires.some
+    leaves s.wait_number s.ready_number s.done.items s.wait.items s.ready.items s.items.items
+    c.args.marked k.wait_behind k.ready_behind k.ready_tail.within k.segments c.requires.some
 
 -- where they went
 around : (g : _) (c : goal.After-rise-3 g) →
@@ -98,8 +102,9 @@ ahead_calls : (g : _) (c : goal.After-rise-3 g) →
     ≡ length (callbacks (unmarked (moved_in_front s.items.items s.done.items c.args.marked)))
 ahead_calls g c =
     let s = c.args.self.now in
-    ap (λ tail. tail.calls) c.lose_numbers.ensures.next ∙
-    (c.args.self.now.cut.done_tail.calls ∙ sym (front_calls s.items.items s.done.items c.args.marked))
+    ap (λ tail. tail.calls) c.lose_numbers.ensures.next
+    ∙ (c.args.self.now.cut.done_tail.calls
+    ∙ sym (front_calls s.items.items s.done.items c.args.marked))
 
 pub invariant_of-target : goal.invariant_of-target
 invariant_of-target g c =
@@ -115,12 +120,15 @@ invariant_of-target g c =
     let own = c.args.self.now.cut.counted in
     let same = c.lose_numbers.ensures.calls in
     record {
-      cut = rw (around g c) (carried_tails t.wait_number t.ready_number (moved_in_front xs s.done.items m) t.items.items
-          (moved_behind xs s.done.items m) t.done t.wait t.ready
-          (record { items = c.join_marked.result; calls = c.lose_numbers.new.self.ready.calls }) t.calls c.args.target.now.cut
-          p.front_first p.behind_first (ahead g c) (ahead_calls g c) c.rise.new.self c.rise-2.new.self c.rise-3.new.self
-          (t.calls + c.lose_numbers.new.self.calls) c.rise.ensures.items c.rise.ensures.calls c.rise-2.ensures.items
-          c.rise-2.ensures.calls c.rise-3.ensures.items c.rise-3.ensures.calls (omega arith));
+      cut = rw (around g c)
+          (carried_tails t.wait_number t.ready_number (moved_in_front xs s.done.items m)
+          t.items.items (moved_behind xs s.done.items m) t.done t.wait t.ready
+          (record { items = c.join_marked.result; calls = c.lose_numbers.new.self.ready.calls })
+          t.calls c.args.target.now.cut p.front_first p.behind_first (ahead g c) (ahead_calls g c)
+          c.rise.new.self c.rise-2.new.self c.rise-3.new.self
+          (t.calls + c.lose_numbers.new.self.calls) c.rise.ensures.items c.rise.ensures.calls
+          c.rise-2.ensures.items c.rise-2.ensures.calls c.rise-3.ensures.items
+          c.rise-3.ensures.calls (omega arith));
     }
 
 pub returns-clause-target : goal.returns-clause-target
@@ -130,8 +138,11 @@ returns-clause-target g c =
     let xs = s.items.items in
     let m = c.args.marked in
     let p = parts g c.before.before in
-    rw (around g c.before.before) (carried_seen t.wait_number t.ready_number (moved_in_front xs s.done.items m) t.items.items
+    rw (around g c.before.before)
+    (carried_seen t.wait_number t.ready_number (moved_in_front xs s.done.items m) t.items.items
     (moved_behind xs s.done.items m) t.done t.wait t.ready
-    (record { items = c.join_marked.result; calls = c.lose_numbers.new.self.ready.calls }) t.calls c.args.target.now.cut
-    p.front_first p.behind_first (ahead g c.before.before) (ahead_calls g c.before.before) (as_it_leaves (seen s) m) c.rise.new.self.items
-    c.rise-2.new.self.items c.rise-3.new.self.items p c.rise.ensures.items c.rise-2.ensures.items c.rise-3.ensures.items)
+    (record { items = c.join_marked.result; calls = c.lose_numbers.new.self.ready.calls }) t.calls
+    c.args.target.now.cut p.front_first p.behind_first (ahead g c.before.before)
+    (ahead_calls g c.before.before) (as_it_leaves (seen s) m) c.rise.new.self.items
+    c.rise-2.new.self.items c.rise-3.new.self.items p c.rise.ensures.items c.rise-2.ensures.items
+    c.rise-3.ensures.items)

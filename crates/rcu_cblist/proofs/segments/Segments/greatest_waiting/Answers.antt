@@ -31,5 +31,6 @@ returns-else-self-2 g c =
     let none = c.if-self.false in
     let none_too = c.if-self-2.false in
     let xs = s.items.items in
-    greatest_none s.wait_number s.ready_number (take s.done.items xs) (between s.done.items s.wait.items xs)
-    (between s.wait.items s.ready.items xs) (drop s.ready.items xs) (omega arith) (omega arith)
+    greatest_none s.wait_number s.ready_number (take s.done.items xs)
+    (between s.done.items s.wait.items xs) (between s.wait.items s.ready.items xs)
+    (drop s.ready.items xs) (omega arith) (omega arith)

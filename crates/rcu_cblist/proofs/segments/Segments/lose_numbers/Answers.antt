@@ -17,7 +17,8 @@ invariant_of-self g c =
         counted = k.counted;
         wait_behind = omega arith;
         ready_behind = omega arith;
-        segments = segments_at _ _ xs _ _ _ _ _ _ _ (cut_lost xs s.done.items s.wait.items s.ready.items k.wait_behind k.ready_behind)
+        segments = segments_at _ _ xs _ _ _ _ _ _ _
+            (cut_lost xs s.done.items s.wait.items s.ready.items k.wait_behind k.ready_behind)
             (segments_lost _ _ _ _ _ _ k.segments);
       };
     }

@@ -14,4 +14,8 @@ overflow_add-self g c =
 pub invariant_of-self : goal.invariant_of-self
 invariant_of-self g c =
     let s = c.args.self.now in
-    record { cut = rw c.push_back_reserved.ensures.items (pushed s.items.items c.args.call s.done s.wait s.ready s.calls s.wait_number s.ready_number c.args.self.now.cut) }
+    record {
+      cut = rw c.push_back_reserved.ensures.items
+          (pushed s.items.items c.args.call s.done s.wait s.ready s.calls s.wait_number
+          s.ready_number c.args.self.now.cut)
+    }

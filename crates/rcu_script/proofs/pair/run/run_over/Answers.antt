@@ -6,12 +6,12 @@ use Rattle.rcu_script.proofs.pair.run.run_over.Goals as goal
 
 pub returns-in-Ok-run : goal.returns-in-Ok-run
 returns-in-Ok-run g c =
-    finished_from _ _ (λ lines text told. told.1
-    ∙ ap (λ (p : Pair). pair_replies p lines) c.in-Ok.ensures.state) _ _ _ (sym c.in-Ok.ensures.fault)
-    (c.in-Ok-run.ensures (refl, refl))
+    finished_from _ _
+    (λ lines text told. told.1 ∙ ap (λ (p : Pair). pair_replies p lines) c.in-Ok.ensures.state) _ _
+    _ (sym c.in-Ok.ensures.fault) (c.in-Ok-run.ensures (refl, refl))
 
 pub returns : goal.returns
 returns g c =
-    stopped_from _ _ (λ lines text told. told.1
-    ∙ ap (λ (p : Pair). pair_replies p lines) c.in-Ok.ensures.state) _ _ _ _ _ c.stopped.ensures (sym c.in-Ok.ensures.fault)
-    (c.in-Err-run.ensures (refl, refl))
+    stopped_from _ _
+    (λ lines text told. told.1 ∙ ap (λ (p : Pair). pair_replies p lines) c.in-Ok.ensures.state) _ _
+    _ _ _ c.stopped.ensures (sym c.in-Ok.ensures.fault) (c.in-Err-run.ensures (refl, refl))
