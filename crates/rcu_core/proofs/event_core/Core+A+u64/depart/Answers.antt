@@ -8,7 +8,8 @@ use Rattle.rcu_core.proofs.event_core.Core+A+u64.depart.Goals as goal
 
 pub returns-in_err-moved : goal.returns-in_err-moved
 returns-in_err-moved g c =
-    let p = err_from_is_err_and c.from_residual-in_err-moved.result c.from_residual-in_err-moved.ensures.1 in
+    let p = err_from_is_err_and c.from_residual-in_err-moved.result
+    c.from_residual-in_err-moved.ensures.1 in
     let accepted =
     subst (λ (v : State ℕ). fault_in (size_at v) (says v) (Offline c.args.cpu) ≡ None)
     (sym c.self.view_is) (sym c.in_ok-place.ensures.fault) in
