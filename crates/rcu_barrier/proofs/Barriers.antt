@@ -88,7 +88,7 @@ module _ {X : Type 0} where
       → Barrier b
       (cond seen all
       (record (with_list all cpu (after_entrain (list_of all cpu))) {
-        visited = set all.visited cpu true
+        visited = set all.visited cpu true;
       }))
   visited b cpu all true f = f
   visited b cpu all false f = record {
@@ -128,7 +128,7 @@ module _ {X : Type 0} where
   tested b all true f = record {
     covered = λ r c v. absurd (cc);
     before_le = f.before_le;
-    sized = f.sized
+    sized = f.sized;
   }
   tested b all false f = f
 

@@ -22,7 +22,7 @@ module _ {X : Type 0} where
   covered-append b (Marker ∷ xs) ys p q = covered-append b xs ys p q
   covered-append b (Of call mark ∷ xs) ys p q = (
     (λ l. let i = markers_append xs ys in let k = p.0 l in omega (arith, i, k)),
-    covered-append b xs ys p.1 q
+    covered-append b xs ys p.1 q,
   )
 
   covered-marked : (b : ℕ) (xs : List (Item X)) → Covered b (xs ++ Marker ∷ [])
@@ -41,7 +41,7 @@ module _ {X : Type 0} where
   covered-remarked b f (Marker ∷ xs) p = covered-remarked b f xs p
   covered-remarked b f (Of call mark ∷ xs) p = (
     (λ l. let i = markers_remarked f xs in let k = p.0 l in omega (arith, i, k)),
-    covered-remarked b f xs p.1
+    covered-remarked b f xs p.1,
   )
 
   pub covered-from : (b n : ℕ) (xs : List (Item X)) → Covered b xs → Covered b (from_callback n xs)
@@ -63,7 +63,7 @@ module _ {X : Type 0} where
       (covered-remarked b (λ _. Unmarked) (Of call (Until n) ∷ xs) p)
   covered-moved b (Of call Done ∷ xs) ys p q = (
     (λ l. let i = markers_moved xs ys in let k = p.0 l in omega (arith, i, k)),
-    covered-moved b xs ys p.1 q
+    covered-moved b xs ys p.1 q,
   )
 
   -- a list that is visited now, or was already

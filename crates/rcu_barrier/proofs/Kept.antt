@@ -66,13 +66,13 @@ pub relisted : {X : Type 0} (all : AllLists X) (m n queued cpu : ℕ) (old xs : 
     → queued ≤ all.most
     → (AreFours old → AreFours xs)
     → (n ≡ markers_in (set all.lists cpu xs))
-      × IsSound (record {
-        lists = set all.lists cpu xs;
-        visited = flags;
-        running = all.running;
-        queued = queued;
-        most = all.most;
-      })
+    × IsSound (record {
+      lists = set all.lists cpu xs;
+      visited = flags;
+      running = all.running;
+      queued = queued;
+      most = all.most;
+    })
 relisted all m n queued cpu old xs flags count kept inside read sized now fewer few keeps =
     let is = list_is all.lists cpu old inside read in
     let change = markers_set all.lists cpu xs inside in
@@ -119,13 +119,13 @@ pub moved_kept : {X : Type 0} (all : AllLists X) (m n cpu : ℕ) (owed : Bool) (
     → n ≡ m + (if owed && not (is_empty (list_of all cpu)) then 1 else 0)
     → unvisited flags + (if owed then 1 else 0) ≡ unvisited all.visited
     → (n ≡ markers_in (lists_after_move all.lists cpu owed))
-      × IsSound (record {
-        lists = lists_after_move all.lists cpu owed;
-        visited = flags;
-        running = all.running;
-        queued = all.queued;
-        most = all.most;
-      })
+    × IsSound (record {
+      lists = lists_after_move all.lists cpu owed;
+      visited = flags;
+      running = all.running;
+      queued = all.queued;
+      most = all.most;
+    })
 moved_kept all m n cpu owed flags count kept other inside sized now fewer =
     let old = get_or all.lists cpu [] in
     let xs = as_it_leaves old owed in

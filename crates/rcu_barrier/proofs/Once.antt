@@ -70,7 +70,7 @@ module _ {X : Type 0} where
       → listed j
       (cond seen all
       (record (with_list all cpu (after_entrain (list_of all cpu))) {
-        visited = set all.visited cpu true
+        visited = set all.visited cpu true;
       })).lists
       ≡ listed j all.lists
   visited_lists j cpu all within true = refl
@@ -81,7 +81,7 @@ module _ {X : Type 0} where
   visited_queued : (cpu : ℕ) (all : AllLists X) (seen : Bool)
       → (cond seen all
       (record (with_list all cpu (after_entrain (list_of all cpu))) {
-        visited = set all.visited cpu true
+        visited = set all.visited cpu true;
       })).queued
       ≡ all.queued
   visited_queued cpu all true = refl
@@ -182,7 +182,7 @@ module _ {X : Type 0} where
       record {
         once = omega (arith, a, l);
         there = λ z b. absurd (omega (arith, b, q, z));
-        later = λ b. omega (arith, a, l)
+        later = λ b. omega (arith, a, l);
       }
   once_each j first (call ∷ calls) new is =
       once_step j first call calls is.0 (once_each j first calls new is.1)

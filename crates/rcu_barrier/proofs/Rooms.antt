@@ -142,7 +142,7 @@ module _ {X : Type 0} where
       → 0 < from
       → from < length lists
       → items_in (set front 0 first ++ set back (from - 1) other)
-        ≡ set (set (items_in lists) 0 first.items) from other.items
+      ≡ set (set (items_in lists) 0 first.items) from other.items
   two_items [] front back from first other is_front is_back above inside = absurd (omega arith)
   two_items (x ∷ xs) front back zero first other is_front is_back above inside =
       absurd (omega arith)

@@ -135,7 +135,7 @@ module _ {X : Type 0} where
   lists_after_queue all cpu at x =
       let call : Queued X = record { ord = all.queued + 1; at = at; value = x } in
       record (with_list all cpu (list_of all cpu ++ Of call Unmarked ∷ [])) {
-        queued = all.queued + 1
+        queued = all.queued + 1;
       }
 
   -- the processor's list is tended at this number
@@ -195,7 +195,7 @@ module _ {X : Type 0} where
   abbrev pub lists_after_barrier_begin : AllLists X → AllLists X
   lists_after_barrier_begin all = record all {
     visited = replicate (cpus_of all) false;
-    running = true
+    running = true;
   }
 
   -- a visit of a processor: where it is unvisited, a marker behind its list, if that is not empty
@@ -204,7 +204,7 @@ module _ {X : Type 0} where
       if is_visited all cpu
       then all
       else record (with_list all cpu (after_entrain (list_of all cpu))) {
-        visited = slice_set all.visited cpu true
+        visited = slice_set all.visited cpu true;
       }
 
   -- why a visit is refused: no barrier runs, or memory was refused

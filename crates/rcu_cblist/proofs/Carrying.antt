@@ -79,7 +79,7 @@ module _ {X : Type 0} where
           → (test : Bool) → nat_lt d (length xs) ≡ test
           → Leaves leaving (take d' (xs ++ kept.Marker ∷ [])) (drop d' (xs ++ kept.Marker ∷ []))
           → Leaves leaving (take d xs ++ (if test then [] else kept.Marker ∷ []))
-            (drop d xs ++ (if test then kept.Marker ∷ [] else []))
+          (drop d xs ++ (if test then kept.Marker ∷ [] else []))
       at d' is true before h =
           let under : d < length xs = grind (arith, nat_tests) in
           let same = stays (length xs) d d' is under in

@@ -151,7 +151,7 @@ module _ {X : Type 0} where
     is_done = sym (joins d w xs first);
     is_wait = refl;
     is_ready = nothing r xs;
-    is_next = refl
+    is_next = refl;
   }
 
   pub segments_one : (a b : ℕ) (D W R N : List (Kept X)) → AreSegments a b D W R N

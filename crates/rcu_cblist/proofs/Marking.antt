@@ -138,7 +138,7 @@ module _ {X : Type 0} where
           is_done = refl;
           is_wait = refl;
           is_ready = refl;
-          is_next = drop_all r xs (omega arith)
+          is_next = drop_all r xs (omega arith);
         })
         (record {
           is_done =

@@ -339,7 +339,7 @@ module _ {X : Type 0} where
       let same : 0 < length R → b ≡ snap =
       λ some.
       (let least = above some in
-       let least_too = most_ready snap a b D W R N h most some in omega arith) in
+      let least_too = most_ready snap a b D W R N h most some in omega arith) in
       let alone =
       numbers_two snap a b D W R N (λ some under. refl)
       (λ some under. absurd (let is = same some in omega arith)) in
@@ -360,7 +360,7 @@ module _ {X : Type 0} where
       let same : 0 < length W → a ≡ snap =
       λ some.
       (let least = above some in
-       let least_too = most_wait snap a b D W R N h most some in omega arith) in
+      let least_too = most_wait snap a b D W R N h most some in omega arith) in
       let none : 0 < length R → ⊥ =
       λ some. (let is = same (h.filled some) in let order = h.ascending some in
       let least = most_ready snap a b D W R N h most some in omega arith) in

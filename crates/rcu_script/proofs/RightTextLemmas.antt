@@ -49,7 +49,7 @@ right_lines size h (line ∷ lines) =
     let rest = right_lines size next lines in
     let first = reply_to size h (asked_by line) in (
       rest.0,
-      (first, next, replies size next lines, right_line size h (asked_by line), refl, rest.1)
+      (first, next, replies size next lines, right_line size h (asked_by line), refl, rest.1),
     )
 
 pub right_is_answer : (size : Size) (lines : List (List ℕ))

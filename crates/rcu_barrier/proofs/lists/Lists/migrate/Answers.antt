@@ -31,7 +31,7 @@ invariant_of-self-2 g c =
       visited = i.visits;
       running = i.running;
       queued = i.queued;
-      most = i.most
+      most = i.most;
     } in
     let inside : cpu < length (items_in i.lists.items) =
     subst (λ v. cpu < length v.all.lists) (sym c.self.view_is) c.requires.cpu in
@@ -67,7 +67,7 @@ invariant_of-self-2 g c =
       visited = s.visits;
       running = s.running;
       queued = s.queued;
-      most = s.most
+      most = s.most;
     }) in
     let Kept : List Bool → List (List (Item g.row.T.Denot)) → Type 0 = λ flags lists.
     (i.markers + c.from.result ≡ markers_in lists)
@@ -76,7 +76,7 @@ invariant_of-self-2 g c =
       visited = flags;
       running = i.running;
       queued = i.queued;
-      most = i.most
+      most = i.most;
     }) in
     elim c.if-owed.branch [
       | then-owed w ↦

@@ -39,7 +39,7 @@ invariant_of-self g c =
       visited = i.visits;
       running = i.running;
       queued = i.queued;
-      most = i.most
+      most = i.most;
     }))
     (sym same) c.self.invariant
 

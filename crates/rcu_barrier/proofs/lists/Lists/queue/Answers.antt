@@ -22,7 +22,7 @@ invariant_of-self g c =
       visited = i.visits;
       running = i.running;
       queued = i.queued;
-      most = i.most
+      most = i.most;
     }))
     (sym same) c.self.invariant
 
@@ -36,7 +36,7 @@ returns-in-Err-clause-unchanged g c =
       visited = i.visits;
       running = i.running;
       queued = i.queued;
-      most = i.most
+      most = i.most;
     })
     same
     ∙ ap (λ v. v.all) c.self.view_is
@@ -56,7 +56,7 @@ returns-clause-state g c =
       visited = i.visits;
       running = i.running;
       queued = i.queued + 1;
-      most = i.most
+      most = i.most;
     })
     longer)
 

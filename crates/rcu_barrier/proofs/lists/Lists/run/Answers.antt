@@ -37,7 +37,7 @@ invariant_of-self g c =
       visited = i.visits;
       running = i.running;
       queued = i.queued;
-      most = i.most
+      most = i.most;
     }))
     (sym same) c.self.invariant
 
@@ -56,7 +56,7 @@ returns-in_err-calls-clause-unchanged g c =
       visited = i.visits;
       running = i.running;
       queued = i.queued;
-      most = i.most
+      most = i.most;
     })
     same)
     rooms

@@ -15,7 +15,7 @@ invariant_of-self g c =
       visited = i.visits;
       running = i.running;
       queued = i.queued;
-      most = i.most
+      most = i.most;
     }))
     (sym same) c.self.invariant
 
@@ -29,7 +29,7 @@ returns-clause-state g c =
       visited = i.visits;
       running = i.running;
       queued = i.queued;
-      most = i.most
+      most = i.most;
     })
     same
     ∙ ap (λ v. v.all) c.self.view_is

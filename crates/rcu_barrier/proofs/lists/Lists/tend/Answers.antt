@@ -84,7 +84,7 @@ returns-clause-state g c =
       visited = i.visits;
       running = i.running;
       queued = i.queued;
-      most = i.most
+      most = i.most;
     })
     (set_items i.lists.items c.args.cpu c.accelerate.new.self
     ∙ ap (λ l. set (items_in i.lists.items) c.args.cpu l) after))

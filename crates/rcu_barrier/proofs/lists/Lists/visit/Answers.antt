@@ -68,7 +68,7 @@ invariant_of-self g c =
       visited = i.visits;
       running = i.running;
       queued = i.queued;
-      most = i.most
+      most = i.most;
     }))
     (sym same) c.self.invariant
 
@@ -84,7 +84,7 @@ returns-in_err-marked-clause-unchanged g c =
       visited = i.visits;
       running = i.running;
       queued = i.queued;
-      most = i.most
+      most = i.most;
     })
     same
     ∙ ap (λ v. v.all) c.self.view_is)

@@ -67,9 +67,9 @@ overflow_add-target g c =
 -- what goes in front and behind
 parts : (g : _) (c : goal.After-rise-3 g)
     → let s = c.args.self.now in
-      Leaves (as_it_leaves (seen s) c.args.marked)
-      (moved_in_front s.items.items s.done.items c.args.marked)
-      (moved_behind s.items.items s.done.items c.args.marked)
+    Leaves (as_it_leaves (seen s) c.args.marked)
+    (moved_in_front s.items.items s.done.items c.args.marked)
+    (moved_behind s.items.items s.done.items c.args.marked)
 parts g c =
     let s = c.args.self.now in
     let k = c.args.self.now.cut in

@@ -16,6 +16,6 @@ returns g c =
     let third = length_between s.wait.items s.ready.items xs k.ready_tail.within in
     let last : length (drop s.ready.items xs) ≡ c.len.result - s.ready.items =
     (let ok = s.items.ok in
-     let len = c.len.ensures in let rest = length-drop s.ready.items xs in omega arith) in
+    let len = c.len.ensures in let rest = length-drop s.ready.items xs in omega arith) in
     (rw (first, second, third, last) refl)
     ∙ lengths_joined s.wait_number s.ready_number _ _ _ _ k.segments

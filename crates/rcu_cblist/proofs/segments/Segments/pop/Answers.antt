@@ -92,10 +92,10 @@ call g c =
 -- what is left of the list
 left : (g : _) (c : goal.After-fall-3 g)
     → joined c.args.self.now.wait_number c.args.self.now.ready_number
-      (take c.fall.new.self.items c.pop_first-call.new.items.items)
-      (between c.fall.new.self.items c.fall-2.new.self.items c.pop_first-call.new.items.items)
-      (between c.fall-2.new.self.items c.fall-3.new.self.items c.pop_first-call.new.items.items)
-      (drop c.fall-3.new.self.items c.pop_first-call.new.items.items)
+    (take c.fall.new.self.items c.pop_first-call.new.items.items)
+    (between c.fall.new.self.items c.fall-2.new.self.items c.pop_first-call.new.items.items)
+    (between c.fall-2.new.self.items c.fall-3.new.self.items c.pop_first-call.new.items.items)
+    (drop c.fall-3.new.self.items c.pop_first-call.new.items.items)
     ≡ after_take (seen c.args.self.now) 1
 left g c =
     let s = c.args.self.now in

@@ -17,5 +17,5 @@ invariant_of-self g c =
     record {
       cut = rw c.push_back_reserved.ensures.items
           (pushed s.items.items c.args.call s.done s.wait s.ready s.calls s.wait_number
-          s.ready_number c.args.self.now.cut)
+          s.ready_number c.args.self.now.cut);
     }

@@ -8,13 +8,13 @@ use Rattle.rcu_cblist.proofs.segments.Segments.push_marker.Goals as goal
 -- what the places are once the marker is there
 ends : (g : _) (c : goal.After-pass_marker-3 g)
     → let s = c.args.self.now in
-      let ys = s.items.items ++ kept.Marker ∷ [] in
-      let done = c.pass_marker.new.self in
-      let wait = c.pass_marker-2.new.self in
-      let ready = c.pass_marker-3.new.self in
-      AreTails ys done wait ready s.calls s.wait_number s.ready_number
-      × Marked s.wait_number s.ready_number s.items.items ys s.done.items s.wait.items s.ready.items
-      done.items wait.items ready.items
+    let ys = s.items.items ++ kept.Marker ∷ [] in
+    let done = c.pass_marker.new.self in
+    let wait = c.pass_marker-2.new.self in
+    let ready = c.pass_marker-3.new.self in
+    AreTails ys done wait ready s.calls s.wait_number s.ready_number
+    × Marked s.wait_number s.ready_number s.items.items ys s.done.items s.wait.items s.ready.items
+    done.items wait.items ready.items
 ends g c =
     let s = c.args.self.now in
     let k = c.args.self.now.cut in
