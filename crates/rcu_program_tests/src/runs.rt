@@ -4,7 +4,7 @@ ghost use Rattle.std.specs.Prelude.{◌≤◌};
 ghost use Rattle.rcu_stress.specs.Ledger.{most_rounds, most_workers};
 
 use rcu_seq::Fault;
-use rcu_stress::{Gate, Open, Point, Share, torture};
+use rcu_stress::{Gate, LedgerShare, Open, Point, torture};
 use std::alloc::Global;
 use std::io::Print;
 use std::process::Abort;
@@ -257,7 +257,7 @@ fn workers_hand_out<R: Threads + Wait + Clock + Sync>(
         return false;
     };
     let others = ledger.shares().iter().skip(1);
-    ledger.own().ran() < ledger.ran() && others.map(Share::ran).any(|ran| ran > 0)
+    ledger.own().ran() < ledger.ran() && others.map(LedgerShare::ran).any(|ran| ran > 0)
 }
 
 /// Grace periods end beside the readers. Where the growth was refused to the run or to a thread of

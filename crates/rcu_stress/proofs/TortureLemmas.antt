@@ -1,7 +1,7 @@
 -- What a torture run counts, and the numbers of its workers.
-use Rattle.std.proofs.Common.{◌≡◌, ℕ, ◌<◌, List, [], ◌∷◌, All, cond, count_by, arith, take}
+use Rattle.std.proofs.Common.{◌≡◌, ℕ, ◌<◌, List, [], ◌∷◌, All, cond, count_by, arith, subst}
 use Rattle.std.proofs.lemmas.Bool.{le-ltb}
-use Rattle.std.proofs.lemmas.List.Elements.{All-head, All-tail, All-take}
+use Rattle.std.proofs.lemmas.List.Elements.{All-head, All-tail}
 use Rattle.std.specs.List.{range_with_len}
 use Rattle.std.proofs.lemmas.List.FromFn.{get_or-range_with_len, length-range_with_len}
 use Rattle.std.proofs.lemmas.List.Sums.{sum_by-cons}
@@ -28,7 +28,8 @@ all_below n = λ k d inside.
     let at = get_or-range_with_len 0 n k d (omega (arith, inside, long)) in
     omega (arith, at, inside, long)
 
--- what all are, the first ones are
-pub first_ones_are : {X : Type 0} (P : X → Type 0) (n : ℕ) (xs ys : List X)
-    → ys ≡ take n xs → All P xs → All P ys
-first_ones_are P n xs ys is each = rw is (All-take P n xs each)
+-- what all are, the first one is, and those behind it are
+pub first_and_rest_are : {X : Type 0} (P : X → Type 0) {x : X} {xs ys : List X}
+    → xs ≡ x ∷ ys → All P xs → P x × All P ys
+first_and_rest_are P {x} {xs} {ys} is each =
+    let all = subst (All P) is each in (All-head P x ys all, All-tail P x ys all)

@@ -1,3 +1,5 @@
 pub mod Draws
+pub mod Engine
 pub mod Ledger
 pub mod Worker
+pub mod WorkerResults

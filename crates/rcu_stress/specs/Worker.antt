@@ -1,21 +1,42 @@
--- A worker of a torture run, and what its words say.
-use Rattle.std.specs.Prelude.{ℕ, ◌+◌, ◌*◌, ◌/◌, ◌%◌, ◌==◌, ◌&&◌, ◌⊎◌, if◌then◌else◌, Bool, false}
-use Rattle.std.specs.Prelude.{not}
+-- A worker of a torture run: what its words say, and what it does in a round.
+use Rattle.std.specs.Prelude.{◌≡◌, ℕ, ◌+◌, ◌*◌, ◌/◌, ◌%◌, ◌<◌, ◌≤◌, ◌==◌, ◌&&◌, ◌⊎◌, Bool, false}
+use Rattle.std.specs.Prelude.{not, true, if◌then◌else◌, All, IsSomeAnd, List, length}
 use Rattle.rand_pcg.specs.Lcg.{Lcg}
+use Rattle.rand_pcg.specs.Pcg.{pcg32}
+use Rattle.rcu_live.specs.Board.{Object}
 use Rattle.rcu_live.specs.CpuSeat.{Seated}
 use Rattle.rcu_live.specs.Watcher.{Watching}
+use Rattle.rcu_live.specs.declared.run.Ran.{Ran}
+use Rattle.rcu_stress.specs.Engine.{LockedAnswer, Collecting, Departing, Queueing, Running}
+use Rattle.rcu_stress.specs.Engine.{Tending, Turning}
+use Rattle.rcu_stress.specs.Ledger.{Counts, after_run, most_in_round}
+use Rattle.rcu_stress.specs.declared.engine.RoundAnswers.{RoundAnswers}
 use Rattle.rcu_stress.specs.declared.gate.Point.{Point}
 use Rattle.rcu_stress.specs.declared.gate.Point.TheVariants.{Entered, Polled}
-use Rattle.rcu_stress.specs.declared.job.Plan.{Plan}
+use Rattle.rcu_stress.specs.declared.job.RunSettings.{RunSettings}
 
--- a worker: its number, the plan of its run, the generator of its words, the seat of its processor
--- and its watcher
+-- a worker: its number, the settings of its run, the generator of its words, the seat of its
+-- processor and its watcher
 pub record Worker : Type 0 where
   pub worker : ℕ
-  pub plan : Plan
+  pub settings : RunSettings
   pub draws : Lcg
   pub seat : Seated (Unit {0})
   pub watcher : Watching (Unit {0})
+
+-- a seat and a watcher of this engine for each of so many workers; each seat is of a worker's
+-- processor
+pub record AreOfWorkers (engine : Object) (workers : ℕ) (seats : List (Seated (Unit {0})))
+    (watchers : List (Watching (Unit {0}))) : Type 0 where
+  pub seat_count : length seats ≡ workers
+  pub watcher_count : length watchers ≡ workers
+  pub each_seat : All (λ seat. seat.table ≡ engine.table) seats
+  pub each_cpu : All (λ seat. seat.cpu < workers) seats
+  pub each_watcher : All (λ watcher. watcher.table ≡ engine.table) watchers
+
+-- the word of a worker's next round
+abbrev pub word_of : Worker → ℕ
+word_of w = (pcg32 w.draws).0
 
 -- the id of the callback that a worker queues in a round of so many
 abbrev pub id_of : ℕ → ℕ → ℕ → ℕ
@@ -48,3 +69,54 @@ looks_by Polled = 2
 -- a gate that may give these answers stopped a worker at a place of a round
 abbrev pub IsStopped : (ℕ → Point → Bool → Type 0) → ℕ → Type 0
 IsStopped answers worker = answers worker Entered false ⊎ answers worker Polled false
+
+-- the seat is the same one, and has stored nothing since
+pub record HasStoredNothing (before after : Seated (Unit {0})) : Type 0 where
+  pub table : after.table ≡ before.table
+  pub cpu : after.cpu ≡ before.cpu
+  pub stored : after.view.stores ≡ before.view.stores
+
+-- a worker read: the gate let it pass at both places of its section, which is closed; its watcher
+-- looked twice, and its seat passed a quiescent state
+pub record HasRead (answers : ℕ → Point → Bool → Type 0) (before after : Worker) : Type 0 where
+  pub entered : answers before.worker Entered true
+  pub polled : answers before.worker Polled true
+  pub looked : after.watcher.view.loads ≡ before.watcher.view.loads + 2
+  pub closed : after.seat.depth ≡ 0
+  pub stored : after.seat.view.stores ≡ before.seat.view.stores + 1
+
+-- a run of a processor, of at most so many callbacks, was answered so to a worker whose seat had
+-- stored so often, and was taken down
+pub record HasHandedOut (answers : ℕ → LockedAnswer → Type 0) (stores cpu most : ℕ)
+    (before after : Counts) (ran : Ran ℕ) : Type 0 where
+  pub answered : answers stores (Running cpu most ran.number ran.calls.items)
+  pub few : length ran.calls.items ≤ most
+  pub taken : after ≡ record (after_run before ran.number ran.calls.items) { room = after.room }
+
+-- a round in which the gate let the worker pass, what it added to the share, and what the engine
+-- told. Once its seat had passed a quiescent state, the worker queued the round's callback,
+-- collected of the processor at which it looks, turned, and tended and ran its own; then it left,
+-- where its word says so
+pub record HasPassed (answers : ℕ → LockedAnswer → Type 0) (before : Worker) (counts : Counts)
+    (round : ℕ) (after : Worker) (now : Counts) (told : RoundAnswers) : Type 0 where
+  pub counted : now.queued ≡ counts.queued + 1
+  pub looked : after.watcher.view.loads ≡ before.watcher.view.loads + 2
+  pub stored : after.seat.view.stores
+      ≡ before.seat.view.stores + stores_by before.worker (word_of before)
+  pub queued : answers (before.seat.view.stores + 1)
+      (Queueing before.worker (id_of before.worker before.settings.rounds round) told.queued)
+  pub collected : answers (before.seat.view.stores + 1)
+      (Collecting (other_by before.settings.workers (word_of before)) told.driving.collected)
+  pub turned : answers (before.seat.view.stores + 1) (Turning told.driving.turned)
+  pub tended : answers (before.seat.view.stores + 1) (Tending before.worker told.driving.tended)
+  pub handed_out : answers (before.seat.view.stores + 1)
+      (Running before.worker most_in_round told.ran.number told.ran.calls.items)
+  pub departed : leaves_by before.worker (word_of before) ≡ true
+      → IsSomeAnd told.moved (λ moved. answers (before.seat.view.stores + 1) (Departing moved))
+
+-- a round in which a gate that may give these answers stopped the worker: it counted nothing but an
+-- early cookie
+pub record HasStopped (answers : ℕ → Point → Bool → Type 0) (worker : ℕ) (counts now : Counts)
+    : Type 0 where
+  pub stopped : IsStopped answers worker
+  pub kept : now ≡ record counts { early = now.early }

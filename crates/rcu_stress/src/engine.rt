@@ -1,15 +1,14 @@
 //! The engine that workers work, and what its answers show.
-ghost use Rattle.std.specs.Prelude.{◌≡◌, ℕ, List, IfErr, IfOk, OnErr, OnOk, true};
-ghost use Rattle.rcu_cblist.specs.declared.queued.Queued.{Queued};
+ghost use Rattle.std.specs.Prelude.{◌≡◌, ℕ, IfErr, IfOk, OnErr, OnOk, true};
 ghost use Rattle.rcu_live.specs.CpuSeat.{after_depart, after_quiesce};
 ghost use Rattle.rcu_live.specs.EngineLists.{AreDue, is_run_fault};
-ghost use Rattle.rcu_state.specs.declared.turned.Turned.{Turned};
-ghost use Rattle.rcu_live.specs.declared.collection.Collected.{Collected};
+ghost use Rattle.rcu_stress.specs.Engine.{Collecting, Departing, LockedAnswer, Queueing, Running};
+ghost use Rattle.rcu_stress.specs.Engine.{Tending, Turning};
 
 use rcu_cblist::Refused;
+use rcu_state::Turned;
 use rcu_live::{Collected, CpuSeat, Live, NoClient, Ran, Shared};
 use rcu_seq::Fault;
-use rcu_state::Turned;
 use std::sync::Wait;
 
 /// The engine of a run: a callback carries its id.
@@ -17,50 +16,40 @@ pub(crate) type Engine = Live<4, 4, u64>;
 
 /// The calls of an engine that take its lock, as workers make them.
 ///
-/// Each answer counts as told: by that of a collection of this processor, of a turn, and so on, to
-/// a worker whose seat had stored so often. Nothing else is known of the answers here. So a
-/// function that has to return what was told has to make the call, and at that place of its round.
-pub(crate) trait Locked: Shared<NoClient> + Drop {
-    // How often the worker's seat had stored, then of a collection the processor; of a queueing the
-    // processor, and the value.
-    ghost collected: { ℕ → ℕ → Collected → Type 0 };
-
-    ghost turned: { ℕ → Turned → Type 0 };
-
-    ghost tended: { ℕ → ℕ → (ℕ × ℕ) → Type 0 };
-
-    ghost queued: { ℕ → ℕ → ℕ → ℕ → Type 0 };
-
-    // Of a run the processor, how many it was to hand out at most, the number and what it did.
-    ghost handed_out: { ℕ → ℕ → ℕ → ℕ → List (Queued ℕ) → Type 0 };
-
-    ghost departed: { ℕ → ℕ → Type 0 };
+/// An answer is told to a worker whose seat had stored so often. Nothing else is known of the
+/// answers here. So a function that has to return what was told has to make the call, and at that
+/// place of its round.
+pub(crate) trait LockedCalls: Shared<NoClient> + Drop {
+    // It may answer a worker so whose seat had stored so often.
+    ghost answers: { ℕ → LockedAnswer → Type 0 };
 
     /// As [`Live::collect`].
     fn collect<R: Wait>(&self, rt: &R, seat: &CpuSeat, cpu: u32) -> Result<Collected, Fault>
-        ensures told { IfOk result (λ found. collected seat.now.view.stores cpu found) };
+        ensures told { IfOk result (λ found.
+            answers seat.now.view.stores (Collecting cpu found)) };
 
     /// As [`Live::turn`].
     fn turn<R: Wait>(&self, rt: &R, seat: &CpuSeat) -> Result<Turned, Fault>
-        ensures told { IfOk result (λ done. turned seat.now.view.stores done) };
+        ensures told { IfOk result (λ turned. answers seat.now.view.stores (Turning turned)) };
 
     /// As [`Live::tend`].
     fn tend<R: Wait>(&self, rt: &R, seat: &CpuSeat, cpu: u32) -> Result<(u64, u64), Fault>
-        ensures told { IfOk result (λ counts. tended seat.now.view.stores cpu counts) };
+        ensures told { IfOk result (λ counts.
+            answers seat.now.view.stores (Tending cpu counts)) };
 
     /// As [`Live::queue`].
     fn queue<R: Wait>(&self, rt: &R, seat: &mut CpuSeat, value: u64) -> Result<u64, Refused<u64>>
         requires { seat.old.table ≡ (Self.object self.now).table }
         ensures seat { seat.new ≡ seat.old }
         ensures told { IfOk result (λ count.
-            queued seat.old.view.stores seat.old.cpu value count) };
+            answers seat.old.view.stores (Queueing seat.old.cpu value count)) };
 
     /// As [`Live::run`].
     fn run<R: Wait>(&self, rt: &R, seat: &CpuSeat, cpu: u32, max: u64) -> Result<Ran<u64>, Fault>
         ensures due { IfOk result (λ ran. AreDue ran.number max ran.calls.items) }
         ensures fault { IfErr result (λ fault. is_run_fault fault ≡ true) }
         ensures told { IfOk result (λ ran.
-            handed_out seat.now.view.stores cpu max ran.number ran.calls.items) };
+            answers seat.now.view.stores (Running cpu max ran.number ran.calls.items)) };
 
     /// As [`Live::online`].
     fn online<R: Wait>(&self, rt: &R, seat: &mut CpuSeat) -> Result<(), Fault>
@@ -75,21 +64,12 @@ pub(crate) trait Locked: Shared<NoClient> + Drop {
         ensures table { seat.new.table ≡ seat.old.table }
         ensures cpu { seat.new.cpu ≡ seat.old.cpu }
         ensures stored { OnOk result (seat.new ≡ after_depart seat.old) }
-        ensures told { IfOk result (λ moved. departed seat.old.view.stores moved) };
+        ensures told { IfOk result (λ moved.
+            answers seat.old.view.stores (Departing moved)) };
 }
 
-impl Locked for Engine {
-    ghost collected = { λ _ _ _. Unit {0} };
-
-    ghost turned = { λ _ _. Unit {0} };
-
-    ghost tended = { λ _ _ _. Unit {0} };
-
-    ghost queued = { λ _ _ _ _. Unit {0} };
-
-    ghost handed_out = { λ _ _ _ _ _. Unit {0} };
-
-    ghost departed = { λ _ _. Unit {0} };
+impl LockedCalls for Engine {
+    ghost answers = { λ _ _. Unit {0} };
 
     fn collect<R: Wait>(&self, rt: &R, _seat: &CpuSeat, cpu: u32) -> Result<Collected, Fault> {
         Live::collect(self, rt, cpu)
@@ -122,7 +102,7 @@ impl Locked for Engine {
 
 /// What the engine told a worker that moved the grace periods on.
 #[derive(Clone, Copy)]
-pub(crate) struct Driven {
+pub(crate) struct DrivingAnswers {
     pub(crate) collected: Collected,
     pub(crate) turned: Turned,
     /// How many callbacks are done, and how many wait.
@@ -131,10 +111,10 @@ pub(crate) struct Driven {
 
 /// What the engine told a worker in a round.
 #[derive(Drop)]
-pub(crate) struct Told {
+pub(crate) struct RoundAnswers {
     /// How many callbacks were queued, this one among them.
     pub(crate) queued: u64,
-    pub(crate) driven: Driven,
+    pub(crate) driving: DrivingAnswers,
     pub(crate) ran: Ran<u64>,
     /// How many callbacks moved as its processor went offline, where it did.
     pub(crate) moved: Option<u64>,

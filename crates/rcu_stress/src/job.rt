@@ -7,15 +7,16 @@ ghost use Rattle.rcu_live.specs.CpuSeat.{after_depart, after_idle, after_quiesce
 ghost use Rattle.rcu_live.specs.EngineLists.{is_run_fault};
 ghost use Rattle.rcu_live.specs.Watcher.{after_watch};
 ghost use Rattle.rcu_stress.specs.Draws.{generator_of};
-ghost use Rattle.rcu_stress.specs.Ledger.{IsOfRounds, after_poll, after_run, most_in_round};
-ghost use Rattle.rcu_stress.specs.Ledger.{most_rounds};
-ghost use Rattle.rcu_stress.specs.Worker.{IsStopped, id_of, leaves_by, looks_by, other_by};
-ghost use Rattle.rcu_stress.specs.Worker.{sleeps_by, stores_by};
+ghost use Rattle.rcu_stress.specs.Engine.{Collecting, Departing, Queueing, Tending, Turning};
+ghost use Rattle.rcu_stress.specs.Ledger.{IsOfRounds, after_poll, most_rounds};
+ghost use Rattle.rcu_stress.specs.Worker.{HasHandedOut, HasPassed, HasRead, HasStopped};
+ghost use Rattle.rcu_stress.specs.Worker.{HasStoredNothing, IsStopped, id_of, leaves_by};
+ghost use Rattle.rcu_stress.specs.Worker.{looks_by, other_by, sleeps_by};
 
 use crate::draws::Draws;
-use crate::engine::{Driven, Locked, Told};
+use crate::engine::{DrivingAnswers, LockedCalls, RoundAnswers};
 use crate::gate::{Gate, Point};
-use crate::share::Share;
+use crate::share::LedgerShare;
 use rcu_live::{CpuSeat, Ran, Watcher};
 use rcu_seq::{Cookie, Fault};
 use std::alloc::Global;
@@ -30,12 +31,10 @@ const MOST_AT_END: u64 = 1_000_000;
 
 /// Opens a section of the seat, or nests deeper in it: once, twice or three times, as the word
 /// says.
-fn open<E: Locked>(live: &E, seat: &mut CpuSeat, word: u32) -> Result<(), Fault>
+fn open<E: LockedCalls>(live: &E, seat: &mut CpuSeat, word: u32) -> Result<(), Fault>
     requires { seat.old.table ≡ (E.object live.now).table }
-    ensures table { seat.new.table ≡ seat.old.table }
-    ensures cpu { seat.new.cpu ≡ seat.old.cpu }
     ensures depth { OnOk result (seat.new.depth ≡ seat.old.depth + 1 + word % 3) }
-    ensures stores { seat.new.view.stores ≡ seat.old.view.stores }
+    ensures same { HasStoredNothing seat.old seat.new }
 {
     for _ in 0..1 + word % 3 {
         seat.enter(live)?;
@@ -44,12 +43,10 @@ fn open<E: Locked>(live: &E, seat: &mut CpuSeat, word: u32) -> Result<(), Fault>
 }
 
 /// Closes the section of the seat, however deep it nests.
-fn close<E: Locked>(live: &E, seat: &mut CpuSeat)
+fn close<E: LockedCalls>(live: &E, seat: &mut CpuSeat)
     requires { seat.old.table ≡ (E.object live.now).table }
-    ensures table { seat.new.table ≡ seat.old.table }
-    ensures cpu { seat.new.cpu ≡ seat.old.cpu }
     ensures closed { seat.new.depth ≡ 0 }
-    ensures stores { seat.new.view.stores ≡ seat.old.view.stores }
+    ensures same { HasStoredNothing seat.old seat.new }
 {
     'exits: while seat.exit(live).is_ok() {}
 }
@@ -58,19 +55,16 @@ fn close<E: Locked>(live: &E, seat: &mut CpuSeat)
 /// them is made before it: a refused call hands out none.
 ///
 /// Faults: `BadCpu` (1) where there is no such processor; `NoMemory` (16).
-fn hand_out<R: Wait, E: Locked>(
+fn hand_out<R: Wait, E: LockedCalls>(
     rt: &R,
     live: &E,
     seat: &CpuSeat,
     cpu: u32,
     most: u64,
-    share: &mut Share,
+    share: &mut LedgerShare,
 ) -> Result<Ran<u64>, Fault>
-    ensures taken { IfOk result (λ ran. share.new ≡
-        record (after_run share.old ran.number ran.calls.items) { room = share.new.room }) }
-    ensures most { IfOk result (λ ran. length ran.calls.items ≤ most) }
-    ensures told { IfOk result (λ ran.
-        E.handed_out seat.now.view.stores cpu most ran.number ran.calls.items) }
+    ensures handed_out { IfOk result
+        (HasHandedOut E.answers seat.now.view.stores cpu most share.old share.new) }
     ensures none_early { share.new.early ≡ share.old.early }
     ensures unchanged { OnErr result (share.new ≡ record share.old { room = share.new.room }) }
     ensures fault { IfErr result (λ fault. is_run_fault fault ≡ true) }
@@ -85,7 +79,7 @@ fn hand_out<R: Wait, E: Locked>(
 
 /// How large a run is, and what its words follow from.
 #[derive(Clone, Copy)]
-pub(crate) struct Plan {
+pub(crate) struct RunSettings {
     pub(crate) workers: u32,
     pub(crate) rounds: u32,
     pub(crate) seed: u64,
@@ -93,24 +87,24 @@ pub(crate) struct Plan {
 
 /// What a worker gives back: its share, and the first fault that it met.
 #[derive(Drop)]
-pub(crate) struct End {
-    pub(crate) share: Share,
+pub(crate) struct WorkerResult {
+    pub(crate) share: LedgerShare,
     pub(crate) fault: Option<Fault>,
 }
 
 /// A worker's job, with its seat and its watcher.
 #[derive(Drop)]
-pub(crate) struct Job<'a, E: Locked> {
+pub(crate) struct Job<'a, E: LockedCalls> {
     alloc: Global,
     live: &'a E,
     seat: CpuSeat,
     watcher: Watcher,
     draws: Draws,
     worker: u32,
-    plan: Plan,
+    settings: RunSettings,
 }
 
-impl<'a, E: Locked> Model for Job<'a, E> {
+impl<'a, E: LockedCalls> Model for Job<'a, E> {
     ghost use Rattle.std.specs.Prelude.{◌≡◌, ◌<◌, ◌≤◌};
     ghost use Rattle.rcu_stress.specs.Ledger.{most_rounds};
     ghost use Rattle.rcu_stress.specs.Worker.{Worker};
@@ -119,7 +113,7 @@ impl<'a, E: Locked> Model for Job<'a, E> {
 
     ghost view = { λ job. record {
       worker = job.worker;
-      plan = job.plan;
+      settings = job.settings;
       draws = job.draws;
       seat = job.seat;
       watcher = job.watcher;
@@ -129,28 +123,28 @@ impl<'a, E: Locked> Model for Job<'a, E> {
       seat_of : job.seat.table ≡ (E.object job.live.now).table;
       watcher_of : job.watcher.table ≡ (E.object job.live.now).table;
       own : job.seat.cpu ≡ job.worker;
-      some : job.worker < job.plan.workers;
-      few : job.plan.rounds ≤ most_rounds;
+      some : job.worker < job.settings.workers;
+      few : job.settings.rounds ≤ most_rounds;
     } };
 }
 
-impl<'a, E: Locked> Job<'a, E> {
+impl<'a, E: LockedCalls> Job<'a, E> {
     /// The job of the worker whose number is this seat's processor, on this watcher.
     pub(crate) fn new(
         alloc: Global,
         live: &'a E,
         seat: CpuSeat,
         watcher: Watcher,
-        plan: Plan,
+        settings: RunSettings,
     ) -> Job<'a, E>
         requires seat { seat.table ≡ (E.object live.now).table }
-        requires worker { seat.cpu < plan.workers }
+        requires worker { seat.cpu < settings.workers }
         requires watcher { watcher.table ≡ (E.object live.now).table }
-        requires rounds { plan.rounds ≤ most_rounds }
+        requires rounds { settings.rounds ≤ most_rounds }
         ensures { result ≡ record {
           worker = seat.cpu;
-          plan = plan;
-          draws = generator_of plan.seed seat.cpu;
+          settings = settings;
+          draws = generator_of settings.seed seat.cpu;
           seat = seat;
           watcher = watcher;
         } }
@@ -161,9 +155,9 @@ impl<'a, E: Locked> Job<'a, E> {
             live,
             seat,
             watcher,
-            draws: Draws::new(plan.seed, worker),
+            draws: Draws::new(settings.seed, worker),
             worker,
-            plan,
+            settings,
         }
     }
 
@@ -178,14 +172,14 @@ impl<'a, E: Locked> Job<'a, E> {
     }
 
     /// Runs the rounds, and takes the processor offline. A fault there counts as met.
-    pub(crate) fn run<R: Wait, G: Gate>(mut self, rt: &R, gate: &G) -> End
-        ensures share { IsOfRounds self.entry.plan.rounds result.share }
-        ensures whole { IfNone result.fault ((result.share.queued ≡ self.entry.plan.rounds)
+    pub(crate) fn run<R: Wait, G: Gate>(mut self, rt: &R, gate: &G) -> WorkerResult
+        ensures share { IsOfRounds self.entry.settings.rounds result.share }
+        ensures whole { IfNone result.fault ((result.share.queued ≡ self.entry.settings.rounds)
             ⊎ IsStopped G.answers self.entry.worker) }
     {
-        let End { share, fault } = self.work(rt, gate);
+        let WorkerResult { share, fault } = self.run_rounds(rt, gate);
         let left = self.live.offline(rt, &mut self.seat);
-        End {
+        WorkerResult {
             share,
             fault: fault.or(left.err()),
         }
@@ -193,9 +187,9 @@ impl<'a, E: Locked> Job<'a, E> {
 
     /// Runs the rounds, to the first at which the gate does not let the worker pass or a fault is
     /// met. No section is open then.
-    pub(crate) fn work<R: Wait, G: Gate>(&mut self, rt: &R, gate: &G) -> End
-        ensures share { IsOfRounds self.old.plan.rounds result.share }
-        ensures whole { IfNone result.fault ((result.share.queued ≡ self.old.plan.rounds)
+    pub(crate) fn run_rounds<R: Wait, G: Gate>(&mut self, rt: &R, gate: &G) -> WorkerResult
+        ensures share { IsOfRounds self.old.settings.rounds result.share }
+        ensures whole { IfNone result.fault ((result.share.queued ≡ self.old.settings.rounds)
             ⊎ IsStopped G.answers self.old.worker) }
         ensures closed { self.new.seat.depth ≡ 0 }
         ensures rest { self.new ≡ record self.old {
@@ -204,26 +198,26 @@ impl<'a, E: Locked> Job<'a, E> {
           watcher = self.new.watcher;
         } }
     {
-        let mut share = Share::new(self.alloc);
-        let result = self.run_rounds(rt, gate, &mut share);
+        let mut share = LedgerShare::new(self.alloc);
+        let result = self.try_rounds(rt, gate, &mut share);
         close(self.live, &mut self.seat);
-        End {
+        WorkerResult {
             share,
             fault: result.err(),
         }
     }
 
     /// Runs the rounds. Returns whether the gate let the worker pass in each.
-    fn run_rounds<R: Wait, G: Gate>(
+    fn try_rounds<R: Wait, G: Gate>(
         &mut self,
         rt: &R,
         gate: &G,
-        share: &mut Share,
+        share: &mut LedgerShare,
     ) -> Result<bool, Fault>
         requires { IsOfRounds 0 share.old }
-        ensures share { IsOfRounds self.old.plan.rounds share.new }
+        ensures share { IsOfRounds self.old.settings.rounds share.new }
         ensures whole { IfOk result (λ passed. passed ≡ true →
-            share.new.queued ≡ self.old.plan.rounds) }
+            share.new.queued ≡ self.old.settings.rounds) }
         ensures stopped { IfOk result (λ passed. passed ≡ false →
             IsStopped G.answers self.old.worker) }
         ensures rest { self.new ≡ record self.old {
@@ -232,7 +226,7 @@ impl<'a, E: Locked> Job<'a, E> {
           watcher = self.new.watcher;
         } }
     {
-        for round in 0..self.plan.rounds {
+        for round in 0..self.settings.rounds {
             if self.run_round(rt, gate, round, share)?.is_none() {
                 return Ok(false);
             }
@@ -247,40 +241,17 @@ impl<'a, E: Locked> Job<'a, E> {
         rt: &R,
         gate: &G,
         round: u32,
-        share: &mut Share,
-    ) -> Result<Option<Told>, Fault>
+        share: &mut LedgerShare,
+    ) -> Result<Option<RoundAnswers>, Fault>
         requires round { round < most_rounds }
         requires share { IsOfRounds round share.old }
         ensures share { IsOfRounds (round + 1) share.new }
-        ensures counted { IfOk result (λ passed. IfSome passed (λ _.
-            share.new.queued ≡ share.old.queued + 1)) }
+        ensures passed { IfOk result (λ passed. IfSome passed
+            (HasPassed E.answers self.old share.old round self.new share.new)) }
         ensures stopped { IfOk result (λ passed. IfNone passed
-            (IsStopped G.answers self.old.worker)) }
-        ensures kept { IfOk result (λ passed. IfNone passed
-            (share.new ≡ record share.old { early = share.new.early })) }
-        ensures looked { IfOk result (λ passed. IfSome passed (λ _.
-            self.new.watcher.view.loads ≡ self.old.watcher.view.loads + 2)) }
-        ensures queued { IfOk result (λ passed. IfSome passed (λ told.
-            E.queued (self.old.seat.view.stores + 1) self.old.worker
-            (id_of self.old.worker self.old.plan.rounds round) told.queued)) }
-        ensures collected { IfOk result (λ passed. IfSome passed (λ told.
-            E.collected (self.old.seat.view.stores + 1)
-            (other_by self.old.plan.workers (pcg32 self.old.draws).0) told.driven.collected)) }
-        ensures turned { IfOk result (λ passed. IfSome passed (λ told.
-            E.turned (self.old.seat.view.stores + 1) told.driven.turned)) }
-        ensures tended { IfOk result (λ passed. IfSome passed (λ told.
-            E.tended (self.old.seat.view.stores + 1) self.old.worker told.driven.tended)) }
-        ensures handed_out { IfOk result (λ passed. IfSome passed (λ told.
-            E.handed_out (self.old.seat.view.stores + 1) self.old.worker most_in_round
-            told.ran.number told.ran.calls.items)) }
-        ensures departed { IfOk result (λ passed. IfSome passed (λ told.
-            leaves_by self.old.worker (pcg32 self.old.draws).0 ≡ true →
-            IsSomeAnd told.moved (λ moved. E.departed (self.old.seat.view.stores + 1) moved))) }
-        ensures stored { IfOk result (λ passed. IfSome passed (λ _. self.new.seat.view.stores ≡
-            self.old.seat.view.stores + stores_by self.old.worker (pcg32 self.old.draws).0)) }
-        ensures draws { self.new.draws ≡ (pcg32 self.old.draws).1 }
+            (HasStopped G.answers self.old.worker share.old share.new)) }
         ensures rest { self.new ≡ record self.old {
-          draws = self.new.draws;
+          draws = (pcg32 self.old.draws).1;
           seat = self.new.seat;
           watcher = self.new.watcher;
         } }
@@ -291,13 +262,13 @@ impl<'a, E: Locked> Job<'a, E> {
         }
         let queued = self.queue(rt, round)?;
         share.note_queued();
-        let driven = self.drive(rt, word)?;
+        let driving = self.drive(rt, word)?;
         let ran = hand_out(rt, self.live, &self.seat, self.worker, MOST_IN_ROUND, share)?;
         let moved = self.leave_and_return(rt, word)?;
         self.sleep_and_wake(word)?;
-        Ok(Some(Told {
+        Ok(Some(RoundAnswers {
             queued,
-            driven,
+            driving,
             ran,
             moved,
         }))
@@ -305,24 +276,18 @@ impl<'a, E: Locked> Job<'a, E> {
 
     /// A read section with a cookie that is polled inside, and a quiescent state. Returns whether
     /// the gate let the worker pass; where it did not, the section is open.
-    fn read<G: Gate>(&mut self, gate: &G, word: u32, share: &mut Share) -> Result<bool, Fault>
+    fn read<G: Gate>(&mut self, gate: &G, word: u32, share: &mut LedgerShare) -> Result<bool, Fault>
         ghost looks: { ℕ }
         requires early { share.old.early < most_rounds + length share.old.ids }
         requires looks { self.old.watcher.view.loads ≡ looks }
         ensures share { share.new ≡ record share.old { early = share.new.early } }
         ensures early { share.new.early ≤ share.old.early + 1 }
-        ensures asked { IfOk result (λ passed. passed ≡ true →
-            G.answers self.old.worker Point.Entered true
-            × G.answers self.old.worker Point.Polled true) }
+        ensures read { IfOk result (λ passed. passed ≡ true →
+            HasRead G.answers self.old self.new) }
         ensures stopped { IfOk result (λ passed. passed ≡ false →
             IsStopped G.answers self.old.worker) }
         ensures open { IfOk result (λ passed. passed ≡ false →
             self.new.seat.depth ≡ self.old.seat.depth + 1 + word % 3) }
-        ensures looked { IfOk result (λ passed. passed ≡ true →
-            self.new.watcher.view.loads ≡ looks + 2) }
-        ensures closed { IfOk result (λ passed. passed ≡ true → self.new.seat.depth ≡ 0) }
-        ensures stored { IfOk result (λ passed. passed ≡ true →
-            self.new.seat.view.stores ≡ self.old.seat.view.stores + 1) }
         ensures rest { self.new ≡
             record self.old { seat = self.new.seat; watcher = self.new.watcher } }
     {
@@ -353,7 +318,7 @@ impl<'a, E: Locked> Job<'a, E> {
     }
 
     /// Polls the cookie, and counts it where it is done.
-    fn poll(&mut self, cookie: Cookie, share: &mut Share)
+    fn poll(&mut self, cookie: Cookie, share: &mut LedgerShare)
         requires { share.old.early < most_rounds + length share.old.ids }
         ensures share { share.new ≡
             after_poll share.old (is_done_first cookie self.new.watcher.view.seen) }
@@ -368,15 +333,16 @@ impl<'a, E: Locked> Job<'a, E> {
 
     /// The id of a round's callback. Those of other workers and rounds differ.
     fn id(&self, round: u32) -> u64
-        ensures { result ≡ id_of self.now.worker self.now.plan.rounds round }
+        ensures { result ≡ id_of self.now.worker self.now.settings.rounds round }
     {
-        u64::from(self.worker) * u64::from(self.plan.rounds) + u64::from(round)
+        u64::from(self.worker) * u64::from(self.settings.rounds) + u64::from(round)
     }
 
     /// Queues the callback of the round.
     fn queue<R: Wait>(&mut self, rt: &R, round: u32) -> Result<u64, Fault>
-        ensures told { IfOk result (λ count. E.queued self.old.seat.view.stores self.old.worker
-            (id_of self.old.worker self.old.plan.rounds round) count) }
+        ensures told { IfOk result (λ count. E.answers self.old.seat.view.stores
+            (Queueing self.old.worker
+            (id_of self.old.worker self.old.settings.rounds round) count)) }
         ensures rest { self.new ≡ self.old }
     {
         let id = self.id(round);
@@ -387,25 +353,25 @@ impl<'a, E: Locked> Job<'a, E> {
 
     /// The processor that a worker looks at besides its own.
     fn other(&self, word: u32) -> u32
-        ensures { result ≡ other_by self.now.plan.workers word }
+        ensures { result ≡ other_by self.now.settings.workers word }
     {
-        word / 8 % self.plan.workers
+        word / 8 % self.settings.workers
     }
 
     /// Moves the grace periods on: collects of a processor that the word names, turns, and tends
     /// its own callbacks. Returns what the engine told.
-    fn drive<R: Wait>(&self, rt: &R, word: u32) -> Result<Driven, Fault>
-        ensures collected { IfOk result (λ driven. E.collected self.now.seat.view.stores
-            (other_by self.now.plan.workers word) driven.collected) }
-        ensures turned { IfOk result (λ driven.
-            E.turned self.now.seat.view.stores driven.turned) }
-        ensures tended { IfOk result (λ driven.
-            E.tended self.now.seat.view.stores self.now.worker driven.tended) }
+    fn drive<R: Wait>(&self, rt: &R, word: u32) -> Result<DrivingAnswers, Fault>
+        ensures collected { IfOk result (λ driving. E.answers self.now.seat.view.stores
+            (Collecting (other_by self.now.settings.workers word) driving.collected)) }
+        ensures turned { IfOk result (λ driving.
+            E.answers self.now.seat.view.stores (Turning driving.turned)) }
+        ensures tended { IfOk result (λ driving.
+            E.answers self.now.seat.view.stores (Tending self.now.worker driving.tended)) }
     {
         let collected = self.live.collect(rt, &self.seat, self.other(word))?;
         let turned = self.live.turn(rt, &self.seat)?;
         let tended = self.live.tend(rt, &self.seat, self.worker)?;
-        Ok(Driven {
+        Ok(DrivingAnswers {
             collected,
             turned,
             tended,
@@ -416,7 +382,7 @@ impl<'a, E: Locked> Job<'a, E> {
     /// many callbacks moved then.
     fn leave_and_return<R: Wait>(&mut self, rt: &R, word: u32) -> Result<Option<u64>, Fault>
         ensures told { IfOk result (λ left. leaves_by self.old.worker word ≡ true →
-            IsSomeAnd left (λ moved. E.departed self.old.seat.view.stores moved)) }
+            IsSomeAnd left (λ moved. E.answers self.old.seat.view.stores (Departing moved))) }
         ensures stayed { leaves_by self.old.worker word ≡ false → self.new ≡ self.old }
         ensures returned { OnOk result (leaves_by self.old.worker word ≡ true →
             self.new.seat ≡ after_quiesce (after_depart self.old.seat) self.new.seat.view.seen) }
@@ -457,7 +423,7 @@ impl<'a, E: Locked> Job<'a, E> {
 
     /// What the program does on its own when all workers have ended: two grace periods, and then it
     /// hands out what is left.
-    pub(crate) fn finish<R: Wait>(&mut self, rt: &R) -> Result<Share, Fault>
+    pub(crate) fn hand_out_rest<R: Wait>(&mut self, rt: &R) -> Result<LedgerShare, Fault>
         ensures queued { IfOk result (λ share. share.queued ≡ 0) }
         ensures early { IfOk result (λ share. share.early ≡ 0) }
     {
@@ -467,7 +433,7 @@ impl<'a, E: Locked> Job<'a, E> {
         }
         // Nobody else works the engine any more: no more are done than the tend tells.
         let (done, _) = self.live.tend(rt, &self.seat, self.worker)?;
-        let mut share = Share::new(self.alloc);
+        let mut share = LedgerShare::new(self.alloc);
         hand_out(
             rt,
             self.live,

@@ -4,7 +4,7 @@ ghost use Rattle.std.specs.Set.{distinct_count};
 ghost use Rattle.rcu_stress.specs.Ledger.{early_in, queued_in, ran_in, twice_in};
 ghost use Rattle.rcu_stress.specs.Ledger.{most_rounds, most_workers};
 
-use crate::share::Share;
+use crate::share::LedgerShare;
 use std::alloc::{AllocError, Global};
 use std::collections::HashSet;
 use std::marker::Model;
@@ -32,7 +32,7 @@ impl Sums {
     }
 
     /// Adds a share.
-    fn add(&mut self, share: &Share) -> Result<(), AllocError>
+    fn add(&mut self, share: &LedgerShare) -> Result<(), AllocError>
         requires queued { self.old.queued ≤ most_workers * most_rounds }
         requires early { self.old.early ≤ most_workers * most_rounds + length self.old.ids.items }
         ensures queued { OnOk result (self.new.queued ≡ self.old.queued + share.now.queued) }
@@ -62,9 +62,9 @@ fn count_twice(alloc: Global, ids: &[u64]) -> Result<u64, AllocError>
 #[derive(Drop)]
 pub struct Ledger {
     /// Those of the workers, in order.
-    shares: Vec<Share>,
+    shares: Vec<LedgerShare>,
     /// That of the program.
-    own: Share,
+    own: LedgerShare,
     queued: u64,
     ran: u64,
     early: u64,
@@ -93,7 +93,11 @@ impl Model for Ledger {
 
 impl Ledger {
     /// The ledger over these shares of workers, at most 64, and the program's own.
-    pub(crate) fn of(alloc: Global, shares: Vec<Share>, own: Share) -> Result<Ledger, AllocError>
+    pub(crate) fn of(
+        alloc: Global,
+        shares: Vec<LedgerShare>,
+        own: LedgerShare,
+    ) -> Result<Ledger, AllocError>
         requires { length shares.items ≤ most_workers }
         ensures { IfOk result (λ ledger.
             ledger ≡ record { shares = shares.items; own = own }) }
@@ -143,14 +147,14 @@ impl Ledger {
     }
 
     /// The share of each worker, in order.
-    pub fn shares(&self) -> &[Share]
+    pub fn shares(&self) -> &[LedgerShare]
         ensures { result.now ≡ self.now.shares }
     {
         self.shares.as_slice()
     }
 
     /// The program's own share.
-    pub fn own(&self) -> &Share
+    pub fn own(&self) -> &LedgerShare
         ensures { result.now ≡ self.now.own }
     {
         &self.own

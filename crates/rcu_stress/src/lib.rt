@@ -15,4 +15,4 @@ pub use draws::Draws;
 pub use gate::{Gate, Open, Point};
 pub use ledger::Ledger;
 pub use run::torture;
-pub use share::Share;
+pub use share::LedgerShare;

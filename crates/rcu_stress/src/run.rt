@@ -1,14 +1,16 @@
 //! A torture run: its workers' jobs, and the ledger over them.
-ghost use Rattle.std.specs.Prelude.{◌≡◌, ◌+◌, ◌≤◌, Err, IfErr, IfNone, IfOk, IfSome, Ok, OnOk};
+ghost use Rattle.std.specs.Prelude.{◌≡◌, ◌+◌, ◌≤◌, Err, IfErr, IfNone, IfOk, IfSome, Ok};
 ghost use Rattle.std.specs.Prelude.{length, vec_capacity, vec_len};
+ghost use Rattle.std.specs.Option.{option_or};
+ghost use Rattle.std.specs.Result.{result_err};
 ghost use Rattle.rcu_stress.specs.Ledger.{most_rounds, most_workers};
 
 use crate::engine::Engine;
 use crate::gate::Gate;
-use crate::job::{Job, Plan};
+use crate::job::{Job, RunSettings};
 use crate::ledger::Ledger;
-use crate::share::Share;
-use crate::workers::{Gathered, deal_jobs, run_all};
+use crate::share::LedgerShare;
+use crate::workers::{WorkerResults, deal_jobs, run_all};
 use rcu_seq::Fault;
 use std::alloc::Global;
 use std::sync::Wait;
@@ -36,55 +38,59 @@ pub fn torture<R: Threads + Wait + Sync, G: Gate>(
     ensures workers { IfOk result (λ ledger. length ledger.shares ≡ workers) }
     ensures own { IfOk result (λ ledger. (ledger.own.queued ≡ 0) × (ledger.own.early ≡ 0)) }
 {
-    let Ok(gathered) = Gathered::new(alloc, workers) else {
+    let Ok(results) = WorkerResults::new(alloc, workers) else {
         return Err(Fault::NoMemory);
     };
     let (live, seats, watchers) = Engine::open(alloc, workers, LAST)?;
-    let plan = Plan {
+    let settings = RunSettings {
         workers,
         rounds,
         seed,
     };
-    let (first, others) = deal_jobs(rt, alloc, &live, seats, watchers, plan)?;
-    work(rt, alloc, gate, first, others, gathered)
+    let (first, others) = deal_jobs(rt, alloc, &live, seats, watchers, settings)?;
+    run_jobs(rt, alloc, gate, first, others, results)
 }
 
 /// Does the jobs, and then works alone, as the first worker, until nothing is left. What the
-/// workers give back is added to what was gathered, which is nothing and has room for it.
+/// workers give back is added to these results, which are none and have room for it.
 ///
 /// Its faults are those of `torture`.
-fn work<R: Threads + Wait + Sync, G: Gate>(
+fn run_jobs<R: Threads + Wait + Sync, G: Gate>(
     rt: &R,
     alloc: Global,
     gate: &G,
     mut first: Job<'_, Engine>,
     others: Vec<Job<'_, Engine>>,
-    gathered: Gathered,
+    results: WorkerResults,
 ) -> Result<Ledger, Fault>
     requires few { vec_len others + 1 ≤ most_workers }
-    requires none { vec_len gathered.shares ≡ 0 }
-    requires room { vec_len others + 1 ≤ vec_capacity gathered.shares }
+    requires none { vec_len results.shares ≡ 0 }
+    requires room { vec_len others + 1 ≤ vec_capacity results.shares }
     ensures workers { IfOk result (λ ledger. length ledger.shares ≡ vec_len others.entry + 1) }
     ensures own { IfOk result (λ ledger. (ledger.own.queued ≡ 0) × (ledger.own.early ≡ 0)) }
 {
-    let gathered = run_all(rt, gate, &mut first, others, gathered);
-    let own = first.finish(rt);
-    account(alloc, gathered, own)
+    let results = run_all(rt, gate, &mut first, others, results);
+    let own = first.hand_out_rest(rt);
+    make_ledger(alloc, results, own)
 }
 
-/// The ledger of what was gathered and of the program's own share.
+/// The ledger of the workers' results and of the program's own share.
 ///
 /// Faults: the workers', else the program's, else 16.
-fn account(alloc: Global, gathered: Gathered, own: Result<Share, Fault>) -> Result<Ledger, Fault>
-    requires { vec_len gathered.shares ≤ most_workers }
-    ensures shares { IfOk result (λ ledger. ledger.shares ≡ gathered.shares.items) }
+fn make_ledger(
+    alloc: Global,
+    results: WorkerResults,
+    own: Result<LedgerShare, Fault>,
+) -> Result<Ledger, Fault>
+    requires { vec_len results.shares ≤ most_workers }
+    ensures shares { IfOk result (λ ledger. ledger.shares ≡ results.shares.items) }
     ensures own { IfOk result (λ ledger. own ≡ Ok ledger.own) }
-    ensures first { IfSome gathered.fault (λ fault. result ≡ Err fault) }
-    ensures other { IfNone gathered.fault (IfErr own (λ fault. result ≡ Err fault)) }
-    ensures memory { IfNone gathered.fault
-        (OnOk own (IfErr result (λ fault. fault ≡ Fault.NoMemory))) }
+    ensures met { IfSome (option_or results.fault (result_err own))
+        (λ fault. result ≡ Err fault) }
+    ensures memory { IfNone (option_or results.fault (result_err own))
+        (IfErr result (λ fault. fault ≡ Fault.NoMemory)) }
 {
-    let Gathered { shares, fault } = gathered;
+    let WorkerResults { shares, fault } = results;
     if let Some(fault) = fault {
         return Err(fault);
     }

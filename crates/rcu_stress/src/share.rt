@@ -10,14 +10,14 @@ use std::marker::Model;
 /// What one worker did, or the program at the end: how many callbacks it queued, the ids of those
 /// that were handed out to it, and how often something came early.
 #[derive(Drop)]
-pub struct Share {
+pub struct LedgerShare {
     queued: u64,
     early: u64,
     /// In the order of the handing out.
     ids: Vec<u64>,
 }
 
-impl Model for Share {
+impl Model for LedgerShare {
     ghost use Rattle.std.specs.Prelude.{◌+◌, ◌-◌, ◌≤◌, length, vec_capacity, vec_len};
     ghost use Rattle.rcu_stress.specs.Ledger.{Counts, most_rounds};
 
@@ -36,14 +36,12 @@ impl Model for Share {
     } };
 }
 
-impl Share {
+impl LedgerShare {
     /// The share of who did nothing.
-    pub fn new(alloc: Global) -> Share
-        ensures queued { result.queued ≡ 0 }
-        ensures early { result.early ≡ 0 }
-        ensures ids { result.ids ≡ [] }
+    pub fn new(alloc: Global) -> LedgerShare
+        ensures { result ≡ record { queued = 0; early = 0; ids = []; room = result.room } }
     {
-        Share {
+        LedgerShare {
             queued: 0,
             early: 0,
             ids: Vec::new(alloc),

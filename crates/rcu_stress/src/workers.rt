@@ -1,15 +1,14 @@
 //! The workers of a run, each on a thread of its own.
-ghost use Rattle.std.specs.Prelude.{◌≡◌, ◌+◌, ◌<◌, ◌≤◌, [], IfOk, ◌∷◌, ◌++◌, All, length};
-ghost use Rattle.std.specs.Prelude.{vec_capacity, vec_len};
-ghost use Rattle.std.specs.Option.{option_or};
+ghost use Rattle.std.specs.Prelude.{◌≡◌, ◌+◌, ◌<◌, ◌≤◌, IfOk, vec_capacity, vec_len};
 ghost use Rattle.std.specs.Thread.{IsSync};
-ghost use Rattle.rcu_stress.specs.Draws.{generator_of};
 ghost use Rattle.rcu_stress.specs.Ledger.{most_rounds};
+ghost use Rattle.rcu_stress.specs.Worker.{AreOfWorkers};
+ghost use Rattle.rcu_stress.specs.WorkerResults.{HasAdded};
 
 use crate::engine::Engine;
 use crate::gate::Gate;
-use crate::job::{End, Job, Plan};
-use crate::share::Share;
+use crate::job::{Job, RunSettings, WorkerResult};
+use crate::share::LedgerShare;
 use rcu_live::{CpuSeat, Watcher};
 use rcu_seq::Fault;
 use std::alloc::{AllocError, Global};
@@ -19,72 +18,34 @@ use std::thread::Threads;
 
 /// What workers gave back.
 #[derive(Drop)]
-pub(crate) struct Gathered {
+pub(crate) struct WorkerResults {
     /// In the order of the workers.
-    pub(crate) shares: Vec<Share>,
+    pub(crate) shares: Vec<LedgerShare>,
     /// The first fault that the lowest of them met that met one.
     pub(crate) fault: Option<Fault>,
 }
 
-impl Gathered {
+impl WorkerResults {
     /// What nobody gave back, with room for so many.
-    pub(crate) fn new(alloc: Global, workers: u32) -> Result<Gathered, AllocError>
-        ensures len { IfOk result (λ gathered. vec_len gathered.shares ≡ 0) }
-        ensures room { IfOk result (λ gathered. vec_capacity gathered.shares ≡ workers) }
+    pub(crate) fn new(alloc: Global, workers: u32) -> Result<WorkerResults, AllocError>
+        ensures len { IfOk result (λ results. vec_len results.shares ≡ 0) }
+        ensures room { IfOk result (λ results. vec_capacity results.shares ≡ workers) }
     {
-        Ok(Gathered {
+        Ok(WorkerResults {
             shares: Vec::with_capacity(alloc, workers as usize)?,
             fault: None,
         })
     }
 
     /// Takes in what the next worker gave back, for which there is room.
-    fn add(&mut self, end: End)
+    fn add(&mut self, next: WorkerResult)
         requires { vec_len self.old.shares < vec_capacity self.old.shares }
-        ensures shares { self.new.shares.items ≡ self.old.shares.items ++ end.share ∷ [] }
-        ensures fault { self.new.fault ≡ option_or self.old.fault end.fault }
-        ensures len { vec_len self.new.shares ≡ vec_len self.old.shares + 1 }
-        ensures room { vec_capacity self.new.shares ≡ vec_capacity self.old.shares }
+        ensures { HasAdded self.old next self.new }
     {
-        let End { share, fault } = end;
+        let WorkerResult { share, fault } = next;
         self.shares.push_reserved(share);
         self.fault = self.fault.or(fault);
     }
-}
-
-/// The job of the last seat and the last watcher, which it takes.
-#[tactic(auto, using(crate::proofs::TortureLemmas::first_ones_are))]
-fn last_job<'a>(
-    alloc: Global,
-    live: &'a Engine,
-    seats: &mut Vec<CpuSeat>,
-    watchers: &mut Vec<Watcher>,
-    plan: Plan,
-) -> Job<'a, Engine>
-    requires rounds { plan.rounds ≤ most_rounds }
-    requires some_seat { 0 < length seats.old.items }
-    requires some_watcher { 0 < length watchers.old.items }
-    requires each_seat { All (λ seat. seat.table ≡ live.now.table) seats.old.items }
-    requires each_cpu { All (λ seat. seat.cpu < plan.workers) seats.old.items }
-    requires each_watcher { All (λ watcher. watcher.table ≡ live.now.table) watchers.old.items }
-    ensures job { result ≡ record {
-      worker = result.seat.cpu;
-      plan = plan;
-      draws = generator_of plan.seed result.seat.cpu;
-      seat = result.seat;
-      watcher = result.watcher;
-    } }
-    ensures seats { seats.old.items ≡ seats.new.items ++ result.seat ∷ [] }
-    ensures watchers { watchers.old.items ≡ watchers.new.items ++ result.watcher ∷ [] }
-    ensures seat_count { length seats.new.items + 1 ≡ length seats.old.items }
-    ensures watcher_count { length watchers.new.items + 1 ≡ length watchers.old.items }
-    ensures each_seat { All (λ seat. seat.table ≡ live.now.table) seats.new.items }
-    ensures each_cpu { All (λ seat. seat.cpu < plan.workers) seats.new.items }
-    ensures each_watcher { All (λ watcher. watcher.table ≡ live.now.table) watchers.new.items }
-{
-    let seat = seats.pop().unwrap();
-    let watcher = watchers.pop().unwrap();
-    Job::new(alloc, live, seat, watcher, plan)
 }
 
 /// The jobs of a run: that of worker 0, and those of the others in order, whose processors are
@@ -95,57 +56,56 @@ pub(crate) fn deal_jobs<'a, R: Wait>(
     rt: &R,
     alloc: Global,
     live: &'a Engine,
-    mut seats: Vec<CpuSeat>,
-    mut watchers: Vec<Watcher>,
-    plan: Plan,
+    seats: Vec<CpuSeat>,
+    watchers: Vec<Watcher>,
+    settings: RunSettings,
 ) -> Result<(Job<'a, Engine>, Vec<Job<'a, Engine>>), Fault>
-    requires some { 0 < plan.workers }
-    requires rounds { plan.rounds ≤ most_rounds }
-    requires seat_count { length seats.items ≡ plan.workers }
-    requires watcher_count { length watchers.items ≡ plan.workers }
-    requires each_seat { All (λ seat. seat.table ≡ live.now.table) seats.items }
-    requires each_cpu { All (λ seat. seat.cpu < plan.workers) seats.items }
-    requires each_watcher { All (λ watcher. watcher.table ≡ live.now.table) watchers.items }
-    ensures { IfOk result (λ jobs. vec_len jobs.1 + 1 ≡ plan.workers) }
+    requires some { 0 < settings.workers }
+    requires rounds { settings.rounds ≤ most_rounds }
+    requires seats { AreOfWorkers live.now settings.workers seats.items watchers.items }
+    ensures { IfOk result (λ jobs. vec_len jobs.1 + 1 ≡ settings.workers) }
 {
-    let Ok(mut others) = Vec::with_capacity(alloc, plan.workers as usize) else {
+    let Ok(mut others) = Vec::with_capacity(alloc, settings.workers as usize) else {
         return Err(Fault::NoMemory);
     };
-    for _ in 1..plan.workers {
-        let mut job = last_job(alloc, live, &mut seats, &mut watchers, plan);
+    let mut pairs = seats.into_iter().zip(watchers);
+    let Some((seat, watcher)) = pairs.next() else {
+        unreachable!()
+    };
+    let first = Job::new(alloc, live, seat, watcher, settings);
+    for (seat, watcher) in pairs {
+        let mut job = Job::new(alloc, live, seat, watcher, settings);
         job.arrive(rt)?;
         others.push_reserved(job);
     }
-    others.reverse();
-    let first = last_job(alloc, live, &mut seats, &mut watchers, plan);
     Ok((first, others))
 }
 
 /// Runs the jobs, each on a thread of its own, or here where none can be made, and the first one
-/// here. Adds what they give back to what was gathered, which has room for it: the first one's
-/// first, and then the others' in order.
+/// here. Adds what they give back to these results, which have room for it: the first one's first,
+/// and then the others' in order.
 pub(crate) fn run_all<R: Threads + Wait + Sync, G: Gate>(
     rt: &R,
     gate: &G,
     first: &mut Job<'_, Engine>,
     mut others: Vec<Job<'_, Engine>>,
-    mut gathered: Gathered,
-) -> Gathered
-    requires { vec_len gathered.shares + vec_len others + 1 ≤ vec_capacity gathered.shares }
-    ensures len { vec_len result.shares ≡ vec_len gathered.shares + vec_len others.entry + 1 }
-    ensures room { vec_capacity result.shares ≡ vec_capacity gathered.shares }
+    mut results: WorkerResults,
+) -> WorkerResults
+    requires { vec_len results.shares + vec_len others + 1 ≤ vec_capacity results.shares }
+    ensures len { vec_len result.shares ≡ vec_len results.shares + vec_len others.entry + 1 }
+    ensures room { vec_capacity result.shares ≡ vec_capacity results.shares }
 {
     let Some(job) = others.pop() else {
-        gathered.add(first.work(rt, gate));
-        return gathered;
+        results.add(first.run_rounds(rt, gate));
+        return results;
     };
-    let rest = move || -> Gathered
+    let rest = move || -> WorkerResults
         requires { IsSync R.row × IsSync G.row
-            × (vec_len gathered.shares + vec_len others + 1 ≤ vec_capacity gathered.shares) }
-        ensures { (vec_len result.shares ≡ vec_len gathered.shares + vec_len others.entry + 1)
-            × (vec_capacity result.shares ≡ vec_capacity gathered.shares) }
-    { run_all(rt, gate, first, others, gathered) };
-    let (end, mut gathered) = thread::join(rt, move || job.run(rt, gate), rest);
-    gathered.add(end);
-    gathered
+            × (vec_len results.shares + vec_len others + 1 ≤ vec_capacity results.shares) }
+        ensures { (vec_len result.shares ≡ vec_len results.shares + vec_len others.entry + 1)
+            × (vec_capacity result.shares ≡ vec_capacity results.shares) }
+    { run_all(rt, gate, first, others, results) };
+    let (next, mut results) = thread::join(rt, move || job.run(rt, gate), rest);
+    results.add(next);
+    results
 }

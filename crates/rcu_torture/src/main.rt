@@ -11,7 +11,7 @@ use perform::{perform, status_of};
 use rcu_command::Reason;
 pub use rcu_command::{Order, read_command};
 pub use rcu_script::{RunFault, Setup, run_pair, run_script};
-pub use rcu_stress::{Draws, Gate, Ledger, Open, Point, Share, torture};
+pub use rcu_stress::{Draws, Gate, Ledger, LedgerShare, Open, Point, torture};
 pub use rcu_text::{Failed, Marked, Sink, Source};
 use std::alloc::Global;
 use std::env::Env;
@@ -25,7 +25,7 @@ const REFUSED: u8 = 2;
 
 fn main(rt: HostRuntime) -> ExitCode {
     match arguments(&rt) {
-        Ok(words) => ExitCode::from(obey(&rt, &words)),
+        Ok(words) => ExitCode::from(run_words(&rt, &words)),
         Err(error) => {
             let _ = eprintln!(rt; "rcu: {error}");
             ExitCode::from(REFUSED)
@@ -40,7 +40,7 @@ fn arguments<R: Env + AllocGlobal>(rt: &R) -> io::Result<Vec<String>> {
 
 /// Does what the words order, or prints why they are refused. The text is `clap`'s, which ends its
 /// last line.
-fn obey<R>(rt: &R, words: &[String]) -> u8
+fn run_words<R>(rt: &R, words: &[String]) -> u8
 where
     R: AllocGlobal + Input + Print + Eprint + Threads + Wait + Sync,
 {

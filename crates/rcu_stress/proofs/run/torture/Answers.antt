@@ -6,9 +6,15 @@ use Rattle.rcu_live.specs.Words.{base_of}
 use Rattle.rcu_stress.proofs.TortureLemmas.{all_below}
 use Rattle.rcu_stress.proofs.run.torture.Goals as goal
 
-pub deal_jobs-requires-clause-each_cpu : goal.deal_jobs-requires-clause-each_cpu
-deal_jobs-requires-clause-each_cpu g c =
-    rw c.in_ok-live.ensures.dealt.each_seat
-    (All-map (λ seat. seat.cpu < c.args.workers)
-    (at_first c.in_ok-live.live.table (base_of c.args.workers) tt) (range_with_len 0 c.args.workers)
-    (all_below c.args.workers))
+pub deal_jobs-requires-clause-seats : goal.deal_jobs-requires-clause-seats
+deal_jobs-requires-clause-seats g c =
+    let dealt = c.in_ok-live.ensures.dealt in
+    record {
+      seat_count = dealt.seat_count;
+      watcher_count = dealt.watcher_count;
+      each_seat = dealt.seats_read;
+      each_cpu = rw dealt.each_seat (All-map (λ seat. seat.cpu < c.args.workers)
+          (at_first c.in_ok-live.live.table (base_of c.args.workers) tt)
+          (range_with_len 0 c.args.workers) (all_below c.args.workers));
+      each_watcher = dealt.watchers_read;
+    }

@@ -1,13 +1,20 @@
-use Rattle.std.proofs.Common.{◌≡◌, ◌+◌, ◌<◌, All, length, vec_capacity, vec_len}
+use Rattle.std.proofs.Common.{◌≡◌, ◌+◌, ◌<◌, All, vec_capacity, vec_len}
+use Rattle.std.specs.Iterator.Adapters.{zip_first, zip_second}
+use Rattle.std.specs.Vec.Iter.{into_iter_items, into_iter_len}
 use Rattle.rcu_stress.proofs.workers.deal_jobs.Given as goal
 
-abbrev pub invariant-loop : goal.invariant-loop
-invariant-loop g l = record {
-  others : vec_len l.others + 1 ≡ l.counter;
-  room : vec_capacity l.others ≡ l.plan.workers;
-  seat_count : length l.seats.items + l.counter ≡ l.plan.workers + 1;
-  watcher_count : length l.watchers.items + l.counter ≡ l.plan.workers + 1;
-  each_seat : All (λ seat. seat.table ≡ l.live.table) l.seats.items;
-  each_cpu : All (λ seat. seat.cpu < l.plan.workers) l.seats.items;
-  each_watcher : All (λ watcher. watcher.table ≡ l.live.table) l.watchers.items;
+abbrev pub invariant-loop-seat : goal.invariant-loop-seat
+invariant-loop-seat g l = record {
+  next : (goal.iterator-loop-seat g).can_next l.seat-iterator;
+  finite : (goal.iterator-loop-seat g).is_finite l.seat-iterator;
+  room : vec_capacity l.others ≡ l.settings.workers;
+  seats_left : vec_len l.others + into_iter_len (zip_first l.seat-iterator) + 1
+      ≡ l.settings.workers;
+  watchers_left : vec_len l.others + into_iter_len (zip_second l.seat-iterator) + 1
+      ≡ l.settings.workers;
+  each_seat : All (λ seat. seat.table ≡ l.live.table) (into_iter_items (zip_first l.seat-iterator));
+  each_cpu : All (λ seat. seat.cpu < l.settings.workers)
+      (into_iter_items (zip_first l.seat-iterator));
+  each_watcher : All (λ watcher. watcher.table ≡ l.live.table)
+      (into_iter_items (zip_second l.seat-iterator));
 }

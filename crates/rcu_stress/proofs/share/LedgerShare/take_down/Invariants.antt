@@ -1,6 +1,6 @@
 use Rattle.std.proofs.Common.{◌≡◌, ◌+◌, ◌++◌, ◌≤◌, count_by, map, take, vec_capacity, vec_len}
 use Rattle.rcu_stress.specs.Ledger.{is_early, most_rounds}
-use Rattle.rcu_stress.proofs.share.Share.take_down.Given as goal
+use Rattle.rcu_stress.proofs.share.LedgerShare.take_down.Given as goal
 
 abbrev pub invariant-loop-call : goal.invariant-loop-call
 invariant-loop-call l = record {

@@ -1,0 +1,17 @@
+-- The calls of an engine that take its lock, as workers make them.
+use Rattle.std.specs.Prelude.{ℕ, List}
+use Rattle.rcu_cblist.specs.declared.queued.Queued.{Queued}
+use Rattle.rcu_state.specs.declared.turned.Turned.{Turned}
+use Rattle.rcu_live.specs.declared.collection.Collected.{Collected}
+
+-- a call, and the engine's answer: a collection of a processor; a turn; a tending of a processor,
+-- with how many of its callbacks are done and how many wait; a queueing at a processor of a value,
+-- with how many callbacks are queued then; a run of a processor, of so many callbacks at most, with
+-- the number and what was handed out; a departure, with how many callbacks moved
+pub data LockedAnswer : Type 0 where
+  Collecting : (cpu : ℕ) → Collected → LockedAnswer
+  Turning : Turned → LockedAnswer
+  Tending : (cpu : ℕ) → ℕ × ℕ → LockedAnswer
+  Queueing : (cpu value count : ℕ) → LockedAnswer
+  Running : (cpu most number : ℕ) → List (Queued ℕ) → LockedAnswer
+  Departing : (moved : ℕ) → LockedAnswer
