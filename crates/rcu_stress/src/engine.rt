@@ -6,9 +6,9 @@ ghost use Rattle.rcu_stress.specs.Engine.{Collecting, Departing, LockedAnswer, Q
 ghost use Rattle.rcu_stress.specs.Engine.{Tending, Turning};
 
 use rcu_cblist::Refused;
-use rcu_state::Turned;
 use rcu_live::{Collected, CpuSeat, Live, NoClient, Ran, Shared};
 use rcu_seq::Fault;
+use rcu_state::Turned;
 use std::sync::Wait;
 
 /// The engine of a run: a callback carries its id.
