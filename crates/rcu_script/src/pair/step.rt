@@ -1,6 +1,7 @@
 //! What a replica of a pair does.
-ghost use Rattle.std.specs.Prelude.{◌≡◌, ◌<◌, Some, None, All, length, nat_lt, IfErr, IfOk, OnOk};
+ghost use Rattle.std.specs.Prelude.{◌≡◌, ◌<◌, All, length, nat_lt, IfOk, OnErr, OnOk};
 ghost use Rattle.std.specs.List.{list_all};
+ghost use Rattle.std.specs.Result.{result_err};
 ghost use Rattle.rcu_node.specs.CpuSet.{size_of};
 ghost use Rattle.rcu_seq.specs.Seq.{number_of};
 ghost use Rattle.rcu_report.specs.Replica.{Begin, cpus_of, after_call};
@@ -24,11 +25,10 @@ pub fn step<A: Awaited, B: Awaited>(
     event: &PairEvent,
 ) -> Result<PairReply, Fault>
     requires { length set.old ≡ cpus_of mine.old }
+    ensures fault { result_err result ≡ event_refusal mine.old other.now event.now }
     ensures reply { IfOk result (λ reply. reply ≡ event_reply mine.old other.now event.now) }
-    ensures ok { OnOk result (mine.new ≡ after_event mine.old other.now event.now) }
-    ensures accepted { OnOk result (event_refusal mine.old other.now event.now ≡ None) }
-    ensures err { IfErr result (λ fault. event_refusal mine.old other.now event.now ≡ Some fault) }
-    ensures unchanged { IfErr result (λ _. mine.new ≡ mine.old) }
+    ensures state { OnOk result (mine.new ≡ after_event mine.old other.now event.now) }
+    ensures unchanged { OnErr result (mine.new ≡ mine.old) }
     ensures sized { length set.new ≡ length set.old }
 {
     match event {
@@ -54,13 +54,12 @@ fn begin<A: Awaited>(
     cpus: &[u32],
 ) -> Result<PairReply, Fault>
     requires { length set.old ≡ cpus_of mine.old }
+    ensures fault { result_err result ≡ pair_begin_refusal mine.old cpus.now }
     ensures reply { IfOk result (λ reply. reply
         ≡ PairReply.Begun (number_of mine.new.periods) (size_of mine.new.awaited)) }
-    ensures ok { OnOk result (mine.new
+    ensures state { OnOk result (mine.new
         ≡ after_call mine.old (Begin (set_of (cpus_of mine.old) cpus.now))) }
-    ensures accepted { OnOk result (pair_begin_refusal mine.old cpus.now ≡ None) }
-    ensures err { IfErr result (λ fault. pair_begin_refusal mine.old cpus.now ≡ Some fault) }
-    ensures unchanged { IfErr result (λ _. mine.new ≡ mine.old) }
+    ensures unchanged { OnErr result (mine.new ≡ mine.old) }
     ensures sized { length set.new ≡ length set.old }
 {
     if !are_cpus(cpus, mine.awaited().cpus()) {

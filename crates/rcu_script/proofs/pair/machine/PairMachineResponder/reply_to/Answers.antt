@@ -1,4 +1,5 @@
-use Rattle.std.proofs.Common.{refl}
+use Rattle.std.proofs.Common.{ap, refl}
+use Rattle.rcu_node.specs.Merging.{Standing}
 use Rattle.rcu_text.specs.declared.line_shape.Line.TheVariants.{Blank, Malformed}
 use Rattle.rcu_text.proofs.CallerLemmas.{Sends-nil}
 use Rattle.rcu_script.proofs.PairLemmas.{a_answered, b_answered, line_answered, same_answered}
@@ -14,7 +15,8 @@ returns-in-Malformed g c =
 pub returns-in-Ask-Same : goal.returns-in-Ask-Same
 returns-in-Ask-Same g c =
     same_answered c.args.line.now c.in-Ask-Same.field-0 c.self.inside.a c.self.inside.b _ _ c.args.self.now _ _ c.in-Ask-Same.field-0-is c.in-Ask-Same.ensures c.self.view_is
-    c.awaited.ensures.awaited c.awaited-in-Ask-Same.ensures.awaited c.await_the_same-are_same.ensures c.put_compared.ensures
+    (ap (λ (s : Standing). s.awaited) c.awaited.ensures.standing)
+    (ap (λ (s : Standing). s.awaited) c.awaited-in-Ask-Same.ensures.standing) c.await_the_same-are_same.ensures c.put_compared.ensures
 
 pub returns-in-Ask-Of-A-default : goal.returns-in-Ask-Of-A-default
 returns-in-Ask-Of-A-default g c =
