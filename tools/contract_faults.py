@@ -13,6 +13,8 @@ EXPORT = re.compile(r"no_mangle\)\]\n(?:pub )?extern \"C\" fn (\w+)(.*?)^\{",
 DEFINITION = re.compile(r"^ *(?:abbrev )?pub (\w+) : (?:[^\n]*\n +→)*?[^\n]*\b(?:Fault|Refusal)\b"
                         r"[^\n]*\n(?: +→[^\n]*\n)*"
                         r"((?: *\1\b[^\n]*\n(?: +(?!\1\b)(?!--)\S[^\n]*\n)*)+)", re.MULTILINE)
+# What is tested of a call, in order: the call, and its causes.
+CAUSES = re.compile(r"^causes \w+ \(?(\w+)[^=\n]*=(.*\n(?: +\S.*\n)*)", re.MULTILINE)
 # Of these the text names the faults in another order than they are tested in.
 OTHER_ORDER = {"if_own", "queue_refusal"}
 # The faults of a handle that a call does not take, and what stands for them in a clause.
@@ -29,16 +31,26 @@ class Specs:
     """The definitions of faults by name and crate, and the number of each fault."""
 
     def __init__(self):
-        self.known, text = {}, ""
+        self.known, self.numbers = {}, {}
+        self.crates = re.findall(r"^(rcu_\w+)", read("crates.txt"), re.MULTILINE)
         for path in (it for it in files() if re.fullmatch(r"crates/\w+/specs/\w+\.antt", it)):
-            text += read(path)
-            for name, body in DEFINITION.findall(read(path)):
+            crate, text = path.split("/")[1], read(path)
+            for call, body in CAUSES.findall(text):
+                self.known[f"{crate}_causes_{call}"] = {crate: body}
+            for below, module in re.findall(r"^use Rattle\.(\w+)\.specs\.\w+ as (\w+)$", text,
+                                            re.MULTILINE):
+                text = re.sub(rf"\b{module}\.refusal [\w.]+ {module}\.(\w+)",
+                              rf"{below}_causes_\1", text)
+            for name, body in DEFINITION.findall(text):
                 if name != "first_fault":
-                    self.known.setdefault(name, {})[path.split("/")[1]] = body
-        self.causes = dict(re.findall(r"^causes r \(?(\w+).*?\)? =(.*(?:\n +.*)*)", text,
-                                      re.MULTILINE))
-        self.numbers = {name: int(number) for name, number in re.findall(
-            r"^(?:fault|refusal)_number (\w+) = (\d+)$", text, re.MULTILINE)}
+                    self.known.setdefault(name, {})[crate] = body
+            self.numbers |= {name: int(number) for name, number in re.findall(
+                r"^(?:fault|refusal)_number (\w+) = (\d+)$", text, re.MULTILINE)}
+
+    def crate_of(self, name, crate):
+        """Where a crate has a definition from: the nearest crate below that has one."""
+        order = self.crates.index
+        return max((it for it in self.known[name] if order(it) <= order(crate)), key=order)
 
     def faults_in(self, text, crate="rcu_c"):
         """The faults that a text of a crate names, and lists of those that have an order."""
@@ -46,7 +58,7 @@ class Specs:
         named = [self.numbers[it] for it in words if it in self.numbers]
         found, lists = set(named), [named]
         for name in [it for it in words if it in self.known]:
-            own = crate if crate in self.known[name] else next(iter(self.known[name]))
+            own = self.crate_of(name, crate)
             # (what stands before '=' is the name itself, which a list's definition calls again)
             body = re.sub(rf"(?m)^ *{name}\b[^=\n]*=|\b{name}\b", "", self.known[name][own])
             below, more = self.faults_in(body, own)
@@ -64,7 +76,7 @@ class Specs:
                 found |= below
                 lists += more
             for call in re.findall(r"\brefusal \(replica_of [\w.]+\)\s+\(?(\w+)", text):
-                below, more = self.faults_in(self.causes[call])
+                below, more = self.faults_in(f"rcu_report_causes_{call}")
                 found |= below
                 lists += more
             told = rf"(?:result ≡|\b(?:{handles}) [\w.]+)\s+"
