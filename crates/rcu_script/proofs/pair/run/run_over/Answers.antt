@@ -9,12 +9,12 @@ returns-in-Err g c = (refused_from _ _ c.in-Err.ensures.fault, refl)
 
 pub returns-in-Ok-run : goal.returns-in-Ok-run
 returns-in-Ok-run g c =
-    finished_from _ _ (λ lines text told. told.1
-    ∙ ap (λ (p : Pair). pair_replies p lines) c.in-Ok.ensures.state) _ _ _ (sym c.in-Ok.ensures.fault)
-    (c.in-Ok-run.ensures (refl, refl))
+    finished_from _ _
+    (λ lines text told. told.1 ∙ ap (λ (p : Pair). pair_replies p lines) c.in-Ok.ensures.state) _ _
+    _ (sym c.in-Ok.ensures.fault) (c.in-Ok-run.ensures (refl, refl))
 
 pub returns : goal.returns
 returns g c =
-    stopped_from _ _ (λ lines text told. told.1
-    ∙ ap (λ (p : Pair). pair_replies p lines) c.in-Ok.ensures.state) _ _ _ _ _ c.stopped.ensures (sym c.in-Ok.ensures.fault)
-    (c.in-Err-run.ensures (refl, refl))
+    stopped_from _ _
+    (λ lines text told. told.1 ∙ ap (λ (p : Pair). pair_replies p lines) c.in-Ok.ensures.state) _ _
+    _ _ _ c.stopped.ensures (sym c.in-Ok.ensures.fault) (c.in-Err-run.ensures (refl, refl))

@@ -8,5 +8,6 @@ use Rattle.rcu_script.proofs.pair.step.begin.Goals as goal
 pub returns-in_err-number-clause-fault : goal.returns-in_err-number-clause-fault
 returns-in_err-number-clause-fault g c =
     let p = err_from_is_err_and c.from_residual.result c.from_residual.ensures.1 in
-    let all : list_all (λ cpu. nat_lt cpu (cpus_of c.args.mine.now)) c.args.cpus.now ≡ true = search rules in
+    let all : list_all (λ cpu. nat_lt cpu (cpus_of c.args.mine.now)) c.args.cpus.now ≡ true =
+    search rules in
     rw (p.1, p.2) (rw all c.in_err-number.ensures.fault)
