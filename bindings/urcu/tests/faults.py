@@ -66,6 +66,10 @@ FAULTS = {
     "a thread that ends is online still": (
         "threads.c", "    CALL(thread_offline)();\n    give_back_place();",
         "    give_back_place();", "qsbr", "ends", False),
+    "the thread of a worker that is freed is joined": (
+        "workers.c", "sleep_on(&worker_over);\n    let_go();\n",
+        "sleep_on(&worker_over);\n    let_go();\n    pthread_join(worker->thread, 0);\n",
+        "memb", "joins", False),
     "a worker does not rest": (
         "callbacks.c", "    if (!milliseconds) return;\n", "    return;\n",
         "memb", "gathers", False),
