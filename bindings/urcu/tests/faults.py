@@ -21,7 +21,7 @@ FAULTS = {
         "mb", "waits", False),
     "a round passes over all engines but the oldest one": (
         "rounds.c", "uint32_t left = all.used;", "uint32_t left = all.used != 0;",
-        "memb", "crowd", False),
+        "memb", "engines", False),
     "a section of mb is none of the engine's": (
         "sections.c", "    open_seat(place);\n", "", "mb", "sections", False),
     "the wish is gone, in qsbr": (

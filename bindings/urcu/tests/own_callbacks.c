@@ -74,6 +74,22 @@ int batches(unsigned n) {
     return 1;
 }
 
+/* A round waits for a section of each engine. The threads have places of several. */
+int engines(unsigned n) {
+    enum { THREADS = 16 };
+    struct holder holders[THREADS];
+    (void)n;
+    for (int i = 0; i < THREADS; i++) open_section(&holders[i]);
+    call_rcu(malloc(sizeof(struct rcu_head)), tell);
+    for (int i = 0; i < THREADS - 1; i++) close_section(&holders[i]);
+    rest(200);
+    if (uatomic_read(&ran)) return puts("a round passed over a section"), 0;
+    close_section(&holders[THREADS - 1]);
+    for (int i = 0; i < THREADS; i++) end_holder(&holders[i]);
+    rcu_barrier();
+    return uatomic_read(&ran) == 1;
+}
+
 static void slowly(struct rcu_head *head) {
     rest(20);
     tell(head);
