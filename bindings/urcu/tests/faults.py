@@ -33,7 +33,7 @@ FAULTS = {
     "a place is given away in a section": (
         "places.c", "if (place) engine->free_places = place->next;\n    else place",
         "if (engine->opened) place = &engine->places[0];\n    else place",
-        "memb", "sections", False),
+        "memb", "engines", False),
     "a thread that ends keeps its place": (
         "threads.c", "    give_back_place();\n}\n\nstatic void set_up_once",
         "}\n\nstatic void set_up_once", "memb", "forgets", False),
