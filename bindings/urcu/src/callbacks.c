@@ -140,5 +140,8 @@ void *work(void *it) {
         }
     }
     let_go();
-    return it;
+    self.worker = 0;
+    give_back_place();
+    tell_over(worker);
+    return 0;
 }

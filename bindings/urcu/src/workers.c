@@ -122,7 +122,9 @@ int CALL(create_all_cpu_call_rcu_data)(unsigned long flags) {
         struct call_rcu_data *worker = CALL(create_call_rcu_data)(flags, cpu);
         int fault = CALL(set_cpu_call_rcu_data)(cpu, worker);
         if (!fault) continue;
+        pthread_t thread = worker->thread;
         CALL(call_rcu_data_free)(worker); /* another thread was first, or no memory is left */
+        pthread_join(thread, 0);
         if (fault == -EEXIST) continue;
         errno = -fault;
         return fault;
@@ -138,15 +140,23 @@ void forget_workers_of_cpus(void) {
 
 /* ---- the end of one */
 
+static pthread_cond_t worker_over = PTHREAD_COND_INITIALIZER;
+
+/* The worker's thread says so, and does nothing more with the worker. */
+void tell_over(struct call_rcu_data *worker) {
+    hold();
+    worker->is_over = true;
+    pthread_cond_signal(&worker_over);
+    let_go();
+}
+
+/* The thread is not joined: as in liburcu 0.13 that is left to the program. */
 static void stop(struct call_rcu_data *worker) {
-    int was;
     hold();
     worker->stop = true;
     pthread_cond_signal(&worker->work);
+    while (!worker->is_over) sleep_on(&worker_over);
     let_go();
-    pthread_setcancelstate(PTHREAD_CANCEL_DISABLE, &was);
-    pthread_join(worker->thread, 0);
-    pthread_setcancelstate(was, &was);
 }
 
 static void take_out(struct call_rcu_data *worker) {

@@ -11,7 +11,7 @@ struct call_rcu_data {
     pthread_cond_t work;
     pthread_t thread;
     int cpu;
-    bool stop, paused;
+    bool stop, paused, is_over;
     bool hurried;           /* it does not rest before its next batch */
     struct rcu_head marker; /* of a barrier */
     atomic_ulong running;   /* how many it took, and did not run yet */
@@ -39,6 +39,7 @@ void *work(void *it);
 /* workers.c */
 struct call_rcu_data *default_worker(void);
 void start_worker(struct call_rcu_data *worker);
+void tell_over(struct call_rcu_data *worker);
 bool has_worker_of_a_cpu(void);
 void forget_workers_of_cpus(void);
 

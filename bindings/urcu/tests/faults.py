@@ -21,7 +21,7 @@ FAULTS = {
         "mb", "waits", False),
     "a round passes over all engines but the oldest one": (
         "rounds.c", "uint32_t left = all.used;", "uint32_t left = all.used != 0;",
-        "memb", "crowd", False),
+        "memb", "engines", False),
     "a section of mb is none of the engine's": (
         "sections.c", "    open_seat(place);\n", "", "mb", "sections", False),
     "the wish is gone, in qsbr": (
@@ -33,7 +33,7 @@ FAULTS = {
     "a place is given away in a section": (
         "places.c", "if (place) engine->free_places = place->next;\n    else place",
         "if (engine->opened) place = &engine->places[0];\n    else place",
-        "memb", "sections", False),
+        "memb", "engines", False),
     "a thread that ends keeps its place": (
         "threads.c", "    give_back_place();\n}\n\nstatic void set_up_once",
         "}\n\nstatic void set_up_once", "memb", "forgets", False),
@@ -66,6 +66,10 @@ FAULTS = {
     "a thread that ends is online still": (
         "threads.c", "    CALL(thread_offline)();\n    give_back_place();",
         "    give_back_place();", "qsbr", "ends", False),
+    "the thread of a worker that is freed is joined": (
+        "workers.c", "sleep_on(&worker_over);\n    let_go();\n",
+        "sleep_on(&worker_over);\n    let_go();\n    pthread_join(worker->thread, 0);\n",
+        "memb", "joins", False),
     "a worker does not rest": (
         "callbacks.c", "    if (!milliseconds) return;\n", "    return;\n",
         "memb", "gathers", False),

@@ -104,6 +104,7 @@ static const struct {
     {"signals", signals},   {"forks", forks},         {"bare_forks", bare_forks},
     {"ends", ends},         {"chains", chains},       {"memory", memory},
     {"answers", answers},   {"values", values},       {"handlers", handlers},
+    {"joins", joins},       {"engines", engines},
     {"forks_in_sections", forks_in_sections},
     {"forks_by_handlers", forks_by_handlers},
 #ifndef NO_EXTRAS

@@ -74,6 +74,22 @@ int batches(unsigned n) {
     return 1;
 }
 
+/* A round waits for a section of each engine. The threads have places of several. */
+int engines(unsigned n) {
+    enum { THREADS = 16 };
+    struct holder holders[THREADS];
+    (void)n;
+    for (int i = 0; i < THREADS; i++) open_section(&holders[i]);
+    call_rcu(malloc(sizeof(struct rcu_head)), tell);
+    for (int i = 0; i < THREADS - 1; i++) close_section(&holders[i]);
+    rest(200);
+    if (uatomic_read(&ran)) return puts("a round passed over a section"), 0;
+    close_section(&holders[THREADS - 1]);
+    for (int i = 0; i < THREADS; i++) end_holder(&holders[i]);
+    rcu_barrier();
+    return uatomic_read(&ran) == 1;
+}
+
 static void slowly(struct rcu_head *head) {
     rest(20);
     tell(head);
@@ -163,6 +179,42 @@ int gathers(unsigned n) {
 }
 #endif
 
+/* As in liburcu 0.13, the thread of a worker that is freed is left to the program. */
+static void free_worker(struct call_rcu_data *worker) {
+    pthread_t thread = get_call_rcu_thread(worker);
+    call_rcu_data_free(worker);
+    pthread_join(thread, 0);
+}
+
+static void free_workers_of_cpus(void) {
+    enum { CPUS = 64 };
+    pthread_t threads[CPUS];
+    unsigned count = 0;
+    for (int cpu = 0; cpu < CPUS; cpu++) {
+        struct call_rcu_data *worker = get_cpu_call_rcu_data(cpu);
+        if (worker) threads[count++] = get_call_rcu_thread(worker);
+    }
+    free_all_cpu_call_rcu_data();
+    while (count) pthread_join(threads[--count], 0);
+}
+
+static void *end_late(void *it) {
+    rest(50);
+    return it;
+}
+
+/* Where it was joined before, the program's next thread has its place. */
+int joins(unsigned n) {
+    struct call_rcu_data *own = create_call_rcu_data(0, -1);
+    pthread_t thread = get_call_rcu_thread(own), next;
+    void *answer = own;
+    (void)n;
+    call_rcu_data_free(own);
+    if (pthread_create(&next, 0, end_late, &ran)) return 0;
+    if (pthread_join(thread, &answer) || answer) return puts("another thread was joined"), 0;
+    return !pthread_join(next, &answer) && answer == &ran;
+}
+
 /* What the calls of workers answer, in errno too. */
 int answers(unsigned n) {
     struct call_rcu_data *own = create_call_rcu_data(URCU_CALL_RCU_RT, -1);
@@ -176,8 +228,8 @@ int answers(unsigned n) {
     if (create_all_cpu_call_rcu_data(0) || get_cpu_call_rcu_data(0) != own) return 0;
     if (set_cpu_call_rcu_data(0, 0) || get_cpu_call_rcu_data(0)) return 0;
     synchronize_rcu();
-    call_rcu_data_free(own);
-    free_all_cpu_call_rcu_data();
+    free_worker(own);
+    free_workers_of_cpus();
     call_rcu_data_free(0);
     call_rcu_data_free(get_default_call_rcu_data());
     return !get_thread_call_rcu_data() &&
@@ -189,7 +241,7 @@ static void *queue_some(void *it) {
     set_thread_call_rcu_data(own);
     for (int i = 0; i < 500; i++) call_rcu(malloc(sizeof(struct rcu_head)), tell);
     set_thread_call_rcu_data(0);
-    call_rcu_data_free(own);
+    free_worker(own);
     return it;
 }
 
@@ -202,7 +254,7 @@ int workers(unsigned n) {
     for (int i = 0; i < 4; i++)
         if (pthread_create(&threads[i], 0, queue_some, 0)) return 0;
     for (int i = 0; i < 4; i++) pthread_join(threads[i], 0);
-    free_all_cpu_call_rcu_data();
+    free_workers_of_cpus();
     for (int i = 0; i < 500; i++) call_rcu(malloc(sizeof(struct rcu_head)), tell);
     rcu_barrier();
     return uatomic_read(&ran) == 3000 && get_call_rcu_data() == get_default_call_rcu_data() &&

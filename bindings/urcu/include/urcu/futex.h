@@ -1,9 +1,10 @@
 /* futex(2), under liburcu's names. */
 #ifndef URCU_OVER_RCU_FUTEX_H
 #define URCU_OVER_RCU_FUTEX_H
+#include <errno.h>
 #include <stdint.h>
 #include <time.h>
-#include <urcu/config.h>
+#include <urcu/arch.h>
 #include <urcu/syscall-compat.h>
 
 #define FUTEX_WAIT 0
