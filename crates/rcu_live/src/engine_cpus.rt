@@ -46,6 +46,7 @@ impl<A: Awaited, T: Drop, P: Client> Engine<A, T, P> {
     /// Faults: `AlreadyOnline` (3) where its word is not 0; `Offline` (2) where it was offline
     /// before and its list is empty; `NoMemory` (16), only where its list is not empty: then it has
     /// departed, and its list stays.
+    #[tactic(auto, using(rcu_barrier::proofs::Refusals::migrate_met))]
     pub fn leave(&mut self, cpu: u32, again: bool) -> Result<u64, Fault>
         requires { cpu < self.old.cpus }
         ensures other { OnOk result (0 < cpu) }

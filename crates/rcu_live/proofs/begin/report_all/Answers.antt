@@ -1,4 +1,4 @@
-use Rattle.std.proofs.Common.{◌≡◌, ◌+◌, ◌&&◌, ◌<◌, Bool, not, List, length, ap, sym, ◌∙◌, arith}
+use Rattle.std.proofs.Common.{◌≡◌, ◌+◌, ◌<◌, Bool, List, length, ap, sym, ◌∙◌, arith}
 use Rattle.rcu_node.specs.CpuSet.{is_in, unheard}
 use Rattle.rcu_node.proofs.CpuSetLemmas.{length-unheard}
 use Rattle.rcu_state.specs.GpState.{Grace, GraceWithRooms, with_awaited}
@@ -22,7 +22,8 @@ loop-cpu-preserved g c =
     let inside : n < length set = omega (arith, c.requires.already_quiescent, next.inside) in
     let state : c.report_current.new.self.grace ≡ with_awaited gp (unheard set (heard_below (n + 1) (is_in already_quiescent))) =
     reported_more gp c.loop-cpu.gp.grace c.report_current.new.self.grace already_quiescent n inside next.here
-    (passed_by gp c.loop-cpu.gp.grace already_quiescent c.loop-cpu.from n next.later next.none i.0) c.report_current.ensures.state in
+    (passed_by gp c.loop-cpu.gp.grace already_quiescent c.loop-cpu.from n next.later next.none i.0)
+    (ap (λ (s : GraceWithRooms g.row.T.Denot). s.grace) c.report_current.ensures.state) in
     (state, ap (λ (y : Grace g.row.T.Denot). length y.processors.awaited) state ∙ length-unheard set (heard_below (n + 1) (is_in already_quiescent)) ∙ sym c.requires.already_quiescent)
 
 pub returns : goal.returns

@@ -1,4 +1,4 @@
-use Rattle.std.proofs.Common.{◌+◌, ◌<◌, ◌≤◌, arith}
+use Rattle.std.proofs.Common.{◌≤◌, arith}
 use Rattle.rcu_live.proofs.NextCpus.{first_of, nobody_left, none_of}
 use Rattle.rcu_live.proofs.next_cpu.next_from.Goals as goal
 

@@ -5,7 +5,7 @@ use Rattle.rcu_seq.specs.Seq.{number_of}
 use Rattle.rcu_seq.specs.declared.fault.Fault.TheVariants as fault
 use Rattle.rcu_node.specs.CpuSet.{listed}
 use Rattle.rcu_node.proofs.CpuSetLemmas.{length-listed}
-use Rattle.rcu_state.specs.GpState.{Grace}
+use Rattle.rcu_state.specs.GpState.{Grace, GraceWithRooms}
 use Rattle.rcu_live.specs.Board.{Object}
 use Rattle.rcu_live.specs.Engine.{after_own_word_loads, begun_from, loaded_word, next_number}
 use Rattle.rcu_live.specs.Numbers.{reports_quiescence}
@@ -18,7 +18,7 @@ pub report_all-requires-clause-already_quiescent : goal.report_all-requires-clau
 report_all-requires-clause-already_quiescent g c =
     let f = c.load_own_words.ensures in
     ap (λ (l : List Bool). length l) f.already_quiescent ∙ length-listed _ _
-    ∙ sym (ap (λ (y : Grace g.row.T.Denot). length y.processors.awaited) c.in-Ok.ensures.state ∙ ap (λ (l : List Bool). length l) f.state.these ∙ length-listed _ _)
+    ∙ sym (ap (λ (y : Grace g.row.T.Denot). length y.processors.awaited) (ap (λ (s : GraceWithRooms g.row.T.Denot). s.grace) c.in-Ok.ensures.state) ∙ ap (λ (l : List Bool). length l) f.state.these ∙ length-listed _ _)
 
 pub invariant_of-self : goal.invariant_of-self
 invariant_of-self g c =
@@ -33,7 +33,7 @@ invariant_of-self g c =
     let state : c.report_all.new.gp.grace ≡ begun_from cpus (loaded_word own_word_loads) old =
     begun_is old c.load_own_words.new.gp.grace c.begin-2.new.self.grace c.report_all.new.gp.grace cpus
     (loaded_word own_word_loads) c.load_own_words.new.by_word.already_quiescent c.in_ok-number.number
-    f.state.seq f.state.needed f.state.lists f.state.these quiescent number c.in-Ok.ensures.state c.report_all.ensures in
+    f.state.seq f.state.needed f.state.lists f.state.these quiescent number (ap (λ (s : GraceWithRooms g.row.T.Denot). s.grace) c.in-Ok.ensures.state) c.report_all.ensures in
     let view : c.load_own_words.new.seat.me.0
     ≡ after_own_word_loads (after_begin_store c.self.inside.seat.me.0 c.in_ok-number.number) (loaded_word own_word_loads) cpus =
     f.view ∙ ap (λ (v : View g.row.P-Known.Denot). after_own_word_loads v (loaded_word own_word_loads) cpus) c.begin.ensures.told in
@@ -74,12 +74,12 @@ returns-clause-made g c =
     let state : c.report_all.new.gp.grace ≡ begun_from cpus (loaded_word own_word_loads) old =
     begun_is old c.load_own_words.new.gp.grace c.begin-2.new.self.grace c.report_all.new.gp.grace cpus
     (loaded_word own_word_loads) c.load_own_words.new.by_word.already_quiescent c.in_ok-number.number
-    f.state.seq f.state.needed f.state.lists f.state.these quiescent number c.in-Ok.ensures.state c.report_all.ensures in
+    f.state.seq f.state.needed f.state.lists f.state.these quiescent number (ap (λ (s : GraceWithRooms g.row.T.Denot). s.grace) c.in-Ok.ensures.state) c.report_all.ensures in
     let view : c.load_own_words.new.seat.me.0 ≡ after_own_word_loads (after_begin_store v (next_number old)) (loaded_word own_word_loads) cpus =
     f.view ∙ ap (λ (u : View g.row.P-Known.Denot). after_own_word_loads u (loaded_word own_word_loads) cpus)
     (c.begin.ensures.told ∙ ap (after_begin_store v) number) in
     rw (← c.self.view_is) (record {
-      may = none_runs old.seq.running _ c.in_ok-number.ensures.accepted;
+      may = none_runs old.seq.running _ (sym c.in_ok-number.ensures.fault);
       left = λ i. record {
         table = (arc_value c.self.inside.board).table;
         cpus = (arc_value c.self.inside.board).cpus;

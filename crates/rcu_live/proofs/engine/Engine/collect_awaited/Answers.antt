@@ -1,5 +1,4 @@
-use Rattle.std.proofs.Common.{◌≡◌, ◌+◌, ◌<◌, ◌≤◌, ◌∙◌, ap, arith, length, refl, sym}
-use Rattle.rcu_state.specs.GpState.{Grace}
+use Rattle.std.proofs.Common.{◌≡◌, ◌+◌, ◌<◌, ◌∙◌, ap, arith, length, refl, sym}
 use Rattle.rcu_live.specs.Engine.{Locked, latest_words}
 use Rattle.rcu_live.proofs.Collections.{all_collected, awaited_still, collected_below, cpus_still, none_collected, one_collected, passed_by}
 use Rattle.rcu_live.proofs.engine.Engine.collect_awaited.Goals as goal

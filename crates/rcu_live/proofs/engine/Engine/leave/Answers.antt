@@ -1,6 +1,7 @@
-use Rattle.std.proofs.Common.{rules, ◌≡◌, ◌∙◌, ap, sym}
+use Rattle.std.proofs.Common.{rules, ◌∙◌, ap, sym}
 use Rattle.rcu_hotplug.specs.Hotplug.{Processors}
-use Rattle.rcu_live.proofs.Departures.{moved_alone}
+use Rattle.rcu_state.specs.GpState.{lists_of}
+use Rattle.rcu_live.proofs.Departures.{moved_alone, moved_awaits, only_memory}
 use Rattle.rcu_live.proofs.engine.Engine.leave.Goals as goal
 
 pub invariant_of-self-2 : goal.invariant_of-self-2
@@ -12,6 +13,18 @@ invariant_of-self-2 g c =
       epoch = search rules;
       cpus = search rules;
       already_quiescent = search rules;
-      awaited = search rules;
+      awaited =
+          moved_awaits _ _ c.depart.new.gp.grace c.migrate.new.self.grace c.args.cpu c.migrate.result
+          c.migrate.ensures.state c.migrate.ensures.unchanged (search rules);
       same = c.depart.ensures.awaited ∙ ap (λ (p : Processors). p.awaited) (sym moved);
     }
+
+pub returns-clause-fault : goal.returns-clause-fault
+returns-clause-fault g c =
+    let memory = only_memory (lists_of c.depart.new.gp) c.args.cpu c.migrate.result c.migrate.ensures.fault in
+    search rules
+
+pub returns-clause-looked : goal.returns-clause-looked
+returns-clause-looked g c =
+    let memory = only_memory (lists_of c.depart.new.gp) c.args.cpu c.migrate.result c.migrate.ensures.fault in
+    search rules

@@ -13,7 +13,7 @@ returns-clause-made g c = rw (← c.self.view_is) (record {
     table = (arc_value c.self.inside.board).table;
     cpus = (arc_value c.self.inside.board).cpus;
     view = c.self.inside.seat.me.0;
-    grace = c.pop_done.ensures.state i;
+    grace = (c.pop_done.ensures.state i).grace;
   };
 })
 
