@@ -1,4 +1,6 @@
 pub mod AsBox
+pub mod BarrierLaws
+pub mod BarrierRuns
 pub mod Dealt
 pub mod FromWords
 pub mod HandedOut
