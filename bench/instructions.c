@@ -1,6 +1,7 @@
 /* Usage: instructions OPENED ONLINE
- * One grace period over the lowest processors, ONLINE of OPENED: a begin, a section, collections while all are awaited,
- * their list, a quiescent state of each, and the step of driving that hears of them and ends it. */
+ * One grace period over the lowest processors, ONLINE of OPENED: a begin, a section, collections
+ * while all are awaited, their list, a quiescent state of each, and the step of driving that hears
+ * of them and ends it. */
 #include "rcu.h"
 #include <stdio.h>
 #include <stdlib.h>

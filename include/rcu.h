@@ -234,7 +234,8 @@ void __tsan_acquire(void *place);
 
 /* The calls that make a full fence: rcu_end, rcu_turn, rcu_arrive, rcu_seat_quiesce,
  * rcu_seat_quiesce_since, rcu_seat_renew, rcu_seat_wake, rcu_seat_take, rcu_seat_poll,
- * rcu_links_tend, rcu_defer_run, rcu_drive, rcu_drive_for, rcu_seat_pin, rcu_seat_repin. */
+ * rcu_links_tend, rcu_defer_run, rcu_drive, rcu_drive_for, rcu_seat_pin, rcu_seat_repin,
+ * rcu_barrier_wait. */
 
 /* ---- opening and closing */
 
@@ -778,6 +779,24 @@ uint32_t rcu_seat_want(rcu_seat_t *seat, uint64_t cookie, uint32_t *wakes);
  * where rcu_poll says that it is done, to sleep until a thread wakes the caller, which lets go of
  * the lock and sleeps in one step, as a condition variable does. */
 uint32_t rcu_wanted(rcu_t *rcu, bool sleeps, uint64_t *cookie);
+
+/* ---- waiting for a barrier, where the caller drives: `rcu` is under the caller's lock */
+
+/* One step of waiting for a barrier, for who drives: it begins a barrier where none runs, visits
+ * each processor, tends each list, and takes a step of driving, as rcu_drive. Then it tests the
+ * barrier, and writes how many markers and unvisited processors are left. At 0 it is over, and each
+ * callback that was queued before it began was handed out. It costs some steps a processor.
+ * Call it until it writes 0 or returns a fault. In between hand out by rcu_run of each processor,
+ * and let other threads run. It orders what rcu_drive orders.
+ * Faults: 16 where a list has no room for a marker; 11 where a grace period would begin, and the
+ * number is the last one. After either the barrier goes on, and so does the same call again.
+ * Fence: behind. */
+uint32_t rcu_barrier_wait_unfenced(rcu_t *rcu, uint64_t *left);
+static inline uint32_t rcu_barrier_wait(rcu_t *rcu, uint64_t *left) {
+    uint32_t result = rcu_barrier_wait_unfenced(rcu, left);
+    rcu_fence();
+    return result;
+}
 
 /* <<< */
 

@@ -81,7 +81,6 @@ static void replace(uint64_t value) {
 
 int main(void) {
     uint64_t freed = 0, last = 0, left = 1;
-    uint32_t did;
     pthread_t reader;
     must("open", rcu_open(CPUS, UINT64_C(1) << 62, &rcu));
     for (uint32_t cpu = 0; cpu < CPUS; cpu++) must("seat", rcu_seat_open(&rcu, cpu, &seats[cpu]));
@@ -94,11 +93,9 @@ int main(void) {
     /* The end: the reader departs, and a barrier tells when all is handed out. */
     atomic_store_explicit(&over, true, memory_order_release);
     pthread_join(reader, 0);
-    must("barrier", rcu_barrier_begin(&rcu));
-    for (uint32_t cpu = 0; cpu < CPUS; cpu++) must("visit", rcu_barrier_visit(&rcu, cpu, &did));
     while (left) {
+        must("barrier", rcu_barrier_wait(&rcu, &left));
         freed += drive();
-        must("test", rcu_barrier_test(&rcu, &left));
     }
     printf("replaced %d, freed %" PRIu64 ", read well: %s\n", VALUES, freed,
            last <= VALUES ? "yes" : "no");

@@ -60,6 +60,7 @@ static void refuse_engine(rcu_t *none, uint32_t fault) {
     must("rcu_barrier_begin", rcu_barrier_begin(none), fault);
     must("rcu_barrier_visit", rcu_barrier_visit(none, 0, &out.found), fault);
     must("rcu_barrier_test", rcu_barrier_test(none, &out.number), fault);
+    must("rcu_barrier_wait", rcu_barrier_wait(none, &out.number), fault);
     rcu_close(none);
     must("rcu_close", none->at == at && !closed.at, true);
 }

@@ -629,6 +629,21 @@ extern "C" {
     /// of it; or, where `rcu_poll` says that it is done, to sleep until a thread wakes the caller,
     /// which lets go of the lock and sleeps in one step, as a condition variable does.
     pub fn rcu_wanted(rcu: *mut rcu_t, sleeps: bool, cookie: *mut u64) -> u32;
+    /// One step of waiting for a barrier, for who drives: it begins a barrier where none runs,
+    /// visits each processor, tends each list, and takes a step of driving, as `rcu_drive`. Then it
+    /// tests the barrier, and writes how many markers and unvisited processors are left. At 0 it is
+    /// over, and each callback that was queued before it began was handed out. It costs some steps
+    /// a processor.
+    ///
+    /// Call it until it writes 0 or returns a fault. In between hand out by `rcu_run` of each
+    /// processor, and let other threads run. It orders what `rcu_drive` orders.
+    ///
+    /// Faults: 16 where a list has no room for a marker; 11 where a grace period would begin, and
+    /// the number is the last one. After either the barrier goes on, and so does the same call
+    /// again.
+    ///
+    /// Fence: behind.
+    pub fn rcu_barrier_wait_unfenced(rcu: *mut rcu_t, left: *mut u64) -> u32;
 }
 
 /// Ends the grace period. Writes the new number.
@@ -948,6 +963,28 @@ pub unsafe fn rcu_seat_repin(seat: *mut rcu_seat_t, number: *mut u64) -> u32 {
     if *number != last {
         fence(SeqCst);
     }
+    result
+}
+
+/// One step of waiting for a barrier, for who drives: it begins a barrier where none runs, visits
+/// each processor, tends each list, and takes a step of driving, as `rcu_drive`. Then it tests the
+/// barrier, and writes how many markers and unvisited processors are left. At 0 it is over, and
+/// each callback that was queued before it began was handed out. It costs some steps a processor.
+///
+/// Call it until it writes 0 or returns a fault. In between hand out by `rcu_run` of each
+/// processor, and let other threads run. It orders what `rcu_drive` orders.
+///
+/// Faults: 16 where a list has no room for a marker; 11 where a grace period would begin, and the
+/// number is the last one. After either the barrier goes on, and so does the same call again.
+///
+/// Fence: behind.
+///
+/// # Safety
+///
+/// As the header says.
+pub unsafe fn rcu_barrier_wait(rcu: *mut rcu_t, left: *mut u64) -> u32 {
+    let result = rcu_barrier_wait_unfenced(rcu, left);
+    fence(SeqCst);
     result
 }
 

@@ -1,7 +1,10 @@
 pub mod AsBox
+pub mod BarrierLaws
+pub mod BarrierRuns
 pub mod Dealt
 pub mod FromWords
 pub mod HandedOut
 pub mod Listed
+pub mod Opened
 pub mod Popped
 pub mod WrittenBack

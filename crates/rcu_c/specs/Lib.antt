@@ -1,4 +1,5 @@
 pub mod Answers
+pub mod BarrierSteps
 pub mod Belonging
 pub mod Engines
 pub mod Handle

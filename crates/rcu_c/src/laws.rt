@@ -1,6 +1,6 @@
 //! What the definitions of handles say together.
-ghost use Rattle.std.specs.Prelude.{◌≡◌, ◌≢◌, ◌<◌, ◌≤◌, ◌+◌, ◌-◌, ◌^◌, ◌∷◌, ℕ, List, None, Option};
-ghost use Rattle.std.specs.Prelude.{Some, false, if◌then◌else◌, length, slice_get, true};
+ghost use Rattle.std.specs.Prelude.{◌≡◌, ◌≢◌, ◌<◌, ◌≤◌, ◌+◌, ◌-◌, ◌^◌, ◌∷◌, ◌++◌, ℕ, List, None};
+ghost use Rattle.std.specs.Prelude.{Option, Some, false, if◌then◌else◌, length, slice_get, true};
 ghost use Rattle.atomic_table.specs.Seated.{TableId};
 ghost use Rattle.rcu_seq.specs.Numbers.{Number};
 ghost use Rattle.rcu_seq.specs.Seq.{cookie_of, has_full_period, number_of, tag_of};
@@ -23,6 +23,7 @@ ghost use Rattle.rcu_live.specs.Runs.{Call, IsNew, IsRun, Makes, engine_after, q
 ghost use Rattle.rcu_live.specs.Runs.{queued_before_barrier, times_handed_out, turns_since};
 ghost use Rattle.rcu_live.specs.Watcher.{Watching};
 ghost use Rattle.rcu_c.specs.Answers.{number_for};
+ghost use Rattle.rcu_c.specs.BarrierSteps.{before_drive, begun, visits, whole_step};
 ghost use Rattle.rcu_c.specs.Belonging.{BelongsTo, HasSectionAt, IsEngineAt, IsSameObject, Moment};
 ghost use Rattle.rcu_c.specs.Engines.{EngineAndSeats, opened_at_first, seat_at, with_seat};
 ghost use Rattle.rcu_c.specs.Engines.{without_seat};
@@ -184,6 +185,15 @@ pub fn calls_are_steps_of_a_run()
         engine_number rcu (if (grace_of rcu).lists.running then 0 else 14) ≡ 0 →
         Makes Call.BarrierTest (engine_of rcu)
         (engine_of (on_grace (λ g. grace.after_barrier_test g) rcu)) }
+{}
+
+/// A step of waiting for a barrier is a run of calls: whole, up to its step of driving where that
+/// is refused, and as far as it visited where memory was refused.
+pub fn waiting_for_a_barrier_is_a_run()
+    ensures whole { (e : Locked (Unit {0}) ℕ) (word : ℕ → ℕ) → IsRun e (whole_step e word) }
+    ensures ready { (e : Locked (Unit {0}) ℕ) → IsRun e (before_drive e) }
+    ensures part { (e : Locked (Unit {0}) ℕ) (cpu : ℕ) → cpu ≤ e.cpus →
+        IsRun e (visits cpu ++ begun e) }
 {}
 
 /// No callback runs twice: each value that was queued is handed out at most once.

@@ -6,6 +6,7 @@
 //! else, and changes nothing. One that returns no fault says what it says of no processor.
 #![tactic(auto)]
 
+pub mod barrier_steps;
 pub mod barriers;
 pub mod callbacks;
 pub mod codes;

@@ -24,69 +24,42 @@ use crate::identity::Identity;
 use crate::open_engine::OpenEngine;
 use crate::raw_box::RawBox;
 use crate::refusal::Refusal;
-use crate::seat_parts::SeatParts;
-use rcu_live::{Board, CpuSeat, Parts, Watcher};
+use crate::seat_parts::{SeatParts, SharedParts};
+use rcu_live::{CpuSeat, Parts, Watcher};
 use rcu_seq::Fault;
 use rcu_wish::Wishes;
 use std::alloc::{AllocError, Global};
-use std::sync::Arc;
 
 /// How many callbacks may be queued: so many that no program queues them all.
 const MOST: u64 = 1 << 62;
 
-/// The seat of a processor, with its share of the words.
-fn make_seat(
-    alloc: Global,
-    identity: Identity,
-    board: &Arc<Board, Global>,
-    wishes: &Wishes,
-    cpu: u32,
-    seat: CpuSeat,
-    watcher: Watcher,
-) -> Result<SeatParts, AllocError>
-    requires inside { cpu < (arc_value board.now).cpus }
-    requires seat { seat ≡ at_first (arc_value board.now).table
-        (base_of (arc_value board.now).cpus) tt cpu }
-    requires watcher { watcher ≡ watcher_at_first (arc_value board.now).table
-        (base_of (arc_value board.now).cpus) tt }
-    ensures { IfOk result (λ made. made ≡ seat_at_first identity (arc_value board.now).table
-        wishes.now.words (arc_value board.now).cpus cpu) }
-{
-    let board = Arc::try_clone(board)?;
-    let wisher = wishes.wisher()?;
-    Ok(SeatParts::new(alloc, board, seat, watcher, wisher, identity))
-}
-
 /// The seats of all processors, in order.
 fn make_seats(
     alloc: Global,
-    identity: Identity,
-    board: &Arc<Board, Global>,
-    wishes: &Wishes,
-    cpus: u32,
+    shared: &SharedParts,
     seats: Vec<CpuSeat>,
     watchers: Vec<Watcher>,
 ) -> Result<Vec<Option<SeatParts>>, AllocError>
-    requires cpus { (arc_value board.now).cpus ≡ cpus }
-    requires seats { seats.items ≡
-        map (at_first (arc_value board.now).table (base_of cpus) tt) (range_with_len 0 cpus) }
+    requires seats { seats.items ≡ map
+        (at_first shared.now.words.table (base_of shared.now.words.cpus) tt)
+        (range_with_len 0 shared.now.words.cpus) }
     requires watchers { watchers.items ≡ map
-        (λ _. watcher_at_first (arc_value board.now).table (base_of cpus) tt)
-        (range_with_len 0 cpus) }
+        (λ _. watcher_at_first shared.now.words.table (base_of shared.now.words.cpus) tt)
+        (range_with_len 0 shared.now.words.cpus) }
     ensures { IfOk result (λ made. made.items ≡ map
-        (λ cpu. Some (seat_at_first identity (arc_value board.now).table wishes.now.words cpus cpu))
-        (range_with_len 0 cpus)) }
+        (λ cpu. Some (seat_at_first shared.now.identity shared.now.words.table shared.now.wishes
+        shared.now.words.cpus cpu)) (range_with_len 0 shared.now.words.cpus)) }
 {
     let mut made = Vec::new(alloc);
     let (mut seats, mut watchers) = (seats.into_iter(), watchers.into_iter());
-    for cpu in 0..cpus {
+    for _ in 0..shared.board.cpus() {
         let Some(seat) = seats.next() else {
             unreachable!()
         };
         let Some(watcher) = watchers.next() else {
             unreachable!()
         };
-        made.push(Some(make_seat(alloc, identity, board, wishes, cpu, seat, watcher)?))?;
+        made.push(Some(SeatParts::new(alloc, shared, seat, watcher)?))?;
     }
     Ok(made)
 }
@@ -107,10 +80,15 @@ fn make_engine(alloc: Global, cpus: u32, last: u64, identity: Identity) -> Resul
     let Ok(wishes) = Wishes::open(alloc) else {
         return Err(Fault::NoMemory);
     };
-    let Ok(seats) = make_seats(alloc, identity, &board, &wishes, cpus, seats, watchers) else {
+    let shared = SharedParts {
+        board,
+        wishes,
+        identity,
+    };
+    let Ok(seats) = make_seats(alloc, &shared, seats, watchers) else {
         return Err(Fault::NoMemory);
     };
-    Ok(OpenEngine::new(engine, seats, wishes, identity))
+    Ok(OpenEngine::new(engine, seats, shared.wishes, identity))
 }
 
 /// The engine, with a seat for each processor, in a box.

@@ -1,36 +1,74 @@
-use Rattle.std.proofs.Common.{ℕ, Some, ap, sym, ◌∙◌}
-use Rattle.std.specs.Arc.{arc_value}
-use Rattle.rcu_live.specs.CpuSeat.{at_first}
-use Rattle.rcu_live.specs.Watcher.{watcher_at_first}
+use Rattle.std.proofs.Common.{◌≡◌, ◌<◌, ℕ, Some, ap, sym, ◌∙◌, subst, arith}
+use Rattle.rcu_live.specs.Board.{Object}
+use Rattle.rcu_live.specs.CpuSeat.{Seated, at_first}
+use Rattle.rcu_live.specs.Watcher.{Watching, watcher_at_first}
 use Rattle.rcu_live.specs.Words.{base_of}
-use Rattle.rcu_c.specs.Seats.{seat_at_first}
+use Rattle.rcu_defer.specs.DeferList.{list_at_first}
+use Rattle.rcu_wish.specs.Wishes.{wisher_at_first}
 use Rattle.rcu_live.proofs.RowLemmas.{one_more}
+use Rattle.rcu_c.specs.Links.{no_links}
+use Rattle.rcu_c.specs.Seats.{Seat, Shared, seat_at_first}
 use Rattle.rcu_c.proofs.Dealt.{one_came, others_left}
 use Rattle.rcu_c.proofs.opening.make_seats.Goals as goal
 
-pub make_seat-requires-clause-seat : goal.make_seat-requires-clause-seat
-make_seat-requires-clause-seat c =
-    one_came _ c.loop-cpu.cpu c.args.cpus _ _ _ c.loop-cpu-test.true c.loop-cpu.invariant.1
-    c.in-Some.ensures.items
-    ∙ ap (λ (n : ℕ). at_first (arc_value c.args.board.now).table (base_of n) tt c.loop-cpu.cpu)
-    (sym c.requires.cpus)
+-- the seat of these parts
+abbrev seat_of_parts : Shared → Seated (Unit {0}) → Watching (Unit {0}) → Seat
+seat_of_parts s cpu watcher = record {
+  words = s.words;
+  cpu = cpu;
+  watcher = watcher;
+  values = list_at_first;
+  links = no_links;
+  wisher = wisher_at_first s.wishes;
+  identity = s.identity;
+}
 
-pub make_seat-requires-clause-watcher : goal.make_seat-requires-clause-watcher
-make_seat-requires-clause-watcher c =
-    one_came _ c.loop-cpu.cpu c.args.cpus _ _ _ c.loop-cpu-test.true c.loop-cpu.invariant.2
-    c.in-Some-next.ensures.items
-    ∙ ap (λ (n : ℕ). watcher_at_first (arc_value c.args.board.now).table (base_of n) tt)
-    (sym c.requires.cpus)
+-- is the processor's as it is opened
+as_opened : (s : Shared) (cpu : Seated (Unit {0})) (watcher : Watching (Unit {0})) (n : ℕ)
+    → cpu ≡ at_first s.words.table (base_of s.words.cpus) tt n
+    → watcher ≡ watcher_at_first s.words.table (base_of s.words.cpus) tt
+    → seat_of_parts s cpu watcher ≡ seat_at_first s.identity s.words.table s.wishes s.words.cpus n
+as_opened s cpu watcher n is_cpu is_watcher =
+    ap (λ x. seat_of_parts s x watcher) is_cpu
+    ∙ ap (λ x. seat_of_parts s (at_first s.words.table (base_of s.words.cpus) tt n) x) is_watcher
 
-pub loop-cpu-preserved : goal.loop-cpu-preserved
-loop-cpu-preserved c = (
-  one_more _ c.loop-cpu.cpu _ _ _ c.loop-cpu.invariant.0 c.in_ok-push.ensures.items
-      (ap (λ s. Some s) c.in_ok-make_seat.ensures
-      ∙ ap (λ (n : ℕ). Some (seat_at_first c.args.identity (arc_value c.args.board.now).table
-      c.args.wishes.now.words n c.loop-cpu.cpu))
-      c.requires.cpus),
-  others_left _ c.loop-cpu.cpu c.args.cpus _ _ _ c.loop-cpu-test.true c.loop-cpu.invariant.1
-      c.in-Some.ensures.items,
-  others_left _ c.loop-cpu.cpu c.args.cpus _ _ _ c.loop-cpu-test.true c.loop-cpu.invariant.2
-      c.in-Some-next.ensures.items,
-)
+pub new-requires-clause-cpu : goal.new-requires-clause-cpu
+new-requires-clause-cpu c =
+    let cpus = c.args.shared.now.words.cpus in
+    let same = c.cpus-end.ensures ∙ ap (λ (o : Object). o.cpus) c.deref.ensures ∙ ap (λ (s : Shared). s.words.cpus) c.shared.view_is in
+    let low : c.loop.counter < cpus = omega (arith, c.loop-test.true, same) in
+    ap (λ (s : Seated (Unit {0})). s.table)
+    (one_came _ c.loop.counter cpus _ _ _ low c.loop.invariant.1 c.in-Some.ensures.items)
+
+pub new-requires-clause-watcher : goal.new-requires-clause-watcher
+new-requires-clause-watcher c =
+    let cpus = c.args.shared.now.words.cpus in
+    let same = c.cpus-end.ensures ∙ ap (λ (o : Object). o.cpus) c.deref.ensures ∙ ap (λ (s : Shared). s.words.cpus) c.shared.view_is in
+    let low : c.loop.counter < cpus = omega (arith, c.loop-test.true, same) in
+    ap (λ (w : Watching (Unit {0})). w.table)
+    (one_came _ c.loop.counter cpus _ _ _ low c.loop.invariant.2 c.in-Some-next.ensures.items)
+
+pub new-requires-clause-inside : goal.new-requires-clause-inside
+new-requires-clause-inside c =
+    let cpus = c.args.shared.now.words.cpus in
+    let same = c.cpus-end.ensures ∙ ap (λ (o : Object). o.cpus) c.deref.ensures ∙ ap (λ (s : Shared). s.words.cpus) c.shared.view_is in
+    let low : c.loop.counter < cpus = omega (arith, c.loop-test.true, same) in
+    subst (λ (n : ℕ). n < cpus)
+    (sym (ap (λ (s : Seated (Unit {0})). s.cpu) (one_came _ c.loop.counter cpus _ _ _ low c.loop.invariant.1 c.in-Some.ensures.items)))
+    low
+
+pub loop-preserved : goal.loop-preserved
+loop-preserved c =
+    let s = c.args.shared.now in
+    let cpus = s.words.cpus in
+    let n = c.loop.counter in
+    let i = c.loop.invariant in
+    let same = c.cpus-end.ensures ∙ ap (λ (o : Object). o.cpus) c.deref.ensures ∙ ap (λ (s : Shared). s.words.cpus) c.shared.view_is in
+    let low : n < cpus = omega (arith, c.loop-test.true, same) in
+    let seat = one_came _ n cpus _ _ _ low i.1 c.in-Some.ensures.items in
+    let watcher = one_came _ n cpus _ _ _ low i.2 c.in-Some-next.ensures.items in (
+      one_more _ n _ _ _ i.0 c.in_ok-push.ensures.items
+          (ap (λ x. Some x) (c.in_ok-new.ensures ∙ as_opened s c.in-Some.seat c.in-Some-next.watcher n seat watcher)),
+      others_left _ n cpus _ _ _ low i.1 c.in-Some.ensures.items,
+      others_left _ n cpus _ _ _ low i.2 c.in-Some-next.ensures.items,
+    )
