@@ -1,5 +1,6 @@
 -- A step of waiting for a barrier: the calls of a run that it makes, the newest first.
-use Rattle.std.specs.Prelude.{◌≡◌, ℕ, zero, suc, ◌<◌, ◌++◌, if◌then◌else◌, List, [], ◌∷◌, Option, None}
+use Rattle.std.specs.Prelude.{◌≡◌, ℕ, zero, suc, ◌<◌, ◌++◌, if◌then◌else◌, List, [], ◌∷◌, Option}
+use Rattle.std.specs.Prelude.{None}
 use Rattle.rcu_seq.specs.declared.fault.Fault.{Fault}
 use Rattle.rcu_barrier.specs.Lists.{barrier_test_answer, visit_answer}
 use Rattle.rcu_barrier.specs.declared.barrier_state.BarrierState.{BarrierState}
@@ -33,7 +34,8 @@ module _ {C X : Type 0} where
 
   -- and a step of driving was taken, which found these words
   abbrev pub after_driving : Locked C X → (ℕ → ℕ) → List (Call X)
-  after_driving e word = Drive (wants_begin (engine_after e (before_drive e)).grace) word ∷ before_drive e
+  after_driving e word =
+      Drive (wants_begin (engine_after e (before_drive e)).grace) word ∷ before_drive e
 
   -- and the barrier was tested: the whole step
   abbrev pub whole_step : Locked C X → (ℕ → ℕ) → List (Call X)
@@ -48,7 +50,8 @@ module _ {C X : Type 0} where
   abbrev pub step_answer : Locked C X → (ℕ → ℕ) → BarrierState
   step_answer e word = barrier_test_answer (engine_after e (after_driving e word)).grace.lists
 
-  -- a step for which memory was refused: a barrier runs, which visited the processors before one whose list wants a marker
+  -- a step for which memory was refused: a barrier runs, which visited the processors before one
+  -- whose list wants a marker
   pub record IsCutOff (e now : Locked C X) : Type 0 where
     pub cpu : ℕ
     pub inside : cpu < e.cpus

@@ -15,14 +15,15 @@ pub record Words : Type 0 where
   pub table : TableId
   pub cpus : ℕ
 
--- which words the seats of an engine read, which ones they have for wishes, and what tells the engine from others
+-- which words the seats of an engine read, which ones they have for wishes, and what tells the
+-- engine from others
 pub record Shared : Type 0 where
   pub words : Words
   pub wishes : TableId
   pub identity : Identity
 
--- which words it reads, what its processor's seat is, what its watcher has seen, what its thread deferred, what it knows of
--- wishes, and what tells its engine from others
+-- which words it reads, what its processor's seat is, what its watcher has seen, what its thread
+-- deferred, what it knows of wishes, and what tells its engine from others
 pub record Seat : Type 0 where
   pub words : Words
   pub cpu : Seated (Unit {0})

@@ -1,6 +1,7 @@
--- What the rule gives a client: which sections may be open at the number, and that a processor has one seat.
-use Rattle.std.proofs.Common.{◌≡◌, ℕ, zero, suc, ◌≤◌, List, [], ◌∷◌, Option, Some, get_or, map, true, false, refl, sym}
-use Rattle.std.proofs.Common.{ap, ◌∙◌, arith}
+-- What the rule gives a client: which sections may be open at the number, and that a processor has
+-- one seat.
+use Rattle.std.proofs.Common.{◌≡◌, ℕ, zero, suc, ◌≤◌, List, [], ◌∷◌, Option, Some, get_or, map}
+use Rattle.std.proofs.Common.{true, false, refl, sym, ap, ◌∙◌, arith}
 use Rattle.std.proofs.lemmas.Bool.Decides.{nat_tests}
 use mathlib.Core.Option.{some, some-injective, some-ne-none}
 use lib.ListN.{get_elem?}
@@ -19,18 +20,20 @@ use Rattle.rcu_live.proofs.Numbers.{open_at}
 pub not_past : (n : Number) → is_past n n ≡ false
 not_past n = grind (arith, nat_tests)
 
--- a section that began by r is open at no number by which a grace period that began after r has ended
+-- a section that began by r is open at no number by which a grace period that began after r has
+-- ended
 pub not_open_past : (at r n : Number) → at ≤ r → is_past r n ≡ true → is_open_at n at ≡ false
 not_open_past at r n up past = grind (arith, nat_tests)
 
 -- of whom something is shown is a processor's seat
-is_of_cpu : (role : Role) (o : Option ℕ) (a : ℕ) → if_cpu role o ≡ Some a → (role ≡ Cpu) × (o ≡ Some a)
+is_of_cpu : (role : Role) (o : Option ℕ) (a : ℕ) → if_cpu role o ≡ Some a
+    → (role ≡ Cpu) × (o ≡ Some a)
 is_of_cpu Cpu o a e = (refl, e)
 is_of_cpu Watcher o a e = absurd (cc)
 is_of_cpu Engine o a e = absurd (cc)
 
-pub at_map_back : {A B : Type 0} (f : A → B) (l : List A) (j : ℕ) (b : B) → get_elem? (map f l) j ≡ some b
-    → (a : A) × (get_elem? l j ≡ some a) × (f a ≡ b)
+pub at_map_back : {A B : Type 0} (f : A → B) (l : List A) (j : ℕ) (b : B)
+    → get_elem? (map f l) j ≡ some b → (a : A) × (get_elem? l j ≡ some a) × (f a ≡ b)
 at_map_back f [] j b e = absurd (some-ne-none b (sym e))
 at_map_back f (x ∷ xs) zero b e = (x, refl, some-injective _ _ e)
 at_map_back f (x ∷ xs) (suc j) b e = at_map_back f xs j b e
@@ -52,8 +55,10 @@ module _ {S C : Type 0} (holds : List ℕ → Slots S → Views C → Type 0) wh
       let began : at ≤ v.seen = sound.to_seen at p.1 in
       open_at (get_or s.words 0 0) at (omega (arith, seen, began)) (sound.current at p.1)
 
-  owner_is : (cpus : ℕ) (s : State S (View C)) (k : IsKept holds cpus s) (i cpu : ℕ) (o : Option ℕ) (c : C)
-      → get_elem? (map client_view s.views) i ≡ some (Some cpu, o, c) → k.owner cpu ≡ i
+  owner_is : (cpus : ℕ) (s : State S (View C)) (k : IsKept holds cpus s) (i cpu : ℕ) (o : Option ℕ)
+      (c : C)
+      → get_elem? (map client_view s.views) i ≡ some (Some cpu, o, c)
+      → k.owner cpu ≡ i
   owner_is cpus s k i cpu o c e =
       let t = at_map_back client_view s.views i (Some cpu, o, c) e in
       let v : View C = t.0 in
@@ -62,5 +67,7 @@ module _ {S C : Type 0} (holds : List ℕ → Slots S → Views C → Type 0) wh
       ap k.owner (sym (the_same r.1)) ∙ f.own r.0
 
   -- a processor has one seat
-  pub are_lone : (cpus : ℕ) (s : State S (View C)) → IsKept holds cpus s → AreLone (map client_view s.views)
-  are_lone cpus s k i j cpu o p c d e f = sym (owner_is cpus s k i cpu o c e) ∙ owner_is cpus s k j cpu p d f
+  pub are_lone : (cpus : ℕ) (s : State S (View C)) → IsKept holds cpus s
+      → AreLone (map client_view s.views)
+  are_lone cpus s k i j cpu o p c d e f =
+      sym (owner_is cpus s k i cpu o c e) ∙ owner_is cpus s k j cpu p d f

@@ -1,6 +1,7 @@
--- What a client shows of its words in rows, of a seat that changes, and of a section that is open, for callers.
-use Rattle.std.proofs.Common.{◌≡◌, ◌≢◌, ◌⊎◌, ℕ, zero, suc, ◌+◌, ◌*◌, ◌<◌, ◌≤◌, true, List, [], ◌∷◌, length, get_or, refl}
-use Rattle.std.proofs.Common.{sym, ap, subst, ⊎_elim, inl, inr, arith}
+-- What a client shows of its words in rows, of a seat that changes, and of a section that is open,
+-- for callers.
+use Rattle.std.proofs.Common.{◌≡◌, ◌≢◌, ◌⊎◌, ℕ, zero, suc, ◌+◌, ◌*◌, ◌<◌, ◌≤◌, true, List, [], ◌∷◌}
+use Rattle.std.proofs.Common.{length, get_or, refl, sym, ap, subst, ⊎_elim, inl, inr, arith}
 use Rattle.std.specs.Prelude.{slice_set}
 use Rattle.std.proofs.Math.Nat.{mul-suc}
 use Rattle.std.proofs.lemmas.Bool.Decides.{nat_tests}
@@ -23,7 +24,8 @@ inside (x ∷ xs) zero a e = omega arith
 inside (x ∷ xs) (suc i) a e = let h = inside xs i a e in omega (arith, h)
 
 -- an element inside a list is the one that is read there with a default
-pub at_inside : {A : Type 0} (l : List A) (i : ℕ) (d : A) → i < length l → get_elem? l i ≡ some (get_or l i d)
+pub at_inside : {A : Type 0} (l : List A) (i : ℕ) (d : A) → i < length l
+    → get_elem? l i ≡ some (get_or l i d)
 at_inside [] i d low = absurd (omega (arith, low))
 at_inside (x ∷ xs) zero d low = refl
 at_inside (x ∷ xs) (suc i) d low = at_inside xs i d (omega (arith, low))
@@ -40,7 +42,8 @@ reseat {A} K xs id p mine others j q e = ⊎_elim
 -- a row lies before those of greater numbers
 row_below : (width i j : ℕ) → i < j → width * i + width ≤ width * j
 row_below width i j low =
-    let up : width * suc i ≤ width * j = mul-le width (suc i) width j (omega arith) (omega (arith, low)) in
+    let up : width * suc i ≤ width * j =
+    mul-le width (suc i) width j (omega arith) (omega (arith, low)) in
     let more : width * suc i ≡ width * i + width = mul-suc width i in
     omega (arith, up, more)
 
@@ -53,22 +56,28 @@ lower_or_higher (suc i) (suc j) apart = ⊎_elim
     (λ (h : j < i). inr (omega (arith, h)))
     (lower_or_higher i j (λ e. apart (ap suc e)))
 
--- rows of so many words, one behind the other from a first place on: each word has a place of its own, inside all rows
+-- rows of so many words, one behind the other from a first place on: each word has a place of its
+-- own, inside all rows
 module _ (first width : ℕ) where
-  pub places_differ : (i j k l : ℕ) → i ≢ j → k < width → l < width → first + width * i + k ≢ first + width * j + l
+  pub places_differ : (i j k l : ℕ) → i ≢ j → k < width → l < width
+      → first + width * i + k ≢ first + width * j + l
   places_differ i j k l apart low high same = ⊎_elim
       (λ (h : i < j). let row = row_below width i j h in absurd (omega (arith, row, low, same)))
       (λ (h : j < i). let row = row_below width j i h in absurd (omega (arith, row, high, same)))
       (lower_or_higher i j apart)
 
-  pub place_inside : (count i k : ℕ) → i < count → k < width → first + width * i + k < first + width * count
-  place_inside count i k low small = let row = row_below width i count low in omega (arith, row, small)
+  pub place_inside : (count i k : ℕ) → i < count → k < width
+      → first + width * i + k < first + width * count
+  place_inside count i k low small =
+      let row = row_below width i count low in omega (arith, row, small)
 
   -- and so the place tells the row and the word
-  pub row_told : (i j k l : ℕ) → k < width → l < width → first + width * i + k ≡ first + width * j + l → i ≡ j
+  pub row_told : (i j k l : ℕ)
+      → k < width → l < width → first + width * i + k ≡ first + width * j + l → i ≡ j
   row_told i j k l low high same = dite (ℕ_discrete i j)
       (λ (e : i ≡ j). e)
       (λ (apart : i ≢ j). absurd (places_differ i j k l apart low high same))
 
   pub word_told : (i j k l : ℕ) → i ≡ j → first + width * i + k ≡ first + width * j + l → k ≡ l
-  word_told i j k l e same = let rows : width * i ≡ width * j = ap (λ (n : ℕ). width * n) e in omega (arith, rows, same)
+  word_told i j k l e same =
+      let rows : width * i ≡ width * j = ap (λ (n : ℕ). width * n) e in omega (arith, rows, same)

@@ -1,6 +1,7 @@
 -- A client's steps keep the rule.
-use Rattle.std.proofs.Common.{◌≡◌, ◌≢◌, ℕ, ◌+◌, ◌<◌, ◌≤◌, List, [], ◌∷◌, ◌++◌, Option, Some, None, length, get_or, set}
-use Rattle.std.proofs.Common.{map, drop, refl, sym, ap, ◌∙◌, subst, ⊎_elim, arith, length-set}
+use Rattle.std.proofs.Common.{◌≡◌, ◌≢◌, ℕ, ◌+◌, ◌<◌, ◌≤◌, List, [], ◌∷◌, ◌++◌, Option, Some, None}
+use Rattle.std.proofs.Common.{length, get_or, set, map, drop, refl, sym, ap, ◌∙◌, subst, ⊎_elim}
+use Rattle.std.proofs.Common.{arith, length-set}
 use Rattle.std.proofs.lemmas.List.{drop-set-add, get_or-drop, get_or-set_other}
 use mathlib.Core.List.{map-append}
 use mathlib.Core.Option.{some}
@@ -10,8 +11,8 @@ use Rattle.atomic_table.specs.Table.{Me, keeps, Allows, Splits}
 use Rattle.atomic_table.proofs.Lists.{at_map, at_set}
 use Rattle.rcu_live.specs.Client.{Slots, IsStable, Views, AllowsNumber, ClientView, AllowsWord}
 use Rattle.rcu_live.specs.Rule.{Fits, IsKept, IsSound}
-use Rattle.rcu_live.specs.View.{IsOfEngine, SteppedOnNumber, SteppedOnWord, after_hand, after_load, handed_seat, if_cpu, client_view}
-use Rattle.rcu_live.specs.View.{with_client}
+use Rattle.rcu_live.specs.View.{IsOfEngine, SteppedOnNumber, SteppedOnWord, after_hand, after_load}
+use Rattle.rcu_live.specs.View.{handed_seat, if_cpu, client_view, with_client}
 use Rattle.rcu_live.specs.Words.{base_of, own_word_index}
 use Rattle.rcu_live.specs.declared.view.Role.{Role}
 use Rattle.rcu_live.specs.declared.view.Role.TheVariants.{Cpu, Watcher}
@@ -27,27 +28,34 @@ client_view_of role cpu section c = (if_cpu role (Some cpu), if_cpu role section
 
 module _ {S C : Type 0} (holds : List ℕ → Slots S → Views C → Type 0) where
   -- a seat fits where the engine's words are as before
-  fits_still : (cpus : ℕ) (words new : List ℕ) (owner : ℕ → ℕ) (engine : ℕ) (own_word_loads : List (ℕ × ℕ)) (id : ℕ) (v : View C)
+  fits_still : (cpus : ℕ) (words new : List ℕ) (owner : ℕ → ℕ) (engine : ℕ)
+      (own_word_loads : List (ℕ × ℕ)) (id : ℕ) (v : View C)
       → ((i : ℕ) → i < base_of cpus → get_or new i 0 ≡ get_or words i 0)
-      → Fits cpus words owner engine own_word_loads id v → Fits cpus new owner engine own_word_loads id v
+      → Fits cpus words owner engine own_word_loads id v
+      → Fits cpus new owner engine own_word_loads id v
   fits_still cpus words new owner engine own_word_loads id v same f =
-      let number : get_or new 0 0 ≡ get_or words 0 0 = same 0 (omega arith) in record {
+      let number : get_or new 0 0 ≡ get_or words 0 0 = same 0 (omega arith) in
+      record {
         seen = rw number f.seen;
         base = f.base;
         inside = f.inside;
         own = f.own;
-        sound = λ r. let low = f.inside r in
-            subst (λ (y : ℕ × ℕ). IsSound y.0 y.1 own_word_loads v) (λ i. (sym number i, sym (same (own_word_index v.cpu) (omega arith)) i)) (f.sound r);
+        sound = λ r.
+            let low = f.inside r in
+            subst (λ (y : ℕ × ℕ). IsSound y.0 y.1 own_word_loads v)
+            (λ i. (sym number i, sym (same (own_word_index v.cpu) (omega arith)) i)) (f.sound r);
         lone = f.lone;
         number = λ r. f.number r ∙ sym number;
         found = f.found;
-        undealt = λ r d low high. let t = f.undealt r d low high in (t.0, same (own_word_index d) (omega arith) ∙ t.1);
+        undealt = λ r d low high.
+            let t = f.undealt r d low high in (t.0, same (own_word_index d) (omega arith) ∙ t.1);
       }
 
   -- a seat fits whatever it knows of the client
-  with_client_fits : (cpus : ℕ) (words : List ℕ) (owner : ℕ → ℕ) (engine : ℕ) (own_word_loads : List (ℕ × ℕ)) (id : ℕ)
-      (v : View C) (c : C)
-      → Fits cpus words owner engine own_word_loads id v → Fits cpus words owner engine own_word_loads id (with_client v c)
+  with_client_fits : (cpus : ℕ) (words : List ℕ) (owner : ℕ → ℕ) (engine : ℕ)
+      (own_word_loads : List (ℕ × ℕ)) (id : ℕ) (v : View C) (c : C)
+      → Fits cpus words owner engine own_word_loads id v
+      → Fits cpus words owner engine own_word_loads id (with_client v c)
   with_client_fits cpus words owner engine own_word_loads id v c f = record {
     seen = f.seen;
     base = f.base;
@@ -72,20 +80,25 @@ module _ {S C : Type 0} (holds : List ℕ → Slots S → Views C → Type 0) wh
   booted : (cpus : ℕ) (words new : List ℕ) → 0 < cpus → 0 < get_or words (own_word_index 0) 0
       → ((i : ℕ) → i < base_of cpus → get_or new i 0 ≡ get_or words i 0)
       → 0 < get_or new (own_word_index 0) 0
-  booted cpus words new any boot same = subst (λ (y : ℕ). 0 < y) (sym (same (own_word_index 0) (omega arith))) boot
+  booted cpus words new any boot same =
+      subst (λ (y : ℕ). 0 < y) (sym (same (own_word_index 0) (omega arith))) boot
 
   -- a step on the client's word p
-  steps_on_own_place : (cpus slots id p : ℕ) (me : Me S (View C)) (change : ℕ → ℕ) (tells : ℕ → C → ℕ → C → Type 0) → 0 < cpus
-      → AllowsWord holds (if_cpu me.0.role (Some me.0.cpu)) (if_cpu me.0.role me.0.section) me.0.client p change
-      (tells p me.0.client)
+  steps_on_own_place : (cpus slots id p : ℕ) (me : Me S (View C)) (change : ℕ → ℕ)
+      (tells : ℕ → C → ℕ → C → Type 0)
+      → 0 < cpus
+      → AllowsWord holds (if_cpu me.0.role (Some me.0.cpu)) (if_cpu me.0.role me.0.section)
+      me.0.client p change (tells p me.0.client)
       → Allows (IsKept holds cpus) slots id me (base_of cpus + p) change
       (λ n m. SteppedOnWord tells (base_of cpus + p) me.0 n m.0 × (m.1 ≡ me.1))
   steps_on_own_place cpus slots id p me change tells some_cpu allowed s k _ at _ =
       let v : View C = me.0 in
       let here : ℕ = base_of cpus + p in
       let rest : List ℕ = drop (base_of cpus) s.words in
-      let found : get_or rest p 0 ≡ get_or s.words here 0 = get_or-drop (base_of cpus) s.words p 0 in
-      let u = allowed (get_or s.words 0 0) rest s.homes (map client_view s.views) id k.client (are_open holds cpus s k) (are_lone holds cpus s k) (at_map client_view s.views id v at) in
+      let found : get_or rest p 0 ≡ get_or s.words here 0 =
+      get_or-drop (base_of cpus) s.words p 0 in
+      let u = allowed (get_or s.words 0 0) rest s.homes (map client_view s.views) id k.client
+      (are_open holds cpus s k) (are_lone holds cpus s k) (at_map client_view s.views id v at) in
       let w : View C = with_client v u.0 in
       let x : ℕ = change (get_or s.words here 0) in
       let new : List ℕ = set s.words here x in
@@ -96,14 +109,26 @@ module _ {S C : Type 0} (holds : List ℕ → Slots S → Views C → Type 0) wh
       let f : Fits cpus s.words k.owner k.engine k.own_word_loads id v = k.fits id v at in
       let client : holds (drop (base_of cpus) new) s.homes (map client_view (set s.views id w)) =
       subst (λ (y : List ℕ × Views C). holds y.0 s.homes y.1)
-      (λ i. (sym (drop-set-add (base_of cpus) s.words p x ∙ ap (λ (z : ℕ). set rest p (change z)) (sym found)) i, sym (map-set client_view s.views id w) i)) u.1 in
-      let boot : 0 < get_or new (own_word_index 0) 0 = booted cpus s.words new some_cpu k.boot same in (
+      (λ i. (
+        sym
+            (drop-set-add (base_of cpus) s.words p x
+            ∙ ap (λ (z : ℕ). set rest p (change z)) (sym found))
+            i,
+        sym (map-set client_view s.views id w) i,
+      ))
+      u.1 in
+      let boot : 0 < get_or new (own_word_index 0) 0 =
+      booted cpus s.words new some_cpu k.boot same in (
         w,
         keeps,
         tt,
-        changed holds cpus s k id w new s.homes k.own_word_loads (rw (length-set s.words here x) room) (rw number k.number) boot
-            (λ j o apart h. fits_still cpus s.words new k.owner k.engine k.own_word_loads j o same h)
-            (with_client_fits cpus new k.owner k.engine k.own_word_loads id v u.0 (fits_still cpus s.words new k.owner k.engine k.own_word_loads id v same f)) client,
+        changed holds cpus s k id w new s.homes k.own_word_loads
+            (rw (length-set s.words here x) room) (rw number k.number) boot
+            (λ j o apart h.
+            fits_still cpus s.words new k.owner k.engine k.own_word_loads j o same h)
+            (with_client_fits cpus new k.owner k.engine k.own_word_loads id v u.0
+            (fits_still cpus s.words new k.owner k.engine k.own_word_loads id v same f))
+            client,
         (
           (
             refl,
@@ -115,46 +140,65 @@ module _ {S C : Type 0} (holds : List ℕ → Slots S → Views C → Type 0) wh
       )
 
   -- the same at a place that is the word's, of a table whose key is the number of processors
-  pub steps_on_word : (key cpus slots id p at : ℕ) (me : Me S (View C)) (change : ℕ → ℕ) (tells : ℕ → C → ℕ → C → Type 0)
-      → key ≡ cpus → 0 < cpus → at ≡ base_of cpus + p
-      → AllowsWord holds (if_cpu me.0.role (Some me.0.cpu)) (if_cpu me.0.role me.0.section) me.0.client p change
-      (tells p me.0.client)
-      → Allows (IsKept holds key) slots id me at change (λ n m. SteppedOnWord tells at me.0 n m.0 × (m.1 ≡ me.1))
+  pub steps_on_word : (key cpus slots id p at : ℕ) (me : Me S (View C)) (change : ℕ → ℕ)
+      (tells : ℕ → C → ℕ → C → Type 0)
+      → key ≡ cpus
+      → 0 < cpus
+      → at ≡ base_of cpus + p
+      → AllowsWord holds (if_cpu me.0.role (Some me.0.cpu)) (if_cpu me.0.role me.0.section)
+      me.0.client p change (tells p me.0.client)
+      → Allows (IsKept holds key) slots id me at change
+      (λ n m. SteppedOnWord tells at me.0 n m.0 × (m.1 ≡ me.1))
   steps_on_word key cpus slots id p at me change tells is any there allowed =
-      subst (λ (y : ℕ × ℕ). Allows (IsKept holds y.0) slots id me y.1 change (λ n m. SteppedOnWord tells y.1 me.0 n m.0 × (m.1 ≡ me.1))) (λ i. (sym is i, sym there i))
+      subst (λ (y : ℕ × ℕ). Allows (IsKept holds y.0) slots id me y.1 change
+      (λ n m. SteppedOnWord tells y.1 me.0 n m.0 × (m.1 ≡ me.1)))
+      (λ i. (sym is i, sym there i))
       (steps_on_own_place cpus slots id p me change tells any allowed)
 
   -- a store, of which the word is told that it stores
-  pub stores_client_word : (key cpus slots id p at x : ℕ) (me : Me S (View C)) (tells : ℕ → C → ℕ → C → Type 0) → key ≡ cpus
-      → 0 < cpus → at ≡ base_of cpus + p
-      → AllowsWord holds (if_cpu me.0.role (Some me.0.cpu)) (if_cpu me.0.role me.0.section) me.0.client p (λ _. x)
-      (λ _. tells p me.0.client x)
-      → Allows (IsKept holds key) slots id me at (λ _. x) (λ _ m. SteppedOnWord tells at me.0 x m.0 × (m.1 ≡ me.1))
+  pub stores_client_word : (key cpus slots id p at x : ℕ) (me : Me S (View C))
+      (tells : ℕ → C → ℕ → C → Type 0)
+      → key ≡ cpus
+      → 0 < cpus
+      → at ≡ base_of cpus + p
+      → AllowsWord holds (if_cpu me.0.role (Some me.0.cpu)) (if_cpu me.0.role me.0.section)
+      me.0.client p (λ _. x) (λ _. tells p me.0.client x)
+      → Allows (IsKept holds key) slots id me at (λ _. x)
+      (λ _ m. SteppedOnWord tells at me.0 x m.0 × (m.1 ≡ me.1))
   stores_client_word key cpus slots id p at x me tells is any there allowed s k size here small =
-      steps_on_word key cpus slots id p at me (λ _. x) (λ q c _ w. tells q c x w) is any there allowed s k size here small
+      steps_on_word key cpus slots id p at me (λ _. x) (λ q c _ w. tells q c x w) is any there
+      allowed s k size here small
 
   -- a look at the number
   pub steps_on_number : (cpus slots id : ℕ) (me : Me S (View C)) (tells : C → ℕ → C → Type 0)
-      → AllowsNumber holds (if_cpu me.0.role (Some me.0.cpu)) (if_cpu me.0.role me.0.section) me.0.client (tells me.0.client)
-      → Allows (IsKept holds cpus) slots id me 0 (λ n. n) (λ n m. SteppedOnNumber tells me.0 n m.0 × (m.1 ≡ me.1))
+      → AllowsNumber holds (if_cpu me.0.role (Some me.0.cpu)) (if_cpu me.0.role me.0.section)
+      me.0.client (tells me.0.client)
+      → Allows (IsKept holds cpus) slots id me 0 (λ n. n)
+      (λ n m. SteppedOnNumber tells me.0 n m.0 × (m.1 ≡ me.1))
   steps_on_number cpus slots id me tells allowed s k _ at _ =
       let v : View C = me.0 in
       let n : ℕ = get_or s.words 0 0 in
       let f : Fits cpus s.words k.owner k.engine k.own_word_loads id v = k.fits id v at in
-      let u = allowed n (drop (base_of cpus) s.words) s.homes (map client_view s.views) id k.client (are_open holds cpus s k) (are_lone holds cpus s k) (at_map client_view s.views id v at) in
+      let u = allowed n (drop (base_of cpus) s.words) s.homes (map client_view s.views) id k.client
+      (are_open holds cpus s k) (are_lone holds cpus s k) (at_map client_view s.views id v at) in
       let w : View C = with_client (after_load v n) u.0 in
-      let client : holds (drop (base_of cpus) s.words) s.homes (map client_view (set s.views id w)) =
+      let client : holds (drop (base_of cpus) s.words) s.homes
+      (map client_view (set s.views id w)) =
       subst (λ (xs : Views C). holds (drop (base_of cpus) s.words) s.homes xs)
       (sym (map-set client_view s.views id w)) u.1 in (
         w,
         keeps,
         tt,
-        unchanged holds cpus s k id 0 w (with_client_fits cpus s.words k.owner k.engine k.own_word_loads id (after_load v n) u.0 (load_fits holds cpus s k id v at)) client,
+        unchanged holds cpus s k id 0 w
+            (with_client_fits cpus s.words k.owner k.engine k.own_word_loads id (after_load v n) u.0
+            (load_fits holds cpus s k id v at))
+            client,
         ((refl, f.seen, k.number, u.2), refl),
       )
 
   -- what the engine's seat knows of the client is handed over to a new seat
-  pub hands_over : (idle : C) (close : C → C) → IsStable holds idle close → (cpus id : ℕ) (v : View C) → IsOfEngine v
+  pub hands_over : (idle : C) (close : C → C)
+      → IsStable holds idle close → (cpus id : ℕ) (v : View C) → IsOfEngine v
       → Splits (IsKept holds cpus) id v (after_hand idle v) (handed_seat v)
   hands_over idle close stable cpus id v engine s k at =
       let left : View C = after_hand idle v in
@@ -162,48 +206,68 @@ module _ {S C : Type 0} (holds : List ℕ → Slots S → Views C → Type 0) wh
       let f : Fits cpus s.words k.owner k.engine k.own_word_loads id v = k.fits id v at in
       let mine : Fits cpus s.words k.owner k.engine k.own_word_loads id left =
       with_client_fits cpus s.words k.owner k.engine k.own_word_loads id v idle f in
-      let was : client_view v ≡ (None, None, v.client) = ap (λ (r : Role). client_view_of r v.cpu v.section v.client) engine in
-      let is : client_view left ≡ (None, None, idle) = ap (λ (r : Role). client_view_of r v.cpu v.section idle) engine in
-      let after : map client_view (set s.views id left ++ new ∷ []) ≡ set (map client_view s.views) id (None, None, idle)
-      ++ (None, None, v.client) ∷ [] =
+      let was : client_view v ≡ (None, None, v.client) =
+      ap (λ (r : Role). client_view_of r v.cpu v.section v.client) engine in
+      let is : client_view left ≡ (None, None, idle) =
+      ap (λ (r : Role). client_view_of r v.cpu v.section idle) engine in
+      let after : map client_view (set s.views id left ++ new ∷ [])
+      ≡ set (map client_view s.views) id (None, None, idle) ++ (None, None, v.client) ∷ [] =
       map-append client_view (set s.views id left) (new ∷ [])
       ∙ ap (λ (xs : Views C). xs ++ (None, None, v.client) ∷ [])
-      (map-set client_view s.views id left ∙ ap (λ (x : ClientView C). set (map client_view s.views) id x) is) in record {
+      (map-set client_view s.views id left
+      ∙ ap (λ (x : ClientView C). set (map client_view s.views) id x) is) in
+      record {
         room = k.room;
         number = k.number;
         boot = k.boot;
         owner = k.owner;
         engine = k.engine;
         own_word_loads = k.own_word_loads;
-        fits = λ j u e. ⊎_elim
-            (λ (was : get_elem? (set s.views id left) j ≡ some u). ⊎_elim
-            (λ (x : (j ≡ id) × (left ≡ u)). subst (λ (y : ℕ × View C). Fits cpus s.words k.owner k.engine k.own_word_loads y.0 y.1) (λ i. (sym x.0 i, x.1 i)) mine)
+        fits = λ j u e.
+            ⊎_elim
+            (λ (was : get_elem? (set s.views id left) j ≡ some u).
+            ⊎_elim
+            (λ (x : (j ≡ id) × (left ≡ u)).
+            subst (λ (y : ℕ × View C). Fits cpus s.words k.owner k.engine k.own_word_loads y.0 y.1)
+            (λ i. (sym x.0 i, x.1 i)) mine)
             (λ (x : (j ≢ id) × (get_elem? s.views j ≡ some u)). k.fits j u x.1)
             (at_set s.views id j left u was))
             (λ (last : (j ≡ length (set s.views id left)) × (new ≡ u)).
             subst (Fits cpus s.words k.owner k.engine k.own_word_loads j) last.1
             (watcher_fits holds cpus s k j v.base v.client f.base))
             (at_end (set s.views id left) new u j e);
-        client = subst (λ (xs : Views C). holds (drop (base_of cpus) s.words) s.homes xs) (sym after)
-            (stable.hands (drop (base_of cpus) s.words) s.homes (map client_view s.views) id v.client k.client (at_map client_view s.views id v at ∙ ap some was));
+        client = subst (λ (xs : Views C). holds (drop (base_of cpus) s.words) s.homes xs)
+            (sym after)
+            (stable.hands (drop (base_of cpus) s.words) s.homes (map client_view s.views) id
+            v.client k.client (at_map client_view s.views id v at ∙ ap some was));
       }
 
   -- a step of a processor's seat, and of a watcher's
-  pub allows_word_of_cpu : (role : Role) (a cpu : ℕ) (section : Option ℕ) (c : C) (p : ℕ) (change : ℕ → ℕ)
-      (tells : ℕ → C → Type 0) → role ≡ Cpu → a ≡ cpu
+  pub allows_word_of_cpu : (role : Role) (a cpu : ℕ) (section : Option ℕ) (c : C) (p : ℕ)
+      (change : ℕ → ℕ) (tells : ℕ → C → Type 0)
+      → role ≡ Cpu
+      → a ≡ cpu
       → AllowsWord holds (Some cpu) section c p change tells
       → AllowsWord holds (if_cpu role (Some a)) (if_cpu role section) c p change tells
   allows_word_of_cpu role a cpu section c p change tells r e allowed =
-      subst (λ (y : Role × ℕ). AllowsWord holds (if_cpu y.0 (Some y.1)) (if_cpu y.0 section) c p change tells)
+      subst (λ (y : Role × ℕ).
+      AllowsWord holds (if_cpu y.0 (Some y.1)) (if_cpu y.0 section) c p change tells)
       (λ i. (sym r i, sym e i)) allowed
 
-  pub allows_word_of_watcher : (role : Role) (a : ℕ) (section : Option ℕ) (c : C) (p : ℕ) (change : ℕ → ℕ)
-      (tells : ℕ → C → Type 0) → role ≡ Watcher
-      → AllowsWord holds None None c p change tells → AllowsWord holds (if_cpu role (Some a)) (if_cpu role section) c p change tells
+  pub allows_word_of_watcher : (role : Role) (a : ℕ) (section : Option ℕ) (c : C) (p : ℕ)
+      (change : ℕ → ℕ) (tells : ℕ → C → Type 0)
+      → role ≡ Watcher
+      → AllowsWord holds None None c p change tells
+      → AllowsWord holds (if_cpu role (Some a)) (if_cpu role section) c p change tells
   allows_word_of_watcher role a section c p change tells r allowed =
-      subst (λ (y : Role). AllowsWord holds (if_cpu y (Some a)) (if_cpu y section) c p change tells) (sym r) allowed
+      subst (λ (y : Role). AllowsWord holds (if_cpu y (Some a)) (if_cpu y section) c p change tells)
+      (sym r) allowed
 
-  pub allows_number_of_watcher : (role : Role) (a : ℕ) (section : Option ℕ) (c : C) (tells : ℕ → C → Type 0) → role ≡ Watcher
-      → AllowsNumber holds None None c tells → AllowsNumber holds (if_cpu role (Some a)) (if_cpu role section) c tells
+  pub allows_number_of_watcher : (role : Role) (a : ℕ) (section : Option ℕ) (c : C)
+      (tells : ℕ → C → Type 0)
+      → role ≡ Watcher
+      → AllowsNumber holds None None c tells
+      → AllowsNumber holds (if_cpu role (Some a)) (if_cpu role section) c tells
   allows_number_of_watcher role a section c tells r allowed =
-      subst (λ (y : Role). AllowsNumber holds (if_cpu y (Some a)) (if_cpu y section) c tells) (sym r) allowed
+      subst (λ (y : Role). AllowsNumber holds (if_cpu y (Some a)) (if_cpu y section) c tells)
+      (sym r) allowed

@@ -1,7 +1,7 @@
 -- Dealing a seat keeps the rule.
-use Rattle.std.proofs.Common.{◌≡◌, ◌≢◌, ◌⊎◌, ℕ, zero, suc, ◌+◌, ◌<◌, ◌≤◌, ◌==◌, if◌then◌else◌, List, [], ◌∷◌, ◌++◌}
-use Rattle.std.proofs.Common.{Option, Some, None, length, set, map, drop, inl, inr, refl, sym, ap, ◌∙◌, subst, ⊎_elim}
-use Rattle.std.proofs.Common.{arith, eq-eqb, ne_eqb}
+use Rattle.std.proofs.Common.{◌≡◌, ◌≢◌, ◌⊎◌, ℕ, zero, suc, ◌+◌, ◌<◌, ◌≤◌, ◌==◌, if◌then◌else◌, List}
+use Rattle.std.proofs.Common.{[], ◌∷◌, ◌++◌, Option, Some, None, length, set, map, drop, inl, inr}
+use Rattle.std.proofs.Common.{refl, sym, ap, ◌∙◌, subst, ⊎_elim, arith, eq-eqb, ne_eqb}
 use mathlib.Core.List.{map-append}
 use mathlib.Core.Option.{some, some-injective, some-ne-none}
 use lib.ListN.{get_elem?}
@@ -24,7 +24,8 @@ at_end [] a b zero e = inr (refl, some-injective _ _ e)
 at_end [] a b (suc j) e = absurd (some-ne-none b (sym e))
 at_end (x ∷ xs) a b zero e = inl e
 at_end (x ∷ xs) a b (suc j) e =
-    ⊎_elim (λ h. inl h) (λ (h : (j ≡ length xs) × (a ≡ b)). inr (ap suc h.0, h.1)) (at_end xs a b j e)
+    ⊎_elim (λ h. inl h) (λ (h : (j ≡ length xs) × (a ≡ b)). inr (ap suc h.0, h.1))
+    (at_end xs a b j e)
 
 first_small : (c : ℕ) → first_own_word c ≤ 1
 first_small zero = omega arith
@@ -36,20 +37,27 @@ first_boot (suc c) e = absurd (omega arith)
 
 module _ {S C : Type 0} (holds : List ℕ → Slots S → Views C → Type 0) where
   -- a dealt seat, as the client sees it
-  dealt : (cpus : ℕ) (s : State S (View C)) → IsKept holds cpus s → (idle : C) (close : C → C)
+  dealt : (cpus : ℕ) (s : State S (View C))
+      → IsKept holds cpus s
+      → (idle : C) (close : C → C)
       → IsStable holds idle close
-      → (id : ℕ) (v w new : View C) (cpu : Option ℕ) → get_elem? s.views id ≡ some v → client_view w ≡ client_view v
+      → (id : ℕ) (v w new : View C) (cpu : Option ℕ)
+      → get_elem? s.views id ≡ some v
+      → client_view w ≡ client_view v
       → client_view new ≡ (cpu, None, idle)
       → holds (drop (base_of cpus) s.words) s.homes (map client_view (set s.views id w ++ new ∷ []))
   dealt cpus s k idle close stable id v w new cpu at same is =
-      let after : map client_view (set s.views id w ++ new ∷ []) ≡ map client_view (set s.views id w) ++ (cpu, None, idle) ∷ [] =
+      let after : map client_view (set s.views id w ++ new ∷ [])
+      ≡ map client_view (set s.views id w) ++ (cpu, None, idle) ∷ [] =
       map-append client_view (set s.views id w) (new ∷ [])
       ∙ ap (λ (x : ClientView C). map client_view (set s.views id w) ++ x ∷ []) is in
       subst (λ (xs : Views C). holds (drop (base_of cpus) s.words) s.homes xs) (sym after)
-      (stable.deals (drop (base_of cpus) s.words) s.homes (map client_view (set s.views id w)) cpu (unseen holds cpus s k id v w s.words at same refl))
+      (stable.deals (drop (base_of cpus) s.words) s.homes (map client_view (set s.views id w)) cpu
+      (unseen holds cpus s k id v w s.words at same refl))
 
   -- a watcher's seat fits, whatever it knows of the client
-  pub watcher_fits : (cpus : ℕ) (s : State S (View C)) (k : IsKept holds cpus s) (j base : ℕ) (c : C)
+  pub watcher_fits : (cpus : ℕ) (s : State S (View C)) (k : IsKept holds cpus s) (j base : ℕ)
+      (c : C)
       → base ≡ base_of cpus
       → Fits cpus s.words k.owner k.engine k.own_word_loads j (watcher_seat base c)
   watcher_fits cpus s k j base c is = record {
@@ -65,26 +73,33 @@ module _ {S C : Type 0} (holds : List ℕ → Slots S → Views C → Type 0) wh
   }
 
   -- a watcher's seat
-  pub deals_watcher : (idle : C) (close : C → C) → IsStable holds idle close → (cpus id : ℕ) (v : View C)
+  pub deals_watcher : (idle : C) (close : C → C)
+      → IsStable holds idle close → (cpus id : ℕ) (v : View C)
       → Splits (IsKept holds cpus) id v v (watcher_seat v.base idle)
   deals_watcher idle close stable cpus id v s k at =
-      let new : View C = watcher_seat v.base idle in record {
+      let new : View C = watcher_seat v.base idle in
+      record {
         room = k.room;
         number = k.number;
         boot = k.boot;
         owner = k.owner;
         engine = k.engine;
         own_word_loads = k.own_word_loads;
-        fits = λ j u e. ⊎_elim
-            (λ (was : get_elem? (set s.views id v) j ≡ some u). k.fits j u (subst (λ (l : List (View C)). get_elem? l j ≡ some u) (set_again s.views id v at) was))
-            (λ (last : (j ≡ length (set s.views id v)) × (new ≡ u)). subst (Fits cpus s.words k.owner k.engine k.own_word_loads j) last.1 (watcher_fits cpus s k j v.base idle (k.fits id v at).base))
+        fits = λ j u e.
+            ⊎_elim
+            (λ (was : get_elem? (set s.views id v) j ≡ some u).
+            k.fits j u
+            (subst (λ (l : List (View C)). get_elem? l j ≡ some u) (set_again s.views id v at) was))
+            (λ (last : (j ≡ length (set s.views id v)) × (new ≡ u)).
+            subst (Fits cpus s.words k.owner k.engine k.own_word_loads j) last.1
+            (watcher_fits cpus s k j v.base idle (k.fits id v at).base))
             (at_end (set s.views id v) new u j e);
         client = dealt cpus s k idle close stable id v v new None at refl refl;
       }
 
   -- the next processor's seat
-  pub deals_cpu : (idle : C) (close : C → C) → IsStable holds idle close → (cpus id : ℕ) (v : View C) → v.role ≡ Engine
-      → v.cpu < cpus
+  pub deals_cpu : (idle : C) (close : C → C)
+      → IsStable holds idle close → (cpus id : ℕ) (v : View C) → v.role ≡ Engine → v.cpu < cpus
       → Splits (IsKept holds cpus) id v (after_deal v) (next_cpu_seat idle v)
   deals_cpu idle close stable cpus id v engine low s k at =
       let c : ℕ = v.cpu in
@@ -105,7 +120,9 @@ module _ {S C : Type 0} (holds : List ℕ → Slots S → Views C → Type 0) wh
         lone = f.lone;
         number = f.number;
         found = f.found;
-        undealt = λ r d above high. let t = f.undealt r d (omega arith) high in (miss d (λ e. absurd (omega arith)) ∙ t.0, t.1);
+        undealt = λ r d above high.
+            let t = f.undealt r d (omega arith) high in
+            (miss d (λ e. absurd (omega arith)) ∙ t.0, t.1);
       } in
       let right_fits : Fits cpus s.words owner k.engine k.own_word_loads new right = record {
         seen = omega arith;
@@ -127,7 +144,8 @@ module _ {S C : Type 0} (holds : List ℕ → Slots S → Views C → Type 0) wh
         found = λ r. absurd (cc);
         undealt = λ r. absurd (cc);
       } in
-      let others : (j : ℕ) (u : View C) → j ≢ id → Fits cpus s.words k.owner k.engine k.own_word_loads j u
+      let others : (j : ℕ) (u : View C)
+      → j ≢ id → Fits cpus s.words k.owner k.engine k.own_word_loads j u
       → Fits cpus s.words owner k.engine k.own_word_loads j u = λ j u apart h.
       let no_engine : u.role ≡ Engine → ⊥ = λ r. apart (sym (h.lone r) ∙ f.lone engine) in record {
         seen = h.seen;
@@ -140,22 +158,30 @@ module _ {S C : Type 0} (holds : List ℕ → Slots S → Views C → Type 0) wh
         found = h.found;
         undealt = λ r. absurd (no_engine r);
       } in
-      let one : (role : Role) → role ≡ Engine → (if_cpu role (Some (c + 1))) ≡ if_cpu role (Some c) =
+      let one : (role : Role) → role ≡ Engine
+      → (if_cpu role (Some (c + 1))) ≡ if_cpu role (Some c) =
       λ role e. rw e refl in
       let same : client_view left ≡ client_view v =
-      ap (λ (o : Option ℕ). (o, if_cpu v.role v.section, v.client)) (one v.role engine) in record {
+      ap (λ (o : Option ℕ). (o, if_cpu v.role v.section, v.client)) (one v.role engine) in
+      record {
         room = k.room;
         number = k.number;
         boot = k.boot;
         owner = owner;
         engine = k.engine;
         own_word_loads = k.own_word_loads;
-        fits = λ j u e. ⊎_elim
-            (λ (was : get_elem? (set s.views id left) j ≡ some u). ⊎_elim
-            (λ (x : (j ≡ id) × (left ≡ u)). subst (λ (y : ℕ × View C). Fits cpus s.words owner k.engine k.own_word_loads y.0 y.1) (λ i. (sym x.0 i, x.1 i)) left_fits)
+        fits = λ j u e.
+            ⊎_elim
+            (λ (was : get_elem? (set s.views id left) j ≡ some u).
+            ⊎_elim
+            (λ (x : (j ≡ id) × (left ≡ u)).
+            subst (λ (y : ℕ × View C). Fits cpus s.words owner k.engine k.own_word_loads y.0 y.1)
+            (λ i. (sym x.0 i, x.1 i)) left_fits)
             (λ (x : (j ≢ id) × (get_elem? s.views j ≡ some u)). others j u x.0 (k.fits j u x.1))
             (at_set s.views id j left u was))
-            (λ (last : (j ≡ new) × (right ≡ u)). subst (λ (y : ℕ × View C). Fits cpus s.words owner k.engine k.own_word_loads y.0 y.1) (λ i. (sym last.0 i, last.1 i)) right_fits)
+            (λ (last : (j ≡ new) × (right ≡ u)).
+            subst (λ (y : ℕ × View C). Fits cpus s.words owner k.engine k.own_word_loads y.0 y.1)
+            (λ i. (sym last.0 i, last.1 i)) right_fits)
             (at_end (set s.views id left) right u j e);
         client = dealt cpus s k idle close stable id v left right (Some c) at same refl;
       }

@@ -11,11 +11,12 @@ use Rattle.rcu_live.specs.Words.{base_of}
 use Rattle.rcu_live.proofs.RowLemmas.{each_made}
 
 -- a seat and a watcher a processor, as they are at first
-pub are_dealt : {C : Type 0} (cpus : ℕ) (last : Number) (most behind slots : ℕ) (idle : C) (engine : Object) (seats : List (Seated C))
-    (watchers : List (Watching C))
+pub are_dealt : {C : Type 0} (cpus : ℕ) (last : Number) (most behind slots : ℕ) (idle : C)
+    (engine : Object) (seats : List (Seated C)) (watchers : List (Watching C))
     → IsSized cpus last most behind slots engine
     → seats ≡ map (at_first engine.table (base_of cpus) idle) (range_with_len 0 cpus)
-    → watchers ≡ map (λ _. watcher_at_first engine.table (base_of cpus) idle) (range_with_len 0 cpus)
+    → watchers
+    ≡ map (λ _. watcher_at_first engine.table (base_of cpus) idle) (range_with_len 0 cpus)
     → AreDealt cpus last most behind slots idle engine seats watchers
 are_dealt {C} cpus last most behind slots idle engine seats watchers size s w = record {
   size = size;
@@ -24,8 +25,10 @@ are_dealt {C} cpus last most behind slots idle engine seats watchers size s w = 
   seat_count = ap (λ (l : List (Seated C)). length l) s ∙ length-map-range_with_len _ 0 cpus;
   watcher_count = ap (λ (l : List (Watching C)). length l) w ∙ length-map-range_with_len _ 0 cpus;
   seats_read = each_made _ _ _ (λ (seat : Seated C). seat.table ≡ engine.table) s (λ cpu. refl);
-  watchers_read = each_made _ _ _ (λ (watcher : Watching C). watcher.table ≡ engine.table) w (λ cpu. refl);
+  watchers_read =
+      each_made _ _ _ (λ (watcher : Watching C). watcher.table ≡ engine.table) w (λ cpu. refl);
   are_seats = each_made _ _ _ (IsSeatOf engine) s (λ cpu. (refl, ap base_of (sym size.count)));
-  are_watchers = each_made _ _ _ (IsWatcherOf engine) w (λ cpu. (refl, ap base_of (sym size.count)));
+  are_watchers =
+      each_made _ _ _ (IsWatcherOf engine) w (λ cpu. (refl, ap base_of (sym size.count)));
   outside = each_made _ _ _ (λ (seat : Seated C). seat.depth ≡ 0) s (λ cpu. refl);
 }

@@ -1,6 +1,7 @@
 -- Between the queueing of a callback and the snapshot of its number a full grace period lies.
-use Rattle.std.proofs.Common.{◌≡◌, ℕ, ◌+◌, ◌*◌, ◌<◌, ◌≤◌, Bool, true, false, not, ◌&&◌, ◌||◌, List, [], ◌∷◌, ◌++◌, Option, Some, refl, sym}
-use Rattle.std.proofs.Common.{ap, ◌∙◌, subst, arith, inl, inr}
+use Rattle.std.proofs.Common.{◌≡◌, ℕ, ◌+◌, ◌*◌, ◌<◌, ◌≤◌, Bool, true, false, not, ◌&&◌, ◌||◌, List}
+use Rattle.std.proofs.Common.{[], ◌∷◌, ◌++◌, Option, Some, refl, sym, ap, ◌∙◌, subst, arith, inl}
+use Rattle.std.proofs.Common.{inr}
 use Rattle.std.specs.Prelude.{◌==◌, if◌then◌else◌, nat_lt}
 use Rattle.std.specs.List.{list_any}
 use Rattle.std.proofs.lemmas.Bool.{cases_Bool, true_from_ne_false, true≢false}
@@ -12,16 +13,17 @@ use Rattle.rcu_seq.specs.declared.tag.Tag.{Tag}
 use Rattle.rcu_node.specs.CpuSet.{is_in}
 use Rattle.rcu_hotplug.specs.Hotplug.{Arrive, Depart as Departs}
 use Rattle.rcu_cblist.specs.declared.queued.Queued.{Queued}
-use Rattle.rcu_state.specs.GpState.{Grace, HasWaited, after_current_report, awaited_in, periods_of, with_call}
+use Rattle.rcu_state.specs.GpState.{Grace, HasWaited, after_current_report, awaited_in, periods_of}
+use Rattle.rcu_state.specs.GpState.{with_call}
 use Rattle.rcu_state.specs.Periods.{wants_begin}
 use Rattle.rcu_live.specs.Drive.{after_drive, after_collections, moved_on}
 use Rattle.rcu_live.specs.Engine.{Locked, after_begin, after_collect, after_end, after_turn}
 use Rattle.rcu_live.specs.EngineLists.{with_departure}
 use Rattle.rcu_live.specs.Numbers.{reports_quiescence}
-use Rattle.rcu_live.specs.Runs.{Call, IsRun, MayCall, after_call, engine_after, queued_as, turns_between, turns_since}
-use Rattle.rcu_live.specs.Runs.{Begin, End, Turn as Turns, Drive, Collect, CollectAwaited, StartPoll, Join, Leave, Depart, Look}
-use Rattle.rcu_live.specs.Runs.{Queue}
-use Rattle.rcu_live.specs.Runs.{Tend, Run, BarrierBegin, Visit, BarrierTest}
+use Rattle.rcu_live.specs.Runs.{Call, IsRun, MayCall, after_call, engine_after, queued_as}
+use Rattle.rcu_live.specs.Runs.{turns_between, turns_since, Begin, End, Turn as Turns, Drive}
+use Rattle.rcu_live.specs.Runs.{Collect, CollectAwaited, StartPoll, Join, Leave, Depart, Look}
+use Rattle.rcu_live.specs.Runs.{Queue, Tend, Run, BarrierBegin, Visit, BarrierTest}
 
 -- the counter after an end
 abbrev ended : Periods → Periods
@@ -34,24 +36,29 @@ data Moved (old new : Periods) : Type 0 where
   Ends : old.running ≡ true → new ≡ ended old → Moved old new
   Passes : old.running ≡ false → new ≡ ended old → Moved old new
 
--- where no full grace period lies in the turns since a tag, the number is below the snapshot of that
+-- where no full grace period lies in the turns since a tag, the number is below the snapshot of
+-- that
 record Elapsed (at : Tag) (turns : List Turn) (p : Periods) : Type 0 where
   pub epoch : p.epoch ≡ at.epoch
   pub below : has_full_period turns ≡ false → number_of p < snapshot at.number
-  pub before : has_full_period turns ≡ false → list_any begins turns ≡ false → number_of p + 4 ≤ snapshot at.number
+  pub before : has_full_period turns ≡ false → list_any begins turns ≡ false
+      → number_of p + 4 ≤ snapshot at.number
   pub runs : has_full_period turns ≡ false → list_any begins turns ≡ true → p.running ≡ true
 
 -- the turns between two counters, by what they are made of
 abbrev between : Bool → Bool → Bool → List Turn
 between more was is =
-    if more then turn.End ∷ (if was then [] else turn.Begin ∷ []) else (if is && not was then turn.Begin ∷ [] else [])
+    if more
+    then turn.End ∷ (if was then [] else turn.Begin ∷ [])
+    else (if is && not was then turn.Begin ∷ [] else [])
 
 none_between : (more was : Bool) → more ≡ false → between more was was ≡ []
 none_between true was m = absurd (cc)
 none_between false true m = refl
 none_between false false m = refl
 
-begin_between : (more was : Bool) → more ≡ false → was ≡ false → between more was true ≡ turn.Begin ∷ []
+begin_between : (more was : Bool) → more ≡ false → was ≡ false
+    → between more was true ≡ turn.Begin ∷ []
 begin_between true was m w = absurd (cc)
 begin_between false true m w = absurd (cc)
 begin_between false false m w = refl
@@ -61,7 +68,8 @@ end_between true true m w = refl
 end_between true false m w = absurd (cc)
 end_between false was m w = absurd (cc)
 
-both_between : (more was : Bool) → more ≡ true → was ≡ false → between more was false ≡ turn.End ∷ turn.Begin ∷ []
+both_between : (more was : Bool) → more ≡ true → was ≡ false
+    → between more was false ≡ turn.End ∷ turn.Begin ∷ []
 both_between true true m w = absurd (cc)
 both_between true false m w = refl
 both_between false was m w = absurd (cc)
@@ -76,7 +84,8 @@ or_parts : (a b : Bool) → (a || b) ≡ false → (a ≡ false) × (b ≡ false
 or_parts true b e = absurd (cc)
 or_parts false b e = (refl, e)
 
-begun_elapsed : (at : Tag) (turns : List Turn) (p : Periods) → p.running ≡ false → Elapsed at turns p
+begun_elapsed : (at : Tag) (turns : List Turn) (p : Periods)
+    → p.running ≡ false → Elapsed at turns p
     → Elapsed at (turn.Begin ∷ turns) (record p { running = true })
 begun_elapsed at turns p idle e =
     let was : number_of p ≡ 4 * p.ends = ap (λ b. number_at p.ends b) idle ∙ omega arith in record {
@@ -92,37 +101,48 @@ begun_elapsed at turns p idle e =
 ended_elapsed : (at : Tag) (turns : List Turn) (p : Periods) → p.running ≡ true → Elapsed at turns p
     → Elapsed at (turn.End ∷ turns) (ended p)
 ended_elapsed at turns p runs e =
-    let was : number_of p ≡ 4 * p.ends + 1 = ap (λ b. number_at p.ends b) runs in record {
+    let was : number_of p ≡ 4 * p.ends + 1 = ap (λ b. number_at p.ends b) runs in
+    record {
       epoch = e.epoch;
       below = λ u. let both = or_parts (list_any begins turns) (has_full_period turns) u in
           let x = e.before both.1 both.0 in omega (arith, was, x);
       before = λ u n. let both = or_parts (list_any begins turns) (has_full_period turns) u in
           let x = e.before both.1 both.0 in omega (arith, was, x);
-      runs = λ u b. absurd (true≢false (sym b ∙ (or_parts (list_any begins turns) (has_full_period turns) u).0));
+      runs = λ u b.
+          absurd
+          (true≢false (sym b ∙ (or_parts (list_any begins turns) (has_full_period turns) u).0));
     }
 
 passed_elapsed : (at : Tag) (turns : List Turn) (p : Periods) → Elapsed at turns p
     → Elapsed at (turn.End ∷ turn.Begin ∷ turns) (ended p)
-passed_elapsed at turns p e =
-    record { epoch = e.epoch; below = λ u. absurd (cc); before = λ u n. absurd (cc); runs = λ u b. absurd (cc) }
+passed_elapsed at turns p e = record {
+  epoch = e.epoch;
+  below = λ u. absurd (cc);
+  before = λ u n. absurd (cc);
+  runs = λ u b. absurd (cc);
+}
 
 elapsed : (at : Tag) (turns : List Turn) (old new : Periods) → Moved old new → Elapsed at turns old
     → Elapsed at (turns_between old new ++ turns) new
 elapsed at turns old new (Stays is) e =
     subst (λ p. Elapsed at (turns_between old p ++ turns) p) (sym is)
-    (subst (λ ts. Elapsed at (ts ++ turns) old) (sym (none_between (nat_lt old.ends old.ends) old.running (no_more old.ends))) e)
+    (subst (λ ts. Elapsed at (ts ++ turns) old)
+    (sym (none_between (nat_lt old.ends old.ends) old.running (no_more old.ends))) e)
 elapsed at turns old new (Begins idle is) e =
     subst (λ p. Elapsed at (turns_between old p ++ turns) p) (sym is)
     (subst (λ ts. Elapsed at (ts ++ turns) (record old { running = true }))
-    (sym (begin_between (nat_lt old.ends old.ends) old.running (no_more old.ends) idle)) (begun_elapsed at turns old idle e))
+    (sym (begin_between (nat_lt old.ends old.ends) old.running (no_more old.ends) idle))
+    (begun_elapsed at turns old idle e))
 elapsed at turns old new (Ends runs is) e =
     subst (λ p. Elapsed at (turns_between old p ++ turns) p) (sym is)
     (subst (λ ts. Elapsed at (ts ++ turns) (ended old))
-    (sym (end_between (nat_lt old.ends (old.ends + 1)) old.running (one_more old.ends) runs)) (ended_elapsed at turns old runs e))
+    (sym (end_between (nat_lt old.ends (old.ends + 1)) old.running (one_more old.ends) runs))
+    (ended_elapsed at turns old runs e))
 elapsed at turns old new (Passes idle is) e =
     subst (λ p. Elapsed at (turns_between old p ++ turns) p) (sym is)
     (subst (λ ts. Elapsed at (ts ++ turns) (ended old))
-    (sym (both_between (nat_lt old.ends (old.ends + 1)) old.running (one_more old.ends) idle)) (passed_elapsed at turns old e))
+    (sym (both_between (nat_lt old.ends (old.ends + 1)) old.running (one_more old.ends) idle))
+    (passed_elapsed at turns old e))
 
 -- one more end
 moved_end : (old new : Periods) → Moved old new → new.running ≡ true → Moved old (ended new)
@@ -137,25 +157,35 @@ left_of_both false b e = e
 
 -- at the queueing
 queued_now : (p : Periods) → Elapsed (tag_of p) [] p
-queued_now p = record { epoch = refl; below = λ u. omega arith; before = λ u n. omega arith; runs = λ u b. absurd (cc) }
+queued_now p = record {
+  epoch = refl;
+  below = λ u. omega arith;
+  before = λ u n. omega arith;
+  runs = λ u b. absurd (cc);
+}
 
 module _ {X : Type 0} where
-  same_grace : (b : Bool) (old : Periods) (g h : Grace X) → g.seq ≡ old → h.seq ≡ old → (if b then g else h).seq ≡ old
+  same_grace : (b : Bool) (old : Periods) (g h : Grace X) → g.seq ≡ old → h.seq ≡ old
+      → (if b then g else h).seq ≡ old
   same_grace true old g h a c = a
   same_grace false old g h a c = c
 
   departed : (g : Grace X) (cpu : ℕ) → (with_departure g cpu).seq ≡ g.seq
-  departed g cpu = same_grace (is_in g.processors.online cpu) g.seq (with_call g (Departs cpu)) g refl refl
+  departed g cpu =
+      same_grace (is_in g.processors.online cpu) g.seq (with_call g (Departs cpu)) g refl refl
 
   -- since the queueing, or at it
-  queued_or : (here : Bool) (p : Periods) (turns : List Turn) (j : ℕ) (call handed : Queued X) (earlier : Option (Queued X))
-      → call.at ≡ tag_of p → (if here then Some call else earlier) ≡ Some handed
+  queued_or : (here : Bool) (p : Periods) (turns : List Turn) (j : ℕ) (call handed : Queued X)
+      (earlier : Option (Queued X))
+      → call.at ≡ tag_of p
+      → (if here then Some call else earlier) ≡ Some handed
       → (earlier ≡ Some handed → Elapsed handed.at turns p)
       → Elapsed handed.at (if here then [] else turns_between p p ++ turns) p
   queued_or true p turns j call handed earlier at is old =
       let same : call ≡ handed = cc in
       subst (λ t. Elapsed t [] p) (sym at ∙ ap (λ (q : Queued X). q.at) same) (queued_now p)
-  queued_or false p turns j call handed earlier at is old = elapsed handed.at turns p p (Stays refl) (old is)
+  queued_or false p turns j call handed earlier at is old =
+      elapsed handed.at turns p p (Stays refl) (old is)
 
 module _ {C X : Type 0} where
   by_test : (b : Bool) (old : Periods) (e f : Locked C X) → (b ≡ true → Moved old e.grace.seq)
@@ -166,27 +196,33 @@ module _ {C X : Type 0} where
   moved_turn : (e : Locked C X) (word : ℕ → ℕ) → Moved e.grace.seq (after_turn e word).grace.seq
   moved_turn e word =
       by_test e.grace.seq.running e.grace.seq _ _
-      (λ runs. by_test (awaited_in e.grace == 0) e.grace.seq (after_end e) e (λ _. Ends runs refl) (λ _. Stays refl))
-      (λ idle. by_test (wants_begin (periods_of e.grace)) e.grace.seq (after_begin e word) e (λ _. Begins idle refl)
+      (λ runs. by_test (awaited_in e.grace == 0) e.grace.seq (after_end e) e (λ _. Ends runs refl)
       (λ _. Stays refl))
+      (λ idle. by_test (wants_begin (periods_of e.grace)) e.grace.seq (after_begin e word) e
+      (λ _. Begins idle refl) (λ _. Stays refl))
 
   moved_drive : (e : Locked C X) (is_wanted : Bool) (word : ℕ → ℕ)
       → Moved e.grace.seq (after_drive e is_wanted word).grace.seq
   moved_drive e is_wanted word =
       let now = moved_on e is_wanted word in
-      let first : Moved e.grace.seq now.grace.seq = by_test e.grace.seq.running e.grace.seq (after_collections e word) _
-      (λ _. Stays refl)
-      (λ idle. by_test is_wanted e.grace.seq (after_begin e word) e (λ _. Begins idle refl) (λ _. Stays refl)) in
+      let first : Moved e.grace.seq now.grace.seq =
+      by_test e.grace.seq.running e.grace.seq (after_collections e word) _ (λ _. Stays refl)
+      (λ idle. by_test is_wanted e.grace.seq (after_begin e word) e (λ _. Begins idle refl)
+      (λ _. Stays refl)) in
       by_test (now.grace.seq.running && (awaited_in now.grace == 0)) e.grace.seq (after_end now) now
-      (λ both. moved_end e.grace.seq now.grace.seq first (left_of_both now.grace.seq.running _ both)) (λ _. first)
+      (λ both.
+      moved_end e.grace.seq now.grace.seq first (left_of_both now.grace.seq.running _ both))
+      (λ _. first)
 
-  moved_collect : (e : Locked C X) (cpu word : ℕ) → Moved e.grace.seq (after_collect e cpu word).grace.seq
+  moved_collect : (e : Locked C X) (cpu word : ℕ)
+      → Moved e.grace.seq (after_collect e cpu word).grace.seq
   moved_collect e cpu word =
       by_test e.grace.seq.running e.grace.seq _ e
       (λ _. Stays (same_grace (reports_quiescence (number_of e.grace.seq) word) e.grace.seq
       (after_current_report e.grace cpu) e.grace refl refl)) (λ _. Stays refl)
 
-  moved : (e : Locked C X) (call : Call X) → MayCall e call → Moved e.grace.seq (after_call e call).grace.seq
+  moved : (e : Locked C X) (call : Call X) → MayCall e call
+      → Moved e.grace.seq (after_call e call).grace.seq
   moved e (Begin word) may = Begins may refl
   moved e End may = Ends may refl
   moved e (Turns word) may = moved_turn e word
@@ -195,7 +231,8 @@ module _ {C X : Type 0} where
   moved e (CollectAwaited word) may = Stays refl
   moved e StartPoll may = Stays refl
   moved e (Join cpu) may =
-      Stays (same_grace (is_in e.grace.processors.online cpu) e.grace.seq e.grace (with_call e.grace (Arrive cpu)) refl refl)
+      Stays (same_grace (is_in e.grace.processors.online cpu) e.grace.seq e.grace
+      (with_call e.grace (Arrive cpu)) refl refl)
   moved e (Leave cpu word) may = Stays (departed e.grace cpu)
   moved e (Depart cpu word) may = Stays (departed e.grace cpu)
   moved e (Look cpu word) may = Stays refl
@@ -206,51 +243,69 @@ module _ {C X : Type 0} where
   moved e (Visit cpu) may = Stays refl
   moved e BarrierTest may = Stays refl
 
-  since : (first : Locked C X) (calls : List (Call X)) (j : ℕ) (handed : Queued X) → IsRun first calls
-      → queued_as j first calls ≡ Some handed
+  since : (first : Locked C X) (calls : List (Call X)) (j : ℕ) (handed : Queued X)
+      → IsRun first calls → queued_as j first calls ≡ Some handed
       → Elapsed handed.at (turns_since j first calls) (engine_after first calls).grace.seq
   since first [] j handed is q = absurd (cc)
   since first (Queue cpu value ∷ calls) j handed is q =
       let e = engine_after first calls in
       queued_or (e.grace.lists.queued + 1 == j) e.grace.seq (turns_since j first calls) j
-      (record { ord = e.grace.lists.queued + 1; at = tag_of e.grace.seq; value = value }) handed (queued_as j first calls)
-      refl q (λ old. since first calls j handed is.1 old)
+      (record { ord = e.grace.lists.queued + 1; at = tag_of e.grace.seq; value = value }) handed
+      (queued_as j first calls) refl q (λ old. since first calls j handed is.1 old)
   since first (Begin word ∷ calls) j handed is q =
-      elapsed handed.at _ _ _ (moved (engine_after first calls) (Begin word) is.0) (since first calls j handed is.1 q)
+      elapsed handed.at _ _ _ (moved (engine_after first calls) (Begin word) is.0)
+      (since first calls j handed is.1 q)
   since first (End ∷ calls) j handed is q =
-      elapsed handed.at _ _ _ (moved (engine_after first calls) End is.0) (since first calls j handed is.1 q)
+      elapsed handed.at _ _ _ (moved (engine_after first calls) End is.0)
+      (since first calls j handed is.1 q)
   since first (Turns word ∷ calls) j handed is q =
-      elapsed handed.at _ _ _ (moved (engine_after first calls) (Turns word) is.0) (since first calls j handed is.1 q)
+      elapsed handed.at _ _ _ (moved (engine_after first calls) (Turns word) is.0)
+      (since first calls j handed is.1 q)
   since first (Drive is_wanted word ∷ calls) j handed is q =
-      elapsed handed.at _ _ _ (moved (engine_after first calls) (Drive is_wanted word) is.0) (since first calls j handed is.1 q)
+      elapsed handed.at _ _ _ (moved (engine_after first calls) (Drive is_wanted word) is.0)
+      (since first calls j handed is.1 q)
   since first (Collect cpu word ∷ calls) j handed is q =
-      elapsed handed.at _ _ _ (moved (engine_after first calls) (Collect cpu word) is.0) (since first calls j handed is.1 q)
+      elapsed handed.at _ _ _ (moved (engine_after first calls) (Collect cpu word) is.0)
+      (since first calls j handed is.1 q)
   since first (CollectAwaited word ∷ calls) j handed is q =
-      elapsed handed.at _ _ _ (moved (engine_after first calls) (CollectAwaited word) is.0) (since first calls j handed is.1 q)
+      elapsed handed.at _ _ _ (moved (engine_after first calls) (CollectAwaited word) is.0)
+      (since first calls j handed is.1 q)
   since first (StartPoll ∷ calls) j handed is q =
-      elapsed handed.at _ _ _ (moved (engine_after first calls) StartPoll is.0) (since first calls j handed is.1 q)
+      elapsed handed.at _ _ _ (moved (engine_after first calls) StartPoll is.0)
+      (since first calls j handed is.1 q)
   since first (Join cpu ∷ calls) j handed is q =
-      elapsed handed.at _ _ _ (moved (engine_after first calls) (Join cpu) is.0) (since first calls j handed is.1 q)
+      elapsed handed.at _ _ _ (moved (engine_after first calls) (Join cpu) is.0)
+      (since first calls j handed is.1 q)
   since first (Leave cpu word ∷ calls) j handed is q =
-      elapsed handed.at _ _ _ (moved (engine_after first calls) (Leave cpu word) is.0) (since first calls j handed is.1 q)
+      elapsed handed.at _ _ _ (moved (engine_after first calls) (Leave cpu word) is.0)
+      (since first calls j handed is.1 q)
   since first (Depart cpu word ∷ calls) j handed is q =
-      elapsed handed.at _ _ _ (moved (engine_after first calls) (Depart cpu word) is.0) (since first calls j handed is.1 q)
+      elapsed handed.at _ _ _ (moved (engine_after first calls) (Depart cpu word) is.0)
+      (since first calls j handed is.1 q)
   since first (Look cpu word ∷ calls) j handed is q =
-      elapsed handed.at _ _ _ (moved (engine_after first calls) (Look cpu word) is.0) (since first calls j handed is.1 q)
+      elapsed handed.at _ _ _ (moved (engine_after first calls) (Look cpu word) is.0)
+      (since first calls j handed is.1 q)
   since first (Tend cpu ∷ calls) j handed is q =
-      elapsed handed.at _ _ _ (moved (engine_after first calls) (Tend cpu) is.0) (since first calls j handed is.1 q)
+      elapsed handed.at _ _ _ (moved (engine_after first calls) (Tend cpu) is.0)
+      (since first calls j handed is.1 q)
   since first (Run cpu most ∷ calls) j handed is q =
-      elapsed handed.at _ _ _ (moved (engine_after first calls) (Run cpu most) is.0) (since first calls j handed is.1 q)
+      elapsed handed.at _ _ _ (moved (engine_after first calls) (Run cpu most) is.0)
+      (since first calls j handed is.1 q)
   since first (BarrierBegin ∷ calls) j handed is q =
-      elapsed handed.at _ _ _ (moved (engine_after first calls) BarrierBegin is.0) (since first calls j handed is.1 q)
+      elapsed handed.at _ _ _ (moved (engine_after first calls) BarrierBegin is.0)
+      (since first calls j handed is.1 q)
   since first (Visit cpu ∷ calls) j handed is q =
-      elapsed handed.at _ _ _ (moved (engine_after first calls) (Visit cpu) is.0) (since first calls j handed is.1 q)
+      elapsed handed.at _ _ _ (moved (engine_after first calls) (Visit cpu) is.0)
+      (since first calls j handed is.1 q)
   since first (BarrierTest ∷ calls) j handed is q =
-      elapsed handed.at _ _ _ (moved (engine_after first calls) BarrierTest is.0) (since first calls j handed is.1 q)
+      elapsed handed.at _ _ _ (moved (engine_after first calls) BarrierTest is.0)
+      (since first calls j handed is.1 q)
 
   -- what has waited was queued before a full grace period
-  pub period_passed : (first : Locked C X) (calls : List (Call X)) (j : ℕ) (handed : Queued X) → IsRun first calls
-      → queued_as j first calls ≡ Some handed → HasWaited (tag_of (engine_after first calls).grace.seq) handed.at
+  pub period_passed : (first : Locked C X) (calls : List (Call X)) (j : ℕ) (handed : Queued X)
+      → IsRun first calls
+      → queued_as j first calls ≡ Some handed
+      → HasWaited (tag_of (engine_after first calls).grace.seq) handed.at
       → has_full_period (turns_since j first calls) ≡ true
   period_passed first calls j handed is q waited =
       let e = since first calls j handed is q in

@@ -26,7 +26,8 @@ all_below set n test long =
     (λ c low. last (is_in set c) (test c) c n (omega (arith, long, low))
     ∙ sym (is_in-listed (length set) (λ k. is_in set k && not (test k)) c low))
   where
-    last : (here there : Bool) (c n : ℕ) → c < n → (here && not (nat_lt c n && there)) ≡ (here && not there)
+    last : (here there : Bool) (c n : ℕ) → c < n
+        → (here && not (nat_lt c n && there)) ≡ (here && not there)
     last here there c n low = grind (arith, nat_tests)
 
 -- the next one is heard of, and awaited no more; those below are heard of as before
@@ -39,7 +40,8 @@ one_below set n test other inside told same =
     (gone (is_in set n) (other n) n told)
     (λ c low apart. others (is_in set c) (test c) (other c) c n apart (λ less. same c less))
   where
-    gone : (here there : Bool) (n : ℕ) → there ≡ true → (here && not (nat_lt n (n + 1) && there)) ≡ false
+    gone : (here there : Bool) (n : ℕ) → there ≡ true
+        → (here && not (nat_lt n (n + 1) && there)) ≡ false
     gone here there n is = grind (arith, nat_tests)
 
     others : (here there new : Bool) (c n : ℕ) → c ≢ n → (c < n → new ≡ there)
@@ -55,13 +57,17 @@ pub none_more : (set : List Bool) (n : ℕ) (test other : ℕ → Bool) → (is_
     → ((c : ℕ) → c < n → other c ≡ test c)
     → unheard set (heard_below (n + 1) other) ≡ unheard set (heard_below n test)
 none_more set n test other out same =
-    sym (listed_same (length set) (λ c. is_in set c && not (heard_below n test c)) (unheard set (heard_below (n + 1) other))
+    sym (listed_same (length set) (λ c. is_in set c && not (heard_below n test c))
+    (unheard set (heard_below (n + 1) other))
     (length-listed (length set) (λ c. is_in set c && not (heard_below (n + 1) other c)))
-    (λ c low. stays (is_in set c) (test c) (other c) c n (λ less. same c less)
+    (λ c low.
+    stays (is_in set c) (test c) (other c) c n (λ less. same c less)
     (λ e. ap (λ (k : ℕ). is_in set k && other k) e ∙ out)
-    ∙ sym (is_in-listed (length set) (λ k. is_in set k && not (heard_below (n + 1) other k)) c low)))
+    ∙ sym
+    (is_in-listed (length set) (λ k. is_in set k && not (heard_below (n + 1) other k)) c low)))
   where
-    stays : (here there new : Bool) (c n : ℕ) → (c < n → new ≡ there) → (c ≡ n → (here && new) ≡ false)
+    stays : (here there new : Bool) (c n : ℕ)
+        → (c < n → new ≡ there) → (c ≡ n → (here && new) ≡ false)
         → (here && not (nat_lt c n && there)) ≡ (here && not (nat_lt c (n + 1) && new))
     stays here there new c n is out = grind (arith, nat_tests, is, out)
 
@@ -70,7 +76,8 @@ pub same_below : (set : List Bool) (n m : ℕ) (test : ℕ → Bool) → n ≤ m
     → ((c : ℕ) → n ≤ c → c < m → (is_in set c && test c) ≡ false)
     → unheard set (heard_below m test) ≡ unheard set (heard_below n test)
 same_below set n m test more none =
-    listed_same (length set) (λ c. is_in set c && not (heard_below m test c)) (unheard set (heard_below n test))
+    listed_same (length set) (λ c. is_in set c && not (heard_below m test c))
+    (unheard set (heard_below n test))
     (length-listed (length set) (λ c. is_in set c && not (heard_below n test c)))
     (λ c low. same (is_in set c) (test c) c n m more (λ after less. none c after less)
     ∙ sym (is_in-listed (length set) (λ k. is_in set k && not (heard_below n test k)) c low))

@@ -1,6 +1,7 @@
 -- The words that loads found, and who is cleared by them.
-use Rattle.std.proofs.Common.{◌≡◌, ◌≢◌, ℕ, zero, suc, ◌+◌, ◌<◌, ◌==◌, ◌&&◌, Bool, true, false, if◌then◌else◌, List, ◌∷◌}
-use Rattle.std.proofs.Common.{length, slice_set, refl, sym, ap, ◌∙◌, subst, arith, inl, inr}
+use Rattle.std.proofs.Common.{◌≡◌, ◌≢◌, ℕ, zero, suc, ◌+◌, ◌<◌, ◌==◌, ◌&&◌, Bool, true, false}
+use Rattle.std.proofs.Common.{if◌then◌else◌, List, ◌∷◌, length, slice_set, refl, sym, ap, ◌∙◌}
+use Rattle.std.proofs.Common.{subst, arith, inl, inr}
 use Rattle.std.proofs.lemmas.Bool.{cases_eq, or_left, or_right}
 use Rattle.std.proofs.lemmas.Bool.Decides.{nat_tests}
 use Rattle.std.proofs.lemmas.List.{get_or-set_other, get_or-set_same}
@@ -19,15 +20,21 @@ same_place at = grind (arith, nat_tests)
 
 other_place : (cpu c : ℕ) → c ≢ cpu → (own_word_index cpu == own_word_index c) ≡ false
 other_place cpu c apart =
-    let differ : own_word_index cpu ≢ own_word_index c = own_words_apart cpu c (λ e. apart (sym e)) in grind (arith, nat_tests, differ)
+    let differ : own_word_index cpu ≢ own_word_index c =
+    own_words_apart cpu c (λ e. apart (sym e)) in
+    grind (arith, nat_tests, differ)
 
 -- the latest load at a processor's place tells its word, and leaves those of the others
-pub found_here : (own_word_loads : List (ℕ × ℕ)) (cpu word : ℕ) → loaded_word ((own_word_index cpu, word) ∷ own_word_loads) cpu ≡ word
-found_here own_word_loads cpu word = ap (λ (b : Bool). if b then word else loaded_word own_word_loads cpu) (same_place (own_word_index cpu))
+pub found_here : (own_word_loads : List (ℕ × ℕ)) (cpu word : ℕ)
+    → loaded_word ((own_word_index cpu, word) ∷ own_word_loads) cpu ≡ word
+found_here own_word_loads cpu word =
+    ap (λ (b : Bool). if b then word else loaded_word own_word_loads cpu)
+    (same_place (own_word_index cpu))
 
 pub found_there : (own_word_loads : List (ℕ × ℕ)) (cpu word c : ℕ) → c ≢ cpu
     → loaded_word ((own_word_index cpu, word) ∷ own_word_loads) c ≡ loaded_word own_word_loads c
-found_there own_word_loads cpu word c apart = ap (λ (b : Bool). if b then word else loaded_word own_word_loads c) (other_place cpu c apart)
+found_there own_word_loads cpu word c apart =
+    ap (λ (b : Bool). if b then word else loaded_word own_word_loads c) (other_place cpu c apart)
 
 -- loads in turn that found the same words are the same
 in_turn_same : (word other : ℕ → ℕ) (n : ℕ) → ((c : ℕ) → c < n → word c ≡ other c)
@@ -39,53 +46,80 @@ in_turn_same word other (suc n) h =
     in_turn_same word other n (λ c low. h c (omega arith)) in
     λ i. (own_word_index n, here i) ∷ before i
 
-in_turn_more : (word : ℕ → ℕ) (n : ℕ) → loads_in_turn word (n + 1) ≡ (own_word_index n, word n) ∷ loads_in_turn word n
+in_turn_more : (word : ℕ → ℕ) (n : ℕ)
+    → loads_in_turn word (n + 1) ≡ (own_word_index n, word n) ∷ loads_in_turn word n
 in_turn_more word n = ap (loads_in_turn word) (let next : n + 1 ≡ suc n = omega arith in next)
 
 -- who is told of by a word that was found in turn is cleared
-pub cleared_in_turn : (t : Number) (word : ℕ → ℕ) (n c : ℕ) → c < n → reports_quiescence t (word c) ≡ true
-    → is_cleared t c (loads_in_turn word n) ≡ true
+pub cleared_in_turn : (t : Number) (word : ℕ → ℕ) (n c : ℕ)
+    → c < n → reports_quiescence t (word c) ≡ true → is_cleared t c (loads_in_turn word n) ≡ true
 cleared_in_turn t word zero c low told = absurd (omega arith)
 cleared_in_turn t word (suc n) c low told = elim (cases_eq c n) [
-  | inl same ↦ or_left ((own_word_index n == own_word_index c) && reports_quiescence t (word n)) (is_cleared t c (loads_in_turn word n))
-      (subst (λ (k : ℕ). ((own_word_index n == own_word_index k) && reports_quiescence t (word n)) ≡ true) (sym same)
-      (ap (λ (b : Bool). b && reports_quiescence t (word n)) (same_place (own_word_index n)) ∙ subst (λ (k : ℕ). reports_quiescence t (word k) ≡ true) same told))
-  | inr apart ↦ or_right ((own_word_index n == own_word_index c) && reports_quiescence t (word n)) (is_cleared t c (loads_in_turn word n))
+  | inl same ↦ or_left ((own_word_index n == own_word_index c) && reports_quiescence t (word n))
+      (is_cleared t c (loads_in_turn word n))
+      (subst
+      (λ (k : ℕ). ((own_word_index n == own_word_index k) && reports_quiescence t (word n)) ≡ true)
+      (sym same)
+      (ap (λ (b : Bool). b && reports_quiescence t (word n)) (same_place (own_word_index n))
+      ∙ subst (λ (k : ℕ). reports_quiescence t (word k) ≡ true) same told))
+  | inr apart ↦ or_right ((own_word_index n == own_word_index c) && reports_quiescence t (word n))
+      (is_cleared t c (loads_in_turn word n))
       (cleared_in_turn t word n c (omega (arith, apart)) told)
 ]
 
 module _ {C : Type 0} where
   -- a load more, in turn
-  pub one_more : (first v w : View C) (n word : ℕ) → v ≡ after_own_word_loads first (loaded_word v.own_word_loads) n
+  pub one_more : (first v w : View C) (n word : ℕ)
+      → v ≡ after_own_word_loads first (loaded_word v.own_word_loads) n
       → w ≡ after_own_word_load v (own_word_index n) word
       → w ≡ after_own_word_loads first (loaded_word w.own_word_loads) (n + 1)
   one_more first v w n word old new =
-      let own_word_loads : w.own_word_loads ≡ (own_word_index n, word) ∷ v.own_word_loads = ap (λ (u : View C). u.own_word_loads) new in
+      let own_word_loads : w.own_word_loads ≡ (own_word_index n, word) ∷ v.own_word_loads =
+      ap (λ (u : View C). u.own_word_loads) new in
       let here : loaded_word w.own_word_loads n ≡ word =
-      ap (λ (l : List (ℕ × ℕ)). loaded_word l n) own_word_loads ∙ found_here v.own_word_loads n word in
-      let before : loads_in_turn (loaded_word v.own_word_loads) n ≡ loads_in_turn (loaded_word w.own_word_loads) n =
+      ap (λ (l : List (ℕ × ℕ)). loaded_word l n) own_word_loads
+      ∙ found_here v.own_word_loads n word in
+      let before : loads_in_turn (loaded_word v.own_word_loads) n
+      ≡ loads_in_turn (loaded_word w.own_word_loads) n =
       in_turn_same (loaded_word v.own_word_loads) (loaded_word w.own_word_loads) n
-      (λ c low. sym (ap (λ (l : List (ℕ × ℕ)). loaded_word l c) own_word_loads ∙ found_there v.own_word_loads n word c (λ e. absurd (omega (arith, e))))) in
+      (λ c low. sym (ap (λ (l : List (ℕ × ℕ)). loaded_word l c) own_word_loads
+      ∙ found_there v.own_word_loads n word c (λ e. absurd (omega (arith, e))))) in
       let loads : first.loads + n + 1 ≡ first.loads + (n + 1) = omega arith in
-      new ∙ ap (λ (u : View C). after_own_word_load u (own_word_index n) word) old
-      ∙ (λ i. record first { loads = loads i; own_word_loads = (own_word_index n, sym here i) ∷ before i })
-      ∙ ap (λ (l : List (ℕ × ℕ)). record first { loads = first.loads + (n + 1); own_word_loads = l })
+      new
+      ∙ ap (λ (u : View C). after_own_word_load u (own_word_index n) word) old
+      ∙ (λ i. record first {
+        loads = loads i;
+        own_word_loads = (own_word_index n, sym here i) ∷ before i;
+      })
+      ∙ ap
+      (λ (l : List (ℕ × ℕ)). record first { loads = first.loads + (n + 1); own_word_loads = l })
       (sym (in_turn_more (loaded_word w.own_word_loads) n))
 
 -- a set of flags that follow the words found, with one word more
-pub flags_more : (test : ℕ → Bool) (flags : List Bool) (own_word_loads : List (ℕ × ℕ)) (n word : ℕ) (flag : Bool)
-    → n < length flags → flag ≡ test word
+pub flags_more : (test : ℕ → Bool) (flags : List Bool) (own_word_loads : List (ℕ × ℕ)) (n word : ℕ)
+    (flag : Bool)
+    → n < length flags
+    → flag ≡ test word
     → ((c : ℕ) → c < n → is_in flags c ≡ test (loaded_word own_word_loads c))
-    → (c : ℕ) → c < n + 1 → is_in (slice_set flags n flag) c ≡ test (loaded_word ((own_word_index n, word) ∷ own_word_loads) c)
+    → (c : ℕ) → c < n + 1
+    → is_in (slice_set flags n flag) c
+    ≡ test (loaded_word ((own_word_index n, word) ∷ own_word_loads) c)
 flags_more test flags own_word_loads n word flag inside is old c low = elim (cases_eq c n) [
-  | inl same ↦ rw same (get_or-set_same flags n flag false inside ∙ is ∙ sym (ap test (found_here own_word_loads n word)))
+  | inl same ↦ rw same
+      (get_or-set_same flags n flag false inside
+      ∙ is
+      ∙ sym (ap test (found_here own_word_loads n word)))
   | inr apart ↦ get_or-set_other flags n c flag false apart ∙ old c (omega (arith, apart))
       ∙ sym (ap test (found_there own_word_loads n word c apart))
 ]
 
 module _ {C : Type 0} where
   -- the same of what the view has after the load
-  pub found_of : (test : ℕ → Bool) (flags : List Bool) (v w : View C) (n word : ℕ) → w ≡ after_own_word_load v (own_word_index n) word
-      → ((c : ℕ) → c < n + 1 → is_in flags c ≡ test (loaded_word ((own_word_index n, word) ∷ v.own_word_loads) c))
-      → (c : ℕ) → c < n + 1 → is_in flags c ≡ test (loaded_word w.own_word_loads c)
-  found_of test flags v w n word new h c low = h c low ∙ sym (ap (λ (u : View C). test (loaded_word u.own_word_loads c)) new)
+  pub found_of : (test : ℕ → Bool) (flags : List Bool) (v w : View C) (n word : ℕ)
+      → w ≡ after_own_word_load v (own_word_index n) word
+      → ((c : ℕ) → c < n + 1 → is_in flags c
+      ≡ test (loaded_word ((own_word_index n, word) ∷ v.own_word_loads) c))
+      → (c : ℕ) → c < n + 1
+      → is_in flags c ≡ test (loaded_word w.own_word_loads c)
+  found_of test flags v w n word new h c low =
+      h c low ∙ sym (ap (λ (u : View C). test (loaded_word u.own_word_loads c)) new)

@@ -1,6 +1,6 @@
 -- Each load of the number keeps the rule.
-use Rattle.std.proofs.Common.{◌≡◌, ℕ, ◌+◌, ◌<◌, ◌≤◌, List, Option, Some, None, get_or, set, map, drop, true, refl, sym}
-use Rattle.std.proofs.Common.{ap, ◌∙◌, subst, arith}
+use Rattle.std.proofs.Common.{◌≡◌, ℕ, ◌+◌, ◌<◌, ◌≤◌, List, Option, Some, None, get_or, set, map}
+use Rattle.std.proofs.Common.{drop, true, refl, sym, ap, ◌∙◌, subst, arith}
 use mathlib.Core.Option.{some}
 use lib.ListN.{get_elem?}
 use lib.Seq.{map-set}
@@ -9,7 +9,8 @@ use Rattle.atomic_table.proofs.Lists.{at_map}
 use Rattle.rcu_live.specs.Client.{Slots, IsStable, Views, ClientView}
 use Rattle.rcu_live.specs.Numbers.{may_open}
 use Rattle.rcu_live.specs.Rule.{Fits, IsKept, IsSound}
-use Rattle.rcu_live.specs.View.{Closed, Loaded, Opened, after_close, after_load, after_open, if_cpu, client_view}
+use Rattle.rcu_live.specs.View.{Closed, Loaded, Opened, after_close, after_load, after_open, if_cpu}
+use Rattle.rcu_live.specs.View.{client_view}
 use Rattle.rcu_live.specs.Words.{base_of, own_word_index}
 use Rattle.rcu_live.specs.declared.view.Role.{Role}
 use Rattle.rcu_live.specs.declared.view.Role.TheVariants.{Cpu, Watcher, Engine}
@@ -29,22 +30,30 @@ the_same e = cc
 
 module _ {S C : Type 0} (holds : List ℕ → Slots S → Views C → Type 0) where
   -- a seat that saw the number fits, where it did before, and where what it has of a section holds
-  seen_fits : (cpus : ℕ) (words : List ℕ) (owner : ℕ → ℕ) (engine : ℕ) (own_word_loads : List (ℕ × ℕ)) (id : ℕ) (v w : View C)
+  seen_fits : (cpus : ℕ) (words : List ℕ) (owner : ℕ → ℕ) (engine : ℕ)
+      (own_word_loads : List (ℕ × ℕ)) (id : ℕ) (v w : View C)
       → Fits cpus words owner engine own_word_loads id v
-      → w.role ≡ v.role → w.cpu ≡ v.cpu → w.seen ≡ get_or words 0 0 → w.base ≡ v.base → w.own_word_loads ≡ v.own_word_loads
-      → (w.role ≡ Cpu → IsSound (get_or words 0 0) (get_or words (own_word_index w.cpu) 0) own_word_loads w)
+      → w.role ≡ v.role
+      → w.cpu ≡ v.cpu
+      → w.seen ≡ get_or words 0 0
+      → w.base ≡ v.base
+      → w.own_word_loads ≡ v.own_word_loads
+      → (w.role ≡ Cpu → IsSound (get_or words 0 0) (get_or words (own_word_index w.cpu) 0)
+      own_word_loads w)
       → Fits cpus words owner engine own_word_loads id w
-  seen_fits cpus words owner engine own_word_loads id v w f role cpu seen base found sound = record {
-    seen = omega (arith, seen);
-    base = base ∙ f.base;
-    inside = λ r. subst (λ (c : ℕ). c < cpus) (sym cpu) (f.inside (sym role ∙ r));
-    own = λ r. ap owner cpu ∙ f.own (sym role ∙ r);
-    sound = sound;
-    lone = λ r. f.lone (sym role ∙ r);
-    number = λ r. seen;
-    found = λ r. found ∙ f.found (sym role ∙ r);
-    undealt = λ r c low high. f.undealt (sym role ∙ r) c (subst (λ (d : ℕ). d ≤ c) cpu low) high;
-  }
+  seen_fits cpus words owner engine own_word_loads id v w f role cpu seen base found sound =
+      record {
+        seen = omega (arith, seen);
+        base = base ∙ f.base;
+        inside = λ r. subst (λ (c : ℕ). c < cpus) (sym cpu) (f.inside (sym role ∙ r));
+        own = λ r. ap owner cpu ∙ f.own (sym role ∙ r);
+        sound = sound;
+        lone = λ r. f.lone (sym role ∙ r);
+        number = λ r. seen;
+        found = λ r. found ∙ f.found (sym role ∙ r);
+        undealt =
+            λ r c low high. f.undealt (sym role ∙ r) c (subst (λ (d : ℕ). d ≤ c) cpu low) high;
+      }
 
   -- a seat fits after a number load
   pub load_fits : (cpus : ℕ) (s : State S (View C)) (k : IsKept holds cpus s) (id : ℕ) (v : View C)
@@ -54,7 +63,8 @@ module _ {S C : Type 0} (holds : List ℕ → Slots S → Views C → Type 0) wh
       let n : ℕ = get_or s.words 0 0 in
       let f : Fits cpus s.words k.owner k.engine k.own_word_loads id v = k.fits id v at in
       let w : View C = after_load v n in
-      let sound : v.role ≡ Cpu → IsSound n (get_or s.words (own_word_index v.cpu) 0) k.own_word_loads w =
+      let sound : v.role ≡ Cpu
+      → IsSound n (get_or s.words (own_word_index v.cpu) 0) k.own_word_loads w =
       λ r. let t = f.sound r in record {
         own_word = t.own_word;
         bounded = own_later v.seen n v.own_word f.seen t.bounded;
@@ -64,7 +74,9 @@ module _ {S C : Type 0} (holds : List ℕ → Slots S → Views C → Type 0) wh
         to_seen = λ p o. let a = t.to_seen p o in let b = f.seen in omega arith;
         current = t.current;
         cleared = t.cleared;
-      } in seen_fits cpus s.words k.owner k.engine k.own_word_loads id v w f refl refl refl refl refl sound
+      } in
+      seen_fits cpus s.words k.owner k.engine k.own_word_loads id v w f refl refl refl refl refl
+      sound
 
   -- number load
   pub loads : (cpus slots id : ℕ) (me : Me S (View C))
@@ -79,12 +91,25 @@ module _ {S C : Type 0} (holds : List ℕ → Slots S → Views C → Type 0) wh
         tt,
         unchanged holds cpus s k id 0 w (load_fits cpus s k id v at)
             (unseen holds cpus s k id v w s.words at refl refl),
-        (record { view = refl; later = f.seen; number = k.number; began = λ r. (f.sound r).to_seen; current = λ r. (f.sound r).current }, refl),
+        (
+          record {
+            view = refl;
+            later = f.seen;
+            number = k.number;
+            began = λ r. (f.sound r).to_seen;
+            current = λ r. (f.sound r).current;
+          },
+          refl,
+        ),
       )
 
   -- section-opening load
-  pub opens : (idle : C) (close : C → C) → IsStable holds idle close → (cpus slots id : ℕ) (me : Me S (View C))
-      → me.0.role ≡ Cpu → may_open me.0.own_word ≡ true → me.0.section ≡ None
+  pub opens : (idle : C) (close : C → C)
+      → IsStable holds idle close
+      → (cpus slots id : ℕ) (me : Me S (View C))
+      → me.0.role ≡ Cpu
+      → may_open me.0.own_word ≡ true
+      → me.0.section ≡ None
       → Allows (IsKept holds cpus) slots id me 0 (λ n. n) (λ n m. Opened me.0 n m.0 × (m.1 ≡ me.1))
   opens idle close stable cpus slots id me cpu online shut s k _ at _ =
       let n : ℕ = get_or s.words 0 0 in
@@ -94,7 +119,8 @@ module _ {S C : Type 0} (holds : List ℕ → Slots S → Views C → Type 0) wh
       let t = f.sound cpu in
       let up : v.seen ≤ n = f.seen in
       let low : v.own_word ≤ v.seen + 1 = own_bound v.seen v.own_word t.bounded online in
-      let sound : v.role ≡ Cpu → IsSound n (get_or s.words (own_word_index v.cpu) 0) k.own_word_loads w = λ r. record {
+      let sound : v.role ≡ Cpu
+      → IsSound n (get_or s.words (own_word_index v.cpu) 0) k.own_word_loads w = λ r. record {
         own_word = t.own_word;
         bounded = own_later v.seen n v.own_word up t.bounded;
         boot = t.boot;
@@ -104,28 +130,43 @@ module _ {S C : Type 0} (holds : List ℕ → Slots S → Views C → Type 0) wh
         current = λ p o. rw (the_same o) (not_past n);
         cleared = λ p o running told. let e = the_same o in omega arith;
       } in
-      let mine = seen_fits cpus s.words k.owner k.engine k.own_word_loads id v w f refl refl refl refl refl sound in
+      let mine = seen_fits cpus s.words k.owner k.engine k.own_word_loads id v w f refl refl refl
+      refl refl sound in
       let one : Option ℕ = if_cpu v.role (Some v.cpu) in
-      let now : client_view w ≡ (one, Some n, v.client) = ap (λ (r : Role). (one, if_cpu r (Some n), v.client)) cpu in
+      let now : client_view w ≡ (one, Some n, v.client) =
+      ap (λ (r : Role). (one, if_cpu r (Some n), v.client)) cpu in
       let was : client_view v ≡ (one, None, v.client) =
       ap (λ (y : Role × Option ℕ). (one, if_cpu y.0 y.1, v.client)) (λ i. (cpu i, shut i)) in
-      let after : map client_view (set s.views id w) ≡ set (map client_view s.views) id (one, Some n, v.client) =
-      map-set client_view s.views id w ∙ ap (λ (x : ClientView C). set (map client_view s.views) id x) now in
-      let client : holds (drop (base_of cpus) s.words) s.homes (map client_view (set s.views id w)) =
+      let after : map client_view (set s.views id w)
+      ≡ set (map client_view s.views) id (one, Some n, v.client) =
+      map-set client_view s.views id w
+      ∙ ap (λ (x : ClientView C). set (map client_view s.views) id x) now in
+      let client : holds (drop (base_of cpus) s.words) s.homes
+      (map client_view (set s.views id w)) =
       subst (λ (xs : Views C). holds (drop (base_of cpus) s.words) s.homes xs) (sym after)
-      (stable.opens (drop (base_of cpus) s.words) s.homes (map client_view s.views) id n one v.client k.client (at_map client_view s.views id v at ∙ ap some was)) in
-      (w, keeps, tt, unchanged holds cpus s k id 0 w mine client, (record { view = refl; later = up; number = k.number }, refl))
+      (stable.opens (drop (base_of cpus) s.words) s.homes (map client_view s.views) id n one
+      v.client k.client (at_map client_view s.views id v at ∙ ap some was)) in (
+        w,
+        keeps,
+        tt,
+        unchanged holds cpus s k id 0 w mine client,
+        (record { view = refl; later = up; number = k.number }, refl),
+      )
 
   -- section-closing load
-  pub closes : (idle : C) (close : C → C) → IsStable holds idle close → (cpus slots id : ℕ) (me : Me S (View C))
-      → Allows (IsKept holds cpus) slots id me 0 (λ n. n) (λ n m. Closed close me.0 n m.0 × (m.1 ≡ me.1))
+  pub closes : (idle : C) (close : C → C)
+      → IsStable holds idle close
+      → (cpus slots id : ℕ) (me : Me S (View C))
+      → Allows (IsKept holds cpus) slots id me 0 (λ n. n)
+      (λ n m. Closed close me.0 n m.0 × (m.1 ≡ me.1))
   closes idle close stable cpus slots id me s k _ at _ =
       let n : ℕ = get_or s.words 0 0 in
       let v : View C = me.0 in
       let f : Fits cpus s.words k.owner k.engine k.own_word_loads id v = k.fits id v at in
       let w : View C = after_close close v n in
       let up : v.seen ≤ n = f.seen in
-      let sound : v.role ≡ Cpu → IsSound n (get_or s.words (own_word_index v.cpu) 0) k.own_word_loads w =
+      let sound : v.role ≡ Cpu
+      → IsSound n (get_or s.words (own_word_index v.cpu) 0) k.own_word_loads w =
       λ r. let t = f.sound r in record {
         own_word = t.own_word;
         bounded = own_later v.seen n v.own_word up t.bounded;
@@ -136,13 +177,23 @@ module _ {S C : Type 0} (holds : List ℕ → Slots S → Views C → Type 0) wh
         current = λ p o. absurd (cc);
         cleared = λ p o. absurd (cc);
       } in
-      let mine = seen_fits cpus s.words k.owner k.engine k.own_word_loads id v w f refl refl refl refl refl sound in
+      let mine = seen_fits cpus s.words k.owner k.engine k.own_word_loads id v w f refl refl refl
+      refl refl sound in
       let one : Option ℕ = if_cpu v.role (Some v.cpu) in
       let now : client_view w ≡ (one, None, close v.client) =
       ap (λ (o : Option ℕ). (one, o, close v.client)) (none_shown v.role) in
-      let after : map client_view (set s.views id w) ≡ set (map client_view s.views) id (one, None, close v.client) =
-      map-set client_view s.views id w ∙ ap (λ (x : ClientView C). set (map client_view s.views) id x) now in
-      let client : holds (drop (base_of cpus) s.words) s.homes (map client_view (set s.views id w)) =
+      let after : map client_view (set s.views id w)
+      ≡ set (map client_view s.views) id (one, None, close v.client) =
+      map-set client_view s.views id w
+      ∙ ap (λ (x : ClientView C). set (map client_view s.views) id x) now in
+      let client : holds (drop (base_of cpus) s.words) s.homes
+      (map client_view (set s.views id w)) =
       subst (λ (xs : Views C). holds (drop (base_of cpus) s.words) s.homes xs) (sym after)
-      (stable.closes (drop (base_of cpus) s.words) s.homes (map client_view s.views) id one (if_cpu v.role v.section) v.client k.client (at_map client_view s.views id v at)) in
-      (w, keeps, tt, unchanged holds cpus s k id 0 w mine client, (record { view = refl; later = up; number = k.number }, refl))
+      (stable.closes (drop (base_of cpus) s.words) s.homes (map client_view s.views) id one
+      (if_cpu v.role v.section) v.client k.client (at_map client_view s.views id v at)) in (
+        w,
+        keeps,
+        tt,
+        unchanged holds cpus s k id 0 w mine client,
+        (record { view = refl; later = up; number = k.number }, refl),
+      )

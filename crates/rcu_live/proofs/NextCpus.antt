@@ -1,6 +1,6 @@
 -- The next processor of a set, by the flags of 64 of them as a word.
-use Rattle.std.proofs.Common.{◌≡◌, ℕ, ◌+◌, ◌-◌, ◌^◌, ◌<◌, ◌≤◌, ◌==◌, ◌&&◌, Bool, true, false, nat_lt, List, length, sym, ap}
-use Rattle.std.proofs.Common.{◌∙◌, arith, inl, inr}
+use Rattle.std.proofs.Common.{◌≡◌, ℕ, ◌+◌, ◌-◌, ◌^◌, ◌<◌, ◌≤◌, ◌==◌, ◌&&◌, Bool, true, false}
+use Rattle.std.proofs.Common.{nat_lt, List, length, sym, ap, ◌∙◌, arith, inl, inr}
 use Rattle.std.specs.Int.{trailing_zeros, w64}
 use Rattle.std.proofs.lemmas.Bool.{and_parts, cases_lt, true≢false}
 use Rattle.std.proofs.lemmas.Bool.Decides.{nat_tests}
@@ -26,7 +26,9 @@ flag : (set : List Bool) (cpu word c : ℕ) → AreFlags set cpu word → cpu �
     → is_in set c ≡ has_bit word (c - cpu)
 flag set cpu word c flags from low =
     let at : cpu + (c - cpu) ≡ c = omega arith in
-    ap (is_in set) (sym at) ∙ within_word (is_in set (cpu + (c - cpu))) (c - cpu) (omega arith) ∙ sym (flags (c - cpu))
+    ap (is_in set) (sym at)
+    ∙ within_word (is_in set (cpu + (c - cpu))) (c - cpu) (omega arith)
+    ∙ sym (flags (c - cpu))
 
 no_bit : (bit : ℕ) → has_bit 0 bit ≡ false
 unfolding has_bit
@@ -47,30 +49,39 @@ lowest word some fits =
     }
 
 -- where the word is 0, nobody of it is in the set
-pub none_of : (set : List Bool) (from cpu word : ℕ) → AreFlags set cpu word → word ≡ 0 → NobodyIn set from cpu
-    → NobodyIn set from (cpu + 64)
+pub none_of : (set : List Bool) (from cpu word : ℕ)
+    → AreFlags set cpu word → word ≡ 0 → NobodyIn set from cpu → NobodyIn set from (cpu + 64)
 none_of set from cpu word flags empty before c later low = elim (cases_lt c cpu) [
   | inl less ↦ before c later less
-  | inr more ↦ flag set cpu word c flags (omega (arith, more)) low ∙ ap (λ (n : ℕ). has_bit n (c - cpu)) empty ∙ no_bit (c - cpu)
+  | inr more ↦
+      flag set cpu word c flags (omega (arith, more)) low
+      ∙ ap (λ (n : ℕ). has_bit n (c - cpu)) empty
+      ∙ no_bit (c - cpu)
 ]
 
 -- where it is not, its lowest bit is the next one's
-pub first_of : (set : List Bool) (from cpu word : ℕ) → AreFlags set cpu word → 0 < word → word < 2 ^ 64 → from ≤ cpu
-    → NobodyIn set from cpu → IsNextFrom set from (cpu + trailing_zeros w64 word)
+pub first_of : (set : List Bool) (from cpu word : ℕ)
+    → AreFlags set cpu word → 0 < word → word < 2 ^ 64 → from ≤ cpu → NobodyIn set from cpu
+    → IsNextFrom set from (cpu + trailing_zeros w64 word)
 first_of set from cpu word flags some fits later before =
     let bit : ℕ = trailing_zeros w64 word in
     let found = lowest word some fits in
     let here : is_in set (cpu + bit) ≡ true =
-    (and_parts (nat_lt bit 64) (is_in set (cpu + bit)) (sym (flags bit) ∙ found.here)).1 in record {
+    (and_parts (nat_lt bit 64) (is_in set (cpu + bit)) (sym (flags bit) ∙ found.here)).1 in
+    record {
       later = omega (arith, later);
       inside = elim (cases_lt (cpu + bit) (length set)) [
         | inl less ↦ less
-        | inr more ↦ absurd (true≢false (sym here ∙ is_in-beyond set (cpu + bit) (omega (arith, more))))
+        | inr more ↦
+            absurd (true≢false (sym here ∙ is_in-beyond set (cpu + bit) (omega (arith, more))))
       ];
       here = here;
       none = λ c after less. elim (cases_lt c cpu) [
         | inl low ↦ before c after low
-        | inr high ↦ flag set cpu word c flags (omega (arith, high)) (let low = found.low in omega (arith, less, low)) ∙ found.none (c - cpu) (omega (arith, less, high))
+        | inr high ↦
+            flag set cpu word c flags (omega (arith, high))
+            (let low = found.low in omega (arith, less, low))
+            ∙ found.none (c - cpu) (omega (arith, less, high))
       ];
     }
 

@@ -6,11 +6,13 @@ use Rattle.rcu_live.specs.Numbers.{is_own_word, is_past, is_open_at, may_open}
 use Rattle.rcu_live.specs.Words.{own_word_index}
 
 -- an own word with which a section may open is at most one more than the number seen
-pub own_bound : (seen : Number) (word : ℕ) → is_own_word seen word ≡ true → may_open word ≡ true → word ≤ seen + 1
+pub own_bound : (seen : Number) (word : ℕ) → is_own_word seen word ≡ true → may_open word ≡ true
+    → word ≤ seen + 1
 own_bound seen word own online = grind (arith, nat_tests)
 
 -- who saw a later number may store the same words
-pub own_later : (seen n : Number) (word : ℕ) → seen ≤ n → is_own_word seen word ≡ true → is_own_word n word ≡ true
+pub own_later : (seen n : Number) (word : ℕ) → seen ≤ n → is_own_word seen word ≡ true
+    → is_own_word n word ≡ true
 own_later seen n word up own = grind (arith, nat_tests)
 
 -- an own word at the start

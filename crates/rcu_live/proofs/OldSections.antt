@@ -1,5 +1,6 @@
 -- An old section lies on a processor that is awaited.
-use Rattle.std.proofs.Common.{◌≡◌, ℕ, ◌<◌, ◌≤◌, true, List, Some, get_or, sym, ◌∙◌, subst, arith, inl, inr}
+use Rattle.std.proofs.Common.{◌≡◌, ℕ, ◌<◌, ◌≤◌, true, List, Some, get_or, sym, ◌∙◌, subst, arith}
+use Rattle.std.proofs.Common.{inl, inr}
 use Rattle.std.proofs.lemmas.Bool.{cases_Bool}
 use mathlib.Core.Option.{some}
 use lib.ListN.{get_elem?}
@@ -16,11 +17,18 @@ use Rattle.rcu_live.specs.View.{IsOfEngine}
 use Rattle.rcu_live.specs.declared.view.Role.TheVariants.{Cpu}
 use Rattle.rcu_live.specs.declared.view.View.{View}
 
-pub old_awaited : {S C X : Type 0} (holds : List ℕ → Slots S → Views C → Type 0) (cpus : ℕ) (s : State S (View C))
-    (i j : ℕ) (e v : View C) (g : Grace X) (at : Number)
-    → IsKept holds cpus s → get_elem? s.views i ≡ some e → IsOfEngine e → e.seen ≡ number_of g.seq
+pub old_awaited : {S C X : Type 0} (holds : List ℕ → Slots S → Views C → Type 0) (cpus : ℕ)
+    (s : State S (View C)) (i j : ℕ) (e v : View C) (g : Grace X) (at : Number)
+    → IsKept holds cpus s
+    → get_elem? s.views i ≡ some e
+    → IsOfEngine e
+    → e.seen ≡ number_of g.seq
     → AwaitsTheOthers cpus e.own_word_loads g
-    → g.seq.running ≡ true → get_elem? s.views j ≡ some v → v.role ≡ Cpu → v.section ≡ Some at → at < e.seen
+    → g.seq.running ≡ true
+    → get_elem? s.views j ≡ some v
+    → v.role ≡ Cpu
+    → v.section ≡ Some at
+    → at < e.seen
     → is_in g.processors.awaited v.cpu ≡ true
 old_awaited holds cpus s i j e v g at k here engine number lock runs there cpu section old =
     elim (cases_Bool (is_in g.processors.awaited v.cpu)) [
@@ -32,9 +40,11 @@ old_awaited holds cpus s i j e v g at k here engine number lock runs there cpu s
           let same : e.seen ≡ n = f.number engine in
           let is : number_of g.seq ≡ n = sym number ∙ same in
           let cleared : is_cleared n v.cpu k.own_word_loads ≡ true =
-          subst (λ (y : ℕ × List (ℕ × ℕ)). is_cleared y.0 v.cpu y.1 ≡ true) (λ x. (is x, f.found engine x))
-          (lock runs v.cpu (h.inside cpu) none) in
+          subst (λ (y : ℕ × List (ℕ × ℕ)). is_cleared y.0 v.cpu y.1 ≡ true)
+          (λ x. (is x, f.found engine x)) (lock runs v.cpu (h.inside cpu) none) in
           let running : is_running n ≡ true =
-          subst (λ (m : ℕ). is_running m ≡ true) is (running_number g.seq.ends g.seq.running runs) in
-          let already_quiescent : n ≤ at = (h.sound cpu).cleared at section running cleared in absurd (omega (arith, already_quiescent, same, old))
+          subst (λ (m : ℕ). is_running m ≡ true) is
+          (running_number g.seq.ends g.seq.running runs) in
+          let already_quiescent : n ≤ at = (h.sound cpu).cleared at section running cleared in
+          absurd (omega (arith, already_quiescent, same, old))
     ]

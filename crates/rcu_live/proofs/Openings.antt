@@ -1,7 +1,9 @@
 -- The rule at the opening: one seat, the engine's, which has all parts.
-use Rattle.std.proofs.Common.{◌≡◌, ℕ, zero, suc, ◌+◌, ◌<◌, ◌≤◌, List, [], ◌∷◌, ◌++◌, None, length, get_or, map, drop}
-use Rattle.std.proofs.Common.{replicate, true, refl, sym, ap, ◌∙◌, subst, arith, length-append, length-set}
-use Rattle.std.proofs.lemmas.List.{get_or-replicate, get_or-set_other, get_or-set_same, length-replicate}
+use Rattle.std.proofs.Common.{◌≡◌, ℕ, zero, suc, ◌+◌, ◌<◌, ◌≤◌, List, [], ◌∷◌, ◌++◌, None, length}
+use Rattle.std.proofs.Common.{get_or, map, drop, replicate, true, refl, sym, ap, ◌∙◌, subst, arith}
+use Rattle.std.proofs.Common.{length-append, length-set}
+use Rattle.std.proofs.lemmas.List.{get_or-replicate, get_or-set_other, get_or-set_same}
+use Rattle.std.proofs.lemmas.List.{length-replicate}
 use mathlib.Core.Option.{some, some-injective, some-ne-none}
 use lib.ListN.{get_elem?}
 use Rattle.atomic_table.specs.Table.{opening}
@@ -25,7 +27,8 @@ at_front (x ∷ xs) ys zero h = refl
 at_front (x ∷ xs) ys (suc i) h = at_front xs ys i (omega arith)
 
 pub length-first_words : (cpus : ℕ) → length (first_words cpus) ≡ base_of cpus
-length-first_words cpus = length-set (replicate (base_of cpus) 0) 16 1 ∙ length-replicate (base_of cpus) 0
+length-first_words cpus =
+    length-set (replicate (base_of cpus) 0) 16 1 ∙ length-replicate (base_of cpus) 0
 
 -- there is room for the engine's words
 pub room_at_first : (cpus : ℕ) (behind words : List ℕ) → words ≡ first_words cpus ++ behind
@@ -39,10 +42,13 @@ number_at_first cpus =
     get_or-set_other (replicate (base_of cpus) 0) 16 0 1 0 (λ e. absurd (omega arith))
     ∙ get_or-replicate (base_of cpus) 0 0 0 (omega arith)
 
-word_at_first : (cpus c : ℕ) → c < cpus → get_or (first_words cpus) (own_word_index c) 0 ≡ first_own_word c
-word_at_first cpus zero low = get_or-set_same (replicate (base_of cpus) 0) 16 1 0 (let z : ℕ = 0 in let l = length-replicate (base_of cpus) z in omega arith)
+word_at_first : (cpus c : ℕ) → c < cpus
+    → get_or (first_words cpus) (own_word_index c) 0 ≡ first_own_word c
+word_at_first cpus zero low = get_or-set_same (replicate (base_of cpus) 0) 16 1 0
+    (let z : ℕ = 0 in let l = length-replicate (base_of cpus) z in omega arith)
 word_at_first cpus (suc c) low =
-    get_or-set_other (replicate (base_of cpus) 0) 16 (own_word_index (suc c)) 1 0 (λ e. absurd (omega arith))
+    get_or-set_other (replicate (base_of cpus) 0) 16 (own_word_index (suc c)) 1 0
+    (λ e. absurd (omega arith))
     ∙ get_or-replicate (base_of cpus) (own_word_index (suc c)) 0 0 (omega arith)
 
 zero_is_number : (n : ℕ) → n ≡ 0 → is_number_word n ≡ true
@@ -56,10 +62,14 @@ module _ {S C : Type 0} (holds : List ℕ → Slots S → Views C → Type 0) wh
   starts cpus behind slots c any client =
       let words : List ℕ = first_words cpus ++ behind in
       let long : length (first_words cpus) ≡ base_of cpus = length-first_words cpus in
-      let both : length words ≡ length (first_words cpus) + length behind = length-append (first_words cpus) behind in
-      let number : get_or words 0 0 ≡ 0 = at_front (first_words cpus) behind 0 (omega arith) ∙ number_at_first cpus in
+      let both : length words ≡ length (first_words cpus) + length behind =
+      length-append (first_words cpus) behind in
+      let number : get_or words 0 0 ≡ 0 =
+      at_front (first_words cpus) behind 0 (omega arith) ∙ number_at_first cpus in
       let word : (d : ℕ) → d < cpus → get_or words (own_word_index d) 0 ≡ first_own_word d =
-      λ d low. at_front (first_words cpus) behind (own_word_index d) (omega arith) ∙ word_at_first cpus d low in
+      λ d low.
+      at_front (first_words cpus) behind (own_word_index d) (omega arith)
+      ∙ word_at_first cpus d low in
       let first : Fits cpus words (λ _. 0) 0 [] 0 (engine_seat cpus 0 c) = record {
         seen = omega arith;
         base = refl;
@@ -83,7 +93,9 @@ module _ {S C : Type 0} (holds : List ℕ → Slots S → Views C → Type 0) wh
             (sym (drop_front (base_of cpus) (first_words cpus) behind long)) client;
       }
     where
-      alone : (words : List ℕ) (id : ℕ) (v : View C) → get_elem? (engine_seat cpus 0 c ∷ []) id ≡ some v
-          → Fits cpus words (λ _. 0) 0 [] 0 (engine_seat cpus 0 c) → Fits cpus words (λ _. 0) 0 [] id v
+      alone : (words : List ℕ) (id : ℕ) (v : View C)
+          → get_elem? (engine_seat cpus 0 c ∷ []) id ≡ some v
+          → Fits cpus words (λ _. 0) 0 [] 0 (engine_seat cpus 0 c)
+          → Fits cpus words (λ _. 0) 0 [] id v
       alone words zero v at f = subst (Fits cpus words (λ _. 0) 0 [] 0) (some-injective _ _ at) f
       alone words (suc id) v at f = absurd (some-ne-none v (sym at))

@@ -1,6 +1,6 @@
 -- The engine's load of a processor's own word keeps the rule.
-use Rattle.std.proofs.Common.{◌≡◌, ◌≢◌, ℕ, ◌+◌, ◌<◌, ◌≤◌, ◌==◌, ◌&&◌, List, ◌∷◌, get_or, set, true, refl, sym, ap, ◌∙◌}
-use Rattle.std.proofs.Common.{subst, arith, ⊎_elim}
+use Rattle.std.proofs.Common.{◌≡◌, ◌≢◌, ℕ, ◌+◌, ◌<◌, ◌≤◌, ◌==◌, ◌&&◌, List, ◌∷◌, get_or, set, true}
+use Rattle.std.proofs.Common.{refl, sym, ap, ◌∙◌, subst, arith, ⊎_elim}
 use Rattle.std.proofs.lemmas.Bool.{and_parts, or_cases}
 use Rattle.std.proofs.lemmas.Bool.Decides.{Decides-eqb, nat_tests}
 use Rattle.std.proofs.lemmas.List.{set-get_or}
@@ -22,9 +22,14 @@ online_some : (own_word : ℕ) → may_open own_word ≡ true → 0 < own_word
 online_some own_word online = grind (arith, nat_tests)
 
 -- a section of a cleared processor is no older than the grace period, whichever word was found last
-still_young : (n at word : ℕ) (own_word_loads : List (ℕ × ℕ)) (cpu own_word p own : ℕ) → (at ≡ own_word_index cpu → word ≡ own)
-    → own ≡ own_word → 0 < own_word → own_word ≤ p + 1
-    → (is_cleared n cpu own_word_loads ≡ true → n ≤ p) → is_cleared n cpu ((at, word) ∷ own_word_loads) ≡ true → n ≤ p
+still_young : (n at word : ℕ) (own_word_loads : List (ℕ × ℕ)) (cpu own_word p own : ℕ)
+    → (at ≡ own_word_index cpu → word ≡ own)
+    → own ≡ own_word
+    → 0 < own_word
+    → own_word ≤ p + 1
+    → (is_cleared n cpu own_word_loads ≡ true → n ≤ p)
+    → is_cleared n cpu ((at, word) ∷ own_word_loads) ≡ true
+    → n ≤ p
 still_young n at word own_word_loads cpu own_word p own found is any from old cleared = ⊎_elim
     (λ (now : ((at == own_word_index cpu) && reports_quiescence n word) ≡ true).
     let parts = and_parts (at == own_word_index cpu) (reports_quiescence n word) now in
@@ -35,8 +40,10 @@ still_young n at word own_word_loads cpu own_word p own found is any from old cl
 
 module _ {S C : Type 0} (holds : List ℕ → Slots S → Views C → Type 0) where
   -- processor-word load
-  pub loads_own_word : (cpus slots id cpu : ℕ) (me : Me S (View C)) → me.0.role ≡ Engine
-      → Allows (IsKept holds cpus) slots id me (own_word_index cpu) (λ n. n) (λ n m. OwnWordLoaded (own_word_index cpu) me.0 n m.0 × (m.1 ≡ me.1))
+  pub loads_own_word : (cpus slots id cpu : ℕ) (me : Me S (View C))
+      → me.0.role ≡ Engine
+      → Allows (IsKept holds cpus) slots id me (own_word_index cpu) (λ n. n)
+      (λ n m. OwnWordLoaded (own_word_index cpu) me.0 n m.0 × (m.1 ≡ me.1))
   loads_own_word cpus slots id cpu me engine s k _ at _ =
       let v : View C = me.0 in
       let f : Fits cpus s.words k.owner k.engine k.own_word_loads id v = k.fits id v at in
@@ -55,26 +62,31 @@ module _ {S C : Type 0} (holds : List ℕ → Slots S → Views C → Type 0) wh
         found = λ r. ap (λ (l : List (ℕ × ℕ)). (own_word_index cpu, word) ∷ l) (f.found r);
         undealt = f.undealt;
       } in
-      let others : (j : ℕ) (u : View C) → j ≢ id → Fits cpus s.words k.owner k.engine k.own_word_loads j u
+      let others : (j : ℕ) (u : View C)
+      → j ≢ id → Fits cpus s.words k.owner k.engine k.own_word_loads j u
       → Fits cpus s.words k.owner k.engine now j u =
       λ j u apart h. record {
         seen = h.seen;
         base = h.base;
         inside = h.inside;
         own = h.own;
-        sound = λ r. let t = h.sound r in record {
-          own_word = t.own_word;
-          bounded = t.bounded;
-          boot = t.boot;
-          online = t.online;
-          from_own_word = t.from_own_word;
-          to_seen = t.to_seen;
-          current = t.current;
-          cleared = λ p o runs told.
-              still_young n (own_word_index cpu) word k.own_word_loads u.cpu u.own_word p (get_or s.words (own_word_index u.cpu) 0)
-              (λ e. ap (λ (i : ℕ). get_or s.words i 0) e)
-              t.own_word (online_some u.own_word (t.online p o)) (t.from_own_word p o) (t.cleared p o runs) told;
-        };
+        sound = λ r.
+            let t = h.sound r in
+            record {
+              own_word = t.own_word;
+              bounded = t.bounded;
+              boot = t.boot;
+              online = t.online;
+              from_own_word = t.from_own_word;
+              to_seen = t.to_seen;
+              current = t.current;
+              cleared = λ p o runs told.
+                  still_young n (own_word_index cpu) word k.own_word_loads u.cpu u.own_word p
+                  (get_or s.words (own_word_index u.cpu) 0)
+                  (λ e. ap (λ (i : ℕ). get_or s.words i 0) e) t.own_word
+                  (online_some u.own_word (t.online p o)) (t.from_own_word p o) (t.cleared p o runs)
+                  told;
+            };
         lone = h.lone;
         number = h.number;
         found = λ r. absurd (apart (sym (h.lone r) ∙ f.lone engine));
@@ -83,15 +95,27 @@ module _ {S C : Type 0} (holds : List ℕ → Slots S → Views C → Type 0) wh
         w,
         keeps,
         tt,
-        subst (λ (words : List ℕ). IsKept holds cpus record { words = words; homes = s.homes; views = set s.views id w }) (sym (set-get_or s.words (own_word_index cpu) 0))
-            (changed holds cpus s k id w s.words s.homes now k.room k.number k.boot others mine (unseen holds cpus s k id v w s.words at refl refl)),
-        (record { view = refl; boot = λ e. subst (λ (i : ℕ). 0 < get_or s.words i 0) (sym e) k.boot }, refl),
+        subst (λ (words : List ℕ).
+            IsKept holds cpus record { words = words; homes = s.homes; views = set s.views id w })
+            (sym (set-get_or s.words (own_word_index cpu) 0))
+            (changed holds cpus s k id w s.words s.homes now k.room k.number k.boot others mine
+            (unseen holds cpus s k id v w s.words at refl refl)),
+        (
+          record {
+            view = refl;
+            boot = λ e. subst (λ (i : ℕ). 0 < get_or s.words i 0) (sym e) k.boot;
+          },
+          refl,
+        ),
       )
 
   -- the same at a place that is the processor's
-  pub loads_own_word_at : (cpus slots id cpu at : ℕ) (me : Me S (View C)) → me.0.role ≡ Engine → at ≡ own_word_index cpu
-      → Allows (IsKept holds cpus) slots id me at (λ n. n) (λ n m. OwnWordLoaded at me.0 n m.0 × (m.1 ≡ me.1))
+  pub loads_own_word_at : (cpus slots id cpu at : ℕ) (me : Me S (View C))
+      → me.0.role ≡ Engine
+      → at ≡ own_word_index cpu
+      → Allows (IsKept holds cpus) slots id me at (λ n. n)
+      (λ n m. OwnWordLoaded at me.0 n m.0 × (m.1 ≡ me.1))
   loads_own_word_at cpus slots id cpu at me engine is =
-      subst (λ (i : ℕ). Allows (IsKept holds cpus) slots id me i (λ n. n) (λ n m. OwnWordLoaded i me.0 n m.0 × (m.1 ≡ me.1)))
-      (sym is)
-      (loads_own_word cpus slots id cpu me engine)
+      subst (λ (i : ℕ). Allows (IsKept holds cpus) slots id me i (λ n. n)
+      (λ n m. OwnWordLoaded i me.0 n m.0 × (m.1 ≡ me.1)))
+      (sym is) (loads_own_word cpus slots id cpu me engine)

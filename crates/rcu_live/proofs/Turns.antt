@@ -1,6 +1,6 @@
 -- The begin store and the end store keep the rule.
-use Rattle.std.proofs.Common.{◌≡◌, ◌≢◌, ℕ, ◌+◌, ◌^◌, ◌<◌, ◌≤◌, List, [], length, get_or, set, true, false, refl, sym}
-use Rattle.std.proofs.Common.{◌∙◌, subst, arith, length-set}
+use Rattle.std.proofs.Common.{◌≡◌, ◌≢◌, ℕ, ◌+◌, ◌^◌, ◌<◌, ◌≤◌, List, [], length, get_or, set, true}
+use Rattle.std.proofs.Common.{false, refl, sym, ◌∙◌, subst, arith, length-set}
 use Rattle.std.proofs.lemmas.Bool.Decides.{nat_tests}
 use Rattle.std.proofs.lemmas.List.{drop-set-lt, get_or-set_other, get_or-set_same}
 use mathlib.Core.Option.{some}
@@ -18,14 +18,17 @@ use Rattle.rcu_live.proofs.Frames.{changed, unseen}
 use Rattle.rcu_live.proofs.Numbers.{number_apart}
 
 -- the number after a begin, and after an end
-begun_word : (n : Number) → is_number_word n ≡ true → is_running n ≡ false → n < 2 ^ 62 → is_number_word (n + 1) ≡ true
+begun_word : (n : Number) → is_number_word n ≡ true → is_running n ≡ false → n < 2 ^ 62
+    → is_number_word (n + 1) ≡ true
 begun_word n word idle small = grind (arith, nat_tests)
 
-ended_word : (n : Number) → is_number_word n ≡ true → is_running n ≡ true → is_number_word (n + 3) ≡ true
+ended_word : (n : Number) → is_number_word n ≡ true → is_running n ≡ true
+    → is_number_word (n + 3) ≡ true
 ended_word n word runs = grind (arith, nat_tests)
 
 -- a begin ends no grace period
-begun_current : (n at : Number) → is_number_word n ≡ true → is_running n ≡ false → is_past at n ≡ false
+begun_current : (n at : Number)
+    → is_number_word n ≡ true → is_running n ≡ false → is_past at n ≡ false
     → is_past at (n + 1) ≡ false
 begun_current n at word idle current = grind (arith, nat_tests)
 
@@ -37,13 +40,23 @@ ended_rests : (n : Number) → is_running n ≡ true → is_running (n + 3) ≡ 
 ended_rests n runs = grind (arith, nat_tests)
 
 module _ {S C : Type 0} (holds : List ℕ → Slots S → Views C → Type 0) where
-  -- the engine stores a number that is no lower, and what it found stays or falls: the rule is kept where each
-  -- processor's seat is sound at it
-  stored : (cpus id n : ℕ) (s : State S (View C)) (k : IsKept holds cpus s) (v : View C) (own_word_loads : List (ℕ × ℕ))
-      → get_elem? s.views id ≡ some v → v.role ≡ Engine
-      → get_or s.words 0 0 ≤ n → is_number_word n ≡ true
-      → ((u : View C) → IsSound (get_or s.words 0 0) (get_or s.words (own_word_index u.cpu) 0) k.own_word_loads u → u.cpu < cpus → IsSound n (get_or s.words (own_word_index u.cpu) 0) own_word_loads u)
-      → IsKept holds cpus record { words = set s.words 0 n; homes = s.homes; views = set s.views id (record v { seen = n; own_word_loads = own_word_loads }) }
+  -- the engine stores a number that is no lower, and what it found stays or falls: the rule is kept
+  -- where each processor's seat is sound at it
+  stored : (cpus id n : ℕ) (s : State S (View C)) (k : IsKept holds cpus s) (v : View C)
+      (own_word_loads : List (ℕ × ℕ))
+      → get_elem? s.views id ≡ some v
+      → v.role ≡ Engine
+      → get_or s.words 0 0 ≤ n
+      → is_number_word n ≡ true
+      → ((u : View C)
+      → IsSound (get_or s.words 0 0) (get_or s.words (own_word_index u.cpu) 0) k.own_word_loads u
+      → u.cpu < cpus
+      → IsSound n (get_or s.words (own_word_index u.cpu) 0) own_word_loads u)
+      → IsKept holds cpus record {
+        words = set s.words 0 n;
+        homes = s.homes;
+        views = set s.views id (record v { seen = n; own_word_loads = own_word_loads });
+      }
   stored cpus id n s k v own_word_loads at engine up legal sound =
       let f : Fits cpus s.words k.owner k.engine k.own_word_loads id v = k.fits id v at in
       let w : View C = record v { seen = n; own_word_loads = own_word_loads } in
@@ -63,27 +76,32 @@ module _ {S C : Type 0} (holds : List ℕ → Slots S → Views C → Type 0) wh
         found = λ r. refl;
         undealt = λ r d low high. let t = f.undealt r d low high in (t.0, same d ∙ t.1);
       } in
-      let others : (j : ℕ) (u : View C) → j ≢ id → Fits cpus s.words k.owner k.engine k.own_word_loads j u
+      let others : (j : ℕ) (u : View C)
+      → j ≢ id → Fits cpus s.words k.owner k.engine k.own_word_loads j u
       → Fits cpus words k.owner k.engine own_word_loads j u =
       λ j u apart h.
-      let none : u.role ≡ Engine → ⊥ = λ r. apart (sym (h.lone r) ∙ f.lone engine) in record {
+      let none : u.role ≡ Engine → ⊥ = λ r. apart (sym (h.lone r) ∙ f.lone engine) in
+      record {
         seen = let b : u.seen ≤ get_or s.words 0 0 = h.seen in omega (arith, now);
         base = h.base;
         inside = h.inside;
         own = h.own;
         sound =
-            λ r. subst (λ (y : ℕ × ℕ). IsSound y.0 y.1 own_word_loads u) (λ i. (sym now i, sym (same u.cpu) i))
-            (sound u (h.sound r) (h.inside r));
+            λ r. subst (λ (y : ℕ × ℕ). IsSound y.0 y.1 own_word_loads u)
+            (λ i. (sym now i, sym (same u.cpu) i)) (sound u (h.sound r) (h.inside r));
         lone = h.lone;
         number = λ r. absurd (none r);
         found = λ r. absurd (none r);
         undealt = λ r. absurd (none r);
       } in
-      changed holds cpus s k id w words s.homes own_word_loads (rw (length-set s.words 0 n) room) (rw now legal)
-      (rw (same 0) k.boot) others mine
-      (unseen holds cpus s k id v w words at refl (drop-set-lt (base_of cpus) s.words 0 n (omega arith)))
+      changed holds cpus s k id w words s.homes own_word_loads (rw (length-set s.words 0 n) room)
+      (rw now legal) (rw (same 0) k.boot) others mine
+      (unseen holds cpus s k id v w words at refl
+      (drop-set-lt (base_of cpus) s.words 0 n (omega arith)))
 
-  begins_next : (cpus slots id : ℕ) (me : Me S (View C)) → me.0.role ≡ Engine → is_running me.0.seen ≡ false
+  begins_next : (cpus slots id : ℕ) (me : Me S (View C))
+      → me.0.role ≡ Engine
+      → is_running me.0.seen ≡ false
       → me.0.seen < 2 ^ 62
       → Allows (IsKept holds cpus) slots id me 0 (λ _. me.0.seen + 1)
       (λ _ m. (m.0 ≡ after_begin_store me.0 (me.0.seen + 1)) × (m.1 ≡ me.1))
@@ -93,7 +111,8 @@ module _ {S C : Type 0} (holds : List ℕ → Slots S → Views C → Type 0) wh
       let f : Fits cpus s.words k.owner k.engine k.own_word_loads id v = k.fits id v at in
       let same : v.seen ≡ n = f.number engine in
       let word : is_number_word v.seen ≡ true = rw same k.number in
-      let sound : (u : View C) → IsSound n (get_or s.words (own_word_index u.cpu) 0) k.own_word_loads u → u.cpu < cpus
+      let sound : (u : View C)
+      → IsSound n (get_or s.words (own_word_index u.cpu) 0) k.own_word_loads u → u.cpu < cpus
       → IsSound (v.seen + 1) (get_or s.words (own_word_index u.cpu) 0) [] u =
       λ u t inside. record {
         own_word = t.own_word;
@@ -108,11 +127,14 @@ module _ {S C : Type 0} (holds : List ℕ → Slots S → Views C → Type 0) wh
         after_begin_store v (v.seen + 1),
         keeps,
         tt,
-        stored cpus id (v.seen + 1) s k v [] at engine (omega (arith, same)) (begun_word v.seen word idle small) sound,
+        stored cpus id (v.seen + 1) s k v [] at engine (omega (arith, same))
+            (begun_word v.seen word idle small) sound,
         (refl, refl),
       )
 
-  ends_next : (cpus slots id : ℕ) (me : Me S (View C)) → me.0.role ≡ Engine → is_running me.0.seen ≡ true
+  ends_next : (cpus slots id : ℕ) (me : Me S (View C))
+      → me.0.role ≡ Engine
+      → is_running me.0.seen ≡ true
       → AreCleared cpus me.0.seen me.0.own_word_loads
       → Allows (IsKept holds cpus) slots id me 0 (λ _. me.0.seen + 3)
       (λ _ m. (m.0 ≡ after_end_store me.0 (me.0.seen + 3)) × (m.1 ≡ me.1))
@@ -122,12 +144,13 @@ module _ {S C : Type 0} (holds : List ℕ → Slots S → Views C → Type 0) wh
       let f : Fits cpus s.words k.owner k.engine k.own_word_loads id v = k.fits id v at in
       let same : v.seen ≡ n = f.number engine in
       let word : is_number_word v.seen ≡ true = rw same k.number in
-      let sound : (u : View C) → IsSound n (get_or s.words (own_word_index u.cpu) 0) k.own_word_loads u → u.cpu < cpus
+      let sound : (u : View C)
+      → IsSound n (get_or s.words (own_word_index u.cpu) 0) k.own_word_loads u → u.cpu < cpus
       → IsSound (v.seen + 3) (get_or s.words (own_word_index u.cpu) 0) v.own_word_loads u =
       λ u t inside.
       let cleared : is_cleared n u.cpu k.own_word_loads ≡ true =
-      subst (λ (y : ℕ × List (ℕ × ℕ)). is_cleared y.0 u.cpu y.1 ≡ true) (λ i. (same i, f.found engine i))
-      (all u.cpu inside) in
+      subst (λ (y : ℕ × List (ℕ × ℕ)). is_cleared y.0 u.cpu y.1 ≡ true)
+      (λ i. (same i, f.found engine i)) (all u.cpu inside) in
       record {
         own_word = t.own_word;
         bounded = t.bounded;
@@ -135,29 +158,43 @@ module _ {S C : Type 0} (holds : List ℕ → Slots S → Views C → Type 0) wh
         online = t.online;
         from_own_word = t.from_own_word;
         to_seen = t.to_seen;
-        current = λ p o. ended_current v.seen p runs (let already_quiescent : n ≤ p = t.cleared p o (subst (λ (m : ℕ). is_running m ≡ true) same runs) cleared in omega (arith, same));
+        current = λ p o. ended_current v.seen p runs
+            (let already_quiescent : n ≤ p =
+            t.cleared p o (subst (λ (m : ℕ). is_running m ≡ true) same runs) cleared in
+            omega (arith, same));
         cleared = λ p o again none. absurd (let rests = ended_rests v.seen runs in cc);
       } in (
         after_end_store v (v.seen + 3),
         keeps,
         tt,
-        stored cpus id (v.seen + 3) s k v v.own_word_loads at engine (omega (arith, same)) (ended_word v.seen word runs) sound,
+        stored cpus id (v.seen + 3) s k v v.own_word_loads at engine (omega (arith, same))
+            (ended_word v.seen word runs) sound,
         (refl, refl),
       )
 
   -- begin store, of a number that is the next one
-  pub begins_at : (cpus slots id n : ℕ) (me : Me S (View C)) → me.0.role ≡ Engine → is_running me.0.seen ≡ false
-      → n ≡ me.0.seen + 1 → n ≤ 2 ^ 62
-      → Allows (IsKept holds cpus) slots id me 0 (λ _. n) (λ _ m. (m.0 ≡ after_begin_store me.0 n) × (m.1 ≡ me.1))
+  pub begins_at : (cpus slots id n : ℕ) (me : Me S (View C))
+      → me.0.role ≡ Engine
+      → is_running me.0.seen ≡ false
+      → n ≡ me.0.seen + 1
+      → n ≤ 2 ^ 62
+      → Allows (IsKept holds cpus) slots id me 0 (λ _. n)
+      (λ _ m. (m.0 ≡ after_begin_store me.0 n) × (m.1 ≡ me.1))
   begins_at cpus slots id n me engine idle is small =
-      subst (λ (x : ℕ). Allows (IsKept holds cpus) slots id me 0 (λ _. x) (λ _ m. (m.0 ≡ after_begin_store me.0 x) × (m.1 ≡ me.1))) (sym is)
-      (begins_next cpus slots id me engine idle (omega (arith, is, small)))
+      subst (λ (x : ℕ). Allows (IsKept holds cpus) slots id me 0 (λ _. x)
+      (λ _ m. (m.0 ≡ after_begin_store me.0 x) × (m.1 ≡ me.1)))
+      (sym is) (begins_next cpus slots id me engine idle (omega (arith, is, small)))
 
   -- end store, of a number that is the next idle one
-  pub ends_at : (cpus slots id n key : ℕ) (me : Me S (View C)) → me.0.role ≡ Engine → is_running me.0.seen ≡ true
+  pub ends_at : (cpus slots id n key : ℕ) (me : Me S (View C))
+      → me.0.role ≡ Engine
+      → is_running me.0.seen ≡ true
       → cpus ≡ key
-      → AreCleared key me.0.seen me.0.own_word_loads → n ≡ me.0.seen + 3
-      → Allows (IsKept holds cpus) slots id me 0 (λ _. n) (λ _ m. (m.0 ≡ after_end_store me.0 n) × (m.1 ≡ me.1))
+      → AreCleared key me.0.seen me.0.own_word_loads
+      → n ≡ me.0.seen + 3
+      → Allows (IsKept holds cpus) slots id me 0 (λ _. n)
+      (λ _ m. (m.0 ≡ after_end_store me.0 n) × (m.1 ≡ me.1))
   ends_at cpus slots id n key me engine runs is all next =
-      subst (λ (x : ℕ). Allows (IsKept holds cpus) slots id me 0 (λ _. x) (λ _ m. (m.0 ≡ after_end_store me.0 x) × (m.1 ≡ me.1))) (sym next)
-      (ends_next cpus slots id me engine runs (λ c low. all c (omega (arith, is))))
+      subst (λ (x : ℕ). Allows (IsKept holds cpus) slots id me 0 (λ _. x)
+      (λ _ m. (m.0 ≡ after_end_store me.0 x) × (m.1 ≡ me.1)))
+      (sym next) (ends_next cpus slots id me engine runs (λ c low. all c (omega (arith, is))))

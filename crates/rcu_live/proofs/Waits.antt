@@ -17,8 +17,9 @@ waited_in_first seq n at first is h =
     let least = h.1 (zero ∙ sym first) in (zero, omega (arith, least, is))
 
 -- in the first epoch each callback that is handed out is of that epoch
-pub waited_first : {X : Type 0} (seq : Periods) (n : ℕ) (calls : List (Queued X)) → seq.epoch ≡ 0 → n ≡ number_of seq
-    → All (λ call. grace.HasWaited (tag_of seq) call.at) calls → All (λ call. HasWaited n call.at) calls
+pub waited_first : {X : Type 0} (seq : Periods) (n : ℕ) (calls : List (Queued X))
+    → seq.epoch ≡ 0 → n ≡ number_of seq → All (λ call. grace.HasWaited (tag_of seq) call.at) calls
+    → All (λ call. HasWaited n call.at) calls
 waited_first seq n calls first is waited =
     All-weaker (λ call. grace.HasWaited (tag_of seq) call.at) (λ call. HasWaited n call.at)
     (λ call h. waited_in_first seq n call.at first is h) calls waited
@@ -28,4 +29,5 @@ pub popped_first : {X : Type 0} (seq : Periods) (popped : Option (Queued X)) →
     → IfSome popped (λ call. grace.HasWaited (tag_of seq) call.at)
     → IfSome popped (λ call. HasWaited (number_of seq) call.at)
 popped_first seq None first waited = tt
-popped_first seq (Some call) first waited = waited_in_first seq (number_of seq) call.at first refl waited
+popped_first seq (Some call) first waited =
+    waited_in_first seq (number_of seq) call.at first refl waited

@@ -4,7 +4,8 @@ use Rattle.atomic_table.specs.Seated.{TableId}
 use Rattle.rcu_seq.specs.Numbers.{Number}
 use Rattle.rcu_live.specs.Words.{base_of}
 
--- which object it is, how many processors it has, its last number, and how many callbacks may be queued
+-- which object it is, how many processors it has, its last number, and how many callbacks may be
+-- queued
 pub record Object : Type 0 where
   pub table : TableId
   pub cpus : ℕ
@@ -16,9 +17,10 @@ pub record IsCpuCount (cpus : ℕ) : Type 0 where
   pub some : 0 < cpus
   pub few : cpus ≤ 4096
 
--- it is an object of so many processors, with this last number, in which so many callbacks may be queued, with so many
--- words of a client behind the engine's own, and so many slots
-pub record IsSized (cpus : ℕ) (last : Number) (most behind slots : ℕ) (engine : Object) : Type 0 where
+-- it is an object of so many processors, with this last number, in which so many callbacks may be
+-- queued, with so many words of a client behind the engine's own, and so many slots
+pub record IsSized (cpus : ℕ) (last : Number) (most behind slots : ℕ)
+    (engine : Object) : Type 0 where
   pub count : engine.cpus ≡ cpus
   pub end : engine.last ≡ last
   pub full : engine.most ≡ most

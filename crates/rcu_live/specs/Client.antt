@@ -1,13 +1,14 @@
 -- What a client of the engine sees of the seats, and what its rule owes the engine.
-use Rattle.std.specs.Prelude.{◌≡◌, ℕ, true, List, [], ◌∷◌, ◌++◌, Option, Some, None, slice_index, slice_set}
+use Rattle.std.specs.Prelude.{◌≡◌, ℕ, true, List, [], ◌∷◌, ◌++◌, Option, Some, None, slice_index}
+use Rattle.std.specs.Prelude.{slice_set}
 use mathlib.Core.Option.{some}
 use mathlib.Core.Option as maybe
 use lib.ListN.{get_elem?}
 use Rattle.rcu_seq.specs.Numbers.{Number}
 use Rattle.rcu_live.specs.Numbers.{is_open_at}
 
--- what is shown of a seat: its processor and the number at which its open section began, none where it is no
--- processor's, and what it knows of the client
+-- what is shown of a seat: its processor and the number at which its open section began, none where
+-- it is no processor's, and what it knows of the client
 abbrev pub ClientView : Type 0 → Type 0
 ClientView C = Option ℕ × Option Number × C
 
@@ -19,16 +20,19 @@ Views C = List (ClientView C)
 abbrev pub Slots : Type 0 → Type 0
 Slots S = List (maybe.Option S)
 
--- the law of a client: its rule is kept where a section opens, where one closes, where a seat is dealt, and where what
--- a seat with no section knows is handed over to a new seat
+-- the law of a client: its rule is kept where a section opens, where one closes, where a seat is
+-- dealt, and where what a seat with no section knows is handed over to a new seat
 pub record IsStable {S C : Type 0} (holds : List ℕ → Slots S → Views C → Type 0) (idle : C)
     (closed : C → C) : Type 0 where
-  pub opens : (words : List ℕ) (homes : Slots S) (xs : Views C) (id : ℕ) (number : Number) (cpu : Option ℕ) (c : C)
-      → holds words homes xs → get_elem? xs id ≡ some (cpu, None, c)
+  pub opens : (words : List ℕ) (homes : Slots S) (xs : Views C) (id : ℕ) (number : Number)
+      (cpu : Option ℕ) (c : C)
+      → holds words homes xs
+      → get_elem? xs id ≡ some (cpu, None, c)
       → holds words homes (slice_set xs id (cpu, Some number, c))
-  pub closes : (words : List ℕ) (homes : Slots S) (xs : Views C) (id : ℕ) (cpu : Option ℕ) (section : Option Number)
-      (c : C)
-      → holds words homes xs → get_elem? xs id ≡ some (cpu, section, c)
+  pub closes : (words : List ℕ) (homes : Slots S) (xs : Views C) (id : ℕ) (cpu : Option ℕ)
+      (section : Option Number) (c : C)
+      → holds words homes xs
+      → get_elem? xs id ≡ some (cpu, section, c)
       → holds words homes (slice_set xs id (cpu, None, closed c))
   pub deals : (words : List ℕ) (homes : Slots S) (xs : Views C) (cpu : Option ℕ)
       → holds words homes xs → holds words homes (xs ++ (cpu, None, idle) ∷ [])
@@ -47,20 +51,31 @@ abbrev pub AreLone : {C : Type 0} → Views C → Type 0
 AreLone {C} xs = (i j cpu : ℕ) (o p : Option Number) (c d : C)
     → get_elem? xs i ≡ some (Some cpu, o, c) → get_elem? xs j ≡ some (Some cpu, p, d) → i ≡ j
 
-module _ {S C : Type 0} (holds : List ℕ → Slots S → Views C → Type 0) (cpu section : Option ℕ) (c : C) where
-  -- a client's step on its word p, which becomes `change` of what it was: wherever its rule holds, the seat has a new
-  -- view that keeps it, and what the step tells holds of the word found and of that view. The step takes no slot
+module _ {S C : Type 0} (holds : List ℕ → Slots S → Views C → Type 0) (cpu section : Option ℕ)
+    (c : C) where
+  -- a client's step on its word p, which becomes `change` of what it was: wherever its rule holds,
+  -- the seat has a new view that keeps it, and what the step tells holds of the word found and of
+  -- that view. The step takes no slot
   abbrev pub AllowsWord : ℕ → (ℕ → ℕ) → (ℕ → C → Type 0) → Type 0
-  AllowsWord p change tells = (number : Number) (words : List ℕ) (homes : Slots S) (xs : Views C) (id : ℕ)
-      → holds words homes xs → AreOpen number xs → AreLone xs → get_elem? xs id ≡ some (cpu, section, c)
+  AllowsWord p change tells =
+      (number : Number) (words : List ℕ) (homes : Slots S) (xs : Views C) (id : ℕ)
+      → holds words homes xs
+      → AreOpen number xs
+      → AreLone xs
+      → get_elem? xs id ≡ some (cpu, section, c)
       → (after : C)
-      × holds (slice_set words p (change (slice_index words p))) homes (slice_set xs id (cpu, section, after))
+      × holds (slice_set words p (change (slice_index words p))) homes
+      (slice_set xs id (cpu, section, after))
       × tells (slice_index words p) after
 
   -- a client's look at the number
   abbrev pub AllowsNumber : (Number → C → Type 0) → Type 0
-  AllowsNumber tells = (number : Number) (words : List ℕ) (homes : Slots S) (xs : Views C) (id : ℕ)
-      → holds words homes xs → AreOpen number xs → AreLone xs → get_elem? xs id ≡ some (cpu, section, c)
+  AllowsNumber tells =
+      (number : Number) (words : List ℕ) (homes : Slots S) (xs : Views C) (id : ℕ)
+      → holds words homes xs
+      → AreOpen number xs
+      → AreLone xs
+      → get_elem? xs id ≡ some (cpu, section, c)
       → (after : C) × holds words homes (slice_set xs id (cpu, section, after)) × tells number after
 
 -- a client with no rule keeps the law

@@ -1,5 +1,6 @@
 -- Steps of driving: what one does to the engine, what it answers, and why it is refused.
-use Rattle.std.specs.Prelude.{ℕ, zero, suc, ◌+◌, ◌==◌, ◌&&◌, ◌++◌, Bool, not, if◌then◌else◌, List, [], ◌∷◌, Option, length}
+use Rattle.std.specs.Prelude.{ℕ, zero, suc, ◌+◌, ◌==◌, ◌&&◌, ◌++◌, Bool, not, if◌then◌else◌, List}
+use Rattle.std.specs.Prelude.{[], ◌∷◌, Option, length}
 use Rattle.rcu_seq.specs.Fault.{first_fault}
 use Rattle.rcu_seq.specs.Numbers.{same_number}
 use Rattle.rcu_seq.specs.Seq.{number_of}
@@ -17,10 +18,14 @@ use Rattle.rcu_live.specs.Engine.{Locked, after_begin, after_end, next_number}
 use Rattle.rcu_live.specs.Numbers.{reports_quiescence}
 use Rattle.rcu_live.specs.Words.{own_word_index}
 
--- one load of the own word of each of the first n processors that is looked at, which found these words, the newest first
+-- one load of the own word of each of the first n processors that is looked at, which found these
+-- words, the newest first
 abbrev pub loads_of : (ℕ → Bool) → (ℕ → ℕ) → ℕ → List (ℕ × ℕ)
 loads_of looks_at word zero = []
-loads_of looks_at word (suc n) = if looks_at n then (own_word_index n, word n) ∷ loads_of looks_at word n else loads_of looks_at word n
+loads_of looks_at word (suc n) =
+    if looks_at n
+    then (own_word_index n, word n) ∷ loads_of looks_at word n
+    else loads_of looks_at word n
 
 module _ {X : Type 0} where
   -- a grace period is wanted for the cookie: it is not done yet
@@ -34,22 +39,35 @@ module _ {X : Type 0} where
   -- why a step is refused: none runs, one is wanted, and the number is the last one
   abbrev pub drive_refusal : Grace X → Bool → Option Fault
   drive_refusal g is_wanted =
-      first_fault ((not g.seq.running && (is_wanted && same_number (number_of g.seq) g.seq.last), Exhausted) ∷ [])
+      first_fault ((
+        not g.seq.running && (is_wanted && same_number (number_of g.seq) g.seq.last),
+        Exhausted,
+      )
+      ∷ [])
 
 module _ {C X : Type 0} where
-  -- the own word of each awaited processor was loaded once, which found these words: who is heard of by its word is
-  -- awaited no more
+  -- the own word of each awaited processor was loaded once, which found these words: who is heard
+  -- of by its word is awaited no more
   abbrev pub after_collections : Locked C X → (ℕ → ℕ) → Locked C X
   after_collections e word =
-      let loads = loads_of (is_in e.grace.processors.awaited) word e.cpus in record e {
-        view = record e.view { loads = e.view.loads + length loads; own_word_loads = loads ++ e.view.own_word_loads };
-        grace = with_awaited e.grace (unheard e.grace.processors.awaited (λ cpu. reports_quiescence (number_of e.grace.seq) (word cpu)));
+      let loads = loads_of (is_in e.grace.processors.awaited) word e.cpus in
+      record e {
+        view = record e.view {
+          loads = e.view.loads + length loads;
+          own_word_loads = loads ++ e.view.own_word_loads;
+        };
+        grace = with_awaited e.grace
+            (unheard e.grace.processors.awaited
+            (λ cpu. reports_quiescence (number_of e.grace.seq) (word cpu)));
       }
 
-  -- a running grace period heard of those that it awaits; where none runs, one began if it is wanted
+  -- a running grace period heard of those that it awaits; where none runs, one began if it is
+  -- wanted
   abbrev pub moved_on : Locked C X → Bool → (ℕ → ℕ) → Locked C X
   moved_on e is_wanted word =
-      if e.grace.seq.running then after_collections e word else (if is_wanted then after_begin e word else e)
+      if e.grace.seq.running
+      then after_collections e word
+      else (if is_wanted then after_begin e word else e)
 
   -- what a step leaves: that, and the grace period ended where nobody is awaited then
   abbrev pub after_drive : Locked C X → Bool → (ℕ → ℕ) → Locked C X
@@ -61,7 +79,10 @@ module _ {C X : Type 0} where
   abbrev pub drive_answer : Locked C X → Bool → (ℕ → ℕ) → Turned
   drive_answer e is_wanted word =
       let now = moved_on e is_wanted word in
-      if not now.grace.seq.running then turned.Nothing
-      else (if awaited_in now.grace == 0 then turned.Ended (number_of (grace.after_end now.grace).seq)
-      else (if e.grace.seq.running then turned.Waiting (awaited_in now.grace)
+      if not now.grace.seq.running
+      then turned.Nothing
+      else (if awaited_in now.grace == 0
+      then turned.Ended (number_of (grace.after_end now.grace).seq)
+      else (if e.grace.seq.running
+      then turned.Waiting (awaited_in now.grace)
       else turned.Begun (next_number e.grace) (awaited_in now.grace)))

@@ -1,5 +1,6 @@
 -- The engine, which lies under a lock: what it keeps, and what each call leaves and answers.
-use Rattle.std.specs.Prelude.{◌≡◌, ℕ, zero, suc, ◌+◌, ◌<◌, ◌≤◌, ◌==◌, true, false, not, nat_le, if◌then◌else◌, Bool, List, [], ◌∷◌, Option}
+use Rattle.std.specs.Prelude.{◌≡◌, ℕ, zero, suc, ◌+◌, ◌<◌, ◌≤◌, ◌==◌, true, false, not, nat_le}
+use Rattle.std.specs.Prelude.{if◌then◌else◌, Bool, List, [], ◌∷◌, Option}
 use Rattle.atomic_table.specs.Seated.{TableId}
 use Rattle.rcu_seq.specs.Fault.{first_fault}
 use Rattle.rcu_seq.specs.Numbers.{Number, snapshot}
@@ -10,7 +11,8 @@ use Rattle.rcu_seq.specs.declared.tag.Tag.{Tag}
 use Rattle.rcu_node.specs.CpuSet.{is_in, listed}
 use Rattle.rcu_hotplug.specs.Hotplug.{cpus_of}
 use Rattle.rcu_state.specs.GpState as grace
-use Rattle.rcu_state.specs.GpState.{Grace, after_current_report, awaited_in, current_answer, periods_of}
+use Rattle.rcu_state.specs.GpState.{Grace, after_current_report, awaited_in, current_answer}
+use Rattle.rcu_state.specs.GpState.{periods_of}
 use Rattle.rcu_state.specs.Periods.{wants_begin}
 use Rattle.rcu_state.specs.declared.current_answer.CurrentAnswer.{CurrentAnswer}
 use Rattle.rcu_state.specs.declared.current_answer.CurrentAnswer.TheVariants as current
@@ -24,8 +26,8 @@ use Rattle.rcu_live.specs.declared.collection.Collected.{Collected}
 use Rattle.rcu_live.specs.declared.collection.Collected.TheVariants as collected
 use Rattle.rcu_live.specs.declared.view.View.{View}
 
--- the engine: of which object, of how many processors, what its seat has seen, and the state of grace periods and
--- callbacks
+-- the engine: of which object, of how many processors, what its seat has seen, and the state of
+-- grace periods and callbacks
 pub record Locked (C X : Type 0) : Type 0 where
   pub table : TableId
   pub cpus : ℕ
@@ -35,7 +37,8 @@ pub record Locked (C X : Type 0) : Type 0 where
 -- the word that the latest of these loads of a processor's own word found, 0 where there is none
 abbrev pub loaded_word : List (ℕ × ℕ) → ℕ → ℕ
 loaded_word [] cpu = 0
-loaded_word (find ∷ earlier) cpu = if find.0 == own_word_index cpu then find.1 else loaded_word earlier cpu
+loaded_word (find ∷ earlier) cpu =
+    if find.0 == own_word_index cpu then find.1 else loaded_word earlier cpu
 
 -- the word that the latest load found
 abbrev pub latest_loaded_word : List (ℕ × ℕ) → ℕ
@@ -65,18 +68,22 @@ collected_by current.Taken = collected.Taken
 collected_by current.Last = collected.Last
 collected_by current.Repeat = collected.Repeat
 
--- the number has reached the snapshot of a callback's queueing, which was in the first epoch, where the engine stays
+-- the number has reached the snapshot of a callback's queueing, which was in the first epoch, where
+-- the engine stays
 abbrev pub HasWaited : Number → Tag → Type 0
 HasWaited number at = (at.epoch ≡ 0) × (snapshot at.number ≤ number)
 
 -- while a grace period runs, each processor that is not awaited is cleared
 abbrev pub AwaitsTheOthers : {X : Type 0} → ℕ → List (ℕ × ℕ) → Grace X → Type 0
-AwaitsTheOthers cpus own_word_loads g = g.seq.running ≡ true → (cpu : ℕ) → cpu < cpus → is_in g.processors.awaited cpu ≡ false
+AwaitsTheOthers cpus own_word_loads g =
+    g.seq.running ≡ true → (cpu : ℕ) → cpu < cpus → is_in g.processors.awaited cpu ≡ false
     → is_cleared (number_of g.seq) cpu own_word_loads ≡ true
 
--- pieces of which an engine of so many processors is made, with room for so many that a begin finds quiescent: its seat,
--- and a state of the first epoch in which no grace period runs, at the number that the seat sees
-pub record ArePieces {C X : Type 0} (cpus : ℕ) (view : View C) (grace : Grace X) (room : ℕ) : Type 0 where
+-- pieces of which an engine of so many processors is made, with room for so many that a begin finds
+-- quiescent: its seat, and a state of the first epoch in which no grace period runs, at the number
+-- that the seat sees
+pub record ArePieces {C X : Type 0} (cpus : ℕ) (view : View C) (grace : Grace X)
+    (room : ℕ) : Type 0 where
   pub role : IsOfEngine view
   pub number : view.seen ≡ number_of grace.seq
   pub epoch : grace.seq.epoch ≡ 0
@@ -85,12 +92,17 @@ pub record ArePieces {C X : Type 0} (cpus : ℕ) (view : View C) (grace : Grace 
   pub already_quiescent : room ≡ cpus
 
 module _ {C : Type 0} where
-  -- after loads of the own words of the first n processors, in turn, which found these words; none was found before
+  -- after loads of the own words of the first n processors, in turn, which found these words; none
+  -- was found before
   abbrev pub after_own_word_loads : View C → (ℕ → ℕ) → ℕ → View C
-  after_own_word_loads v word n = record v { loads = v.loads + n; own_word_loads = loads_in_turn word n }
+  after_own_word_loads v word n = record v {
+    loads = v.loads + n;
+    own_word_loads = loads_in_turn word n;
+  }
 
 module _ {X : Type 0} where
-  -- online are these processors now. There are as many as before, and the number, what is needed and the callbacks stay
+  -- online are these processors now. There are as many as before, and the number, what is needed
+  -- and the callbacks stay
   pub record OnlineBecomes (online : List Bool) (old new : Grace X) : Type 0 where
     pub these : new.processors.online ≡ online
     pub cpus : cpus_of new.processors ≡ cpus_of old.processors
@@ -102,8 +114,8 @@ module _ {X : Type 0} where
   abbrev pub next_number : Grace X → Number
   next_number g = number_of (record g.seq { running = true })
 
-  -- a grace period began which found these words: online and of its start set are the processors whose word is not 0,
-  -- and it awaits those of which their word does not tell
+  -- a grace period began which found these words: online and of its start set are the processors
+  -- whose word is not 0, and it awaits those of which their word does not tell
   abbrev pub begun_from : ℕ → (ℕ → ℕ) → Grace X → Grace X
   begun_from cpus word g = record g {
     seq = record g.seq { running = true };
@@ -116,7 +128,8 @@ module _ {X : Type 0} where
   }
 
 module _ {C X : Type 0} where
-  -- a grace period begins: its number is stored, and then each own word is loaded once, which found these words
+  -- a grace period begins: its number is stored, and then each own word is loaded once, which found
+  -- these words
   abbrev pub after_begin : Locked C X → (ℕ → ℕ) → Locked C X
   after_begin e word = record e {
     view = after_own_word_loads (after_begin_store e.view (next_number e.grace)) word e.cpus;
@@ -130,12 +143,14 @@ module _ {C X : Type 0} where
     grace = grace.after_end e.grace;
   }
 
-  -- what a turn does, where a begin would find these words: a running grace period ends where nobody is awaited; where
-  -- none runs, one begins if it is needed
+  -- what a turn does, where a begin would find these words: a running grace period ends where
+  -- nobody is awaited; where none runs, one begins if it is needed
   abbrev pub turn_answer : Locked C X → (ℕ → ℕ) → Turned
   turn_answer e word =
       if e.grace.seq.running
-      then (if awaited_in e.grace == 0 then turned.Ended (number_of (grace.after_end e.grace).seq) else turned.Waiting (awaited_in e.grace))
+      then (if awaited_in e.grace == 0
+      then turned.Ended (number_of (grace.after_end e.grace).seq)
+      else turned.Waiting (awaited_in e.grace))
       else (if wants_begin (periods_of e.grace)
       then turned.Begun (next_number e.grace) (awaited_in (begun_from e.cpus word e.grace))
       else turned.Nothing)
@@ -150,16 +165,21 @@ module _ {C X : Type 0} where
   abbrev pub collect_answer : Locked C X → ℕ → ℕ → Collected
   collect_answer e cpu word =
       if e.grace.seq.running
-      then (if reports_quiescence (number_of e.grace.seq) word then collected_by (current_answer e.grace cpu) else collected.NotYet)
+      then (if reports_quiescence (number_of e.grace.seq) word
+      then collected_by (current_answer e.grace cpu)
+      else collected.NotYet)
       else collected.Idle
 
-  -- what a collection leaves: while a grace period runs one load more, and a report where the word tells of the
-  -- processor
+  -- what a collection leaves: while a grace period runs one load more, and a report where the word
+  -- tells of the processor
   abbrev pub after_collect : Locked C X → ℕ → ℕ → Locked C X
   after_collect e cpu word =
       if e.grace.seq.running
       then record e {
         view = after_own_word_load e.view (own_word_index cpu) word;
-        grace = if reports_quiescence (number_of e.grace.seq) word then after_current_report e.grace cpu else e.grace;
+        grace =
+            if reports_quiescence (number_of e.grace.seq) word
+            then after_current_report e.grace cpu
+            else e.grace;
       }
       else e

@@ -1,6 +1,7 @@
--- The engine's processors that come and go, and its callbacks: what each call leaves, and why it is refused.
-use Rattle.std.specs.Prelude.{◌≡◌, ℕ, ◌≤◌, ◌^◌, ◌&&◌, Bool, true, false, nat_le, nat_lt, not, if◌then◌else◌, List, [], ◌∷◌}
-use Rattle.std.specs.Prelude.{All, Option, length}
+-- The engine's processors that come and go, and its callbacks: what each call leaves, and why it is
+-- refused.
+use Rattle.std.specs.Prelude.{◌≡◌, ℕ, ◌≤◌, ◌^◌, ◌&&◌, Bool, true, false, nat_le, nat_lt, not}
+use Rattle.std.specs.Prelude.{if◌then◌else◌, List, [], ◌∷◌, All, Option, length}
 use Rattle.rcu_seq.specs.Fault.{first_fault}
 use Rattle.rcu_seq.specs.declared.fault.Fault.{Fault}
 use Rattle.rcu_seq.specs.declared.fault.Fault.TheVariants as fault
@@ -31,13 +32,16 @@ module _ {C X : Type 0} where
 
   -- after one load of the processor's own word, which found this word
   abbrev pub after_load_own : Locked C X → ℕ → ℕ → Locked C X
-  after_load_own e cpu word = record e { view = after_own_word_load e.view (own_word_index cpu) word }
+  after_load_own e cpu word = record e {
+    view = after_own_word_load e.view (own_word_index cpu) word;
+  }
 
-  -- why a leave is refused that found this word: the processor is online; or it was offline already, and its list is
-  -- empty
+  -- why a leave is refused that found this word: the processor is online; or it was offline
+  -- already, and its list is empty
   abbrev pub leave_refusal : Locked C X → ℕ → Bool → ℕ → Option Fault
   leave_refusal e cpu again word =
-      first_fault ((nat_lt 0 word, fault.AlreadyOnline) ∷ (again && is_empty (list_of e.grace.lists cpu), fault.Offline) ∷ [])
+      first_fault ((nat_lt 0 word, fault.AlreadyOnline)
+      ∷ (again && is_empty (list_of e.grace.lists cpu), fault.Offline) ∷ [])
 
   -- after a join: the processor arrived
   abbrev pub after_join : Locked C X → ℕ → Locked C X
@@ -49,11 +53,14 @@ module _ {C X : Type 0} where
 
   -- after a leave: the processor departed, and its list moved to processor 0
   abbrev pub after_leave : Locked C X → ℕ → ℕ → Locked C X
-  after_leave e cpu word = on_grace (λ g. after_migrate (with_departure g cpu) cpu) (after_load_own e cpu word)
+  after_leave e cpu word =
+      on_grace (λ g. after_migrate (with_departure g cpu) cpu) (after_load_own e cpu word)
 
-  -- why a callback is not queued: the processor is not online in the engine, there are too many, or memory was refused
+  -- why a callback is not queued: the processor is not online in the engine, there are too many, or
+  -- memory was refused
   abbrev pub queue_refusal : Locked C X → ℕ → Fault
-  queue_refusal e cpu = if is_in e.grace.processors.online cpu then queue_fault e.grace.lists else fault.Offline
+  queue_refusal e cpu =
+      if is_in e.grace.processors.online cpu then queue_fault e.grace.lists else fault.Offline
 
   -- why a barrier does not begin: one runs
   abbrev pub barrier_begin_refusal : Locked C X → Option Fault
@@ -66,10 +73,11 @@ module _ {C X : Type 0} where
   -- why a barrier visits no processor: there is no such processor, or no barrier runs
   abbrev pub visit_refusal : Locked C X → ℕ → Option Fault
   visit_refusal e cpu =
-      first_fault ((nat_le e.cpus cpu, fault.BadCpu) ∷ (not e.grace.lists.running, fault.NoBarrier) ∷ [])
+      first_fault
+      ((nat_le e.cpus cpu, fault.BadCpu) ∷ (not e.grace.lists.running, fault.NoBarrier) ∷ [])
 
--- these callbacks may be handed out at this number, at most so many: a full grace period has passed since the queueing of
--- each. The number is one that the number word may have
+-- these callbacks may be handed out at this number, at most so many: a full grace period has passed
+-- since the queueing of each. The number is one that the number word may have
 pub record AreDue {X : Type 0} (number most : ℕ) (calls : List (Queued X)) : Type 0 where
   pub waited : All (λ call. HasWaited number call.at) calls
   pub few : length calls ≤ most

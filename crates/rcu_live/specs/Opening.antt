@@ -18,21 +18,26 @@ pub record AreFanouts (leaf fan : ℕ) : Type 0 where
   pub fan_least : 2 ≤ fan
   pub fan_most : fan ≤ 64
 
--- the state of an engine of so many processors as it is opened, in which so many callbacks may be queued: idle at number
--- 0, with processor 0 alone online
+-- the state of an engine of so many processors as it is opened, in which so many callbacks may be
+-- queued: idle at number 0, with processor 0 alone online
 abbrev pub engine_at_first : {C X : Type 0} → TableId → ℕ → Number → ℕ → C → Locked C X
-engine_at_first table cpus last most idle =
-    record { table = table; cpus = cpus; view = engine_seat cpus cpus idle; grace = grace.at_first cpus last most }
+engine_at_first table cpus last most idle = record {
+  table = table;
+  cpus = cpus;
+  view = engine_seat cpus cpus idle;
+  grace = grace.at_first cpus last most;
+}
 
 module _ {C : Type 0} where
-  -- what an opening deals of an engine of so many processors, with this last number, in which so many callbacks may be
-  -- queued, with so many words of a client behind its own, and so many slots: a seat and a watcher a processor, in
-  -- order, as they are at first
-  pub record AreDealt (cpus : ℕ) (last : Number) (most behind slots : ℕ) (idle : C) (engine : Object)
-      (seats : List (Seated C)) (watchers : List (Watching C)) : Type 0 where
+  -- what an opening deals of an engine of so many processors, with this last number, in which so
+  -- many callbacks may be queued, with so many words of a client behind its own, and so many slots:
+  -- a seat and a watcher a processor, in order, as they are at first
+  pub record AreDealt (cpus : ℕ) (last : Number) (most behind slots : ℕ) (idle : C)
+      (engine : Object) (seats : List (Seated C)) (watchers : List (Watching C)) : Type 0 where
     pub size : IsSized cpus last most behind slots engine
     pub each_seat : seats ≡ map (at_first engine.table (base_of cpus) idle) (range_with_len 0 cpus)
-    pub each_watcher : watchers ≡ map (λ _. watcher_at_first engine.table (base_of cpus) idle) (range_with_len 0 cpus)
+    pub each_watcher : watchers
+        ≡ map (λ _. watcher_at_first engine.table (base_of cpus) idle) (range_with_len 0 cpus)
     -- so there are so many, each reads this engine's words and is of it, and no section is open
     pub seat_count : length seats ≡ cpus
     pub watcher_count : length watchers ≡ cpus
@@ -42,9 +47,11 @@ module _ {C : Type 0} where
     pub are_watchers : All (IsWatcherOf engine) watchers
     pub outside : All (λ seat. seat.depth ≡ 0) seats
 
-  -- all parts of an engine as it is opened: its words and seats, its state, and the client's own watcher
-  pub record IsOpened {X : Type 0} (cpus : ℕ) (last : Number) (most behind slots : ℕ) (first idle : C) (engine : Object)
-      (state : Locked C X) (seats : List (Seated C)) (watchers : List (Watching C)) (own : Watching C) : Type 0 where
+  -- all parts of an engine as it is opened: its words and seats, its state, and the client's own
+  -- watcher
+  pub record IsOpened {X : Type 0} (cpus : ℕ) (last : Number) (most behind slots : ℕ)
+      (first idle : C) (engine : Object) (state : Locked C X) (seats : List (Seated C))
+      (watchers : List (Watching C)) (own : Watching C) : Type 0 where
     pub dealt : AreDealt cpus last most behind slots idle engine seats watchers
     pub at_start : state ≡ engine_at_first engine.table cpus last most idle
     pub alone : own ≡ watcher_at_first engine.table (base_of cpus) first

@@ -1,56 +1,67 @@
 -- The rule of the shared words: what holds of them and of all seats between any two atomic steps.
-use Rattle.std.specs.Prelude.{◌≡◌, ℕ, ◌+◌, ◌<◌, ◌≤◌, ◌==◌, ◌&&◌, ◌||◌, Bool, true, false, List, [], ◌∷◌, Some, drop}
-use Rattle.std.specs.Prelude.{length, map, slice_index}
+use Rattle.std.specs.Prelude.{◌≡◌, ℕ, ◌+◌, ◌<◌, ◌≤◌, ◌==◌, ◌&&◌, ◌||◌, Bool, true, false, List, []}
+use Rattle.std.specs.Prelude.{◌∷◌, Some, drop, length, map, slice_index}
 use mathlib.Core.Option.{some}
 use lib.ListN.{get_elem?}
 use Rattle.atomic_table.specs.Table.{State}
 use Rattle.rcu_seq.specs.Numbers.{Number, is_running}
 use Rattle.rcu_live.specs.Client.{Slots, Views}
-use Rattle.rcu_live.specs.Numbers.{is_number_word, is_own_word, is_past, may_open, reports_quiescence}
+use Rattle.rcu_live.specs.Numbers.{is_number_word, is_own_word, is_past, may_open}
+use Rattle.rcu_live.specs.Numbers.{reports_quiescence}
 use Rattle.rcu_live.specs.View.{client_view}
 use Rattle.rcu_live.specs.Words.{base_of, first_own_word, own_word_index}
 use Rattle.rcu_live.specs.declared.view.Role.TheVariants.{Cpu, Engine}
 use Rattle.rcu_live.specs.declared.view.View.{View}
 
--- a processor is cleared in grace period t: some load since its begin found that the own word tells of it
+-- a processor is cleared in grace period t: some load since its begin found that the own word tells
+-- of it
 abbrev pub is_cleared : Number → ℕ → List (ℕ × ℕ) → Bool
 is_cleared t cpu [] = false
-is_cleared t cpu (find ∷ earlier) = (find.0 == own_word_index cpu && reports_quiescence t find.1) || is_cleared t cpu earlier
+is_cleared t cpu (find ∷ earlier) =
+    (find.0 == own_word_index cpu && reports_quiescence t find.1) || is_cleared t cpu earlier
 
 -- each of so many processors is cleared in grace period t
 abbrev pub AreCleared : ℕ → Number → List (ℕ × ℕ) → Type 0
 AreCleared cpus t own_word_loads = (cpu : ℕ) → cpu < cpus → is_cleared t cpu own_word_loads ≡ true
 
 module _ {C : Type 0} where
-  -- what holds of a processor's seat, at the number n, the processor's own word, and what the engine found
-  pub record IsSound (n : Number) (word : ℕ) (own_word_loads : List (ℕ × ℕ)) (v : View C) : Type 0 where
-    -- the own word is the one that the seat stored: at most one more than what it saw, or the idle word; that of processor 0 is
-    -- never 0
+  -- what holds of a processor's seat, at the number n, the processor's own word, and what the
+  -- engine found
+  pub record IsSound (n : Number) (word : ℕ) (own_word_loads : List (ℕ × ℕ))
+      (v : View C) : Type 0 where
+    -- the own word is the one that the seat stored: at most one more than what it saw, or the idle
+    -- word; that of processor 0 is never 0
     pub own_word : word ≡ v.own_word
     pub bounded : is_own_word v.seen v.own_word ≡ true
     pub boot : v.cpu ≡ 0 → 0 < v.own_word
-    -- where a section is open: the processor may have one, so that it is not idle; it began from the own word less one to
-    -- what the seat saw, and no full grace period lies since
+    -- where a section is open: the processor may have one, so that it is not idle; it began from
+    -- the own word less one to what the seat saw, and no full grace period lies since
     pub online : (at : Number) → v.section ≡ Some at → may_open v.own_word ≡ true
     pub from_own_word : (at : Number) → v.section ≡ Some at → v.own_word ≤ at + 1
     pub to_seen : (at : Number) → v.section ≡ Some at → at ≤ v.seen
     pub current : (at : Number) → v.section ≡ Some at → is_past at n ≡ false
     -- while a grace period runs, a cleared processor has no section older than it
-    pub cleared : (at : Number) → v.section ≡ Some at → is_running n ≡ true → is_cleared n v.cpu own_word_loads ≡ true → n ≤ at
+    pub cleared : (at : Number)
+        → v.section ≡ Some at → is_running n ≡ true → is_cleared n v.cpu own_word_loads ≡ true
+        → n ≤ at
 
-  -- of the engine's seat: the processors with no seat yet are its own, and their words as at the start
+  -- of the engine's seat: the processors with no seat yet are its own, and their words as at the
+  -- start
   abbrev pub AreUndealt : ℕ → List ℕ → (ℕ → ℕ) → ℕ → View C → Type 0
   AreUndealt cpus words owner id v =
-      (cpu : ℕ) → v.cpu ≤ cpu → cpu < cpus → (owner cpu ≡ id) × (slice_index words (own_word_index cpu) ≡ first_own_word cpu)
+      (cpu : ℕ) → v.cpu ≤ cpu → cpu < cpus
+      → (owner cpu ≡ id) × (slice_index words (own_word_index cpu) ≡ first_own_word cpu)
 
-  -- what holds of the seat id, given which seat each processor has, which is the engine's, and what the engine found
-  pub record Fits (cpus : ℕ) (words : List ℕ) (owner : ℕ → ℕ) (engine : ℕ) (own_word_loads : List (ℕ × ℕ)) (id : ℕ)
-      (v : View C) : Type 0 where
+  -- what holds of the seat id, given which seat each processor has, which is the engine's, and what
+  -- the engine found
+  pub record Fits (cpus : ℕ) (words : List ℕ) (owner : ℕ → ℕ) (engine : ℕ)
+      (own_word_loads : List (ℕ × ℕ)) (id : ℕ) (v : View C) : Type 0 where
     pub seen : v.seen ≤ slice_index words 0
     pub base : v.base ≡ base_of cpus
     pub inside : v.role ≡ Cpu → v.cpu < cpus
     pub own : v.role ≡ Cpu → owner v.cpu ≡ id
-    pub sound : v.role ≡ Cpu → IsSound (slice_index words 0) (slice_index words (own_word_index v.cpu)) own_word_loads v
+    pub sound : v.role ≡ Cpu
+        → IsSound (slice_index words 0) (slice_index words (own_word_index v.cpu)) own_word_loads v
     pub lone : v.role ≡ Engine → engine ≡ id
     pub number : v.role ≡ Engine → v.seen ≡ slice_index words 0
     pub found : v.role ≡ Engine → v.own_word_loads ≡ own_word_loads
@@ -65,5 +76,6 @@ module _ {C : Type 0} where
     pub owner : ℕ → ℕ
     pub engine : ℕ
     pub own_word_loads : List (ℕ × ℕ)
-    pub fits : (id : ℕ) (v : View C) → get_elem? s.views id ≡ some v → Fits cpus s.words owner engine own_word_loads id v
+    pub fits : (id : ℕ) (v : View C) → get_elem? s.views id ≡ some v
+        → Fits cpus s.words owner engine own_word_loads id v
     pub client : holds (drop (base_of cpus) s.words) s.homes (map client_view s.views)

@@ -1,6 +1,7 @@
--- Runs of the engine: each call that it accepted, whoever made it, one at a time. The newest call stands first.
-use Rattle.std.specs.Prelude.{ℕ, ◌+◌, ◌≡◌, ◌<◌, ◌==◌, ◌&&◌, Bool, true, false, not, nat_lt, if◌then◌else◌}
-use Rattle.std.specs.Prelude.{List, [], ◌∷◌, ◌++◌, Option, Some, None}
+-- Runs of the engine: each call that it accepted, whoever made it, one at a time. The newest call
+-- stands first.
+use Rattle.std.specs.Prelude.{ℕ, ◌+◌, ◌≡◌, ◌<◌, ◌==◌, ◌&&◌, Bool, true, false, not, nat_lt}
+use Rattle.std.specs.Prelude.{if◌then◌else◌, List, [], ◌∷◌, ◌++◌, Option, Some, None}
 use Rattle.rcu_seq.specs.Seq.{Periods, tag_of}
 use Rattle.rcu_seq.specs.Seq as turn
 use Rattle.rcu_cblist.specs.SegList.{take_answer}
@@ -10,10 +11,11 @@ use Rattle.rcu_barrier.specs.Runs.{copies}
 use Rattle.rcu_state.specs.GpState as grace
 use Rattle.rcu_live.specs.Drive.{after_collections, after_drive}
 use Rattle.rcu_live.specs.Engine.{Locked, after_begin, after_collect, after_end, after_turn}
-use Rattle.rcu_live.specs.EngineLists.{after_departure, after_join, after_leave, after_load_own, on_grace}
+use Rattle.rcu_live.specs.EngineLists.{after_departure, after_join, after_leave, after_load_own}
+use Rattle.rcu_live.specs.EngineLists.{on_grace}
 
--- a call that was accepted, with the words that it loaded. A leave moves a list; it departs alone where memory was refused
--- for that; and it looks alone where it is refused by what it found
+-- a call that was accepted, with the words that it loaded. A leave moves a list; it departs alone
+-- where memory was refused for that; and it looks alone where it is refused by what it found
 pub data Call (X : Type 0) : Type 0 where
   Begin : (ℕ → ℕ) → Call X
   End : Call X
@@ -54,8 +56,9 @@ module _ {C X : Type 0} where
   after_call e (Visit cpu) = on_grace (λ g. grace.after_visit g cpu) e
   after_call e BarrierTest = on_grace (λ g. grace.after_barrier_test g) e
 
-  -- where it is accepted, this holds: a callback's call names a processor; a leave is of another than processor 0; no
-  -- grace period and no barrier begins while one runs, and what ends, tests or collects is of one that runs
+  -- where it is accepted, this holds: a callback's call names a processor; a leave is of another
+  -- than processor 0; no grace period and no barrier begins while one runs, and what ends, tests or
+  -- collects is of one that runs
   abbrev pub MayCall : Locked C X → Call X → Type 0
   MayCall e (Begin word) = e.grace.seq.running ≡ false
   MayCall e End = e.grace.seq.running ≡ true
@@ -92,7 +95,8 @@ module _ {C X : Type 0} where
   abbrev pub times_handed_out : ℕ → Locked C X → List (Call X) → ℕ
   times_handed_out place first [] = 0
   times_handed_out place first (Run cpu most ∷ calls) =
-      copies place (take_answer (list_of (engine_after first calls).grace.lists cpu) most) + times_handed_out place first calls
+      copies place (take_answer (list_of (engine_after first calls).grace.lists cpu) most)
+      + times_handed_out place first calls
   times_handed_out place first (_ ∷ calls) = times_handed_out place first calls
 
   -- the callback of this place, as it was queued: its place, the tag then, and its value
@@ -111,8 +115,9 @@ module _ {C X : Type 0} where
   queued_before_barrier first (BarrierBegin ∷ calls) = (engine_after first calls).grace.lists.queued
   queued_before_barrier first (_ ∷ calls) = queued_before_barrier first calls
 
--- the begin and the end of a grace period that one call makes of a counter, the newest first: one ended where the count of
--- ends is higher; one began where none ran before, and one runs now or has ended
+-- the begin and the end of a grace period that one call makes of a counter, the newest first: one
+-- ended where the count of ends is higher; one began where none ran before, and one runs now or has
+-- ended
 abbrev pub turns_between : Periods → Periods → List turn.Turn
 turns_between old new =
     if nat_lt old.ends new.ends then turn.End ∷ (if old.running then [] else turn.Begin ∷ [])

@@ -1,4 +1,5 @@
--- Seats at the table of shared words: what each kind of step asks of one, and what a step leaves of it.
+-- Seats at the table of shared words: what each kind of step asks of one, and what a step leaves of
+-- it.
 use Rattle.std.specs.Prelude.{◌≡◌, ℕ, ◌+◌, ◌<◌, ◌≤◌, ◌^◌, true, false, None}
 use Rattle.atomic_table.specs.Seated.{TableId}
 use Rattle.atomic_table.specs.declared.shared.Seat.{Seat}
@@ -14,13 +15,15 @@ module _ {S C : Type 0} where
     pub at_table : seat.table_id ≡ table
     pub has_view : seat.me.0 ≡ view
 
-  -- a seat took a step: it is at its table and has the slots that it had, and what the step tells holds of its two views
+  -- a seat took a step: it is at its table and has the slots that it had, and what the step tells
+  -- holds of its two views
   pub record Stepped (tells : View C → View C → Type 0) (old new : Seat S (View C)) : Type 0 where
     pub table : new.table_id ≡ old.table_id
     pub slots : new.me.1 ≡ old.me.1
     pub told : tells old.me.0 new.me.0
 
-  -- a seat was split: this view is left to it, and the one that is dealt is at the same table, with that view
+  -- a seat was split: this view is left to it, and the one that is dealt is at the same table, with
+  -- that view
   pub record IsSplit (rest part : View C) (old new dealt : Seat S (View C)) : Type 0 where
     pub table : new.table_id ≡ old.table_id
     pub left : new.me.0 ≡ rest
@@ -28,14 +31,15 @@ module _ {S C : Type 0} where
     pub seat : dealt.table_id ≡ old.table_id
 
 module _ {C : Type 0} where
-  -- a section may be opened: by a processor's seat, whose processor is online and not idle, where none is open
+  -- a section may be opened: by a processor's seat, whose processor is online and not idle, where
+  -- none is open
   pub record MayOpen (v : View C) : Type 0 where
     pub cpu : v.role ≡ Cpu
     pub online : may_open v.own_word ≡ true
     pub shut : v.section ≡ None
 
-  -- this may be stored as the own word of a processor: by its seat, where no section is open; it is one that the number
-  -- seen allows, and that of processor 0 is never 0
+  -- this may be stored as the own word of a processor: by its seat, where no section is open; it is
+  -- one that the number seen allows, and that of processor 0 is never 0
   pub record MayStore (cpu word : ℕ) (v : View C) : Type 0 where
     pub role : v.role ≡ Cpu
     pub own : v.cpu ≡ cpu
@@ -43,15 +47,16 @@ module _ {C : Type 0} where
     pub bounded : is_own_word v.seen word ≡ true
     pub boot : cpu ≡ 0 → 0 < word
 
-  -- a grace period may begin by the store of this number: by the engine's seat, where none runs; it is the next one
+  -- a grace period may begin by the store of this number: by the engine's seat, where none runs; it
+  -- is the next one
   pub record MayBegin (number : Number) (v : View C) : Type 0 where
     pub engine : v.role ≡ Engine
     pub idle : is_running v.seen ≡ false
     pub next : number ≡ v.seen + 1
     pub bounded : number ≤ 2 ^ 62
 
-  -- the grace period may end by the store of this number: by the engine's seat, where one runs and each processor is
-  -- cleared in it; it is the next one
+  -- the grace period may end by the store of this number: by the engine's seat, where one runs and
+  -- each processor is cleared in it; it is the next one
   pub record MayEnd (cpus : ℕ) (number : Number) (v : View C) : Type 0 where
     pub engine : v.role ≡ Engine
     pub running : is_running v.seen ≡ true

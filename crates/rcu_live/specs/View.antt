@@ -34,7 +34,8 @@ module _ {C : Type 0} where
     client = c;
   }
 
-  -- the engine's seat once these processors have theirs, from 0 up to n; the first seat of all has n = 0
+  -- the engine's seat once these processors have theirs, from 0 up to n; the first seat of all has
+  -- n = 0
   abbrev pub engine_seat : ℕ → ℕ → C → View C
   engine_seat cpus n c = fresh Engine n 0 (base_of cpus) c
 
@@ -80,14 +81,20 @@ module _ {C : Type 0} where
 
   -- after a section-closing load that saw n; the client keeps what is left of what it knew
   abbrev pub after_close : (C → C) → View C → Number → View C
-  after_close closed v n = record v { seen = n; loads = v.loads + 1; section = None; client = closed v.client }
+  after_close closed v n = record v {
+    seen = n;
+    loads = v.loads + 1;
+    section = None;
+    client = closed v.client;
+  }
 
   -- after a store of the own word: one store more
   abbrev pub after_store : View C → ℕ → View C
   after_store v word = record v { stores = v.stores + 1; own_word = word }
 
-  -- what a number load tells: one load more, which saw n, a number that is at least all that the seat saw before; where
-  -- a section is open at it, the section began no later than what the seat saw, and no full grace period lies since
+  -- what a number load tells: one load more, which saw n, a number that is at least all that the
+  -- seat saw before; where a section is open at it, the section began no later than what the seat
+  -- saw, and no full grace period lies since
   pub record Loaded (v : View C) (n : Number) (w : View C) : Type 0 where
     pub view : w ≡ after_load v n
     pub later : v.seen ≤ n
@@ -109,7 +116,10 @@ module _ {C : Type 0} where
 
   -- after a processor-word load: one load more, which found a word at a place
   abbrev pub after_own_word_load : View C → ℕ → ℕ → View C
-  after_own_word_load v at word = record v { loads = v.loads + 1; own_word_loads = (at, word) ∷ v.own_word_loads }
+  after_own_word_load v at word = record v {
+    loads = v.loads + 1;
+    own_word_loads = (at, word) ∷ v.own_word_loads;
+  }
 
   -- after a begin store of the number n: what was found before it falls
   abbrev pub after_begin_store : View C → Number → View C
@@ -119,7 +129,8 @@ module _ {C : Type 0} where
   abbrev pub after_end_store : View C → Number → View C
   after_end_store v n = record v { seen = n }
 
-  -- what a processor-word load tells: one load more, which found the word; that of processor 0 is never 0
+  -- what a processor-word load tells: one load more, which found the word; that of processor 0 is
+  -- never 0
   pub record OwnWordLoaded (at : ℕ) (v : View C) (word : ℕ) (w : View C) : Type 0 where
     pub view : w ≡ after_own_word_load v at word
     pub boot : at ≡ own_word_index 0 → 0 < word
@@ -128,7 +139,8 @@ module _ {C : Type 0} where
   abbrev pub with_client : View C → C → View C
   with_client v c = record v { client = c }
 
-  -- what a client's step on the word at a place tells, which found or stored n: of that word among the client's
+  -- what a client's step on the word at a place tells, which found or stored n: of that word among
+  -- the client's
   abbrev pub SteppedOnWord : (ℕ → C → ℕ → C → Type 0) → ℕ → View C → ℕ → View C → Type 0
   SteppedOnWord tells at v n w =
       (w ≡ with_client v w.client) × ((p : ℕ) → at ≡ v.base + p → tells p v.client n w.client)
@@ -136,4 +148,7 @@ module _ {C : Type 0} where
   -- what a client's look at the number tells
   abbrev pub SteppedOnNumber : (C → Number → C → Type 0) → View C → Number → View C → Type 0
   SteppedOnNumber tells v n w =
-      (w ≡ with_client (after_load v n) w.client) × (v.seen ≤ n) × (is_number_word n ≡ true) × tells v.client n w.client
+      (w ≡ with_client (after_load v n) w.client)
+      × (v.seen ≤ n)
+      × (is_number_word n ≡ true)
+      × tells v.client n w.client

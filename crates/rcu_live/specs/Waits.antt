@@ -8,14 +8,14 @@ use Rattle.rcu_live.specs.CpuSeat.{Seated}
 use Rattle.rcu_live.specs.Numbers.{may_open}
 use Rattle.rcu_live.specs.Watcher.{Watching}
 
--- why a wait was refused, of a caller whose sections nest this deep: in a section it would wait for itself; else the last
--- number is reached
+-- why a wait was refused, of a caller whose sections nest this deep: in a section it would wait for
+-- itself; else the last number is reached
 abbrev pub wait_fault : ℕ → Fault
 wait_fault depth = if nat_lt 0 depth then InSection else Exhausted
 
 module _ {C : Type 0} where
-  -- after this many quiescent states, the last of which saw n. A processor that is offline or idle passes none, since
-  -- nobody waits for it
+  -- after this many quiescent states, the last of which saw n. A processor that is offline or idle
+  -- passes none, since nobody waits for it
   abbrev pub after_rests : Seated C → ℕ → Number → Seated C
   after_rests s zero n = s
   after_rests s (suc times) n =
@@ -45,8 +45,8 @@ module _ {C : Type 0} where
     pub more : w.view.loads ≤ v.view.loads
     pub state : v ≡ record w { view = record w.view { seen = v.view.seen; loads = v.view.loads } }
 
-  -- the rounds of a wait outside of sections, where the processor is awake: the watcher made this many looks more than the
-  -- processor passed quiescent states
+  -- the rounds of a wait outside of sections, where the processor is awake: the watcher made this
+  -- many looks more than the processor passed quiescent states
   abbrev pub AreRounds : ℕ → Seated C → Seated C → Watching C → Watching C → Type 0
   AreRounds more s t w v = s.depth ≡ 0 → may_open t.view.own_word ≡ true
       → v.view.loads + s.view.loads ≡ w.view.loads + t.view.loads + more
@@ -56,7 +56,8 @@ module _ {C : Type 0} where
     pub seat : 0 < s.depth → t ≡ s
     pub watcher : 0 < s.depth → v ≡ w
 
--- a full grace period has passed: the cookie of a number that was seen, which is at least `before`, is done at `now`
+-- a full grace period has passed: the cookie of a number that was seen, which is at least `before`,
+-- is done at `now`
 pub record HasPassed (before now : Number) : Type 0 where
   pub taken : Number
   pub later : before ≤ taken

@@ -16,7 +16,8 @@ pub record Watching (C : Type 0) : Type 0 where
 module _ {C : Type 0} where
   -- a watcher of this engine: it reads the engine's words, and knows where the client's begin
   abbrev pub IsWatcherOf : Object → Watching C → Type 0
-  IsWatcherOf engine watcher = (watcher.table ≡ engine.table) × (watcher.view.base ≡ base_of engine.cpus)
+  IsWatcherOf engine watcher =
+      (watcher.table ≡ engine.table) × (watcher.view.base ≡ base_of engine.cpus)
 
   -- after one load more, which saw n
   abbrev pub after_watch : Watching C → Number → Watching C
@@ -35,14 +36,16 @@ module _ {C : Type 0} where
     pub state : x ≡ after_watch w n
     pub later : w.view.seen ≤ n
 
-  -- a client's step, which tells this of what the watcher knew and knows then: nothing else of the watcher changes
+  -- a client's step, which tells this of what the watcher knew and knows then: nothing else of the
+  -- watcher changes
   pub record KnowsBy (tells : C → C → Type 0) (w x : Watching C) : Type 0 where
     pub state : x ≡ after_word_step w x.view.client
     pub told : tells w.view.client x.view.client
 
-  -- a client's look at the number n, at least all that the watcher saw before, which tells this of what it knew and knows
-  -- then
-  pub record KnowsAt (tells : C → Number → C → Type 0) (w : Watching C) (n : Number) (x : Watching C) : Type 0 where
+  -- a client's look at the number n, at least all that the watcher saw before, which tells this of
+  -- what it knew and knows then
+  pub record KnowsAt (tells : C → Number → C → Type 0) (w : Watching C) (n : Number)
+      (x : Watching C) : Type 0 where
     pub state : x ≡ after_number_step w n x.view.client
     pub later : w.view.seen ≤ n
     pub number : is_number_word n ≡ true

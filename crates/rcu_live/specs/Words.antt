@@ -1,5 +1,5 @@
--- Where the shared words stand, and what they are at the start. The number stands first, then a word a processor, then
--- the words of a client.
+-- Where the shared words stand, and what they are at the start. The number stands first, then a
+-- word a processor, then the words of a client.
 use Rattle.std.specs.Prelude.{ℕ, zero, suc, ◌+◌, ◌*◌, List, replicate, slice_set}
 
 -- the place of a processor's own word. The words stand 16 apart
@@ -10,7 +10,8 @@ own_word_index cpu = 16 * (cpu + 1)
 abbrev pub base_of : ℕ → ℕ
 base_of cpus = 16 * (cpus + 1)
 
--- a processor's own word at the start: processor 0 is online at the number 0, and the others are offline
+-- a processor's own word at the start: processor 0 is online at the number 0, and the others are
+-- offline
 abbrev pub first_own_word : ℕ → ℕ
 first_own_word zero = 1
 first_own_word (suc _) = 0

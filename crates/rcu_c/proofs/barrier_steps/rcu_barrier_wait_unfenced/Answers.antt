@@ -11,6 +11,7 @@ returns-clause-state c = λ none.
     let now = c.drive_and_test.new.engine in
     let word = latest_words now in
     let taken = whole e ready now word c.in_default.ensures.state
-    (accepted c.drive_and_test.result c.write_out.result c.write_out.ensures.fault none c.drive_and_test.ensures.state) in
-    on_inner c.args.rcu.now.contents c.in-Ok.opened.now _ now (λ x. engine_after x (whole_step x word))
-    c.in-Ok.ensures.value c.opened.view_is taken
+    (accepted c.drive_and_test.result c.write_out.result c.write_out.ensures.fault none
+    c.drive_and_test.ensures.state) in
+    on_inner c.args.rcu.now.contents c.in-Ok.opened.now _ now
+    (λ x. engine_after x (whole_step x word)) c.in-Ok.ensures.value c.opened.view_is taken

@@ -9,7 +9,8 @@ loop-cpu-preserved c =
     let now = c.loop-cpu.engine in
     let cpu = c.loop-cpu.cpu in
     let one = one_tended now c.tend.new.self cpu c.tend.result
-    (omega (arith, c.loop-cpu-test.true, c.cpus-cpu-end.ensures, c.loop-cpu.auto.cpu-end, i.1)) c.tend.ensures.made c.tend.ensures.fault in (
+    (omega (arith, c.loop-cpu-test.true, c.cpus-cpu-end.ensures, c.loop-cpu.auto.cpu-end, i.1))
+    c.tend.ensures.made c.tend.ensures.fault in (
       tended_more c.args.engine.now now c.tend.new.self cpu i.0 one,
       ap (λ (x : Locked (Unit {0}) _). x.cpus) one ∙ i.1,
     )

@@ -35,7 +35,10 @@ as_opened s cpu watcher n is_cpu is_watcher =
 pub new-requires-clause-cpu : goal.new-requires-clause-cpu
 new-requires-clause-cpu c =
     let cpus = c.args.shared.now.words.cpus in
-    let same = c.cpus-end.ensures ∙ ap (λ (o : Object). o.cpus) c.deref.ensures ∙ ap (λ (s : Shared). s.words.cpus) c.shared.view_is in
+    let same =
+    c.cpus-end.ensures
+    ∙ ap (λ (o : Object). o.cpus) c.deref.ensures
+    ∙ ap (λ (s : Shared). s.words.cpus) c.shared.view_is in
     let low : c.loop.counter < cpus = omega (arith, c.loop-test.true, same) in
     ap (λ (s : Seated (Unit {0})). s.table)
     (one_came _ c.loop.counter cpus _ _ _ low c.loop.invariant.1 c.in-Some.ensures.items)
@@ -43,7 +46,10 @@ new-requires-clause-cpu c =
 pub new-requires-clause-watcher : goal.new-requires-clause-watcher
 new-requires-clause-watcher c =
     let cpus = c.args.shared.now.words.cpus in
-    let same = c.cpus-end.ensures ∙ ap (λ (o : Object). o.cpus) c.deref.ensures ∙ ap (λ (s : Shared). s.words.cpus) c.shared.view_is in
+    let same =
+    c.cpus-end.ensures
+    ∙ ap (λ (o : Object). o.cpus) c.deref.ensures
+    ∙ ap (λ (s : Shared). s.words.cpus) c.shared.view_is in
     let low : c.loop.counter < cpus = omega (arith, c.loop-test.true, same) in
     ap (λ (w : Watching (Unit {0})). w.table)
     (one_came _ c.loop.counter cpus _ _ _ low c.loop.invariant.2 c.in-Some-next.ensures.items)
@@ -51,10 +57,14 @@ new-requires-clause-watcher c =
 pub new-requires-clause-inside : goal.new-requires-clause-inside
 new-requires-clause-inside c =
     let cpus = c.args.shared.now.words.cpus in
-    let same = c.cpus-end.ensures ∙ ap (λ (o : Object). o.cpus) c.deref.ensures ∙ ap (λ (s : Shared). s.words.cpus) c.shared.view_is in
+    let same =
+    c.cpus-end.ensures
+    ∙ ap (λ (o : Object). o.cpus) c.deref.ensures
+    ∙ ap (λ (s : Shared). s.words.cpus) c.shared.view_is in
     let low : c.loop.counter < cpus = omega (arith, c.loop-test.true, same) in
     subst (λ (n : ℕ). n < cpus)
-    (sym (ap (λ (s : Seated (Unit {0})). s.cpu) (one_came _ c.loop.counter cpus _ _ _ low c.loop.invariant.1 c.in-Some.ensures.items)))
+    (sym (ap (λ (s : Seated (Unit {0})). s.cpu)
+    (one_came _ c.loop.counter cpus _ _ _ low c.loop.invariant.1 c.in-Some.ensures.items)))
     low
 
 pub loop-preserved : goal.loop-preserved
@@ -63,12 +73,16 @@ loop-preserved c =
     let cpus = s.words.cpus in
     let n = c.loop.counter in
     let i = c.loop.invariant in
-    let same = c.cpus-end.ensures ∙ ap (λ (o : Object). o.cpus) c.deref.ensures ∙ ap (λ (s : Shared). s.words.cpus) c.shared.view_is in
+    let same =
+    c.cpus-end.ensures
+    ∙ ap (λ (o : Object). o.cpus) c.deref.ensures
+    ∙ ap (λ (s : Shared). s.words.cpus) c.shared.view_is in
     let low : n < cpus = omega (arith, c.loop-test.true, same) in
     let seat = one_came _ n cpus _ _ _ low i.1 c.in-Some.ensures.items in
     let watcher = one_came _ n cpus _ _ _ low i.2 c.in-Some-next.ensures.items in (
       one_more _ n _ _ _ i.0 c.in_ok-push.ensures.items
-          (ap (λ x. Some x) (c.in_ok-new.ensures ∙ as_opened s c.in-Some.seat c.in-Some-next.watcher n seat watcher)),
+          (ap (λ x. Some x)
+          (c.in_ok-new.ensures ∙ as_opened s c.in-Some.seat c.in-Some-next.watcher n seat watcher)),
       others_left _ n cpus _ _ _ low i.1 c.in-Some.ensures.items,
       others_left _ n cpus _ _ _ low i.2 c.in-Some-next.ensures.items,
     )

@@ -11,6 +11,11 @@ abbrev pub invariant-loop : goal.invariant-loop
 invariant-loop l =
     let s = l.shared in
     let cpus = s.words.cpus in
-    (l.made.items ≡ map (λ cpu. Some (seat_at_first s.identity s.words.table s.wishes cpus cpu)) (range_with_len 0 l.counter))
-    × (l.seats.rest.items ≡ map (at_first s.words.table (base_of cpus) tt) (range_with_len l.counter (cpus - l.counter)))
-    × (l.watchers.rest.items ≡ map (λ _. watcher_at_first s.words.table (base_of cpus) tt) (range_with_len l.counter (cpus - l.counter)))
+    (l.made.items
+    ≡ map (λ cpu. Some (seat_at_first s.identity s.words.table s.wishes cpus cpu))
+    (range_with_len 0 l.counter))
+    × (l.seats.rest.items
+    ≡ map (at_first s.words.table (base_of cpus) tt) (range_with_len l.counter (cpus - l.counter)))
+    × (l.watchers.rest.items
+    ≡ map (λ _. watcher_at_first s.words.table (base_of cpus) tt)
+    (range_with_len l.counter (cpus - l.counter)))

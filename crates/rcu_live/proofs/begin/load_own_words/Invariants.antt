@@ -8,17 +8,21 @@ use Rattle.rcu_live.proofs.begin.load_own_words.Given as goal
 abbrev pub invariant-loop-cpu : goal.invariant-loop-cpu
 invariant-loop-cpu g l =
     (l.seat.table_id ≡ l.initial.seat.table_id)
-    × (l.seat.me.0 ≡ after_own_word_loads l.initial.seat.me.0 (loaded_word l.seat.me.0.own_word_loads) l.cpu)
+    × (l.seat.me.0
+    ≡ after_own_word_loads l.initial.seat.me.0 (loaded_word l.seat.me.0.own_word_loads) l.cpu)
     × (length l.gp.grace.processors.online ≡ l.board.cpus)
-    × ((c : ℕ) → c < l.cpu → is_in l.gp.grace.processors.online c ≡ not (loaded_word l.seat.me.0.own_word_loads c == 0))
+    × ((c : ℕ) → c < l.cpu → is_in l.gp.grace.processors.online c
+    ≡ not (loaded_word l.seat.me.0.own_word_loads c == 0))
     × (length l.by_word.already_quiescent ≡ l.board.cpus)
-    × ((c : ℕ) → c < l.cpu → is_in l.by_word.already_quiescent c ≡ nat_lt l.initial.by_word.number (loaded_word l.seat.me.0.own_word_loads c))
+    × ((c : ℕ) → c < l.cpu → is_in l.by_word.already_quiescent c
+    ≡ nat_lt l.initial.by_word.number (loaded_word l.seat.me.0.own_word_loads c))
     × (cpus_of l.gp.grace.processors ≡ cpus_of l.initial.gp.grace.processors)
     × (l.gp.grace.seq ≡ l.initial.gp.grace.seq)
     × (l.gp.grace.needed ≡ l.initial.gp.grace.needed)
     × (l.gp.grace.lists ≡ l.initial.gp.grace.lists)
     × (length l.by_word.awaited ≡ l.board.cpus)
-    × ((c : ℕ) → c < l.cpu → is_in l.by_word.awaited c ≡ not (reports_quiescence l.initial.by_word.number (loaded_word l.seat.me.0.own_word_loads c)))
+    × ((c : ℕ) → c < l.cpu → is_in l.by_word.awaited c
+    ≡ not (reports_quiescence l.initial.by_word.number (loaded_word l.seat.me.0.own_word_loads c)))
     × ((c : ℕ) → l.cpu ≤ c → is_in l.by_word.already_quiescent c ≡ false)
     × ((c : ℕ) → l.cpu ≤ c → is_in l.by_word.awaited c ≡ false)
     × (l.by_word.number ≡ l.initial.by_word.number)

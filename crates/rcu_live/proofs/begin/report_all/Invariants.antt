@@ -7,7 +7,10 @@ use Rattle.rcu_live.proofs.begin.report_all.Given as goal
 
 abbrev pub invariant-loop-cpu : goal.invariant-loop-cpu
 invariant-loop-cpu g l =
-    (l.gp.grace ≡ with_awaited l.initial.gp.grace (unheard l.initial.gp.grace.processors.awaited (heard_below l.from (is_in l.already_quiescent))))
+    (l.gp.grace
+    ≡ with_awaited l.initial.gp.grace
+    (unheard l.initial.gp.grace.processors.awaited
+    (heard_below l.from (is_in l.already_quiescent))))
     × (cpus_of l.gp.grace.processors ≡ length l.already_quiescent)
 
 abbrev pub decreases-loop-cpu : goal.decreases-loop-cpu

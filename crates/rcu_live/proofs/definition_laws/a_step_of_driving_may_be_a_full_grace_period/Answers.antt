@@ -1,6 +1,7 @@
 use Rattle.std.proofs.Common.{refl}
 use Rattle.rcu_node.specs.CpuSet.{listed}
-use Rattle.rcu_live.proofs.definition_laws.a_step_of_driving_may_be_a_full_grace_period.Goals as goal
+use Rattle.rcu_live.proofs.definition_laws.a_step_of_driving_may_be_a_full_grace_period.Goals
+    as goal
 
 pub returns-clause-idle : goal.returns-clause-idle
 unfolding listed

@@ -3,4 +3,5 @@ use Rattle.rcu_live.proofs.laws.barrier_covers_earlier_callbacks.Goals as goal
 
 pub returns : goal.returns
 returns g c =
-    λ first calls place new is. earlier_are_handed first calls place new c.barrier_covers_earlier_callbacks.ensures is
+    λ first calls place new is.
+    earlier_are_handed first calls place new c.barrier_covers_earlier_callbacks.ensures is

@@ -9,7 +9,8 @@ returns-clause-queued g c = λ first calls cpu most at handed new is.
     (λ all run. c.handed_callbacks_were_queued.ensures all run cpu most at handed) is
 
 pub returns-clause-waited : goal.returns-clause-waited
-returns-clause-waited g c = λ first calls cpu most at handed new is. has_waited first calls cpu most at handed new
+returns-clause-waited g c =
+    λ first calls cpu most at handed new is. has_waited first calls cpu most at handed new
 
 pub returns-clause-period : goal.returns-clause-period
 returns-clause-period g c = λ first calls cpu most at handed new is there.

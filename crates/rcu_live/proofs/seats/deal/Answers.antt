@@ -15,8 +15,12 @@ loop-cpu-preserved g c =
     let idle = g.P.Client.idle in (
       record {
         at_table = d.engine.at_table;
-        has_view = d.engine.has_view ∙ ap (λ (n : ℕ). engine_seat n (c.loop-cpu.cpu + 1) g.P.Client.first) cpus;
+        has_view =
+            d.engine.has_view
+            ∙ ap (λ (n : ℕ). engine_seat n (c.loop-cpu.cpu + 1) g.P.Client.first) cpus;
       },
-      one_more _ _ _ _ _ i.1 c.in_ok-push.ensures.items (d.seat ∙ ap (λ (n : ℕ). at_first table (base_of n) idle c.loop-cpu.cpu) cpus),
-      one_more _ _ _ _ _ i.2 c.in_ok-push-2.ensures.items (d.watcher ∙ ap (λ (n : ℕ). watcher_at_first table (base_of n) idle) cpus),
+      one_more _ _ _ _ _ i.1 c.in_ok-push.ensures.items
+          (d.seat ∙ ap (λ (n : ℕ). at_first table (base_of n) idle c.loop-cpu.cpu) cpus),
+      one_more _ _ _ _ _ i.2 c.in_ok-push-2.ensures.items
+          (d.watcher ∙ ap (λ (n : ℕ). watcher_at_first table (base_of n) idle) cpus),
     )

@@ -12,11 +12,17 @@ pub returns-clause-dealt : goal.returns-clause-dealt
 returns-clause-dealt g c =
     let cpus = c.args.cpus in
     let idle = g.P.Client.idle in
-    let sized = subst (IsSized cpus c.args.last c.args.most (length c.args.behind.now) (length c.args.slots.items)) (sym c.in_ok-board-2.ensures.ok) c.in_ok-board.ensures.size in
+    let sized =
+    subst
+    (IsSized cpus c.args.last c.args.most (length c.args.behind.now) (length c.args.slots.items))
+    (sym c.in_ok-board-2.ensures.ok) c.in_ok-board.ensures.size in
     let seats =
-    subst (λ (o : Object). c.in_ok-seats.seats.items ≡ map (at_first o.table (base_of cpus) idle) (range_with_len 0 cpus))
+    subst (λ (o : Object).
+    c.in_ok-seats.seats.items ≡ map (at_first o.table (base_of cpus) idle) (range_with_len 0 cpus))
     c.deref.ensures c.in_ok-seats.ensures.seats in
     let watchers =
-    subst (λ (o : Object). c.in_ok-seats.watchers.items ≡ map (λ _. watcher_at_first o.table (base_of cpus) idle) (range_with_len 0 cpus))
+    subst (λ (o : Object).
+    c.in_ok-seats.watchers.items
+    ≡ map (λ _. watcher_at_first o.table (base_of cpus) idle) (range_with_len 0 cpus))
     c.deref.ensures c.in_ok-seats.ensures.watchers in
     are_dealt cpus _ _ _ _ idle (arc_value c.in_ok-board-2.board) _ _ sized seats watchers

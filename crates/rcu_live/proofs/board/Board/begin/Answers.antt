@@ -4,4 +4,8 @@ use Rattle.rcu_live.proofs.board.Board.begin.Goals as goal
 
 pub store-requires : goal.store-requires
 store-requires g c =
-    let r = c.requires.allowed in (search rules, search rules, begins_at g.P.Client.holds _ _ _ _ _ r.engine r.idle r.next r.bounded)
+    let r = c.requires.allowed in (
+      search rules,
+      search rules,
+      begins_at g.P.Client.holds _ _ _ _ _ r.engine r.idle r.next r.bounded,
+    )

@@ -3,4 +3,8 @@ use Rattle.rcu_live.proofs.Loads.{closes}
 use Rattle.rcu_live.proofs.board.Board.close_section.Goals as goal
 
 pub load-requires : goal.load-requires
-load-requires g c = (search rules, search rules, closes g.P.Client.holds _ _ g.met.P.Client.stable _ _ _ _)
+load-requires g c = (
+  search rules,
+  search rules,
+  closes g.P.Client.holds _ _ g.met.P.Client.stable _ _ _ _,
+)

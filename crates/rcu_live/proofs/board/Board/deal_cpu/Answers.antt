@@ -3,5 +3,8 @@ use Rattle.rcu_live.proofs.Deals.{deals_cpu}
 use Rattle.rcu_live.proofs.board.Board.deal_cpu.Goals as goal
 
 pub split_seat-requires : goal.split_seat-requires
-split_seat-requires g c =
-    (search rules, search rules, deals_cpu g.P.Client.holds _ _ g.met.P.Client.stable _ _ _ c.requires.engine (search rules))
+split_seat-requires g c = (
+  search rules,
+  search rules,
+  deals_cpu g.P.Client.holds _ _ g.met.P.Client.stable _ _ _ c.requires.engine (search rules),
+)

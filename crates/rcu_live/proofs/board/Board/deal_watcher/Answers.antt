@@ -3,4 +3,8 @@ use Rattle.rcu_live.proofs.Deals.{deals_watcher}
 use Rattle.rcu_live.proofs.board.Board.deal_watcher.Goals as goal
 
 pub split_seat-requires : goal.split_seat-requires
-split_seat-requires g c = (search rules, search rules, deals_watcher g.P.Client.holds _ _ g.met.P.Client.stable _ _ _)
+split_seat-requires g c = (
+  search rules,
+  search rules,
+  deals_watcher g.P.Client.holds _ _ g.met.P.Client.stable _ _ _,
+)

@@ -3,5 +3,8 @@ use Rattle.rcu_live.proofs.ClientSteps.{hands_over}
 use Rattle.rcu_live.proofs.board.Board.hand_over.Goals as goal
 
 pub split_seat-requires : goal.split_seat-requires
-split_seat-requires g c =
-    (search rules, search rules, hands_over g.P.Client.holds _ _ g.met.P.Client.stable _ _ _ c.requires.engine)
+split_seat-requires g c = (
+  search rules,
+  search rules,
+  hands_over g.P.Client.holds _ _ g.met.P.Client.stable _ _ _ c.requires.engine,
+)

@@ -10,8 +10,11 @@ new-requires g c =
     let words =
     c.as_slice.ensures.value ∙ c.in_ok-extend_from_slice.ensures.items
     ∙ ap (λ (front : List ℕ). front ++ c.args.behind.now) c.in_ok-words.ensures in
-    subst (λ (words : List ℕ). IsKept g.P.Client.holds c.args.cpus (opening words c.args.slots.items (engine_seat c.args.cpus 0 g.P.Client.first))) (sym words)
-    (starts g.P.Client.holds c.args.cpus c.args.behind.now c.args.slots.items g.P.Client.first c.requires.cpus.some c.requires.client)
+    subst (λ (words : List ℕ). IsKept g.P.Client.holds c.args.cpus
+    (opening words c.args.slots.items (engine_seat c.args.cpus 0 g.P.Client.first)))
+    (sym words)
+    (starts g.P.Client.holds c.args.cpus c.args.behind.now c.args.slots.items g.P.Client.first
+    c.requires.cpus.some c.requires.client)
 
 pub invariant_of-result : goal.invariant_of-result
 invariant_of-result g c =

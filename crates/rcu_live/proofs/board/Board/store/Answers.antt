@@ -4,4 +4,9 @@ use Rattle.rcu_live.proofs.board.Board.store.Goals as goal
 
 pub store-requires : goal.store-requires
 store-requires g c =
-    let r = c.requires.allowed in (search rules, search rules, stores g.P.Client.holds _ _ _ _ _ _ _ r.role r.own c.own_word_index.ensures r.shut r.bounded r.boot)
+    let r = c.requires.allowed in (
+      search rules,
+      search rules,
+      stores g.P.Client.holds _ _ _ _ _ _ _ r.role r.own c.own_word_index.ensures r.shut r.bounded
+          r.boot,
+    )

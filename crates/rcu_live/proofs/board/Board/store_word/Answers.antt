@@ -19,5 +19,6 @@ store-requires g c =
     let there = ap (λ (n : ℕ). n + c.args.word) c.own_word_index.ensures in (
       search rules,
       omega (arith, c.own_word_index.ensures, inside),
-      stores_client_word g.P.Client.holds _ _ _ _ _ _ _ _ g.M.WordStep.then c.self.invariant.key c.self.invariant.some there c.requires.allowed,
+      stores_client_word g.P.Client.holds _ _ _ _ _ _ _ _ g.M.WordStep.then c.self.invariant.key
+          c.self.invariant.some there c.requires.allowed,
     )

@@ -8,5 +8,10 @@ pub load_word-requires-clause-allowed : goal.load_word-requires-clause-allowed
 load_word-requires-clause-allowed g c =
     let holds = g.P.Client.holds in
     let p = c.args.word in
-    let allowed = subst (λ (s : Seated g.row.P-Known.Denot). AllowsWord holds (Some s.cpu) s.view.section s.view.client p (λ n. n) (g.M.WordStep.then p s.view.client)) (sym c.self.view_is) c.requires.allowed in
-    allows_word_of_cpu holds _ _ _ _ _ p (λ n. n) (g.M.WordStep.then p c.self.inside.seat.me.0.client) c.self.invariant.role c.self.invariant.own allowed
+    let allowed = subst (λ (s : Seated g.row.P-Known.Denot).
+    AllowsWord holds (Some s.cpu) s.view.section s.view.client p (λ n. n)
+    (g.M.WordStep.then p s.view.client))
+    (sym c.self.view_is) c.requires.allowed in
+    allows_word_of_cpu holds _ _ _ _ _ p (λ n. n)
+    (g.M.WordStep.then p c.self.inside.seat.me.0.client) c.self.invariant.role c.self.invariant.own
+    allowed

@@ -20,4 +20,5 @@ returns-clause-made g c = rw (← c.self.view_is) (record {
 pub returns-clause-waited : goal.returns-clause-waited
 returns-clause-waited g c =
     rw (← c.self.view_is)
-    (popped_first c.self.inside.gp.grace.seq c.pop_done.result c.self.invariant.epoch c.pop_done.ensures.waited)
+    (popped_first c.self.inside.gp.grace.seq c.pop_done.result c.self.invariant.epoch
+    c.pop_done.ensures.waited)

@@ -1,4 +1,5 @@
-use Rattle.std.proofs.Common.{arith, rules, ◌≤◌, List, Result, Ok, Err, OnErr, length, subst, sym, length-take}
+use Rattle.std.proofs.Common.{arith, rules, ◌≤◌, List, Result, Ok, Err, OnErr, length, subst, sym}
+use Rattle.std.proofs.Common.{length-take}
 use Rattle.std.specs.Arc.{arc_value}
 use Rattle.rcu_cblist.specs.declared.queued.Queued.{Queued}
 use Rattle.rcu_barrier.proofs.Refusals.{run_met}
@@ -32,10 +33,11 @@ returns-clause-made g c = rw (← c.self.view_is) (record {
 pub returns-clause-due : goal.returns-clause-due
 returns-clause-due g c = record {
   waited =
-      waited_first c.self.inside.gp.grace.seq c.value-number.result c.in_ok-calls.calls.items c.self.invariant.epoch
-      c.value-number.ensures.value c.in_ok-calls.ensures.waited;
+      waited_first c.self.inside.gp.grace.seq c.value-number.result c.in_ok-calls.calls.items
+      c.self.invariant.epoch c.value-number.ensures.value c.in_ok-calls.ensures.waited;
   few =
-      subst (λ (calls : List (Queued g.row.T.Denot)). length calls ≤ c.args.max) (sym c.in_ok-calls.ensures.calls)
+      subst (λ (calls : List (Queued g.row.T.Denot)). length calls ≤ c.args.max)
+      (sym c.in_ok-calls.ensures.calls)
       (subst (λ n. n ≤ c.args.max) (sym (length-take c.args.max _)) (omega arith));
   bounded = omega (arith, c.value-number.ensures.bounded);
   word = search rules;

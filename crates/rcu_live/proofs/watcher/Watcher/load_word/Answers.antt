@@ -8,5 +8,8 @@ pub load_word-requires-clause-allowed : goal.load_word-requires-clause-allowed
 load_word-requires-clause-allowed g c =
     let holds = g.P.Client.holds in
     let p = c.args.word in
-    let allowed = subst (λ (w : Watching g.row.P-Known.Denot). AllowsWord holds None None w.view.client p (λ n. n) (g.M.WordStep.then p w.view.client)) (sym c.self.view_is) c.requires.allowed in
-    allows_word_of_watcher holds _ _ _ _ p (λ n. n) (g.M.WordStep.then p c.self.inside.seat.me.0.client) c.self.invariant.role allowed
+    let allowed = subst (λ (w : Watching g.row.P-Known.Denot).
+    AllowsWord holds None None w.view.client p (λ n. n) (g.M.WordStep.then p w.view.client))
+    (sym c.self.view_is) c.requires.allowed in
+    allows_word_of_watcher holds _ _ _ _ p (λ n. n)
+    (g.M.WordStep.then p c.self.inside.seat.me.0.client) c.self.invariant.role allowed

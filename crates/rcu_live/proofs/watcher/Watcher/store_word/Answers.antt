@@ -9,5 +9,8 @@ store_word-requires-clause-allowed g c =
     let holds = g.P.Client.holds in
     let p = c.args.word in
     let x = c.args.value in
-    let allowed = subst (λ (w : Watching g.row.P-Known.Denot). AllowsWord holds None None w.view.client p (λ _. x) (λ _. g.M.WordStep.then p w.view.client x)) (sym c.self.view_is) c.requires.allowed in
-    allows_word_of_watcher holds _ _ _ _ p (λ _. x) (λ _. g.M.WordStep.then p c.self.inside.seat.me.0.client x) c.self.invariant.role allowed
+    let allowed = subst (λ (w : Watching g.row.P-Known.Denot).
+    AllowsWord holds None None w.view.client p (λ _. x) (λ _. g.M.WordStep.then p w.view.client x))
+    (sym c.self.view_is) c.requires.allowed in
+    allows_word_of_watcher holds _ _ _ _ p (λ _. x)
+    (λ _. g.M.WordStep.then p c.self.inside.seat.me.0.client x) c.self.invariant.role allowed
