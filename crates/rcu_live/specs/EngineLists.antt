@@ -62,14 +62,6 @@ module _ {C X : Type 0} where
   queue_refusal e cpu =
       if is_in e.grace.processors.online cpu then queue_fault e.grace.lists else fault.Offline
 
-  -- why a barrier does not begin: one runs
-  abbrev pub barrier_begin_refusal : Locked C X → Option Fault
-  barrier_begin_refusal e = first_fault ((e.grace.lists.running, fault.BarrierBusy) ∷ [])
-
-  -- why a barrier is not tested: none runs
-  abbrev pub barrier_test_refusal : Locked C X → Option Fault
-  barrier_test_refusal e = first_fault ((not e.grace.lists.running, fault.NoBarrier) ∷ [])
-
   -- why a barrier visits no processor: there is no such processor, or no barrier runs
   abbrev pub visit_refusal : Locked C X → ℕ → Option Fault
   visit_refusal e cpu =

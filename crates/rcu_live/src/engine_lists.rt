@@ -7,11 +7,9 @@ ghost use Rattle.rcu_seq.specs.Seq.{number_of};
 ghost use Rattle.rcu_node.specs.CpuSet.{is_in};
 ghost use Rattle.rcu_cblist.specs.SegList.{begins_with_marker, behind, callbacks, front};
 ghost use Rattle.rcu_cblist.specs.SegList.{take_answer};
-ghost use Rattle.rcu_barrier.specs.Lists.{barrier_test_answer, list_of};
-ghost use Rattle.rcu_barrier.specs.Lists.{visit_answer};
-ghost use Rattle.rcu_live.specs.EngineLists.{AreDue, barrier_begin_refusal};
-ghost use Rattle.rcu_live.specs.EngineLists.{barrier_test_refusal, queue_refusal};
-ghost use Rattle.rcu_live.specs.EngineLists.{visit_refusal};
+ghost use Rattle.rcu_barrier.specs.Lists.{barrier_begin_refusal, barrier_test_answer};
+ghost use Rattle.rcu_barrier.specs.Lists.{barrier_test_refusal, list_of, visit_answer};
+ghost use Rattle.rcu_live.specs.EngineLists.{AreDue, queue_refusal, visit_refusal};
 ghost use Rattle.rcu_live.specs.Runs.{Call, Makes};
 ghost use Rattle.rcu_seq.specs.Memory.{tested_fault};
 
@@ -116,7 +114,7 @@ impl<A: Awaited, T: Drop, P: Client> Engine<A, T, P> {
     ///
     /// Fault `BarrierBusy` (13): one runs.
     pub fn barrier_begin(&mut self) -> Result<(), Fault>
-        ensures fault { result_err result ≡ barrier_begin_refusal self.old }
+        ensures fault { result_err result ≡ barrier_begin_refusal self.old.grace.lists }
         ensures made { OnOk result (Makes Call.BarrierBegin self.old self.new) }
         ensures unchanged { OnErr result (self.new ≡ self.old) }
     {
@@ -147,7 +145,7 @@ impl<A: Awaited, T: Drop, P: Client> Engine<A, T, P> {
     pub fn barrier_test(&mut self) -> Result<BarrierState, Fault>
         ensures answer { IfOk result (λ found.
             found ≡ barrier_test_answer self.old.grace.lists) }
-        ensures fault { result_err result ≡ barrier_test_refusal self.old }
+        ensures fault { result_err result ≡ barrier_test_refusal self.old.grace.lists }
         ensures made { OnOk result (Makes Call.BarrierTest self.old self.new) }
         ensures unchanged { OnErr result (self.new ≡ self.old) }
     {
