@@ -1,12 +1,13 @@
 //! The opening of a pair.
-ghost use Rattle.std.specs.Prelude.{◌≡◌, None, Some, IfOk, IfErr, OnOk};
+ghost use Rattle.std.specs.Prelude.{◌≡◌, None, IfOk};
+ghost use Rattle.std.specs.Result.{result_err};
 ghost use Rattle.rcu_geometry.specs.Geometry.{refusal, shape};
 ghost use Rattle.rcu_report.specs.Replica.{at_first};
 ghost use Rattle.rcu_geometry.specs.Opening.{opening_refusal};
 ghost use Rattle.rcu_script.specs.Opening.{opened_size};
 ghost use Rattle.rcu_script.specs.PairRuns.{shapes_fault, trees_fault};
 ghost use Rattle.rcu_script.specs.PairState.{pair_at};
-ghost use Rattle.rcu_script.specs.RunEnds.{IsRefusedBy};
+ghost use Rattle.rcu_seq.specs.Memory.{tested_fault};
 
 use crate::pair::machine::PairMachine;
 use rcu_geometry::Geometry;
@@ -25,9 +26,8 @@ pub fn open_pair<const LEAF: u32, const INNER: u32, const LEAF2: u32, const INNE
     cpus: u32,
     last: u64,
 ) -> Result<PairMachine<Tree<LEAF, INNER>, Tree<LEAF2, INNER2>>, Fault>
-    ensures ok { IfOk result (λ machine. machine ≡ pair_at (opened_size cpus last)) }
-    ensures accepted { OnOk result (trees_fault LEAF INNER LEAF2 INNER2 cpus last ≡ None) }
-    ensures err { IfErr result (IsRefusedBy (trees_fault LEAF INNER LEAF2 INNER2 cpus last)) }
+    ensures fault { tested_fault result ≡ trees_fault LEAF INNER LEAF2 INNER2 cpus last }
+    ensures state { IfOk result (λ pair. pair ≡ pair_at (opened_size cpus last)) }
 {
     test_shapes::<LEAF, INNER, LEAF2, INNER2>(cpus)?;
     let _counter = Seq::new(last)?;
@@ -41,8 +41,8 @@ fn make_pair<const LEAF: u32, const INNER: u32, const LEAF2: u32, const INNER2: 
     last: u64,
 ) -> Result<PairMachine<Tree<LEAF, INNER>, Tree<LEAF2, INNER2>>, Fault>
     requires { trees_fault LEAF INNER LEAF2 INNER2 cpus last ≡ None }
-    ensures ok { IfOk result (λ machine. machine ≡ pair_at (opened_size cpus last)) }
-    ensures err { IfErr result (λ fault. fault ≡ Fault.NoMemory) }
+    ensures fault { tested_fault result ≡ None }
+    ensures state { IfOk result (λ pair. pair ≡ pair_at (opened_size cpus last)) }
 {
     let set = CpuSet::new(alloc, cpus)?;
     let a = make_replica::<LEAF, INNER>(alloc, cpus, last)?;
@@ -57,8 +57,8 @@ fn make_replica<const LEAF: u32, const INNER: u32>(
     last: u64,
 ) -> Result<Replica<Tree<LEAF, INNER>>, Fault>
     requires { opening_refusal LEAF INNER cpus last ≡ None }
-    ensures ok { IfOk result (λ made. made ≡ at_first cpus last) }
-    ensures err { IfErr result (λ fault. fault ≡ Fault.NoMemory) }
+    ensures fault { tested_fault result ≡ None }
+    ensures state { IfOk result (λ replica. replica ≡ at_first cpus last) }
 {
     Replica::new(Tree::<LEAF, INNER>::new(alloc, cpus)?, last)
 }
@@ -67,8 +67,7 @@ fn make_replica<const LEAF: u32, const INNER: u32>(
 fn test_shapes<const LEAF: u32, const INNER: u32, const LEAF2: u32, const INNER2: u32>(
     cpus: u32,
 ) -> Result<(), Fault>
-    ensures ok { OnOk result (shapes_fault LEAF INNER LEAF2 INNER2 cpus ≡ None) }
-    ensures err { IfErr result (λ fault. shapes_fault LEAF INNER LEAF2 INNER2 cpus ≡ Some fault) }
+    ensures { result_err result ≡ shapes_fault LEAF INNER LEAF2 INNER2 cpus }
 {
     match (
         test_shape::<LEAF, INNER>(cpus),
@@ -83,8 +82,7 @@ fn test_shapes<const LEAF: u32, const INNER: u32, const LEAF2: u32, const INNER2
 
 /// Tests the shape of a tree.
 fn test_shape<const LEAF: u32, const INNER: u32>(cpus: u32) -> Result<(), Fault>
-    ensures ok { OnOk result (refusal (shape LEAF INNER cpus) ≡ None) }
-    ensures err { IfErr result (λ fault. refusal (shape LEAF INNER cpus) ≡ Some fault) }
+    ensures { result_err result ≡ refusal (shape LEAF INNER cpus) }
 {
     Geometry::<LEAF, INNER>::new(cpus)?;
     Ok(())

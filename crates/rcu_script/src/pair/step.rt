@@ -1,6 +1,7 @@
 //! What a replica of a pair does.
-ghost use Rattle.std.specs.Prelude.{◌≡◌, ◌<◌, Some, None, All, length, nat_lt, IfErr, IfOk, OnOk};
+ghost use Rattle.std.specs.Prelude.{◌≡◌, ◌<◌, All, length, nat_lt, IfOk, OnErr, OnOk};
 ghost use Rattle.std.specs.List.{list_all};
+ghost use Rattle.std.specs.Result.{result_err};
 ghost use Rattle.rcu_node.specs.CpuSet.{size_of};
 ghost use Rattle.rcu_seq.specs.Seq.{number_of};
 ghost use Rattle.rcu_report.specs.Replica.{Begin, cpus_of, after_call};
@@ -24,11 +25,10 @@ pub fn step<A: Awaited, B: Awaited>(
     event: &PairEvent,
 ) -> Result<PairReply, Fault>
     requires { length set.old ≡ cpus_of mine.old }
+    ensures fault { result_err result ≡ event_refusal mine.old other.now event.now }
     ensures reply { IfOk result (λ reply. reply ≡ event_reply mine.old other.now event.now) }
-    ensures ok { OnOk result (mine.new ≡ after_event mine.old other.now event.now) }
-    ensures accepted { OnOk result (event_refusal mine.old other.now event.now ≡ None) }
-    ensures err { IfErr result (λ fault. event_refusal mine.old other.now event.now ≡ Some fault) }
-    ensures unchanged { IfErr result (λ _. mine.new ≡ mine.old) }
+    ensures state { OnOk result (mine.new ≡ after_event mine.old other.now event.now) }
+    ensures unchanged { OnErr result (mine.new ≡ mine.old) }
     ensures sized { length set.new ≡ length set.old }
 {
     match event {
@@ -54,19 +54,18 @@ fn begin<A: Awaited>(
     cpus: &[u32],
 ) -> Result<PairReply, Fault>
     requires { length set.old ≡ cpus_of mine.old }
+    ensures fault { result_err result ≡ pair_begin_refusal mine.old cpus.now }
     ensures reply { IfOk result (λ reply. reply
         ≡ PairReply.Begun (number_of mine.new.periods) (size_of mine.new.awaited)) }
-    ensures ok { OnOk result (mine.new
+    ensures state { OnOk result (mine.new
         ≡ after_call mine.old (Begin (set_of (cpus_of mine.old) cpus.now))) }
-    ensures accepted { OnOk result (pair_begin_refusal mine.old cpus.now ≡ None) }
-    ensures err { IfErr result (λ fault. pair_begin_refusal mine.old cpus.now ≡ Some fault) }
-    ensures unchanged { IfErr result (λ _. mine.new ≡ mine.old) }
+    ensures unchanged { OnErr result (mine.new ≡ mine.old) }
     ensures sized { length set.new ≡ length set.old }
 {
     if !are_cpus(cpus, mine.awaited().cpus()) {
         return Err(Fault::BadCpu);
     }
-    list(set, cpus);
+    fill_set(set, cpus);
     let number = mine.begin(set)?;
     Ok(PairReply::Begun(number, mine.awaited().count()))
 }
@@ -79,7 +78,7 @@ fn are_cpus(cpus: &[u32], below: u32) -> bool
 
 /// Makes the set that of the listed processors.
 #[tactic(auto, using(crate::proofs::PairSets::set_none))]
-fn list(set: &mut CpuSet, cpus: &[u32])
+fn fill_set(set: &mut CpuSet, cpus: &[u32])
     requires { All (λ cpu. cpu < length set.old) cpus.now }
     ensures set { set.new ≡ set_of (length set.old) cpus.now }
     ensures sized { length set.new ≡ length set.old }

@@ -1,9 +1,9 @@
 //! The opening of a script.
-ghost use Rattle.std.specs.Prelude.{◌≡◌, None, Some, [], IfOk, IfErr, OnOk};
+ghost use Rattle.std.specs.Prelude.{◌≡◌, [], IfOk};
 ghost use Rattle.rcu_core.specs.Core.{Represents, size_at};
 ghost use Rattle.rcu_geometry.specs.Opening.{opening_refusal};
 ghost use Rattle.rcu_script.specs.Opening.{opened_size};
-ghost use Rattle.rcu_script.specs.RunEnds.{IsRefusedBy};
+ghost use Rattle.rcu_seq.specs.Memory.{tested_fault};
 
 use rcu_core::Core;
 use rcu_geometry::check_size;
@@ -21,10 +21,9 @@ pub fn open<const LEAF: u32, const INNER: u32>(
     cpus: u32,
     last: u64,
 ) -> Result<Core<Tree<LEAF, INNER>, u64>, Fault>
-    ensures accepted { OnOk result (opening_refusal LEAF INNER cpus last ≡ None) }
+    ensures fault { tested_fault result ≡ opening_refusal LEAF INNER cpus last }
     ensures size { IfOk result (λ core. size_at core ≡ opened_size cpus last) }
     ensures fresh { IfOk result (λ core. Represents core []) }
-    ensures err { IfErr result (IsRefusedBy (opening_refusal LEAF INNER cpus last)) }
 {
     check_size::<LEAF, INNER>(cpus, last)?;
     let awaited = Tree::<LEAF, INNER>::new(alloc, cpus)?;
