@@ -72,8 +72,8 @@ fn put_cpus<O: Output>(out: &mut O, cpus: &[u32]) -> Result<(), Failed>
 fn put_values<O: Output>(out: &mut O, values: &ValueList) -> Result<(), Failed>
     ensures { Puts result (O.out out.old) (O.out out.new) (flat_map space_and_number values.now) }
 {
-    for place in 0..values.len() {
-        put_spaced(out, values.value(place))?;
+    for index in 0..values.len() {
+        put_spaced(out, values.value(index))?;
     }
     Ok(())
 }

@@ -1,6 +1,4 @@
 //! How a run is made, and why it stopped.
-ghost use Rattle.std.specs.Prelude.{◌≡◌};
-ghost use Rattle.rcu_script.specs.RunEnds.{fault_of};
 
 use rcu_seq::Fault;
 use rcu_text::StreamFault;
@@ -38,12 +36,27 @@ pub enum RunFault {
     Write,
 }
 
-/// Why a run over the lines stopped, as a run's fault.
-pub fn stopped(fault: StreamFault) -> RunFault
-    ensures { result ≡ fault_of fault }
-{
-    match fault {
-        StreamFault::Read => RunFault::Read,
-        StreamFault::Write => RunFault::Write,
+impl From<Fault> for RunFault {
+    ghost use Rattle.std.specs.Prelude.{◌≡◌};
+    ghost use Rattle.rcu_script.specs.declared.runs.RunFault.TheVariants as run_fault;
+
+    ghost from_gives = { λ fault why. why ≡ run_fault.Open fault };
+
+    fn from(fault: Fault) -> RunFault {
+        RunFault::Open(fault)
+    }
+}
+
+impl From<StreamFault> for RunFault {
+    ghost use Rattle.std.specs.Prelude.{◌≡◌};
+    ghost use Rattle.rcu_script.specs.RunEnds.{fault_of};
+
+    ghost from_gives = { λ fault why. why ≡ fault_of fault };
+
+    fn from(fault: StreamFault) -> RunFault {
+        match fault {
+            StreamFault::Read => RunFault::Read,
+            StreamFault::Write => RunFault::Write,
+        }
     }
 }

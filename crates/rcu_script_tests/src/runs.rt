@@ -1,6 +1,7 @@
 //! Tests of what no clause says.
 
 mod broken;
+mod drawn;
 mod hostile;
 mod lines;
 mod long_replies;

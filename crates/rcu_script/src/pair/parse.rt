@@ -7,7 +7,7 @@ ghost use Rattle.rcu_script.specs.PairLines.{pair_event_alone, pair_event_of, re
 ghost use Rattle.rcu_script.specs.PairLines.{side_of};
 
 use crate::pair::event::{LineCpus, PairAsk, PairEvent, Side};
-use crate::script::parse::{cpu_of_number, is};
+use crate::script::parse::{cpu_of_number, is_word};
 use rcu_text::{Line, is_well_formed, next_word, number};
 
 /// What a line of a pair asks for.
@@ -62,11 +62,11 @@ fn parse_event(name: &[u8], rest: &[u8]) -> Option<PairEvent>
     match next_word(rest) {
         None => parse_event_alone(name),
         Some((word, behind)) => {
-            if is(name, b"begin") {
+            if is_word(name, b"begin") {
                 Some(PairEvent::Begin(parse_cpus(rest)?))
-            } else if is(name, b"depart") {
+            } else if is_word(name, b"depart") {
                 parse_depart(word, behind)
-            } else if is(name, b"report") {
+            } else if is_word(name, b"report") {
                 parse_report(word, behind)
             } else {
                 None
@@ -79,11 +79,11 @@ fn parse_event(name: &[u8], rest: &[u8]) -> Option<PairEvent>
 fn parse_event_alone(name: &[u8]) -> Option<PairEvent>
     ensures { result ≡ pair_event_alone name.now }
 {
-    if is(name, b"end") {
+    if is_word(name, b"end") {
         Some(PairEvent::End)
-    } else if is(name, b"awaits") {
+    } else if is_word(name, b"awaits") {
         Some(PairEvent::Awaits)
-    } else if is(name, b"merge") {
+    } else if is_word(name, b"merge") {
         Some(PairEvent::Merge)
     } else {
         None

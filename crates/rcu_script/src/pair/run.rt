@@ -8,7 +8,7 @@ ghost use Rattle.rcu_script.specs.RunEnds.{RunsFromOpening};
 
 use crate::offered::over_offered_tree;
 use crate::pair::open::open_pair;
-use crate::runs::{RunFault, Setup, stopped};
+use crate::runs::{RunFault, Setup};
 use rcu_seq::Fault;
 use rcu_text::{Sink, Source, run};
 use std::alloc::Global;
@@ -73,12 +73,7 @@ fn run_over<
         (ends_of (R.incoming reader.old) (W.outgoing writer.old))
         (ends_of (R.incoming reader.new) (W.outgoing writer.new)) }
 {
-    let mut machine = match open_pair::<LEAF, INNER, LEAF2, INNER2>(alloc, setup.cpus, setup.last) {
-        Ok(machine) => machine,
-        Err(fault) => return Err(RunFault::Open(fault)),
-    };
-    match run(&mut machine, reader, writer) {
-        Ok(()) => Ok(()),
-        Err(fault) => Err(stopped(fault)),
-    }
+    let mut pair = open_pair::<LEAF, INNER, LEAF2, INNER2>(alloc, setup.cpus, setup.last)?;
+    run(&mut pair, reader, writer)?;
+    Ok(())
 }

@@ -65,7 +65,7 @@ fn begin<A: Awaited>(
     if !are_cpus(cpus, mine.awaited().cpus()) {
         return Err(Fault::BadCpu);
     }
-    list(set, cpus);
+    fill_set(set, cpus);
     let number = mine.begin(set)?;
     Ok(PairReply::Begun(number, mine.awaited().count()))
 }
@@ -78,7 +78,7 @@ fn are_cpus(cpus: &[u32], below: u32) -> bool
 
 /// Makes the set that of the listed processors.
 #[tactic(auto, using(crate::proofs::PairSets::set_none))]
-fn list(set: &mut CpuSet, cpus: &[u32])
+fn fill_set(set: &mut CpuSet, cpus: &[u32])
     requires { All (λ cpu. cpu < length set.old) cpus.now }
     ensures set { set.new ≡ set_of (length set.old) cpus.now }
     ensures sized { length set.new ≡ length set.old }

@@ -47,23 +47,23 @@ fn parse_event(name: &[u8], rest: &[u8]) -> Option<Event>
 fn bare_event(name: &[u8]) -> Option<Event>
     ensures { result ≡ event_alone name.now }
 {
-    if is(name, b"begin") {
+    if is_word(name, b"begin") {
         Some(Event::Begin)
-    } else if is(name, b"end") {
+    } else if is_word(name, b"end") {
         Some(Event::End)
-    } else if is(name, b"turn") {
+    } else if is_word(name, b"turn") {
         Some(Event::Turn)
-    } else if is(name, b"awaits") {
+    } else if is_word(name, b"awaits") {
         Some(Event::Awaits)
-    } else if is(name, b"take") {
+    } else if is_word(name, b"take") {
         Some(Event::Take)
-    } else if is(name, b"start") {
+    } else if is_word(name, b"start") {
         Some(Event::StartPoll)
-    } else if is(name, b"bar") {
+    } else if is_word(name, b"bar") {
         Some(Event::BarBegin)
-    } else if is(name, b"bartest") {
+    } else if is_word(name, b"bartest") {
         Some(Event::BarTest)
-    } else if is(name, b"renumber") {
+    } else if is_word(name, b"renumber") {
         Some(Event::Renumber)
     } else {
         None
@@ -74,9 +74,9 @@ fn bare_event(name: &[u8]) -> Option<Event>
 fn event_of_number(name: &[u8], n: u64) -> Option<Event>
     ensures { result ≡ event_with_number name.now n }
 {
-    if is(name, b"deliver") {
+    if is_word(name, b"deliver") {
         Some(Event::Deliver(n))
-    } else if is(name, b"poll") {
+    } else if is_word(name, b"poll") {
         Some(Event::Poll(n, 0))
     } else {
         event_of_cpu(name, cpu_of_number(n))
@@ -87,27 +87,27 @@ fn event_of_number(name: &[u8], n: u64) -> Option<Event>
 fn event_of_cpu(name: &[u8], cpu: u32) -> Option<Event>
     ensures { result ≡ event_with_cpu name.now cpu }
 {
-    if is(name, b"enter") {
+    if is_word(name, b"enter") {
         Some(Event::Enter(cpu))
-    } else if is(name, b"exit") {
+    } else if is_word(name, b"exit") {
         Some(Event::Exit(cpu))
-    } else if is(name, b"note") {
+    } else if is_word(name, b"note") {
         Some(Event::Note(cpu))
-    } else if is(name, b"quiet") {
+    } else if is_word(name, b"quiet") {
         Some(Event::Quiesce(cpu))
-    } else if is(name, b"online") {
+    } else if is_word(name, b"online") {
         Some(Event::Online(cpu))
-    } else if is(name, b"offline") {
+    } else if is_word(name, b"offline") {
         Some(Event::Offline(cpu))
-    } else if is(name, b"tend") {
+    } else if is_word(name, b"tend") {
         Some(Event::Tend(cpu))
-    } else if is(name, b"visit") {
+    } else if is_word(name, b"visit") {
         Some(Event::Visit(cpu))
-    } else if is(name, b"idle") {
+    } else if is_word(name, b"idle") {
         Some(Event::Idle(cpu))
-    } else if is(name, b"wake") {
+    } else if is_word(name, b"wake") {
         Some(Event::Wake(cpu))
-    } else if is(name, b"scan") {
+    } else if is_word(name, b"scan") {
         Some(Event::Scan(cpu))
     } else {
         None
@@ -118,11 +118,11 @@ fn event_of_cpu(name: &[u8], cpu: u32) -> Option<Event>
 fn event_of_two(name: &[u8], first: u64, second: u64) -> Option<Event>
     ensures { result ≡ event_with_numbers name.now first second }
 {
-    if is(name, b"queue") {
+    if is_word(name, b"queue") {
         Some(Event::Queue(cpu_of_number(first), second))
-    } else if is(name, b"run") {
+    } else if is_word(name, b"run") {
         Some(Event::Run(cpu_of_number(first), second))
-    } else if is(name, b"poll") {
+    } else if is_word(name, b"poll") {
         Some(Event::Poll(first, second))
     } else {
         None
@@ -130,7 +130,7 @@ fn event_of_two(name: &[u8], first: u64, second: u64) -> Option<Event>
 }
 
 /// Whether a name is this word.
-pub(crate) fn is(name: &[u8], word: &[u8]) -> bool
+pub(crate) fn is_word(name: &[u8], word: &[u8]) -> bool
     ensures { result ≡ bytes_eq name.now word.now }
 {
     name == word

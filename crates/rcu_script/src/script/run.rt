@@ -7,7 +7,7 @@ ghost use Rattle.rcu_script.specs.RunEnds.{RunsFromOpening};
 ghost use Rattle.rcu_script.specs.ScriptAnswers.{IsAnswer, RunsScript};
 
 use crate::offered::over_offered_tree;
-use crate::runs::{RunFault, Setup, stopped};
+use crate::runs::{RunFault, Setup};
 use crate::script::open::open;
 use crate::script::responder::ScriptResponder;
 use rcu_seq::Fault;
@@ -55,12 +55,7 @@ fn run_over<const LEAF: u32, const INNER: u32, R: Source, W: Sink>(
         (ends_of (R.incoming reader.old) (W.outgoing writer.old))
         (ends_of (R.incoming reader.new) (W.outgoing writer.new)) }
 {
-    let core = match open::<LEAF, INNER>(alloc, setup.cpus, setup.last) {
-        Ok(core) => core,
-        Err(fault) => return Err(RunFault::Open(fault)),
-    };
-    match run(&mut ScriptResponder { core }, reader, writer) {
-        Ok(()) => Ok(()),
-        Err(fault) => Err(stopped(fault)),
-    }
+    let core = open::<LEAF, INNER>(alloc, setup.cpus, setup.last)?;
+    run(&mut ScriptResponder { core }, reader, writer)?;
+    Ok(())
 }

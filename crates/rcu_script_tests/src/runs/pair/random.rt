@@ -1,13 +1,11 @@
 //! Lines of two replicas drawn at random, and their replies against the model's.
 
+use crate::runs::drawn::{Drawing, drawn_lines_get_the_replies_of_the_model};
 use crate::runs::pair::model::{Asked, Known, PairModel, bit};
-use crate::runs::row::{ALL, Row};
-use crate::runs::script::random::{are_shown, count_shown};
 use rand_core::{Rng, SeedableRng};
 use rand_pcg::Pcg32;
 use rcu_script::pair::event::Side;
 use std::alloc::{AllocError, Global};
-use std::process::Abort;
 
 /// How many lines are drawn.
 const LENGTH: usize = 300;
@@ -109,22 +107,6 @@ fn write_begin(text: &mut String, set: u64) -> Result<(), AllocError> {
     text.push('\n')
 }
 
-/// Draws lines, and writes the model's replies.
-fn draw(alloc: Global, cpus: u32, last: u64, seed: u64) -> Result<(String, String), AllocError> {
-    let mut rng = Pcg32::seed_from_u64(seed);
-    let mut model = PairModel {
-        cpus,
-        last,
-        past: Vec::new(alloc),
-    };
-    let mut lines = String::new(alloc);
-    let mut replies = String::new(alloc);
-    for _ in 0..LENGTH {
-        draw_line(&mut rng, &mut model, &mut lines, &mut replies)?;
-    }
-    Ok((lines, replies))
-}
-
 /// Draws a line, and writes the model's reply.
 fn draw_line(
     rng: &mut Pcg32,
@@ -152,35 +134,43 @@ fn draw_line(
     model.answer(replies, side, asked)
 }
 
+/// The lines of a pair.
+struct DrawnPair;
+
+impl Drawing for DrawnPair {
+    fn second() -> Option<(u32, u32)> {
+        Some((2, 3))
+    }
+
+    fn draw(
+        alloc: Global,
+        cpus: u32,
+        last: u64,
+        seed: u64,
+    ) -> Result<(String, String), AllocError> {
+        let mut rng = Pcg32::seed_from_u64(seed);
+        let mut model = PairModel {
+            cpus,
+            last,
+            past: Vec::new(alloc),
+        };
+        let mut lines = String::new(alloc);
+        let mut replies = String::new(alloc);
+        for _ in 0..LENGTH {
+            draw_line(&mut rng, &mut model, &mut lines, &mut replies)?;
+        }
+        Ok((lines, replies))
+    }
+}
+
 #[test]
 fn drawn_pairs_get_the_replies_of_the_model(rt: HostRuntime) {
     let mut found = [0u64; SHOWN.len()];
-    for (cpus, last, seed) in &SEEDS {
-        let (lines, replies) = drawn(&rt, rt.alloc(), *cpus, *last, *seed);
-        let row = row_of(*cpus, *last, lines.as_str(), replies.as_str());
-        row.answers(&rt, rt.alloc(), *seed, ALL);
-        count_shown(&SHOWN, replies.as_str(), &mut found);
-    }
-    are_shown(&rt, &SHOWN, &found);
-}
-
-/// Draws lines, by a second call where the first is refused a growth.
-fn drawn(rt: &impl Abort, alloc: Global, cpus: u32, last: u64, seed: u64) -> (String, String) {
-    match draw(alloc, cpus, last, seed) {
-        Ok(drawn) => drawn,
-        Err(_) => draw(alloc, cpus, last, seed).expect(rt, "memory for lines"),
-    }
-}
-
-/// Drawn lines, with the replies of the model.
-fn row_of<'a>(cpus: u32, last: u64, lines: &'a str, replies: &'a str) -> Row<'a> {
-    Row {
-        name: "drawn",
-        fanouts: (2, 2),
-        second: Some((2, 3)),
-        cpus,
-        last,
-        lines: lines.as_bytes(),
-        replies: replies.as_bytes(),
-    }
+    drawn_lines_get_the_replies_of_the_model::<DrawnPair>(
+        &rt,
+        rt.alloc(),
+        &SEEDS,
+        &SHOWN,
+        &mut found,
+    );
 }

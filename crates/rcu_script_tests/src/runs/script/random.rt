@@ -1,6 +1,6 @@
 //! Scripts drawn at random, and their replies against the model's.
 
-use crate::runs::row::{ALL, Row};
+use crate::runs::drawn::{Drawing, drawn_lines_get_the_replies_of_the_model};
 use crate::runs::script::model::{
     Model, depth, epoch, is_awaited, is_idle, is_running, made, number,
 };
@@ -8,7 +8,6 @@ use rand_core::{Rng, SeedableRng};
 use rand_pcg::Pcg32;
 use rcu_core::Event;
 use std::alloc::{AllocError, Global};
-use std::process::Abort;
 
 /// How many lines a script has.
 const LENGTH: usize = 250;
@@ -209,23 +208,6 @@ fn write_two(text: &mut String, name: &str, first: u64, second: u64) -> Result<(
     writeln!(text, "{name} {first} {second}")
 }
 
-/// Draws a script, and writes the model's replies. Most events lead something on.
-fn draw(alloc: Global, cpus: u32, last: u64, seed: u64) -> Result<(String, String), AllocError> {
-    let mut rng = Pcg32::seed_from_u64(seed);
-    let mut model = Model {
-        cpus,
-        last,
-        past: Vec::new(alloc),
-    };
-    let mut script = String::new(alloc);
-    let mut replies = String::new(alloc);
-    let mut event = Event::Awaits;
-    for _ in 0..LENGTH {
-        event = draw_line(&mut rng, &mut model, &mut script, &mut replies, event)?;
-    }
-    Ok((script, replies))
-}
-
 /// Draws a line after this event, and writes the model's reply. Answers with the last event.
 fn draw_line(
     rng: &mut Pcg32,
@@ -256,64 +238,44 @@ fn draw_line(
     Ok(event)
 }
 
-/// How many lines of a text begin so, and are not this.
-fn count_lines(text: &str, front: &str, but: &str) -> u64 {
-    let mut found = 0u64;
-    for line in text.as_bytes().split(|b| *b == b'\n') {
-        if line.starts_with(front.as_bytes()) && line != but.as_bytes() {
-            found = found.saturating_add(1);
+/// The lines of a script, most of which lead something on.
+struct DrawnScript;
+
+impl Drawing for DrawnScript {
+    fn second() -> Option<(u32, u32)> {
+        None
+    }
+
+    fn draw(
+        alloc: Global,
+        cpus: u32,
+        last: u64,
+        seed: u64,
+    ) -> Result<(String, String), AllocError> {
+        let mut rng = Pcg32::seed_from_u64(seed);
+        let mut model = Model {
+            cpus,
+            last,
+            past: Vec::new(alloc),
+        };
+        let mut script = String::new(alloc);
+        let mut replies = String::new(alloc);
+        let mut event = Event::Awaits;
+        for _ in 0..LENGTH {
+            event = draw_line(&mut rng, &mut model, &mut script, &mut replies, event)?;
         }
-    }
-    found
-}
-
-/// A drawn script, with the replies of the model.
-fn row_of<'a>(cpus: u32, last: u64, script: &'a str, replies: &'a str) -> Row<'a> {
-    Row {
-        name: "drawn",
-        fanouts: (2, 2),
-        second: None,
-        cpus,
-        last,
-        lines: script.as_bytes(),
-        replies: replies.as_bytes(),
-    }
-}
-
-/// Counts the lines of each kind that is to be shown.
-pub fn count_shown(shown: &[(&str, &str, u64)], replies: &str, found: &mut [u64]) {
-    for (found, (front, but, _)) in found.iter_mut().zip(shown) {
-        *found = found.saturating_add(count_lines(replies, front, but));
+        Ok((script, replies))
     }
 }
 
 #[test]
 fn drawn_scripts_get_the_replies_of_the_model(rt: HostRuntime) {
     let mut found = [0u64; SHOWN.len()];
-    for (cpus, last, seed) in &SEEDS {
-        let (script, replies) = drawn(&rt, rt.alloc(), *cpus, *last, *seed);
-        let row = row_of(*cpus, *last, script.as_str(), replies.as_str());
-        row.answers(&rt, rt.alloc(), *seed, ALL);
-        count_shown(&SHOWN, replies.as_str(), &mut found);
-    }
-    are_shown(&rt, &SHOWN, &found);
-}
-
-/// Draws a script, by a second call where the first is refused a growth.
-fn drawn(rt: &impl Abort, alloc: Global, cpus: u32, last: u64, seed: u64) -> (String, String) {
-    match draw(alloc, cpus, last, seed) {
-        Ok(drawn) => drawn,
-        Err(_) => draw(alloc, cpus, last, seed).expect(rt, "memory for a script"),
-    }
-}
-
-/// Each kind of line was shown as often as it has to be.
-pub fn are_shown(rt: &impl Abort, shown: &[(&str, &str, u64)], found: &[u64]) {
-    assert_eq!(rt; found.len(), shown.len());
-    for (found, (front, _, least)) in found.iter().zip(shown) {
-        assert!(rt;
-            found >= least,
-            "{front}: {found}, and not {least} at least"
-        );
-    }
+    drawn_lines_get_the_replies_of_the_model::<DrawnScript>(
+        &rt,
+        rt.alloc(),
+        &SEEDS,
+        &SHOWN,
+        &mut found,
+    );
 }

@@ -12,6 +12,30 @@ pub fn rows() -> &'static [Row<'static>] {
     &ROWS
 }
 
+/// A script that is replied to alike whatever the fanouts are.
+const REPORT_OF_CPU_4: Row<'static> = Row {
+    name: "report of processor 4",
+    fanouts: (2, 2),
+    second: None,
+    cpus: 5,
+    last: FAR,
+    lines: b"online 3\nonline 4\nbegin\nnote 4\nquiet 4\ndeliver 1\nawaits\n",
+    replies: b"\
+        online\nonline\nbegun 1 awaits 3\nnoted 1 needed\nreport 1 cpu 4 tag 1\ntaken\n\
+        awaits 0 3\n",
+};
+
+/// A first begin, which awaits processor 0 alone.
+const FIRST_BEGIN: Row<'static> = Row {
+    name: "first begin",
+    fanouts: (2, 2),
+    second: None,
+    cpus: 1,
+    last: FAR,
+    lines: b"begin\n",
+    replies: b"begun 1 awaits 1\n",
+};
+
 /// The scripts.
 static ROWS: [Row; 43] = [
     Row {
@@ -433,102 +457,57 @@ static ROWS: [Row; 43] = [
     Row {
         name: "same bytes over 2 2",
         fanouts: (2, 2),
-        second: None,
-        cpus: 5,
-        last: FAR,
-        lines: b"online 3\nonline 4\nbegin\nnote 4\nquiet 4\ndeliver 1\nawaits\n",
-        replies: b"\
-            online\nonline\nbegun 1 awaits 3\nnoted 1 needed\nreport 1 cpu 4 tag 1\ntaken\n\
-            awaits 0 3\n",
+        ..REPORT_OF_CPU_4
     },
     Row {
         name: "same bytes over 2 3",
         fanouts: (2, 3),
-        second: None,
-        cpus: 5,
-        last: FAR,
-        lines: b"online 3\nonline 4\nbegin\nnote 4\nquiet 4\ndeliver 1\nawaits\n",
-        replies: b"\
-            online\nonline\nbegun 1 awaits 3\nnoted 1 needed\nreport 1 cpu 4 tag 1\ntaken\n\
-            awaits 0 3\n",
+        ..REPORT_OF_CPU_4
     },
     Row {
         name: "same bytes over 4 4",
         fanouts: (4, 4),
-        second: None,
-        cpus: 5,
-        last: FAR,
-        lines: b"online 3\nonline 4\nbegin\nnote 4\nquiet 4\ndeliver 1\nawaits\n",
-        replies: b"\
-            online\nonline\nbegun 1 awaits 3\nnoted 1 needed\nreport 1 cpu 4 tag 1\ntaken\n\
-            awaits 0 3\n",
+        ..REPORT_OF_CPU_4
     },
     Row {
         name: "same bytes over 16 64",
         fanouts: (16, 64),
-        second: None,
-        cpus: 5,
-        last: FAR,
-        lines: b"online 3\nonline 4\nbegin\nnote 4\nquiet 4\ndeliver 1\nawaits\n",
-        replies: b"\
-            online\nonline\nbegun 1 awaits 3\nnoted 1 needed\nreport 1 cpu 4 tag 1\ntaken\n\
-            awaits 0 3\n",
+        ..REPORT_OF_CPU_4
     },
     Row {
         name: "same bytes over 64 64",
         fanouts: (64, 64),
-        second: None,
-        cpus: 5,
-        last: FAR,
-        lines: b"online 3\nonline 4\nbegin\nnote 4\nquiet 4\ndeliver 1\nawaits\n",
-        replies: b"\
-            online\nonline\nbegun 1 awaits 3\nnoted 1 needed\nreport 1 cpu 4 tag 1\ntaken\n\
-            awaits 0 3\n",
+        ..REPORT_OF_CPU_4
     },
     Row {
         name: "pair 2 2 opens with 16",
         fanouts: (2, 2),
-        second: None,
         cpus: 16,
-        last: FAR,
-        lines: b"begin\n",
-        replies: b"begun 1 awaits 1\n",
+        ..FIRST_BEGIN
     },
     Row {
         name: "pair 2 3 opens with 54",
         fanouts: (2, 3),
-        second: None,
         cpus: 54,
-        last: FAR,
-        lines: b"begin\n",
-        replies: b"begun 1 awaits 1\n",
+        ..FIRST_BEGIN
     },
     Row {
         name: "pair 4 4 opens with 256",
         fanouts: (4, 4),
-        second: None,
         cpus: 256,
-        last: FAR,
-        lines: b"begin\n",
-        replies: b"begun 1 awaits 1\n",
+        ..FIRST_BEGIN
     },
     Row {
         name: "pair 16 64 opens with 4096",
         fanouts: (16, 64),
-        second: None,
         cpus: 4096,
-        last: FAR,
-        lines: b"begin\n",
-        replies: b"begun 1 awaits 1\n",
+        ..FIRST_BEGIN
     },
     Row {
         name: "pair 64 64 opens with 4096",
         fanouts: (64, 64),
-        second: None,
         cpus: 4096,
-        last: FAR,
-        lines: b"begin\n",
-        replies: b"begun 1 awaits 1\n",
+        ..FIRST_BEGIN
     },
 ];
 

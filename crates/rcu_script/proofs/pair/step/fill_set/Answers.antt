@@ -3,7 +3,7 @@ use Rattle.std.proofs.lemmas.List.{take_all}
 use Rattle.rcu_script.specs.PairState.{set_of}
 use Rattle.rcu_node.proofs.CpuSetLemmas.{length-listed}
 use Rattle.rcu_script.proofs.PairSets.{set_more}
-use Rattle.rcu_script.proofs.pair.step.list.Goals as goal
+use Rattle.rcu_script.proofs.pair.step.fill_set.Goals as goal
 
 pub insert-requires : goal.insert-requires
 insert-requires c =

@@ -1,6 +1,6 @@
 use Rattle.std.proofs.Common.{◌≡◌, take, length}
 use Rattle.rcu_script.specs.PairState.{set_of}
-use Rattle.rcu_script.proofs.pair.step.list.Given as goal
+use Rattle.rcu_script.proofs.pair.step.fill_set.Given as goal
 
 -- the processors so far are listed
 abbrev pub invariant-loop-cpu : goal.invariant-loop-cpu
