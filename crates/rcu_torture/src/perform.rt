@@ -3,7 +3,7 @@ ghost use Rattle.std.specs.Prelude.{◌≡◌, ◌≤◌, false, length};
 ghost use Rattle.rcu_text.specs.Runs.{ends_of};
 ghost use Rattle.rcu_command.specs.CommandLine.{IsWithinLimits};
 ghost use Rattle.rcu_stress.specs.Ledger.{most_rounds, most_workers};
-ghost use Rattle.rcu_torture.specs.Orders.{Performs, PrintsRun, Tells, exit_status};
+ghost use Rattle.rcu_torture.specs.Orders.{Answers, Performs, PrintsRun, Tells, exit_status};
 
 use crate::printing::{print_fault, print_ledger};
 use rcu_command::Order;
@@ -31,12 +31,30 @@ pub fn perform<T: Threads + Wait + Sync, R: Source, W: Sink>(
         (ends_of (R.incoming reader.old) (W.outgoing writer.old))
         (ends_of (R.incoming reader.new) (W.outgoing writer.new)) }
 {
+    let ran = answer(alloc, rt, order, reader, writer);
+    tell(ran, writer)
+}
+
+/// Does what the order says, but for printing a fault.
+fn answer<T: Threads + Wait + Sync, R: Source, W: Sink>(
+    alloc: Global,
+    rt: &T,
+    order: &Order,
+    reader: &mut R,
+    writer: &mut W,
+) -> Result<(), RunFault>
+    requires limits { IsWithinLimits order.now }
+    requires reader { (R.incoming reader.old).failed ≡ false }
+    requires writer { (W.outgoing writer.old).failed ≡ false }
+    ensures { Answers result order.now
+        (ends_of (R.incoming reader.old) (W.outgoing writer.old))
+        (ends_of (R.incoming reader.new) (W.outgoing writer.new)) }
+{
     match order {
-        Order::Script(setup) => print_end(run_script(alloc, setup, reader, writer), writer),
-        Order::Pair(setup) => print_end(run_pair(alloc, setup, reader, writer), writer),
+        Order::Script(setup) => run_script(alloc, setup, reader, writer),
+        Order::Pair(setup) => run_pair(alloc, setup, reader, writer),
         Order::Torture(workers, rounds, seed) => {
-            let ran = run_torture(alloc, rt, *workers, *rounds, *seed, writer);
-            print_end(ran, writer)
+            run_torture(alloc, rt, *workers, *rounds, *seed, writer)
         }
     }
 }
@@ -54,8 +72,10 @@ fn run_torture<T: Threads + Wait + Sync, W: Sink>(
     requires rounds { (1 ≤ rounds) × (rounds ≤ most_rounds) }
     ensures { PrintsRun result workers rounds (W.outgoing writer.old) (W.outgoing writer.new) }
 {
-    let ledger = torture(alloc, rt, workers, rounds, seed, &Open)?;
-    print_run(writer, workers, rounds, &ledger)
+    match torture(alloc, rt, workers, rounds, seed, &Open) {
+        Ok(ledger) => print_run(writer, workers, rounds, &ledger),
+        Err(fault) => Err(RunFault::Open(fault)),
+    }
 }
 
 /// Prints the ledger of a run, with a share for each worker.
@@ -68,11 +88,14 @@ fn print_run<W: Sink>(
     requires { length ledger.now.shares ≡ workers }
     ensures { PrintsRun result workers rounds (W.outgoing writer.old) (W.outgoing writer.new) }
 {
-    print_ledger(writer, workers, rounds, ledger).map_err(|_| RunFault::Write)
+    match print_ledger(writer, workers, rounds, ledger) {
+        Ok(()) => Ok(()),
+        Err(Failed) => Err(RunFault::Write),
+    }
 }
 
-/// Prints the fault for which a run was refused, where that is its end.
-fn print_end<W: Sink>(ran: Result<(), RunFault>, writer: &mut W) -> Result<(), RunFault>
+/// Prints the fault for which a run was refused.
+fn tell<W: Sink>(ran: Result<(), RunFault>, writer: &mut W) -> Result<(), RunFault>
     ensures { Tells ran result (W.outgoing writer.old) (W.outgoing writer.new) }
 {
     match ran {
