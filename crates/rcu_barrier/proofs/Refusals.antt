@@ -1,7 +1,7 @@
 -- What a refusal says of its cause, for callers.
 use Rattle.std.proofs.Common.{◌≡◌, ℕ, ◌==◌, Bool, true, false, [], ◌∷◌, length, refl, ap}
 use Rattle.std.proofs.Common.{◌∙◌, arith}
-use Rattle.std.specs.Prelude.{◌&&◌, not, nat_lt, Some, None, if◌then◌else◌}
+use Rattle.std.specs.Prelude.{◌&&◌, not, nat_lt, Some, if◌then◌else◌}
 use Rattle.std.proofs.lemmas.Bool.Decides.{nat_tests}
 use Rattle.rcu_seq.specs.Fault.{first_fault}
 use Rattle.rcu_seq.specs.declared.fault.Fault.{Fault}
@@ -11,7 +11,6 @@ use Rattle.rcu_barrier.specs.Lists.{AllLists, ListsWithRooms, has_room_in, is_ma
 use Rattle.rcu_barrier.specs.Lists.{leaving_list, list_of, migrate_refusal, queue_fault}
 use Rattle.rcu_barrier.specs.Lists.{queue_refusal, run_refusal, visit_answer, visit_fault}
 use Rattle.rcu_barrier.specs.Lists.{visit_refusal}
-use Rattle.rcu_barrier.specs.declared.visit.Visit.{Visit}
 use Rattle.rcu_barrier.specs.declared.visit.Visit.TheVariants as visit
 
 -- the one cause holds

@@ -6,7 +6,7 @@ use Rattle.std.proofs.lemmas.List.{set-get_or}
 use Rattle.std.proofs.Math.Seq.{map-set_same}
 use Rattle.rcu_cblist.specs.SegList.{Item, Segmented, after_migrate, as_it_leaves, markers}
 use Rattle.rcu_barrier.specs.Tending.{AreFours}
-use Rattle.rcu_barrier.specs.Lists.{AllLists, IsSound, ListsWithRooms, items_in, list_at}
+use Rattle.rcu_barrier.specs.Lists.{AllLists, IsSound, ListsWithRooms, RoomsGrow, items_in, list_at}
 use Rattle.rcu_barrier.specs.Lists.{lists_after_move, markers_in, rooms_in, unvisited}
 use Rattle.rcu_barrier.proofs.Kept.{relisted}
 
@@ -213,6 +213,32 @@ module _ {X : Type 0} where
       rw less
       (rw (is_front, is_back)
       (ap (λ rooms. first.room ∷ rooms) (map-set_same room_in xs n other e kept)))
+
+  -- and the first one's is no smaller
+  pub two_grow : (lists front back : List (Segmented X)) (from : ℕ)
+      (first other d e : Segmented X)
+      → front ≡ take 1 lists
+      → back ≡ drop 1 lists
+      → 0 < from
+      → from < length lists
+      → (get_or front 0 d).room ≤ first.room
+      → other.room ≡ (get_or back (from - 1) e).room
+      → RoomsGrow (rooms_in lists) 0 (rooms_in (set front 0 first ++ set back (from - 1) other))
+  two_grow [] front back from first other d e is_front is_back above inside rises same =
+      absurd (omega arith)
+  two_grow (x ∷ xs) front back from first other d e is_front is_back above inside rises same =
+      let before : (get_or front 0 d).room ≡ x.room =
+      ap (λ l. (get_or l 0 d).room) is_front in
+      let after : get_or (rooms_in (set front 0 first ++ set back (from - 1) other)) 0 0
+      ≡ first.room =
+      ap (λ l. get_or (rooms_in (set l 0 first ++ set back (from - 1) other)) 0 0) is_front in
+      let own : x.room ≤ get_or (rooms_in (set front 0 first ++ set back (from - 1) other)) 0 0 =
+      omega arith in
+      record {
+        own = own;
+        others = two_rooms (x ∷ xs) front back from first other e is_front is_back above inside
+            same;
+      }
 
   -- there are as many lists where there are as many rooms
   pub long_rooms : (lists new : List (Segmented X))

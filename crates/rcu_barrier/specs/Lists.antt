@@ -40,6 +40,11 @@ most_queued = 1000000
 abbrev pub unvisited : List Bool → ℕ
 unvisited flags = count_by not flags
 
+-- at most the room at this place is another one, which is no smaller
+pub record RoomsGrow (old : List ℕ) (place : ℕ) (new : List ℕ) : Type 0 where
+  pub own : slice_index_or old place 0 ≤ slice_index_or new place 0
+  pub others : new ≡ slice_set old place (slice_index_or new place 0)
+
 module _ {X : Type 0} where
   -- the items of each list
   abbrev pub items_in : List (Segmented X) → List (List (Item X))
@@ -129,6 +134,13 @@ module _ {X : Type 0} where
   queue_refusal lists cpu =
       first_fault ((lists.all.queued == lists.all.most, fault.CallbacksFull)
       ∷ (not (has_room_in lists cpu 1), fault.NoMemory) ∷ [])
+
+  -- a callback that is queued has this place among all that were: it is the next one, and within
+  -- what may be queued, which is at most 2^62
+  pub record IsNext (all : AllLists X) (place : ℕ) : Type 0 where
+    pub count : place ≡ all.queued + 1
+    pub few : place ≤ all.most
+    pub bounded : place ≤ 2 ^ 62
 
   -- a callback, queued at this tag, is at the end of the processor's list, and is counted
   abbrev pub lists_after_queue : AllLists X → ℕ → Tag → X → AllLists X

@@ -1,7 +1,7 @@
 -- Runs of calls on all lists, whoever makes them, one at a time: what they leave, and what is
 -- handed out. The newest call stands first.
-use Rattle.std.specs.Prelude.{ℕ, ◌+◌, ◌≡◌, ◌<◌, ◌==◌, true, false, if◌then◌else◌, List, [], ◌∷◌}
-use Rattle.std.specs.Prelude.{Option, Some, None, count_by, sum_by}
+use Rattle.std.specs.Prelude.{ℕ, ◌+◌, ◌≡◌, ◌<◌, ◌==◌, Bool, true, false, if◌then◌else◌, List, []}
+use Rattle.std.specs.Prelude.{◌∷◌, Option, Some, None, count_by, sum_by}
 use Rattle.rcu_seq.specs.Numbers.{Number}
 use Rattle.rcu_seq.specs.declared.tag.Tag.{Tag}
 use Rattle.rcu_cblist.specs.declared.queued.Queued.{Queued}
@@ -78,6 +78,12 @@ module _ {X : Type 0} where
   abbrev pub times_listed : ℕ → AllLists X → ℕ
   times_listed place all = sum_by (λ xs. copies place (callbacks xs)) all.lists
 
+  -- where the callback of this place is after a run: how often it was handed out, and how often it
+  -- lies in the lists
+  abbrev pub whereabouts : ℕ → AllLists X → List (Call X) → ℕ × ℕ
+  whereabouts place first calls =
+      (times_handed_out place first calls, times_listed place (lists_after first calls))
+
   -- the callback of this place, as it was queued: its place, the tag then, and its value
   abbrev pub queued_as : ℕ → AllLists X → List (Call X) → Option (Queued X)
   queued_as place first [] = None
@@ -86,6 +92,17 @@ module _ {X : Type 0} where
       then Some (record { ord = (lists_after first calls).queued + 1; at = at; value = value })
       else queued_as place first calls
   queued_as place first (_ ∷ calls) = queued_as place first calls
+
+  -- the call begins a barrier
+  abbrev pub begins_barrier : Call X → Bool
+  begins_barrier BarrierBegin = true
+  begins_barrier (Queue cpu at value) = false
+  begins_barrier (Tend cpu number) = false
+  begins_barrier (Run cpu most) = false
+  begins_barrier (Migrate cpu) = false
+  begins_barrier (Visit cpu) = false
+  begins_barrier BarrierTest = false
+  begins_barrier Renumber = false
 
   -- how many callbacks were queued before the latest barrier began
   abbrev pub queued_before_barrier : AllLists X → List (Call X) → ℕ

@@ -1,8 +1,8 @@
 -- What a tend leaves of one processor's list, and which numbers a callback may wait for.
-use Rattle.std.specs.Prelude.{◌≡◌, ◌<◌, ◌≤◌, ◌%◌, List, map, All}
+use Rattle.std.specs.Prelude.{ℕ, ◌≡◌, ◌<◌, ◌≤◌, ◌%◌, List, length, map, All}
 use Rattle.rcu_seq.specs.Numbers.{Number, snapshot}
-use Rattle.rcu_cblist.specs.SegList.{Item, Mark, mark_advanced, mark_given, numbers}
-use Rattle.rcu_cblist.specs.SegList.{remarked}
+use Rattle.rcu_cblist.specs.SegList.{Item, Mark, behind, callbacks, front, mark_advanced}
+use Rattle.rcu_cblist.specs.SegList.{mark_given, numbers, remarked}
 
 -- the mark after a tend: a number at most the given one becomes done, and where there was none it
 -- is the snapshot
@@ -24,3 +24,10 @@ module _ {X : Type 0} where
   -- each number that a callback of the list carries is a multiple of 4
   abbrev pub AreFours : List (Item X) → Type 0
   AreFours xs = All (λ n. n % 4 ≡ 0) (numbers xs)
+
+  -- what a tend answers: how many callbacks are done and how many wait then
+  abbrev pub tend_answer : List (Item X) → Number → ℕ × ℕ
+  tend_answer xs number = (
+    length (callbacks (front (after_tend xs number))),
+    length (callbacks (behind (after_tend xs number))),
+  )

@@ -1,10 +1,13 @@
 //! What the words of a run say, on small runs.
-ghost use Rattle.std.specs.Prelude.{◌≡◌, ◌+◌, [], ◌∷◌, ℕ, List, None, Some};
+ghost use Rattle.std.specs.Prelude.{◌≡◌, ◌==◌, ◌+◌, ◌++◌, [], ◌∷◌, ℕ, All, Bool, List, None, Some};
+ghost use Rattle.std.specs.Prelude.{false, if◌then◌else◌};
+ghost use Rattle.std.specs.List.{list_any};
 ghost use Rattle.rcu_seq.specs.declared.tag.Tag.{Tag};
 ghost use Rattle.rcu_cblist.specs.SegList.{Done, Of, Unmarked, take_answer};
 ghost use Rattle.rcu_barrier.specs.Lists.{AllLists, at_first, barrier_test_answer, list_of};
 ghost use Rattle.rcu_barrier.specs.Runs.{Call, IsNew, IsRun, copies, lists_after, queued_as};
 ghost use Rattle.rcu_barrier.specs.Runs.{queued_before_barrier, times_handed_out, times_listed};
+ghost use Rattle.rcu_barrier.specs.Runs.{begins_barrier, whereabouts};
 ghost use Rattle.rcu_barrier.specs.declared.barrier_state.BarrierState.{BarrierState};
 
 /// A callback is handed out once: it was queued, tended at number 0, tended at 4, and run. It came
@@ -12,37 +15,26 @@ ghost use Rattle.rcu_barrier.specs.declared.barrier_state.BarrierState.{BarrierS
 pub fn a_run_hands_its_callback_out<T: Drop>()
     ensures run { (most : ℕ) (at : Tag) (value : T) → IsRun (at_first 2 most) (Call.Run 0 1
         ∷ Call.Tend 0 4 ∷ Call.Tend 0 0 ∷ Call.Queue 0 at value ∷ []) }
-    ensures once { (most : ℕ) (at : Tag) (value : T) → times_handed_out 1 (at_first 2 most)
-        (Call.Run 0 1 ∷ Call.Tend 0 4 ∷ Call.Tend 0 0 ∷ Call.Queue 0 at value ∷ []) ≡ 1 }
-    ensures gone { (most : ℕ) (at : Tag) (value : T) → times_listed 1
-        (lists_after (at_first 2 most) (Call.Run 0 1 ∷ Call.Tend 0 4 ∷ Call.Tend 0 0
-        ∷ Call.Queue 0 at value ∷ [])) ≡ 0 }
-    ensures queued { (most : ℕ) (at : Tag) (value : T) → queued_as 1 (at_first 2 most)
-        (Call.Run 0 1 ∷ Call.Tend 0 4 ∷ Call.Queue 0 at value ∷ [])
-        ≡ Some (record { ord = 1; at = at; value = value }) }
-    ensures no_other { (most : ℕ) (at : Tag) (value : T) → queued_as 2 (at_first 2 most)
-        (Call.Run 0 1 ∷ Call.Tend 0 4 ∷ Call.Queue 0 at value ∷ []) ≡ None }
+    ensures once { (most : ℕ) (at : Tag) (value : T) → whereabouts 1 (at_first 2 most)
+        (Call.Run 0 1 ∷ Call.Tend 0 4 ∷ Call.Tend 0 0 ∷ Call.Queue 0 at value ∷ []) ≡ (1, 0) }
+    ensures queued { (most : ℕ) (at : Tag) (value : T) (place : ℕ) → queued_as place
+        (at_first 2 most) (Call.Run 0 1 ∷ Call.Tend 0 4 ∷ Call.Queue 0 at value ∷ [])
+        ≡ (if 1 == place then Some (record { ord = 1; at = at; value = value }) else None) }
 {}
 
 /// A callback that waits is not handed out: tended at number 0 and then at 1, it lies in its list.
 pub fn a_callback_that_waits_stays_listed<T: Drop>()
-    ensures none { (most : ℕ) (at : Tag) (value : T) → times_handed_out 1 (at_first 2 most)
-        (Call.Run 0 1 ∷ Call.Tend 0 1 ∷ Call.Tend 0 0 ∷ Call.Queue 0 at value ∷ []) ≡ 0 }
-    ensures listed { (most : ℕ) (at : Tag) (value : T) → times_listed 1
-        (lists_after (at_first 2 most) (Call.Run 0 1 ∷ Call.Tend 0 1 ∷ Call.Tend 0 0
-        ∷ Call.Queue 0 at value ∷ [])) ≡ 1 }
+    ensures { (most : ℕ) (at : Tag) (value : T) → whereabouts 1 (at_first 2 most)
+        (Call.Run 0 1 ∷ Call.Tend 0 1 ∷ Call.Tend 0 0 ∷ Call.Queue 0 at value ∷ []) ≡ (0, 1) }
 {}
 
 /// A callback whose list moved is handed out by processor 0, and by no other.
 pub fn a_moved_callback_is_of_processor_0<T: Drop>()
     ensures run { (most : ℕ) (at : Tag) (value : T) → IsRun (at_first 2 most) (Call.Run 0 1
         ∷ Call.Migrate 1 ∷ Call.Tend 1 4 ∷ Call.Tend 1 0 ∷ Call.Queue 1 at value ∷ []) }
-    ensures here { (most : ℕ) (at : Tag) (value : T) → times_handed_out 1 (at_first 2 most)
-        (Call.Run 0 1 ∷ Call.Migrate 1 ∷ Call.Tend 1 4 ∷ Call.Tend 1 0
-        ∷ Call.Queue 1 at value ∷ []) ≡ 1 }
-    ensures there { (most : ℕ) (at : Tag) (value : T) → times_handed_out 1 (at_first 2 most)
-        (Call.Run 1 1 ∷ Call.Migrate 1 ∷ Call.Tend 1 4 ∷ Call.Tend 1 0
-        ∷ Call.Queue 1 at value ∷ []) ≡ 0 }
+    ensures by { (most : ℕ) (at : Tag) (value : T) (cpu : ℕ) → times_handed_out 1
+        (at_first 2 most) (Call.Run cpu 1 ∷ Call.Migrate 1 ∷ Call.Tend 1 4 ∷ Call.Tend 1 0
+        ∷ Call.Queue 1 at value ∷ []) ≡ (if cpu == 0 then 1 else 0) }
 {}
 
 /// Each copy counts. A run adds what it hands out to what was handed out before it; a callback that
@@ -74,35 +66,29 @@ pub fn a_renumbering_takes_the_numbers<T: Drop>()
 {}
 
 /// A barrier waits for the callback that was queued before it, and for none that comes later: one
-/// behind its marker is not counted. What was queued is counted anew at each begin.
+/// behind its marker is not counted. What was queued is counted anew at each begin, and no later
+/// call changes that.
 pub fn a_barrier_waits_for_what_was_before_it<T: Drop>()
     ensures run { (most : ℕ) (at : Tag) (value : T) → IsRun (at_first 2 most) (Call.BarrierTest
         ∷ Call.Queue 0 at value ∷ Call.Visit 1 ∷ Call.Visit 0 ∷ Call.BarrierBegin ∷ Call.Tend 0 4
         ∷ Call.Tend 0 0 ∷ Call.Queue 0 at value ∷ []) }
-    ensures before { (most : ℕ) (at : Tag) (value : T) → queued_before_barrier (at_first 2 most)
-        (Call.Queue 0 at value ∷ Call.Visit 1 ∷ Call.Visit 0 ∷ Call.BarrierBegin ∷ Call.Tend 0 4
-        ∷ Call.Tend 0 0 ∷ Call.Queue 0 at value ∷ []) ≡ 1 }
-    ensures begun { (first : AllLists T) (calls : List (Call T)) → queued_before_barrier first
-        (Call.BarrierBegin ∷ calls) ≡ (lists_after first calls).queued }
-    ensures waits { (most : ℕ) (at : Tag) (value : T) → barrier_test_answer (lists_after
-        (at_first 2 most) (Call.Queue 0 at value ∷ Call.Visit 1 ∷ Call.Visit 0 ∷ Call.BarrierBegin
-        ∷ Call.Tend 0 4 ∷ Call.Tend 0 0 ∷ Call.Queue 0 at value ∷ [])) ≡ BarrierState.Waits 1 }
-    ensures done { (most : ℕ) (at : Tag) (value : T) → barrier_test_answer (lists_after
-        (at_first 2 most) (Call.Run 0 1 ∷ Call.Queue 0 at value ∷ Call.Visit 1 ∷ Call.Visit 0
-        ∷ Call.BarrierBegin ∷ Call.Tend 0 4 ∷ Call.Tend 0 0 ∷ Call.Queue 0 at value ∷ []))
-        ≡ BarrierState.Done }
+    ensures before { (first : AllLists T) (later calls : List (Call T)) →
+        list_any begins_barrier later ≡ false → queued_before_barrier first
+        (later ++ Call.BarrierBegin ∷ calls) ≡ (lists_after first calls).queued }
+    ensures waits { (most : ℕ) (at : Tag) (value : T) (ran : Bool) → barrier_test_answer
+        (lists_after (at_first 2 most) ((if ran then Call.Run 0 1 ∷ [] else [])
+        ++ Call.Queue 0 at value ∷ Call.Visit 1 ∷ Call.Visit 0 ∷ Call.BarrierBegin ∷ Call.Tend 0 4
+        ∷ Call.Tend 0 0 ∷ Call.Queue 0 at value ∷ []))
+        ≡ (if ran then BarrierState.Done else BarrierState.Waits 1) }
 {}
 
 /// A run has no call of a processor that there is not, no migration of processor 0, no second
 /// barrier beside one, and no visit or test of a barrier that does not run.
 pub fn a_run_has_only_calls_that_may_be_made<T: Drop>()
-    ensures cpu { (most : ℕ) (at : Tag) (value : T) →
-        IsRun (at_first 2 most) (Call.Queue 2 at value ∷ []) → ⊥ }
-    ensures first { (most : ℕ) → IsRun {X = T} (at_first 2 most) (Call.Migrate 0 ∷ []) → ⊥ }
-    ensures begin { (most : ℕ) → IsRun {X = T} (at_first 2 most)
-        (Call.BarrierBegin ∷ Call.BarrierBegin ∷ []) → ⊥ }
-    ensures visit { (most : ℕ) → IsRun {X = T} (at_first 2 most) (Call.Visit 0 ∷ []) → ⊥ }
-    ensures test { (most : ℕ) → IsRun {X = T} (at_first 2 most) (Call.BarrierTest ∷ []) → ⊥ }
+    ensures { (most : ℕ) (at : Tag) (value : T) → All
+        (λ calls. IsRun (at_first 2 most) calls → ⊥) ((Call.Queue 2 at value ∷ [])
+        ∷ (Call.Migrate 0 ∷ []) ∷ (Call.BarrierBegin ∷ Call.BarrierBegin ∷ [])
+        ∷ (Call.Visit 0 ∷ []) ∷ (Call.BarrierTest ∷ []) ∷ []) }
 {}
 
 /// Lists are new before any call, and are not once a callback was queued.

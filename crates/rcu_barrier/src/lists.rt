@@ -3,10 +3,11 @@ ghost use Rattle.std.specs.Prelude.{◌≡◌, ◌+◌, ◌<◌, ◌≤◌, ◌^
 ghost use Rattle.std.specs.Prelude.{IfOk, IfErr, OnOk, OnErr, length, slice_get};
 ghost use Rattle.std.specs.Result.{result_err};
 ghost use Rattle.rcu_seq.specs.Numbers.{snapshot};
-ghost use Rattle.rcu_cblist.specs.SegList.{IsAtMost, begins_with_marker, behind, callbacks, front};
+ghost use Rattle.rcu_cblist.specs.SegList.{IsAtMost, begins_with_marker, callbacks, front};
+ghost use Rattle.rcu_cblist.specs.Refused.{HandsBack};
 ghost use Rattle.rcu_cblist.specs.SegList.{greatest, is_empty, numbers, take_answer};
-ghost use Rattle.rcu_barrier.specs.Tending.{after_tend};
-ghost use Rattle.rcu_barrier.specs.Lists.{Grows, IsSound, Shrinks, at_first};
+ghost use Rattle.rcu_barrier.specs.Tending.{tend_answer};
+ghost use Rattle.rcu_barrier.specs.Lists.{Grows, IsNext, IsSound, Shrinks, at_first};
 ghost use Rattle.rcu_barrier.specs.Lists.{barrier_begin_refusal, barrier_test_answer};
 ghost use Rattle.rcu_barrier.specs.Lists.{barrier_test_refusal, cpus_of, is_visited, list_of};
 ghost use Rattle.rcu_barrier.specs.Lists.{lists_after_barrier_begin, lists_after_barrier_test};
@@ -86,8 +87,7 @@ impl<T: Drop> Lists<T> {
     ///
     /// Fault: `NoMemory` (16).
     pub fn new(alloc: Global, cpus: u32) -> Result<Self, Fault>
-        requires some { 1 ≤ cpus }
-        requires few { cpus ≤ 4096 }
+        requires { (1 ≤ cpus) × (cpus ≤ 4096) }
         ensures fault { IfErr result (λ fault. fault ≡ Fault.NoMemory) }
         ensures state { IfOk result (λ lists. lists.all ≡ at_first cpus most_queued) }
     {
@@ -98,10 +98,8 @@ impl<T: Drop> Lists<T> {
     ///
     /// Fault: `NoMemory` (16).
     pub fn with_most(alloc: Global, cpus: u32, most: u64) -> Result<Self, Fault>
-        requires some { 1 ≤ cpus }
-        requires few { cpus ≤ 4096 }
-        requires most_some { 1 ≤ most }
-        requires most_few { most ≤ 2 ^ 62 }
+        requires cpus { (1 ≤ cpus) × (cpus ≤ 4096) }
+        requires most { (1 ≤ most) × (most ≤ 2 ^ 62) }
         ensures fault { IfErr result (λ fault. fault ≡ Fault.NoMemory) }
         ensures state { IfOk result (λ lists. lists.all ≡ at_first cpus most) }
     {
@@ -124,12 +122,8 @@ impl<T: Drop> Lists<T> {
     /// (16), only where the list has no room for it.
     pub fn queue(&mut self, cpu: u32, at: Tag, value: T) -> Result<u64, Refused<T>>
         requires { cpu < cpus_of self.old.all }
-        ensures fault { IfErr result (λ refused.
-            queue_refusal self.old cpu ≡ Some refused.fault) }
-        ensures value { IfErr result (λ refused. refused.value ≡ value) }
-        ensures count { IfOk result (λ count. count ≡ self.old.all.queued + 1) }
-        ensures few { IfOk result (λ count. count ≤ self.old.all.most) }
-        ensures bounded { IfOk result (λ count. count ≤ 2 ^ 62) }
+        ensures fault { IfErr result (HandsBack (queue_refusal self.old cpu) value) }
+        ensures count { IfOk result (λ count. IsNext self.old.all count) }
         ensures state { OnOk result (self.new.all ≡ lists_after_queue self.old.all cpu at value) }
         ensures unchanged { OnErr result (self.new.all ≡ self.old.all) }
         ensures room { Grows self.old cpu self.new }
@@ -160,14 +154,10 @@ impl<T: Drop> Lists<T> {
     /// no callback carries one above its snapshot.
     pub fn tend(&mut self, cpu: u32, number: u64) -> (u64, u64)
         requires cpu { cpu < cpus_of self.old.all }
-        requires state { number % 4 ≤ 1 }
-        requires bounded { number ≤ 2 ^ 62 }
+        requires number { (number % 4 ≤ 1) × (number ≤ 2 ^ 62) }
         requires within { IsAtMost (snapshot number) (list_of self.old.all cpu) }
         ensures state { self.new ≡ on_all (λ all. lists_after_tend all cpu number) self.old }
-        ensures done { result.0
-            ≡ length (callbacks (front (after_tend (list_of self.old.all cpu) number))) }
-        ensures waiting { result.1
-            ≡ length (callbacks (behind (after_tend (list_of self.old.all cpu) number))) }
+        ensures answer { result ≡ tend_answer (list_of self.old.all cpu) number }
     {
         let list = &mut self.lists[cpu as usize];
         list.advance(number);
@@ -232,8 +222,7 @@ impl<T: Drop> Lists<T> {
     /// Fault `NoMemory` (16), only where the list is not empty, and processor 0's has no room for
     /// it.
     pub fn migrate(&mut self, cpu: u32) -> Result<u64, Fault>
-        requires other { 0 < cpu }
-        requires cpu { cpu < cpus_of self.old.all }
+        requires { (0 < cpu) × (cpu < cpus_of self.old.all) }
         ensures fault { IfErr result (λ fault. migrate_refusal self.old cpu ≡ Some fault) }
         ensures moved { IfOk result (λ moved. moved
             ≡ length (callbacks (list_of self.old.all cpu))) }
@@ -345,8 +334,7 @@ impl<T: Drop> Lists<T> {
     /// How many callbacks may be queued since opening, from 1 to 2^62.
     pub fn most(&self) -> u64
         ensures value { result ≡ self.now.all.most }
-        ensures some { 1 ≤ result }
-        ensures few { result ≤ 2 ^ 62 }
+        ensures range { (1 ≤ result) × (result ≤ 2 ^ 62) }
     {
         self.most
     }

@@ -1,11 +1,10 @@
 //! Lists that are made, and one that moves to the first.
-ghost use Rattle.std.specs.Prelude.{◌≡◌, ◌<◌, ◌≤◌, ◌&&◌, ◌∷◌, [], Some, map, not};
-ghost use Rattle.std.specs.Prelude.{length, replicate, slice_index_or, slice_set};
+ghost use Rattle.std.specs.Prelude.{◌≡◌, ◌<◌, ◌&&◌, ◌∷◌, [], Some, length, map, not, replicate};
 ghost use Rattle.std.specs.Prelude.{IfOk, IfErr, OnOk, OnErr};
 ghost use Rattle.rcu_seq.specs.Fault.{first_fault};
 ghost use Rattle.rcu_cblist.specs.SegList.{after_renumber, as_it_leaves, callbacks, is_empty};
-ghost use Rattle.rcu_barrier.specs.Lists.{has_room_at, items_in, list_at, lists_after_move};
-ghost use Rattle.rcu_barrier.specs.Lists.{rooms_in};
+ghost use Rattle.rcu_barrier.specs.Lists.{RoomsGrow, has_room_at, items_in, list_at};
+ghost use Rattle.rcu_barrier.specs.Lists.{lists_after_move, rooms_in};
 
 use rcu_cblist::SegList;
 use rcu_seq::Fault;
@@ -49,12 +48,12 @@ pub(crate) fn move_to_first<T: Drop>(
     from: usize,
     owed: bool,
 ) -> Result<(u64, bool), Fault>
-    requires other { 0 < from }
-    requires there { from < length lists.old }
-    ensures moved { IfOk result (λ n. n.0
-        ≡ length (callbacks (list_at (items_in lists.old) from))) }
-    ensures marked { IfOk result (λ n. n.1
-        ≡ (owed && not (is_empty (list_at (items_in lists.old) from)))) }
+    requires { (0 < from) × (from < length lists.old) }
+    ensures answer { IfOk result (λ answer. answer
+        ≡ (
+          length (callbacks (list_at (items_in lists.old) from)),
+          owed && not (is_empty (list_at (items_in lists.old) from)),
+        )) }
     ensures fault { IfErr result (λ fault. first_fault
         ((
           not (is_empty (list_at (items_in lists.old) from))
@@ -66,10 +65,7 @@ pub(crate) fn move_to_first<T: Drop>(
     ensures state { OnOk result (items_in lists.new
         ≡ lists_after_move (items_in lists.old) from owed) }
     ensures unchanged { OnErr result (items_in lists.new ≡ items_in lists.old) }
-    ensures room { slice_index_or (rooms_in lists.old) 0 0
-        ≤ slice_index_or (rooms_in lists.new) 0 0 }
-    ensures others { rooms_in lists.new
-        ≡ slice_set (rooms_in lists.old) 0 (slice_index_or (rooms_in lists.new) 0 0) }
+    ensures room { RoomsGrow (rooms_in lists.old) 0 (rooms_in lists.new) }
 {
     let (first, others) = lists.split_at_mut(1);
     let list = &mut others[from - 1];

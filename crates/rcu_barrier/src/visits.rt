@@ -50,11 +50,10 @@ impl Visits {
         self.flags[cpu as usize]
     }
 
-    /// The processor is visited now.
+    /// The processor, which is unvisited, is visited now.
     #[tactic(auto, using(crate::proofs::Markers::unvisited_set))]
     pub(crate) fn insert(&mut self, cpu: u32)
-        requires cpu { cpu < length self.old }
-        requires unvisited { slice_index_or self.old cpu false ≡ false }
+        requires { (cpu < length self.old) × (slice_index_or self.old cpu false ≡ false) }
         ensures { self.new ≡ slice_set self.old cpu true }
     {
         self.flags[cpu as usize] = true;

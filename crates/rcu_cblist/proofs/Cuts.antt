@@ -16,6 +16,13 @@ use Rattle.rcu_cblist.specs.Kept.{item_of, unmarked}
 use Rattle.rcu_cblist.specs.Cuts.{AreSegments, AreTails, IsTail, between}
 use Rattle.rcu_cblist.specs.Segments.{joined}
 
+-- of places that are the same, as many items and as many callbacks are before both
+pub same_items : (tail other : Tail) → tail ≡ other → tail.items ≡ other.items
+same_items tail other same = ap (λ (t : Tail). t.items) same
+
+pub same_calls : (tail other : Tail) → tail ≡ other → tail.calls ≡ other.calls
+same_calls tail other same = ap (λ (t : Tail). t.calls) same
+
 module _ {X : Type 0} where
   -- places cut a list into these four
   pub record Cuts (xs D W R N : List (Kept X)) (d w r : ℕ) : Type 0 where

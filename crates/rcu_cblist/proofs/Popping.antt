@@ -1,12 +1,12 @@
 -- Takes one after another: what several hand out, and what they leave.
-use Rattle.std.proofs.Common.{◌≡◌, ℕ, zero, suc, ◌+◌, ◌≤◌, false, List, [], ◌∷◌, ◌++◌, length, take}
-use Rattle.std.proofs.Common.{drop, min, refl, ap, sym, ◌∙◌, arith, length-drop}
+use Rattle.std.proofs.Common.{◌≡◌, ℕ, zero, suc, ◌+◌, ◌<◌, ◌≤◌, false, true, List, [], ◌∷◌, ◌++◌}
+use Rattle.std.proofs.Common.{length, take, drop, min, refl, ap, sym, ◌∙◌, arith, length-drop}
 use Rattle.std.specs.Prelude.{None, Some, option_map, slice_get}
 use Rattle.std.proofs.lemmas.List.{drop_min}
 use Rattle.std.proofs.Math.Seq.{take-add}
 use Rattle.rcu_cblist.specs.SegList.{Item, Of, Marker, Unmarked, Until, Done, after_take}
-use Rattle.rcu_cblist.specs.SegList.{begins_with_marker, callbacks, from_callback, front}
-use Rattle.rcu_cblist.specs.SegList.{markers_passed, pop_answer, take_answer}
+use Rattle.rcu_cblist.specs.SegList.{begins_with_callback, begins_with_marker, callbacks}
+use Rattle.rcu_cblist.specs.SegList.{from_callback, front, markers_passed, pop_answer, take_answer}
 use Rattle.rcu_cblist.specs.declared.queued.Queued.{Queued}
 use Rattle.rcu_cblist.proofs.Lists.{length_taken}
 
@@ -16,6 +16,13 @@ module _ {X : Type 0} where
   from_first [] none = refl
   from_first (Marker ∷ xs) none = absurd cc
   from_first (Of call mark ∷ xs) none = refl
+
+  -- a list that has a callback and does not begin with a marker begins with a callback
+  pub begins_some : (xs : List (Item X)) → 0 < length (callbacks xs)
+      → begins_with_marker xs ≡ false → begins_with_callback xs ≡ true
+  begins_some [] some first = absurd (omega arith)
+  begins_some (Marker ∷ xs) some first = absurd cc
+  begins_some (Of call mark ∷ xs) some first = refl
 
   -- where none is done a take leaves it as it is
   pub untaken_none : (most : ℕ) (xs : List (Item X)) → begins_with_marker xs ≡ false →

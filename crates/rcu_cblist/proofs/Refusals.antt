@@ -1,12 +1,11 @@
 -- What is known of a list by its items and its room, and of calls that need room.
-use Rattle.std.proofs.Common.{◌≡◌, ℕ, ◌+◌, ◌<◌, ◌≤◌, Bool, true, false, List, [], ◌∷◌, length, refl}
-use Rattle.std.proofs.Common.{ap, sym, ◌∙◌, arith}
+use Rattle.std.proofs.Common.{◌≡◌, ℕ, ◌+◌, ◌<◌, Bool, true, false, List, [], ◌∷◌, length, refl}
+use Rattle.std.proofs.Common.{ap, ◌∙◌, arith}
 use Rattle.std.proofs.lemmas.Bool.Decides.{nat_tests}
-use Rattle.std.specs.Prelude.{◌&&◌, not, nat_le, nat_lt, Some, None, if◌then◌else◌}
+use Rattle.std.specs.Prelude.{◌&&◌, not, nat_le, nat_lt, Some}
 use Rattle.rcu_seq.specs.Fault.{first_fault}
-use Rattle.rcu_seq.specs.declared.fault.Fault.{Fault}
 use Rattle.rcu_seq.specs.declared.fault.Fault.TheVariants.{NoMemory}
-use Rattle.rcu_cblist.specs.SegList.{Item, Segmented, as_it_leaves, entrain_refusal, has_room}
+use Rattle.rcu_cblist.specs.SegList.{Item, Segmented, as_it_leaves, entrain_refusal}
 use Rattle.rcu_cblist.specs.SegList.{is_empty, move_refusal}
 use Rattle.rcu_cblist.specs.SegList.{queue_refusal, take_answer, take_refusal}
 

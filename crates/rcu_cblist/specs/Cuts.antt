@@ -1,10 +1,30 @@
 -- Where a sequence of items is cut into four segments, and what is kept of that.
-use Rattle.std.specs.Prelude.{ℕ, ◌<◌, ◌≤◌, ◌≡◌, false, List, length, take, drop}
+use Rattle.std.specs.Prelude.{ℕ, ◌<◌, ◌≤◌, ◌≡◌, ◌+◌, ◌-◌, ◌==◌, false, List, length, take, drop}
+use Rattle.std.specs.Prelude.{if◌then◌else◌}
 use Rattle.rcu_seq.specs.Numbers.{Number}
 use Rattle.rcu_cblist.specs.SegList.{begins_with_marker, callbacks}
 use Rattle.rcu_cblist.specs.Kept.{unmarked}
 use Rattle.rcu_cblist.specs.declared.kept.Kept.{Kept}
 use Rattle.rcu_cblist.specs.declared.tail.Tail.{Tail}
+
+-- the place with so much more before it
+abbrev pub risen : Tail → Tail → Tail
+risen tail by = record { items = tail.items + by.items; calls = tail.calls + by.calls }
+
+-- the place with so much less before it
+abbrev pub fallen : Tail → Tail → Tail
+fallen tail by = record { items = tail.items - by.items; calls = tail.calls - by.calls }
+
+-- so much is before the place
+pub record IsBefore (by tail : Tail) : Type 0 where
+  pub items : by.items ≤ tail.items
+  pub calls : by.calls ≤ tail.calls
+
+-- the place once a marker was put behind so many items: it is behind the marker where it was behind
+-- them all
+abbrev pub past_marker : Tail → ℕ → Tail
+past_marker tail end =
+    record tail { items = if tail.items == end then tail.items + 1 else tail.items }
 
 module _ {X : Type 0} where
   -- the items from one place to another

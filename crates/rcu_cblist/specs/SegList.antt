@@ -118,6 +118,10 @@ module _ {X : Type 0} where
   begins_with_marker [] = false
   begins_with_marker (x ∷ xs) = is_marker x
 
+  -- the first item is a callback
+  abbrev pub begins_with_callback : List (Item X) → Bool
+  begins_with_callback xs = not (is_empty xs) && not (begins_with_marker xs)
+
   -- the list once a marker is put behind its callbacks; an empty one gets none
   abbrev pub after_entrain : List (Item X) → List (Item X)
   after_entrain xs = if is_empty xs then xs else xs ++ Marker ∷ []

@@ -1,11 +1,10 @@
 //! Callbacks that are taken one at a time, with no memory.
-ghost use Rattle.std.specs.Prelude.{◌≡◌, ◌+◌, ◌<◌, ◌≤◌, ◌^◌, ◌∷◌, [], IsNone, Some, drop};
-ghost use Rattle.std.specs.Prelude.{false, length, take};
-ghost use Rattle.std.specs.VecDeque.{deque_capacity};
-ghost use Rattle.rcu_cblist.specs.SegList.{after_take, begins_with_marker, callbacks};
-ghost use Rattle.rcu_cblist.specs.SegList.{from_callback, markers, on_items, pop_answer};
+ghost use Rattle.std.specs.Prelude.{◌≡◌, ◌<◌, ◌∷◌, [], IsNone, Some, length, take, true};
+ghost use Rattle.rcu_cblist.specs.SegList.{after_take, begins_with_callback, callbacks};
+ghost use Rattle.rcu_cblist.specs.SegList.{on_items, pop_answer};
 ghost use Rattle.rcu_cblist.specs.Kept.{unmarked};
 ghost use Rattle.rcu_cblist.specs.Segments.{listed, seen};
+ghost use Rattle.rcu_cblist.specs.Walks.{IsLeft};
 
 use crate::kept::Kept;
 use crate::queued::Queued;
@@ -52,16 +51,9 @@ impl<T: Drop> Segments<T> {
 
 /// Takes the first callback, and each marker before the next one. Returns how many markers.
 fn pop_first<T: Drop>(items: &mut VecDeque<Kept<T>>) -> (Queued<T>, u64)
-    requires few { length items.old.items < 2 ^ 63 }
-    requires there { 0 < length (callbacks (unmarked items.old.items)) }
-    requires call { begins_with_marker (unmarked items.old.items) ≡ false }
+    requires { begins_with_callback (unmarked items.old.items) ≡ true }
     ensures call { result.0 ∷ [] ≡ take 1 (callbacks (unmarked items.old.items)) }
-    ensures items { unmarked items.new.items ≡ from_callback 1 (unmarked items.old.items) }
-    ensures gone { items.new.items ≡ drop (1 + result.1) items.old.items }
-    ensures left { 1 + result.1 + length items.new.items ≡ length items.old.items }
-    ensures markers { result.1 + markers (unmarked items.new.items)
-        ≡ markers (unmarked items.old.items) }
-    ensures capacity { deque_capacity items.new ≡ deque_capacity items.old }
+    ensures left { IsLeft items.old 1 result.1 items.new }
 {
     match items.pop_front() {
         Some(Kept::Call(call)) => (call, drop_markers(items)),
@@ -72,13 +64,7 @@ fn pop_first<T: Drop>(items: &mut VecDeque<Kept<T>>) -> (Queued<T>, u64)
 /// Drops each marker before the first callback. Returns how many.
 #[tactic(auto, using(crate::proofs::Lists::map_split, crate::proofs::Lists::gone_more))]
 fn drop_markers<T: Drop>(items: &mut VecDeque<Kept<T>>) -> u64
-    requires { length items.old.items < 2 ^ 63 }
-    ensures items { unmarked items.new.items ≡ from_callback 0 (unmarked items.old.items) }
-    ensures gone { items.new.items ≡ drop result items.old.items }
-    ensures left { result + length items.new.items ≡ length items.old.items }
-    ensures markers { result + markers (unmarked items.new.items)
-        ≡ markers (unmarked items.old.items) }
-    ensures capacity { deque_capacity items.new ≡ deque_capacity items.old }
+    ensures { IsLeft items.old 0 result items.new }
 {
     let mut markers = 0;
     loop {

@@ -1,6 +1,7 @@
 //! One processor's list of callbacks.
 ghost use Rattle.std.specs.Prelude.{◌≡◌, ◌+◌, ◌<◌, ◌≤◌, ◌^◌, ◌++◌, ◌∷◌, [], false, not};
 ghost use Rattle.std.specs.Prelude.{OnOk, OnErr, IfOk, IfErr, Some, length};
+ghost use Rattle.rcu_cblist.specs.Refused.{HandsBack};
 ghost use Rattle.rcu_cblist.specs.SegList.{IsAtMost, Of, Unmarked, after_accelerate};
 ghost use Rattle.rcu_cblist.specs.SegList.{after_advance, after_entrain, after_migrate};
 ghost use Rattle.rcu_cblist.specs.SegList.{after_renumber, after_take};
@@ -58,8 +59,7 @@ impl<T: Drop> SegList<T> {
     /// Fault `NoMemory` (16) where there is no room for it and an allocation failed; the callback
     /// is returned.
     pub fn queue(&mut self, item: Queued<T>) -> Result<(), Refused<Queued<T>>>
-        ensures fault { IfErr result (λ refused. queue_refusal self.old ≡ Some refused.fault) }
-        ensures value { IfErr result (λ refused. refused.value ≡ item) }
+        ensures fault { IfErr result (HandsBack (queue_refusal self.old) item) }
         ensures state { OnOk result (self.new.items ≡ self.old.items ++ Of item Unmarked ∷ []) }
         ensures unchanged { OnErr result (self.new.items ≡ self.old.items) }
         ensures room { self.old.room ≤ self.new.room }

@@ -1,5 +1,6 @@
 //! Tail places.
-ghost use Rattle.std.specs.Prelude.{◌≡◌, ◌+◌, ◌-◌, ◌<◌, ◌≤◌, ◌==◌, ◌^◌, if◌then◌else◌};
+ghost use Rattle.std.specs.Prelude.{◌≡◌, ◌+◌, ◌<◌, ◌^◌};
+ghost use Rattle.rcu_cblist.specs.Cuts.{IsBefore, fallen, past_marker, risen};
 
 /// Where a segment ends: what is before it in its list.
 #[derive(Clone, Copy, Debug)]
@@ -18,8 +19,7 @@ impl Tail {
     pub(crate) fn rise(&mut self, by: Tail)
         requires items { self.old.items + by.items < 2 ^ 64 }
         requires calls { self.old.calls + by.calls < 2 ^ 64 }
-        ensures items { self.new.items ≡ self.old.items + by.items }
-        ensures calls { self.new.calls ≡ self.old.calls + by.calls }
+        ensures { self.new ≡ risen self.old by }
     {
         self.items += by.items;
         self.calls += by.calls;
@@ -27,10 +27,8 @@ impl Tail {
 
     /// So much less is before it.
     pub(crate) fn fall(&mut self, by: Tail)
-        requires items { by.items ≤ self.old.items }
-        requires calls { by.calls ≤ self.old.calls }
-        ensures items { self.new.items ≡ self.old.items - by.items }
-        ensures calls { self.new.calls ≡ self.old.calls - by.calls }
+        requires { IsBefore by self.old }
+        ensures { self.new ≡ fallen self.old by }
     {
         self.items -= by.items;
         self.calls -= by.calls;
@@ -40,9 +38,7 @@ impl Tail {
     /// the place stood there.
     pub(crate) fn pass_marker(&mut self, end: usize)
         requires { end < 2 ^ 63 }
-        ensures items { self.new.items
-            ≡ (if self.old.items == end then self.old.items + 1 else self.old.items) }
-        ensures calls { self.new.calls ≡ self.old.calls }
+        ensures { self.new ≡ past_marker self.old end }
     {
         if self.items == end {
             self.items += 1;

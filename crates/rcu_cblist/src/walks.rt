@@ -1,10 +1,11 @@
 //! Items that leave a sequence, one at a time or all together.
-ghost use Rattle.std.specs.Prelude.{◌≡◌, ◌+◌, ◌<◌, ◌≤◌, ◌^◌, ◌++◌, [], take, drop, length};
+ghost use Rattle.std.specs.Prelude.{◌≡◌, ◌+◌, ◌≤◌, ◌++◌, take, drop, length};
 ghost use Rattle.std.specs.Prelude.{if◌then◌else◌};
 ghost use Rattle.std.specs.Vec.{vec_len, vec_capacity};
 ghost use Rattle.std.specs.VecDeque.{deque_len, deque_capacity};
-ghost use Rattle.rcu_cblist.specs.SegList.{callbacks, from_callback, markers};
+ghost use Rattle.rcu_cblist.specs.SegList.{callbacks};
 ghost use Rattle.rcu_cblist.specs.Kept.{moved_behind, moved_in_front, unmarked};
+ghost use Rattle.rcu_cblist.specs.Walks.{HasNow, IsEmptied, IsLeft};
 
 use crate::kept::Kept;
 use crate::queued::Queued;
@@ -19,16 +20,10 @@ pub(crate) fn take_first<T: Drop>(
     most: u64,
 ) -> u64
     requires room { vec_len calls.old + most ≤ vec_capacity calls.old }
-    requires few { length items.old.items < 2 ^ 63 }
     requires there { most ≤ length (callbacks (unmarked items.old.items)) }
     ensures calls { calls.new.items
         ≡ calls.old.items ++ take most (callbacks (unmarked items.old.items)) }
-    ensures items { unmarked items.new.items ≡ from_callback most (unmarked items.old.items) }
-    ensures gone { items.new.items ≡ drop (most + result) items.old.items }
-    ensures left { most + result + length items.new.items ≡ length items.old.items }
-    ensures markers { result + markers (unmarked items.new.items)
-        ≡ markers (unmarked items.old.items) }
-    ensures capacity { deque_capacity items.new ≡ deque_capacity items.old }
+    ensures left { IsLeft items.old most result items.new }
 {
     let mut markers = 0;
     let mut left = most;
@@ -63,11 +58,9 @@ pub(crate) fn join_marked<T: Drop>(
     requires room { deque_len target.old + deque_len items.old + (if marked then 1 else 0)
         ≤ deque_capacity target.old }
     ensures front { result ≡ length (moved_in_front items.old.items ahead marked) }
-    ensures target { target.new.items ≡ moved_in_front items.old.items ahead marked
-        ++ (target.old.items ++ moved_behind items.old.items ahead marked) }
-    ensures items { items.new.items ≡ [] }
-    ensures capacity { deque_capacity items.new ≡ deque_capacity items.old }
-    ensures target_capacity { deque_capacity target.old ≤ deque_capacity target.new }
+    ensures target { HasNow target.old (moved_in_front items.old.items ahead marked
+        ++ (target.old.items ++ moved_behind items.old.items ahead marked)) target.new }
+    ensures items { IsEmptied items.old items.new }
 {
     if !marked {
         join_around(target, items, ahead);
@@ -88,12 +81,10 @@ pub(crate) fn join_marked<T: Drop>(
 fn join_around<T: Drop>(target: &mut VecDeque<T>, items: &mut VecDeque<T>, ahead: usize)
     requires ahead { ahead ≤ length items.old.items }
     requires room { deque_len target.old + deque_len items.old ≤ deque_capacity target.old }
-    ensures target { target.new.items
-        ≡ take ahead items.old.items ++ (target.old.items ++ drop ahead items.old.items) }
-    ensures items { items.new.items ≡ [] }
-    ensures len { deque_len target.new ≡ deque_len target.old + deque_len items.old }
-    ensures capacity { deque_capacity items.new ≡ deque_capacity items.old }
-    ensures target_capacity { deque_capacity target.old ≤ deque_capacity target.new }
+    ensures target { HasNow target.old
+        (take ahead items.old.items ++ (target.old.items ++ drop ahead items.old.items))
+        target.new }
+    ensures items { IsEmptied items.old items.new }
 {
     items.rotate_left(ahead);
     let Ok(()) = target.append(items) else {

@@ -145,8 +145,16 @@ impl CpuData {
         ensures unchanged { OnErr result (self.new ≡ self.old) }
     {
         self.check_online()?;
-        self.noted = now;
+        self.set_noted(now);
         Ok(())
+    }
+
+    /// Notes the tag of now, as [`note`](Self::note), on a processor that is known to be online.
+    pub fn set_noted(&mut self, now: Tag)
+        requires { self.old.online ≡ true }
+        ensures { self.new ≡ after_call self.old (Note now) }
+    {
+        self.noted = now;
     }
 
     /// The report of a quiescent state: of the processor and its noted tag (Linux's
@@ -182,7 +190,8 @@ impl CpuData {
             return Err(Fault::AlreadyOnline);
         }
         self.online = true;
-        self.note(now)
+        self.set_noted(now);
+        Ok(())
     }
 
     /// The processor is offline from now on (Linux's `rcutree_report_cpu_dead`), and idle no more.

@@ -15,17 +15,17 @@ use rcu_live::{Client, laws};
 
 /// No callback comes out twice.
 pub fn six_calls_hand_out_once<T: Drop, P: Client>()
-    ensures { (table : TableId) (last : Number) (most place : ℕ) (value : T) →
-        times_handed_out place (engine_at_first table 1 last most P.idle) (six_calls value) ≤ 1 }
+    ensures { (known : P.Known) (table : TableId) (last : Number) (most place : ℕ) (value : T) →
+        times_handed_out place (engine_at_first table 1 last most known) (six_calls value) ≤ 1 }
 {
     laws::no_callback_runs_twice::<T, P>();
 }
 
 /// The callback is not lost.
 pub fn six_calls_lose_nothing<T: Drop, P: Client>()
-    ensures { (table : TableId) (last : Number) (most : ℕ) (value : T) →
-        times_handed_out 1 (engine_at_first table 1 last most P.idle) (six_calls value)
-        + times_listed 1 (engine_after (engine_at_first table 1 last most P.idle)
+    ensures { (known : P.Known) (table : TableId) (last : Number) (most : ℕ) (value : T) →
+        times_handed_out 1 (engine_at_first table 1 last most known) (six_calls value)
+        + times_listed 1 (engine_after (engine_at_first table 1 last most known)
         (six_calls value)).grace.lists ≡ 1 }
 {
     laws::no_callback_is_lost::<T, P>();
@@ -33,10 +33,11 @@ pub fn six_calls_lose_nothing<T: Drop, P: Client>()
 
 /// What the sixth call hands out is not early.
 pub fn six_calls_hand_out_nothing_early<T: Drop, P: Client>()
-    ensures { (table : TableId) (last : Number) (most at : ℕ) (value : T) (handed : Queued T) →
-        slice_get (take_answer (list_of (engine_after (engine_at_first table 1 last most P.idle)
+    ensures { (known : P.Known) (table : TableId) (last : Number) (most at : ℕ) (value : T)
+        (handed : Queued T) →
+        slice_get (take_answer (list_of (engine_after (engine_at_first table 1 last most known)
         (five_calls value)).grace.lists 0) 1) at ≡ Some handed → has_full_period
-        (turns_since handed.ord (engine_at_first table 1 last most P.idle) (five_calls value))
+        (turns_since handed.ord (engine_at_first table 1 last most known) (five_calls value))
         ≡ true }
 {
     laws::no_callback_runs_early::<T, P>();
@@ -44,8 +45,8 @@ pub fn six_calls_hand_out_nothing_early<T: Drop, P: Client>()
 
 /// Where the barrier's test says done, the callback before it was handed out.
 pub fn a_barrier_covers_the_callback_before_it<T: Drop, P: Client>()
-    ensures { (table : TableId) (last : Number) (most : ℕ) (value : T) →
-        times_handed_out 1 (engine_at_first table 1 last most P.idle) (under_a_barrier value) ≡ 1 }
+    ensures { (known : P.Known) (table : TableId) (last : Number) (most : ℕ) (value : T) →
+        times_handed_out 1 (engine_at_first table 1 last most known) (under_a_barrier value) ≡ 1 }
 {
     laws::barrier_covers_earlier_callbacks::<T, P>();
 }

@@ -2,11 +2,11 @@
 -- when it is refused.
 use Rattle.std.specs.Prelude.{ℕ, ◌≡◌, ◌+◌, ◌-◌, ◌==◌, Bool, true, false, not, nat_lt, if◌then◌else◌}
 use Rattle.std.specs.Prelude.{List, [], ◌∷◌}
-use Rattle.std.specs.Prelude.{length, slice_set, replicate, Option}
+use Rattle.std.specs.Prelude.{length, slice_set, replicate, None, Option}
 use Rattle.rcu_seq.specs.Fault.{first_fault}
 use Rattle.rcu_seq.specs.Numbers.{Number, number_at}
 use Rattle.rcu_seq.specs.Seq.{Periods, number_of}
-use Rattle.rcu_seq.specs.Tags.{of_first_epoch}
+use Rattle.rcu_seq.specs.Tags.{first_tag, of_first_epoch}
 use Rattle.rcu_seq.specs.declared.fault.Fault.{Fault}
 use Rattle.rcu_seq.specs.declared.fault.Fault.TheVariants.{BadCpu, Running, Idle, Waiting}
 use Rattle.rcu_seq.specs.declared.fault.Fault.TheVariants.{Exhausted, BootStays}
@@ -50,6 +50,11 @@ cpus_of r = length r.awaited
 -- where the latest grace period of a replica stands
 abbrev pub standing_of : Replicated → Standing
 standing_of r = standing (of_first_epoch r.tag) r.start_set r.awaited
+
+-- no grace period began: the tag is the first one, and none started with a processor
+pub record IsUnused (s : Standing) : Type 0 where
+  pub tag : s.tag ≡ first_tag
+  pub empty : s.start_set ≡ replicate (length s.awaited) false
 
 -- the number of the latest grace period of a counter, 0 before any
 abbrev pub latest_of : Periods → Number
@@ -113,3 +118,12 @@ pub record IsSound (r : Replicated) : Type 0 where
   pub latest : r.tag ≡ latest_of r.periods
   pub fresh : r.tag ≡ 0 → r.start_set ≡ replicate (cpus_of r) false
   pub idle : r.periods.running ≡ false → (cpu : ℕ) → is_in r.awaited cpu ≡ false
+
+-- where one replica may take in another, the other may take in this one, as it was or as it became,
+-- and both await the same then
+pub record MergesBack (x y : Replicated) : Type 0 where
+  pub both : refusal y (Merge x) ≡ None
+  pub apart : (after_call x (Merge y)).awaited ≡ (after_call y (Merge x)).awaited
+  pub still : refusal y (Merge (after_call x (Merge y))) ≡ None
+  pub in_turn : (after_call x (Merge y)).awaited
+      ≡ (after_call y (Merge (after_call x (Merge y)))).awaited

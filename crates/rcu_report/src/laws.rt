@@ -7,8 +7,8 @@ ghost use Rattle.rcu_node.specs.Reports.{awaited_after_reports, was_reported};
 ghost use Rattle.rcu_report.specs.Batch.{Gathered, awaited_after_batch};
 ghost use Rattle.rcu_report.specs.History.{AreAccepted, History, Represents, after_calls};
 ghost use Rattle.rcu_report.specs.History.{hears, is_heard, starts, tag};
-ghost use Rattle.rcu_report.specs.Replica.{Call, CanBeMade, IsSound, Merge, Replicated};
-ghost use Rattle.rcu_report.specs.Replica.{after_call, refusal};
+ghost use Rattle.rcu_report.specs.Replica.{Call, CanBeMade, IsSound, Merge, MergesBack};
+ghost use Rattle.rcu_report.specs.Replica.{Replicated, after_call, refusal};
 
 /// A batch leaves what its reports leave, one after another, in any order and any number of times:
 /// reports that have its tag, and whose processors are its set.
@@ -59,12 +59,5 @@ pub fn equally_heard_replicas_await_the_same()
 /// Where a replica may take in another, the other may take in this one, as it was or as it became,
 /// and both await the same then.
 pub fn merged_replicas_await_the_same()
-    ensures both { (x y : Replicated) → refusal x (Merge y) ≡ None → refusal y (Merge x) ≡ None }
-    ensures apart { (x y : Replicated) → refusal x (Merge y) ≡ None
-        → (after_call x (Merge y)).awaited ≡ (after_call y (Merge x)).awaited }
-    ensures still { (x y : Replicated) → refusal x (Merge y) ≡ None
-        → refusal y (Merge (after_call x (Merge y))) ≡ None }
-    ensures in_turn { (x y : Replicated) → refusal x (Merge y) ≡ None
-        → (after_call x (Merge y)).awaited
-        ≡ (after_call y (Merge (after_call x (Merge y)))).awaited }
+    ensures { (x y : Replicated) → refusal x (Merge y) ≡ None → MergesBack x y }
 {}

@@ -1,13 +1,12 @@
 //! An awaited set with a counter of grace periods.
-ghost use Rattle.std.specs.Prelude.{◌≡◌, ◌≤◌, false, length, replicate};
+ghost use Rattle.std.specs.Prelude.{◌≡◌, ◌≤◌, length};
 ghost use Rattle.std.specs.Prelude.{IfOk, OnErr, OnOk};
 ghost use Rattle.std.specs.Result.{result_err};
 ghost use Rattle.rcu_seq.specs.Seq.{last_refusal, number_of};
-ghost use Rattle.rcu_seq.specs.Tags.{first_tag};
 ghost use Rattle.rcu_node.specs.Merging.{standing};
 ghost use Rattle.rcu_report.specs.Replica.{Begin, Depart, End, Merge, Report};
-ghost use Rattle.rcu_report.specs.Replica.{IsSound, answer_of, at_first, cpus_of, after_call};
-ghost use Rattle.rcu_report.specs.Replica.{refusal, standing_of};
+ghost use Rattle.rcu_report.specs.Replica.{IsSound, IsUnused, after_call, answer_of, at_first};
+ghost use Rattle.rcu_report.specs.Replica.{cpus_of, refusal, standing_of};
 
 use rcu_node::merging::merge;
 use rcu_node::{Answer, Awaited, CpuSet};
@@ -56,8 +55,7 @@ impl<A: Awaited> Replica<A> {
     ///
     /// Fault `BadLast` (19): `last` is not a multiple of 4 in 4..=2^62.
     pub fn new(inner: A, last: u64) -> Result<Self, Fault>
-        requires tag { A.tag inner ≡ first_tag }
-        requires empty { A.start_set inner ≡ replicate (length (A.awaited inner)) false }
+        requires { IsUnused (standing (A.tag inner) (A.start_set inner) (A.awaited inner)) }
         ensures fault { result_err result ≡ last_refusal last }
         ensures state { IfOk result (λ made. made ≡ at_first (length (A.awaited inner)) last) }
     {

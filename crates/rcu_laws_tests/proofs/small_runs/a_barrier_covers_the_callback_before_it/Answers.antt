@@ -7,6 +7,6 @@ use Rattle.rcu_laws_tests.proofs.small_runs.a_barrier_covers_the_callback_before
 -- the test after these calls may be made, and says done
 pub returns : goal.returns
 unfolding listed
-returns g c = λ table last most value.
-    c.barrier_covers_earlier_callbacks.ensures (engine_at_first table 1 last most g.P.Client.idle)
+returns g c = λ known table last most value.
+    c.barrier_covers_earlier_callbacks.ensures (engine_at_first table 1 last most known)
     (under_a_barrier value) 1 (search rules) (search rules) refl (omega arith) (omega arith)

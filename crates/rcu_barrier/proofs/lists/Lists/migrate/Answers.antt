@@ -34,7 +34,7 @@ invariant_of-self-2 g c =
       most = i.most;
     } in
     let inside : cpu < length (items_in i.lists.items) =
-    subst (λ v. cpu < length v.all.lists) (sym c.self.view_is) c.requires.cpu in
+    subst (λ v. cpu < length v.all.lists) (sym c.self.view_is) c.requires.1 in
     let owed = c.owes_visit-owed.result in
     let owes : owes_visit old cpu ≡ owed =
     subst (λ v. owes_visit v.all cpu ≡ owed) (sym c.self.view_is) (sym c.owes_visit-owed.ensures) in
@@ -55,7 +55,7 @@ invariant_of-self-2 g c =
     ∙ moved in
     let marked : c.in_ok-moved.marked
     ≡ (owed && not (is_empty (list_at (items_in i.lists.items) cpu))) =
-    c.in_ok-moved.ensures.marked ∙
+    ap (λ (answer : ℕ × Bool). answer.1) c.in_ok-moved.ensures.answer ∙
     ap (λ l. owed && not (is_empty (list_at (items_in l) cpu))) c.as_mut_slice.ensures.value in
     let more : i.markers + c.from.result
     ≡ i.markers + one_if (owed && not (is_empty (list_of old cpu))) =
@@ -88,12 +88,12 @@ invariant_of-self-2 g c =
           subst Sound (sym w.self-inside-is)
           (subst (Kept w.insert.new.self) (sym back)
           (moved_kept old i.markers (i.markers + c.from.result) cpu owed w.insert.new.self k.0 k.1
-          c.requires.other inside (ap length w.insert.ensures ∙ length-set i.visits cpu true) more
+          c.requires.0 inside (ap length w.insert.ensures ∙ length-set i.visits cpu true) more
           (omega arith)))
       | else-owed w ↦
           let none : one_if owed ≡ 0 = ap one_if w.if-owed.false in
           subst Sound (sym w.self-inside-is)
           (subst (Kept i.visits) (sym back)
           (moved_kept old i.markers (i.markers + c.from.result) cpu owed i.visits k.0 k.1
-          c.requires.other inside refl more (omega arith)))
+          c.requires.0 inside refl more (omega arith)))
     ]

@@ -45,7 +45,7 @@ invariant_of-self g c =
     let advanced : c.advance.new.self.items ≡ after_advance old.items number =
     ap (λ l. l.items) c.advance.ensures in
     let after : c.accelerate.new.self.items ≡ after_tend old.items number =
-    accelerated ∙ (rw (snap, advanced) (tend_is number old.items c.requires.state fours)) in
+    accelerated ∙ (rw (snap, advanced) (tend_is number old.items c.requires.number.0 fours)) in
     let same = ap markers after ∙ markers_remarked _ old.items in
     relisted_in i.lists.items i.visits i.visits i.running i.queued i.markers i.markers i.queued
     i.most c.args.cpu old c.accelerate.new.self k.0 k.1 inside c.index_mut-list.ensures.value refl
@@ -72,7 +72,7 @@ returns-clause-state g c =
     let after : c.accelerate.new.self.items
     ≡ after_tend (get_or (items_in i.lists.items) c.args.cpu []) number =
     accelerated
-    ∙ (rw (snap, advanced) (tend_is number old.items c.requires.state fours)
+    ∙ (rw (snap, advanced) (tend_is number old.items c.requires.number.0 fours)
     ∙ ap (λ l. after_tend l number) is) in
     let rooms = same_rooms i.lists.items c.args.cpu old c.accelerate.new.self
     c.index_mut-list.ensures.value
@@ -90,8 +90,8 @@ returns-clause-state g c =
     ∙ ap (λ l. set (items_in i.lists.items) c.args.cpu l) after))
     rooms)
 
-pub returns-clause-done : goal.returns-clause-done
-returns-clause-done g c =
+pub returns-clause-answer : goal.returns-clause-answer
+returns-clause-answer g c =
     let i = c.self.inside in
     let k = c.self.invariant in
     let number = c.args.number in
@@ -110,32 +110,10 @@ returns-clause-done g c =
     let after : c.accelerate.new.self.items
     ≡ after_tend (get_or (items_in i.lists.items) c.args.cpu []) number =
     accelerated
-    ∙ (rw (snap, advanced) (tend_is number old.items c.requires.state fours)
+    ∙ (rw (snap, advanced) (tend_is number old.items c.requires.number.0 fours)
     ∙ ap (λ l. after_tend l number) is) in
-    rw (← c.self.view_is, c.done_count.ensures.count ∙ ap (λ l. length (callbacks (front l))) after)
-    refl
-
-pub returns-clause-waiting : goal.returns-clause-waiting
-returns-clause-waiting g c =
-    let i = c.self.inside in
-    let k = c.self.invariant in
-    let number = c.args.number in
-    let old = c.index_mut-list.result.now in
-    let inside : c.args.cpu < length (items_in i.lists.items) =
-    subst (λ v. c.args.cpu < length v.all.lists) (sym c.self.view_is) c.requires.cpu in
-    let is = read_items i.lists.items c.args.cpu old inside c.index_mut-list.ensures.value in
-    let fours : AreFours old.items =
-    subst AreFours (sym is) (fours_get (items_in i.lists.items) c.args.cpu k.1.fours) in
-    let snap = c.snapshot.ensures in
-    let accelerated : c.accelerate.new.self.items
-    ≡ after_accelerate c.advance.new.self.items c.snapshot.result =
-    ap (λ l. l.items) c.accelerate.ensures in
-    let advanced : c.advance.new.self.items ≡ after_advance old.items number =
-    ap (λ l. l.items) c.advance.ensures in
-    let after : c.accelerate.new.self.items
-    ≡ after_tend (get_or (items_in i.lists.items) c.args.cpu []) number =
-    accelerated
-    ∙ (rw (snap, advanced) (tend_is number old.items c.requires.state fours)
-    ∙ ap (λ l. after_tend l number) is) in
-    rw (← c.self.view_is, c.waiting_count.ensures ∙ ap (λ l. length (callbacks (behind l))) after)
-    refl
+    rw (
+      ← c.self.view_is,
+      c.done_count.ensures.count ∙ ap (λ l. length (callbacks (front l))) after,
+      c.waiting_count.ensures ∙ ap (λ l. length (callbacks (behind l))) after,
+    ) refl

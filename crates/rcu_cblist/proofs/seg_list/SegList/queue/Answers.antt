@@ -1,4 +1,4 @@
-use Rattle.std.proofs.Common.{length, ap, arith}
+use Rattle.std.proofs.Common.{length, ap, refl, arith}
 use Rattle.rcu_cblist.proofs.Refusals.{queue_refused}
 use Rattle.rcu_cblist.proofs.Taking.{seen_length}
 use Rattle.rcu_cblist.proofs.seg_list.SegList.queue.Goals as goal
@@ -11,4 +11,4 @@ returns-in_default-clause-fault g c =
     let room = ap (λ l. l.room) c.self.view_is in
     let items = ap (λ l. length l.items) c.self.view_is in
     let full = c.in_default.ensures.full in
-    queue_refused c.args.self.now (omega arith)
+    record { fault = queue_refused c.args.self.now (omega arith); value = refl }

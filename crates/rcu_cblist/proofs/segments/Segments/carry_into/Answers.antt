@@ -3,7 +3,7 @@ use Rattle.std.proofs.Common.{take-append-drop, arith}
 use Rattle.rcu_cblist.specs.SegList.{as_it_leaves, callbacks}
 use Rattle.rcu_cblist.specs.Kept.{moved_behind, moved_in_front, unmarked}
 use Rattle.rcu_cblist.specs.Segments.{seen}
-use Rattle.rcu_cblist.proofs.Cuts.{calls_joined, calls_within}
+use Rattle.rcu_cblist.proofs.Cuts.{calls_joined, calls_within, same_calls, same_items}
 use Rattle.rcu_cblist.proofs.Carrying.{Leaves, behind_calls, carried_seen, carried_tails}
 use Rattle.rcu_cblist.proofs.Carrying.{front_calls, leaves, tail_few}
 use Rattle.rcu_cblist.proofs.segments.Segments.carry_into.Goals as goal
@@ -84,7 +84,7 @@ around : (g : _) (c : goal.After-rise-3 g) →
 around g c =
     let items = ap (λ q. q.items) c.lose_numbers.ensures.items in
     let place = ap (λ tail. tail.items) c.lose_numbers.ensures.next in
-    rw (← items, ← place) c.join_marked.ensures.target
+    rw (← items, ← place) c.join_marked.ensures.target.items
 
 -- how many went in front
 ahead : (g : _) (c : goal.After-rise-3 g) →
@@ -126,9 +126,11 @@ invariant_of-target g c =
           (record { items = c.join_marked.result; calls = c.lose_numbers.new.self.ready.calls })
           t.calls c.args.target.now.cut p.front_first p.behind_first (ahead g c) (ahead_calls g c)
           c.rise.new.self c.rise-2.new.self c.rise-3.new.self
-          (t.calls + c.lose_numbers.new.self.calls) c.rise.ensures.items c.rise.ensures.calls
-          c.rise-2.ensures.items c.rise-2.ensures.calls c.rise-3.ensures.items
-          c.rise-3.ensures.calls (omega arith));
+          (t.calls + c.lose_numbers.new.self.calls) (same_items _ _ c.rise.ensures)
+          (same_calls _ _ c.rise.ensures)
+          (same_items _ _ c.rise-2.ensures) (same_calls _ _ c.rise-2.ensures)
+          (same_items _ _ c.rise-3.ensures)
+          (same_calls _ _ c.rise-3.ensures) (omega arith));
     }
 
 pub returns-clause-target : goal.returns-clause-target
@@ -144,5 +146,6 @@ returns-clause-target g c =
     (record { items = c.join_marked.result; calls = c.lose_numbers.new.self.ready.calls }) t.calls
     c.args.target.now.cut p.front_first p.behind_first (ahead g c.before.before)
     (ahead_calls g c.before.before) (as_it_leaves (seen s) m) c.rise.new.self.items
-    c.rise-2.new.self.items c.rise-3.new.self.items p c.rise.ensures.items c.rise-2.ensures.items
-    c.rise-3.ensures.items)
+    c.rise-2.new.self.items c.rise-3.new.self.items p (same_items _ _ c.rise.ensures)
+    (same_items _ _ c.rise-2.ensures)
+    (same_items _ _ c.rise-3.ensures))

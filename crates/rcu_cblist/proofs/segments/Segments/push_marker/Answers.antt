@@ -1,6 +1,7 @@
 use Rattle.std.proofs.Common.{◌≡◌, ◌∷◌, ◌++◌, [], length, ◌∙◌, arith}
 use Rattle.rcu_cblist.specs.declared.kept.Kept.TheVariants as kept
 use Rattle.rcu_cblist.specs.Cuts.{AreTails}
+use Rattle.rcu_cblist.proofs.Cuts.{same_calls, same_items}
 use Rattle.rcu_cblist.proofs.Marking.{Marked, entrained, push_marked, some_kept}
 use Rattle.rcu_cblist.proofs.Refusals.{list_is}
 use Rattle.rcu_cblist.proofs.segments.Segments.push_marker.Goals as goal
@@ -25,8 +26,10 @@ ends g c =
     (let ok = s.items.ok in let len = c.len-end.ensures in omega arith) in
     push_marked s.wait_number s.ready_number s.calls c.len-end.result xs s.done s.wait s.ready
     c.pass_marker.new.self c.pass_marker-2.new.self c.pass_marker-3.new.self k end (omega arith)
-    c.pass_marker.ensures.items c.pass_marker.ensures.calls c.pass_marker-2.ensures.items
-    c.pass_marker-2.ensures.calls c.pass_marker-3.ensures.items c.pass_marker-3.ensures.calls
+    (same_items _ _ c.pass_marker.ensures) (same_calls _ _ c.pass_marker.ensures)
+    (same_items _ _ c.pass_marker-2.ensures)
+    (same_calls _ _ c.pass_marker-2.ensures) (same_items _ _ c.pass_marker-3.ensures)
+    (same_calls _ _ c.pass_marker-3.ensures)
 
 pub invariant_of-self : goal.invariant_of-self
 invariant_of-self g c = record { cut = rw c.push_back_reserved.ensures.items (ends g c).0 }

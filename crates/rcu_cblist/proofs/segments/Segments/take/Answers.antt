@@ -2,6 +2,7 @@ use Rattle.std.proofs.Common.{◌+◌, ◌-◌, ◌++◌, take, ap, sym, ◌∙�
 use Rattle.rcu_cblist.specs.SegList.{markers}
 use Rattle.rcu_cblist.specs.Cuts.{AreTails}
 use Rattle.rcu_cblist.specs.Segments.{seen}
+use Rattle.rcu_cblist.proofs.Cuts.{same_calls, same_items}
 use Rattle.rcu_cblist.proofs.Lists.{taken_least}
 use Rattle.rcu_cblist.proofs.Taking.{calls_all, falls, now_callbacks, now_done, now_markers}
 use Rattle.rcu_cblist.proofs.Taking.{taken_seen, taken_tails}
@@ -17,41 +18,33 @@ take_first-markers-requires-clause-there g c =
     let all = calls_all s.items.items s.done k.done_tail in
     omega arith
 
-pub fall-requires-clause-items : goal.fall-requires-clause-items
-fall-requires-clause-items g c =
-    let e = c.take_first-markers.ensures in
-    (falls c.args.self.now c.args.most (c.args.most + c.take_first-markers.result)
-    c.take_first-markers.new.items.items c.requires.done e.gone e.left e.items).in_done
+pub fall-requires : goal.fall-requires
+fall-requires g c =
+    let e = c.take_first-markers.ensures.left in
+    let far = falls c.args.self.now c.args.most (c.args.most + c.take_first-markers.result)
+    c.take_first-markers.new.items.items c.requires.done e.gone e.left e.items in
+    record { items = far.in_done; calls = c.requires.done }
 
-pub fall-requires-2-clause-items : goal.fall-requires-2-clause-items
-fall-requires-2-clause-items g c =
-    let e = c.take_first-markers.ensures in
-    (falls c.args.self.now c.args.most (c.args.most + c.take_first-markers.result)
-    c.take_first-markers.new.items.items c.requires.done e.gone e.left e.items).in_wait
+pub fall-requires-2 : goal.fall-requires-2
+fall-requires-2 g c =
+    let e = c.take_first-markers.ensures.left in
+    let far = falls c.args.self.now c.args.most (c.args.most + c.take_first-markers.result)
+    c.take_first-markers.new.items.items c.requires.done e.gone e.left e.items in
+    record { items = far.in_wait; calls = far.of_wait }
 
-pub fall-requires-2-clause-calls : goal.fall-requires-2-clause-calls
-fall-requires-2-clause-calls g c =
-    let e = c.take_first-markers.ensures in
-    (falls c.args.self.now c.args.most (c.args.most + c.take_first-markers.result)
-    c.take_first-markers.new.items.items c.requires.done e.gone e.left e.items).of_wait
-
-pub fall-requires-3-clause-items : goal.fall-requires-3-clause-items
-fall-requires-3-clause-items g c =
-    let e = c.take_first-markers.ensures in
-    (falls c.args.self.now c.args.most (c.args.most + c.take_first-markers.result)
-    c.take_first-markers.new.items.items c.requires.done e.gone e.left e.items).in_ready
-
-pub fall-requires-3-clause-calls : goal.fall-requires-3-clause-calls
-fall-requires-3-clause-calls g c =
-    let e = c.take_first-markers.ensures in
-    (falls c.args.self.now c.args.most (c.args.most + c.take_first-markers.result)
-    c.take_first-markers.new.items.items c.requires.done e.gone e.left e.items).of_ready
+pub fall-requires-3 : goal.fall-requires-3
+fall-requires-3 g c =
+    let e = c.take_first-markers.ensures.left in
+    let far = falls c.args.self.now c.args.most (c.args.most + c.take_first-markers.result)
+    c.take_first-markers.new.items.items c.requires.done e.gone e.left e.items in
+    record { items = far.in_ready; calls = far.of_ready }
 
 pub overflow_sub-self : goal.overflow_sub-self
 overflow_sub-self g c =
-    let e = c.take_first-markers.ensures in
-    (falls c.args.self.now c.args.most (c.args.most + c.take_first-markers.result)
-    c.take_first-markers.new.items.items c.requires.done e.gone e.left e.items).of_all
+    let e = c.take_first-markers.ensures.left in
+    let far = falls c.args.self.now c.args.most (c.args.most + c.take_first-markers.result)
+    c.take_first-markers.new.items.items c.requires.done e.gone e.left e.items in
+    far.of_all
 
 -- what is left is cut as it has to be
 kept : (g : _) (c : goal.After-fall-3 g)
@@ -60,13 +53,14 @@ kept : (g : _) (c : goal.After-fall-3 g)
     c.args.self.now.ready_number
 kept g c =
     let s = c.args.self.now in
-    let e = c.take_first-markers.ensures in
+    let e = c.take_first-markers.ensures.left in
     taken_tails s.wait_number s.ready_number s.items.items s.done s.wait s.ready s.calls
     c.args.self.now.cut c.args.most (c.args.most + c.take_first-markers.result)
     c.take_first-markers.new.items.items c.requires.done e.gone e.left e.items c.fall.new.self
-    c.fall-2.new.self c.fall-3.new.self (s.calls - c.args.most) c.fall.ensures.items
-    c.fall.ensures.calls c.fall-2.ensures.items c.fall-2.ensures.calls c.fall-3.ensures.items
-    c.fall-3.ensures.calls (omega arith)
+    c.fall-2.new.self c.fall-3.new.self (s.calls - c.args.most) (same_items _ _ c.fall.ensures)
+    (same_calls _ _ c.fall.ensures) (same_items _ _ c.fall-2.ensures)
+    (same_calls _ _ c.fall-2.ensures) (same_items _ _ c.fall-3.ensures)
+    (same_calls _ _ c.fall-3.ensures) (omega arith)
 
 pub invariant_of-self : goal.invariant_of-self
 invariant_of-self g c = record { cut = kept g c }
@@ -87,19 +81,20 @@ returns-clause-calls g c =
 pub returns-clause-state : goal.returns-clause-state
 returns-clause-state g c =
     let s = c.args.self.now in
-    let e = c.take_first-markers.ensures in
+    let e = c.take_first-markers.ensures.left in
     list_is _ _ _ _
     (taken_seen s.wait_number s.ready_number s.items.items s.done s.wait s.ready s.calls
     c.args.self.now.cut c.args.most (c.args.most + c.take_first-markers.result)
     c.take_first-markers.new.items.items c.requires.done e.gone e.left e.items c.fall.new.self.items
-    c.fall-2.new.self.items c.fall-3.new.self.items c.fall.ensures.items c.fall-2.ensures.items
-    c.fall-3.ensures.items)
-    c.take_first-markers.ensures.capacity
+    c.fall-2.new.self.items c.fall-3.new.self.items (same_items _ _ c.fall.ensures)
+    (same_items _ _ c.fall-2.ensures)
+    (same_items _ _ c.fall-3.ensures))
+    c.take_first-markers.ensures.left.capacity
 
 pub returns-clause-markers : goal.returns-clause-markers
 returns-clause-markers g c =
     let s = c.args.self.now in
-    let e = c.take_first-markers.ensures in
+    let e = c.take_first-markers.ensures.left in
     let before = now_markers s.wait_number s.ready_number s.items.items s.done s.wait s.ready
     s.calls c.args.self.now.cut in
     let left = now_markers s.wait_number s.ready_number c.take_first-markers.new.items.items
