@@ -1,9 +1,5 @@
-//! Tests of cells, graphs and maps.
+//! Tests of maps.
 #![tactic(auto)]
 
 #[cfg(test)]
-mod cell;
-#[cfg(test)]
 mod map;
-#[cfg(test)]
-mod nodes;

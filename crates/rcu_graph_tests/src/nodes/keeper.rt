@@ -1,5 +1,5 @@
 //! A keeper's calls on one thread: a full chain is left by one store, and its nodes come back after
-//! a full grace period, and no sooner.
+//! a full grace period, and no sooner; what was freed last is used first.
 ghost use Rattle.std.specs.Prelude.{◌≡◌, ◌<◌};
 ghost use Rattle.rcu_live.specs.CpuSeat.{IsSeatOf};
 
@@ -165,4 +165,40 @@ fn nodes_come_back_after_a_full_period(rt: HostRuntime) {
     };
     leave_before_a_period(&mut periods, &mut kept);
     leave_during_a_period(&mut periods, &mut kept);
+}
+
+/// Publishes a node in place of the one before, which is free again after this grace period.
+/// Returns the node.
+fn replace<R: Abort + Wait>(
+    periods: &mut Periods<'_, R>,
+    kept: &mut Kept<'_>,
+    number: u64,
+) -> usize {
+    let node = add(periods.rt, kept, 0, 5);
+    let _ = kept.age();
+    periods.begin(number);
+    periods.end(number);
+    let _ = kept.age();
+    node
+}
+
+#[test]
+fn steady_turnover_uses_the_same_two_nodes(rt: HostRuntime) {
+    let Ok((chain, mut seats, _, own)) = Chain::open(rt.alloc(), 1, 4_000_000, &[[0, 0]]) else {
+        return;
+    };
+    let seat = seats.pop().expect(&rt, "a processor is left");
+    let Ok(mut kept) = Kept::new(rt.alloc(), &chain, own) else {
+        return;
+    };
+    let mut periods = Periods {
+        rt: &rt,
+        chain: &chain,
+        seat,
+    };
+    for turn in 0..100u64 {
+        let first = replace(&mut periods, &mut kept, 8 * turn + 1);
+        let second = replace(&mut periods, &mut kept, 8 * turn + 5);
+        assert_eq!(rt; (first, second), (1, 2));
+    }
 }

@@ -1,0 +1,7 @@
+//! Tests of cells and graphs.
+#![tactic(auto)]
+
+#[cfg(test)]
+mod cell;
+#[cfg(test)]
+mod nodes;
