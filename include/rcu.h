@@ -662,7 +662,8 @@ static inline uint32_t rcu_drive_for(rcu_t *rcu, uint64_t cookie, rcu_turn_t *tu
 uint32_t rcu_collect_all(rcu_t *rcu, uint32_t *left);
 
 /* Lists the awaited processors, in order, `room` at most: writes them from `cpus` on, where there
- * is room for so many, and how many; what lies behind them stays. */
+ * is room for so many, and how many; what lies behind them stays. It costs a step for each, and one
+ * more for every 64 others. */
 uint32_t rcu_awaited_list(rcu_t *rcu, uint32_t *cpus, size_t room, uint32_t *count);
 
 /* Takes a cookie, as rcu_take, and asks: from now on rcu_turn and rcu_drive begin a grace period

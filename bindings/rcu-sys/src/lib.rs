@@ -525,7 +525,8 @@ extern "C" {
     /// still are: 0 where no grace period runs.
     pub fn rcu_collect_all(rcu: *mut rcu_t, left: *mut u32) -> u32;
     /// Lists the awaited processors, in order, `room` at most: writes them from `cpus` on, where
-    /// there is room for so many, and how many; what lies behind them stays.
+    /// there is room for so many, and how many; what lies behind them stays. It costs a step for
+    /// each, and one more for every 64 others.
     pub fn rcu_awaited_list(rcu: *mut rcu_t, cpus: *mut u32, room: usize, count: *mut u32) -> u32;
     /// Takes a cookie, as `rcu_take`, and asks: from now on `rcu_turn` and `rcu_drive` begin a
     /// grace period for it. 2^64 - 1, which is done nowhere, where `rcu` is no open engine's.

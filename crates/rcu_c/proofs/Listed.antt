@@ -1,6 +1,6 @@
 -- Processors that are listed in a buffer, as far as there is room.
-use Rattle.std.proofs.Common.{◌≡◌, ℕ, ◌+◌, ◌<◌, ◌≤◌, Bool, true, false, List, [], ◌∷◌, ◌++◌, length}
-use Rattle.std.proofs.Common.{take, ap, refl, sym, ◌∙◌, arith, append-nil}
+use Rattle.std.proofs.Common.{◌≡◌, ℕ, zero, suc, ◌+◌, ◌-◌, ◌<◌, ◌≤◌, Bool, true, false, List, []}
+use Rattle.std.proofs.Common.{◌∷◌, ◌++◌, length, take, ap, refl, sym, ◌∙◌, arith, append-nil}
 use Rattle.std.specs.Prelude.{filter, slice_set}
 use Rattle.std.specs.List.{range_with_len}
 use Rattle.std.proofs.lemmas.List.{length-append, length-take, take-append-le, take_all}
@@ -77,3 +77,43 @@ pub listed_full : (p : ℕ → Bool) (n room : ℕ)
     → room ≤ length (take room (filter p (range_with_len 0 n)))
     → take room (filter p (range_with_len 0 (n + 1))) ≡ take room (filter p (range_with_len 0 n))
 listed_full p n room none = full_more p n room (p n) refl none
+
+-- nobody of the processors from one on is listed
+passed_more : (p : ℕ → Bool) (from more n : ℕ) → n ≡ from + more
+    → ((i : ℕ) → from ≤ i → i < n → p i ≡ false)
+    → filter p (range_with_len 0 n) ≡ filter p (range_with_len 0 from)
+passed_more p from zero n end none =
+    let same : n ≡ from = omega (arith, end) in ap (λ k. filter p (range_with_len 0 k)) same
+passed_more p from (suc m) n end none =
+    let next : n ≡ from + m + 1 = omega (arith, end) in
+    ap (λ k. filter p (range_with_len 0 k)) next
+    ∙ more_no p (from + m) (none (from + m) (omega arith) (omega (arith, next)))
+    ∙ passed_more p from m (from + m) refl
+    (λ i later less. none i later (omega (arith, less, next)))
+
+pub listed_passed : (p : ℕ → Bool) (from n : ℕ) → from ≤ n
+    → ((i : ℕ) → from ≤ i → i < n → p i ≡ false)
+    → filter p (range_with_len 0 n) ≡ filter p (range_with_len 0 from)
+listed_passed p from n later none = passed_more p from (n - from) n (omega (arith, later)) none
+
+full_to_more : (p : ℕ → Bool) (from more n room : ℕ) → n ≡ from + more
+    → room ≤ length (take room (filter p (range_with_len 0 from)))
+    → take room (filter p (range_with_len 0 n)) ≡ take room (filter p (range_with_len 0 from))
+full_to_more p from zero n room end none =
+    let same : n ≡ from = omega (arith, end) in
+    ap (λ k. take room (filter p (range_with_len 0 k))) same
+full_to_more p from (suc m) n room end none =
+    let next : n ≡ from + m + 1 = omega (arith, end) in
+    let so_far = full_to_more p from m (from + m) room refl none in
+    let still : room ≤ length (take room (filter p (range_with_len 0 (from + m)))) =
+    omega (arith, none, ap (λ (l : List ℕ). length l) so_far) in
+    ap (λ k. take room (filter p (range_with_len 0 k))) next
+    ∙ listed_full p (from + m) room still
+    ∙ so_far
+
+-- where there is no more room, what follows changes nothing
+pub listed_full_to : (p : ℕ → Bool) (from n room : ℕ) → from ≤ n
+    → room ≤ length (take room (filter p (range_with_len 0 from)))
+    → take room (filter p (range_with_len 0 n)) ≡ take room (filter p (range_with_len 0 from))
+listed_full_to p from n room later none =
+    full_to_more p from (n - from) n room (omega (arith, later)) none

@@ -10,7 +10,8 @@ use Rattle.rcu_c.specs.Seats.{Seat, seat_at_first}
 use Rattle.rcu_c.specs.declared.identity.Identity.{Identity}
 
 -- it is as it is opened
-pub opened : (identity : Identity) (o : Object) (cpus last : ℕ) (engine : Locked (Unit {0}) ℕ)
+pub opened : (identity : Identity) (o : Object (Unit {0})) (cpus last : ℕ)
+    (engine : Locked (Unit {0}) ℕ)
     (seats : List (Option Seat)) (wishes : Wishing) (made : EngineAndSeats)
     → made ≡ record { engine = engine; seats = seats; wishes = wishes; identity = identity }
     → o.cpus ≡ cpus

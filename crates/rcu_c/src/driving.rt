@@ -17,6 +17,7 @@ ghost use Rattle.rcu_c.specs.Staying.{BothStay};
 use crate::codes::{NEVER_DONE, write_out};
 use crate::grace_periods::{Turn, turn_in_c};
 use crate::handle::Rcu;
+use crate::open_engine::TreeEngine;
 use rcu_node::Awaited;
 use rcu_seq::Cookie;
 
@@ -122,8 +123,29 @@ pub(crate) fn put_awaited<A: Awaited>(awaited: &A, cpus: &mut [u32]) -> u32
     count
 }
 
+/// Writes the processors that an engine awaits, as [`put_awaited`] does. Costs a step for each, and
+/// one more for every 64 processors that are passed over.
+fn list_awaited(engine: &TreeEngine, cpus: &mut [u32]) -> u32
+    ensures count { result ≡ length (awaited_list engine.now (length cpus.old)) }
+    ensures head { take result cpus.new ≡ awaited_list engine.now (length cpus.old) }
+    ensures rest { drop result cpus.new ≡ drop result cpus.old }
+{
+    let mut count = 0;
+    let mut from = 0;
+    while let Some(cpu) = engine.next_awaited(from) {
+        if count as usize == cpus.len() {
+            return count;
+        }
+        cpus[count as usize] = cpu;
+        count += 1;
+        from = cpu + 1;
+    }
+    count
+}
+
 /// Lists the awaited processors, in order, `room` at most: writes them from `cpus` on, where there
-/// is room for so many, and how many; what lies behind them stays.
+/// is room for so many, and how many; what lies behind them stays. It costs a step for each, and
+/// one more for every 64 others.
 #[unsafe(no_mangle)]
 pub extern "C" fn rcu_awaited_list(rcu: &mut Rcu, cpus: &mut [u32], count: &mut u32) -> u32
     ensures state { rcu.new.contents ≡ rcu.old.contents }
@@ -137,7 +159,7 @@ pub extern "C" fn rcu_awaited_list(rcu: &mut Rcu, cpus: &mut [u32], count: &mut 
 {
     match rcu.engine() {
         Ok(opened) => {
-            *count = put_awaited(opened.inner.grace().awaited(), cpus);
+            *count = list_awaited(&opened.inner, cpus);
             0
         }
         Err(refusal) => refusal.number(),

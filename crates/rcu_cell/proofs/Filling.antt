@@ -71,7 +71,7 @@ stored_more old words k x low is before j small =
     (λ (apart : j ≢ k). get_or-set_other old k j x 0 apart ∙ before j (omega (arith, small, apart)))
 
 -- the slot may be stored to still
-pub may_fill_still : (o : Object) (count : ℕ) (old now : Watching Known) (c i : ℕ)
+pub may_fill_still : (o : Object (Unit {0})) (count : ℕ) (old now : Watching Known) (c i : ℕ)
     (s : List Version) (words : List ℕ)
     → now ≡ after_word_step old (Keeper c (filled s i words))
     → IsWatcherOf o old

@@ -18,19 +18,20 @@ after_section s n = record s {
 }
 
 -- a processor's seat of the cell, whose open section may load a version
-pub record MayLoad (cell : Object) (seat : Seated Known) : Type 0 where
+pub record MayLoad (cell : Object (Unit {0})) (seat : Seated Known) : Type 0 where
   pub seat_of : IsSeatOf cell seat
   pub is_open : IsSome seat.view.section
 
 -- a processor's seat of the cell, with no section open
-pub record IsOutside (cell : Object) (seat : Seated Known) : Type 0 where
+pub record IsOutside (cell : Object (Unit {0})) (seat : Seated Known) : Type 0 where
   pub seat_of : IsSeatOf cell seat
   pub outside : seat.depth ≡ 0
 
 -- a keeper of the cell, by its seat, and a processor's seat of it
-pub record AreOf (cell : Object) (keeper : Watching Known) (seat : Seated Known) : Type 0 where
-  pub keeper_of : IsWatcherOf cell keeper
-  pub seat_of : IsSeatOf cell seat
+pub record AreOf (cell : Object (Unit {0})) (keeper : Watching Known) (seat : Seated Known) : Type 0
+  where
+    pub keeper_of : IsWatcherOf cell keeper
+    pub seat_of : IsSeatOf cell seat
 
 -- the open section reads a version from now on, and nothing else of its seat changed
 pub record ReadsOn (before after : Seated Known) : Type 0 where

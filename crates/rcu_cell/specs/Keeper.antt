@@ -26,14 +26,15 @@ pub record KeepsFree (known : Known) (slot : ℕ) : Type 0 where
   pub free : (version_at (slots_in known) slot).state ≡ Free
 
 -- a seat of the cell that keeps its slots, so many, may store to this one: it is free
-pub record MayFill (cell : Object) (count : ℕ) (seat : Watching Known) (slot : ℕ) : Type 0 where
+pub record MayFill (cell : Object (Unit {0})) (count : ℕ) (seat : Watching Known) (slot : ℕ) : Type
+    0 where
   pub seat_of : IsWatcherOf cell seat
   pub inside : slot < count
   pub keeps : KeepsFree seat.view.client slot
 
 -- the keeper of a cell of so many slots of so many words, as it is dealt by this seat: it knows the
 -- slots as at first
-pub record IsDealtBy (holds : List ℕ → Type 0) (width count : ℕ) (cell : Object)
+pub record IsDealtBy (holds : List ℕ → Type 0) (width count : ℕ) (cell : Object (Unit {0}))
     (seat keeper : Watching Known) : Type 0 where
   pub keeper_of : IsWatcherOf cell keeper
   pub claimed : KnowsBy (λ _ now. IsClaimed holds width count now) seat keeper

@@ -10,7 +10,7 @@ use Rattle.rcu_cell.specs.declared.known.Known.{Known}
 -- the cell, the seat whose section reads the version, the slot that it stays in, and which seat is
 -- borrowed: a name that tells one borrowed seat from another
 pub record Lent : Type 0 where
-  pub cell : Object
+  pub cell : Object (Unit {0})
   pub seat : Seated Known
   pub slot : ℕ
   pub name : GName
@@ -21,7 +21,7 @@ version_of loaded = words_in loaded.seat.view.client
 
 -- lent is a version of this cell, by the borrowed seat of this name, of which what it knows has
 -- changed and nothing else
-pub record IsLentBy (cell : Object) (seat : Seated Known) (name : GName)
+pub record IsLentBy (cell : Object (Unit {0})) (seat : Seated Known) (name : GName)
     (loaded : Lent) : Type 0 where
   pub of_cell : loaded.cell ≡ cell
   pub by_name : loaded.name ≡ name

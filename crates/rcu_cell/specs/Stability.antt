@@ -134,7 +134,7 @@ module _ (holds : List ℕ → Type 0) (width count : ℕ) where
       (knows_handed width count h.slots h.shown h.keeper id new known mine))
       (at_end left (None, None, known) y j e))
 
-  pub is_stable : IsStable (IsKept holds width count) Idle closed
+  pub is_stable : IsStable (IsKept holds width count) (λ _. Idle) closed
   is_stable = record {
     opens = λ words homes xs id number cpu known h at.
         one_changes words homes xs h id (cpu, Some number, known)
@@ -144,8 +144,9 @@ module _ (holds : List ℕ → Type 0) (width count : ℕ) where
         one_changes words homes xs h id (cpu, None, closed known)
         (knows_closed width count h.slots h.shown h.keeper id section known
         (h.seats id cpu section known at));
-    deals = λ words homes xs cpu h. reseated words homes xs (xs ++ (cpu, None, Idle) ∷ []) h
-        h.keeper (λ j y e. ⊎_elim (λ (old : get_elem? xs j ≡ some y). h.seats j y.0 y.1 y.2 old)
+    deals = λ words homes xs id who section known cpu h at.
+        reseated words homes xs (xs ++ (cpu, None, Idle) ∷ []) h h.keeper
+        (λ j y e. ⊎_elim (λ (old : get_elem? xs j ≡ some y). h.seats j y.0 y.1 y.2 old)
         (λ (last : (j ≡ length xs) × ((cpu, None, Idle) ≡ y)).
         subst (λ (z : ClientView Known). SeatKnows width count h.slots h.shown h.keeper j z) last.1
         tt)

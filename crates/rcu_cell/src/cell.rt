@@ -32,7 +32,7 @@ impl<const LEAF: u32, const FAN: u32, T: Drop, F: Invariant, const W: usize, con
     ghost use Rattle.rcu_live.specs.Words.{base_of};
     ghost use Rattle.rcu_cell.specs.Versions.{first_place};
 
-    ghost Value = { Object };
+    ghost Value = { Object (Unit {0}) };
 
     ghost view = { λ cell. cell.live };
 

@@ -93,6 +93,7 @@ impl<const LEAF: u32, const FAN: u32, T: Drop, F: Invariant, const W: usize, con
             cpus,
             last,
             MOST,
+            (),
             behind.as_slice(),
             Vec::new(alloc),
         )?;

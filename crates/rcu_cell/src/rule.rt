@@ -16,6 +16,8 @@ pub struct CellRule<F, const W: usize, const N: usize> {
 }
 
 impl<F: Invariant, const W: usize, const N: usize> Client for CellRule<F, W, N> {
+    type Plan = ();
+
     type Slot = ();
 
     type Known = Known;
@@ -25,17 +27,17 @@ impl<F: Invariant, const W: usize, const N: usize> Client for CellRule<F, W, N> 
     ghost use Rattle.rcu_cell.specs.Versions.{closed};
     ghost use Rattle.rcu_cell.specs.declared.known.Known.TheVariants.{Idle, Owner};
 
-    ghost holds = { IsKept F.holds W N };
+    ghost holds = { λ _. IsKept F.holds W N };
 
-    ghost first = { Owner };
+    ghost first = { λ _. Owner };
 
-    ghost idle = { Idle };
+    ghost idle = { λ _. Idle };
 
     ghost closed = { closed };
 
     fn mark() {}
 
-    ghost stable = { is_stable F.holds W N };
+    ghost stable = { λ _. is_stable F.holds W N };
 }
 
 /// A processor's seat of a cell's engine.

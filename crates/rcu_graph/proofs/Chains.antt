@@ -3,6 +3,7 @@ use Rattle.std.proofs.Common.{◌≡◌, ◌≢◌, ◌⊎◌, ℕ, suc, ◌<◌
 use Rattle.std.proofs.Common.{◌∙◌, subst, inl, inr, arith, ⊎_elim}
 use Rattle.std.specs.Prelude.{IsTrue, slice_index}
 use Rattle.std.proofs.lemmas.List.{get_or-set_other, get_or-set_same, get_or_past}
+use Rattle.std.proofs.Math.Nat.{suc_inj}
 use mathlib.Core.Option.{some, some-injective}
 use mathlib.Core.Logic.{dite}
 use native.Mathlib.Decide.{dec_lt, ℕ_discrete}
@@ -16,16 +17,10 @@ use Rattle.rcu_graph.specs.Nodes.{renewed, state_at, worded}
 use Rattle.rcu_graph.specs.declared.known.Node.{Node}
 use Rattle.rcu_graph.specs.declared.node_state.NodeState.{NodeState}
 use Rattle.rcu_graph.specs.declared.node_state.NodeState.TheVariants.{Free, Left, Live}
-use Rattle.rcu_graph.proofs.States.{may_aged}
-
-the_same : (a b : ℕ) → suc a ≡ suc b → a ≡ b
-the_same a b e = omega (arith, e)
+use Rattle.rcu_graph.proofs.States.{may_aged, not_both}
 
 free_unread : (opened : ℕ) (st : NodeState) → st ≡ Free → MayRead opened st → ⊥
 free_unread opened st free may = subst (MayRead opened) free may
-
-not_both : (st : NodeState) → st ≡ Live → st ≡ Free → ⊥
-not_both st a b = cc
 
 -- one node changes: another is as it was
 other_node : (nodes : List Node) (i j : ℕ) (f : Node → Node) → j ≢ i
@@ -105,7 +100,7 @@ module _ (nodes : List Node) where
       let same : key_at nodes from ≡ key_at nodes x = ap (λ (m : ℕ). key_at nodes m) f in
       absurd (omega (arith, less, up, rest, same))
   leads_on ours root c j x from live (onwards _ n is r) (onwards _ m at q) less =
-      let one : m ≡ n = the_same m n (sym at ∙ is) in
+      let one : m ≡ n = suc_inj (sym at ∙ is) in
       let rest =
       leads_on ours root c j x n (c.live from n live is) r (subst (Reaches nodes x) one q) less in
       (rest.0, rest.1, onwards from n is rest.2, rest.3)

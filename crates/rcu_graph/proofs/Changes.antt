@@ -19,16 +19,11 @@ use Rattle.rcu_graph.specs.Rule.{AreKept, IsLed, Leads}
 use Rattle.rcu_graph.specs.declared.known.Node.{Node}
 use Rattle.rcu_graph.specs.declared.node_state.NodeState.{NodeState}
 use Rattle.rcu_graph.specs.declared.node_state.NodeState.TheVariants.{Free, Live, Left, Retired}
-use Rattle.rcu_graph.proofs.States.{by_aged, live_outlived, none_outlives, outlives_aged, used_aged}
-
-not_both : (st : NodeState) → st ≡ Live → st ≡ Free → ⊥
-not_both st a b = cc
+use Rattle.rcu_graph.proofs.States.{by_aged, live_outlived, none_outlives, not_both, outlives_aged}
+use Rattle.rcu_graph.proofs.States.{used_aged}
 
 nowhere : (j : ℕ) → 0 ≡ suc j → ⊥
 nowhere j e = omega (arith, e)
-
-the_same : (a b : ℕ) → suc a ≡ suc b → a ≡ b
-the_same a b e = omega (arith, e)
 
 -- a place of a row is stored, and the row has that
 stored_row : (row count i q x : ℕ) (ws cells : List ℕ)

@@ -142,7 +142,7 @@ module _ (s : Watching Known) (i : ℕ) where
       ∙ ap (λ (l : List Node). after_step s l) (links_all nodes i n links many size))
 
   -- what a part of the filling leaves may be stored to and filled on
-  pub can_store : (count links width row k : ℕ) (graph : Object) (x : Watching Known)
+  pub can_store : (count links width row k : ℕ) (graph : Object (Unit {0})) (x : Watching Known)
       (f : Node → Node)
       → CanFill count links width graph s i
       → (f (node_at nodes i)).state ≡ (node_at nodes i).state
@@ -156,7 +156,8 @@ module _ (s : Watching Known) (i : ℕ) where
     cell = cell;
   }
 
-  pub can_fill_on : (count links width : ℕ) (graph : Object) (words : List ℕ) (x : Watching Known)
+  pub can_fill_on : (count links width : ℕ) (graph : Object (Unit {0})) (words : List ℕ)
+      (x : Watching Known)
       → CanFill count links width graph s i → length words ≡ width → x ≡ after_words s i words
       → CanFill count links width graph x i
   can_fill_on count links width graph words x can many e =

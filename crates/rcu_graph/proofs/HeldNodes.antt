@@ -23,10 +23,7 @@ use Rattle.rcu_graph.specs.declared.known.Node.{Node}
 use Rattle.rcu_graph.specs.declared.node_state.NodeState.{NodeState}
 use Rattle.rcu_graph.specs.declared.node_state.NodeState.TheVariants.{Free, Live}
 use Rattle.rcu_graph.proofs.Moves.{knows_held}
-use Rattle.rcu_graph.proofs.States.{live_outlived}
-
-not_both : (st : NodeState) → st ≡ Live → st ≡ Free → ⊥
-not_both st a b = cc
+use Rattle.rcu_graph.proofs.States.{live_outlived, not_both}
 
 not_reader : (known : Known) (n : ℕ) (s : List Node) → known ≡ Keeper n s → IsReader known → ⊥
 not_reader known n s e reads = subst IsReader e reads

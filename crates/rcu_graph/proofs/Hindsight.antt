@@ -1,6 +1,7 @@
 -- A search does not pass a key that is linked from the section's beginning to the search's end.
 use Rattle.std.proofs.Common.{◌≡◌, ℕ, zero, suc, ◌+◌, ◌-◌, ◌<◌, ◌≤◌, List, [], ◌∷◌, Bool, Option}
 use Rattle.std.proofs.Common.{Some, None, refl, sym, ap, ◌∙◌, subst, arith, ⊎_elim}
+use Rattle.std.proofs.Math.Nat.{suc_inj}
 use Rattle.std.specs.Prelude.{IsSome, IsTrue, slice_index}
 use Rattle.rcu_graph.specs.Absence.{AreMadeBy, IsHistory, IsLinkedKey, IsTrueOf, Reaches, arrived}
 use Rattle.rcu_graph.specs.Absence.{key_at, next_of, onwards}
@@ -12,9 +13,6 @@ use Rattle.rcu_graph.specs.declared.known.Node.{Node}
 use Rattle.rcu_graph.specs.declared.node_state.NodeState.{NodeState}
 use Rattle.rcu_graph.specs.declared.node_state.NodeState.TheVariants.{Live}
 use Rattle.rcu_graph.proofs.Chains.{leads_on, live_to, stays_or_on, stays_readable}
-
-the_same : (a b : ℕ) → suc a ≡ suc b → a ≡ b
-the_same a b e = omega (arith, e)
 
 may_live : (opened : ℕ) (st : NodeState) → st ≡ Live → MayRead opened st
 may_live opened st live = subst (MayRead opened) (sym live) tt
@@ -178,7 +176,7 @@ module _ (ours : List ℕ → Bool) (opened root key last : ℕ) (nodes : ℕ �
       passes before hop.from when (omega (arith, by, end)) is.3 made.3 in
       let f : IsFoundBy when hop =
       hops_on when when hop (omega arith) (omega (arith, by, end)) p is.1 made.2 in
-      let one : f.to ≡ node = the_same f.to node (sym f.is ∙ is.0) in
+      let one : f.to ≡ node = suc_inj (sym f.is ∙ is.0) in
       let b = f.by in
       let s = f.same in
       let l = is.2 in record {

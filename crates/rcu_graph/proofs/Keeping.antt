@@ -10,7 +10,7 @@ use Rattle.rcu_graph.specs.declared.known.Known.{Known}
 use Rattle.rcu_graph.specs.declared.known.Known.TheVariants.{Keeper, Owner}
 use Rattle.rcu_graph.specs.declared.known.Node.{Node}
 
-pub keeps_on : (count : ℕ) (graph : Object) (old new : Watching Known) (latest : ℕ)
+pub keeps_on : (count : ℕ) (graph : Object (Unit {0})) (old new : Watching Known) (latest : ℕ)
     (nodes : List Node)
     → new ≡ after_word_step old new.view.client
     → new.view.client ≡ Keeper latest nodes
@@ -22,7 +22,8 @@ keeps_on count graph old new latest nodes same is few k =
     (record { watches = k.watches; role = k.role; keeps = tt; few = few })
 
 -- the watcher that has claimed the nodes as they are at first
-pub keeps_first : (links width roots count cpus : ℕ) (first : ℕ → List ℕ) (graph : Object)
+pub keeps_first : (links width roots count cpus : ℕ) (first : ℕ → List ℕ)
+    (graph : Object (Unit {0}))
     (own seat : Watching Known)
     → graph.cpus ≡ cpus
     → own ≡ watcher_at_first graph.table (base_of cpus) Owner

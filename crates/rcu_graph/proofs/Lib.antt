@@ -17,7 +17,8 @@ pub mod Mirrors
 pub mod Tending
 pub mod Trims
 pub mod Cascade
-pub mod Rings
+pub mod Stacks
+pub mod Queues
 pub mod Cycles
 pub mod Turns
 pub mod Standings

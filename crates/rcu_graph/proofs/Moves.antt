@@ -6,6 +6,7 @@ use Rattle.std.specs.Prelude.{slice_index, max}
 use Rattle.std.proofs.Math.Nat.{le-max_left, le-max_right}
 use Rattle.std.proofs.lemmas.List.{get_or_append_left, get_or-append-add, get_or-set_other}
 use Rattle.std.proofs.lemmas.List.{set-get_or, set-set}
+use Rattle.std.proofs.Math.Nat.{suc_inj}
 use mathlib.Core.Option.{some, some-injective, some-ne-none}
 use mathlib.Core.Logic.{dite}
 use native.Mathlib.Decide.{ℕ_discrete}
@@ -27,13 +28,7 @@ use Rattle.rcu_graph.specs.declared.known.Node.{Node}
 use Rattle.rcu_graph.specs.declared.node_state.NodeState.{NodeState}
 use Rattle.rcu_graph.specs.declared.node_state.NodeState.TheVariants.{Free, Live, Left}
 use Rattle.rcu_graph.proofs.Changes.{link_stored, node_left, nodes_aged, promoted, word_stored}
-use Rattle.rcu_graph.proofs.States.{may_aged, may_follow, may_is_used}
-
-not_both : (st : NodeState) → st ≡ Live → st ≡ Free → ⊥
-not_both st a b = cc
-
-the_same : (a b : ℕ) → suc a ≡ suc b → a ≡ b
-the_same a b e = omega (arith, e)
+use Rattle.rcu_graph.proofs.States.{may_aged, may_follow, may_is_used, not_both}
 
 number_of_some : (a b : ℕ) → Some a ≡ Some b → a ≡ b
 number_of_some a b e = cc
@@ -157,7 +152,7 @@ module _ (fits : List ℕ → Type 0) (joins : ℕ → List ℕ → List ℕ →
           let all : (i : ℕ) (words : List ℕ) → IsHeld after i words
           → Reading h.nodes (Some at) i words =
           one_more h.nodes (Some at) hop (hops_in was)
-          (λ m e. subst (λ (n : ℕ). Reading h.nodes (Some at) n d.to.words) (the_same j m e) mine)
+          (λ m e. subst (λ (n : ℕ). Reading h.nodes (Some at) n d.to.words) (suc_inj e) mine)
           (knows_held h.nodes h.latest h.keeper id (Some at) was reads k) in
           let bound : j < length h.nodes = inside h.nodes j d.to d.here in (
             after,
@@ -411,7 +406,7 @@ module _ (fits : List ℕ → Type 0) (joins : ℕ → List ℕ → List ℕ →
       let there₁ : get_elem? xs₁ id ≡ some (cpu, section, Keeper t s₁) =
       set_here xs id (cpu, section, Keeper t s₁) (inside xs id (cpu, section, Keeper t s) there) in
       let target : IsTarget (joins l) v.words s₁ (suc j) = λ k e.
-      let is : k ≡ j = the_same k j (sym e) in (
+      let is : k ≡ j = suc_inj (sym e) in (
         in_state Live u,
         ap (λ (m : ℕ). get_elem? s₁ m) is ∙ set_here s j (in_state Live u) low_j,
         refl,
@@ -431,7 +426,7 @@ module _ (fits : List ℕ → Type 0) (joins : ℕ → List ℕ → List ℕ →
             let one : i ≡ i' = row_told first_place (links + width) i i' l l' (omega (arith, low))
             (omega (arith, low')) e in
             let two : l ≡ l' = word_told first_place (links + width) i i' l l' one e in
-            let three : j ≡ j' = the_same j j' f in
+            let three : j ≡ j' = suc_inj f in
             ap (λ (y : ℕ × ℕ × ℕ).
             Keeper t (renewed (renewed s y.2 (in_state Live)) y.0 (linked_to y.1 (suc j))))
             (λ z. (one z, two z, three z)),

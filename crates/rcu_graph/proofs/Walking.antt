@@ -1,5 +1,6 @@
 -- A section that walks a graph goes on from node to node.
 use Rattle.std.proofs.Common.{◌≡◌, ℕ, suc, ◌<◌, List, refl, sym, ap, ◌∙◌, subst, inl, inr, arith}
+use Rattle.std.proofs.Math.Nat.{suc_inj}
 use Rattle.std.specs.Prelude.{slice_index}
 use Rattle.rcu_live.specs.Board.{Object}
 use Rattle.rcu_live.specs.CpuSeat.{Seated, after_word_step}
@@ -8,9 +9,6 @@ use Rattle.rcu_graph.specs.Nodes.{IsHeld, IsOn, IsReader}
 use Rattle.rcu_graph.specs.Search.{IsFound}
 use Rattle.rcu_graph.specs.Steps.{Came, Followed, IsLedTo}
 use Rattle.rcu_graph.specs.declared.known.Known.{Known}
-
-the_same : (a b : ℕ) → suc a ≡ suc b → a ≡ b
-the_same a b e = omega (arith, e)
 
 module _ (fits joins : List ℕ → Type 0) (width count : ℕ) (was : Known) (i l : ℕ) where
   pub came_to : (j : ℕ) (now : Known) (f : Followed fits joins width count was i l (suc j) now)
@@ -21,7 +19,7 @@ module _ (fits joins : List ℕ → Type 0) (width count : ℕ) (was : Known) (i
           → Came fits joins width count j words
       led words (inl none) = absurd (omega (arith, none.0))
       led words (inr some) =
-          subst (λ (n : ℕ). Came fits joins width count n words) (sym (the_same j some.0 some.1))
+          subst (λ (n : ℕ). Came fits joins width count n words) (sym (suc_inj some.1))
           some.2
 
   pub still_reads : (x : ℕ) (now : Known) → Followed fits joins width count was i l x now
@@ -43,14 +41,15 @@ module _ (fits joins : List ℕ → Type 0) (width count : ℕ) (was : Known) (i
       record { words = f.words; held = came_holds j now f; whole = c.whole; is = sym told ∙ is }
 
 -- a seat whose section knows something else of the graph
-pub walks_on : (graph : Object) (old new : Seated Known) → new ≡ after_word_step old new.view.client
+pub walks_on : (graph : Object (Unit {0})) (old new : Seated Known)
+    → new ≡ after_word_step old new.view.client
     → IsWalking graph old → IsReader new.view.client → IsWalking graph new
 walks_on graph old new same w reads =
     subst (IsWalking graph) (sym same)
     (record { seat_of = w.seat_of; is_open = w.is_open; reads = reads })
 
-module _ (fits joins : List ℕ → Type 0) (width count : ℕ) (graph : Object) (old new : Seated Known)
-    (i l : ℕ) where
+module _ (fits joins : List ℕ → Type 0) (width count : ℕ) (graph : Object (Unit {0}))
+    (old new : Seated Known) (i l : ℕ) where
   pub followed_walks : (x : ℕ) → new ≡ after_word_step old new.view.client → IsWalking graph old
       → Followed fits joins width count old.view.client i l x new.view.client → IsWalking graph new
   followed_walks x same w f =
@@ -71,7 +70,8 @@ module _ (fits joins : List ℕ → Type 0) (width count : ℕ) (graph : Object)
       }
 
 -- where the section is on a node still
-pub walks_at : (first : ℕ → List ℕ) (roots count : ℕ) (graph : Object) (old new : Seated Known)
+pub walks_at : (first : ℕ → List ℕ) (roots count : ℕ) (graph : Object (Unit {0}))
+    (old new : Seated Known)
     (i : ℕ) (words : List ℕ)
     → new ≡ after_word_step old new.view.client
     → IsWalking graph old

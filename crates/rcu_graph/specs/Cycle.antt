@@ -1,12 +1,10 @@
--- The nodes round a ring, in the order of their lives: from a place on stand those that are free,
--- behind them those that were retired, what was retired first in front, then those that were left,
--- and then the live ones.
+-- The nodes in the order of their lives: a stack of those that are free, and a queue of those that
+-- were retired, what was retired first in front, and behind them of those that were left.
 use Rattle.std.specs.Prelude.{◌≡◌, ◌+◌, ◌<◌, ◌≤◌, if◌then◌else◌, ℕ, Bool, true, false, List, length}
 use Rattle.std.specs.Prelude.{slice_index, slice_index_or, slice_set, sum_by}
 use Rattle.rcu_seq.specs.Numbers.{Number}
 use Rattle.rcu_live.specs.Numbers.{is_past}
 use Rattle.rcu_graph.specs.Counts.{one_if}
-use Rattle.rcu_graph.specs.Ring.{steps_to}
 use Rattle.rcu_graph.specs.declared.node_state.NodeState.{NodeState}
 use Rattle.rcu_graph.specs.declared.node_state.NodeState.TheVariants.{Free, Live, Left, Retired}
 
@@ -14,30 +12,70 @@ use Rattle.rcu_graph.specs.declared.node_state.NodeState.TheVariants.{Free, Live
 abbrev pub state_in : List NodeState → ℕ → NodeState
 state_in states i = slice_index_or states i Free
 
--- where so many are free, so many retired and so many left, a node in this state stands so many
--- steps on from the first free one
-abbrev pub StandsAt : ℕ → ℕ → ℕ → NodeState → ℕ → Type 0
-StandsAt free retired left Free k = k < free
-StandsAt free retired left (Retired number) k = (free ≤ k) × (k < free + retired)
-StandsAt free retired left Left k = (free + retired ≤ k) × (k < free + retired + left)
-StandsAt free retired left Live k = free + retired + left ≤ k
+-- how many are so
+abbrev pub how_many : (NodeState → Bool) → List NodeState → ℕ
+how_many is states = sum_by (λ s. one_if (is s)) states
 
--- the nodes in these states stand at these places of a ring, in the order of their lives: no node
--- that was retired later stands in front of one that was retired before
-pub record IsCycle (count : ℕ) (states : List NodeState) (places : List ℕ)
-    (start free retired left : ℕ) : Type 0 where
-  pub few : length states ≡ count
-  pub begins : 0 < count → start < count
-  pub fit : free + retired + left ≤ count
-  pub stands : (i : ℕ) → i < count
-      → StandsAt free retired left (state_in states i) (steps_to count start (slice_index places i))
-  pub ordered : (i j : ℕ) (a b : Number)
-      → i < count
-      → j < count
-      → state_in states i ≡ Retired a
-      → state_in states j ≡ Retired b
-      → steps_to count start (slice_index places i) ≤ steps_to count start (slice_index places j)
+-- it was left, and is not free yet
+abbrev pub IsGone : NodeState → Type 0
+IsGone Free = ⊥
+IsGone Live = ⊥
+IsGone Left = Unit {0}
+IsGone (Retired number) = Unit {0}
+
+abbrev pub is_idle : NodeState → Bool
+is_idle Free = true
+is_idle Live = false
+is_idle Left = true
+is_idle (Retired number) = true
+
+-- the node i is free and knows its place k, and the other way round
+abbrev pub IsFreeAt : List NodeState → List ℕ → ℕ → ℕ → Type 0
+IsFreeAt states places k i =
+    (i < length states) × (state_in states i ≡ Free) × (slice_index places i ≡ k)
+
+abbrev pub StandsIn : List ℕ → ℕ → ℕ → Type 0
+StandsIn list k i = (k < length list) × (slice_index list k ≡ i)
+
+-- each free node stands in a stack at its place, and nothing else does
+pub record IsStack (states : List NodeState) (free places : List ℕ) : Type 0 where
+  pub many : length places ≡ length states
+  pub holds : (k : ℕ) → k < length free → IsFreeAt states places k (slice_index free k)
+  pub home : (i : ℕ) → i < length states → state_in states i ≡ Free
+      → StandsIn free (slice_index places i) i
+
+-- where the first ones of a queue are retired, a node in this state may stand there at the place k
+abbrev pub StandsAt : ℕ → NodeState → ℕ → Type 0
+StandsAt retired Free k = ⊥
+StandsAt retired Live k = ⊥
+StandsAt retired Left k = retired ≤ k
+StandsAt retired (Retired number) k = k < retired
+
+-- each node that is gone waits in a queue, once: no node that was retired later waits in front of
+-- one that was retired before
+pub record IsQueue (states : List NodeState) (waiting : List ℕ) (retired : ℕ) : Type 0 where
+  pub fit : retired ≤ length waiting
+  pub inside : (k : ℕ) → k < length waiting → slice_index waiting k < length states
+  pub stands : (k : ℕ) → k < length waiting
+      → StandsAt retired (state_in states (slice_index waiting k)) k
+  pub once : (j k : ℕ)
+      → j < length waiting → k < length waiting → slice_index waiting j ≡ slice_index waiting k
+      → j ≡ k
+  pub found : (i : ℕ) → i < length states → IsGone (state_in states i)
+      → (k : ℕ) × StandsIn waiting k i
+  pub ordered : (j k : ℕ) (a b : Number)
+      → j ≤ k
+      → k < length waiting
+      → state_in states (slice_index waiting j) ≡ Retired a
+      → state_in states (slice_index waiting k) ≡ Retired b
       → a ≤ b
+
+-- each node that is not live stands in the stack or in the queue
+pub record IsCycle (states : List NodeState) (free places waiting : List ℕ) (retired : ℕ)
+    : Type 0 where
+  pub stack : IsStack states free places
+  pub queue : IsQueue states waiting retired
+  pub many : length free + length waiting ≡ how_many is_idle states
 
 -- it was retired a full grace period ago
 abbrev pub is_over : Number → NodeState → Bool
@@ -61,7 +99,3 @@ abbrev pub IsTurn : (NodeState → Bool) → NodeState → List NodeState → Li
 IsTurn is to old new true =
     (i : ℕ) × (i < length old) × (is (state_in old i) ≡ true) × (new ≡ slice_set old i to)
 IsTurn is to old new false = (new ≡ old) × ((i : ℕ) → i < length old → is (state_in old i) ≡ false)
-
--- how many are so
-abbrev pub how_many : (NodeState → Bool) → List NodeState → ℕ
-how_many is states = sum_by (λ s. one_if (is s)) states

@@ -24,7 +24,7 @@ after_links keeper i links =
 
 -- a watcher of the graph may store the k-th of so many words, or links, of the node i, one of so
 -- many: the node is free
-pub record CanStore (count row : ℕ) (graph : Object) (keeper : Watching Known)
+pub record CanStore (count row : ℕ) (graph : Object (Unit {0})) (keeper : Watching Known)
     (i k : ℕ) : Type 0 where
   pub watches : IsWatcherOf graph keeper
   pub inside : i < count
@@ -33,7 +33,7 @@ pub record CanStore (count row : ℕ) (graph : Object) (keeper : Watching Known)
 
 -- a watcher of the graph may fill the node i, one of the so many that it keeps: the node is free,
 -- and has so many links and words
-pub record CanFill (count links width : ℕ) (graph : Object) (keeper : Watching Known)
+pub record CanFill (count links width : ℕ) (graph : Object (Unit {0})) (keeper : Watching Known)
     (i : ℕ) : Type 0 where
   pub watches : IsWatcherOf graph keeper
   pub keeps : IsKeeping keeper.view.client

@@ -13,14 +13,15 @@ word_to None = 0
 word_to (Some node) = suc node
 
 -- a processor's seat of the graph, whose open section may walk it
-pub record IsWalking (graph : Object) (seat : Seated Known) : Type 0 where
+pub record IsWalking (graph : Object (Unit {0})) (seat : Seated Known) : Type 0 where
   pub seat_of : IsSeatOf graph seat
   pub is_open : IsSome seat.view.section
   pub reads : IsReader seat.view.client
 
 -- of so many nodes, the first ones roots with their first words: the section is on this one, a root
 -- or a node that it came to
-pub record IsAt (first : ℕ → List ℕ) (roots count : ℕ) (graph : Object) (seat : Seated Known)
+pub record IsAt (first : ℕ → List ℕ) (roots count : ℕ) (graph : Object (Unit {0}))
+    (seat : Seated Known)
     (node : ℕ) : Type 0 where
   pub walking : IsWalking graph seat
   pub words : List ℕ

@@ -12,11 +12,12 @@ use Rattle.rcu_graph.specs.declared.known.Node.{Node}
 use Rattle.rcu_graph.specs.declared.node_state.NodeState.TheVariants.{Free, Left, Live}
 
 -- a watcher of the graph that keeps its nodes, so many
-pub record IsKeeperOf (count : ℕ) (graph : Object) (watcher : Watching Known) : Type 0 where
-  pub watches : IsWatcherOf graph watcher
-  pub role : IsOfWatcher watcher.view
-  pub keeps : IsKeeping watcher.view.client
-  pub few : length (nodes_in watcher.view.client) ≡ count
+pub record IsKeeperOf (count : ℕ) (graph : Object (Unit {0})) (watcher : Watching Known) : Type 0
+  where
+    pub watches : IsWatcherOf graph watcher
+    pub role : IsOfWatcher watcher.view
+    pub keeps : IsKeeping watcher.view.client
+    pub few : length (nodes_in watcher.view.client) ≡ count
 
 -- this may be stored in a link of the node i: where it is free anything, and where it is live what
 -- leads nowhere or to a live node to which it may lead

@@ -7,7 +7,6 @@ pub mod Keeper
 pub mod Mirror
 pub mod Nodes
 pub mod Opening
-pub mod Ring
 pub mod Rule
 pub mod Search
 pub mod Stability

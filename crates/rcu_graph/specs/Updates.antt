@@ -14,7 +14,8 @@ use Rattle.rcu_graph.specs.declared.node_state.NodeState.TheVariants.{Live}
 -- the keeper may lead this link of a live node to what the word says: nowhere, or to a live node to
 -- which it may lead
 pub record MayRelink (fits : List ℕ → Type 0) (joins : ℕ → List ℕ → List ℕ → Type 0)
-    (count roots links : ℕ) (graph : Object) (keeper : Watching Known) (counts leaving : List ℕ)
+    (count roots links : ℕ) (graph : Object (Unit {0})) (keeper : Watching Known)
+    (counts leaving : List ℕ)
     (from link word : ℕ) : Type 0 where
   pub watches : IsWatcherOf graph keeper
   pub counted : IsCounted fits joins count roots links (nodes_in keeper.view.client) counts leaving
@@ -27,7 +28,8 @@ pub record MayRelink (fits : List ℕ → Type 0) (joins : ℕ → List ℕ → 
 -- the keeper's seat may lead this link of a live node to a free one that is ready, and to which it
 -- may lead
 pub record CanPublish (fits : List ℕ → Type 0) (joins : ℕ → List ℕ → List ℕ → Type 0)
-    (count links : ℕ) (graph : Object) (keeper : Watching Known) (from link to : ℕ) : Type 0 where
+    (count links : ℕ) (graph : Object (Unit {0})) (keeper : Watching Known) (from link to : ℕ) :
+    Type 0 where
   pub watches : IsWatcherOf graph keeper
   pub from_inside : from < count
   pub to_inside : to < count
@@ -39,7 +41,8 @@ pub record CanPublish (fits : List ℕ → Type 0) (joins : ℕ → List ℕ →
 
 -- the same of a keeper that counts its nodes
 pub record MayPublish (fits : List ℕ → Type 0) (joins : ℕ → List ℕ → List ℕ → Type 0)
-    (count roots links : ℕ) (graph : Object) (keeper : Watching Known) (counts leaving : List ℕ)
+    (count roots links : ℕ) (graph : Object (Unit {0})) (keeper : Watching Known)
+    (counts leaving : List ℕ)
     (from link to : ℕ) : Type 0 where
   pub watches : IsWatcherOf graph keeper
   pub counted : IsCounted fits joins count roots links (nodes_in keeper.view.client) counts leaving
@@ -53,7 +56,8 @@ pub record MayPublish (fits : List ℕ → Type 0) (joins : ℕ → List ℕ →
 
 -- the keeper has the nodes as they were stored, less those that were left; it counts them still
 pub record HasTrimmed (fits : List ℕ → Type 0) (joins : ℕ → List ℕ → List ℕ → Type 0)
-    (count roots links : ℕ) (graph : Object) (before now : Watching Known) (counts leaving : List ℕ)
+    (count roots links : ℕ) (graph : Object (Unit {0})) (before now : Watching Known)
+    (counts leaving : List ℕ)
     (stored : List Node) : Type 0 where
   pub watches : IsWatcherOf graph now
   pub state : now ≡ after_step before (nodes_in now.view.client)

@@ -9,7 +9,7 @@ use Rattle.rcu_graph.specs.declared.walk.Walk.{Walk}
 -- the graph, the seat whose section walks it, and which seat is borrowed: a name that tells one
 -- borrowed seat from another
 pub record Walked : Type 0 where
-  pub graph : Object
+  pub graph : Object (Unit {0})
   pub seat : Seated Known
   pub name : GName
 

@@ -1,35 +1,36 @@
 //! The states of the nodes, which go round: from free to live, left, retired, and to free again.
-//! The nodes stand in that order round a ring. So a step of one costs the same, however many there
-//! are.
-ghost use Rattle.std.specs.Prelude.{◌≡◌, ◌<◌, ◌≤◌, ◌^◌, ℕ, IfNone, IfOk, IfSome, length, map};
-ghost use Rattle.std.specs.Prelude.{replicate, slice_set};
+//! A step of one costs the same, however many nodes there are.
+ghost use Rattle.std.specs.Prelude.{◌≡◌, ◌-◌, ◌<◌, ◌≤◌, ◌^◌, ℕ, IfNone, IfOk, IfSome, length, map};
+ghost use Rattle.std.specs.Prelude.{replicate, slice_index, slice_set};
 ghost use Rattle.rcu_graph.specs.Cycle.{IsTurn, is_left, is_over, state_in, turned};
 ghost use Rattle.rcu_graph.specs.Nodes.{IsBy, aged_state};
 ghost use Rattle.rcu_graph.specs.declared.node_state.NodeState.TheVariants.{Free, Left};
 ghost use Rattle.rcu_graph.specs.declared.node_state.NodeState.TheVariants.{Live, Retired};
 
 use crate::node_state::NodeState;
-use crate::ring::{Ring, place_on};
 use std::alloc::{AllocError, Global};
+use std::collections::VecDeque;
 use std::marker::Model;
 
-/// The states of `N` nodes.
-///
-/// From a place on stand the free ones, then the retired ones in the order of their retiring, then
-/// the left ones, and then the live ones, up to that place again.
+/// The states of nodes, with room for each node in both lists.
 #[derive(Drop)]
-pub(crate) struct Cycle<const N: usize> {
+pub(crate) struct Cycle {
     states: Vec<NodeState>,
-    ring: Ring<N>,
-    /// The place of the first free node.
-    start: usize,
-    free: usize,
+    /// The free nodes, the one that was freed last on top.
+    free: Vec<usize>,
+    /// Where each free node stands among them.
+    places: Vec<usize>,
+    /// The retired nodes in the order of their retiring, and behind them the left ones in the order
+    /// of their leaving.
+    waiting: VecDeque<usize>,
+    /// How many of those that wait are retired.
     retired: usize,
-    left: usize,
 }
 
-impl<const N: usize> Model for Cycle<N> {
-    ghost use Rattle.std.specs.Prelude.{List};
+impl Model for Cycle {
+    ghost use Rattle.std.specs.Prelude.{◌≤◌, List, length};
+    ghost use Rattle.std.specs.Vec.{vec_capacity};
+    ghost use Rattle.std.specs.VecDeque.{deque_capacity};
     ghost use Rattle.rcu_graph.specs.Cycle.{IsCycle};
     ghost use Rattle.rcu_graph.specs.declared.node_state.NodeState.{NodeState};
 
@@ -37,69 +38,89 @@ impl<const N: usize> Model for Cycle<N> {
 
     ghost view = { λ c. c.states.items };
 
-    ghost invariant = { λ c. IsCycle N c.states.items c.ring c.start c.free c.retired c.left };
+    ghost invariant = { λ c. record {
+      cycle : IsCycle c.states.items c.free.items c.places.items c.waiting.items c.retired;
+      free : length c.states.items ≤ vec_capacity c.free;
+      waiting : length c.states.items ≤ deque_capacity c.waiting;
+    } };
 }
 
-impl<const N: usize> Cycle<N> {
-    /// All nodes are free.
-    pub(crate) fn new(alloc: Global) -> Result<Self, AllocError>
-        ensures { IfOk result (λ cycle. cycle ≡ replicate N Free) }
+/// So many numbers, the last one first.
+fn falling(alloc: Global, count: usize) -> Result<Vec<usize>, AllocError>
+    ensures many { IfOk result (λ numbers. length numbers.items ≡ count) }
+    ensures each { IfOk result (λ numbers. (i : ℕ) → i < count →
+        slice_index numbers.items i ≡ count - 1 - i) }
+{
+    let mut numbers = vec![in alloc; 0usize; count]?;
+    for number in 0..count {
+        numbers[number] = count - 1 - number;
+    }
+    Ok(numbers)
+}
+
+impl Cycle {
+    /// All nodes are free. Takes all the memory that there will ever be.
+    pub(crate) fn new(alloc: Global, count: usize) -> Result<Self, AllocError>
+        ensures { IfOk result (λ cycle. cycle ≡ replicate count Free) }
     {
-        let states = vec![in alloc; NodeState::Free; N]?;
-        let ring = Ring::new(alloc)?;
+        let states = vec![in alloc; NodeState::Free; count]?;
+        let free = falling(alloc, count)?;
+        let places = falling(alloc, count)?;
+        let waiting = VecDeque::with_capacity(alloc, count)?;
         Ok(Cycle {
             states,
-            ring,
-            start: 0,
-            free: N,
+            free,
+            places,
+            waiting,
             retired: 0,
-            left: 0,
         })
     }
 
     /// The state of a node.
     pub(crate) fn state(&self, node: usize) -> NodeState
-        requires { node < N }
+        requires { node < length self.now }
         ensures { result ≡ state_in self.now node }
     {
         self.states[node]
     }
 
-    /// A free node, where there is one.
+    /// The free node that was freed last, where one is free: so a steady turnover uses the same few
+    /// nodes again and again, and they stay in the cache.
     pub(crate) fn free_node(&self) -> Option<usize>
-        ensures inside { IfSome result (λ node. node < N) }
+        ensures inside { IfSome result (λ node. node < length self.now) }
         ensures free { IfSome result (λ node. state_in self.now node ≡ Free) }
-        ensures none { IfNone result ((i : ℕ) → i < N → state_in self.now i ≡ Free → ⊥) }
+        ensures none { IfNone result ((i : ℕ) → i < length self.now → state_in self.now i ≡ Free →
+            ⊥) }
     {
-        if self.free == 0 {
+        let count = self.free.len();
+        if count == 0 {
             return None;
         }
-        Some(self.ring.node_at(self.start))
+        Some(self.free[count - 1])
     }
 
     /// Makes a free node live.
     pub(crate) fn publish(&mut self, node: usize)
-        requires node { node < N }
+        requires node { node < length self.old }
         requires free { state_in self.old node ≡ Free }
         ensures { self.new ≡ slice_set self.old node Live }
     {
-        let first = self.ring.node_at(self.start);
-        self.ring.exchange(node, first);
-        self.start = place_on::<N>(self.start, 1);
-        self.free -= 1;
+        let place = self.places[node];
+        let top = self.free[self.free.len() - 1];
+        self.places[top] = place;
+        self.free.swap_remove(place);
         self.states[node] = NodeState::Live;
     }
 
     /// Leaves a live node.
     pub(crate) fn leave(&mut self, node: usize)
-        requires node { node < N }
+        requires node { node < length self.old }
         requires live { state_in self.old node ≡ Live }
         ensures { self.new ≡ slice_set self.old node Left }
     {
-        let steps = self.free + self.retired + self.left;
-        let first = self.ring.node_at(place_on::<N>(self.start, steps));
-        self.ring.exchange(node, first);
-        self.left += 1;
+        let Ok(()) = self.waiting.push_back(node) else {
+            unreachable!()
+        };
         self.states[node] = NodeState::Left;
     }
 
@@ -138,13 +159,17 @@ impl<const N: usize> Cycle<N> {
         if self.retired == 0 {
             return false;
         }
-        let node = self.ring.node_at(place_on::<N>(self.start, self.free));
+        let node = self.waiting[0];
         if !self.states[node].aged(number).is_free() {
             return false;
         }
-        self.states[node] = NodeState::Free;
+        self.waiting.pop_front();
         self.retired -= 1;
-        self.free += 1;
+        self.places[node] = self.free.len();
+        let Ok(()) = self.free.push(node) else {
+            unreachable!()
+        };
+        self.states[node] = NodeState::Free;
         true
     }
 
@@ -153,14 +178,11 @@ impl<const N: usize> Cycle<N> {
         requires { (i : ℕ) → i < length self.old → IsBy number (state_in self.old i) }
         ensures { IsTurn is_left (Retired number) self.old self.new result }
     {
-        if self.left == 0 {
+        if self.retired == self.waiting.len() {
             return false;
         }
-        let node = self
-            .ring
-            .node_at(place_on::<N>(self.start, self.free + self.retired));
+        let node = self.waiting[self.retired];
         self.states[node] = NodeState::Retired(number);
-        self.left -= 1;
         self.retired += 1;
         true
     }

@@ -42,7 +42,7 @@ impl<
     ghost use Rattle.rcu_live.specs.Words.{base_of};
     ghost use Rattle.rcu_graph.specs.Nodes.{first_place};
 
-    ghost Value = { Object };
+    ghost Value = { Object (Unit {0}) };
 
     ghost view = { λ graph. graph.live };
 

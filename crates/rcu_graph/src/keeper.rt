@@ -122,8 +122,9 @@ impl<F: Shape, const K: usize, const L: usize, const W: usize, const N: usize> K
         self.counted.nodes.word(node, word)
     }
 
-    /// A free node, at a cost that is the same for any number of nodes. It is free until it is
-    /// published, and may be told again. `Full` tells that none is free.
+    /// A free node, at a cost that is the same for any number of nodes: the one that was freed
+    /// last, which the cache may still have. It is free until it is published, and may be told
+    /// again. `Full` tells that none is free.
     pub fn free_node(&self) -> Result<usize, Full>
         ensures inside { IfOk result (λ node. node < N) }
         ensures free { IfOk result (λ node.

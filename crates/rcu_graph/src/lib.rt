@@ -15,7 +15,6 @@ mod mirror;
 pub mod node_state;
 mod opening;
 pub mod places;
-mod ring;
 pub mod rule;
 mod search;
 pub mod walk;

@@ -17,7 +17,7 @@ use std::marker::Model;
 /// `N` nodes of `L` links and `W` words.
 #[derive(Drop)]
 pub(crate) struct Mirror<const L: usize, const W: usize, const N: usize> {
-    states: Cycle<N>,
+    states: Cycle,
     links: Vec<u64>,
     words: Vec<u64>,
 }
@@ -77,7 +77,7 @@ impl<const L: usize, const W: usize, const N: usize> Mirror<L, W, N> {
         requires words { W * N < 2 ^ 64 }
         ensures { IfOk result (λ mirror. mirror ≡ replicate N (free_node L W)) }
     {
-        let states = Cycle::new(alloc)?;
+        let states = Cycle::new(alloc, N)?;
         let links = vec![in alloc; 0u64; L * N]?;
         let words = vec![in alloc; 0u64; W * N]?;
         Ok(Mirror {

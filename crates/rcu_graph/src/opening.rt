@@ -114,7 +114,15 @@ impl<
             FAN,
             T,
             GraphRule<F, K, L, W, N>,
-        >::open_for(alloc, cpus, last, MOST, behind.as_slice(), Vec::new(alloc))?;
+        >::open_for(
+            alloc,
+            cpus,
+            last,
+            MOST,
+            (),
+            behind.as_slice(),
+            Vec::new(alloc),
+        )?;
         let graph = Graph { live };
         graph.claim(&mut own);
         Ok((graph, seats, watchers, own))

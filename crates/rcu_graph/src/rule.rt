@@ -23,6 +23,8 @@ pub struct GraphRule<F, const K: usize, const L: usize, const W: usize, const N:
 
 impl<F: Shape, const K: usize, const L: usize, const W: usize, const N: usize> Client
     for GraphRule<F, K, L, W, N> {
+    type Plan = ();
+
     type Slot = ();
 
     type Known = Known;
@@ -32,17 +34,17 @@ impl<F: Shape, const K: usize, const L: usize, const W: usize, const N: usize> C
     ghost use Rattle.rcu_graph.specs.Nodes.{closed};
     ghost use Rattle.rcu_graph.specs.declared.known.Known.TheVariants.{Idle, Owner};
 
-    ghost holds = { IsKept F.fits F.joins F.first K L W N };
+    ghost holds = { λ _. IsKept F.fits F.joins F.first K L W N };
 
-    ghost first = { Owner };
+    ghost first = { λ _. Owner };
 
-    ghost idle = { Idle };
+    ghost idle = { λ _. Idle };
 
     ghost closed = { closed };
 
     fn mark() {}
 
-    ghost stable = { is_stable F.fits F.joins F.first K L W N };
+    ghost stable = { λ _. is_stable F.fits F.joins F.first K L W N };
 }
 
 /// A processor's seat of a graph's engine.

@@ -197,21 +197,22 @@ module _ {S C : Type 0} (holds : List ℕ → Slots S → Views C → Type 0) wh
       )
 
   -- what the engine's seat knows of the client is handed over to a new seat
-  pub hands_over : (idle : C) (close : C → C)
+  pub hands_over : (idle close : C → C)
       → IsStable holds idle close → (cpus id : ℕ) (v : View C) → IsOfEngine v
-      → Splits (IsKept holds cpus) id v (after_hand idle v) (handed_seat v)
+      → Splits (IsKept holds cpus) id v (after_hand (idle v.client) v) (handed_seat v)
   hands_over idle close stable cpus id v engine s k at =
-      let left : View C = after_hand idle v in
+      let left : View C = after_hand (idle v.client) v in
       let new : View C = handed_seat v in
       let f : Fits cpus s.words k.owner k.engine k.own_word_loads id v = k.fits id v at in
       let mine : Fits cpus s.words k.owner k.engine k.own_word_loads id left =
-      with_client_fits cpus s.words k.owner k.engine k.own_word_loads id v idle f in
+      with_client_fits cpus s.words k.owner k.engine k.own_word_loads id v (idle v.client) f in
       let was : client_view v ≡ (None, None, v.client) =
       ap (λ (r : Role). client_view_of r v.cpu v.section v.client) engine in
-      let is : client_view left ≡ (None, None, idle) =
-      ap (λ (r : Role). client_view_of r v.cpu v.section idle) engine in
+      let is : client_view left ≡ (None, None, idle v.client) =
+      ap (λ (r : Role). client_view_of r v.cpu v.section (idle v.client)) engine in
       let after : map client_view (set s.views id left ++ new ∷ [])
-      ≡ set (map client_view s.views) id (None, None, idle) ++ (None, None, v.client) ∷ [] =
+      ≡ set (map client_view s.views) id (None, None, idle v.client) ++ (None, None, v.client) ∷ []
+      =
       map-append client_view (set s.views id left) (new ∷ [])
       ∙ ap (λ (xs : Views C). xs ++ (None, None, v.client) ∷ [])
       (map-set client_view s.views id left

@@ -6,7 +6,7 @@ use mathlib.Core.List.{map-append}
 use mathlib.Core.Option.{some, some-injective, some-ne-none}
 use lib.ListN.{get_elem?}
 use Rattle.atomic_table.specs.Table.{State, Splits}
-use Rattle.atomic_table.proofs.Lists.{at_set, set_again}
+use Rattle.atomic_table.proofs.Lists.{at_map, at_set, set_again}
 use Rattle.rcu_live.specs.Client.{Slots, IsStable, Views, ClientView}
 use Rattle.rcu_live.specs.Rule.{Fits, IsKept}
 use Rattle.rcu_live.specs.View.{after_deal, if_cpu, next_cpu_seat, client_view, watcher_seat}
@@ -14,7 +14,7 @@ use Rattle.rcu_live.specs.Words.{base_of, first_own_word}
 use Rattle.rcu_live.specs.declared.view.Role.{Role}
 use Rattle.rcu_live.specs.declared.view.Role.TheVariants.{Engine}
 use Rattle.rcu_live.specs.declared.view.View.{View}
-use Rattle.rcu_live.proofs.Frames.{unseen}
+use Rattle.rcu_live.proofs.Frames.{same_views}
 use Rattle.rcu_live.proofs.Numbers.{own_small}
 
 -- an element of a list with one more at its end
@@ -39,21 +39,24 @@ module _ {S C : Type 0} (holds : List ℕ → Slots S → Views C → Type 0) wh
   -- a dealt seat, as the client sees it
   dealt : (cpus : ℕ) (s : State S (View C))
       → IsKept holds cpus s
-      → (idle : C) (close : C → C)
+      → (idle close : C → C)
       → IsStable holds idle close
       → (id : ℕ) (v w new : View C) (cpu : Option ℕ)
       → get_elem? s.views id ≡ some v
       → client_view w ≡ client_view v
-      → client_view new ≡ (cpu, None, idle)
+      → client_view new ≡ (cpu, None, idle v.client)
       → holds (drop (base_of cpus) s.words) s.homes (map client_view (set s.views id w ++ new ∷ []))
   dealt cpus s k idle close stable id v w new cpu at same is =
       let after : map client_view (set s.views id w ++ new ∷ [])
-      ≡ map client_view (set s.views id w) ++ (cpu, None, idle) ∷ [] =
+      ≡ map client_view s.views ++ (cpu, None, idle v.client) ∷ [] =
       map-append client_view (set s.views id w) (new ∷ [])
-      ∙ ap (λ (x : ClientView C). map client_view (set s.views id w) ++ x ∷ []) is in
+      ∙ (ap (λ (x : ClientView C). map client_view (set s.views id w) ++ x ∷ []) is
+      ∙ ap (λ (xs : Views C). xs ++ (cpu, None, idle v.client) ∷ [])
+      (same_views s.views id v w at same)) in
       subst (λ (xs : Views C). holds (drop (base_of cpus) s.words) s.homes xs) (sym after)
-      (stable.deals (drop (base_of cpus) s.words) s.homes (map client_view (set s.views id w)) cpu
-      (unseen holds cpus s k id v w s.words at same refl))
+      (stable.deals (drop (base_of cpus) s.words) s.homes (map client_view s.views) id
+      (if_cpu v.role (Some v.cpu)) (if_cpu v.role v.section) v.client cpu k.client
+      (at_map client_view s.views id v at))
 
   -- a watcher's seat fits, whatever it knows of the client
   pub watcher_fits : (cpus : ℕ) (s : State S (View C)) (k : IsKept holds cpus s) (j base : ℕ)
@@ -73,11 +76,11 @@ module _ {S C : Type 0} (holds : List ℕ → Slots S → Views C → Type 0) wh
   }
 
   -- a watcher's seat
-  pub deals_watcher : (idle : C) (close : C → C)
+  pub deals_watcher : (idle close : C → C)
       → IsStable holds idle close → (cpus id : ℕ) (v : View C)
-      → Splits (IsKept holds cpus) id v v (watcher_seat v.base idle)
+      → Splits (IsKept holds cpus) id v v (watcher_seat v.base (idle v.client))
   deals_watcher idle close stable cpus id v s k at =
-      let new : View C = watcher_seat v.base idle in
+      let new : View C = watcher_seat v.base (idle v.client) in
       record {
         room = k.room;
         number = k.number;
@@ -92,19 +95,19 @@ module _ {S C : Type 0} (holds : List ℕ → Slots S → Views C → Type 0) wh
             (subst (λ (l : List (View C)). get_elem? l j ≡ some u) (set_again s.views id v at) was))
             (λ (last : (j ≡ length (set s.views id v)) × (new ≡ u)).
             subst (Fits cpus s.words k.owner k.engine k.own_word_loads j) last.1
-            (watcher_fits cpus s k j v.base idle (k.fits id v at).base))
+            (watcher_fits cpus s k j v.base (idle v.client) (k.fits id v at).base))
             (at_end (set s.views id v) new u j e);
         client = dealt cpus s k idle close stable id v v new None at refl refl;
       }
 
   -- the next processor's seat
-  pub deals_cpu : (idle : C) (close : C → C)
+  pub deals_cpu : (idle close : C → C)
       → IsStable holds idle close → (cpus id : ℕ) (v : View C) → v.role ≡ Engine → v.cpu < cpus
-      → Splits (IsKept holds cpus) id v (after_deal v) (next_cpu_seat idle v)
+      → Splits (IsKept holds cpus) id v (after_deal v) (next_cpu_seat (idle v.client) v)
   deals_cpu idle close stable cpus id v engine low s k at =
       let c : ℕ = v.cpu in
       let left : View C = after_deal v in
-      let right : View C = next_cpu_seat idle v in
+      let right : View C = next_cpu_seat (idle v.client) v in
       let new : ℕ = length (set s.views id left) in
       let owner : ℕ → ℕ = λ d. if d == c then new else k.owner d in
       let f : Fits cpus s.words k.owner k.engine k.own_word_loads id v = k.fits id v at in

@@ -11,8 +11,8 @@ use Rattle.rcu_live.specs.Words.{base_of}
 use Rattle.rcu_live.proofs.RowLemmas.{each_made}
 
 -- a seat and a watcher a processor, as they are at first
-pub are_dealt : {C : Type 0} (cpus : ℕ) (last : Number) (most behind slots : ℕ) (idle : C)
-    (engine : Object) (seats : List (Seated C)) (watchers : List (Watching C))
+pub are_dealt : {C P : Type 0} (cpus : ℕ) (last : Number) (most behind slots : ℕ) (idle : C)
+    (engine : Object P) (seats : List (Seated C)) (watchers : List (Watching C))
     → IsSized cpus last most behind slots engine
     → seats ≡ map (at_first engine.table (base_of cpus) idle) (range_with_len 0 cpus)
     → watchers

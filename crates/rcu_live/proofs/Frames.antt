@@ -15,6 +15,16 @@ use Rattle.rcu_live.specs.View.{client_view}
 use Rattle.rcu_live.specs.Words.{base_of, own_word_index}
 use Rattle.rcu_live.specs.declared.view.View.{View}
 
+-- a view that a client cannot tell from the one before leaves what is shown of all
+pub same_views : {C : Type 0} (views : List (View C)) (id : ℕ) (v w : View C)
+    → get_elem? views id ≡ some v
+    → client_view w ≡ client_view v
+    → map client_view (set views id w) ≡ map client_view views
+same_views {C} views id v w at same =
+    map-set client_view views id w
+    ∙ (ap (λ (x : ClientView C). set (map client_view views) id x) same
+    ∙ set_again (map client_view views) id (client_view v) (at_map client_view views id v at))
+
 module _ {S C : Type 0} (holds : List ℕ → Slots S → Views C → Type 0) where
   -- the client sees nothing of a step that leaves its words, and what is shown of the seat
   pub unseen : (cpus : ℕ) (s : State S (View C))
@@ -25,11 +35,7 @@ module _ {S C : Type 0} (holds : List ℕ → Slots S → Views C → Type 0) wh
       → drop (base_of cpus) words ≡ drop (base_of cpus) s.words
       → holds (drop (base_of cpus) words) s.homes (map client_view (set s.views id w))
   unseen cpus s k id v w words at same rest =
-      let back : map client_view (set s.views id w) ≡ map client_view s.views =
-      map-set client_view s.views id w
-      ∙ (ap (λ (x : ClientView C). set (map client_view s.views) id x) same
-      ∙ set_again (map client_view s.views) id (client_view v)
-      (at_map client_view s.views id v at)) in
+      let back = same_views s.views id v w at same in
       subst (λ (y : List ℕ × Views C). holds y.0 s.homes y.1) (λ i. (sym rest i, sym back i))
       k.client
 

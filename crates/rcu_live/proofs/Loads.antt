@@ -104,7 +104,7 @@ module _ {S C : Type 0} (holds : List ℕ → Slots S → Views C → Type 0) wh
       )
 
   -- section-opening load
-  pub opens : (idle : C) (close : C → C)
+  pub opens : (idle close : C → C)
       → IsStable holds idle close
       → (cpus slots id : ℕ) (me : Me S (View C))
       → me.0.role ≡ Cpu
@@ -154,7 +154,7 @@ module _ {S C : Type 0} (holds : List ℕ → Slots S → Views C → Type 0) wh
       )
 
   -- section-closing load
-  pub closes : (idle : C) (close : C → C)
+  pub closes : (idle close : C → C)
       → IsStable holds idle close
       → (cpus slots id : ℕ) (me : Me S (View C))
       → Allows (IsKept holds cpus) slots id me 0 (λ n. n)

@@ -4,10 +4,11 @@ use Rattle.atomic_table.specs.Seated.{TableId}
 use Rattle.rcu_seq.specs.Numbers.{Number}
 use Rattle.rcu_live.specs.Words.{base_of}
 
--- which object it is, how many processors it has, its last number, and how many callbacks may be
--- queued
-pub record Object : Type 0 where
+-- which object it is, what its client was told at the opening, how many processors it has, its last
+-- number, and how many callbacks may be queued
+pub record Object (P : Type 0) : Type 0 where
   pub table : TableId
+  pub plan : P
   pub cpus : ℕ
   pub last : Number
   pub most : ℕ
@@ -19,8 +20,8 @@ pub record IsCpuCount (cpus : ℕ) : Type 0 where
 
 -- it is an object of so many processors, with this last number, in which so many callbacks may be
 -- queued, with so many words of a client behind the engine's own, and so many slots
-pub record IsSized (cpus : ℕ) (last : Number) (most behind slots : ℕ)
-    (engine : Object) : Type 0 where
+pub record IsSized {P : Type 0} (cpus : ℕ) (last : Number) (most behind slots : ℕ)
+    (engine : Object P) : Type 0 where
   pub count : engine.cpus ≡ cpus
   pub end : engine.last ≡ last
   pub full : engine.most ≡ most
@@ -28,5 +29,5 @@ pub record IsSized (cpus : ℕ) (last : Number) (most behind slots : ℕ)
   pub homes : engine.table.slots ≡ slots
 
 -- the client has this word
-abbrev pub HasWord : Object → ℕ → Type 0
+abbrev pub HasWord : {P : Type 0} → Object P → ℕ → Type 0
 HasWord engine word = base_of engine.cpus + word < engine.table.words

@@ -21,9 +21,9 @@ abbrev pub Slots : Type 0 → Type 0
 Slots S = List (maybe.Option S)
 
 -- the law of a client: its rule is kept where a section opens, where one closes, where a seat is
--- dealt, and where what a seat with no section knows is handed over to a new seat
-pub record IsStable {S C : Type 0} (holds : List ℕ → Slots S → Views C → Type 0) (idle : C)
-    (closed : C → C) : Type 0 where
+-- dealt by another, and where what a seat with no section knows is handed over to a new seat
+pub record IsStable {S C : Type 0} (holds : List ℕ → Slots S → Views C → Type 0)
+    (idle closed : C → C) : Type 0 where
   pub opens : (words : List ℕ) (homes : Slots S) (xs : Views C) (id : ℕ) (number : Number)
       (cpu : Option ℕ) (c : C)
       → holds words homes xs
@@ -34,11 +34,14 @@ pub record IsStable {S C : Type 0} (holds : List ℕ → Slots S → Views C →
       → holds words homes xs
       → get_elem? xs id ≡ some (cpu, section, c)
       → holds words homes (slice_set xs id (cpu, None, closed c))
-  pub deals : (words : List ℕ) (homes : Slots S) (xs : Views C) (cpu : Option ℕ)
-      → holds words homes xs → holds words homes (xs ++ (cpu, None, idle) ∷ [])
+  pub deals : (words : List ℕ) (homes : Slots S) (xs : Views C) (id : ℕ) (who : Option ℕ)
+      (section : Option Number) (c : C) (cpu : Option ℕ)
+      → holds words homes xs
+      → get_elem? xs id ≡ some (who, section, c)
+      → holds words homes (xs ++ (cpu, None, idle c) ∷ [])
   pub hands : (words : List ℕ) (homes : Slots S) (xs : Views C) (id : ℕ) (c : C)
       → holds words homes xs → get_elem? xs id ≡ some (None, None, c)
-      → holds words homes (slice_set xs id (None, None, idle) ++ (None, None, c) ∷ [])
+      → holds words homes (slice_set xs id (None, None, idle c) ++ (None, None, c) ∷ [])
 
 -- at this number: each open section may be open at it
 abbrev pub AreOpen : {C : Type 0} → Number → Views C → Type 0
@@ -79,10 +82,11 @@ module _ {S C : Type 0} (holds : List ℕ → Slots S → Views C → Type 0) (c
       → (after : C) × holds words homes (slice_set xs id (cpu, section, after)) × tells number after
 
 -- a client with no rule keeps the law
-pub no_client_is_stable : IsStable {S = Unit {0}} {C = Unit {0}} (λ _ _ _. Unit {0}) tt (λ c. c)
+pub no_client_is_stable : IsStable {S = Unit {0}} {C = Unit {0}} (λ _ _ _. Unit {0}) (λ c. c)
+    (λ c. c)
 no_client_is_stable = record {
   opens = λ words homes xs id number cpu c kept at. tt;
   closes = λ words homes xs id cpu section c kept at. tt;
-  deals = λ words homes xs cpu kept. tt;
+  deals = λ words homes xs id who section c cpu kept at. tt;
   hands = λ words homes xs id c kept at. tt;
 }

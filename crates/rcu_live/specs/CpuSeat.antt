@@ -32,7 +32,7 @@ own_word_of p = if not p.online then 0 else if p.idle then idle_word else p.note
 module _ {C : Type 0} where
   -- a processor's seat of this engine: it reads the engine's words, and knows where the client's
   -- begin
-  abbrev pub IsSeatOf : Object → Seated C → Type 0
+  abbrev pub IsSeatOf : {P : Type 0} → Object P → Seated C → Type 0
   IsSeatOf engine seat = (seat.table ≡ engine.table) × (seat.view.base ≡ base_of engine.cpus)
 
   -- the call was accepted at the number n, which is at least all that the seat saw before: this is

@@ -15,7 +15,7 @@ pub record Watching (C : Type 0) : Type 0 where
 
 module _ {C : Type 0} where
   -- a watcher of this engine: it reads the engine's words, and knows where the client's begin
-  abbrev pub IsWatcherOf : Object → Watching C → Type 0
+  abbrev pub IsWatcherOf : {P : Type 0} → Object P → Watching C → Type 0
   IsWatcherOf engine watcher =
       (watcher.table ≡ engine.table) × (watcher.view.base ≡ base_of engine.cpus)
 

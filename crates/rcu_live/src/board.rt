@@ -20,7 +20,7 @@ use std::marker::Model;
 /// The shared words: the number, a word a processor, and a client's words behind them.
 #[derive(Drop)]
 pub struct Board<P: Client = NoClient> {
-    pub(crate) table: Table<P::Slot, View<P::Known>, u32, Words<P>, Global>,
+    pub(crate) table: Table<P::Slot, View<P::Known>, (u32, P::Plan), Words<P>, Global>,
     pub(crate) cpus: u32,
     last: u64,
     most: u64,
@@ -31,17 +31,18 @@ impl<P: Client> Model for Board<P> {
     ghost use Rattle.rcu_live.specs.Board.{Object};
     ghost use Rattle.rcu_live.specs.Words.{base_of};
 
-    ghost Value = { Object };
+    ghost Value = { Object P.Plan };
 
     ghost view = { λ b. record {
       table = b.table.shared.table_id;
+      plan = b.table.shared.key.1;
       cpus = b.cpus;
       last = b.last;
       most = b.most;
     } };
 
     ghost invariant = { λ b. record {
-      key : b.table.shared.key ≡ b.cpus;
+      key : b.table.shared.key.0 ≡ b.cpus;
       room : base_of b.cpus ≤ b.table.shared.table_id.words;
       long : b.table.shared.table_id.words < 2 ^ 64;
       some : 0 < b.cpus;
@@ -59,19 +60,23 @@ impl<P: Client> Board<P> {
         cpus: u32,
         last: u64,
         most: u64,
+        plan: P::Plan,
         behind: &[u64],
         slots: Vec<P::Slot>,
     ) -> Result<(Board<P>, TableSeat<P>), AllocError>
         requires cpus { IsCpuCount cpus }
-        requires client { P.holds behind.now (map some slots.items) ((None, None, P.first) ∷ []) }
+        requires client { P.holds plan behind.now (map some slots.items)
+            ((None, None, P.first plan) ∷ []) }
         ensures size { IfOk result (λ r.
             IsSized cpus last most (length behind.now) (length slots.items) r.0) }
-        ensures seat { IfOk result (λ r. IsSeatAt r.0.table (engine_seat cpus 0 P.first) r.1) }
+        ensures plan { IfOk result (λ r. r.0.plan ≡ plan) }
+        ensures seat { IfOk result (λ r.
+            IsSeatAt r.0.table (engine_seat cpus 0 (P.first plan)) r.1) }
         ensures no_slots { IfOk result (λ r. r.1.me.1 ≡ []) }
     {
         let mut words = first_words(alloc, cpus)?;
         words.extend_from_slice(behind)?;
-        let Ok((table, seat)) = Table::new(alloc, words.as_slice(), slots, &cpus) else {
+        let Ok((table, seat)) = Table::new(alloc, words.as_slice(), slots, &(cpus, plan)) else {
             return Err(AllocError);
         };
         Ok((
@@ -111,8 +116,8 @@ impl<P: Client> Board<P> {
         requires table { seat.old.table_id ≡ self.now.table }
         requires engine { IsOfEngine seat.old.me.0 }
         requires undealt { seat.old.me.0.cpu < self.now.cpus }
-        ensures dealt { IsSplit (after_deal seat.old.me.0) (next_cpu_seat P.idle seat.old.me.0)
-            seat.old seat.new result }
+        ensures dealt { IsSplit (after_deal seat.old.me.0)
+            (next_cpu_seat (P.idle seat.old.me.0.client) seat.old.me.0) seat.old seat.new result }
         ensures inside { own_word_index seat.old.me.0.cpu < seat.old.table_id.words }
     {
         self.table.shared.split_seat::<DealCpu<P>>(seat)
@@ -121,7 +126,8 @@ impl<P: Client> Board<P> {
     /// Seat split: a watcher's seat.
     pub fn deal_watcher(&self, seat: &mut TableSeat<P>) -> TableSeat<P>
         requires { seat.old.table_id ≡ self.now.table }
-        ensures { IsSplit seat.old.me.0 (watcher_seat seat.old.me.0.base P.idle)
+        ensures { IsSplit seat.old.me.0
+            (watcher_seat seat.old.me.0.base (P.idle seat.old.me.0.client))
             seat.old seat.new result }
     {
         self.table.shared.split_seat::<DealWatcher<P>>(seat)

@@ -17,8 +17,8 @@ impl<P: Client> Board<P> {
     pub fn hand_over(&self, seat: &mut TableSeat<P>) -> TableSeat<P>
         requires table { seat.old.table_id ≡ self.now.table }
         requires engine { IsOfEngine seat.old.me.0 }
-        ensures { IsSplit (after_hand P.idle seat.old.me.0) (handed_seat seat.old.me.0)
-            seat.old seat.new result }
+        ensures { IsSplit (after_hand (P.idle seat.old.me.0.client) seat.old.me.0)
+            (handed_seat seat.old.me.0) seat.old seat.new result }
     {
         self.table.shared.split_seat::<HandOver<P>>(seat)
     }
@@ -27,7 +27,8 @@ impl<P: Client> Board<P> {
     pub fn load_word<M: WordStep<P::Known>>(&self, seat: &mut TableSeat<P>, word: usize) -> u64
         requires table { seat.old.table_id ≡ self.now.table }
         requires inside { HasWord self.now word }
-        requires allowed { AllowsWord P.holds (if_cpu seat.old.me.0.role (Some seat.old.me.0.cpu))
+        requires allowed { AllowsWord (P.holds self.now.plan)
+            (if_cpu seat.old.me.0.role (Some seat.old.me.0.cpu))
             (if_cpu seat.old.me.0.role seat.old.me.0.section) seat.old.me.0.client word (λ n. n)
             (M.then word seat.old.me.0.client) }
         ensures { Stepped
@@ -48,7 +49,8 @@ impl<P: Client> Board<P> {
     )
         requires table { seat.old.table_id ≡ self.now.table }
         requires inside { HasWord self.now word }
-        requires allowed { AllowsWord P.holds (if_cpu seat.old.me.0.role (Some seat.old.me.0.cpu))
+        requires allowed { AllowsWord (P.holds self.now.plan)
+            (if_cpu seat.old.me.0.role (Some seat.old.me.0.cpu))
             (if_cpu seat.old.me.0.role seat.old.me.0.section) seat.old.me.0.client word
             (λ _. value) (λ _. M.then word seat.old.me.0.client value) }
         ensures { Stepped
@@ -63,7 +65,8 @@ impl<P: Client> Board<P> {
     /// Loads the number: a look of the client.
     pub fn load_number<M: NumberStep<P::Known>>(&self, seat: &mut TableSeat<P>) -> u64
         requires table { seat.old.table_id ≡ self.now.table }
-        requires allowed { AllowsNumber P.holds (if_cpu seat.old.me.0.role (Some seat.old.me.0.cpu))
+        requires allowed { AllowsNumber (P.holds self.now.plan)
+            (if_cpu seat.old.me.0.role (Some seat.old.me.0.cpu))
             (if_cpu seat.old.me.0.role seat.old.me.0.section) seat.old.me.0.client
             (M.then seat.old.me.0.client) }
         ensures { Stepped (λ old new. SteppedOnNumber M.then old result new)

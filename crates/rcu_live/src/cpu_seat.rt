@@ -173,7 +173,7 @@ impl<P: Client> CpuSeat<P> {
         self.data.quiesce()?;
         let board = live.board();
         let number = board.load(&mut self.seat);
-        self.data.note(Tag::of_first_epoch(number))?;
+        self.data.set_noted(Tag::of_first_epoch(number));
         board.store(&mut self.seat, self.data.cpu(), number + 1);
         Ok(number)
     }
@@ -196,7 +196,7 @@ impl<P: Client> CpuSeat<P> {
         let board = live.board();
         let now = board.load(&mut self.seat);
         if noted.number != now {
-            self.data.note(Tag::of_first_epoch(now))?;
+            self.data.set_noted(Tag::of_first_epoch(now));
             board.store(&mut self.seat, self.data.cpu(), now + 1);
         }
         Ok(now)
@@ -241,9 +241,7 @@ impl<P: Client> CpuSeat<P> {
         let last = data.noted();
         let number = board.close_section(seat);
         if last.number != number {
-            let Ok(()) = data.note(Tag::of_first_epoch(number)) else {
-                unreachable!()
-            };
+            data.set_noted(Tag::of_first_epoch(number));
             board.store(seat, data.cpu(), number + 1);
         }
         let began = board.open_section(seat);
@@ -286,7 +284,7 @@ impl<P: Client> CpuSeat<P> {
         let wakes = data.is_idle();
         if wakes {
             data.wake()?;
-            data.note(Tag::of_first_epoch(0))?;
+            data.set_noted(Tag::of_first_epoch(0));
         }
         let depth = data.enter()?;
         let board = live.board();
@@ -382,7 +380,7 @@ impl<P: Client> CpuSeat<P> {
         self.data.wake()?;
         let board = live.board();
         let seen = board.load(&mut self.seat);
-        self.data.note(Tag::of_first_epoch(seen))?;
+        self.data.set_noted(Tag::of_first_epoch(seen));
         board.store(&mut self.seat, self.data.cpu(), seen + 1);
         Ok(seen)
     }
@@ -447,7 +445,8 @@ impl<P: Client> CpuSeat<P> {
     pub fn load_word<L: Shared<P>, M: WordStep<P::Known>>(&mut self, live: &L, word: usize) -> u64
         requires seat { IsSeatOf (L.object live.now) self.old }
         requires inside { HasWord (L.object live.now) word }
-        requires allowed { AllowsWord P.holds (Some self.old.cpu) self.old.view.section
+        requires allowed { AllowsWord (P.holds (L.object live.now).plan) (Some self.old.cpu)
+            self.old.view.section
             self.old.view.client word (λ n. n) (M.then word self.old.view.client) }
         ensures { KnowsBy (λ was now. M.then word was result now) self.old self.new }
     {

@@ -26,28 +26,28 @@ use crate::client::Client;
 /// processor idle, and ended, and it was tended and run. It came as it was queued, and no list has
 /// it then.
 pub fn a_run_hands_its_callback_out<T: Drop, P: Client>()
-    ensures run { (table : TableId) (last : Number) (most : ℕ) (value : T) →
-        IsRun (engine_at_first table 1 last most P.idle) (Call.Run 0 1 ∷ Call.Tend 0 ∷ Call.End
+    ensures run { (known : P.Known) (table : TableId) (last : Number) (most : ℕ) (value : T) →
+        IsRun (engine_at_first table 1 last most known) (Call.Run 0 1 ∷ Call.Tend 0 ∷ Call.End
         ∷ Call.Begin (λ _. idle_word) ∷ Call.Tend 0 ∷ Call.Queue 0 value ∷ []) }
-    ensures once { (table : TableId) (last : Number) (most : ℕ) (value : T) →
-        times_handed_out 1 (engine_at_first table 1 last most P.idle) (Call.Run 0 1 ∷ Call.Tend 0
+    ensures once { (known : P.Known) (table : TableId) (last : Number) (most : ℕ) (value : T) →
+        times_handed_out 1 (engine_at_first table 1 last most known) (Call.Run 0 1 ∷ Call.Tend 0
         ∷ Call.End ∷ Call.Begin (λ _. idle_word) ∷ Call.Tend 0 ∷ Call.Queue 0 value ∷ []) ≡ 1 }
-    ensures gone { (table : TableId) (last : Number) (most : ℕ) (value : T) →
-        times_listed 1 (engine_after (engine_at_first table 1 last most P.idle) (Call.Run 0 1
+    ensures gone { (known : P.Known) (table : TableId) (last : Number) (most : ℕ) (value : T) →
+        times_listed 1 (engine_after (engine_at_first table 1 last most known) (Call.Run 0 1
         ∷ Call.Tend 0 ∷ Call.End ∷ Call.Begin (λ _. idle_word) ∷ Call.Tend 0 ∷ Call.Queue 0 value
         ∷ [])).grace.lists ≡ 0 }
-    ensures period { (table : TableId) (last : Number) (most : ℕ) (value : T) →
-        has_full_period (turns_since 1 (engine_at_first table 1 last most P.idle) (Call.Tend 0
+    ensures period { (known : P.Known) (table : TableId) (last : Number) (most : ℕ) (value : T) →
+        has_full_period (turns_since 1 (engine_at_first table 1 last most known) (Call.Tend 0
         ∷ Call.End ∷ Call.Begin (λ _. idle_word) ∷ Call.Tend 0 ∷ Call.Queue 0 value ∷ [])) ≡ true }
-    ensures later { (table : TableId) (last : Number) (most : ℕ) (value : T) →
-        has_full_period (turns_since 1 (engine_at_first table 1 last most P.idle)
+    ensures later { (known : P.Known) (table : TableId) (last : Number) (most : ℕ) (value : T) →
+        has_full_period (turns_since 1 (engine_at_first table 1 last most known)
         (Call.Queue 0 value ∷ Call.End ∷ Call.Begin (λ _. idle_word) ∷ Call.Queue 0 value ∷ []))
         ≡ true }
-    ensures queued { (table : TableId) (last : Number) (most : ℕ) (value : T) →
-        queued_as 1 (engine_at_first table 1 last most P.idle) (Call.Tend 0 ∷ Call.Queue 0 value
+    ensures queued { (known : P.Known) (table : TableId) (last : Number) (most : ℕ) (value : T) →
+        queued_as 1 (engine_at_first table 1 last most known) (Call.Tend 0 ∷ Call.Queue 0 value
         ∷ []) ≡ Some (record { ord = 1; at = first_tag; value = value }) }
-    ensures no_other { (table : TableId) (last : Number) (most : ℕ) (value : T) →
-        queued_as 2 (engine_at_first table 1 last most P.idle) (Call.Tend 0 ∷ Call.Queue 0 value
+    ensures no_other { (known : P.Known) (table : TableId) (last : Number) (most : ℕ) (value : T) →
+        queued_as 2 (engine_at_first table 1 last most known) (Call.Tend 0 ∷ Call.Queue 0 value
         ∷ []) ≡ None }
 {}
 
@@ -62,44 +62,44 @@ pub fn a_run_adds_what_it_hands_out<T: Drop, P: Client>()
 /// A callback that waits is not handed out: its grace period began and did not end, or began before
 /// it was queued, whatever came between. It lies in its list.
 pub fn a_callback_that_waits_stays_listed<T: Drop, P: Client>()
-    ensures none { (table : TableId) (last : Number) (most : ℕ) (value : T) →
-        times_handed_out 1 (engine_at_first table 1 last most P.idle) (Call.Run 0 1 ∷ Call.Tend 0
+    ensures none { (known : P.Known) (table : TableId) (last : Number) (most : ℕ) (value : T) →
+        times_handed_out 1 (engine_at_first table 1 last most known) (Call.Run 0 1 ∷ Call.Tend 0
         ∷ Call.Begin (λ _. idle_word) ∷ Call.Tend 0 ∷ Call.Queue 0 value ∷ []) ≡ 0 }
-    ensures listed { (table : TableId) (last : Number) (most : ℕ) (value : T) →
-        times_listed 1 (engine_after (engine_at_first table 1 last most P.idle) (Call.Run 0 1
+    ensures listed { (known : P.Known) (table : TableId) (last : Number) (most : ℕ) (value : T) →
+        times_listed 1 (engine_after (engine_at_first table 1 last most known) (Call.Run 0 1
         ∷ Call.Tend 0 ∷ Call.Begin (λ _. idle_word) ∷ Call.Tend 0 ∷ Call.Queue 0 value
         ∷ [])).grace.lists ≡ 1 }
-    ensures begun { (table : TableId) (last : Number) (most : ℕ) (value : T) →
-        has_full_period (turns_since 1 (engine_at_first table 1 last most P.idle)
+    ensures begun { (known : P.Known) (table : TableId) (last : Number) (most : ℕ) (value : T) →
+        has_full_period (turns_since 1 (engine_at_first table 1 last most known)
         (Call.Begin (λ _. idle_word) ∷ Call.Queue 0 value ∷ [])) ≡ false }
-    ensures before { (table : TableId) (last : Number) (most : ℕ) (value : T) →
-        has_full_period (turns_since 1 (engine_at_first table 1 last most P.idle)
+    ensures before { (known : P.Known) (table : TableId) (last : Number) (most : ℕ) (value : T) →
+        has_full_period (turns_since 1 (engine_at_first table 1 last most known)
         (Call.End ∷ Call.Queue 0 value ∷ Call.Begin (λ _. idle_word) ∷ [])) ≡ false }
-    ensures running { (table : TableId) (last : Number) (most : ℕ) (value : T) →
-        has_full_period (turns_since 1 (engine_at_first table 1 last most P.idle)
+    ensures running { (known : P.Known) (table : TableId) (last : Number) (most : ℕ) (value : T) →
+        has_full_period (turns_since 1 (engine_at_first table 1 last most known)
         (Call.End ∷ Call.Tend 0 ∷ Call.Queue 0 value ∷ Call.Begin (λ _. idle_word) ∷ []))
         ≡ false }
 {}
 
 /// A step of driving that finds its processor idle is a begin and an end.
 pub fn a_step_of_driving_may_be_a_full_grace_period<T: Drop, P: Client>()
-    ensures idle { (table : TableId) (last : Number) (most : ℕ) (value : T) →
-        has_full_period (turns_since 1 (engine_at_first table 1 last most P.idle)
+    ensures idle { (known : P.Known) (table : TableId) (last : Number) (most : ℕ) (value : T) →
+        has_full_period (turns_since 1 (engine_at_first table 1 last most known)
         (Call.Drive true (λ _. idle_word) ∷ Call.Queue 0 value ∷ [])) ≡ true }
-    ensures awaited { (table : TableId) (last : Number) (most : ℕ) (value : T) →
-        has_full_period (turns_since 1 (engine_at_first table 1 last most P.idle)
+    ensures awaited { (known : P.Known) (table : TableId) (last : Number) (most : ℕ) (value : T) →
+        has_full_period (turns_since 1 (engine_at_first table 1 last most known)
         (Call.Drive true (λ _. 1) ∷ Call.Queue 0 value ∷ [])) ≡ false }
 {}
 
 /// A barrier counts what was queued before its begin, and nothing that comes later.
 pub fn a_barrier_waits_for_what_was_before_it<T: Drop, P: Client>()
-    ensures before { (table : TableId) (last : Number) (most : ℕ) (value : T) →
-        queued_before_barrier (engine_at_first table 1 last most P.idle) (Call.Queue 0 value
+    ensures before { (known : P.Known) (table : TableId) (last : Number) (most : ℕ) (value : T) →
+        queued_before_barrier (engine_at_first table 1 last most known) (Call.Queue 0 value
         ∷ Call.Visit 0 ∷ Call.BarrierBegin ∷ Call.Queue 0 value ∷ []) ≡ 1 }
     ensures begun { (first : Locked P.Known T) (calls : List (Call T)) → queued_before_barrier first
         (Call.BarrierBegin ∷ calls) ≡ (engine_after first calls).grace.lists.queued }
-    ensures waits { (table : TableId) (last : Number) (most : ℕ) (value : T) →
-        barrier_test_answer (engine_after (engine_at_first table 1 last most P.idle)
+    ensures waits { (known : P.Known) (table : TableId) (last : Number) (most : ℕ) (value : T) →
+        barrier_test_answer (engine_after (engine_at_first table 1 last most known)
         (Call.Queue 0 value ∷ Call.Visit 0 ∷ Call.BarrierBegin ∷ Call.Queue 0 value
         ∷ [])).grace.lists ≡ BarrierState.Waits 1 }
 {}
@@ -107,30 +107,30 @@ pub fn a_barrier_waits_for_what_was_before_it<T: Drop, P: Client>()
 /// A run has no call of a callback for a processor that there is not, no leave of processor 0, no
 /// second grace period or barrier beside one, and no end or visit of one that does not run.
 pub fn a_run_has_only_calls_that_may_be_made<T: Drop, P: Client>()
-    ensures cpu { (table : TableId) (last : Number) (most : ℕ) (value : T) →
-        IsRun (engine_at_first table 2 last most P.idle) (Call.Queue 2 value ∷ []) → ⊥ }
-    ensures first { (table : TableId) (last : Number) (most : ℕ) →
-        IsRun {X = T} (engine_at_first table 2 last most P.idle) (Call.Leave 0 0 ∷ []) → ⊥ }
-    ensures begin { (table : TableId) (last : Number) (most : ℕ) →
-        IsRun {X = T} (engine_at_first table 2 last most P.idle)
+    ensures cpu { (known : P.Known) (table : TableId) (last : Number) (most : ℕ) (value : T) →
+        IsRun (engine_at_first table 2 last most known) (Call.Queue 2 value ∷ []) → ⊥ }
+    ensures first { (known : P.Known) (table : TableId) (last : Number) (most : ℕ) →
+        IsRun {X = T} (engine_at_first table 2 last most known) (Call.Leave 0 0 ∷ []) → ⊥ }
+    ensures begin { (known : P.Known) (table : TableId) (last : Number) (most : ℕ) →
+        IsRun {X = T} (engine_at_first table 2 last most known)
         (Call.Begin (λ _. 1) ∷ Call.Begin (λ _. 1) ∷ []) → ⊥ }
-    ensures end { (table : TableId) (last : Number) (most : ℕ) →
-        IsRun {X = T} (engine_at_first table 2 last most P.idle) (Call.End ∷ []) → ⊥ }
-    ensures visit { (table : TableId) (last : Number) (most : ℕ) →
-        IsRun {X = T} (engine_at_first table 2 last most P.idle) (Call.Visit 0 ∷ []) → ⊥ }
+    ensures end { (known : P.Known) (table : TableId) (last : Number) (most : ℕ) →
+        IsRun {X = T} (engine_at_first table 2 last most known) (Call.End ∷ []) → ⊥ }
+    ensures visit { (known : P.Known) (table : TableId) (last : Number) (most : ℕ) →
+        IsRun {X = T} (engine_at_first table 2 last most known) (Call.Visit 0 ∷ []) → ⊥ }
 {}
 
 /// An engine is new as it is opened, and is not once a callback was queued. A queueing is a step
 /// that leaves another engine.
 pub fn an_engine_is_new_until_a_queueing<T: Drop, P: Client>()
-    ensures new { (table : TableId) (cpus : ℕ) (last : Number) (most : ℕ) →
-        IsNew {X = T} (engine_at_first table cpus last most P.idle) }
-    ensures used { (table : TableId) (last : Number) (most : ℕ) (value : T) →
-        IsNew (engine_after (engine_at_first table 1 last most P.idle) (Call.Queue 0 value ∷ []))
+    ensures new { (known : P.Known) (table : TableId) (cpus : ℕ) (last : Number) (most : ℕ) →
+        IsNew {X = T} (engine_at_first table cpus last most known) }
+    ensures used { (known : P.Known) (table : TableId) (last : Number) (most : ℕ) (value : T) →
+        IsNew (engine_after (engine_at_first table 1 last most known) (Call.Queue 0 value ∷ []))
         → ⊥ }
-    ensures step { (table : TableId) (last : Number) (most : ℕ) (value : T) →
-        Makes (Call.Queue 0 value) (engine_at_first table 1 last most P.idle)
-        (engine_at_first table 1 last most P.idle) → ⊥ }
+    ensures step { (known : P.Known) (table : TableId) (last : Number) (most : ℕ) (value : T) →
+        Makes (Call.Queue 0 value) (engine_at_first table 1 last most known)
+        (engine_at_first table 1 last most known) → ⊥ }
 {}
 
 /// Nothing is a run. A run with one more call, which may be made where it was made, is a run; and
@@ -154,8 +154,9 @@ pub fn a_step_may_be_made<T: Drop, P: Client>()
         new ≡ after_call old call }
     ensures step { (call : Call T) (old : Locked P.Known T) → MayCall old call →
         Makes call old (after_call old call) }
-    ensures idle { (table : TableId) (last : Number) (most : ℕ) (new : Locked P.Known T) →
-        Makes Call.End (engine_at_first table 1 last most P.idle) new → ⊥ }
+    ensures idle { (known : P.Known) (table : TableId) (last : Number) (most : ℕ)
+        (new : Locked P.Known T) →
+        Makes Call.End (engine_at_first table 1 last most known) new → ⊥ }
 {}
 
 /// What is noted is no less than what the seat saw before, and at most 2^62; the own word is one

@@ -34,7 +34,7 @@ impl<const LEAF: u32, const FAN: u32, T: Drop, P: Client> Model for Live<LEAF, F
     ghost use Rattle.std.specs.Arc.{arc_value};
     ghost use Rattle.rcu_live.specs.Board.{Object};
 
-    ghost Value = { Object };
+    ghost Value = { Object P.Plan };
 
     ghost view = { λ live. arc_value live.board };
 }
@@ -43,7 +43,8 @@ impl<const LEAF: u32, const FAN: u32, T: Drop, P: Client> Live<LEAF, FAN, T, P> 
     /// The engine of these words, put under its lock as it is opened.
     pub(crate) fn new(board: Arc<Board<P>, Global>, engine: Engine<Tree<LEAF, FAN>, T, P>) -> Self
         requires { engine ≡ engine_at_first (arc_value board).table (arc_value board).cpus
-            (arc_value board).last (arc_value board).most P.idle }
+            (arc_value board).last (arc_value board).most
+            (P.idle (P.first (arc_value board).plan)) }
         ensures { result ≡ arc_value board }
     {
         Live {

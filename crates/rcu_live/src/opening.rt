@@ -29,8 +29,9 @@ use std::sync::Arc;
 
 impl<const LEAF: u32, const FAN: u32, T: Drop, P: Client> Parts<LEAF, FAN, T, P> {
     /// The parts of an engine of `cpus` processors, idle at number 0, with processor 0 alone
-    /// online, in which `most` callbacks may be queued, from 1 to 2^62; with these words and slots
-    /// of a client, whose rule they meet. What the client knows first, its own watcher has.
+    /// online, in which `most` callbacks may be queued, from 1 to 2^62; with this plan of a
+    /// client, and these words and slots, which meet its rule. What the client knows first, its own
+    /// watcher has.
     ///
     /// Faults: `TooManyCpus` (17) for no processor, more than 4,096, or more than four levels hold;
     /// `BadLast` (19) where `last` is no last number; `NoMemory` (16).
@@ -39,20 +40,23 @@ impl<const LEAF: u32, const FAN: u32, T: Drop, P: Client> Parts<LEAF, FAN, T, P>
         cpus: u32,
         last: u64,
         most: u64,
+        plan: P::Plan,
         behind: &[u64],
         slots: Vec<P::Slot>,
     ) -> Result<Parts<LEAF, FAN, T, P>, Fault>
         requires fanouts { AreFanouts LEAF FAN }
         requires most { (1 ≤ most) × (most ≤ 2 ^ 62) }
-        requires client { P.holds behind.now (map some slots.items)
-            ((None, None, P.first) ∷ []) }
+        requires client { P.holds plan behind.now (map some slots.items)
+            ((None, None, P.first plan) ∷ []) }
         ensures fault { tested_fault result ≡ opening_refusal LEAF FAN cpus last }
         ensures opened { IfOk result (λ parts. IsOpened cpus last most (length behind.now)
-            (length slots.items) P.first P.idle (arc_value parts.board) parts.engine
+            (length slots.items) (P.first plan) (P.idle (P.first plan)) (arc_value parts.board)
+            parts.engine
             parts.seats.items parts.watchers.items parts.own) }
+        ensures plan { IfOk result (λ parts. (arc_value parts.board).plan ≡ plan) }
     {
         check_size::<LEAF, FAN>(cpus, last)?;
-        let Ok(parts) = Self::open_tested(alloc, cpus, last, most, behind, slots) else {
+        let Ok(parts) = Self::open_tested(alloc, cpus, last, most, plan, behind, slots) else {
             return Err(Fault::NoMemory);
         };
         Ok(parts)
@@ -64,16 +68,19 @@ impl<const LEAF: u32, const FAN: u32, T: Drop, P: Client> Parts<LEAF, FAN, T, P>
         cpus: u32,
         last: u64,
         most: u64,
+        plan: P::Plan,
         behind: &[u64],
         slots: Vec<P::Slot>,
     ) -> Result<Parts<LEAF, FAN, T, P>, AllocError>
         requires cpus { IsCpuCount cpus }
         requires most { (1 ≤ most) × (most ≤ 2 ^ 62) }
-        requires client { P.holds behind.now (map some slots.items)
-            ((None, None, P.first) ∷ []) }
-        ensures { IfOk result (λ parts. IsOpened cpus last most (length behind.now)
-            (length slots.items) P.first P.idle (arc_value parts.board) parts.engine
+        requires client { P.holds plan behind.now (map some slots.items)
+            ((None, None, P.first plan) ∷ []) }
+        ensures opened { IfOk result (λ parts. IsOpened cpus last most (length behind.now)
+            (length slots.items) (P.first plan) (P.idle (P.first plan)) (arc_value parts.board)
+            parts.engine
             parts.seats.items parts.watchers.items parts.own) }
+        ensures plan { IfOk result (λ parts. (arc_value parts.board).plan ≡ plan) }
     {
         let BoardParts {
             board,
@@ -81,7 +88,7 @@ impl<const LEAF: u32, const FAN: u32, T: Drop, P: Client> Parts<LEAF, FAN, T, P>
             seats,
             watchers,
             own,
-        } = open_board(alloc, cpus, last, most, behind, slots)?;
+        } = open_board(alloc, cpus, last, most, plan, behind, slots)?;
         let (gp, by_word) = make_state(alloc, cpus, last, most)?;
         let engine = Engine::new(Arc::try_clone(&board)?, engine_seat, gp, by_word);
         Ok(Parts {
@@ -113,7 +120,7 @@ impl<const LEAF: u32, const FAN: u32, T: Drop> Parts<LEAF, FAN, T> {
             (arc_value parts.board) parts.engine parts.seats.items parts.watchers.items
             parts.own) }
     {
-        Self::open_for(alloc, cpus, last, most, &[], Vec::new(alloc))
+        Self::open_for(alloc, cpus, last, most, (), &[], Vec::new(alloc))
     }
 }
 
@@ -157,7 +164,7 @@ impl<const LEAF: u32, const FAN: u32, T: Drop> Live<LEAF, FAN, T> {
             AreDealt cpus last most 0 0 tt opened.0 opened.1.items opened.2.items) }
     {
         let slots = Vec::new(alloc);
-        let (live, seats, watchers, _) = Live::open_for(alloc, cpus, last, most, &[], slots)?;
+        let (live, seats, watchers, _) = Live::open_for(alloc, cpus, last, most, (), &[], slots)?;
         Ok((live, seats, watchers))
     }
 }
@@ -171,8 +178,8 @@ pub type Opened<const LEAF: u32, const FAN: u32, T, P> = (
 );
 
 impl<const LEAF: u32, const FAN: u32, T: Drop, P: Client> Live<LEAF, FAN, T, P> {
-    /// Opens an engine as [`Live::open`], with these words and slots of a client, whose rule they
-    /// meet. What the client knows first, its own watcher has.
+    /// Opens an engine as [`Live::open`], with this plan of a client, and these words and slots,
+    /// which meet its rule. What the client knows first, its own watcher has.
     ///
     /// Faults: `TooManyCpus` (17) for no processor, more than 4,096, or more than four levels hold;
     /// `BadLast` (19) where `last` is no last number; `NoMemory` (16).
@@ -181,19 +188,21 @@ impl<const LEAF: u32, const FAN: u32, T: Drop, P: Client> Live<LEAF, FAN, T, P> 
         cpus: u32,
         last: u64,
         most: u64,
+        plan: P::Plan,
         behind: &[u64],
         slots: Vec<P::Slot>,
     ) -> Result<Opened<LEAF, FAN, T, P>, Fault>
         requires fanouts { AreFanouts LEAF FAN }
         requires most { (1 ≤ most) × (most ≤ 2 ^ 62) }
-        requires client { P.holds behind.now (map some slots.items)
-            ((None, None, P.first) ∷ []) }
+        requires client { P.holds plan behind.now (map some slots.items)
+            ((None, None, P.first plan) ∷ []) }
         ensures fault { tested_fault result ≡ opening_refusal LEAF FAN cpus last }
         ensures dealt { IfOk result (λ opened. AreDealt cpus last most
-            (length behind.now) (length slots.items) P.idle opened.0 opened.1.items
+            (length behind.now) (length slots.items) (P.idle (P.first plan)) opened.0 opened.1.items
             opened.2.items) }
+        ensures plan { IfOk result (λ opened. opened.0.plan ≡ plan) }
         ensures own { IfOk result (λ opened.
-            opened.3 ≡ watcher_at_first opened.0.table (base_of cpus) P.first) }
+            opened.3 ≡ watcher_at_first opened.0.table (base_of cpus) (P.first plan)) }
     {
         let Parts {
             board,
@@ -201,7 +210,7 @@ impl<const LEAF: u32, const FAN: u32, T: Drop, P: Client> Live<LEAF, FAN, T, P> 
             seats,
             watchers,
             own,
-        } = Parts::open_for(alloc, cpus, last, most, behind, slots)?;
+        } = Parts::open_for(alloc, cpus, last, most, plan, behind, slots)?;
         Ok((Live::new(board, engine), seats, watchers, own))
     }
 }

@@ -6,18 +6,19 @@ use crate::view::View;
 use atomic_table::{Play, Split, TableRule};
 use std::marker::PhantomData;
 
-/// The rule, over a client's part. The table's key is the number of processors.
+/// The rule, over a client's part. The table's key is the number of processors and the client's
+/// plan.
 pub struct Words<P> {
     client: PhantomData<P>,
 }
 
-impl<P: Client> TableRule<P::Slot, View<P::Known>, u32> for Words<P> {
+impl<P: Client> TableRule<P::Slot, View<P::Known>, (u32, P::Plan)> for Words<P> {
     ghost use Rattle.rcu_live.specs.Rule.{IsKept};
     ghost use Rattle.rcu_live.specs.View.{engine_seat};
 
-    ghost holds = { λ cpus. IsKept P.holds cpus };
+    ghost holds = { λ key. IsKept (P.holds key.1) key.0 };
 
-    ghost first = { λ cpus. engine_seat cpus 0 P.first };
+    ghost first = { λ key. engine_seat key.0 0 (P.first key.1) };
 }
 
 /// Number load.
@@ -117,7 +118,7 @@ impl<P: Client> Split<View<P::Known>> for DealCpu<P> {
 
     ghost left = { after_deal };
 
-    ghost right = { next_cpu_seat P.idle };
+    ghost right = { λ v. next_cpu_seat (P.idle v.client) v };
 }
 
 /// Seat split: a watcher's seat.
@@ -130,7 +131,7 @@ impl<P: Client> Split<View<P::Known>> for DealWatcher<P> {
 
     ghost left = { λ v. v };
 
-    ghost right = { λ v. watcher_seat v.base P.idle };
+    ghost right = { λ v. watcher_seat v.base (P.idle v.client) };
 }
 
 /// Seat split: a watcher's seat that has what the client knew here.
@@ -141,7 +142,7 @@ pub struct HandOver<P> {
 impl<P: Client> Split<View<P::Known>> for HandOver<P> {
     ghost use Rattle.rcu_live.specs.View.{after_hand, handed_seat};
 
-    ghost left = { after_hand P.idle };
+    ghost left = { λ v. after_hand (P.idle v.client) v };
 
     ghost right = { handed_seat };
 }

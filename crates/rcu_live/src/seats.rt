@@ -41,20 +41,23 @@ pub(crate) fn open_board<P: Client>(
     cpus: u32,
     last: u64,
     most: u64,
+    plan: P::Plan,
     behind: &[u64],
     slots: Vec<P::Slot>,
 ) -> Result<BoardParts<P>, AllocError>
     requires cpus { IsCpuCount cpus }
-    requires client { P.holds behind.now (map some slots.items) ((None, None, P.first) ∷ []) }
+    requires client { P.holds plan behind.now (map some slots.items)
+        ((None, None, P.first plan) ∷ []) }
     ensures dealt { IfOk result (λ dealt. AreDealt cpus last most (length behind.now)
-        (length slots.items) P.idle (arc_value dealt.board) dealt.seats.items
+        (length slots.items) (P.idle (P.first plan)) (arc_value dealt.board) dealt.seats.items
         dealt.watchers.items) }
+    ensures plan { IfOk result (λ dealt. (arc_value dealt.board).plan ≡ plan) }
     ensures own { IfOk result (λ dealt.
-        dealt.own ≡ watcher_at_first (arc_value dealt.board).table (base_of cpus) P.first) }
+        dealt.own ≡ watcher_at_first (arc_value dealt.board).table (base_of cpus) (P.first plan)) }
     ensures engine { IfOk result (λ dealt. IsSeatAt (arc_value dealt.board).table
-        (engine_seat cpus cpus P.idle) dealt.engine_seat) }
+        (engine_seat cpus cpus (P.idle (P.first plan))) dealt.engine_seat) }
 {
-    let (board, mut engine_seat) = Board::open(alloc, cpus, last, most, behind, slots)?;
+    let (board, mut engine_seat) = Board::open(alloc, cpus, last, most, plan, behind, slots)?;
     let board = Arc::new(alloc, board)?;
     let (seats, watchers) = deal(alloc, &board, &mut engine_seat, cpus)?;
     let own = Watcher::new(board.hand_over(&mut engine_seat));
@@ -74,12 +77,14 @@ fn deal_next<P: Client>(
     cpu: u32,
 ) -> (CpuSeat<P>, Watcher<P>)
     requires inside { cpu < board.now.cpus }
-    requires engine { IsSeatAt board.now.table (engine_seat board.now.cpus cpu P.first) engine.old }
-    ensures seat { result.0 ≡ at_first board.now.table (base_of board.now.cpus) P.idle cpu }
-    ensures watcher { result.1 ≡
-        watcher_at_first board.now.table (base_of board.now.cpus) P.idle }
-    ensures engine { IsSeatAt board.now.table (engine_seat board.now.cpus (cpu + 1) P.first)
-        engine.new }
+    requires engine { IsSeatAt board.now.table
+        (engine_seat board.now.cpus cpu (P.first board.now.plan)) engine.old }
+    ensures seat { result.0 ≡ at_first board.now.table (base_of board.now.cpus)
+        (P.idle (P.first board.now.plan)) cpu }
+    ensures watcher { result.1 ≡ watcher_at_first board.now.table (base_of board.now.cpus)
+        (P.idle (P.first board.now.plan)) }
+    ensures engine { IsSeatAt board.now.table
+        (engine_seat board.now.cpus (cpu + 1) (P.first board.now.plan)) engine.new }
 {
     let seat = board.deal_cpu(engine);
     let seat = CpuSeat::new(seat, cpu);
@@ -95,13 +100,16 @@ fn deal<P: Client>(
     cpus: u32,
 ) -> Result<(Vec<CpuSeat<P>>, Vec<Watcher<P>>), AllocError>
     requires cpus { cpus ≡ board.now.cpus }
-    requires first { IsSeatAt board.now.table (engine_seat cpus 0 P.first) engine.old }
+    requires first { IsSeatAt board.now.table (engine_seat cpus 0 (P.first board.now.plan))
+        engine.old }
     ensures seats { IfOk result (λ dealt. dealt.0.items ≡
-        map (at_first board.now.table (base_of cpus) P.idle) (range_with_len 0 cpus)) }
+        map (at_first board.now.table (base_of cpus) (P.idle (P.first board.now.plan)))
+        (range_with_len 0 cpus)) }
     ensures watchers { IfOk result (λ dealt. dealt.1.items ≡
-        map (λ _. watcher_at_first board.now.table (base_of cpus) P.idle) (range_with_len 0 cpus)) }
+        map (λ _. watcher_at_first board.now.table (base_of cpus) (P.idle (P.first board.now.plan)))
+        (range_with_len 0 cpus)) }
     ensures engine { OnOk result
-        (IsSeatAt board.now.table (engine_seat cpus cpus P.first) engine.new) }
+        (IsSeatAt board.now.table (engine_seat cpus cpus (P.first board.now.plan)) engine.new) }
 {
     let mut seats = Vec::new(alloc);
     let mut watchers = Vec::new(alloc);

@@ -10,8 +10,8 @@ pub trait Shared<P: Client> {
     ghost use Rattle.std.specs.Prelude.{◌≡◌};
     ghost use Rattle.rcu_live.specs.Board.{Object};
 
-    /// Which engine it is, and how many processors it has.
-    ghost object: { Self → Object };
+    /// Which engine it is, how many processors it has, and its client's plan.
+    ghost object: { Self → Object P.Plan };
 
     /// The shared words.
     fn board(&self) -> &Board<P>

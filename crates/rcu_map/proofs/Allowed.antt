@@ -25,7 +25,7 @@ placed buckets w v key k previous was o place e f h =
     (subst (λ (n : ℕ). IsPlace buckets n (nodes_in w.view.client) previous o) f
     (subst (λ (n : Option ℕ). IsPlace buckets key (nodes_in w.view.client) previous n) h place))
 
-module _ (holds : List ℕ → Type 0) (buckets width count : ℕ) (graph : Object)
+module _ (holds : List ℕ → Type 0) (buckets width count : ℕ) (graph : Object (Unit {0}))
     (keeper : Watching Known) (m : IsMap holds buckets width count (nodes_in keeper.view.client))
     (watches : IsWatcherOf graph keeper) where
   abbrev A : List Node

@@ -46,7 +46,8 @@ target_of joins words nodes x there j e =
     (node_at nodes j, here_at nodes j (live_inside nodes j r.0), r.0, r.1)
 
 module _ (fits : List ℕ → Type 0) (joins : ℕ → List ℕ → List ℕ → Type 0) (count : ℕ)
-    (graph : Object) (keeper : Watching Known) (previous : ℕ) (words : List ℕ) (next : Option ℕ)
+    (graph : Object (Unit {0})) (keeper : Watching Known) (previous : ℕ) (words : List ℕ)
+    (next : Option ℕ)
     (can : CanPut fits joins count graph keeper previous words next) (node : ℕ) (low : node < count)
     (free : state_at (nodes_in keeper.view.client) node ≡ Free) where
   abbrev A : List Node

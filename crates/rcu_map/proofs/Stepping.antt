@@ -26,9 +26,6 @@ use Rattle.rcu_map.specs.Listing.{left_from}
 use Rattle.rcu_map.specs.declared.cursor.Cursor.{Cursor}
 use Rattle.rcu_map.proofs.Rows.{root_key, zeros}
 
-the_same : (a b : ℕ) → suc a ≡ suc b → a ≡ b
-the_same a b e = omega (arith, e)
-
 -- of the words of a node: of a root, and of one that has a key
 bucket_at_root : (buckets bucket width : ℕ) → 2 ≤ width
     → bucket_in buckets (root_words width bucket) ≡ bucket
@@ -94,7 +91,8 @@ module _ (count buckets width : ℕ) (known : Known) (at : Cursor) where
             ∙ (ap (bucket_of buckets) is ∙ c.same up);
       })
 
-module _ (holds : List ℕ → Type 0) (count buckets width : ℕ) (map : Object) (old new : Seated Known)
+module _ (holds : List ℕ → Type 0) (count buckets width : ℕ) (map : Object (Unit {0}))
+    (old new : Seated Known)
     (start : Cursor) (inside : start.bucket < buckets)
     (o : IsOnWords count buckets width old.view.client start)
     (same : new ≡ after_word_step old new.view.client) (walking : IsWalking map new) where
@@ -176,7 +174,8 @@ module _ (holds : List ℕ → Type 0) (count buckets width : ℕ) (map : Object
         whole = λ more. c.whole;
       }
 
-module _ (holds : List ℕ → Type 0) (count buckets width : ℕ) (map : Object) (old new : Seated Known)
+module _ (holds : List ℕ → Type 0) (count buckets width : ℕ) (map : Object (Unit {0}))
+    (old new : Seated Known)
     (start at : Cursor) (s : HasStepped holds count buckets width map old start new at) where
   led_to : (to : ℕ) → s.hop.to ≡ to → at ≡ led_from start to (key_after s.hop)
   led_to to e = s.led ∙ ap (λ (n : ℕ). led_from start n (key_after s.hop)) e
@@ -252,7 +251,8 @@ pub record IsPassing (buckets : ℕ) (was : Known) (start : Cursor) (now : Known
 pub begins : (buckets : ℕ) (was : Known) (start : Cursor) → IsPassing buckets was start was start
 begins buckets was start = record { over = []; are = refl; nowhere = tt; goes = refl }
 
-module _ (holds : List ℕ → Type 0) (count buckets width : ℕ) (map : Object) (old new : Seated Known)
+module _ (holds : List ℕ → Type 0) (count buckets width : ℕ) (map : Object (Unit {0}))
+    (old new : Seated Known)
     (mid at : Cursor) (s : HasStepped holds count buckets width map old mid new at) (was : Known)
     (start : Cursor) (p : IsPassing buckets was start old.view.client mid) where
   pub passes_on : at.key ≡ 0 → IsPassing buckets was start new.view.client at
@@ -301,7 +301,7 @@ at_most a b c low high = omega (arith, low, high)
 below : (a b c : ℕ) → a < b → b ≤ c → a < c
 below a b c low high = omega (arith, low, high)
 
-module _ (holds : List ℕ → Type 0) (count buckets width : ℕ) (map : Object)
+module _ (holds : List ℕ → Type 0) (count buckets width : ℕ) (map : Object (Unit {0}))
     (begun old new : Seated Known) (start mid at : Cursor)
     (s : HasStepped holds count buckets width map old mid new at)
     (same : old ≡ after_word_step begun old.view.client) (may : MayGoOn count buckets map old mid)

@@ -30,7 +30,7 @@ pub record IsOnCursor (count buckets : ℕ) (known : Known) (at : Cursor) : Type
   pub same : 0 < at.key → bucket_of buckets at.key ≡ at.bucket
 
 -- an open section may go on from a cursor, which is on a node or at the end
-pub record MayGoOn (count buckets : ℕ) (map : Object) (seat : Seated Known)
+pub record MayGoOn (count buckets : ℕ) (map : Object (Unit {0})) (seat : Seated Known)
     (at : Cursor) : Type 0 where
   pub walking : IsWalking map seat
   pub within : at.bucket ≤ buckets
@@ -38,7 +38,7 @@ pub record MayGoOn (count buckets : ℕ) (map : Object) (seat : Seated Known)
   pub on : at.bucket < buckets → IsOnCursor count buckets seat.view.client at
 
 -- an open section is on a node that has the words of an entry
-pub record IsOnEntry (holds : List ℕ → Type 0) (count width : ℕ) (map : Object)
+pub record IsOnEntry (holds : List ℕ → Type 0) (count width : ℕ) (map : Object (Unit {0}))
     (seat : Seated Known) (node : ℕ) : Type 0 where
   pub walking : IsWalking map seat
   pub inside : node < count
@@ -48,7 +48,7 @@ pub record IsOnEntry (holds : List ℕ → Type 0) (count width : ℕ) (map : Ob
   pub keyed : 0 < key_in words
 
 -- an open section went on from a cursor by one hop, and is where that led
-pub record HasStepped (holds : List ℕ → Type 0) (count buckets width : ℕ) (map : Object)
+pub record HasStepped (holds : List ℕ → Type 0) (count buckets width : ℕ) (map : Object (Unit {0}))
     (old : Seated Known) (start : Cursor) (new : Seated Known) (at : Cursor) : Type 0 where
   pub same : new ≡ after_word_step old new.view.client
   pub hop : Hop
@@ -60,7 +60,8 @@ pub record HasStepped (holds : List ℕ → Type 0) (count buckets width : ℕ) 
 
 -- an open section went on from a cursor to the next entry, or to the end where there is none
 pub record HasListed {E : Type 0} (holds : List ℕ → Type 0) (decode : List ℕ → E)
-    (valid : E → Type 0) (key_of : E → ℕ) (count buckets : ℕ) (map : Object) (old : Seated Known)
+    (valid : E → Type 0) (key_of : E → ℕ) (count buckets : ℕ) (map : Object (Unit {0}))
+    (old : Seated Known)
     (start : Cursor) (new : Seated Known) (at : Cursor) (result : Option E) : Type 0 where
   pub same : new ≡ after_word_step old new.view.client
   pub may : MayGoOn count buckets map new at

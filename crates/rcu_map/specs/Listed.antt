@@ -11,7 +11,7 @@ use Rattle.rcu_map.specs.declared.entries.Entries.{Entries}
 -- the map, the seat whose section reads it, which seat is borrowed (a name that tells one borrowed
 -- seat from another), and where it stands
 pub record Listing : Type 0 where
-  pub map : Object
+  pub map : Object (Unit {0})
   pub seat : Seated Known
   pub name : GName
   pub at : Cursor

@@ -25,7 +25,7 @@ pub record MayOpen (leaf fan : ℕ) (holds : List ℕ → Type 0) (buckets width
 -- what an opening deals of a map of so many processors, with this last number, of so many buckets,
 -- words and nodes: a seat and a watcher a processor, and the watcher that keeps the nodes, which
 -- are the roots of all buckets and others, free, so that there is no entry
-pub record IsOpened (cpus : ℕ) (last : Number) (buckets width count : ℕ) (map : Object)
+pub record IsOpened (cpus : ℕ) (last : Number) (buckets width count : ℕ) (map : Object (Unit {0}))
     (seats : List (Seated Known)) (watchers : List (Watching Known))
     (keeper : Watching Known) : Type 0 where
   pub dealt : AreDealt cpus last (2 ^ 62) (first_place + (1 + width) * count) 0 Idle map seats

@@ -39,7 +39,7 @@ pub record AreKept (fits : List ℕ → Type 0) (joins : ℕ → List ℕ → Li
 -- the seat may keep the graph's nodes, which are as at first, and of which the roots have these
 -- words
 pub record CanKeep (fits : List ℕ → Type 0) (first : ℕ → List ℕ) (roots width count : ℕ)
-    (graph : Object) (seat : Watching Known) (words : List (List ℕ)) : Type 0 where
+    (graph : Object (Unit {0})) (seat : Watching Known) (words : List (List ℕ)) : Type 0 where
   pub keeper : IsKeeperOf count graph seat
   pub nodes : IsClaimed first roots 1 width count seat.view.client
   pub rows : words ≡ map first (range_with_len 0 roots)
@@ -48,7 +48,7 @@ pub record CanKeep (fits : List ℕ → Type 0) (first : ℕ → List ℕ) (root
 -- the keeper may put a node of these words behind this one, which may lead to it, as it may to the
 -- next one
 pub record CanPut (fits : List ℕ → Type 0) (joins : ℕ → List ℕ → List ℕ → Type 0) (count : ℕ)
-    (graph : Object) (keeper : Watching Known) (previous : ℕ) (words : List ℕ)
+    (graph : Object (Unit {0})) (keeper : Watching Known) (previous : ℕ) (words : List ℕ)
     (next : Option ℕ) : Type 0 where
   pub watches : IsWatcherOf graph keeper
   pub few : length (nodes_in keeper.view.client) ≡ count
@@ -66,7 +66,7 @@ put nodes previous node words next =
 -- a node that was free was put behind the previous one by one store, and what no live node leads to
 -- any more was left
 pub record HasPut (fits : List ℕ → Type 0) (joins : ℕ → List ℕ → List ℕ → Type 0) (roots count : ℕ)
-    (graph : Object) (before now : Watching Known) (previous : ℕ) (words : List ℕ)
+    (graph : Object (Unit {0})) (before now : Watching Known) (previous : ℕ) (words : List ℕ)
     (next : Option ℕ) : Type 0 where
   pub node : ℕ
   pub inside : node < count
@@ -83,7 +83,7 @@ pub record IsFull (before now : Watching Known) : Type 0 where
   pub unchanged : now ≡ before
 
 -- the keeper may lead the one node to where the other one leads
-pub record CanPass (joins : ℕ → List ℕ → List ℕ → Type 0) (count : ℕ) (graph : Object)
+pub record CanPass (joins : ℕ → List ℕ → List ℕ → Type 0) (count : ℕ) (graph : Object (Unit {0}))
     (keeper : Watching Known) (previous old : ℕ) : Type 0 where
   pub watches : IsWatcherOf graph keeper
   pub few : length (nodes_in keeper.view.client) ≡ count
@@ -95,7 +95,7 @@ pub record CanPass (joins : ℕ → List ℕ → List ℕ → Type 0) (count : �
 -- the previous node was led to where the old one leads, by one store, and what no live node leads
 -- to any more was left
 pub record HasPassed (fits : List ℕ → Type 0) (joins : ℕ → List ℕ → List ℕ → Type 0)
-    (roots count : ℕ) (graph : Object) (before now : Watching Known)
+    (roots count : ℕ) (graph : Object (Unit {0})) (before now : Watching Known)
     (previous old : ℕ) : Type 0 where
   pub next : Option ℕ
   pub leads : word_to next ≡ next_of (nodes_in before.view.client) old

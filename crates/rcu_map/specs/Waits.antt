@@ -41,13 +41,15 @@ pub record HasAged (buckets : ℕ) (before after : Watching Known) : Type 0 wher
   pub entries : AreSameEntries buckets (nodes_in before.view.client) (nodes_in after.view.client)
 
 -- a keeper of the map, by its seat, and a processor's seat of it
-pub record AreOf (map : Object) (keeper : Watching Known) (seat : Seated Known) : Type 0 where
-  pub keeper_of : IsWatcherOf map keeper
-  pub seat_of : IsSeatOf map seat
+pub record AreOf (map : Object (Unit {0})) (keeper : Watching Known) (seat : Seated Known) : Type 0
+  where
+    pub keeper_of : IsWatcherOf map keeper
+    pub seat_of : IsSeatOf map seat
 
 -- a keeper of the map none of whose nodes is free, and a processor's seat of the map, outside of
 -- sections
-pub record CanWait (map : Object) (seat : Seated Known) (keeper : Watching Known) : Type 0 where
+pub record CanWait (map : Object (Unit {0})) (seat : Seated Known) (keeper : Watching Known) : Type
+    0 where
   pub of_map : AreOf map keeper seat
   pub outside : seat.depth ≡ 0
   pub full : AreAllUsed (nodes_in keeper.view.client)

@@ -52,7 +52,7 @@ impl<
     ghost use Rattle.std.specs.Prelude.{◌<◌};
     ghost use Rattle.rcu_live.specs.Board.{Object};
 
-    ghost Value = { Object };
+    ghost Value = { Object (Unit {0}) };
 
     ghost view = { λ map. map.graph };
 

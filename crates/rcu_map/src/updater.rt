@@ -56,7 +56,7 @@ impl<
 > Model for Updater<'a, LEAF, FAN, T, E, BUCKETS, W, N> {
     ghost use Rattle.rcu_live.specs.Board.{Object};
 
-    ghost Value = { Object };
+    ghost Value = { Object (Unit {0}) };
 
     ghost view = { λ updater. updater.map.now };
 }

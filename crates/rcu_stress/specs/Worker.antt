@@ -26,7 +26,8 @@ pub record Worker : Type 0 where
 
 -- a seat and a watcher of this engine for each of so many workers; each seat is of a worker's
 -- processor
-pub record AreOfWorkers (engine : Object) (workers : ℕ) (seats : List (Seated (Unit {0})))
+pub record AreOfWorkers (engine : Object (Unit {0})) (workers : ℕ)
+    (seats : List (Seated (Unit {0})))
     (watchers : List (Watching (Unit {0}))) : Type 0 where
   pub seat_count : length seats ≡ workers
   pub watcher_count : length watchers ≡ workers

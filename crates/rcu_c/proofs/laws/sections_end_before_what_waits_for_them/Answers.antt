@@ -25,7 +25,7 @@ returns-clause-poll c =
     λ before after i j k l at taking polled seat later taken section done still same.
     subst (λ (p : ℕ × ℕ). is_done_first (cookie_at (of_first_epoch p.0)) p.1 ≡ false)
     (λ x. (word_is before i taking taken x, word_is after k polled done x))
-    (c.readers_finish_before_done.ensures (engine_of taking).cpus before after j l
+    (c.readers_finish_before_done.ensures tt (engine_of taking).cpus before after j l
     (cpu_of seat).view (cpu_of later).view at taken.kept
     (subst (λ (n : ℕ). IsKept (λ _ _ _. Unit {0}) n after) same done.kept) section.here section.role
     section.section still.here still.role still.section)

@@ -37,7 +37,7 @@ new-requires-clause-cpu c =
     let cpus = c.args.shared.now.words.cpus in
     let same =
     c.cpus-end.ensures
-    ∙ ap (λ (o : Object). o.cpus) c.deref.ensures
+    ∙ ap (λ (o : Object (Unit {0})). o.cpus) c.deref.ensures
     ∙ ap (λ (s : Shared). s.words.cpus) c.shared.view_is in
     let low : c.loop.counter < cpus = omega (arith, c.loop-test.true, same) in
     ap (λ (s : Seated (Unit {0})). s.table)
@@ -48,7 +48,7 @@ new-requires-clause-watcher c =
     let cpus = c.args.shared.now.words.cpus in
     let same =
     c.cpus-end.ensures
-    ∙ ap (λ (o : Object). o.cpus) c.deref.ensures
+    ∙ ap (λ (o : Object (Unit {0})). o.cpus) c.deref.ensures
     ∙ ap (λ (s : Shared). s.words.cpus) c.shared.view_is in
     let low : c.loop.counter < cpus = omega (arith, c.loop-test.true, same) in
     ap (λ (w : Watching (Unit {0})). w.table)
@@ -59,7 +59,7 @@ new-requires-clause-inside c =
     let cpus = c.args.shared.now.words.cpus in
     let same =
     c.cpus-end.ensures
-    ∙ ap (λ (o : Object). o.cpus) c.deref.ensures
+    ∙ ap (λ (o : Object (Unit {0})). o.cpus) c.deref.ensures
     ∙ ap (λ (s : Shared). s.words.cpus) c.shared.view_is in
     let low : c.loop.counter < cpus = omega (arith, c.loop-test.true, same) in
     subst (λ (n : ℕ). n < cpus)
@@ -75,7 +75,7 @@ loop-preserved c =
     let i = c.loop.invariant in
     let same =
     c.cpus-end.ensures
-    ∙ ap (λ (o : Object). o.cpus) c.deref.ensures
+    ∙ ap (λ (o : Object (Unit {0})). o.cpus) c.deref.ensures
     ∙ ap (λ (s : Shared). s.words.cpus) c.shared.view_is in
     let low : n < cpus = omega (arith, c.loop-test.true, same) in
     let seat = one_came _ n cpus _ _ _ low i.1 c.in-Some.ensures.items in

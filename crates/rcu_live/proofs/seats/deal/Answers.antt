@@ -12,12 +12,13 @@ loop-cpu-preserved g c =
     let d = c.deal_next-seat.ensures in
     let cpus = sym c.requires.cpus in
     let table = c.args.board.now.table in
-    let idle = g.P.Client.idle in (
+    let first = g.P.Client.first c.args.board.now.plan in
+    let idle = g.P.Client.idle first in (
       record {
         at_table = d.engine.at_table;
         has_view =
             d.engine.has_view
-            ∙ ap (λ (n : ℕ). engine_seat n (c.loop-cpu.cpu + 1) g.P.Client.first) cpus;
+            ∙ ap (λ (n : ℕ). engine_seat n (c.loop-cpu.cpu + 1) first) cpus;
       },
       one_more _ _ _ _ _ i.1 c.in_ok-push.ensures.items
           (d.seat ∙ ap (λ (n : ℕ). at_first table (base_of n) idle c.loop-cpu.cpu) cpus),

@@ -9,9 +9,11 @@ use Rattle.rcu_live.proofs.seats.deal.Given as goal
 
 abbrev pub invariant-loop-cpu : goal.invariant-loop-cpu
 invariant-loop-cpu g l =
-    IsSeatAt l.board.table (engine_seat l.cpus l.cpu g.P.Client.first) l.engine
+    IsSeatAt l.board.table (engine_seat l.cpus l.cpu (g.P.Client.first l.board.plan)) l.engine
     × (l.seats.items
-    ≡ map (at_first l.board.table (base_of l.cpus) g.P.Client.idle) (range_with_len 0 l.cpu))
+    ≡ map (at_first l.board.table (base_of l.cpus) (g.P.Client.idle
+    (g.P.Client.first l.board.plan))) (range_with_len 0 l.cpu))
     × (l.watchers.items
-    ≡ map (λ _. watcher_at_first l.board.table (base_of l.cpus) g.P.Client.idle)
+    ≡ map (λ _. watcher_at_first l.board.table (base_of l.cpus)
+    (g.P.Client.idle (g.P.Client.first l.board.plan)))
     (range_with_len 0 l.cpu))

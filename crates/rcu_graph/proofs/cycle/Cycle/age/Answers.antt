@@ -1,4 +1,4 @@
-use Rattle.std.proofs.Common.{◌∙◌, ◌<◌, ℕ, List, ap, arith, length, map, subst, sym}
+use Rattle.std.proofs.Common.{◌∙◌, ◌<◌, ℕ, List, ap, length, map, subst, sym}
 use Rattle.rcu_graph.specs.Cycle.{is_left, state_in, turned}
 use Rattle.rcu_graph.specs.Nodes.{IsBy}
 use Rattle.rcu_graph.specs.declared.node_state.NodeState.{NodeState}
@@ -7,14 +7,12 @@ use Rattle.rcu_graph.proofs.Turns.{all_age, late_freed}
 use Rattle.rcu_graph.proofs.cycle.Cycle.age.Goals as goal
 
 pub retire_all-requires : goal.retire_all-requires
-retire_all-requires g c = (
-  omega arith,
-  subst (λ (l : List NodeState). (i : ℕ) → i < length l → IsBy c.args.number (state_in l i))
-      (sym c.free_all.ensures) (late_freed c.args.number c.args.self.now c.requires.late),
-)
+retire_all-requires c =
+    subst (λ (l : List NodeState). (i : ℕ) → i < length l → IsBy c.args.number (state_in l i))
+    (sym c.free_all.ensures) (late_freed c.args.number c.args.self.now c.requires.late)
 
 pub returns : goal.returns
-returns g c =
+returns c =
     c.retire_all.ensures
     ∙ (ap (λ (l : List NodeState). map (turned is_left (Retired c.args.number)) l)
     c.free_all.ensures

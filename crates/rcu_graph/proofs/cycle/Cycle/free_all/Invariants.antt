@@ -4,9 +4,9 @@ use Rattle.rcu_graph.specs.declared.node_state.NodeState.TheVariants.{Free}
 use Rattle.rcu_graph.proofs.cycle.Cycle.free_all.Given as goal
 
 abbrev pub invariant-loop : goal.invariant-loop
-invariant-loop g l =
+invariant-loop l =
     map (turned (is_over l.number) Free) l.self
     ≡ map (turned (is_over l.number) Free) l.initial.self
 
 abbrev pub decreases-loop : goal.decreases-loop
-decreases-loop g l = how_many (is_over l.number) l.self
+decreases-loop l = how_many (is_over l.number) l.self

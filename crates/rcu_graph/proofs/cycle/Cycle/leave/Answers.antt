@@ -1,27 +1,39 @@
-use Rattle.std.proofs.Common.{◌≡◌, ◌∙◌, ◌+◌, List, ℕ, ap, arith, set, subst, sym}
+use Rattle.std.proofs.Common.{◌∙◌, ◌<◌, List, ℕ, ap, arith, length, length-set, set, subst, sym}
 use Rattle.rcu_graph.specs.Cycle.{IsCycle, state_in}
 use Rattle.rcu_graph.specs.declared.node_state.NodeState.{NodeState}
-use Rattle.rcu_graph.specs.declared.node_state.NodeState.TheVariants.{Left, Live}
-use Rattle.rcu_graph.proofs.Cycles.{cycle_left, live_in_room, stands_alone, stands_there}
+use Rattle.rcu_graph.specs.declared.node_state.NodeState.TheVariants.{Left}
+use Rattle.rcu_graph.proofs.Cycles.{cycle_left, room_left}
 use Rattle.rcu_graph.proofs.cycle.Cycle.leave.Goals as goal
 
-pub invariant_of-self : goal.invariant_of-self
-invariant_of-self g c =
+pub unreachable-requires : goal.unreachable-requires
+unreachable-requires c =
     let i = c.self.inside in
-    let e = c.node_at-first.ensures in
-    let states : List NodeState = set i.states.items c.args.node Left in
-    let live : state_in i.states.items c.args.node ≡ Live =
-    ap (λ (l : List NodeState). state_in l c.args.node) c.self.view_is ∙ c.requires.live in
-    let begins = c.self.invariant.begins (let low = c.requires.node in omega (arith, low)) in
-    let room = live_in_room g.row.N i.states.items i.ring i.start i.free i.retired i.left
-    c.self.invariant c.args.node c.requires.node e.all live in
-    subst (λ (l : List ℕ). IsCycle g.row.N states l i.start i.free i.retired (i.left + 1))
-    (sym c.exchange.ensures)
-    (cycle_left g.row.N i.states.items i.ring i.start i.free i.retired i.left c.self.invariant
-    c.args.node c.node_at-first.result c.requires.node e.inside e.many e.all live
-    (stands_there g.row.N i.states.items i.ring i.start i.free i.retired i.left c.self.invariant
-    (i.free + i.retired + i.left) c.place_on.result c.node_at-first.result begins e.all
-    c.place_on.ensures.place room e.there)
-    (stands_alone g.row.N i.states.items i.ring i.start i.free i.retired i.left c.self.invariant
-    (i.free + i.retired + i.left) c.place_on.result c.node_at-first.result begins e.all
-    c.place_on.ensures.place e.alone))
+    let k = c.self.invariant in
+    let room = room_left i.states.items i.free.items i.places.items i.waiting.items i.retired
+    k.cycle c.args.node
+    (subst (λ (l : List NodeState). c.args.node < length l) (sym c.self.view_is) c.requires.node)
+    (ap (λ (l : List NodeState). state_in l c.args.node) c.self.view_is ∙ c.requires.live) in
+    let full = c.in_default.ensures.full in
+    let few = i.waiting.ok.0 in
+    let fits = k.waiting in
+    omega (arith, room, full, few, fits)
+
+pub invariant_of-self : goal.invariant_of-self
+invariant_of-self c =
+    let i = c.self.inside in
+    let k = c.self.invariant in
+    let many = length-set i.states.items c.args.node Left in
+    record {
+      cycle = subst (λ (l : List ℕ).
+          IsCycle (set i.states.items c.args.node Left) i.free.items i.places.items l i.retired)
+          (sym c.in-Ok.ensures.items)
+          (cycle_left i.states.items i.free.items i.places.items i.waiting.items i.retired k.cycle
+          c.args.node
+          (subst (λ (l : List NodeState). c.args.node < length l) (sym c.self.view_is)
+          c.requires.node)
+          (ap (λ (l : List NodeState). state_in l c.args.node) c.self.view_is ∙ c.requires.live));
+      free = let a = k.free in omega (arith, a, many);
+      waiting =
+          let a = k.waiting in
+          let b = c.push_back.ensures.capacity in omega (arith, a, b, many);
+    }

@@ -5,7 +5,7 @@ use Rattle.rcu_graph.proofs.Turns.{late_after, turn_ends, turn_goes_on}
 use Rattle.rcu_graph.proofs.cycle.Cycle.retire_all.Goals as goal
 
 pub loop-preserved : goal.loop-preserved
-loop-preserved g c = (
+loop-preserved c = (
   turn_goes_on is_left (Retired c.args.number) c.loop.self c.retire_next.new.self
       c.retire_next.result c.loop-test.true c.retire_next.ensures
       ∙ c.loop.invariant.0,
@@ -14,7 +14,7 @@ loop-preserved g c = (
 )
 
 pub returns : goal.returns
-returns g c =
+returns c =
     turn_ends is_left (Retired c.args.number) c.loop.self c.retire_next.new.self
     c.retire_next.result c.loop-test.false c.retire_next.ensures
     ∙ c.loop.invariant.0

@@ -5,10 +5,10 @@ use Rattle.rcu_graph.specs.declared.node_state.NodeState.TheVariants.{Retired}
 use Rattle.rcu_graph.proofs.cycle.Cycle.retire_all.Given as goal
 
 abbrev pub invariant-loop : goal.invariant-loop
-invariant-loop g l =
+invariant-loop l =
     (map (turned is_left (Retired l.number)) l.self
     ≡ map (turned is_left (Retired l.number)) l.initial.self)
     × ((i : ℕ) → i < length l.self → IsBy l.number (state_in l.self i))
 
 abbrev pub decreases-loop : goal.decreases-loop
-decreases-loop g l = how_many is_left l.self
+decreases-loop l = how_many is_left l.self

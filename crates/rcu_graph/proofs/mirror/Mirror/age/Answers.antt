@@ -1,4 +1,4 @@
-use Rattle.std.proofs.Common.{List, ◌∙◌, ap, arith}
+use Rattle.std.proofs.Common.{List, ◌∙◌, ap}
 use Rattle.rcu_graph.specs.Mirror.{nodes_of}
 use Rattle.rcu_graph.specs.Nodes.{aged}
 use Rattle.rcu_graph.specs.declared.known.Node.{Node}
@@ -17,11 +17,9 @@ returns g c =
 
 pub age-requires : goal.age-requires
 age-requires g c =
-    let i = c.self.inside in (
-      omega arith,
-      (
-        c.requires.small,
-        states_by g.row.L g.row.W i.states i.links.items i.words.items c.args.self.now
-            c.self.view_is c.args.number c.requires.late,
-      ),
-    )
+    let i = c.self.inside in
+    record {
+      small = c.requires.small;
+      late = states_by g.row.L g.row.W i.states i.links.items i.words.items c.args.self.now
+          c.self.view_is c.args.number c.requires.late;
+    }

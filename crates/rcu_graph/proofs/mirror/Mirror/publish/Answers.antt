@@ -18,12 +18,10 @@ returns g c =
 
 pub publish-requires : goal.publish-requires
 publish-requires g c =
-    let i = c.self.inside in (
-      omega arith,
-      (
-        c.requires.node,
-        state_is g.row.L g.row.W i.states i.links.items i.words.items c.args.self.now c.self.view_is
-            c.args.node
-            ∙ c.requires.free,
-      ),
-    )
+    let i = c.self.inside in
+    record {
+      node = let count = c.self.invariant.count in omega (arith, count, c.requires.node);
+      free = state_is g.row.L g.row.W i.states i.links.items i.words.items c.args.self.now
+          c.self.view_is c.args.node
+          ∙ c.requires.free;
+    }

@@ -7,5 +7,5 @@ store-requires g c =
     let r = c.requires.allowed in (
       search rules,
       search rules,
-      begins_at g.P.Client.holds _ _ _ _ _ r.engine r.idle r.next r.bounded,
+      begins_at (g.P.Client.holds _) _ _ _ _ _ r.engine r.idle r.next r.bounded,
     )

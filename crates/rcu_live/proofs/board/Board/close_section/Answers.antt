@@ -6,5 +6,5 @@ pub load-requires : goal.load-requires
 load-requires g c = (
   search rules,
   search rules,
-  closes g.P.Client.holds _ _ g.met.P.Client.stable _ _ _ _,
+  closes (g.P.Client.holds _) _ _ (g.met.P.Client.stable _) _ _ _ _,
 )

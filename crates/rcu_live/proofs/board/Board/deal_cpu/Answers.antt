@@ -6,5 +6,6 @@ pub split_seat-requires : goal.split_seat-requires
 split_seat-requires g c = (
   search rules,
   search rules,
-  deals_cpu g.P.Client.holds _ _ g.met.P.Client.stable _ _ _ c.requires.engine (search rules),
+  deals_cpu (g.P.Client.holds _) _ _ (g.met.P.Client.stable _) _ _ _ c.requires.engine
+      (search rules),
 )

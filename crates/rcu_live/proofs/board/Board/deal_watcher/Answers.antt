@@ -6,5 +6,5 @@ pub split_seat-requires : goal.split_seat-requires
 split_seat-requires g c = (
   search rules,
   search rules,
-  deals_watcher g.P.Client.holds _ _ g.met.P.Client.stable _ _ _,
+  deals_watcher (g.P.Client.holds _) _ _ (g.met.P.Client.stable _) _ _ _,
 )

@@ -8,9 +8,11 @@ pub store-requires : goal.store-requires
 store-requires g c =
     let r = c.requires.allowed in
     let v = c.args.seat.now.me.0 in
-    let cleared = subst (λ (o : Object). AreCleared o.cpus v.seen v.own_word_loads)
+    let cleared = subst (λ (o : Object g.row.P-Plan.Denot). AreCleared o.cpus v.seen
+    v.own_word_loads)
     (sym c.self.view_is) r.cleared in (
       search rules,
       search rules,
-      ends_at g.P.Client.holds _ _ _ _ _ _ r.engine r.running c.self.invariant.key cleared r.next,
+      ends_at (g.P.Client.holds _) _ _ _ _ _ _ r.engine r.running c.self.invariant.key cleared
+          r.next,
     )

@@ -6,5 +6,5 @@ pub load-requires : goal.load-requires
 load-requires g c = (
   search rules,
   search rules,
-  loads_own_word_at g.P.Client.holds _ _ _ _ _ _ c.requires.engine c.own_word_index.ensures,
+  loads_own_word_at (g.P.Client.holds _) _ _ _ _ _ _ c.requires.engine c.own_word_index.ensures,
 )

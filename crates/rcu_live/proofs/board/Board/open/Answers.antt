@@ -10,10 +10,11 @@ new-requires g c =
     let words =
     c.as_slice.ensures.value ∙ c.in_ok-extend_from_slice.ensures.items
     ∙ ap (λ (front : List ℕ). front ++ c.args.behind.now) c.in_ok-words.ensures in
-    subst (λ (words : List ℕ). IsKept g.P.Client.holds c.args.cpus
-    (opening words c.args.slots.items (engine_seat c.args.cpus 0 g.P.Client.first)))
+    subst (λ (words : List ℕ). IsKept (g.P.Client.holds c.args.plan) c.args.cpus
+    (opening words c.args.slots.items (engine_seat c.args.cpus 0 (g.P.Client.first c.args.plan))))
     (sym words)
-    (starts g.P.Client.holds c.args.cpus c.args.behind.now c.args.slots.items g.P.Client.first
+    (starts (g.P.Client.holds c.args.plan) c.args.cpus c.args.behind.now c.args.slots.items
+    (g.P.Client.first c.args.plan)
     c.requires.cpus.some c.requires.client)
 
 pub invariant_of-result : goal.invariant_of-result
@@ -23,7 +24,7 @@ invariant_of-result g c =
     ∙ ap (λ (front : List ℕ). front ++ c.args.behind.now) c.in_ok-words.ensures in
     let room = room_at_first c.args.cpus c.args.behind.now c.as_slice.result.now words in
     let v = c.extend_from_slice.new.self in record {
-      key = c.in-Ok.ensures.ok.5;
+      key = ap (λ (k : ℕ × g.row.P-Plan.Denot). k.0) c.in-Ok.ensures.ok.5;
       room = omega (arith, room, c.in-Ok.ensures.ok.0);
       long = omega (arith, v.ok.0, v.ok.1, v.small, c.as_slice.ensures.len, c.in-Ok.ensures.ok.0);
       some = c.requires.cpus.some;

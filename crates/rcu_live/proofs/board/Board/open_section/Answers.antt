@@ -6,6 +6,6 @@ pub load-requires : goal.load-requires
 load-requires g c = (
   search rules,
   search rules,
-  opens g.P.Client.holds _ _ g.met.P.Client.stable _ _ _ _ c.requires.allowed.cpu
+  opens (g.P.Client.holds _) _ _ (g.met.P.Client.stable _) _ _ _ _ c.requires.allowed.cpu
       c.requires.allowed.online c.requires.allowed.shut,
 )

@@ -7,6 +7,7 @@ store-requires g c =
     let r = c.requires.allowed in (
       search rules,
       search rules,
-      stores g.P.Client.holds _ _ _ _ _ _ _ r.role r.own c.own_word_index.ensures r.shut r.bounded
+      stores (g.P.Client.holds _) _ _ _ _ _ _ _ r.role r.own c.own_word_index.ensures r.shut
+          r.bounded
           r.boot,
     )

@@ -33,7 +33,7 @@ invariant_of-self g c =
     let own_word_loads = c.load_own_words.new.seat.me.0.own_word_loads in
     let cpus = c.deref-2.result.now.cpus in
     let same : cpus ≡ (arc_value c.self.inside.board).cpus =
-    ap (λ (o : Object). o.cpus) c.deref-2.ensures in
+    ap (λ (o : Object g.row.P-Plan.Denot). o.cpus) c.deref-2.ensures in
     let number = c.in_ok-number.ensures.number in
     let quiescent =
     f.already_quiescent
@@ -94,7 +94,7 @@ returns-clause-made g c =
     let own_word_loads = c.load_own_words.new.seat.me.0.own_word_loads in
     let cpus = c.deref-2.result.now.cpus in
     let same : cpus ≡ (arc_value c.self.inside.board).cpus =
-    ap (λ (o : Object). o.cpus) c.deref-2.ensures in
+    ap (λ (o : Object g.row.P-Plan.Denot). o.cpus) c.deref-2.ensures in
     let number = c.in_ok-number.ensures.number in
     let quiescent =
     f.already_quiescent

@@ -56,7 +56,7 @@ put-requires g c =
         omega arith,
         (
           omega (arith, small),
-          subst (λ (o : Object). CanPut (IsWhole g.E.Invariant.holds g.row.W)
+          subst (λ (o : Object (Unit {0})). CanPut (IsWhole g.E.Invariant.holds g.row.W)
               (λ _ from to. GoesUp g.row.BUCKETS from to) g.row.N o c.self.inside.nodes
               c.place_of-place.result.previous words c.link_of-next.result)
               (sym c.graph.ensures)

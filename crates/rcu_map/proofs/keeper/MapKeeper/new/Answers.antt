@@ -21,7 +21,7 @@ keep-requires g c =
             (
               omega (arith, small),
               record {
-                keeper = subst (λ (o : Object). IsKeeperOf g.row.N o c.args.seat)
+                keeper = subst (λ (o : Object (Unit {0})). IsKeeperOf g.row.N o c.args.seat)
                     (sym c.map.view_is) c.requires.keeper;
                 nodes = c.requires.nodes;
                 rows = c.requires.first;

@@ -42,7 +42,8 @@ pass-requires g c =
       omega arith,
       (
         omega arith,
-        subst (λ (o : Object). CanPass (λ _ from to. GoesUp g.row.BUCKETS from to) g.row.N o
+        subst (λ (o : Object (Unit {0})). CanPass (λ _ from to. GoesUp g.row.BUCKETS from to)
+            g.row.N o
             c.self.inside.nodes c.place_of-place.result.previous c.in-Some.old)
             (sym c.graph.ensures)
             (can_remove g.E.Invariant.holds g.row.BUCKETS g.row.W g.row.N c.args.map.now

@@ -13,7 +13,8 @@ follow-requires g c =
     let on = c.requires.may.on c.requires.inside in
     let o = on_words g.row.N g.row.BUCKETS g.row.W c.args.seat.now.view.client c.args.at
     c.words_are_two.ensures c.requires.inside on in
-    let walking = subst (λ (map : Object). IsWalking map c.args.seat.now) (sym c.self.view_is)
+    let walking = subst (λ (map : Object (Unit {0})). IsWalking map c.args.seat.now)
+    (sym c.self.view_is)
     c.requires.may.walking in (
       omega arith,
       (
@@ -33,7 +34,7 @@ returns-in_default g c =
     (sym c.at_root.ensures)
     (stepped_over g.E.Invariant.holds g.row.N g.row.BUCKETS g.row.W c.args.self.now c.args.seat.now
     c.follow.new.seat c.args.at inside o e.same
-    (subst (λ (o : Object). IsWalking o c.follow.new.seat) c.self.view_is e.walking)
+    (subst (λ (o : Object (Unit {0})). IsWalking o c.follow.new.seat) c.self.view_is e.walking)
     c.roots_are_nodes.ensures (e.came o.words o.on))
 
 pub returns : goal.returns
@@ -48,6 +49,7 @@ returns g c =
     (sym c.read-key.ensures.same)
     (stepped_on g.E.Invariant.holds g.row.N g.row.BUCKETS g.row.W c.args.self.now c.args.seat.now
     c.follow.new.seat c.args.at inside o e.same
-    (subst (λ (o : Object). IsWalking o c.follow.new.seat) c.self.view_is e.walking) c.in-Some.node
+    (subst (λ (o : Object (Unit {0})). IsWalking o c.follow.new.seat) c.self.view_is e.walking)
+    c.in-Some.node
     c.read-key.result (e.came o.words o.on) c.read-key.ensures.told
     (let fits = c.read-key.type_inv in omega (arith, fits)))
