@@ -1,5 +1,5 @@
 //! The replica of an open handle.
-ghost use Rattle.std.specs.Prelude.{◌≡◌, ◌/◌, ◌%◌, None, IfErr, IfOk, OnErr, OnOk, length};
+ghost use Rattle.std.specs.Prelude.{◌≡◌, ◌/◌, ◌%◌, None, IfOk, OnErr, OnOk, length};
 ghost use Rattle.std.specs.Prelude.{slice_index};
 ghost use Rattle.std.specs.Result.{result_err};
 ghost use Rattle.rcu_geometry.specs.Opening.{opening_refusal};
@@ -49,8 +49,8 @@ impl OpenReplica {
     /// A fresh replica, of which only memory can be wanting.
     fn make(alloc: Global, cpus: u32, last: u64) -> Result<OpenReplica, Fault>
         requires { opening_refusal 16 64 cpus last ≡ None }
-        ensures ok { IfOk result (λ made. made ≡ at_first cpus last) }
-        ensures err { IfErr result (λ fault. fault ≡ Fault.NoMemory) }
+        ensures state { IfOk result (λ made. made ≡ at_first cpus last) }
+        ensures fault { tested_fault result ≡ None }
     {
         let set = CpuSet::new(alloc, cpus)?;
         let inner = Replica::new(Tree::new(alloc, cpus)?, last)?;

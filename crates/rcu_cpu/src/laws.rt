@@ -51,7 +51,7 @@ pub fn idle_processors_have_no_section()
 /// A quiescent state is reported exactly where the processor is online and not idle and no section
 /// is open, with the tag of the last note or arrival.
 pub fn reports_are_made_outside_sections()
-    ensures accepted { (cpu : ℕ) (online : Bool) (calls : List Call) → AreAccepted cpu online calls
+    ensures outside { (cpu : ℕ) (online : Bool) (calls : List Call) → AreAccepted cpu online calls
         → IsAccepted (after_calls cpu online calls) Quiesce
         ↔ ((is_online online calls ≡ true) × (is_idle calls ≡ false)
         × (is_open calls ≡ false)) }

@@ -1,11 +1,10 @@
 -- The levels and nodes of a combining tree, by formula. The root is level 0 and node 0; the last
 -- level has the leaves.
-use Rattle.std.specs.Prelude.{ℕ, zero, suc, ◌+◌, ◌-◌, ◌*◌, ◌/◌, ◌%◌, ◌^◌, ◌<◌, ◌≤◌, ◌≡◌, ◌⊎◌, ◌&&◌}
-use Rattle.std.specs.Prelude.{Bool, not, nat_lt, nat_le, min, List, [], ◌∷◌, Option, Some, None}
-use Rattle.std.specs.Prelude.{count_by}
+use Rattle.std.specs.Prelude.{ℕ, zero, suc, ◌+◌, ◌-◌, ◌*◌, ◌/◌, ◌%◌, ◌^◌, ◌<◌, ◌≤◌, ◌≡◌, ◌&&◌}
+use Rattle.std.specs.Prelude.{Bool, not, nat_lt, nat_le, min, List, [], ◌∷◌, Option, count_by}
 use Rattle.rcu_seq.specs.Fault.{first_fault}
 use Rattle.rcu_seq.specs.declared.fault.Fault.{Fault}
-use Rattle.rcu_seq.specs.declared.fault.Fault.TheVariants.{BadFanout, NoMemory, TooManyCpus}
+use Rattle.rcu_seq.specs.declared.fault.Fault.TheVariants.{BadFanout, TooManyCpus}
 
 -- how many processors a leaf has at most, how many children an inner node has at most, and how many
 -- processors there are
@@ -37,11 +36,6 @@ causes s =
 -- why there is no tree of this shape, if there is none: the fault of the first cause that holds
 abbrev pub refusal : Shape → Option Fault
 refusal s = first_fault (causes s)
-
--- the fault of a tree of this shape that is not made: its refusal, or where there is none, want of
--- memory
-abbrev pub IsTreeFault : Shape → Fault → Type 0
-IsTreeFault s fault = (refusal s ≡ Some fault) ⊎ ((fault ≡ NoMemory) × (refusal s ≡ None))
 
 -- a shape that a tree can have
 pub record IsLegalShape (s : Shape) : Type 0 where

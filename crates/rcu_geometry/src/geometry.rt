@@ -1,6 +1,7 @@
 //! Levels, parents and bits of a combining tree.
 ghost use Rattle.std.specs.Prelude.{◌≡◌, ◌<◌, ◌≤◌, ◌+◌, ◌-◌, ◌*◌, ◌^◌, ◌==◌, ℕ, if◌then◌else◌};
-ghost use Rattle.std.specs.Prelude.{Some, None, IfOk, IfErr, IfSome, OnOk, length, slice_index};
+ghost use Rattle.std.specs.Prelude.{Some, None, IfOk, IfSome, length, slice_index};
+ghost use Rattle.std.specs.Result.{result_err};
 ghost use Rattle.rcu_geometry.specs.Geometry.{IsLegalShape, Shape, ceil, refusal, shape};
 ghost use Rattle.rcu_geometry.specs.Geometry.{bit_in_parent as bit_in_parent_of};
 ghost use Rattle.rcu_geometry.specs.Geometry.{bit_of as bit_of_cpu};
@@ -66,10 +67,9 @@ impl<const LEAF: u32, const FAN: u32> Geometry<LEAF, FAN> {
     /// Faults: `BadFanout` (18) where a fanout is outside 2..=64; `TooManyCpus` (17) for no
     /// processor, more than 4,096, or more than four levels hold.
     pub fn new(cpus: u32) -> Result<Self, Fault>
-        ensures ok { IfOk result (λ g. g ≡ shape LEAF FAN cpus) }
-        ensures accepted { OnOk result (refusal (shape LEAF FAN cpus) ≡ None) }
+        ensures fault { result_err result ≡ refusal (shape LEAF FAN cpus) }
+        ensures state { IfOk result (λ g. g ≡ shape LEAF FAN cpus) }
         ensures legal { IfOk result (λ g. IsLegalShape g) }
-        ensures err { IfErr result (λ fault. refusal (shape LEAF FAN cpus) ≡ Some fault) }
     {
         if !is_fanout(LEAF) || !is_fanout(FAN) {
             return Err(Fault::BadFanout);

@@ -55,10 +55,10 @@ impl CpuSet {
     ///
     /// Faults: `TooManyCpus` (17) for no processor or more than 4,096; `NoMemory` (16).
     pub fn new(alloc: Global, cpus: u32) -> Result<Self, Fault>
-        ensures ok { IfOk result (λ set. set ≡ replicate cpus false) }
+        ensures fault { IfErr result (λ fault. IsSetFault cpus fault) }
+        ensures state { IfOk result (λ set. set ≡ replicate cpus false) }
         ensures some { OnOk result (0 < cpus) }
         ensures few { OnOk result (cpus ≤ 4096) }
-        ensures err { IfErr result (λ fault. IsSetFault cpus fault) }
     {
         if cpus == 0 || MOST_CPUS < cpus {
             return Err(Fault::TooManyCpus);

@@ -19,6 +19,7 @@ impl Flat {
     ///
     /// Faults: `TooManyCpus` (17) for no processor or more than 4,096; `NoMemory` (16).
     pub fn new(alloc: Global, cpus: u32) -> Result<Flat, Fault>
+        ensures fault { IfErr result (λ fault. IsSetFault cpus fault) }
         ensures some { OnOk result (0 < cpus) }
         ensures few { OnOk result (cpus ≤ 4096) }
         ensures tag { IfOk result (λ flat. ⟦<Flat as Awaited>⟧.tag flat ≡ first_tag) }
@@ -26,7 +27,6 @@ impl Flat {
             ⟦<Flat as Awaited>⟧.start_set flat ≡ replicate cpus false) }
         ensures awaited { IfOk result (λ flat.
             ⟦<Flat as Awaited>⟧.awaited flat ≡ replicate cpus false) }
-        ensures err { IfErr result (λ fault. IsSetFault cpus fault) }
     {
         Ok(Tagged {
             tag: Tag::of_first_epoch(0),

@@ -13,7 +13,8 @@ use rcu_seq::Fault;
 ///
 /// Fault: `NotAlike` (20) where number of processors, tag or start set differ.
 pub fn merge<A: Awaited, B: Awaited>(to: &mut A, from: &B) -> Result<(), Fault>
-    ensures ok { OnOk result (standing (A.tag to.new) (A.start_set to.new) (A.awaited to.new)
+    ensures fault { IfErr result (λ fault. fault ≡ Fault.NotAlike) }
+    ensures state { OnOk result (standing (A.tag to.new) (A.start_set to.new) (A.awaited to.new)
         ≡ after_merge (standing (A.tag to.old) (A.start_set to.old) (A.awaited to.old))
         (standing (B.tag from.now) (B.start_set from.now) (B.awaited from.now))) }
     ensures alike { OnOk result (are_alike
@@ -23,11 +24,10 @@ pub fn merge<A: Awaited, B: Awaited>(to: &mut A, from: &B) -> Result<(), Fault>
     ensures start_set { A.start_set to.new ≡ A.start_set to.old }
     ensures awaited { OnOk result (
         A.awaited to.new ≡ intersection (A.awaited to.old) (B.awaited from.now)) }
-    ensures err { IfErr result (λ fault. fault ≡ Fault.NotAlike) }
     ensures unlike { OnErr result (are_alike
         (standing (A.tag to.old) (A.start_set to.old) (A.awaited to.old))
         (standing (B.tag from.now) (B.start_set from.now) (B.awaited from.now)) ≡ false) }
-    ensures unchanged { IfErr result (λ _. to.new ≡ to.old) }
+    ensures unchanged { OnErr result (to.new ≡ to.old) }
 {
     if !began_alike(to, from) {
         return Err(Fault::NotAlike);

@@ -1,8 +1,9 @@
 //! The two sets of a grace period in the masks of a tree's nodes.
-ghost use Rattle.std.specs.Prelude.{◌≡◌, ◌<◌, ◌≤◌, ◌==◌, ℕ, None, true, false, length, replicate};
-ghost use Rattle.std.specs.Prelude.{slice_index, IfOk, IfErr, OnOk};
-ghost use Rattle.rcu_geometry.specs.Geometry.{IsLegalShape, IsTreeFault, refusal, shape};
+ghost use Rattle.std.specs.Prelude.{◌≡◌, ◌<◌, ◌≤◌, ◌==◌, ℕ, true, false, length, replicate};
+ghost use Rattle.std.specs.Prelude.{slice_index, IfOk};
+ghost use Rattle.rcu_geometry.specs.Geometry.{IsLegalShape, refusal, shape};
 ghost use Rattle.rcu_geometry.specs.Geometry.{nodes as nodes_of};
+ghost use Rattle.rcu_seq.specs.Memory.{tested_fault};
 ghost use Rattle.rcu_node.specs.CpuSet.{is_in, size_of};
 ghost use Rattle.rcu_node.specs.Masks.{AreGroups, AreLinked};
 ghost use Rattle.rcu_node.specs.Masks.{group_masks, members, now_masks, start_masks};
@@ -46,12 +47,11 @@ impl<const LEAF: u32, const FAN: u32> Nodes<LEAF, FAN> {
     /// Faults: `BadFanout` (18) and `TooManyCpus` (17) as [`Geometry::new`] has them; `NoMemory`
     /// (16).
     pub fn new(alloc: Global, cpus: u32) -> Result<Self, Fault>
-        ensures accepted { OnOk result (refusal (shape LEAF FAN cpus) ≡ None) }
+        ensures fault { tested_fault result ≡ refusal (shape LEAF FAN cpus) }
         ensures awaited { IfOk result (λ tree.
             members tree.geometry (now_masks tree.nodes.items) ≡ replicate cpus false) }
         ensures start_set { IfOk result (λ tree.
             members tree.geometry (start_masks tree.nodes.items) ≡ replicate cpus false) }
-        ensures err { IfErr result (λ fault. IsTreeFault (shape LEAF FAN cpus) fault) }
     {
         let geometry = Geometry::<LEAF, FAN>::new(cpus)?;
         let nodes = new_nodes(alloc, &geometry)?;

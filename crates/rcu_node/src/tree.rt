@@ -1,8 +1,8 @@
 //! The awaited processors in a combining tree.
-ghost use Rattle.std.specs.Prelude.{◌≡◌, ◌<◌, None, false, length, replicate};
-ghost use Rattle.std.specs.Prelude.{IfOk, IfErr, OnOk};
-ghost use Rattle.rcu_geometry.specs.Geometry.{IsTreeFault, refusal, shape};
+ghost use Rattle.std.specs.Prelude.{◌≡◌, ◌<◌, false, length, replicate, IfOk};
+ghost use Rattle.rcu_geometry.specs.Geometry.{refusal, shape};
 ghost use Rattle.rcu_geometry.specs.Geometry.{nodes as nodes_of};
+ghost use Rattle.rcu_seq.specs.Memory.{tested_fault};
 ghost use Rattle.rcu_seq.specs.Tags.{first_tag};
 ghost use Rattle.rcu_node.specs.Masks.{IsMaskOf, group_of};
 
@@ -26,13 +26,12 @@ impl<const LEAF: u32, const FAN: u32> Tree<LEAF, FAN> {
     /// Faults: `BadFanout` (18) where a fanout is outside 2..=64; `TooManyCpus` (17) for no
     /// processor, more than 4,096, or more than four levels hold; `NoMemory` (16).
     pub fn new(alloc: Global, cpus: u32) -> Result<Self, Fault>
-        ensures accepted { OnOk result (refusal (shape LEAF FAN cpus) ≡ None) }
+        ensures fault { tested_fault result ≡ refusal (shape LEAF FAN cpus) }
         ensures tag { IfOk result (λ tree. ⟦<Tree<LEAF, FAN> as Awaited>⟧.tag tree ≡ first_tag) }
         ensures start_set { IfOk result (λ tree.
             ⟦<Tree<LEAF, FAN> as Awaited>⟧.start_set tree ≡ replicate cpus false) }
         ensures awaited { IfOk result (λ tree.
             ⟦<Tree<LEAF, FAN> as Awaited>⟧.awaited tree ≡ replicate cpus false) }
-        ensures err { IfErr result (λ fault. IsTreeFault (shape LEAF FAN cpus) fault) }
     {
         Ok(Tagged {
             tag: Tag::of_first_epoch(0),

@@ -12,8 +12,8 @@ returns-clause-awaited g c =
     cut_all c.loop-cpu.cpu set (g.B.Awaited.awaited c.args.from.now)
     (g.A.Awaited.awaited c.loop-cpu.to) all c.loop-cpu.invariant.cut
 
-pub returns-clause-ok : goal.returns-clause-ok
-returns-clause-ok g c =
+pub returns-clause-state : goal.returns-clause-state
+returns-clause-state g c =
     let before =
     standing (g.A.Awaited.tag c.args.to.now) (g.A.Awaited.start_set c.args.to.now)
     (g.A.Awaited.awaited c.args.to.now) in

@@ -8,6 +8,6 @@ returns-clause-state g c =
     let tag = c.requires.tag in
     let start_set = c.requires.empty in
     let awaited = is_none _ (none_within _ _ _ start_set (g.met.A.Awaited.within inner)) in
-    let none = c.in_ok-online.ensures.ok ∙ ap (λ n. replicate n false) c.cpus.ensures in
+    let none = c.in_ok-online.ensures.state ∙ ap (λ n. replicate n false) c.cpus.ensures in
     let online = c.insert.ensures.set ∙ ap (λ (set : List Bool). slice_set set 0 true) none in
     cc

@@ -18,8 +18,8 @@ invariant_of-result c =
       counted = sym empty.size;
     }
 
-pub returns-clause-ok : goal.returns-clause-ok
-returns-clause-ok c =
+pub returns-clause-state : goal.returns-clause-state
+returns-clause-state c =
     let made : c.in_ok-words.words.items ≡ replicate c.div_ceil.result 0 = search rules in
     let bounds = div_ceil_times c.args.cpus 64 (omega arith) in
     let empty =

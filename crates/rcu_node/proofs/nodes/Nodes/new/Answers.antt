@@ -18,7 +18,8 @@ invariant_of-result g c =
     record {
       legal = made.legal;
       shaped =
-          made.ok ∙ ap (λ cpus. shape g.row.LEAF g.row.FAN cpus) (sym (ap (λ s. s.cpus) made.ok));
+          made.state
+          ∙ ap (λ cpus. shape g.row.LEAF g.row.FAN cpus) (sym (ap (λ s. s.cpus) made.state));
       awaited = zeros_linked s now c.in_ok-nodes.ensures.now;
       started = zeros_linked s start c.in_ok-nodes.ensures.start;
       groups = c.in_ok-nodes.ensures.group;
@@ -37,10 +38,10 @@ pub returns-clause-awaited : goal.returns-clause-awaited
 returns-clause-awaited g c =
     zeros_members c.in_ok-geometry.geometry (now_masks c.in_ok-nodes.nodes.items)
     c.in_ok-nodes.ensures.now
-    ∙ ap (λ s. replicate s.cpus false) c.in_ok-geometry.ensures.ok
+    ∙ ap (λ s. replicate s.cpus false) c.in_ok-geometry.ensures.state
 
 pub returns-clause-start_set : goal.returns-clause-start_set
 returns-clause-start_set g c =
     zeros_members c.in_ok-geometry.geometry (start_masks c.in_ok-nodes.nodes.items)
     c.in_ok-nodes.ensures.start
-    ∙ ap (λ s. replicate s.cpus false) c.in_ok-geometry.ensures.ok
+    ∙ ap (λ s. replicate s.cpus false) c.in_ok-geometry.ensures.state

@@ -1,4 +1,4 @@
-use Rattle.std.proofs.Common.{◌≡◌, false, replicate, Ok, Err, OnOk, IfErr, inl, inr, ap, ◌∙◌, sym}
+use Rattle.std.proofs.Common.{◌≡◌, false, replicate, Ok, Err, OnOk, OnErr, inl, inr, ap, ◌∙◌, sym}
 use Rattle.rcu_seq.specs.declared.tag.Tag.{Tag}
 use Rattle.rcu_node.specs.CpuSet.{intersection}
 use Rattle.rcu_report.proofs.Awaiting.{IsMerged, length-merged, none_merged}
@@ -12,7 +12,7 @@ invariant_of-self g c =
     let either : IsMerged old other now =
     elim c.merge.result as
     (λ r. OnOk r (now ≡ intersection old other)
-    → IfErr r (λ _. c.merge.new.to ≡ c.self.inside.inner)
+    → OnErr r (c.merge.new.to ≡ c.self.inside.inner)
     → IsMerged old other now) [
       | Ok done ↦ λ ok err. inl ok
       | Err fault ↦ λ ok err. inr (ap (λ a. g.A.Awaited.awaited a) err)
