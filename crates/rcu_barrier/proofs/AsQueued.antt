@@ -2,7 +2,7 @@
 use Rattle.std.proofs.Common.{◌≡◌, ℕ, zero, suc, ◌+◌, ◌≤◌, Bool, true, false, List, [], ◌∷◌, Some}
 use Rattle.std.proofs.Common.{refl, sym, subst, arith, cond, ne_eqb, eq-eqb, set, get_or, length}
 use Rattle.std.specs.Prelude.{slice_get, replicate, ◌==◌}
-use Rattle.rcu_cblist.specs.declared.queued.Queued.{Queued}
+use Rattle.rcu_cblist.specs.declared.items.Queued.{Queued}
 use Rattle.rcu_cblist.specs.SegList.{Item, Of, Unmarked, after_entrain, after_migrate, after_take}
 use Rattle.rcu_cblist.specs.SegList.{as_it_leaves, mark_renumbered, take_answer}
 use Rattle.rcu_barrier.specs.Tending.{after_tend, mark_after_tend}

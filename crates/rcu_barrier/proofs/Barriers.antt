@@ -16,8 +16,8 @@ use Rattle.rcu_barrier.specs.Lists.{list_of, markers_in, owes_visit, unvisited, 
 use Rattle.rcu_barrier.specs.Runs.{Call, IsNew, IsRun, MayCall, after_call, lists_after}
 use Rattle.rcu_barrier.specs.Runs.{queued_before_barrier, times_handed_out, Queue, Tend, Run}
 use Rattle.rcu_barrier.specs.Runs.{Migrate, BarrierBegin, Visit, BarrierTest, Renumber}
-use Rattle.rcu_barrier.specs.declared.barrier_state.BarrierState.{BarrierState}
-use Rattle.rcu_barrier.specs.declared.barrier_state.BarrierState.TheVariants as state
+use Rattle.rcu_barrier.specs.declared.lists.BarrierState.{BarrierState}
+use Rattle.rcu_barrier.specs.declared.lists.BarrierState.TheVariants as state
 use Rattle.rcu_barrier.proofs.Covering.{Covered, covered-append, covered-entrained, covered-from}
 use Rattle.rcu_barrier.proofs.Covering.{covered-leaving, covered-moved, covered-remarked, none_left}
 use Rattle.rcu_barrier.proofs.EachCallback.{at_set, renumbered_at}

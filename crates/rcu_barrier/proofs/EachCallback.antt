@@ -2,7 +2,7 @@
 use Rattle.std.proofs.Common.{◌≡◌, ◌≢◌, ℕ, zero, suc, Bool, true, false, List, [], ◌∷◌, ◌++◌, Some}
 use Rattle.std.proofs.Common.{refl, subst, arith, map, set, get_or}
 use Rattle.std.specs.Prelude.{slice_get}
-use Rattle.rcu_cblist.specs.declared.queued.Queued.{Queued}
+use Rattle.rcu_cblist.specs.declared.items.Queued.{Queued}
 use Rattle.rcu_cblist.specs.SegList.{Item, Of, Marker, Mark, Unmarked, Until, Done, after_migrate}
 use Rattle.rcu_cblist.specs.SegList.{after_renumber, as_it_leaves, behind, from_callback, front}
 use Rattle.rcu_cblist.specs.SegList.{remarked, take_answer, without_mark}

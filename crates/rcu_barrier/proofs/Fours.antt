@@ -10,7 +10,7 @@ use Rattle.std.proofs.lemmas.List.Elements.{All-nil, All-head, All-tail, All-app
 use Rattle.std.proofs.lemmas.List.Elements.{All-replicate, All-set, filter_passes}
 use borrow.Author.Tests.{ltb-true}
 use Rattle.rcu_seq.specs.Numbers.{Number, snapshot}
-use Rattle.rcu_cblist.specs.declared.queued.Queued.{Queued}
+use Rattle.rcu_cblist.specs.declared.items.Queued.{Queued}
 use Rattle.rcu_cblist.specs.SegList.{Item, Of, Marker, Unmarked, Until, Done, IsAtMost}
 use Rattle.rcu_cblist.specs.SegList.{after_accelerate, after_advance, after_migrate, after_take}
 use Rattle.rcu_cblist.specs.SegList.{as_it_leaves, has_other, has_two, mark_given, numbers}

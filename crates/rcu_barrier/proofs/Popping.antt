@@ -4,7 +4,7 @@ use Rattle.std.proofs.Common.{sym, ◌∙◌, arith}
 use Rattle.std.proofs.lemmas.List.{get_or-set_same, get_or_past, set-set, set_past}
 use Rattle.std.specs.Prelude.{List, Option, Some, None, option_map, slice_get}
 use Rattle.rcu_cblist.specs.SegList.{Item, after_take, markers_passed, pop_answer, take_answer}
-use Rattle.rcu_cblist.specs.declared.queued.Queued.{Queued}
+use Rattle.rcu_cblist.specs.declared.items.Queued.{Queued}
 use Rattle.rcu_cblist.proofs.Popping.{left_both}
 use Rattle.rcu_barrier.specs.Lists.{AllLists, list_of, lists_after_run, with_list}
 

@@ -11,7 +11,7 @@ use Rattle.rcu_barrier.specs.Lists.{AllLists, ListsWithRooms, has_room_in, is_ma
 use Rattle.rcu_barrier.specs.Lists.{leaving_list, list_of, migrate_refusal, queue_fault}
 use Rattle.rcu_barrier.specs.Lists.{queue_refusal, run_refusal, visit_answer, visit_fault}
 use Rattle.rcu_barrier.specs.Lists.{visit_refusal}
-use Rattle.rcu_barrier.specs.declared.visit.Visit.TheVariants as visit
+use Rattle.rcu_barrier.specs.declared.lists.Visit.TheVariants as visit
 
 -- the one cause holds
 one_cause : (cause : Bool) (f met : Fault) → first_fault ((cause, f) ∷ []) ≡ Some met →

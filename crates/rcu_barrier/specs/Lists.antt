@@ -7,15 +7,15 @@ use Rattle.rcu_seq.specs.Numbers.{Number}
 use Rattle.rcu_seq.specs.declared.tag.Tag.{Tag}
 use Rattle.rcu_seq.specs.declared.fault.Fault.{Fault}
 use Rattle.rcu_seq.specs.declared.fault.Fault.TheVariants as fault
-use Rattle.rcu_cblist.specs.declared.queued.Queued.{Queued}
+use Rattle.rcu_cblist.specs.declared.items.Queued.{Queued}
 use Rattle.rcu_cblist.specs.SegList.{Item, Segmented, Of, Unmarked, after_entrain, after_migrate}
 use Rattle.rcu_cblist.specs.SegList.{after_renumber, after_take, as_it_leaves, is_empty, markers}
 use Rattle.rcu_cblist.specs.SegList.{take_refusal}
 use Rattle.rcu_barrier.specs.Tending.{AreFours, after_tend}
-use Rattle.rcu_barrier.specs.declared.visit.Visit.{Visit}
-use Rattle.rcu_barrier.specs.declared.visit.Visit.TheVariants as visit
-use Rattle.rcu_barrier.specs.declared.barrier_state.BarrierState.{BarrierState}
-use Rattle.rcu_barrier.specs.declared.barrier_state.BarrierState.TheVariants as state
+use Rattle.rcu_barrier.specs.declared.lists.Visit.{Visit}
+use Rattle.rcu_barrier.specs.declared.lists.Visit.TheVariants as visit
+use Rattle.rcu_barrier.specs.declared.lists.BarrierState.{BarrierState}
+use Rattle.rcu_barrier.specs.declared.lists.BarrierState.TheVariants as state
 
 -- each processor's list, whether the barrier visited it, whether a barrier runs, how many callbacks
 -- were queued, and how many may be

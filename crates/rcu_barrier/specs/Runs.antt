@@ -4,7 +4,7 @@ use Rattle.std.specs.Prelude.{ℕ, ◌+◌, ◌≡◌, ◌<◌, ◌==◌, Bool, 
 use Rattle.std.specs.Prelude.{◌∷◌, Option, Some, None, count_by, sum_by}
 use Rattle.rcu_seq.specs.Numbers.{Number}
 use Rattle.rcu_seq.specs.declared.tag.Tag.{Tag}
-use Rattle.rcu_cblist.specs.declared.queued.Queued.{Queued}
+use Rattle.rcu_cblist.specs.declared.items.Queued.{Queued}
 use Rattle.rcu_cblist.specs.SegList.{callbacks, take_answer}
 use Rattle.rcu_barrier.specs.Lists.{AllLists, at_first, cpus_of, list_of, lists_after_barrier_begin}
 use Rattle.rcu_barrier.specs.Lists.{lists_after_barrier_test, lists_after_migrate}

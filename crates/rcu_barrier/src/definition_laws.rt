@@ -8,7 +8,7 @@ ghost use Rattle.rcu_barrier.specs.Lists.{AllLists, at_first, barrier_test_answe
 ghost use Rattle.rcu_barrier.specs.Runs.{Call, IsNew, IsRun, copies, lists_after, queued_as};
 ghost use Rattle.rcu_barrier.specs.Runs.{queued_before_barrier, times_handed_out, times_listed};
 ghost use Rattle.rcu_barrier.specs.Runs.{begins_barrier, whereabouts};
-ghost use Rattle.rcu_barrier.specs.declared.barrier_state.BarrierState.{BarrierState};
+ghost use Rattle.rcu_barrier.specs.declared.lists.BarrierState.{BarrierState};
 
 /// A callback is handed out once: it was queued, tended at number 0, tended at 4, and run. It came
 /// as it was queued, and no list has it then.

@@ -4,7 +4,7 @@ ghost use Rattle.std.specs.Prelude.{slice_get};
 ghost use Rattle.rcu_seq.specs.Numbers.{Number};
 ghost use Rattle.rcu_cblist.specs.SegList.{IsAtMost, Item, Of, Unmarked, after_accelerate};
 ghost use Rattle.rcu_cblist.specs.SegList.{after_advance, numbers};
-ghost use Rattle.rcu_cblist.specs.declared.queued.Queued.{Queued};
+ghost use Rattle.rcu_cblist.specs.declared.items.Queued.{Queued};
 ghost use Rattle.rcu_barrier.specs.Tending.{AreFours, MayWait, after_tend};
 ghost use Rattle.rcu_seq.specs.Numbers.{snapshot};
 

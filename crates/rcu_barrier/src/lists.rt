@@ -17,9 +17,7 @@ ghost use Rattle.rcu_barrier.specs.Lists.{lists_after_visit, migrate_refusal, mo
 ghost use Rattle.rcu_barrier.specs.Lists.{owes_visit, queue_refusal, room_of, run_refusal};
 ghost use Rattle.rcu_barrier.specs.Lists.{visit_answer, visit_refusal};
 
-use crate::barrier_state::BarrierState;
 use crate::moving::{empty_lists, move_to_first, renumber_each};
-use crate::visit::Visit;
 use crate::visits::Visits;
 use rcu_cblist::{Queued, Refused, SegList, Taken};
 use rcu_seq::cookie::snapshot;
@@ -29,6 +27,26 @@ use std::marker::Model;
 
 /// How many callbacks may be queued where an opening does not say.
 pub const MOST_QUEUED: u64 = 1_000_000;
+
+/// What a visit of a processor did.
+#[derive(Clone, Copy, Debug, PartialEq, Eq)]
+pub enum Visit {
+    /// It put a marker behind the processor's list.
+    Marked,
+    /// The processor's list was empty.
+    Empty,
+    /// The barrier had visited the processor already.
+    Already,
+}
+
+/// What a test of a barrier returns.
+#[derive(Clone, Copy, Debug, PartialEq, Eq)]
+pub enum BarrierState {
+    /// No marker is left and each processor was visited: the barrier is over.
+    Done,
+    /// So many markers and unvisited processors are left, from 1 to the number of processors.
+    Waits(u64),
+}
 
 /// A list of callbacks for each processor, and a barrier over them (Linux's `rcu_barrier`, without
 /// waiting).

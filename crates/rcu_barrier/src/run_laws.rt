@@ -1,11 +1,11 @@
 //! What holds of every run of calls on the lists, whoever makes them.
 ghost use Rattle.std.specs.Prelude.{◌≡◌, ◌<◌, ◌≤◌, ◌+◌, ◌∷◌, ℕ, List, Some, slice_get};
 ghost use Rattle.rcu_cblist.specs.SegList.{take_answer};
-ghost use Rattle.rcu_cblist.specs.declared.queued.Queued.{Queued};
+ghost use Rattle.rcu_cblist.specs.declared.items.Queued.{Queued};
 ghost use Rattle.rcu_barrier.specs.Lists.{AllLists, barrier_test_answer, list_of};
 ghost use Rattle.rcu_barrier.specs.Runs.{Call, IsNew, IsRun, lists_after, queued_as};
 ghost use Rattle.rcu_barrier.specs.Runs.{queued_before_barrier, times_handed_out, times_listed};
-ghost use Rattle.rcu_barrier.specs.declared.barrier_state.BarrierState.{BarrierState};
+ghost use Rattle.rcu_barrier.specs.declared.lists.BarrierState.{BarrierState};
 
 /// No callback runs twice: each is handed out at most once.
 pub fn no_callback_runs_twice<T: Drop>()

@@ -7,7 +7,7 @@ use Rattle.std.proofs.lemmas.Bool.Decides.{nat_tests}
 use Rattle.rcu_seq.specs.Fault.{fault_number}
 use Rattle.rcu_seq.specs.declared.fault.Fault.{Fault}
 use Rattle.rcu_barrier.specs.Lists.{is_visited, visit_answer}
-use Rattle.rcu_barrier.specs.declared.visit.Visit.TheVariants.{Marked}
+use Rattle.rcu_barrier.specs.declared.lists.Visit.TheVariants.{Marked}
 use Rattle.rcu_live.specs.Drive.{after_drive, wants_begin}
 use Rattle.rcu_live.specs.Engine.{Locked, cpu_refusal}
 use Rattle.rcu_live.specs.Runs.{BarrierTest, Call, Makes, Tend, Visit, after_call, engine_after}

@@ -6,7 +6,7 @@ use Rattle.std.proofs.lemmas.List.{length-drop, map-append, set-get_or, take_mor
 use Rattle.std.proofs.lemmas.List.Elements.{All-push}
 use Rattle.rcu_cblist.specs.SegList.{Item, after_take, begins_with_marker, callbacks, from_callback}
 use Rattle.rcu_cblist.specs.SegList.{front, take_answer}
-use Rattle.rcu_cblist.specs.declared.queued.Queued.{Queued}
+use Rattle.rcu_cblist.specs.declared.items.Queued.{Queued}
 use Rattle.rcu_cblist.proofs.Lists.{length_taken}
 use Rattle.rcu_cblist.proofs.Popping.{done_left, taken_both, untaken_first}
 use Rattle.rcu_barrier.specs.Lists.{list_of, with_list}

@@ -3,14 +3,14 @@ use Rattle.std.specs.Prelude.{ℕ, Bool, ◌==◌, if◌then◌else◌, Option, 
 use Rattle.rcu_seq.specs.Fault.{fault_number}
 use Rattle.rcu_seq.specs.declared.cookie.Cookie.{Cookie}
 use Rattle.rcu_seq.specs.declared.fault.Fault.{Fault}
-use Rattle.rcu_barrier.specs.declared.barrier_state.BarrierState.{BarrierState}
-use Rattle.rcu_barrier.specs.declared.barrier_state.BarrierState.TheVariants as state
-use Rattle.rcu_barrier.specs.declared.visit.Visit.{Visit}
-use Rattle.rcu_barrier.specs.declared.visit.Visit.TheVariants as visit
-use Rattle.rcu_state.specs.declared.turned.Turned.{Turned}
-use Rattle.rcu_state.specs.declared.turned.Turned.TheVariants as turned
-use Rattle.rcu_live.specs.declared.collection.Collected.{Collected}
-use Rattle.rcu_live.specs.declared.collection.Collected.TheVariants as collected
+use Rattle.rcu_barrier.specs.declared.lists.BarrierState.{BarrierState}
+use Rattle.rcu_barrier.specs.declared.lists.BarrierState.TheVariants as state
+use Rattle.rcu_barrier.specs.declared.lists.Visit.{Visit}
+use Rattle.rcu_barrier.specs.declared.lists.Visit.TheVariants as visit
+use Rattle.rcu_state.specs.declared.gp_state.Turned.{Turned}
+use Rattle.rcu_state.specs.declared.gp_state.Turned.TheVariants as turned
+use Rattle.rcu_live.specs.declared.grace_periods.Collected.{Collected}
+use Rattle.rcu_live.specs.declared.grace_periods.Collected.TheVariants as collected
 use Rattle.rcu_c.specs.declared.grace_periods.Turn.{Turn}
 use Rattle.rcu_c.specs.declared.refusal.Refusal.{Refusal}
 use Rattle.rcu_c.specs.declared.refusal.Refusal.TheVariants.{Engine, SeatDealt, OtherEngine, Closed}

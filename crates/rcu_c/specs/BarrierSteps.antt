@@ -3,8 +3,8 @@ use Rattle.std.specs.Prelude.{◌≡◌, ℕ, zero, suc, ◌<◌, ◌++◌, if�
 use Rattle.std.specs.Prelude.{None}
 use Rattle.rcu_seq.specs.declared.fault.Fault.{Fault}
 use Rattle.rcu_barrier.specs.Lists.{barrier_test_answer, visit_answer}
-use Rattle.rcu_barrier.specs.declared.barrier_state.BarrierState.{BarrierState}
-use Rattle.rcu_barrier.specs.declared.visit.Visit.TheVariants.{Marked}
+use Rattle.rcu_barrier.specs.declared.lists.BarrierState.{BarrierState}
+use Rattle.rcu_barrier.specs.declared.lists.Visit.TheVariants.{Marked}
 use Rattle.rcu_live.specs.Drive.{drive_refusal, wants_begin}
 use Rattle.rcu_live.specs.Engine.{Locked}
 use Rattle.rcu_live.specs.Runs.{BarrierBegin, BarrierTest, Call, Drive, Tend, Visit, engine_after}

@@ -7,10 +7,10 @@ ghost use Rattle.rcu_seq.specs.Seq.{cookie_of, has_full_period, number_of, tag_o
 ghost use Rattle.rcu_seq.specs.Tags.{is_done_first};
 ghost use Rattle.rcu_seq.specs.declared.cookie.Cookie.{Cookie};
 ghost use Rattle.rcu_cblist.specs.SegList.{take_answer};
-ghost use Rattle.rcu_cblist.specs.declared.queued.Queued.{Queued};
+ghost use Rattle.rcu_cblist.specs.declared.items.Queued.{Queued};
 ghost use Rattle.rcu_barrier.specs.Lists.{barrier_test_answer, list_of};
 ghost use Rattle.rcu_barrier.specs.Runs.{times_listed};
-ghost use Rattle.rcu_barrier.specs.declared.barrier_state.BarrierState.{BarrierState};
+ghost use Rattle.rcu_barrier.specs.declared.lists.BarrierState.{BarrierState};
 ghost use Rattle.rcu_state.specs.GpState as grace;
 ghost use Rattle.rcu_state.specs.GpState.{Grace, awaited_in};
 ghost use Rattle.rcu_live.specs.CpuSeat.{Seated};

@@ -5,8 +5,8 @@ use Rattle.std.proofs.Common.{sym, subst, ◌∙◌, append_assoc, length-append
 use Rattle.std.proofs.lemmas.List.{append-nil, drop-append-le, drop_all, map-append, take-append-le}
 use Rattle.std.proofs.lemmas.List.{take_all}
 use Rattle.std.proofs.lemmas.Bool.Decides.{nat_tests}
-use Rattle.rcu_cblist.specs.declared.kept.Kept.{Kept}
-use Rattle.rcu_cblist.specs.declared.kept.Kept.TheVariants as kept
+use Rattle.rcu_cblist.specs.declared.items.Kept.{Kept}
+use Rattle.rcu_cblist.specs.declared.items.Kept.TheVariants as kept
 use Rattle.rcu_cblist.specs.declared.tail.Tail.{Tail}
 use Rattle.rcu_cblist.specs.SegList.{Item, Unmarked, Until, Done, after_migrate, as_it_leaves}
 use Rattle.rcu_cblist.specs.SegList.{begins_with_marker, behind, callbacks, front, is_empty}

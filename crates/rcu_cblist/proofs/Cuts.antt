@@ -7,9 +7,9 @@ use Rattle.std.proofs.lemmas.List.{take-append-le, drop-append-le, take_all, dro
 use Rattle.std.proofs.lemmas.List.Elements.{filter_map-append}
 use Rattle.std.proofs.lemmas.Bool.Decides.{nat_tests}
 use Rattle.std.proofs.lemmas.Bool.{cases_eq}
-use Rattle.rcu_cblist.specs.declared.queued.Queued.{Queued}
-use Rattle.rcu_cblist.specs.declared.kept.Kept.{Kept}
-use Rattle.rcu_cblist.specs.declared.kept.Kept.TheVariants as kept
+use Rattle.rcu_cblist.specs.declared.items.Queued.{Queued}
+use Rattle.rcu_cblist.specs.declared.items.Kept.{Kept}
+use Rattle.rcu_cblist.specs.declared.items.Kept.TheVariants as kept
 use Rattle.rcu_cblist.specs.declared.tail.Tail.{Tail}
 use Rattle.rcu_cblist.specs.SegList.{Unmarked, begins_with_marker, callback_of, callbacks}
 use Rattle.rcu_cblist.specs.Kept.{item_of, unmarked}

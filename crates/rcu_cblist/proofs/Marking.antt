@@ -6,8 +6,8 @@ use Rattle.std.proofs.lemmas.List.{append-nil, length-map, map_push, take_all, d
 use Rattle.std.proofs.lemmas.List.{take-append-le}
 use Rattle.std.proofs.lemmas.Bool.Decides.{nat_tests}
 use Rattle.std.proofs.lemmas.Bool.{cases_eq}
-use Rattle.rcu_cblist.specs.declared.kept.Kept.{Kept}
-use Rattle.rcu_cblist.specs.declared.kept.Kept.TheVariants as kept
+use Rattle.rcu_cblist.specs.declared.items.Kept.{Kept}
+use Rattle.rcu_cblist.specs.declared.items.Kept.TheVariants as kept
 use Rattle.rcu_cblist.specs.declared.tail.Tail.{Tail}
 use Rattle.rcu_cblist.specs.SegList.{Item, Marker, Unmarked, Until, Done, after_entrain, is_empty}
 use Rattle.rcu_cblist.specs.SegList.{without_mark}

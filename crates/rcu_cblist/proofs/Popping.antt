@@ -7,7 +7,7 @@ use Rattle.std.proofs.Math.Seq.{take-add}
 use Rattle.rcu_cblist.specs.SegList.{Item, Of, Marker, Unmarked, Until, Done, after_take}
 use Rattle.rcu_cblist.specs.SegList.{begins_with_callback, begins_with_marker, callbacks}
 use Rattle.rcu_cblist.specs.SegList.{from_callback, front, markers_passed, pop_answer, take_answer}
-use Rattle.rcu_cblist.specs.declared.queued.Queued.{Queued}
+use Rattle.rcu_cblist.specs.declared.items.Queued.{Queued}
 use Rattle.rcu_cblist.proofs.Lists.{length_taken}
 
 module _ {X : Type 0} where

@@ -11,7 +11,7 @@ use Rattle.std.proofs.lemmas.List.Elements.{All-nil, All-cons, All-head, All-tai
 use Rattle.std.proofs.lemmas.List.Elements.{All-push, All-map, All-weaker, filter_map-append}
 use Rattle.std.proofs.lemmas.List.Sums.{sum_by-append, sum_by-cons}
 use Rattle.rcu_seq.specs.Numbers.{Number}
-use Rattle.rcu_cblist.specs.declared.queued.Queued.{Queued}
+use Rattle.rcu_cblist.specs.declared.items.Queued.{Queued}
 use Rattle.rcu_cblist.specs.SegList.{begins_with_marker, Item, Mark, Of, Marker, Unmarked, Until}
 use Rattle.rcu_cblist.specs.SegList.{Done, after_advance, after_entrain, after_migrate}
 use Rattle.rcu_cblist.specs.SegList.{after_renumber, after_take, behind, from_callback, front}

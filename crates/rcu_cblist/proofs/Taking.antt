@@ -6,7 +6,7 @@ use Rattle.std.proofs.lemmas.List.{drop-append-le, drop-drop, drop-map, drop-tak
 use Rattle.std.proofs.lemmas.List.{take-append-drop, take-take}
 use Rattle.std.proofs.lemmas.Bool.Decides.{nat_tests}
 use mir.Val.{bool_byte}
-use Rattle.rcu_cblist.specs.declared.kept.Kept.{Kept}
+use Rattle.rcu_cblist.specs.declared.items.Kept.{Kept}
 use Rattle.rcu_cblist.specs.declared.tail.Tail.{Tail}
 use Rattle.rcu_cblist.specs.SegList.{Item, Mark, Of, Marker, Unmarked, Until, Done, after_take}
 use Rattle.rcu_cblist.specs.SegList.{as_it_leaves, begins_with_marker, callbacks, from_callback}

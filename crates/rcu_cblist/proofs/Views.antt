@@ -8,8 +8,8 @@ use Rattle.std.proofs.lemmas.List.Elements.{All-nil, All-cons, All-head, All-tai
 use Rattle.std.proofs.lemmas.Bool.Decides.{nat_tests}
 use Rattle.std.proofs.lemmas.Bool.{cases_Bool}
 use Rattle.rcu_seq.specs.Numbers.{Number}
-use Rattle.rcu_cblist.specs.declared.kept.Kept.{Kept}
-use Rattle.rcu_cblist.specs.declared.kept.Kept.TheVariants as kept
+use Rattle.rcu_cblist.specs.declared.items.Kept.{Kept}
+use Rattle.rcu_cblist.specs.declared.items.Kept.TheVariants as kept
 use Rattle.rcu_cblist.specs.SegList.{Item, Mark, Of, Marker, Unmarked, Until, Done, IsAtMost}
 use Rattle.rcu_cblist.specs.SegList.{after_accelerate, after_advance, after_renumber, behind}
 use Rattle.rcu_cblist.specs.SegList.{begins_with_marker, front, front_with, greatest, has_other}

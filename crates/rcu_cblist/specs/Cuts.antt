@@ -4,7 +4,7 @@ use Rattle.std.specs.Prelude.{if◌then◌else◌}
 use Rattle.rcu_seq.specs.Numbers.{Number}
 use Rattle.rcu_cblist.specs.SegList.{begins_with_marker, callbacks}
 use Rattle.rcu_cblist.specs.Kept.{unmarked}
-use Rattle.rcu_cblist.specs.declared.kept.Kept.{Kept}
+use Rattle.rcu_cblist.specs.declared.items.Kept.{Kept}
 use Rattle.rcu_cblist.specs.declared.tail.Tail.{Tail}
 
 -- the place with so much more before it

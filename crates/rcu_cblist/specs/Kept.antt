@@ -2,8 +2,8 @@
 use Rattle.std.specs.Prelude.{ℕ, Bool, nat_lt, if◌then◌else◌, List, [], ◌∷◌, ◌++◌, length, map}
 use Rattle.std.specs.Prelude.{take, drop}
 use Rattle.rcu_cblist.specs.SegList.{Item, Mark, Of, Marker, Unmarked}
-use Rattle.rcu_cblist.specs.declared.kept.Kept.{Kept}
-use Rattle.rcu_cblist.specs.declared.kept.Kept.TheVariants as kept
+use Rattle.rcu_cblist.specs.declared.items.Kept.{Kept}
+use Rattle.rcu_cblist.specs.declared.items.Kept.TheVariants as kept
 
 module _ {X : Type 0} where
   -- the item that is kept, under this mark

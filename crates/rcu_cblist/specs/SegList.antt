@@ -8,7 +8,7 @@ use Rattle.rcu_seq.specs.Fault.{first_fault}
 use Rattle.rcu_seq.specs.Numbers.{Number}
 use Rattle.rcu_seq.specs.declared.fault.Fault.{Fault}
 use Rattle.rcu_seq.specs.declared.fault.Fault.TheVariants.{NoMemory}
-use Rattle.rcu_cblist.specs.declared.queued.Queued.{Queued}
+use Rattle.rcu_cblist.specs.declared.items.Queued.{Queued}
 
 -- what a callback waits for: nothing said yet, a grace-period number, or nothing more
 pub data Mark : Type 0 where

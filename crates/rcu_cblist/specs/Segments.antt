@@ -5,7 +5,7 @@ use Rattle.rcu_seq.specs.Numbers.{Number}
 use Rattle.rcu_cblist.specs.SegList.{Item, Segmented, Until, Done}
 use Rattle.rcu_cblist.specs.Kept.{marked, unmarked}
 use Rattle.rcu_cblist.specs.Cuts.{between}
-use Rattle.rcu_cblist.specs.declared.kept.Kept.{Kept}
+use Rattle.rcu_cblist.specs.declared.items.Kept.{Kept}
 use Rattle.rcu_cblist.specs.declared.segments.Segments.{Segments}
 
 module _ {X : Type 0} where

@@ -4,7 +4,7 @@ use Rattle.std.specs.VecDeque.{deque_capacity}
 use Rattle.std.specs.declared.collections.VecDeque.{VecDeque}
 use Rattle.rcu_cblist.specs.SegList.{from_callback, markers}
 use Rattle.rcu_cblist.specs.Kept.{unmarked}
-use Rattle.rcu_cblist.specs.declared.kept.Kept.{Kept}
+use Rattle.rcu_cblist.specs.declared.items.Kept.{Kept}
 
 module _ {X Z : Type 0} where
   -- the items are left from one of their callbacks on, which are counted from 0: what was before it

@@ -4,7 +4,7 @@ ghost use Rattle.rcu_seq.specs.Numbers.{Number};
 ghost use Rattle.rcu_cblist.specs.SegList.{Item, after_migrate, after_take, callbacks, greatest};
 ghost use Rattle.rcu_cblist.specs.SegList.{markers, markers_passed, take_answer};
 
-use crate::queued::Queued;
+use crate::items::Queued;
 
 /// Where the greatest number is at most a bound, or there is none, each number is at most it.
 pub fn greatest_bounds_each()

@@ -6,8 +6,7 @@ ghost use Rattle.rcu_cblist.specs.Kept.{unmarked};
 ghost use Rattle.rcu_cblist.specs.Segments.{listed, seen};
 ghost use Rattle.rcu_cblist.specs.Walks.{IsLeft};
 
-use crate::kept::Kept;
-use crate::queued::Queued;
+use crate::items::{Kept, Queued};
 use crate::seg_list::SegList;
 use crate::segments::Segments;
 use crate::tail::Tail;

@@ -10,10 +10,8 @@ ghost use Rattle.rcu_cblist.specs.SegList.{entrain_refusal, front, greatest, is_
 ghost use Rattle.rcu_cblist.specs.SegList.{markers_passed, move_refusal, numbers, on_items};
 ghost use Rattle.rcu_cblist.specs.SegList.{queue_refusal, segments, take_answer, take_refusal};
 
-use crate::queued::Queued;
-use crate::refused::Refused;
+use crate::items::{Queued, Refused, Taken};
 use crate::segments::Segments;
-use crate::taken::Taken;
 use rcu_seq::Fault;
 use std::alloc::Global;
 use std::marker::Model;

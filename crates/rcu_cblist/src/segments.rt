@@ -10,8 +10,7 @@ ghost use Rattle.rcu_cblist.specs.SegList.{markers_passed, numbers, on_items, se
 ghost use Rattle.rcu_cblist.specs.SegList.{take_answer};
 ghost use Rattle.rcu_cblist.specs.Cuts.{AreTails};
 
-use crate::kept::Kept;
-use crate::queued::Queued;
+use crate::items::{Kept, Queued};
 use crate::tail::Tail;
 use crate::walks::{join_marked, take_first};
 use std::alloc::Global;

@@ -7,8 +7,7 @@ ghost use Rattle.rcu_cblist.specs.SegList.{callbacks};
 ghost use Rattle.rcu_cblist.specs.Kept.{moved_behind, moved_in_front, unmarked};
 ghost use Rattle.rcu_cblist.specs.Walks.{HasNow, IsEmptied, IsLeft};
 
-use crate::kept::Kept;
-use crate::queued::Queued;
+use crate::items::{Kept, Queued};
 use std::collections::VecDeque;
 
 /// Takes the first callbacks, so many, and each marker before the first callback that is left.

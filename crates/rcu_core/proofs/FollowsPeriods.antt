@@ -11,7 +11,7 @@ use Rattle.rcu_seq.specs.Tags.{same_tag}
 use Rattle.rcu_seq.specs.declared.tag.Tag.{Tag}
 use Rattle.rcu_node.specs.CpuSet.{is_in}
 use Rattle.rcu_node.proofs.CpuSetLemmas.{is_in-remove}
-use Rattle.rcu_report.specs.declared.report.Report.{Report}
+use Rattle.rcu_report.specs.declared.batch.Report.{Report}
 use Rattle.rcu_hotplug.specs.Hotplug.{cpus_of}
 use Rattle.rcu_seq.specs.Seq.{tag_of}
 use Rattle.rcu_state.specs.GpState.{Grace, after_begin, after_end, awaited_in, own_report}

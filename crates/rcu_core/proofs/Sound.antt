@@ -14,7 +14,7 @@ use Rattle.std.proofs.lemmas.List.FromFn.{map-range_with_len_more}
 use Rattle.rcu_seq.specs.Tags.{same_tag}
 use Rattle.rcu_node.specs.CpuSet.{is_in}
 use Rattle.rcu_node.proofs.CpuSetLemmas.{length-remove_where}
-use Rattle.rcu_report.specs.declared.report.Report.{Report}
+use Rattle.rcu_report.specs.declared.batch.Report.{Report}
 use Rattle.rcu_hotplug.specs.Hotplug.{cpus_of}
 use Rattle.rcu_cpu.specs.CpuData.{Processor, at_first as made_processor, report_of}
 use Rattle.rcu_cblist.specs.SegList.{Item}

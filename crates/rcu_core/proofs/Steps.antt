@@ -12,17 +12,17 @@ use Rattle.rcu_seq.specs.declared.fault.Fault.{Fault}
 use Rattle.rcu_seq.specs.declared.fault.Fault.TheVariants as fault
 use Rattle.rcu_node.specs.CpuSet.{is_in, size_of}
 use Rattle.rcu_node.proofs.CpuSetLemmas.{count_by-is_in}
-use Rattle.rcu_node.specs.declared.answer.Answer.{Answer}
-use Rattle.rcu_node.specs.declared.answer.Answer.TheVariants.{Taken, Last, Repeat, Stale}
-use Rattle.rcu_report.specs.declared.report.Report.{Report}
+use Rattle.rcu_node.specs.declared.awaited.Answer.{Answer}
+use Rattle.rcu_node.specs.declared.awaited.Answer.TheVariants.{Taken, Last, Repeat, Stale}
+use Rattle.rcu_report.specs.declared.batch.Report.{Report}
 use Rattle.rcu_hotplug.specs.Hotplug.{cpus_of}
 use Rattle.rcu_cpu.specs.CpuData.{Processor}
 use Rattle.rcu_cblist.specs.SegList.{Item, behind, callbacks, front}
 use Rattle.rcu_barrier.specs.Lists.{barrier_left, barrier_test_answer, barrier_test_refusal}
 use Rattle.rcu_barrier.specs.Lists.{list_of, migrate_refusal}
 use Rattle.rcu_barrier.specs.Tending.{after_tend}
-use Rattle.rcu_barrier.specs.declared.barrier_state.BarrierState.{BarrierState}
-use Rattle.rcu_barrier.specs.declared.barrier_state.BarrierState.TheVariants as barrier
+use Rattle.rcu_barrier.specs.declared.lists.BarrierState.{BarrierState}
+use Rattle.rcu_barrier.specs.declared.lists.BarrierState.TheVariants as barrier
 use Rattle.rcu_seq.specs.Seq.{number_of, tag_of}
 use Rattle.rcu_state.specs.GpState.{after_begin, after_end, after_hear, after_report, awaited_in}
 use Rattle.rcu_state.specs.GpState.{begin_refusal, end_refusal, hear_answer, own_report, periods_of}
@@ -38,8 +38,8 @@ use Rattle.rcu_core.specs.declared.event.Event.TheVariants.{Deliver, Offline, Be
 use Rattle.rcu_core.specs.declared.event.Event.TheVariants.{Awaits, Tend, BarTest, Renumber, Scan}
 use Rattle.rcu_core.specs.declared.reply.Reply.{Reply}
 use Rattle.rcu_core.specs.declared.reply.Reply.TheVariants as reply
-use Rattle.rcu_state.specs.declared.turned.Turned.{Turned}
-use Rattle.rcu_state.specs.declared.turned.Turned.TheVariants as turned
+use Rattle.rcu_state.specs.declared.gp_state.Turned.{Turned}
+use Rattle.rcu_state.specs.declared.gp_state.Turned.TheVariants as turned
 use Rattle.rcu_barrier.proofs.Refusals.{migrate_met}
 use Rattle.rcu_core.proofs.Counting.{markers_of_each, unvisited_of_each}
 

@@ -10,13 +10,13 @@ use Rattle.std.proofs.lemmas.List.Sums.{length-filter}
 use Rattle.rcu_seq.specs.Fault.{first_fault}
 use Rattle.rcu_seq.specs.declared.fault.Fault.{Fault}
 use Rattle.rcu_seq.specs.declared.fault.Fault.TheVariants as fault
-use Rattle.rcu_cblist.specs.declared.queued.Queued.{Queued}
+use Rattle.rcu_cblist.specs.declared.items.Queued.{Queued}
 use Rattle.rcu_cblist.specs.SegList.{Item, Of, Marker, Unmarked, after_migrate, after_take}
 use Rattle.rcu_cblist.specs.SegList.{begins_with_marker, callbacks, is_empty, take_answer}
 use Rattle.rcu_cblist.proofs.SegListLemmas.{first_from, first_moved, first_queued, first_remarked}
 use Rattle.rcu_cblist.specs.SegList.{as_it_leaves, mark_renumbered}
 use Rattle.rcu_barrier.specs.Tending.{mark_after_tend, after_tend}
-use Rattle.rcu_barrier.specs.declared.visit.Visit.TheVariants.{Marked, Empty, Already}
+use Rattle.rcu_barrier.specs.declared.lists.Visit.TheVariants.{Marked, Empty, Already}
 use Rattle.rcu_core.specs.Callbacks.{is_owed, list, queue_count}
 use Rattle.rcu_core.specs.History.{History, awaits, number, tag_now}
 use Rattle.rcu_core.specs.Replies.{Size, accepted_reply, answer, causes, or_fault, fault_in}

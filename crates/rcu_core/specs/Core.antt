@@ -5,7 +5,7 @@ use Rattle.rcu_seq.specs.Fault.{first_fault}
 use Rattle.rcu_seq.specs.Seq.{tag_of}
 use Rattle.rcu_seq.specs.declared.fault.Fault.{Fault}
 use Rattle.rcu_node.specs.CpuSet.{is_in}
-use Rattle.rcu_report.specs.declared.report.Report.{Report}
+use Rattle.rcu_report.specs.declared.batch.Report.{Report}
 use Rattle.rcu_hotplug.specs.Hotplug.{Processors, Arrive as Arrives, Depart as Departs, cpus_of}
 use Rattle.rcu_cpu.specs.CpuData as cpu_data
 use Rattle.rcu_cpu.specs.CpuData.{Call, Processor, report_of}

@@ -12,7 +12,7 @@ use Rattle.rcu_core.specs.declared.event.Event.{Event}
 use Rattle.rcu_core.specs.declared.event.Event.TheVariants.{Enter, Exit, Note, Quiesce, Deliver}
 use Rattle.rcu_core.specs.declared.event.Event.TheVariants.{Online, Offline, Begin, End, Renumber}
 use Rattle.rcu_core.specs.declared.event.Event.TheVariants.{Idle, Wake, Scan}
-use Rattle.rcu_report.specs.declared.report.Report.{Report}
+use Rattle.rcu_report.specs.declared.batch.Report.{Report}
 
 abbrev pub History : Type 0
 History = List Event

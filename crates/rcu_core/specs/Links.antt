@@ -6,7 +6,7 @@ use Rattle.std.specs.List.{list_any, range_with_len}
 use Rattle.rcu_seq.specs.Histories.{latest}
 use Rattle.rcu_seq.specs.declared.tag.Tag.{Tag}
 use Rattle.rcu_cblist.specs.SegList.{callbacks}
-use Rattle.rcu_cblist.specs.declared.queued.Queued.{Queued}
+use Rattle.rcu_cblist.specs.declared.items.Queued.{Queued}
 use Rattle.rcu_barrier.specs.Runs.{copies}
 use Rattle.rcu_core.specs.Callbacks.{list, queue_count, since}
 use Rattle.rcu_core.specs.History.{History, begins, hears, online, tag_now}

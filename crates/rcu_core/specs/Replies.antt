@@ -8,14 +8,14 @@ use Rattle.rcu_seq.specs.Tags.{cookie_at, is_done_at, last_epoch, same_tag}
 use Rattle.rcu_seq.specs.Fault.{first_fault}
 use Rattle.rcu_seq.specs.declared.fault.Fault.{Fault}
 use Rattle.rcu_seq.specs.declared.fault.Fault.TheVariants as fault
-use Rattle.rcu_node.specs.declared.answer.Answer.{Answer}
-use Rattle.rcu_node.specs.declared.answer.Answer.TheVariants.{Taken, Last, Repeat, Stale}
-use Rattle.rcu_report.specs.declared.report.Report.{Report}
+use Rattle.rcu_node.specs.declared.awaited.Answer.{Answer}
+use Rattle.rcu_node.specs.declared.awaited.Answer.TheVariants.{Taken, Last, Repeat, Stale}
+use Rattle.rcu_report.specs.declared.batch.Report.{Report}
 use Rattle.rcu_cpu.specs.CpuData.{deepest}
 use Rattle.rcu_cblist.specs.SegList.{Item, behind, callbacks, front, is_empty, markers, take_answer}
 use Rattle.rcu_barrier.specs.Tending.{after_tend}
-use Rattle.rcu_barrier.specs.declared.visit.Visit.{Visit as Visited}
-use Rattle.rcu_barrier.specs.declared.visit.Visit.TheVariants.{Marked, Empty, Already}
+use Rattle.rcu_barrier.specs.declared.lists.Visit.{Visit as Visited}
+use Rattle.rcu_barrier.specs.declared.lists.Visit.TheVariants.{Marked, Empty, Already}
 use Rattle.rcu_core.specs.History.{History, report_at}
 use Rattle.rcu_core.specs.Situation.{Situation, situation}
 use Rattle.rcu_state.specs.GpState.{which}

@@ -1,7 +1,7 @@
 -- What the events so far say, in three parts: of grace periods, of the processors and of callbacks.
 use Rattle.std.specs.Prelude.{ℕ, Bool, List}
 use Rattle.rcu_seq.specs.declared.tag.Tag.{Tag}
-use Rattle.rcu_report.specs.declared.report.Report.{Report}
+use Rattle.rcu_report.specs.declared.batch.Report.{Report}
 use Rattle.rcu_cblist.specs.SegList.{Item}
 use Rattle.rcu_core.specs.Callbacks.{barrier_runs, is_owed, list, needed, queue_count}
 use Rattle.rcu_core.specs.History.{History, awaits, depth, ends_in_epoch, epoch, noted, online}

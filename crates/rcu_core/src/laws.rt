@@ -3,7 +3,7 @@ ghost use Rattle.std.specs.Prelude.{◌≡◌, ◌≢◌, ◌<◌, ◌≤◌, []
 ghost use Rattle.std.specs.Prelude.{None, false, true, slice_get};
 ghost use Rattle.std.specs.List.{list_any};
 ghost use Rattle.rcu_seq.specs.declared.cookie.Cookie.{Cookie};
-ghost use Rattle.rcu_cblist.specs.declared.queued.Queued.{Queued};
+ghost use Rattle.rcu_cblist.specs.declared.items.Queued.{Queued};
 ghost use Rattle.rcu_core.specs.Callbacks.{handed_out, has_full_period, queued_before_barrier};
 ghost use Rattle.rcu_core.specs.Callbacks.{since, times_handed_out};
 ghost use Rattle.rcu_core.specs.History.{History, awaits, begins, is_idle, is_old, section};

@@ -15,6 +15,6 @@ pub mod version_laws;
 pub use cpu_list::CpuList;
 pub use event::Event;
 pub use event_core::Core;
-pub use rcu_state::{CurrentAnswer, GpState, Turned, current_answer, gp_state, turned};
+pub use rcu_state::{CurrentAnswer, GpState, Turned, gp_state};
 pub use reply::Reply;
 pub use value_list::ValueList;

@@ -3,7 +3,7 @@ ghost use Rattle.std.specs.Prelude.{◌≡◌, ◌≢◌, ◌+◌, ◌<◌, ◌�
 ghost use Rattle.std.specs.Prelude.{Some, length, slice_get};
 ghost use Rattle.rcu_seq.specs.Tags.{is_before};
 ghost use Rattle.rcu_seq.specs.declared.tag.Tag.{Tag};
-ghost use Rattle.rcu_cblist.specs.declared.queued.Queued.{Queued};
+ghost use Rattle.rcu_cblist.specs.declared.items.Queued.{Queued};
 ghost use Rattle.rcu_core.specs.Callbacks.{handed_out, queue_count, times_handed_out};
 ghost use Rattle.rcu_core.specs.Core.{Represents, State, size_at};
 ghost use Rattle.rcu_core.specs.History.{History, awaits, is_heard, online, section, tag_now};

@@ -8,7 +8,7 @@ use Rattle.rcu_seq.specs.declared.fault.Fault.TheVariants.{AlreadyOnline, CpuIdl
 use Rattle.rcu_seq.specs.declared.fault.Fault.TheVariants.{NestFull}
 use Rattle.rcu_seq.specs.declared.fault.Fault.TheVariants.{NotIdle, NotOpen, Offline}
 use Rattle.rcu_seq.specs.declared.tag.Tag.{Tag}
-use Rattle.rcu_report.specs.declared.report.Report.{Report}
+use Rattle.rcu_report.specs.declared.batch.Report.{Report}
 
 -- a processor: its number, whether it is online, whether it is idle, how deep its read sections
 -- nest, and the tag that it noted

@@ -4,7 +4,7 @@ ghost use Rattle.atomic_table.specs.Seated.{TableId};
 ghost use Rattle.rcu_seq.specs.Numbers.{Number};
 ghost use Rattle.rcu_seq.specs.Seq.{has_full_period};
 ghost use Rattle.rcu_cblist.specs.SegList.{take_answer};
-ghost use Rattle.rcu_cblist.specs.declared.queued.Queued.{Queued};
+ghost use Rattle.rcu_cblist.specs.declared.items.Queued.{Queued};
 ghost use Rattle.rcu_barrier.specs.Lists.{list_of};
 ghost use Rattle.rcu_barrier.specs.Runs.{times_listed};
 ghost use Rattle.rcu_live.specs.Opening.{engine_at_first};

@@ -9,7 +9,7 @@ use Rattle.rcu_node.specs.CpuSet.{is_in}
 use Rattle.rcu_hotplug.specs.Hotplug.{Arrive, Depart}
 use Rattle.rcu_cblist.specs.SegList.{Item, Of, Unmarked, after_entrain, after_migrate, as_it_leaves}
 use Rattle.rcu_cblist.specs.SegList.{take_answer}
-use Rattle.rcu_cblist.specs.declared.queued.Queued.{Queued}
+use Rattle.rcu_cblist.specs.declared.items.Queued.{Queued}
 use Rattle.rcu_barrier.specs.Lists.{AllLists, barrier_left, is_visited, list_of, owes_visit}
 use Rattle.rcu_barrier.specs.Lists.{with_list}
 use Rattle.rcu_state.specs.GpState.{AreTimely, Grace, HasWaited, after_current_report, awaited_in}

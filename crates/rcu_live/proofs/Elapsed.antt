@@ -12,7 +12,7 @@ use Rattle.rcu_seq.specs.Seq.{Periods, Turn, begins, has_full_period, number_of,
 use Rattle.rcu_seq.specs.declared.tag.Tag.{Tag}
 use Rattle.rcu_node.specs.CpuSet.{is_in}
 use Rattle.rcu_hotplug.specs.Hotplug.{Arrive, Depart as Departs}
-use Rattle.rcu_cblist.specs.declared.queued.Queued.{Queued}
+use Rattle.rcu_cblist.specs.declared.items.Queued.{Queued}
 use Rattle.rcu_state.specs.GpState.{Grace, HasWaited, after_current_report, awaited_in, periods_of}
 use Rattle.rcu_state.specs.GpState.{with_call}
 use Rattle.rcu_state.specs.Periods.{wants_begin}

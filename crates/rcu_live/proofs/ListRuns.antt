@@ -8,10 +8,10 @@ use Rattle.rcu_seq.specs.Seq.{number_of, tag_of}
 use Rattle.rcu_node.specs.CpuSet.{is_in}
 use Rattle.rcu_hotplug.specs.Hotplug.{Arrive, Depart}
 use Rattle.rcu_cblist.specs.SegList.{Item, after_entrain, after_renumber, take_answer}
-use Rattle.rcu_cblist.specs.declared.queued.Queued.{Queued}
+use Rattle.rcu_cblist.specs.declared.items.Queued.{Queued}
 use Rattle.rcu_barrier.specs.Lists.{AllLists, at_first, barrier_left, barrier_test_answer}
 use Rattle.rcu_barrier.specs.Lists.{is_visited, list_of, lists_after_migrate}
-use Rattle.rcu_barrier.specs.declared.barrier_state.BarrierState.{BarrierState}
+use Rattle.rcu_barrier.specs.declared.lists.BarrierState.{BarrierState}
 use Rattle.rcu_state.specs.GpState.{Grace, after_current_report, after_start_poll, awaited_in}
 use Rattle.rcu_state.specs.GpState.{periods_of, with_call}
 use Rattle.rcu_state.specs.Periods.{wants_begin}

@@ -4,7 +4,7 @@ use Rattle.std.specs.Prelude.{All, IfSome, None, Option, Some}
 use Rattle.std.proofs.lemmas.List.Elements.{All-weaker}
 use Rattle.rcu_seq.specs.Seq.{Periods, number_of, tag_of}
 use Rattle.rcu_seq.specs.declared.tag.Tag.{Tag}
-use Rattle.rcu_cblist.specs.declared.queued.Queued.{Queued}
+use Rattle.rcu_cblist.specs.declared.items.Queued.{Queued}
 use Rattle.rcu_state.specs.GpState as grace
 use Rattle.rcu_live.specs.Engine.{HasWaited}
 

@@ -12,8 +12,8 @@ use Rattle.rcu_node.specs.CpuSet.{is_in, unheard}
 use Rattle.rcu_state.specs.GpState as grace
 use Rattle.rcu_state.specs.GpState.{Grace, awaited_in, periods_of, with_awaited}
 use Rattle.rcu_state.specs.Periods as periods
-use Rattle.rcu_state.specs.declared.turned.Turned.{Turned}
-use Rattle.rcu_state.specs.declared.turned.Turned.TheVariants as turned
+use Rattle.rcu_state.specs.declared.gp_state.Turned.{Turned}
+use Rattle.rcu_state.specs.declared.gp_state.Turned.TheVariants as turned
 use Rattle.rcu_live.specs.Engine.{Locked, after_begin, after_end, next_number}
 use Rattle.rcu_live.specs.Numbers.{reports_quiescence}
 use Rattle.rcu_live.specs.Words.{own_word_index}

@@ -14,16 +14,16 @@ use Rattle.rcu_state.specs.GpState as grace
 use Rattle.rcu_state.specs.GpState.{Grace, after_current_report, awaited_in, current_answer}
 use Rattle.rcu_state.specs.GpState.{periods_of}
 use Rattle.rcu_state.specs.Periods.{wants_begin}
-use Rattle.rcu_state.specs.declared.current_answer.CurrentAnswer.{CurrentAnswer}
-use Rattle.rcu_state.specs.declared.current_answer.CurrentAnswer.TheVariants as current
-use Rattle.rcu_state.specs.declared.turned.Turned.{Turned}
-use Rattle.rcu_state.specs.declared.turned.Turned.TheVariants as turned
+use Rattle.rcu_state.specs.declared.gp_state.CurrentAnswer.{CurrentAnswer}
+use Rattle.rcu_state.specs.declared.gp_state.CurrentAnswer.TheVariants as current
+use Rattle.rcu_state.specs.declared.gp_state.Turned.{Turned}
+use Rattle.rcu_state.specs.declared.gp_state.Turned.TheVariants as turned
 use Rattle.rcu_live.specs.Numbers.{reports_quiescence}
 use Rattle.rcu_live.specs.Rule.{is_cleared}
 use Rattle.rcu_live.specs.View.{IsOfEngine, after_begin_store, after_end_store, after_own_word_load}
 use Rattle.rcu_live.specs.Words.{own_word_index}
-use Rattle.rcu_live.specs.declared.collection.Collected.{Collected}
-use Rattle.rcu_live.specs.declared.collection.Collected.TheVariants as collected
+use Rattle.rcu_live.specs.declared.grace_periods.Collected.{Collected}
+use Rattle.rcu_live.specs.declared.grace_periods.Collected.TheVariants as collected
 use Rattle.rcu_live.specs.declared.view.View.{View}
 
 -- the engine: of which object, of how many processors, what its seat has seen, and the state of

@@ -8,7 +8,7 @@ use Rattle.rcu_seq.specs.declared.fault.Fault.TheVariants as fault
 use Rattle.rcu_node.specs.CpuSet.{is_in}
 use Rattle.rcu_hotplug.specs.Hotplug.{Arrive, Depart}
 use Rattle.rcu_cblist.specs.SegList.{is_empty}
-use Rattle.rcu_cblist.specs.declared.queued.Queued.{Queued}
+use Rattle.rcu_cblist.specs.declared.items.Queued.{Queued}
 use Rattle.rcu_barrier.specs.Lists.{list_of, queue_fault}
 use Rattle.rcu_state.specs.GpState.{Grace, after_migrate, with_call}
 use Rattle.rcu_live.specs.Engine.{HasWaited, Locked}

@@ -5,7 +5,7 @@ use Rattle.std.specs.Prelude.{if◌then◌else◌, List, [], ◌∷◌, ◌++◌
 use Rattle.rcu_seq.specs.Seq.{Periods, tag_of}
 use Rattle.rcu_seq.specs.Seq as turn
 use Rattle.rcu_cblist.specs.SegList.{take_answer}
-use Rattle.rcu_cblist.specs.declared.queued.Queued.{Queued}
+use Rattle.rcu_cblist.specs.declared.items.Queued.{Queued}
 use Rattle.rcu_barrier.specs.Lists.{at_first, list_of}
 use Rattle.rcu_barrier.specs.Runs.{copies}
 use Rattle.rcu_state.specs.GpState as grace

@@ -15,11 +15,19 @@ ghost use Rattle.rcu_seq.specs.Memory.{tested_fault};
 
 use crate::client::Client;
 use crate::engine::Engine;
-use crate::run::Ran;
 use rcu_barrier::{BarrierState, Visit};
 use rcu_cblist::{Queued, Refused};
 use rcu_node::Awaited;
 use rcu_seq::Fault;
+
+/// What a run hands out.
+#[derive(Debug, Drop)]
+pub struct Ran<T: Drop> {
+    /// The number at the run.
+    pub number: u64,
+    /// The callbacks, in the order of their queueing.
+    pub calls: Vec<Queued<T>>,
+}
 
 impl<A: Awaited, T: Drop, P: Client> Engine<A, T, P> {
     /// Queues a callback on a processor, at the number. Returns how many were queued, which is its

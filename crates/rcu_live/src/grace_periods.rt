@@ -9,20 +9,36 @@ ghost use Rattle.rcu_live.specs.Runs.{Call, Makes};
 
 use crate::begin::{load_own_words, report_all};
 use crate::client::Client;
-use crate::collection::Collected;
 use crate::engine::Engine;
 use rcu_node::Awaited;
 use rcu_seq::Fault;
 use rcu_state::{CurrentAnswer, Turned};
 
-/// What a collection tells by the answer to the report.
-fn collected(answer: CurrentAnswer) -> Collected
-    ensures { result ≡ collected_by answer }
-{
-    match answer {
-        CurrentAnswer::Taken => Collected::Taken,
-        CurrentAnswer::Last => Collected::Last,
-        CurrentAnswer::Repeat => Collected::Repeat,
+/// What a collection tells.
+#[derive(Clone, Copy, Debug, PartialEq, Eq)]
+pub enum Collected {
+    /// No grace period runs.
+    Idle,
+    /// The processor did not pass a quiescent state in the running grace period yet.
+    NotYet,
+    /// The processor was awaited, and others still are.
+    Taken,
+    /// The processor was the only one awaited.
+    Last,
+    /// The processor is not awaited.
+    Repeat,
+}
+
+impl Collected {
+    /// What a collection tells by the answer to its report.
+    fn by_report(answer: CurrentAnswer) -> Collected
+        ensures { result ≡ collected_by answer }
+    {
+        match answer {
+            CurrentAnswer::Taken => Collected::Taken,
+            CurrentAnswer::Last => Collected::Last,
+            CurrentAnswer::Repeat => Collected::Repeat,
+        }
     }
 }
 
@@ -114,6 +130,6 @@ impl<A: Awaited, T: Drop, P: Client> Engine<A, T, P> {
             return Ok(Collected::NotYet);
         }
         self.by_word.awaited.remove(cpu);
-        Ok(collected(self.gp.report_current(cpu)))
+        Ok(Collected::by_report(self.gp.report_current(cpu)))
     }
 }

@@ -8,8 +8,8 @@ ghost use Rattle.rcu_live.specs.CpuSeat.{depart_refusal};
 ghost use Rattle.rcu_live.specs.EngineLists.{is_leave_fault};
 
 use crate::client::Client;
-use crate::collection::Collected;
 use crate::cpu_seat::CpuSeat;
+use crate::grace_periods::Collected;
 use crate::live::Live;
 use rcu_node::Awaited;
 use rcu_seq::Fault;

@@ -5,8 +5,8 @@ ghost use Rattle.rcu_live.specs.EngineLists.{is_visit_fault};
 
 use crate::client::Client;
 use crate::cpu_seat::CpuSeat;
+use crate::engine_lists::Ran;
 use crate::live::Live;
-use crate::run::Ran;
 use rcu_barrier::{BarrierState, Visit};
 use rcu_cblist::Refused;
 use rcu_seq::Fault;

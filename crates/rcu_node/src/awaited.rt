@@ -5,9 +5,21 @@ ghost use Rattle.rcu_seq.specs.declared.tag.Tag.{Tag};
 ghost use Rattle.rcu_node.specs.CpuSet.{is_in, size_of};
 ghost use Rattle.rcu_node.specs.Reports.{report_answer, awaited_after_report};
 
-use crate::answer::Answer;
 use crate::cpu_set::CpuSet;
 use rcu_seq::Tag;
+
+/// What a report of a quiescent state did.
+#[derive(Clone, Copy, Debug, PartialEq, Eq)]
+pub enum Answer {
+    /// The processor was awaited, and others still are.
+    Taken,
+    /// The processor was the only one awaited.
+    Last,
+    /// The processor is not awaited.
+    Repeat,
+    /// The report is of another grace period.
+    Stale,
+}
 
 /// The processors that a grace period awaits: those of its start set, less those that reported.
 ///

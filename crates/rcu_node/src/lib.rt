@@ -1,7 +1,6 @@
 //! Which processors a grace period awaits.
 #![tactic(auto)]
 
-pub mod answer;
 pub mod awaited;
 pub mod cpu_set;
 mod fill;
@@ -16,8 +15,7 @@ mod tagged;
 pub mod tree;
 mod walk;
 
-pub use answer::Answer;
-pub use awaited::Awaited;
+pub use awaited::{Answer, Awaited};
 pub use cpu_set::CpuSet;
 pub use flat::Flat;
 pub use tree::Tree;

@@ -1,7 +1,6 @@
 //! What a grace period awaits, whichever way its sets are kept.
 
-use crate::answer::Answer;
-use crate::awaited::Awaited;
+use crate::awaited::{Answer, Awaited};
 use crate::cpu_set::CpuSet;
 use crate::sets::Sets;
 use rcu_seq::Tag;

@@ -14,8 +14,8 @@ use Rattle.rcu_seq.specs.declared.fault.Fault.TheVariants.{NotAlike}
 use Rattle.rcu_node.specs.CpuSet.{intersection, is_in, size_of}
 use Rattle.rcu_node.specs.Merging.{Standing, are_alike, standing}
 use Rattle.rcu_node.specs.Reports.{report_answer, awaited_after_report}
-use Rattle.rcu_node.specs.declared.answer.Answer.{Answer}
-use Rattle.rcu_node.specs.declared.answer.Answer.TheVariants.{Stale}
+use Rattle.rcu_node.specs.declared.awaited.Answer.{Answer}
+use Rattle.rcu_node.specs.declared.awaited.Answer.TheVariants.{Stale}
 
 -- a replica: its counter of grace periods, the latest one's number, the processors that it awaited
 -- at its start, and those that it awaits now

@@ -1,4 +1,4 @@
-//! Reports of one tag, as a set.
+//! A report, and the reports of one tag as a set.
 ghost use Rattle.std.specs.Prelude.{◌≡◌, ◌<◌, ◌≤◌, ◌+◌, ◌&&◌, if◌then◌else◌, true, false};
 ghost use Rattle.std.specs.Prelude.{length, slice_set, replicate, IfErr, IfOk, OnErr, OnOk};
 ghost use Rattle.std.specs.Result.{result_err};
@@ -8,11 +8,19 @@ ghost use Rattle.rcu_node.specs.Merging.{standing};
 ghost use Rattle.rcu_report.specs.Batch.{add_refusal, after_batch, after_report, difference};
 ghost use Rattle.rcu_report.specs.Batch.{join_refusal};
 
-use crate::report::Report;
 use rcu_node::{Answer, Awaited, CpuSet};
 use rcu_seq::{Fault, Tag};
 use std::alloc::Global;
 use std::marker::Model;
+
+/// A report of a quiescent state: its processor, and the tag that the processor had noted.
+#[derive(Clone, Copy, Debug, PartialEq, Eq)]
+pub struct Report {
+    /// The processor.
+    pub cpu: u32,
+    /// The tag that it had noted (Linux's `gp_seq` of a report).
+    pub tag: Tag,
+}
 
 /// The reports of one tag, as the set of their processors. Contracts see the tag and a flag for
 /// each processor.

@@ -4,8 +4,6 @@
 pub mod batch;
 pub mod laws;
 pub mod replica;
-pub mod report;
 
-pub use batch::Batch;
+pub use batch::{Batch, Report};
 pub use replica::Replica;
-pub use report::Report;

@@ -8,8 +8,8 @@ use Rattle.std.specs.Str.{bytes_eq}
 use Rattle.std.proofs.lemmas.List.Folds.{list_any-append}
 use Rattle.rcu_seq.specs.Fault.{fault_number}
 use Rattle.rcu_seq.specs.declared.fault.Fault.TheVariants as fault
-use Rattle.rcu_node.specs.declared.answer.Answer.TheVariants as answer
-use Rattle.rcu_barrier.specs.declared.visit.Visit.TheVariants as visit
+use Rattle.rcu_node.specs.declared.awaited.Answer.TheVariants as answer
+use Rattle.rcu_barrier.specs.declared.lists.Visit.TheVariants as visit
 use Rattle.rcu_core.specs.History.{History}
 use Rattle.rcu_core.specs.Replies.{Size, with_event}
 use Rattle.rcu_core.specs.declared.event.Event.{Event}

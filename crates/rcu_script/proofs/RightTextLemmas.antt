@@ -8,8 +8,8 @@ use Rattle.std.proofs.lemmas.List.{append_cancel_right}
 use Rattle.rcu_seq.specs.Fault.{first_fault}
 use Rattle.rcu_seq.specs.declared.fault.Fault.{Fault}
 use Rattle.rcu_seq.specs.declared.fault.Fault.TheVariants as fault
-use Rattle.rcu_node.specs.declared.answer.Answer.TheVariants as answer
-use Rattle.rcu_barrier.specs.declared.visit.Visit.TheVariants as visit
+use Rattle.rcu_node.specs.declared.awaited.Answer.TheVariants as answer
+use Rattle.rcu_barrier.specs.declared.lists.Visit.TheVariants as visit
 use Rattle.rcu_core.specs.History.{History}
 use Rattle.rcu_core.specs.Replies.{Size, accepted_reply, answer, causes, how_many, or_fault}
 use Rattle.rcu_core.specs.Replies.{waits_for}

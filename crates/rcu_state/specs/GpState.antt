@@ -11,19 +11,19 @@ use Rattle.rcu_seq.specs.declared.fault.Fault.{Fault}
 use Rattle.rcu_seq.specs.declared.fault.Fault.TheVariants as fault
 use Rattle.rcu_node.specs.CpuSet.{is_in, size_of}
 use Rattle.rcu_node.specs.Reports.{report_answer, awaited_after_report}
-use Rattle.rcu_node.specs.declared.answer.Answer.{Answer}
-use Rattle.rcu_node.specs.declared.answer.Answer.TheVariants.{Stale}
-use Rattle.rcu_report.specs.declared.report.Report.{Report}
+use Rattle.rcu_node.specs.declared.awaited.Answer.{Answer}
+use Rattle.rcu_node.specs.declared.awaited.Answer.TheVariants.{Stale}
+use Rattle.rcu_report.specs.declared.batch.Report.{Report}
 use Rattle.rcu_hotplug.specs.Hotplug as hotplug
 use Rattle.rcu_hotplug.specs.Hotplug.{Processors, Call, Begin}
 use Rattle.rcu_cblist.specs.SegList.{Item, Mark, Of, Marker, Unmarked, Until, Done, numbers}
 use Rattle.rcu_barrier.specs.Lists as lists
 use Rattle.rcu_barrier.specs.Lists.{AllLists, ListsWithRooms}
 use Rattle.rcu_state.specs.Periods.{PeriodSituation, greatest_from, wants_begin}
-use Rattle.rcu_state.specs.declared.current_answer.CurrentAnswer.{CurrentAnswer}
-use Rattle.rcu_state.specs.declared.current_answer.CurrentAnswer.TheVariants as current
-use Rattle.rcu_state.specs.declared.turned.Turned.{Turned}
-use Rattle.rcu_state.specs.declared.turned.Turned.TheVariants as turned
+use Rattle.rcu_state.specs.declared.gp_state.CurrentAnswer.{CurrentAnswer}
+use Rattle.rcu_state.specs.declared.gp_state.CurrentAnswer.TheVariants as current
+use Rattle.rcu_state.specs.declared.gp_state.Turned.{Turned}
+use Rattle.rcu_state.specs.declared.gp_state.Turned.TheVariants as turned
 
 -- the counter of grace periods, the greatest number that was asked for, the processors, which are
 -- the online ones and those that the latest grace period awaits, and each processor's list of

@@ -15,8 +15,6 @@ ghost use Rattle.rcu_state.specs.GpState as grace;
 ghost use Rattle.rcu_state.specs.GpState.{on_grace};
 ghost use Rattle.rcu_state.specs.Periods.{wants_begin};
 
-use crate::current_answer::CurrentAnswer;
-use crate::turned::Turned;
 use rcu_barrier::lists::{Lists, MOST_QUEUED};
 use rcu_hotplug::Hotplug;
 use rcu_node::{Answer, Awaited};
@@ -25,6 +23,30 @@ use rcu_seq::cookie::{Cookie, FIRST_END};
 use rcu_seq::{Fault, Seq, Tag};
 use std::alloc::Global;
 use std::marker::Model;
+
+/// What a report of the grace period that runs returns. It is never stale.
+#[derive(Clone, Copy, Debug, PartialEq, Eq)]
+pub enum CurrentAnswer {
+    /// The processor was awaited, and others still are.
+    Taken,
+    /// The processor was the only one awaited.
+    Last,
+    /// The processor is not awaited.
+    Repeat,
+}
+
+/// What a turn did.
+#[derive(Clone, Copy, Debug, PartialEq, Eq)]
+pub enum Turned {
+    /// A grace period of this number began, and awaits this many processors.
+    Begun(u64, u32),
+    /// The grace period ended, and this is the number now.
+    Ended(u64),
+    /// The grace period goes on, and awaits this many processors.
+    Waiting(u32),
+    /// No grace period runs, and none is needed.
+    Nothing,
+}
 
 /// The state of the grace periods (Linux's `rcu_state`): the number, the needed number, the
 /// processors that are online and awaited, and each processor's list of callbacks.

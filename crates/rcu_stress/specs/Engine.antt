@@ -1,8 +1,8 @@
 -- The calls of an engine that take its lock, as workers make them.
 use Rattle.std.specs.Prelude.{ℕ, List}
-use Rattle.rcu_cblist.specs.declared.queued.Queued.{Queued}
-use Rattle.rcu_state.specs.declared.turned.Turned.{Turned}
-use Rattle.rcu_live.specs.declared.collection.Collected.{Collected}
+use Rattle.rcu_cblist.specs.declared.items.Queued.{Queued}
+use Rattle.rcu_state.specs.declared.gp_state.Turned.{Turned}
+use Rattle.rcu_live.specs.declared.grace_periods.Collected.{Collected}
 
 -- a call, and the engine's answer: a collection of a processor; a turn; a tending of a processor,
 -- with how many of its callbacks are done and how many wait; a queueing at a processor of a value,

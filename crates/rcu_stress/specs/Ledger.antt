@@ -4,7 +4,7 @@ use Rattle.std.specs.Prelude.{if◌then◌else◌, length, map, nat_lt, sum_by}
 use Rattle.std.specs.List.{flat_map}
 use Rattle.std.specs.Set.{distinct_count}
 use Rattle.rcu_seq.specs.Numbers.{Number, snapshot}
-use Rattle.rcu_cblist.specs.declared.queued.Queued.{Queued}
+use Rattle.rcu_cblist.specs.declared.items.Queued.{Queued}
 
 -- the greatest number of workers, and of rounds
 abbrev pub most_workers : ℕ

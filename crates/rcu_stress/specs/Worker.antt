@@ -6,7 +6,7 @@ use Rattle.rand_pcg.specs.Pcg.{pcg32}
 use Rattle.rcu_live.specs.Board.{Object}
 use Rattle.rcu_live.specs.CpuSeat.{Seated}
 use Rattle.rcu_live.specs.Watcher.{Watching}
-use Rattle.rcu_live.specs.declared.run.Ran.{Ran}
+use Rattle.rcu_live.specs.declared.engine_lists.Ran.{Ran}
 use Rattle.rcu_stress.specs.Engine.{LockedAnswer, Collecting, Departing, Queueing, Running}
 use Rattle.rcu_stress.specs.Engine.{Tending, Turning}
 use Rattle.rcu_stress.specs.Ledger.{Counts, after_run, most_in_round}

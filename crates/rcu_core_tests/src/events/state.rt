@@ -5,8 +5,7 @@ mod rooms;
 
 use crate::made::{flat, refused};
 use rcu_barrier::{BarrierState, Visit};
-use rcu_core::gp_state::GpState;
-use rcu_core::turned::Turned;
+use rcu_core::gp_state::{GpState, Turned};
 use rcu_node::{Answer, Awaited, Flat};
 use rcu_seq::{Cookie, Fault, Tag};
 use std::alloc::Global;

@@ -2,7 +2,7 @@ use Rattle.std.proofs.Common.{◌≡◌, ℕ, Bool, true, false, List, [], ◌�
 use Rattle.std.specs.List.{list_any}
 use Rattle.std.specs.Prelude.{if◌then◌else◌}
 use Rattle.rcu_seq.specs.declared.tag.Tag.{Tag}
-use Rattle.rcu_barrier.specs.declared.barrier_state.BarrierState.TheVariants as state
+use Rattle.rcu_barrier.specs.declared.lists.BarrierState.TheVariants as state
 use Rattle.rcu_barrier.specs.Lists.{AllLists, at_first, barrier_test_answer}
 use Rattle.rcu_barrier.specs.Runs.{BarrierBegin, BarrierTest, Call, Migrate, Queue, Renumber, Run}
 use Rattle.rcu_barrier.specs.Runs.{Tend, Visit, begins_barrier, lists_after}

@@ -1,5 +1,5 @@
 use Rattle.std.proofs.Common.{◌≡◌, ◌∷◌, ◌++◌, [], length, ◌∙◌, arith}
-use Rattle.rcu_cblist.specs.declared.kept.Kept.TheVariants as kept
+use Rattle.rcu_cblist.specs.declared.items.Kept.TheVariants as kept
 use Rattle.rcu_cblist.specs.Cuts.{AreTails}
 use Rattle.rcu_cblist.proofs.Cuts.{same_calls, same_items}
 use Rattle.rcu_cblist.proofs.Marking.{Marked, entrained, push_marked, some_kept}

@@ -1,7 +1,7 @@
 use Rattle.std.proofs.Common.{arith, rules, ◌≤◌, List, Result, Ok, Err, OnErr, length, subst, sym}
 use Rattle.std.proofs.Common.{length-take}
 use Rattle.std.specs.Arc.{arc_value}
-use Rattle.rcu_cblist.specs.declared.queued.Queued.{Queued}
+use Rattle.rcu_cblist.specs.declared.items.Queued.{Queued}
 use Rattle.rcu_barrier.proofs.Refusals.{run_met}
 use Rattle.rcu_live.proofs.Waits.{waited_first}
 use Rattle.rcu_live.proofs.engine.Engine.run.Goals as goal
