@@ -5,13 +5,13 @@ use Rattle.std.proofs.Common.{sym, subst, ◌∙◌, append_assoc, length-append
 use Rattle.std.proofs.lemmas.List.{append-nil, drop-append-le, drop_all, map-append, take-append-le}
 use Rattle.std.proofs.lemmas.List.{take_all}
 use Rattle.std.proofs.lemmas.Bool.Decides.{nat_tests}
-use Rattle.rcu_cblist.specs.declared.items.Kept.{Kept}
-use Rattle.rcu_cblist.specs.declared.items.Kept.TheVariants as kept
+use Rattle.rcu_cblist.specs.declared.items.Entry.{Entry}
+use Rattle.rcu_cblist.specs.declared.items.Entry.TheVariants as entry
 use Rattle.rcu_cblist.specs.declared.tail.Tail.{Tail}
 use Rattle.rcu_cblist.specs.SegList.{Item, Unmarked, Until, Done, after_migrate, as_it_leaves}
 use Rattle.rcu_cblist.specs.SegList.{begins_with_marker, behind, callbacks, front, is_empty}
 use Rattle.rcu_cblist.specs.SegList.{without_mark}
-use Rattle.rcu_cblist.specs.Kept.{item_of, marked, moved_behind, moved_in_front, unmarked}
+use Rattle.rcu_cblist.specs.Entries.{item_of, marked, moved_behind, moved_in_front, unmarked}
 use Rattle.rcu_cblist.specs.Cuts.{AreSegments, AreTails, IsTail, between}
 use Rattle.rcu_cblist.specs.Segments.{joined}
 use Rattle.rcu_cblist.proofs.Cuts.{Cuts, calls_joined, calls_marked, calls_within, first_joined}
@@ -22,14 +22,14 @@ use Rattle.rcu_cblist.proofs.Views.{behind_stripped, front_joined}
 
 module _ {X : Type 0} where
   -- a list that leaves: what goes in front of a target, and what goes behind it
-  pub record Leaves (leaving : List (Item X)) (P Q : List (Kept X)) : Type 0 where
+  pub record Leaves (leaving : List (Item X)) (P Q : List (Entry X)) : Type 0 where
     pub front_is : front leaving ≡ marked Done P
     pub behind_is : map without_mark (behind leaving) ≡ unmarked Q
     pub front_first : begins_with_marker (unmarked P) ≡ false
     pub behind_first : begins_with_marker (unmarked Q) ≡ false
 
   -- a list that is cut leaves at the end of what is done
-  leaves_cut : (a b d w r : ℕ) (xs : List (Kept X))
+  leaves_cut : (a b d w r : ℕ) (xs : List (Entry X))
       → d ≤ w
       → w ≤ r
       → AreSegments a b (take d xs) (between d w xs) (between w r xs) (drop r xs)
@@ -48,7 +48,7 @@ module _ {X : Type 0} where
       }
 
   -- with a marker behind it, too
-  leaves_marked : (a b d w r : ℕ) (xs : List (Kept X))
+  leaves_marked : (a b d w r : ℕ) (xs : List (Entry X))
       → d ≤ w
       → w ≤ r
       → r ≤ length xs
@@ -62,7 +62,7 @@ module _ {X : Type 0} where
       let place : ℕ → ℕ = λ k. if k == n then k + 1 else k in
       let m = marked_last a b xs d w r (place d) (place w) (place r) n h first second within refl
       refl refl refl (some_kept a b d w r xs first second some) in
-      let more = xs ++ kept.Marker ∷ [] in
+      let more = xs ++ entry.Marker ∷ [] in
       let seen = joined a b (take d xs) (between d w xs) (between w r xs) (drop r xs) in
       let cut =
       leaves_cut a b (place d) (place w) (place r) more m.wait_behind m.ready_behind m.segments in
@@ -77,36 +77,37 @@ module _ {X : Type 0} where
       at : (d' : ℕ)
           → d' ≡ (if d == length xs then d + 1 else d)
           → (test : Bool) → nat_lt d (length xs) ≡ test
-          → Leaves leaving (take d' (xs ++ kept.Marker ∷ [])) (drop d' (xs ++ kept.Marker ∷ []))
-          → Leaves leaving (take d xs ++ (if test then [] else kept.Marker ∷ []))
-          (drop d xs ++ (if test then kept.Marker ∷ [] else []))
+          → Leaves leaving (take d' (xs ++ entry.Marker ∷ [])) (drop d' (xs ++ entry.Marker ∷ []))
+          → Leaves leaving (take d xs ++ (if test then [] else entry.Marker ∷ []))
+          (drop d xs ++ (if test then entry.Marker ∷ [] else []))
       at d' is true before h =
           let under : d < length xs = grind (arith, nat_tests) in
           let same = stays (length xs) d d' is under in
-          let in_front : take d' (xs ++ kept.Marker ∷ []) ≡ take d xs ++ [] =
-          ap (λ k. take k (xs ++ kept.Marker ∷ [])) same
-          ∙ (take-append-le d xs (kept.Marker ∷ []) (omega arith) ∙ sym (append-nil (take d xs))) in
-          let behind_it : drop d' (xs ++ kept.Marker ∷ []) ≡ drop d xs ++ kept.Marker ∷ [] =
-          ap (λ k. drop k (xs ++ kept.Marker ∷ [])) same
-          ∙ drop-append-le d xs (kept.Marker ∷ []) (omega arith) in
-          subst (λ l. Leaves leaving l (drop d xs ++ kept.Marker ∷ [])) in_front
-          (subst (λ l. Leaves leaving (take d' (xs ++ kept.Marker ∷ [])) l) behind_it h)
+          let in_front : take d' (xs ++ entry.Marker ∷ []) ≡ take d xs ++ [] =
+          ap (λ k. take k (xs ++ entry.Marker ∷ [])) same
+          ∙ (take-append-le d xs (entry.Marker ∷ []) (omega arith)
+          ∙ sym (append-nil (take d xs))) in
+          let behind_it : drop d' (xs ++ entry.Marker ∷ []) ≡ drop d xs ++ entry.Marker ∷ [] =
+          ap (λ k. drop k (xs ++ entry.Marker ∷ [])) same
+          ∙ drop-append-le d xs (entry.Marker ∷ []) (omega arith) in
+          subst (λ l. Leaves leaving l (drop d xs ++ entry.Marker ∷ [])) in_front
+          (subst (λ l. Leaves leaving (take d' (xs ++ entry.Marker ∷ [])) l) behind_it h)
       at d' is false past h =
           let end : d ≡ length xs =
           (let over : length xs ≤ d = grind (arith, nat_tests) in omega arith) in
           let more = passed (length xs) d d' is end in
-          let long = length-append xs (kept.Marker ∷ []) in
-          let in_front : take d' (xs ++ kept.Marker ∷ []) ≡ take d xs ++ kept.Marker ∷ [] =
-          take_all d' (xs ++ kept.Marker ∷ []) (omega arith)
-          ∙ ap (λ l. l ++ kept.Marker ∷ []) (sym (take_all d xs (omega arith))) in
-          let behind_it : drop d' (xs ++ kept.Marker ∷ []) ≡ drop d xs ++ [] =
-          drop_all d' (xs ++ kept.Marker ∷ []) (omega arith) ∙
+          let long = length-append xs (entry.Marker ∷ []) in
+          let in_front : take d' (xs ++ entry.Marker ∷ []) ≡ take d xs ++ entry.Marker ∷ [] =
+          take_all d' (xs ++ entry.Marker ∷ []) (omega arith)
+          ∙ ap (λ l. l ++ entry.Marker ∷ []) (sym (take_all d xs (omega arith))) in
+          let behind_it : drop d' (xs ++ entry.Marker ∷ []) ≡ drop d xs ++ [] =
+          drop_all d' (xs ++ entry.Marker ∷ []) (omega arith) ∙
           (sym (drop_all d xs (omega arith)) ∙ sym (append-nil (drop d xs))) in
           subst (λ l. Leaves leaving l (drop d xs ++ [])) in_front
-          (subst (λ l. Leaves leaving (take d' (xs ++ kept.Marker ∷ [])) l) behind_it h)
+          (subst (λ l. Leaves leaving (take d' (xs ++ entry.Marker ∷ [])) l) behind_it h)
 
   -- with a marker or without
-  pub leaves : (a b d w r : ℕ) (xs : List (Kept X)) (wanted : Bool)
+  pub leaves : (a b d w r : ℕ) (xs : List (Entry X)) (wanted : Bool)
       → d ≤ w
       → w ≤ r
       → r ≤ length xs
@@ -122,48 +123,48 @@ module _ {X : Type 0} where
       rw (append-nil (take d xs), append-nil (drop d xs)) (leaves_cut a b d w r xs first second h)
 
   -- the callbacks of both parts
-  pub front_calls : (xs : List (Kept X)) (d : ℕ) (wanted : Bool)
+  pub front_calls : (xs : List (Entry X)) (d : ℕ) (wanted : Bool)
       → length (callbacks (unmarked (moved_in_front xs d wanted)))
       ≡ length (callbacks (unmarked (take d xs)))
   front_calls xs d false = ap (λ l. length (callbacks (unmarked l))) (append-nil (take d xs))
   front_calls xs d true = at (nat_lt d (length xs))
     where
       at : (test : Bool)
-          → length (callbacks (unmarked (take d xs ++ (if test then [] else kept.Marker ∷ []))))
+          → length (callbacks (unmarked (take d xs ++ (if test then [] else entry.Marker ∷ []))))
           ≡ length (callbacks (unmarked (take d xs)))
       at true = ap (λ l. length (callbacks (unmarked l))) (append-nil (take d xs))
       at false = calls_marked (take d xs)
 
-  pub behind_calls : (xs : List (Kept X)) (d : ℕ) (wanted : Bool)
+  pub behind_calls : (xs : List (Entry X)) (d : ℕ) (wanted : Bool)
       → length (callbacks (unmarked (moved_behind xs d wanted)))
       ≡ length (callbacks (unmarked (drop d xs)))
   behind_calls xs d false = ap (λ l. length (callbacks (unmarked l))) (append-nil (drop d xs))
   behind_calls xs d true = at (nat_lt d (length xs))
     where
       at : (test : Bool)
-          → length (callbacks (unmarked (drop d xs ++ (if test then kept.Marker ∷ [] else []))))
+          → length (callbacks (unmarked (drop d xs ++ (if test then entry.Marker ∷ [] else []))))
           ≡ length (callbacks (unmarked (drop d xs)))
       at false = ap (λ l. length (callbacks (unmarked l))) (append-nil (drop d xs))
       at true = calls_marked (drop d xs)
 
   -- a place behind a list that was put in front
-  take_over : (P ys : List (Kept X)) (t n : ℕ) → n ≡ length P + t
+  take_over : (P ys : List (Entry X)) (t n : ℕ) → n ≡ length P + t
       → take n (P ++ ys) ≡ P ++ take t ys
   take_over [] ys t n is = ap (λ k. take k ys) (omega arith)
   take_over (x ∷ P) ys t zero is = absurd (omega arith)
   take_over (x ∷ P) ys t (suc n) is = ap (λ l. x ∷ l) (take_over P ys t n (omega arith))
 
-  drop_over : (P ys : List (Kept X)) (t n : ℕ) → n ≡ length P + t → drop n (P ++ ys) ≡ drop t ys
+  drop_over : (P ys : List (Entry X)) (t n : ℕ) → n ≡ length P + t → drop n (P ++ ys) ≡ drop t ys
   drop_over [] ys t n is = ap (λ k. drop k ys) (omega arith)
   drop_over (x ∷ P) ys t zero is = absurd (omega arith)
   drop_over (x ∷ P) ys t (suc n) is = drop_over P ys t n (omega arith)
 
-  module _ (a b : ℕ) (P zs Q : List (Kept X)) (done wait ready ahead : Tail) (calls : ℕ)
+  module _ (a b : ℕ) (P zs Q : List (Entry X)) (done wait ready ahead : Tail) (calls : ℕ)
       (k : AreTails zs done wait ready calls a b) (first : begins_with_marker (unmarked P) ≡ false)
       (last : begins_with_marker (unmarked Q) ≡ false) (long : ahead.items ≡ length P)
       (counted : ahead.calls ≡ length (callbacks (unmarked P))) where
     -- the list around the target's
-    abbrev around : List (Kept X)
+    abbrev around : List (Entry X)
     around = P ++ (zs ++ Q)
 
     risen : (tail after : Tail) → IsTail zs tail → after.items ≡ tail.items + ahead.items →
@@ -278,7 +279,7 @@ module _ {X : Type 0} where
         ap (λ l. (front leaving ++ joined a b D W R N) ++ l) (sym h.behind_is)))
 
   -- no more callbacks before a place than items in the list
-  pub tail_few : (xs : List (Kept X)) (tail : Tail) → IsTail xs tail → tail.calls ≤ length xs
+  pub tail_few : (xs : List (Entry X)) (tail : Tail) → IsTail xs tail → tail.calls ≤ length xs
   tail_few xs tail k =
       let all = calls_all xs tail k in
       let few = calls_within xs in

@@ -8,11 +8,11 @@ use Rattle.std.proofs.lemmas.List.Elements.{filter_map-append}
 use Rattle.std.proofs.lemmas.Bool.Decides.{nat_tests}
 use Rattle.std.proofs.lemmas.Bool.{cases_eq}
 use Rattle.rcu_cblist.specs.declared.items.Queued.{Queued}
-use Rattle.rcu_cblist.specs.declared.items.Kept.{Kept}
-use Rattle.rcu_cblist.specs.declared.items.Kept.TheVariants as kept
+use Rattle.rcu_cblist.specs.declared.items.Entry.{Entry}
+use Rattle.rcu_cblist.specs.declared.items.Entry.TheVariants as entry
 use Rattle.rcu_cblist.specs.declared.tail.Tail.{Tail}
 use Rattle.rcu_cblist.specs.SegList.{Unmarked, begins_with_marker, callback_of, callbacks}
-use Rattle.rcu_cblist.specs.Kept.{item_of, unmarked}
+use Rattle.rcu_cblist.specs.Entries.{item_of, unmarked}
 use Rattle.rcu_cblist.specs.Cuts.{AreSegments, AreTails, IsTail, between}
 use Rattle.rcu_cblist.specs.Segments.{joined}
 
@@ -25,28 +25,28 @@ same_calls tail other same = ap (λ (t : Tail). t.calls) same
 
 module _ {X : Type 0} where
   -- places cut a list into these four
-  pub record Cuts (xs D W R N : List (Kept X)) (d w r : ℕ) : Type 0 where
+  pub record Cuts (xs D W R N : List (Entry X)) (d w r : ℕ) : Type 0 where
     pub is_done : take d xs ≡ D
     pub is_wait : between d w xs ≡ W
     pub is_ready : between w r xs ≡ R
     pub is_next : drop r xs ≡ N
 
   -- what stands before a place, and what stands from it to another one
-  pub joins : (i j : ℕ) (xs : List (Kept X)) → i ≤ j → take i xs ++ between i j xs ≡ take j xs
+  pub joins : (i j : ℕ) (xs : List (Entry X)) → i ≤ j → take i xs ++ between i j xs ≡ take j xs
   joins i j xs order =
       ap (λ l. l ++ between i j xs) (sym (take-take i j xs order)) ∙ take-append-drop i (take j xs)
 
   -- no item stands between a place and itself
-  pub nothing : (i : ℕ) (xs : List (Kept X)) → between i i xs ≡ []
+  pub nothing : (i : ℕ) (xs : List (Entry X)) → between i i xs ≡ []
   nothing i xs = drop_all i (take i xs) (omega (arith, length-take i xs))
 
   -- how many items stand between two places
-  pub length_between : (i j : ℕ) (xs : List (Kept X)) → j ≤ length xs
+  pub length_between : (i j : ℕ) (xs : List (Entry X)) → j ≤ length xs
       → length (between i j xs) ≡ j - i
   length_between i j xs within = omega (arith, length-drop i (take j xs), length-take j xs)
 
   -- what stands before a place, and the rest
-  pub rest_of : (i j : ℕ) (xs : List (Kept X)) → i ≤ j → between i j xs ++ drop j xs ≡ drop i xs
+  pub rest_of : (i j : ℕ) (xs : List (Entry X)) → i ≤ j → between i j xs ++ drop j xs ≡ drop i xs
   rest_of i j xs order =
       let both : take i xs ++ (between i j xs ++ drop j xs) ≡ take i xs ++ drop i xs =
       sym (append_assoc (take i xs) (between i j xs) (drop j xs))
@@ -55,37 +55,37 @@ module _ {X : Type 0} where
       append_cancel_left (take i xs) (between i j xs ++ drop j xs) (drop i xs) both
 
   -- the whole list
-  pub whole : (d w r : ℕ) (xs : List (Kept X)) → d ≤ w → w ≤ r →
+  pub whole : (d w r : ℕ) (xs : List (Entry X)) → d ≤ w → w ≤ r →
       take d xs ++ (between d w xs ++ (between w r xs ++ drop r xs)) ≡ xs
   whole d w r xs first second =
       ap (λ l. take d xs ++ (between d w xs ++ l)) (rest_of w r xs second) ∙
       (ap (λ l. take d xs ++ l) (rest_of d w xs first) ∙ take-append-drop d xs)
 
   -- what holds of four lists holds of what is cut
-  pub segments_at : (a b : ℕ) (xs D W R N : List (Kept X)) (d w r : ℕ) → Cuts xs D W R N d w r
+  pub segments_at : (a b : ℕ) (xs D W R N : List (Entry X)) (d w r : ℕ) → Cuts xs D W R N d w r
       → AreSegments a b D W R N →
       AreSegments a b (take d xs) (between d w xs) (between w r xs) (drop r xs)
   segments_at a b xs D W R N d w r c h = rw (c.is_done, c.is_wait, c.is_ready, c.is_next) h
 
-  pub seen_at : (a b : ℕ) (xs D W R N : List (Kept X)) (d w r : ℕ) → Cuts xs D W R N d w r →
+  pub seen_at : (a b : ℕ) (xs D W R N : List (Entry X)) (d w r : ℕ) → Cuts xs D W R N d w r →
       joined a b (take d xs) (between d w xs) (between w r xs) (drop r xs) ≡ joined a b D W R N
   seen_at a b xs D W R N d w r c = rw (c.is_done, c.is_wait, c.is_ready, c.is_next) refl
 
-  -- a list of kept items begins with a marker no more than its parts do
-  pub first_joined : (xs ys : List (Kept X)) → begins_with_marker (unmarked xs) ≡ false →
+  -- a list of entries begins with a marker no more than its parts do
+  pub first_joined : (xs ys : List (Entry X)) → begins_with_marker (unmarked xs) ≡ false →
       begins_with_marker (unmarked ys) ≡ false → begins_with_marker (unmarked (xs ++ ys)) ≡ false
   first_joined [] ys none others = others
   first_joined (x ∷ xs) ys none others = none
 
   -- a list with an item more at its end, where it has one already
-  pub first_pushed : (xs : List (Kept X)) (x : Kept X)
+  pub first_pushed : (xs : List (Entry X)) (x : Entry X)
       → 0 < length xs → begins_with_marker (unmarked xs) ≡ false
       → begins_with_marker (unmarked (xs ++ x ∷ [])) ≡ false
   first_pushed [] x some none = absurd (omega arith)
   first_pushed (y ∷ xs) x some none = none
 
   -- the callbacks of two lists together
-  pub calls_joined : (xs ys : List (Kept X))
+  pub calls_joined : (xs ys : List (Entry X))
       → length (callbacks (unmarked (xs ++ ys)))
       ≡ length (callbacks (unmarked xs)) + length (callbacks (unmarked ys))
   calls_joined xs ys =
@@ -94,20 +94,20 @@ module _ {X : Type 0} where
       length-append (callbacks (unmarked xs)) (callbacks (unmarked ys)))
 
   -- no more callbacks than items
-  pub calls_within : (xs : List (Kept X)) → length (callbacks (unmarked xs)) ≤ length xs
+  pub calls_within : (xs : List (Entry X)) → length (callbacks (unmarked xs)) ≤ length xs
   calls_within [] = omega arith
-  calls_within (kept.Call call ∷ xs) = let rest = calls_within xs in omega arith
-  calls_within (kept.Marker ∷ xs) = let rest = calls_within xs in omega arith
+  calls_within (entry.Call call ∷ xs) = let rest = calls_within xs in omega arith
+  calls_within (entry.Marker ∷ xs) = let rest = calls_within xs in omega arith
 
   -- a list that begins with a callback has one
-  pub calls_some : (xs : List (Kept X)) → 0 < length xs → begins_with_marker (unmarked xs) ≡ false →
-      0 < length (callbacks (unmarked xs))
+  pub calls_some : (xs : List (Entry X)) → 0 < length xs
+      → begins_with_marker (unmarked xs) ≡ false → 0 < length (callbacks (unmarked xs))
   calls_some [] some none = absurd (omega arith)
-  calls_some (kept.Call call ∷ xs) some none = omega arith
-  calls_some (kept.Marker ∷ xs) some none = absurd cc
+  calls_some (entry.Call call ∷ xs) some none = omega arith
+  calls_some (entry.Marker ∷ xs) some none = absurd cc
 
   -- a place before the end of a list that grows behind it
-  pub tail_kept : (xs ys : List (Kept X)) (tail : Tail) → IsTail xs tail → IsTail (xs ++ ys) tail
+  pub tail_kept : (xs ys : List (Entry X)) (tail : Tail) → IsTail xs tail → IsTail (xs ++ ys) tail
   tail_kept xs ys tail h =
       let long = length-append xs ys in
       let within = h.within in
@@ -120,7 +120,7 @@ module _ {X : Type 0} where
       }
 
   -- the end of a list is a place in it
-  pub tail_end : (xs : List (Kept X)) (tail : Tail) → tail.items ≡ length xs →
+  pub tail_end : (xs : List (Entry X)) (tail : Tail) → tail.items ≡ length xs →
       tail.calls ≡ length (callbacks (unmarked xs)) → IsTail xs tail
   tail_end xs tail items calls = record {
     within = omega arith;
@@ -130,7 +130,7 @@ module _ {X : Type 0} where
   }
 
   -- a list that lost its numbers is cut behind what is done alone
-  pub cut_lost : (xs : List (Kept X)) (d w r : ℕ) → d ≤ w → w ≤ r →
+  pub cut_lost : (xs : List (Entry X)) (d w r : ℕ) → d ≤ w → w ≤ r →
       Cuts xs (take d xs) [] [] (between d w xs ++ (between w r xs ++ drop r xs)) d d d
   cut_lost xs d w r first second = record {
     is_done = refl;
@@ -140,7 +140,7 @@ module _ {X : Type 0} where
   }
 
   -- its segments are as they have to be
-  pub segments_lost : (a b : ℕ) (D W R N : List (Kept X)) → AreSegments a b D W R N →
+  pub segments_lost : (a b : ℕ) (D W R N : List (Entry X)) → AreSegments a b D W R N →
       AreSegments a b D [] [] (W ++ (R ++ N))
   segments_lost a b D W R N h = record {
     filled = λ some. absurd (omega arith);
@@ -152,7 +152,7 @@ module _ {X : Type 0} where
   }
 
   -- cut after an advance to the first number
-  pub cut_one : (xs : List (Kept X)) (d w r : ℕ) → d ≤ w →
+  pub cut_one : (xs : List (Entry X)) (d w r : ℕ) → d ≤ w →
       Cuts xs (take d xs ++ between d w xs) (between w r xs) [] (drop r xs) w r r
   cut_one xs d w r first = record {
     is_done = sym (joins d w xs first);
@@ -161,7 +161,7 @@ module _ {X : Type 0} where
     is_next = refl;
   }
 
-  pub segments_one : (a b : ℕ) (D W R N : List (Kept X)) → AreSegments a b D W R N
+  pub segments_one : (a b : ℕ) (D W R N : List (Entry X)) → AreSegments a b D W R N
       → AreSegments b b (D ++ W) R [] N
   segments_one a b D W R N h =
       record {
@@ -174,7 +174,7 @@ module _ {X : Type 0} where
       }
 
   -- cut after an advance to both numbers
-  pub cut_both : (xs : List (Kept X)) (d w r : ℕ) → d ≤ w → w ≤ r →
+  pub cut_both : (xs : List (Entry X)) (d w r : ℕ) → d ≤ w → w ≤ r →
       Cuts xs (take d xs ++ (between d w xs ++ between w r xs)) [] [] (drop r xs) r r r
   cut_both xs d w r first second =
       record {
@@ -185,7 +185,7 @@ module _ {X : Type 0} where
         is_next = refl;
       }
 
-  pub segments_both : (a b : ℕ) (D W R N : List (Kept X)) → AreSegments a b D W R N →
+  pub segments_both : (a b : ℕ) (D W R N : List (Entry X)) → AreSegments a b D W R N →
       AreSegments a b (D ++ (W ++ R)) [] [] N
   segments_both a b D W R N h = record {
     filled = λ some. absurd (omega arith);
@@ -197,7 +197,7 @@ module _ {X : Type 0} where
   }
 
   -- items behind a list leave its places as they are
-  pub cut_more : (xs ys : List (Kept X)) (d w r : ℕ) → d ≤ w → w ≤ r → r ≤ length xs →
+  pub cut_more : (xs ys : List (Entry X)) (d w r : ℕ) → d ≤ w → w ≤ r → r ≤ length xs →
       Cuts (xs ++ ys) (take d xs) (between d w xs) (between w r xs) (drop r xs ++ ys) d w r
   cut_more xs ys d w r first second within =
       record {
@@ -208,7 +208,7 @@ module _ {X : Type 0} where
       }
 
   -- the last segment, with items that begin with no marker behind it
-  pub segments_more : (a b : ℕ) (D W R N ys : List (Kept X)) → AreSegments a b D W R N →
+  pub segments_more : (a b : ℕ) (D W R N ys : List (Entry X)) → AreSegments a b D W R N →
       begins_with_marker (unmarked (N ++ ys)) ≡ false → AreSegments a b D W R (N ++ ys)
   segments_more a b D W R N ys h none =
       record {
@@ -221,11 +221,11 @@ module _ {X : Type 0} where
       }
 
   -- a callback at the end
-  pub pushed : (xs : List (Kept X)) (call : Queued X) (done wait ready : Tail) (calls a b : ℕ)
+  pub pushed : (xs : List (Entry X)) (call : Queued X) (done wait ready : Tail) (calls a b : ℕ)
       → AreTails xs done wait ready calls a b
-      → AreTails (xs ++ kept.Call call ∷ []) done wait ready (calls + 1) a b
+      → AreTails (xs ++ entry.Call call ∷ []) done wait ready (calls + 1) a b
   pushed xs call done wait ready calls a b k =
-      let more = kept.Call call ∷ [] in
+      let more = entry.Call call ∷ [] in
       let counted = k.counted in
       let all = calls_joined xs more in
       record {
@@ -243,7 +243,7 @@ module _ {X : Type 0} where
       }
 
   -- cut where the third segment takes in the last one
-  pub cut_late : (xs : List (Kept X)) (d w r n : ℕ) → d ≤ w → w ≤ r → r ≤ length xs → n ≡ length xs
+  pub cut_late : (xs : List (Entry X)) (d w r n : ℕ) → d ≤ w → w ≤ r → r ≤ length xs → n ≡ length xs
       → Cuts xs (take d xs) (between d w xs) (between w r xs ++ drop r xs) [] d w n
   cut_late xs d w r n first second within end =
       record {
@@ -253,7 +253,7 @@ module _ {X : Type 0} where
         is_next = drop_all n xs (omega arith);
       }
 
-  pub segments_late : (a b snap : ℕ) (D W R N : List (Kept X))
+  pub segments_late : (a b snap : ℕ) (D W R N : List (Entry X))
       → AreSegments a b D W R N → 0 < length W → a < snap → AreSegments a snap D W (R ++ N) []
   segments_late a b snap D W R N h some below =
       record {
@@ -266,7 +266,8 @@ module _ {X : Type 0} where
       }
 
   -- cut where the second segment takes in both behind it
-  pub cut_early : (xs : List (Kept X)) (d w r n : ℕ) → d ≤ w → w ≤ r → r ≤ length xs → n ≡ length xs
+  pub cut_early : (xs : List (Entry X)) (d w r n : ℕ) → d ≤ w → w ≤ r → r ≤ length xs
+      → n ≡ length xs
       → Cuts xs (take d xs) (between d w xs ++ (between w r xs ++ drop r xs)) [] [] d n n
   cut_early xs d w r n first second within end =
       record {
@@ -277,7 +278,7 @@ module _ {X : Type 0} where
         is_next = drop_all n xs (omega arith);
       }
 
-  pub segments_early : (a b snap : ℕ) (D W R N : List (Kept X)) → AreSegments a b D W R N →
+  pub segments_early : (a b snap : ℕ) (D W R N : List (Entry X)) → AreSegments a b D W R N →
       AreSegments snap b D (W ++ (R ++ N)) [] []
   segments_early a b snap D W R N h = record {
     filled = λ some. absurd (omega arith);
@@ -289,33 +290,33 @@ module _ {X : Type 0} where
   }
 
   -- a marker at the end is no callback
-  pub calls_marked : (xs : List (Kept X)) →
-      length (callbacks (unmarked (xs ++ kept.Marker ∷ []))) ≡ length (callbacks (unmarked xs))
-  calls_marked xs = omega (arith, calls_joined xs (kept.Marker ∷ []))
+  pub calls_marked : (xs : List (Entry X)) →
+      length (callbacks (unmarked (xs ++ entry.Marker ∷ []))) ≡ length (callbacks (unmarked xs))
+  calls_marked xs = omega (arith, calls_joined xs (entry.Marker ∷ []))
 
   -- a place that is before the end stays where it is, and one at the end is behind the marker then
-  pub tail_passed : (xs : List (Kept X)) (n : ℕ) (tail after : Tail)
+  pub tail_passed : (xs : List (Entry X)) (n : ℕ) (tail after : Tail)
       → IsTail xs tail
       → n ≡ length xs
       → after.items ≡ (if tail.items == n then tail.items + 1 else tail.items)
       → after.calls ≡ tail.calls
-      → IsTail (xs ++ kept.Marker ∷ []) after
+      → IsTail (xs ++ entry.Marker ∷ []) after
   tail_passed xs n tail after k end items calls = elim (cases_eq tail.items n) [
     | inl same ↦
-        let long = length-append xs (kept.Marker ∷ []) in
+        let long = length-append xs (entry.Marker ∷ []) in
         let passed : after.items ≡ n + 1 = grind (arith, nat_tests) in
-        tail_end (xs ++ kept.Marker ∷ []) after (omega arith)
+        tail_end (xs ++ entry.Marker ∷ []) after (omega arith)
         (calls
         ∙ (k.calls
         ∙ (ap (λ l. length (callbacks (unmarked l))) (take_all tail.items xs (omega arith))
         ∙ sym (calls_marked xs))))
     | inr differ ↦
         let stays : after.items ≡ tail.items = grind (arith, nat_tests) in
-        tail_same (xs ++ kept.Marker ∷ []) tail after stays calls
-        (tail_kept xs (kept.Marker ∷ []) tail k)
+        tail_same (xs ++ entry.Marker ∷ []) tail after stays calls
+        (tail_kept xs (entry.Marker ∷ []) tail k)
   ]
     where
-      tail_same : (ys : List (Kept X)) (tail after : Tail)
+      tail_same : (ys : List (Entry X)) (tail after : Tail)
           → after.items ≡ tail.items → after.calls ≡ tail.calls → IsTail ys tail → IsTail ys after
       tail_same ys tail after items calls k =
           let within = k.within in
@@ -326,7 +327,7 @@ module _ {X : Type 0} where
           }
 
   -- what stands from a place to the end, with an item more there
-  pub from_pushed : (xs : List (Kept X)) (x : Kept X) (i j n : ℕ)
+  pub from_pushed : (xs : List (Entry X)) (x : Entry X) (i j n : ℕ)
       → i ≤ j → j ≡ length xs → n ≡ j + 1 → between i n (xs ++ x ∷ []) ≡ between i j xs ++ x ∷ []
   from_pushed xs x i j n order end after =
       let long = length-append xs (x ∷ []) in
@@ -335,7 +336,7 @@ module _ {X : Type 0} where
       ∙ ap (λ l. drop i l ++ x ∷ []) (sym (take_all j xs (omega arith))))
 
   -- what stands between places before the end
-  pub to_pushed : (xs : List (Kept X)) (x : Kept X) (i j n : ℕ) → j ≤ length xs → n ≡ j →
+  pub to_pushed : (xs : List (Entry X)) (x : Entry X) (i j n : ℕ) → j ≤ length xs → n ≡ j →
       between i n (xs ++ x ∷ []) ≡ between i j xs
   to_pushed xs x i j n within after =
       ap (λ k. between i k (xs ++ x ∷ [])) after ∙ ap (drop i) (take-append-le j xs (x ∷ []) within)

@@ -6,12 +6,12 @@ use Rattle.std.proofs.lemmas.List.{append-nil, length-map, map_push, take_all, d
 use Rattle.std.proofs.lemmas.List.{take-append-le}
 use Rattle.std.proofs.lemmas.Bool.Decides.{nat_tests}
 use Rattle.std.proofs.lemmas.Bool.{cases_eq}
-use Rattle.rcu_cblist.specs.declared.items.Kept.{Kept}
-use Rattle.rcu_cblist.specs.declared.items.Kept.TheVariants as kept
+use Rattle.rcu_cblist.specs.declared.items.Entry.{Entry}
+use Rattle.rcu_cblist.specs.declared.items.Entry.TheVariants as entry
 use Rattle.rcu_cblist.specs.declared.tail.Tail.{Tail}
 use Rattle.rcu_cblist.specs.SegList.{Item, Marker, Unmarked, Until, Done, after_entrain, is_empty}
 use Rattle.rcu_cblist.specs.SegList.{without_mark}
-use Rattle.rcu_cblist.specs.Kept.{item_of, marked, unmarked}
+use Rattle.rcu_cblist.specs.Entries.{item_of, marked, unmarked}
 use Rattle.rcu_cblist.specs.Cuts.{AreSegments, AreTails, between}
 use Rattle.rcu_cblist.specs.Segments.{joined}
 use Rattle.rcu_cblist.proofs.Cuts.{Cuts, calls_marked, cut_more, first_pushed, from_pushed}
@@ -37,39 +37,39 @@ module _ {X : Type 0} where
       ap (λ l. P ++ l) (append_assoc Q (S ++ T) M ∙ ap (λ l. Q ++ l) (append_assoc S T M))
 
   -- a marker at the end of the last, the third, the second, and the first
-  pub end_next : (a b : ℕ) (D W R N : List (Kept X))
-      → joined a b D W R (N ++ kept.Marker ∷ []) ≡ joined a b D W R N ++ Marker ∷ []
+  pub end_next : (a b : ℕ) (D W R N : List (Entry X))
+      → joined a b D W R (N ++ entry.Marker ∷ []) ≡ joined a b D W R N ++ Marker ∷ []
   end_next a b D W R N =
       sym (behind_four (marked Done D) (marked (Until a) W) (marked (Until b) R) (unmarked N)
       (Marker ∷ [])
       ∙ ap (λ l. marked Done D ++ (marked (Until a) W ++ (marked (Until b) R ++ l)))
-      (sym (map_push (item_of Unmarked) N kept.Marker)))
+      (sym (map_push (item_of Unmarked) N entry.Marker)))
 
-  end_ready : (a b : ℕ) (D W R : List (Kept X))
-      → joined a b D W (R ++ kept.Marker ∷ []) [] ≡ joined a b D W R [] ++ Marker ∷ []
+  end_ready : (a b : ℕ) (D W R : List (Entry X))
+      → joined a b D W (R ++ entry.Marker ∷ []) [] ≡ joined a b D W R [] ++ Marker ∷ []
   end_ready a b D W R =
       sym (behind_four (marked Done D) (marked (Until a) W) (marked (Until b) R) [] (Marker ∷ [])
       ∙ ap (λ l. marked Done D ++ (marked (Until a) W ++ l))
-      (sym (map_push (item_of (Until b)) R kept.Marker)
-      ∙ sym (append-nil (marked (Until b) (R ++ kept.Marker ∷ [])))))
+      (sym (map_push (item_of (Until b)) R entry.Marker)
+      ∙ sym (append-nil (marked (Until b) (R ++ entry.Marker ∷ [])))))
 
-  end_wait : (a b : ℕ) (D W : List (Kept X))
-      → joined a b D (W ++ kept.Marker ∷ []) [] [] ≡ joined a b D W [] [] ++ Marker ∷ []
+  end_wait : (a b : ℕ) (D W : List (Entry X))
+      → joined a b D (W ++ entry.Marker ∷ []) [] [] ≡ joined a b D W [] [] ++ Marker ∷ []
   end_wait a b D W =
       sym (behind_four (marked Done D) (marked (Until a) W) [] [] (Marker ∷ [])
       ∙ ap (λ l. marked Done D ++ l)
-      (sym (map_push (item_of (Until a)) W kept.Marker)
-      ∙ sym (append-nil (marked (Until a) (W ++ kept.Marker ∷ [])))))
+      (sym (map_push (item_of (Until a)) W entry.Marker)
+      ∙ sym (append-nil (marked (Until a) (W ++ entry.Marker ∷ [])))))
 
-  end_done : (a b : ℕ) (D : List (Kept X))
-      → joined a b (D ++ kept.Marker ∷ []) [] [] [] ≡ joined a b D [] [] [] ++ Marker ∷ []
+  end_done : (a b : ℕ) (D : List (Entry X))
+      → joined a b (D ++ entry.Marker ∷ []) [] [] [] ≡ joined a b D [] [] [] ++ Marker ∷ []
   end_done a b D =
       sym (behind_four (marked Done D) [] [] [] (Marker ∷ [])
-      ∙ (sym (map_push (item_of Done) D kept.Marker)
-      ∙ sym (append-nil (marked Done (D ++ kept.Marker ∷ [])))))
+      ∙ (sym (map_push (item_of Done) D entry.Marker)
+      ∙ sym (append-nil (marked Done (D ++ entry.Marker ∷ [])))))
 
   -- the segments once a marker is at the end: as they have to be, and seen with it at the end
-  pub record Marked (a b : ℕ) (xs ys : List (Kept X)) (d w r d' w' r' : ℕ) : Type 0 where
+  pub record Marked (a b : ℕ) (xs ys : List (Entry X)) (d w r d' w' r' : ℕ) : Type 0 where
     pub segments : AreSegments a b (take d' ys) (between d' w' ys) (between w' r' ys) (drop r' ys)
     pub seen : joined a b (take d' ys) (between d' w' ys) (between w' r' ys) (drop r' ys)
         ≡ joined a b (take d xs) (between d w xs) (between w r xs) (drop r xs) ++ Marker ∷ []
@@ -77,7 +77,7 @@ module _ {X : Type 0} where
     pub ready_behind : w' ≤ r'
 
   -- from the cuts before and after
-  marked_from : (a b : ℕ) (xs ys D W R N D' W' R' N' : List (Kept X)) (d w r d' w' r' : ℕ)
+  marked_from : (a b : ℕ) (xs ys D W R N D' W' R' N' : List (Entry X)) (d w r d' w' r' : ℕ)
       → Cuts xs D W R N d w r
       → Cuts ys D' W' R' N' d' w' r'
       → AreSegments a b D' W' R' N'
@@ -94,14 +94,14 @@ module _ {X : Type 0} where
         ready_behind = second;
       }
 
-  module _ (a b : ℕ) (xs : List (Kept X)) (d w r d' w' r' n : ℕ)
+  module _ (a b : ℕ) (xs : List (Entry X)) (d w r d' w' r' n : ℕ)
       (h : AreSegments a b (take d xs) (between d w xs) (between w r xs) (drop r xs))
       (first : d ≤ w) (second : w ≤ r) (third : r ≤ n) (end : n ≡ length xs)
       (done : d' ≡ (if d == n then d + 1 else d)) (wait : w' ≡ (if w == n then w + 1 else w))
       (ready : r' ≡ (if r == n then r + 1 else r)) where
     -- the list with the marker
-    abbrev more : List (Kept X)
-    more = xs ++ kept.Marker ∷ []
+    abbrev more : List (Entry X)
+    more = xs ++ entry.Marker ∷ []
 
     marked_next : r < n → Marked a b xs more d w r d' w' r'
     marked_next some =
@@ -112,14 +112,14 @@ module _ {X : Type 0} where
         marked_from a b xs more _ _ _ _ _ _ _ _ d w r d' w' r'
         (record { is_done = refl; is_wait = refl; is_ready = refl; is_next = refl })
         (rw (same_done, same_wait, same_ready)
-        (cut_more xs (kept.Marker ∷ []) d w r first second (omega arith)))
+        (cut_more xs (entry.Marker ∷ []) d w r first second (omega arith)))
         (record {
           filled = h.filled;
           ascending = h.ascending;
           done_first = h.done_first;
           wait_first = h.wait_first;
           ready_first = h.ready_first;
-          next_first = first_pushed (drop r xs) kept.Marker (omega arith) h.next_first;
+          next_first = first_pushed (drop r xs) entry.Marker (omega arith) h.next_first;
         })
         (end_next a b (take d xs) (between d w xs) (between w r xs) (drop r xs)) (omega arith)
         (omega arith)
@@ -131,9 +131,9 @@ module _ {X : Type 0} where
         let more_ready = passed n r r' ready at in
         let long = length_between w r xs (omega arith) in
         let has : 0 < length (between w r xs) = omega arith in
-        let all = length-append xs (kept.Marker ∷ []) in
+        let all = length-append xs (entry.Marker ∷ []) in
         marked_from a b xs more (take d xs) (between d w xs) (between w r xs) [] (take d xs)
-        (between d w xs) (between w r xs ++ kept.Marker ∷ []) [] d w r d' w' r'
+        (between d w xs) (between w r xs ++ entry.Marker ∷ []) [] d w r d' w' r'
         (record {
           is_done = refl;
           is_wait = refl;
@@ -143,13 +143,13 @@ module _ {X : Type 0} where
         (record {
           is_done =
               ap (λ k. take k more) same_done
-              ∙ take-append-le d xs (kept.Marker ∷ []) (omega arith);
+              ∙ take-append-le d xs (entry.Marker ∷ []) (omega arith);
           is_wait =
               ap (λ k. between k w' more) same_done
-              ∙ to_pushed xs kept.Marker d w w' (omega arith) same_wait;
+              ∙ to_pushed xs entry.Marker d w w' (omega arith) same_wait;
           is_ready =
               ap (λ k. between k r' more) same_wait
-              ∙ from_pushed xs kept.Marker w r r' second (omega arith) (omega arith);
+              ∙ from_pushed xs entry.Marker w r r' second (omega arith) (omega arith);
           is_next = drop_all r' more (omega arith);
         })
         (record {
@@ -157,7 +157,7 @@ module _ {X : Type 0} where
           ascending = λ _. h.ascending has;
           done_first = h.done_first;
           wait_first = h.wait_first;
-          ready_first = first_pushed (between w r xs) kept.Marker has h.ready_first;
+          ready_first = first_pushed (between w r xs) entry.Marker has h.ready_first;
           next_first = refl;
         })
         (end_ready a b (take d xs) (between d w xs) (between w r xs)) (omega arith) (omega arith)
@@ -168,9 +168,9 @@ module _ {X : Type 0} where
         let more_wait = passed n w w' wait at in
         let more_ready = passed n r r' ready (omega arith) in
         let long = length_between d w xs (omega arith) in
-        let all = length-append xs (kept.Marker ∷ []) in
+        let all = length-append xs (entry.Marker ∷ []) in
         marked_from a b xs more (take d xs) (between d w xs) [] [] (take d xs)
-        (between d w xs ++ kept.Marker ∷ []) [] [] d w r d' w' r'
+        (between d w xs ++ entry.Marker ∷ []) [] [] d w r d' w' r'
         (record {
           is_done = refl;
           is_wait = refl;
@@ -180,10 +180,10 @@ module _ {X : Type 0} where
         (record {
           is_done =
               ap (λ k. take k more) same_done
-              ∙ take-append-le d xs (kept.Marker ∷ []) (omega arith);
+              ∙ take-append-le d xs (entry.Marker ∷ []) (omega arith);
           is_wait =
               ap (λ k. between k w' more) same_done
-              ∙ from_pushed xs kept.Marker d w w' first (omega arith) (omega arith);
+              ∙ from_pushed xs entry.Marker d w w' first (omega arith) (omega arith);
           is_ready = drop_all w' (take r' more) (omega (arith, length-take r' more));
           is_next = drop_all r' more (omega arith);
         })
@@ -191,7 +191,7 @@ module _ {X : Type 0} where
           filled = λ none. absurd (omega arith);
           ascending = λ none. absurd (omega arith);
           done_first = h.done_first;
-          wait_first = first_pushed (between d w xs) kept.Marker (omega arith) h.wait_first;
+          wait_first = first_pushed (between d w xs) entry.Marker (omega arith) h.wait_first;
           ready_first = refl;
           next_first = refl;
         })
@@ -202,9 +202,9 @@ module _ {X : Type 0} where
         let more_done = passed n d d' done at in
         let more_wait = passed n w w' wait (omega arith) in
         let more_ready = passed n r r' ready (omega arith) in
-        let all = length-append xs (kept.Marker ∷ []) in
+        let all = length-append xs (entry.Marker ∷ []) in
         let long = length-take d xs in
-        marked_from a b xs more (take d xs) [] [] [] (take d xs ++ kept.Marker ∷ []) [] [] [] d w r
+        marked_from a b xs more (take d xs) [] [] [] (take d xs ++ entry.Marker ∷ []) [] [] [] d w r
         d' w' r'
         (record {
           is_done = refl;
@@ -215,7 +215,7 @@ module _ {X : Type 0} where
         (record {
           is_done =
               take_all d' more (omega arith)
-              ∙ ap (λ l. l ++ kept.Marker ∷ []) (sym (take_all d xs (omega arith)));
+              ∙ ap (λ l. l ++ entry.Marker ∷ []) (sym (take_all d xs (omega arith)));
           is_wait = drop_all d' (take w' more) (omega (arith, length-take w' more));
           is_ready = drop_all w' (take r' more) (omega (arith, length-take r' more));
           is_next = drop_all r' more (omega arith);
@@ -223,7 +223,7 @@ module _ {X : Type 0} where
         (record {
           filled = λ none. absurd (omega arith);
           ascending = λ none. absurd (omega arith);
-          done_first = first_pushed (take d xs) kept.Marker (omega arith) h.done_first;
+          done_first = first_pushed (take d xs) entry.Marker (omega arith) h.done_first;
           wait_first = refl;
           ready_first = refl;
           next_first = refl;
@@ -245,7 +245,7 @@ module _ {X : Type 0} where
         ]
 
   -- a marker at the end
-  pub push_marked : (a b calls n : ℕ) (xs : List (Kept X))
+  pub push_marked : (a b calls n : ℕ) (xs : List (Entry X))
       (done wait ready done' wait' ready' : Tail)
       → AreTails xs done wait ready calls a b
       → n ≡ length xs
@@ -256,8 +256,8 @@ module _ {X : Type 0} where
       → wait'.calls ≡ wait.calls
       → ready'.items ≡ (if ready.items == n then ready.items + 1 else ready.items)
       → ready'.calls ≡ ready.calls
-      → AreTails (xs ++ kept.Marker ∷ []) done' wait' ready' calls a b
-      × Marked a b xs (xs ++ kept.Marker ∷ []) done.items wait.items ready.items done'.items
+      → AreTails (xs ++ entry.Marker ∷ []) done' wait' ready' calls a b
+      × Marked a b xs (xs ++ entry.Marker ∷ []) done.items wait.items ready.items done'.items
       wait'.items ready'.items
   push_marked a b calls n xs done wait ready done' wait' ready' k end some d dc w wc r rc =
       let within = k.ready_tail.within in
@@ -276,7 +276,7 @@ module _ {X : Type 0} where
       )
 
   -- where an item is seen, one is kept
-  pub some_kept : (a b d w r : ℕ) (xs : List (Kept X))
+  pub some_kept : (a b d w r : ℕ) (xs : List (Entry X))
       → d ≤ w
       → w ≤ r
       → is_empty (joined a b (take d xs) (between d w xs) (between w r xs) (drop r xs)) ≡ false

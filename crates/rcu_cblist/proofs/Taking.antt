@@ -6,12 +6,12 @@ use Rattle.std.proofs.lemmas.List.{drop-append-le, drop-drop, drop-map, drop-tak
 use Rattle.std.proofs.lemmas.List.{take-append-drop, take-take}
 use Rattle.std.proofs.lemmas.Bool.Decides.{nat_tests}
 use mir.Val.{bool_byte}
-use Rattle.rcu_cblist.specs.declared.items.Kept.{Kept}
+use Rattle.rcu_cblist.specs.declared.items.Entry.{Entry}
 use Rattle.rcu_cblist.specs.declared.tail.Tail.{Tail}
 use Rattle.rcu_cblist.specs.SegList.{Item, Mark, Of, Marker, Unmarked, Until, Done, after_take}
 use Rattle.rcu_cblist.specs.SegList.{as_it_leaves, begins_with_marker, callbacks, from_callback}
 use Rattle.rcu_cblist.specs.SegList.{front, is_empty, markers, remarked, without_mark}
-use Rattle.rcu_cblist.specs.Kept.{item_of, marked, unmarked}
+use Rattle.rcu_cblist.specs.Entries.{item_of, marked, unmarked}
 use Rattle.rcu_cblist.specs.declared.segments.Segments.{Segments}
 use Rattle.rcu_cblist.specs.Cuts.{AreSegments, AreTails, IsTail, between}
 use Rattle.rcu_cblist.specs.Segments.{joined, seen}
@@ -50,7 +50,7 @@ module _ {X : Type 0} where
   passed_length (suc n) (Of call mark ∷ xs) = let rest = passed_length n xs in omega arith
 
   -- a place has no more callbacks before it than one behind it
-  pub calls_order : (xs : List (Kept X)) (tail behind : Tail) → IsTail xs tail → IsTail xs behind
+  pub calls_order : (xs : List (Entry X)) (tail behind : Tail) → IsTail xs tail → IsTail xs behind
       → tail.items ≤ behind.items →
       tail.calls ≤ behind.calls
   calls_order xs tail behind k h order =
@@ -62,7 +62,7 @@ module _ {X : Type 0} where
       omega arith
 
   -- and no more than the list has
-  pub calls_all : (xs : List (Kept X)) (tail : Tail) → IsTail xs tail
+  pub calls_all : (xs : List (Entry X)) (tail : Tail) → IsTail xs tail
       → tail.calls ≤ length (callbacks (unmarked xs))
   calls_all xs tail k =
       let counted = k.calls in
@@ -71,13 +71,13 @@ module _ {X : Type 0} where
       omega arith
 
   -- the first part of a list begins as the list does
-  first_part : (xs ys : List (Kept X)) → begins_with_marker (unmarked (xs ++ ys)) ≡ false →
+  first_part : (xs ys : List (Entry X)) → begins_with_marker (unmarked (xs ++ ys)) ≡ false →
       begins_with_marker (unmarked xs) ≡ false
   first_part [] ys none = refl
   first_part (x ∷ xs) ys none = none
 
   -- the callbacks of a done part
-  pub calls_done : (a b : ℕ) (D W R N : List (Kept X)) → AreSegments a b D W R N →
+  pub calls_done : (a b : ℕ) (D W R N : List (Entry X)) → AreSegments a b D W R N →
       length (callbacks (front (joined a b D W R N))) ≡ length (callbacks (unmarked D))
   calls_done a b D W R N h =
       ap (λ l. length (callbacks l)) (front_joined a b D W R N h)
@@ -85,7 +85,7 @@ module _ {X : Type 0} where
       (sym (callbacks_remarked (λ _. Unmarked) (marked Done D))
       ∙ ap callbacks (marked_remarked (λ _. Unmarked) Done D))
 
-  module _ (a b : ℕ) (xs : List (Kept X)) (done wait ready : Tail) (calls : ℕ)
+  module _ (a b : ℕ) (xs : List (Entry X)) (done wait ready : Tail) (calls : ℕ)
       (k : AreTails xs done wait ready calls a b) where
     -- the list that is seen
     abbrev now : List (Item X)
@@ -134,7 +134,7 @@ module _ {X : Type 0} where
         sym (first_remarked (λ _. Unmarked) now) ∙ (ap begins_with_marker now_stripped ∙ kept_first)
 
     -- once so many callbacks of the done part and the markers before the next one are gone
-    module _ (most gone : ℕ) (ys : List (Kept X)) (few : most ≤ done.calls)
+    module _ (most gone : ℕ) (ys : List (Entry X)) (few : most ≤ done.calls)
         (rest : ys ≡ drop gone xs) (sized : gone + length ys ≡ length xs)
         (from : unmarked ys ≡ from_callback most (unmarked xs)) where
       -- so many callbacks are gone
@@ -317,7 +317,7 @@ module _ {X : Type 0} where
     pub of_ready : most ≤ s.ready.calls
     pub of_all : most ≤ s.calls
 
-  pub falls : (s : Segments X) (most gone : ℕ) (ys : List (Kept X)) → most ≤ s.done.calls →
+  pub falls : (s : Segments X) (most gone : ℕ) (ys : List (Entry X)) → most ≤ s.done.calls →
       ys ≡ drop gone s.items.items → gone + length ys ≡ length s.items.items →
       unmarked ys ≡ from_callback most (unmarked s.items.items) → Falls s most gone
   falls s most gone ys few rest sized from =

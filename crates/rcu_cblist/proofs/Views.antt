@@ -8,14 +8,14 @@ use Rattle.std.proofs.lemmas.List.Elements.{All-nil, All-cons, All-head, All-tai
 use Rattle.std.proofs.lemmas.Bool.Decides.{nat_tests}
 use Rattle.std.proofs.lemmas.Bool.{cases_Bool}
 use Rattle.rcu_seq.specs.Numbers.{Number}
-use Rattle.rcu_cblist.specs.declared.items.Kept.{Kept}
-use Rattle.rcu_cblist.specs.declared.items.Kept.TheVariants as kept
+use Rattle.rcu_cblist.specs.declared.items.Entry.{Entry}
+use Rattle.rcu_cblist.specs.declared.items.Entry.TheVariants as entry
 use Rattle.rcu_cblist.specs.SegList.{Item, Mark, Of, Marker, Unmarked, Until, Done, IsAtMost}
 use Rattle.rcu_cblist.specs.SegList.{after_accelerate, after_advance, after_renumber, behind}
 use Rattle.rcu_cblist.specs.SegList.{begins_with_marker, front, front_with, greatest, has_other}
 use Rattle.rcu_cblist.specs.SegList.{has_two, mark_advanced, mark_given, mark_renumbered, numbered}
 use Rattle.rcu_cblist.specs.SegList.{numbers, past_numbered, remarked, segments, without_mark}
-use Rattle.rcu_cblist.specs.Kept.{item_of, marked, unmarked}
+use Rattle.rcu_cblist.specs.Entries.{item_of, marked, unmarked}
 use Rattle.rcu_cblist.specs.Cuts.{AreSegments}
 use Rattle.rcu_cblist.specs.Segments.{joined}
 use Rattle.rcu_cblist.proofs.SegListLemmas.{no_two, numbers_append}
@@ -90,19 +90,19 @@ fold_joined most (m ∷ ms) ns = fold_joined (max most m) ms ns
 module _ {X : Type 0} where
   -- four lists one behind another, each under its mark
   abbrev pub each_under : Mark
-      → Mark → Mark → Mark → List (Kept X) → List (Kept X) → List (Kept X) → List (Kept X)
+      → Mark → Mark → Mark → List (Entry X) → List (Entry X) → List (Entry X) → List (Entry X)
       → List (Item X)
   each_under m n o p D W R N = marked m D ++ (marked n W ++ (marked o R ++ marked p N))
 
   -- a change of marks, list by list
-  pub marked_remarked : (change : Mark → Mark) (m : Mark) (xs : List (Kept X)) →
+  pub marked_remarked : (change : Mark → Mark) (m : Mark) (xs : List (Entry X)) →
       map (remarked change) (marked m xs) ≡ marked (change m) xs
   marked_remarked change m [] = refl
-  marked_remarked change m (kept.Call call ∷ xs) =
+  marked_remarked change m (entry.Call call ∷ xs) =
       ap (λ l. Of call (change m) ∷ l) (marked_remarked change m xs)
-  marked_remarked change m (kept.Marker ∷ xs) = ap (λ l. Marker ∷ l) (marked_remarked change m xs)
+  marked_remarked change m (entry.Marker ∷ xs) = ap (λ l. Marker ∷ l) (marked_remarked change m xs)
 
-  pub under_remarked : (change : Mark → Mark) (m n o p : Mark) (D W R N : List (Kept X)) →
+  pub under_remarked : (change : Mark → Mark) (m n o p : Mark) (D W R N : List (Entry X)) →
       map (remarked change) (each_under m n o p D W R N)
       ≡ each_under (change m) (change n) (change o) (change p) D W R N
   under_remarked change m n o p D W R N =
@@ -117,13 +117,13 @@ module _ {X : Type 0} where
       ) refl
 
   -- the mark of an empty list means nothing
-  marked_same : (m n : Mark) (xs : List (Kept X)) → (0 < length xs → m ≡ n)
+  marked_same : (m n : Mark) (xs : List (Entry X)) → (0 < length xs → m ≡ n)
       → marked m xs ≡ marked n xs
   marked_same m n [] same = refl
   marked_same m n (x ∷ xs) same = ap (λ k. marked k (x ∷ xs)) (same (omega arith))
 
   -- the two in the middle, under other marks where they have items
-  pub under_same : (n o n' o' p : Mark) (D W R N : List (Kept X))
+  pub under_same : (n o n' o' p : Mark) (D W R N : List (Entry X))
       → (0 < length W → n ≡ n') → (0 < length R → o ≡ o')
       → each_under Done n o p D W R N ≡ each_under Done n' o' p D W R N
   under_same n o n' o' p D W R N first second =
@@ -131,14 +131,14 @@ module _ {X : Type 0} where
       ap (λ l. marked Done D ++ (marked n' W ++ (l ++ marked p N))) (marked_same o o' R second)
 
   -- the first two under one mark
-  pub first_two : (m o p : Mark) (D W R N : List (Kept X)) →
+  pub first_two : (m o p : Mark) (D W R N : List (Entry X)) →
       each_under m m o p D W R N ≡ each_under m o Unmarked p (D ++ W) R [] N
   first_two m o p D W R N =
       sym (append_assoc (marked m D) (marked m W) (marked o R ++ marked p N)) ∙
       ap (λ l. l ++ (marked o R ++ marked p N)) (sym (map-append (item_of m) D W))
 
   -- the list without marks is that of all items
-  pub stripped : (a b : Number) (D W R N : List (Kept X)) →
+  pub stripped : (a b : Number) (D W R N : List (Entry X)) →
       map without_mark (joined a b D W R N) ≡ unmarked (D ++ (W ++ (R ++ N)))
   stripped a b D W R N =
       under_remarked (λ _. Unmarked) Done (Until a) (Until b) Unmarked D W R N ∙
@@ -147,7 +147,7 @@ module _ {X : Type 0} where
       sym (map-append (item_of Unmarked) D (W ++ (R ++ N)))))
 
   -- an advance that reaches no number
-  pub advanced_none : (v a b : Number) (D W R N : List (Kept X))
+  pub advanced_none : (v a b : Number) (D W R N : List (Entry X))
       → AreSegments a b D W R N → (0 < length W → v < a)
       → joined a b D W R N ≡ after_advance (joined a b D W R N) v
   advanced_none v a b D W R N h before =
@@ -159,7 +159,7 @@ module _ {X : Type 0} where
       later some = let lower = before (h.filled some) in let order = h.ascending some in omega arith
 
   -- an advance that reaches the first number alone
-  pub advanced_one : (v a b : Number) (D W R N : List (Kept X)) → a ≤ v → (0 < length R → v < b) →
+  pub advanced_one : (v a b : Number) (D W R N : List (Entry X)) → a ≤ v → (0 < length R → v < b) →
       joined b b (D ++ W) R [] N ≡ after_advance (joined a b D W R N) v
   advanced_one v a b D W R N least before =
       sym (under_remarked (mark_advanced v) Done (Until a) (Until b) Unmarked D W R N
@@ -168,7 +168,7 @@ module _ {X : Type 0} where
       ∙ first_two Done (Until b) Unmarked D W R N))
 
   -- an advance that reaches both
-  pub advanced_both : (v a b : Number) (D W R N : List (Kept X)) → a ≤ v → b ≤ v →
+  pub advanced_both : (v a b : Number) (D W R N : List (Entry X)) → a ≤ v → b ≤ v →
       joined a b (D ++ (W ++ R)) [] [] N ≡ after_advance (joined a b D W R N) v
   advanced_both v a b D W R N least least_too =
       sym (under_remarked (mark_advanced v) Done (Until a) (Until b) Unmarked D W R N ∙
@@ -178,57 +178,57 @@ module _ {X : Type 0} where
       ap (λ l. marked Done l ++ unmarked N) (append_assoc D W R)))))
 
   -- behind the done part stands a callback that waits, or nothing
-  waits_behind : (a b : Number) (D W R N : List (Kept X)) → AreSegments a b D W R N →
+  waits_behind : (a b : Number) (D W R N : List (Entry X)) → AreSegments a b D W R N →
       (front (marked (Until a) W ++ (marked (Until b) R ++ unmarked N)) ≡ [])
       × (behind (marked (Until a) W ++ (marked (Until b) R ++ unmarked N))
       ≡ marked (Until a) W ++ (marked (Until b) R ++ unmarked N))
-  waits_behind a b D (kept.Call call ∷ W) R N h = (refl, refl)
-  waits_behind a b D (kept.Marker ∷ W) R N h = let first = h.wait_first in absurd cc
+  waits_behind a b D (entry.Call call ∷ W) R N h = (refl, refl)
+  waits_behind a b D (entry.Marker ∷ W) R N h = let first = h.wait_first in absurd cc
   waits_behind a b D [] (x ∷ R) N h = absurd (let some = h.filled (omega arith) in omega arith)
   waits_behind a b D [] [] [] h = (refl, refl)
-  waits_behind a b D [] [] (kept.Call call ∷ N) h = (refl, refl)
-  waits_behind a b D [] [] (kept.Marker ∷ N) h = let first = h.next_first in absurd cc
+  waits_behind a b D [] [] (entry.Call call ∷ N) h = (refl, refl)
+  waits_behind a b D [] [] (entry.Marker ∷ N) h = let first = h.next_first in absurd cc
 
-  front_done : (D : List (Kept X)) (ys : List (Item X))
+  front_done : (D : List (Entry X)) (ys : List (Item X))
       → front (marked Done D ++ ys) ≡ marked Done D ++ front ys
   front_done [] ys = refl
-  front_done (kept.Call call ∷ D) ys = ap (λ l. Of call Done ∷ l) (front_done D ys)
-  front_done (kept.Marker ∷ D) ys = ap (λ l. Marker ∷ l) (front_done D ys)
+  front_done (entry.Call call ∷ D) ys = ap (λ l. Of call Done ∷ l) (front_done D ys)
+  front_done (entry.Marker ∷ D) ys = ap (λ l. Marker ∷ l) (front_done D ys)
 
-  behind_done : (D : List (Kept X)) (ys : List (Item X)) → behind (marked Done D ++ ys) ≡ behind ys
+  behind_done : (D : List (Entry X)) (ys : List (Item X)) → behind (marked Done D ++ ys) ≡ behind ys
   behind_done [] ys = refl
-  behind_done (kept.Call call ∷ D) ys = behind_done D ys
-  behind_done (kept.Marker ∷ D) ys = behind_done D ys
+  behind_done (entry.Call call ∷ D) ys = behind_done D ys
+  behind_done (entry.Marker ∷ D) ys = behind_done D ys
 
   -- the done part is the first list
-  pub front_joined : (a b : Number) (D W R N : List (Kept X)) → AreSegments a b D W R N →
+  pub front_joined : (a b : Number) (D W R N : List (Entry X)) → AreSegments a b D W R N →
       front (joined a b D W R N) ≡ marked Done D
   front_joined a b D W R N h =
       front_done D (marked (Until a) W ++ (marked (Until b) R ++ unmarked N)) ∙
       (ap (λ l. marked Done D ++ l) (waits_behind a b D W R N h).0 ∙ append-nil (marked Done D))
 
   -- and what is behind it the others
-  pub behind_joined : (a b : Number) (D W R N : List (Kept X)) → AreSegments a b D W R N →
+  pub behind_joined : (a b : Number) (D W R N : List (Entry X)) → AreSegments a b D W R N →
       behind (joined a b D W R N) ≡ marked (Until a) W ++ (marked (Until b) R ++ unmarked N)
   behind_joined a b D W R N h =
       behind_done D (marked (Until a) W ++ (marked (Until b) R ++ unmarked N))
       ∙ (waits_behind a b D W R N h).1
 
   -- without marks, they are one list
-  pub behind_stripped : (a b : Number) (D W R N : List (Kept X)) → AreSegments a b D W R N →
+  pub behind_stripped : (a b : Number) (D W R N : List (Entry X)) → AreSegments a b D W R N →
       map without_mark (behind (joined a b D W R N)) ≡ unmarked (W ++ (R ++ N))
   behind_stripped a b D W R N h =
       ap (map without_mark) (behind_joined a b D W R N h) ∙ stripped a b [] W R N
 
   -- a list that lost its numbers
-  pub lost : (a b : Number) (D W R N : List (Kept X))
+  pub lost : (a b : Number) (D W R N : List (Entry X))
       → AreSegments a b D W R N
       → joined a b D [] [] (W ++ (R ++ N))
       ≡ front (joined a b D W R N) ++ map without_mark (behind (joined a b D W R N))
   lost a b D W R N h = rw (front_joined a b D W R N h, behind_stripped a b D W R N h) refl
 
   -- that is the list with each number taken away
-  pub renumbered : (a b : Number) (D W R N : List (Kept X)) →
+  pub renumbered : (a b : Number) (D W R N : List (Entry X)) →
       joined a b D [] [] (W ++ (R ++ N)) ≡ after_renumber (joined a b D W R N)
   renumbered a b D W R N =
       ap (λ l. marked Done D ++ l)
@@ -237,7 +237,7 @@ module _ {X : Type 0} where
       ∙ sym (under_remarked mark_renumbered Done (Until a) (Until b) Unmarked D W R N)
 
   -- the numbers of a list under one mark
-  pub numbers_joined : (a b : Number) (D W R N : List (Kept X)) →
+  pub numbers_joined : (a b : Number) (D W R N : List (Entry X)) →
       numbers (joined a b D W R N) ≡ numbers (marked (Until a) W) ++ numbers (marked (Until b) R)
   numbers_joined a b D W R N =
       rw (
@@ -249,35 +249,35 @@ module _ {X : Type 0} where
         append-nil (numbers (marked (Until b) R)),
       ) refl
     where
-      numbers_done : (D : List (Kept X)) → numbers (marked Done D) ≡ []
+      numbers_done : (D : List (Entry X)) → numbers (marked Done D) ≡ []
       numbers_done [] = refl
-      numbers_done (kept.Call call ∷ D) = numbers_done D
-      numbers_done (kept.Marker ∷ D) = numbers_done D
+      numbers_done (entry.Call call ∷ D) = numbers_done D
+      numbers_done (entry.Marker ∷ D) = numbers_done D
 
-      numbers_next : (N : List (Kept X)) → numbers (unmarked N) ≡ []
+      numbers_next : (N : List (Entry X)) → numbers (unmarked N) ≡ []
       numbers_next [] = refl
-      numbers_next (kept.Call call ∷ N) = numbers_next N
-      numbers_next (kept.Marker ∷ N) = numbers_next N
+      numbers_next (entry.Call call ∷ N) = numbers_next N
+      numbers_next (entry.Marker ∷ N) = numbers_next N
 
   -- where a segment has items its number stands first, and then nothing but it
-  pub numbers_led : (a : Number) (W : List (Kept X))
+  pub numbers_led : (a : Number) (W : List (Entry X))
       → 0 < length W → begins_with_marker (unmarked W) ≡ false
       → numbers (marked (Until a) W) ≡ a ∷ numbers (marked (Until a) (drop 1 W))
   numbers_led a [] some none = absurd (omega arith)
-  numbers_led a (kept.Call call ∷ W) some none = refl
-  numbers_led a (kept.Marker ∷ W) some none = absurd cc
+  numbers_led a (entry.Call call ∷ W) some none = refl
+  numbers_led a (entry.Marker ∷ W) some none = absurd cc
 
   -- a segment has its number alone
-  pub numbers_same : (P : Number → Type 0) (a : Number) (W : List (Kept X)) → (0 < length W → P a) →
-      All P (numbers (marked (Until a) W))
+  pub numbers_same : (P : Number → Type 0) (a : Number) (W : List (Entry X))
+      → (0 < length W → P a) → All P (numbers (marked (Until a) W))
   numbers_same P a [] holds = All-nil P
-  numbers_same P a (kept.Call call ∷ W) holds =
+  numbers_same P a (entry.Call call ∷ W) holds =
       All-cons P a (numbers (marked (Until a) W)) (holds (omega arith))
       (numbers_same P a W (λ some. holds (omega arith)))
-  numbers_same P a (kept.Marker ∷ W) holds = numbers_same P a W (λ some. holds (omega arith))
+  numbers_same P a (entry.Marker ∷ W) holds = numbers_same P a W (λ some. holds (omega arith))
 
   -- where the numbers are at most the snapshot, those of segments with items are
-  pub most_wait : (snap a b : Number) (D W R N : List (Kept X)) → AreSegments a b D W R N →
+  pub most_wait : (snap a b : Number) (D W R N : List (Entry X)) → AreSegments a b D W R N →
       IsAtMost snap (joined a b D W R N) → 0 < length W → a ≤ snap
   most_wait snap a b D W R N h most some =
       let all : All (λ n. n ≤ snap) (numbers (marked (Until a) W) ++ numbers (marked (Until b) R)) =
@@ -289,7 +289,7 @@ module _ {X : Type 0} where
       All-head (λ n. n ≤ snap) a
       (numbers (marked (Until a) (drop 1 W)) ++ numbers (marked (Until b) R)) led
 
-  pub most_ready : (snap a b : Number) (D W R N : List (Kept X)) → AreSegments a b D W R N →
+  pub most_ready : (snap a b : Number) (D W R N : List (Entry X)) → AreSegments a b D W R N →
       IsAtMost snap (joined a b D W R N) → 0 < length R → b ≤ snap
   most_ready snap a b D W R N h most some =
       let all : All (λ n. n ≤ snap) (numbers (marked (Until a) W) ++ numbers (marked (Until b) R)) =
@@ -307,7 +307,7 @@ module _ {X : Type 0} where
       All-behind P (m ∷ ms) ns each = All-behind P ms ns (All-tail P m (ms ++ ns) each)
 
   -- where each number below the snapshot is the first one, no two differ
-  numbers_two : (snap a b : Number) (D W R N : List (Kept X)) → (0 < length W → a < snap → a ≡ a) →
+  numbers_two : (snap a b : Number) (D W R N : List (Entry X)) → (0 < length W → a < snap → a ≡ a) →
       (0 < length R → b < snap → b ≡ a) → has_two snap (numbers (joined a b D W R N)) ≡ false
   numbers_two snap a b D W R N first second =
       let one : Number → Type 0 = λ k. k < snap → k ≡ a in
@@ -318,7 +318,7 @@ module _ {X : Type 0} where
       (numbers_same one a W first) (numbers_same one b R second))))
 
   -- where both have items and numbers below it, two do
-  two_found : (snap a b : Number) (D W R N : List (Kept X)) →
+  two_found : (snap a b : Number) (D W R N : List (Entry X)) →
       numbers (marked (Until a) W) ≡ a ∷ numbers (marked (Until a) (drop 1 W)) →
       numbers (marked (Until b) R) ≡ b ∷ numbers (marked (Until b) (drop 1 R)) → a < b → b < snap →
       has_two snap (numbers (joined a b D W R N)) ≡ true
@@ -332,7 +332,7 @@ module _ {X : Type 0} where
       found other rest is = grind (arith, nat_tests)
 
   -- an acceleration that gives the snapshot to the last list, and puts it behind the third one
-  pub accelerated_late : (snap a b : Number) (D W R N : List (Kept X)) → AreSegments a b D W R N →
+  pub accelerated_late : (snap a b : Number) (D W R N : List (Entry X)) → AreSegments a b D W R N →
       IsAtMost snap (joined a b D W R N) → (0 < length R → snap ≤ b) →
       joined a snap D W (R ++ N) [] ≡ after_accelerate (joined a b D W R N) snap
   accelerated_late snap a b D W R N h most above =
@@ -353,7 +353,7 @@ module _ {X : Type 0} where
       rw alone (sym given)
 
   -- one that gives it to the last list, and puts all behind the first one together
-  pub accelerated_early : (snap a b : Number) (D W R N : List (Kept X)) → AreSegments a b D W R N →
+  pub accelerated_early : (snap a b : Number) (D W R N : List (Entry X)) → AreSegments a b D W R N →
       IsAtMost snap (joined a b D W R N) → (0 < length W → snap ≤ a) →
       joined snap b D (W ++ (R ++ N)) [] [] ≡ after_accelerate (joined a b D W R N) snap
   accelerated_early snap a b D W R N h most above =
@@ -377,7 +377,7 @@ module _ {X : Type 0} where
       rw alone (sym given)
 
   -- one that changes nothing
-  pub accelerated_none : (snap a b : Number) (D W R N : List (Kept X))
+  pub accelerated_none : (snap a b : Number) (D W R N : List (Entry X))
       → AreSegments a b D W R N → 0 < length R → b < snap
       → joined a b D W R N ≡ after_accelerate (joined a b D W R N) snap
   accelerated_none snap a b D W R N h some below =
@@ -387,15 +387,15 @@ module _ {X : Type 0} where
       refl
 
   -- a fold of the greatest over numbers that are no greater
-  fold_same : (most a : Number) (W : List (Kept X)) → a ≤ most
+  fold_same : (most a : Number) (W : List (Entry X)) → a ≤ most
       → fold max most (numbers (marked (Until a) W)) ≡ most
   fold_same most a [] within = refl
-  fold_same most a (kept.Call call ∷ W) within =
+  fold_same most a (entry.Call call ∷ W) within =
       ap (λ n. fold max n (numbers (marked (Until a) W))) (omega arith) ∙ fold_same most a W within
-  fold_same most a (kept.Marker ∷ W) within = fold_same most a W within
+  fold_same most a (entry.Marker ∷ W) within = fold_same most a W within
 
   -- the greatest number where both segments have items, where the first one has, and where none has
-  pub greatest_ready : (a b : Number) (D W R N : List (Kept X))
+  pub greatest_ready : (a b : Number) (D W R N : List (Entry X))
       → AreSegments a b D W R N → 0 < length R → Some b ≡ greatest (numbers (joined a b D W R N))
   greatest_ready a b D W R N h some =
       let ms = numbers (marked (Until a) (drop 1 W)) in
@@ -411,7 +411,7 @@ module _ {X : Type 0} where
       (ap (λ n. fold max n ns) (omega arith) ∙ fold_same b b (drop 1 R) (omega arith))) in
       sym (ap greatest all ∙ ap Some most)
 
-  pub greatest_wait : (a b : Number) (D W R N : List (Kept X))
+  pub greatest_wait : (a b : Number) (D W R N : List (Entry X))
       → AreSegments a b D W R N → 0 < length W → length R ≡ 0
       → Some a ≡ greatest (numbers (joined a b D W R N))
   greatest_wait a b D W (x ∷ R) N h some none = absurd (omega arith)
@@ -422,68 +422,68 @@ module _ {X : Type 0} where
       (append-nil (numbers (marked (Until a) W)) ∙ numbers_led a W some h.wait_first) in
       sym (ap greatest all ∙ ap Some (fold_same a a (drop 1 W) (omega arith)))
 
-  pub greatest_none : (a b : Number) (D W R N : List (Kept X)) → length W ≡ 0 → length R ≡ 0 →
+  pub greatest_none : (a b : Number) (D W R N : List (Entry X)) → length W ≡ 0 → length R ≡ 0 →
       None ≡ greatest (numbers (joined a b D W R N))
   greatest_none a b D (x ∷ W) R N none none_too = absurd (omega arith)
   greatest_none a b D [] (x ∷ R) N none none_too = absurd (omega arith)
   greatest_none a b D [] [] N none none_too = sym (ap greatest (numbers_joined a b D [] [] N))
 
   -- items with a number go to the front with it
-  front_with_same : (n : Number) (W : List (Kept X)) (ys : List (Item X)) → front_with n ys ≡ [] →
+  front_with_same : (n : Number) (W : List (Entry X)) (ys : List (Item X)) → front_with n ys ≡ [] →
       front_with n (marked (Until n) W ++ ys) ≡ marked (Until n) W
   front_with_same n [] ys none = none
-  front_with_same n (kept.Call call ∷ W) ys none =
+  front_with_same n (entry.Call call ∷ W) ys none =
       ap (λ test. if test then Of call (Until n) ∷ front_with n (marked (Until n) W ++ ys) else [])
       is
       ∙ ap (λ l. Of call (Until n) ∷ l) (front_with_same n W ys none)
     where
       is : (n == n) ≡ true
       is = grind (arith, nat_tests)
-  front_with_same n (kept.Marker ∷ W) ys none = ap (λ l. Marker ∷ l) (front_with_same n W ys none)
+  front_with_same n (entry.Marker ∷ W) ys none = ap (λ l. Marker ∷ l) (front_with_same n W ys none)
 
   -- a list that begins with no marker, and with another mark, has no front with the number
-  front_with_none : (n b : Number) (R N : List (Kept X)) → (0 < length R → n < b) →
+  front_with_none : (n b : Number) (R N : List (Entry X)) → (0 < length R → n < b) →
       begins_with_marker (unmarked R) ≡ false → begins_with_marker (unmarked N) ≡ false →
       front_with n (marked (Until b) R ++ unmarked N) ≡ []
-  front_with_none n b (kept.Call call ∷ R) N above first second =
+  front_with_none n b (entry.Call call ∷ R) N above first second =
       ap (λ test.
       if test then Of call (Until b) ∷ front_with n (marked (Until b) R ++ unmarked N) else [])
       (differ (above (omega arith)))
     where
       differ : n < b → (b == n) ≡ false
       differ order = grind (arith, nat_tests)
-  front_with_none n b (kept.Marker ∷ R) N above first second = absurd cc
+  front_with_none n b (entry.Marker ∷ R) N above first second = absurd cc
   front_with_none n b [] [] above first second = refl
-  front_with_none n b [] (kept.Call call ∷ N) above first second = refl
-  front_with_none n b [] (kept.Marker ∷ N) above first second = absurd cc
+  front_with_none n b [] (entry.Call call ∷ N) above first second = refl
+  front_with_none n b [] (entry.Marker ∷ N) above first second = absurd cc
 
   -- a segment with a number is the front with that number
-  numbered_is : (n : Number) (W : List (Kept X)) (ys : List (Item X))
+  numbered_is : (n : Number) (W : List (Entry X)) (ys : List (Item X))
       → begins_with_marker (unmarked W) ≡ false
       → front_with n ys ≡ []
       → (length W ≡ 0 → numbered ys ≡ [])
       → numbered (marked (Until n) W ++ ys) ≡ marked (Until n) W
   numbered_is n [] ys first none nothing = nothing refl
-  numbered_is n (kept.Call call ∷ W) ys first none nothing =
+  numbered_is n (entry.Call call ∷ W) ys first none nothing =
       ap (λ l. Of call (Until n) ∷ l) (front_with_same n W ys none)
-  numbered_is n (kept.Marker ∷ W) ys first none nothing = absurd cc
+  numbered_is n (entry.Marker ∷ W) ys first none nothing = absurd cc
 
   -- and the others are behind it
-  past_is : (n : Number) (W : List (Kept X)) (ys : List (Item X))
+  past_is : (n : Number) (W : List (Entry X)) (ys : List (Item X))
       → numbered (marked (Until n) W ++ ys) ≡ marked (Until n) W →
       past_numbered (marked (Until n) W ++ ys) ≡ ys
   past_is n W ys is =
       ap (λ l. drop (length l) (marked (Until n) W ++ ys)) is ∙
       drop_at (marked (Until n) W) ys (length (marked (Until n) W)) refl
 
-  numbered_next : (N : List (Kept X)) → begins_with_marker (unmarked N) ≡ false
+  numbered_next : (N : List (Entry X)) → begins_with_marker (unmarked N) ≡ false
       → numbered (unmarked N) ≡ []
   numbered_next [] first = refl
-  numbered_next (kept.Call call ∷ N) first = refl
-  numbered_next (kept.Marker ∷ N) first = absurd cc
+  numbered_next (entry.Call call ∷ N) first = refl
+  numbered_next (entry.Marker ∷ N) first = absurd cc
 
   -- the lengths of the lists are those of the segments
-  pub lengths_joined : (a b : Number) (D W R N : List (Kept X)) → AreSegments a b D W R N →
+  pub lengths_joined : (a b : Number) (D W R N : List (Entry X)) → AreSegments a b D W R N →
       length D ∷ length W ∷ length R ∷ length N ∷ [] ≡ segments (joined a b D W R N)
   lengths_joined a b D W R N h =
       let others = marked (Until b) R ++ unmarked N in
@@ -512,10 +512,10 @@ module _ {X : Type 0} where
       no_ready : length W ≡ 0 → length R ≡ 0
       no_ready none = at R h.filled
         where
-          at : (R : List (Kept X)) → (0 < length R → 0 < length W) → length R ≡ 0
+          at : (R : List (Entry X)) → (0 < length R → 0 < length W) → length R ≡ 0
           at [] filled = refl
           at (x ∷ R) filled = absurd (let some = filled (omega arith) in omega arith)
 
-      empty : (R : List (Kept X)) → length R ≡ 0 → marked (Until b) R ≡ []
+      empty : (R : List (Entry X)) → length R ≡ 0 → marked (Until b) R ≡ []
       empty [] none = refl
       empty (x ∷ R) none = absurd (omega arith)

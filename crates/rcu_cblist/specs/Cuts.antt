@@ -3,8 +3,8 @@ use Rattle.std.specs.Prelude.{ℕ, ◌<◌, ◌≤◌, ◌≡◌, ◌+◌, ◌-�
 use Rattle.std.specs.Prelude.{if◌then◌else◌}
 use Rattle.rcu_seq.specs.Numbers.{Number}
 use Rattle.rcu_cblist.specs.SegList.{begins_with_marker, callbacks}
-use Rattle.rcu_cblist.specs.Kept.{unmarked}
-use Rattle.rcu_cblist.specs.declared.items.Kept.{Kept}
+use Rattle.rcu_cblist.specs.Entries.{unmarked}
+use Rattle.rcu_cblist.specs.declared.items.Entry.{Entry}
 use Rattle.rcu_cblist.specs.declared.tail.Tail.{Tail}
 
 -- the place with so much more before it
@@ -28,12 +28,12 @@ past_marker tail end =
 
 module _ {X : Type 0} where
   -- the items from one place to another
-  abbrev pub between : ℕ → ℕ → List (Kept X) → List (Kept X)
+  abbrev pub between : ℕ → ℕ → List (Entry X) → List (Entry X)
   between i j xs = drop i (take j xs)
 
   -- four segments: the third has items only where the second has, and the lower number is the
   -- second's; none begins with a marker
-  pub record AreSegments (a b : Number) (done wait ready next : List (Kept X)) : Type 0 where
+  pub record AreSegments (a b : Number) (done wait ready next : List (Entry X)) : Type 0 where
     pub filled : 0 < length ready → 0 < length wait
     pub ascending : 0 < length ready → a < b
     pub done_first : begins_with_marker (unmarked done) ≡ false
@@ -42,12 +42,12 @@ module _ {X : Type 0} where
     pub next_first : begins_with_marker (unmarked next) ≡ false
 
   -- a place in a list, with as many callbacks before it as it says
-  pub record IsTail (xs : List (Kept X)) (tail : Tail) : Type 0 where
+  pub record IsTail (xs : List (Entry X)) (tail : Tail) : Type 0 where
     pub within : tail.items ≤ length xs
     pub calls : tail.calls ≡ length (callbacks (unmarked (take tail.items xs)))
 
   -- tail places that cut a list into segments
-  pub record AreTails (xs : List (Kept X)) (done wait ready : Tail) (calls : ℕ) (a b : Number) :
+  pub record AreTails (xs : List (Entry X)) (done wait ready : Tail) (calls : ℕ) (a b : Number) :
       Type 0 where
     pub done_tail : IsTail xs done
     pub wait_tail : IsTail xs wait

@@ -1,5 +1,5 @@
 pub mod SegList
-pub mod Kept
+pub mod Entries
 pub mod Cuts
 pub mod Segments
 pub mod Walks

@@ -3,16 +3,16 @@ use Rattle.std.specs.Prelude.{List, ◌++◌, take, drop}
 use Rattle.std.specs.VecDeque.{deque_capacity}
 use Rattle.rcu_seq.specs.Numbers.{Number}
 use Rattle.rcu_cblist.specs.SegList.{Item, Segmented, Until, Done}
-use Rattle.rcu_cblist.specs.Kept.{marked, unmarked}
+use Rattle.rcu_cblist.specs.Entries.{marked, unmarked}
 use Rattle.rcu_cblist.specs.Cuts.{between}
-use Rattle.rcu_cblist.specs.declared.items.Kept.{Kept}
+use Rattle.rcu_cblist.specs.declared.items.Entry.{Entry}
 use Rattle.rcu_cblist.specs.declared.segments.Segments.{Segments}
 
 module _ {X : Type 0} where
   -- four segments one behind another: what is done, what waits for the numbers a and b, and what
   -- has none
   abbrev pub joined : Number
-      → Number → List (Kept X) → List (Kept X) → List (Kept X) → List (Kept X) → List (Item X)
+      → Number → List (Entry X) → List (Entry X) → List (Entry X) → List (Entry X) → List (Item X)
   joined a b done wait ready next =
       marked Done done ++ (marked (Until a) wait ++ (marked (Until b) ready ++ unmarked next))
 

@@ -1,15 +1,15 @@
--- What walks over the kept items leave.
+-- What walks over the entries leave.
 use Rattle.std.specs.Prelude.{ℕ, ◌≡◌, ◌≤◌, ◌+◌, List, [], length, drop}
 use Rattle.std.specs.VecDeque.{deque_capacity}
 use Rattle.std.specs.declared.collections.VecDeque.{VecDeque}
 use Rattle.rcu_cblist.specs.SegList.{from_callback, markers}
-use Rattle.rcu_cblist.specs.Kept.{unmarked}
-use Rattle.rcu_cblist.specs.declared.items.Kept.{Kept}
+use Rattle.rcu_cblist.specs.Entries.{unmarked}
+use Rattle.rcu_cblist.specs.declared.items.Entry.{Entry}
 
 module _ {X Z : Type 0} where
   -- the items are left from one of their callbacks on, which are counted from 0: what was before it
   -- is gone, so many markers with its callbacks, and there is as much room
-  pub record IsLeft (old : VecDeque (Kept X) Z) (n passed : ℕ) (new : VecDeque (Kept X) Z) :
+  pub record IsLeft (old : VecDeque (Entry X) Z) (n passed : ℕ) (new : VecDeque (Entry X) Z) :
       Type 0 where
     pub items : unmarked new.items ≡ from_callback n (unmarked old.items)
     pub gone : new.items ≡ drop (n + passed) old.items

@@ -13,9 +13,10 @@ pub struct Queued<T: Drop> {
     pub value: T,
 }
 
-/// An item of a list. What a callback waits for is told by the segment that it stands in.
+/// An item of a list as it is stored. What a callback waits for is told by the segment that it
+/// stands in.
 #[derive(Debug, Drop)]
-pub(crate) enum Kept<T: Drop> {
+pub(crate) enum Entry<T: Drop> {
     /// A callback.
     Call(Queued<T>),
     /// A barrier's marker.

@@ -2,11 +2,11 @@
 ghost use Rattle.std.specs.Prelude.{◌≡◌, ◌<◌, ◌∷◌, [], IsNone, Some, length, take, true};
 ghost use Rattle.rcu_cblist.specs.SegList.{after_take, begins_with_callback, callbacks};
 ghost use Rattle.rcu_cblist.specs.SegList.{on_items, pop_answer};
-ghost use Rattle.rcu_cblist.specs.Kept.{unmarked};
+ghost use Rattle.rcu_cblist.specs.Entries.{unmarked};
 ghost use Rattle.rcu_cblist.specs.Segments.{listed, seen};
 ghost use Rattle.rcu_cblist.specs.Walks.{IsLeft};
 
-use crate::items::{Kept, Queued};
+use crate::items::{Entry, Queued};
 use crate::seg_list::SegList;
 use crate::segments::Segments;
 use crate::tail::Tail;
@@ -49,26 +49,26 @@ impl<T: Drop> Segments<T> {
 }
 
 /// Takes the first callback, and each marker before the next one. Returns how many markers.
-fn pop_first<T: Drop>(items: &mut VecDeque<Kept<T>>) -> (Queued<T>, u64)
+fn pop_first<T: Drop>(items: &mut VecDeque<Entry<T>>) -> (Queued<T>, u64)
     requires { begins_with_callback (unmarked items.old.items) ≡ true }
     ensures call { result.0 ∷ [] ≡ take 1 (callbacks (unmarked items.old.items)) }
     ensures left { IsLeft items.old 1 result.1 items.new }
 {
     match items.pop_front() {
-        Some(Kept::Call(call)) => (call, drop_markers(items)),
-        Some(Kept::Marker) | None => unreachable!(),
+        Some(Entry::Call(call)) => (call, drop_markers(items)),
+        Some(Entry::Marker) | None => unreachable!(),
     }
 }
 
 /// Drops each marker before the first callback. Returns how many.
 #[tactic(auto, using(crate::proofs::Lists::map_split, crate::proofs::Lists::gone_more))]
-fn drop_markers<T: Drop>(items: &mut VecDeque<Kept<T>>) -> u64
+fn drop_markers<T: Drop>(items: &mut VecDeque<Entry<T>>) -> u64
     ensures { IsLeft items.old 0 result items.new }
 {
     let mut markers = 0;
     loop {
         match items.front() {
-            Some(Kept::Marker) => {}
+            Some(Entry::Marker) => {}
             _ => return markers,
         }
         let Some(_) = items.pop_front() else {

@@ -10,7 +10,7 @@ ghost use Rattle.rcu_cblist.specs.SegList.{markers_passed, numbers, on_items, se
 ghost use Rattle.rcu_cblist.specs.SegList.{take_answer};
 ghost use Rattle.rcu_cblist.specs.Cuts.{AreTails};
 
-use crate::items::{Kept, Queued};
+use crate::items::{Entry, Queued};
 use crate::tail::Tail;
 use crate::walks::{join_marked, take_first};
 use std::alloc::Global;
@@ -29,7 +29,7 @@ use std::collections::VecDeque;
 #[derive(Drop)]
 pub(crate) struct Segments<T: Drop> {
     /// The items.
-    pub(crate) items: VecDeque<Kept<T>>,
+    pub(crate) items: VecDeque<Entry<T>>,
     /// Where DONE ends.
     pub(crate) done: Tail,
     /// Where WAIT ends.
@@ -101,7 +101,7 @@ impl<T: Drop> Segments<T> {
         ensures { listed self.new
             ≡ on_items (λ xs. xs ++ Of call Unmarked ∷ []) (listed self.old) }
     {
-        self.items.push_back_reserved(Kept::Call(call));
+        self.items.push_back_reserved(Entry::Call(call));
         self.calls += 1;
     }
 
@@ -112,7 +112,7 @@ impl<T: Drop> Segments<T> {
         ensures { listed self.new ≡ on_items after_entrain (listed self.old) }
     {
         let end = self.items.len();
-        self.items.push_back_reserved(Kept::Marker);
+        self.items.push_back_reserved(Entry::Marker);
         self.done.pass_marker(end);
         self.wait.pass_marker(end);
         self.ready.pass_marker(end);

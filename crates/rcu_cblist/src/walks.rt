@@ -4,17 +4,17 @@ ghost use Rattle.std.specs.Prelude.{if◌then◌else◌};
 ghost use Rattle.std.specs.Vec.{vec_len, vec_capacity};
 ghost use Rattle.std.specs.VecDeque.{deque_len, deque_capacity};
 ghost use Rattle.rcu_cblist.specs.SegList.{callbacks};
-ghost use Rattle.rcu_cblist.specs.Kept.{moved_behind, moved_in_front, unmarked};
+ghost use Rattle.rcu_cblist.specs.Entries.{moved_behind, moved_in_front, unmarked};
 ghost use Rattle.rcu_cblist.specs.Walks.{HasNow, IsEmptied, IsLeft};
 
-use crate::items::{Kept, Queued};
+use crate::items::{Entry, Queued};
 use std::collections::VecDeque;
 
 /// Takes the first callbacks, so many, and each marker before the first callback that is left.
 /// Returns how many markers.
 #[tactic(auto, using(crate::proofs::Lists::map_split, crate::proofs::Lists::gone_more))]
 pub(crate) fn take_first<T: Drop>(
-    items: &mut VecDeque<Kept<T>>,
+    items: &mut VecDeque<Entry<T>>,
     calls: &mut Vec<Queued<T>>,
     most: u64,
 ) -> u64
@@ -28,14 +28,14 @@ pub(crate) fn take_first<T: Drop>(
     let mut left = most;
     loop {
         match items.front() {
-            Some(Kept::Marker) => {}
-            Some(Kept::Call(_)) if left > 0 => {}
+            Some(Entry::Marker) => {}
+            Some(Entry::Call(_)) if left > 0 => {}
             _ => return markers,
         }
         match items.pop_front() {
             None => unreachable!(),
-            Some(Kept::Marker) => markers += 1,
-            Some(Kept::Call(call)) => {
+            Some(Entry::Marker) => markers += 1,
+            Some(Entry::Call(call)) => {
                 left -= 1;
                 let Ok(()) = calls.push(call) else {
                     unreachable!()
@@ -48,8 +48,8 @@ pub(crate) fn take_first<T: Drop>(
 /// Puts the first items before a target's, and the rest behind them. Where that is wanted, a marker
 /// stands behind the last of them. Returns how many went in front.
 pub(crate) fn join_marked<T: Drop>(
-    target: &mut VecDeque<Kept<T>>,
-    items: &mut VecDeque<Kept<T>>,
+    target: &mut VecDeque<Entry<T>>,
+    items: &mut VecDeque<Entry<T>>,
     ahead: usize,
     marked: bool,
 ) -> usize
@@ -67,10 +67,10 @@ pub(crate) fn join_marked<T: Drop>(
     }
     if ahead < items.len() {
         join_around(target, items, ahead);
-        target.push_back_reserved(Kept::Marker);
+        target.push_back_reserved(Entry::Marker);
         return ahead;
     }
-    target.push_front_reserved(Kept::Marker);
+    target.push_front_reserved(Entry::Marker);
     join_around(target, items, ahead);
     ahead + 1
 }

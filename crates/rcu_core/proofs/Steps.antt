@@ -24,8 +24,9 @@ use Rattle.rcu_barrier.specs.Tending.{after_tend}
 use Rattle.rcu_barrier.specs.declared.lists.BarrierState.{BarrierState}
 use Rattle.rcu_barrier.specs.declared.lists.BarrierState.TheVariants as barrier
 use Rattle.rcu_seq.specs.Seq.{number_of, tag_of}
-use Rattle.rcu_state.specs.GpState.{after_begin, after_end, after_hear, after_report, awaited_in}
-use Rattle.rcu_state.specs.GpState.{begin_refusal, end_refusal, hear_answer, own_report, periods_of}
+use Rattle.rcu_state.specs.GpState.{after_begin, after_end, after_report, after_report_now}
+use Rattle.rcu_state.specs.GpState.{answer_now, awaited_in, begin_refusal, end_refusal, own_report}
+use Rattle.rcu_state.specs.GpState.{periods_of}
 use Rattle.rcu_state.specs.GpState.{renumber_refusal, report_answer_in, turn_answer, turn_refusal}
 use Rattle.rcu_state.specs.Periods.{wants_begin}
 use Rattle.rcu_core.specs.History.{report_at}
@@ -198,8 +199,8 @@ scan_accepted v cpu p within online here idle =
 -- a scan is a report of the processor with the tag of now
 pub does_scan : (v w : State ℕ) (cpu : ℕ) (a : Answer)
     → fault_in (size_at v) (says v) (Scan cpu) ≡ None
-    → a ≡ hear_answer v.grace cpu
-    → w ≡ record v { grace = after_hear v.grace cpu }
+    → a ≡ answer_now v.grace cpu
+    → w ≡ record v { grace = after_report_now v.grace cpu }
     → StepsLegally v (Scan cpu) (reply.Answer a) w
 does_scan v w cpu a none answer kept = record {
   legal = inl (says_so v (Scan cpu) (reply.Answer a) none

@@ -132,7 +132,7 @@ after_event v BarTest = record v { grace = grace.after_barrier_test v.grace }
 after_event v Renumber = record v { grace = grace.after_renumber v.grace }
 after_event v (Idle cpu) = record v { cpus = with_cpu v.cpus cpu cpu_data.Idle }
 after_event v (Wake cpu) = record v { cpus = with_cpu v.cpus cpu cpu_data.Wake }
-after_event v (Scan cpu) = record v { grace = grace.after_hear v.grace cpu }
+after_event v (Scan cpu) = record v { grace = grace.after_report_now v.grace cpu }
 
 -- what an event and its reply leave: a refused event changes nothing
 abbrev pub after_reply : State ℕ → Event → Reply → State ℕ

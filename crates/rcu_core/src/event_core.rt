@@ -369,7 +369,7 @@ impl<A: Awaited> Core<A, u64> {
         if !self.cpus[place].is_idle() {
             return Err(Fault::NotIdle);
         }
-        Ok(Reply::Answer(self.gp.hear(cpu)))
+        Ok(Reply::Answer(self.gp.report_now(cpu)))
     }
 
     fn queue(&mut self, cpu: u32, value: u64) -> Result<Reply, Fault>

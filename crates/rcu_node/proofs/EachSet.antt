@@ -11,8 +11,8 @@ use Rattle.rcu_node.specs.Masks.{AreLinked, AreMasks, members}
 use Rattle.rcu_node.specs.Steps.{AreFilled, AreLinkedFrom, leaf_bit}
 use Rattle.rcu_node.specs.Words.{has_bit}
 use Rattle.rcu_node.proofs.Bits.{has_bit-zero, has_bit_set_same, has_bit_set_other}
-use Rattle.rcu_node.proofs.Fills.{IsTold, filled_all, filled_members, filled_more, filled_none}
-use Rattle.rcu_node.proofs.Fills.{linked_all, tells_nothing, told_bit}
+use Rattle.rcu_node.proofs.Fills.{IsSetAbove, filled_all, filled_members, filled_more, filled_none}
+use Rattle.rcu_node.proofs.Fills.{bit_set, linked_all, nothing_set}
 use Rattle.rcu_node.proofs.Members.{masks_of_members}
 
 -- one bit more, which is set
@@ -93,15 +93,15 @@ filled s set (suc node) legal few =
     filled_more s set before.0 new node word.0 before.1 (omega (arith, few)) word.1 refl in
     (new, subst (λ k. AreFilled s set new k) (next node) more)
 
--- a node tells its parent
+-- a node sets its bit in its parent, where it is not empty
 step : (s : Shape) (masks : List ℕ) (node : ℕ) → IsLegalShape s → 0 < node → node < nodes s
-    → AreLinkedFrom s masks (node + 1) → (new : List ℕ) × IsTold s masks new node
+    → AreLinkedFrom s masks (node + 1) → (new : List ℕ) × IsSetAbove s masks new node
 step s masks node legal some here before = elim (cases_eq (slice_index masks node) 0) [
   | inl empty ↦ (
     masks,
-    record { linked = tells_nothing s masks node before some here empty; members = refl },
+    record { linked = nothing_set s masks node before some here empty; members = refl },
   )
-  | inr full ↦ (_, told_bit s masks node legal before some here full)
+  | inr full ↦ (_, bit_set s masks node legal before some here full)
 ]
 
 -- and so all can

@@ -112,7 +112,7 @@ filled_members s set masks legal sized filled =
     listed_same s.cpus (cpu_bit s masks) set sized
     (λ cpu below. leaf_bits s set masks cpu legal filled below)
 
--- and no other bits, so that no node has told its parent
+-- and no other bits, so that no node has set its bit in its parent
 pub filled_all : (s : Shape) (set : List Bool) (masks : List ℕ)
     → IsLegalShape s → length set ≡ s.cpus → AreFilled s set masks (nodes s)
     → AreLinkedFrom s masks (nodes s)
@@ -154,8 +154,8 @@ filled_all s set masks legal sized filled =
           ∙ has_bit-zero (bit_in_parent s child);
     }
 
--- a node that is not empty tells its parent
-tells : (s : Shape) (masks : List ℕ) (node word : ℕ)
+-- a node that is not empty sets its bit in its parent
+set_above : (s : Shape) (masks : List ℕ) (node word : ℕ)
     → IsLegalShape s
     → AreLinkedFrom s masks (node + 1)
     → 0 < node
@@ -165,7 +165,7 @@ tells : (s : Shape) (masks : List ℕ) (node word : ℕ)
     → ((i : ℕ) → i ≢ bit_in_parent s node → has_bit word i
     ≡ has_bit (slice_index masks (parent s node)) i)
     → AreLinkedFrom s (slice_set masks (parent s node) word) node
-tells s masks node word legal before some here full on rest =
+set_above s masks node word legal before some here full on rest =
     let family = has_parent s node legal some here in
     let up = parent s node in
     let up_before = family.before in
@@ -229,11 +229,11 @@ tells s masks node word legal before some here full on rest =
           ∙ before.apart child child_some (omega arith) child_here;
     }
 
--- an empty node tells nothing
-pub tells_nothing : (s : Shape) (masks : List ℕ) (node : ℕ)
+-- an empty node sets nothing
+pub nothing_set : (s : Shape) (masks : List ℕ) (node : ℕ)
     → AreLinkedFrom s masks (node + 1) → 0 < node → node < nodes s → slice_index masks node ≡ 0
     → AreLinkedFrom s masks node
-tells_nothing s masks node before some here empty = record {
+nothing_set s masks node before some here empty = record {
   owned = before.owned;
   inner = λ child from child_some child_here. elim (cases_eq child node) [
     | inl it ↦
@@ -246,37 +246,37 @@ tells_nothing s masks node before some here empty = record {
       λ child child_some earlier child_here. before.apart child child_some (omega arith) child_here;
 }
 
--- what telling leaves
-pub record IsTold (s : Shape) (masks new : List ℕ) (node : ℕ) : Type 0 where
+-- what that leaves
+pub record IsSetAbove (s : Shape) (masks new : List ℕ) (node : ℕ) : Type 0 where
   pub linked : AreLinkedFrom s new node
   pub members : members s new ≡ members s masks
 
 -- a node sets its bit in its parent
-pub told_bit : (s : Shape) (masks : List ℕ) (node : ℕ)
+pub bit_set : (s : Shape) (masks : List ℕ) (node : ℕ)
     → IsLegalShape s
     → AreLinkedFrom s masks (node + 1)
     → 0 < node
     → node < nodes s
     → slice_index masks node ≢ 0
-    → IsTold s masks
+    → IsSetAbove s masks
     (slice_set masks (parent s node)
     (bit_or (slice_index masks (parent s node)) (1 * 2 ^ bit_in_parent s node % 2 ^ 64)))
     node
-told_bit s masks node legal before some here full =
+bit_set s masks node legal before some here full =
     let family = has_parent s node legal some here in
     let few = legal.fan_high in let bit = family.bit in
     let low : bit_in_parent s node < 64 = omega (arith, few, bit) in
     let old = slice_index masks (parent s node) in
     let word = bit_or old (1 * 2 ^ bit_in_parent s node % 2 ^ 64) in
     record {
-      linked = tells s masks node word legal before some here full
+      linked = set_above s masks node word legal before some here full
           (has_bit_set_same old (bit_in_parent s node) low)
           (λ i apart. has_bit_set_other old (bit_in_parent s node) i low apart);
       members = members-inner s masks (parent s node) word family.inner;
     }
 
 -- which is the mask that it has for that
-pub told : (s : Shape) (masks groups new : List ℕ) (node up mask : ℕ)
+pub mask_set : (s : Shape) (masks groups new : List ℕ) (node up mask : ℕ)
     → IsLegalShape s
     → AreLinkedFrom s masks (node + 1)
     → AreGroups s groups
@@ -286,8 +286,8 @@ pub told : (s : Shape) (masks groups new : List ℕ) (node up mask : ℕ)
     → up ≡ parent s node
     → mask ≡ slice_index groups node
     → new ≡ slice_set masks up (bit_or (slice_index masks up) mask)
-    → IsTold s masks new node
-told s masks groups new node up mask legal before marked some here full is_up is_group written =
+    → IsSetAbove s masks new node
+mask_set s masks groups new node up mask legal before marked some here full is_up is_group written =
     let family = has_parent s node legal some here in
     let few = legal.fan_high in let bit = family.bit in
     let low : bit_in_parent s node < 64 = omega (arith, few, bit) in
@@ -295,9 +295,9 @@ told s masks groups new node up mask legal before marked some here full is_up is
     let own : group_of s node ≡ 2 ^ bit_in_parent s node = rw (ne_eqb node 0 other) in
     let shifted : mask ≡ 1 * 2 ^ bit_in_parent s node % 2 ^ 64 =
     is_group ∙ marked.bit node here ∙ own ∙ sym (one_shl (bit_in_parent s node) 64 low) in
-    rw (written, is_up, shifted) (told_bit s masks node legal before some here full)
+    rw (written, is_up, shifted) (bit_set s masks node legal before some here full)
 
--- in the end all have told
+-- in the end all have set theirs
 pub linked_all : (s : Shape) (masks : List ℕ) (node : ℕ) → node ≤ 1 → AreLinkedFrom s masks node
     → AreLinked s masks
 linked_all s masks node first linked = record {

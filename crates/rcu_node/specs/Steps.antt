@@ -24,7 +24,7 @@ pub record AreFilled (s : Shape) (set : List Bool) (masks : List ℕ) (node : �
   pub sized : length masks ≡ nodes s
   pub bit : (k bit : ℕ) → k < node → has_bit (slice_index masks k) bit ≡ leaf_bit s set k bit
 
--- the nodes from this one on have told their parents, and no other node has
+-- the nodes from this one on have set their bits in their parents, and no other node has
 pub record AreLinkedFrom (s : Shape) (masks : List ℕ) (node : ℕ) : Type 0 where
   pub owned : AreOwned s masks
   pub inner : (child : ℕ) → node ≤ child → 0 < child → child < nodes s → IsLinked s masks child

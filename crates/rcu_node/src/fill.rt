@@ -70,7 +70,7 @@ fn leaf_mask<const LEAF: u32, const FAN: u32>(
     set.bits_from((node - first) * LEAF, LEAF)
 }
 
-/// Each node tells its parent, from the last one on.
+/// Each node sets its bit in its parent where its mask is not empty, from the last one on.
 fn link<const LEAF: u32, const FAN: u32>(geometry: &Geometry<LEAF, FAN>, nodes: &mut Vec<Node>)
     requires legal { IsLegalShape geometry.now }
     requires masks { AreLinkedFrom geometry.now (now_masks nodes.old.items)
@@ -85,12 +85,12 @@ fn link<const LEAF: u32, const FAN: u32>(geometry: &Geometry<LEAF, FAN>, nodes: 
     let mut node = geometry.nodes();
     while node > 1 {
         node -= 1;
-        tell(geometry, nodes, node);
+        set_in_parent(geometry, nodes, node);
     }
 }
 
 /// A node whose mask is not empty sets its bit in its parent.
-fn tell<const LEAF: u32, const FAN: u32>(
+fn set_in_parent<const LEAF: u32, const FAN: u32>(
     geometry: &Geometry<LEAF, FAN>,
     nodes: &mut Vec<Node>,
     node: u32,

@@ -6,13 +6,13 @@ ghost use Rattle.rcu_node.specs.CpuSet.{IsSetFault, is_in};
 
 use crate::awaited::Awaited;
 use crate::cpu_set::CpuSet;
-use crate::sets::Sets;
-use crate::tagged::Tagged;
+use crate::period_sets::PeriodSets;
+use crate::tagged_sets::TaggedSets;
 use rcu_seq::{Fault, Tag};
 use std::alloc::Global;
 
 /// The awaited processors as one set, and the start set beside it. A report costs one step.
-pub type Flat = Tagged<FlatSets>;
+pub type Flat = TaggedSets<FlatSets>;
 
 impl Flat {
     /// Nobody is awaited, at tag 0. Costs a step for every 64 processors.
@@ -28,7 +28,7 @@ impl Flat {
         ensures awaited { IfOk result (λ flat.
             ⟦<Flat as Awaited>⟧.awaited flat ≡ replicate cpus false) }
     {
-        Ok(Tagged {
+        Ok(TaggedSets {
             tag: Tag::of_first_epoch(0),
             sets: FlatSets {
                 start: CpuSet::new(alloc, cpus)?,
@@ -51,7 +51,7 @@ pub struct FlatSets {
     ghost within: { (cpu : ℕ) → is_in awaited cpu ≡ true → is_in start cpu ≡ true },
 }
 
-impl Sets for FlatSets {
+impl PeriodSets for FlatSets {
     ghost start_set = { λ sets. sets.start };
 
     ghost awaited = { λ sets. sets.awaited };

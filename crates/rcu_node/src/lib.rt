@@ -10,8 +10,8 @@ mod making;
 pub mod merging;
 mod node;
 mod nodes;
-mod sets;
-mod tagged;
+mod period_sets;
+mod tagged_sets;
 pub mod tree;
 mod walk;
 

@@ -33,7 +33,7 @@ pub fn merge<A: Awaited, B: Awaited>(to: &mut A, from: &B) -> Result<(), Fault>
         return Err(Fault::NotAlike);
     }
     for cpu in 0..to.cpus() {
-        hear(to, from, cpu);
+        report_heard(to, from, cpu);
     }
     Ok(())
 }
@@ -61,7 +61,7 @@ fn started_alike<A: Awaited, B: Awaited>(first: &A, second: &B) -> bool
 }
 
 /// Reports a processor to the first that the first awaits and the second no longer awaits.
-fn hear<A: Awaited, B: Awaited>(to: &mut A, from: &B, cpu: u32)
+fn report_heard<A: Awaited, B: Awaited>(to: &mut A, from: &B, cpu: u32)
     requires first { cpu < length (A.awaited to.old) }
     requires second { cpu < length (B.awaited from.now) }
     ensures tag { A.tag to.new ≡ A.tag to.old }

@@ -12,7 +12,7 @@ use crate::cpu_set::CpuSet;
 use crate::fill::{fill, keep_start};
 use crate::making::new_nodes;
 use crate::node::{Node, group_mask, now_mask, start_mask};
-use crate::sets::Sets;
+use crate::period_sets::PeriodSets;
 use crate::walk::walk;
 use rcu_geometry::Geometry;
 use rcu_seq::Fault;
@@ -94,7 +94,7 @@ impl<const LEAF: u32, const FAN: u32> Nodes<LEAF, FAN> {
     }
 }
 
-impl<const LEAF: u32, const FAN: u32> Sets for Nodes<LEAF, FAN> {
+impl<const LEAF: u32, const FAN: u32> PeriodSets for Nodes<LEAF, FAN> {
     ghost start_set = { λ tree. members tree.geometry (start_masks tree.nodes.items) };
 
     ghost awaited = { λ tree. members tree.geometry (now_masks tree.nodes.items) };

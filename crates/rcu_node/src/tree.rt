@@ -8,7 +8,7 @@ ghost use Rattle.rcu_node.specs.Masks.{IsMaskOf, group_of};
 
 use crate::awaited::Awaited;
 use crate::nodes::Nodes;
-use crate::tagged::Tagged;
+use crate::tagged_sets::TaggedSets;
 use rcu_seq::{Fault, Tag};
 use std::alloc::Global;
 
@@ -18,7 +18,7 @@ use std::alloc::Global;
 /// Each node has a mask of the children that are awaited, which are processors at a leaf. A report
 /// clears a bit in a leaf, and goes on in the parent where the mask is empty then: it costs at most
 /// a step a level. A begin costs a step a node.
-pub type Tree<const LEAF: u32, const FAN: u32> = Tagged<Nodes<LEAF, FAN>>;
+pub type Tree<const LEAF: u32, const FAN: u32> = TaggedSets<Nodes<LEAF, FAN>>;
 
 impl<const LEAF: u32, const FAN: u32> Tree<LEAF, FAN> {
     /// Nobody is awaited, at tag 0. Costs a step for every 64 processors, and one a node.
@@ -33,7 +33,7 @@ impl<const LEAF: u32, const FAN: u32> Tree<LEAF, FAN> {
         ensures awaited { IfOk result (λ tree.
             ⟦<Tree<LEAF, FAN> as Awaited>⟧.awaited tree ≡ replicate cpus false) }
     {
-        Ok(Tagged {
+        Ok(TaggedSets {
             tag: Tag::of_first_epoch(0),
             sets: Nodes::new(alloc, cpus)?,
         })

@@ -138,12 +138,12 @@ module _ {X : Type 0} where
   own_report g cpu = record { cpu = cpu; tag = tag_of g.seq }
 
   -- the answer to that report
-  abbrev pub hear_answer : Grace X → ℕ → Answer
-  hear_answer g cpu = report_answer_in g (own_report g cpu)
+  abbrev pub answer_now : Grace X → ℕ → Answer
+  answer_now g cpu = report_answer_in g (own_report g cpu)
 
   -- after that report
-  abbrev pub after_hear : Grace X → ℕ → Grace X
-  after_hear g cpu = after_report g (own_report g cpu)
+  abbrev pub after_report_now : Grace X → ℕ → Grace X
+  after_report_now g cpu = after_report g (own_report g cpu)
 
   -- what a report of the processor answers in the grace period that runs
   abbrev pub current_answer : Grace X → ℕ → CurrentAnswer

@@ -251,10 +251,10 @@ impl<A: Awaited, T: Drop> GpState<A, T> {
 
     /// A report of the processor with the number as its tag: stale where no grace period runs.
     /// Costs as [`GpState::report`].
-    pub fn hear(&mut self, cpu: u32) -> Answer
+    pub fn report_now(&mut self, cpu: u32) -> Answer
         requires { cpu < cpus_of self.old.grace.processors }
-        ensures answer { result ≡ grace.hear_answer self.old.grace cpu }
-        ensures state { self.new ≡ on_grace (λ g. grace.after_hear g cpu) self.old }
+        ensures answer { result ≡ grace.answer_now self.old.grace cpu }
+        ensures state { self.new ≡ on_grace (λ g. grace.after_report_now g cpu) self.old }
     {
         let tag = self.tag();
         self.report(Report { cpu, tag })

@@ -167,7 +167,7 @@ fn passes(rt: &impl Abort, state: &mut State) {
     tend(rt, state, (0, 3));
     turns(rt, state, Turned::Begun(1, 1));
     assert!(rt; 0 < state.cpus());
-    assert_eq!(rt; state.hear(0), Answer::Last);
+    assert_eq!(rt; state.report_now(0), Answer::Last);
     turns(rt, state, Turned::Ended(4));
     tend(rt, state, (3, 0));
 }
@@ -205,7 +205,7 @@ fn turn_ends_one(rt: &impl Abort, state: &mut State) {
     turns(rt, state, Turned::Begun(1, 1));
     stays(rt, state, Fault::Running);
     assert!(rt; 0 < state.cpus());
-    assert_eq!(rt; state.hear(0), Answer::Last);
+    assert_eq!(rt; state.report_now(0), Answer::Last);
     turns(rt, state, Turned::Ended(4));
     turns(rt, state, Turned::Nothing);
 }

@@ -1,7 +1,7 @@
 use Rattle.std.proofs.Common.{◌≡◌, ◌<◌, ◌+◌, ◌^◌, drop, length}
 use Rattle.std.specs.VecDeque.{deque_capacity}
 use Rattle.rcu_cblist.specs.SegList.{markers, from_callback}
-use Rattle.rcu_cblist.specs.Kept.{unmarked}
+use Rattle.rcu_cblist.specs.Entries.{unmarked}
 use Rattle.rcu_cblist.proofs.pop.drop_markers.Given as goal
 
 -- what is dropped already and what is left is what there was

@@ -2,7 +2,7 @@ use Rattle.std.proofs.Common.{◌≡◌, ◌≤◌, ◌<◌, ◌+◌, ◌-◌, �
 use Rattle.std.specs.Vec.{vec_capacity}
 use Rattle.std.specs.VecDeque.{deque_capacity}
 use Rattle.rcu_cblist.specs.SegList.{callbacks, markers, from_callback}
-use Rattle.rcu_cblist.specs.Kept.{unmarked}
+use Rattle.rcu_cblist.specs.Entries.{unmarked}
 use Rattle.rcu_cblist.proofs.walks.take_first.Given as goal
 
 -- what is taken already and what is still to be taken is what was to be taken

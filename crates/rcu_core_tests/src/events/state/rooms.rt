@@ -28,7 +28,7 @@ fn passes(rt: &impl Abort, state: &mut State) {
     tend(rt, state, (0, MANY));
     turns(rt, state, Turned::Begun(1, 1));
     assert!(rt; 0 < state.cpus());
-    assert_eq!(rt; state.hear(0), Answer::Last);
+    assert_eq!(rt; state.report_now(0), Answer::Last);
     turns(rt, state, Turned::Ended(4));
     tend(rt, state, (MANY, 0));
 }

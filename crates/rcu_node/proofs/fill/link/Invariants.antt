@@ -4,7 +4,7 @@ use Rattle.rcu_node.specs.Masks.{group_masks, members, now_masks, start_masks}
 use Rattle.rcu_node.specs.Steps.{AreLinkedFrom}
 use Rattle.rcu_node.proofs.fill.link.Given as goal
 
--- the nodes from this one on have told their parents
+-- the nodes from this one on have set their bits in their parents
 abbrev pub invariant-loop-node : goal.invariant-loop-node
 invariant-loop-node g l = record {
   here : l.node ≤ nodes l.geometry;

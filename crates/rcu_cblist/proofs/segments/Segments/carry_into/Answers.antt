@@ -1,7 +1,7 @@
 use Rattle.std.proofs.Common.{◌≡◌, ◌<◌, ◌+◌, ◌++◌, length, take, drop, ap, sym, ◌∙◌}
 use Rattle.std.proofs.Common.{take-append-drop, arith}
 use Rattle.rcu_cblist.specs.SegList.{as_it_leaves, callbacks}
-use Rattle.rcu_cblist.specs.Kept.{moved_behind, moved_in_front, unmarked}
+use Rattle.rcu_cblist.specs.Entries.{moved_behind, moved_in_front, unmarked}
 use Rattle.rcu_cblist.specs.Segments.{seen}
 use Rattle.rcu_cblist.proofs.Cuts.{calls_joined, calls_within, same_calls, same_items}
 use Rattle.rcu_cblist.proofs.Carrying.{Leaves, behind_calls, carried_seen, carried_tails}

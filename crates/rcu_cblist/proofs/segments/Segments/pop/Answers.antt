@@ -1,7 +1,7 @@
 use Rattle.std.proofs.Common.{◌≡◌, ◌∷◌, [], ◌+◌, ◌-◌, take, drop, ap, sym, ◌∙◌, arith}
 use Rattle.rcu_cblist.specs.SegList.{after_take, markers, markers_passed, take_answer}
 use Rattle.rcu_cblist.specs.Cuts.{AreTails, between}
-use Rattle.rcu_cblist.specs.Kept.{unmarked}
+use Rattle.rcu_cblist.specs.Entries.{unmarked}
 use Rattle.rcu_cblist.specs.Segments.{joined, seen}
 use Rattle.rcu_cblist.proofs.Cuts.{same_calls, same_items}
 use Rattle.rcu_cblist.proofs.Lists.{taken_least}

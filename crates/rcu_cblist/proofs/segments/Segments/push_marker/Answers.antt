@@ -1,5 +1,5 @@
 use Rattle.std.proofs.Common.{◌≡◌, ◌∷◌, ◌++◌, [], length, ◌∙◌, arith}
-use Rattle.rcu_cblist.specs.declared.items.Kept.TheVariants as kept
+use Rattle.rcu_cblist.specs.declared.items.Entry.TheVariants as entry
 use Rattle.rcu_cblist.specs.Cuts.{AreTails}
 use Rattle.rcu_cblist.proofs.Cuts.{same_calls, same_items}
 use Rattle.rcu_cblist.proofs.Marking.{Marked, entrained, push_marked, some_kept}
@@ -9,7 +9,7 @@ use Rattle.rcu_cblist.proofs.segments.Segments.push_marker.Goals as goal
 -- what the places are once the marker is there
 ends : (g : _) (c : goal.After-pass_marker-3 g)
     → let s = c.args.self.now in
-    let ys = s.items.items ++ kept.Marker ∷ [] in
+    let ys = s.items.items ++ entry.Marker ∷ [] in
     let done = c.pass_marker.new.self in
     let wait = c.pass_marker-2.new.self in
     let ready = c.pass_marker-3.new.self in

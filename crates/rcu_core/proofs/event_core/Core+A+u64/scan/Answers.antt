@@ -22,4 +22,4 @@ returns g c =
     let idle = sym c.is_idle.ensures.value ∙ c.if-not-is_idle.false in
     along _ _ _ _ _ c.self.view_is (does_scan v _ c.args.cpu _
     (scan_accepted v c.args.cpu c.index.result.now there online here idle)
-    c.hear.ensures.answer (rw c.hear.ensures.state refl))
+    c.report_now.ensures.answer (rw c.report_now.ensures.state refl))

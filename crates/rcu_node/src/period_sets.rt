@@ -6,7 +6,7 @@ ghost use Rattle.rcu_node.specs.CpuSet.{is_in, size_of};
 use crate::cpu_set::CpuSet;
 
 /// The processors that a grace period awaited at its start, and those that it awaits now.
-pub trait Sets: Drop {
+pub trait PeriodSets: Drop {
     /// The processors that it awaited at its start.
     ghost start_set: { Self → List Bool };
 

@@ -3,7 +3,7 @@ use Rattle.std.proofs.lemmas.List.{length-map}
 use Rattle.rcu_node.specs.Masks.{now_masks}
 use Rattle.rcu_node.specs.declared.node.Node.{Node}
 use Rattle.rcu_node.proofs.Members.{length-members}
-use Rattle.rcu_node.proofs.nodes.NodesSets.begin.Goals as goal
+use Rattle.rcu_node.proofs.nodes.NodesPeriodSets.begin.Goals as goal
 
 pub fill-requires : goal.fill-requires
 fill-requires g c =

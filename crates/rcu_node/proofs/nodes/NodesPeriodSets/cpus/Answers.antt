@@ -1,7 +1,7 @@
 use Rattle.std.proofs.Common.{◌∙◌, sym}
 use Rattle.rcu_node.specs.Masks.{now_masks}
 use Rattle.rcu_node.proofs.Members.{length-members}
-use Rattle.rcu_node.proofs.nodes.NodesSets.cpus.Goals as goal
+use Rattle.rcu_node.proofs.nodes.NodesPeriodSets.cpus.Goals as goal
 
 pub returns : goal.returns
 returns g c =

@@ -1,7 +1,7 @@
 use Rattle.std.proofs.Common.{arith, lit<}
 use Rattle.rcu_node.specs.Masks.{now_masks, start_masks}
 use Rattle.rcu_node.proofs.Members.{is_member, length-members}
-use Rattle.rcu_node.proofs.nodes.NodesSets.starts.Goals as goal
+use Rattle.rcu_node.proofs.nodes.NodesPeriodSets.starts.Goals as goal
 
 pub leaf_of-requires : goal.leaf_of-requires
 leaf_of-requires g c =

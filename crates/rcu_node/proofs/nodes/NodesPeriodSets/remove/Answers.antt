@@ -1,7 +1,7 @@
 use Rattle.std.proofs.Common.{◌≡◌, ◌∙◌, true, sym, arith, rules, lit<}
 use Rattle.rcu_node.specs.Masks.{now_masks}
 use Rattle.rcu_node.proofs.Members.{length-members}
-use Rattle.rcu_node.proofs.nodes.NodesSets.remove.Goals as goal
+use Rattle.rcu_node.proofs.nodes.NodesPeriodSets.remove.Goals as goal
 
 pub walk-requires : goal.walk-requires
 walk-requires g c =

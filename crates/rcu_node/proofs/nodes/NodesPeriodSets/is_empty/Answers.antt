@@ -4,7 +4,7 @@ use Rattle.rcu_node.specs.Masks.{members, now_masks}
 use Rattle.rcu_node.specs.declared.node.Node.{Node}
 use Rattle.rcu_node.proofs.Members.{length-members, masks_of_members}
 use Rattle.rcu_node.proofs.Roots.{root_here, root_tells}
-use Rattle.rcu_node.proofs.nodes.NodesSets.is_empty.Goals as goal
+use Rattle.rcu_node.proofs.nodes.NodesPeriodSets.is_empty.Goals as goal
 
 pub now_mask-requires : goal.now_mask-requires
 now_mask-requires g c =

@@ -2,19 +2,19 @@
 
 use crate::awaited::{Answer, Awaited};
 use crate::cpu_set::CpuSet;
-use crate::sets::Sets;
+use crate::period_sets::PeriodSets;
 use rcu_seq::Tag;
 
 /// The sets of the latest grace period, and its tag.
 #[derive(Drop)]
-pub struct Tagged<S: Sets> {
+pub struct TaggedSets<S: PeriodSets> {
     /// The tag of the latest grace period, number 0 of epoch 0 before any.
     pub(crate) tag: Tag,
     /// Whom it awaited at its start, and whom it awaits now.
     pub(crate) sets: S,
 }
 
-impl<S: Sets> Awaited for Tagged<S> {
+impl<S: PeriodSets> Awaited for TaggedSets<S> {
     ghost tag = { λ tagged. tagged.tag };
 
     ghost start_set = { λ tagged. S.start_set tagged.sets };
