@@ -5,7 +5,7 @@ use rcu_seq::{Fault, Tag};
 /// A callback that was queued.
 #[derive(Debug, Drop)]
 pub struct Queued<T: Drop> {
-    /// Its place among all that were queued, from 1.
+    /// Which of all that were queued it is, from 1.
     pub ord: u64,
     /// The tag at its queueing.
     pub at: Tag,

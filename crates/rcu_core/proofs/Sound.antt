@@ -180,7 +180,7 @@ sound_first n last most v l e f m =
       made = λ k d m. absurd (omega arith);
     })
 
--- what is read at a place that is there is the processor there
+-- what is read at an index that is there is the processor there
 pub at_place : (v : State ℕ) (cpu : ℕ) (p : Processor)
     → IsSound v → cpu < cpus_of v.grace.processors → p ≡ get_or v.cpus cpu p
     → p ≡ processor v.cpus cpu

@@ -1,4 +1,4 @@
--- What a write of one place leaves of what is read.
+-- What a write of one item leaves of what is read.
 use Rattle.std.proofs.Common.{◌≡◌, ℕ, ◌<◌, Bool, true, false, cond, ◌||◌, List, length, refl, sym}
 use Rattle.std.proofs.Common.{subst, ◌∙◌, arith, eqb, get_or, slice_set, ne_eqb, inl, inr}
 use Rattle.std.proofs.lemmas.Bool.Decides.{nat_tests}
@@ -8,7 +8,7 @@ use Rattle.std.proofs.lemmas.List.{get_or-set_same, get_or-set_other}
 pub eqb_self : (c : ℕ) → eqb c c ≡ true
 eqb_self c = grind (arith, nat_tests)
 
--- one place is written, and the others stay
+-- one item is written, and the others stay
 pub one_written : {X : Type 0} (d : X) (xs : List X) (c : ℕ) (x : X) (f g : ℕ → X) → c < length xs
     → ((k : ℕ) → get_or xs k d ≡ f k) → g c ≡ x
     → ((k : ℕ) → eqb c k ≡ false → g k ≡ f k) → (k : ℕ) → get_or (slice_set xs c x) k d ≡ g k

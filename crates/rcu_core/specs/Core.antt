@@ -27,7 +27,7 @@ use Rattle.rcu_core.specs.declared.event.Event.TheVariants.{Renumber, Idle, Wake
 use Rattle.rcu_core.specs.declared.reply.Reply.{Reply}
 use Rattle.rcu_core.specs.declared.reply.Reply.TheVariants as reply
 
--- the state of the grace periods and the callbacks, each processor at its place, and all reports,
+-- the state of the grace periods and the callbacks, each processor at its index, and all reports,
 -- the first one first
 pub record State (X : Type 0) : Type 0 where
   pub grace : Grace X
@@ -46,7 +46,7 @@ size_at v = record {
 abbrev pub cpu_refusal : {X : Type 0} → State X → ℕ → Option Fault
 cpu_refusal v cpu = first_fault (no_cpu (size_at v) cpu ∷ [])
 
--- the processor at a place
+-- the processor at an index
 abbrev pub processor : List Processor → ℕ → Processor
 processor cpus cpu = slice_index_or cpus cpu (cpu_data.at_first cpu false)
 
@@ -77,7 +77,7 @@ says v = record {
   calls = calls_said v.grace.lists;
 }
 
--- what always holds: there are as many processors as flags, each at its place, and online where the
+-- what always holds: there are as many processors as flags, each at its index, and online where the
 -- set of the online says so; each has a list, and a flag for the barrier's visit; and each report
 -- is of a processor
 pub record IsSound {X : Type 0} (v : State X) : Type 0 where

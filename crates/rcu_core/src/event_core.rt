@@ -35,7 +35,7 @@ use std::marker::Model;
 #[derive(Drop)]
 pub struct Core<A: Awaited, T: Drop> {
     gp: GpState<A, T>,
-    /// Each processor, at its place.
+    /// Each processor, at its index.
     cpus: Vec<CpuData>,
     /// All reports, the first one first.
     reports: Vec<Report>,
@@ -198,10 +198,10 @@ impl<A: Awaited> Core<A, u64> {
         }
     }
 
-    /// The processor's place. Fault `BadCpu` (1): there is none.
-    fn place_of(&self, cpu: u32) -> Result<usize, Fault>
+    /// The processor's index. Fault `BadCpu` (1): there is none.
+    fn index_of(&self, cpu: u32) -> Result<usize, Fault>
         ensures fault { result_err result ≡ cpu_refusal self.now cpu }
-        ensures place { IfOk result (λ place. place ≡ cpu) }
+        ensures index { IfOk result (λ index. index ≡ cpu) }
     {
         if cpu >= self.gp.cpus() {
             return Err(Fault::BadCpu);
@@ -212,31 +212,31 @@ impl<A: Awaited> Core<A, u64> {
     fn enter(&mut self, cpu: u32) -> Result<Reply, Fault>
         ensures { Takes self.old (Event.Enter cpu) result self.new }
     {
-        let place = self.place_of(cpu)?;
-        Ok(Reply::Depth(self.cpus[place].enter()?))
+        let at = self.index_of(cpu)?;
+        Ok(Reply::Depth(self.cpus[at].enter()?))
     }
 
     fn exit(&mut self, cpu: u32) -> Result<Reply, Fault>
         ensures { Takes self.old (Event.Exit cpu) result self.new }
     {
-        let place = self.place_of(cpu)?;
-        Ok(Reply::Depth(self.cpus[place].exit()?))
+        let at = self.index_of(cpu)?;
+        Ok(Reply::Depth(self.cpus[at].exit()?))
     }
 
     fn note(&mut self, cpu: u32) -> Result<Reply, Fault>
         ensures { Takes self.old (Event.Note cpu) result self.new }
     {
-        let place = self.place_of(cpu)?;
+        let at = self.index_of(cpu)?;
         let now = self.gp.tag();
-        self.cpus[place].note(now)?;
+        self.cpus[at].note(now)?;
         Ok(Reply::Noted(now.number, self.gp.awaited().awaits(cpu)))
     }
 
     fn quiesce(&mut self, cpu: u32) -> Result<Reply, Fault>
         ensures { Takes self.old (Event.Quiesce cpu) result self.new }
     {
-        let place = self.place_of(cpu)?;
-        let report = self.cpus[place].quiesce()?;
+        let at = self.index_of(cpu)?;
+        let report = self.cpus[at].quiesce()?;
         self.reports.push(report)?;
         Ok(Reply::Made(self.reports.len() as u64, report))
     }
@@ -259,31 +259,31 @@ impl<A: Awaited> Core<A, u64> {
         }
     }
 
-    /// The place of a processor that departs, where nothing speaks against it.
+    /// The index of a processor that departs, where nothing speaks against it.
     fn departing(&self, cpu: u32) -> Result<usize, Fault>
         ensures fault { result_err result
             ≡ fault_in (size_at self.now) (says self.now) (Event.Offline cpu) }
-        ensures place { IfOk result (λ place. place ≡ cpu) }
+        ensures index { IfOk result (λ index. index ≡ cpu) }
     {
-        let place = self.place_of(cpu)?;
+        let at = self.index_of(cpu)?;
         if cpu == 0 {
             return Err(Fault::BootStays);
         }
         if !self.gp.online(cpu) {
             return Err(Fault::Offline);
         }
-        if self.cpus[place].depth() > 0 {
+        if self.cpus[at].depth() > 0 {
             return Err(Fault::InSection);
         }
-        Ok(place)
+        Ok(at)
     }
 
     fn depart(&mut self, cpu: u32) -> Result<Reply, Fault>
         ensures { Takes self.old (Event.Offline cpu) result self.new }
     {
-        let place = self.departing(cpu)?;
+        let at = self.departing(cpu)?;
         let moved = self.gp.migrate(cpu)?;
-        let (Ok(()), Ok(())) = (self.cpus[place].depart(), self.gp.depart(cpu)) else {
+        let (Ok(()), Ok(())) = (self.cpus[at].depart(), self.gp.depart(cpu)) else {
             unreachable!()
         };
         Ok(Reply::Moved(moved))
@@ -346,27 +346,27 @@ impl<A: Awaited> Core<A, u64> {
     fn idle(&mut self, cpu: u32) -> Result<Reply, Fault>
         ensures { Takes self.old (Event.Idle cpu) result self.new }
     {
-        let place = self.place_of(cpu)?;
-        self.cpus[place].idle()?;
+        let at = self.index_of(cpu)?;
+        self.cpus[at].idle()?;
         Ok(Reply::Idle)
     }
 
     fn wake(&mut self, cpu: u32) -> Result<Reply, Fault>
         ensures { Takes self.old (Event.Wake cpu) result self.new }
     {
-        let place = self.place_of(cpu)?;
-        self.cpus[place].wake()?;
+        let at = self.index_of(cpu)?;
+        self.cpus[at].wake()?;
         Ok(Reply::Awake)
     }
 
     fn scan(&mut self, cpu: u32) -> Result<Reply, Fault>
         ensures { Takes self.old (Event.Scan cpu) result self.new }
     {
-        let place = self.place_of(cpu)?;
+        let at = self.index_of(cpu)?;
         if !self.gp.online(cpu) {
             return Err(Fault::Offline);
         }
-        if !self.cpus[place].is_idle() {
+        if !self.cpus[at].is_idle() {
             return Err(Fault::NotIdle);
         }
         Ok(Reply::Answer(self.gp.report_now(cpu)))
@@ -375,7 +375,7 @@ impl<A: Awaited> Core<A, u64> {
     fn queue(&mut self, cpu: u32, value: u64) -> Result<Reply, Fault>
         ensures { Takes self.old (Event.Queue cpu value) result self.new }
     {
-        self.place_of(cpu)?;
+        self.index_of(cpu)?;
         if !self.gp.online(cpu) {
             return Err(Fault::Offline);
         }
@@ -388,7 +388,7 @@ impl<A: Awaited> Core<A, u64> {
     fn tend(&mut self, cpu: u32) -> Result<Reply, Fault>
         ensures { Takes self.old (Event.Tend cpu) result self.new }
     {
-        self.place_of(cpu)?;
+        self.index_of(cpu)?;
         let (done, waiting) = self.gp.tend(cpu);
         Ok(Reply::Tended(done, waiting))
     }
@@ -396,7 +396,7 @@ impl<A: Awaited> Core<A, u64> {
     fn run_callbacks(&mut self, cpu: u32, most: u64) -> Result<Reply, Fault>
         ensures { Takes self.old (Event.Run cpu most) result self.new }
     {
-        self.place_of(cpu)?;
+        self.index_of(cpu)?;
         Ok(Reply::Ran(ValueList::new(self.gp.run(cpu, most)?)))
     }
 
@@ -410,7 +410,7 @@ impl<A: Awaited> Core<A, u64> {
     fn visit(&mut self, cpu: u32) -> Result<Reply, Fault>
         ensures { Takes self.old (Event.Visit cpu) result self.new }
     {
-        self.place_of(cpu)?;
+        self.index_of(cpu)?;
         Ok(Reply::Visited(self.gp.visit(cpu)?))
     }
 

@@ -39,13 +39,13 @@ pub fn readers_finish_before_done()
 {}
 
 /// No callback runs early: between the queueing of a callback and its handing out, a full grace
-/// period lies. The callback at each place of what a run hands out has the value that the reply
+/// period lies. The callback at each index of what a run hands out has the value that the reply
 /// tells there.
 pub fn no_callback_runs_early()
-    ensures { (size : Size) (run : Run) (cpu most place : ℕ) (values : List ℕ) (call : Queued ℕ)
+    ensures { (size : Size) (run : Run) (cpu most index : ℕ) (values : List ℕ) (call : Queued ℕ)
         → IsLegalRun size ((Event.Run cpu most, Reply.Ran values) ∷ run)
-        → slice_get (handed_out cpu most (history run)) place ≡ Some call
-        → (slice_get values place ≡ Some call.value)
+        → slice_get (handed_out cpu most (history run)) index ≡ Some call
+        → (slice_get values index ≡ Some call.value)
         × (has_full_period (since call.ord (history run)) ≡ true) }
 {}
 

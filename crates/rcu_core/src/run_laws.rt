@@ -71,21 +71,21 @@ pub fn handed_callbacks_were_queued()
     ensures length { (size : Size) (run : Run) (cpu most : ℕ) (values : List ℕ)
         → IsLegalRun size ((Event.Run cpu most, Reply.Ran values) ∷ run)
         → length values ≡ length (handed_out cpu most (history run)) }
-    ensures queued { (size : Size) (run : Run) (cpu most place : ℕ) (call : Queued ℕ)
-        → IsLegalRun size run → slice_get (handed_out cpu most (history run)) place ≡ Some call
+    ensures queued { (size : Size) (run : Run) (cpu most index : ℕ) (call : Queued ℕ)
+        → IsLegalRun size run → slice_get (handed_out cpu most (history run)) index ≡ Some call
         → queued_as call.ord (history run) ≡ Some call }
 {}
 
 /// Readers finish before callbacks: when a callback is handed out, each section that is open then
 /// was opened after the callback was queued, and at a later number or in a later epoch.
 pub fn readers_finish_before_callbacks()
-    ensures later { (size : Size) (run : Run) (cpu most place reader : ℕ) (call : Queued ℕ)
+    ensures later { (size : Size) (run : Run) (cpu most index reader : ℕ) (call : Queued ℕ)
         (opened : History) → IsLegalRun size run
-        → slice_get (handed_out cpu most (history run)) place ≡ Some call
+        → slice_get (handed_out cpu most (history run)) index ≡ Some call
         → section reader (history run) ≡ Some opened → is_before call.at (tag_now opened) ≡ true }
-    ensures after { (size : Size) (run : Run) (cpu most place reader : ℕ) (call : Queued ℕ)
+    ensures after { (size : Size) (run : Run) (cpu most index reader : ℕ) (call : Queued ℕ)
         (opened : History) → IsLegalRun size run
-        → slice_get (handed_out cpu most (history run)) place ≡ Some call
+        → slice_get (handed_out cpu most (history run)) index ≡ Some call
         → section reader (history run) ≡ Some opened → call.ord ≤ queue_count opened }
 {}
 

@@ -41,11 +41,11 @@ impl ValueList {
         self.calls.is_empty()
     }
 
-    /// The value at a place, counted from 0.
-    pub fn value(&self, place: usize) -> u64
-        requires { place < length self.now }
-        ensures { result ≡ slice_index self.now place }
+    /// The value of an index, counted from 0.
+    pub fn value(&self, index: usize) -> u64
+        requires { index < length self.now }
+        ensures { result ≡ slice_index self.now index }
     {
-        self.calls[place].value
+        self.calls[index].value
     }
 }

@@ -91,23 +91,23 @@ module _ {C X : Type 0} where
   IsRun first [] = Unit {0}
   IsRun first (call ∷ calls) = MayCall (engine_after first calls) call × IsRun first calls
 
-  -- how often the callback of this place was handed out
+  -- how often the callback with this ord was handed out
   abbrev pub times_handed_out : ℕ → Locked C X → List (Call X) → ℕ
-  times_handed_out place first [] = 0
-  times_handed_out place first (Run cpu most ∷ calls) =
-      copies place (take_answer (list_of (engine_after first calls).grace.lists cpu) most)
-      + times_handed_out place first calls
-  times_handed_out place first (_ ∷ calls) = times_handed_out place first calls
+  times_handed_out ord first [] = 0
+  times_handed_out ord first (Run cpu most ∷ calls) =
+      copies ord (take_answer (list_of (engine_after first calls).grace.lists cpu) most)
+      + times_handed_out ord first calls
+  times_handed_out ord first (_ ∷ calls) = times_handed_out ord first calls
 
-  -- the callback of this place, as it was queued: its place, the tag then, and its value
+  -- the callback with this ord, as it was queued: with the tag then, and its value
   abbrev pub queued_as : ℕ → Locked C X → List (Call X) → Option (Queued X)
-  queued_as place first [] = None
-  queued_as place first (Queue cpu value ∷ calls) =
+  queued_as ord first [] = None
+  queued_as ord first (Queue cpu value ∷ calls) =
       let e = engine_after first calls in
-      if e.grace.lists.queued + 1 == place
+      if e.grace.lists.queued + 1 == ord
       then Some (record { ord = e.grace.lists.queued + 1; at = tag_of e.grace.seq; value = value })
-      else queued_as place first calls
-  queued_as place first (_ ∷ calls) = queued_as place first calls
+      else queued_as ord first calls
+  queued_as ord first (_ ∷ calls) = queued_as ord first calls
 
   -- how many callbacks were queued before the latest barrier began
   abbrev pub queued_before_barrier : Locked C X → List (Call X) → ℕ
@@ -124,15 +124,15 @@ turns_between old new =
     else (if new.running && not old.running then turn.Begin ∷ [] else [])
 
 module _ {C X : Type 0} where
-  -- the call queues the callback of this place
+  -- the call queues the callback with this ord
   abbrev pub queues : ℕ → Locked C X → Call X → Bool
-  queues place e (Queue cpu value) = e.grace.lists.queued + 1 == place
-  queues place e _ = false
+  queues ord e (Queue cpu value) = e.grace.lists.queued + 1 == ord
+  queues ord e _ = false
 
-  -- the begins and the ends of grace periods since the callback of this place was queued
+  -- the begins and the ends of grace periods since the callback with this ord was queued
   abbrev pub turns_since : ℕ → Locked C X → List (Call X) → List turn.Turn
-  turns_since place first [] = []
-  turns_since place first (call ∷ calls) =
+  turns_since ord first [] = []
+  turns_since ord first (call ∷ calls) =
       let e = engine_after first calls in
-      if queues place e call then []
-      else turns_between e.grace.seq (after_call e call).grace.seq ++ turns_since place first calls
+      if queues ord e call then []
+      else turns_between e.grace.seq (after_call e call).grace.seq ++ turns_since ord first calls

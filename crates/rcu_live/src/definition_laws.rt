@@ -53,10 +53,10 @@ pub fn a_run_hands_its_callback_out<T: Drop, P: Client>()
 
 /// A run adds what it hands out to what was handed out before it.
 pub fn a_run_adds_what_it_hands_out<T: Drop, P: Client>()
-    ensures { (first : Locked P.Known T) (calls : List (Call T)) (place cpu most : ℕ) →
-        times_handed_out place first (Call.Run cpu most ∷ calls) ≡
-        copies place (take_answer (list_of (engine_after first calls).grace.lists cpu) most)
-        + times_handed_out place first calls }
+    ensures { (first : Locked P.Known T) (calls : List (Call T)) (ord cpu most : ℕ) →
+        times_handed_out ord first (Call.Run cpu most ∷ calls) ≡
+        copies ord (take_answer (list_of (engine_after first calls).grace.lists cpu) most)
+        + times_handed_out ord first calls }
 {}
 
 /// A callback that waits is not handed out: its grace period began and did not end, or began before

@@ -30,8 +30,8 @@ pub struct Ran<T: Drop> {
 }
 
 impl<A: Awaited, T: Drop, P: Client> Engine<A, T, P> {
-    /// Queues a callback on a processor, at the number. Returns how many were queued, which is its
-    /// place among them.
+    /// Queues a callback on a processor, at the number. Returns how many were queued, this one
+    /// among them.
     ///
     /// Faults, with the value: `Offline` (2) where the processor is not online here;
     /// `CallbacksFull` (15) where as many were queued as may be; `NoMemory` (16).

@@ -70,19 +70,19 @@ pub fn readers_finish_before_done<P: Client>()
 
 /// No callback runs twice: each is handed out at most once.
 pub fn no_callback_runs_twice<T: Drop, P: Client>()
-    ensures { (first : Locked P.Known T) (calls : List (Call T)) (place : ℕ) → IsNew first →
-        IsRun first calls → times_handed_out place first calls ≤ 1 }
+    ensures { (first : Locked P.Known T) (calls : List (Call T)) (ord : ℕ) → IsNew first →
+        IsRun first calls → times_handed_out ord first calls ≤ 1 }
 {
     run_laws::no_callback_runs_twice::<T>();
 }
 
 /// No callback is lost: each one that was queued was handed out or lies in one list, once.
 pub fn no_callback_is_lost<T: Drop, P: Client>()
-    ensures { (first : Locked P.Known T) (calls : List (Call T)) (place : ℕ) → IsNew first →
-        IsRun first calls → 0 < place →
-        place ≤ (engine_after first calls).grace.lists.queued →
-        times_handed_out place first calls
-        + times_listed place (engine_after first calls).grace.lists ≡ 1 }
+    ensures { (first : Locked P.Known T) (calls : List (Call T)) (ord : ℕ) → IsNew first →
+        IsRun first calls → 0 < ord →
+        ord ≤ (engine_after first calls).grace.lists.queued →
+        times_handed_out ord first calls
+        + times_listed ord (engine_after first calls).grace.lists ≡ 1 }
 {
     run_laws::no_callback_is_lost::<T>();
 }
@@ -90,11 +90,11 @@ pub fn no_callback_is_lost<T: Drop, P: Client>()
 /// A barrier covers earlier callbacks: when its test returns done, each callback that was queued
 /// before it began has been handed out.
 pub fn barrier_covers_earlier_callbacks<T: Drop, P: Client>()
-    ensures { (first : Locked P.Known T) (calls : List (Call T)) (place : ℕ) → IsNew first →
+    ensures { (first : Locked P.Known T) (calls : List (Call T)) (ord : ℕ) → IsNew first →
         IsRun first (Call.BarrierTest ∷ calls) →
         barrier_test_answer (engine_after first calls).grace.lists ≡ BarrierState.Done →
-        0 < place → place ≤ queued_before_barrier first calls →
-        times_handed_out place first calls ≡ 1 }
+        0 < ord → ord ≤ queued_before_barrier first calls →
+        times_handed_out ord first calls ≡ 1 }
 {
     run_laws::barrier_covers_earlier_callbacks::<T>();
 }

@@ -13,9 +13,9 @@ use Rattle.rcu_node.proofs.CpuSetLemmas.{is_in-listed, length-listed, is_in-beyo
 use Rattle.rcu_node.proofs.Words.{flag_in}
 
 -- a shift moves every bit down
-has_bit_shift : (word place bit : ℕ) → has_bit (word / 2 ^ place) bit ≡ has_bit word (place + bit)
+has_bit_shift : (word first bit : ℕ) → has_bit (word / 2 ^ first) bit ≡ has_bit word (first + bit)
 unfolding has_bit
-has_bit_shift word place bit = ap (λ n. n % 2 == 1) (shr-shr word place bit)
+has_bit_shift word first bit = ap (λ n. n % 2 == 1) (shr-shr word first bit)
 
 -- a mask of ones keeps the lowest bits
 has_bit_low : (word width bit : ℕ)
@@ -46,19 +46,19 @@ has_bit_both word next bit w = elim (cases_lt bit 64) [
 ]
 
 -- what a cut reads
-pub cut-is : (word next place width bit : ℕ)
+pub cut-is : (word next first width bit : ℕ)
     → word < 2 ^ 64
-    → has_bit (bit_and ((next * 2 ^ 64 + word) / 2 ^ place) (2 ^ width - 1)) bit
+    → has_bit (bit_and ((next * 2 ^ 64 + word) / 2 ^ first) (2 ^ width - 1)) bit
     ≡ (nat_lt bit width
-    && (if nat_lt (place + bit) 64
-    then has_bit word (place + bit)
-    else has_bit next (place + bit - 64)))
-cut-is word next place width bit w =
-    has_bit_low ((next * 2 ^ 64 + word) / 2 ^ place) width bit
-    ∙ ap (λ b. nat_lt bit width && b) (has_bit_shift (next * 2 ^ 64 + word) place bit
-    ∙ has_bit_both word next (place + bit) w)
+    && (if nat_lt (first + bit) 64
+    then has_bit word (first + bit)
+    else has_bit next (first + bit - 64)))
+cut-is word next first width bit w =
+    has_bit_low ((next * 2 ^ 64 + word) / 2 ^ first) width bit
+    ∙ ap (λ b. nat_lt bit width && b) (has_bit_shift (next * 2 ^ 64 + word) first bit
+    ∙ has_bit_both word next (first + bit) w)
 
--- from a place of a word on, into the next one, lie the flags of the processors from there on
+-- from a bit of a word on, into the next one, lie the flags of the processors from there on
 flag_in-next : (words : List ℕ) (from bit word next : ℕ)
     → bit < 64
     → word ≡ slice_index words (from / 64)
@@ -69,11 +69,11 @@ flag_in-next : (words : List ℕ) (from bit word next : ℕ)
     ≡ flag_in words (from + bit)
 flag_in-next words from bit word next b e f = elim (cases_lt (from % 64 + bit) 64) [
   | inl l ↦ (let same : (from + bit) / 64 ≡ from / 64 = omega arith in
-      let place : (from + bit) % 64 ≡ from % 64 + bit = omega arith in
-      rw (same, place, e) (grind (arith, nat_tests, l)))
+      let rest : (from + bit) % 64 ≡ from % 64 + bit = omega arith in
+      rw (same, rest, e) (grind (arith, nat_tests, l)))
   | inr l ↦ (let more : (from + bit) / 64 ≡ from / 64 + 1 = omega arith in
-      let place : (from + bit) % 64 ≡ from % 64 + bit - 64 = omega arith in
-      rw (more, place, f) (grind (arith, nat_tests, l)))
+      let rest : (from + bit) % 64 ≡ from % 64 + bit - 64 = omega arith in
+      rw (more, rest, f) (grind (arith, nat_tests, l)))
 ]
 
 -- the flags of a set from a processor on

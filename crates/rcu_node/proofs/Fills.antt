@@ -51,14 +51,14 @@ no_leaf s set node bit inner =
     let above : nat_le (first_leaf s) node ≡ false = grind (arith, nat_tests, inner) in
     rw above refl
 
--- the processor at a place of a leaf lies there
+-- the processor of a leaf's bit lies there
 cpu_at : (s : Shape) (node bit : ℕ) → first_leaf s ≤ node → bit < s.leaf
     → (node - first_leaf s) * s.leaf + bit < s.cpus
     → IsCpuOf s node bit ((node - first_leaf s) * s.leaf + bit)
 cpu_at s node bit leaf low below =
-    let place = node - first_leaf s in
-    let quotient : (place * s.leaf + bit) / s.leaf ≡ place = div-mul-add place s.leaf bit low in
-    let remainder : (place * s.leaf + bit) % s.leaf ≡ bit = mod-mul-add place s.leaf bit low in
+    let nth = node - first_leaf s in
+    let quotient : (nth * s.leaf + bit) / s.leaf ≡ nth = div-mul-add nth s.leaf bit low in
+    let remainder : (nth * s.leaf + bit) % s.leaf ≡ bit = mod-mul-add nth s.leaf bit low in
     record {
       here = below;
       leaf = omega (arith, quotient, leaf);
@@ -73,7 +73,7 @@ leaf_begins s node legal leaf here =
     let cpu = first.0 in
     let quotient : cpu / s.leaf ≡ node - first_leaf s = (let is = first.1.leaf in omega arith) in
     let whole : (node - first_leaf s) * s.leaf ≡ cpu =
-    ap (λ place. place * s.leaf) (sym quotient)
+    ap (λ nth. nth * s.leaf) (sym quotient)
     ∙ (let split = div-add-mod' cpu s.leaf in
     let none = first.1.bit in omega (arith, split, none)) in
     let below = first.1.below in

@@ -51,8 +51,8 @@ bit_low s cpu legal =
 pub is_member : (s : Shape) (masks : List ℕ) (cpu node bit word : ℕ)
     → cpu < s.cpus → node ≡ leaf_of s cpu → bit ≡ bit_of s cpu → word ≡ slice_index masks node
     → (bit_and (word / 2 ^ bit) 1 == 1) ≡ is_in (members s masks) cpu
-is_member s masks cpu node bit word below here place read =
-    rw (read, here, place)
+is_member s masks cpu node bit word below here bit_is read =
+    rw (read, here, bit_is)
     (has_bit_shr (slice_index masks (leaf_of s cpu)) (bit_of s cpu)
     ∙ sym (is_in-members s masks cpu below))
 

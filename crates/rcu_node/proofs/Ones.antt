@@ -35,13 +35,13 @@ listed_both m n test first rest h k =
           ∙ sym (is_in-listed m first i low)
           ∙ sym
           (get_or_append_left (listed m first) (listed n rest) false i (omega (arith, low, before)))
-      | inr high ↦ (let place : i ≡ m + (i - m) = omega (arith, high) in
-          ap test place ∙ k (i - m) (omega (arith, high, l))
+      | inr high ↦ (let split : i ≡ m + (i - m) = omega (arith, high) in
+          ap test split ∙ k (i - m) (omega (arith, high, l))
           ∙ sym (is_in-listed n rest (i - m) (omega (arith, high, l)))
           ∙ sym (get_or-append_right (listed m first) (listed n rest) m i false before high))
     ])
 
--- flags of which none is set from a place on have as many as those before it
+-- flags of which none is set from one on have as many as those before it
 pub size_of-listed_rest : (m n : ℕ) (test : ℕ → Bool) → m ≤ n → ((i : ℕ) → m ≤ i → test i ≡ false)
     → size_of (listed n test) ≡ size_of (listed m test)
 size_of-listed_rest m n test l none =
@@ -103,11 +103,11 @@ sum_of_ones-is (word ∷ words) fits =
         → flag_in (word ∷ words) i ≡ has_bit word i
     in_first word words i l =
         let first : i / 64 ≡ 0 = omega arith in
-        let place : i % 64 ≡ i = omega arith in rw (first, place) refl
+        let rest : i % 64 ≡ i = omega arith in rw (first, rest) refl
 
     in_rest : (word : ℕ) (words : List ℕ) (i : ℕ) → i < 64 * length words
         → flag_in (word ∷ words) (64 + i) ≡ flag_in words i
     in_rest word words i l =
         let next : (64 + i) / 64 ≡ suc (i / 64) = omega arith in
-        let place : (64 + i) % 64 ≡ i % 64 = omega arith in
-        rw (next, place) refl
+        let rest : (64 + i) % 64 ≡ i % 64 = omega arith in
+        rw (next, rest) refl

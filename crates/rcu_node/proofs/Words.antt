@@ -18,17 +18,17 @@ use Rattle.rcu_node.proofs.CpuSetLemmas.{size_of-none}
 abbrev pub flag_in : List ℕ → ℕ → Bool
 flag_in words cpu = has_bit (slice_index words (cpu / 64)) (cpu % 64)
 
--- the place in a word is below 64
-place_below : (cpu : ℕ) → cpu % 64 < 64
-place_below cpu = mod_below cpu 64 (lit< tt)
+-- the bit in a word is below 64
+bit_below : (cpu : ℕ) → cpu % 64 < 64
+bit_below cpu = mod_below cpu 64 (lit< tt)
 
 -- the word of a processor is there
 pub word_below : (cpus cpu words : ℕ) → cpu < cpus → cpus ≤ 64 * words → cpu / 64 < words
 word_below cpus cpu words l h = div_below cpu 64 words (lit< tt) (omega arith)
 
--- two processors in one word have different places
-places_differ : (a b : ℕ) → a / 64 ≡ b / 64 → a ≢ b → a % 64 ≢ b % 64
-places_differ a b same n e =
+-- two processors in one word have different bits
+bits_differ : (a b : ℕ) → a / 64 ≡ b / 64 → a ≢ b → a % 64 ≢ b % 64
+bits_differ a b same n e =
     n (sym (div-add-mod' a 64)
     ∙ (ap (λ q. q * 64 + a % 64) same ∙ ap (λ r. b / 64 * 64 + r) e)
     ∙ div-add-mod' b 64)
@@ -44,7 +44,7 @@ flag_in-set_other : (words : List ℕ) (cpu word k : ℕ) → cpu / 64 < length 
     → flag_in (slice_set words (cpu / 64) word) k ≡ flag_in words k
 flag_in-set_other words cpu word k here n h = elim (cases_eq (k / 64) (cpu / 64)) [
   | inl i ↦ rw (i, get_or-set_same words (cpu / 64) word 0 here)
-      (h (k % 64) (place_below k) (places_differ k cpu i n))
+      (h (k % 64) (bit_below k) (bits_differ k cpu i n))
   | inr i ↦ ap (λ v. has_bit v (k % 64)) (get_or-set_other words (cpu / 64) (k / 64) word 0 i)
 ]
 
@@ -99,9 +99,9 @@ pub insert-is : (cpus : ℕ) (words : List ℕ) (set : List Bool) (cpu word : �
     ≡ slice_set set cpu true
 insert-is cpus words set cpu word e l m r =
     flags_in-set cpus words cpu (bit_or word (1 * 2 ^ (cpu % 64) % 2 ^ 64)) true l m
-    (has_bit_set_same word (cpu % 64) (place_below cpu))
+    (has_bit_set_same word (cpu % 64) (bit_below cpu))
     (λ i il n.
-    has_bit_set_other word (cpu % 64) i (place_below cpu) n
+    has_bit_set_other word (cpu % 64) i (bit_below cpu) n
     ∙ ap (λ v. has_bit v i) (read_is cpus words cpu word l m r))
     ∙ ap (λ s. slice_set s cpu true) e
 
@@ -115,7 +115,7 @@ pub none_beyond-insert : (cpus : ℕ) (words : List ℕ) (cpu word : ℕ)
 none_beyond-insert cpus words cpu word l m r =
     none_beyond-set cpus words cpu (bit_or word (1 * 2 ^ (cpu % 64) % 2 ^ 64)) l m
     (λ i il n.
-    has_bit_set_other word (cpu % 64) i (place_below cpu) n
+    has_bit_set_other word (cpu % 64) i (bit_below cpu) n
     ∙ ap (λ v. has_bit v i) (read_is cpus words cpu word l m r))
 
 -- with its bit cleared the processor is out
@@ -129,9 +129,9 @@ pub remove-is : (cpus : ℕ) (words : List ℕ) (set : List Bool) (cpu word : �
     ≡ slice_set set cpu false
 remove-is cpus words set cpu word e l m r =
     flags_in-set cpus words cpu (bit_and word (bit_not w64 (1 * 2 ^ (cpu % 64) % 2 ^ 64))) false l m
-    (has_bit_clear_same word (cpu % 64) (place_below cpu))
+    (has_bit_clear_same word (cpu % 64) (bit_below cpu))
     (λ i il n.
-    has_bit_clear_other word (cpu % 64) i (place_below cpu) il n
+    has_bit_clear_other word (cpu % 64) i (bit_below cpu) il n
     ∙ ap (λ v. has_bit v i) (read_is cpus words cpu word l m r))
     ∙ ap (λ s. slice_set s cpu false) e
 
@@ -146,7 +146,7 @@ pub none_beyond-remove : (cpus : ℕ) (words : List ℕ) (cpu word : ℕ)
 none_beyond-remove cpus words cpu word l m r =
     none_beyond-set cpus words cpu (bit_and word (bit_not w64 (1 * 2 ^ (cpu % 64) % 2 ^ 64))) l m
     (λ i il n.
-    has_bit_clear_other word (cpu % 64) i (place_below cpu) il n
+    has_bit_clear_other word (cpu % 64) i (bit_below cpu) il n
     ∙ ap (λ v. has_bit v i) (read_is cpus words cpu word l m r))
 
 -- no bit of a word beyond the last is set

@@ -1,5 +1,5 @@
--- Sets of processors, as lists of flags: the processor c is in the set where the flag at place c is
--- true.
+-- Sets of processors, as lists of flags: the processor c is in the set where flag c, counted from
+-- 0, is true.
 use Rattle.std.specs.Prelude.{ℕ, ◌≡◌, ◌⊎◌, ◌<◌, ◌≤◌, Bool, false, not, ◌&&◌, ◌||◌, List, length}
 use Rattle.std.specs.Prelude.{map, count_by, slice_index_or}
 use Rattle.std.specs.List.{range_with_len}

@@ -20,17 +20,17 @@ abbrev pub group_masks : List Node → List ℕ
 group_masks nodes = map (λ node. node.grpmask) nodes
 
 -- a bit of a leaf is that of a processor
-pub record IsCpuOf (s : Shape) (node place cpu : ℕ) : Type 0 where
+pub record IsCpuOf (s : Shape) (node i cpu : ℕ) : Type 0 where
   pub here : cpu < s.cpus
   pub leaf : leaf_of s cpu ≡ node
-  pub bit : bit_of s cpu ≡ place
+  pub bit : bit_of s cpu ≡ i
 
 -- a bit of an inner node is that of a child
-pub record IsChildOf (s : Shape) (node place child : ℕ) : Type 0 where
+pub record IsChildOf (s : Shape) (node i child : ℕ) : Type 0 where
   pub some : 0 < child
   pub here : child < nodes s
   pub parent : parent s child ≡ node
-  pub bit : bit_in_parent s child ≡ place
+  pub bit : bit_in_parent s child ≡ i
 
 -- each node has a mask, and no bit is set but those of its processors or children
 pub record AreOwned (s : Shape) (masks : List ℕ) : Type 0 where

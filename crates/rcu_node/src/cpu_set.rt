@@ -167,16 +167,16 @@ impl CpuSet {
     }
 }
 
-/// `width` bits, from a place of a word on and into the next word.
-fn cut(word: u64, next: u64, place: u32, width: u32) -> u64
-    requires place { place < 64 }
+/// `width` bits, from bit `first` of a word on and into the next word.
+fn cut(word: u64, next: u64, first: u32, width: u32) -> u64
+    requires first { first < 64 }
     requires width { width ≤ 64 }
     ensures { (bit : ℕ) → has_bit result bit
-        ≡ (nat_lt bit width && (if nat_lt (place + bit) 64 then has_bit word (place + bit)
-        else has_bit next (place + bit - 64))) }
+        ≡ (nat_lt bit width && (if nat_lt (first + bit) 64 then has_bit word (first + bit)
+        else has_bit next (first + bit - 64))) }
 {
     let both = (u128::from(next) << WORD_BITS) + u128::from(word);
-    ((both >> place) & ((1 << width) - 1)) as u64
+    ((both >> first) & ((1 << width) - 1)) as u64
 }
 
 /// Sets the bits of other words in the words of the same places.

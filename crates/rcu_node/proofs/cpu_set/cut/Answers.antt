@@ -11,4 +11,4 @@ returns c =
     let ones : 1 * 2 ^ c.args.width % 2 ^ 128 ≡ 2 ^ c.args.width =
     one_shl c.args.width 128 (omega arith) in
     rw (both, ones)
-    (λ bit. cut-is c.args.word c.args.next c.args.place c.args.width bit c.ranges.word.fits)
+    (λ bit. cut-is c.args.word c.args.next c.args.first c.args.width bit c.ranges.word.fits)

@@ -12,7 +12,7 @@ returns-in_err-moved g c =
     c.from_residual-in_err-moved.ensures.1 in
     let accepted =
     subst (λ (v : State ℕ). fault_in (size_at v) (says v) (Offline c.args.cpu) ≡ None)
-    (sym c.self.view_is) (sym c.in_ok-place.ensures.fault) in
+    (sym c.self.view_is) (sym c.in_ok-at.ensures.fault) in
     let kept = c.in_err-moved.ensures.unchanged in
     rw (p.1, p.2)
     (along _ _ _ _ _ c.self.view_is

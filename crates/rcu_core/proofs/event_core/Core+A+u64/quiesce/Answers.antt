@@ -10,7 +10,7 @@ invariant_of-self-2 g c =
     let within : c.args.cpu < cpus_of c.self.inside.gp.grace.processors = search rules in
     let here : c.index.result.now ≡ processor c.self.inside.cpus.items c.args.cpu =
     at_place _ _ _ c.self.invariant.sound within
-    (rw c.in_ok-place.ensures.place at c.index.ensures) in
+    (rw c.in_ok-at.ensures.index at c.index.ensures) in
     let made : c.in_ok-report.report ≡ report_of (processor c.self.inside.cpus.items c.args.cpu) =
     c.in_ok-report.ensures.report ∙ ap (λ (p : Processor). report_of p) here in
     let pushed : c.push.new.self.items ≡ c.self.inside.reports.items ++ c.in_ok-report.report ∷ [] =

@@ -11,11 +11,11 @@ returns g c =
       cpus = c.self.inside.cpus.items;
       made = c.self.inside.reports.items;
     } in
-    let place = c.in_ok-place.ensures in
-    let at = ap (λ n. slice_index_or c.self.inside.cpus.items n c.index.result.now) place.place in
+    let found = c.in_ok-at.ensures in
+    let at = ap (λ n. slice_index_or c.self.inside.cpus.items n c.index.result.now) found.index in
     let there = found_below v c.args.cpu
     (subst (λ (u : State ℕ). cpu_refusal u c.args.cpu ≡ None) (sym c.self.view_is)
-    (sym place.fault)) in
+    (sym found.fault)) in
     let here =
     at_place v c.args.cpu c.index.result.now c.self.invariant.sound there (c.index.ensures ∙ at) in
     let online = sym c.online.ensures ∙ c.if-not-online.false in
