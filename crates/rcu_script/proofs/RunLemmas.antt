@@ -1,14 +1,11 @@
 -- What a run over the lines leaves, as what the whole run leaves.
-use Rattle.std.proofs.Common.{◌≡◌, ◌++◌, ℕ, List, Option, Some, None, Ok, Err, IfSome, inl, inr}
-use Rattle.std.proofs.Common.{refl, sym}
-use Rattle.rcu_seq.specs.Memory.{tested_fault}
+use Rattle.std.proofs.Common.{◌≡◌, ◌++◌, ℕ, List, Option, Some, None, Ok, Err, IfSome}
 use Rattle.rcu_seq.specs.declared.fault.Fault.{Fault}
-use Rattle.rcu_seq.specs.declared.fault.Fault.TheVariants.{NoMemory}
 use Rattle.rcu_text.specs.Lines.{cut_of, lines_of, lines_read}
 use Rattle.rcu_text.specs.Runs.{Answered, BrokenOff, Ends, Finished, RunsThrough}
 use Rattle.rcu_text.specs.declared.line_loop.StreamFault.{StreamFault}
 use Rattle.rcu_text.specs.declared.line_loop.StreamFault.TheVariants as stream
-use Rattle.rcu_script.specs.RunEnds.{IsRefusedBy, RunsFromOpening, fault_of}
+use Rattle.rcu_script.specs.RunEnds.{RunsFromOpening, fault_of}
 use Rattle.rcu_script.specs.declared.runs.RunFault.{RunFault}
 
 -- what holds of lines and a text
@@ -48,13 +45,6 @@ if_some_by : (s : Option (List ℕ)) (P Q : List ℕ → Type 0)
     → ((bytes : List ℕ) → P bytes → Q bytes) → IfSome s P → IfSome s Q
 if_some_by None P Q is p = tt
 if_some_by (Some bytes) P Q is p = is bytes p
-
--- an opening that gave up did so for the first fault that its tests found, or else for want of
--- memory
-pub refused_from : (first : Option Fault) (fault : Fault)
-    → tested_fault {A = Unit {0}} (Err fault) ≡ first → IsRefusedBy first fault
-refused_from first NoMemory is = inr (sym is, refl)
-refused_from first fault is = inl (sym is)
 
 module _ (P IsText : Past) (is : (l : List (List ℕ)) (t : List ℕ) → P l t → IsText l t)
     (old new : Ends) where

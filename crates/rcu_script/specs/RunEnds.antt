@@ -1,8 +1,8 @@
 -- How a run ends, from its opening on. Which texts answer which lines is a relation `IsText`
 -- throughout.
-use Rattle.std.specs.Prelude.{◌≡◌, ◌⊎◌, ℕ, List, Option, Some, None, Result, Ok, Err}
+use Rattle.std.specs.Prelude.{◌≡◌, ℕ, List, Option, None, Result, Ok, Err}
+use Rattle.rcu_seq.specs.Memory.{tested_fault}
 use Rattle.rcu_seq.specs.declared.fault.Fault.{Fault}
-use Rattle.rcu_seq.specs.declared.fault.Fault.TheVariants.{NoMemory}
 use Rattle.rcu_text.specs.Runs.{Ends, Finished, StoppedReading, StoppedWriting}
 use Rattle.rcu_text.specs.declared.line_loop.StreamFault.{StreamFault}
 use Rattle.rcu_text.specs.declared.line_loop.StreamFault.TheVariants as stream
@@ -14,16 +14,12 @@ abbrev pub fault_of : StreamFault → RunFault
 fault_of stream.Read = Read
 fault_of stream.Write = Write
 
--- an opening is refused by the first fault that is tested, and where there is none, for want of
--- memory
-abbrev pub IsRefusedBy : Option Fault → Fault → Type 0
-IsRefusedBy first fault = (first ≡ Some fault) ⊎ ((first ≡ None) × (fault ≡ NoMemory))
-
--- how a run ends, where this is the first fault of its opening: where it is refused, nothing was
--- read or written
+-- how a run ends, where this is the first fault that the tests of its opening find: where it is
+-- refused, nothing was read or written
 abbrev pub RunsFromOpening : Result (Unit {0}) RunFault
     → Option Fault → (List (List ℕ) → List ℕ → Type 0) → Ends → Ends → Type 0
 RunsFromOpening (Ok x) first IsText old new = (first ≡ None) × Finished IsText old new
-RunsFromOpening (Err (Open fault)) first IsText old new = IsRefusedBy first fault × (new ≡ old)
+RunsFromOpening (Err (Open fault)) first IsText old new =
+    (tested_fault {A = Unit {0}} (Err fault) ≡ first) × (new ≡ old)
 RunsFromOpening (Err Read) first IsText old new = (first ≡ None) × StoppedReading IsText old new
 RunsFromOpening (Err Write) first IsText old new = (first ≡ None) × StoppedWriting IsText old new

@@ -2,13 +2,13 @@ use Rattle.std.proofs.Common.{refl, ap, sym, ◌∙◌}
 use Rattle.std.proofs.lemmas.Result.{err_from_is_err_and}
 use Rattle.rcu_script.specs.PairState.{Pair}
 use Rattle.rcu_script.specs.PairTexts.{pair_replies}
-use Rattle.rcu_script.proofs.RunLemmas.{finished_from, refused_from, stopped_from}
+use Rattle.rcu_script.proofs.RunLemmas.{finished_from, stopped_from}
 use Rattle.rcu_script.proofs.pair.run.run_over.Goals as goal
 
 pub returns-in_err-pair : goal.returns-in_err-pair
 returns-in_err-pair g c =
     let p = err_from_is_err_and c.from_residual.result c.from_residual.ensures.1 in
-    rw (p.1, p.2) (refused_from _ _ c.in_err-pair.ensures.fault, refl)
+    rw (p.1, p.2) (c.in_err-pair.ensures.fault, refl)
 
 pub returns-in_err-run : goal.returns-in_err-run
 returns-in_err-run g c =

@@ -3,13 +3,13 @@ use Rattle.std.proofs.lemmas.Result.{err_from_is_err_and}
 use Rattle.rcu_core.specs.Replies.{Size}
 use Rattle.rcu_script.specs.ScriptAnswers.{IsAnswer}
 use Rattle.rcu_script.proofs.ExactLemmas.{is_answer}
-use Rattle.rcu_script.proofs.RunLemmas.{finished_from, refused_from, stopped_from}
+use Rattle.rcu_script.proofs.RunLemmas.{finished_from, stopped_from}
 use Rattle.rcu_script.proofs.script.run.run_over.Goals as goal
 
 pub returns-in_err-core : goal.returns-in_err-core
 returns-in_err-core g c =
     let p = err_from_is_err_and c.from_residual.result c.from_residual.ensures.1 in
-    rw (p.1, p.2) (refused_from _ _ c.in_err-core.ensures.fault, refl)
+    rw (p.1, p.2) (c.in_err-core.ensures.fault, refl)
 
 pub returns-in_err-run : goal.returns-in_err-run
 returns-in_err-run g c =
