@@ -52,7 +52,7 @@ impl<S> Marked<S> {
         ensures moved { IfOk answer (λ n. least ≤ n → (result ≡ Ok n) × (self.new ≡ self.old)) }
         ensures short { IfOk answer (λ n. n < least
             → IsErr result × (self.new ≡ (self.old.0, true))) }
-        ensures err { OnErr answer (IsErr result × (self.new ≡ (self.old.0, true))) }
+        ensures failed { OnErr answer (IsErr result × (self.new ≡ (self.old.0, true))) }
     {
         match answer {
             Ok(count) if count >= least => Ok(count),

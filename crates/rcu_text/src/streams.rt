@@ -23,8 +23,8 @@ pub trait Source {
         ensures bound { ReadsAtMost result buf.new }
         ensures bytes { ReadConsumes (incoming self.old).remaining (incoming self.new).remaining
             result buf.new }
-        ensures ok { OnOk result ((incoming self.new).failed ≡ (incoming self.old).failed) }
-        ensures err { OnErr result ((incoming self.new).failed ≡ true) };
+        ensures sound { OnOk result ((incoming self.new).failed ≡ (incoming self.old).failed) }
+        ensures failed { OnErr result ((incoming self.new).failed ≡ true) };
 }
 
 /// What takes bytes, and keeps in mind whether a write failed.
@@ -43,6 +43,6 @@ pub trait Sink {
         ensures some { 0 < length bytes.now → IfOk result (λ n. 0 < n) }
         ensures bytes { WriteAppends (outgoing self.old).taken (outgoing self.new).taken
             result bytes.now }
-        ensures ok { OnOk result ((outgoing self.new).failed ≡ (outgoing self.old).failed) }
-        ensures err { OnErr result ((outgoing self.new).failed ≡ true) };
+        ensures sound { OnOk result ((outgoing self.new).failed ≡ (outgoing self.old).failed) }
+        ensures failed { OnErr result ((outgoing self.new).failed ≡ true) };
 }

@@ -5,4 +5,4 @@ pub loop-rest-preserved : goal.loop-rest-preserved
 loop-rest-preserved g c =
     rw c.split_at.ensures.back
     (takes_more _ _ _ c.args.bytes.now c.loop-rest.rest.now c.in_ok-taken.taken
-    c.loop-rest.invariant c.in_ok-taken.ensures.bytes c.in_ok-taken.ensures.ok)
+    c.loop-rest.invariant c.in_ok-taken.ensures.bytes c.in_ok-taken.ensures.sound)

@@ -15,7 +15,7 @@ pub returns-in-Err-clause-ran : goal.returns-in-Err-clause-ran
 returns-in-Err-clause-ran g c = λ told.
     read_failed (g.A.Responder.past _ _) _ (g.R.Source.incoming c.loop-turn.reader) _ _ _ _
     c.loop-turn._turn (c.loop-turn.invariant.goes told) c.requires c.loop-turn.invariant.empty
-    c.in-Err.ensures.bytes c.in-Err.ensures.err
+    c.in-Err.ensures.bytes c.in-Err.ensures.failed
 
 pub returns-in-Ok-finish-clause-ran : goal.returns-in-Ok-finish-clause-ran
 returns-in-Ok-finish-clause-ran g c = λ told.
@@ -25,7 +25,7 @@ returns-in-Ok-finish-clause-ran g c = λ told.
     (g.R.Source.incoming c.loop-turn.reader) _ _ _ _ _ c.read.new.buf c.loop-turn._turn c.in-Ok.read
     m c.if-read-eq0.true c.in-Ok.ensures.bytes.0 (c.in-Ok.ensures.bytes.1 c.if-read-eq0.true room)
     (c.in-Ok-finish.ensures.goes _ _ m.bytes m.underway) c.requires c.in-Ok-finish.ensures.empty
-    (c.in-Ok.ensures.ok ∙ c.loop-turn.invariant.sound)
+    (c.in-Ok.ensures.sound ∙ c.loop-turn.invariant.sound)
 
 pub returns-in-Err-finish-clause-ran : goal.returns-in-Err-finish-clause-ran
 returns-in-Err-finish-clause-ran g c = λ told.
@@ -35,7 +35,7 @@ returns-in-Err-finish-clause-ran g c = λ told.
     (g.R.Source.incoming c.loop-turn.reader) _ _ _ _ _ c.read.new.buf c.loop-turn._turn c.in-Ok.read
     m c.if-read-eq0.true c.in-Ok.ensures.bytes.0 (c.in-Ok.ensures.bytes.1 c.if-read-eq0.true room)
     (c.in-Err-finish.ensures.goes _ _ m.bytes m.underway) c.requires
-    (c.in-Ok.ensures.ok ∙ c.loop-turn.invariant.sound)
+    (c.in-Ok.ensures.sound ∙ c.loop-turn.invariant.sound)
 
 pub returns-in-Err-take_piece-clause-ran : goal.returns-in-Err-take_piece-clause-ran
 returns-in-Err-take_piece-clause-ran g c = λ told.
@@ -44,7 +44,7 @@ returns-in-Err-take_piece-clause-ran g c = λ told.
     (g.R.Source.incoming c.loop-turn.reader) _ _ _ _ _ c.read.new.buf _ c.loop-turn._turn
     c.in-Ok.read m c.in-Ok.ensures.bytes.0 c.split_at.ensures.front
     (c.in-Err-take_piece.ensures.goes _ _ m.bytes m.underway) c.requires
-    (c.in-Ok.ensures.ok ∙ c.loop-turn.invariant.sound)
+    (c.in-Ok.ensures.sound ∙ c.loop-turn.invariant.sound)
 
 pub loop-turn-preserved : goal.loop-turn-preserved
 loop-turn-preserved g c =
@@ -56,7 +56,7 @@ loop-turn-preserved g c =
           c.in-Ok.ensures.bytes.0 some fits c.split_at.ensures.front
           (λ bytes u. c.in-Ok-take_piece.ensures.goes _ _ bytes u);
       empty = c.in-Ok-take_piece.ensures.empty;
-      sound = c.in-Ok.ensures.ok ∙ c.loop-turn.invariant.sound;
+      sound = c.in-Ok.ensures.sound ∙ c.loop-turn.invariant.sound;
       same = c.in-Ok-take_piece.ensures.same ∙ c.loop-turn.invariant.same;
     }
 
