@@ -6,7 +6,7 @@ use Rattle.std.proofs.lemmas.List.{append-nil, drop_all, length-replicate}
 use Rattle.std.proofs.lemmas.List.{replicate-append-replicate}
 use Rattle.std.proofs.lemmas.Bool.Decides.{nat_tests}
 use Rattle.rcu_seq.specs.Numbers.{Number, snapshot}
-use Rattle.rcu_defer.specs.declared.batch.Batch.{Batch}
+use Rattle.rcu_defer.specs.declared.marks.Batch.{Batch}
 use Rattle.rcu_defer.specs.Marks.{Marking, after_advance, after_mark, due, last_from, last_number}
 use Rattle.rcu_defer.specs.Marks.{shown}
 

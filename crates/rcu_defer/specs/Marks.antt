@@ -6,7 +6,7 @@ use Rattle.rcu_seq.specs.Fault.{first_fault}
 use Rattle.rcu_seq.specs.Numbers.{Number, snapshot}
 use Rattle.rcu_seq.specs.declared.fault.Fault.{Fault}
 use Rattle.rcu_seq.specs.declared.fault.Fault.TheVariants.{CallbacksFull}
-use Rattle.rcu_defer.specs.declared.batch.Batch.{Batch}
+use Rattle.rcu_defer.specs.declared.marks.Batch.{Batch}
 
 -- what contracts see of them: how many were taken out; how many are done, with those; for what
 -- number each of those waits that come behind, in order; how many came since the last tend; and the

@@ -63,7 +63,7 @@ impl<T: Drop> DeferList<T> {
             (self.new ≡ with_room (list_after_defer self.old value) self.new.room) }
         ensures fault { IfErr result (λ refused. refused.fault ≡ defer_fault self.old) }
         ensures handed_back { IfErr result (λ refused. refused.value ≡ value) }
-        ensures accepted { OnOk result (defer_refusal self.old.marks ≡ None) }
+        ensures few { OnOk result (defer_refusal self.old.marks ≡ None) }
         ensures succeeds { defer_refusal self.old.marks ≡ None →
             length self.old.values < self.old.room → IsOk result }
         ensures unchanged { OnErr result (self.new ≡ with_room self.old self.new.room) }

@@ -60,7 +60,7 @@ impl<T: Drop, P: Client> Deferrer<T, P> {
         ensures watcher { self.new.watcher ≡ self.old.watcher }
         ensures fault { IfErr result (λ refused. refused.fault ≡ defer_fault self.old.list) }
         ensures handed_back { IfErr result (λ refused. refused.value ≡ value) }
-        ensures accepted { OnOk result (defer_refusal self.old.list.marks ≡ None) }
+        ensures few { OnOk result (defer_refusal self.old.list.marks ≡ None) }
         ensures succeeds { defer_refusal self.old.list.marks ≡ None →
             length self.old.list.values < self.old.list.room → IsOk result }
         ensures unchanged { OnErr result

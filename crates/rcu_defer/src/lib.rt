@@ -1,7 +1,6 @@
 //! Values that a thread defers until a grace period has passed, without a lock.
 #![tactic(auto)]
 
-mod batch;
 pub mod defer_list;
 pub mod deferrer;
 pub mod laws;

@@ -5,13 +5,26 @@ ghost use Rattle.rcu_defer.specs.Marks.{after_advance, after_defer, after_mark, 
 ghost use Rattle.rcu_defer.specs.Marks.{after_tend, at_first, count_of, defer_refusal, last_number};
 ghost use Rattle.rcu_defer.specs.Marks.{deferred_of, most_deferred, ready_of};
 
-use crate::batch::Batch;
 use rcu_seq::Fault;
 use rcu_seq::cookie::snapshot;
 use std::marker::Model;
 
 /// How many deferrals there may be.
 const MOST_DEFERRED: u64 = 1 << 62;
+
+/// Deferrals in a row that wait for one number.
+#[derive(Clone, Copy, Debug)]
+pub(crate) struct Batch {
+    /// The number that they wait for; it means nothing where there is none of them.
+    pub(crate) until: u64,
+    /// How many they are.
+    pub(crate) count: u64,
+}
+
+impl Batch {
+    /// No deferral.
+    pub(crate) const NONE: Batch = Batch { until: 0, count: 0 };
+}
 
 /// What one thread's deferrals wait for, in order (the marks of Linux's `rcu_segcblist`): those
 /// that are done, those that wait for a number, and those that came since the last tend. What is
