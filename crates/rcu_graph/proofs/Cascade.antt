@@ -19,12 +19,13 @@ use Rattle.rcu_graph.specs.declared.known.Known.{Known}
 use Rattle.rcu_graph.specs.declared.known.Node.{Node}
 use Rattle.rcu_graph.specs.declared.node_state.NodeState.TheVariants.{Left, Live}
 use Rattle.rcu_graph.proofs.Counting.{leads_counts, live_in-left, live_inside}
+use Rattle.rcu_graph.proofs.Counting.{state_keeps_links, state_keeps_words}
 use Rattle.rcu_graph.proofs.Filling.{known_is}
 use Rattle.rcu_graph.proofs.Tending.{AreWhole, are_whole, at_here, counts_are, led_there}
-use Rattle.rcu_graph.proofs.Tending.{links_to-le, promoted_counts, promoted_links, promoted_state}
+use Rattle.rcu_graph.proofs.Tending.{links_to-le, promoted_counts, promoted_state}
 use Rattle.rcu_graph.proofs.Trims.{kept_let_go, left_let_go, none_let_go, owed_is_counted}
 use Rattle.rcu_graph.proofs.Trims.{owed_is_inside, unlinked}
-use Rattle.rcu_graph.proofs.Tending.{promoted_up, promoted_whole, promoted_words, starts_trimming}
+use Rattle.rcu_graph.proofs.Tending.{promoted_up, promoted_whole, starts_trimming}
 use Rattle.rcu_graph.proofs.Tending.{still_live, stored_whole, tended}
 
 -- nothing is done, one step, and a step after others
@@ -146,10 +147,6 @@ times_le (x ∷ cells) (suc l) word =
     let d = sum_by-cons (λ (c : ℕ). one_if (nat_eq c word)) x (take l cells) in
     omega (arith, a, b, d)
 
-pub as_many_up : (counts : List ℕ) (word : ℕ) → length (counted_up counts word) ≡ length counts
-as_many_up counts zero = refl
-as_many_up counts (suc i) = length-set counts i (slice_index counts i + 1)
-
 module _ (fits : List ℕ → Type 0) (joins : ℕ → List ℕ → List ℕ → Type 0)
     (count roots links : ℕ) where
   -- a target is inside
@@ -224,18 +221,15 @@ module _ (fits : List ℕ → Type 0) (joins : ℕ → List ℕ → List ℕ →
       few_promoted : length promoted ≡ count
       few_promoted = length-set nodes j (in_state Live (node_at nodes j)) ∙ few
 
-      same_links : (k : ℕ) → (node_at promoted k).links ≡ (node_at nodes k).links
-      same_links k = promoted_links fits joins count roots links width nodes counts j few c.tended
-          c.counted inside ready k
-
-      same_words : (k : ℕ) → (node_at promoted k).words ≡ (node_at nodes k).words
-      same_words k = promoted_words fits joins count roots links width nodes counts j few c.tended
-          c.counted inside ready k
+      within : j < length nodes
+      within = omega (arith, inside, few)
 
       sizes_promoted : AreSized count links width promoted
       sizes_promoted = λ k low. (
-        ap (λ (cells : List ℕ). length cells) (same_links k) ∙ (sizes k low).0,
-        ap (λ (cells : List ℕ). length cells) (same_words k) ∙ (sizes k low).1,
+        ap (λ (cells : List ℕ). length cells) (state_keeps_links nodes j k Live within)
+            ∙ (sizes k low).0,
+        ap (λ (cells : List ℕ). length cells) (state_keeps_words nodes j k Live within)
+            ∙ (sizes k low).1,
       )
 
       whole_promoted : AreWhole fits joins count roots links width promoted
@@ -287,9 +281,10 @@ module _ (fits : List ℕ → Type 0) (joins : ℕ → List ℕ → List ℕ →
             (same_number j k is) (
               promoted_state fits joins count roots links width nodes counts j few c.tended
                   c.counted inside ready,
-              subst (λ (ws : List ℕ). joins l ws (node_at promoted j).words) (sym (same_words i))
-                  (subst (λ (ws : List ℕ). joins l (node_at nodes i).words ws) (sym (same_words j))
-                  joined),
+              subst (λ (ws : List ℕ). joins l ws (node_at promoted j).words)
+                  (sym (state_keeps_words nodes j i Live within))
+                  (subst (λ (ws : List ℕ). joins l (node_at nodes i).words ws)
+                  (sym (state_keeps_words nodes j j Live within)) joined),
             )
           where
             same_number : (a b : ℕ) → suc a ≡ suc b → a ≡ b
@@ -307,7 +302,7 @@ module _ (fits : List ℕ → Type 0) (joins : ℕ → List ℕ → List ℕ →
             subst (λ (cells : List ℕ). IsTrimming count roots links
             (renewed promoted i (linked_to l (suc j))) (renewed promoted i (linked_to l (suc j)))
             (counted_up new (suc j)) leaving 0 0 (slice_index cells l ∷ []))
-            (same_links i)
+            (state_keeps_links nodes j i Live within)
             (starts_trimming fits joins count roots links width promoted new leaving i l (suc j)
             few_promoted sizes_promoted many c.room whole_promoted counted_promoted rising_promoted
             live_promoted low there_promoted)

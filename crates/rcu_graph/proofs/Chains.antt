@@ -2,7 +2,7 @@
 use Rattle.std.proofs.Common.{◌≡◌, ◌≢◌, ◌⊎◌, ℕ, suc, ◌<◌, ◌≤◌, List, Bool, length, refl, sym, ap}
 use Rattle.std.proofs.Common.{◌∙◌, subst, inl, inr, arith, ⊎_elim}
 use Rattle.std.specs.Prelude.{IsTrue, slice_index}
-use Rattle.std.proofs.lemmas.List.{get_or-set_other, get_or-set_same, get_or_past}
+use Rattle.std.proofs.lemmas.List.{get_or_past}
 use Rattle.std.proofs.Math.Nat.{suc_inj}
 use mathlib.Core.Option.{some, some-injective}
 use mathlib.Core.Logic.{dite}
@@ -17,20 +17,11 @@ use Rattle.rcu_graph.specs.Nodes.{renewed, state_at, worded}
 use Rattle.rcu_graph.specs.declared.known.Node.{Node}
 use Rattle.rcu_graph.specs.declared.node_state.NodeState.{NodeState}
 use Rattle.rcu_graph.specs.declared.node_state.NodeState.TheVariants.{Free, Left, Live}
+use Rattle.rcu_graph.proofs.Counting.{other_node, same_node}
 use Rattle.rcu_graph.proofs.States.{may_aged, not_both}
 
 free_unread : (opened : ℕ) (st : NodeState) → st ≡ Free → MayRead opened st → ⊥
 free_unread opened st free may = subst (MayRead opened) free may
-
--- one node changes: another is as it was
-other_node : (nodes : List Node) (i j : ℕ) (f : Node → Node) → j ≢ i
-    → node_at (renewed nodes i f) j ≡ node_at nodes j
-other_node nodes i j f ne = get_or-set_other nodes i j (f (node_at nodes i)) no_node ne
-
--- and that one is what was made of it
-this_node : (nodes : List Node) (i : ℕ) (f : Node → Node) → i < length nodes
-    → node_at (renewed nodes i f) i ≡ f (node_at nodes i)
-this_node nodes i f low = get_or-set_same nodes i (f (node_at nodes i)) no_node low
 
 -- a node that a section may be on is one of the nodes
 is_inside : (opened : ℕ) (nodes : List Node) (j : ℕ) → MayRead opened (state_at nodes j)
@@ -137,7 +128,7 @@ module _ (opened : ℕ) where
       subst (λ (n : ℕ). MayRead opened (state_at nodes n)) is may in
       let made_of : node_at (renewed nodes i f) j ≡ f (node_at nodes i) =
       ap (λ (n : ℕ). node_at (renewed nodes i f) n) is
-      ∙ this_node nodes i f (is_inside opened nodes i here) in
+      ∙ same_node nodes i f (is_inside opened nodes i here) in
       let t = made here in (
         subst (λ (v : Node). MayRead opened v.state) (sym made_of) t.0,
         ap (λ (v : Node). v.words) made_of
@@ -188,7 +179,7 @@ next_kept i y st nodes low = dite (ℕ_discrete y i)
     (λ (is : y ≡ i).
     ap (λ (n : ℕ). next_of (renewed nodes i (in_state st)) n) is
     ∙ (ap (λ (v : Node). slice_index v.links 0)
-    (this_node nodes i (in_state st) (subst (λ (n : ℕ). n < length nodes) is low))
+    (same_node nodes i (in_state st) (subst (λ (n : ℕ). n < length nodes) is low))
     ∙ ap (λ (n : ℕ). next_of nodes n) (sym is)))
     (λ (ne : y ≢ i). next_else i y (in_state st) nodes ne)
 

@@ -148,6 +148,7 @@ pub same_state : (nodes : List Node) (i : ℕ) (s : NodeState) → i < length no
 same_state nodes i s low =
     ap (λ (v : Node). v.state) (get_or-set_same nodes i (in_state s (node_at nodes i)) no_node low)
 
+-- one node changes: another is as it was, and that one is what was made of it
 pub other_node : (nodes : List Node) (i j : ℕ) (f : Node → Node) → j ≢ i
     → node_at (renewed nodes i f) j ≡ node_at nodes j
 other_node nodes i j f ne = get_or-set_other nodes i j (f (node_at nodes i)) no_node ne
@@ -164,6 +165,15 @@ kept_at part nodes i j f low e = dite (ℕ_discrete j i)
     (λ (is : j ≡ i). ap (λ (k : ℕ). part (node_at (renewed nodes i f) k)) is
     ∙ (ap part (same_node nodes i f low) ∙ (e ∙ ap (λ (k : ℕ). part (node_at nodes k)) (sym is))))
     (λ (ne : j ≢ i). ap part (other_node nodes i j f ne))
+
+-- so where its state alone changes
+pub state_keeps_links : (nodes : List Node) (i j : ℕ) (s : NodeState) → i < length nodes
+    → (node_at (renewed nodes i (in_state s)) j).links ≡ (node_at nodes j).links
+state_keeps_links nodes i j s low = kept_at (λ (v : Node). v.links) nodes i j (in_state s) low refl
+
+pub state_keeps_words : (nodes : List Node) (i j : ℕ) (s : NodeState) → i < length nodes
+    → (node_at (renewed nodes i (in_state s)) j).words ≡ (node_at nodes j).words
+state_keeps_words nodes i j s low = kept_at (λ (v : Node). v.words) nodes i j (in_state s) low refl
 
 pub live_in-left : (nodes : List Node) (i : ℕ) → state_at nodes i ≡ Live
     → live_in (renewed nodes i (in_state Left)) + 1 ≡ live_in nodes

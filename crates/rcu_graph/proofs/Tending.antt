@@ -22,7 +22,8 @@ use Rattle.rcu_graph.specs.declared.known.Node.{Node}
 use Rattle.rcu_graph.specs.declared.node_state.NodeState.TheVariants.{Left, Live}
 use Rattle.rcu_graph.proofs.Counting.{found, from_live, from_others, kept_at, leads_counts}
 use Rattle.rcu_graph.proofs.Counting.{links_to-set, live_inside, one_other, one_same, other_node}
-use Rattle.rcu_graph.proofs.Counting.{same_node, same_state, times_in-set}
+use Rattle.rcu_graph.proofs.Counting.{same_node, same_state, state_keeps_links}
+use Rattle.rcu_graph.proofs.Counting.{state_keeps_words, times_in-set}
 
 pub at_here : (nodes : List Node) (j : ℕ) (v : Node) → get_elem? nodes j ≡ some v
     → node_at nodes j ≡ v
@@ -82,7 +83,11 @@ links_to-le links width count nodes i few sized =
     turn : (a b c : ℕ) → a ≡ c → a * b ≡ b * c
     turn a b c e = ap (λ (n : ℕ). n * b) e ∙ grind arith
 
--- the counts after one link more
+-- the counts after one link more: they are as many
+pub as_many_up : (counts : List ℕ) (word : ℕ) → length (counted_up counts word) ≡ length counts
+as_many_up counts zero = refl
+as_many_up counts (suc i) = length-set counts i (slice_index counts i + 1)
+
 pub counted_up_at : (counts : List ℕ) (word k : ℕ) → ((i : ℕ) → word ≡ suc i → i < length counts)
     → slice_index (counted_up counts word) k ≡ slice_index counts k + one_if (nat_eq word (suc k))
 counted_up_at counts zero k low =
@@ -294,7 +299,7 @@ module _ (fits : List ℕ → Type 0) (joins : ℕ → List ℕ → List ℕ →
     starts_trimming = record {
       few = length-set nodes i (linked_to l x (node_at nodes i)) ∙ few;
       as_many = length-set nodes i (linked_to l x (node_at nodes i)) ∙ few;
-      counts_many = as_long counts x ∙ counts_many;
+      counts_many = as_many_up counts x ∙ counts_many;
       room = room;
       sized = λ k small.
           kept_at (λ (v : Node). length v.links) nodes i k (linked_to l x) inside
@@ -327,10 +332,6 @@ module _ (fits : List ℕ → Type 0) (joins : ℕ → List ℕ → List ℕ →
           let b = length-set nodes i (linked_to l x (node_at nodes i)) in omega (arith, a, b, few);
     }
       where
-        as_long : (cs : List ℕ) (w : ℕ) → length (counted_up cs w) ≡ length cs
-        as_long cs zero = refl
-        as_long cs (suc k) = length-set cs k (slice_index cs k + 1)
-
         before_inside : (k d : ℕ) → k ≡ 0 → IsInside count (get_or (before ∷ []) k d)
         before_inside k d e = subst (λ (n : ℕ). IsInside count (get_or (before ∷ []) n d)) (sym e)
             (λ j is.
@@ -356,12 +357,6 @@ module _ (fits : List ℕ → Type 0) (joins : ℕ → List ℕ → List ℕ →
         (λ (is : j ≡ i). ap (λ (k : ℕ). state_at promoted k) is ∙ promoted_state)
         (λ (ne : j ≢ i). ap (λ (v : Node). v.state) (other_node nodes i j (in_state Live) ne) ∙ on)
 
-    pub promoted_words : (j : ℕ) → (node_at promoted j).words ≡ (node_at nodes j).words
-    promoted_words j = kept_at (λ (v : Node). v.words) nodes i j (in_state Live) within refl
-
-    pub promoted_links : (j : ℕ) → (node_at promoted j).links ≡ (node_at nodes j).links
-    promoted_links j = kept_at (λ (v : Node). v.links) nodes i j (in_state Live) within refl
-
     was_live_else : (j : ℕ) → j ≢ i → state_at promoted j ≡ Live → state_at nodes j ≡ Live
     was_live_else j ne on =
         sym (ap (λ (v : Node). v.state) (other_node nodes i j (in_state Live) ne)) ∙ on
@@ -385,16 +380,19 @@ module _ (fits : List ℕ → Type 0) (joins : ℕ → List ℕ → List ℕ →
     pub promoted_whole : AreWhole promoted
     promoted_whole = record {
       rooted = λ k low. still_live k (tended.rooted k low);
-      whole = λ k on. subst fits (sym (promoted_words k)) (dite (ℕ_discrete k i)
+      whole = λ k on. subst fits (sym (state_keeps_words nodes i k Live within))
+          (dite (ℕ_discrete k i)
           (λ (is : k ≡ i). subst (λ (n : ℕ). fits (node_at nodes n).words) (sym is) ready.whole)
           (λ (ne : k ≢ i). tended.whole k (was_live_else k ne on)));
       led = λ k l j on low leads.
           let r = led_else k l j on low
-          (ap (λ (c : List ℕ). slice_index c l) (sym (promoted_links k)) ∙ leads) in (
+          (ap (λ (c : List ℕ). slice_index c l) (sym (state_keeps_links nodes i k Live within))
+          ∙ leads) in (
             still_live j r.0,
-            subst (λ (ws : List ℕ). joins l ws (node_at promoted j).words) (sym (promoted_words k))
+            subst (λ (ws : List ℕ). joins l ws (node_at promoted j).words)
+                (sym (state_keeps_words nodes i k Live within))
                 (subst (λ (ws : List ℕ). joins l (node_at nodes k).words ws)
-                (sym (promoted_words j)) r.1),
+                (sym (state_keeps_words nodes i j Live within)) r.1),
           );
     }
 

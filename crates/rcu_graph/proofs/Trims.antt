@@ -18,9 +18,9 @@ use Rattle.rcu_graph.specs.Trimming.{IsInside, IsTrimming, owed}
 use Rattle.rcu_graph.specs.declared.known.Node.{Node}
 use Rattle.rcu_graph.specs.declared.node_state.NodeState.{NodeState}
 use Rattle.rcu_graph.specs.declared.node_state.NodeState.TheVariants.{Left, Live}
-use Rattle.rcu_graph.proofs.Counting.{from_live, from_others, kept_at, leads_counts, links_to-set}
+use Rattle.rcu_graph.proofs.Counting.{from_live, from_others, leads_counts, links_to-set}
 use Rattle.rcu_graph.proofs.Counting.{live_in-left, live_inside, one_other, one_same, other_node}
-use Rattle.rcu_graph.proofs.Counting.{same_state}
+use Rattle.rcu_graph.proofs.Counting.{same_state, state_keeps_links, state_keeps_words}
 
 not_left : (s : NodeState) → s ≡ Live → s ≡ Left → ⊥
 not_left s a b = cc
@@ -182,9 +182,6 @@ module _ (count roots links : ℕ) (stored : List Node) where
         still_live : (j : ℕ) → state_at nodes j ≡ Live → j ≢ i → state_at after j ≡ Live
         still_live j on ne = ap (λ (v : Node). v.state) (same j ne) ∙ on
 
-        same_links : (j : ℕ) → (node_at after j).links ≡ (node_at nodes j).links
-        same_links j = kept_at (λ (v : Node). v.links) nodes i j (in_state Left) low refl
-
         none_leads : (j l : ℕ)
             → state_at nodes j ≡ Live → slice_index (node_at nodes j).links l ≡ suc i → ⊥
         none_leads j l on leads =
@@ -244,9 +241,8 @@ module _ (count roots links : ℕ) (stored : List Node) where
           counts_many = length-set counts i x ∙ t.counts_many;
           room = length-set leaving to i ∙ t.room;
           sized = t.sized;
-          links_stay = λ j. same_links j ∙ t.links_stay j;
-          words_stay = λ j.
-              kept_at (λ (v : Node). v.words) nodes i j (in_state Left) low refl ∙ t.words_stay j;
+          links_stay = λ j. state_keeps_links nodes i j Left low ∙ t.links_stay j;
+          words_stay = λ j. state_keeps_words nodes i j Left low ∙ t.words_stay j;
           states = λ j. dite (ℕ_discrete j i)
               (λ (is : j ≡ i). inr (
                 subst (λ (k : ℕ). roots ≤ k) (sym is) past,
@@ -262,7 +258,8 @@ module _ (count roots links : ℕ) (stored : List Node) where
           closed = λ j l k on small leads.
               let was = was_live j on in
               let lead : slice_index (node_at nodes j).links l ≡ suc k =
-              ap (λ (c : List ℕ). slice_index c l) (sym (same_links j)) ∙ leads in
+              ap (λ (c : List ℕ). slice_index c l) (sym (state_keeps_links nodes i j Left low))
+              ∙ leads in
               still_live k (t.closed j l k was small lead)
               (λ is. none_leads j l was (lead ∙ ap suc is));
           up = λ j on root. up_else j (was_live j on) root (apart j on);

@@ -71,7 +71,7 @@ loop-link-preserved g c =
       leaving = c.count.ensures.leaving ∙ i.leaving;
       many =
           ap (λ (x : List ℕ). length x) c.count.ensures.counts
-          ∙ (Rattle.rcu_graph.proofs.Cascade.as_many_up old word ∙ i.many);
+          ∙ (Rattle.rcu_graph.proofs.Tending.as_many_up old word ∙ i.many);
       counts = λ k low.
           let a = i.counts k low in
           let b = times_more links l (suc k) here in
