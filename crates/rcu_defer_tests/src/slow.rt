@@ -81,6 +81,22 @@ fn last_until(tends: &Tends, deferred: u64) -> Option<u64> {
     last
 }
 
+/// The value that a take hands out, of so many that were deferred and so many that were taken: none
+/// where no other is done.
+fn next_taken(tends: &Tends, deferred: u64, taken: u64) -> Option<u64> {
+    (taken < done_count(tends, deferred)).then_some(taken)
+}
+
+/// What a list tells then: how many values are done, how many there are, and for what number the
+/// last one waits.
+fn told(tends: &Tends, deferred: u64, taken: u64) -> (u64, u64, Option<u64>) {
+    (
+        done_count(tends, deferred).wrapping_sub(taken),
+        deferred.wrapping_sub(taken),
+        last_until(tends, deferred),
+    )
+}
+
 /// Defers a value, by a second call where the first is refused a growth.
 fn defers<R: Abort>(rt: &R, list: &mut DeferList<u64>, value: u64) {
     if let Err(refused) = list.defer(value) {
@@ -111,11 +127,7 @@ fn play<R: Abort>(rt: &R, alloc: Global, code: u64) {
             defers(rt, &mut list, deferred);
             deferred = deferred.wrapping_add(1);
         } else if digit == 3 {
-            let wanted = if taken < done_count(&tends, deferred) {
-                Some(taken)
-            } else {
-                None
-            };
+            let wanted = next_taken(&tends, deferred, taken);
             assert_eq!(rt; (code, call, list.take()), (code, call, wanted));
             if wanted.is_some() {
                 taken = taken.wrapping_add(1);
@@ -130,13 +142,8 @@ fn play<R: Abort>(rt: &R, alloc: Global, code: u64) {
                 number,
             });
         }
-        let ready = done_count(&tends, deferred).wrapping_sub(taken);
         let found = (list.ready(), list.count() as u64, list.last_until());
-        let wanted = (
-            ready,
-            deferred.wrapping_sub(taken),
-            last_until(&tends, deferred),
-        );
+        let wanted = told(&tends, deferred, taken);
         assert_eq!(rt; (code, call, found), (code, call, wanted));
     }
 }
