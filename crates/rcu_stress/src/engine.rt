@@ -63,7 +63,7 @@ pub(crate) trait LockedCalls: Shared<NoClient> + Drop {
         requires { seat.old.table ≡ (Self.object self.now).table }
         ensures table { seat.new.table ≡ seat.old.table }
         ensures cpu { seat.new.cpu ≡ seat.old.cpu }
-        ensures stored { OnOk result (seat.new ≡ after_depart seat.old) }
+        ensures state { OnOk result (seat.new ≡ after_depart seat.old) }
         ensures told { IfOk result (λ moved.
             answers seat.old.view.stores (Departing moved)) };
 }
