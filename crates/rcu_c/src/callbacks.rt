@@ -29,7 +29,7 @@ use rcu_seq::Fault;
 /// 16.
 #[unsafe(no_mangle)]
 pub extern "C" fn rcu_queue(rcu: &mut Rcu, cpu: u32, value: u64, place: &mut u64) -> u32
-    ensures accepted { result ≡ 0 → CanQueue (engine_of rcu.old.contents) cpu }
+    ensures can_queue { result ≡ 0 → CanQueue (engine_of rcu.old.contents) cpu }
     ensures state { result ≡ 0 → rcu.new.contents ≡
         on_grace (λ g. grace.after_queue g cpu value) rcu.old.contents }
     ensures place { result ≡ 0 → place.new ≡ (grace_of rcu.new.contents).lists.queued }

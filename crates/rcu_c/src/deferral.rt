@@ -36,7 +36,8 @@ pub extern "C" fn rcu_defer(seat: &mut RcuSeat, value: u64) -> u32
         (list_after_defer d value) (values_of seat.new.contents).room) seat.old.contents }
     ensures memory { result ≡ 16 →
         (values_of seat.old.contents).room ≤ length (values_of seat.old.contents).values }
-    ensures refused { seat_refusal seat.old.contents ≡ None → result ≢ 0 → seat.new.contents ≡
+    ensures unchanged_values { seat_refusal seat.old.contents ≡ None → result ≢ 0 →
+        seat.new.contents ≡
         on_values (λ d. with_room d (values_of seat.new.contents).room) seat.old.contents }
     ensures unchanged { seat_refusal seat.old.contents ≢ None →
         seat.new.contents ≡ seat.old.contents }

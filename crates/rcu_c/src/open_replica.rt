@@ -60,7 +60,7 @@ impl OpenReplica {
     /// A grace period begins, and awaits the processors whose bits are set.
     pub(crate) fn begin(&mut self, words: &[u64]) -> Result<u64, Fault>
         ensures number { IfOk result (λ number. number ≡ number_of self.new.periods) }
-        ensures ok { OnOk result (self.new
+        ensures state { OnOk result (self.new
             ≡ after_call self.old (Begin (flags_in (cpus_of self.old) words.now))) }
         ensures fault { result_err result
             ≡ refusal self.old (Begin (flags_in (cpus_of self.old) words.now)) }
@@ -73,7 +73,7 @@ impl OpenReplica {
     /// A processor reports a quiescent state with the number that it had noted.
     pub(crate) fn report(&mut self, cpu: u32, number: u64) -> Result<Answer, Fault>
         ensures answer { IfOk result (λ answer. answer ≡ answer_of self.old cpu number) }
-        ensures ok { OnOk result (self.new ≡ after_call self.old (Report cpu number)) }
+        ensures state { OnOk result (self.new ≡ after_call self.old (Report cpu number)) }
         ensures fault { result_err result ≡ refusal self.old (Report cpu number) }
         ensures unchanged { OnErr result (self.new ≡ self.old) }
     {
@@ -82,7 +82,7 @@ impl OpenReplica {
 
     /// A processor departs, and is awaited no more.
     pub(crate) fn depart(&mut self, cpu: u32) -> Result<(), Fault>
-        ensures ok { OnOk result (self.new ≡ after_call self.old (Depart cpu)) }
+        ensures state { OnOk result (self.new ≡ after_call self.old (Depart cpu)) }
         ensures fault { result_err result ≡ refusal self.old (Depart cpu) }
         ensures unchanged { OnErr result (self.new ≡ self.old) }
     {
@@ -92,7 +92,7 @@ impl OpenReplica {
     /// The grace period ends.
     pub(crate) fn end(&mut self) -> Result<u64, Fault>
         ensures number { IfOk result (λ number. number ≡ number_of self.new.periods) }
-        ensures ok { OnOk result (self.new ≡ after_call self.old End) }
+        ensures state { OnOk result (self.new ≡ after_call self.old End) }
         ensures fault { result_err result ≡ refusal self.old End }
         ensures unchanged { OnErr result (self.new ≡ self.old) }
     {
@@ -102,7 +102,7 @@ impl OpenReplica {
     /// Takes in what another replica of the same grace period has heard.
     #[tactic(auto, using(crate::proofs::FromWords::as_many_merged))]
     pub(crate) fn merge_from(&mut self, other: &OpenReplica) -> Result<(), Fault>
-        ensures ok { OnOk result (self.new ≡ after_call self.old (Merge other.now)) }
+        ensures state { OnOk result (self.new ≡ after_call self.old (Merge other.now)) }
         ensures fault { result_err result ≡ refusal self.old (Merge other.now) }
         ensures unchanged { OnErr result (self.new ≡ self.old) }
     {

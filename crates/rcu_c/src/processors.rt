@@ -69,7 +69,7 @@ pub extern "C" fn rcu_depart(rcu: &mut Rcu, seat: &mut RcuSeat, moved: &mut u64)
         result ≡ number_in_c (going_refusal rcu.old.contents seat.old.contents) }
     ensures unchanged { going_refusal rcu.old.contents seat.old.contents ≢ None →
         BothStay rcu.old.contents rcu.new.contents seat.old.contents seat.new.contents }
-    ensures stored { going_refusal rcu.old.contents seat.old.contents ≡ None →
+    ensures seat { going_refusal rcu.old.contents seat.old.contents ≡ None →
         seat.new.contents ≡ on_cpu after_depart seat.old.contents }
     ensures state { result ≡ 0 → rcu.new.contents ≡ on_engine
         (λ e. live.after_leave e (cpu_of seat.old.contents).cpu
