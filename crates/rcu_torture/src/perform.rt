@@ -32,7 +32,7 @@ pub fn perform<T: Threads + Wait + Sync, R: Source, W: Sink>(
         (ends_of (R.incoming reader.new) (W.outgoing writer.new)) }
 {
     let ran = answer(alloc, rt, order, reader, writer);
-    tell(ran, writer)
+    print_refusal(ran, writer)
 }
 
 /// Does what the order says, but for printing a fault.
@@ -95,7 +95,7 @@ fn print_run<W: Sink>(
 }
 
 /// Prints the fault for which a run was refused.
-fn tell<W: Sink>(ran: Result<(), RunFault>, writer: &mut W) -> Result<(), RunFault>
+fn print_refusal<W: Sink>(ran: Result<(), RunFault>, writer: &mut W) -> Result<(), RunFault>
     ensures { Tells ran result (W.outgoing writer.old) (W.outgoing writer.new) }
 {
     match ran {
