@@ -11,7 +11,7 @@ use std::sync::{Mutex, Wait};
 
 /// A map and its keeper, which belong together.
 #[derive(Drop)]
-pub(crate) struct Kept<
+pub(crate) struct MapAndKeeper<
     'a,
     const LEAF: u32,
     const FAN: u32,
@@ -41,7 +41,7 @@ pub struct Updater<
     const N: usize,
 > {
     pub(crate) map: &'a Map<LEAF, FAN, T, E, BUCKETS, W, N>,
-    pub(crate) kept: Mutex<Kept<'a, LEAF, FAN, T, E, BUCKETS, W, N>>,
+    pub(crate) inner: Mutex<MapAndKeeper<'a, LEAF, FAN, T, E, BUCKETS, W, N>>,
 }
 
 impl<
@@ -81,7 +81,7 @@ impl<
     {
         Updater {
             map,
-            kept: Mutex::new(Kept { map, keeper }),
+            inner: Mutex::new(MapAndKeeper { map, keeper }),
         }
     }
 
@@ -89,8 +89,8 @@ impl<
     pub fn insert(&self, rt: &impl Wait, entry: E) -> Result<bool, Full>
         requires { E.valid entry }
     {
-        let mut kept = self.kept.lock(rt);
-        let Kept { map, keeper } = &mut *kept;
+        let mut inner = self.inner.lock(rt);
+        let MapAndKeeper { map, keeper } = &mut *inner;
         keeper.insert(map, entry)
     }
 
@@ -98,22 +98,22 @@ impl<
     pub fn replace(&self, rt: &impl Wait, entry: E) -> Result<bool, Full>
         requires { E.valid entry }
     {
-        let mut kept = self.kept.lock(rt);
-        let Kept { map, keeper } = &mut *kept;
+        let mut inner = self.inner.lock(rt);
+        let MapAndKeeper { map, keeper } = &mut *inner;
         keeper.replace(map, entry)
     }
 
     /// Takes the entry of a key out, as [`MapKeeper::remove`].
     pub fn remove(&self, rt: &impl Wait, key: u64) -> bool {
-        let mut kept = self.kept.lock(rt);
-        let Kept { map, keeper } = &mut *kept;
+        let mut inner = self.inner.lock(rt);
+        let MapAndKeeper { map, keeper } = &mut *inner;
         keeper.remove(map, key)
     }
 
     /// Looks at the number, and returns it, as [`MapKeeper::age`].
     pub fn age(&self, rt: &impl Wait) -> u64 {
-        let mut kept = self.kept.lock(rt);
-        let Kept { map, keeper } = &mut *kept;
+        let mut inner = self.inner.lock(rt);
+        let MapAndKeeper { map, keeper } = &mut *inner;
         keeper.age(map)
     }
 
@@ -123,11 +123,11 @@ impl<
         ensures keyed { IfSome result (λ entry. E.key_of entry ≡ key) }
         ensures sound { IfSome result (λ entry. E.valid entry) }
     {
-        self.kept.lock(rt).keeper.get(key)
+        self.inner.lock(rt).keeper.get(key)
     }
 
     /// How many entries there are.
     pub fn len(&self, rt: &impl Wait) -> usize {
-        self.kept.lock(rt).keeper.len()
+        self.inner.lock(rt).keeper.len()
     }
 }

@@ -9,7 +9,7 @@ use crate::entry::Entry;
 use crate::keeper_waits::check_outside;
 use crate::not_put::NotPut;
 use crate::shape::MapSeat;
-use crate::updater::{Kept, Updater};
+use crate::updater::{MapAndKeeper, Updater};
 use rcu_graph::Full;
 use rcu_seq::{Cookie, Tag};
 use std::sync::Wait;
@@ -38,8 +38,8 @@ impl<
         ensures answer { IfOk result (λ answer. IfErr answer (λ why. why ≡ NotPut.Full)) }
         ensures number { IfErr result (λ number. number ≤ 2 ^ 62) }
     {
-        let mut kept = self.kept.lock(rt);
-        let Kept { map, keeper } = &mut *kept;
+        let mut inner = self.inner.lock(rt);
+        let MapAndKeeper { map, keeper } = &mut *inner;
         let number = keeper.age(map);
         let put = match how {
             Put::Insert => keeper.insert(map, entry),
@@ -65,7 +65,7 @@ impl<
         ensures seat { IsSeatOf self.now seat.new }
         ensures rested { HasRested seat.old seat.new }
         ensures in_section { 0 < seat.old.depth → seat.new ≡ seat.old }
-        ensures refused { 0 < seat.old.depth →
+        ensures section_fault { 0 < seat.old.depth →
             result ≡ Err (NotPut.Fault Fault.InSection) }
         ensures fault { (fault : Fault) → result ≡ Err (NotPut.Fault fault) →
             fault ≡ wait_fault seat.old.depth }
@@ -103,7 +103,7 @@ impl<
         ensures seat { IsSeatOf self.now seat.new }
         ensures rested { HasRested seat.old seat.new }
         ensures in_section { 0 < seat.old.depth → seat.new ≡ seat.old }
-        ensures refused { 0 < seat.old.depth →
+        ensures section_fault { 0 < seat.old.depth →
             result ≡ Err (NotPut.Fault Fault.InSection) }
         ensures fault { (fault : Fault) → result ≡ Err (NotPut.Fault fault) →
             fault ≡ wait_fault seat.old.depth }
@@ -127,7 +127,7 @@ impl<
         ensures seat { IsSeatOf self.now seat.new }
         ensures rested { HasRested seat.old seat.new }
         ensures in_section { 0 < seat.old.depth → seat.new ≡ seat.old }
-        ensures refused { 0 < seat.old.depth →
+        ensures section_fault { 0 < seat.old.depth →
             result ≡ Err (NotPut.Fault Fault.InSection) }
         ensures fault { (fault : Fault) → result ≡ Err (NotPut.Fault fault) →
             fault ≡ wait_fault seat.old.depth }

@@ -9,7 +9,7 @@ ghost use Rattle.rcu_graph.specs.Graph.{IsWalking, IsWatcherOf};
 ghost use Rattle.rcu_graph.specs.declared.known.Known.TheVariants.{Idle};
 
 use crate::map::route::Route;
-use crate::map::script::caller::{Caller, Kept, Shared};
+use crate::map::script::caller::{Caller, MapAndKeeper, Shared};
 use rcu_graph::Full;
 use rcu_map::{Entries, Map, MapSeat, MapWatcher, Updater};
 use rcu_seq::Cookie;
@@ -216,7 +216,7 @@ fn map_is_as_its_script_says(rt: HostRuntime) {
     };
     let mut scene = Scene {
         map: &map,
-        caller: Kept { map: &map, keeper },
+        caller: MapAndKeeper { map: &map, keeper },
         seat: seats.pop().unwrap(),
         watcher: watchers.pop().unwrap(),
         ports: [0; NETWORKS],

@@ -31,13 +31,13 @@ pub(crate) trait Caller {
 
 /// A map and its keeper.
 #[derive(Drop)]
-pub(crate) struct Kept<'a> {
+pub(crate) struct MapAndKeeper<'a> {
     pub(crate) map: &'a Routes,
     pub(crate) keeper: MapKeeper<Route, 2, 2, 6>,
     pub(crate) ghost keeper_of: { IsWatcherOf map.now keeper },
 }
 
-impl<'a> Caller for Kept<'a> {
+impl<'a> Caller for MapAndKeeper<'a> {
     fn insert<R: Wait>(&mut self, _rt: &R, route: Route) -> Result<bool, Full> {
         self.keeper.insert(self.map, route)
     }
