@@ -54,12 +54,12 @@ static STORING: [&str; 6] = ["quiet", "awaits", "offline", "queue", "run", "visi
 
 /// The lines that were not refused, and their replies.
 #[derive(Drop)]
-struct Kept {
+struct Transcript {
     lines: ArrayVec<u8, 1024>,
     replies: ArrayVec<u8, 2048>,
 }
 
-impl Kept {
+impl Transcript {
     /// Puts a line and its reply behind.
     fn push(&mut self, line: &[u8], reply: &[u8]) -> Result<(), CapacityError> {
         self.lines.try_extend_from_slice(line)?;
@@ -83,7 +83,7 @@ impl Kept {
 }
 
 /// Tells of which event's line a growth was refused: it is one that stores something.
-fn tell<R: Print + Abort>(rt: &R, line: &[u8]) -> Result<(), Fail> {
+fn print_refused<R: Print + Abort>(rt: &R, line: &[u8]) -> Result<(), Fail> {
     let word = STORING
         .iter()
         .find(|word| line.starts_with(word.as_bytes()))
@@ -107,23 +107,23 @@ fn growths_are_refused(rt: HostRuntime) -> Result<(), Fail> {
         GROWING.answers(&rt, rt.alloc(), 0, ALL);
         return Ok(());
     }
-    let mut kept = Kept {
+    let mut transcript = Transcript {
         lines: ArrayVec::new(),
         replies: ArrayVec::new(),
     };
-    keep(&rt, &mut kept, first.written.as_slice())?;
-    kept.answers(&rt, rt.alloc());
+    keep(&rt, &mut transcript, first.written.as_slice())?;
+    transcript.answers(&rt, rt.alloc());
     Ok(())
 }
 
 /// Keeps the lines that were not refused, with their replies.
-fn keep<R: Print + Abort>(rt: &R, kept: &mut Kept, written: &[u8]) -> Result<(), Fail> {
+fn keep<R: Print + Abort>(rt: &R, transcript: &mut Transcript, written: &[u8]) -> Result<(), Fail> {
     let end = |b: &u8| *b == b'\n';
     for (line, reply) in GROWING.lines.split(end).zip(written.split(end)) {
         if reply == REFUSED {
-            tell(rt, line)?;
+            print_refused(rt, line)?;
         } else if !line.is_empty() {
-            kept.push(line, reply)?;
+            transcript.push(line, reply)?;
         }
     }
     Ok(())
