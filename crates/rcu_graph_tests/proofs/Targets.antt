@@ -1,25 +1,13 @@
 -- What a keeper's tests of a node say of a link that leads to it.
-use Rattle.std.proofs.Common.{◌≡◌, ◌<◌, ℕ, zero, suc, true, List, [], ◌∷◌, length, arith, refl}
-use Rattle.std.proofs.Common.{subst}
+use Rattle.std.proofs.Common.{◌≡◌, ◌<◌, ℕ, suc, true, List, length, arith, subst}
 use Rattle.std.specs.Prelude.{slice_index}
 use mathlib.Core.Option.{some}
 use lib.ListN.{get_elem?}
 use Rattle.rcu_graph.specs.Nodes.{IsTarget, is_live, node_at, state_at}
 use Rattle.rcu_graph.specs.declared.known.Node.{Node}
-use Rattle.rcu_graph.specs.declared.node_state.NodeState.{NodeState}
-use Rattle.rcu_graph.specs.declared.node_state.NodeState.TheVariants.{Free, Left, Live, Retired}
-
-stands_there : (nodes : List Node) (j : ℕ) → j < length nodes
-    → get_elem? nodes j ≡ some (node_at nodes j)
-stands_there [] j low = absurd (omega (arith, low))
-stands_there (x ∷ nodes) zero low = refl
-stands_there (x ∷ nodes) (suc j) low = stands_there nodes j (omega (arith, low))
-
-pub told_live : (s : NodeState) → is_live s ≡ true → s ≡ Live
-told_live Free e = absurd (cc)
-told_live Live e = refl
-told_live Left e = absurd (cc)
-told_live (Retired n) e = absurd (cc)
+use Rattle.rcu_graph.specs.declared.node_state.NodeState.TheVariants.{Live}
+use Rattle.rcu_graph.proofs.Counting.{test_live}
+use Rattle.rcu_graph.proofs.Tending.{here_at}
 
 pub greater_target : (nodes : List Node) (i n x : ℕ)
     → x ≡ suc n
@@ -34,4 +22,4 @@ greater_target nodes i n x here low live up j is =
     × (get_elem? nodes k ≡ some v)
     × (v.state ≡ Live)
     × (slice_index (node_at nodes i).words 0 < slice_index v.words 0))
-    same (node_at nodes n, stands_there nodes n low, told_live (state_at nodes n) live, up)
+    same (node_at nodes n, here_at nodes n low, test_live (state_at nodes n) live, up)

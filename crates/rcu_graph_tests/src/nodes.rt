@@ -1,6 +1,6 @@
 //! Two readers search a chain beside who keeps it, each on a thread of its own: a node that they
 //! find is whole, whatever is linked meanwhile.
-ghost use Rattle.std.specs.Prelude.{◌≡◌, [], ◌∷◌, All};
+ghost use Rattle.std.specs.Prelude.{◌≡◌, [], ◌∷◌};
 ghost use Rattle.std.specs.Thread.{IsSync};
 ghost use Rattle.rcu_live.specs.CpuSeat.{IsSeatOf, after_word_step};
 ghost use Rattle.rcu_graph.specs.Graph.{IsWalking};
@@ -8,12 +8,13 @@ ghost use Rattle.rcu_graph.specs.Keeper.{IsKeeperOf};
 ghost use Rattle.rcu_graph.specs.Nodes.{first_nodes, nodes_in};
 ghost use Rattle.rcu_graph.specs.declared.known.Known.TheVariants.{Idle};
 
+mod chain;
 mod keeper;
-mod kept;
+mod parts;
 mod turnover;
 
+use crate::nodes::parts::next_online;
 use rcu_graph::{Graph, GraphSeat, GraphWatcher, Shape};
-use std::process::Abort;
 use std::sync::Wait;
 use std::thread;
 use std::thread::Threads;
@@ -118,20 +119,6 @@ fn publish_and_leave(chain: &Chain, keeper: &mut GraphWatcher<Sorted, 1, 1, 2, 2
     chain.look(keeper);
 }
 
-/// The seat of the last processor that is left, which is online from now on.
-fn next_reader<'a, R: Abort + Wait>(rt: &R, chain: &'a Chain, seats: &mut Vec<Seat>) -> Reader<'a>
-    requires seats { All (IsSeatOf chain.now) seats.old.items }
-    requires outside { All (λ seat. seat.depth ≡ 0) seats.old.items }
-    requires idle { All (λ seat. seat.view.client ≡ Idle) seats.old.items }
-    ensures seats { All (IsSeatOf chain.now) seats.new.items }
-    ensures outside { All (λ seat. seat.depth ≡ 0) seats.new.items }
-    ensures idle { All (λ seat. seat.view.client ≡ Idle) seats.new.items }
-{
-    let mut seat = seats.pop().expect(rt, "a processor is left");
-    assert_eq!(rt; chain.live().online(rt, &mut seat), Ok(()));
-    Reader { chain, seat }
-}
-
 /// Runs two readers beside the keeper. Returns whether what each reader saw was right.
 fn run_beside<R: Threads + Wait + Sync>(
     rt: &R,
@@ -156,7 +143,13 @@ fn readers_beside_a_published_node(rt: HostRuntime) {
     let Ok((chain, mut seats, _, keeper)) = opened else {
         return;
     };
-    let a = next_reader(&rt, &chain, &mut seats);
-    let b = next_reader(&rt, &chain, &mut seats);
+    let a = Reader {
+        chain: &chain,
+        seat: next_online(&rt, &chain, &mut seats),
+    };
+    let b = Reader {
+        chain: &chain,
+        seat: next_online(&rt, &chain, &mut seats),
+    };
     assert_eq!(rt; run_beside(&rt, &chain, keeper, a, b), (true, true));
 }

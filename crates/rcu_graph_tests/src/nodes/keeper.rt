@@ -1,9 +1,9 @@
 //! A keeper's calls on one thread: a full chain is left by one store, and its nodes come back after
 //! a full grace period, and no sooner; what was freed last is used first.
-ghost use Rattle.std.specs.Prelude.{◌≡◌, ◌<◌};
+ghost use Rattle.std.specs.Prelude.{◌≡◌, ◌<◌, All};
 ghost use Rattle.rcu_live.specs.CpuSeat.{IsSeatOf};
 
-use crate::nodes::kept::{Chain, Kept, Seat};
+use crate::nodes::chain::{Chain, ChainAndKeeper, Seat};
 use rcu_graph::Full;
 use rcu_seq::Cookie;
 use rcu_state::Turned;
@@ -21,6 +21,15 @@ struct Periods<'a, R> {
 }
 
 impl<'a, R: Abort + Wait> Periods<'a, R> {
+    /// Those of the processor that has the last one of these seats.
+    fn of(rt: &'a R, chain: &'a Chain, mut seats: Vec<Seat>) -> Self
+        requires seats { All (IsSeatOf chain.now) seats.items }
+        requires outside { All (λ seat. seat.depth ≡ 0) seats.items }
+    {
+        let seat = seats.pop().expect(rt, "a processor is left");
+        Periods { rt, chain, seat }
+    }
+
     /// Drives for who waits for this number, and compares what it answers.
     fn drives(&self, number: u64, wanted: Turned) {
         let turned = self
@@ -45,7 +54,7 @@ impl<'a, R: Abort + Wait> Periods<'a, R> {
 
 /// Adds a node with a key behind another one, and compares what the keeper knows of it. Returns the
 /// node.
-fn add<R: Abort>(rt: &R, kept: &mut Kept<'_>, from: usize, key: u64) -> usize
+fn add<R: Abort>(rt: &R, kept: &mut ChainAndKeeper<'_>, from: usize, key: u64) -> usize
     requires { from < 4 }
     ensures chain { kept.new.chain ≡ kept.old.chain }
     ensures inside { result < 4 }
@@ -74,7 +83,7 @@ fn add<R: Abort>(rt: &R, kept: &mut Kept<'_>, from: usize, key: u64) -> usize
 }
 
 /// A chain of all nodes.
-fn fill_up<R: Abort>(rt: &R, kept: &mut Kept<'_>) -> (usize, usize, usize)
+fn fill_up<R: Abort>(rt: &R, kept: &mut ChainAndKeeper<'_>) -> (usize, usize, usize)
     ensures chain { kept.new.chain ≡ kept.old.chain }
     ensures first { result.0 < 4 }
     ensures second { result.1 < 4 }
@@ -88,7 +97,7 @@ fn fill_up<R: Abort>(rt: &R, kept: &mut Kept<'_>) -> (usize, usize, usize)
 }
 
 /// Whether nodes are free, and whether they are live.
-fn states(kept: &Kept<'_>, nodes: (usize, usize, usize)) -> [(bool, bool); 3]
+fn states(kept: &ChainAndKeeper<'_>, nodes: (usize, usize, usize)) -> [(bool, bool); 3]
     requires first { nodes.0 < 4 }
     requires second { nodes.1 < 4 }
     requires third { nodes.2 < 4 }
@@ -109,7 +118,10 @@ const LIVE: (bool, bool) = (false, true);
 const GONE: (bool, bool) = (false, false);
 
 /// A full chain is left before a grace period: that one frees its nodes.
-fn leave_before_a_period<R: Abort + Wait>(periods: &mut Periods<'_, R>, kept: &mut Kept<'_>)
+fn leave_before_a_period<R: Abort + Wait>(
+    periods: &mut Periods<'_, R>,
+    kept: &mut ChainAndKeeper<'_>,
+)
     ensures { kept.new.chain ≡ kept.old.chain }
 {
     let rt = periods.rt;
@@ -129,7 +141,10 @@ fn leave_before_a_period<R: Abort + Wait>(periods: &mut Periods<'_, R>, kept: &m
 
 /// A full chain is left during a grace period, and one node before it: that one is free by its
 /// end, the others by the end of the next one.
-fn leave_during_a_period<R: Abort + Wait>(periods: &mut Periods<'_, R>, kept: &mut Kept<'_>) {
+fn leave_during_a_period<R: Abort + Wait>(
+    periods: &mut Periods<'_, R>,
+    kept: &mut ChainAndKeeper<'_>,
+) {
     let rt = periods.rt;
     let nodes = fill_up(rt, kept);
     assert!(rt; kept.link(nodes.0, Some(nodes.2)));
@@ -151,18 +166,13 @@ fn leave_during_a_period<R: Abort + Wait>(periods: &mut Periods<'_, R>, kept: &m
 
 #[test]
 fn nodes_come_back_after_a_full_period(rt: HostRuntime) {
-    let Ok((chain, mut seats, _, own)) = Chain::open(rt.alloc(), 1, 4_000_000, &[[0, 0]]) else {
+    let Ok((chain, seats, _, own)) = Chain::open(rt.alloc(), 1, 4_000_000, &[[0, 0]]) else {
         return;
     };
-    let seat = seats.pop().expect(&rt, "a processor is left");
-    let Ok(mut kept) = Kept::new(rt.alloc(), &chain, own) else {
+    let Ok(mut kept) = ChainAndKeeper::new(rt.alloc(), &chain, own) else {
         return;
     };
-    let mut periods = Periods {
-        rt: &rt,
-        chain: &chain,
-        seat,
-    };
+    let mut periods = Periods::of(&rt, &chain, seats);
     leave_before_a_period(&mut periods, &mut kept);
     leave_during_a_period(&mut periods, &mut kept);
 }
@@ -171,7 +181,7 @@ fn nodes_come_back_after_a_full_period(rt: HostRuntime) {
 /// Returns the node.
 fn replace<R: Abort + Wait>(
     periods: &mut Periods<'_, R>,
-    kept: &mut Kept<'_>,
+    kept: &mut ChainAndKeeper<'_>,
     number: u64,
 ) -> usize {
     let node = add(periods.rt, kept, 0, 5);
@@ -184,18 +194,13 @@ fn replace<R: Abort + Wait>(
 
 #[test]
 fn steady_turnover_uses_the_same_two_nodes(rt: HostRuntime) {
-    let Ok((chain, mut seats, _, own)) = Chain::open(rt.alloc(), 1, 4_000_000, &[[0, 0]]) else {
+    let Ok((chain, seats, _, own)) = Chain::open(rt.alloc(), 1, 4_000_000, &[[0, 0]]) else {
         return;
     };
-    let seat = seats.pop().expect(&rt, "a processor is left");
-    let Ok(mut kept) = Kept::new(rt.alloc(), &chain, own) else {
+    let Ok(mut kept) = ChainAndKeeper::new(rt.alloc(), &chain, own) else {
         return;
     };
-    let mut periods = Periods {
-        rt: &rt,
-        chain: &chain,
-        seat,
-    };
+    let mut periods = Periods::of(&rt, &chain, seats);
     for turn in 0..100u64 {
         let first = replace(&mut periods, &mut kept, 8 * turn + 1);
         let second = replace(&mut periods, &mut kept, 8 * turn + 5);

@@ -1,15 +1,15 @@
 //! Two readers search a chain on threads of their own while its keeper publishes and unlinks many
 //! entries through three nodes: what a section found stays as it is, and none sees an entry older
 //! than one before.
-ghost use Rattle.std.specs.Prelude.{◌≡◌, All};
+ghost use Rattle.std.specs.Prelude.{◌≡◌};
 ghost use Rattle.std.specs.Thread.{IsSync};
 ghost use Rattle.rcu_live.specs.CpuSeat.{IsSeatOf, after_word_step};
 ghost use Rattle.rcu_graph.specs.Graph.{IsWalking};
 ghost use Rattle.rcu_graph.specs.declared.known.Known.TheVariants.{Idle};
 
-use crate::nodes::kept::{Chain, Kept, Seat};
+use crate::nodes::chain::{Chain, ChainAndKeeper, Seat};
+use crate::nodes::parts::{next_online, next_seat};
 use rcu_seq::Cookie;
-use std::process::Abort;
 use std::sync::Wait;
 use std::thread;
 use std::thread::Threads;
@@ -107,7 +107,7 @@ impl<'a> Reader<'a> {
 #[derive(Drop)]
 struct Updater<'a> {
     chain: &'a Chain,
-    kept: Kept<'a>,
+    kept: ChainAndKeeper<'a>,
     seat: Seat,
     ghost seat_of: { IsSeatOf chain.now seat },
 }
@@ -152,39 +152,6 @@ impl<'a> Updater<'a> {
     }
 }
 
-/// The seat of the last processor that is left.
-fn next_seat<R: Abort>(rt: &R, chain: &Chain, seats: &mut Vec<Seat>) -> Seat
-    requires seats { All (IsSeatOf chain.now) seats.old.items }
-    requires outside { All (λ seat. seat.depth ≡ 0) seats.old.items }
-    requires idle { All (λ seat. seat.view.client ≡ Idle) seats.old.items }
-    ensures seats { All (IsSeatOf chain.now) seats.new.items }
-    ensures outside { All (λ seat. seat.depth ≡ 0) seats.new.items }
-    ensures idle { All (λ seat. seat.view.client ≡ Idle) seats.new.items }
-    ensures seat { IsSeatOf chain.now result }
-    ensures shut { result.depth ≡ 0 }
-    ensures unused { result.view.client ≡ Idle }
-{
-    seats.pop().expect(rt, "a processor is left")
-}
-
-/// A reader on the last processor that is left, which is online from now on.
-fn next_reader<'a, R: Abort + Wait>(rt: &R, chain: &'a Chain, seats: &mut Vec<Seat>) -> Reader<'a>
-    requires seats { All (IsSeatOf chain.now) seats.old.items }
-    requires outside { All (λ seat. seat.depth ≡ 0) seats.old.items }
-    requires idle { All (λ seat. seat.view.client ≡ Idle) seats.old.items }
-    ensures seats { All (IsSeatOf chain.now) seats.new.items }
-    ensures outside { All (λ seat. seat.depth ≡ 0) seats.new.items }
-    ensures idle { All (λ seat. seat.view.client ≡ Idle) seats.new.items }
-{
-    let mut seat = next_seat(rt, chain, seats);
-    assert_eq!(rt; chain.live().online(rt, &mut seat), Ok(()));
-    Reader {
-        chain,
-        seat,
-        newest: 0,
-    }
-}
-
 /// Runs two readers beside the keeper. Where no thread can be made for the keeper, it runs here
 /// last, since it waits for readers, and they for nobody.
 fn run_beside<R: Threads + Wait + Sync>(
@@ -204,10 +171,18 @@ fn readers_beside_a_turnover_of_nodes(rt: HostRuntime) {
     let Ok((chain, mut seats, _, own)) = Chain::open(rt.alloc(), 3, 4_000_000, &[[0, 0]]) else {
         return;
     };
-    let a = next_reader(&rt, &chain, &mut seats);
-    let b = next_reader(&rt, &chain, &mut seats);
+    let a = Reader {
+        chain: &chain,
+        seat: next_online(&rt, &chain, &mut seats),
+        newest: 0,
+    };
+    let b = Reader {
+        chain: &chain,
+        seat: next_online(&rt, &chain, &mut seats),
+        newest: 0,
+    };
     let seat = next_seat(&rt, &chain, &mut seats);
-    let Ok(kept) = Kept::new(rt.alloc(), &chain, own) else {
+    let Ok(kept) = ChainAndKeeper::new(rt.alloc(), &chain, own) else {
         return;
     };
     let updater = Updater {

@@ -2,8 +2,8 @@ use Rattle.std.proofs.Common.{rules, ◌≡◌, List, arith, true}
 use Rattle.std.specs.Prelude.{IsTrue}
 use Rattle.rcu_graph.specs.Nodes.{is_live, nodes_in, state_at}
 use Rattle.rcu_graph.specs.declared.known.Node.{Node}
-use Rattle.rcu_graph_tests.proofs.Targets.{told_live}
-use Rattle.rcu_graph_tests.proofs.nodes.kept.Kept.publish.Goals as goal
+use Rattle.rcu_graph.proofs.Counting.{test_live}
+use Rattle.rcu_graph_tests.proofs.nodes.chain.ChainAndKeeper.publish.Goals as goal
 
 pub publish-requires : goal.publish-requires
 publish-requires c =
@@ -25,7 +25,7 @@ publish-requires c =
               (
                 omega arith,
                 (
-                  told_live (state_at nodes c.args.from) live,
+                  test_live (state_at nodes c.args.from) live,
                   (c.is_ready.ensures ready, omega (arith, first, second, test)),
                 ),
               ),

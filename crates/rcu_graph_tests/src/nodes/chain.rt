@@ -17,13 +17,13 @@ pub(crate) type Seat = GraphSeat<Sorted, 1, 1, 2, 4>;
 
 /// The chain and who keeps it.
 #[derive(Drop)]
-pub(crate) struct Kept<'a> {
+pub(crate) struct ChainAndKeeper<'a> {
     pub(crate) chain: &'a Chain,
     pub(crate) keeper: Keeper<Sorted, 1, 1, 2, 4>,
     ghost keeper_of: { IsWatcherOf chain.now keeper },
 }
 
-impl<'a> Kept<'a> {
+impl<'a> ChainAndKeeper<'a> {
     pub(crate) fn new(
         alloc: Global,
         chain: &'a Chain,
@@ -33,7 +33,7 @@ impl<'a> Kept<'a> {
         requires first { IsClaimed (λ _. 0 ∷ 0 ∷ []) 1 1 2 4 own.view.client }
     {
         let keeper = Keeper::new(alloc, chain, own, &[[0, 0]])?;
-        Ok(Kept { chain, keeper })
+        Ok(ChainAndKeeper { chain, keeper })
     }
 
     /// Whether a node's link may lead there: nowhere, or to a live node of a greater key.

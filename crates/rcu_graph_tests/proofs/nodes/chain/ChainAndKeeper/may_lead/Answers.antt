@@ -5,7 +5,7 @@ use Rattle.rcu_graph.specs.Graph.{word_to}
 use Rattle.rcu_graph.specs.Nodes.{is_live, node_at, nodes_in, state_at}
 use Rattle.rcu_graph.specs.declared.known.Node.{Node}
 use Rattle.rcu_graph_tests.proofs.Targets.{greater_target}
-use Rattle.rcu_graph_tests.proofs.nodes.kept.Kept.may_lead.Goals as goal
+use Rattle.rcu_graph_tests.proofs.nodes.chain.ChainAndKeeper.may_lead.Goals as goal
 
 pub returns : goal.returns
 returns c = λ up.
