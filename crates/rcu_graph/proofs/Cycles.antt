@@ -34,8 +34,8 @@ all_idle (s ∷ states) =
 none_gone : (s t : NodeState) → s ≡ t → (IsGone t → ⊥) → IsGone s → ⊥
 none_gone s t e none g = none (subst IsGone e g)
 
-module _ (states : List NodeState) (free places waiting : List ℕ) (retired : ℕ)
-    (c : IsCycle states free places waiting retired) where
+module _ (states : List NodeState) (free heights waiting : List ℕ) (retired : ℕ)
+    (c : IsCycle states free heights waiting retired) where
   pub room : length free + length waiting ≤ length states
   room = let a = c.many in let b = all_idle states in omega (arith, a, b)
 
@@ -49,17 +49,17 @@ module _ (states : List NodeState) (free places waiting : List ℕ) (retired : �
         how_many is_idle (after s) + weight u ≡ how_many is_idle states + weight s) e
         (sum_by-set weight states node s Free low)
 
-    -- a free node is live, and the one on top stands at its place
+    -- a free node is live, and the one on top stands at its height
     module _ (is_free : state_in states node ≡ Free) (rest : List ℕ)
         (fewer : length rest + 1 ≡ length free)
-        (moved : get_or places node 0 + 1 < length free
-        → get_or rest (get_or places node 0) 0 ≡ get_or free (length free - 1) 0)
+        (moved : get_or heights node 0 + 1 < length free
+        → get_or rest (get_or heights node 0) 0 ≡ get_or free (length free - 1) 0)
         (kept : (k : ℕ)
-        → k ≢ get_or places node 0 → k + 1 < length free → get_or rest k 0 ≡ get_or free k 0) where
+        → k ≢ get_or heights node 0 → k + 1 < length free → get_or rest k 0 ≡ get_or free k 0) where
       pub cycle_published : IsCycle (after Live) rest
-          (set places (get_or free (length free - 1) 0) (get_or places node 0)) waiting retired
+          (set heights (get_or free (length free - 1) 0) (get_or heights node 0)) waiting retired
       cycle_published = record {
-        stack = stack_left states node Live low free places c.stack is_free
+        stack = stack_left states node Live low free heights c.stack is_free
             (λ (e : Live ≡ Free). cc) rest fewer moved kept;
         queue = queue_aside states node Live low waiting retired c.queue
             (none_gone (state_in states node) Free is_free (λ g. g)) (λ g. g);
@@ -70,9 +70,9 @@ module _ (states : List NodeState) (free places waiting : List ℕ) (retired : �
 
     -- a live node is left
     pub cycle_left : state_in states node ≡ Live
-        → IsCycle (after Left) free places (waiting ++ node ∷ []) retired
+        → IsCycle (after Left) free heights (waiting ++ node ∷ []) retired
     cycle_left is_live = record {
-      stack = stack_aside states node Left low free places c.stack
+      stack = stack_aside states node Left low free heights c.stack
           (λ (e : state_in states node ≡ Free). live_or_free (sym is_live ∙ e))
           (λ (e : Left ≡ Free). cc);
       queue = queue_pushed states node Left low waiting retired c.queue
@@ -101,10 +101,10 @@ module _ (states : List NodeState) (free places waiting : List ℕ) (retired : �
         → get_or waiting 0 0 ≡ node
         → length rest + 1 ≡ length waiting
         → ((k : ℕ) → get_or rest k 0 ≡ get_or waiting (1 + k) 0)
-        → IsCycle (after Free) (free ++ node ∷ []) (set places node (length free)) rest
+        → IsCycle (after Free) (free ++ node ∷ []) (set heights node (length free)) rest
         (retired - 1)
     cycle_freed at rest is_retired some first fewer shift = record {
-      stack = stack_pushed states node Free low free places c.stack
+      stack = stack_pushed states node Free low free heights c.stack
           (λ (e : state_in states node ≡ Free). retired_or_free (sym is_retired ∙ e)) refl;
       queue = queue_popped states node Free low waiting retired c.queue some first (λ g. g) rest
           fewer shift;
@@ -123,9 +123,9 @@ module _ (states : List NodeState) (free places waiting : List ℕ) (retired : �
         → retired < length waiting
         → get_or waiting retired 0 ≡ node
         → ((i : ℕ) → i < length states → IsBy number (state_in states i))
-        → IsCycle (after (Retired number)) free places waiting (retired + 1)
+        → IsCycle (after (Retired number)) free heights waiting (retired + 1)
     cycle_retired number is_left there next late = record {
-      stack = stack_aside states node (Retired number) low free places c.stack
+      stack = stack_aside states node (Retired number) low free heights c.stack
           (λ (e : state_in states node ≡ Free). left_or_free (sym is_left ∙ e))
           (λ (e : Retired number ≡ Free). cc);
       queue = queue_retired states node (Retired number) low waiting retired c.queue number refl
@@ -138,9 +138,9 @@ module _ (states : List NodeState) (free places waiting : List ℕ) (retired : �
         left_or_free e = cc
 
 -- all nodes are free at first, and those with low numbers are on top
-module _ (count : ℕ) (free places : List ℕ) (many : length free ≡ count)
-    (all : length places ≡ count) (each : (i : ℕ) → i < count → get_or free i 0 ≡ count - 1 - i)
-    (at : (i : ℕ) → i < count → get_or places i 0 ≡ count - 1 - i) where
+module _ (count : ℕ) (free heights : List ℕ) (many : length free ≡ count)
+    (all : length heights ≡ count) (each : (i : ℕ) → i < count → get_or free i 0 ≡ count - 1 - i)
+    (at : (i : ℕ) → i < count → get_or heights i 0 ≡ count - 1 - i) where
   abbrev first : List NodeState
   first = replicate count Free
 
@@ -156,10 +156,10 @@ module _ (count : ℕ) (free places : List ℕ) (many : length free ≡ count)
   turned_place : (k : ℕ) → k < count → get_or free k 0 < count
   turned_place k l = let a = each k l in omega (arith, a, l)
 
-  place_turned : (k : ℕ) → k < count → get_or places k 0 < count
+  place_turned : (k : ℕ) → k < count → get_or heights k 0 < count
   place_turned k l = let a = at k l in omega (arith, a, l)
 
-  pub cycle_first : IsCycle first free places [] 0
+  pub cycle_first : IsCycle first free heights [] 0
   cycle_first = record {
     stack = record {
       many = all ∙ sym first_many;
@@ -176,7 +176,7 @@ module _ (count : ℕ) (free places : List ℕ) (many : length free ≡ count)
           let low : i < count = omega (arith, l, first_many) in
           let a = place_turned i low in
           let b = at i low in
-          let d = each (get_or places i 0) a in (omega (arith, a, many), omega (arith, d, b, low));
+          let d = each (get_or heights i 0) a in (omega (arith, a, many), omega (arith, d, b, low));
     };
     queue = record {
       fit = omega arith;

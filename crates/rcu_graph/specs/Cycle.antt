@@ -29,22 +29,22 @@ is_idle Live = false
 is_idle Left = true
 is_idle (Retired number) = true
 
--- the node i is free and knows its place k, and the other way round
+-- the node i is free and knows its height k, and the other way round
 abbrev pub IsFreeAt : List NodeState → List ℕ → ℕ → ℕ → Type 0
-IsFreeAt states places k i =
-    (i < length states) × (state_in states i ≡ Free) × (slice_index places i ≡ k)
+IsFreeAt states heights k i =
+    (i < length states) × (state_in states i ≡ Free) × (slice_index heights i ≡ k)
 
 abbrev pub StandsIn : List ℕ → ℕ → ℕ → Type 0
 StandsIn list k i = (k < length list) × (slice_index list k ≡ i)
 
--- each free node stands in a stack at its place, and nothing else does
-pub record IsStack (states : List NodeState) (free places : List ℕ) : Type 0 where
-  pub many : length places ≡ length states
-  pub holds : (k : ℕ) → k < length free → IsFreeAt states places k (slice_index free k)
+-- each free node stands in a stack at its height, and nothing else does
+pub record IsStack (states : List NodeState) (free heights : List ℕ) : Type 0 where
+  pub many : length heights ≡ length states
+  pub holds : (k : ℕ) → k < length free → IsFreeAt states heights k (slice_index free k)
   pub home : (i : ℕ) → i < length states → state_in states i ≡ Free
-      → StandsIn free (slice_index places i) i
+      → StandsIn free (slice_index heights i) i
 
--- where the first ones of a queue are retired, a node in this state may stand there at the place k
+-- where the first ones of a queue are retired, a node in this state may stand there at the index k
 abbrev pub StandsAt : ℕ → NodeState → ℕ → Type 0
 StandsAt retired Free k = ⊥
 StandsAt retired Live k = ⊥
@@ -71,9 +71,9 @@ pub record IsQueue (states : List NodeState) (waiting : List ℕ) (retired : ℕ
       → a ≤ b
 
 -- each node that is not live stands in the stack or in the queue
-pub record IsCycle (states : List NodeState) (free places waiting : List ℕ) (retired : ℕ)
+pub record IsCycle (states : List NodeState) (free heights waiting : List ℕ) (retired : ℕ)
     : Type 0 where
-  pub stack : IsStack states free places
+  pub stack : IsStack states free heights
   pub queue : IsQueue states waiting retired
   pub many : length free + length waiting ≡ how_many is_idle states
 

@@ -18,8 +18,8 @@ pub(crate) struct Cycle {
     states: Vec<NodeState>,
     /// The free nodes, the one that was freed last on top.
     free: Vec<usize>,
-    /// Where each free node stands among them.
-    places: Vec<usize>,
+    /// How high each free node stands among them.
+    heights: Vec<usize>,
     /// The retired nodes in the order of their retiring, and behind them the left ones in the order
     /// of their leaving.
     waiting: VecDeque<usize>,
@@ -39,7 +39,7 @@ impl Model for Cycle {
     ghost view = { λ c. c.states.items };
 
     ghost invariant = { λ c. record {
-      cycle : IsCycle c.states.items c.free.items c.places.items c.waiting.items c.retired;
+      cycle : IsCycle c.states.items c.free.items c.heights.items c.waiting.items c.retired;
       free : length c.states.items ≤ vec_capacity c.free;
       waiting : length c.states.items ≤ deque_capacity c.waiting;
     } };
@@ -65,12 +65,12 @@ impl Cycle {
     {
         let states = vec![in alloc; NodeState::Free; count]?;
         let free = falling(alloc, count)?;
-        let places = falling(alloc, count)?;
+        let heights = falling(alloc, count)?;
         let waiting = VecDeque::with_capacity(alloc, count)?;
         Ok(Cycle {
             states,
             free,
-            places,
+            heights,
             waiting,
             retired: 0,
         })
@@ -105,10 +105,10 @@ impl Cycle {
         requires free { state_in self.old node ≡ Free }
         ensures { self.new ≡ slice_set self.old node Live }
     {
-        let place = self.places[node];
+        let height = self.heights[node];
         let top = self.free[self.free.len() - 1];
-        self.places[top] = place;
-        self.free.swap_remove(place);
+        self.heights[top] = height;
+        self.free.swap_remove(height);
         self.states[node] = NodeState::Live;
     }
 
@@ -165,7 +165,7 @@ impl Cycle {
         }
         self.waiting.pop_front();
         self.retired -= 1;
-        self.places[node] = self.free.len();
+        self.heights[node] = self.free.len();
         let Ok(()) = self.free.push(node) else {
             unreachable!()
         };

@@ -14,7 +14,7 @@ pub unreachable-requires : goal.unreachable-requires
 unreachable-requires c =
     let i = c.self.inside in
     let k = c.self.invariant in
-    let a = room i.states.items i.free.items i.places.items i.waiting.items i.retired k.cycle in
+    let a = room i.states.items i.free.items i.heights.items i.waiting.items i.retired k.cycle in
     let full = c.in_default.ensures.full in
     let few = i.free.ok.0 in
     let fits = k.free in
@@ -68,12 +68,12 @@ invariant_of-self c =
     let count : c.len.result ≡ length i.free.items = c.len.ensures ∙ i.free.ok.0 in
     record {
       cycle = subst (λ (l : List ℕ). IsCycle (set (states c) (node c) Free) l
-          (set i.places.items (node c) c.len.result) rest (i.retired - 1))
+          (set i.heights.items (node c) c.len.result) rest (i.retired - 1))
           (sym c.in-Ok.ensures.items)
           (subst (λ (m : ℕ). IsCycle (set (states c) (node c) Free)
-          (i.free.items ++ node c ∷ []) (set i.places.items (node c) m) rest (i.retired - 1))
+          (i.free.items ++ node c ∷ []) (set i.heights.items (node c) m) rest (i.retired - 1))
           (sym count)
-          (cycle_freed (states c) i.free.items i.places.items (waiting c) i.retired k.cycle
+          (cycle_freed (states c) i.free.items i.heights.items (waiting c) i.retired k.cycle
           (node c) (low c) (over c).0 rest (over c).1 (some c) (first c)
           (let a = there c in
           let b = ap (λ (l : List ℕ). length l) c.pop_front.ensures.rest in

@@ -9,7 +9,7 @@ pub unreachable-requires : goal.unreachable-requires
 unreachable-requires c =
     let i = c.self.inside in
     let k = c.self.invariant in
-    let room = room_left i.states.items i.free.items i.places.items i.waiting.items i.retired
+    let room = room_left i.states.items i.free.items i.heights.items i.waiting.items i.retired
     k.cycle c.args.node
     (subst (λ (l : List NodeState). c.args.node < length l) (sym c.self.view_is) c.requires.node)
     (ap (λ (l : List NodeState). state_in l c.args.node) c.self.view_is ∙ c.requires.live) in
@@ -25,9 +25,9 @@ invariant_of-self c =
     let many = length-set i.states.items c.args.node Left in
     record {
       cycle = subst (λ (l : List ℕ).
-          IsCycle (set i.states.items c.args.node Left) i.free.items i.places.items l i.retired)
+          IsCycle (set i.states.items c.args.node Left) i.free.items i.heights.items l i.retired)
           (sym c.in-Ok.ensures.items)
-          (cycle_left i.states.items i.free.items i.places.items i.waiting.items i.retired k.cycle
+          (cycle_left i.states.items i.free.items i.heights.items i.waiting.items i.retired k.cycle
           c.args.node
           (subst (λ (l : List NodeState). c.args.node < length l) (sym c.self.view_is)
           c.requires.node)

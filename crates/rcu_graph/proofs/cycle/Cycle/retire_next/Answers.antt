@@ -28,7 +28,7 @@ invariant_of-self c =
     (subst (λ (j : ℕ). StandsAt i.retired (state_in states j) i.retired) next
     (q.stands i.retired there)) in
     record {
-      cycle = cycle_retired states i.free.items i.places.items waiting i.retired k.cycle node low
+      cycle = cycle_retired states i.free.items i.heights.items waiting i.retired k.cycle node low
           c.args.number is_left there next
           (subst (λ (l : List NodeState). (j : ℕ) → j < length l
           → IsBy c.args.number (state_in l j))
