@@ -33,12 +33,14 @@ impl<F: Invariant, const W: usize, const N: usize> Keeper<F, W, N> {
     {
         let cookie = Cookie::of(Tag::of_first_epoch(self.age(cell)));
         let mut waited = Ok(());
+        let mut rounds = 0;
         for _ in rt.forever() {
             if let Ok(retired) = self.update(cell, words) {
                 return Ok(retired);
             }
             waited?;
             waited = cell.live().wait_once(rt, seat, cookie);
+            rounds = cell.live().sleep_between(rt, seat, cookie, rounds);
             self.age(cell);
         }
         unreachable!()

@@ -175,6 +175,7 @@ impl<P: Client> CpuSeat<P> {
         let number = board.load(&mut self.seat);
         self.data.set_noted(Tag::of_first_epoch(number));
         board.store(&mut self.seat, self.data.cpu(), number + 1);
+        live.stored(self.data.cpu());
         Ok(number)
     }
 
@@ -198,6 +199,7 @@ impl<P: Client> CpuSeat<P> {
         if noted.number != now {
             self.data.set_noted(Tag::of_first_epoch(now));
             board.store(&mut self.seat, self.data.cpu(), now + 1);
+            live.stored(self.data.cpu());
         }
         Ok(now)
     }
@@ -218,7 +220,7 @@ impl<P: Client> CpuSeat<P> {
         ensures unchanged { OnErr result (self.new ≡ self.old) }
     {
         if self.depth() == 1 {
-            Ok(self.renew_outermost(live.board()))
+            Ok(self.renew_outermost(live))
         } else if self.is_idle() {
             Err(Fault::CpuIdle)
         } else {
@@ -230,8 +232,8 @@ impl<P: Client> CpuSeat<P> {
     /// what changes the own word, and opens the next section. Returns the number of the quiescent
     /// state.
     #[inline]
-    fn renew_outermost(&mut self, board: &Board<P>) -> u64
-        requires table { self.old.table ≡ board.now.table }
+    fn renew_outermost<L: Shared<P>>(&mut self, live: &L) -> u64
+        requires table { self.old.table ≡ (L.object live.now).table }
         requires outermost { self.old.depth ≡ 1 }
         ensures open { renew_refusal self.old ≡ None }
         ensures pinned { repin_refusal self.old ≡ None }
@@ -239,10 +241,12 @@ impl<P: Client> CpuSeat<P> {
     {
         let CpuSeat { data, opened, seat } = self;
         let last = data.noted();
+        let board = live.board();
         let number = board.close_section(seat);
         if last.number != number {
             data.set_noted(Tag::of_first_epoch(number));
             board.store(seat, data.cpu(), number + 1);
+            live.stored(data.cpu());
         }
         let began = board.open_section(seat);
         *opened = Some(began);
@@ -324,6 +328,7 @@ impl<P: Client> CpuSeat<P> {
             board.close_section(seat);
             *opened = None;
             board.store(seat, data.cpu(), IDLE_WORD);
+            live.stored(data.cpu());
         }
         Ok(depth)
     }
@@ -344,7 +349,7 @@ impl<P: Client> CpuSeat<P> {
         if self.depth() != 1 {
             return Err(self.no_outermost());
         }
-        Ok(self.renew_outermost(live.board()))
+        Ok(self.renew_outermost(live))
     }
 
     /// The processor is idle from now on, until it wakes or departs: one store of 2^63 in its own
@@ -362,6 +367,7 @@ impl<P: Client> CpuSeat<P> {
         self.data.idle()?;
         let board = live.board();
         board.store(&mut self.seat, self.data.cpu(), IDLE_WORD);
+        live.stored(self.data.cpu());
         Ok(())
     }
 
@@ -427,6 +433,7 @@ impl<P: Client> CpuSeat<P> {
         }
         let board = live.board();
         board.store(&mut self.seat, self.data.cpu(), 0);
+        live.stored(self.data.cpu());
         Ok(again)
     }
 

@@ -25,6 +25,7 @@ pub mod reading;
 pub mod rule;
 mod seats;
 pub mod shared;
+mod sleepers;
 pub mod view;
 pub mod watcher;
 mod word_sets;

@@ -13,6 +13,7 @@ use crate::cpu_seat::CpuSeat;
 use crate::engine::Engine;
 use crate::meeting::Met;
 use crate::shared::Shared;
+use crate::sleepers::Sleepers;
 use crate::watcher::Watcher;
 use rcu_node::Tree;
 use std::alloc::Global;
@@ -28,6 +29,7 @@ use std::sync::{Arc, Mutex, MutexGuard, Wait};
 pub struct Live<const LEAF: u32, const FAN: u32, T: Drop, P: Client = NoClient> {
     board: Arc<Board<P>, Global>,
     pub(crate) engine: Mutex<Engine<Tree<LEAF, FAN>, T, P>>,
+    pub(crate) sleepers: Sleepers,
 }
 
 impl<const LEAF: u32, const FAN: u32, T: Drop, P: Client> Model for Live<LEAF, FAN, T, P> {
@@ -50,6 +52,7 @@ impl<const LEAF: u32, const FAN: u32, T: Drop, P: Client> Live<LEAF, FAN, T, P> 
         Live {
             board,
             engine: Mutex::new(engine),
+            sleepers: Sleepers::new(),
         }
     }
 
@@ -83,5 +86,10 @@ impl<const LEAF: u32, const FAN: u32, T: Drop, P: Client> Shared<P> for Live<LEA
 
     fn board(&self) -> &Board<P> {
         &self.board
+    }
+
+    #[inline]
+    fn stored(&self, cpu: u32) {
+        self.sleepers.stored(cpu);
     }
 }

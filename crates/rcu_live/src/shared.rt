@@ -16,6 +16,11 @@ pub trait Shared<P: Client> {
     /// The shared words.
     fn board(&self) -> &Board<P>
         ensures { result.now ≡ object self.now };
+
+    /// What a seat calls behind each store by which an awaited processor is heard of: it wakes who
+    /// sleeps until then, if somebody does. A wake, a pin and an arrival make no such store: the
+    /// word before told as much.
+    fn stored(&self, cpu: u32);
 }
 
 impl<P: Client> Shared<P> for Board<P> {
@@ -24,4 +29,7 @@ impl<P: Client> Shared<P> for Board<P> {
     fn board(&self) -> &Board<P> {
         self
     }
+
+    /// Nobody sleeps by the words alone.
+    fn stored(&self, _cpu: u32) {}
 }

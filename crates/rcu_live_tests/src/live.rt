@@ -4,6 +4,7 @@ mod epochs;
 mod idle;
 mod locked;
 mod most;
+mod sleeps;
 mod states;
 mod steps;
 mod stress;
