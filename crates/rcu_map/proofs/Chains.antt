@@ -1,7 +1,7 @@
 -- What holds of the chains of a map.
-use Rattle.std.proofs.Common.{◌≡◌, ℕ, suc, ◌<◌, ◌≤◌, ◌↔◌, ⊎_elim, true, false, List, Option, Some}
-use Rattle.std.proofs.Common.{None, Result, Ok, Err, length, refl, sym, ap, ◌∙◌, subst, arith}
-use Rattle.std.specs.Prelude.{IsTrue, MatchOption, is_some, slice_index}
+use Rattle.std.proofs.Common.{◌≡◌, ℕ, suc, ◌<◌, ◌≤◌, ⊎_elim, List, Option, Some}
+use Rattle.std.proofs.Common.{None, length, sym, ap, ◌∙◌, subst, arith}
+use Rattle.std.specs.Prelude.{MatchOption, slice_index}
 use Rattle.std.proofs.lemmas.Bool.{cases_lt}
 use Rattle.rcu_graph.specs.Absence.{key_at, next_of}
 use Rattle.rcu_graph.specs.Nodes.{node_at, state_at}
@@ -18,29 +18,6 @@ use Rattle.rcu_map.proofs.Buckets.{entry_bucket, root_bucket, root_key}
 -- the bucket of the node i
 abbrev pub bucket_at : ℕ → List Node → ℕ → ℕ
 bucket_at buckets nodes i = bucket_in buckets (node_at nodes i).words
-
--- what the place of a key tells
-pub not_there : (buckets key : ℕ) (nodes : List Node) (node : Option ℕ)
-    → MatchOption node (HasKey buckets nodes key → ⊥) (λ n. IsNodeOf buckets nodes key n)
-    → is_some node ≡ false
-    → HasKey buckets nodes key
-    → ⊥
-not_there buckets key nodes None t e = t
-not_there buckets key nodes (Some n) t e = absurd (cc)
-
-pub one_there : (buckets key : ℕ) (nodes : List Node) (node : Option ℕ)
-    → MatchOption node (HasKey buckets nodes key → ⊥) (λ n. IsNodeOf buckets nodes key n)
-    → is_some node ≡ true
-    → HasKey buckets nodes key
-one_there buckets key nodes None t e = absurd (cc)
-one_there buckets key nodes (Some n) t e = (n, t)
-
-pub err_not_ok : {T E : Type 0} (x : E) (y : T) → ◌≡◌ {A = Result T E} (Err x) (Ok y) → ⊥
-err_not_ok x y e = cc
-
-pub nothing_in : (o : Option ℕ) → is_some o ≡ false → o ≡ None
-nothing_in None e = refl
-nothing_in (Some n) e = absurd (cc)
 
 module _ (holds : List ℕ → Type 0) (buckets width count : ℕ) (A : List Node)
     (m : IsMap holds buckets width count A) where
@@ -177,13 +154,6 @@ module _ (holds : List ℕ → Type 0) (buckets width count : ℕ) (A : List Nod
       → MatchOption node (HasKey buckets A key → ⊥) (λ n. IsNodeOf buckets A key n)
   told key previous None some place = absent key previous some place
   told key previous (Some node) some place = there key previous some node place
-
-  -- a lookup says whether there is an entry
-  pub is_there : (key : ℕ) (node : Option ℕ)
-      → MatchOption node (HasKey buckets A key → ⊥) (λ n. IsNodeOf buckets A key n)
-      → IsTrue (is_some node) ↔ HasKey buckets A key
-  is_there key None none = (λ e. absurd (cc), λ has. absurd (none has))
-  is_there key (Some node) one = (λ e. (node, one), λ has. refl)
 
   -- the root of a key's bucket is where its search begins
   pub begins : (key : ℕ)

@@ -1,6 +1,6 @@
 -- Looks at the number while no node is free, one after another, and where there is nothing to wait
 -- for.
-use Rattle.std.proofs.Common.{◌≡◌, ℕ, suc, ◌+◌, ◌-◌, ◌<◌, ◌≤◌, ⊎_elim, Bool, true, false, List}
+use Rattle.std.proofs.Common.{◌≡◌, ℕ, suc, ◌+◌, ◌-◌, ◌<◌, ◌≤◌, ⊎_elim, true, false, List}
 use Rattle.std.proofs.Common.{length, refl, sym, ap, ◌∙◌, arith, Err, IfOk, Ok, OnErr, Result}
 use Rattle.std.specs.Result.{is_ok}
 use Rattle.std.proofs.lemmas.Bool.{cases_lt}
@@ -18,8 +18,8 @@ use Rattle.rcu_map.specs.Chains.{IsMap}
 use Rattle.rcu_map.specs.Entries.{AreSameEntries, HasKey, entries_in}
 use Rattle.rcu_map.specs.Keys.{key_in}
 use Rattle.rcu_map.specs.Waits.{AreAllLive, HasAged, IsLook, WaitedFor}
-use Rattle.rcu_map.specs.declared.not_put.NotPut.{NotPut}
-use Rattle.rcu_map.specs.declared.not_put.NotPut.TheVariants.{Fault, Full}
+use Rattle.rcu_map.specs.declared.put.NotPut.{NotPut}
+use Rattle.rcu_map.specs.declared.put.NotPut.TheVariants.{Fault, Full}
 use Rattle.rcu_map.proofs.Counted.{all_behind_live, entries_and_roots, many_behind}
 
 -- a look, a first one, and one more
@@ -95,18 +95,6 @@ why_full buckets seat now before (Fault fault) after end = (
   λ e. absurd (cc),
   λ all. absurd (end.0 all),
 )
-
--- answers that are told apart
-pub not_false : (b : Bool) → (b ≡ false → ⊥) → b ≡ true
-not_false true never = refl
-not_false false never = absurd (never refl)
-
-pub same_ok : {E : Type 0} (a b : Bool) → a ≡ b → ◌≡◌ {A = Result Bool E} (Ok a) (Ok b)
-same_ok a b e = cc
-
-pub ok_not_false : {E : Type 0} (b : Bool) → b ≡ true → ◌≡◌ {A = Result Bool E} (Ok b) (Ok false)
-    → ⊥
-ok_not_false b is e = cc
 
 pub same_err : {T E : Type 0} (x y : E) → ◌≡◌ {A = Result T E} (Err x) (Err y) → x ≡ y
 same_err x y e = cc

@@ -1,20 +1,22 @@
 -- What a call that waits for a free node leaves.
-use Rattle.std.specs.Prelude.{◌≡◌, ◌⊎◌, ℕ, zero, suc, ◌<◌, ◌≤◌, List, Err, Ok, Result, length}
+use Rattle.std.specs.Prelude.{◌≡◌, ◌⊎◌, ℕ, zero, suc, ◌<◌, ◌≤◌, Bool, true, false, List, Err, Ok}
+use Rattle.std.specs.Prelude.{Result, length}
 use Rattle.rcu_seq.specs.declared.fault.Fault.TheVariants.{Exhausted}
 use Rattle.rcu_live.specs.Board.{Object}
 use Rattle.rcu_live.specs.CpuSeat.{Seated}
 use Rattle.rcu_live.specs.Waits.{AreRounds}
 use Rattle.rcu_live.specs.Watcher.{Watching}
 use Rattle.rcu_graph.specs.Graph.{IsSeatOf, IsWatcherOf}
-use Rattle.rcu_graph.specs.Keeper.{after_look, after_step}
+use Rattle.rcu_graph.specs.Keeper.{after_look}
 use Rattle.rcu_graph.specs.Nodes.{nodes_in, state_at}
 use Rattle.rcu_graph.specs.Tended.{AreAllUsed}
 use Rattle.rcu_graph.specs.declared.known.Known.{Known}
 use Rattle.rcu_graph.specs.declared.known.Node.{Node}
 use Rattle.rcu_graph.specs.declared.node_state.NodeState.TheVariants.{Live}
 use Rattle.rcu_map.specs.Entries.{AreSameEntries, IsFreeNode}
-use Rattle.rcu_map.specs.declared.not_put.NotPut.{NotPut}
-use Rattle.rcu_map.specs.declared.not_put.NotPut.TheVariants.{Fault, Full}
+use Rattle.rcu_map.specs.Puts.{HasChanged, IsPutIn}
+use Rattle.rcu_map.specs.declared.put.NotPut.{NotPut}
+use Rattle.rcu_map.specs.declared.put.NotPut.TheVariants.{Fault, Full}
 
 -- each node is live: none is free, and none becomes free before an entry is taken out
 abbrev pub AreAllLive : List Node → Type 0
@@ -90,12 +92,6 @@ WaitedFor buckets seat now before (Err (Fault fault)) after =
     × (fault ≡ Exhausted)
     × HasGivenUp buckets seat now before after
 
--- one step of the keeper made this change of the nodes
-pub record HasChanged (change : List Node → List Node → Type 0)
-    (before after : Watching Known) : Type 0 where
-  pub state : after ≡ after_step before (nodes_in after.view.client)
-  pub nodes : change (nodes_in before.view.client) (nodes_in after.view.client)
-
 -- the keeper waited for a free node, and then made this change
 pub record HasChangedLater (change : List Node → List Node → Type 0) (buckets : ℕ)
     (seat now : Seated Known) (before after : Watching Known) : Type 0 where
@@ -113,3 +109,12 @@ pub record HasChangedInTime (change : List Node → List Node → Type 0) (bucke
       → HasChanged change before after
   pub waited : AreAllUsed (nodes_in before.view.client)
       → HasChangedLater change buckets seat now before after
+
+-- the keeper of such a caller put the entry of these words in so, one of its key being there or
+-- none; or nothing happened
+abbrev pub HasPutInTime : ℕ
+    → List ℕ → Bool → Bool → Seated Known → Seated Known → Watching Known → Watching Known → Type 0
+HasPutInTime buckets words there true seat now before after =
+    HasChangedInTime (IsPutIn buckets words there) buckets seat now before after
+HasPutInTime buckets words there false seat now before after =
+    (seat.depth ≡ 0) × HasStayed seat now before after

@@ -149,7 +149,7 @@ impl<E: Entry<W>, const BUCKETS: usize, const W: usize, const N: usize> MapKeepe
     }
 
     /// The words of the entry of a node.
-    fn words_of(&self, node: usize) -> [u64; W]
+    pub(crate) fn words_of(&self, node: usize) -> [u64; W]
         requires { IsEntry BUCKETS (nodes_in self.now.view.client) node }
         ensures same { result ≡ (node_at (nodes_in self.now.view.client) node).words }
         ensures whole { E.holds result }

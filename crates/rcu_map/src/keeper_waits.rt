@@ -1,18 +1,18 @@
 //! Calls that wait until a node is free.
-ghost use Rattle.std.specs.Prelude.{◌≡◌, ◌≢◌, ◌↔◌, ◌<◌, Err, IfErr, IsTrue, MatchResult, Ok, OnErr};
-ghost use Rattle.std.specs.Prelude.{OnOk, false, true};
+ghost use Rattle.std.specs.Prelude.{◌≡◌, ◌≢◌, ◌↔◌, ◌<◌, Err, IfErr, IfOk, IsTrue, MatchResult};
+ghost use Rattle.std.specs.Prelude.{OnErr, OnOk, is_some};
 ghost use Rattle.rcu_seq.specs.declared.fault.Fault.{Fault};
 ghost use Rattle.rcu_live.specs.Waits.{HasRested, wait_fault};
 ghost use Rattle.rcu_graph.specs.Nodes.{nodes_in};
-ghost use Rattle.rcu_map.specs.Entries.{HasKey, IsInserted, IsReplaced};
-ghost use Rattle.rcu_map.specs.Waits.{AreAllLive, AreOf, CanWait, HasChangedInTime, HasGivenUp};
-ghost use Rattle.rcu_map.specs.Waits.{HasStayed, HasMadeRoom, WaitedFor};
-ghost use Rattle.rcu_map.specs.declared.not_put.NotPut.{NotPut};
+ghost use Rattle.rcu_map.specs.Puts.{Holds, IsWanted, is_put};
+ghost use Rattle.rcu_map.specs.Waits.{AreAllLive, AreOf, CanWait, HasGivenUp, HasMadeRoom};
+ghost use Rattle.rcu_map.specs.Waits.{HasPutInTime, HasStayed, WaitedFor};
+ghost use Rattle.rcu_map.specs.declared.put.NotPut.{NotPut};
 
 use crate::entry::Entry;
 use crate::keeper::MapKeeper;
 use crate::map::Map;
-use crate::not_put::NotPut;
+use crate::put::{NotPut, Put};
 use crate::shape::MapSeat;
 use rcu_seq::{Cookie, Fault, Tag};
 use std::sync::Wait;
@@ -60,12 +60,14 @@ impl<E: Entry<W>, const BUCKETS: usize, const W: usize, const N: usize> MapKeepe
     {
         let cookie = Cookie::of(Tag::of_first_epoch(self.age(map)));
         let mut waited = Ok(());
+        let mut rounds = 0;
         for _ in rt.forever() {
             if self.nodes.free_node().is_ok() {
                 return Ok(());
             }
             waited?;
             waited = map.live().wait_once(rt, seat, cookie);
+            rounds = map.live().sleep_between(rt, seat, cookie, rounds);
             self.age(map);
         }
         unreachable!()
@@ -90,9 +92,10 @@ impl<E: Entry<W>, const BUCKETS: usize, const W: usize, const N: usize> MapKeepe
         Ok(())
     }
 
-    /// Puts an entry in, as [`insert`](Self::insert). Where no node is free, it looks at the number
-    /// and drives the engine until one is. The caller's processor passes quiescent states
-    /// meanwhile, unless it is offline or idle. It does not wait where an entry has the key, nor
+    /// Puts an entry in so, as [`insert`](Self::insert), [`replace`](Self::replace) or
+    /// [`upsert`](Self::upsert), and returns the one that had its key. Where it needs a node and
+    /// none is free, it looks at the number and drives the engine until one is. The caller's
+    /// processor passes quiescent states meanwhile, unless it is offline or idle. It does not wait
     /// where each node is live: that is `Full`.
     ///
     /// No proof says that it returns. A section that stays open holds it up, and a processor whose
@@ -101,82 +104,41 @@ impl<E: Entry<W>, const BUCKETS: usize, const W: usize, const N: usize> MapKeepe
     /// Faults: `InSection` (4) where a section is open on the seat, which the caller would wait
     /// for, and then nothing happened; `Exhausted` (11) where the last number is reached, so that
     /// no node becomes free any more.
-    pub fn insert_or_wait<const LEAF: u32, const FAN: u32, T: Drop>(
+    pub fn put_or_wait<const LEAF: u32, const FAN: u32, T: Drop>(
         &mut self,
         rt: &impl Wait,
         map: &Map<LEAF, FAN, T, E, BUCKETS, W, N>,
         seat: &mut MapSeat<E, BUCKETS, W, N>,
+        how: Put,
         entry: E,
-    ) -> Result<bool, NotPut>
+    ) -> Result<Option<E>, NotPut>
         requires of_map { AreOf map.now self.old seat.old }
         requires sound { E.valid entry }
         ensures of_map { AreOf map.now self.new seat.new }
         ensures rested { HasRested seat.old seat.new }
-        ensures there { (result ≡ Ok false) ↔ ((seat.old.depth ≡ 0)
-            × HasKey BUCKETS (nodes_in self.old.view.client) (E.key_of entry)) }
+        ensures old { IfOk result (λ old. Holds E.decode E.valid E.key_of BUCKETS
+            (nodes_in self.old.view.client) (E.key_of entry) old) }
+        ensures put { IfOk result (λ old. HasPutInTime BUCKETS (E.in_words entry) (is_some old)
+            (is_put how (is_some old)) seat.old seat.new self.old self.new) }
         ensures full { (result ≡ Err NotPut.Full) ↔ ((seat.old.depth ≡ 0)
-            × (¬ HasKey BUCKETS (nodes_in self.old.view.client) (E.key_of entry))
+            × IsWanted how BUCKETS (nodes_in self.old.view.client) (E.key_of entry)
             × AreAllLive (nodes_in self.old.view.client)) }
-        ensures inserted { result ≡ Ok true → HasChangedInTime
-            (λ before after. IsInserted BUCKETS before (E.in_words entry) after)
-            BUCKETS seat.old seat.new self.old self.new }
         ensures fault { (fault : Fault) → result ≡ Err (NotPut.Fault fault) →
             fault ≡ wait_fault seat.old.depth }
         ensures given_up { result ≡ Err (NotPut.Fault Fault.Exhausted) →
-            HasGivenUp BUCKETS seat.old seat.new self.old self.new }
-        ensures unchanged { result ≢ Ok true → result ≢ Err (NotPut.Fault Fault.Exhausted) →
-            HasStayed seat.old seat.new self.old self.new }
+            IsWanted how BUCKETS (nodes_in self.old.view.client) (E.key_of entry)
+            × HasGivenUp BUCKETS seat.old seat.new self.old self.new }
+        ensures unchanged { OnErr result (result ≢ Err (NotPut.Fault Fault.Exhausted) →
+            HasStayed seat.old seat.new self.old self.new) }
     {
         check_outside(seat)?;
-        if let Ok(put) = self.insert(map, entry) {
-            return Ok(put);
+        if let Ok(old) = self.put(map, how, entry) {
+            return Ok(old);
         }
         self.wait_for_node(rt, map, seat)?;
-        let Ok(put) = self.insert(map, entry) else {
+        let Ok(old) = self.put(map, how, entry) else {
             unreachable!()
         };
-        Ok(put)
-    }
-
-    /// Puts an entry in the place of the one that has its key, as [`replace`](Self::replace), and
-    /// waits for a free node as [`insert_or_wait`](Self::insert_or_wait) does: not where no entry
-    /// has the key, nor where each node is live, which is `Full`.
-    ///
-    /// Faults: `InSection` (4) and `Exhausted` (11), as there.
-    pub fn replace_or_wait<const LEAF: u32, const FAN: u32, T: Drop>(
-        &mut self,
-        rt: &impl Wait,
-        map: &Map<LEAF, FAN, T, E, BUCKETS, W, N>,
-        seat: &mut MapSeat<E, BUCKETS, W, N>,
-        entry: E,
-    ) -> Result<bool, NotPut>
-        requires of_map { AreOf map.now self.old seat.old }
-        requires sound { E.valid entry }
-        ensures of_map { AreOf map.now self.new seat.new }
-        ensures rested { HasRested seat.old seat.new }
-        ensures there { (result ≡ Ok false) ↔ ((seat.old.depth ≡ 0)
-            × (¬ HasKey BUCKETS (nodes_in self.old.view.client) (E.key_of entry))) }
-        ensures full { (result ≡ Err NotPut.Full) ↔ ((seat.old.depth ≡ 0)
-            × HasKey BUCKETS (nodes_in self.old.view.client) (E.key_of entry)
-            × AreAllLive (nodes_in self.old.view.client)) }
-        ensures replaced { result ≡ Ok true → HasChangedInTime
-            (λ before after. IsReplaced BUCKETS before (E.in_words entry) after)
-            BUCKETS seat.old seat.new self.old self.new }
-        ensures fault { (fault : Fault) → result ≡ Err (NotPut.Fault fault) →
-            fault ≡ wait_fault seat.old.depth }
-        ensures given_up { result ≡ Err (NotPut.Fault Fault.Exhausted) →
-            HasGivenUp BUCKETS seat.old seat.new self.old self.new }
-        ensures unchanged { result ≢ Ok true → result ≢ Err (NotPut.Fault Fault.Exhausted) →
-            HasStayed seat.old seat.new self.old self.new }
-    {
-        check_outside(seat)?;
-        if let Ok(put) = self.replace(map, entry) {
-            return Ok(put);
-        }
-        self.wait_for_node(rt, map, seat)?;
-        let Ok(put) = self.replace(map, entry) else {
-            unreachable!()
-        };
-        Ok(put)
+        Ok(old)
     }
 }

@@ -1,17 +1,19 @@
 //! A map's keeper behind a lock, for updates by several threads.
-ghost use Rattle.std.specs.Prelude.{◌≡◌, IfSome};
+ghost use Rattle.std.specs.Prelude.{◌≡◌, IfOk, IfSome};
 ghost use Rattle.rcu_graph.specs.Graph.{IsWatcherOf};
+ghost use Rattle.rcu_map.specs.Puts.{IsOfKey};
 
 use crate::entry::Entry;
 use crate::keeper::MapKeeper;
 use crate::map::Map;
+use crate::put::Put;
 use rcu_graph::Full;
 use std::marker::Model;
-use std::sync::{Mutex, Wait};
+use std::sync::{Mutex, MutexGuard, Wait};
 
-/// A map and its keeper, which belong together.
+/// A map and its keeper, which belong together, as [`Updater::lock`] lends them.
 #[derive(Drop)]
-pub(crate) struct MapAndKeeper<
+pub struct MapAndKeeper<
     'a,
     const LEAF: u32,
     const FAN: u32,
@@ -21,9 +23,9 @@ pub(crate) struct MapAndKeeper<
     const W: usize,
     const N: usize,
 > {
-    pub(crate) map: &'a Map<LEAF, FAN, T, E, BUCKETS, W, N>,
-    pub(crate) keeper: MapKeeper<E, BUCKETS, W, N>,
-    ghost keeper_of: { IsWatcherOf map.now keeper },
+    pub map: &'a Map<LEAF, FAN, T, E, BUCKETS, W, N>,
+    pub keeper: MapKeeper<E, BUCKETS, W, N>,
+    pub ghost keeper_of: { IsWatcherOf map.now keeper },
 }
 
 /// The keeper of a map behind a lock: threads that share it update the map, one call at a time.
@@ -41,7 +43,7 @@ pub struct Updater<
     const N: usize,
 > {
     pub(crate) map: &'a Map<LEAF, FAN, T, E, BUCKETS, W, N>,
-    pub(crate) inner: Mutex<MapAndKeeper<'a, LEAF, FAN, T, E, BUCKETS, W, N>>,
+    held: Mutex<MapAndKeeper<'a, LEAF, FAN, T, E, BUCKETS, W, N>>,
 }
 
 impl<
@@ -81,39 +83,65 @@ impl<
     {
         Updater {
             map,
-            inner: Mutex::new(MapAndKeeper { map, keeper }),
+            held: Mutex::new(MapAndKeeper { map, keeper }),
         }
     }
 
-    /// Puts an entry in, as [`MapKeeper::insert`].
-    pub fn insert(&self, rt: &impl Wait, entry: E) -> Result<bool, Full>
+    /// Lends the map and its keeper, for several steps between which no other thread's comes.
+    pub fn lock(
+        &self,
+        rt: &impl Wait,
+    ) -> MutexGuard<'_, MapAndKeeper<'a, LEAF, FAN, T, E, BUCKETS, W, N>> {
+        self.held.lock(rt)
+    }
+
+    /// Puts an entry in so, and returns the one that had its key.
+    fn put(&self, rt: &impl Wait, how: Put, entry: E) -> Result<Option<E>, Full>
         requires { E.valid entry }
+        ensures { IfOk result (λ old. IsOfKey E.valid E.key_of (E.key_of entry) old) }
     {
-        let mut inner = self.inner.lock(rt);
-        let MapAndKeeper { map, keeper } = &mut *inner;
-        keeper.insert(map, entry)
+        let mut held = self.lock(rt);
+        let MapAndKeeper { map, keeper } = &mut *held;
+        keeper.put(map, how, entry)
+    }
+
+    /// Puts an entry in where none has its key, as [`MapKeeper::insert`].
+    pub fn insert(&self, rt: &impl Wait, entry: E) -> Result<Option<E>, Full>
+        requires { E.valid entry }
+        ensures { IfOk result (λ old. IsOfKey E.valid E.key_of (E.key_of entry) old) }
+    {
+        self.put(rt, Put::Insert, entry)
     }
 
     /// Puts an entry in the place of the one that has its key, as [`MapKeeper::replace`].
-    pub fn replace(&self, rt: &impl Wait, entry: E) -> Result<bool, Full>
+    pub fn replace(&self, rt: &impl Wait, entry: E) -> Result<Option<E>, Full>
         requires { E.valid entry }
+        ensures { IfOk result (λ old. IsOfKey E.valid E.key_of (E.key_of entry) old) }
     {
-        let mut inner = self.inner.lock(rt);
-        let MapAndKeeper { map, keeper } = &mut *inner;
-        keeper.replace(map, entry)
+        self.put(rt, Put::Replace, entry)
+    }
+
+    /// Puts an entry in, in the place of the one that has its key, as [`MapKeeper::upsert`].
+    pub fn upsert(&self, rt: &impl Wait, entry: E) -> Result<Option<E>, Full>
+        requires { E.valid entry }
+        ensures { IfOk result (λ old. IsOfKey E.valid E.key_of (E.key_of entry) old) }
+    {
+        self.put(rt, Put::Upsert, entry)
     }
 
     /// Takes the entry of a key out, as [`MapKeeper::remove`].
-    pub fn remove(&self, rt: &impl Wait, key: u64) -> bool {
-        let mut inner = self.inner.lock(rt);
-        let MapAndKeeper { map, keeper } = &mut *inner;
+    pub fn remove(&self, rt: &impl Wait, key: u64) -> Option<E>
+        ensures { IsOfKey E.valid E.key_of key result }
+    {
+        let mut held = self.lock(rt);
+        let MapAndKeeper { map, keeper } = &mut *held;
         keeper.remove(map, key)
     }
 
     /// Looks at the number, and returns it, as [`MapKeeper::age`].
     pub fn age(&self, rt: &impl Wait) -> u64 {
-        let mut inner = self.inner.lock(rt);
-        let MapAndKeeper { map, keeper } = &mut *inner;
+        let mut held = self.lock(rt);
+        let MapAndKeeper { map, keeper } = &mut *held;
         keeper.age(map)
     }
 
@@ -123,11 +151,11 @@ impl<
         ensures keyed { IfSome result (λ entry. E.key_of entry ≡ key) }
         ensures sound { IfSome result (λ entry. E.valid entry) }
     {
-        self.inner.lock(rt).keeper.get(key)
+        self.lock(rt).keeper.get(key)
     }
 
     /// How many entries there are.
     pub fn len(&self, rt: &impl Wait) -> usize {
-        self.inner.lock(rt).keeper.len()
+        self.lock(rt).keeper.len()
     }
 }

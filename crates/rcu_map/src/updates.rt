@@ -1,15 +1,18 @@
 //! What a map's keeper does to its entries, by one store each.
-ghost use Rattle.std.specs.Prelude.{◌≡◌, ◌≢◌, ◌↔◌, IfOk, IsTrue, Ok, OnErr, false, true};
+ghost use Rattle.std.specs.Prelude.{◌≡◌, IfNone, IsSome, MatchResult, None, Some, false, true};
 ghost use Rattle.rcu_graph.specs.Graph.{IsWatcherOf};
-ghost use Rattle.rcu_graph.specs.Keeper.{after_step};
 ghost use Rattle.rcu_graph.specs.Nodes.{nodes_in};
-ghost use Rattle.rcu_graph.specs.Tended.{AreAllUsed};
-ghost use Rattle.rcu_map.specs.Entries.{HasKey, IsInserted, IsRemoved, IsReplaced};
+ghost use Rattle.rcu_map.specs.Entries.{IsRemoved};
+ghost use Rattle.rcu_map.specs.Keys.{key_in};
+ghost use Rattle.rcu_map.specs.Puts.{HasAnswered, HasChanged, Holds, IsPutIn};
+ghost use Rattle.rcu_map.specs.Splices.{IsFull, IsPlace};
+ghost use Rattle.rcu_map.specs.declared.put.Put.{Put};
 
 use crate::entry::Entry;
 use crate::keeper::MapKeeper;
 use crate::links::{pass, put};
 use crate::map::Map;
+use crate::put::Put;
 use rcu_graph::Full;
 
 impl<E: Entry<W>, const BUCKETS: usize, const W: usize, const N: usize> MapKeeper<
@@ -18,93 +21,152 @@ impl<E: Entry<W>, const BUCKETS: usize, const W: usize, const N: usize> MapKeepe
     W,
     N,
 > {
-    /// Puts an entry in, by one store, and returns true. Where an entry has its key, it returns
-    /// false. `Full` tells that no entry has its key, and that no node is free. Costs a step for
+    /// Puts an entry of these words behind the node where its key belongs, which no entry has.
+    fn put_behind<const LEAF: u32, const FAN: u32, T: Drop>(
+        &mut self,
+        map: &Map<LEAF, FAN, T, E, BUCKETS, W, N>,
+        previous: usize,
+        words: &[u64; W],
+    ) -> Result<(), Full>
+        requires graph { IsWatcherOf map.now self.old }
+        requires whole { E.holds words.now }
+        requires place { IsPlace BUCKETS (key_in words.now) (nodes_in self.old.view.client)
+            previous None }
+        ensures graph { IsWatcherOf map.now self.new }
+        ensures put { MatchResult result
+            (λ _. HasChanged (IsPutIn BUCKETS words.now false) self.old self.new)
+            (λ _. IsFull self.old self.new) }
+    {
+        let next = self.nodes.link_of(previous, 0);
+        put(&mut self.nodes, map.graph(), previous, words, next)?;
+        self.len += 1;
+        Ok(())
+    }
+
+    /// Puts an entry of these words in the place of the old one that has its key, behind this node.
+    fn put_over<const LEAF: u32, const FAN: u32, T: Drop>(
+        &mut self,
+        map: &Map<LEAF, FAN, T, E, BUCKETS, W, N>,
+        previous: usize,
+        old: usize,
+        words: &[u64; W],
+    ) -> Result<(), Full>
+        requires graph { IsWatcherOf map.now self.old }
+        requires whole { E.holds words.now }
+        requires place { IsPlace BUCKETS (key_in words.now) (nodes_in self.old.view.client)
+            previous (Some old) }
+        ensures graph { IsWatcherOf map.now self.new }
+        ensures put { MatchResult result
+            (λ _. HasChanged (IsPutIn BUCKETS words.now true) self.old self.new)
+            (λ _. IsFull self.old self.new) }
+    {
+        let next = self.nodes.link_of(old, 0);
+        put(&mut self.nodes, map.graph(), previous, words, next)
+    }
+
+    /// Puts an entry in so, by one store, and returns the one that had its key. `Full` tells that
+    /// the entry needs a node, and that none is free. Costs a step for each node of its bucket up
+    /// to there.
+    pub(crate) fn put<const LEAF: u32, const FAN: u32, T: Drop>(
+        &mut self,
+        map: &Map<LEAF, FAN, T, E, BUCKETS, W, N>,
+        how: Put,
+        entry: E,
+    ) -> Result<Option<E>, Full>
+        requires graph { IsWatcherOf map.now self.old }
+        requires sound { E.valid entry }
+        ensures { HasAnswered E.decode E.valid E.key_of BUCKETS map.now how (E.key_of entry)
+            (E.in_words entry) self.old result self.new }
+    {
+        let words = entry.to_words();
+        let place = self.place_of(entry.key());
+        let Some(node) = place.node else {
+            if how.puts(false) {
+                self.put_behind(map, place.previous, &words)?;
+            }
+            return Ok(None);
+        };
+        let old = E::of_words(&self.words_of(node));
+        if how.puts(true) {
+            self.put_over(map, place.previous, node, &words)?;
+        }
+        Ok(Some(old))
+    }
+
+    /// Puts an entry in, by one store, where none has its key. Returns the one that has it: then
+    /// nothing changed. `Full` tells that none has it, and that no node is free. Costs a step for
     /// each node of its bucket up to there.
     pub fn insert<const LEAF: u32, const FAN: u32, T: Drop>(
         &mut self,
         map: &Map<LEAF, FAN, T, E, BUCKETS, W, N>,
         entry: E,
-    ) -> Result<bool, Full>
+    ) -> Result<Option<E>, Full>
         requires graph { IsWatcherOf map.now self.old }
         requires sound { E.valid entry }
-        ensures graph { IsWatcherOf map.now self.new }
-        ensures state { result ≡ Ok true → self.new ≡ after_step self.old
-            (nodes_in self.new.view.client) }
-        ensures there { HasKey BUCKETS (nodes_in self.old.view.client) (E.key_of entry)
-            ↔ (result ≡ Ok false) }
-        ensures full { OnErr result (AreAllUsed (nodes_in self.old.view.client)) }
-        ensures inserted { result ≡ Ok true → IsInserted BUCKETS (nodes_in self.old.view.client)
-            (E.in_words entry) (nodes_in self.new.view.client) }
-        ensures unchanged { result ≢ Ok true → self.new ≡ self.old }
+        ensures { HasAnswered E.decode E.valid E.key_of BUCKETS map.now Put.Insert
+            (E.key_of entry) (E.in_words entry) self.old result self.new }
     {
-        let words = entry.to_words();
-        let place = self.place_of(entry.key());
-        if place.node.is_some() {
-            return Ok(false);
-        }
-        let next = self.nodes.link_of(place.previous, 0);
-        put(&mut self.nodes, map.graph(), place.previous, &words, next)?;
-        self.len += 1;
-        Ok(true)
+        self.put(map, Put::Insert, entry)
     }
 
-    /// Puts an entry in the place of the one that has its key, by one store, and returns true: a
-    /// section finds the old one or the new one. Where no entry has its key, it returns false.
-    /// `Full` tells that one has it, and that no node is free. Costs as [`insert`](Self::insert).
+    /// Puts an entry in the place of the one that has its key, by one store, and returns that: a
+    /// section finds the old one or the new one. Where none has its key, nothing changes. `Full`
+    /// tells that one has it, and that no node is free. Costs as [`insert`](Self::insert).
     pub fn replace<const LEAF: u32, const FAN: u32, T: Drop>(
         &mut self,
         map: &Map<LEAF, FAN, T, E, BUCKETS, W, N>,
         entry: E,
-    ) -> Result<bool, Full>
+    ) -> Result<Option<E>, Full>
         requires graph { IsWatcherOf map.now self.old }
         requires sound { E.valid entry }
-        ensures graph { IsWatcherOf map.now self.new }
-        ensures state { result ≡ Ok true → self.new ≡ after_step self.old
-            (nodes_in self.new.view.client) }
-        ensures there { HasKey BUCKETS (nodes_in self.old.view.client) (E.key_of entry)
-            ↔ (result ≢ Ok false) }
-        ensures full { OnErr result (AreAllUsed (nodes_in self.old.view.client)) }
-        ensures replaced { result ≡ Ok true → IsReplaced BUCKETS (nodes_in self.old.view.client)
-            (E.in_words entry) (nodes_in self.new.view.client) }
-        ensures unchanged { result ≢ Ok true → self.new ≡ self.old }
+        ensures { HasAnswered E.decode E.valid E.key_of BUCKETS map.now Put.Replace
+            (E.key_of entry) (E.in_words entry) self.old result self.new }
     {
-        let words = entry.to_words();
-        let place = self.place_of(entry.key());
-        let Some(old) = place.node else {
-            return Ok(false);
-        };
-        let next = self.nodes.link_of(old, 0);
-        put(&mut self.nodes, map.graph(), place.previous, &words, next)?;
-        Ok(true)
+        self.put(map, Put::Replace, entry)
     }
 
-    /// Takes the entry of this key out, by one store, and returns whether there was one.
+    /// Puts an entry in, by one store, in the place of the one that has its key, and returns that
+    /// (as std's `insert` of a hash map). `Full` tells that no node is free. Costs as
+    /// [`insert`](Self::insert).
+    pub fn upsert<const LEAF: u32, const FAN: u32, T: Drop>(
+        &mut self,
+        map: &Map<LEAF, FAN, T, E, BUCKETS, W, N>,
+        entry: E,
+    ) -> Result<Option<E>, Full>
+        requires graph { IsWatcherOf map.now self.old }
+        requires sound { E.valid entry }
+        ensures { HasAnswered E.decode E.valid E.key_of BUCKETS map.now Put.Upsert
+            (E.key_of entry) (E.in_words entry) self.old result self.new }
+    {
+        self.put(map, Put::Upsert, entry)
+    }
+
+    /// Takes the entry of this key out, by one store, and returns it, if there is one.
     pub fn remove<const LEAF: u32, const FAN: u32, T: Drop>(
         &mut self,
         map: &Map<LEAF, FAN, T, E, BUCKETS, W, N>,
         key: u64,
-    ) -> bool
+    ) -> Option<E>
         requires { IsWatcherOf map.now self.old }
         ensures graph { IsWatcherOf map.now self.new }
-        ensures state { IsTrue result → self.new ≡ after_step self.old
-            (nodes_in self.new.view.client) }
-        ensures there { IsTrue result ↔ HasKey BUCKETS (nodes_in self.old.view.client) key }
-        ensures removed { IsTrue result → IsRemoved BUCKETS (nodes_in self.old.view.client) key
-            (nodes_in self.new.view.client) }
-        ensures unchanged { result ≡ false → self.new ≡ self.old }
+        ensures old { Holds E.decode E.valid E.key_of BUCKETS (nodes_in self.old.view.client)
+            key result }
+        ensures removed { IsSome result →
+            HasChanged (λ before after. IsRemoved BUCKETS before key after) self.old self.new }
+        ensures unchanged { IfNone result (self.new ≡ self.old) }
     {
         // A borrow of a field shows the prover what the type keeps: that an entry has a key.
         let _ = &self.nodes;
         if key == 0 {
-            return false;
+            return None;
         }
         let place = self.place_of(key);
         let Some(old) = place.node else {
-            return false;
+            return None;
         };
+        let entry = E::of_words(&self.words_of(old));
         pass(&mut self.nodes, map.graph(), place.previous, old);
         self.len -= 1;
-        true
+        Some(entry)
     }
 }

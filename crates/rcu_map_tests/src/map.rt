@@ -3,6 +3,7 @@
 mod reuse;
 mod route;
 mod script;
+mod steps;
 mod threads;
 mod waits;
 

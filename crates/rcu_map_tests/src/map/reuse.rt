@@ -4,7 +4,7 @@ ghost use Rattle.rcu_live.specs.CpuSeat.{IsSeatOf};
 ghost use Rattle.rcu_graph.specs.Graph.{IsWatcherOf};
 
 use crate::map::route::Route;
-use rcu_map::{Map, MapKeeper, MapSeat};
+use rcu_map::{Map, MapKeeper, MapSeat, Put};
 use std::sync::Wait;
 
 /// 256 nodes, 16 of them the roots of buckets.
@@ -31,8 +31,8 @@ impl<'a> Scene<'a> {
     {
         let put = self
             .keeper
-            .insert_or_wait(rt, self.map, &mut self.seat, route);
-        put == Ok(true) && self.keeper.remove(self.map, route.network)
+            .put_or_wait(rt, self.map, &mut self.seat, Put::Insert, route);
+        put == Ok(None) && self.keeper.remove(self.map, route.network) == Some(route)
     }
 }
 

@@ -11,7 +11,8 @@ ghost use Rattle.rcu_graph.specs.declared.known.Known.TheVariants.{Idle};
 use crate::map::route::Route;
 use crate::map::script::caller::{Caller, MapAndKeeper, Shared};
 use rcu_graph::Full;
-use rcu_map::{Entries, Map, MapSeat, MapWatcher, Updater};
+use rcu_map::Put::{Insert, Replace, Upsert};
+use rcu_map::{Entries, Map, MapSeat, MapWatcher, Put, Updater};
 use rcu_seq::Cookie;
 use std::process::Abort;
 use std::sync::Wait;
@@ -26,12 +27,11 @@ type Watcher = MapWatcher<Route, 2, 2, 6>;
 /// The entries of a map that a section goes over.
 type Listing<'a> = Entries<'a, 4, 4, u64, Route, 2, 2, 6>;
 
-/// A call, with the network and the port that it is given, and what it returns.
+/// A call, with the network and the port that it is given, and which port it returns.
 #[derive(Clone, Copy)]
 enum Call {
-    Insert(u32, u32, Result<bool, Full>),
-    Replace(u32, u32, Result<bool, Full>),
-    Remove(u32, bool),
+    Put(Put, u32, u32, Result<Option<u32>, Full>),
+    Remove(u32, Option<u32>),
     /// A grace period passes, and the caller looks before it and behind it.
     Age,
 }
@@ -44,38 +44,52 @@ static ORDER: [usize; NETWORKS] = [0, 2, 4, 6, 8, 1, 3, 5, 7, 9];
 
 /// Entries in front of others, behind them and between them; each call where the key is there, and
 /// where it is not; all nodes used, and some free again.
-static SCRIPT: [Call; 30] = [
-    Call::Remove(5, false),
-    Call::Replace(5, 1, Ok(false)),
-    Call::Insert(5, 1, Ok(true)),
-    Call::Insert(5, 2, Ok(false)),
-    Call::Insert(9, 3, Ok(true)),
-    Call::Insert(7, 4, Ok(true)),
-    Call::Insert(4, 5, Ok(true)),
-    Call::Insert(3, 6, Err(Full)),
-    Call::Insert(4, 6, Ok(false)),
-    Call::Replace(7, 6, Err(Full)),
-    Call::Replace(3, 6, Ok(false)),
-    Call::Remove(7, true),
-    Call::Remove(7, false),
-    Call::Insert(3, 6, Err(Full)),
+static SCRIPT: [Call; 36] = [
+    Call::Remove(5, None),
+    Call::Put(Replace, 5, 1, Ok(None)),
+    Call::Put(Insert, 5, 1, Ok(None)),
+    Call::Put(Insert, 5, 2, Ok(Some(1))),
+    Call::Put(Upsert, 9, 3, Ok(None)),
+    Call::Put(Insert, 7, 4, Ok(None)),
+    Call::Put(Insert, 4, 5, Ok(None)),
+    Call::Put(Insert, 3, 6, Err(Full)),
+    Call::Put(Insert, 4, 6, Ok(Some(5))),
+    Call::Put(Replace, 7, 6, Err(Full)),
+    Call::Put(Replace, 3, 6, Ok(None)),
+    Call::Put(Upsert, 7, 6, Err(Full)),
+    Call::Put(Upsert, 3, 6, Err(Full)),
+    Call::Remove(7, Some(4)),
+    Call::Remove(7, None),
+    Call::Put(Insert, 3, 6, Err(Full)),
     Call::Age,
-    Call::Insert(3, 6, Ok(true)),
-    Call::Remove(3, true),
+    Call::Put(Insert, 3, 6, Ok(None)),
+    Call::Remove(3, Some(6)),
     Call::Age,
-    Call::Replace(5, 7, Ok(true)),
-    Call::Replace(9, 8, Err(Full)),
+    Call::Put(Replace, 5, 7, Ok(Some(1))),
+    Call::Put(Replace, 9, 8, Err(Full)),
     Call::Age,
-    Call::Replace(9, 8, Ok(true)),
-    Call::Remove(5, true),
-    Call::Remove(9, true),
-    Call::Remove(4, true),
+    Call::Put(Replace, 9, 8, Ok(Some(3))),
     Call::Age,
-    Call::Insert(8, 1, Ok(true)),
-    Call::Insert(6, 2, Ok(true)),
-    Call::Insert(2, 3, Ok(true)),
-    Call::Insert(1, 4, Ok(true)),
+    Call::Put(Upsert, 9, 6, Ok(Some(8))),
+    Call::Age,
+    Call::Put(Upsert, 9, 9, Ok(Some(6))),
+    Call::Remove(5, Some(7)),
+    Call::Remove(9, Some(9)),
+    Call::Remove(4, Some(5)),
+    Call::Age,
+    Call::Put(Insert, 8, 1, Ok(None)),
+    Call::Put(Insert, 6, 2, Ok(None)),
+    Call::Put(Upsert, 2, 3, Ok(None)),
+    Call::Put(Insert, 1, 4, Ok(None)),
 ];
+
+/// Whether a call puts its route in, by the port that it returns.
+fn puts(how: Put, port: Result<Option<u32>, Full>) -> bool {
+    matches!(
+        (how, port),
+        (Insert, Ok(None)) | (Replace, Ok(Some(_))) | (Upsert, Ok(_))
+    )
+}
 
 /// A map of one processor, who makes the calls, and the ports that its routes have by the script.
 #[derive(Drop)]
@@ -145,22 +159,17 @@ impl<'a, C: Caller + Drop> Scene<'a, C> {
     /// Makes a call, compares what it returns, and writes it into the table.
     fn make<R: Abort + Wait>(&mut self, rt: &R, call: Call) {
         match call {
-            Call::Insert(network, port, wanted) => {
+            Call::Put(how, network, port, wanted) => {
                 let route = Route::to(network, port).expect(rt, "the script has routes");
-                assert_eq!(rt; self.caller.insert(rt, route), wanted);
-                if wanted == Ok(true) {
-                    self.note(network, port);
-                }
-            }
-            Call::Replace(network, port, wanted) => {
-                let route = Route::to(network, port).expect(rt, "the script has routes");
-                assert_eq!(rt; self.caller.replace(rt, route), wanted);
-                if wanted == Ok(true) {
+                let found = self.caller.put(rt, how, route);
+                assert_eq!(rt; found.map(|old| old.map(|route| route.port)), wanted);
+                if puts(how, wanted) {
                     self.note(network, port);
                 }
             }
             Call::Remove(network, wanted) => {
-                assert_eq!(rt; self.caller.remove(rt, u64::from(network)), wanted);
+                let found = self.caller.remove(rt, u64::from(network));
+                assert_eq!(rt; found.map(|route| route.port), wanted);
                 self.note(network, 0);
             }
             Call::Age => self.age(rt),

@@ -120,7 +120,7 @@ fn run<'a, R: Abort + Threads + Wait + Sync>(rt: &R, control: &Control<'a>, mut 
 fn begin<R: Abort + Wait>(rt: &R, control: &Control<'_>) {
     for network in 0..NETWORKS {
         if let Some(route) = route_after(network, 0) {
-            assert_eq!(rt; control.insert(rt, route), Ok(true));
+            assert_eq!(rt; control.insert(rt, route), Ok(None));
         }
     }
 }

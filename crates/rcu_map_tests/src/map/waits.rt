@@ -5,7 +5,8 @@ ghost use Rattle.std.specs.Prelude.{◌<◌};
 ghost use Rattle.rcu_graph.specs.Graph.{IsSeatOf, IsWatcherOf};
 
 use crate::map::route::Route;
-use rcu_map::{Map, MapKeeper, MapSeat, NotPut};
+use rcu_map::Put::{Insert, Replace, Upsert};
+use rcu_map::{Map, MapKeeper, MapSeat, NotPut, Put};
 use rcu_seq::Fault;
 use std::alloc::Global;
 use std::process::Abort;
@@ -14,12 +15,11 @@ use std::sync::Wait;
 /// Two routes at most, in one bucket.
 type Two = Map<4, 4, u64, Route, 1, 2, 3>;
 
-/// A call, with the network and the port that it is given, and what it returns.
+/// A call, with the network and the port that it is given, and which port it returns.
 #[derive(Clone, Copy)]
 enum Call {
-    Insert(u32, u32, Result<bool, NotPut>),
-    Replace(u32, u32, Result<bool, NotPut>),
-    Remove(u32, bool),
+    Put(Put, u32, u32, Result<Option<u32>, NotPut>),
+    Remove(u32, Option<u32>),
     Enter,
     Exit,
 }
@@ -35,37 +35,26 @@ struct Scene<'a> {
 }
 
 impl<'a> Scene<'a> {
-    fn insert<R: Wait>(&mut self, rt: &R, route: Route) -> Result<bool, NotPut>
+    fn put<R: Wait>(&mut self, rt: &R, how: Put, route: Route) -> Result<Option<Route>, NotPut>
         requires { 0 < route.network }
     {
         self.keeper
-            .insert_or_wait(rt, self.map, &mut self.seat, route)
-    }
-
-    fn replace<R: Wait>(&mut self, rt: &R, route: Route) -> Result<bool, NotPut>
-        requires { 0 < route.network }
-    {
-        self.keeper
-            .replace_or_wait(rt, self.map, &mut self.seat, route)
+            .put_or_wait(rt, self.map, &mut self.seat, how, route)
     }
 
     /// Makes a call, and compares what it returns.
     fn call<R: Abort + Wait>(&mut self, rt: &R, row: usize, call: Call) {
         match call {
-            Call::Insert(network, port, wanted) => {
+            Call::Put(how, network, port, wanted) => {
                 if let Some(route) = Route::to(network, port) {
-                    let found = self.insert(rt, route);
-                    assert_eq!(rt; (row, found), (row, wanted));
-                }
-            }
-            Call::Replace(network, port, wanted) => {
-                if let Some(route) = Route::to(network, port) {
-                    let found = self.replace(rt, route);
+                    let found = self.put(rt, how, route);
+                    let found = found.map(|old| old.map(|route| route.port));
                     assert_eq!(rt; (row, found), (row, wanted));
                 }
             }
             Call::Remove(network, wanted) => {
                 let found = self.keeper.remove(self.map, u64::from(network));
+                let found = found.map(|route| route.port);
                 assert_eq!(rt; (row, found), (row, wanted));
             }
             Call::Enter => {
@@ -100,27 +89,30 @@ fn makes<R: Abort + Wait>(rt: &R, alloc: Global, last: u64, calls: &[Call], port
     }
 }
 
-/// Each node is live, or some were left: both calls, where they need a node and where they do not.
-static FULL: [Call; 19] = [
-    Call::Replace(1, 1, Ok(false)),
-    Call::Insert(1, 1, Ok(true)),
-    Call::Insert(2, 2, Ok(true)),
-    Call::Insert(3, 3, Err(NotPut::Full)),
-    Call::Insert(2, 4, Ok(false)),
-    Call::Replace(2, 4, Err(NotPut::Full)),
-    Call::Replace(3, 4, Ok(false)),
-    Call::Remove(1, true),
-    Call::Insert(2, 5, Ok(false)),
-    Call::Replace(1, 5, Ok(false)),
-    Call::Insert(3, 6, Ok(true)),
-    Call::Insert(4, 7, Err(NotPut::Full)),
-    Call::Remove(2, true),
-    Call::Replace(3, 8, Ok(true)),
-    Call::Replace(3, 9, Ok(true)),
-    Call::Insert(1, 10, Ok(true)),
-    Call::Replace(3, 11, Err(NotPut::Full)),
-    Call::Remove(1, true),
-    Call::Insert(4, 12, Ok(true)),
+/// Each node is live, or some were left: each way to put a route in, where it needs a node and
+/// where it does not.
+static FULL: [Call; 21] = [
+    Call::Put(Replace, 1, 1, Ok(None)),
+    Call::Put(Insert, 1, 1, Ok(None)),
+    Call::Put(Upsert, 2, 2, Ok(None)),
+    Call::Put(Insert, 3, 3, Err(NotPut::Full)),
+    Call::Put(Insert, 2, 4, Ok(Some(2))),
+    Call::Put(Replace, 2, 4, Err(NotPut::Full)),
+    Call::Put(Upsert, 2, 4, Err(NotPut::Full)),
+    Call::Put(Replace, 3, 4, Ok(None)),
+    Call::Remove(1, Some(1)),
+    Call::Put(Insert, 2, 5, Ok(Some(2))),
+    Call::Put(Replace, 1, 5, Ok(None)),
+    Call::Put(Insert, 3, 6, Ok(None)),
+    Call::Put(Insert, 4, 7, Err(NotPut::Full)),
+    Call::Remove(2, Some(2)),
+    Call::Put(Replace, 3, 8, Ok(Some(6))),
+    Call::Put(Upsert, 3, 9, Ok(Some(8))),
+    Call::Put(Upsert, 1, 10, Ok(None)),
+    Call::Put(Replace, 3, 11, Err(NotPut::Full)),
+    Call::Put(Upsert, 4, 11, Err(NotPut::Full)),
+    Call::Remove(1, Some(10)),
+    Call::Put(Insert, 4, 12, Ok(None)),
 ];
 
 #[test]
@@ -131,17 +123,17 @@ fn entries_wait_where_a_node_was_left(rt: HostRuntime) {
 /// In a section no call is made, whether a node is free or not.
 static IN_A_SECTION: [Call; 12] = [
     Call::Enter,
-    Call::Insert(1, 1, Err(NotPut::Fault(Fault::InSection))),
+    Call::Put(Insert, 1, 1, Err(NotPut::Fault(Fault::InSection))),
     Call::Exit,
-    Call::Insert(1, 2, Ok(true)),
-    Call::Insert(2, 3, Ok(true)),
+    Call::Put(Insert, 1, 2, Ok(None)),
+    Call::Put(Insert, 2, 3, Ok(None)),
     Call::Enter,
-    Call::Insert(3, 4, Err(NotPut::Fault(Fault::InSection))),
-    Call::Insert(1, 4, Err(NotPut::Fault(Fault::InSection))),
-    Call::Replace(1, 4, Err(NotPut::Fault(Fault::InSection))),
+    Call::Put(Upsert, 3, 4, Err(NotPut::Fault(Fault::InSection))),
+    Call::Put(Insert, 1, 4, Err(NotPut::Fault(Fault::InSection))),
+    Call::Put(Replace, 1, 4, Err(NotPut::Fault(Fault::InSection))),
     Call::Exit,
-    Call::Remove(1, true),
-    Call::Insert(3, 5, Ok(true)),
+    Call::Remove(1, Some(2)),
+    Call::Put(Insert, 3, 5, Ok(None)),
 ];
 
 #[test]
@@ -150,18 +142,19 @@ fn no_entry_waits_in_a_section(rt: HostRuntime) {
 }
 
 /// A grace period passes, and then no other one: what needs a node is refused from then on.
-static LAST_NUMBER: [Call; 11] = [
-    Call::Insert(1, 1, Ok(true)),
-    Call::Insert(2, 2, Ok(true)),
-    Call::Remove(1, true),
-    Call::Insert(3, 3, Ok(true)),
-    Call::Remove(2, true),
-    Call::Insert(4, 4, Err(NotPut::Fault(Fault::Exhausted))),
-    Call::Replace(3, 4, Err(NotPut::Fault(Fault::Exhausted))),
-    Call::Insert(3, 4, Ok(false)),
-    Call::Replace(4, 4, Ok(false)),
-    Call::Insert(4, 4, Err(NotPut::Fault(Fault::Exhausted))),
-    Call::Remove(4, false),
+static LAST_NUMBER: [Call; 12] = [
+    Call::Put(Insert, 1, 1, Ok(None)),
+    Call::Put(Insert, 2, 2, Ok(None)),
+    Call::Remove(1, Some(1)),
+    Call::Put(Insert, 3, 3, Ok(None)),
+    Call::Remove(2, Some(2)),
+    Call::Put(Insert, 4, 4, Err(NotPut::Fault(Fault::Exhausted))),
+    Call::Put(Replace, 3, 4, Err(NotPut::Fault(Fault::Exhausted))),
+    Call::Put(Upsert, 3, 4, Err(NotPut::Fault(Fault::Exhausted))),
+    Call::Put(Insert, 3, 4, Ok(Some(3))),
+    Call::Put(Replace, 4, 4, Ok(None)),
+    Call::Put(Insert, 4, 4, Err(NotPut::Fault(Fault::Exhausted))),
+    Call::Remove(4, None),
 ];
 
 #[test]

@@ -5,20 +5,17 @@ ghost use Rattle.rcu_graph.specs.Graph.{IsWatcherOf};
 use crate::map::route::Route;
 use crate::map::script::Routes;
 use rcu_graph::Full;
-use rcu_map::{MapKeeper, Updater};
+use rcu_map::{MapKeeper, Put, Updater};
 use std::sync::Wait;
 
 /// Who changes a map, and knows what it has.
 pub(crate) trait Caller {
     ghost use Rattle.std.specs.Prelude.{◌<◌};
 
-    fn insert<R: Wait>(&mut self, rt: &R, route: Route) -> Result<bool, Full>
+    fn put<R: Wait>(&mut self, rt: &R, how: Put, route: Route) -> Result<Option<Route>, Full>
         requires { 0 < route.network };
 
-    fn replace<R: Wait>(&mut self, rt: &R, route: Route) -> Result<bool, Full>
-        requires { 0 < route.network };
-
-    fn remove<R: Wait>(&mut self, rt: &R, network: u64) -> bool;
+    fn remove<R: Wait>(&mut self, rt: &R, network: u64) -> Option<Route>;
 
     fn age<R: Wait>(&mut self, rt: &R) -> u64;
 
@@ -38,15 +35,15 @@ pub(crate) struct MapAndKeeper<'a> {
 }
 
 impl<'a> Caller for MapAndKeeper<'a> {
-    fn insert<R: Wait>(&mut self, _rt: &R, route: Route) -> Result<bool, Full> {
-        self.keeper.insert(self.map, route)
+    fn put<R: Wait>(&mut self, _rt: &R, how: Put, route: Route) -> Result<Option<Route>, Full> {
+        match how {
+            Put::Insert => self.keeper.insert(self.map, route),
+            Put::Replace => self.keeper.replace(self.map, route),
+            Put::Upsert => self.keeper.upsert(self.map, route),
+        }
     }
 
-    fn replace<R: Wait>(&mut self, _rt: &R, route: Route) -> Result<bool, Full> {
-        self.keeper.replace(self.map, route)
-    }
-
-    fn remove<R: Wait>(&mut self, _rt: &R, network: u64) -> bool {
+    fn remove<R: Wait>(&mut self, _rt: &R, network: u64) -> Option<Route> {
         self.keeper.remove(self.map, network)
     }
 
@@ -74,15 +71,15 @@ pub(crate) struct Shared<'a> {
 }
 
 impl<'a> Caller for Shared<'a> {
-    fn insert<R: Wait>(&mut self, rt: &R, route: Route) -> Result<bool, Full> {
-        self.updater.insert(rt, route)
+    fn put<R: Wait>(&mut self, rt: &R, how: Put, route: Route) -> Result<Option<Route>, Full> {
+        match how {
+            Put::Insert => self.updater.insert(rt, route),
+            Put::Replace => self.updater.replace(rt, route),
+            Put::Upsert => self.updater.upsert(rt, route),
+        }
     }
 
-    fn replace<R: Wait>(&mut self, rt: &R, route: Route) -> Result<bool, Full> {
-        self.updater.replace(rt, route)
-    }
-
-    fn remove<R: Wait>(&mut self, rt: &R, network: u64) -> bool {
+    fn remove<R: Wait>(&mut self, rt: &R, network: u64) -> Option<Route> {
         self.updater.remove(rt, network)
     }
 

@@ -7,6 +7,7 @@ use crate::map::threads::{Control, Routes, Seat, Watcher};
 use rand_core::{Rng, SeedableRng};
 use rand_pcg::Pcg32;
 use rcu_graph::Full;
+use rcu_map::Put;
 use std::process::Abort;
 use std::sync::Wait;
 
@@ -38,34 +39,41 @@ impl<'a, 'b> Admin<'a, 'b> {
         assert!(rt; before.saturating_add(4) <= after, "{before} and {after}");
     }
 
-    /// Puts a route in, as soon as a node is free. There is none to replace.
-    fn insert<R: Abort + Wait>(&mut self, rt: &R, route: Route)
+    /// Puts a route in so, as soon as a node is free, and compares the one that was there before.
+    fn put<R: Abort + Wait>(&mut self, rt: &R, how: Put, route: Route, before: Option<Route>)
         requires { 0 < route.network }
     {
-        assert_eq!(rt; self.control.replace(rt, route), Ok(false));
         for _ in rt.forever() {
-            let inserted = self.control.insert(rt, route);
-            if inserted == Ok(true) {
+            let put = match how {
+                Put::Insert => self.control.insert(rt, route),
+                Put::Replace => self.control.replace(rt, route),
+                Put::Upsert => self.control.upsert(rt, route),
+            };
+            if put != Err(Full) {
+                assert_eq!(rt; put, Ok(before));
                 break;
             }
-            assert_eq!(rt; inserted, Err(Full));
             self.make_room(rt);
         }
     }
 
-    /// Puts a route in the place of the old one, as soon as a node is free. None more is put in.
-    fn replace<R: Abort + Wait>(&mut self, rt: &R, route: Route)
+    /// Puts a route in where none is there, or in the place of the old one; each second time by the
+    /// call that does either. The call that does the other finds nothing to do.
+    fn set<R: Abort + Wait>(&mut self, rt: &R, route: Route, before: Option<Route>)
         requires { 0 < route.network }
     {
-        assert_eq!(rt; self.control.insert(rt, route), Ok(false));
-        for _ in rt.forever() {
-            let replaced = self.control.replace(rt, route);
-            if replaced == Ok(true) {
-                break;
-            }
-            assert_eq!(rt; replaced, Err(Full));
-            self.make_room(rt);
-        }
+        let (how, other) = if before.is_some() {
+            (Put::Replace, Put::Insert)
+        } else {
+            (Put::Insert, Put::Replace)
+        };
+        self.put(rt, other, route, before);
+        let how = if route.port % 2 == 0 {
+            Put::Upsert
+        } else {
+            how
+        };
+        self.put(rt, how, route, before);
     }
 
     /// Changes the route to a network once more.
@@ -75,9 +83,8 @@ impl<'a, 'b> Admin<'a, 'b> {
         let after = route_after(network, number);
         let key = u64::from(network);
         match after {
-            Some(route) if before.is_some() => self.replace(rt, route),
-            Some(route) => self.insert(rt, route),
-            None => assert_eq!(rt; self.control.remove(rt, key), before.is_some()),
+            Some(route) => self.set(rt, route, before),
+            None => assert_eq!(rt; self.control.remove(rt, key), before),
         }
         self.history.end(network, number);
         assert_eq!(rt; self.control.get(rt, key), after);

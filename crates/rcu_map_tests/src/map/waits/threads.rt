@@ -4,7 +4,7 @@ ghost use Rattle.rcu_graph.specs.Graph.{IsSeatOf, IsWatcherOf};
 ghost use Rattle.rcu_graph.specs.declared.known.Known.TheVariants.{Idle};
 
 use crate::map::route::Route;
-use rcu_map::{Map, MapKeeper, MapSeat, Updater};
+use rcu_map::{Map, MapKeeper, MapSeat, Put, Updater};
 use std::sync::Wait;
 use std::thread;
 use std::thread::Threads;
@@ -73,11 +73,11 @@ impl<'a> Control<'a> {
     {
         let put = self
             .keeper
-            .insert_or_wait(rt, self.map, &mut self.seat, first);
+            .put_or_wait(rt, self.map, &mut self.seat, Put::Insert, first);
         let replaced = self
             .keeper
-            .replace_or_wait(rt, self.map, &mut self.seat, route);
-        put == Ok(true) && replaced == Ok(true)
+            .put_or_wait(rt, self.map, &mut self.seat, Put::Replace, route);
+        put == Ok(None) && replaced == Ok(Some(first))
     }
 
     fn take_out(&mut self, network: u32) {
@@ -148,9 +148,15 @@ impl<'a, 'b> Worker<'a, 'b> {
         requires first { 0 < first.network }
         requires route { 0 < route.network }
     {
-        let put = self.updater.insert_or_wait(rt, &mut self.seat, first);
-        let replaced = self.updater.replace_or_wait(rt, &mut self.seat, route);
-        put == Ok(true) && replaced == Ok(true) && self.updater.remove(rt, first.network)
+        let put = self
+            .updater
+            .put_or_wait(rt, &mut self.seat, Put::Insert, first);
+        let replaced = self
+            .updater
+            .put_or_wait(rt, &mut self.seat, Put::Upsert, route);
+        put == Ok(None)
+            && replaced == Ok(Some(first))
+            && self.updater.remove(rt, first.network) == Some(route)
     }
 
     /// Does that many times, and takes the processor offline. Returns how often it did.

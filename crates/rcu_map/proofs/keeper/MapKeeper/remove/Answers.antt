@@ -1,5 +1,4 @@
-use Rattle.std.proofs.Common.{◌<◌, ℕ, Some, ap, arith, refl, subst, sym}
-use Rattle.std.specs.Prelude.{is_some}
+use Rattle.std.proofs.Common.{◌<◌, ℕ, Some, arith, refl, subst, sym}
 use Rattle.rcu_live.specs.Board.{Object}
 use Rattle.rcu_live.specs.Watcher.{Watching}
 use Rattle.rcu_graph.specs.Graph.{IsWatcherOf}
@@ -7,29 +6,19 @@ use Rattle.rcu_graph.specs.Nodes.{nodes_in}
 use Rattle.rcu_graph.specs.declared.known.Known.{Known}
 use Rattle.rcu_map.specs.Entries.{HasKey, IsRemoved}
 use Rattle.rcu_map.specs.Keys.{GoesUp}
+use Rattle.rcu_map.specs.Puts.{HasChanged}
 use Rattle.rcu_map.specs.Splices.{CanPass}
-use Rattle.rcu_map.proofs.Chains.{no_entry_of_0, not_there, one_there}
+use Rattle.rcu_map.proofs.Chains.{no_entry_of_0}
 use Rattle.rcu_map.proofs.Removals.{removed, removed_count, removed_map}
 use Rattle.rcu_map.proofs.Allowed.{can_remove, placed}
 use Rattle.rcu_map.proofs.keeper.MapKeeper.remove.Goals as goal
 
-pub returns-then-key-eq0-clause-there : goal.returns-then-key-eq0-clause-there
-returns-then-key-eq0-clause-there g c = (
-  λ e. absurd (cc),
-  λ has. absurd (no_entry_of_0 _ _ _ _ _ c.self.invariant.map
-      (subst (λ (w : Watching Known). HasKey g.row.BUCKETS (nodes_in w.view.client) 0)
-      (sym c.self.view_is)
-      (subst (λ (n : ℕ). HasKey g.row.BUCKETS (nodes_in c.args.self.now.view.client) n)
-      c.if-key-eq0.true has))),
-)
-
-pub returns-in_default-clause-there : goal.returns-in_default-clause-there
-returns-in_default-clause-there g c = (
-  λ e. absurd (cc),
-  λ has. absurd (not_there g.row.BUCKETS c.args.key (nodes_in c.args.self.now.view.client)
-      c.place_of-place.result.node c.place_of-place.ensures.told
-      (ap (λ o. is_some o) c.in_default.is) has),
-)
+pub returns-then-key-eq0-clause-old : goal.returns-then-key-eq0-clause-old
+returns-then-key-eq0-clause-old g c = λ has. no_entry_of_0 _ _ _ _ _ c.self.invariant.map
+    (subst (λ (w : Watching Known). HasKey g.row.BUCKETS (nodes_in w.view.client) 0)
+    (sym c.self.view_is)
+    (subst (λ (n : ℕ). HasKey g.row.BUCKETS (nodes_in c.args.self.now.view.client) n)
+    c.if-key-eq0.true has))
 
 pub pass-requires : goal.pass-requires
 pass-requires g c =
@@ -89,13 +78,6 @@ invariant_of-self g c =
           omega (arith, now, less);
     }
 
-pub returns-clause-there : goal.returns-clause-there
-returns-clause-there g c = (
-  λ e. one_there g.row.BUCKETS c.args.key (nodes_in c.args.self.now.view.client)
-      c.place_of-place.result.node c.place_of-place.ensures.told (ap (λ o. is_some o) c.in-Some.is),
-  λ has. refl,
-)
-
 pub returns-clause-removed : goal.returns-clause-removed
 returns-clause-removed g c = λ e.
     let some : 0 < c.args.key = omega arith in
@@ -103,10 +85,13 @@ returns-clause-removed g c = λ e.
     c.place_of-place.result.previous c.place_of-place.result.node (Some c.in-Some.old)
     c.place_of-place.ensures.place c.self.view_is refl c.in-Some.is in
     let done = c.pass.ensures in
-    subst (λ (w : Watching Known). IsRemoved g.row.BUCKETS (nodes_in w.view.client) c.args.key
-    (nodes_in c.pass.new.keeper.view.client))
+    subst (λ (w : Watching Known). HasChanged
+    (λ before after. IsRemoved g.row.BUCKETS before c.args.key after) w c.pass.new.keeper)
     c.self.view_is
-    (removed g.E.Invariant.holds g.row.BUCKETS g.row.W g.row.N
-    (nodes_in c.self.inside.nodes.view.client) c.self.invariant.map c.args.key
-    c.place_of-place.result.previous c.in-Some.old some place done.next
-    (nodes_in c.pass.new.keeper.view.client) done.leads done.trimmed)
+    (record {
+      state = done.state;
+      nodes = removed g.E.Invariant.holds g.row.BUCKETS g.row.W g.row.N
+          (nodes_in c.self.inside.nodes.view.client) c.self.invariant.map c.args.key
+          c.place_of-place.result.previous c.in-Some.old some place done.next
+          (nodes_in c.pass.new.keeper.view.client) done.leads done.trimmed;
+    })

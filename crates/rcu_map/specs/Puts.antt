@@ -1,0 +1,78 @@
+-- What a map's keeper makes of an entry that it is to put in, and of a key that it is to take out.
+use Rattle.std.specs.Prelude.{◌≡◌, ℕ, Bool, true, false, List, Option, Some, None, Result, IfOk}
+use Rattle.std.specs.Prelude.{IfSome, OnErr, is_some}
+use Rattle.rcu_live.specs.Board.{Object}
+use Rattle.rcu_live.specs.Watcher.{Watching}
+use Rattle.rcu_graph.specs.Graph.{IsWatcherOf}
+use Rattle.rcu_graph.specs.Keeper.{after_step}
+use Rattle.rcu_graph.specs.Nodes.{nodes_in}
+use Rattle.rcu_graph.specs.declared.keeper.Full.{Full}
+use Rattle.rcu_graph.specs.declared.known.Known.{Known}
+use Rattle.rcu_graph.specs.declared.known.Node.{Node}
+use Rattle.rcu_map.specs.Entries.{HasKey, IsEntryOf, IsInserted, IsReplaced}
+use Rattle.rcu_map.specs.Splices.{IsFull}
+use Rattle.rcu_map.specs.declared.put.Put.{Put}
+use Rattle.rcu_map.specs.declared.put.Put.TheVariants.{Insert, Replace, Upsert}
+
+-- whether an entry is put in, where one has its key already or none has
+abbrev pub is_put : Put → Bool → Bool
+is_put Insert true = false
+is_put Insert false = true
+is_put Replace there = there
+is_put Upsert there = true
+
+-- the same of the entries of these nodes
+abbrev pub IsWanted : Put → ℕ → List Node → ℕ → Type 0
+IsWanted Insert buckets nodes key = ¬ HasKey buckets nodes key
+IsWanted Replace buckets nodes key = HasKey buckets nodes key
+IsWanted Upsert buckets nodes key = Unit {0}
+
+-- the entry that has this key, of which the user's fact holds
+pub record IsHolder {E : Type 0} (decode : List ℕ → E) (valid : E → Type 0) (key_of : E → ℕ)
+    (buckets : ℕ) (nodes : List Node) (key : ℕ) (entry : E) : Type 0 where
+  pub is : IsEntryOf decode buckets nodes key entry
+  pub keyed : key_of entry ≡ key
+  pub sound : valid entry
+
+-- no entry has this key, or this one has it
+abbrev pub Holds : {E : Type 0}
+    → (List ℕ → E) → (E → Type 0) → (E → ℕ) → ℕ → List Node → ℕ → Option E → Type 0
+Holds decode valid key_of buckets nodes key None = ¬ HasKey buckets nodes key
+Holds decode valid key_of buckets nodes key (Some entry) =
+    IsHolder decode valid key_of buckets nodes key entry
+
+-- if there is one, it is an entry of this key, of which the user's fact holds
+abbrev pub IsOfKey : {E : Type 0} → (E → Type 0) → (E → ℕ) → ℕ → Option E → Type 0
+IsOfKey valid key_of key old = IfSome old (λ entry. (key_of entry ≡ key) × valid entry)
+
+-- one step of the keeper made this change of the nodes
+pub record HasChanged (change : List Node → List Node → Type 0)
+    (before after : Watching Known) : Type 0 where
+  pub state : after ≡ after_step before (nodes_in after.view.client)
+  pub nodes : change (nodes_in before.view.client) (nodes_in after.view.client)
+
+-- the entry of these words is in the map: in the place of the one that had its key, or beside the
+-- others where none had it
+abbrev pub IsPutIn : ℕ → List ℕ → Bool → List Node → List Node → Type 0
+IsPutIn buckets words true before after = IsReplaced buckets before words after
+IsPutIn buckets words false before after = IsInserted buckets before words after
+
+-- the keeper put the entry of these words in, one of its key being there or none; or it did nothing
+abbrev pub HasPutIn : ℕ → List ℕ → Bool → Bool → Watching Known → Watching Known → Type 0
+HasPutIn buckets words there true before after =
+    HasChanged (IsPutIn buckets words there) before after
+HasPutIn buckets words there false before after = after ≡ before
+
+-- the keeper was to put an entry of this key and these words in: it returned the one that had the
+-- key, and put the new one in where that was wanted; or it needed a node, and none was free
+pub record HasAnswered {E : Type 0} (decode : List ℕ → E) (valid : E → Type 0) (key_of : E → ℕ)
+    (buckets : ℕ) (map : Object (Unit {0})) (how : Put) (key : ℕ) (words : List ℕ)
+    (before : Watching Known) (result : Result (Option E) Full) (after : Watching Known) : Type 0
+  where
+    pub of_map : IsWatcherOf map after
+    pub old : IfOk result (λ old.
+        Holds decode valid key_of buckets (nodes_in before.view.client) key old)
+    pub put : IfOk result (λ old.
+        HasPutIn buckets words (is_some old) (is_put how (is_some old)) before after)
+    pub wanted : OnErr result (IsWanted how buckets (nodes_in before.view.client) key)
+    pub full : OnErr result (IsFull before after)

@@ -1,0 +1,49 @@
+//! How an entry is put in, and why it was not.
+ghost use Rattle.std.specs.Prelude.{◌≡◌};
+ghost use Rattle.rcu_map.specs.Puts.{is_put};
+
+use rcu_seq::Fault;
+
+/// Where an entry may go that is put in.
+#[derive(Clone, Copy, Debug, PartialEq, Eq)]
+pub enum Put {
+    /// Beside the others, where none has its key.
+    Insert,
+    /// In the place of the one that has its key.
+    Replace,
+    /// Either.
+    Upsert,
+}
+
+impl Put {
+    /// Whether an entry is put in, where one has its key already or none has.
+    pub(crate) fn puts(self, there: bool) -> bool
+        ensures { result ≡ is_put self there }
+    {
+        match self {
+            Put::Insert => !there,
+            Put::Replace => there,
+            Put::Upsert => true,
+        }
+    }
+}
+
+/// Why a call that waits for a free node put no entry in.
+#[derive(Clone, Copy, Debug, PartialEq, Eq)]
+pub enum NotPut {
+    /// Each node is in use, and none becomes free before an entry is taken out.
+    Full,
+    /// The wait was refused, or given up.
+    Fault(Fault),
+}
+
+impl From<Fault> for NotPut {
+    ghost use Rattle.std.specs.Prelude.{◌≡◌};
+    ghost use Rattle.rcu_map.specs.declared.put.NotPut.TheVariants as not_put;
+
+    ghost from_gives = { λ fault why. why ≡ not_put.Fault fault };
+
+    fn from(fault: Fault) -> NotPut {
+        NotPut::Fault(fault)
+    }
+}
