@@ -10,6 +10,7 @@ enum { READERS = 3, UPDATERS = 4, CPUS = UPDATERS + READERS, MOST = 1000, EACH =
 enum { HERE, QSBR, MEMB, LIBRARIES, SECTIONS = LIBRARIES, PINS, WAYS };
 
 #include "driver.h"
+#include <stdatomic.h>
 #include <time.h>
 #include <urcu/urcu-memb.h>
 #include <urcu/urcu-qsbr.h>

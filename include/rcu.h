@@ -799,6 +799,25 @@ static inline uint32_t rcu_barrier_wait(rcu_t *rcu, uint64_t *left) {
     return result;
 }
 
+/* ---- sleeping until a processor is quiet. Who drives says for which one it sleeps, and then looks
+ * at it once more; the processor's thread gets quiet, idle or offline, and then looks whether who
+ * drives sleeps for it. All four steps are sequentially consistent, so one of the two sees the
+ * other: no quiescent state is slept through. */
+
+/* Says that who drives sleeps for the first processor that is awaited, and then collects from each
+ * that is, as rcu_collect_all. Writes 1 where that first one is awaited still: then the caller
+ * sleeps, by means of the program's own, until a thread is told to wake it (rcu_seat_wakes). It
+ * lets go of the lock and sleeps in one step, as a condition variable does. Else writes 0. Writes
+ * how many are awaited still; where none is, it says that it sleeps for none. Until then call it
+ * again, also where the caller woke by chance. */
+uint32_t rcu_may_sleep(rcu_t *rcu, uint32_t *sleeps, uint32_t *left);
+
+/* Looks whether who drives sleeps for the seat's processor. A thread looks so after each call by
+ * which its processor got quiet, idle or offline; after rcu_seat_quiesce_since and rcu_seat_renew
+ * only where the number moved. Writes 1 where the caller has to wake who drives, under the lock.
+ * Else 0. It costs a load. */
+uint32_t rcu_seat_wakes(rcu_seat_t *seat, uint32_t *wakes);
+
 /* <<< */
 
 /* ---- links in the caller's own nodes */

@@ -1,6 +1,6 @@
-/* One thread drives an engine by steps: a grace period that a cookie asks for; wishes for some;
- * sections that are pinned and renewed; links and values that a seat defers, and what a departure
- * and a return leave of them. */
+/* One thread drives an engine by steps: a grace period that a cookie asks for; wishes for some; a
+ * sleep until a processor is quiet; sections that are pinned and renewed; links and values that a
+ * seat defers, and what a departure and a return leave of them. */
 #include "rcu.h"
 #include <inttypes.h>
 #include <stdio.h>
@@ -72,6 +72,34 @@ static void wished(void) {
     printf("wished: %" PRIu64 "\n", wanted(false));
     uint32_t awake = want(1, 16), less = want(1, 12);
     printf("wakes: %" PRIu32 ", %" PRIu32 "; wished: %" PRIu64 "\n", awake, less, wanted(true));
+}
+
+static uint32_t wakes(uint32_t cpu) {
+    uint32_t it = 9;
+    must("wakes", rcu_seat_wakes(&seats[cpu], &it), 0);
+    return it;
+}
+
+/* Who drives says for which processor it sleeps: the first that is awaited, which wakes it. */
+static void may_sleep(void) {
+    uint32_t sleeps = 9, left = 9;
+    must("may sleep", rcu_may_sleep(&rcu, &sleeps, &left), 0);
+    printf("sleeps: %" PRIu32 ", left %" PRIu32 ", wakes: %" PRIu32 ", %" PRIu32 "\n", sleeps, left,
+           wakes(0), wakes(1));
+}
+
+static void slept(void) {
+    uint64_t number, seen;
+    uint32_t awaited;
+    may_sleep();
+    must("begin", rcu_begin(&rcu, &number, &awaited), 0);
+    may_sleep();
+    must("quiesce", rcu_seat_quiesce(&seats[0], &seen), 0);
+    may_sleep();
+    may_sleep();
+    must("quiesce", rcu_seat_quiesce(&seats[1], &seen), 0);
+    may_sleep();
+    must("end", rcu_end(&rcu, &number), 0);
 }
 
 /* Sections of a thread that is idle between them, and sections that are renewed. */
@@ -159,6 +187,7 @@ int main(void) {
     must("arrive", rcu_arrive(&rcu, &seats[1]), 0);
     driven();
     wished();
+    slept();
     pinned();
     links();
     values();

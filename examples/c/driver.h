@@ -1,34 +1,26 @@
 /* A driver that sleeps, for one engine of CPUS processors: a constant that stands before this file.
  * It is C11 and C++17. A place defers by its own seat, with no lock and no memory, and runs what is
  * done as it goes on. The driver's thread makes the grace periods for that. Who waits for one makes
- * it, or sleeps while another one does; who makes it sleeps until the last processor that is awaited
- * is quiet or idle, and wakes it. Processor 0 is idle: its place may defer, but reads nothing. */
+ * it, or sleeps while another one does; who makes it sleeps until a processor that is awaited is
+ * quiet, idle or offline: its thread wakes it. Processor 0 is idle: its place may defer, but reads
+ * nothing. */
 #include "rcu.h"
 #include <pthread.h>
 #include <stdio.h>
 #include <stdlib.h>
-#ifdef __cplusplus
-#include <atomic>
-using std::atomic_bool;
-using std::atomic_uint;
-#else
+#ifndef __cplusplus
 #include <stdalign.h>
-#include <stdatomic.h>
 #endif
 
 /* A place asks for a grace period once in so many deferrals. */
 enum { BATCH = 64 };
 
-/* A processor, for one thread at a time; the number of its latest quiescent state, or wake; how
- * often it deferred; and whether the maker sleeps until it is quiet. Each has a cache line of its
- * own. */
+/* A processor, for one thread at a time; the number of its latest quiescent state, or wake; and how
+ * often it deferred. Each has a cache line of its own. */
 static struct place {
     alignas(64) rcu_seat_t seat;
     uint64_t quiet_at, deferred;
-    atomic_bool wanted;
 } places[CPUS];
-
-static atomic_uint missing; /* how many places are wanted */
 
 /* The lock, over all that follows. */
 static pthread_mutex_t lock = PTHREAD_MUTEX_INITIALIZER;
@@ -43,35 +35,27 @@ static inline void must(const char *call, uint32_t fault) {
     if (fault) abort();
 }
 
-/* Whether the maker sleeps for this place, and for no other one any more. The maker stores a wish,
- * and then looks at the processor; a thread gets quiet, and then looks for the wish, each time that
- * it is quiet still. All four steps are sequentially consistent, so one of the two sees the
- * other. */
-static inline bool is_last(struct place *place) {
-    return atomic_load(&place->wanted) && atomic_exchange(&place->wanted, false) &&
-           atomic_fetch_sub(&missing, 1) == 1;
+/* Whether the maker sleeps until this place is quiet, which it just got. */
+static inline bool wakes(struct place *place) {
+    uint32_t it;
+    must("wakes", rcu_seat_wakes(&place->seat, &it));
+    return it;
 }
 
-/* The place got quiet or idle, by a call that answered so. */
-static inline void wake_maker(struct place *place, uint32_t fault) {
-    must("quiescent state", fault);
-    if (!is_last(place)) return;
+/* Wakes the maker, where it sleeps for this place. */
+static inline void wake_maker(struct place *place) {
+    if (!wakes(place)) return;
     pthread_mutex_lock(&lock);
     pthread_cond_signal(&quiet);
     pthread_mutex_unlock(&lock);
 }
 
 static inline void sleep_until_quiet(void) {
-    uint32_t cpus[CPUS], count, left;
-    must("list", rcu_awaited_list(&rcu, cpus, CPUS, &count));
-    for (uint32_t i = 0; i < count; i++) {
-        atomic_fetch_add(&missing, 1);
-        atomic_store(&places[cpus[i]].wanted, true);
-    }
-    must("collect", rcu_collect_all(&rcu, &left));
-    for (uint32_t i = 0; i < count; i++)
-        if (!rcu_awaits(&rcu, cpus[i])) is_last(&places[cpus[i]]);
-    while (atomic_load(&missing)) pthread_cond_wait(&quiet, &lock);
+    uint32_t sleeps, left;
+    do {
+        must("may sleep", rcu_may_sleep(&rcu, &sleeps, &left));
+        if (sleeps) pthread_cond_wait(&quiet, &lock);
+    } while (left);
 }
 
 /* Tells the thread sanitizer that a grace period is over. */
@@ -157,30 +141,41 @@ static inline void driver_depart(struct place *place) {
     RCU_SANITIZER_RELEASE(place);
     pthread_mutex_lock(&lock);
     must("depart", rcu_depart(&rcu, &place->seat, &moved));
-    if (is_last(place)) pthread_cond_signal(&quiet);
+    if (wakes(place)) pthread_cond_signal(&quiet);
     pthread_mutex_unlock(&lock);
 }
 
+/* The place passed a quiescent state, where the number moved since this one. */
+static inline void was_quiet(struct place *place, uint64_t since) {
+    if (place->quiet_at != since) wake_maker(place);
+}
+
 static inline void driver_quiesce(struct place *place) {
+    uint64_t since = place->quiet_at;
     RCU_SANITIZER_RELEASE(place);
-    wake_maker(place, rcu_seat_quiesce_since(&place->seat, &place->quiet_at));
+    must("quiesce", rcu_seat_quiesce_since(&place->seat, &place->quiet_at));
+    was_quiet(place, since);
 }
 
 /* For a thread that keeps a section open, and one that pins: driver_quiesce and driver_idle. */
 static inline void driver_renew(struct place *place) {
+    uint64_t since = place->quiet_at;
     RCU_SANITIZER_RELEASE(place);
-    wake_maker(place, rcu_seat_renew(&place->seat, &place->quiet_at));
+    must("renew", rcu_seat_renew(&place->seat, &place->quiet_at));
+    was_quiet(place, since);
 }
 
 static inline void driver_unpin(struct place *place) {
     uint32_t depth;
     RCU_SANITIZER_RELEASE(place);
-    wake_maker(place, rcu_seat_unpin(&place->seat, &depth));
+    must("unpin", rcu_seat_unpin(&place->seat, &depth));
+    wake_maker(place);
 }
 
 static inline void driver_idle(struct place *place) {
     RCU_SANITIZER_RELEASE(place);
-    wake_maker(place, rcu_seat_idle(&place->seat));
+    must("idle", rcu_seat_idle(&place->seat));
+    wake_maker(place);
 }
 
 /* Each section that is open now has ended once this returns. The caller's own place is idle. */

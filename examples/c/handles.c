@@ -39,6 +39,7 @@ static void refuse_engine(rcu_t *none, uint32_t fault) {
     must("rcu_drive", rcu_drive(none, &out.turn), fault);
     must("rcu_drive_for", rcu_drive_for(none, 8, &out.turn), fault);
     must("rcu_wanted", rcu_wanted(none, true, &out.number), fault);
+    must("rcu_may_sleep", rcu_may_sleep(none, &out.found, &out.depth), fault);
     must("rcu_collect", rcu_collect(none, 0, &out.found), fault);
     must("rcu_collect_all", rcu_collect_all(none, &out.found), fault);
     must("rcu_arrive", rcu_arrive(none, &seat), fault);
@@ -89,6 +90,7 @@ static void refuse_seat(rcu_seat_t *none, uint32_t fault) {
     must("rcu_seat_take", rcu_seat_take(none), UINT64_MAX);
     must("rcu_seat_poll", rcu_seat_poll(none, 0), false);
     must("rcu_seat_want", rcu_seat_want(none, 8, &out.found), fault);
+    must("rcu_seat_wakes", rcu_seat_wakes(none, &out.found), fault);
     must("rcu_defer", rcu_defer(none, 7), fault);
     must("rcu_defer_run", rcu_defer_run(none, out.values, 2, &out.number), fault);
     must("rcu_defer_shrink", rcu_defer_shrink(none, &out.number), fault);

@@ -4,6 +4,7 @@ enum { CPUS = 2, VALUES = 1000 };
 
 #include "driver.h"
 #include <inttypes.h>
+#include <stdatomic.h>
 
 struct setting {
     rcu_link_t link; /* at first */

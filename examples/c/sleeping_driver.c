@@ -5,6 +5,7 @@ enum { READERS = 3, CPUS = 1 + READERS, UPDATES = 2000, ROUNDS = 50, UPDATERS = 
 
 #include "driver.h"
 #include <inttypes.h>
+#include <stdatomic.h>
 #include <time.h>
 
 struct node {

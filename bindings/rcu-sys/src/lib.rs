@@ -645,6 +645,18 @@ extern "C" {
     ///
     /// Fence: behind.
     pub fn rcu_barrier_wait_unfenced(rcu: *mut rcu_t, left: *mut u64) -> u32;
+    /// Says that who drives sleeps for the first processor that is awaited, and then collects from
+    /// each that is, as `rcu_collect_all`. Writes 1 where that first one is awaited still: then the
+    /// caller sleeps, by means of the program's own, until a thread is told to wake it
+    /// (`rcu_seat_wakes`). It lets go of the lock and sleeps in one step, as a condition variable
+    /// does. Else writes 0. Writes how many are awaited still; where none is, it says that it
+    /// sleeps for none. Until then call it again, also where the caller woke by chance.
+    pub fn rcu_may_sleep(rcu: *mut rcu_t, sleeps: *mut u32, left: *mut u32) -> u32;
+    /// Looks whether who drives sleeps for the seat's processor. A thread looks so after each call
+    /// by which its processor got quiet, idle or offline; after `rcu_seat_quiesce_since` and
+    /// `rcu_seat_renew` only where the number moved. Writes 1 where the caller has to wake who
+    /// drives, under the lock. Else 0. It costs a load.
+    pub fn rcu_seat_wakes(seat: *mut rcu_seat_t, wakes: *mut u32) -> u32;
 }
 
 /// Ends the grace period. Writes the new number.

@@ -5,8 +5,8 @@ Use: tests/model.py
 
 Each word that two threads look at stands in a protocol of protocols.py. None may go wrong. A step
 with a '!' behind it is needed: without it something has to go wrong. So it has where a step with a
-'%' changes places with the next one. What stands behind a '|' is the code's, and has to be there.
-The last line is 'N passed, M failed'.
+'%' changes places with the next one. What stands behind a '|' is the code's, and has to be there;
+behind a '..' stands what comes later. The last line is 'N passed, M failed'.
 """
 import multiprocessing
 import os
@@ -62,7 +62,8 @@ def unknown_quotes(protocols, code):
     for words, programs, *handlers in protocols.values():
         for text in [*programs, *(handlers[0].values() if handlers else ())]:
             for quote in re.findall(r"\| (.*)", text):
-                if quote.strip() not in code:
+                parts = map(re.escape, quote.strip().split(" .. "))
+                if not re.search(".*".join(parts), code, re.DOTALL):
                     yield quote.strip()
 
 

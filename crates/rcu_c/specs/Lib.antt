@@ -9,5 +9,6 @@ pub mod Links
 pub mod Refusals
 pub mod Replicas
 pub mod Seats
+pub mod Sleeps
 pub mod Staying
 pub mod Version

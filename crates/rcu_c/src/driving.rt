@@ -82,6 +82,15 @@ pub extern "C" fn rcu_drive_for_unfenced(rcu: &mut Rcu, cookie: u64, turn: &mut 
     }
 }
 
+/// Collects from each processor that is awaited, while a grace period runs.
+pub(crate) fn collect_all(engine: &mut TreeEngine)
+    ensures { engine.new ≡ moved_on engine.old false (latest_words engine.new) }
+{
+    if engine.grace().is_running() {
+        engine.collect_awaited();
+    }
+}
+
 /// Collects from each processor that is awaited, as `rcu_collect` from one. Writes how many still
 /// are: 0 where no grace period runs.
 #[unsafe(no_mangle)]
@@ -97,9 +106,7 @@ pub extern "C" fn rcu_collect_all(rcu: &mut Rcu, left: &mut u32) -> u32
         Ok(opened) => opened,
         Err(refusal) => return refusal.number(),
     };
-    if opened.inner.grace().is_running() {
-        opened.inner.collect_awaited();
-    }
+    collect_all(&mut opened.inner);
     *left = opened.inner.grace().awaited().count();
     0
 }

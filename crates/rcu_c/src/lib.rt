@@ -30,6 +30,7 @@ pub mod refusal;
 pub mod replicas;
 pub mod seat_parts;
 pub mod sections;
+pub mod sleeps;
 pub mod small_runs;
 pub mod version;
 pub mod wishes;

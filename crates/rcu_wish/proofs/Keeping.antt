@@ -1,14 +1,14 @@
 -- The rule where the view of one end changes: what the others keep.
-use Rattle.std.proofs.Common.{◌≡◌, ◌≢◌, ◌⊎◌, ℕ, zero, suc, ◌<◌, ◌≤◌, List, [], ◌∷◌, ◌++◌, length}
-use Rattle.std.proofs.Common.{get_or, set, true, false, Bool, inl, inr, refl, sym, ap, ◌∙◌, subst}
+use Rattle.std.proofs.Common.{◌≡◌, ◌≢◌, ℕ, zero, suc, ◌<◌, ◌≤◌, List, [], ◌∷◌, ◌++◌, length}
+use Rattle.std.proofs.Common.{get_or, set, true, false, Bool, refl, sym, ap, ◌∙◌, subst}
 use Rattle.std.proofs.Common.{⊎_elim, arith}
 use mathlib.Core.Logic.{dite}
 use mathlib.Core.Option.{some, some-injective, some-ne-none}
 use native.Mathlib.Decide.{ℕ_discrete}
 use lib.ListN.{get_elem?}
 use Rattle.atomic_table.proofs.Lists.{at_longer, at_set, at_snoc, set_else, set_here}
-use Rattle.rcu_wish.specs.Rule.{Fits, IsKept, IsRaised, IsTold, Moment, greatest_at}
-use Rattle.rcu_wish.specs.Wishes.{asleep_index, asleep_word, thread_at_first}
+use Rattle.rcu_wish.specs.Rule.{Fits, IsKept, IsRaised, IsTold, Moment}
+use Rattle.rcu_wish.specs.Wishes.{cpu_index, thread_at_first}
 use Rattle.rcu_wish.specs.declared.knowledge.Knowledge.{Knowledge}
 
 pub inside : {A : Type 0} (l : List A) (i : ℕ) (a : A) → get_elem? l i ≡ some a → i < length l
@@ -45,12 +45,12 @@ made_still s k id v w words at same number =
 -- one view changes, and words do: the rule is kept where the others fit, and the changed one does
 pub changed : (s : Moment) (k : IsKept s) (id : ℕ) (v w : Knowledge) (words : List ℕ)
     → get_elem? s.views id ≡ some v
-    → asleep_index < length words
+    → cpu_index < length words
     → 1 ≤ get_or words 0 0
     → w.drives ≡ v.drives
     → ((j : ℕ) (u : Knowledge) → j ≢ id → get_elem? s.views j ≡ some u → Fits (get_or words 0 0)
-    (get_or words 16 0) u)
-    → Fits (get_or words 0 0) (get_or words 16 0) w
+    (get_or words 16 0) (get_or words 32 0) u)
+    → Fits (get_or words 0 0) (get_or words 16 0) (get_or words 32 0) w
     → ((j : ℕ) (u : Knowledge) → j ≢ id → get_elem? s.views j ≡ some u → IsTold w u)
     → ((j : ℕ) (u : Knowledge) → j ≢ id → get_elem? s.views j ≡ some u → IsTold u w)
     → IsRaised record { words = words; homes = s.homes; views = set s.views id w }
@@ -72,7 +72,9 @@ changed s k id v w words at room least role others mine tells is_told made =
       fits = λ j u here.
           ⊎_elim
           (λ (t : (j ≡ id) × (w ≡ u)).
-          subst (λ (y : Knowledge). Fits (get_or words 0 0) (get_or words 16 0) y) t.1 mine)
+          subst
+          (λ (y : Knowledge). Fits (get_or words 0 0) (get_or words 16 0) (get_or words 32 0) y)
+          t.1 mine)
           (λ (t : (j ≢ id) × (get_elem? s.views j ≡ some u)). others j u t.0 t.1)
           (at_set s.views id j w u here);
       lone = λ i j a b here there da db.
@@ -115,8 +117,14 @@ dealt s k = added
     one : 1 ≤ get_or s.words 0 0
     one = k.least
 
-    fresh : Fits (get_or s.words 0 0) (get_or s.words 16 0) t
-    fresh = record { raised = one; found = one; driver = λ r. absurd (cc); says = λ r. absurd (cc) }
+    fresh : Fits (get_or s.words 0 0) (get_or s.words 16 0) (get_or s.words 32 0) t
+    fresh = record {
+      raised = one;
+      found = one;
+      driver = λ r. absurd (cc);
+      says = λ r. absurd (cc);
+      names = λ r. absurd (cc);
+    }
 
     told_to : (u : Knowledge) → IsTold u t
     told_to u drives asleep looked not_drives tlooked less = absurd (cc)
@@ -129,7 +137,9 @@ dealt s k = added
       room = k.room;
       fits = λ j u here. ⊎_elim (λ (e : get_elem? s.views j ≡ some u). k.fits j u e)
           (λ (e : t ≡ u).
-          subst (λ (y : Knowledge). Fits (get_or s.words 0 0) (get_or s.words 16 0) y) e fresh)
+          subst
+          (λ (y : Knowledge). Fits (get_or s.words 0 0) (get_or s.words 16 0) (get_or s.words 32 0)
+          y) e fresh)
           (at_snoc s.views t u j here);
       lone = λ i j a b here there da db.
           ⊎_elim

@@ -1,5 +1,5 @@
 -- Each step keeps the rule.
-use Rattle.std.proofs.Common.{◌≡◌, ◌≢◌, ℕ, zero, suc, ◌<◌, ◌≤◌, ◌==◌, Bool, List, [], ◌∷◌, length}
+use Rattle.std.proofs.Common.{◌≡◌, ℕ, zero, suc, ◌<◌, ◌≤◌, ◌==◌, Bool, List, [], ◌∷◌, length}
 use Rattle.std.proofs.Common.{get_or, set, true, false, max, nat_lt, refl, sym, ap, ◌∙◌, subst}
 use Rattle.std.proofs.Common.{arith, length-set, if◌then◌else◌, eq-eqb}
 use Rattle.std.proofs.lemmas.Bool.{ltb-false, ltb-true}
@@ -8,10 +8,10 @@ use mathlib.Core.Option.{some, some-injective, some-ne-none}
 use lib.ListN.{get_elem?}
 use Rattle.atomic_table.specs.Table.{Allows, Enters, Me, keeps, opening}
 use Rattle.atomic_table.proofs.Lists.{set_here}
-use Rattle.rcu_wish.specs.Rule.{Fits, IsKept, IsRaised, IsTold, Moment}
+use Rattle.rcu_wish.specs.Rule.{Fits, IsKept, IsTold, Moment}
 use Rattle.rcu_wish.specs.Wishes.{Found, Raised, after_finding, after_look_at_driver, after_raise}
-use Rattle.rcu_wish.specs.Wishes.{after_saying, asleep_index, asleep_word, driver_at_first}
-use Rattle.rcu_wish.specs.Wishes.{first_words, thread_at_first}
+use Rattle.rcu_wish.specs.Wishes.{after_saying, asleep_word, cpu_index, driver_at_first}
+use Rattle.rcu_wish.specs.Wishes.{first_words, knowing_cpu, thread_at_first}
 use Rattle.rcu_wish.specs.declared.knowledge.Knowledge.{Knowledge}
 use Rattle.rcu_wish.proofs.Keeping.{changed, dealt, inside, made_still, true_or_false}
 
@@ -20,14 +20,18 @@ pub arrives : (slots : ℕ) → Enters IsKept slots 0 (λ n w. w ≡ thread_at_f
 arrives slots s k _ _ = (thread_at_first, dealt s k, refl)
 
 -- an end fits where the greatest wish grows
-fits_up : (greatest more word same : ℕ) (u : Knowledge) → greatest ≤ more → same ≡ word
-    → Fits greatest word u → Fits more same u
-fits_up greatest more word same u up is f = let r = f.raised in let g = f.found in record {
-  raised = omega (arith, r, up);
-  found = omega (arith, g, up);
-  driver = f.driver;
-  says = λ d. is ∙ f.says d;
-}
+fits_up : (greatest more word same cpu alike : ℕ) (u : Knowledge) → greatest ≤ more → same ≡ word
+    → alike ≡ cpu → Fits greatest word cpu u → Fits more same alike u
+fits_up greatest more word same cpu alike u up is stays f =
+    let r = f.raised in
+    let g = f.found in
+    record {
+      raised = omega (arith, r, up);
+      found = omega (arith, g, up);
+      driver = f.driver;
+      says = λ d. is ∙ f.says d;
+      names = λ d. stays ∙ f.names d;
+    }
 
 -- a thread that raises the greatest wish, or finds it to be as great
 abbrev raised_by : Bool → Knowledge → ℕ → ℕ → Knowledge
@@ -52,26 +56,29 @@ raise_kept s k id cookie v at thread true e =
     let more : ℕ = max n cookie in
     let words : List ℕ = set s.words 0 more in
     let long : length words ≡ length s.words = length-set s.words 0 more in
-    let room : 16 < length s.words = k.room in
+    let room : 32 < length s.words = k.room in
     let low : 0 < length s.words = omega (arith, room) in
     let now : get_or words 0 0 ≡ more = get_or-set_same s.words 0 more 0 low in
     let less : n < cookie = ltb-true n cookie e in
     let is : more ≡ cookie = omega (arith, less) in
     let same : get_or words 16 0 ≡ get_or s.words 16 0 =
     get_or-set_other s.words 0 16 more 0 (λ x. absurd (omega (arith, x))) in
+    let alike : get_or words 32 0 ≡ get_or s.words 32 0 =
+    get_or-set_other s.words 0 32 more 0 (λ x. absurd (omega (arith, x))) in
     let up : n ≤ get_or words 0 0 = omega (arith, now, is, less) in
     let f = k.fits id v at in
     let first = f.raised in
     let least = k.least in
     let w : Knowledge = raised_by true v cookie n in
     changed s k id v w words at (omega (arith, long, room)) (omega (arith, least, up)) refl
-    (λ j u apart here. fits_up n (get_or words 0 0) (get_or s.words 16 0) (get_or words 16 0) u up
-    same (k.fits j u here))
+    (λ j u apart here. fits_up n (get_or words 0 0) (get_or s.words 16 0) (get_or words 16 0)
+    (get_or s.words 32 0) (get_or words 32 0) u up same alike (k.fits j u here))
     (record {
       raised = omega (arith, now, is);
       found = up;
       driver = λ d. absurd (true_or_false v.drives d thread);
       says = λ d. absurd (true_or_false v.drives d thread);
+      names = λ d. absurd (true_or_false v.drives d thread);
     })
     (λ j u apart here drives asleep looked not_drives tlooked under.
     absurd (true_or_false v.drives drives thread))
@@ -87,26 +94,29 @@ raise_kept s k id cookie v at thread false e =
     let more : ℕ = max n cookie in
     let words : List ℕ = set s.words 0 more in
     let long : length words ≡ length s.words = length-set s.words 0 more in
-    let room : 16 < length s.words = k.room in
+    let room : 32 < length s.words = k.room in
     let low : 0 < length s.words = omega (arith, room) in
     let now : get_or words 0 0 ≡ more = get_or-set_same s.words 0 more 0 low in
     let less : cookie ≤ n = ltb-false n cookie e in
     let is : more ≡ n = omega (arith, less) in
     let same : get_or words 16 0 ≡ get_or s.words 16 0 =
     get_or-set_other s.words 0 16 more 0 (λ x. absurd (omega (arith, x))) in
+    let alike : get_or words 32 0 ≡ get_or s.words 32 0 =
+    get_or-set_other s.words 0 32 more 0 (λ x. absurd (omega (arith, x))) in
     let up : n ≤ get_or words 0 0 = omega (arith, now, is) in
     let f = k.fits id v at in
     let first = f.raised in
     let least = k.least in
     let w : Knowledge = raised_by false v cookie n in
     changed s k id v w words at (omega (arith, long, room)) (omega (arith, least, up)) refl
-    (λ j u apart here. fits_up n (get_or words 0 0) (get_or s.words 16 0) (get_or words 16 0) u up
-    same (k.fits j u here))
+    (λ j u apart here. fits_up n (get_or words 0 0) (get_or s.words 16 0) (get_or words 16 0)
+    (get_or s.words 32 0) (get_or words 32 0) u up same alike (k.fits j u here))
     (record {
       raised = omega (arith, first, up);
       found = up;
       driver = λ d. absurd (true_or_false v.drives d thread);
       says = λ d. absurd (true_or_false v.drives d thread);
+      names = λ d. absurd (true_or_false v.drives d thread);
     })
     (λ j u apart here drives asleep looked not_drives tlooked under.
     absurd (true_or_false v.drives drives thread))
@@ -130,7 +140,7 @@ raises slots id cookie me thread s k _ at _ =
 unchanged : (s : Moment) (k : IsKept s) (id at_word : ℕ) (v w : Knowledge)
     → get_elem? s.views id ≡ some v
     → w.drives ≡ v.drives
-    → Fits (get_or s.words 0 0) (get_or s.words 16 0) w
+    → Fits (get_or s.words 0 0) (get_or s.words 16 0) (get_or s.words 32 0) w
     → ((j : ℕ) (u : Knowledge) → get_elem? s.views j ≡ some u → IsTold w u)
     → ((j : ℕ) (u : Knowledge) → get_elem? s.views j ≡ some u → IsTold u w)
     → w.raised ≡ v.raised
@@ -165,6 +175,7 @@ looks_at_driver slots id me thread s k _ at _ =
             found = f.found;
             driver = f.driver;
             says = λ d. absurd (true_or_false v.drives d thread);
+            names = λ d. absurd (true_or_false v.drives d thread);
           })
           (λ j u here drives asleep looked not_drives tlooked under.
           absurd (true_or_false v.drives drives thread))
@@ -189,9 +200,12 @@ says slots id word me driver low s k _ at _ =
     let v : Knowledge = me.0 in
     let w : Knowledge = after_saying v word in
     let words : List ℕ = set s.words 16 word in
-    let room : 16 < length s.words = k.room in
+    let room : 32 < length s.words = k.room in
     let long : length words ≡ length s.words = length-set s.words 16 word in
-    let now : get_or words 16 0 ≡ word = get_or-set_same s.words 16 word 0 room in
+    let now : get_or words 16 0 ≡ word =
+    get_or-set_same s.words 16 word 0 (omega (arith, room)) in
+    let alike : get_or words 32 0 ≡ get_or s.words 32 0 =
+    get_or-set_other s.words 16 32 word 0 (λ x. absurd (omega (arith, x))) in
     let same : get_or words 0 0 ≡ get_or s.words 0 0 =
     get_or-set_other s.words 16 0 word 0 (λ x. absurd (omega (arith, x))) in
     let f = k.fits id v at in
@@ -211,12 +225,14 @@ says slots id word me driver low s k _ at _ =
             found = omega (arith, same, m);
             driver = g.driver;
             says = λ d. absurd (apart (k.lone j id u v here at d driver));
+            names = λ d. absurd (apart (k.lone j id u v here at d driver));
           })
           (record {
             raised = omega (arith, same, raised);
             found = omega (arith, same, found);
             driver = f.driver;
             says = λ d. now ∙ word_says word low;
+            names = λ d. alike ∙ f.names d;
           })
           (λ j u apart here drives asleep looked not_drives tlooked under. absurd (cc))
           (λ j u apart here drives asleep looked not_drives tlooked under.
@@ -237,7 +253,13 @@ finds slots id me driver s k _ at _ =
       keeps,
       tt,
       unchanged s k id 0 v w at refl
-          (record { raised = f.raised; found = top; driver = λ d. f.raised; says = f.says })
+          (record {
+            raised = f.raised;
+            found = top;
+            driver = λ d. f.raised;
+            says = f.says;
+            names = f.names;
+          })
           (λ j u here drives asleep looked not_drives tlooked under.
           let r = (k.fits j u here).raised in absurd (omega (arith, r, under)))
           (λ j u here drives asleep looked not_drives tlooked under.
@@ -246,18 +268,91 @@ finds slots id me driver s k _ at _ =
       (record { state = refl; found = f.found; raised = f.raised }, refl),
     )
 
+pub names_cpu : (slots id word : ℕ) (me : Me (Unit {0}) Knowledge)
+    → me.0.drives ≡ true
+    → Allows IsKept slots id me 32 (λ _. word)
+    (λ _ m. (32 ≡ cpu_index) × (m.0 ≡ knowing_cpu me.0 word) × (m.1 ≡ me.1))
+names_cpu slots id word me driver s k _ at _ =
+    let v : Knowledge = me.0 in
+    let w : Knowledge = knowing_cpu v word in
+    let words : List ℕ = set s.words 32 word in
+    let room : 32 < length s.words = k.room in
+    let long : length words ≡ length s.words = length-set s.words 32 word in
+    let now : get_or words 32 0 ≡ word = get_or-set_same s.words 32 word 0 room in
+    let same : get_or words 0 0 ≡ get_or s.words 0 0 =
+    get_or-set_other s.words 32 0 word 0 (λ x. absurd (omega (arith, x))) in
+    let alike : get_or words 16 0 ≡ get_or s.words 16 0 =
+    get_or-set_other s.words 32 16 word 0 (λ x. absurd (omega (arith, x))) in
+    let f = k.fits id v at in
+    let raised = f.raised in
+    let found = f.found in
+    let least = k.least in (
+      w,
+      keeps,
+      tt,
+      changed s k id v w words at (omega (arith, long, room)) (omega (arith, same, least)) refl
+          (λ j u apart here.
+          let g = k.fits j u here in
+          let r = g.raised in
+          let m = g.found in
+          record {
+            raised = omega (arith, same, r);
+            found = omega (arith, same, m);
+            driver = g.driver;
+            says = λ d. alike ∙ g.says d;
+            names = λ d. absurd (apart (k.lone j id u v here at d driver));
+          })
+          (record {
+            raised = omega (arith, same, raised);
+            found = omega (arith, same, found);
+            driver = f.driver;
+            says = λ d. alike ∙ f.says d;
+            names = λ d. now;
+          })
+          (λ j u apart here. k.told id j v u at here)
+          (λ j u apart here. k.told j id u v here at)
+          (made_still s k id v w words at refl same),
+      (refl, refl, refl),
+    )
+
+pub looks_at_cpu : (slots id : ℕ) (me : Me (Unit {0}) Knowledge)
+    → me.0.drives ≡ false
+    → Allows IsKept slots id me 32 (λ n. n)
+    (λ n m. (32 ≡ cpu_index) × (m.0 ≡ knowing_cpu me.0 n) × (m.1 ≡ me.1))
+looks_at_cpu slots id me thread s k _ at _ =
+    let v : Knowledge = me.0 in
+    let w : Knowledge = knowing_cpu v (get_or s.words 32 0) in
+    let f = k.fits id v at in (
+      w,
+      keeps,
+      tt,
+      unchanged s k id 32 v w at refl
+          (record {
+            raised = f.raised;
+            found = f.found;
+            driver = f.driver;
+            says = f.says;
+            names = λ d. absurd (true_or_false v.drives d thread);
+          })
+          (λ j u here. k.told id j v u at here)
+          (λ j u here. k.told j id u v here at)
+          refl,
+      (refl, refl, refl),
+    )
+
 -- the rule at first
 pub first_is_kept : IsKept (opening first_words [] driver_at_first)
 first_is_kept =
     let d : Knowledge = driver_at_first in
-    let mine : Fits 1 0 d = record {
+    let mine : Fits 1 0 0 d = record {
       raised = omega arith;
       found = omega arith;
       driver = λ r. omega arith;
       says = λ r. refl;
+      names = λ r. refl;
     } in record {
       room = omega arith;
-      fits = λ id v at. alone id v at (λ u. Fits 1 0 u) mine;
+      fits = λ id v at. alone id v at (λ u. Fits 1 0 0 u) mine;
       lone = λ i j v w here there dv dw. first i v here ∙ sym (first j w there);
       told = λ i j v w here there drives asleep. absurd
           (true_or_false v.asleep asleep (alone i v here (λ u. u.asleep ≡ false) refl));

@@ -1,9 +1,9 @@
 -- The rule of the wishes: what holds of the words and of all ends between any two atomic steps.
-use Rattle.std.specs.Prelude.{◌≡◌, ℕ, ◌<◌, ◌≤◌, Bool, true, false, length, slice_index}
+use Rattle.std.specs.Prelude.{◌≡◌, ℕ, ◌<◌, ◌≤◌, true, false, length, slice_index}
 use mathlib.Core.Option.{some}
 use lib.ListN.{get_elem?}
 use Rattle.atomic_table.specs.Table.{State}
-use Rattle.rcu_wish.specs.Wishes.{asleep_index, asleep_word, greatest_index}
+use Rattle.rcu_wish.specs.Wishes.{asleep_index, asleep_word, cpu_index, greatest_index}
 use Rattle.rcu_wish.specs.declared.knowledge.Knowledge.{Knowledge}
 
 -- the words, and what each end knows
@@ -14,15 +14,20 @@ Moment = State (Unit {0}) Knowledge
 abbrev pub greatest_at : Moment → ℕ
 greatest_at s = slice_index s.words greatest_index
 
--- what holds of an end, where the greatest wish is this, and the word by which the driver says
--- whether it sleeps
-pub record Fits (greatest word : ℕ) (v : Knowledge) : Type 0 where
+-- the word by which the driver says for which processor it sleeps
+abbrev pub cpu_at : Moment → ℕ
+cpu_at s = slice_index s.words cpu_index
+
+-- what holds of an end, where these are the greatest wish, the word by which the driver says
+-- whether it sleeps, and the one by which it says for which processor
+pub record Fits (greatest word cpu : ℕ) (v : Knowledge) : Type 0 where
   -- it knows of no greater wish
   pub raised : v.raised ≤ greatest
   pub found : v.found ≤ greatest
-  -- the driver wishes for nothing, and the word says whether it sleeps
+  -- the driver wishes for nothing, and the words say whether it sleeps, and for which processor
   pub driver : v.drives ≡ true → v.raised ≤ v.found
   pub says : v.drives ≡ true → word ≡ asleep_word v.asleep
+  pub names : v.drives ≡ true → cpu ≡ v.sleeps_for
 
 -- a driver that sleeps, and looked since it said so, and a thread that looked at the driver since
 -- it raised the greatest wish: where that is a wish that the driver did not find, the thread found
@@ -45,9 +50,9 @@ pub record IsRaised (s : Moment) : Type 0 where
   pub is : knows.raised ≡ greatest_at s
 
 pub record IsKept (s : Moment) : Type 0 where
-  pub room : asleep_index < length s.words
+  pub room : cpu_index < length s.words
   pub fits : (id : ℕ) (v : Knowledge) → get_elem? s.views id ≡ some v
-      → Fits (greatest_at s) (slice_index s.words asleep_index) v
+      → Fits (greatest_at s) (slice_index s.words asleep_index) (cpu_at s) v
   pub lone : (i j : ℕ) (v w : Knowledge)
       → get_elem? s.views i ≡ some v
       → get_elem? s.views j ≡ some w

@@ -1,24 +1,32 @@
 -- The ends of the wishes, and what a step leaves of one.
 use Rattle.std.specs.Prelude.{◌≡◌, ℕ, ◌≤◌, ◌==◌, nat_lt, Bool, true, false, if◌then◌else◌, List}
-use Rattle.std.specs.Prelude.{replicate, slice_set}
+use Rattle.std.specs.Prelude.{replicate, slice_set, suc, Option, Some, None}
 use Rattle.atomic_table.specs.Seated.{TableId}
 use Rattle.rcu_wish.specs.declared.knowledge.Knowledge.{Knowledge}
 
--- the place of the greatest wish, and the place of the word by which the driver says whether it
--- sleeps: 128 bytes apart
+-- the places of the greatest wish, of the word by which the driver says whether it sleeps, and of
+-- the one by which it says for which processor: 128 bytes apart
 abbrev pub greatest_index : ℕ
 greatest_index = 0
 
 abbrev pub asleep_index : ℕ
 asleep_index = 16
 
--- that word
+abbrev pub cpu_index : ℕ
+cpu_index = 32
+
+-- that a driver sleeps, or not
 abbrev pub asleep_word : Bool → ℕ
 asleep_word asleep = if asleep then 1 else 0
 
+-- the processor for which a driver sleeps, or none
+abbrev pub cpu_word : Option ℕ → ℕ
+cpu_word None = 0
+cpu_word (Some cpu) = suc cpu
+
 -- the words at first: the greatest wish is the cookie 1, and the driver does not sleep
 abbrev pub first_words : List ℕ
-first_words = slice_set (replicate 17 0) 0 1
+first_words = slice_set (replicate 33 0) 0 1
 
 -- the driver at first: nobody wished but for the cookie 1, which is done at any number
 abbrev pub driver_at_first : Knowledge
@@ -28,6 +36,7 @@ driver_at_first = record {
   found = 1;
   asleep = false;
   has_looked = false;
+  sleeps_for = 0;
 }
 
 -- a thread at first
@@ -38,6 +47,7 @@ thread_at_first = record {
   found = 1;
   asleep = false;
   has_looked = false;
+  sleeps_for = 0;
 }
 
 -- after the driver said whether it sleeps
@@ -70,6 +80,10 @@ pub record Raised (cookie : ℕ) (v : Knowledge) (n : ℕ) (w : Knowledge) : Typ
 abbrev pub after_look_at_driver : Knowledge → ℕ → Knowledge
 after_look_at_driver v word = record v { asleep = (word == 1); has_looked = true }
 
+-- after the driver said for which processor it sleeps, or a thread looked at that
+abbrev pub knowing_cpu : Knowledge → ℕ → Knowledge
+knowing_cpu v word = record v { sleeps_for = word }
+
 -- an end of the wishes: at which words, and what it knows
 pub record Wishing : Type 0 where
   pub words : TableId
@@ -88,6 +102,10 @@ abbrev pub after_look : Wishing → Bool → ℕ → Wishing
 after_look w sleeps n = record w {
   knows = record w.knows { found = n; asleep = sleeps; has_looked = true };
 }
+
+-- after the driver said for which processor it sleeps, or a thread found it
+abbrev pub after_naming : Wishing → ℕ → Wishing
+after_naming w word = record w { knows = knowing_cpu w.knows word }
 
 -- the greatest wish n is at least all that the end knew of
 pub record IsNoLess (w : Wishing) (n : ℕ) : Type 0 where

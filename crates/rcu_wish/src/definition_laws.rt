@@ -3,12 +3,13 @@ ghost use Rattle.std.specs.Prelude.{◌≡◌, ◌≢◌, ◌<◌, ℕ, [], fals
 ghost use mathlib.Core.Option.{some};
 ghost use lib.ListN.{get_elem?};
 ghost use Rattle.atomic_table.specs.Table.{opening};
-ghost use Rattle.rcu_wish.specs.Rule.{IsKept, Moment, greatest_at};
+ghost use Rattle.rcu_wish.specs.Rule.{IsKept, Moment, cpu_at, greatest_at};
 ghost use Rattle.rcu_wish.specs.Wishes.{driver_at_first, first_words};
 ghost use Rattle.rcu_wish.specs.declared.knowledge.Knowledge.{Knowledge};
 
 /// The words as they are opened meet the rule. No moment does in which a wish was lost, nor one
-/// whose greatest wish comes from nowhere, nor one in which the driver sleeps through a wish.
+/// whose greatest wish comes from nowhere, nor one in which the driver sleeps through a wish, nor
+/// one in which threads are told another processor than the driver said.
 pub fn no_moment_has_lost_a_wish()
     ensures opened { IsKept (opening first_words [] driver_at_first) }
     ensures lost { (s : Moment) (id : ℕ) (v : Knowledge) → get_elem? s.views id ≡ some v →
@@ -20,4 +21,7 @@ pub fn no_moment_has_lost_a_wish()
         driver.drives ≡ true → driver.asleep ≡ true → driver.has_looked ≡ true →
         thread.drives ≡ false → thread.has_looked ≡ true → driver.found < thread.raised →
         thread.asleep ≡ false → IsKept s → ⊥ }
+    ensures misled { (s : Moment) (id : ℕ) (driver : Knowledge) →
+        get_elem? s.views id ≡ some driver → driver.drives ≡ true →
+        cpu_at s ≢ driver.sleeps_for → IsKept s → ⊥ }
 {}

@@ -14,4 +14,7 @@ pub struct Knowledge {
     /// Of the driver: whether it looked at the greatest wish since it said that. Of a thread:
     /// whether it looked at the driver since it raised the greatest wish.
     pub has_looked: bool,
+    /// Of the driver: the processor until whose quiescent state it sleeps, plus 1; 0 for none. Of a
+    /// thread: this as it found it last.
+    pub sleeps_for: u64,
 }

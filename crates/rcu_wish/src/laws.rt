@@ -2,7 +2,7 @@
 ghost use Rattle.std.specs.Prelude.{◌≡◌, ℕ, ◌<◌, ◌≤◌, false, true};
 ghost use mathlib.Core.Option.{some};
 ghost use lib.ListN.{get_elem?};
-ghost use Rattle.rcu_wish.specs.Rule.{IsKept, Moment, greatest_at};
+ghost use Rattle.rcu_wish.specs.Rule.{IsKept, Moment, cpu_at, greatest_at};
 ghost use Rattle.rcu_wish.specs.declared.knowledge.Knowledge.{Knowledge};
 
 /// The greatest wish is at least each one that was made, and one of these: none is lost, none is
@@ -24,4 +24,12 @@ pub fn no_wish_is_slept_through()
         (at : ℕ) × (thread : Knowledge) × (get_elem? s.views at ≡ some thread)
         × (thread.drives ≡ false) × (thread.raised ≡ greatest_at s)
         × (thread.has_looked ≡ true → thread.asleep ≡ true) }
+{}
+
+/// The word that threads look at says at each moment for which processor the driver sleeps, as it
+/// said last.
+pub fn the_driver_sleeps_for_whom_it_said()
+    ensures { (s : Moment) (id : ℕ) (driver : Knowledge) → IsKept s →
+        get_elem? s.views id ≡ some driver → driver.drives ≡ true →
+        cpu_at s ≡ driver.sleeps_for }
 {}

@@ -52,6 +52,26 @@ impl Play<(), Knowledge> for Find {
     ghost then = { λ _ me n now. Found me.0 n now.0 × (now.1 ≡ me.1) };
 }
 
+/// The driver says for which processor it sleeps.
+pub struct NameCpu;
+
+impl Play<(), Knowledge> for NameCpu {
+    ghost use Rattle.rcu_wish.specs.Wishes.{cpu_index, knowing_cpu};
+
+    ghost then = { λ step me _ now.
+        (step.word ≡ cpu_index) × (now.0 ≡ knowing_cpu me.0 step.first) × (now.1 ≡ me.1) };
+}
+
+/// A thread's look for which processor the driver sleeps.
+pub struct LookAtCpu;
+
+impl Play<(), Knowledge> for LookAtCpu {
+    ghost use Rattle.rcu_wish.specs.Wishes.{cpu_index, knowing_cpu};
+
+    ghost then = { λ step me n now.
+        (step.word ≡ cpu_index) × (now.0 ≡ knowing_cpu me.0 n) × (now.1 ≡ me.1) };
+}
+
 /// A load that makes a thread's seat.
 pub struct Arrive;
 

@@ -1,11 +1,11 @@
 //! The words of wishes, and each kind of step on them in plain words.
 ghost use Rattle.std.specs.Prelude.{◌≡◌, ◌<◌, IfOk, false, true};
 ghost use Rattle.rcu_wish.specs.Wishes.{Found, Raised, after_look_at_driver, after_saying};
-ghost use Rattle.rcu_wish.specs.Wishes.{driver_at_first, first_words, thread_at_first};
+ghost use Rattle.rcu_wish.specs.Wishes.{driver_at_first, first_words, knowing_cpu, thread_at_first};
 ghost use Rattle.rcu_wish.specs.Seats.{Stepped};
 
 use crate::knowledge::Knowledge;
-use crate::rule::{Arrive, Find, LookAtDriver, Raise, Say, WishRule};
+use crate::rule::{Arrive, Find, LookAtCpu, LookAtDriver, NameCpu, Raise, Say, WishRule};
 use atomic_table::{Seat, Table};
 use std::alloc::{AllocError, Global};
 use std::marker::Model;
@@ -17,6 +17,9 @@ const GREATEST: usize = 0;
 /// share no cache line.
 const ASLEEP: usize = 16;
 
+/// The place of the word by which the driver says for which processor it sleeps, 128 bytes on.
+const CPU: usize = 32;
+
 /// The wish at first: a cookie that is done at any number.
 const NO_WISH: u64 = 1;
 
@@ -24,7 +27,7 @@ const NO_WISH: u64 = 1;
 fn first_words(alloc: Global) -> Result<Vec<u64>, AllocError>
     ensures { IfOk result (λ words. words.items ≡ first_words) }
 {
-    let mut words = vec![in alloc; 0u64; ASLEEP + 1]?;
+    let mut words = vec![in alloc; 0u64; CPU + 1]?;
     words[GREATEST] = NO_WISH;
     Ok(words)
 }
@@ -38,13 +41,13 @@ pub struct WishWords {
 impl Model for WishWords {
     ghost use Rattle.std.specs.Prelude.{◌<◌};
     ghost use Rattle.atomic_table.specs.Seated.{TableId};
-    ghost use Rattle.rcu_wish.specs.Wishes.{asleep_index};
+    ghost use Rattle.rcu_wish.specs.Wishes.{cpu_index};
 
     ghost Value = { TableId };
 
     ghost view = { λ w. w.table.shared.table_id };
 
-    ghost invariant = { λ w. asleep_index < w.table.shared.table_id.words };
+    ghost invariant = { λ w. cpu_index < w.table.shared.table_id.words };
 }
 
 /// A seat at the words.
@@ -110,5 +113,23 @@ impl WishWords {
         ensures { Stepped (λ old new. Found old result new) driver.old driver.new }
     {
         self.table.shared.load::<Find>(driver, GREATEST)
+    }
+
+    /// The driver says for which processor it sleeps: this number less 1, or none for 0.
+    pub(crate) fn name_cpu(&self, driver: &mut WishSeat, word: u64)
+        requires table { driver.old.table_id ≡ self.now }
+        requires driver { driver.old.me.0.drives ≡ true }
+        ensures { Stepped (λ old new. new ≡ knowing_cpu old word) driver.old driver.new }
+    {
+        self.table.shared.store::<NameCpu>(driver, CPU, word)
+    }
+
+    /// A thread's look for which processor the driver sleeps.
+    pub(crate) fn look_at_cpu(&self, thread: &mut WishSeat) -> u64
+        requires table { thread.old.table_id ≡ self.now }
+        requires thread { thread.old.me.0.drives ≡ false }
+        ensures { Stepped (λ old new. new ≡ knowing_cpu old result) thread.old thread.new }
+    {
+        self.table.shared.load::<LookAtCpu>(thread, CPU)
     }
 }

@@ -1,8 +1,8 @@
 //! A thread's end of the wishes.
-ghost use Rattle.std.specs.Prelude.{◌≡◌, ◌&&◌, nat_lt};
+ghost use Rattle.std.specs.Prelude.{◌≡◌, ◌==◌, ◌&&◌, Some, nat_lt};
 ghost use Rattle.std.specs.Arc.{arc_value};
-ghost use Rattle.rcu_wish.specs.Wishes.{IsNoLess, after_wish, wisher_at_first};
-ghost use Rattle.rcu_wish.specs.Wishes.{thread_at_first};
+ghost use Rattle.rcu_wish.specs.Wishes.{IsNoLess, after_naming, after_wish, cpu_word};
+ghost use Rattle.rcu_wish.specs.Wishes.{thread_at_first, wisher_at_first};
 
 use crate::wish_words::{WishSeat, WishWords};
 use std::alloc::Global;
@@ -52,5 +52,14 @@ impl Wisher {
     {
         let was = self.words.raise(&mut self.seat, cookie);
         was < cookie && self.words.look_at_driver(&mut self.seat) == 1
+    }
+
+    /// Whether the driver sleeps until this processor's quiescent state, by one load. A thread that
+    /// passed one looks so: where it is told yes, it has to wake the driver.
+    pub fn is_slept_for(&mut self, cpu: u32) -> bool
+        ensures state { self.new ≡ after_naming self.old self.new.knows.sleeps_for }
+        ensures value { result ≡ (self.new.knows.sleeps_for == cpu_word (Some cpu)) }
+    {
+        self.words.look_at_cpu(&mut self.seat) == u64::from(cpu) + 1
     }
 }

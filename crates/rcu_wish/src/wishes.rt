@@ -1,7 +1,8 @@
 //! The driver's end of the wishes.
 ghost use Rattle.std.specs.Prelude.{◌≡◌, IfOk};
 ghost use Rattle.std.specs.Arc.{arc_value};
-ghost use Rattle.rcu_wish.specs.Wishes.{IsNoLess, after_look, wisher_at_first, wishes_at_first};
+ghost use Rattle.rcu_wish.specs.Wishes.{IsNoLess, after_look, after_naming, cpu_word};
+ghost use Rattle.rcu_wish.specs.Wishes.{wisher_at_first, wishes_at_first};
 
 use crate::wish_words::{WishSeat, WishWords};
 use crate::wisher::Wisher;
@@ -58,5 +59,17 @@ impl Wishes {
     {
         self.words.say(&mut self.seat, u64::from(sleeps));
         self.words.find(&mut self.seat)
+    }
+
+    /// Says until which processor's quiescent state the driver sleeps from now on: `None` where it
+    /// sleeps for none. The driver looks at that processor once more before it sleeps.
+    pub fn sleep_for(&mut self, cpu: Option<u32>)
+        ensures { self.new ≡ after_naming self.old (cpu_word cpu) }
+    {
+        let word = match cpu {
+            Some(cpu) => u64::from(cpu) + 1,
+            None => 0,
+        };
+        self.words.name_cpu(&mut self.seat, word)
     }
 }

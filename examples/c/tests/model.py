@@ -12,53 +12,49 @@ sys.path.insert(0, f"{HERE}/../../../bindings/urcu/tests")
 sys.dont_write_bytecode = True
 from model import try_all
 
-# A place gets quiet, and then looks for a wish.
+# A place gets quiet, and then looks whether the maker sleeps for it.
 GETS_QUIET = """
-    quietME = 1
+    quietME = 1                           | rcu_seat_idle(&place->seat)); .. wake_maker(place)
     fence !
-    w = wishedME !                        | atomic_load(&place->wanted)
-    unless w goto over
-    x = swap wishedME 0                   | atomic_exchange(&place->wanted, false)
-    unless x goto over
-    y = add missing -1                    | atomic_fetch_sub(&missing, 1) == 1
-    if y is 1 goto last
+    s = slept                             | rcu_seat_wakes(&place->seat, &it)
+    if s is ME goto wakes
     goto over
-last:
+wakes:
     lock
     signal !                              | pthread_cond_signal(&quiet)
     unlock
 over:
 """
-# The maker wishes, and then looks at each place; where one is quiet it takes the wish back.
-WISHES = """
+# The maker says for which place it sleeps, the first that it did not find quiet, and then looks at
+# each that it did not.
+SLEEPS = """
     lock
-    x = add missing 1 !                   | atomic_fetch_add(&missing, 1)
-    wished1 = 1                           | atomic_store(&places[cpus[i]].wanted, true)
-    x = add missing 1
-    wished2 = 1
+again:
+    if one goto two
+    slept = 1                             | rcu_may_sleep(&rcu, &sleeps, &left)
     fence !
-    q = quiet1 !                          | rcu_collect_all(&rcu, &left)
-    unless q goto second
-    x = swap wished1 0                    | if (!rcu_awaits(&rcu, cpus[i])) is_last
-    unless x goto second
-    x = add missing -1
-second:
-    q = quiet2
-    unless q goto sleeps
-    x = swap wished2 0
-    unless x goto sleeps
-    x = add missing -1
+    one = quiet1 !                        | sleep_for(first); .. collect_all(&mut opened.inner)
+    two = quiet2
+    unless one goto sleeps
+    goto more
+two:
+    slept = 2
+    fence !
+    two = quiet2 !
+    unless two goto sleeps
+more:
+    unless two goto again                 | } while (left);
+    goto woken
 sleeps:
-    m = missing                           | while (atomic_load(&missing))
-    unless m goto woken
-    wait                                  | pthread_cond_wait(&quiet, &lock)
+    wait                                  | if (sleeps) pthread_cond_wait(&quiet, &lock)
     lock
-    goto sleeps
+    goto again
 woken:
-    q = quiet1
-    must q: the maker goes on before a place is quiet
-    q = quiet2
-    must q: the maker goes on before a place is quiet
+    slept = 0
+    one = quiet1
+    must one: the maker goes on before a place is quiet
+    two = quiet2
+    must two: the maker goes on before a place is quiet
     unlock
 """
 
@@ -96,12 +92,13 @@ over:
 """
 PROTOCOLS = {
     "a sleep until two places are quiet":
-        ({"quiet1": 0, "quiet2": 0, "wished1": 0, "wished2": 0, "missing": 0},
-         [GETS_QUIET.replace("ME", "1"), GETS_QUIET.replace("ME", "2"), WISHES]),
+        ({"quiet1": 0, "quiet2": 0, "slept": 0},
+         [GETS_QUIET.replace("ME", "1"), GETS_QUIET.replace("ME", "2"), SLEEPS]),
     "a sleep until a place asks":
         ({"cookie": 0, "asleep": 0},
          [ASKS.replace("ME", "1").replace(" ! ", "   "), ASKS.replace("ME", "2"), MAKES]),
 }
 
 if __name__ == "__main__":
-    sys.exit(try_all(PROTOCOLS, [f"{HERE}/../driver.h"]))
+    own = f"{HERE}/../../../crates/rcu_c/src/sleeps.rt"
+    sys.exit(try_all(PROTOCOLS, [f"{HERE}/../driver.h", own]))

@@ -18,3 +18,7 @@ returns-clause-slept_through c =
     λ s i j driver thread here there drives asleep looked not_drives tlooked less awake k.
     true_or_false thread.asleep
     (k.told i j driver thread here there drives asleep looked not_drives tlooked less) awake
+
+pub returns-clause-misled : goal.returns-clause-misled
+returns-clause-misled c =
+    λ s id driver at drives other k. other ((k.fits id driver at).names drives)

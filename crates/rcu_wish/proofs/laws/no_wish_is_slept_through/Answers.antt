@@ -1,4 +1,3 @@
-use Rattle.std.proofs.Common.{arith}
 use Rattle.rcu_wish.proofs.Keeping.{woken}
 use Rattle.rcu_wish.proofs.laws.no_wish_is_slept_through.Goals as goal
 

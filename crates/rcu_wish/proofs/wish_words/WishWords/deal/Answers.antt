@@ -1,4 +1,4 @@
-use Rattle.std.proofs.Common.{arith, rules}
+use Rattle.std.proofs.Common.{arith}
 use Rattle.rcu_wish.proofs.Steps.{arrives}
 use Rattle.rcu_wish.proofs.wish_words.WishWords.deal.Goals as goal
 

@@ -1,4 +1,4 @@
-use Rattle.std.proofs.Common.{arith, rules, sym, ◌∙◌}
+use Rattle.std.proofs.Common.{rules, ◌∙◌}
 use Rattle.rcu_wish.proofs.Steps.{starts}
 use Rattle.rcu_wish.proofs.wish_words.WishWords.open.Goals as goal
 
