@@ -163,6 +163,26 @@ impl EngineHandle {
         self.awaits(cpu)
     }
 
+    /// Looks at each processor that is awaited. Returns how many still are.
+    pub fn collect_all(&mut self) -> u32 {
+        let mut left = 0;
+        must("collect", unsafe {
+            raw::rcu_collect_all(&mut self.0, &mut left)
+        });
+        left
+    }
+
+    /// Says that who drives sleeps for the first processor that is awaited, and then looks as
+    /// [`EngineHandle::collect_all`]. Returns whether that one still is, so that the caller may
+    /// sleep until [`SeatHandle::wakes`] tells its thread; and how many still are.
+    pub fn may_sleep(&mut self) -> (bool, u32) {
+        let (mut sleeps, mut left) = (0, 0);
+        must("may sleep", unsafe {
+            raw::rcu_may_sleep(&mut self.0, &mut sleeps, &mut left)
+        });
+        (sleeps > 0, left)
+    }
+
     /// Lists the awaited processors, in order, as many as there is room for.
     pub fn awaited<'a>(&mut self, room: &'a mut [u32]) -> &'a [u32] {
         let mut count = 0;
@@ -220,14 +240,25 @@ impl SeatHandle {
     }
 
     /// As [`SeatHandle::quiesce`], by a load alone where no grace period began or ended since the
-    /// last one.
+    /// last one. Returns whether one did.
     #[inline]
-    pub fn quiesce_since(&self) {
+    pub fn quiesce_since(&self) -> bool {
         let mut number = self.quiet_at.get();
         must("quiescent state", unsafe {
             raw::rcu_seat_quiesce_since(self.raw.get(), &mut number)
         });
-        self.quiet_at.set(number);
+        self.quiet_at.replace(number) != number
+    }
+
+    /// Whether who drives sleeps until this seat is quiet: its thread asks so once it is quiet, idle
+    /// or offline, and wakes who drives.
+    #[inline]
+    pub fn wakes(&self) -> bool {
+        let mut wakes = 0;
+        must("wakes", unsafe {
+            raw::rcu_seat_wakes(self.raw.get(), &mut wakes)
+        });
+        wakes > 0
     }
 
     /// Gets idle: no grace period awaits the processor until it wakes.

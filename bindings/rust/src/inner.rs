@@ -3,7 +3,7 @@
 use crate::deferred::{is_performing, Deferred, Queue};
 use crate::error::Error;
 use crate::handles::{EngineHandle, SeatHandle};
-use std::sync::atomic::{AtomicBool, AtomicU32, AtomicU64, Ordering::Relaxed, Ordering::SeqCst};
+use std::sync::atomic::{AtomicU64, Ordering::Relaxed};
 use std::sync::{Condvar, Mutex, MutexGuard};
 
 /// How often a maker of a grace period looks at the processors before it sleeps.
@@ -25,9 +25,8 @@ pub(crate) struct Locked {
     _boot: SeatHandle,
     /// Seats that no reader has. Their processors are offline.
     free: Vec<SeatHandle>,
-    /// Whether a grace period runs, and which processors it awaits.
+    /// Whether a grace period runs.
     runs: bool,
-    awaited: Vec<usize>,
     /// Whether a thread makes grace periods, and waits for them.
     making: bool,
     /// How many threads drive, and whether they are to return.
@@ -40,9 +39,6 @@ pub(crate) struct Locked {
 /// owns a part of this: so at the drop all seats are free.
 pub(crate) struct Inner {
     pub(crate) id: u64,
-    /// Of each processor, whether the maker of a grace period sleeps until it is quiet.
-    wanted: Box<[AtomicBool]>,
-    missing: AtomicU32,
     locked: Mutex<Locked>,
     quiet: Condvar,
     pub(crate) ended: Condvar,
@@ -50,19 +46,14 @@ pub(crate) struct Inner {
 }
 
 impl Locked {
-    fn begin(&mut self, cpus: usize) {
-        let count = self.rcu.begin() as usize;
-        let rcu = &mut self.rcu;
-        let all = (1..cpus).filter(|&it| rcu.awaits(it)).take(count);
-        self.awaited.extend(all);
+    fn begin(&mut self) {
+        self.rcu.begin();
         self.runs = true;
     }
 
     /// Looks at each processor that is awaited. Returns whether one still is.
     fn collect(&mut self) -> bool {
-        let rcu = &mut self.rcu;
-        self.awaited.retain(|&it| rcu.is_awaited(it));
-        !self.awaited.is_empty()
+        self.rcu.collect_all() > 0
     }
 
     fn end(&mut self) {
@@ -71,7 +62,7 @@ impl Locked {
     }
 
     /// Goes on with the grace periods that what is deferred waits for, and waits for none.
-    fn step(&mut self, cpus: usize) {
+    fn step(&mut self) {
         let Some(last) = self.queue.last() else {
             return;
         };
@@ -80,7 +71,7 @@ impl Locked {
                 if self.rcu.is_done(last) {
                     return;
                 }
-                self.begin(cpus);
+                self.begin();
             }
             if self.collect() {
                 return;
@@ -101,14 +92,11 @@ impl Inner {
         let free = free.collect::<Result<Vec<_>, _>>()?;
         Ok(Inner {
             id: IDS.fetch_add(1, Relaxed),
-            wanted: (0..cpus).map(|_| AtomicBool::new(false)).collect(),
-            missing: AtomicU32::new(0),
             locked: Mutex::new(Locked {
                 rcu,
                 _boot: boot,
                 free,
                 runs: false,
-                awaited: Vec::new(),
                 making: false,
                 drivers: 0,
                 stopped: false,
@@ -133,40 +121,24 @@ impl Inner {
         on.wait(locked).expect(PANICKED)
     }
 
-    /// Whether the maker sleeps for this processor, and for no other one any more. The maker stores
-    /// its wish and then looks at the processor; a reader gets quiet and then looks for the wish.
-    /// All four steps are sequentially consistent, so one of the two sees the other.
-    fn is_last(&self, cpu: usize) -> bool {
-        self.wanted[cpu].load(SeqCst)
-            && self.wanted[cpu].swap(false, SeqCst)
-            && self.missing.fetch_sub(1, SeqCst) == 1
-    }
-
-    /// The processor got quiet or idle. The last one that a sleeping maker waits for takes the lock
-    /// for a moment, to wake it; no other one takes a lock.
+    /// The seat got quiet or idle. The one for which a maker sleeps takes the lock for a moment, to
+    /// wake it; no other one takes a lock.
     #[inline]
-    pub(crate) fn was_quiet(&self, cpu: usize) {
-        if self.is_last(cpu) {
+    pub(crate) fn was_quiet(&self, seat: &SeatHandle) {
+        if seat.wakes() {
             drop(self.lock());
             self.quiet.notify_one();
         }
     }
 
     fn sleep_until_quiet<'a>(&self, mut locked: MutexGuard<'a, Locked>) -> MutexGuard<'a, Locked> {
-        for &cpu in &locked.awaited {
-            self.missing.fetch_add(1, SeqCst);
-            self.wanted[cpu].store(true, SeqCst);
-        }
-        let own = &mut *locked;
-        for &cpu in &own.awaited {
-            if !own.rcu.is_awaited(cpu) {
-                self.is_last(cpu);
+        loop {
+            match locked.rcu.may_sleep() {
+                (_, 0) => return locked,
+                (true, _) => locked = self.sleep(&self.quiet, locked),
+                (false, _) => {}
             }
         }
-        while self.missing.load(SeqCst) > 0 {
-            locked = self.sleep(&self.quiet, locked);
-        }
-        locked
     }
 
     /// Makes grace periods until the cookie is done, or sleeps while another thread makes one.
@@ -184,7 +156,7 @@ impl Inner {
             }
             locked.making = true;
             if !locked.runs {
-                locked.begin(self.wanted.len());
+                locked.begin();
             }
             let mut looks = 1;
             while locked.collect() {
@@ -215,7 +187,7 @@ impl Inner {
         let is_time = locked.queue.queued() % EACH == 0;
         if is_time && locked.drivers == 0 && !is_performing() {
             if !locked.making {
-                locked.step(self.wanted.len());
+                locked.step();
             }
             self.perform(locked, MOST);
         }
@@ -254,7 +226,7 @@ impl Inner {
     pub(crate) fn give_back(&self, seat: SeatHandle) {
         let mut locked = self.lock();
         locked.rcu.depart(&seat);
-        if self.is_last(seat.cpu()) {
+        if seat.wakes() {
             self.quiet.notify_one();
         }
         locked.free.push(seat);

@@ -163,8 +163,9 @@ impl Reader {
     #[inline]
     pub fn quiesce(&mut self) {
         self.leave_sections();
-        self.seat.quiesce_since();
-        self.inner.was_quiet(self.seat.cpu());
+        if self.seat.quiesce_since() {
+            self.inner.was_quiet(&self.seat);
+        }
     }
 
     /// Calls what may block. Meanwhile the reader is idle, and no grace period waits for it.
@@ -181,7 +182,7 @@ impl Reader {
     pub fn while_idle<R>(&mut self, block: impl FnOnce() -> R) -> R {
         self.leave_sections();
         self.seat.idle();
-        self.inner.was_quiet(self.seat.cpu());
+        self.inner.was_quiet(&self.seat);
         let _awake = Awake(self);
         block()
     }

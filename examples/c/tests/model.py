@@ -8,9 +8,10 @@ import os
 import sys
 
 HERE = os.path.dirname(os.path.realpath(__file__))
-sys.path.insert(0, f"{HERE}/../../../bindings/urcu/tests")
+sys.path[:0] = [f"{HERE}/../../../bindings/{it}" for it in ("urcu/tests", "model")]
 sys.dont_write_bytecode = True
 from model import try_all
+from sleep import OWN, sleeps
 
 # A place gets quiet, and then looks whether the maker sleeps for it.
 GETS_QUIET = """
@@ -25,39 +26,6 @@ wakes:
     unlock
 over:
 """
-# The maker says for which place it sleeps, the first that it did not find quiet, and then looks at
-# each that it did not.
-SLEEPS = """
-    lock
-again:
-    if one goto two
-    slept = 1                             | rcu_may_sleep(&rcu, &sleeps, &left)
-    fence !
-    one = quiet1 !                        | sleep_for(first); .. collect_all(&mut opened.inner)
-    two = quiet2
-    unless one goto sleeps
-    goto more
-two:
-    slept = 2
-    fence !
-    two = quiet2 !
-    unless two goto sleeps
-more:
-    unless two goto again                 | } while (left);
-    goto woken
-sleeps:
-    wait                                  | if (sleeps) pthread_cond_wait(&quiet, &lock)
-    lock
-    goto again
-woken:
-    slept = 0
-    one = quiet1
-    must one: the maker goes on before a place is quiet
-    two = quiet2
-    must two: the maker goes on before a place is quiet
-    unlock
-"""
-
 # A place wishes for a cookie, ME, and looks whether the driver's thread sleeps where that is the
 # greatest. (What the second place does is needed: it asks for all.)
 ASKS = """
@@ -93,12 +61,13 @@ over:
 PROTOCOLS = {
     "a sleep until two places are quiet":
         ({"quiet1": 0, "quiet2": 0, "slept": 0},
-         [GETS_QUIET.replace("ME", "1"), GETS_QUIET.replace("ME", "2"), SLEEPS]),
+         [GETS_QUIET.replace("ME", "1"), GETS_QUIET.replace("ME", "2"),
+          sleeps("rcu_may_sleep(&rcu, &sleeps, &left)",
+                 "if (sleeps) pthread_cond_wait(&quiet, &lock)")]),
     "a sleep until a place asks":
         ({"cookie": 0, "asleep": 0},
          [ASKS.replace("ME", "1").replace(" ! ", "   "), ASKS.replace("ME", "2"), MAKES]),
 }
 
 if __name__ == "__main__":
-    own = f"{HERE}/../../../crates/rcu_c/src/sleeps.rt"
-    sys.exit(try_all(PROTOCOLS, [f"{HERE}/../driver.h", own]))
+    sys.exit(try_all(PROTOCOLS, [f"{HERE}/../driver.h", OWN]))
