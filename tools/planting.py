@@ -79,6 +79,9 @@ class Edit:
             return "it names a clause ('breaks:'), and its function has kept answers to clauses"
         return None
 
+    def place(self):
+        return self.of.path if self.of else ""
+
     def full_name(self):
         return f"{self.crate.name}/{self.name}"
 
