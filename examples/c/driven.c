@@ -91,6 +91,7 @@ static void may_sleep(void) {
 static void slept(void) {
     uint64_t number, seen;
     uint32_t awaited;
+    for (uint32_t cpu = 0; cpu < 2; cpu++) must("wake", rcu_seat_wake(&seats[cpu], &seen), 0);
     may_sleep();
     must("begin", rcu_begin(&rcu, &number, &awaited), 0);
     may_sleep();
@@ -100,6 +101,7 @@ static void slept(void) {
     must("quiesce", rcu_seat_quiesce(&seats[1], &seen), 0);
     may_sleep();
     must("end", rcu_end(&rcu, &number), 0);
+    for (uint32_t cpu = 0; cpu < 2; cpu++) must("idle", rcu_seat_idle(&seats[cpu]), 0);
 }
 
 /* Sections of a thread that is idle between them, and sections that are renewed. */
