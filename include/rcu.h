@@ -813,9 +813,9 @@ static inline uint32_t rcu_barrier_wait(rcu_t *rcu, uint64_t *left) {
 uint32_t rcu_may_sleep(rcu_t *rcu, uint32_t *sleeps, uint32_t *left);
 
 /* Looks whether who drives sleeps for the seat's processor. A thread looks so after each call by
- * which its processor got quiet, idle or offline; after rcu_seat_quiesce_since and rcu_seat_renew
- * only where the number moved. Writes 1 where the caller has to wake who drives, under the lock.
- * Else 0. It costs a load. */
+ * which its processor got quiet, idle or offline. After rcu_seat_quiesce_since and rcu_seat_renew
+ * it need not where the number is as it was, or is a multiple of 4, at which no grace period runs.
+ * Writes 1 where the caller has to wake who drives, under the lock. Else 0. It costs a load. */
 uint32_t rcu_seat_wakes(rcu_seat_t *seat, uint32_t *wakes);
 
 /* <<< */

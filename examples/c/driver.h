@@ -145,9 +145,10 @@ static inline void driver_depart(struct place *place) {
     pthread_mutex_unlock(&lock);
 }
 
-/* The place passed a quiescent state, where the number moved since this one. */
+/* The place passed a quiescent state, where the number moved since this one. At a multiple of 4 no
+ * grace period ran. */
 static inline void was_quiet(struct place *place, uint64_t since) {
-    if (place->quiet_at != since) wake_maker(place);
+    if (place->quiet_at != since && place->quiet_at % 4) wake_maker(place);
 }
 
 static inline void driver_quiesce(struct place *place) {

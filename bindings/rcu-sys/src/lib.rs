@@ -653,9 +653,10 @@ extern "C" {
     /// sleeps for none. Until then call it again, also where the caller woke by chance.
     pub fn rcu_may_sleep(rcu: *mut rcu_t, sleeps: *mut u32, left: *mut u32) -> u32;
     /// Looks whether who drives sleeps for the seat's processor. A thread looks so after each call
-    /// by which its processor got quiet, idle or offline; after `rcu_seat_quiesce_since` and
-    /// `rcu_seat_renew` only where the number moved. Writes 1 where the caller has to wake who
-    /// drives, under the lock. Else 0. It costs a load.
+    /// by which its processor got quiet, idle or offline. After `rcu_seat_quiesce_since` and
+    /// `rcu_seat_renew` it need not where the number is as it was, or is a multiple of 4, at which
+    /// no grace period runs. Writes 1 where the caller has to wake who drives, under the lock. Else
+    /// 0. It costs a load.
     pub fn rcu_seat_wakes(seat: *mut rcu_seat_t, wakes: *mut u32) -> u32;
 }
 

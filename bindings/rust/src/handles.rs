@@ -240,14 +240,14 @@ impl SeatHandle {
     }
 
     /// As [`SeatHandle::quiesce`], by a load alone where no grace period began or ended since the
-    /// last one. Returns whether one did.
+    /// last one. Returns whether one did and one runs, so that it may await the seat.
     #[inline]
     pub fn quiesce_since(&self) -> bool {
         let mut number = self.quiet_at.get();
         must("quiescent state", unsafe {
             raw::rcu_seat_quiesce_since(self.raw.get(), &mut number)
         });
-        self.quiet_at.replace(number) != number
+        self.quiet_at.replace(number) != number && number % 4 != 0
     }
 
     /// Whether who drives sleeps until this seat is quiet: its thread asks so once it is quiet, idle

@@ -26,7 +26,7 @@ cpu_word (Some cpu) = suc cpu
 
 -- the words at first: the greatest wish is the cookie 1, and the driver does not sleep
 abbrev pub first_words : List ℕ
-first_words = slice_set (replicate 33 0) 0 1
+first_words = slice_set (replicate 48 0) 0 1
 
 -- the driver at first: nobody wished but for the cookie 1, which is done at any number
 abbrev pub driver_at_first : Knowledge

@@ -20,6 +20,9 @@ const ASLEEP: usize = 16;
 /// The place of the word by which the driver says for which processor it sleeps, 128 bytes on.
 const CPU: usize = 32;
 
+/// How many words there are: none of another object shares a cache line with the last one in use.
+const COUNT: usize = 48;
+
 /// The wish at first: a cookie that is done at any number.
 const NO_WISH: u64 = 1;
 
@@ -27,7 +30,7 @@ const NO_WISH: u64 = 1;
 fn first_words(alloc: Global) -> Result<Vec<u64>, AllocError>
     ensures { IfOk result (λ words. words.items ≡ first_words) }
 {
-    let mut words = vec![in alloc; 0u64; CPU + 1]?;
+    let mut words = vec![in alloc; 0u64; COUNT]?;
     words[GREATEST] = NO_WISH;
     Ok(words)
 }
