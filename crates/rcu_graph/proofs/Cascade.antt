@@ -15,7 +15,9 @@ use Rattle.rcu_graph.specs.Nodes.{IsKeeping, IsTarget, IsUnlinked, in_state, lin
 use Rattle.rcu_graph.specs.Nodes.{nodes_in, renewed, state_at}
 use Rattle.rcu_graph.specs.Tended.{IsReached}
 use Rattle.rcu_graph.specs.Trimming.{IsCounted, IsInside, IsTrimming}
+use Rattle.rcu_graph.specs.Planned.{knowing}
 use Rattle.rcu_graph.specs.declared.known.Known.{Known}
+use Rattle.rcu_graph.specs.declared.known.Planned.{Planned}
 use Rattle.rcu_graph.specs.declared.known.Node.{Node}
 use Rattle.rcu_graph.specs.declared.node_state.NodeState.TheVariants.{Left, Live}
 use Rattle.rcu_graph.proofs.Counting.{leads_counts, live_in-left, live_inside}
@@ -29,22 +31,24 @@ use Rattle.rcu_graph.proofs.Tending.{promoted_up, promoted_whole, starts_trimmin
 use Rattle.rcu_graph.proofs.Tending.{still_live, stored_whole, tended}
 
 -- nothing is done, one step, and a step after others
-pub no_step : (s : Watching Known) → IsKeeping s.view.client
-    → s ≡ after_step s (nodes_in s.view.client)
-no_step s keeps = ap (λ (k : Known). after_word_step s k) (known_is s.view.client keeps)
+pub no_step : (s : Watching Planned) → IsKeeping s.view.client.known
+    → s ≡ after_step s (nodes_in s.view.client.known)
+no_step s keeps = ap (λ (k : Known). after_word_step s (knowing s.view.client k))
+    (known_is s.view.client.known keeps)
 
-pub nodes_are : (a c : Watching Known) (nodes : List Node) → c ≡ after_step a nodes
-    → nodes_in c.view.client ≡ nodes
-nodes_are a c nodes e = ap (λ (w : Watching Known). nodes_in w.view.client) e
+pub nodes_are : (a c : Watching Planned) (nodes : List Node) → c ≡ after_step a nodes
+    → nodes_in c.view.client.known ≡ nodes
+nodes_are a c nodes e = ap (λ (w : Watching Planned). nodes_in w.view.client.known) e
 
-pub one_step : (a c : Watching Known) (nodes : List Node) → c ≡ after_step a nodes
-    → c ≡ after_step a (nodes_in c.view.client)
+pub one_step : (a c : Watching Planned) (nodes : List Node) → c ≡ after_step a nodes
+    → c ≡ after_step a (nodes_in c.view.client.known)
 one_step a c nodes e = e ∙ ap (λ (l : List Node). after_step a l) (sym (nodes_are a c nodes e))
 
-pub step_on : (a b c : Watching Known)
-    → b ≡ after_step a (nodes_in b.view.client) → c ≡ after_step b (nodes_in c.view.client)
-    → c ≡ after_step a (nodes_in c.view.client)
-step_on a b c e f = f ∙ ap (λ (w : Watching Known). after_step w (nodes_in c.view.client)) e
+pub step_on : (a b c : Watching Planned)
+    → b ≡ after_step a (nodes_in b.view.client.known)
+    → c ≡ after_step b (nodes_in c.view.client.known)
+    → c ≡ after_step a (nodes_in c.view.client.known)
+step_on a b c e f = f ∙ ap (λ (w : Watching Planned). after_step w (nodes_in c.view.client.known)) e
 
 -- where none is counted, no live node leads there
 pub none_lead : (links : ℕ) (nodes : List Node) (i : ℕ) → links_to nodes i ≡ 0

@@ -12,7 +12,9 @@ use Rattle.rcu_graph.specs.Mirror.{with_links_to, with_words, with_words_to}
 use Rattle.rcu_graph.specs.Nodes.{IsKeeping, latest_in, linked_to, no_node, node_at, nodes_in}
 use Rattle.rcu_graph.specs.Nodes.{renewed, state_at}
 use Rattle.rcu_graph.specs.Tended.{after_fill}
+use Rattle.rcu_graph.specs.Planned.{knowing}
 use Rattle.rcu_graph.specs.declared.known.Known.{Known}
+use Rattle.rcu_graph.specs.declared.known.Planned.{Planned}
 use Rattle.rcu_graph.specs.declared.known.Known.TheVariants.{Idle, Keeper, Owner, Reader}
 use Rattle.rcu_graph.specs.declared.known.Node.{Node}
 use Rattle.rcu_graph.specs.declared.node_state.NodeState.{NodeState}
@@ -20,6 +22,7 @@ use Rattle.rcu_graph.specs.declared.node_state.NodeState.TheVariants.{Free}
 use Rattle.rcu_graph.proofs.Counting.{kept_at}
 use Rattle.rcu_graph.proofs.Mirrors.{made, mixed_all, mixed_more, no_words_yet, renewed_twice}
 use Rattle.rcu_graph.proofs.Mirrors.{words_all, words_more}
+use Rattle.rcu_graph.specs.declared.plan.Plan.{Plan}
 
 no_links_yet : (nodes : List Node) (i : ℕ) (links : List ℕ)
     → nodes ≡ renewed nodes i (with_links_to 0 links)
@@ -65,37 +68,38 @@ low_in i n m e low = omega (arith, e, low)
 pub at_end : (k n : ℕ) → n ≤ k → k ≤ n → k ≡ n
 at_end k n a b = omega (arith, a, b)
 
-module _ (s : Watching Known) (i : ℕ) where
+module _ (s : Watching Planned) (i : ℕ) where
   abbrev pub nodes : List Node
-  nodes = nodes_in s.view.client
+  nodes = nodes_in s.view.client.known
 
-  pub state_stays : (x : Watching Known) (f : Node → Node) (st : NodeState)
+  pub state_stays : (x : Watching Planned) (f : Node → Node) (st : NodeState)
       → i < length nodes
       → state_at nodes i ≡ st
       → (f (node_at nodes i)).state ≡ (node_at nodes i).state
       → x ≡ after_step s (renewed nodes i f)
-      → state_at (nodes_in x.view.client) i ≡ st
+      → state_at (nodes_in x.view.client.known) i ≡ st
   state_stays x f st low is same e =
-      ap (λ (w : Watching Known). state_at (nodes_in w.view.client) i) e
+      ap (λ (w : Watching Planned). state_at (nodes_in w.view.client.known) i) e
       ∙ (kept_at (λ (v : Node). v.state) nodes i i f low same ∙ is)
 
-  none_filled : (f : Node → Node) → IsKeeping s.view.client → nodes ≡ renewed nodes i f
+  none_filled : (f : Node → Node) → IsKeeping s.view.client.known → nodes ≡ renewed nodes i f
       → s ≡ after_step s (renewed nodes i f)
   none_filled f keeps e =
-      ap (λ (k : Known). after_word_step s k) (known_is s.view.client keeps)
+      ap (λ (k : Known). after_word_step s (knowing s.view.client k))
+      (known_is s.view.client.known keeps)
       ∙ ap (λ (l : List Node). after_step s l) e
 
-  pub no_word_filled : (words : List ℕ) → IsKeeping s.view.client
+  pub no_word_filled : (words : List ℕ) → IsKeeping s.view.client.known
       → s ≡ after_step s (renewed nodes i (with_words_to 0 words))
   no_word_filled words keeps =
       none_filled (with_words_to 0 words) keeps (no_words_yet nodes i words)
 
-  pub no_link_filled : (links : List ℕ) → IsKeeping s.view.client
+  pub no_link_filled : (links : List ℕ) → IsKeeping s.view.client.known
       → s ≡ after_step s (renewed nodes i (with_links_to 0 links))
   no_link_filled links keeps =
       none_filled (with_links_to 0 links) keeps (no_links_yet nodes i links)
 
-  pub word_filled : (k x : ℕ) (words : List ℕ) (old new : Watching Known)
+  pub word_filled : (k x : ℕ) (words : List ℕ) (old new : Watching Planned)
       → i < length nodes
       → k < length (node_at nodes i).words
       → k < length words
@@ -105,10 +109,10 @@ module _ (s : Watching Known) (i : ℕ) where
       → new ≡ after_step s (renewed nodes i (with_words_to (k + 1) words))
   word_filled k x words old new low inside small is was e =
       e ∙ (ap (λ (y : ℕ). after_write old i k y) is
-      ∙ (ap (λ (w : Watching Known). after_write w i k (get_or words k 0)) was
+      ∙ (ap (λ (w : Watching Planned). after_write w i k (get_or words k 0)) was
       ∙ ap (λ (l : List Node). after_step s l) (words_more nodes i k words low inside small)))
 
-  pub link_filled : (k x : ℕ) (links : List ℕ) (old new : Watching Known)
+  pub link_filled : (k x : ℕ) (links : List ℕ) (old new : Watching Planned)
       → i < length nodes
       → k < length (node_at nodes i).links
       → k < length links
@@ -118,10 +122,10 @@ module _ (s : Watching Known) (i : ℕ) where
       → new ≡ after_step s (renewed nodes i (with_links_to (k + 1) links))
   link_filled k x links old new low inside small is was e =
       e ∙ (ap (λ (y : ℕ). after_link old i k y) is
-      ∙ (ap (λ (w : Watching Known). after_link w i k (get_or links k 0)) was
+      ∙ (ap (λ (w : Watching Planned). after_link w i k (get_or links k 0)) was
       ∙ ap (λ (l : List Node). after_step s l) (links_more nodes i k links low inside small)))
 
-  pub words_filled : (n k : ℕ) (words : List ℕ) (new : Watching Known)
+  pub words_filled : (n k : ℕ) (words : List ℕ) (new : Watching Planned)
       → k ≡ n
       → length words ≡ n
       → length (node_at nodes i).words ≡ n
@@ -131,7 +135,7 @@ module _ (s : Watching Known) (i : ℕ) where
       e ∙ (ap (λ (m : ℕ). after_step s (renewed nodes i (with_words_to m words))) end
       ∙ ap (λ (l : List Node). after_step s l) (words_all nodes i n words many size))
 
-  pub links_filled : (n k : ℕ) (links : List ℕ) (new : Watching Known)
+  pub links_filled : (n k : ℕ) (links : List ℕ) (new : Watching Planned)
       → k ≡ n
       → length links ≡ n
       → length (node_at nodes i).links ≡ n
@@ -142,7 +146,7 @@ module _ (s : Watching Known) (i : ℕ) where
       ∙ ap (λ (l : List Node). after_step s l) (links_all nodes i n links many size))
 
   -- what a part of the filling leaves may be stored to and filled on
-  pub can_store : (count links width row k : ℕ) (graph : Object (Unit {0})) (x : Watching Known)
+  pub can_store : (count links width row k : ℕ) (graph : Object Plan) (x : Watching Planned)
       (f : Node → Node)
       → CanFill count links width graph s i
       → (f (node_at nodes i)).state ≡ (node_at nodes i).state
@@ -150,18 +154,18 @@ module _ (s : Watching Known) (i : ℕ) where
       → k < row
       → CanStore count row graph x i k
   can_store count links width row k graph x f can same e cell = record {
-    watches = subst (λ (w : Watching Known). IsWatcherOf graph w) (sym e) can.watches;
+    watches = subst (λ (w : Watching Planned). IsWatcherOf graph w) (sym e) can.watches;
     inside = can.inside;
     free = state_stays x f Free (low_in i count (length nodes) can.few can.inside) can.free same e;
     cell = cell;
   }
 
-  pub can_fill_on : (count links width : ℕ) (graph : Object (Unit {0})) (words : List ℕ)
-      (x : Watching Known)
+  pub can_fill_on : (count links width : ℕ) (graph : Object Plan) (words : List ℕ)
+      (x : Watching Planned)
       → CanFill count links width graph s i → length words ≡ width → x ≡ after_words s i words
       → CanFill count links width graph x i
   can_fill_on count links width graph words x can many e =
-      subst (λ (w : Watching Known). CanFill count links width graph w i) (sym e)
+      subst (λ (w : Watching Planned). CanFill count links width graph w i) (sym e)
       (record {
         watches = can.watches;
         keeps = tt;
@@ -180,11 +184,11 @@ module _ (s : Watching Known) (i : ℕ) where
       low : i < length nodes
       low = low_in i count (length nodes) can.few can.inside
 
-  pub all_filled : (words : List ℕ) (links : List (Option ℕ)) (mid new : Watching Known)
+  pub all_filled : (words : List ℕ) (links : List (Option ℕ)) (mid new : Watching Planned)
       → i < length nodes → mid ≡ after_words s i words → new ≡ after_links mid i (map word_to links)
       → new ≡ after_fill s i words links
   all_filled words links mid new low was e =
       e
-      ∙ (ap (λ (w : Watching Known). after_links w i (map word_to links)) was
+      ∙ (ap (λ (w : Watching Planned). after_links w i (map word_to links)) was
       ∙ ap (λ (l : List Node). after_step s l)
       (renewed_twice nodes i (with_words words) (with_links (map word_to links)) low))

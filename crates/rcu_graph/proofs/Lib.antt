@@ -1,6 +1,7 @@
 pub mod States
 pub mod Changes
 pub mod Moves
+pub mod Planned
 pub mod At
 pub mod HeldNodes
 pub mod Keeping

@@ -9,6 +9,8 @@ use Rattle.rcu_graph.specs.Nodes.{IsHeld, IsOn, IsReader}
 use Rattle.rcu_graph.specs.Search.{IsFound}
 use Rattle.rcu_graph.specs.Steps.{Came, Followed, IsLedTo}
 use Rattle.rcu_graph.specs.declared.known.Known.{Known}
+use Rattle.rcu_graph.specs.declared.known.Planned.{Planned}
+use Rattle.rcu_graph.specs.declared.plan.Plan.{Plan}
 
 module _ (fits joins : List ℕ → Type 0) (width count : ℕ) (was : Known) (i l : ℕ) where
   pub came_to : (j : ℕ) (now : Known) (f : Followed fits joins width count was i l (suc j) now)
@@ -41,53 +43,74 @@ module _ (fits joins : List ℕ → Type 0) (width count : ℕ) (was : Known) (i
       record { words = f.words; held = came_holds j now f; whole = c.whole; is = sym told ∙ is }
 
 -- a seat whose section knows something else of the graph
-pub walks_on : (graph : Object (Unit {0})) (old new : Seated Known)
+pub walks_on : (graph : Object Plan) (old new : Seated Planned)
     → new ≡ after_word_step old new.view.client
-    → IsWalking graph old → IsReader new.view.client → IsWalking graph new
-walks_on graph old new same w reads =
-    subst (IsWalking graph) (sym same)
-    (record { seat_of = w.seat_of; is_open = w.is_open; reads = reads })
+    → new.view.client.plan ≡ old.view.client.plan
+    → IsWalking graph old
+    → IsReader new.view.client.known
+    → IsWalking graph new
+walks_on graph old new same stays w reads =
+    subst (IsWalking graph) (sym same) (record {
+      seat_of = record {
+        engine = w.seat_of.engine;
+        planned = stays ∙ w.seat_of.planned;
+      };
+      is_open = w.is_open;
+      reads = reads;
+    })
 
-module _ (fits joins : List ℕ → Type 0) (width count : ℕ) (graph : Object (Unit {0}))
-    (old new : Seated Known) (i l : ℕ) where
-  pub followed_walks : (x : ℕ) → new ≡ after_word_step old new.view.client → IsWalking graph old
-      → Followed fits joins width count old.view.client i l x new.view.client → IsWalking graph new
-  followed_walks x same w f =
-      walks_on graph old new same w
-      (still_reads fits joins width count old.view.client i l x new.view.client f)
+module _ (fits joins : List ℕ → Type 0) (width count : ℕ) (graph : Object Plan)
+    (old new : Seated Planned) (i l : ℕ) where
+  pub followed_walks : (x : ℕ)
+      → new ≡ after_word_step old new.view.client
+      → new.view.client.plan ≡ old.view.client.plan
+      → IsWalking graph old
+      → Followed fits joins width count old.view.client.known i l x new.view.client.known
+      → IsWalking graph new
+  followed_walks x same stays w f =
+      walks_on graph old new same stays w
+      (still_reads fits joins width count old.view.client.known i l x new.view.client.known f)
 
   pub followed_at : (first : ℕ → List ℕ) (roots j : ℕ)
       → new ≡ after_word_step old new.view.client
+      → new.view.client.plan ≡ old.view.client.plan
       → IsWalking graph old
-      → Followed fits joins width count old.view.client i l (suc j) new.view.client
+      → Followed fits joins width count old.view.client.known i l (suc j) new.view.client.known
       → IsAt first roots count graph new j
-  followed_at first roots j same w f =
-      let c = came_to fits joins width count old.view.client i l j new.view.client f in record {
-        walking = followed_walks (suc j) same w f;
+  followed_at first roots j same stays w f =
+      let c = came_to fits joins width count old.view.client.known i l j new.view.client.known f in
+      record {
+        walking = followed_walks (suc j) same stays w f;
         words = f.words;
-        on = inr (came_holds fits joins width count old.view.client i l j new.view.client f);
+        on = inr (came_holds fits joins width count old.view.client.known i l j
+            new.view.client.known f);
         inside = c.inside;
       }
 
 -- where the section is on a node still
-pub walks_at : (first : ℕ → List ℕ) (roots count : ℕ) (graph : Object (Unit {0}))
-    (old new : Seated Known)
+pub walks_at : (first : ℕ → List ℕ) (roots count : ℕ) (graph : Object Plan)
+    (old new : Seated Planned)
     (i : ℕ) (words : List ℕ)
     → new ≡ after_word_step old new.view.client
+    → new.view.client.plan ≡ old.view.client.plan
     → IsWalking graph old
-    → IsReader new.view.client
-    → IsOn first roots new.view.client i words
+    → IsReader new.view.client.known
+    → IsOn first roots new.view.client.known i words
     → i < count
     → IsAt first roots count graph new i
-walks_at first roots count graph old new i words same w reads on low =
-    record { walking = walks_on graph old new same w reads; words = words; on = on; inside = low }
+walks_at first roots count graph old new i words same stays w reads on low = record {
+  walking = walks_on graph old new same stays w reads;
+  words = words;
+  on = on;
+  inside = low;
+}
 
 -- a hop behind others, and a read
-pub hops_on : (start old mid new : Seated Known)
+pub hops_on : (start old mid new : Seated Planned)
     → old ≡ after_word_step start old.view.client
     → mid ≡ after_word_step old mid.view.client
     → new ≡ mid
     → new ≡ after_word_step start new.view.client
 hops_on start old mid new was hop same =
-    subst (λ (s : Seated Known). s ≡ after_word_step start s.view.client) (sym same)
-    (hop ∙ ap (λ (s : Seated Known). after_word_step s mid.view.client) was)
+    subst (λ (s : Seated Planned). s ≡ after_word_step start s.view.client) (sym same)
+    (hop ∙ ap (λ (s : Seated Planned). after_word_step s mid.view.client) was)

@@ -5,40 +5,41 @@ use Rattle.rcu_live.specs.Watcher.{IsWatcherOf, Watching}
 use Rattle.rcu_graph.specs.Keeper.{after_step}
 use Rattle.rcu_graph.specs.Mirror.{with_words}
 use Rattle.rcu_graph.specs.Nodes.{IsKeeping, node_at, nodes_in, renewed, state_at}
-use Rattle.rcu_graph.specs.declared.known.Known.{Known}
+use Rattle.rcu_graph.specs.declared.known.Planned.{Planned}
 use Rattle.rcu_graph.specs.declared.known.Node.{Node}
 use Rattle.rcu_graph.specs.declared.node_state.NodeState.TheVariants.{Free}
+use Rattle.rcu_graph.specs.declared.plan.Plan.{Plan}
 
 -- the node with other links
 abbrev pub with_links : List ℕ → Node → Node
 with_links links v = record { state = v.state; links = links; words = v.words }
 
 -- after the words of the node i were written, and after its links were
-abbrev pub after_words : Watching Known → ℕ → List ℕ → Watching Known
+abbrev pub after_words : Watching Planned → ℕ → List ℕ → Watching Planned
 after_words keeper i words =
-    after_step keeper (renewed (nodes_in keeper.view.client) i (with_words words))
+    after_step keeper (renewed (nodes_in keeper.view.client.known) i (with_words words))
 
-abbrev pub after_links : Watching Known → ℕ → List ℕ → Watching Known
+abbrev pub after_links : Watching Planned → ℕ → List ℕ → Watching Planned
 after_links keeper i links =
-    after_step keeper (renewed (nodes_in keeper.view.client) i (with_links links))
+    after_step keeper (renewed (nodes_in keeper.view.client.known) i (with_links links))
 
 -- a watcher of the graph may store the k-th of so many words, or links, of the node i, one of so
 -- many: the node is free
-pub record CanStore (count row : ℕ) (graph : Object (Unit {0})) (keeper : Watching Known)
+pub record CanStore (count row : ℕ) (graph : Object Plan) (keeper : Watching Planned)
     (i k : ℕ) : Type 0 where
   pub watches : IsWatcherOf graph keeper
   pub inside : i < count
-  pub free : state_at (nodes_in keeper.view.client) i ≡ Free
+  pub free : state_at (nodes_in keeper.view.client.known) i ≡ Free
   pub cell : k < row
 
 -- a watcher of the graph may fill the node i, one of the so many that it keeps: the node is free,
 -- and has so many links and words
-pub record CanFill (count links width : ℕ) (graph : Object (Unit {0})) (keeper : Watching Known)
+pub record CanFill (count links width : ℕ) (graph : Object Plan) (keeper : Watching Planned)
     (i : ℕ) : Type 0 where
   pub watches : IsWatcherOf graph keeper
-  pub keeps : IsKeeping keeper.view.client
-  pub few : length (nodes_in keeper.view.client) ≡ count
+  pub keeps : IsKeeping keeper.view.client.known
+  pub few : length (nodes_in keeper.view.client.known) ≡ count
   pub inside : i < count
-  pub free : state_at (nodes_in keeper.view.client) i ≡ Free
-  pub link_count : length (node_at (nodes_in keeper.view.client) i).links ≡ links
-  pub word_count : length (node_at (nodes_in keeper.view.client) i).words ≡ width
+  pub free : state_at (nodes_in keeper.view.client.known) i ≡ Free
+  pub link_count : length (node_at (nodes_in keeper.view.client.known) i).links ≡ links
+  pub word_count : length (node_at (nodes_in keeper.view.client.known) i).words ≡ width

@@ -6,18 +6,21 @@ use Rattle.rcu_live.specs.View.{IsOfWatcher}
 use Rattle.rcu_live.specs.Watcher.{IsWatcherOf, Watching, after_number_step, after_word_step}
 use Rattle.rcu_graph.specs.Nodes.{IsKeeping, IsTarget, aged, in_state, latest_in, linked_to}
 use Rattle.rcu_graph.specs.Nodes.{node_at, nodes_in, renewed, state_at, worded}
-use Rattle.rcu_graph.specs.declared.known.Known.{Known}
+use Rattle.rcu_graph.specs.Planned.{knowing}
+use Rattle.rcu_graph.specs.declared.known.Planned.{Planned}
 use Rattle.rcu_graph.specs.declared.known.Known.TheVariants.{Keeper}
 use Rattle.rcu_graph.specs.declared.known.Node.{Node}
 use Rattle.rcu_graph.specs.declared.node_state.NodeState.TheVariants.{Free, Left, Live}
+use Rattle.rcu_graph.specs.declared.plan.Plan.{Plan}
 
 -- a watcher of the graph that keeps its nodes, so many
-pub record IsKeeperOf (count : ℕ) (graph : Object (Unit {0})) (watcher : Watching Known) : Type 0
+pub record IsKeeperOf (count : ℕ) (graph : Object Plan) (watcher : Watching Planned) : Type 0
   where
     pub watches : IsWatcherOf graph watcher
+    pub planned : watcher.view.client.plan ≡ graph.plan
     pub role : IsOfWatcher watcher.view
-    pub keeps : IsKeeping watcher.view.client
-    pub few : length (nodes_in watcher.view.client) ≡ count
+    pub keeps : IsKeeping watcher.view.client.known
+    pub few : length (nodes_in watcher.view.client.known) ≡ count
 
 -- this may be stored in a link of the node i: where it is free anything, and where it is live what
 -- leads nowhere or to a live node to which it may lead
@@ -36,30 +39,36 @@ pub record IsReady (fits : List ℕ → Type 0) (joins : ℕ → List ℕ → Li
       → IsTarget (joins l) (node_at nodes i).words nodes (slice_index (node_at nodes i).links l)
 
 -- the nodes are these then
-abbrev pub after_step : Watching Known → List Node → Watching Known
-after_step keeper nodes = after_word_step keeper (Keeper (latest_in keeper.view.client) nodes)
+abbrev pub after_step : Watching Planned → List Node → Watching Planned
+after_step keeper nodes = after_word_step keeper
+    (knowing keeper.view.client (Keeper (latest_in keeper.view.client.known) nodes))
 
 -- after a store of the word k of the node i, and of its link l
-abbrev pub after_write : Watching Known → ℕ → ℕ → ℕ → Watching Known
-after_write keeper i k x = after_step keeper (renewed (nodes_in keeper.view.client) i (worded k x))
+abbrev pub after_write : Watching Planned → ℕ → ℕ → ℕ → Watching Planned
+after_write keeper i k x = after_step keeper (renewed (nodes_in keeper.view.client.known) i
+    (worded k x))
 
-abbrev pub after_link : Watching Known → ℕ → ℕ → ℕ → Watching Known
+abbrev pub after_link : Watching Planned → ℕ → ℕ → ℕ → Watching Planned
 after_link keeper i l x =
-    after_step keeper (renewed (nodes_in keeper.view.client) i (linked_to l x))
+    after_step keeper (renewed (nodes_in keeper.view.client.known) i (linked_to l x))
 
 -- after a link of the node i was led to the node j, which is live then
-abbrev pub after_publish : Watching Known → ℕ → ℕ → ℕ → Watching Known
+abbrev pub after_publish : Watching Planned → ℕ → ℕ → ℕ → Watching Planned
 after_publish keeper i l j =
     after_step keeper
-    (renewed (renewed (nodes_in keeper.view.client) j (in_state Live)) i (linked_to l (suc j)))
+    (renewed (renewed (nodes_in keeper.view.client.known) j (in_state Live)) i
+    (linked_to l (suc j)))
 
 -- after the node i was left
-abbrev pub after_leave : Watching Known → ℕ → Watching Known
-after_leave keeper i = after_step keeper (renewed (nodes_in keeper.view.client) i (in_state Left))
+abbrev pub after_leave : Watching Planned → ℕ → Watching Planned
+after_leave keeper i = after_step keeper (renewed (nodes_in keeper.view.client.known) i
+    (in_state Left))
 
 -- after a look, which saw the number
-abbrev pub after_look : Watching Known → Number → Watching Known
+abbrev pub after_look : Watching Planned → Number → Watching Planned
 after_look keeper number =
     after_number_step keeper number
-    (Keeper (max number (latest_in keeper.view.client))
-    (aged number (max number (latest_in keeper.view.client)) (nodes_in keeper.view.client)))
+    (knowing keeper.view.client
+    (Keeper (max number (latest_in keeper.view.client.known))
+    (aged number (max number (latest_in keeper.view.client.known))
+    (nodes_in keeper.view.client.known))))

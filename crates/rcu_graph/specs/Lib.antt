@@ -7,6 +7,7 @@ pub mod Keeper
 pub mod Mirror
 pub mod Nodes
 pub mod Opening
+pub mod Planned
 pub mod Rule
 pub mod Search
 pub mod Stability

@@ -6,7 +6,7 @@ use Rattle.rcu_graph.specs.Graph.{word_to}
 use Rattle.rcu_graph.specs.Keeper.{after_step}
 use Rattle.rcu_graph.specs.Nodes.{IsTarget, in_state, linked_to, node_at, nodes_in, renewed}
 use Rattle.rcu_graph.specs.Nodes.{state_at}
-use Rattle.rcu_graph.specs.declared.known.Known.{Known}
+use Rattle.rcu_graph.specs.declared.known.Planned.{Planned}
 use Rattle.rcu_graph.specs.declared.known.Node.{Node}
 use Rattle.rcu_graph.specs.declared.node_state.NodeState.TheVariants.{Free, Left, Live}
 
@@ -66,9 +66,9 @@ abbrev pub filled_with : List ℕ → List ℕ → Node → Node
 filled_with links words v = record { state = v.state; links = links; words = words }
 
 -- after the links and words of the node i were written
-abbrev pub after_fill : Watching Known → ℕ → List ℕ → List (Option ℕ) → Watching Known
+abbrev pub after_fill : Watching Planned → ℕ → List ℕ → List (Option ℕ) → Watching Planned
 after_fill keeper i words links = after_step keeper
-    (renewed (nodes_in keeper.view.client) i (filled_with (map word_to links) words))
+    (renewed (nodes_in keeper.view.client.known) i (filled_with (map word_to links) words))
 
 -- no node is free
 abbrev pub AreAllUsed : List Node → Type 0

@@ -5,10 +5,11 @@ ghost use Rattle.rcu_live.specs.Client.{AllowsNumber, AllowsWord};
 ghost use Rattle.rcu_graph.specs.Keeper.{CanLink, IsReady};
 ghost use Rattle.rcu_graph.specs.Nodes.{IsKeeping, IsOn, IsReader, IsUnlinked, node_at, nodes_in};
 ghost use Rattle.rcu_graph.specs.Nodes.{place_of, state_at};
-ghost use Rattle.rcu_graph.specs.Rule.{IsKept};
-ghost use Rattle.rcu_graph.specs.Steps.{IsAged, IsClaimed, IsFollowed, IsLeft, IsLinked};
-ghost use Rattle.rcu_graph.specs.Steps.{IsPublished, IsRead, IsWritten};
+ghost use Rattle.rcu_graph.specs.Planned.{IsKeptBy, plan_of, tells_age, tells_claim, tells_follow};
+ghost use Rattle.rcu_graph.specs.Planned.{tells_leave, tells_link, tells_publish, tells_read};
+ghost use Rattle.rcu_graph.specs.Planned.{tells_write};
 ghost use Rattle.rcu_graph.specs.declared.known.Known.TheVariants.{Owner};
+ghost use Rattle.rcu_graph.specs.declared.plan.Plan.{Plan};
 ghost use Rattle.rcu_graph.specs.declared.node_state.NodeState.TheVariants.{Free, Live};
 
 use crate::rule::{GraphSeat, GraphWatcher, Shape};
@@ -20,15 +21,17 @@ pub(crate) fn follow_is_allowed<
     const L: usize,
     const W: usize,
     const N: usize,
->(seat: &GraphSeat<F, K, L, W, N>, from: usize, link: usize, place: usize)
+>(seat: &GraphSeat<F>, from: usize, link: usize, place: usize)
     requires open { IsSome seat.now.view.section }
-    requires reader { IsReader seat.now.view.client }
-    requires on { (words : List ℕ) × IsOn F.first K seat.now.view.client from words }
+    requires reader { IsReader seat.now.view.client.known }
+    requires on { (words : List ℕ) × IsOn F.first K seat.now.view.client.known from words }
     requires link { link < L }
     requires place { place ≡ place_of (L + W) from link }
-    ensures { AllowsWord (IsKept F.fits F.joins F.first K L W N) (Some seat.now.cpu)
-        seat.now.view.section seat.now.view.client place (λ n. n)
-        (IsFollowed F.fits F.joins F.first K L W N place seat.now.view.client) }
+    requires planned { seat.now.view.client.plan ≡ plan_of K L W N }
+    ensures { (plan : Plan) → plan ≡ plan_of K L W N →
+        AllowsWord (IsKeptBy F.fits F.joins F.first plan) (Some seat.now.cpu) seat.now.view.section
+        seat.now.view.client place (λ n. n)
+        (tells_follow F.fits F.joins F.first place seat.now.view.client) }
 {}
 
 /// It may load a word of such a node.
@@ -38,15 +41,16 @@ pub(crate) fn read_is_allowed<
     const L: usize,
     const W: usize,
     const N: usize,
->(seat: &GraphSeat<F, K, L, W, N>, node: usize, word: usize, place: usize)
+>(seat: &GraphSeat<F>, node: usize, word: usize, place: usize)
     requires open { IsSome seat.now.view.section }
-    requires reader { IsReader seat.now.view.client }
-    requires on { (words : List ℕ) × IsOn F.first K seat.now.view.client node words }
+    requires reader { IsReader seat.now.view.client.known }
+    requires on { (words : List ℕ) × IsOn F.first K seat.now.view.client.known node words }
     requires word { word < W }
     requires place { place ≡ place_of (L + W) node (L + word) }
-    ensures { AllowsWord (IsKept F.fits F.joins F.first K L W N) (Some seat.now.cpu)
-        seat.now.view.section seat.now.view.client place (λ n. n)
-        (IsRead F.first K L W place seat.now.view.client) }
+    requires planned { seat.now.view.client.plan ≡ plan_of K L W N }
+    ensures { (plan : Plan) → plan ≡ plan_of K L W N →
+        AllowsWord (IsKeptBy F.fits F.joins F.first plan) (Some seat.now.cpu) seat.now.view.section
+        seat.now.view.client place (λ n. n) (tells_read F.first place seat.now.view.client) }
 {}
 
 /// Who opened the engine may load a word, and keeps the nodes then.
@@ -56,10 +60,12 @@ pub(crate) fn claim_is_allowed<
     const L: usize,
     const W: usize,
     const N: usize,
->(seat: &GraphWatcher<F, K, L, W, N>)
-    requires { seat.now.view.client ≡ Owner }
-    ensures { AllowsWord (IsKept F.fits F.joins F.first K L W N) None None seat.now.view.client 0
-        (λ n. n) (λ _ now. IsClaimed F.first K L W N now) }
+>(seat: &GraphWatcher<F>)
+    requires owner { seat.now.view.client.known ≡ Owner }
+    requires planned { seat.now.view.client.plan ≡ plan_of K L W N }
+    ensures { (plan : Plan) → plan ≡ plan_of K L W N →
+        AllowsWord (IsKeptBy F.fits F.joins F.first plan) None None seat.now.view.client 0
+        (λ n. n) (tells_claim F.first 0 seat.now.view.client) }
 {}
 
 /// Who keeps the nodes may store a word of a free one.
@@ -69,14 +75,16 @@ pub(crate) fn write_is_allowed<
     const L: usize,
     const W: usize,
     const N: usize,
->(seat: &GraphWatcher<F, K, L, W, N>, node: usize, word: usize, place: usize, value: u64)
-    requires keeps { IsKeeping seat.now.view.client }
-    requires inside { node < length (nodes_in seat.now.view.client) }
-    requires free { state_at (nodes_in seat.now.view.client) node ≡ Free }
+>(seat: &GraphWatcher<F>, node: usize, word: usize, place: usize, value: u64)
+    requires keeps { IsKeeping seat.now.view.client.known }
+    requires inside { node < length (nodes_in seat.now.view.client.known) }
+    requires free { state_at (nodes_in seat.now.view.client.known) node ≡ Free }
     requires word { word < W }
     requires place { place ≡ place_of (L + W) node (L + word) }
-    ensures { AllowsWord (IsKept F.fits F.joins F.first K L W N) None None seat.now.view.client
-        place (λ _. value) (λ _ now. IsWritten L W place seat.now.view.client value now) }
+    requires planned { seat.now.view.client.plan ≡ plan_of K L W N }
+    ensures { (plan : Plan) → plan ≡ plan_of K L W N →
+        AllowsWord (IsKeptBy F.fits F.joins F.first plan) None None seat.now.view.client place
+        (λ _. value) (λ _. tells_write place seat.now.view.client value) }
 {}
 
 /// It may store a link of a free node, or one of a live node that leads nowhere or to a live one
@@ -87,14 +95,16 @@ pub(crate) fn link_is_allowed<
     const L: usize,
     const W: usize,
     const N: usize,
->(seat: &GraphWatcher<F, K, L, W, N>, node: usize, link: usize, place: usize, value: u64)
-    requires keeps { IsKeeping seat.now.view.client }
-    requires inside { node < length (nodes_in seat.now.view.client) }
+>(seat: &GraphWatcher<F>, node: usize, link: usize, place: usize, value: u64)
+    requires keeps { IsKeeping seat.now.view.client.known }
+    requires inside { node < length (nodes_in seat.now.view.client.known) }
     requires link { link < L }
-    requires can { CanLink (F.joins link) (nodes_in seat.now.view.client) node value }
+    requires can { CanLink (F.joins link) (nodes_in seat.now.view.client.known) node value }
     requires place { place ≡ place_of (L + W) node link }
-    ensures { AllowsWord (IsKept F.fits F.joins F.first K L W N) None None seat.now.view.client
-        place (λ _. value) (λ _ now. IsLinked L W place seat.now.view.client value now) }
+    requires planned { seat.now.view.client.plan ≡ plan_of K L W N }
+    ensures { (plan : Plan) → plan ≡ plan_of K L W N →
+        AllowsWord (IsKeptBy F.fits F.joins F.first plan) None None seat.now.view.client place
+        (λ _. value) (λ _. tells_link place seat.now.view.client value) }
 {}
 
 /// It may link a live node to a free one that is whole, and whose links lead to live nodes.
@@ -104,19 +114,21 @@ pub(crate) fn publish_is_allowed<
     const L: usize,
     const W: usize,
     const N: usize,
->(seat: &GraphWatcher<F, K, L, W, N>, from: usize, link: usize, to: usize, place: usize, value: u64)
-    requires keeps { IsKeeping seat.now.view.client }
-    requires from { from < length (nodes_in seat.now.view.client) }
-    requires to { to < length (nodes_in seat.now.view.client) }
+>(seat: &GraphWatcher<F>, from: usize, link: usize, to: usize, place: usize, value: u64)
+    requires keeps { IsKeeping seat.now.view.client.known }
+    requires from { from < length (nodes_in seat.now.view.client.known) }
+    requires to { to < length (nodes_in seat.now.view.client.known) }
     requires link { link < L }
-    requires live { state_at (nodes_in seat.now.view.client) from ≡ Live }
-    requires ready { IsReady F.fits F.joins L (nodes_in seat.now.view.client) to }
-    requires joined { F.joins link (node_at (nodes_in seat.now.view.client) from).words
-        (node_at (nodes_in seat.now.view.client) to).words }
+    requires live { state_at (nodes_in seat.now.view.client.known) from ≡ Live }
+    requires ready { IsReady F.fits F.joins L (nodes_in seat.now.view.client.known) to }
+    requires joined { F.joins link (node_at (nodes_in seat.now.view.client.known) from).words
+        (node_at (nodes_in seat.now.view.client.known) to).words }
     requires place { place ≡ place_of (L + W) from link }
     requires value { value ≡ suc to }
-    ensures { AllowsWord (IsKept F.fits F.joins F.first K L W N) None None seat.now.view.client
-        place (λ _. value) (λ _ now. IsPublished L W place seat.now.view.client value now) }
+    requires planned { seat.now.view.client.plan ≡ plan_of K L W N }
+    ensures { (plan : Plan) → plan ≡ plan_of K L W N →
+        AllowsWord (IsKeptBy F.fits F.joins F.first plan) None None seat.now.view.client place
+        (λ _. value) (λ _. tells_publish place seat.now.view.client value) }
 {}
 
 /// It may leave a live node to which no live one leads.
@@ -126,16 +138,18 @@ pub(crate) fn leave_is_allowed<
     const L: usize,
     const W: usize,
     const N: usize,
->(seat: &GraphWatcher<F, K, L, W, N>, node: usize, place: usize)
-    requires keeps { IsKeeping seat.now.view.client }
-    requires inside { node < length (nodes_in seat.now.view.client) }
+>(seat: &GraphWatcher<F>, node: usize, place: usize)
+    requires keeps { IsKeeping seat.now.view.client.known }
+    requires inside { node < length (nodes_in seat.now.view.client.known) }
     requires no_root { K ≤ node }
-    requires live { state_at (nodes_in seat.now.view.client) node ≡ Live }
-    requires unlinked { IsUnlinked L (nodes_in seat.now.view.client) node }
+    requires live { state_at (nodes_in seat.now.view.client.known) node ≡ Live }
+    requires unlinked { IsUnlinked L (nodes_in seat.now.view.client.known) node }
     requires some { 0 < L + W }
     requires place { place ≡ place_of (L + W) node 0 }
-    ensures { AllowsWord (IsKept F.fits F.joins F.first K L W N) None None seat.now.view.client
-        place (λ n. n) (IsLeft L W place seat.now.view.client) }
+    requires planned { seat.now.view.client.plan ≡ plan_of K L W N }
+    ensures { (plan : Plan) → plan ≡ plan_of K L W N →
+        AllowsWord (IsKeptBy F.fits F.joins F.first plan) None None seat.now.view.client place
+        (λ n. n) (tells_leave place seat.now.view.client) }
 {}
 
 /// It may look at the number, by which the nodes age.
@@ -145,8 +159,10 @@ pub(crate) fn age_is_allowed<
     const L: usize,
     const W: usize,
     const N: usize,
->(seat: &GraphWatcher<F, K, L, W, N>)
-    requires { IsKeeping seat.now.view.client }
-    ensures { AllowsNumber (IsKept F.fits F.joins F.first K L W N) None None seat.now.view.client
-        (IsAged seat.now.view.client) }
+>(seat: &GraphWatcher<F>)
+    requires keeps { IsKeeping seat.now.view.client.known }
+    requires planned { seat.now.view.client.plan ≡ plan_of K L W N }
+    ensures { (plan : Plan) → plan ≡ plan_of K L W N →
+        AllowsNumber (IsKeptBy F.fits F.joins F.first plan) None None seat.now.view.client
+        (tells_age seat.now.view.client) }
 {}

@@ -44,11 +44,11 @@ impl<F: Shape, const K: usize, const L: usize, const W: usize, const N: usize> C
     pub(crate) fn new<const LEAF: u32, const FAN: u32, T: Drop>(
         alloc: Global,
         graph: &Graph<LEAF, FAN, T, F, K, L, W, N>,
-        seat: GraphWatcher<F, K, L, W, N>,
+        seat: GraphWatcher<F>,
         roots: &[[u64; W]; K],
     ) -> Result<Self, AllocError>
         requires keeper { IsKeeperOf N graph.now seat }
-        requires first { IsClaimed F.first K L W N seat.view.client }
+        requires first { IsClaimed F.first K L W N seat.view.client.known }
         requires roots { roots.now ≡ map F.first (range_with_len 0 K) }
         ensures nodes { IfOk result (λ counted. counted.nodes ≡ seat) }
         ensures counts { IfOk result (λ counted. counted.counts.items ≡ replicate N 0) }
@@ -88,15 +88,15 @@ impl<F: Shape, const K: usize, const L: usize, const W: usize, const N: usize> C
     ) -> usize
         requires graph { IsWatcherOf graph.now self.old.nodes }
         requires trimming { (stored : List Node) × (from : ℕ) × (words : List ℕ)
-            × IsTrimming N K L stored (nodes_in self.old.nodes.view.client)
+            × IsTrimming N K L stored (nodes_in self.old.nodes.view.client.known)
             self.old.counts.items self.old.leaving.items from left (word ∷ words) }
         ensures graph { IsWatcherOf graph.now self.new.nodes }
         ensures state { self.new.nodes
-            ≡ after_step self.old.nodes (nodes_in self.new.nodes.view.client) }
+            ≡ after_step self.old.nodes (nodes_in self.new.nodes.view.client.known) }
         ensures trimming { (stored : List Node) (from : ℕ) (words : List ℕ) →
-            IsTrimming N K L stored (nodes_in self.old.nodes.view.client)
+            IsTrimming N K L stored (nodes_in self.old.nodes.view.client.known)
             self.old.counts.items self.old.leaving.items from left (word ∷ words) →
-            IsTrimming N K L stored (nodes_in self.new.nodes.view.client)
+            IsTrimming N K L stored (nodes_in self.new.nodes.view.client.known)
             self.new.counts.items self.new.leaving.items from result words }
     {
         self.nodes.sizes();
@@ -129,15 +129,15 @@ impl<F: Shape, const K: usize, const L: usize, const W: usize, const N: usize> C
         requires graph { IsWatcherOf graph.now self.old.nodes }
         requires node { node < N }
         requires trimming { (stored : List Node) × (from : ℕ)
-            × IsTrimming N K L stored (nodes_in self.old.nodes.view.client)
+            × IsTrimming N K L stored (nodes_in self.old.nodes.view.client.known)
             self.old.counts.items self.old.leaving.items from left (node_at stored node).links }
         ensures graph { IsWatcherOf graph.now self.new.nodes }
         ensures state { self.new.nodes
-            ≡ after_step self.old.nodes (nodes_in self.new.nodes.view.client) }
+            ≡ after_step self.old.nodes (nodes_in self.new.nodes.view.client.known) }
         ensures trimming { (stored : List Node) (from : ℕ) →
-            IsTrimming N K L stored (nodes_in self.old.nodes.view.client)
+            IsTrimming N K L stored (nodes_in self.old.nodes.view.client.known)
             self.old.counts.items self.old.leaving.items from left (node_at stored node).links →
-            IsTrimming N K L stored (nodes_in self.new.nodes.view.client)
+            IsTrimming N K L stored (nodes_in self.new.nodes.view.client.known)
             self.new.counts.items self.new.leaving.items from result [] }
     {
         self.nodes.sizes();
@@ -156,14 +156,14 @@ impl<F: Shape, const K: usize, const L: usize, const W: usize, const N: usize> C
         word: u64,
     )
         requires graph { IsWatcherOf graph.now self.old.nodes }
-        requires trimming { IsTrimming N K L (nodes_in self.old.nodes.view.client)
-            (nodes_in self.old.nodes.view.client) self.old.counts.items self.old.leaving.items
+        requires trimming { IsTrimming N K L (nodes_in self.old.nodes.view.client.known)
+            (nodes_in self.old.nodes.view.client.known) self.old.counts.items self.old.leaving.items
             0 0 (word ∷ []) }
         ensures graph { IsWatcherOf graph.now self.new.nodes }
         ensures state { self.new.nodes
-            ≡ after_step self.old.nodes (nodes_in self.new.nodes.view.client) }
-        ensures trimming { (to : ℕ) × IsTrimming N K L (nodes_in self.old.nodes.view.client)
-            (nodes_in self.new.nodes.view.client) self.new.counts.items self.new.leaving.items
+            ≡ after_step self.old.nodes (nodes_in self.new.nodes.view.client.known) }
+        ensures trimming { (to : ℕ) × IsTrimming N K L (nodes_in self.old.nodes.view.client.known)
+            (nodes_in self.new.nodes.view.client.known) self.new.counts.items self.new.leaving.items
             to to [] }
     {
         let mut left = self.let_go(graph, word, 0);
@@ -187,7 +187,7 @@ impl<F: Shape, const K: usize, const L: usize, const W: usize, const N: usize> C
             self.old.counts.items self.old.leaving.items from link (word_to to) }
         ensures { HasTrimmed F.fits F.joins N K L graph.now self.old.nodes self.new.nodes
             self.new.counts.items self.new.leaving.items
-            (relinked (nodes_in self.old.nodes.view.client) from link to) }
+            (relinked (nodes_in self.old.nodes.view.client.known) from link to) }
     {
         self.nodes.sizes();
         let word = word_of(to);
@@ -202,16 +202,16 @@ impl<F: Shape, const K: usize, const L: usize, const W: usize, const N: usize> C
         requires node { node < N }
         requires many { length self.old.counts.items ≡ N }
         requires inside { All (IsInside N)
-            (node_at (nodes_in self.old.nodes.view.client) node).links }
+            (node_at (nodes_in self.old.nodes.view.client.known) node).links }
         requires few { (k : ℕ) → k < N → slice_index self.old.counts.items k
-            + times_in (node_at (nodes_in self.old.nodes.view.client) node).links (suc k)
+            + times_in (node_at (nodes_in self.old.nodes.view.client.known) node).links (suc k)
             < 2 ^ 64 }
         ensures nodes { self.new.nodes ≡ self.old.nodes }
         ensures leaving { self.new.leaving ≡ self.old.leaving }
         ensures many { length self.new.counts.items ≡ N }
         ensures counts { (k : ℕ) → k < N → slice_index self.new.counts.items k
             ≡ slice_index self.old.counts.items k
-            + times_in (node_at (nodes_in self.old.nodes.view.client) node).links (suc k) }
+            + times_in (node_at (nodes_in self.old.nodes.view.client.known) node).links (suc k) }
     {
         self.nodes.sizes();
         for link in 0..L {
@@ -232,7 +232,7 @@ impl<F: Shape, const K: usize, const L: usize, const W: usize, const N: usize> C
             self.old.counts.items self.old.leaving.items from link to }
         ensures { HasTrimmed F.fits F.joins N K L graph.now self.old.nodes self.new.nodes
             self.new.counts.items self.new.leaving.items
-            (published (nodes_in self.old.nodes.view.client) from link to) }
+            (published (nodes_in self.old.nodes.view.client.known) from link to) }
     {
         self.nodes.sizes();
         let before = self.nodes.link_word(from, link);

@@ -3,6 +3,7 @@ ghost use Rattle.std.specs.Prelude.{◌≡◌, ◌≤◌, ◌+◌, ◌*◌, ◌<
 ghost use Rattle.rcu_live.specs.CpuSeat.{after_word_step};
 ghost use Rattle.rcu_graph.specs.Graph.{IsAt, IsWalking, word_to};
 ghost use Rattle.rcu_graph.specs.Nodes.{IsOn};
+ghost use Rattle.rcu_graph.specs.Planned.{plan_of};
 ghost use Rattle.rcu_graph.specs.Steps.{Followed};
 
 use crate::allowed::{follow_is_allowed, read_is_allowed};
@@ -24,7 +25,7 @@ pub struct Graph<
     const W: usize,
     const N: usize,
 > {
-    pub(crate) live: Live<LEAF, FAN, T, GraphRule<F, K, L, W, N>>,
+    pub(crate) live: Live<LEAF, FAN, T, GraphRule<F>>,
 }
 
 impl<
@@ -41,8 +42,10 @@ impl<
     ghost use Rattle.rcu_live.specs.Board.{Object};
     ghost use Rattle.rcu_live.specs.Words.{base_of};
     ghost use Rattle.rcu_graph.specs.Nodes.{first_place};
+    ghost use Rattle.rcu_graph.specs.Planned.{plan_of};
+    ghost use Rattle.rcu_graph.specs.declared.plan.Plan.{Plan};
 
-    ghost Value = { Object (Unit {0}) };
+    ghost Value = { Object Plan };
 
     ghost view = { λ graph. graph.live };
 
@@ -52,6 +55,7 @@ impl<
       row : L + W < 2 ^ 64;
       words : 0 < W;
       roots : K ≤ N;
+      planned : graph.live.plan ≡ plan_of K L W N;
     } };
 }
 
@@ -66,15 +70,16 @@ impl<
     const N: usize,
 > Graph<LEAF, FAN, T, F, K, L, W, N> {
     /// The running engine.
-    pub fn live(&self) -> &Live<LEAF, FAN, T, GraphRule<F, K, L, W, N>>
+    pub fn live(&self) -> &Live<LEAF, FAN, T, GraphRule<F>>
         ensures { result.now ≡ self.now }
     {
         &self.live
     }
 
     /// What a graph keeps of its sizes: nothing is done. A caller learns the clause by the call.
-    pub fn roots_are_nodes(&self)
-        ensures { K ≤ N }
+    pub fn sizes(&self)
+        ensures planned { self.now.plan ≡ plan_of K L W N }
+        ensures roots { K ≤ N }
     {
         let _ = &self.live;
     }
@@ -82,26 +87,21 @@ impl<
     /// Loads a link of the node that the section is on, and returns the node that it led to at that
     /// load: the section holds that one too until it closes, whole and with its words as they are
     /// (Linux's `rcu_dereference` of a `next`). The seat's view has the load as one hop more.
-    pub fn follow(
-        &self,
-        seat: &mut GraphSeat<F, K, L, W, N>,
-        from: usize,
-        link: usize,
-    ) -> Option<usize>
+    pub fn follow(&self, seat: &mut GraphSeat<F>, from: usize, link: usize) -> Option<usize>
         requires at { IsAt F.first K N self.now seat.old from }
         requires link { link < L }
         ensures same { seat.new ≡ after_word_step seat.old seat.new.view.client }
         ensures walking { IsWalking self.now seat.new }
-        ensures came { (words : List ℕ) → IsOn F.first K seat.old.view.client from words →
-            Followed F.fits (F.joins link words) W N seat.old.view.client from link
-            (word_to result) seat.new.view.client }
+        ensures came { (words : List ℕ) → IsOn F.first K seat.old.view.client.known from words →
+            Followed F.fits (F.joins link words) W N seat.old.view.client.known from link
+            (word_to result) seat.new.view.client.known }
         ensures on { IfSome result (λ node. IsAt F.first K N self.now seat.new node) }
     {
         // A borrow of a field shows the prover what the type keeps: that the words fit in memory.
         let live = &self.live;
         let place = place_of(L + W, N, from, link);
         follow_is_allowed::<F, K, L, W, N>(seat, from, link, place);
-        let word = seat.load_word::<_, Follow<F, K, L, W, N>>(live, place);
+        let word = seat.load_word::<_, Follow<F>>(live, place);
         if word == 0 {
             return None;
         }
@@ -110,17 +110,17 @@ impl<
 
     /// Loads a word of the node that the section is on: the one that it had when the section came
     /// to it.
-    pub fn read(&self, seat: &mut GraphSeat<F, K, L, W, N>, node: usize, word: usize) -> u64
+    pub fn read(&self, seat: &mut GraphSeat<F>, node: usize, word: usize) -> u64
         requires at { IsAt F.first K N self.now seat.old node }
         requires word { word < W }
         ensures same { seat.new ≡ seat.old }
-        ensures told { (words : List ℕ) → IsOn F.first K seat.old.view.client node words →
+        ensures told { (words : List ℕ) → IsOn F.first K seat.old.view.client.known node words →
             result ≡ slice_index words word }
     {
         // A borrow of a field shows the prover what the type keeps: that the words fit in memory.
         let live = &self.live;
         let place = place_of(L + W, N, node, L + word);
         read_is_allowed::<F, K, L, W, N>(seat, node, word, place);
-        seat.load_word::<_, Read<F, K, L, W>>(live, place)
+        seat.load_word::<_, Read<F>>(live, place)
     }
 }

@@ -38,13 +38,14 @@ impl<F: Shape, const K: usize, const L: usize, const W: usize, const N: usize> M
     ghost use Rattle.rcu_live.specs.Watcher.{Watching};
     ghost use Rattle.rcu_graph.specs.Nodes.{nodes_in};
     ghost use Rattle.rcu_graph.specs.Trimming.{IsCounted};
-    ghost use Rattle.rcu_graph.specs.declared.known.Known.{Known};
+    ghost use Rattle.rcu_graph.specs.declared.known.Planned.{Planned};
 
-    ghost Value = { Watching Known };
+    ghost Value = { Watching Planned };
 
     ghost view = { λ k. k.counted.nodes };
 
-    ghost invariant = { λ k. IsCounted F.fits F.joins N K L (nodes_in k.counted.nodes.view.client)
+    ghost invariant = { λ k. IsCounted F.fits F.joins N K L
+        (nodes_in k.counted.nodes.view.client.known)
         k.counted.counts.items k.counted.leaving.items };
 }
 
@@ -60,11 +61,11 @@ impl<F: Shape, const K: usize, const L: usize, const W: usize, const N: usize> K
     pub fn new<const LEAF: u32, const FAN: u32, T: Drop>(
         alloc: Global,
         graph: &Graph<LEAF, FAN, T, F, K, L, W, N>,
-        seat: GraphWatcher<F, K, L, W, N>,
+        seat: GraphWatcher<F>,
         roots: &[[u64; W]; K],
     ) -> Result<Self, AllocError>
         requires keeper { IsKeeperOf N graph.now seat }
-        requires nodes { IsClaimed F.first K L W N seat.view.client }
+        requires nodes { IsClaimed F.first K L W N seat.view.client.known }
         requires first { roots.now ≡ map F.first (range_with_len 0 K) }
         requires whole { All F.fits roots.now }
         ensures { IfOk result (λ keeper. keeper ≡ seat) }
@@ -82,7 +83,7 @@ impl<F: Shape, const K: usize, const L: usize, const W: usize, const N: usize> K
     )
         requires graph { IsWatcherOf graph.now self.now }
         ensures keeper { IsKeeperOf N graph.now self.now }
-        ensures tended { AreTended F.fits F.joins K L (nodes_in self.now.view.client) }
+        ensures tended { AreTended F.fits F.joins K L (nodes_in self.now.view.client.known) }
     {
         self.counted.nodes.keeps(graph);
     }
@@ -90,7 +91,7 @@ impl<F: Shape, const K: usize, const L: usize, const W: usize, const N: usize> K
     /// Whether a node is free.
     pub fn is_free(&self, node: usize) -> bool
         requires { node < N }
-        ensures { result ≡ is_free (state_at (nodes_in self.now.view.client) node) }
+        ensures { result ≡ is_free (state_at (nodes_in self.now.view.client.known) node) }
     {
         self.counted.nodes.state(node).is_free()
     }
@@ -98,7 +99,7 @@ impl<F: Shape, const K: usize, const L: usize, const W: usize, const N: usize> K
     /// Whether a node is live.
     pub fn is_live(&self, node: usize) -> bool
         requires { node < N }
-        ensures { result ≡ is_live (state_at (nodes_in self.now.view.client) node) }
+        ensures { result ≡ is_live (state_at (nodes_in self.now.view.client.known) node) }
     {
         self.counted.nodes.state(node).is_live()
     }
@@ -108,7 +109,7 @@ impl<F: Shape, const K: usize, const L: usize, const W: usize, const N: usize> K
         requires node { node < N }
         requires link { link < L }
         ensures { word_to result
-            ≡ slice_index (node_at (nodes_in self.now.view.client) node).links link }
+            ≡ slice_index (node_at (nodes_in self.now.view.client.known) node).links link }
     {
         node_of(self.counted.nodes.link_word(node, link))
     }
@@ -117,7 +118,8 @@ impl<F: Shape, const K: usize, const L: usize, const W: usize, const N: usize> K
     pub fn word(&self, node: usize, word: usize) -> u64
         requires node { node < N }
         requires word { word < W }
-        ensures { result ≡ slice_index (node_at (nodes_in self.now.view.client) node).words word }
+        ensures { result ≡ slice_index (node_at (nodes_in self.now.view.client.known) node).words
+            word }
     {
         self.counted.nodes.word(node, word)
     }
@@ -128,8 +130,8 @@ impl<F: Shape, const K: usize, const L: usize, const W: usize, const N: usize> K
     pub fn free_node(&self) -> Result<usize, Full>
         ensures inside { IfOk result (λ node. node < N) }
         ensures free { IfOk result (λ node.
-            state_at (nodes_in self.now.view.client) node ≡ Free) }
-        ensures full { OnErr result (AreAllUsed (nodes_in self.now.view.client)) }
+            state_at (nodes_in self.now.view.client.known) node ≡ Free) }
+        ensures full { OnErr result (AreAllUsed (nodes_in self.now.view.client.known)) }
     {
         self.counted.nodes.free_node().ok_or(Full)
     }
@@ -144,7 +146,7 @@ impl<F: Shape, const K: usize, const L: usize, const W: usize, const N: usize> K
     )
         requires graph { IsWatcherOf graph.now self.old }
         requires node { node < N }
-        requires free { state_at (nodes_in self.old.view.client) node ≡ Free }
+        requires free { state_at (nodes_in self.old.view.client.known) node ≡ Free }
         requires inside { All (λ to. IfSome to (λ other. other < N)) links.now }
         ensures graph { IsWatcherOf graph.now self.new }
         ensures state { self.new ≡ after_fill self.old node words.now links.now }
@@ -166,14 +168,15 @@ impl<F: Shape, const K: usize, const L: usize, const W: usize, const N: usize> K
         requires from { from < N }
         requires to { to < N }
         requires link { link < L }
-        requires live { state_at (nodes_in self.old.view.client) from ≡ Live }
-        requires ready { IsReady F.fits F.joins L (nodes_in self.old.view.client) to }
-        requires joined { F.joins link (node_at (nodes_in self.old.view.client) from).words
-            (node_at (nodes_in self.old.view.client) to).words }
+        requires live { state_at (nodes_in self.old.view.client.known) from ≡ Live }
+        requires ready { IsReady F.fits F.joins L (nodes_in self.old.view.client.known) to }
+        requires joined { F.joins link (node_at (nodes_in self.old.view.client.known) from).words
+            (node_at (nodes_in self.old.view.client.known) to).words }
         ensures graph { IsWatcherOf graph.now self.new }
-        ensures state { self.new ≡ after_step self.old (nodes_in self.new.view.client) }
-        ensures trimmed { AreTrimmed K L (published (nodes_in self.old.view.client) from link to)
-            (nodes_in self.new.view.client) }
+        ensures state { self.new ≡ after_step self.old (nodes_in self.new.view.client.known) }
+        ensures trimmed { AreTrimmed K L (published (nodes_in self.old.view.client.known) from link
+            to)
+            (nodes_in self.new.view.client.known) }
     {
         self.counted.publish(graph, from, link, to);
     }
@@ -190,14 +193,15 @@ impl<F: Shape, const K: usize, const L: usize, const W: usize, const N: usize> K
         requires graph { IsWatcherOf graph.now self.old }
         requires from { from < N }
         requires link { link < L }
-        requires live { state_at (nodes_in self.old.view.client) from ≡ Live }
+        requires live { state_at (nodes_in self.old.view.client.known) from ≡ Live }
         requires target { IsTarget (F.joins link)
-            (node_at (nodes_in self.old.view.client) from).words
-            (nodes_in self.old.view.client) (word_to to) }
+            (node_at (nodes_in self.old.view.client.known) from).words
+            (nodes_in self.old.view.client.known) (word_to to) }
         ensures graph { IsWatcherOf graph.now self.new }
-        ensures state { self.new ≡ after_step self.old (nodes_in self.new.view.client) }
-        ensures trimmed { AreTrimmed K L (relinked (nodes_in self.old.view.client) from link to)
-            (nodes_in self.new.view.client) }
+        ensures state { self.new ≡ after_step self.old (nodes_in self.new.view.client.known) }
+        ensures trimmed { AreTrimmed K L (relinked (nodes_in self.old.view.client.known) from link
+            to)
+            (nodes_in self.new.view.client.known) }
     {
         self.counted.link(graph, from, link, to);
     }
@@ -213,11 +217,12 @@ impl<F: Shape, const K: usize, const L: usize, const W: usize, const N: usize> K
         requires graph { IsWatcherOf graph.now self.old }
         requires from { from < N }
         requires link { link < L }
-        requires live { state_at (nodes_in self.old.view.client) from ≡ Live }
+        requires live { state_at (nodes_in self.old.view.client.known) from ≡ Live }
         ensures graph { IsWatcherOf graph.now self.new }
-        ensures state { self.new ≡ after_step self.old (nodes_in self.new.view.client) }
-        ensures trimmed { AreTrimmed K L (relinked (nodes_in self.old.view.client) from link None)
-            (nodes_in self.new.view.client) }
+        ensures state { self.new ≡ after_step self.old (nodes_in self.new.view.client.known) }
+        ensures trimmed { AreTrimmed K L (relinked (nodes_in self.old.view.client.known) from link
+            None)
+            (nodes_in self.new.view.client.known) }
     {
         self.link(graph, from, link, None);
     }

@@ -1,5 +1,6 @@
 //! What a seat knows of a graph. It exists in proofs alone: no value of these types is made.
 use crate::node_state::NodeState;
+use crate::plan::Plan;
 use std::collections::LinkedList;
 
 /// A node: its state, where each of its links leads (0: nowhere, else one more than a node), and
@@ -30,4 +31,10 @@ pub enum Known {
     Reader(LinkedList<Hop>),
     /// A number that no retirement is above, and all nodes.
     Keeper(u64, LinkedList<Node>),
+}
+
+/// What a seat knows, and of a graph of which plan.
+pub struct Planned {
+    pub plan: Plan,
+    pub known: Known,
 }

@@ -29,7 +29,7 @@ pub(crate) struct KnownNodes<
     const W: usize,
     const N: usize,
 > {
-    seat: GraphWatcher<F, K, L, W, N>,
+    seat: GraphWatcher<F>,
     mirror: Mirror<L, W, N>,
 }
 
@@ -40,19 +40,21 @@ impl<F: Shape, const K: usize, const L: usize, const W: usize, const N: usize> M
     ghost use Rattle.rcu_live.specs.Watcher.{Watching};
     ghost use Rattle.rcu_graph.specs.Mirror.{AreBy};
     ghost use Rattle.rcu_graph.specs.Nodes.{IsKeeping, latest_in, nodes_in};
-    ghost use Rattle.rcu_graph.specs.declared.known.Known.{Known};
+    ghost use Rattle.rcu_graph.specs.Planned.{plan_of};
+    ghost use Rattle.rcu_graph.specs.declared.known.Planned.{Planned};
 
-    ghost Value = { Watching Known };
+    ghost Value = { Watching Planned };
 
     ghost view = { λ k. k.seat };
 
     ghost invariant = { λ k. record {
+      planned : k.seat.view.client.plan ≡ plan_of K L W N;
       role : IsOfWatcher k.seat.view;
-      keeps : IsKeeping k.seat.view.client;
-      few : length (nodes_in k.seat.view.client) ≡ N;
-      late : latest_in k.seat.view.client ≤ k.seat.view.seen;
-      same : nodes_in k.seat.view.client ≡ k.mirror;
-      by : AreBy (latest_in k.seat.view.client) k.mirror;
+      keeps : IsKeeping k.seat.view.client.known;
+      few : length (nodes_in k.seat.view.client.known) ≡ N;
+      late : latest_in k.seat.view.client.known ≤ k.seat.view.seen;
+      same : nodes_in k.seat.view.client.known ≡ k.mirror;
+      by : AreBy (latest_in k.seat.view.client.known) k.mirror;
     } };
 }
 
@@ -67,16 +69,17 @@ impl<F: Shape, const K: usize, const L: usize, const W: usize, const N: usize> K
     pub(crate) fn new<const LEAF: u32, const FAN: u32, T: Drop>(
         alloc: Global,
         graph: &Graph<LEAF, FAN, T, F, K, L, W, N>,
-        seat: GraphWatcher<F, K, L, W, N>,
+        seat: GraphWatcher<F>,
         roots: &[[u64; W]; K],
     ) -> Result<Self, AllocError>
         requires keeper { IsKeeperOf N graph.now seat }
-        requires first { IsClaimed F.first K L W N seat.view.client }
+        requires first { IsClaimed F.first K L W N seat.view.client.known }
         requires roots { roots.now ≡ map F.first (range_with_len 0 K) }
         ensures { IfOk result (λ nodes. nodes ≡ seat) }
     {
         // A borrow of a field shows the prover what the type keeps: that the words fit in memory.
         let _ = &graph.live;
+        graph.sizes();
         let mirror = Mirror::new::<F, K>(alloc, roots)?;
         Ok(KnownNodes { seat, mirror })
     }
@@ -84,20 +87,21 @@ impl<F: Shape, const K: usize, const L: usize, const W: usize, const N: usize> K
     /// What the type keeps: nothing is done.
     pub(crate) fn keeps<const LEAF: u32, const FAN: u32, T: Drop>(
         &self,
-        _graph: &Graph<LEAF, FAN, T, F, K, L, W, N>,
+        graph: &Graph<LEAF, FAN, T, F, K, L, W, N>,
     )
-        requires { IsWatcherOf _graph.now self.now }
-        ensures { IsKeeperOf N _graph.now self.now }
+        requires { IsWatcherOf graph.now self.now }
+        ensures { IsKeeperOf N graph.now self.now }
     {
+        graph.sizes();
         // A borrow of a field shows the prover what the type keeps.
         let _ = &self.mirror;
     }
 
     /// How many nodes there are, and how many links and words each has: nothing is done.
     pub(crate) fn sizes(&self)
-        ensures keeps { IsKeeping self.now.view.client }
-        ensures few { length (nodes_in self.now.view.client) ≡ N }
-        ensures sized { AreSized N L W (nodes_in self.now.view.client) }
+        ensures keeps { IsKeeping self.now.view.client.known }
+        ensures few { length (nodes_in self.now.view.client.known) ≡ N }
+        ensures sized { AreSized N L W (nodes_in self.now.view.client.known) }
         ensures fit { L * N + 1 < 2 ^ 64 }
     {
         self.mirror.sizes();
@@ -106,7 +110,7 @@ impl<F: Shape, const K: usize, const L: usize, const W: usize, const N: usize> K
     /// The state of a node.
     pub(crate) fn state(&self, node: usize) -> NodeState
         requires { node < N }
-        ensures { result ≡ state_at (nodes_in self.now.view.client) node }
+        ensures { result ≡ state_at (nodes_in self.now.view.client.known) node }
     {
         self.mirror.state(node)
     }
@@ -115,8 +119,8 @@ impl<F: Shape, const K: usize, const L: usize, const W: usize, const N: usize> K
     pub(crate) fn free_node(&self) -> Option<usize>
         ensures inside { IfSome result (λ node. node < N) }
         ensures free { IfSome result (λ node.
-            state_at (nodes_in self.now.view.client) node ≡ Free) }
-        ensures none { IfNone result (AreAllUsed (nodes_in self.now.view.client)) }
+            state_at (nodes_in self.now.view.client.known) node ≡ Free) }
+        ensures none { IfNone result (AreAllUsed (nodes_in self.now.view.client.known)) }
     {
         self.mirror.free_node()
     }
@@ -125,7 +129,8 @@ impl<F: Shape, const K: usize, const L: usize, const W: usize, const N: usize> K
     pub(crate) fn link_word(&self, node: usize, link: usize) -> u64
         requires node { node < N }
         requires link { link < L }
-        ensures { result ≡ slice_index (node_at (nodes_in self.now.view.client) node).links link }
+        ensures { result ≡ slice_index (node_at (nodes_in self.now.view.client.known) node).links
+            link }
     {
         self.mirror.link(node, link)
     }
@@ -134,7 +139,8 @@ impl<F: Shape, const K: usize, const L: usize, const W: usize, const N: usize> K
     pub(crate) fn word(&self, node: usize, word: usize) -> u64
         requires node { node < N }
         requires word { word < W }
-        ensures { result ≡ slice_index (node_at (nodes_in self.now.view.client) node).words word }
+        ensures { result ≡ slice_index (node_at (nodes_in self.now.view.client.known) node).words
+            word }
     {
         self.mirror.word(node, word)
     }
@@ -150,6 +156,7 @@ impl<F: Shape, const K: usize, const L: usize, const W: usize, const N: usize> K
         requires { CanStore N W graph.now self.old node word }
         ensures { self.new ≡ after_write self.old node word value }
     {
+        graph.sizes();
         graph.write(&mut self.seat, node, word, value);
         self.mirror.set_word(node, word, value);
     }
@@ -179,10 +186,11 @@ impl<F: Shape, const K: usize, const L: usize, const W: usize, const N: usize> K
         requires graph { IsWatcherOf graph.now self.old }
         requires node { node < N }
         requires link { link < L }
-        requires can { CanLink (F.joins link) (nodes_in self.old.view.client) node value }
+        requires can { CanLink (F.joins link) (nodes_in self.old.view.client.known) node value }
         ensures graph { IsWatcherOf graph.now self.new }
         ensures state { self.new ≡ after_link self.old node link value }
     {
+        graph.sizes();
         graph.link(&mut self.seat, node, link, value);
         self.mirror.set_link(node, link, value);
     }
@@ -197,7 +205,7 @@ impl<F: Shape, const K: usize, const L: usize, const W: usize, const N: usize> K
     )
         requires graph { IsWatcherOf graph.now self.old }
         requires node { node < N }
-        requires free { state_at (nodes_in self.old.view.client) node ≡ Free }
+        requires free { state_at (nodes_in self.old.view.client.known) node ≡ Free }
         requires inside { All (λ to. IfSome to (λ other. other < N)) links.now }
         ensures graph { IsWatcherOf graph.now self.new }
         ensures state { self.new ≡ after_fill self.old node words.now links.now }
@@ -250,6 +258,7 @@ impl<F: Shape, const K: usize, const L: usize, const W: usize, const N: usize> K
         ensures graph { IsWatcherOf graph.now self.new }
         ensures state { self.new ≡ after_publish self.old from link to }
     {
+        graph.sizes();
         graph.publish(&mut self.seat, from, link, to);
         self.mirror.publish(to);
         self.mirror.set_link(from, link, word_of(Some(to)));
@@ -264,11 +273,12 @@ impl<F: Shape, const K: usize, const L: usize, const W: usize, const N: usize> K
         requires graph { IsWatcherOf graph.now self.old }
         requires node { node < N }
         requires no_root { K ≤ node }
-        requires live { state_at (nodes_in self.old.view.client) node ≡ Live }
-        requires unlinked { IsUnlinked L (nodes_in self.old.view.client) node }
+        requires live { state_at (nodes_in self.old.view.client.known) node ≡ Live }
+        requires unlinked { IsUnlinked L (nodes_in self.old.view.client.known) node }
         ensures graph { IsWatcherOf graph.now self.new }
         ensures state { self.new ≡ after_leave self.old node }
     {
+        graph.sizes();
         graph.leave(&mut self.seat, node);
         self.mirror.leave(node);
     }
@@ -284,6 +294,7 @@ impl<F: Shape, const K: usize, const L: usize, const W: usize, const N: usize> K
         ensures later { self.old.view.seen ≤ result }
         ensures bounded { result ≤ 2 ^ 62 }
     {
+        graph.sizes();
         let number = graph.look(&mut self.seat);
         self.mirror.age(number);
         number

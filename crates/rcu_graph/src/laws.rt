@@ -13,68 +13,53 @@ ghost use Rattle.rcu_graph.specs.Keeper.{after_leave, after_link, after_look, af
 ghost use Rattle.rcu_graph.specs.Keeper.{after_write};
 ghost use Rattle.rcu_graph.specs.Nodes.{IsHeld, IsOn, IsReader, hops_in, nodes_in, place_of};
 ghost use Rattle.rcu_graph.specs.Nodes.{state_at};
-ghost use Rattle.rcu_graph.specs.Rule.{IsKept};
+ghost use Rattle.rcu_graph.specs.Planned.{IsKeptBy, of_plan, tells_follow};
 ghost use Rattle.rcu_graph.specs.Search.{Ascends, IsSearched};
-ghost use Rattle.rcu_graph.specs.Steps.{IsFollowed};
 ghost use Rattle.rcu_graph.specs.declared.known.Hop.{Hop};
 ghost use Rattle.rcu_graph.specs.declared.known.Known.{Known};
+ghost use Rattle.rcu_graph.specs.declared.known.Planned.{Planned};
 ghost use Rattle.rcu_graph.specs.declared.known.Known.TheVariants.{Keeper};
 ghost use Rattle.rcu_graph.specs.declared.known.Node.{Node};
 ghost use Rattle.rcu_graph.specs.declared.node_state.NodeState.TheVariants.{Free, Live};
+ghost use Rattle.rcu_graph.specs.declared.plan.Plan.{Plan};
 
 use crate::rule::Shape;
 
 /// At two moments the rule holds, and a seat holds the same node. Then the node's words are the
 /// same at both: it was not used again between them.
-pub fn held_nodes_keep_their_words<
-    F: Shape,
-    const K: usize,
-    const L: usize,
-    const W: usize,
-    const N: usize,
->()
-    ensures { (before after : List ℕ) (old new : Slots (Unit {0})) (xs ys : Views Known)
-        (seat node word : ℕ) (cpu section here later : Option ℕ) (was now : Known)
-        (words : List ℕ) → IsKept F.fits F.joins F.first K L W N before old xs →
-        IsKept F.fits F.joins F.first K L W N after new ys →
+pub fn held_nodes_keep_their_words<F: Shape>()
+    ensures { (plan : Plan) (before after : List ℕ) (old new : Slots (Unit {0}))
+        (xs ys : Views Planned) (seat node word : ℕ) (cpu section here later : Option ℕ)
+        (was now : Planned) (words : List ℕ) →
+        IsKeptBy F.fits F.joins F.first plan before old xs →
+        IsKeptBy F.fits F.joins F.first plan after new ys →
         get_elem? xs seat ≡ some (cpu, section, was) → get_elem? ys seat ≡ some (here, later, now) →
-        IsReader was → IsReader now → IsHeld was node words → IsHeld now node words → word < W →
-        slice_index after (place_of (L + W) node (L + word))
-        ≡ slice_index before (place_of (L + W) node (L + word)) }
+        IsReader was.known → IsReader now.known → IsHeld was.known node words →
+        IsHeld now.known node words → word < plan.words →
+        slice_index after (place_of (plan.links + plan.words) node (plan.links + word))
+        ≡ slice_index before (place_of (plan.links + plan.words) node (plan.links + word)) }
 {}
 
 /// No node that the keeper knows as free, so that it may write there, is held by a seat.
-pub fn free_nodes_are_not_held<
-    F: Shape,
-    const K: usize,
-    const L: usize,
-    const W: usize,
-    const N: usize,
->()
-    ensures { (table : List ℕ) (homes : Slots (Unit {0})) (xs : Views Known)
+pub fn free_nodes_are_not_held<F: Shape>()
+    ensures { (plan : Plan) (table : List ℕ) (homes : Slots (Unit {0})) (xs : Views Planned)
         (keeper seat node latest : ℕ) (who own cpu section : Option ℕ) (nodes : List Node)
-        (known : Known) (words : List ℕ) (v : Node) →
-        IsKept F.fits F.joins F.first K L W N table homes xs →
-        get_elem? xs keeper ≡ some (who, own, Keeper latest nodes) →
-        get_elem? xs seat ≡ some (cpu, section, known) → IsReader known →
-        IsHeld known node words → get_elem? nodes node ≡ some v → v.state ≢ Free }
+        (known : Planned) (words : List ℕ) (v : Node) →
+        IsKeptBy F.fits F.joins F.first plan table homes xs →
+        get_elem? xs keeper ≡ some (who, own, of_plan plan (Keeper latest nodes)) →
+        get_elem? xs seat ≡ some (cpu, section, known) → IsReader known.known →
+        IsHeld known.known node words → get_elem? nodes node ≡ some v → v.state ≢ Free }
 {}
 
 /// A link of a live node leads to a live node, and joins the two as the user's fact says, whoever
 /// loads it and whenever.
-pub fn live_nodes_lead_to_live_nodes<
-    F: Shape,
-    const K: usize,
-    const L: usize,
-    const W: usize,
-    const N: usize,
->()
-    ensures { (table : List ℕ) (homes : Slots (Unit {0})) (xs : Views Known)
+pub fn live_nodes_lead_to_live_nodes<F: Shape>()
+    ensures { (plan : Plan) (table : List ℕ) (homes : Slots (Unit {0})) (xs : Views Planned)
         (keeper node link next latest : ℕ) (who own : Option ℕ) (nodes : List Node) (v : Node) →
-        IsKept F.fits F.joins F.first K L W N table homes xs →
-        get_elem? xs keeper ≡ some (who, own, Keeper latest nodes) →
-        get_elem? nodes node ≡ some v → v.state ≡ Live → link < L →
-        slice_index table (place_of (L + W) node link) ≡ suc next →
+        IsKeptBy F.fits F.joins F.first plan table homes xs →
+        get_elem? xs keeper ≡ some (who, own, of_plan plan (Keeper latest nodes)) →
+        get_elem? nodes node ≡ some v → v.state ≡ Live → link < plan.links →
+        slice_index table (place_of (plan.links + plan.words) node link) ≡ suc next →
         (to : Node) × (get_elem? nodes next ≡ some to) × (to.state ≡ Live)
         × F.joins link v.words to.words }
 {}
@@ -82,62 +67,60 @@ pub fn live_nodes_lead_to_live_nodes<
 /// A hop tells where its link led at the load: the word that it found is that of the link, as the
 /// keeper knows the nodes then, and a node to which it came has the words that the hop has. So a
 /// lookup by one hop takes effect at its load, where it finds nothing too.
-pub fn hops_are_true_of_the_nodes<
-    F: Shape,
-    const K: usize,
-    const L: usize,
-    const W: usize,
-    const N: usize,
->()
-    ensures { (table : List ℕ) (homes : Slots (Unit {0})) (xs : Views Known)
+pub fn hops_are_true_of_the_nodes<F: Shape>()
+    ensures { (plan : Plan) (table : List ℕ) (homes : Slots (Unit {0})) (xs : Views Planned)
         (keeper seat node link latest : ℕ) (who own cpu section : Option ℕ) (nodes : List Node)
-        (was now : Known) (words : List ℕ) →
-        IsKept F.fits F.joins F.first K L W N table homes xs →
-        IsKept F.fits F.joins F.first K L W N table homes (slice_set xs seat (cpu, section, now)) →
-        get_elem? xs keeper ≡ some (who, own, Keeper latest nodes) →
-        get_elem? xs seat ≡ some (cpu, section, was) → IsReader was →
-        IsOn F.first K was node words → link < L →
-        IsFollowed F.fits F.joins F.first K L W N (place_of (L + W) node link) was
-        (slice_index table (place_of (L + W) node link)) now →
-        (hop : Hop) × (hops_in now ≡ hop ∷ hops_in was) × (hop.from ≡ node) × (hop.link ≡ link)
-        × IsTrueOf nodes hop }
+        (was now : Planned) (words : List ℕ) →
+        IsKeptBy F.fits F.joins F.first plan table homes xs →
+        IsKeptBy F.fits F.joins F.first plan table homes (slice_set xs seat (cpu, section, now)) →
+        get_elem? xs keeper ≡ some (who, own, of_plan plan (Keeper latest nodes)) →
+        get_elem? xs seat ≡ some (cpu, section, was) → IsReader was.known →
+        IsOn F.first plan.roots was.known node words → link < plan.links →
+        tells_follow F.fits F.joins F.first (place_of (plan.links + plan.words) node link) was
+        (slice_index table (place_of (plan.links + plan.words) node link)) now →
+        (hop : Hop) × (hops_in now.known ≡ hop ∷ hops_in was.known) × (hop.from ≡ node)
+        × (hop.link ≡ link) × IsTrueOf nodes hop }
 {}
 
 /// At each moment the chain of a root is one: a live node leads along its first link to a live one
 /// with a greater key, of the same chain, where the user's facts say so of two joined nodes.
-pub fn chains_go_up<F: Shape, const K: usize, const L: usize, const W: usize, const N: usize>()
-    ensures { (ours : List ℕ → Bool) (root : ℕ) (table : List ℕ) (homes : Slots (Unit {0}))
-        (xs : Views Known) (keeper latest : ℕ) (who own : Option ℕ) (nodes : List Node) →
-        IsKept F.fits F.joins F.first K L W N table homes xs →
-        get_elem? xs keeper ≡ some (who, own, Keeper latest nodes) → Ascends F.joins 0 →
+pub fn chains_go_up<F: Shape>()
+    ensures { (plan : Plan) (ours : List ℕ → Bool) (root : ℕ) (table : List ℕ)
+        (homes : Slots (Unit {0})) (xs : Views Planned) (keeper latest : ℕ) (who own : Option ℕ)
+        (nodes : List Node) →
+        IsKeptBy F.fits F.joins F.first plan table homes xs →
+        get_elem? xs keeper ≡ some (who, own, of_plan plan (Keeper latest nodes)) →
+        Ascends F.joins 0 →
         ((from to : List ℕ) → F.joins 0 from to → IsTrue (ours from) → IsTrue (ours to)) →
-        root < K → 0 < L → IsTrue (ours (F.first root)) → IsChained ours root nodes }
+        root < plan.roots → 0 < plan.links → IsTrue (ours (F.first root)) →
+        IsChained ours root nodes }
 {}
 
 /// The keeper's calls make the steps of such histories beside an open section: one of `Graph::link`
 /// or `Graph::publish` where the node whose link is stored is free, or on its chain still.
 pub fn calls_are_keeper_steps()
     ensures write { (ours : List ℕ → Bool) (opened root node word value : ℕ)
-        (keeper : Watching Known) → state_at (nodes_in keeper.view.client) node ≡ Free →
-        IsKeeperStep ours opened root (nodes_in keeper.view.client)
-        (nodes_in (after_write keeper node word value).view.client) }
+        (keeper : Watching Planned) → state_at (nodes_in keeper.view.client.known) node ≡ Free →
+        IsKeeperStep ours opened root (nodes_in keeper.view.client.known)
+        (nodes_in (after_write keeper node word value).view.client.known) }
     ensures link { (ours : List ℕ → Bool) (opened root node link value : ℕ)
-        (keeper : Watching Known) → (state_at (nodes_in keeper.view.client) node ≡ Free)
-        ⊎ IsOnIfOurs ours root (nodes_in keeper.view.client) node →
-        IsKeeperStep ours opened root (nodes_in keeper.view.client)
-        (nodes_in (after_link keeper node link value).view.client) }
+        (keeper : Watching Planned) → (state_at (nodes_in keeper.view.client.known) node ≡ Free)
+        ⊎ IsOnIfOurs ours root (nodes_in keeper.view.client.known) node →
+        IsKeeperStep ours opened root (nodes_in keeper.view.client.known)
+        (nodes_in (after_link keeper node link value).view.client.known) }
     ensures publish { (ours : List ℕ → Bool) (opened root from link to : ℕ)
-        (keeper : Watching Known) → state_at (nodes_in keeper.view.client) from ≡ Live →
-        state_at (nodes_in keeper.view.client) to ≡ Free →
-        IsOnIfOurs ours root (nodes_in keeper.view.client) from →
-        IsKeeperStep ours opened root (nodes_in keeper.view.client)
-        (nodes_in (after_publish keeper from link to).view.client) }
-    ensures leave { (ours : List ℕ → Bool) (opened root node : ℕ) (keeper : Watching Known) →
-        IsKeeperStep ours opened root (nodes_in keeper.view.client)
-        (nodes_in (after_leave keeper node).view.client) }
-    ensures look { (ours : List ℕ → Bool) (opened root number : ℕ) (keeper : Watching Known) →
+        (keeper : Watching Planned) → state_at (nodes_in keeper.view.client.known) from ≡ Live →
+        state_at (nodes_in keeper.view.client.known) to ≡ Free →
+        IsOnIfOurs ours root (nodes_in keeper.view.client.known) from →
+        IsKeeperStep ours opened root (nodes_in keeper.view.client.known)
+        (nodes_in (after_publish keeper from link to).view.client.known) }
+    ensures leave { (ours : List ℕ → Bool) (opened root node : ℕ) (keeper : Watching Planned) →
+        IsKeeperStep ours opened root (nodes_in keeper.view.client.known)
+        (nodes_in (after_leave keeper node).view.client.known) }
+    ensures look { (ours : List ℕ → Bool) (opened root number : ℕ) (keeper : Watching Planned) →
         is_open_at number opened ≡ true → IsKeeperStep ours opened root
-        (nodes_in keeper.view.client) (nodes_in (after_look keeper number).view.client) }
+        (nodes_in keeper.view.client.known)
+        (nodes_in (after_look keeper number).view.client.known) }
 {}
 
 /// A key that is linked at each moment from the section's beginning to the search's end is found.

@@ -10,10 +10,12 @@ ghost use Rattle.rcu_seq.specs.Memory.{tested_fault};
 ghost use Rattle.rcu_graph.specs.Keeper.{IsKeeperOf};
 ghost use Rattle.rcu_graph.specs.Nodes.{first_nodes, first_place, place_of};
 ghost use Rattle.rcu_graph.specs.Opening.{AreFirst, AreSizes};
+ghost use Rattle.rcu_graph.specs.Planned.{of_plan, plan_of};
 ghost use Rattle.rcu_graph.specs.declared.known.Known.TheVariants.{Idle, Keeper, Owner};
 
 use crate::graph::Graph;
 use crate::places::{FIRST, place_of};
+use crate::plan::Plan;
 use crate::rule::{GraphRule, GraphSeat, GraphWatcher, Shape};
 use rcu_geometry::check_size;
 use rcu_live::Live;
@@ -67,9 +69,9 @@ pub type Opened<
     const N: usize,
 > = (
     Graph<LEAF, FAN, T, F, K, L, W, N>,
-    Vec<GraphSeat<F, K, L, W, N>>,
-    Vec<GraphWatcher<F, K, L, W, N>>,
-    GraphWatcher<F, K, L, W, N>,
+    Vec<GraphSeat<F>>,
+    Vec<GraphWatcher<F>>,
+    GraphWatcher<F>,
 );
 
 impl<
@@ -99,27 +101,30 @@ impl<
         requires whole { All F.fits roots.now }
         ensures fault { tested_fault result ≡ opening_refusal LEAF FAN cpus last }
         ensures dealt { IfOk result (λ opened. AreDealt cpus last (2 ^ 62)
-            (first_place + (L + W) * N) 0 Idle opened.0 opened.1.items opened.2.items) }
+            (first_place + (L + W) * N) 0 (of_plan (plan_of K L W N) Idle) opened.0
+            opened.1.items opened.2.items) }
+        ensures plan { IfOk result (λ opened. opened.0.plan ≡ plan_of K L W N) }
         ensures keeper { IfOk result (λ opened. IsKeeperOf N opened.0 opened.3) }
         ensures own { IfOk result (λ opened. opened.3 ≡ after_word_step
-            (watcher_at_first opened.0.table (base_of cpus) Owner)
-            (Keeper 0 (first_nodes L W F.first K N))) }
+            (watcher_at_first opened.0.table (base_of cpus) (of_plan (plan_of K L W N) Owner))
+            (of_plan (plan_of K L W N) (Keeper 0 (first_nodes L W F.first K N)))) }
     {
         check_size::<LEAF, FAN>(cpus, last)?;
         let Ok(behind) = first_words::<K, L, W, N>(alloc, roots) else {
             return Err(Fault::NoMemory);
         };
-        let (live, seats, watchers, mut own) = Live::<
-            LEAF,
-            FAN,
-            T,
-            GraphRule<F, K, L, W, N>,
-        >::open_for(
+        let plan = Plan {
+            roots: K,
+            links: L,
+            words: W,
+            nodes: N,
+        };
+        let (live, seats, watchers, mut own) = Live::<LEAF, FAN, T, GraphRule<F>>::open_for(
             alloc,
             cpus,
             last,
             MOST,
-            (),
+            plan,
             behind.as_slice(),
             Vec::new(alloc),
         )?;

@@ -1,7 +1,8 @@
 //! The rule of a graph, as a client of the running engine, and its kinds of step.
 ghost use Rattle.std.specs.Prelude.{List, ℕ};
 
-use crate::known::Known;
+use crate::known::Planned;
+use crate::plan::Plan;
 use rcu_live::{Client, CpuSeat, NumberStep, Watcher, WordStep};
 use std::marker::PhantomData;
 
@@ -16,125 +17,119 @@ pub trait Shape {
     ghost first: { ℕ → List ℕ };
 }
 
-/// The rule of `N` nodes with `L` links and `W` words each, the first `K` of them the roots.
-pub struct GraphRule<F, const K: usize, const L: usize, const W: usize, const N: usize> {
+/// The rule of a graph of a plan, whose nodes in use meet `F`.
+pub struct GraphRule<F> {
     shape: PhantomData<F>,
 }
 
-impl<F: Shape, const K: usize, const L: usize, const W: usize, const N: usize> Client
-    for GraphRule<F, K, L, W, N> {
-    type Plan = ();
+impl<F: Shape> Client for GraphRule<F> {
+    type Plan = Plan;
 
     type Slot = ();
 
-    type Known = Known;
+    type Known = Planned;
 
-    ghost use Rattle.rcu_graph.specs.Rule.{IsKept};
-    ghost use Rattle.rcu_graph.specs.Stability.{is_stable};
     ghost use Rattle.rcu_graph.specs.Nodes.{closed};
+    ghost use Rattle.rcu_graph.specs.Planned.{IsKeptBy, knowing, of_plan};
+    ghost use Rattle.rcu_graph.specs.Planned.{planned_is_stable};
+    ghost use Rattle.rcu_graph.specs.Stability.{is_stable};
     ghost use Rattle.rcu_graph.specs.declared.known.Known.TheVariants.{Idle, Owner};
 
-    ghost holds = { λ _. IsKept F.fits F.joins F.first K L W N };
+    ghost holds = { IsKeptBy F.fits F.joins F.first };
 
-    ghost first = { λ _. Owner };
+    ghost first = { λ plan. of_plan plan Owner };
 
-    ghost idle = { λ _. Idle };
+    ghost idle = { λ c. knowing c Idle };
 
-    ghost closed = { closed };
+    ghost closed = { λ c. knowing c (closed c.known) };
 
     fn mark() {}
 
-    ghost stable = { λ _. is_stable F.fits F.joins F.first K L W N };
+    ghost stable = { λ plan. planned_is_stable _ plan (λ _. Idle) closed
+        (is_stable F.fits F.joins F.first plan.roots plan.links plan.words plan.nodes) };
 }
 
 /// A processor's seat of a graph's engine.
-pub type GraphSeat<F, const K: usize, const L: usize, const W: usize, const N: usize> = CpuSeat<
-    GraphRule<F, K, L, W, N>,
->;
+pub type GraphSeat<F> = CpuSeat<GraphRule<F>>;
 
 /// A watcher's seat of a graph's engine.
-pub type GraphWatcher<F, const K: usize, const L: usize, const W: usize, const N: usize> = Watcher<
-    GraphRule<F, K, L, W, N>,
->;
+pub type GraphWatcher<F> = Watcher<GraphRule<F>>;
 
 /// Loads a link of a root, or of a node that the section holds: the section comes to the node that
 /// it leads to.
-pub struct Follow<F, const K: usize, const L: usize, const W: usize, const N: usize> {
+pub struct Follow<F> {
     shape: PhantomData<F>,
 }
 
-impl<F: Shape, const K: usize, const L: usize, const W: usize, const N: usize> WordStep<Known>
-    for Follow<F, K, L, W, N> {
-    ghost use Rattle.rcu_graph.specs.Steps.{IsFollowed};
+impl<F: Shape> WordStep<Planned> for Follow<F> {
+    ghost use Rattle.rcu_graph.specs.Planned.{tells_follow};
 
-    ghost then = { IsFollowed F.fits F.joins F.first K L W N };
+    ghost then = { tells_follow F.fits F.joins F.first };
 }
 
 /// Loads a word of a root, or of a node that the section holds.
-pub struct Read<F, const K: usize, const L: usize, const W: usize> {
+pub struct Read<F> {
     shape: PhantomData<F>,
 }
 
-impl<F: Shape, const K: usize, const L: usize, const W: usize> WordStep<Known>
-    for Read<F, K, L, W> {
-    ghost use Rattle.rcu_graph.specs.Steps.{IsRead};
+impl<F: Shape> WordStep<Planned> for Read<F> {
+    ghost use Rattle.rcu_graph.specs.Planned.{tells_read};
 
-    ghost then = { IsRead F.first K L W };
+    ghost then = { tells_read F.first };
 }
 
 /// Loads a word, and keeps the nodes from now on.
-pub struct Claim<F, const K: usize, const L: usize, const W: usize, const N: usize> {
+pub struct Claim<F> {
     shape: PhantomData<F>,
 }
 
-impl<F: Shape, const K: usize, const L: usize, const W: usize, const N: usize> WordStep<Known>
-    for Claim<F, K, L, W, N> {
-    ghost use Rattle.rcu_graph.specs.Steps.{IsClaimed};
+impl<F: Shape> WordStep<Planned> for Claim<F> {
+    ghost use Rattle.rcu_graph.specs.Planned.{tells_claim};
 
-    ghost then = { λ _ _ _ now. IsClaimed F.first K L W N now };
+    ghost then = { tells_claim F.first };
 }
 
 /// Stores a word of a free node.
-pub struct Write<const L: usize, const W: usize> {}
+pub struct Write;
 
-impl<const L: usize, const W: usize> WordStep<Known> for Write<L, W> {
-    ghost use Rattle.rcu_graph.specs.Steps.{IsWritten};
+impl WordStep<Planned> for Write {
+    ghost use Rattle.rcu_graph.specs.Planned.{tells_write};
 
-    ghost then = { IsWritten L W };
+    ghost then = { tells_write };
 }
 
 /// Stores a link, of a free node, or of a live one, which leads nowhere or to a live one then.
-pub struct Link<const L: usize, const W: usize> {}
+pub struct Link;
 
-impl<const L: usize, const W: usize> WordStep<Known> for Link<L, W> {
-    ghost use Rattle.rcu_graph.specs.Steps.{IsLinked};
+impl WordStep<Planned> for Link {
+    ghost use Rattle.rcu_graph.specs.Planned.{tells_link};
 
-    ghost then = { IsLinked L W };
+    ghost then = { tells_link };
 }
 
 /// Stores a link of a live node, which leads to a node that was free: that one is live then.
-pub struct Publish<const L: usize, const W: usize> {}
+pub struct Publish;
 
-impl<const L: usize, const W: usize> WordStep<Known> for Publish<L, W> {
-    ghost use Rattle.rcu_graph.specs.Steps.{IsPublished};
+impl WordStep<Planned> for Publish {
+    ghost use Rattle.rcu_graph.specs.Planned.{tells_publish};
 
-    ghost then = { IsPublished L W };
+    ghost then = { tells_publish };
 }
 
 /// Loads a word of a live node to which no live one leads: the node is left.
-pub struct Leave<const L: usize, const W: usize> {}
+pub struct Leave;
 
-impl<const L: usize, const W: usize> WordStep<Known> for Leave<L, W> {
-    ghost use Rattle.rcu_graph.specs.Steps.{IsLeft};
+impl WordStep<Planned> for Leave {
+    ghost use Rattle.rcu_graph.specs.Planned.{tells_leave};
 
-    ghost then = { IsLeft L W };
+    ghost then = { tells_leave };
 }
 
 /// Looks at the number, by which nodes become free.
 pub struct Age;
 
-impl NumberStep<Known> for Age {
-    ghost use Rattle.rcu_graph.specs.Steps.{IsAged};
+impl NumberStep<Planned> for Age {
+    ghost use Rattle.rcu_graph.specs.Planned.{tells_age};
 
-    ghost then = { IsAged };
+    ghost then = { tells_age };
 }

@@ -20,10 +20,10 @@ impl<
     const N: usize,
 > Graph<LEAF, FAN, T, F, K, L, W, N> {
     /// The key of a node on which the section is.
-    fn key_of(&self, seat: &mut GraphSeat<F, K, L, W, N>, node: usize) -> u64
+    fn key_of(&self, seat: &mut GraphSeat<F>, node: usize) -> u64
         requires at { IsAt F.first K N self.now seat.old node }
         ensures same { seat.new ≡ seat.old }
-        ensures told { (words : List ℕ) → IsOn F.first K seat.old.view.client node words →
+        ensures told { (words : List ℕ) → IsOn F.first K seat.old.view.client.known node words →
             result ≡ slice_index words 0 }
     {
         // A borrow of a field shows the prover what the type keeps: that a node has a word.
@@ -34,16 +34,16 @@ impl<
     /// Searches the chain of a root for a key, by a load a hop, and one a key. The section holds
     /// each node that it came to; the one that it returns has the key, and is whole. It returns
     /// none only where a hop led nowhere, or to a greater key.
-    pub fn find(&self, seat: &mut GraphSeat<F, K, L, W, N>, root: usize, key: u64) -> Option<usize>
+    pub fn find(&self, seat: &mut GraphSeat<F>, root: usize, key: u64) -> Option<usize>
         requires walking { IsWalking self.now seat.old }
         requires root { root < K }
         requires link { 0 < L }
         requires ascends { Ascends F.joins 0 }
         ensures same { seat.new ≡ after_word_step seat.old seat.new.view.client }
         ensures walking { IsWalking self.now seat.new }
-        ensures searched { IsSearched root key seat.old.view.client result
-            seat.new.view.client }
-        ensures found { IfSome result (λ node. IsFound F.fits key seat.new.view.client node) }
+        ensures searched { IsSearched root key seat.old.view.client.known result
+            seat.new.view.client.known }
+        ensures found { IfSome result (λ node. IsFound F.fits key seat.new.view.client.known node) }
         ensures on { IfSome result (λ node. IsAt F.first K N self.now seat.new node) }
     {
         // A borrow of a field shows the prover what the type keeps: that the roots are nodes.

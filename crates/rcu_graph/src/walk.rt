@@ -21,6 +21,6 @@ pub struct Walk<
     const N: usize,
 > {
     pub(crate) graph: &'a Graph<LEAF, FAN, T, F, K, L, W, N>,
-    pub(crate) seat: &'a mut GraphSeat<F, K, L, W, N>,
+    pub(crate) seat: &'a mut GraphSeat<F>,
     ghost walking: { IsWalking graph.now seat.now } by { Prim.hlevel (props, reader_once) },
 }

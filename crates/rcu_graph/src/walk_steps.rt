@@ -22,10 +22,7 @@ impl<
 > Graph<LEAF, FAN, T, F, K, L, W, N> {
     /// Lends the seat to a walk of its open section, which goes on from the hops that it has made.
     /// Nothing is loaded.
-    pub fn walk<'a>(
-        &'a self,
-        seat: &'a mut GraphSeat<F, K, L, W, N>,
-    ) -> Walk<'a, LEAF, FAN, T, F, K, L, W, N>
+    pub fn walk<'a>(&'a self, seat: &'a mut GraphSeat<F>) -> Walk<'a, LEAF, FAN, T, F, K, L, W, N>
         requires { IsWalking self.now seat.old }
         ensures graph { (walked result).graph ≡ self.now }
         ensures seat { (walked result).seat ≡ seat.old }

@@ -6,6 +6,7 @@ ghost use Rattle.rcu_live.specs.CpuSeat.{IsSeatOf, after_word_step};
 ghost use Rattle.rcu_graph.specs.Graph.{IsWalking};
 ghost use Rattle.rcu_graph.specs.Keeper.{IsKeeperOf};
 ghost use Rattle.rcu_graph.specs.Nodes.{first_nodes, nodes_in};
+ghost use Rattle.rcu_graph.specs.Planned.{of_plan};
 ghost use Rattle.rcu_graph.specs.declared.known.Known.TheVariants.{Idle};
 
 mod chain;
@@ -34,7 +35,7 @@ impl Shape for Sorted {
 
 type Chain = Graph<4, 4, u64, Sorted, 1, 1, 2, 2>;
 
-type Seat = GraphSeat<Sorted, 1, 1, 2, 2>;
+type Seat = GraphSeat<Sorted>;
 
 /// How often each reader searches.
 const SEARCHES: u32 = 200_000;
@@ -57,10 +58,10 @@ fn finds_it_whole(chain: &Chain, seat: &mut Seat) -> bool
 fn search(chain: &Chain, seat: &mut Seat) -> bool
     requires seat { IsSeatOf chain.now seat.old }
     requires outside { seat.old.depth ≡ 0 }
-    requires idle { seat.old.view.client ≡ Idle }
+    requires idle { seat.old.view.client ≡ of_plan chain.now.plan Idle }
     ensures seat { IsSeatOf chain.now seat.new }
     ensures outside { seat.new.depth ≡ 0 }
-    ensures idle { seat.new.view.client ≡ Idle }
+    ensures idle { seat.new.view.client ≡ of_plan chain.now.plan Idle }
 {
     if seat.enter(chain.live()).is_err() {
         return false;
@@ -79,7 +80,7 @@ struct Reader<'a> {
     seat: Seat,
     ghost seat_of: { IsSeatOf chain.now seat },
     ghost outside: { seat.depth ≡ 0 },
-    ghost idle: { seat.view.client ≡ Idle },
+    ghost idle: { seat.view.client ≡ of_plan chain.now.plan Idle },
 }
 
 impl<'a> Reader<'a> {
@@ -107,9 +108,9 @@ impl<'a> Reader<'a> {
 }
 
 /// Publishes a node with the key 5, unlinks it, leaves it, and looks at the number.
-fn publish_and_leave(chain: &Chain, keeper: &mut GraphWatcher<Sorted, 1, 1, 2, 2>)
+fn publish_and_leave(chain: &Chain, keeper: &mut GraphWatcher<Sorted>)
     requires keeper { IsKeeperOf 2 chain.now keeper.old }
-    requires first { nodes_in keeper.old.view.client ≡ first_nodes 1 2 (λ _. 0 ∷ 0 ∷ []) 1 2 }
+    requires first { nodes_in keeper.old.view.client.known ≡ first_nodes 1 2 (λ _. 0 ∷ 0 ∷ []) 1 2 }
 {
     chain.write(keeper, 1, 0, 5);
     chain.write(keeper, 1, 1, 7);
@@ -123,12 +124,12 @@ fn publish_and_leave(chain: &Chain, keeper: &mut GraphWatcher<Sorted, 1, 1, 2, 2
 fn run_beside<R: Threads + Wait + Sync>(
     rt: &R,
     chain: &Chain,
-    mut keeper: GraphWatcher<Sorted, 1, 1, 2, 2>,
+    mut keeper: GraphWatcher<Sorted>,
     a: Reader<'_>,
     b: Reader<'_>,
 ) -> (bool, bool)
     requires keeper { IsKeeperOf 2 chain.now keeper }
-    requires first { nodes_in keeper.view.client ≡ first_nodes 1 2 (λ _. 0 ∷ 0 ∷ []) 1 2 }
+    requires first { nodes_in keeper.view.client.known ≡ first_nodes 1 2 (λ _. 0 ∷ 0 ∷ []) 1 2 }
 {
     let readers = move || -> (bool, bool)
         requires { IsSync R.row }

@@ -6,9 +6,10 @@ use Rattle.rcu_live.specs.Watcher.{Watching}
 use Rattle.rcu_graph.specs.Absence.{next_of}
 use Rattle.rcu_graph.specs.Graph.{IsWatcherOf, word_to}
 use Rattle.rcu_graph.specs.Nodes.{node_at, nodes_in, state_at}
-use Rattle.rcu_graph.specs.declared.known.Known.{Known}
+use Rattle.rcu_graph.specs.declared.known.Planned.{Planned}
 use Rattle.rcu_graph.specs.declared.known.Node.{Node}
 use Rattle.rcu_graph.specs.declared.node_state.NodeState.TheVariants.{Live}
+use Rattle.rcu_graph.specs.declared.plan.Plan.{Plan}
 use Rattle.rcu_map.specs.Chains.{IsMap}
 use Rattle.rcu_map.specs.Keys.{GoesUp, IsWhole, key_in}
 use Rattle.rcu_map.specs.Splices.{CanPass, CanPut, IsPlace}
@@ -17,19 +18,22 @@ use Rattle.rcu_map.proofs.Chains.{inside, led}
 use Rattle.rcu_map.proofs.Puts.{target_of}
 
 -- the same place, of the same key in the same nodes
-pub placed : (buckets : ℕ) (w v : Watching Known) (key k previous : ℕ) (was o : Option ℕ)
-    → IsPlace buckets key (nodes_in w.view.client) previous was → v ≡ w → key ≡ k → was ≡ o
-    → IsPlace buckets k (nodes_in v.view.client) previous o
+pub placed : (buckets : ℕ) (w v : Watching Planned) (key k previous : ℕ) (was o : Option ℕ)
+    → IsPlace buckets key (nodes_in w.view.client.known) previous was → v ≡ w → key ≡ k → was ≡ o
+    → IsPlace buckets k (nodes_in v.view.client.known) previous o
 placed buckets w v key k previous was o place e f h =
-    subst (λ (x : Watching Known). IsPlace buckets k (nodes_in x.view.client) previous o) (sym e)
-    (subst (λ (n : ℕ). IsPlace buckets n (nodes_in w.view.client) previous o) f
-    (subst (λ (n : Option ℕ). IsPlace buckets key (nodes_in w.view.client) previous n) h place))
+    subst (λ (x : Watching Planned). IsPlace buckets k (nodes_in x.view.client.known) previous o)
+    (sym e)
+    (subst (λ (n : ℕ). IsPlace buckets n (nodes_in w.view.client.known) previous o) f
+    (subst (λ (n : Option ℕ). IsPlace buckets key (nodes_in w.view.client.known) previous n) h
+    place))
 
-module _ (holds : List ℕ → Type 0) (buckets width count : ℕ) (graph : Object (Unit {0}))
-    (keeper : Watching Known) (m : IsMap holds buckets width count (nodes_in keeper.view.client))
+module _ (holds : List ℕ → Type 0) (buckets width count : ℕ) (graph : Object Plan)
+    (keeper : Watching Planned) (m : IsMap holds buckets width count
+    (nodes_in keeper.view.client.known))
     (watches : IsWatcherOf graph keeper) where
   abbrev A : List Node
-  A = nodes_in keeper.view.client
+  A = nodes_in keeper.view.client.known
 
   module _ (previous : ℕ) (words : List ℕ) (some : 0 < key_in words)
       (whole : IsWhole holds width words) where

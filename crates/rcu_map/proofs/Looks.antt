@@ -10,7 +10,7 @@ use Rattle.rcu_live.specs.Watcher.{Watching}
 use Rattle.rcu_graph.specs.Keeper.{after_look}
 use Rattle.rcu_graph.specs.Nodes.{node_at, nodes_in, state_at}
 use Rattle.rcu_graph.specs.Tended.{AreAllUsed}
-use Rattle.rcu_graph.specs.declared.known.Known.{Known}
+use Rattle.rcu_graph.specs.declared.known.Planned.{Planned}
 use Rattle.rcu_graph.specs.declared.known.Node.{Node}
 use Rattle.rcu_graph.specs.declared.node_state.NodeState.TheVariants.{Free}
 use Rattle.rcu_graph.proofs.Counting.{live_inside, live_test, test_live}
@@ -23,20 +23,20 @@ use Rattle.rcu_map.specs.declared.put.NotPut.TheVariants.{Fault, Full}
 use Rattle.rcu_map.proofs.Counted.{all_behind_live, entries_and_roots, many_behind}
 
 -- a look, a first one, and one more
-look : (k m : Watching Known) (n : Number)
-    → AreAllUsed (nodes_in k.view.client) → k.view.seen ≤ n → m ≡ after_look k n → IsLook k m
+look : (k m : Watching Planned) (n : Number)
+    → AreAllUsed (nodes_in k.view.client.known) → k.view.seen ≤ n → m ≡ after_look k n → IsLook k m
 look k m n full later new =
-    let seen : m.view.seen ≡ n = ap (λ (w : Watching Known). w.view.seen) new in record {
+    let seen : m.view.seen ≡ n = ap (λ (w : Watching Planned). w.view.seen) new in record {
       full = full;
       later = omega (arith, seen, later);
       state = new ∙ ap (λ (j : Number). after_look k j) (sym seen);
     }
 
-pub aged_once : (buckets : ℕ) (k m : Watching Known) (n : Number)
-    → AreAllUsed (nodes_in k.view.client)
+pub aged_once : (buckets : ℕ) (k m : Watching Planned) (n : Number)
+    → AreAllUsed (nodes_in k.view.client.known)
     → k.view.seen ≤ n
     → m ≡ after_look k n
-    → AreSameEntries buckets (nodes_in k.view.client) (nodes_in m.view.client)
+    → AreSameEntries buckets (nodes_in k.view.client.known) (nodes_in m.view.client.known)
     → HasAged buckets k m
 aged_once buckets k m n full later new same = record {
   more = 0;
@@ -44,12 +44,12 @@ aged_once buckets k m n full later new same = record {
   entries = same;
 }
 
-pub aged_more : (buckets : ℕ) (k l m : Watching Known) (n : Number)
+pub aged_more : (buckets : ℕ) (k l m : Watching Planned) (n : Number)
     → HasAged buckets k l
-    → AreAllUsed (nodes_in l.view.client)
+    → AreAllUsed (nodes_in l.view.client.known)
     → l.view.seen ≤ n
     → m ≡ after_look l n
-    → AreSameEntries buckets (nodes_in l.view.client) (nodes_in m.view.client)
+    → AreSameEntries buckets (nodes_in l.view.client.known) (nodes_in m.view.client.known)
     → HasAged buckets k m
 aged_more buckets k l m n r full later new same = record {
   more = suc r.more;
@@ -85,11 +85,11 @@ found_one nodes count (Ok node) e few inside free full = full node (omega (arith
 found_one nodes count (Err _) e few inside free full = absurd (cc)
 
 -- an error of a wait is that each node is live, just where each is
-pub why_full : (buckets : ℕ) (seat now : Seated Known) (before : Watching Known) (why : NotPut)
-    (after : Watching Known)
+pub why_full : (buckets : ℕ) (seat now : Seated Planned) (before : Watching Planned) (why : NotPut)
+    (after : Watching Planned)
     → WaitedFor buckets seat now before (Err why) after
-    → (why ≡ Full → AreAllLive (nodes_in before.view.client))
-    × (AreAllLive (nodes_in before.view.client) → why ≡ Full)
+    → (why ≡ Full → AreAllLive (nodes_in before.view.client.known))
+    × (AreAllLive (nodes_in before.view.client.known) → why ≡ Full)
 why_full buckets seat now before Full after end = (λ _. end.0, λ _. refl)
 why_full buckets seat now before (Fault fault) after end = (
   λ e. absurd (cc),

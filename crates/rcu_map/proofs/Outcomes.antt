@@ -8,7 +8,8 @@ use Rattle.rcu_graph.specs.Absence.{next_of}
 use Rattle.rcu_graph.specs.Graph.{word_to}
 use Rattle.rcu_graph.specs.Nodes.{nodes_in}
 use Rattle.rcu_graph.specs.declared.keeper.Full.{Full}
-use Rattle.rcu_graph.specs.declared.known.Known.{Known}
+use Rattle.rcu_graph.specs.declared.known.Planned.{Planned}
+use Rattle.rcu_graph.specs.declared.plan.Plan.{Plan}
 use Rattle.rcu_map.specs.Chains.{IsMap}
 use Rattle.rcu_map.specs.Entries.{entries_in}
 use Rattle.rcu_map.specs.Keys.{GoesUp, IsWhole, key_in}
@@ -17,12 +18,12 @@ use Rattle.rcu_map.specs.Splices.{HasPut, IsFull, IsPlace}
 use Rattle.rcu_map.proofs.Replacements.{replaced, replaced_count, replaced_map}
 
 -- an entry was put in the place of another one, or no node was free
-module _ (holds : List ℕ → Type 0) (buckets width count : ℕ) (graph : Object (Unit {0}))
-    (before now : Watching Known)
-    (m : IsMap holds buckets width count (nodes_in before.view.client)) (previous old : ℕ)
+module _ (holds : List ℕ → Type 0) (buckets width count : ℕ) (graph : Object Plan)
+    (before now : Watching Planned)
+    (m : IsMap holds buckets width count (nodes_in before.view.client.known)) (previous old : ℕ)
     (words : List ℕ) (next : Option ℕ) (some : 0 < key_in words)
-    (place : IsPlace buckets (key_in words) (nodes_in before.view.client) previous (Some old))
-    (to : word_to next ≡ next_of (nodes_in before.view.client) old) where
+    (place : IsPlace buckets (key_in words) (nodes_in before.view.client.known) previous (Some old))
+    (to : word_to next ≡ next_of (nodes_in before.view.client.known) old) where
   abbrev Ends : Result (Unit {0}) Full → Type 0
   Ends result = MatchResult result
       (λ _. HasPut (IsWhole holds width) (λ _ from to. GoesUp buckets from to) buckets count graph
@@ -30,29 +31,34 @@ module _ (holds : List ℕ → Type 0) (buckets width count : ℕ) (graph : Obje
       (λ _. IsFull before now)
 
   pub over_map : (result : Result (Unit {0}) Full) → Ends result
-      → IsMap holds buckets width count (nodes_in now.view.client)
-  over_map (Ok _) done = replaced_map holds buckets width count (nodes_in before.view.client) m
-      previous done.node old words next (nodes_in now.view.client) some place to done.inside
+      → IsMap holds buckets width count (nodes_in now.view.client.known)
+  over_map (Ok _) done = replaced_map holds buckets width count (nodes_in before.view.client.known)
+      m previous done.node old words next (nodes_in now.view.client.known) some place to done.inside
       done.free done.trimmed done.kept.few done.kept.tended
   over_map (Err _) full =
-      subst (λ (w : Watching Known). IsMap holds buckets width count (nodes_in w.view.client))
+      subst (λ (w : Watching Planned). IsMap holds buckets width count
+      (nodes_in w.view.client.known))
       (sym full.unchanged) m
 
   pub over_count : (result : Result (Unit {0}) Full) → Ends result
-      → entries_in buckets (nodes_in now.view.client)
-      ≡ entries_in buckets (nodes_in before.view.client)
-  over_count (Ok _) done = replaced_count holds buckets width count (nodes_in before.view.client) m
-      previous done.node old words next (nodes_in now.view.client) some place to done.inside
+      → entries_in buckets (nodes_in now.view.client.known)
+      ≡ entries_in buckets (nodes_in before.view.client.known)
+  over_count (Ok _) done = replaced_count holds buckets width count
+      (nodes_in before.view.client.known) m
+      previous done.node old words next (nodes_in now.view.client.known) some place to done.inside
       done.free done.trimmed
   over_count (Err _) full =
-      ap (λ (w : Watching Known). entries_in buckets (nodes_in w.view.client)) full.unchanged
+      ap (λ (w : Watching Planned). entries_in buckets (nodes_in w.view.client.known))
+      full.unchanged
 
   pub over_put : (result : Result (Unit {0}) Full) → Ends result
       → MatchResult result (λ _. HasChanged (IsPutIn buckets words true) before now)
       (λ _. IsFull before now)
   over_put (Ok _) done = record {
     state = done.state;
-    nodes = replaced holds buckets width count (nodes_in before.view.client) m previous done.node
-        old words next (nodes_in now.view.client) some place to done.inside done.free done.trimmed;
+    nodes = replaced holds buckets width count (nodes_in before.view.client.known) m previous
+        done.node
+        old words next (nodes_in now.view.client.known) some place to done.inside done.free
+        done.trimmed;
   }
   over_put (Err _) full = full

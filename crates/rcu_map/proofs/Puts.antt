@@ -8,11 +8,12 @@ use Rattle.rcu_graph.specs.Graph.{word_to}
 use Rattle.rcu_graph.specs.Keeper.{IsReady}
 use Rattle.rcu_graph.specs.Nodes.{IsTarget, node_at, nodes_in, renewed, state_at}
 use Rattle.rcu_graph.specs.Tended.{filled_with}
-use Rattle.rcu_graph.specs.declared.known.Known.{Known}
+use Rattle.rcu_graph.specs.declared.known.Planned.{Planned}
 use Rattle.rcu_graph.specs.declared.known.Node.{Node}
 use Rattle.rcu_graph.specs.declared.node_state.NodeState.TheVariants.{Free, Live}
 use Rattle.rcu_graph.proofs.Counting.{live_inside, other_node, same_node}
 use Rattle.rcu_graph.proofs.Tending.{at_here, here_at}
+use Rattle.rcu_graph.specs.declared.plan.Plan.{Plan}
 use Rattle.rcu_map.specs.Splices.{CanPut}
 use Rattle.rcu_map.proofs.Gaps.{not_free}
 
@@ -46,12 +47,12 @@ target_of joins words nodes x there j e =
     (node_at nodes j, here_at nodes j (live_inside nodes j r.0), r.0, r.1)
 
 module _ (fits : List ℕ → Type 0) (joins : ℕ → List ℕ → List ℕ → Type 0) (count : ℕ)
-    (graph : Object (Unit {0})) (keeper : Watching Known) (previous : ℕ) (words : List ℕ)
+    (graph : Object Plan) (keeper : Watching Planned) (previous : ℕ) (words : List ℕ)
     (next : Option ℕ)
     (can : CanPut fits joins count graph keeper previous words next) (node : ℕ) (low : node < count)
-    (free : state_at (nodes_in keeper.view.client) node ≡ Free) where
+    (free : state_at (nodes_in keeper.view.client.known) node ≡ Free) where
   abbrev A : List Node
-  A = nodes_in keeper.view.client
+  A = nodes_in keeper.view.client.known
 
   abbrev written : Node → Node
   written = filled_with (map word_to (next ∷ [])) words

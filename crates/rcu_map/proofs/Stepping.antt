@@ -17,7 +17,9 @@ use Rattle.rcu_graph.specs.Search.{key_after}
 use Rattle.rcu_graph.specs.Steps.{Followed}
 use Rattle.rcu_graph.specs.declared.known.Hop.{Hop}
 use Rattle.rcu_graph.specs.declared.known.Known.{Known}
+use Rattle.rcu_graph.specs.declared.known.Planned.{Planned}
 use Rattle.rcu_graph.proofs.Walking.{came_holds, came_to}
+use Rattle.rcu_graph.specs.declared.plan.Plan.{Plan}
 use Rattle.rcu_map.specs.Cursors.{HasListed, HasStepped, IsOnCursor, IsOnEntry, MayGoOn, latest_to}
 use Rattle.rcu_map.specs.Cursors.{latest_words}
 use Rattle.rcu_map.specs.Keys.{GoesUp, IsWhole, bucket_in, bucket_of, key_in, root_words}
@@ -91,15 +93,15 @@ module _ (count buckets width : ℕ) (known : Known) (at : Cursor) where
             ∙ (ap (bucket_of buckets) is ∙ c.same up);
       })
 
-module _ (holds : List ℕ → Type 0) (count buckets width : ℕ) (map : Object (Unit {0}))
-    (old new : Seated Known)
+module _ (holds : List ℕ → Type 0) (count buckets width : ℕ) (map : Object Plan)
+    (old new : Seated Planned)
     (start : Cursor) (inside : start.bucket < buckets)
-    (o : IsOnWords count buckets width old.view.client start)
+    (o : IsOnWords count buckets width old.view.client.known start)
     (same : new ≡ after_word_step old new.view.client) (walking : IsWalking map new) where
   -- the link led nowhere
   pub stepped_over : buckets ≤ count
-      → Followed (IsWhole holds width) (GoesUp buckets o.words) width count old.view.client
-      start.node 0 0 new.view.client
+      → Followed (IsWhole holds width) (GoesUp buckets o.words) width count old.view.client.known
+      start.node 0 0 new.view.client.known
       → HasStepped holds count buckets width map old start new (at_root (start.bucket + 1))
   stepped_over few f = record {
     same = same;
@@ -130,18 +132,20 @@ module _ (holds : List ℕ → Type 0) (count buckets width : ℕ) (map : Object
 
   -- it led to a node
   pub stepped_on : (node key : ℕ)
-      → (f : Followed (IsWhole holds width) (GoesUp buckets o.words) width count old.view.client
-      start.node 0 (suc node) new.view.client)
-      → ((words : List ℕ) → IsOn (root_words width) buckets new.view.client node words → key
+      → (f : Followed (IsWhole holds width) (GoesUp buckets o.words) width count
+      old.view.client.known
+      start.node 0 (suc node) new.view.client.known)
+      → ((words : List ℕ) → IsOn (root_words width) buckets new.view.client.known node words → key
       ≡ slice_index words 0)
       → key < 2 ^ 64
       → HasStepped holds count buckets width map old start new
       (record { bucket = start.bucket; node = node; key = key })
   stepped_on node key f is small =
-      let c = came_to (IsWhole holds width) (GoesUp buckets o.words) width count old.view.client
-      start.node 0 node new.view.client f in
+      let c = came_to (IsWhole holds width) (GoesUp buckets o.words) width count
+      old.view.client.known
+      start.node 0 node new.view.client.known f in
       let held = came_holds (IsWhole holds width) (GoesUp buckets o.words) width count
-      old.view.client start.node 0 node new.view.client f in
+      old.view.client.known start.node 0 node new.view.client.known f in
       let told : key ≡ key_in f.words = is f.words (inr held) in
       let here = o.key in
       let up : start.key < key_in f.words = let u = c.joined.up in omega (arith, u, here) in
@@ -174,8 +178,8 @@ module _ (holds : List ℕ → Type 0) (count buckets width : ℕ) (map : Object
         whole = λ more. c.whole;
       }
 
-module _ (holds : List ℕ → Type 0) (count buckets width : ℕ) (map : Object (Unit {0}))
-    (old new : Seated Known)
+module _ (holds : List ℕ → Type 0) (count buckets width : ℕ) (map : Object Plan)
+    (old new : Seated Planned)
     (start at : Cursor) (s : HasStepped holds count buckets width map old start new at) where
   led_to : (to : ℕ) → s.hop.to ≡ to → at ≡ led_from start to (key_after s.hop)
   led_to to e = s.led ∙ ap (λ (n : ℕ). led_from start n (key_after s.hop)) e
@@ -214,7 +218,7 @@ module _ (holds : List ℕ → Type 0) (count buckets width : ℕ) (map : Object
             up = omega (arith, is, up);
           }
 
-  pub step_held : 0 < at.key → IsHeld new.view.client at.node s.hop.words
+  pub step_held : 0 < at.key → IsHeld new.view.client.known at.node s.hop.words
   step_held keyed =
       let w = went_on keyed in
       subst (λ (hops : List Hop).
@@ -251,11 +255,11 @@ pub record IsPassing (buckets : ℕ) (was : Known) (start : Cursor) (now : Known
 pub begins : (buckets : ℕ) (was : Known) (start : Cursor) → IsPassing buckets was start was start
 begins buckets was start = record { over = []; are = refl; nowhere = tt; goes = refl }
 
-module _ (holds : List ℕ → Type 0) (count buckets width : ℕ) (map : Object (Unit {0}))
-    (old new : Seated Known)
+module _ (holds : List ℕ → Type 0) (count buckets width : ℕ) (map : Object Plan)
+    (old new : Seated Planned)
     (mid at : Cursor) (s : HasStepped holds count buckets width map old mid new at) (was : Known)
-    (start : Cursor) (p : IsPassing buckets was start old.view.client mid) where
-  pub passes_on : at.key ≡ 0 → IsPassing buckets was start new.view.client at
+    (start : Cursor) (p : IsPassing buckets was start old.view.client.known mid) where
+  pub passes_on : at.key ≡ 0 → IsPassing buckets was start new.view.client.known at
   passes_on none = record {
     over = s.hop ∷ p.over;
     are = s.are ∙ ap (λ (hops : List Hop). s.hop ∷ hops) p.are;
@@ -265,7 +269,7 @@ module _ (holds : List ℕ → Type 0) (count buckets width : ℕ) (map : Object
 
   pub comes_to : {E : Type 0} (decode : List ℕ → E) (entry : E) (keyed : 0 < at.key)
       → entry ≡ decode s.hop.words
-      → IsNextEntry holds decode buckets was start new.view.client at entry
+      → IsNextEntry holds decode buckets was start new.view.client.known at entry
   comes_to decode entry keyed told =
       let w = went_on holds count buckets width map old new mid at s keyed in
       let k = w.key in record {
@@ -301,14 +305,14 @@ at_most a b c low high = omega (arith, low, high)
 below : (a b c : ℕ) → a < b → b ≤ c → a < c
 below a b c low high = omega (arith, low, high)
 
-module _ (holds : List ℕ → Type 0) (count buckets width : ℕ) (map : Object (Unit {0}))
-    (begun old new : Seated Known) (start mid at : Cursor)
+module _ (holds : List ℕ → Type 0) (count buckets width : ℕ) (map : Object Plan)
+    (begun old new : Seated Planned) (start mid at : Cursor)
     (s : HasStepped holds count buckets width map old mid new at)
     (same : old ≡ after_word_step begun old.view.client) (may : MayGoOn count buckets map old mid)
-    (p : IsPassing buckets begun.view.client start old.view.client mid)
+    (p : IsPassing buckets begun.view.client.known start old.view.client.known mid)
     (left : left_from buckets mid ≤ left_from buckets start) where
   pub same_on : new ≡ after_word_step begun new.view.client
-  same_on = s.same ∙ ap (λ (x : Seated Known). after_word_step x new.view.client) same
+  same_on = s.same ∙ ap (λ (x : Seated Planned). after_word_step x new.view.client) same
 
   pub left_less : at.key ≡ 0 → left_from buckets at ≤ left_from buckets start
   left_less none =
@@ -331,7 +335,8 @@ module _ (holds : List ℕ → Type 0) (count buckets width : ℕ) (map : Object
       record {
         same = same_on;
         may = s.may;
-        went = comes_to holds count buckets width map old new mid at s begun.view.client start p
+        went = comes_to holds count buckets width map old new mid at s begun.view.client.known start
+            p
             decode entry keyed told;
         keyed = ap key_of told ∙ (tells s.hop.words whole ∙ k);
         sound = sound;

@@ -8,8 +8,9 @@ use Rattle.rcu_live.specs.Watcher.{Watching}
 use Rattle.rcu_graph.specs.Nodes.{nodes_in}
 use Rattle.rcu_graph.specs.Tended.{AreAllUsed}
 use Rattle.rcu_graph.specs.declared.keeper.Full.{Full}
-use Rattle.rcu_graph.specs.declared.known.Known.{Known}
+use Rattle.rcu_graph.specs.declared.known.Planned.{Planned}
 use Rattle.rcu_graph.specs.declared.known.Node.{Node}
+use Rattle.rcu_graph.specs.declared.plan.Plan.{Plan}
 use Rattle.rcu_map.specs.Entries.{AreSameEntries, HasKey, IsEntryOf}
 use Rattle.rcu_map.specs.Keys.{key_in}
 use Rattle.rcu_map.specs.Puts.{HasAnswered, HasPutIn, Holds, IsPutIn, IsWanted, is_put}
@@ -27,8 +28,8 @@ takes_a_node buckets words true before after put full =
 takes_a_node buckets words false before after put full =
     full put.node put.was_free.inside put.was_free.free
 
-module _ (buckets : ℕ) (words : List ℕ) (there : Bool) (seat : Seated Known)
-    (before after : Watching Known) (outside : seat.depth ≡ 0) where
+module _ (buckets : ℕ) (words : List ℕ) (there : Bool) (seat : Seated Planned)
+    (before after : Watching Planned) (outside : seat.depth ≡ 0) where
   -- at once
   pub put_at_once : (puts : Bool) → HasPutIn buckets words there puts before after
       → HasPutInTime buckets words there puts seat seat before after
@@ -36,14 +37,14 @@ module _ (buckets : ℕ) (words : List ℕ) (there : Bool) (seat : Seated Known)
     outside = outside;
     no_wait = λ node free. refl;
     at_once = λ node free. put;
-    waited = λ full. absurd (takes_a_node buckets words there (nodes_in before.view.client)
-        (nodes_in after.view.client) put.nodes full);
+    waited = λ full. absurd (takes_a_node buckets words there (nodes_in before.view.client.known)
+        (nodes_in after.view.client.known) put.nodes full);
   }
   put_at_once false same = (outside, record { seat_stays = refl; keeper_stays = same })
 
   -- and after a wait
-  pub put_later : (now : Seated Known) (looked : Watching Known)
-      → AreAllUsed (nodes_in before.view.client)
+  pub put_later : (now : Seated Planned) (looked : Watching Planned)
+      → AreAllUsed (nodes_in before.view.client.known)
       → HasMadeRoom buckets seat now before looked
       → (puts : Bool)
       → puts ≡ true
@@ -90,12 +91,12 @@ module _ {E : Type 0} (decode : List ℕ → E) (valid : E → Type 0) (key_of :
     sound = one.sound;
   }
 
-  module _ (map : Object (Unit {0})) (how : Put) (words : List ℕ) (before after : Watching Known)
+  module _ (map : Object Plan) (how : Put) (words : List ℕ) (before after : Watching Planned)
       (result : Result (Option E) Full)
       (a : HasAnswered decode valid key_of buckets map how key words before result after) where
     -- no node was free
     pub when_full : (full : Full) → result ≡ Err full
-        → IsWanted how buckets (nodes_in before.view.client) key × IsFull before after
+        → IsWanted how buckets (nodes_in before.view.client.known) key × IsFull before after
     when_full full e =
         let b = subst (λ (r : Result (Option E) Full).
         HasAnswered decode valid key_of buckets map how key words before r after)
@@ -104,7 +105,7 @@ module _ {E : Type 0} (decode : List ℕ → E) (valid : E → Type 0) (key_of :
 
     -- it was answered
     pub when_told : (old : Option E) → result ≡ Ok old
-        → Holds decode valid key_of buckets (nodes_in before.view.client) key old
+        → Holds decode valid key_of buckets (nodes_in before.view.client.known) key old
         × HasPutIn buckets words (is_some old) (is_put how (is_some old)) before after
     when_told old e =
         let b = subst (λ (r : Result (Option E) Full).

@@ -7,6 +7,8 @@ use Rattle.rcu_graph.specs.Graph.{IsWalking}
 use Rattle.rcu_graph.specs.Nodes.{IsHeld, hops_in}
 use Rattle.rcu_graph.specs.declared.known.Hop.{Hop}
 use Rattle.rcu_graph.specs.declared.known.Known.{Known}
+use Rattle.rcu_graph.specs.declared.known.Planned.{Planned}
+use Rattle.rcu_graph.specs.declared.plan.Plan.{Plan}
 use Rattle.rcu_map.specs.Keys.{IsWhole, bucket_of, key_in}
 use Rattle.rcu_map.specs.Listing.{GoesOn, IsAtEnd, IsNextEntry, cursor_after, left_from}
 use Rattle.rcu_map.specs.declared.cursor.Cursor.{Cursor}
@@ -30,29 +32,29 @@ pub record IsOnCursor (count buckets : ℕ) (known : Known) (at : Cursor) : Type
   pub same : 0 < at.key → bucket_of buckets at.key ≡ at.bucket
 
 -- an open section may go on from a cursor, which is on a node or at the end
-pub record MayGoOn (count buckets : ℕ) (map : Object (Unit {0})) (seat : Seated Known)
+pub record MayGoOn (count buckets : ℕ) (map : Object Plan) (seat : Seated Planned)
     (at : Cursor) : Type 0 where
   pub walking : IsWalking map seat
   pub within : at.bucket ≤ buckets
   pub small : at.key < 2 ^ 64
-  pub on : at.bucket < buckets → IsOnCursor count buckets seat.view.client at
+  pub on : at.bucket < buckets → IsOnCursor count buckets seat.view.client.known at
 
 -- an open section is on a node that has the words of an entry
-pub record IsOnEntry (holds : List ℕ → Type 0) (count width : ℕ) (map : Object (Unit {0}))
-    (seat : Seated Known) (node : ℕ) : Type 0 where
+pub record IsOnEntry (holds : List ℕ → Type 0) (count width : ℕ) (map : Object Plan)
+    (seat : Seated Planned) (node : ℕ) : Type 0 where
   pub walking : IsWalking map seat
   pub inside : node < count
   pub words : List ℕ
-  pub held : IsHeld seat.view.client node words
+  pub held : IsHeld seat.view.client.known node words
   pub whole : IsWhole holds width words
   pub keyed : 0 < key_in words
 
 -- an open section went on from a cursor by one hop, and is where that led
-pub record HasStepped (holds : List ℕ → Type 0) (count buckets width : ℕ) (map : Object (Unit {0}))
-    (old : Seated Known) (start : Cursor) (new : Seated Known) (at : Cursor) : Type 0 where
+pub record HasStepped (holds : List ℕ → Type 0) (count buckets width : ℕ) (map : Object Plan)
+    (old : Seated Planned) (start : Cursor) (new : Seated Planned) (at : Cursor) : Type 0 where
   pub same : new ≡ after_word_step old new.view.client
   pub hop : Hop
-  pub are : hops_in new.view.client ≡ hop ∷ hops_in old.view.client
+  pub are : hops_in new.view.client.known ≡ hop ∷ hops_in old.view.client.known
   pub goes : GoesOn buckets start hop
   pub led : at ≡ cursor_after start hop
   pub may : MayGoOn count buckets map new at
@@ -60,13 +62,15 @@ pub record HasStepped (holds : List ℕ → Type 0) (count buckets width : ℕ) 
 
 -- an open section went on from a cursor to the next entry, or to the end where there is none
 pub record HasListed {E : Type 0} (holds : List ℕ → Type 0) (decode : List ℕ → E)
-    (valid : E → Type 0) (key_of : E → ℕ) (count buckets : ℕ) (map : Object (Unit {0}))
-    (old : Seated Known)
-    (start : Cursor) (new : Seated Known) (at : Cursor) (result : Option E) : Type 0 where
+    (valid : E → Type 0) (key_of : E → ℕ) (count buckets : ℕ) (map : Object Plan)
+    (old : Seated Planned)
+    (start : Cursor) (new : Seated Planned) (at : Cursor) (result : Option E) : Type 0 where
   pub same : new ≡ after_word_step old new.view.client
   pub may : MayGoOn count buckets map new at
-  pub went : MatchOption result (IsAtEnd buckets old.view.client start new.view.client at)
-      (λ entry. IsNextEntry holds decode buckets old.view.client start new.view.client at entry)
+  pub went : MatchOption result (IsAtEnd buckets old.view.client.known start new.view.client.known
+      at)
+      (λ entry. IsNextEntry holds decode buckets old.view.client.known start new.view.client.known
+      at entry)
   pub keyed : IfSome result (λ entry. key_of entry ≡ at.key)
   pub sound : IfSome result valid
   pub nearer : IfSome result (λ _. left_from buckets at < left_from buckets start)

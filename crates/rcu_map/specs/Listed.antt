@@ -3,7 +3,10 @@ use Rattle.std.specs.Prelude.{◌≡◌, ℕ, List, Option, IfSome, MatchOption}
 use Rattle.std.specs.Borrow.{GName}
 use Rattle.rcu_live.specs.Board.{Object}
 use Rattle.rcu_live.specs.CpuSeat.{Seated, after_word_step}
+use Rattle.rcu_graph.specs.Planned.{knowing}
 use Rattle.rcu_graph.specs.declared.known.Known.{Known}
+use Rattle.rcu_graph.specs.declared.known.Planned.{Planned}
+use Rattle.rcu_graph.specs.declared.plan.Plan.{Plan}
 use Rattle.rcu_map.specs.Listing.{IsAtEnd, IsNextEntry}
 use Rattle.rcu_map.specs.declared.cursor.Cursor.{Cursor}
 use Rattle.rcu_map.specs.declared.entries.Entries.{Entries}
@@ -11,18 +14,19 @@ use Rattle.rcu_map.specs.declared.entries.Entries.{Entries}
 -- the map, the seat whose section reads it, which seat is borrowed (a name that tells one borrowed
 -- seat from another), and where it stands
 pub record Listing : Type 0 where
-  pub map : Object (Unit {0})
-  pub seat : Seated Known
+  pub map : Object Plan
+  pub seat : Seated Planned
   pub name : GName
   pub at : Cursor
 
 -- after hops to a cursor, by which the section knows this
 abbrev pub after_hops : Listing → Known → Cursor → Listing
-after_hops s known at = record s { seat = after_word_step s.seat known; at = at }
+after_hops s known at =
+    record s { seat = after_word_step s.seat (knowing s.seat.view.client known); at = at }
 
 -- what its section knows of the map
 abbrev pub known_in : Listing → Known
-known_in s = s.seat.view.client
+known_in s = s.seat.view.client.known
 
 module _ {LEAF FAN : ℕ} {T E : Type 0} {BUCKETS W N : ℕ} where
   abbrev pub listing : Entries LEAF FAN T E BUCKETS W N → Listing

@@ -7,8 +7,9 @@ use Rattle.rcu_graph.specs.Graph.{IsWatcherOf}
 use Rattle.rcu_graph.specs.Keeper.{after_step}
 use Rattle.rcu_graph.specs.Nodes.{nodes_in}
 use Rattle.rcu_graph.specs.declared.keeper.Full.{Full}
-use Rattle.rcu_graph.specs.declared.known.Known.{Known}
+use Rattle.rcu_graph.specs.declared.known.Planned.{Planned}
 use Rattle.rcu_graph.specs.declared.known.Node.{Node}
+use Rattle.rcu_graph.specs.declared.plan.Plan.{Plan}
 use Rattle.rcu_map.specs.Entries.{HasKey, IsEntryOf, IsInserted, IsReplaced}
 use Rattle.rcu_map.specs.Splices.{IsFull}
 use Rattle.rcu_map.specs.declared.put.Put.{Put}
@@ -47,9 +48,9 @@ IsOfKey valid key_of key old = IfSome old (λ entry. (key_of entry ≡ key) × v
 
 -- one step of the keeper made this change of the nodes
 pub record HasChanged (change : List Node → List Node → Type 0)
-    (before after : Watching Known) : Type 0 where
-  pub state : after ≡ after_step before (nodes_in after.view.client)
-  pub nodes : change (nodes_in before.view.client) (nodes_in after.view.client)
+    (before after : Watching Planned) : Type 0 where
+  pub state : after ≡ after_step before (nodes_in after.view.client.known)
+  pub nodes : change (nodes_in before.view.client.known) (nodes_in after.view.client.known)
 
 -- the entry of these words is in the map: in the place of the one that had its key, or beside the
 -- others where none had it
@@ -58,7 +59,7 @@ IsPutIn buckets words true before after = IsReplaced buckets before words after
 IsPutIn buckets words false before after = IsInserted buckets before words after
 
 -- the keeper put the entry of these words in, one of its key being there or none; or it did nothing
-abbrev pub HasPutIn : ℕ → List ℕ → Bool → Bool → Watching Known → Watching Known → Type 0
+abbrev pub HasPutIn : ℕ → List ℕ → Bool → Bool → Watching Planned → Watching Planned → Type 0
 HasPutIn buckets words there true before after =
     HasChanged (IsPutIn buckets words there) before after
 HasPutIn buckets words there false before after = after ≡ before
@@ -66,13 +67,14 @@ HasPutIn buckets words there false before after = after ≡ before
 -- the keeper was to put an entry of this key and these words in: it returned the one that had the
 -- key, and put the new one in where that was wanted; or it needed a node, and none was free
 pub record HasAnswered {E : Type 0} (decode : List ℕ → E) (valid : E → Type 0) (key_of : E → ℕ)
-    (buckets : ℕ) (map : Object (Unit {0})) (how : Put) (key : ℕ) (words : List ℕ)
-    (before : Watching Known) (result : Result (Option E) Full) (after : Watching Known) : Type 0
+    (buckets : ℕ) (map : Object Plan) (how : Put) (key : ℕ) (words : List ℕ)
+    (before : Watching Planned) (result : Result (Option E) Full) (after : Watching Planned) : Type
+    0
   where
     pub of_map : IsWatcherOf map after
     pub old : IfOk result (λ old.
-        Holds decode valid key_of buckets (nodes_in before.view.client) key old)
+        Holds decode valid key_of buckets (nodes_in before.view.client.known) key old)
     pub put : IfOk result (λ old.
         HasPutIn buckets words (is_some old) (is_put how (is_some old)) before after)
-    pub wanted : OnErr result (IsWanted how buckets (nodes_in before.view.client) key)
+    pub wanted : OnErr result (IsWanted how buckets (nodes_in before.view.client.known) key)
     pub full : OnErr result (IsFull before after)

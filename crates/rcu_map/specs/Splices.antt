@@ -10,9 +10,10 @@ use Rattle.rcu_graph.specs.Nodes.{IsTarget, node_at, nodes_in, renewed, state_at
 use Rattle.rcu_graph.specs.Steps.{IsClaimed}
 use Rattle.rcu_graph.specs.Tended.{AreAllUsed, AreTended, AreTrimmed, filled_with, published}
 use Rattle.rcu_graph.specs.Tended.{relinked}
-use Rattle.rcu_graph.specs.declared.known.Known.{Known}
+use Rattle.rcu_graph.specs.declared.known.Planned.{Planned}
 use Rattle.rcu_graph.specs.declared.known.Node.{Node}
 use Rattle.rcu_graph.specs.declared.node_state.NodeState.TheVariants.{Free, Live}
+use Rattle.rcu_graph.specs.declared.plan.Plan.{Plan}
 use Rattle.rcu_map.specs.Keys.{bucket_in, bucket_of}
 
 -- the node leads to this one, which has the key; or to none that has it: nowhere, or to one with a
@@ -39,23 +40,23 @@ pub record AreKept (fits : List ℕ → Type 0) (joins : ℕ → List ℕ → Li
 -- the seat may keep the graph's nodes, which are as at first, and of which the roots have these
 -- words
 pub record CanKeep (fits : List ℕ → Type 0) (first : ℕ → List ℕ) (roots width count : ℕ)
-    (graph : Object (Unit {0})) (seat : Watching Known) (words : List (List ℕ)) : Type 0 where
+    (graph : Object Plan) (seat : Watching Planned) (words : List (List ℕ)) : Type 0 where
   pub keeper : IsKeeperOf count graph seat
-  pub nodes : IsClaimed first roots 1 width count seat.view.client
+  pub nodes : IsClaimed first roots 1 width count seat.view.client.known
   pub rows : words ≡ map first (range_with_len 0 roots)
   pub whole : All fits words
 
 -- the keeper may put a node of these words behind this one, which may lead to it, as it may to the
 -- next one
 pub record CanPut (fits : List ℕ → Type 0) (joins : ℕ → List ℕ → List ℕ → Type 0) (count : ℕ)
-    (graph : Object (Unit {0})) (keeper : Watching Known) (previous : ℕ) (words : List ℕ)
+    (graph : Object Plan) (keeper : Watching Planned) (previous : ℕ) (words : List ℕ)
     (next : Option ℕ) : Type 0 where
   pub watches : IsWatcherOf graph keeper
-  pub few : length (nodes_in keeper.view.client) ≡ count
-  pub live : state_at (nodes_in keeper.view.client) previous ≡ Live
+  pub few : length (nodes_in keeper.view.client.known) ≡ count
+  pub live : state_at (nodes_in keeper.view.client.known) previous ≡ Live
   pub whole : fits words
-  pub joined : joins 0 (node_at (nodes_in keeper.view.client) previous).words words
-  pub target : IsTarget (joins 0) words (nodes_in keeper.view.client) (word_to next)
+  pub joined : joins 0 (node_at (nodes_in keeper.view.client.known) previous).words words
+  pub target : IsTarget (joins 0) words (nodes_in keeper.view.client.known) (word_to next)
 
 -- the nodes after these words were written to a node, with a link to the next one, and the previous
 -- one was led to it
@@ -66,47 +67,48 @@ put nodes previous node words next =
 -- a node that was free was put behind the previous one by one store, and what no live node leads to
 -- any more was left
 pub record HasPut (fits : List ℕ → Type 0) (joins : ℕ → List ℕ → List ℕ → Type 0) (roots count : ℕ)
-    (graph : Object (Unit {0})) (before now : Watching Known) (previous : ℕ) (words : List ℕ)
+    (graph : Object Plan) (before now : Watching Planned) (previous : ℕ) (words : List ℕ)
     (next : Option ℕ) : Type 0 where
   pub node : ℕ
   pub inside : node < count
-  pub free : state_at (nodes_in before.view.client) node ≡ Free
+  pub free : state_at (nodes_in before.view.client.known) node ≡ Free
   pub watches : IsWatcherOf graph now
-  pub state : now ≡ after_step before (nodes_in now.view.client)
-  pub kept : AreKept fits joins roots count (nodes_in now.view.client)
-  pub trimmed : AreTrimmed roots 1 (put (nodes_in before.view.client) previous node words next)
-      (nodes_in now.view.client)
+  pub state : now ≡ after_step before (nodes_in now.view.client.known)
+  pub kept : AreKept fits joins roots count (nodes_in now.view.client.known)
+  pub trimmed : AreTrimmed roots 1 (put (nodes_in before.view.client.known) previous node words
+      next)
+      (nodes_in now.view.client.known)
 
 -- no node was free, and nothing changed
-pub record IsFull (before now : Watching Known) : Type 0 where
-  pub full : AreAllUsed (nodes_in before.view.client)
+pub record IsFull (before now : Watching Planned) : Type 0 where
+  pub full : AreAllUsed (nodes_in before.view.client.known)
   pub unchanged : now ≡ before
 
 -- the keeper may lead the one node to where the other one leads
-pub record CanPass (joins : ℕ → List ℕ → List ℕ → Type 0) (count : ℕ) (graph : Object (Unit {0}))
-    (keeper : Watching Known) (previous old : ℕ) : Type 0 where
+pub record CanPass (joins : ℕ → List ℕ → List ℕ → Type 0) (count : ℕ) (graph : Object Plan)
+    (keeper : Watching Planned) (previous old : ℕ) : Type 0 where
   pub watches : IsWatcherOf graph keeper
-  pub few : length (nodes_in keeper.view.client) ≡ count
-  pub live : state_at (nodes_in keeper.view.client) previous ≡ Live
+  pub few : length (nodes_in keeper.view.client.known) ≡ count
+  pub live : state_at (nodes_in keeper.view.client.known) previous ≡ Live
   pub inside : old < count
-  pub target : IsTarget (joins 0) (node_at (nodes_in keeper.view.client) previous).words
-      (nodes_in keeper.view.client) (next_of (nodes_in keeper.view.client) old)
+  pub target : IsTarget (joins 0) (node_at (nodes_in keeper.view.client.known) previous).words
+      (nodes_in keeper.view.client.known) (next_of (nodes_in keeper.view.client.known) old)
 
 -- the previous node was led to where the old one leads, by one store, and what no live node leads
 -- to any more was left
 pub record HasPassed (fits : List ℕ → Type 0) (joins : ℕ → List ℕ → List ℕ → Type 0)
-    (roots count : ℕ) (graph : Object (Unit {0})) (before now : Watching Known)
+    (roots count : ℕ) (graph : Object Plan) (before now : Watching Planned)
     (previous old : ℕ) : Type 0 where
   pub next : Option ℕ
-  pub leads : word_to next ≡ next_of (nodes_in before.view.client) old
+  pub leads : word_to next ≡ next_of (nodes_in before.view.client.known) old
   pub watches : IsWatcherOf graph now
-  pub state : now ≡ after_step before (nodes_in now.view.client)
-  pub kept : AreKept fits joins roots count (nodes_in now.view.client)
-  pub trimmed : AreTrimmed roots 1 (relinked (nodes_in before.view.client) previous 0 next)
-      (nodes_in now.view.client)
+  pub state : now ≡ after_step before (nodes_in now.view.client.known)
+  pub kept : AreKept fits joins roots count (nodes_in now.view.client.known)
+  pub trimmed : AreTrimmed roots 1 (relinked (nodes_in before.view.client.known) previous 0 next)
+      (nodes_in now.view.client.known)
 
 -- the keeper has the graph's nodes as its seat had them
 pub record HasKept (fits : List ℕ → Type 0) (joins : ℕ → List ℕ → List ℕ → Type 0) (roots count : ℕ)
-    (seat keeper : Watching Known) : Type 0 where
+    (seat keeper : Watching Planned) : Type 0 where
   pub same : keeper ≡ seat
-  pub kept : AreKept fits joins roots count (nodes_in keeper.view.client)
+  pub kept : AreKept fits joins roots count (nodes_in keeper.view.client.known)

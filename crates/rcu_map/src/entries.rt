@@ -22,7 +22,7 @@ pub struct Entries<
     const N: usize,
 > {
     pub(crate) map: &'a Map<LEAF, FAN, T, E, BUCKETS, W, N>,
-    pub(crate) seat: &'a mut MapSeat<E, BUCKETS, W, N>,
+    pub(crate) seat: &'a mut MapSeat<E, BUCKETS, W>,
     pub(crate) at: Cursor,
     ghost may: { MayGoOn N BUCKETS map.now seat.now at } by { Prim.hlevel (props, reader_once) },
 }

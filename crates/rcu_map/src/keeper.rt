@@ -31,18 +31,18 @@ impl<E: Entry<W>, const BUCKETS: usize, const W: usize, const N: usize> Model
     ghost use Rattle.std.specs.Prelude.{◌≡◌, ◌<◌};
     ghost use Rattle.rcu_live.specs.Watcher.{Watching};
     ghost use Rattle.rcu_graph.specs.Nodes.{nodes_in};
-    ghost use Rattle.rcu_graph.specs.declared.known.Known.{Known};
+    ghost use Rattle.rcu_graph.specs.declared.known.Planned.{Planned};
     ghost use Rattle.rcu_map.specs.Chains.{IsMap};
     ghost use Rattle.rcu_map.specs.Entries.{IsNodeOf, entries_in};
 
-    ghost Value = { Watching Known };
+    ghost Value = { Watching Planned };
 
     ghost view = { λ k. k.nodes };
 
     ghost invariant = { λ k. record {
       some : 0 < BUCKETS;
-      map : IsMap E.holds BUCKETS W N (nodes_in k.nodes.view.client);
-      count : k.len ≡ entries_in BUCKETS (nodes_in k.nodes.view.client);
+      map : IsMap E.holds BUCKETS W N (nodes_in k.nodes.view.client.known);
+      count : k.len ≡ entries_in BUCKETS (nodes_in k.nodes.view.client.known);
     } };
 }
 
@@ -66,11 +66,11 @@ impl<E: Entry<W>, const BUCKETS: usize, const W: usize, const N: usize> MapKeepe
     pub fn new<const LEAF: u32, const FAN: u32, T: Drop>(
         alloc: Global,
         map: &Map<LEAF, FAN, T, E, BUCKETS, W, N>,
-        seat: MapWatcher<E, BUCKETS, W, N>,
+        seat: MapWatcher<E, BUCKETS, W>,
         roots: &[[u64; W]; BUCKETS],
     ) -> Result<Self, AllocError>
         requires keeper { IsKeeperOf N map.now seat }
-        requires nodes { IsClaimed (root_words W) BUCKETS 1 W N seat.view.client }
+        requires nodes { IsClaimed (root_words W) BUCKETS 1 W N seat.view.client.known }
         requires first { roots.now ≡ words_of_roots W BUCKETS }
         ensures { IfOk result (λ keeper. keeper ≡ seat) }
     {
@@ -87,14 +87,14 @@ impl<E: Entry<W>, const BUCKETS: usize, const W: usize, const N: usize> MapKeepe
     )
         requires graph { IsWatcherOf map.now self.now }
         ensures keeper { IsKeeperOf N map.now self.now }
-        ensures map { IsMap E.holds BUCKETS W N (nodes_in self.now.view.client) }
+        ensures map { IsMap E.holds BUCKETS W N (nodes_in self.now.view.client.known) }
     {
         self.nodes.tends(map.graph());
     }
 
     /// How many entries there are.
     pub fn len(&self) -> usize
-        ensures { result ≡ entries_in BUCKETS (nodes_in self.now.view.client) }
+        ensures { result ≡ entries_in BUCKETS (nodes_in self.now.view.client.known) }
     {
         self.len
     }
@@ -102,11 +102,11 @@ impl<E: Entry<W>, const BUCKETS: usize, const W: usize, const N: usize> MapKeepe
     /// Where a key belongs.
     pub(crate) fn place_of(&self, key: u64) -> Place
         requires { 0 < key }
-        ensures place { IsPlace BUCKETS key (nodes_in self.now.view.client)
+        ensures place { IsPlace BUCKETS key (nodes_in self.now.view.client.known)
             result.previous result.node }
         ensures told { MatchOption result.node
-            (¬ HasKey BUCKETS (nodes_in self.now.view.client) key)
-            (λ node. IsNodeOf BUCKETS (nodes_in self.now.view.client) key node) }
+            (¬ HasKey BUCKETS (nodes_in self.now.view.client.known) key)
+            (λ node. IsNodeOf BUCKETS (nodes_in self.now.view.client.known) key node) }
     {
         // A borrow of a field shows the prover what the type keeps: that there is a bucket.
         let nodes = &self.nodes;
@@ -137,8 +137,8 @@ impl<E: Entry<W>, const BUCKETS: usize, const W: usize, const N: usize> MapKeepe
 
     /// The node that has the entry of this key. No entry has the key 0.
     fn find(&self, key: u64) -> Option<usize>
-        ensures { MatchOption result (¬ HasKey BUCKETS (nodes_in self.now.view.client) key)
-            (λ node. IsNodeOf BUCKETS (nodes_in self.now.view.client) key node) }
+        ensures { MatchOption result (¬ HasKey BUCKETS (nodes_in self.now.view.client.known) key)
+            (λ node. IsNodeOf BUCKETS (nodes_in self.now.view.client.known) key node) }
     {
         // A borrow of a field shows the prover what the type keeps: that an entry has a key.
         let _ = &self.nodes;
@@ -150,8 +150,8 @@ impl<E: Entry<W>, const BUCKETS: usize, const W: usize, const N: usize> MapKeepe
 
     /// The words of the entry of a node.
     pub(crate) fn words_of(&self, node: usize) -> [u64; W]
-        requires { IsEntry BUCKETS (nodes_in self.now.view.client) node }
-        ensures same { result ≡ (node_at (nodes_in self.now.view.client) node).words }
+        requires { IsEntry BUCKETS (nodes_in self.now.view.client.known) node }
+        ensures same { result ≡ (node_at (nodes_in self.now.view.client.known) node).words }
         ensures whole { E.holds result }
     {
         let nodes = &self.nodes;
@@ -165,9 +165,9 @@ impl<E: Entry<W>, const BUCKETS: usize, const W: usize, const N: usize> MapKeepe
     /// The entry of this key, if there is one: no shared word is read. No entry has the key 0.
     /// Costs a step for each node of its bucket up to there.
     pub fn get(&self, key: u64) -> Option<E>
-        ensures there { IsSome result ↔ HasKey BUCKETS (nodes_in self.now.view.client) key }
+        ensures there { IsSome result ↔ HasKey BUCKETS (nodes_in self.now.view.client.known) key }
         ensures found { IfSome result (λ entry.
-            IsEntryOf E.decode BUCKETS (nodes_in self.now.view.client) key entry) }
+            IsEntryOf E.decode BUCKETS (nodes_in self.now.view.client.known) key entry) }
         ensures keyed { IfSome result (λ entry. E.key_of entry ≡ key) }
         ensures sound { IfSome result (λ entry. E.valid entry) }
     {
@@ -177,7 +177,7 @@ impl<E: Entry<W>, const BUCKETS: usize, const W: usize, const N: usize> MapKeepe
 
     /// Whether there is an entry of this key.
     pub fn contains(&self, key: u64) -> bool
-        ensures { IsTrue result ↔ HasKey BUCKETS (nodes_in self.now.view.client) key }
+        ensures { IsTrue result ↔ HasKey BUCKETS (nodes_in self.now.view.client.known) key }
     {
         self.find(key).is_some()
     }
@@ -194,8 +194,8 @@ impl<E: Entry<W>, const BUCKETS: usize, const W: usize, const N: usize> MapKeepe
         ensures state { self.new ≡ after_look self.old result }
         ensures later { self.old.view.seen ≤ result }
         ensures bounded { result ≤ 2 ^ 62 }
-        ensures entries { AreSameEntries BUCKETS (nodes_in self.old.view.client)
-            (nodes_in self.new.view.client) }
+        ensures entries { AreSameEntries BUCKETS (nodes_in self.old.view.client.known)
+            (nodes_in self.new.view.client.known) }
     {
         let graph = map.graph();
         let number = self.nodes.age(graph);

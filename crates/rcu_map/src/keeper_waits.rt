@@ -18,8 +18,8 @@ use rcu_seq::{Cookie, Fault, Tag};
 use std::sync::Wait;
 
 /// Refuses a seat with an open section, which its caller would wait for.
-pub(crate) fn check_outside<E: Entry<W>, const BUCKETS: usize, const W: usize, const N: usize>(
-    seat: &MapSeat<E, BUCKETS, W, N>,
+pub(crate) fn check_outside<E: Entry<W>, const BUCKETS: usize, const W: usize>(
+    seat: &MapSeat<E, BUCKETS, W>,
 ) -> Result<(), Fault>
     ensures { MatchResult result (λ _. seat.now.depth ≡ 0)
         (λ fault. (fault ≡ Fault.InSection) × (0 < seat.now.depth)) }
@@ -38,7 +38,7 @@ impl<E: Entry<W>, const BUCKETS: usize, const W: usize, const N: usize> MapKeepe
 > {
     /// Whether each node is live: the root of a bucket, or an entry's.
     pub(crate) fn is_all_live(&self) -> bool
-        ensures { IsTrue result ↔ AreAllLive (nodes_in self.now.view.client) }
+        ensures { IsTrue result ↔ AreAllLive (nodes_in self.now.view.client.known) }
     {
         self.len + BUCKETS == N
     }
@@ -48,7 +48,7 @@ impl<E: Entry<W>, const BUCKETS: usize, const W: usize, const N: usize> MapKeepe
         &mut self,
         rt: &impl Wait,
         map: &Map<LEAF, FAN, T, E, BUCKETS, W, N>,
-        seat: &mut MapSeat<E, BUCKETS, W, N>,
+        seat: &mut MapSeat<E, BUCKETS, W>,
     ) -> Result<(), Fault>
         requires { CanWait map.now seat.old self.old }
         ensures of_map { AreOf map.now self.new seat.new }
@@ -78,7 +78,7 @@ impl<E: Entry<W>, const BUCKETS: usize, const W: usize, const N: usize> MapKeepe
         &mut self,
         rt: &impl Wait,
         map: &Map<LEAF, FAN, T, E, BUCKETS, W, N>,
-        seat: &mut MapSeat<E, BUCKETS, W, N>,
+        seat: &mut MapSeat<E, BUCKETS, W>,
     ) -> Result<(), NotPut>
         requires { CanWait map.now seat.old self.old }
         ensures of_map { AreOf map.now self.new seat.new }
@@ -108,7 +108,7 @@ impl<E: Entry<W>, const BUCKETS: usize, const W: usize, const N: usize> MapKeepe
         &mut self,
         rt: &impl Wait,
         map: &Map<LEAF, FAN, T, E, BUCKETS, W, N>,
-        seat: &mut MapSeat<E, BUCKETS, W, N>,
+        seat: &mut MapSeat<E, BUCKETS, W>,
         how: Put,
         entry: E,
     ) -> Result<Option<E>, NotPut>
@@ -117,16 +117,16 @@ impl<E: Entry<W>, const BUCKETS: usize, const W: usize, const N: usize> MapKeepe
         ensures of_map { AreOf map.now self.new seat.new }
         ensures rested { HasRested seat.old seat.new }
         ensures old { IfOk result (λ old. Holds E.decode E.valid E.key_of BUCKETS
-            (nodes_in self.old.view.client) (E.key_of entry) old) }
+            (nodes_in self.old.view.client.known) (E.key_of entry) old) }
         ensures put { IfOk result (λ old. HasPutInTime BUCKETS (E.in_words entry) (is_some old)
             (is_put how (is_some old)) seat.old seat.new self.old self.new) }
         ensures full { (result ≡ Err NotPut.Full) ↔ ((seat.old.depth ≡ 0)
-            × IsWanted how BUCKETS (nodes_in self.old.view.client) (E.key_of entry)
-            × AreAllLive (nodes_in self.old.view.client)) }
+            × IsWanted how BUCKETS (nodes_in self.old.view.client.known) (E.key_of entry)
+            × AreAllLive (nodes_in self.old.view.client.known)) }
         ensures fault { (fault : Fault) → result ≡ Err (NotPut.Fault fault) →
             fault ≡ wait_fault seat.old.depth }
         ensures given_up { result ≡ Err (NotPut.Fault Fault.Exhausted) →
-            IsWanted how BUCKETS (nodes_in self.old.view.client) (E.key_of entry)
+            IsWanted how BUCKETS (nodes_in self.old.view.client.known) (E.key_of entry)
             × HasGivenUp BUCKETS seat.old seat.new self.old self.new }
         ensures unchanged { OnErr result (result ≢ Err (NotPut.Fault Fault.Exhausted) →
             HasStayed seat.old seat.new self.old self.new) }

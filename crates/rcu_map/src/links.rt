@@ -18,7 +18,7 @@ pub(crate) fn keep<
 >(
     alloc: Global,
     graph: &Graph<LEAF, FAN, T, F, K, 1, W, N>,
-    seat: GraphWatcher<F, K, 1, W, N>,
+    seat: GraphWatcher<F>,
     roots: &[[u64; W]; K],
 ) -> Result<Keeper<F, K, 1, W, N>, AllocError>
     requires { CanKeep F.fits F.first K W N graph.now seat roots.now }

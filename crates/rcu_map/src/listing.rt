@@ -24,14 +24,14 @@ impl<
 > Map<LEAF, FAN, T, E, BUCKETS, W, N> {
     /// Goes on from a cursor by one hop, and returns where that led: to a node, or to the root of
     /// the next bucket, where it led nowhere.
-    fn step(&self, seat: &mut MapSeat<E, BUCKETS, W, N>, at: Cursor) -> Cursor
+    fn step(&self, seat: &mut MapSeat<E, BUCKETS, W>, at: Cursor) -> Cursor
         requires may { MayGoOn N BUCKETS self.now seat.old at }
         requires inside { at.bucket < BUCKETS }
         ensures { HasStepped E.holds N BUCKETS W self.now seat.old at seat.new result }
     {
         words_are_two::<E, W>();
         // Shows the prover that the next bucket's root is a node.
-        self.graph.roots_are_nodes();
+        self.graph.sizes();
         let Some(node) = self.graph.follow(seat, at.node, 0) else {
             return Cursor::at_root(at.bucket + 1);
         };
@@ -44,10 +44,10 @@ impl<
     }
 
     /// The entry that a node has, by a load a word.
-    fn entry_at(&self, seat: &mut MapSeat<E, BUCKETS, W, N>, node: usize) -> E
+    fn entry_at(&self, seat: &mut MapSeat<E, BUCKETS, W>, node: usize) -> E
         requires { IsOnEntry E.holds N W self.now seat.old node }
         ensures same { seat.new ≡ seat.old }
-        ensures told { (words : List ℕ) → IsHeld seat.old.view.client node words →
+        ensures told { (words : List ℕ) → IsHeld seat.old.view.client.known node words →
             IsWhole E.holds W words → result ≡ E.decode words }
         ensures sound { E.valid result }
     {
@@ -55,7 +55,7 @@ impl<
     }
 
     /// Goes on from a cursor to the next entry. None tells that no bucket has a further one.
-    fn next_entry(&self, seat: &mut MapSeat<E, BUCKETS, W, N>, start: Cursor) -> (Cursor, Option<E>)
+    fn next_entry(&self, seat: &mut MapSeat<E, BUCKETS, W>, start: Cursor) -> (Cursor, Option<E>)
         requires { MayGoOn N BUCKETS self.now seat.old start }
         ensures { HasListed E.holds E.decode E.valid E.key_of N BUCKETS self.now seat.old start
             seat.new result.0 result.1 }
@@ -73,7 +73,7 @@ impl<
     /// Lends the seat to an iterator over all entries, in an open section. Nothing is loaded yet.
     pub fn entries<'a>(
         &'a self,
-        seat: &'a mut MapSeat<E, BUCKETS, W, N>,
+        seat: &'a mut MapSeat<E, BUCKETS, W>,
     ) -> Entries<'a, LEAF, FAN, T, E, BUCKETS, W, N>
         requires { IsWalking self.now seat.old }
         ensures map { (listing result).map ≡ self.now }
@@ -82,7 +82,7 @@ impl<
         ensures first { (listing result).at ≡ at_root 0 }
     {
         // Shows the prover that the first bucket's root is a node.
-        self.graph.roots_are_nodes();
+        self.graph.sizes();
         Entries {
             map: self,
             seat,

@@ -51,8 +51,9 @@ impl<
 > Model for Map<LEAF, FAN, T, E, BUCKETS, W, N> {
     ghost use Rattle.std.specs.Prelude.{◌<◌};
     ghost use Rattle.rcu_live.specs.Board.{Object};
+    ghost use Rattle.rcu_graph.specs.declared.plan.Plan.{Plan};
 
-    ghost Value = { Object (Unit {0}) };
+    ghost Value = { Object Plan };
 
     ghost view = { λ map. map.graph };
 
@@ -79,7 +80,7 @@ impl<
     }
 
     /// The running engine.
-    pub fn live(&self) -> &Live<LEAF, FAN, T, GraphRule<MapShape<E, BUCKETS, W>, BUCKETS, 1, W, N>>
+    pub fn live(&self) -> &Live<LEAF, FAN, T, GraphRule<MapShape<E, BUCKETS, W>>>
         ensures { result.now ≡ self.now }
     {
         self.graph.live()
@@ -93,11 +94,11 @@ impl<
     }
 
     /// The words of the node that the section is on, by a load each.
-    pub(crate) fn words_at(&self, seat: &mut MapSeat<E, BUCKETS, W, N>, node: usize) -> [u64; W]
+    pub(crate) fn words_at(&self, seat: &mut MapSeat<E, BUCKETS, W>, node: usize) -> [u64; W]
         requires at { IsAt (root_words W) BUCKETS N self.now seat.old node }
         ensures same { seat.new ≡ seat.old }
         ensures told { (words : List ℕ) →
-            IsOn (root_words W) BUCKETS seat.old.view.client node words →
+            IsOn (root_words W) BUCKETS seat.old.view.client.known node words →
             IsWhole E.holds W words → result ≡ words }
     {
         let mut words = [0u64; W];
@@ -108,15 +109,16 @@ impl<
     }
 
     /// The node that has the entry of this key. No entry has the key 0.
-    fn find(&self, seat: &mut MapSeat<E, BUCKETS, W, N>, key: u64) -> Option<usize>
+    fn find(&self, seat: &mut MapSeat<E, BUCKETS, W>, key: u64) -> Option<usize>
         requires walking { IsWalking self.now seat.old }
         ensures same { seat.new ≡ after_word_step seat.old seat.new.view.client }
         ensures walking { IsWalking self.now seat.new }
-        ensures searched { 0 < key → IsSearched (bucket_of BUCKETS key) key seat.old.view.client
-            result seat.new.view.client }
+        ensures searched { 0 < key → IsSearched (bucket_of BUCKETS key) key
+            seat.old.view.client.known
+            result seat.new.view.client.known }
         ensures none { key ≡ 0 → result ≡ None }
         ensures found { IfSome result (λ node.
-            IsFound (IsWhole E.holds W) key seat.new.view.client node) }
+            IsFound (IsWhole E.holds W) key seat.new.view.client.known node) }
         ensures keyed { IfSome result (λ _. 0 < key) }
         ensures on { IfSome result (λ node.
             IsAt (root_words W) BUCKETS N self.now seat.new node) }
@@ -131,15 +133,16 @@ impl<
 
     /// The entry of this key, by two loads for each node of its bucket up to there, and one a word.
     /// It ends, whatever the keeper does meanwhile. No entry has the key 0.
-    pub fn get(&self, seat: &mut MapSeat<E, BUCKETS, W, N>, key: u64) -> Option<E>
+    pub fn get(&self, seat: &mut MapSeat<E, BUCKETS, W>, key: u64) -> Option<E>
         requires walking { IsWalking self.now seat.old }
         ensures same { seat.new ≡ after_word_step seat.old seat.new.view.client }
         ensures walking { IsWalking self.now seat.new }
-        ensures searched { 0 < key → IsLookedUp BUCKETS key seat.old.view.client (is_some result)
-            seat.new.view.client }
+        ensures searched { 0 < key → IsLookedUp BUCKETS key seat.old.view.client.known
+            (is_some result)
+            seat.new.view.client.known }
         ensures none { key ≡ 0 → is_some result ≡ false }
         ensures found { IfSome result (λ entry.
-            IsEntryFound E.holds E.decode key seat.new.view.client entry) }
+            IsEntryFound E.holds E.decode key seat.new.view.client.known entry) }
         ensures keyed { IfSome result (λ entry. E.key_of entry ≡ key) }
         ensures sound { IfSome result (λ entry. E.valid entry) }
     {
@@ -148,12 +151,12 @@ impl<
     }
 
     /// Whether the section finds an entry of this key, as [`get`](Self::get) does.
-    pub fn contains(&self, seat: &mut MapSeat<E, BUCKETS, W, N>, key: u64) -> bool
+    pub fn contains(&self, seat: &mut MapSeat<E, BUCKETS, W>, key: u64) -> bool
         requires walking { IsWalking self.now seat.old }
         ensures same { seat.new ≡ after_word_step seat.old seat.new.view.client }
         ensures walking { IsWalking self.now seat.new }
-        ensures searched { 0 < key → IsLookedUp BUCKETS key seat.old.view.client result
-            seat.new.view.client }
+        ensures searched { 0 < key → IsLookedUp BUCKETS key seat.old.view.client.known result
+            seat.new.view.client.known }
         ensures none { key ≡ 0 → result ≡ false }
     {
         self.find(seat, key).is_some()

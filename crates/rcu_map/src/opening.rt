@@ -9,6 +9,7 @@ ghost use Rattle.rcu_seq.specs.Memory.{tested_fault};
 ghost use Rattle.rcu_graph.specs.Keeper.{IsKeeperOf};
 ghost use Rattle.rcu_graph.specs.Nodes.{first_nodes, first_place};
 ghost use Rattle.rcu_graph.specs.Opening.{AreSizes};
+ghost use Rattle.rcu_graph.specs.Planned.{of_plan, plan_of};
 ghost use Rattle.rcu_graph.specs.declared.known.Known.TheVariants.{Idle, Keeper, Owner};
 ghost use Rattle.rcu_map.specs.Keys.{root_words};
 ghost use Rattle.rcu_map.specs.Opening.{IsOpened, MayOpen};
@@ -57,9 +58,9 @@ type OpenedGraph<
     const N: usize,
 > = (
     Graph<LEAF, FAN, T, MapShape<E, BUCKETS, W>, BUCKETS, 1, W, N>,
-    Vec<MapSeat<E, BUCKETS, W, N>>,
-    Vec<MapWatcher<E, BUCKETS, W, N>>,
-    MapWatcher<E, BUCKETS, W, N>,
+    Vec<MapSeat<E, BUCKETS, W>>,
+    Vec<MapWatcher<E, BUCKETS, W>>,
+    MapWatcher<E, BUCKETS, W>,
 );
 
 /// Opens the graph of a map, with these words of its roots.
@@ -96,8 +97,8 @@ pub type Opened<
     const N: usize,
 > = (
     Map<LEAF, FAN, T, E, BUCKETS, W, N>,
-    Vec<MapSeat<E, BUCKETS, W, N>>,
-    Vec<MapWatcher<E, BUCKETS, W, N>>,
+    Vec<MapSeat<E, BUCKETS, W>>,
+    Vec<MapWatcher<E, BUCKETS, W>>,
     MapKeeper<E, BUCKETS, W, N>,
 );
 
@@ -126,11 +127,14 @@ impl<
         requires sizes { AreSizes BUCKETS 1 W N }
         ensures fault { tested_fault result ≡ opening_refusal LEAF FAN cpus last }
         ensures dealt { IfOk result (λ opened. AreDealt cpus last (2 ^ 62)
-            (first_place + (1 + W) * N) 0 Idle opened.0 opened.1.items opened.2.items) }
+            (first_place + (1 + W) * N) 0 (of_plan (plan_of BUCKETS 1 W N) Idle) opened.0
+            opened.1.items opened.2.items) }
+        ensures plan { IfOk result (λ opened. opened.0.plan ≡ plan_of BUCKETS 1 W N) }
         ensures keeper { IfOk result (λ opened. IsKeeperOf N opened.0 opened.3) }
         ensures own { IfOk result (λ opened. opened.3 ≡ after_word_step
-            (watcher_at_first opened.0.table (base_of cpus) Owner)
-            (Keeper 0 (first_nodes 1 W (root_words W) BUCKETS N))) }
+            (watcher_at_first opened.0.table (base_of cpus) (of_plan (plan_of BUCKETS 1 W N) Owner))
+            (of_plan (plan_of BUCKETS 1 W N)
+            (Keeper 0 (first_nodes 1 W (root_words W) BUCKETS N)))) }
     {
         check_size::<LEAF, FAN>(cpus, last)?;
         let Ok(rows) = root_rows::<BUCKETS, W>(alloc) else {

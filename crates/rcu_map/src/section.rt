@@ -25,12 +25,12 @@ impl<
     /// Faults: `Offline` (2) where the processor is offline; `CpuIdle` (23) where it is idle.
     pub fn get_section(
         &self,
-        seat: &mut MapSeat<E, BUCKETS, W, N>,
+        seat: &mut MapSeat<E, BUCKETS, W>,
         key: u64,
     ) -> Result<Option<E>, Fault>
         requires seat { IsSeatOf self.now seat.old }
         requires outside { seat.old.depth ≡ 0 }
-        requires reader { IsReader seat.old.view.client }
+        requires reader { IsReader seat.old.view.client.known }
         ensures seat { IsSeatOf self.now seat.new }
         ensures outside { seat.new.depth ≡ 0 }
         ensures fault { result_err result ≡ enter_refusal seat.old }

@@ -20,19 +20,9 @@ impl<E: Entry<W>, const BUCKETS: usize, const W: usize> Shape for MapShape<E, BU
 }
 
 /// A processor's seat of a map's engine.
-pub type MapSeat<E, const BUCKETS: usize, const W: usize, const N: usize> = GraphSeat<
-    MapShape<E, BUCKETS, W>,
-    BUCKETS,
-    1,
-    W,
-    N,
->;
+pub type MapSeat<E, const BUCKETS: usize, const W: usize> = GraphSeat<MapShape<E, BUCKETS, W>>;
 
 /// A watcher's seat of a map's engine.
-pub type MapWatcher<E, const BUCKETS: usize, const W: usize, const N: usize> = GraphWatcher<
+pub type MapWatcher<E, const BUCKETS: usize, const W: usize> = GraphWatcher<
     MapShape<E, BUCKETS, W>,
-    BUCKETS,
-    1,
-    W,
-    N,
 >;

@@ -57,8 +57,9 @@ impl<
     const N: usize,
 > Model for Updater<'a, LEAF, FAN, T, E, BUCKETS, W, N> {
     ghost use Rattle.rcu_live.specs.Board.{Object};
+    ghost use Rattle.rcu_graph.specs.declared.plan.Plan.{Plan};
 
-    ghost Value = { Object (Unit {0}) };
+    ghost Value = { Object Plan };
 
     ghost view = { λ updater. updater.map.now };
 }

@@ -2,7 +2,7 @@
 ghost use Rattle.std.specs.Prelude.{◌≡◌, ◌≤◌, ◌<◌, ◌^◌, Err, IfErr, IfOk};
 ghost use Rattle.rcu_seq.specs.declared.fault.Fault.{Fault};
 ghost use Rattle.rcu_live.specs.Waits.{HasRested, wait_fault};
-ghost use Rattle.rcu_graph.specs.Graph.{IsSeatOf};
+ghost use Rattle.rcu_live.specs.CpuSeat.{IsSeatOf};
 ghost use Rattle.rcu_map.specs.Puts.{IsOfKey};
 ghost use Rattle.rcu_map.specs.declared.put.NotPut.{NotPut};
 
@@ -60,7 +60,7 @@ impl<
     pub fn put_or_wait(
         &self,
         rt: &impl Wait,
-        seat: &mut MapSeat<E, BUCKETS, W, N>,
+        seat: &mut MapSeat<E, BUCKETS, W>,
         how: Put,
         entry: E,
     ) -> Result<Option<E>, NotPut>

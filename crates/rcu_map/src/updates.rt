@@ -30,7 +30,7 @@ impl<E: Entry<W>, const BUCKETS: usize, const W: usize, const N: usize> MapKeepe
     ) -> Result<(), Full>
         requires graph { IsWatcherOf map.now self.old }
         requires whole { E.holds words.now }
-        requires place { IsPlace BUCKETS (key_in words.now) (nodes_in self.old.view.client)
+        requires place { IsPlace BUCKETS (key_in words.now) (nodes_in self.old.view.client.known)
             previous None }
         ensures graph { IsWatcherOf map.now self.new }
         ensures put { MatchResult result
@@ -53,7 +53,7 @@ impl<E: Entry<W>, const BUCKETS: usize, const W: usize, const N: usize> MapKeepe
     ) -> Result<(), Full>
         requires graph { IsWatcherOf map.now self.old }
         requires whole { E.holds words.now }
-        requires place { IsPlace BUCKETS (key_in words.now) (nodes_in self.old.view.client)
+        requires place { IsPlace BUCKETS (key_in words.now) (nodes_in self.old.view.client.known)
             previous (Some old) }
         ensures graph { IsWatcherOf map.now self.new }
         ensures put { MatchResult result
@@ -149,7 +149,7 @@ impl<E: Entry<W>, const BUCKETS: usize, const W: usize, const N: usize> MapKeepe
     ) -> Option<E>
         requires { IsWatcherOf map.now self.old }
         ensures graph { IsWatcherOf map.now self.new }
-        ensures old { Holds E.decode E.valid E.key_of BUCKETS (nodes_in self.old.view.client)
+        ensures old { Holds E.decode E.valid E.key_of BUCKETS (nodes_in self.old.view.client.known)
             key result }
         ensures removed { IsSome result →
             HasChanged (λ before after. IsRemoved BUCKETS before key after) self.old self.new }

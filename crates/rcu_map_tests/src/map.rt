@@ -1,5 +1,6 @@
 //! Maps: their openings, entries that sections go over, calls by a script and by several threads,
 //! and nodes used again.
+mod large;
 mod reuse;
 mod route;
 mod script;
@@ -9,6 +10,7 @@ mod waits;
 
 ghost use Rattle.std.specs.Prelude.{◌≡◌};
 ghost use Rattle.rcu_live.specs.CpuSeat.{IsSeatOf};
+ghost use Rattle.rcu_graph.specs.Planned.{of_plan};
 ghost use Rattle.rcu_graph.specs.declared.known.Known.TheVariants.{Idle};
 
 use crate::map::route::Route;
@@ -21,10 +23,10 @@ use std::process::Abort;
 type Routes = Map<4, 4, u64, Route, 4, 2, 16>;
 
 /// Looks a route up, and goes over all of them: there is none.
-fn finds_none<R: Abort>(rt: &R, map: &Routes, seat: &mut MapSeat<Route, 4, 2, 16>)
+fn finds_none<R: Abort>(rt: &R, map: &Routes, seat: &mut MapSeat<Route, 4, 2>)
     requires seat { IsSeatOf map.now seat.old }
     requires outside { seat.old.depth ≡ 0 }
-    requires idle { seat.old.view.client ≡ Idle }
+    requires idle { seat.old.view.client ≡ of_plan map.now.plan Idle }
 {
     assert_eq!(rt; map.get_section(seat, 5), Ok(None));
     assert_eq!(rt; seat.enter(map.live()), Ok(1));

@@ -13,7 +13,7 @@ use std::alloc::{AllocError, Global};
 /// A root, and three nodes with a key and a value.
 pub(crate) type Chain = Graph<4, 4, u64, Sorted, 1, 1, 2, 4>;
 
-pub(crate) type Seat = GraphSeat<Sorted, 1, 1, 2, 4>;
+pub(crate) type Seat = GraphSeat<Sorted>;
 
 /// The chain and who keeps it.
 #[derive(Drop)]
@@ -27,10 +27,10 @@ impl<'a> ChainAndKeeper<'a> {
     pub(crate) fn new(
         alloc: Global,
         chain: &'a Chain,
-        own: GraphWatcher<Sorted, 1, 1, 2, 4>,
+        own: GraphWatcher<Sorted>,
     ) -> Result<Self, AllocError>
         requires keeper { IsKeeperOf 4 chain.now own }
-        requires first { IsClaimed (λ _. 0 ∷ 0 ∷ []) 1 1 2 4 own.view.client }
+        requires first { IsClaimed (λ _. 0 ∷ 0 ∷ []) 1 1 2 4 own.view.client.known }
     {
         let keeper = Keeper::new(alloc, chain, own, &[[0, 0]])?;
         Ok(ChainAndKeeper { chain, keeper })
@@ -40,8 +40,8 @@ impl<'a> ChainAndKeeper<'a> {
     fn may_lead(&self, from: usize, to: Option<usize>) -> bool
         requires { from < 4 }
         ensures { IsTrue result → IsTarget (λ from to. slice_index from 0 < slice_index to 0)
-            (node_at (nodes_in self.now.keeper.view.client) from).words
-            (nodes_in self.now.keeper.view.client) (word_to to) }
+            (node_at (nodes_in self.now.keeper.view.client.known) from).words
+            (nodes_in self.now.keeper.view.client.known) (word_to to) }
     {
         self.keeper.tends(self.chain);
         let Some(node) = to else {
@@ -61,7 +61,7 @@ impl<'a> ChainAndKeeper<'a> {
         requires { node < 4 }
         ensures { IsTrue result → IsReady (λ _. Unit {0})
             (λ _ from to. slice_index from 0 < slice_index to 0) 1
-            (nodes_in self.now.keeper.view.client) node }
+            (nodes_in self.now.keeper.view.client.known) node }
     {
         self.keeper.is_free(node) && self.may_lead(node, self.keeper.link_of(node, 0))
     }

@@ -1,6 +1,7 @@
 //! Parts of tests with threads: the seats of a chain's processors.
 ghost use Rattle.std.specs.Prelude.{◌≡◌, All};
 ghost use Rattle.rcu_live.specs.CpuSeat.{IsSeatOf};
+ghost use Rattle.rcu_graph.specs.Planned.{of_plan};
 ghost use Rattle.rcu_graph.specs.declared.known.Known.TheVariants.{Idle};
 
 use crate::nodes::Sorted;
@@ -12,17 +13,17 @@ use std::sync::Wait;
 pub(crate) fn next_seat<R: Abort, const N: usize>(
     rt: &R,
     chain: &Graph<4, 4, u64, Sorted, 1, 1, 2, N>,
-    seats: &mut Vec<GraphSeat<Sorted, 1, 1, 2, N>>,
-) -> GraphSeat<Sorted, 1, 1, 2, N>
+    seats: &mut Vec<GraphSeat<Sorted>>,
+) -> GraphSeat<Sorted>
     requires seats { All (IsSeatOf chain.now) seats.old.items }
     requires outside { All (λ seat. seat.depth ≡ 0) seats.old.items }
-    requires idle { All (λ seat. seat.view.client ≡ Idle) seats.old.items }
+    requires idle { All (λ seat. seat.view.client ≡ of_plan chain.now.plan Idle) seats.old.items }
     ensures seats { All (IsSeatOf chain.now) seats.new.items }
     ensures outside { All (λ seat. seat.depth ≡ 0) seats.new.items }
-    ensures idle { All (λ seat. seat.view.client ≡ Idle) seats.new.items }
+    ensures idle { All (λ seat. seat.view.client ≡ of_plan chain.now.plan Idle) seats.new.items }
     ensures seat { IsSeatOf chain.now result }
     ensures shut { result.depth ≡ 0 }
-    ensures unused { result.view.client ≡ Idle }
+    ensures unused { result.view.client ≡ of_plan chain.now.plan Idle }
 {
     seats.pop().expect(rt, "a processor is left")
 }
@@ -31,17 +32,17 @@ pub(crate) fn next_seat<R: Abort, const N: usize>(
 pub(crate) fn next_online<R: Abort + Wait, const N: usize>(
     rt: &R,
     chain: &Graph<4, 4, u64, Sorted, 1, 1, 2, N>,
-    seats: &mut Vec<GraphSeat<Sorted, 1, 1, 2, N>>,
-) -> GraphSeat<Sorted, 1, 1, 2, N>
+    seats: &mut Vec<GraphSeat<Sorted>>,
+) -> GraphSeat<Sorted>
     requires seats { All (IsSeatOf chain.now) seats.old.items }
     requires outside { All (λ seat. seat.depth ≡ 0) seats.old.items }
-    requires idle { All (λ seat. seat.view.client ≡ Idle) seats.old.items }
+    requires idle { All (λ seat. seat.view.client ≡ of_plan chain.now.plan Idle) seats.old.items }
     ensures seats { All (IsSeatOf chain.now) seats.new.items }
     ensures outside { All (λ seat. seat.depth ≡ 0) seats.new.items }
-    ensures idle { All (λ seat. seat.view.client ≡ Idle) seats.new.items }
+    ensures idle { All (λ seat. seat.view.client ≡ of_plan chain.now.plan Idle) seats.new.items }
     ensures seat { IsSeatOf chain.now result }
     ensures shut { result.depth ≡ 0 }
-    ensures unused { result.view.client ≡ Idle }
+    ensures unused { result.view.client ≡ of_plan chain.now.plan Idle }
 {
     let mut seat = next_seat(rt, chain, seats);
     assert_eq!(rt; chain.live().online(rt, &mut seat), Ok(()));

@@ -5,6 +5,7 @@ ghost use Rattle.std.specs.Prelude.{◌≡◌};
 ghost use Rattle.std.specs.Thread.{IsSync};
 ghost use Rattle.rcu_live.specs.CpuSeat.{IsSeatOf, after_word_step};
 ghost use Rattle.rcu_graph.specs.Graph.{IsWalking};
+ghost use Rattle.rcu_graph.specs.Planned.{of_plan};
 ghost use Rattle.rcu_graph.specs.declared.known.Known.TheVariants.{Idle};
 
 use crate::nodes::chain::{Chain, ChainAndKeeper, Seat};
@@ -46,10 +47,10 @@ fn look_twice(chain: &Chain, seat: &mut Seat) -> (u64, bool)
 fn look_in_a_section(chain: &Chain, seat: &mut Seat) -> (u64, bool)
     requires seat { IsSeatOf chain.now seat.old }
     requires outside { seat.old.depth ≡ 0 }
-    requires idle { seat.old.view.client ≡ Idle }
+    requires idle { seat.old.view.client ≡ of_plan chain.now.plan Idle }
     ensures seat { IsSeatOf chain.now seat.new }
     ensures outside { seat.new.depth ≡ 0 }
-    ensures idle { seat.new.view.client ≡ Idle }
+    ensures idle { seat.new.view.client ≡ of_plan chain.now.plan Idle }
 {
     if seat.enter(chain.live()).is_err() {
         return (0, false);
@@ -69,7 +70,7 @@ struct Reader<'a> {
     newest: u64,
     ghost seat_of: { IsSeatOf chain.now seat },
     ghost outside: { seat.depth ≡ 0 },
-    ghost idle: { seat.view.client ≡ Idle },
+    ghost idle: { seat.view.client ≡ of_plan chain.now.plan Idle },
 }
 
 impl<'a> Reader<'a> {

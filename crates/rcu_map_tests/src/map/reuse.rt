@@ -18,7 +18,7 @@ const REMOVALS: u32 = 1_000_000;
 struct Scene<'a> {
     map: &'a Routes,
     keeper: MapKeeper<Route, 16, 2, 256>,
-    seat: MapSeat<Route, 16, 2, 256>,
+    seat: MapSeat<Route, 16, 2>,
     ghost keeper_of: { IsWatcherOf map.now keeper },
     ghost seat_of: { IsSeatOf map.now seat },
 }

@@ -6,6 +6,7 @@ ghost use Rattle.std.specs.Prelude.{◌≡◌};
 ghost use Rattle.rcu_live.specs.CpuSeat.{IsSeatOf, after_word_step};
 ghost use Rattle.rcu_map.specs.Listed.{after_hops, known_in, listing};
 ghost use Rattle.rcu_graph.specs.Graph.{IsWalking, IsWatcherOf};
+ghost use Rattle.rcu_graph.specs.Planned.{of_plan};
 ghost use Rattle.rcu_graph.specs.declared.known.Known.TheVariants.{Idle};
 
 use crate::map::route::Route;
@@ -20,9 +21,9 @@ use std::sync::Wait;
 /// Up to 4 routes, in 2 buckets.
 pub(crate) type Routes = Map<4, 4, u64, Route, 2, 2, 6>;
 
-type Seat = MapSeat<Route, 2, 2, 6>;
+type Seat = MapSeat<Route, 2, 2>;
 
-type Watcher = MapWatcher<Route, 2, 2, 6>;
+type Watcher = MapWatcher<Route, 2, 2>;
 
 /// The entries of a map that a section goes over.
 type Listing<'a> = Entries<'a, 4, 4, u64, Route, 2, 2, 6>;
@@ -102,7 +103,7 @@ struct Scene<'a, C: Caller + Drop> {
     ghost seat_of: { IsSeatOf map.now seat },
     ghost watcher_of: { IsWatcherOf map.now watcher },
     ghost outside: { seat.depth ≡ 0 },
-    ghost idle: { seat.view.client ≡ Idle },
+    ghost idle: { seat.view.client ≡ of_plan map.now.plan Idle },
 }
 
 /// Compares the next entry that a section goes over with this one.

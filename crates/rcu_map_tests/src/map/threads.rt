@@ -8,6 +8,7 @@ ghost use Rattle.std.specs.Prelude.{◌≡◌, All};
 ghost use Rattle.std.specs.Thread.{IsSync};
 ghost use Rattle.rcu_live.specs.CpuSeat.{IsSeatOf};
 ghost use Rattle.rcu_graph.specs.Graph.{IsWatcherOf};
+ghost use Rattle.rcu_graph.specs.Planned.{of_plan};
 ghost use Rattle.rcu_graph.specs.declared.known.Known.TheVariants.{Idle};
 
 use crate::map::route::Route;
@@ -27,9 +28,9 @@ pub(crate) type Routes = Map<4, 4, u64, Route, BUCKETS, 2, 32>;
 
 pub(crate) type Control<'a> = Updater<'a, 4, 4, u64, Route, BUCKETS, 2, 32>;
 
-pub(crate) type Seat = MapSeat<Route, BUCKETS, 2, 32>;
+pub(crate) type Seat = MapSeat<Route, BUCKETS, 2>;
 
-pub(crate) type Watcher = MapWatcher<Route, BUCKETS, 2, 32>;
+pub(crate) type Watcher = MapWatcher<Route, BUCKETS, 2>;
 
 /// The seats and the watchers that no thread has yet.
 #[derive(Drop)]
@@ -40,7 +41,7 @@ struct Spare<'a> {
     watchers: Vec<Watcher>,
     ghost seats_of: { All (IsSeatOf map.now) seats.items },
     ghost outside: { All (λ seat. seat.depth ≡ 0) seats.items },
-    ghost idle: { All (λ seat. seat.view.client ≡ Idle) seats.items },
+    ghost idle: { All (λ seat. seat.view.client ≡ of_plan map.now.plan Idle) seats.items },
     ghost watchers_of: { All (IsWatcherOf map.now) watchers.items },
 }
 

@@ -29,7 +29,7 @@ enum Call {
 struct Scene<'a> {
     map: &'a Two,
     keeper: MapKeeper<Route, 1, 2, 3>,
-    seat: MapSeat<Route, 1, 2, 3>,
+    seat: MapSeat<Route, 1, 2>,
     ghost keeper_of: { IsWatcherOf map.now keeper },
     ghost seat_of: { IsSeatOf map.now seat },
 }

@@ -21,4 +21,4 @@ returns-clause-leave c = λ ours opened root node keeper. took_off node refl
 
 pub returns-clause-look : goal.returns-clause-look
 returns-clause-look c = λ ours opened root number keeper opens.
-    looked number _ (le-max_left number (latest_in keeper.view.client)) opens refl
+    looked number _ (le-max_left number (latest_in keeper.view.client.known)) opens refl

@@ -1,5 +1,13 @@
+use Rattle.std.specs.Prelude.{map}
+use Rattle.atomic_table.proofs.Lists.{at_map}
+use Rattle.rcu_graph.specs.Planned.{of_plan, unplanned}
+use Rattle.rcu_graph.specs.declared.known.Known.TheVariants.{Keeper}
 use Rattle.rcu_graph.proofs.HeldNodes.{chains}
 use Rattle.rcu_graph.proofs.laws.chains_go_up.Goals as goal
 
 pub returns : goal.returns
-returns g c = chains g.F.Shape.fits g.F.Shape.joins g.F.Shape.first _ _ _ _
+returns g c = λ plan ours root table homes xs keeper latest who own nodes h kept.
+    chains g.F.Shape.fits g.F.Shape.joins g.F.Shape.first plan.roots plan.links
+    plan.words plan.nodes ours root table homes (map unplanned xs) keeper latest who own nodes
+    h.kept
+    (at_map unplanned xs keeper (who, own, of_plan plan (Keeper latest nodes)) kept)

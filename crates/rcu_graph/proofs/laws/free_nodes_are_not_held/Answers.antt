@@ -1,5 +1,15 @@
+use Rattle.std.specs.Prelude.{map}
+use Rattle.atomic_table.proofs.Lists.{at_map}
+use Rattle.rcu_graph.specs.Planned.{of_plan, unplanned}
+use Rattle.rcu_graph.specs.declared.known.Known.TheVariants.{Keeper}
 use Rattle.rcu_graph.proofs.HeldNodes.{not_held}
 use Rattle.rcu_graph.proofs.laws.free_nodes_are_not_held.Goals as goal
 
 pub returns : goal.returns
-returns g c = not_held g.F.Shape.fits g.F.Shape.joins g.F.Shape.first _ _ _ _
+returns g c = λ plan table homes xs keeper seat node latest who own cpu section nodes known words v
+    h kept at.
+    not_held g.F.Shape.fits g.F.Shape.joins g.F.Shape.first plan.roots plan.links
+    plan.words plan.nodes table homes (map unplanned xs) keeper seat node latest who own cpu section
+    nodes known.known words
+    v h.kept (at_map unplanned xs keeper (who, own, of_plan plan (Keeper latest nodes)) kept)
+    (at_map unplanned xs seat (cpu, section, known) at)

@@ -1,5 +1,14 @@
+use Rattle.std.specs.Prelude.{map}
+use Rattle.atomic_table.proofs.Lists.{at_map}
+use Rattle.rcu_graph.specs.Planned.{unplanned}
 use Rattle.rcu_graph.proofs.HeldNodes.{words_kept}
 use Rattle.rcu_graph.proofs.laws.held_nodes_keep_their_words.Goals as goal
 
 pub returns : goal.returns
-returns g c = words_kept g.F.Shape.fits g.F.Shape.joins g.F.Shape.first _ _ _ _
+returns g c = λ plan before after old new xs ys seat node word cpu section here later was now words
+    h k at later_at.
+    words_kept g.F.Shape.fits g.F.Shape.joins g.F.Shape.first plan.roots plan.links
+    plan.words plan.nodes before after old new (map unplanned xs) (map unplanned ys) seat node word
+    cpu section here later
+    was.known now.known words h.kept k.kept (at_map unplanned xs seat (cpu, section, was) at)
+    (at_map unplanned ys seat (here, later, now) later_at)

@@ -1,5 +1,13 @@
+use Rattle.std.specs.Prelude.{map}
+use Rattle.atomic_table.proofs.Lists.{at_map}
+use Rattle.rcu_graph.specs.Planned.{of_plan, unplanned}
+use Rattle.rcu_graph.specs.declared.known.Known.TheVariants.{Keeper}
 use Rattle.rcu_graph.proofs.HeldNodes.{live_leads}
 use Rattle.rcu_graph.proofs.laws.live_nodes_lead_to_live_nodes.Goals as goal
 
 pub returns : goal.returns
-returns g c = live_leads g.F.Shape.fits g.F.Shape.joins g.F.Shape.first _ _ _ _
+returns g c = λ plan table homes xs keeper node link next latest who own nodes v h kept.
+    live_leads g.F.Shape.fits g.F.Shape.joins g.F.Shape.first plan.roots plan.links
+    plan.words plan.nodes table homes (map unplanned xs) keeper node link next latest who own nodes
+    v h.kept
+    (at_map unplanned xs keeper (who, own, of_plan plan (Keeper latest nodes)) kept)

@@ -9,7 +9,7 @@ link_of-next-requires g c = (omega arith, (c.requires.inside, omega arith))
 pub link-requires : goal.link-requires
 link-requires g c =
     let bound =
-    live_inside (nodes_in c.args.keeper.now.view.client) c.args.previous c.requires.live in
+    live_inside (nodes_in c.args.keeper.now.view.client.known) c.args.previous c.requires.live in
     let few = c.requires.few in (
       omega arith,
       (
@@ -23,8 +23,8 @@ link-requires g c =
               (
                 c.requires.live,
                 subst (λ (x : ℕ). IsTarget (g.F.Shape.joins 0)
-                    (node_at (nodes_in c.args.keeper.now.view.client) c.args.previous).words
-                    (nodes_in c.args.keeper.now.view.client) x)
+                    (node_at (nodes_in c.args.keeper.now.view.client.known) c.args.previous).words
+                    (nodes_in c.args.keeper.now.view.client.known) x)
                     (sym c.link_of-next.ensures) c.requires.target,
               ),
             ),

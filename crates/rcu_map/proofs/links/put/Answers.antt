@@ -3,7 +3,7 @@ use Rattle.rcu_live.specs.Watcher.{Watching}
 use Rattle.rcu_graph.specs.Keeper.{IsReady, after_step}
 use Rattle.rcu_graph.specs.Nodes.{node_at, nodes_in, state_at}
 use Rattle.rcu_graph.specs.Tended.{AreTrimmed, published}
-use Rattle.rcu_graph.specs.declared.known.Known.{Known}
+use Rattle.rcu_graph.specs.declared.known.Planned.{Planned}
 use Rattle.rcu_graph.specs.declared.node_state.NodeState.TheVariants.{Live}
 use Rattle.rcu_map.proofs.Puts.{is_ready, joins_it, next_inside, one_inside, previous_inside}
 use Rattle.rcu_map.proofs.Puts.{still_live}
@@ -51,21 +51,21 @@ publish-requires g c =
               (
                 omega arith,
                 (
-                  subst (λ (w : Watching Known).
-                      state_at (nodes_in w.view.client) c.args.previous ≡ Live)
+                  subst (λ (w : Watching Planned).
+                      state_at (nodes_in w.view.client.known) c.args.previous ≡ Live)
                       e
                       (still_live _ _ _ _ _ _ _ _ c.requires c.in_ok-node.node
                       c.in_ok-node.ensures.inside c.in_ok-node.ensures.free),
                   (
-                    subst (λ (w : Watching Known).
-                        IsReady g.F.Shape.fits g.F.Shape.joins 1 (nodes_in w.view.client)
+                    subst (λ (w : Watching Planned).
+                        IsReady g.F.Shape.fits g.F.Shape.joins 1 (nodes_in w.view.client.known)
                         c.in_ok-node.node)
                         e
                         (is_ready _ _ _ _ _ _ _ _ c.requires c.in_ok-node.node
                         c.in_ok-node.ensures.inside c.in_ok-node.ensures.free),
-                    subst (λ (w : Watching Known). g.F.Shape.joins 0
-                        (node_at (nodes_in w.view.client) c.args.previous).words
-                        (node_at (nodes_in w.view.client) c.in_ok-node.node).words)
+                    subst (λ (w : Watching Planned). g.F.Shape.joins 0
+                        (node_at (nodes_in w.view.client.known) c.args.previous).words
+                        (node_at (nodes_in w.view.client.known) c.in_ok-node.node).words)
                         e
                         (joins_it _ _ _ _ _ _ _ _ c.requires c.in_ok-node.node
                         c.in_ok-node.ensures.inside c.in_ok-node.ensures.free),
@@ -86,11 +86,11 @@ returns g c = record {
   watches = c.publish.ensures.graph;
   state =
       c.publish.ensures.state
-      ∙ ap (λ (w : Watching Known). after_step w (nodes_in c.publish.new.self.view.client))
+      ∙ ap (λ (w : Watching Planned). after_step w (nodes_in c.publish.new.self.view.client.known))
       c.fill.ensures.state;
   kept = record { few = c.tends.ensures.keeper.few; tended = c.tends.ensures.tended };
-  trimmed = subst (λ (w : Watching Known). AreTrimmed g.row.K 1
-      (published (nodes_in w.view.client) c.args.previous 0 c.in_ok-node.node)
-      (nodes_in c.publish.new.self.view.client))
+  trimmed = subst (λ (w : Watching Planned). AreTrimmed g.row.K 1
+      (published (nodes_in w.view.client.known) c.args.previous 0 c.in_ok-node.node)
+      (nodes_in c.publish.new.self.view.client.known))
       c.fill.ensures.state c.publish.ensures.trimmed;
 }

@@ -3,6 +3,7 @@ ghost use Rattle.std.specs.Prelude.{◌≡◌};
 ghost use Rattle.rcu_live.specs.CpuSeat.{IsSeatOf, after_word_step};
 ghost use Rattle.rcu_map.specs.Listed.{after_hops, known_in, listing};
 ghost use Rattle.rcu_graph.specs.Graph.{IsWalking};
+ghost use Rattle.rcu_graph.specs.Planned.{of_plan};
 ghost use Rattle.rcu_graph.specs.declared.known.Known.TheVariants.{Idle};
 
 use crate::map::route::Route;
@@ -86,7 +87,7 @@ pub(crate) struct Reader<'a> {
     pub(crate) seen: Seen,
     pub(crate) ghost seat_of: { IsSeatOf map.now seat },
     pub(crate) ghost outside: { seat.depth ≡ 0 },
-    pub(crate) ghost idle: { seat.view.client ≡ Idle },
+    pub(crate) ghost idle: { seat.view.client ≡ of_plan map.now.plan Idle },
 }
 
 impl<'a> Reader<'a> {

@@ -1,6 +1,7 @@
 //! Entries that wait for a free node, beside a slow reader, and beside another thread that updates.
 ghost use Rattle.std.specs.Prelude.{◌≡◌, ◌<◌};
 ghost use Rattle.rcu_graph.specs.Graph.{IsSeatOf, IsWatcherOf};
+ghost use Rattle.rcu_graph.specs.Planned.{of_plan};
 ghost use Rattle.rcu_graph.specs.declared.known.Known.TheVariants.{Idle};
 
 use crate::map::route::Route;
@@ -22,10 +23,10 @@ const READS: u32 = 2_000;
 #[derive(Drop)]
 struct Reader<'a> {
     map: &'a Moving,
-    seat: MapSeat<Route, 1, 2, 4>,
+    seat: MapSeat<Route, 1, 2>,
     ghost seat_of: { IsSeatOf map.now seat },
     ghost outside: { seat.depth ≡ 0 },
-    ghost idle: { seat.view.client ≡ Idle },
+    ghost idle: { seat.view.client ≡ of_plan map.now.plan Idle },
 }
 
 impl<'a> Reader<'a> {
@@ -60,7 +61,7 @@ impl<'a> Reader<'a> {
 struct Control<'a> {
     map: &'a Moving,
     keeper: MapKeeper<Route, 1, 2, 4>,
-    seat: MapSeat<Route, 1, 2, 4>,
+    seat: MapSeat<Route, 1, 2>,
     ghost keeper_of: { IsWatcherOf map.now keeper },
     ghost seat_of: { IsSeatOf map.now seat },
 }
@@ -132,7 +133,7 @@ fn routes_move_on_through_three_nodes(rt: HostRuntime) {
 struct Worker<'a, 'b> {
     map: &'a Moving,
     updater: &'b Updater<'a, 4, 4, u64, Route, 1, 2, 4>,
-    seat: MapSeat<Route, 1, 2, 4>,
+    seat: MapSeat<Route, 1, 2>,
     network: u32,
     ghost of_updater: { IsSeatOf updater.now seat },
     ghost of_map: { seat.table ≡ map.now.table },

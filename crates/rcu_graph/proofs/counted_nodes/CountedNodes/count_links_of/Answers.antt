@@ -4,7 +4,7 @@ use Rattle.std.specs.Prelude.{nat_eq, slice_index}
 use Rattle.rcu_live.specs.Watcher.{Watching}
 use Rattle.rcu_graph.specs.Counts.{one_if}
 use Rattle.rcu_graph.specs.Nodes.{node_at, nodes_in}
-use Rattle.rcu_graph.specs.declared.known.Known.{Known}
+use Rattle.rcu_graph.specs.declared.known.Planned.{Planned}
 use Rattle.rcu_graph.proofs.Cascade.{times_all, times_le, times_more}
 use Rattle.rcu_graph.proofs.Counting.{one_same}
 use Rattle.rcu_graph.proofs.Tending.{counted_up_at}
@@ -25,13 +25,15 @@ pub count-requires : goal.count-requires
 count-requires g c =
     let i = c.loop-link.invariant in
     let l = c.loop-link.link in
-    let links : List ℕ = (node_at (nodes_in c.args.self.now.nodes.view.client) c.args.node).links in
+    let links : List ℕ = (node_at (nodes_in c.args.self.now.nodes.view.client.known)
+    c.args.node).links in
     let long : length links ≡ g.row.L = (c.sizes.ensures.sized c.args.node c.requires.node).0 in
     let here : l < length links = omega (arith, long, c.loop-link-test.true) in
     let word_is : c.link_word-word.result ≡ get_or links l 0 =
     c.link_word-word.ensures
     ∙ ap
-    (λ (w : Watching Known). slice_index (node_at (nodes_in w.view.client) c.args.node).links l)
+    (λ (w : Watching Planned). slice_index (node_at (nodes_in w.view.client.known)
+    c.args.node).links l)
     i.nodes in
     let inside : (k : ℕ) → c.link_word-word.result ≡ suc k → k < g.row.N =
     λ k is. c.requires.inside l 0 here k (sym word_is ∙ is) in (
@@ -56,13 +58,15 @@ loop-link-preserved g c =
     let l = c.loop-link.link in
     let old : List ℕ = c.loop-link.self.counts.items in
     let word = c.link_word-word.result in
-    let links : List ℕ = (node_at (nodes_in c.args.self.now.nodes.view.client) c.args.node).links in
+    let links : List ℕ = (node_at (nodes_in c.args.self.now.nodes.view.client.known)
+    c.args.node).links in
     let long : length links ≡ g.row.L = (c.sizes.ensures.sized c.args.node c.requires.node).0 in
     let here : l < length links = omega (arith, long, c.loop-link-test.true) in
     let word_is : word ≡ get_or links l 0 =
     c.link_word-word.ensures
     ∙ ap
-    (λ (w : Watching Known). slice_index (node_at (nodes_in w.view.client) c.args.node).links l)
+    (λ (w : Watching Planned). slice_index (node_at (nodes_in w.view.client.known)
+    c.args.node).links l)
     i.nodes in
     let inside : (k : ℕ) → word ≡ suc k → k < length old =
     λ k is. let a = c.requires.inside l 0 here k (sym word_is ∙ is) in omega (arith, a, i.many) in
@@ -96,7 +100,8 @@ returns-clause-many g c = c.loop-link.invariant.many
 pub returns-clause-counts : goal.returns-clause-counts
 returns-clause-counts g c = λ k low.
     let a = c.loop-link.invariant.counts k low in
-    let links : List ℕ = (node_at (nodes_in c.args.self.now.nodes.view.client) c.args.node).links in
+    let links : List ℕ = (node_at (nodes_in c.args.self.now.nodes.view.client.known)
+    c.args.node).links in
     let long : length links ≡ g.row.L = (c.sizes.ensures.sized c.args.node c.requires.node).0 in
     let end : length links ≡ c.loop-link.link =
     omega (arith, long, c.loop-link-test.false, c.loop-link.auto.link-end) in

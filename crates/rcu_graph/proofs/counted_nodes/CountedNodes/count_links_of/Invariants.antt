@@ -13,6 +13,7 @@ invariant-loop-link g l = record {
       → k < g.row.N
       → slice_index l.self.counts.items k
       ≡ slice_index l.initial.self.counts.items k
-      + times_in (take l.link (node_at (nodes_in l.initial.self.nodes.view.client) l.node).links)
+      + times_in (take l.link (node_at (nodes_in l.initial.self.nodes.view.client.known)
+      l.node).links)
       (suc k);
 }

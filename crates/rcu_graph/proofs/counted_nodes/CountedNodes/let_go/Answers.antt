@@ -13,14 +13,15 @@ use Rattle.rcu_graph.proofs.counted_nodes.CountedNodes.let_go.Goals as goal
 
 pub returns-in_default-clause-trimming : goal.returns-in_default-clause-trimming
 returns-in_default-clause-trimming g c = λ stored from words t.
-    let_go_nowhere g.row.N g.row.K g.row.L stored (nodes_in c.args.self.now.nodes.view.client)
+    let_go_nowhere g.row.N g.row.K g.row.L stored (nodes_in c.args.self.now.nodes.view.client.known)
     c.args.self.now.counts.items c.args.self.now.leaving.items from c.args.left words c.args.word
     (sym c.node_of.ensures ∙ ap word_to c.in_default.is) t
 
 pub index-requires : goal.index-requires
 index-requires g c =
     let r = c.requires.trimming in
-    let low = led_within g.row.N g.row.K g.row.L r.0 (nodes_in c.args.self.now.nodes.view.client)
+    let low = led_within g.row.N g.row.K g.row.L r.0
+    (nodes_in c.args.self.now.nodes.view.client.known)
     c.args.self.now.counts.items c.args.self.now.leaving.items r.1 c.args.left r.2 c.in-Some.node
     c.args.word c.in-Some.ensures r.3 in
     omega (arith, low, c.args.self.now.counts.ok.0)
@@ -28,7 +29,8 @@ index-requires g c =
 pub index_mut-requires : goal.index_mut-requires
 index_mut-requires g c =
     let r = c.requires.trimming in
-    let low = led_within g.row.N g.row.K g.row.L r.0 (nodes_in c.args.self.now.nodes.view.client)
+    let low = led_within g.row.N g.row.K g.row.L r.0
+    (nodes_in c.args.self.now.nodes.view.client.known)
     c.args.self.now.counts.items c.args.self.now.leaving.items r.1 c.args.left r.2 c.in-Some.node
     c.args.word c.in-Some.ensures r.3 in
     omega (arith, low, c.args.self.now.counts.ok.0)
@@ -36,7 +38,7 @@ index_mut-requires g c =
 pub overflow_sub-count : goal.overflow_sub-count
 overflow_sub-count g c =
     let r = c.requires.trimming in
-    let nodes : List Node = nodes_in c.args.self.now.nodes.view.client in
+    let nodes : List Node = nodes_in c.args.self.now.nodes.view.client.known in
     let counts : List ℕ = c.args.self.now.counts.items in
     let leaving : List ℕ = c.args.self.now.leaving.items in
     let low = led_within g.row.N g.row.K g.row.L r.0 nodes counts leaving r.1 c.args.left r.2
@@ -49,7 +51,7 @@ overflow_sub-count g c =
 
 pub returns-then-count-gt0-clause-trimming : goal.returns-then-count-gt0-clause-trimming
 returns-then-count-gt0-clause-trimming g c = λ stored from words t.
-    let nodes : List Node = nodes_in c.args.self.now.nodes.view.client in
+    let nodes : List Node = nodes_in c.args.self.now.nodes.view.client.known in
     let counts : List ℕ = c.args.self.now.counts.items in
     let leaving : List ℕ = c.args.self.now.leaving.items in
     let low = led_within g.row.N g.row.K g.row.L stored nodes counts leaving from c.args.left words
@@ -64,7 +66,7 @@ returns-then-count-gt0-clause-trimming g c = λ stored from words t.
 
 pub returns-then-node-clause-trimming : goal.returns-then-node-clause-trimming
 returns-then-node-clause-trimming g c = λ stored from words t.
-    let nodes : List Node = nodes_in c.args.self.now.nodes.view.client in
+    let nodes : List Node = nodes_in c.args.self.now.nodes.view.client.known in
     let counts : List ℕ = c.args.self.now.counts.items in
     let leaving : List ℕ = c.args.self.now.leaving.items in
     let low = led_within g.row.N g.row.K g.row.L stored nodes counts leaving from c.args.left words
@@ -81,14 +83,14 @@ pub state-requires : goal.state-requires
 state-requires g c =
     let r = c.requires.trimming in (
       omega arith,
-      led_inside g.row.N g.row.K g.row.L r.0 (nodes_in c.args.self.now.nodes.view.client)
+      led_inside g.row.N g.row.K g.row.L r.0 (nodes_in c.args.self.now.nodes.view.client.known)
           c.args.self.now.counts.items c.args.self.now.leaving.items r.1 c.args.left r.2
           c.in-Some.node c.args.word c.in-Some.ensures r.3,
     )
 
 pub returns-then-not-is_live-clause-trimming : goal.returns-then-not-is_live-clause-trimming
 returns-then-not-is_live-clause-trimming g c = λ stored from words t.
-    let nodes : List Node = nodes_in c.args.self.now.nodes.view.client in
+    let nodes : List Node = nodes_in c.args.self.now.nodes.view.client.known in
     let counts : List ℕ = c.args.self.now.counts.items in
     let leaving : List ℕ = c.args.self.now.leaving.items in
     let low = led_within g.row.N g.row.K g.row.L stored nodes counts leaving from c.args.left words
@@ -106,7 +108,7 @@ returns-then-not-is_live-clause-trimming g c = λ stored from words t.
 pub leave-requires : goal.leave-requires
 leave-requires g c =
     let r = c.requires.trimming in
-    let nodes : List Node = nodes_in c.args.self.now.nodes.view.client in
+    let nodes : List Node = nodes_in c.args.self.now.nodes.view.client.known in
     let counts : List ℕ = c.args.self.now.counts.items in
     let leaving : List ℕ = c.args.self.now.leaving.items in
     let low = led_within g.row.N g.row.K g.row.L r.0 nodes counts leaving r.1 c.args.left r.2
@@ -144,7 +146,7 @@ leave-requires g c =
 pub index_mut-requires-2 : goal.index_mut-requires-2
 index_mut-requires-2 g c =
     let r = c.requires.trimming in
-    let nodes : List Node = nodes_in c.args.self.now.nodes.view.client in
+    let nodes : List Node = nodes_in c.args.self.now.nodes.view.client.known in
     let live : state_at nodes c.in-Some.node ≡ Live =
     test_live (state_at nodes c.in-Some.node)
     (sym (c.is_live.ensures ∙ ap is_live c.state.ensures) ∙ c.if-not-is_live.false) in
@@ -155,7 +157,7 @@ index_mut-requires-2 g c =
 pub overflow_add-result : goal.overflow_add-result
 overflow_add-result g c =
     let r = c.requires.trimming in
-    let nodes : List Node = nodes_in c.args.self.now.nodes.view.client in
+    let nodes : List Node = nodes_in c.args.self.now.nodes.view.client.known in
     let live : state_at nodes c.in-Some.node ≡ Live =
     test_live (state_at nodes c.in-Some.node)
     (sym (c.is_live.ensures ∙ ap is_live c.state.ensures) ∙ c.if-not-is_live.false) in
@@ -166,7 +168,7 @@ overflow_add-result g c =
 
 pub returns-clause-trimming : goal.returns-clause-trimming
 returns-clause-trimming g c = λ stored from words t.
-    let nodes : List Node = nodes_in c.args.self.now.nodes.view.client in
+    let nodes : List Node = nodes_in c.args.self.now.nodes.view.client.known in
     let counts : List ℕ = c.args.self.now.counts.items in
     let leaving : List ℕ = c.args.self.now.leaving.items in
     let low = led_within g.row.N g.row.K g.row.L stored nodes counts leaving from c.args.left words

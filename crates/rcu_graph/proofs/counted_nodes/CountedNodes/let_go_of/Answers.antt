@@ -20,7 +20,7 @@ let_go-gone-requires g c =
     let i = c.loop-link.invariant in
     let t = c.requires.trimming in
     let l = c.loop-link.link in
-    let nodes : List Node = nodes_in c.loop-link.self.nodes.view.client in
+    let nodes : List Node = nodes_in c.loop-link.self.nodes.view.client.known in
     let rest : List ℕ = drop (l + 1) (node_at t.0 c.args.node).links in (
       omega arith,
       (
@@ -47,7 +47,7 @@ pub loop-link-preserved : goal.loop-link-preserved
 loop-link-preserved g c =
     let i = c.loop-link.invariant in
     let l = c.loop-link.link in
-    let nodes : List Node = nodes_in c.loop-link.self.nodes.view.client in
+    let nodes : List Node = nodes_in c.loop-link.self.nodes.view.client.known in
     record {
       graph = c.let_go-gone.ensures.graph;
       state = step_on c.args.self.now.nodes c.loop-link.self.nodes c.let_go-gone.new.self.nodes
@@ -72,7 +72,7 @@ returns-clause-state g c = c.loop-link.invariant.state
 
 pub returns-clause-trimming : goal.returns-clause-trimming
 returns-clause-trimming g c = λ stored from t.
-    let nodes : List Node = nodes_in c.loop-link.self.nodes.view.client in
+    let nodes : List Node = nodes_in c.loop-link.self.nodes.view.client.known in
     let end : c.loop-link.link ≡ g.row.L =
     omega (arith, c.loop-link-test.false, c.loop-link.auto.link-end) in
     no_link_more g.row.N g.row.K g.row.L stored nodes c.loop-link.self.counts.items

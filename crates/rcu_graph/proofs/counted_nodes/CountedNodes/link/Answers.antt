@@ -6,7 +6,7 @@ use Rattle.rcu_graph.specs.Graph.{IsWatcherOf, word_to}
 use Rattle.rcu_graph.specs.Keeper.{CanLink}
 use Rattle.rcu_graph.specs.Nodes.{linked_to, node_at, nodes_in, renewed}
 use Rattle.rcu_graph.specs.Trimming.{IsTrimming}
-use Rattle.rcu_graph.specs.declared.known.Known.{Known}
+use Rattle.rcu_graph.specs.declared.known.Planned.{Planned}
 use Rattle.rcu_graph.specs.declared.known.Node.{Node}
 use Rattle.rcu_graph.proofs.Cascade.{count_fits, counted_after, nodes_are, one_step}
 use Rattle.rcu_graph.proofs.Cascade.{relinked_starts, relinked_whole, same_trimming, step_on}
@@ -19,7 +19,7 @@ word_of-word-requires g c =
     let s = c.sizes.ensures in
     word_fits c.args.to g.row.N _
     (target_inside g.F.Shape.fits g.F.Shape.joins g.row.N g.row.K g.row.L
-    (nodes_in c.args.self.now.nodes.view.client) c.args.link _ (word_to c.args.to) s.few
+    (nodes_in c.args.self.now.nodes.view.client.known) c.args.link _ (word_to c.args.to) s.few
     c.requires.target)
     (omega (arith, g.N.fits))
 
@@ -38,7 +38,7 @@ link-requires g c = (
         (
           c.requires.link_inside,
           subst (λ (x : ℕ). CanLink (g.F.Shape.joins c.args.link)
-              (nodes_in c.args.self.now.nodes.view.client) c.args.from x)
+              (nodes_in c.args.self.now.nodes.view.client.known) c.args.from x)
               (sym c.word_of-word.ensures) (inr (c.requires.live, c.requires.target)),
         ),
       ),
@@ -49,7 +49,7 @@ link-requires g c = (
 pub count-requires : goal.count-requires
 count-requires g c =
     let s = c.sizes.ensures in
-    let nodes : List Node = nodes_in c.args.self.now.nodes.view.client in
+    let nodes : List Node = nodes_in c.args.self.now.nodes.view.client.known in
     let inside : (k : ℕ) → c.word_of-word.result ≡ suc k → k < g.row.N =
     λ k is. target_inside g.F.Shape.fits g.F.Shape.joins g.row.N g.row.K g.row.L nodes c.args.link _
     (word_to c.args.to) s.few c.requires.target k (sym c.word_of-word.ensures ∙ is) in (
@@ -68,14 +68,14 @@ count-requires g c =
 pub trim-requires : goal.trim-requires
 trim-requires g c =
     let s = c.sizes.ensures in
-    let nodes : List Node = nodes_in c.args.self.now.nodes.view.client in
+    let nodes : List Node = nodes_in c.args.self.now.nodes.view.client.known in
     let counts : List ℕ = c.args.self.now.counts.items in
     let leaving : List ℕ = c.args.self.now.leaving.items in
     let x : ℕ = word_to c.args.to in
     let stored : List Node = renewed nodes c.args.from (linked_to c.args.link x) in
-    let now : Watching Known = c.count.new.self.nodes in
-    let nodes_is : nodes_in now.view.client ≡ stored =
-    ap (λ (w : Watching Known). nodes_in w.view.client) c.count.ensures.nodes
+    let now : Watching Planned = c.count.new.self.nodes in
+    let nodes_is : nodes_in now.view.client.known ≡ stored =
+    ap (λ (w : Watching Planned). nodes_in w.view.client.known) c.count.ensures.nodes
     ∙ (nodes_are c.args.self.now.nodes c.link.new.self
     (renewed nodes c.args.from (linked_to c.args.link c.word_of-word.result)) c.link.ensures.state
     ∙ ap (λ (w : ℕ). renewed nodes c.args.from (linked_to c.args.link w)) c.word_of-word.ensures) in
@@ -87,10 +87,12 @@ trim-requires g c =
       (
         omega arith,
         (
-          subst (λ (w : Watching Known). IsWatcherOf c.args.graph.now w) (sym c.count.ensures.nodes)
+          subst (λ (w : Watching Planned). IsWatcherOf c.args.graph.now w)
+              (sym c.count.ensures.nodes)
               c.link.ensures.graph,
-          same_trimming g.row.N g.row.K g.row.L (nodes_in now.view.client) stored
-              (nodes_in now.view.client) stored c.count.new.self.counts.items (counted_up counts x)
+          same_trimming g.row.N g.row.K g.row.L (nodes_in now.view.client.known) stored
+              (nodes_in now.view.client.known) stored c.count.new.self.counts.items
+              (counted_up counts x)
               c.count.new.self.leaving.items leaving 0 0 (c.link_word-before.result ∷ [])
               (slice_index (node_at nodes c.args.from).links c.args.link ∷ []) nodes_is nodes_is
               counts_is leaving_is (ap (λ (w : ℕ). w ∷ []) c.link_word-before.ensures)
@@ -104,13 +106,13 @@ trim-requires g c =
 pub returns : goal.returns
 returns g c =
     let s = c.sizes.ensures in
-    let nodes : List Node = nodes_in c.args.self.now.nodes.view.client in
+    let nodes : List Node = nodes_in c.args.self.now.nodes.view.client.known in
     let counts : List ℕ = c.args.self.now.counts.items in
     let leaving : List ℕ = c.args.self.now.leaving.items in
     let x : ℕ = word_to c.args.to in
     let stored : List Node = renewed nodes c.args.from (linked_to c.args.link x) in
-    let nodes_is : nodes_in c.count.new.self.nodes.view.client ≡ stored =
-    ap (λ (w : Watching Known). nodes_in w.view.client) c.count.ensures.nodes
+    let nodes_is : nodes_in c.count.new.self.nodes.view.client.known ≡ stored =
+    ap (λ (w : Watching Planned). nodes_in w.view.client.known) c.count.ensures.nodes
     ∙ (nodes_are c.args.self.now.nodes c.link.new.self
     (renewed nodes c.args.from (linked_to c.args.link c.word_of-word.result)) c.link.ensures.state
     ∙ ap (λ (w : ℕ). renewed nodes c.args.from (linked_to c.args.link w)) c.word_of-word.ensures) in
@@ -124,24 +126,24 @@ returns g c =
           c.trim.ensures.state;
       counted =
           counted_after g.F.Shape.fits g.F.Shape.joins g.row.N g.row.K g.row.L g.row.W stored
-          (nodes_in c.trim.new.self.nodes.view.client) c.trim.new.self.counts.items
+          (nodes_in c.trim.new.self.nodes.view.client.known) c.trim.new.self.counts.items
           c.trim.new.self.leaving.items t.0
           (relinked_whole g.F.Shape.fits g.F.Shape.joins g.row.N g.row.K g.row.L g.row.W nodes
           counts leaving s.few s.sized c.requires.counted c.args.from c.args.link x c.requires.live
           c.requires.link_inside c.requires.target)
           (subst (λ (l : List Node). IsTrimming g.row.N g.row.K g.row.L l
-          (nodes_in c.trim.new.self.nodes.view.client) c.trim.new.self.counts.items
+          (nodes_in c.trim.new.self.nodes.view.client.known) c.trim.new.self.counts.items
           c.trim.new.self.leaving.items t.0 t.0 [])
           nodes_is t.1);
       trimmed =
           trimmed g.F.Shape.fits g.F.Shape.joins g.row.N g.row.K g.row.L g.row.W stored
-          (nodes_in c.trim.new.self.nodes.view.client) c.trim.new.self.counts.items
+          (nodes_in c.trim.new.self.nodes.view.client.known) c.trim.new.self.counts.items
           c.trim.new.self.leaving.items t.0
           (relinked_whole g.F.Shape.fits g.F.Shape.joins g.row.N g.row.K g.row.L g.row.W nodes
           counts leaving s.few s.sized c.requires.counted c.args.from c.args.link x c.requires.live
           c.requires.link_inside c.requires.target)
           (subst (λ (l : List Node). IsTrimming g.row.N g.row.K g.row.L l
-          (nodes_in c.trim.new.self.nodes.view.client) c.trim.new.self.counts.items
+          (nodes_in c.trim.new.self.nodes.view.client.known) c.trim.new.self.counts.items
           c.trim.new.self.leaving.items t.0 t.0 [])
           nodes_is t.1);
     }

@@ -7,7 +7,7 @@ use Rattle.rcu_graph.specs.Keeper.{IsReady, after_publish}
 use Rattle.rcu_graph.specs.Nodes.{node_at, nodes_in, state_at}
 use Rattle.rcu_graph.specs.Tended.{published}
 use Rattle.rcu_graph.specs.Trimming.{IsTrimming}
-use Rattle.rcu_graph.specs.declared.known.Known.{Known}
+use Rattle.rcu_graph.specs.declared.known.Planned.{Planned}
 use Rattle.rcu_graph.specs.declared.known.Node.{Node}
 use Rattle.rcu_graph.specs.declared.node_state.NodeState.TheVariants.{Live}
 use Rattle.rcu_graph.proofs.Cascade.{counted_after, counts_fit, new_fits, one_step}
@@ -22,7 +22,7 @@ link_word-before-requires g c = (omega arith, (c.requires.from_inside, c.require
 pub count_links_of-requires : goal.count_links_of-requires
 count_links_of-requires g c =
     let s = c.sizes.ensures in
-    let nodes : List Node = nodes_in c.args.self.now.nodes.view.client in
+    let nodes : List Node = nodes_in c.args.self.now.nodes.view.client.known in
     let counts : List ℕ = c.args.self.now.counts.items in
     let leaving : List ℕ = c.args.self.now.leaving.items in (
       omega arith,
@@ -51,20 +51,22 @@ publish-requires g c =
       (
         omega arith,
         record {
-          watches = subst (λ (w : Watching Known). IsWatcherOf c.args.graph.now w) (sym e)
+          watches = subst (λ (w : Watching Planned). IsWatcherOf c.args.graph.now w) (sym e)
               c.requires.watches;
           from_inside = c.requires.from_inside;
           to_inside = c.requires.to_inside;
           link_inside = c.requires.link_inside;
           live =
-              subst (λ (w : Watching Known). state_at (nodes_in w.view.client) c.args.from ≡ Live)
+              subst (λ (w : Watching Planned). state_at (nodes_in w.view.client.known) c.args.from ≡
+              Live)
               (sym e) c.requires.live;
-          ready = subst (λ (w : Watching Known).
-              IsReady g.F.Shape.fits g.F.Shape.joins g.row.L (nodes_in w.view.client) c.args.to)
+          ready = subst (λ (w : Watching Planned).
+              IsReady g.F.Shape.fits g.F.Shape.joins g.row.L (nodes_in w.view.client.known)
+              c.args.to)
               (sym e) c.requires.ready;
-          joined = subst (λ (w : Watching Known).
-              g.F.Shape.joins c.args.link (node_at (nodes_in w.view.client) c.args.from).words
-              (node_at (nodes_in w.view.client) c.args.to).words)
+          joined = subst (λ (w : Watching Planned).
+              g.F.Shape.joins c.args.link (node_at (nodes_in w.view.client.known) c.args.from).words
+              (node_at (nodes_in w.view.client.known) c.args.to).words)
               (sym e) c.requires.joined;
         },
       ),
@@ -77,7 +79,7 @@ pub count-requires : goal.count-requires
 count-requires g c =
     let s = c.sizes.ensures in
     let n = c.count_links_of.ensures in
-    let nodes : List Node = nodes_in c.args.self.now.nodes.view.client in
+    let nodes : List Node = nodes_in c.args.self.now.nodes.view.client.known in
     let counts : List ℕ = c.args.self.now.counts.items in
     let leaving : List ℕ = c.args.self.now.leaving.items in
     let inside : (k : ℕ) → c.word_of.result ≡ suc k → k < g.row.N =
@@ -100,18 +102,19 @@ pub trim-requires : goal.trim-requires
 trim-requires g c =
     let s = c.sizes.ensures in
     let n = c.count_links_of.ensures in
-    let nodes : List Node = nodes_in c.args.self.now.nodes.view.client in
+    let nodes : List Node = nodes_in c.args.self.now.nodes.view.client.known in
     let counts : List ℕ = c.args.self.now.counts.items in
     let new : List ℕ = c.count_links_of.new.self.counts.items in
     let leaving : List ℕ = c.args.self.now.leaving.items in
     let stored : List Node = published nodes c.args.from c.args.link c.args.to in
-    let now : Watching Known = c.count.new.self.nodes in
+    let now : Watching Planned = c.count.new.self.nodes in
     let stored_is : c.publish.new.self
     ≡ after_publish c.args.self.now.nodes c.args.from c.args.link c.args.to =
     c.publish.ensures.state
-    ∙ ap (λ (w : Watching Known). after_publish w c.args.from c.args.link c.args.to) n.nodes in
-    let nodes_is : nodes_in now.view.client ≡ stored =
-    ap (λ (w : Watching Known). nodes_in w.view.client) (c.count.ensures.nodes ∙ stored_is) in
+    ∙ ap (λ (w : Watching Planned). after_publish w c.args.from c.args.link c.args.to) n.nodes in
+    let nodes_is : nodes_in now.view.client.known ≡ stored =
+    ap (λ (w : Watching Planned). nodes_in w.view.client.known)
+    (c.count.ensures.nodes ∙ stored_is) in
     let counts_is : c.count.new.self.counts.items ≡ counted_up new (suc c.args.to) =
     c.count.ensures.counts ∙ ap (λ (w : ℕ). counted_up new w) c.word_of.ensures in
     let leaving_is : c.count.new.self.leaving.items ≡ leaving =
@@ -120,10 +123,11 @@ trim-requires g c =
       (
         omega arith,
         (
-          subst (λ (w : Watching Known). IsWatcherOf c.args.graph.now w) (sym c.count.ensures.nodes)
+          subst (λ (w : Watching Planned). IsWatcherOf c.args.graph.now w)
+              (sym c.count.ensures.nodes)
               c.publish.ensures.graph,
-          same_trimming g.row.N g.row.K g.row.L (nodes_in now.view.client) stored
-              (nodes_in now.view.client) stored c.count.new.self.counts.items
+          same_trimming g.row.N g.row.K g.row.L (nodes_in now.view.client.known) stored
+              (nodes_in now.view.client.known) stored c.count.new.self.counts.items
               (counted_up new (suc c.args.to)) c.count.new.self.leaving.items leaving 0 0
               (c.link_word-before.result ∷ [])
               (slice_index (node_at nodes c.args.from).links c.args.link ∷ []) nodes_is nodes_is
@@ -140,50 +144,51 @@ pub returns : goal.returns
 returns g c =
     let s = c.sizes.ensures in
     let n = c.count_links_of.ensures in
-    let nodes : List Node = nodes_in c.args.self.now.nodes.view.client in
+    let nodes : List Node = nodes_in c.args.self.now.nodes.view.client.known in
     let counts : List ℕ = c.args.self.now.counts.items in
     let new : List ℕ = c.count_links_of.new.self.counts.items in
     let leaving : List ℕ = c.args.self.now.leaving.items in
     let stored : List Node = published nodes c.args.from c.args.link c.args.to in
-    let nodes_is : nodes_in c.count.new.self.nodes.view.client ≡ stored =
-    ap (λ (w : Watching Known). nodes_in w.view.client)
+    let nodes_is : nodes_in c.count.new.self.nodes.view.client.known ≡ stored =
+    ap (λ (w : Watching Planned). nodes_in w.view.client.known)
     (c.count.ensures.nodes
     ∙ (c.publish.ensures.state
-    ∙ ap (λ (w : Watching Known). after_publish w c.args.from c.args.link c.args.to) n.nodes)) in
+    ∙ ap (λ (w : Watching Planned). after_publish w c.args.from c.args.link c.args.to) n.nodes)) in
     let t = c.trim.ensures.trimming in
     record {
       watches = c.trim.ensures.graph;
       state =
           step_on c.args.self.now.nodes c.count.new.self.nodes c.trim.new.self.nodes
           (one_step c.args.self.now.nodes c.count.new.self.nodes
-          (published (nodes_in c.args.self.now.nodes.view.client) c.args.from c.args.link c.args.to)
+          (published (nodes_in c.args.self.now.nodes.view.client.known) c.args.from c.args.link
+          c.args.to)
           (c.count.ensures.nodes
           ∙ (c.publish.ensures.state
-          ∙ ap (λ (w : Watching Known). after_publish w c.args.from c.args.link c.args.to)
+          ∙ ap (λ (w : Watching Planned). after_publish w c.args.from c.args.link c.args.to)
           c.count_links_of.ensures.nodes)))
           c.trim.ensures.state;
       counted =
           counted_after g.F.Shape.fits g.F.Shape.joins g.row.N g.row.K g.row.L g.row.W stored
-          (nodes_in c.trim.new.self.nodes.view.client) c.trim.new.self.counts.items
+          (nodes_in c.trim.new.self.nodes.view.client.known) c.trim.new.self.counts.items
           c.trim.new.self.leaving.items t.0
           (published_whole g.F.Shape.fits g.F.Shape.joins g.row.N g.row.K g.row.L g.row.W nodes
           counts leaving s.few s.sized c.requires.counted c.args.from c.args.link c.args.to
           c.requires.to_inside c.requires.ready new n.many n.counts c.requires.live
           c.requires.link_inside c.requires.joined)
           (subst (λ (l : List Node). IsTrimming g.row.N g.row.K g.row.L l
-          (nodes_in c.trim.new.self.nodes.view.client) c.trim.new.self.counts.items
+          (nodes_in c.trim.new.self.nodes.view.client.known) c.trim.new.self.counts.items
           c.trim.new.self.leaving.items t.0 t.0 [])
           nodes_is t.1);
       trimmed =
           trimmed g.F.Shape.fits g.F.Shape.joins g.row.N g.row.K g.row.L g.row.W stored
-          (nodes_in c.trim.new.self.nodes.view.client) c.trim.new.self.counts.items
+          (nodes_in c.trim.new.self.nodes.view.client.known) c.trim.new.self.counts.items
           c.trim.new.self.leaving.items t.0
           (published_whole g.F.Shape.fits g.F.Shape.joins g.row.N g.row.K g.row.L g.row.W nodes
           counts leaving s.few s.sized c.requires.counted c.args.from c.args.link c.args.to
           c.requires.to_inside c.requires.ready new n.many n.counts c.requires.live
           c.requires.link_inside c.requires.joined)
           (subst (λ (l : List Node). IsTrimming g.row.N g.row.K g.row.L l
-          (nodes_in c.trim.new.self.nodes.view.client) c.trim.new.self.counts.items
+          (nodes_in c.trim.new.self.nodes.view.client.known) c.trim.new.self.counts.items
           c.trim.new.self.leaving.items t.0 t.0 [])
           nodes_is t.1);
     }

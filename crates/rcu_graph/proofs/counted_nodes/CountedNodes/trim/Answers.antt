@@ -12,7 +12,15 @@ let_go-left-requires g c = (
   omega arith,
   (
     omega arith,
-    (c.requires.graph, (nodes_in c.args.self.now.nodes.view.client, 0, [], c.requires.trimming)),
+    (
+      c.requires.graph,
+      (
+        nodes_in c.args.self.now.nodes.view.client.known,
+        0,
+        [],
+        c.requires.trimming,
+      ),
+    ),
   ),
 )
 
@@ -25,11 +33,11 @@ leaving-init g c = record {
 
 pub index-node-requires : goal.index-node-requires
 index-node-requires g c =
-    let t = c.leaving.invariant.trimming (nodes_in c.args.self.now.nodes.view.client)
-    (c.let_go-left.ensures.trimming (nodes_in c.args.self.now.nodes.view.client) 0 []
+    let t = c.leaving.invariant.trimming (nodes_in c.args.self.now.nodes.view.client.known)
+    (c.let_go-left.ensures.trimming (nodes_in c.args.self.now.nodes.view.client.known) 0 []
     c.requires.trimming) in
-    let a = in_room g.row.N g.row.K g.row.L (nodes_in c.args.self.now.nodes.view.client)
-    (nodes_in c.leaving.self.nodes.view.client) c.leaving.self.counts.items
+    let a = in_room g.row.N g.row.K g.row.L (nodes_in c.args.self.now.nodes.view.client.known)
+    (nodes_in c.leaving.self.nodes.view.client.known) c.leaving.self.counts.items
     c.leaving.self.leaving.items c.leaving.done c.leaving.left [] t in
     omega (arith, a, c.leaving-test.true, c.leaving.self.leaving.ok.0)
 
@@ -37,9 +45,9 @@ pub let_go_of-left-requires : goal.let_go_of-left-requires
 let_go_of-left-requires g c =
     let i = c.leaving.invariant in
     let n = c.leaving.done in
-    let stored : List Node = nodes_in c.args.self.now.nodes.view.client in
+    let stored : List Node = nodes_in c.args.self.now.nodes.view.client.known in
     let t = i.trimming stored (c.let_go-left.ensures.trimming stored 0 [] c.requires.trimming) in
-    let nodes : List Node = nodes_in c.leaving.self.nodes.view.client in
+    let nodes : List Node = nodes_in c.leaving.self.nodes.view.client.known in
     let counts : List ℕ = c.leaving.self.counts.items in
     let leaving : List ℕ = c.leaving.self.leaving.items in
     let room = in_room g.row.N g.row.K g.row.L stored nodes counts leaving n c.leaving.left [] t in
@@ -65,16 +73,16 @@ let_go_of-left-requires g c =
 
 pub overflow_add-done : goal.overflow_add-done
 overflow_add-done g c =
-    let t = c.leaving.invariant.trimming (nodes_in c.args.self.now.nodes.view.client)
-    (c.let_go-left.ensures.trimming (nodes_in c.args.self.now.nodes.view.client) 0 []
+    let t = c.leaving.invariant.trimming (nodes_in c.args.self.now.nodes.view.client.known)
+    (c.let_go-left.ensures.trimming (nodes_in c.args.self.now.nodes.view.client.known) 0 []
     c.requires.trimming) in
     let a = t.enough in
     omega (arith, a, c.leaving-test.true, g.N.fits)
 
 pub leaving-smaller : goal.leaving-smaller
 leaving-smaller g c =
-    let t = c.leaving.invariant.trimming (nodes_in c.args.self.now.nodes.view.client)
-    (c.let_go-left.ensures.trimming (nodes_in c.args.self.now.nodes.view.client) 0 []
+    let t = c.leaving.invariant.trimming (nodes_in c.args.self.now.nodes.view.client.known)
+    (c.let_go-left.ensures.trimming (nodes_in c.args.self.now.nodes.view.client.known) 0 []
     c.requires.trimming) in
     let a = t.enough in
     omega (arith, a, c.leaving-test.true)
@@ -83,7 +91,7 @@ pub leaving-preserved : goal.leaving-preserved
 leaving-preserved g c =
     let i = c.leaving.invariant in
     let n = c.leaving.done in
-    let nodes : List Node = nodes_in c.leaving.self.nodes.view.client in
+    let nodes : List Node = nodes_in c.leaving.self.nodes.view.client.known in
     let counts : List ℕ = c.leaving.self.counts.items in
     let leaving : List ℕ = c.leaving.self.leaving.items in
     record {
@@ -114,14 +122,15 @@ returns-clause-state g c =
 
 pub returns-clause-trimming : goal.returns-clause-trimming
 returns-clause-trimming g c =
-    let t = c.leaving.invariant.trimming (nodes_in c.args.self.now.nodes.view.client)
-    (c.let_go-left.ensures.trimming (nodes_in c.args.self.now.nodes.view.client) 0 []
+    let t = c.leaving.invariant.trimming (nodes_in c.args.self.now.nodes.view.client.known)
+    (c.let_go-left.ensures.trimming (nodes_in c.args.self.now.nodes.view.client.known) 0 []
     c.requires.trimming) in
     let going = t.going in
     let end : c.leaving.left ≡ c.leaving.done = omega (arith, going, c.leaving-test.false) in (
       c.leaving.done,
       subst (λ (n : ℕ). IsTrimming g.row.N g.row.K g.row.L
-          (nodes_in c.args.self.now.nodes.view.client) (nodes_in c.leaving.self.nodes.view.client)
+          (nodes_in c.args.self.now.nodes.view.client.known)
+          (nodes_in c.leaving.self.nodes.view.client.known)
           c.leaving.self.counts.items c.leaving.self.leaving.items c.leaving.done n [])
           end t,
     )

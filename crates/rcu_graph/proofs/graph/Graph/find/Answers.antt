@@ -1,33 +1,32 @@
-use Rattle.std.proofs.Common.{◌≡◌, ℕ, ◌<◌, List, Some, None, refl, sym, subst, inl, inr, arith}
+use Rattle.std.proofs.Common.{◌≡◌, ℕ, ◌<◌, List, Some, None, refl, sym, subst, inl, inr, arith, ap}
+use Rattle.std.proofs.Common.{◌∙◌}
 use Rattle.std.specs.Prelude.{slice_index}
 use Rattle.rcu_live.specs.CpuSeat.{Seated}
 use Rattle.rcu_graph.specs.Graph.{IsAt, IsWalking}
 use Rattle.rcu_graph.specs.Nodes.{IsOn, IsReader}
 use Rattle.rcu_graph.specs.Search.{IsFound, IsSearched}
-use Rattle.rcu_graph.specs.declared.known.Known.{Known}
+use Rattle.rcu_graph.specs.declared.known.Planned.{Planned}
 use Rattle.rcu_graph.proofs.Searching.{IsOnPath, arrives, goes_on, sets_out}
 use Rattle.rcu_graph.proofs.Walking.{came_holds, came_to, found_it, hops_on, walks_at}
 use Rattle.rcu_graph.proofs.graph.Graph.find.Goals as goal
 
 pub key_of-least-requires : goal.key_of-least-requires
-key_of-least-requires g c =
-    let inside : c.args.root < g.row.N = omega (arith, c.requires.root, c.self.invariant.roots) in (
-      omega arith,
-      (
-        omega arith,
-        record {
-          walking = c.requires.walking;
-          words = g.F.Shape.first c.args.root;
-          on = inl (c.requires.root, refl);
-          inside = inside;
-        },
-      ),
-    )
+key_of-least-requires g c = (
+  omega arith,
+  record {
+    walking = c.requires.walking;
+    words = g.F.Shape.first c.args.root;
+    on = inl (c.requires.root, refl);
+    inside = omega (arith, c.requires.root, c.self.invariant.roots);
+  },
+)
 
 pub chain-init : goal.chain-init
 chain-init g c = record {
   same = refl;
-  reader = subst (λ (s : Seated Known). IsReader s.view.client) (sym c.key_of-least.ensures.same)
+  planned = refl;
+  reader = subst (λ (s : Seated Planned). IsReader s.view.client.known)
+      (sym c.key_of-least.ensures.same)
       c.requires.walking.reads;
   inside = omega (arith, c.requires.root, c.self.invariant.roots);
   on = (
@@ -35,7 +34,7 @@ chain-init g c = record {
     inl (c.requires.root, refl),
     sym (c.key_of-least.ensures.told (g.F.Shape.first c.args.root) (inl (c.requires.root, refl))),
   );
-  path = sets_out c.args.root c.args.key c.key_of-least.new.seat.view.client;
+  path = sets_out c.args.root c.args.key c.key_of-least.new.seat.view.client.known;
 }
 
 pub follow-requires : goal.follow-requires
@@ -44,16 +43,13 @@ follow-requires g c =
     let first = subst (IsWalking _) (sym c.key_of-least.ensures.same) c.requires.walking in (
       omega arith,
       (
-        omega arith,
-        (
-          walks_at _ _ _ _ _ c.chain.seat _ i.on.0 i.same first i.reader i.on.1 i.inside,
-          c.requires.link,
-        ),
+        walks_at _ _ _ _ _ c.chain.seat _ i.on.0 i.same i.planned first i.reader i.on.1 i.inside,
+        c.requires.link,
       ),
     )
 
 pub key_of-found-requires : goal.key_of-found-requires
-key_of-found-requires g c = (omega arith, (omega arith, c.in-Some.ensures.on))
+key_of-found-requires g c = (omega arith, c.in-Some.ensures.on)
 
 pub returns-then-found-key-clause-walking : goal.returns-then-found-key-clause-walking
 returns-then-found-key-clause-walking g c =
@@ -62,7 +58,7 @@ returns-then-found-key-clause-walking g c =
 pub returns-then-found-key-clause-on : goal.returns-then-found-key-clause-on
 returns-then-found-key-clause-on g c =
     subst
-    (λ (s : Seated Known). IsAt g.F.Shape.first g.row.K g.row.N c.args.self.now s c.in-Some.next)
+    (λ (s : Seated Planned). IsAt g.F.Shape.first g.row.K g.row.N c.args.self.now s c.in-Some.next)
     (sym c.key_of-found.ensures.same) c.in-Some.ensures.on
 
 pub returns-then-found-key-clause-found : goal.returns-then-found-key-clause-found
@@ -70,7 +66,8 @@ returns-then-found-key-clause-found g c =
     let on = c.chain.invariant.on in
     let f = c.in-Some.ensures.came on.0 on.1 in
     let held = came_holds _ _ _ _ _ _ _ _ _ f in
-    subst (λ (s : Seated Known). IsFound g.F.Shape.fits c.args.key s.view.client c.in-Some.next)
+    subst (λ (s : Seated Planned). IsFound g.F.Shape.fits c.args.key s.view.client.known
+    c.in-Some.next)
     (sym c.key_of-found.ensures.same)
     (found_it _ _ _ _ _ _ _ _ _ _ _ f (c.key_of-found.ensures.told f.words (inr held))
     c.if-found-key.true)
@@ -81,8 +78,9 @@ returns-then-found-key-clause-searched g c =
     let f = c.in-Some.ensures.came i.on.0 i.on.1 in
     let held = came_holds _ _ _ _ _ _ _ _ _ f in
     let told = c.key_of-found.ensures.told f.words (inr held) in
-    subst (λ (s : Seated Known × Seated Known).
-    IsSearched c.args.root c.args.key s.0.view.client (Some c.in-Some.next) s.1.view.client)
+    subst (λ (s : Seated Planned × Seated Planned).
+    IsSearched c.args.root c.args.key s.0.view.client.known (Some c.in-Some.next)
+    s.1.view.client.known)
     (λ z. (c.key_of-least.ensures.same z, sym c.key_of-found.ensures.same z))
     (arrives _ _ _ _ _ _ _ _ _ _ _ (Some c.in-Some.next) i.path f
     (refl, omega (arith, told, c.if-found-key.true)))
@@ -93,8 +91,8 @@ returns-then-found-key-2-clause-searched g c =
     let f = c.in-Some.ensures.came i.on.0 i.on.1 in
     let held = came_holds _ _ _ _ _ _ _ _ _ f in
     let told = c.key_of-found.ensures.told f.words (inr held) in
-    subst (λ (s : Seated Known × Seated Known).
-    IsSearched c.args.root c.args.key s.0.view.client None s.1.view.client)
+    subst (λ (s : Seated Planned × Seated Planned).
+    IsSearched c.args.root c.args.key s.0.view.client.known None s.1.view.client.known)
     (λ z. (c.key_of-least.ensures.same z, sym c.key_of-found.ensures.same z))
     (arrives _ _ _ _ _ _ _ _ _ _ _ None i.path f (inr (omega (arith, told, c.if-found-key-2.true))))
 
@@ -102,8 +100,8 @@ pub returns-in_default-clause-searched : goal.returns-in_default-clause-searched
 returns-in_default-clause-searched g c =
     let i = c.chain.invariant in
     let f = c.in_default.ensures.came i.on.0 i.on.1 in
-    subst (λ (s : Seated Known).
-    IsSearched c.args.root c.args.key s.view.client None c.follow.new.seat.view.client)
+    subst (λ (s : Seated Planned).
+    IsSearched c.args.root c.args.key s.view.client.known None c.follow.new.seat.view.client.known)
     c.key_of-least.ensures.same (arrives _ _ _ _ _ _ _ _ _ _ _ None i.path f (inl refl))
 
 pub returns-then-found-key-2-clause-walking : goal.returns-then-found-key-2-clause-walking
@@ -131,16 +129,21 @@ chain-preserved g c =
     record {
       same = hops_on c.key_of-least.new.seat c.chain.seat c.follow.new.seat c.key_of-found.new.seat
           i.same c.in-Some.ensures.same c.key_of-found.ensures.same;
-      reader = subst (λ (s : Seated Known). IsReader s.view.client)
+      planned =
+          ap (λ (s : Seated Planned). s.view.client.plan) c.key_of-found.ensures.same
+          ∙ (c.in-Some.ensures.walking.seat_of.planned
+          ∙ sym (subst (IsWalking _) (sym c.key_of-least.ensures.same)
+          c.requires.walking).seat_of.planned);
+      reader = subst (λ (s : Seated Planned). IsReader s.view.client.known)
           (sym c.key_of-found.ensures.same) c.in-Some.ensures.walking.reads;
       inside = came.inside;
-      on = subst (λ (s : Seated Known).
+      on = subst (λ (s : Seated Planned).
           (words : List ℕ)
-          × IsOn g.F.Shape.first g.row.K s.view.client c.in-Some.next words
+          × IsOn g.F.Shape.first g.row.K s.view.client.known c.in-Some.next words
           × (slice_index words 0 ≡ c.key_of-found.result))
           (sym c.key_of-found.ensures.same) (f.words, inr held, sym told);
-      path = subst (λ (s : Seated Known). IsOnPath c.args.root c.args.key
-          c.key_of-least.new.seat.view.client s.view.client c.in-Some.next)
+      path = subst (λ (s : Seated Planned). IsOnPath c.args.root c.args.key
+          c.key_of-least.new.seat.view.client.known s.view.client.known c.in-Some.next)
           (sym c.key_of-found.ensures.same)
           (goes_on _ _ _ _ _ _ _ _ _ _ _ i.path f
           (omega (arith, told, c.if-found-key.false, c.if-found-key-2.false)));

@@ -8,12 +8,13 @@ use Rattle.rcu_graph.proofs.graph.Graph.find.Given as goal
 abbrev pub invariant-chain : goal.invariant-chain
 invariant-chain g l = record {
   same : l.seat ≡ after_word_step l.initial.seat l.seat.view.client;
-  reader : IsReader l.seat.view.client;
+  planned : l.seat.view.client.plan ≡ l.initial.seat.view.client.plan;
+  reader : IsReader l.seat.view.client.known;
   inside : l.on < g.row.N;
   on : (words : List ℕ)
-      × IsOn g.F.Shape.first g.row.K l.seat.view.client l.on words
+      × IsOn g.F.Shape.first g.row.K l.seat.view.client.known l.on words
       × (slice_index words 0 ≡ l.least);
-  path : IsOnPath l.root l.key l.initial.seat.view.client l.seat.view.client l.on;
+  path : IsOnPath l.root l.key l.initial.seat.view.client.known l.seat.view.client.known l.on;
 }
 
 abbrev pub decreases-chain : goal.decreases-chain

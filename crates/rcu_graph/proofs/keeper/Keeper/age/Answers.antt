@@ -4,25 +4,26 @@ use Rattle.rcu_live.specs.Watcher.{Watching}
 use Rattle.rcu_graph.specs.Keeper.{after_look}
 use Rattle.rcu_graph.specs.Nodes.{latest_in, nodes_in}
 use Rattle.rcu_graph.specs.Trimming.{IsCounted}
-use Rattle.rcu_graph.specs.declared.known.Known.{Known}
+use Rattle.rcu_graph.specs.declared.known.Planned.{Planned}
 use Rattle.rcu_graph.specs.declared.known.Node.{Node}
 use Rattle.rcu_graph.proofs.Keeps.{counted_aged}
 use Rattle.rcu_graph.proofs.keeper.Keeper.age.Goals as goal
 
 pub invariant_of-self : goal.invariant_of-self
 invariant_of-self g c =
-    let s : Watching Known = c.self.inside.counted.nodes in
+    let s : Watching Planned = c.self.inside.counted.nodes in
     let counted = c.self.inside.counted in
     subst (λ (l : List Node). IsCounted g.F.Shape.fits g.F.Shape.joins g.row.N g.row.K g.row.L l
     counted.counts.items counted.leaving.items)
-    (sym (ap (λ (w : Watching Known). nodes_in w.view.client) c.look.ensures.state))
-    (counted_aged g.F.Shape.fits g.F.Shape.joins g.row.N g.row.K g.row.L (nodes_in s.view.client)
+    (sym (ap (λ (w : Watching Planned). nodes_in w.view.client.known) c.look.ensures.state))
+    (counted_aged g.F.Shape.fits g.F.Shape.joins g.row.N g.row.K g.row.L
+    (nodes_in s.view.client.known)
     counted.counts.items counted.leaving.items c.self.invariant c.look.result
-    (max c.look.result (latest_in s.view.client)))
+    (max c.look.result (latest_in s.view.client.known)))
 
 pub returns-clause-graph : goal.returns-clause-graph
 returns-clause-graph g c = c.look.ensures.graph
 
 pub returns-clause-state : goal.returns-clause-state
 returns-clause-state g c =
-    c.look.ensures.state ∙ ap (λ (w : Watching Known). after_look w c.look.result) c.self.view_is
+    c.look.ensures.state ∙ ap (λ (w : Watching Planned). after_look w c.look.result) c.self.view_is

@@ -4,7 +4,7 @@ use Rattle.rcu_graph.specs.Graph.{word_to}
 use Rattle.rcu_graph.specs.Nodes.{nodes_in, renewed, state_at}
 use Rattle.rcu_graph.specs.Tended.{after_fill, filled_with}
 use Rattle.rcu_graph.specs.Trimming.{IsCounted}
-use Rattle.rcu_graph.specs.declared.known.Known.{Known}
+use Rattle.rcu_graph.specs.declared.known.Planned.{Planned}
 use Rattle.rcu_graph.specs.declared.known.Node.{Node}
 use Rattle.rcu_graph.proofs.Cascade.{nodes_are}
 use Rattle.rcu_graph.proofs.Keeps.{counted_written}
@@ -12,9 +12,9 @@ use Rattle.rcu_graph.proofs.keeper.Keeper.fill.Goals as goal
 
 pub invariant_of-self : goal.invariant_of-self
 invariant_of-self g c =
-    let s : Watching Known = c.self.inside.counted.nodes in
+    let s : Watching Planned = c.self.inside.counted.nodes in
     let counted = c.self.inside.counted in
-    let nodes : List Node = nodes_in s.view.client in
+    let nodes : List Node = nodes_in s.view.client.known in
     let change : Node → Node = filled_with (map word_to c.args.links.now) c.args.words.now in
     subst (λ (l : List Node). IsCounted g.F.Shape.fits g.F.Shape.joins g.row.N g.row.K g.row.L l
     counted.counts.items counted.leaving.items)
@@ -22,7 +22,8 @@ invariant_of-self g c =
     (counted_written g.F.Shape.fits g.F.Shape.joins g.row.N g.row.K g.row.L nodes
     counted.counts.items counted.leaving.items c.self.invariant c.args.node change
     (let few = c.sizes.ensures.few in omega (arith, few, c.requires.node))
-    (ap (λ (w : Watching Known). state_at (nodes_in w.view.client) c.args.node) c.self.view_is
+    (ap (λ (w : Watching Planned). state_at (nodes_in w.view.client.known) c.args.node)
+    c.self.view_is
     ∙ c.requires.free)
     refl)
 
@@ -32,5 +33,5 @@ returns-clause-graph g c = c.fill.ensures.graph
 pub returns-clause-state : goal.returns-clause-state
 returns-clause-state g c =
     c.fill.ensures.state
-    ∙ ap (λ (w : Watching Known). after_fill w c.args.node c.args.words.now c.args.links.now)
+    ∙ ap (λ (w : Watching Planned). after_fill w c.args.node c.args.words.now c.args.links.now)
     c.self.view_is

@@ -4,7 +4,7 @@ use Rattle.rcu_graph.specs.Graph.{IsWatcherOf, word_to}
 use Rattle.rcu_graph.specs.Keeper.{after_step}
 use Rattle.rcu_graph.specs.Nodes.{IsTarget, node_at, nodes_in, state_at}
 use Rattle.rcu_graph.specs.Tended.{AreTrimmed, relinked}
-use Rattle.rcu_graph.specs.declared.known.Known.{Known}
+use Rattle.rcu_graph.specs.declared.known.Planned.{Planned}
 use Rattle.rcu_graph.specs.declared.node_state.NodeState.TheVariants.{Live}
 use Rattle.rcu_graph.proofs.keeper.Keeper.link.Goals as goal
 
@@ -16,16 +16,18 @@ link-requires g c =
         omega arith,
         record {
           watches =
-              subst (λ (w : Watching Known). IsWatcherOf c.args.graph.now w) e c.requires.graph;
+              subst (λ (w : Watching Planned). IsWatcherOf c.args.graph.now w) e c.requires.graph;
           counted = c.self.invariant;
           from_inside = c.requires.from;
           link_inside = c.requires.link;
           live =
-              subst (λ (w : Watching Known). state_at (nodes_in w.view.client) c.args.from ≡ Live) e
+              subst (λ (w : Watching Planned). state_at (nodes_in w.view.client.known) c.args.from ≡
+              Live) e
               c.requires.live;
-          target = subst (λ (w : Watching Known).
+          target = subst (λ (w : Watching Planned).
               IsTarget (g.F.Shape.joins c.args.link)
-              (node_at (nodes_in w.view.client) c.args.from).words (nodes_in w.view.client)
+              (node_at (nodes_in w.view.client.known) c.args.from).words
+              (nodes_in w.view.client.known)
               (word_to c.args.to))
               e c.requires.target;
         },
@@ -41,12 +43,12 @@ returns-clause-graph g c = c.link.ensures.watches
 pub returns-clause-state : goal.returns-clause-state
 returns-clause-state g c =
     c.link.ensures.state
-    ∙ ap (λ (w : Watching Known). after_step w (nodes_in c.link.new.self.nodes.view.client))
+    ∙ ap (λ (w : Watching Planned). after_step w (nodes_in c.link.new.self.nodes.view.client.known))
     c.self.view_is
 
 pub returns-clause-trimmed : goal.returns-clause-trimmed
 returns-clause-trimmed g c =
-    subst (λ (w : Watching Known). AreTrimmed g.row.K g.row.L
-    (relinked (nodes_in w.view.client) c.args.from c.args.link c.args.to)
-    (nodes_in c.link.new.self.nodes.view.client))
+    subst (λ (w : Watching Planned). AreTrimmed g.row.K g.row.L
+    (relinked (nodes_in w.view.client.known) c.args.from c.args.link c.args.to)
+    (nodes_in c.link.new.self.nodes.view.client.known))
     c.self.view_is c.link.ensures.trimmed

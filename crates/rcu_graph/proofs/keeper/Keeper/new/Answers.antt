@@ -5,7 +5,7 @@ use Rattle.std.specs.Prelude.{All}
 use Rattle.rcu_live.specs.Watcher.{Watching}
 use Rattle.rcu_graph.specs.Nodes.{nodes_in}
 use Rattle.rcu_graph.specs.Trimming.{IsCounted}
-use Rattle.rcu_graph.specs.declared.known.Known.{Known}
+use Rattle.rcu_graph.specs.declared.known.Planned.{Planned}
 use Rattle.rcu_graph.specs.declared.known.Node.{Node}
 use Rattle.rcu_graph.proofs.FirstNodes.{row_first}
 use Rattle.rcu_graph.proofs.Keeps.{counted_first}
@@ -27,7 +27,8 @@ invariant_of-result g c =
     subst (λ (l : List Node). IsCounted g.F.Shape.fits g.F.Shape.joins g.row.N g.row.K g.row.L l
     made.counts.items made.leaving.items)
     (sym
-    (ap (λ (w : Watching Known). nodes_in w.view.client) e.nodes ∙ ap nodes_in c.requires.nodes))
+    (ap (λ (w : Watching Planned). nodes_in w.view.client.known) e.nodes ∙ ap nodes_in
+    c.requires.nodes))
     (counted_first g.F.Shape.fits g.F.Shape.joins g.row.N g.row.K g.row.L g.row.W g.F.Shape.first
     c.graph.invariant.roots made.counts.items made.leaving.items
     (roots_fit g.F.Shape.fits g.F.Shape.first g.row.K c.args.roots.now c.requires.first

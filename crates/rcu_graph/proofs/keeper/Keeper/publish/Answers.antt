@@ -4,7 +4,7 @@ use Rattle.rcu_graph.specs.Graph.{IsWatcherOf}
 use Rattle.rcu_graph.specs.Keeper.{IsReady, after_step}
 use Rattle.rcu_graph.specs.Nodes.{node_at, nodes_in, state_at}
 use Rattle.rcu_graph.specs.Tended.{AreTrimmed, published}
-use Rattle.rcu_graph.specs.declared.known.Known.{Known}
+use Rattle.rcu_graph.specs.declared.known.Planned.{Planned}
 use Rattle.rcu_graph.specs.declared.node_state.NodeState.TheVariants.{Live}
 use Rattle.rcu_graph.proofs.keeper.Keeper.publish.Goals as goal
 
@@ -16,20 +16,22 @@ publish-requires g c =
         omega arith,
         record {
           watches =
-              subst (λ (w : Watching Known). IsWatcherOf c.args.graph.now w) e c.requires.graph;
+              subst (λ (w : Watching Planned). IsWatcherOf c.args.graph.now w) e c.requires.graph;
           counted = c.self.invariant;
           from_inside = c.requires.from;
           to_inside = c.requires.to;
           link_inside = c.requires.link;
           live =
-              subst (λ (w : Watching Known). state_at (nodes_in w.view.client) c.args.from ≡ Live) e
+              subst (λ (w : Watching Planned). state_at (nodes_in w.view.client.known) c.args.from ≡
+              Live) e
               c.requires.live;
-          ready = subst (λ (w : Watching Known).
-              IsReady g.F.Shape.fits g.F.Shape.joins g.row.L (nodes_in w.view.client) c.args.to)
+          ready = subst (λ (w : Watching Planned).
+              IsReady g.F.Shape.fits g.F.Shape.joins g.row.L (nodes_in w.view.client.known)
+              c.args.to)
               e c.requires.ready;
-          joined = subst (λ (w : Watching Known).
-              g.F.Shape.joins c.args.link (node_at (nodes_in w.view.client) c.args.from).words
-              (node_at (nodes_in w.view.client) c.args.to).words)
+          joined = subst (λ (w : Watching Planned).
+              g.F.Shape.joins c.args.link (node_at (nodes_in w.view.client.known) c.args.from).words
+              (node_at (nodes_in w.view.client.known) c.args.to).words)
               e c.requires.joined;
         },
       ),
@@ -44,12 +46,13 @@ returns-clause-graph g c = c.publish.ensures.watches
 pub returns-clause-state : goal.returns-clause-state
 returns-clause-state g c =
     c.publish.ensures.state
-    ∙ ap (λ (w : Watching Known). after_step w (nodes_in c.publish.new.self.nodes.view.client))
+    ∙ ap (λ (w : Watching Planned). after_step w (nodes_in
+    c.publish.new.self.nodes.view.client.known))
     c.self.view_is
 
 pub returns-clause-trimmed : goal.returns-clause-trimmed
 returns-clause-trimmed g c =
-    subst (λ (w : Watching Known). AreTrimmed g.row.K g.row.L
-    (published (nodes_in w.view.client) c.args.from c.args.link c.args.to)
-    (nodes_in c.publish.new.self.nodes.view.client))
+    subst (λ (w : Watching Planned). AreTrimmed g.row.K g.row.L
+    (published (nodes_in w.view.client.known) c.args.from c.args.link c.args.to)
+    (nodes_in c.publish.new.self.nodes.view.client.known))
     c.self.view_is c.publish.ensures.trimmed

@@ -2,7 +2,7 @@ use Rattle.std.proofs.Common.{arith, rules, subst, sym}
 use Rattle.rcu_live.specs.Watcher.{Watching}
 use Rattle.rcu_graph.specs.Filling.{CanFill}
 use Rattle.rcu_graph.specs.Graph.{IsWatcherOf}
-use Rattle.rcu_graph.specs.declared.known.Known.{Known}
+use Rattle.rcu_graph.specs.declared.known.Planned.{Planned}
 use Rattle.rcu_graph.proofs.Filling.{all_filled, can_fill_on, low_in}
 use Rattle.rcu_graph.proofs.known_nodes.KnownNodes.fill.Goals as goal
 
@@ -54,8 +54,8 @@ fill_links-requires g c =
 
 pub returns-clause-graph : goal.returns-clause-graph
 returns-clause-graph g c =
-    subst (λ (w : Watching Known). IsWatcherOf c.args.graph.now w) (sym c.fill_links.ensures)
-    (subst (λ (w : Watching Known). IsWatcherOf c.args.graph.now w) (sym c.fill_words.ensures)
+    subst (λ (w : Watching Planned). IsWatcherOf c.args.graph.now w) (sym c.fill_links.ensures)
+    (subst (λ (w : Watching Planned). IsWatcherOf c.args.graph.now w) (sym c.fill_words.ensures)
     c.requires.graph)
 
 pub returns-clause-state : goal.returns-clause-state

@@ -9,5 +9,5 @@ abbrev pub invariant-loop-link : goal.invariant-loop-link
 invariant-loop-link g l =
     l.self
     ≡ after_step l.initial.self
-    (renewed (nodes_in l.initial.self.view.client) l.node
+    (renewed (nodes_in l.initial.self.view.client.known) l.node
     (with_links_to l.link (map word_to l.links)))

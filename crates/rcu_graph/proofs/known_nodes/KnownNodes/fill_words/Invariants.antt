@@ -8,4 +8,4 @@ abbrev pub invariant-loop-word : goal.invariant-loop-word
 invariant-loop-word g l =
     l.self
     ≡ after_step l.initial.self
-    (renewed (nodes_in l.initial.self.view.client) l.node (with_words_to l.word l.words))
+    (renewed (nodes_in l.initial.self.view.client.known) l.node (with_words_to l.word l.words))

@@ -5,6 +5,7 @@ use Rattle.rcu_live.specs.Watcher.{Watching}
 use Rattle.rcu_graph.specs.Mirror.{AreBy}
 use Rattle.rcu_graph.specs.Nodes.{aged, latest_in, nodes_in}
 use Rattle.rcu_graph.specs.declared.known.Known.{Known}
+use Rattle.rcu_graph.specs.declared.known.Planned.{Planned}
 use Rattle.rcu_graph.specs.declared.known.Node.{Node}
 use Rattle.rcu_graph.proofs.Standings.{by_aged}
 use Rattle.rcu_graph.proofs.known_nodes.KnownNodes.look.Goals as goal
@@ -14,7 +15,7 @@ invariant_of-self g c =
     let k = c.self.invariant in
     let e = c.look-number.ensures in
     let n : ℕ = c.look-number.result in
-    let was : Known = c.self.inside.seat.view.client in
+    let was : Known = c.self.inside.seat.view.client.known in
     let seen = k.late in
     let later = e.later in
     let low : latest_in was ≤ n = omega (arith, seen, later) in
@@ -22,17 +23,18 @@ invariant_of-self g c =
     max-le {a = n} {b = latest_in was} {k = n} (omega arith) low in
     let over : n ≤ max n (latest_in was) = le-max_left n (latest_in was) in
     let same : max n (latest_in was) ≡ n = omega (arith, up, over) in
-    let latest : latest_in c.look-number.new.seat.view.client ≡ n =
-    ap (λ (w : Watching Known). latest_in w.view.client) e.state ∙ same in
+    let latest : latest_in c.look-number.new.seat.view.client.known ≡ n =
+    ap (λ (w : Watching Planned). latest_in w.view.client.known) e.state ∙ same in
     let now : c.look-number.new.seat.view.seen ≡ n =
-    ap (λ (w : Watching Known). w.view.seen) e.state in
+    ap (λ (w : Watching Planned). w.view.seen) e.state in
     record {
+      planned = ap (λ (w : Watching Planned). w.view.client.plan) e.state ∙ k.planned;
       role = e.keeper.role;
       keeps = e.keeper.keeps;
       few = e.keeper.few;
       late = omega (arith, latest, now);
       same =
-          ap (λ (w : Watching Known). nodes_in w.view.client) e.state
+          ap (λ (w : Watching Planned). nodes_in w.view.client.known) e.state
           ∙ (ap (λ (m : ℕ). aged n m (nodes_in was)) same
           ∙ (ap (λ (l : List Node). aged n n l) k.same ∙ sym c.age.ensures));
       by =

@@ -12,6 +12,7 @@ invariant_of-result g c =
     let is = c.in_ok-mirror.ensures in
     let first = c.requires.first in
     record {
+      planned = c.requires.keeper.planned ∙ c.sizes.ensures.planned;
       role = c.requires.keeper.role;
       keeps = c.requires.keeper.keeps;
       few = c.requires.keeper.few;

@@ -3,7 +3,7 @@ use Rattle.std.specs.Prelude.{MatchOption}
 use Rattle.rcu_live.specs.Watcher.{Watching}
 use Rattle.rcu_graph.specs.Absence.{key_at}
 use Rattle.rcu_graph.specs.Nodes.{nodes_in}
-use Rattle.rcu_graph.specs.declared.known.Known.{Known}
+use Rattle.rcu_graph.specs.declared.known.Planned.{Planned}
 use Rattle.rcu_map.specs.Entries.{HasKey, IsNodeOf}
 use Rattle.rcu_map.specs.Splices.{IsPlace}
 use Rattle.rcu_map.proofs.Chains.{begins, inside, led, told}
@@ -51,37 +51,37 @@ chain-preserved g c =
 pub returns-in_default-clause-place : goal.returns-in_default-clause-place
 returns-in_default-clause-place g c =
     let i = c.chain.invariant in
-    let at : IsPlace g.row.BUCKETS c.args.key (nodes_in c.self.inside.nodes.view.client)
+    let at : IsPlace g.row.BUCKETS c.args.key (nodes_in c.self.inside.nodes.view.client.known)
     c.chain.previous None = record {
       live = i.live;
       bucket = i.bucket;
       less = i.less;
       leads = λ to leads. let e = c.in_default.ensures in absurd (omega (arith, e, leads));
     } in
-    subst (λ (w : Watching Known).
-    IsPlace g.row.BUCKETS c.args.key (nodes_in w.view.client) c.chain.previous None)
+    subst (λ (w : Watching Planned).
+    IsPlace g.row.BUCKETS c.args.key (nodes_in w.view.client.known) c.chain.previous None)
     c.self.view_is at
 
 pub returns-in_default-clause-told : goal.returns-in_default-clause-told
 returns-in_default-clause-told g c =
     let i = c.chain.invariant in
-    let at : IsPlace g.row.BUCKETS c.args.key (nodes_in c.self.inside.nodes.view.client)
+    let at : IsPlace g.row.BUCKETS c.args.key (nodes_in c.self.inside.nodes.view.client.known)
     c.chain.previous None = record {
       live = i.live;
       bucket = i.bucket;
       less = i.less;
       leads = λ to leads. let e = c.in_default.ensures in absurd (omega (arith, e, leads));
     } in
-    subst (λ (w : Watching Known). MatchOption None
-    (HasKey g.row.BUCKETS (nodes_in w.view.client) c.args.key → ⊥)
-    (λ node. IsNodeOf g.row.BUCKETS (nodes_in w.view.client) c.args.key node))
+    subst (λ (w : Watching Planned). MatchOption None
+    (HasKey g.row.BUCKETS (nodes_in w.view.client.known) c.args.key → ⊥)
+    (λ node. IsNodeOf g.row.BUCKETS (nodes_in w.view.client.known) c.args.key node))
     c.self.view_is
     (told _ _ _ _ _ c.self.invariant.map c.args.key c.chain.previous None c.requires at)
 
 pub returns-then-found-key-clause-place : goal.returns-then-found-key-clause-place
 returns-then-found-key-clause-place g c =
     let i = c.chain.invariant in
-    let at : IsPlace g.row.BUCKETS c.args.key (nodes_in c.self.inside.nodes.view.client)
+    let at : IsPlace g.row.BUCKETS c.args.key (nodes_in c.self.inside.nodes.view.client.known)
     c.chain.previous (Some c.in-Some.next) = record {
       live = i.live;
       bucket = i.bucket;
@@ -91,14 +91,14 @@ returns-then-found-key-clause-place g c =
         let key = c.word-found.ensures in omega (arith, key, c.if-found-key.true),
       );
     } in
-    subst (λ (w : Watching Known). IsPlace g.row.BUCKETS c.args.key (nodes_in w.view.client)
+    subst (λ (w : Watching Planned). IsPlace g.row.BUCKETS c.args.key (nodes_in w.view.client.known)
     c.chain.previous (Some c.in-Some.next))
     c.self.view_is at
 
 pub returns-then-found-key-clause-told : goal.returns-then-found-key-clause-told
 returns-then-found-key-clause-told g c =
     let i = c.chain.invariant in
-    let at : IsPlace g.row.BUCKETS c.args.key (nodes_in c.self.inside.nodes.view.client)
+    let at : IsPlace g.row.BUCKETS c.args.key (nodes_in c.self.inside.nodes.view.client.known)
     c.chain.previous (Some c.in-Some.next) = record {
       live = i.live;
       bucket = i.bucket;
@@ -108,9 +108,9 @@ returns-then-found-key-clause-told g c =
         let key = c.word-found.ensures in omega (arith, key, c.if-found-key.true),
       );
     } in
-    subst (λ (w : Watching Known). MatchOption (Some c.in-Some.next)
-    (HasKey g.row.BUCKETS (nodes_in w.view.client) c.args.key → ⊥)
-    (λ node. IsNodeOf g.row.BUCKETS (nodes_in w.view.client) c.args.key node))
+    subst (λ (w : Watching Planned). MatchOption (Some c.in-Some.next)
+    (HasKey g.row.BUCKETS (nodes_in w.view.client.known) c.args.key → ⊥)
+    (λ node. IsNodeOf g.row.BUCKETS (nodes_in w.view.client.known) c.args.key node))
     c.self.view_is
     (told _ _ _ _ _ c.self.invariant.map c.args.key c.chain.previous (Some c.in-Some.next)
     c.requires at)
@@ -118,7 +118,7 @@ returns-then-found-key-clause-told g c =
 pub returns-then-found-key-2-clause-place : goal.returns-then-found-key-2-clause-place
 returns-then-found-key-2-clause-place g c =
     let i = c.chain.invariant in
-    let at : IsPlace g.row.BUCKETS c.args.key (nodes_in c.self.inside.nodes.view.client)
+    let at : IsPlace g.row.BUCKETS c.args.key (nodes_in c.self.inside.nodes.view.client.known)
     c.chain.previous None = record {
       live = i.live;
       bucket = i.bucket;
@@ -127,17 +127,18 @@ returns-then-found-key-2-clause-place g c =
           let e = c.in-Some.ensures in
           let key = c.word-found.ensures in
           let is : c.in-Some.next ≡ to = omega (arith, e, leads) in
-          subst (λ (n : ℕ). c.args.key < key_at (nodes_in c.self.inside.nodes.view.client) n) is
+          subst (λ (n : ℕ). c.args.key < key_at (nodes_in c.self.inside.nodes.view.client.known) n)
+          is
           (omega (arith, key, c.if-found-key-2.true));
     } in
-    subst (λ (w : Watching Known).
-    IsPlace g.row.BUCKETS c.args.key (nodes_in w.view.client) c.chain.previous None)
+    subst (λ (w : Watching Planned).
+    IsPlace g.row.BUCKETS c.args.key (nodes_in w.view.client.known) c.chain.previous None)
     c.self.view_is at
 
 pub returns-then-found-key-2-clause-told : goal.returns-then-found-key-2-clause-told
 returns-then-found-key-2-clause-told g c =
     let i = c.chain.invariant in
-    let at : IsPlace g.row.BUCKETS c.args.key (nodes_in c.self.inside.nodes.view.client)
+    let at : IsPlace g.row.BUCKETS c.args.key (nodes_in c.self.inside.nodes.view.client.known)
     c.chain.previous None = record {
       live = i.live;
       bucket = i.bucket;
@@ -146,11 +147,12 @@ returns-then-found-key-2-clause-told g c =
           let e = c.in-Some.ensures in
           let key = c.word-found.ensures in
           let is : c.in-Some.next ≡ to = omega (arith, e, leads) in
-          subst (λ (n : ℕ). c.args.key < key_at (nodes_in c.self.inside.nodes.view.client) n) is
+          subst (λ (n : ℕ). c.args.key < key_at (nodes_in c.self.inside.nodes.view.client.known) n)
+          is
           (omega (arith, key, c.if-found-key-2.true));
     } in
-    subst (λ (w : Watching Known). MatchOption None
-    (HasKey g.row.BUCKETS (nodes_in w.view.client) c.args.key → ⊥)
-    (λ node. IsNodeOf g.row.BUCKETS (nodes_in w.view.client) c.args.key node))
+    subst (λ (w : Watching Planned). MatchOption None
+    (HasKey g.row.BUCKETS (nodes_in w.view.client.known) c.args.key → ⊥)
+    (λ node. IsNodeOf g.row.BUCKETS (nodes_in w.view.client.known) c.args.key node))
     c.self.view_is
     (told _ _ _ _ _ c.self.invariant.map c.args.key c.chain.previous None c.requires at)

@@ -7,11 +7,11 @@ use Rattle.rcu_map.proofs.keeper.MapKeeper.place_of.Given as goal
 
 abbrev pub invariant-chain : goal.invariant-chain
 invariant-chain g l = record {
-  live : state_at (nodes_in l.nodes.view.client) l.previous ≡ Live;
-  bucket : bucket_in g.row.BUCKETS (node_at (nodes_in l.nodes.view.client) l.previous).words
+  live : state_at (nodes_in l.nodes.view.client.known) l.previous ≡ Live;
+  bucket : bucket_in g.row.BUCKETS (node_at (nodes_in l.nodes.view.client.known) l.previous).words
       ≡ bucket_of g.row.BUCKETS l.key;
-  less : key_at (nodes_in l.nodes.view.client) l.previous < l.key;
+  less : key_at (nodes_in l.nodes.view.client.known) l.previous < l.key;
 }
 
 abbrev pub decreases-chain : goal.decreases-chain
-decreases-chain g l = l.key - key_at (nodes_in l.nodes.view.client) l.previous
+decreases-chain g l = l.key - key_at (nodes_in l.nodes.view.client.known) l.previous

@@ -3,7 +3,8 @@ use Rattle.rcu_live.specs.Board.{Object}
 use Rattle.rcu_live.specs.Watcher.{Watching}
 use Rattle.rcu_graph.specs.Graph.{IsWatcherOf}
 use Rattle.rcu_graph.specs.Nodes.{nodes_in}
-use Rattle.rcu_graph.specs.declared.known.Known.{Known}
+use Rattle.rcu_graph.specs.declared.known.Planned.{Planned}
+use Rattle.rcu_graph.specs.declared.plan.Plan.{Plan}
 use Rattle.rcu_map.specs.Keys.{GoesUp, IsWhole, key_in}
 use Rattle.rcu_map.specs.Puts.{HasChanged, IsPutIn}
 use Rattle.rcu_map.specs.Splices.{CanPut}
@@ -19,14 +20,15 @@ put-requires g c =
     let some : 0 < key_in words = g.met.E.Entry.keyed words c.requires.whole in
     let place = placed g.row.BUCKETS c.args.self.now c.self.inside.nodes (key_in words)
     (key_in words) c.args.previous None None c.requires.place c.self.view_is refl refl in
-    let watches = subst (λ (w : Watching Known). IsWatcherOf c.args.map.now w) (sym c.self.view_is)
+    let watches = subst (λ (w : Watching Planned). IsWatcherOf c.args.map.now w)
+    (sym c.self.view_is)
     c.requires.graph in (
       omega arith,
       (
         omega arith,
         (
           omega (arith, small),
-          subst (λ (o : Object (Unit {0})). CanPut (IsWhole g.E.Invariant.holds g.row.W)
+          subst (λ (o : Object Plan). CanPut (IsWhole g.E.Invariant.holds g.row.W)
               (λ _ from to. GoesUp g.row.BUCKETS from to) g.row.N o c.self.inside.nodes
               c.args.previous words c.link_of-next.result)
               (sym c.graph.ensures)
@@ -47,10 +49,12 @@ overflow_add-self g c =
     let done = c.in_ok-put.ensures in
     let now = c.self.invariant.count in
     let more = inserted_count g.E.Invariant.holds g.row.BUCKETS g.row.W g.row.N
-    (nodes_in c.self.inside.nodes.view.client) c.self.invariant.map c.args.previous done.node words
-    c.link_of-next.result (nodes_in c.put.new.keeper.view.client) some place c.link_of-next.ensures
+    (nodes_in c.self.inside.nodes.view.client.known) c.self.invariant.map c.args.previous done.node
+    words
+    c.link_of-next.result (nodes_in c.put.new.keeper.view.client.known) some place
+    c.link_of-next.ensures
     done.inside done.free done.trimmed in
-    let most = entries_few g.row.BUCKETS (nodes_in c.put.new.keeper.view.client) in
+    let most = entries_few g.row.BUCKETS (nodes_in c.put.new.keeper.view.client.known) in
     let few = done.kept.few in
     let fits = g.N.fits in
     omega (arith, now, more, most, few, fits)
@@ -65,14 +69,16 @@ invariant_of-self-2 g c =
     record {
       some = c.self.invariant.some;
       map = inserted_map g.E.Invariant.holds g.row.BUCKETS g.row.W g.row.N
-          (nodes_in c.self.inside.nodes.view.client) c.self.invariant.map c.args.previous done.node
-          words c.link_of-next.result (nodes_in c.put.new.keeper.view.client) some place
+          (nodes_in c.self.inside.nodes.view.client.known) c.self.invariant.map c.args.previous
+          done.node
+          words c.link_of-next.result (nodes_in c.put.new.keeper.view.client.known) some place
           c.link_of-next.ensures done.inside done.free done.trimmed done.kept.few done.kept.tended;
       count =
           let now = c.self.invariant.count in
           let more = inserted_count g.E.Invariant.holds g.row.BUCKETS g.row.W g.row.N
-          (nodes_in c.self.inside.nodes.view.client) c.self.invariant.map c.args.previous done.node
-          words c.link_of-next.result (nodes_in c.put.new.keeper.view.client) some place
+          (nodes_in c.self.inside.nodes.view.client.known) c.self.invariant.map c.args.previous
+          done.node
+          words c.link_of-next.result (nodes_in c.put.new.keeper.view.client.known) some place
           c.link_of-next.ensures done.inside done.free done.trimmed in
           omega (arith, now, more);
     }
@@ -84,13 +90,14 @@ returns-clause-put g c =
     let place = placed g.row.BUCKETS c.args.self.now c.self.inside.nodes (key_in words)
     (key_in words) c.args.previous None None c.requires.place c.self.view_is refl refl in
     let done = c.in_ok-put.ensures in
-    subst (λ (w : Watching Known). HasChanged (IsPutIn g.row.BUCKETS words false) w
+    subst (λ (w : Watching Planned). HasChanged (IsPutIn g.row.BUCKETS words false) w
     c.put.new.keeper)
     c.self.view_is
     (record {
       state = done.state;
       nodes = inserted g.E.Invariant.holds g.row.BUCKETS g.row.W g.row.N
-          (nodes_in c.self.inside.nodes.view.client) c.self.invariant.map c.args.previous done.node
-          words c.link_of-next.result (nodes_in c.put.new.keeper.view.client) some place
+          (nodes_in c.self.inside.nodes.view.client.known) c.self.invariant.map c.args.previous
+          done.node
+          words c.link_of-next.result (nodes_in c.put.new.keeper.view.client.known) some place
           c.link_of-next.ensures done.inside done.free done.trimmed;
     })

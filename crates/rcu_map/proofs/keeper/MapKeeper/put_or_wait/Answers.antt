@@ -3,7 +3,7 @@ use Rattle.std.specs.Prelude.{is_some}
 use Rattle.std.proofs.lemmas.Result.{err_from_is_err_and}
 use Rattle.rcu_live.specs.Watcher.{Watching}
 use Rattle.rcu_graph.specs.Nodes.{nodes_in}
-use Rattle.rcu_graph.specs.declared.known.Known.{Known}
+use Rattle.rcu_graph.specs.declared.known.Planned.{Planned}
 use Rattle.rcu_map.specs.Entries.{AreSameEntries}
 use Rattle.rcu_map.specs.Waits.{AreAllLive, HasMadeRoom}
 use Rattle.rcu_map.specs.declared.put.NotPut.{NotPut}
@@ -34,7 +34,7 @@ returns-in_err-wait_for_node-clause-full g c =
       λ e. (
         c.in_ok-check_outside.ensures,
         none.0,
-        subst (λ (w : Watching Known). AreAllLive (nodes_in w.view.client)) none.1.unchanged
+        subst (λ (w : Watching Planned). AreAllLive (nodes_in w.view.client.known)) none.1.unchanged
             (told.0 (sym p.2 ∙ same_err p.0 _ (sym p.1 ∙ e))),
       ),
       λ h.
@@ -42,7 +42,7 @@ returns-in_err-wait_for_node-clause-full g c =
           ∙ ap (λ (why : NotPut). Err why)
           (p.2
           ∙ told.1
-          (subst (λ (w : Watching Known). AreAllLive (nodes_in w.view.client))
+          (subst (λ (w : Watching Planned). AreAllLive (nodes_in w.view.client.known))
           (sym none.1.unchanged) h.2)),
     )
 
@@ -50,10 +50,10 @@ pub returns-clause-old : goal.returns-clause-old
 returns-clause-old g c =
     let none = when_full _ _ _ _ _ _ _ _ _ _ _ c.put.ensures c.in_default.field-0
     c.in_default.is in
-    let same : AreSameEntries g.row.BUCKETS (nodes_in c.args.self.now.view.client)
-    (nodes_in c.wait_for_node.new.self.view.client) =
-    subst (λ (w : Watching Known). AreSameEntries g.row.BUCKETS (nodes_in w.view.client)
-    (nodes_in c.wait_for_node.new.self.view.client))
+    let same : AreSameEntries g.row.BUCKETS (nodes_in c.args.self.now.view.client.known)
+    (nodes_in c.wait_for_node.new.self.view.client.known) =
+    subst (λ (w : Watching Planned). AreSameEntries g.row.BUCKETS (nodes_in w.view.client.known)
+    (nodes_in c.wait_for_node.new.self.view.client.known))
     none.1.unchanged c.in_ok-wait_for_node.ensures.end.1.looked.entries in
     same_holder _ _ _ _ _ _ _ _ same
     (when_told _ _ _ _ _ _ _ _ _ _ _ c.put-2.ensures c.in-Ok-put.old c.in-Ok-put.is).0
@@ -65,7 +65,7 @@ returns-clause-put g c =
     let stays = none.1.unchanged in
     let room : HasMadeRoom g.row.BUCKETS c.args.seat.now c.wait_for_node.new.seat c.args.self.now
     c.wait_for_node.new.self =
-    subst (λ (w : Watching Known). HasMadeRoom g.row.BUCKETS c.args.seat.now
+    subst (λ (w : Watching Planned). HasMadeRoom g.row.BUCKETS c.args.seat.now
     c.wait_for_node.new.seat w c.wait_for_node.new.self)
     stays c.in_ok-wait_for_node.ensures.end.1 in
     let told = when_told _ _ _ _ _ _ _ _ _ _ _ c.put-2.ensures c.in-Ok-put.old c.in-Ok-put.is in
@@ -81,6 +81,6 @@ returns-clause-full g c =
     c.in_default.is in (
       λ e. absurd (cc),
       λ h. absurd (c.in_ok-wait_for_node.ensures.end.0
-          (subst (λ (w : Watching Known). AreAllLive (nodes_in w.view.client))
+          (subst (λ (w : Watching Planned). AreAllLive (nodes_in w.view.client.known))
           (sym none.1.unchanged) h.2)),
     )

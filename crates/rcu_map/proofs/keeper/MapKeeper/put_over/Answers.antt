@@ -3,7 +3,8 @@ use Rattle.std.specs.Prelude.{MatchResult}
 use Rattle.rcu_live.specs.Board.{Object}
 use Rattle.rcu_live.specs.Watcher.{Watching}
 use Rattle.rcu_graph.specs.Graph.{IsWatcherOf}
-use Rattle.rcu_graph.specs.declared.known.Known.{Known}
+use Rattle.rcu_graph.specs.declared.known.Planned.{Planned}
+use Rattle.rcu_graph.specs.declared.plan.Plan.{Plan}
 use Rattle.rcu_map.specs.Keys.{GoesUp, IsWhole, key_in}
 use Rattle.rcu_map.specs.Puts.{HasChanged, IsPutIn}
 use Rattle.rcu_map.specs.Splices.{CanPut, IsFull}
@@ -17,7 +18,8 @@ link_of-next-requires g c =
     let place = placed g.row.BUCKETS c.args.self.now c.self.inside.nodes (key_in words)
     (key_in words) c.args.previous (Some c.args.old) (Some c.args.old) c.requires.place
     c.self.view_is refl refl in
-    let watches = subst (λ (w : Watching Known). IsWatcherOf c.args.map.now w) (sym c.self.view_is)
+    let watches = subst (λ (w : Watching Planned). IsWatcherOf c.args.map.now w)
+    (sym c.self.view_is)
     c.requires.graph in (
       omega arith,
       (
@@ -36,14 +38,15 @@ put-requires g c =
     let place = placed g.row.BUCKETS c.args.self.now c.self.inside.nodes (key_in words)
     (key_in words) c.args.previous (Some c.args.old) (Some c.args.old) c.requires.place
     c.self.view_is refl refl in
-    let watches = subst (λ (w : Watching Known). IsWatcherOf c.args.map.now w) (sym c.self.view_is)
+    let watches = subst (λ (w : Watching Planned). IsWatcherOf c.args.map.now w)
+    (sym c.self.view_is)
     c.requires.graph in (
       omega arith,
       (
         omega arith,
         (
           omega (arith, small),
-          subst (λ (o : Object (Unit {0})). CanPut (IsWhole g.E.Invariant.holds g.row.W)
+          subst (λ (o : Object Plan). CanPut (IsWhole g.E.Invariant.holds g.row.W)
               (λ _ from to. GoesUp g.row.BUCKETS from to) g.row.N o c.self.inside.nodes
               c.args.previous words c.link_of-next.result)
               (sym c.graph.ensures)
@@ -82,7 +85,7 @@ returns-clause-put g c =
     let place = placed g.row.BUCKETS c.args.self.now c.self.inside.nodes (key_in words)
     (key_in words) c.args.previous (Some c.args.old) (Some c.args.old) c.requires.place
     c.self.view_is refl refl in
-    subst (λ (w : Watching Known). MatchResult c.put.result
+    subst (λ (w : Watching Planned). MatchResult c.put.result
     (λ _. HasChanged (IsPutIn g.row.BUCKETS words true) w c.put.new.keeper)
     (λ _. IsFull w c.put.new.keeper))
     c.self.view_is

@@ -3,7 +3,8 @@ use Rattle.rcu_live.specs.Board.{Object}
 use Rattle.rcu_live.specs.Watcher.{Watching}
 use Rattle.rcu_graph.specs.Graph.{IsWatcherOf}
 use Rattle.rcu_graph.specs.Nodes.{nodes_in}
-use Rattle.rcu_graph.specs.declared.known.Known.{Known}
+use Rattle.rcu_graph.specs.declared.known.Planned.{Planned}
+use Rattle.rcu_graph.specs.declared.plan.Plan.{Plan}
 use Rattle.rcu_map.specs.Entries.{HasKey, IsRemoved}
 use Rattle.rcu_map.specs.Keys.{GoesUp}
 use Rattle.rcu_map.specs.Puts.{HasChanged}
@@ -15,9 +16,9 @@ use Rattle.rcu_map.proofs.keeper.MapKeeper.remove.Goals as goal
 
 pub returns-then-key-eq0-clause-old : goal.returns-then-key-eq0-clause-old
 returns-then-key-eq0-clause-old g c = λ has. no_entry_of_0 _ _ _ _ _ c.self.invariant.map
-    (subst (λ (w : Watching Known). HasKey g.row.BUCKETS (nodes_in w.view.client) 0)
+    (subst (λ (w : Watching Planned). HasKey g.row.BUCKETS (nodes_in w.view.client.known) 0)
     (sym c.self.view_is)
-    (subst (λ (n : ℕ). HasKey g.row.BUCKETS (nodes_in c.args.self.now.view.client) n)
+    (subst (λ (n : ℕ). HasKey g.row.BUCKETS (nodes_in c.args.self.now.view.client.known) n)
     c.if-key-eq0.true has))
 
 pub pass-requires : goal.pass-requires
@@ -26,12 +27,13 @@ pass-requires g c =
     let place = placed g.row.BUCKETS c.args.self.now c.self.inside.nodes c.args.key c.args.key
     c.place_of-place.result.previous c.place_of-place.result.node (Some c.in-Some.old)
     c.place_of-place.ensures.place c.self.view_is refl c.in-Some.is in
-    let watches = subst (λ (w : Watching Known). IsWatcherOf c.args.map.now w) (sym c.self.view_is)
+    let watches = subst (λ (w : Watching Planned). IsWatcherOf c.args.map.now w)
+    (sym c.self.view_is)
     c.requires in (
       omega arith,
       (
         omega arith,
-        subst (λ (o : Object (Unit {0})). CanPass (λ _ from to. GoesUp g.row.BUCKETS from to)
+        subst (λ (o : Object Plan). CanPass (λ _ from to. GoesUp g.row.BUCKETS from to)
             g.row.N o
             c.self.inside.nodes c.place_of-place.result.previous c.in-Some.old)
             (sym c.graph.ensures)
@@ -50,9 +52,9 @@ overflow_sub-self g c =
     let done = c.pass.ensures in
     let now = c.self.invariant.count in
     let less = removed_count g.E.Invariant.holds g.row.BUCKETS g.row.W g.row.N
-    (nodes_in c.self.inside.nodes.view.client) c.self.invariant.map c.args.key
+    (nodes_in c.self.inside.nodes.view.client.known) c.self.invariant.map c.args.key
     c.place_of-place.result.previous c.in-Some.old some place done.next
-    (nodes_in c.pass.new.keeper.view.client) done.leads done.trimmed done.kept.few in
+    (nodes_in c.pass.new.keeper.view.client.known) done.leads done.trimmed done.kept.few in
     omega (arith, now, less)
 
 pub invariant_of-self : goal.invariant_of-self
@@ -65,16 +67,16 @@ invariant_of-self g c =
     record {
       some = c.self.invariant.some;
       map = removed_map g.E.Invariant.holds g.row.BUCKETS g.row.W g.row.N
-          (nodes_in c.self.inside.nodes.view.client) c.self.invariant.map c.args.key
+          (nodes_in c.self.inside.nodes.view.client.known) c.self.invariant.map c.args.key
           c.place_of-place.result.previous c.in-Some.old some place done.next
-          (nodes_in c.pass.new.keeper.view.client) done.leads done.trimmed done.kept.few
+          (nodes_in c.pass.new.keeper.view.client.known) done.leads done.trimmed done.kept.few
           done.kept.tended;
       count =
           let now = c.self.invariant.count in
           let less = removed_count g.E.Invariant.holds g.row.BUCKETS g.row.W g.row.N
-          (nodes_in c.self.inside.nodes.view.client) c.self.invariant.map c.args.key
+          (nodes_in c.self.inside.nodes.view.client.known) c.self.invariant.map c.args.key
           c.place_of-place.result.previous c.in-Some.old some place done.next
-          (nodes_in c.pass.new.keeper.view.client) done.leads done.trimmed done.kept.few in
+          (nodes_in c.pass.new.keeper.view.client.known) done.leads done.trimmed done.kept.few in
           omega (arith, now, less);
     }
 
@@ -85,13 +87,13 @@ returns-clause-removed g c = λ e.
     c.place_of-place.result.previous c.place_of-place.result.node (Some c.in-Some.old)
     c.place_of-place.ensures.place c.self.view_is refl c.in-Some.is in
     let done = c.pass.ensures in
-    subst (λ (w : Watching Known). HasChanged
+    subst (λ (w : Watching Planned). HasChanged
     (λ before after. IsRemoved g.row.BUCKETS before c.args.key after) w c.pass.new.keeper)
     c.self.view_is
     (record {
       state = done.state;
       nodes = removed g.E.Invariant.holds g.row.BUCKETS g.row.W g.row.N
-          (nodes_in c.self.inside.nodes.view.client) c.self.invariant.map c.args.key
+          (nodes_in c.self.inside.nodes.view.client.known) c.self.invariant.map c.args.key
           c.place_of-place.result.previous c.in-Some.old some place done.next
-          (nodes_in c.pass.new.keeper.view.client) done.leads done.trimmed;
+          (nodes_in c.pass.new.keeper.view.client.known) done.leads done.trimmed;
     })

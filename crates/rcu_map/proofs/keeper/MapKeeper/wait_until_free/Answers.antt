@@ -6,7 +6,7 @@ use Rattle.rcu_live.proofs.WaitLemmas.{rested_none, rested_round, rounds_at_end,
 use Rattle.rcu_live.proofs.WaitLemmas.{rounds_round, rounds_then_look}
 use Rattle.rcu_graph.specs.Nodes.{nodes_in}
 use Rattle.rcu_graph.specs.Tended.{AreAllUsed}
-use Rattle.rcu_graph.specs.declared.known.Known.{Known}
+use Rattle.rcu_graph.specs.declared.known.Planned.{Planned}
 use Rattle.rcu_map.specs.Waits.{HasGivenUp}
 use Rattle.rcu_map.proofs.Looks.{aged_more, aged_once, found_one, on_err, refused}
 use Rattle.rcu_map.proofs.keeper.MapKeeper.wait_until_free.Goals as goal
@@ -24,7 +24,7 @@ loop-init g c =
       rounds =
           rounds_then_look 0 1 c.args.seat.now c.args.seat.now c.args.self.now c.args.self.now
           c.age.new.self (omega arith) (rounds_none c.args.seat.now c.args.self.now)
-          (ap (λ (k : Watching Known). k.view.loads) a.state);
+          (ap (λ (k : Watching Planned). k.view.loads) a.state);
       last = tt;
     }
 
@@ -35,8 +35,9 @@ returns-then-is_ok-clause-waited g c =
     record {
       looked = i.aged;
       free =
-          subst (λ (w : Watching Known). AreAllUsed (nodes_in w.view.client) → ⊥) c.self.view_is
-          (found_one (nodes_in c.self.inside.nodes.view.client) g.row.N c.free_node.result
+          subst (λ (w : Watching Planned). AreAllUsed (nodes_in w.view.client.known) → ⊥)
+          c.self.view_is
+          (found_one (nodes_in c.self.inside.nodes.view.client.known) g.row.N c.free_node.result
           (sym c.is_ok.ensures.value ∙ c.if-is_ok.true) c.self.invariant.map.few f.inside f.free);
       rounds = rounds_at_end c.loop.waited c.args.seat.now c.loop.seat c.args.self.now c.loop.self
           c.loop.self i.rounds i.last refl;
@@ -49,7 +50,7 @@ returns-in_err-waited-clause-given_up g c =
     c.loop.self = record {
       looked = i.aged;
       full =
-          subst (λ (w : Watching Known). AreAllUsed (nodes_in w.view.client)) c.self.view_is
+          subst (λ (w : Watching Planned). AreAllUsed (nodes_in w.view.client.known)) c.self.view_is
           (refused c.free_node.result (sym c.is_ok.ensures.value ∙ c.if-is_ok.false)
           c.free_node.ensures.full);
       rounds = subst (λ (x : Result (Unit {0}) Fault).
@@ -65,7 +66,7 @@ loop-preserved g c =
     let r = c.wait_once-waited.result in
     let a = c.age-in-loop in
     let full =
-    subst (λ (x : Watching Known). AreAllUsed (nodes_in x.view.client)) c.self.view_is
+    subst (λ (x : Watching Planned). AreAllUsed (nodes_in x.view.client.known)) c.self.view_is
     (refused c.free_node.result (sym c.is_ok.ensures.value ∙ c.if-is_ok.false)
     c.free_node.ensures.full) in
     let rounds = subst (λ (x : Result (Unit {0}) Fault).
@@ -73,7 +74,7 @@ loop-preserved g c =
     c.in_ok-waited.was i.rounds in
     let next = rounds_round r c.args.seat.now c.loop.seat c.wait_once-waited.new.seat
     c.args.self.now c.loop.self a.new.self rounds w.state w.unchanged
-    (ap (λ (k : Watching Known). k.view.loads) a.ensures.state) in
+    (ap (λ (k : Watching Planned). k.view.loads) a.ensures.state) in
     record {
       of_map = record {
         keeper_of = a.ensures.graph;

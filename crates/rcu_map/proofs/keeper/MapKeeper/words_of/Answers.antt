@@ -1,7 +1,7 @@
 use Rattle.std.proofs.Common.{◌≡◌, ◌<◌, ◌∙◌, ap, length, subst, sym, arith, length-set}
 use Rattle.rcu_live.specs.Watcher.{Watching}
 use Rattle.rcu_graph.specs.Nodes.{node_at, nodes_in}
-use Rattle.rcu_graph.specs.declared.known.Known.{Known}
+use Rattle.rcu_graph.specs.declared.known.Planned.{Planned}
 use Rattle.rcu_map.specs.Entries.{IsEntry}
 use Rattle.rcu_map.proofs.Chains.{entry_fits, inside, sized}
 use Rattle.rcu_map.proofs.Rows.{read_all, read_more, zeros}
@@ -9,8 +9,9 @@ use Rattle.rcu_map.proofs.keeper.MapKeeper.words_of.Goals as goal
 
 pub word-requires : goal.word-requires
 word-requires g c =
-    let own : IsEntry g.row.BUCKETS (nodes_in c.self.inside.nodes.view.client) c.args.node =
-    subst (λ (w : Watching Known). IsEntry g.row.BUCKETS (nodes_in w.view.client) c.args.node)
+    let own : IsEntry g.row.BUCKETS (nodes_in c.self.inside.nodes.view.client.known) c.args.node =
+    subst (λ (w : Watching Planned). IsEntry g.row.BUCKETS (nodes_in w.view.client.known)
+    c.args.node)
     (sym c.self.view_is) c.requires in
     (omega arith, (inside _ _ _ _ _ c.self.invariant.map c.args.node own.live, omega arith))
 
@@ -24,26 +25,29 @@ loop-word-preserved g c =
           let size = i.size in
           let low : c.loop-word.word < length c.loop-word.words = omega arith in
           read_more c.loop-word.words
-          (node_at (nodes_in c.self.inside.nodes.view.client) c.args.node).words c.loop-word.word
+          (node_at (nodes_in c.self.inside.nodes.view.client.known) c.args.node).words
+          c.loop-word.word
           c.word.result low i.told c.word.ensures;
     }
 
 pub returns : goal.returns
 returns g c =
     let i = c.loop-word.invariant in
-    let own : IsEntry g.row.BUCKETS (nodes_in c.self.inside.nodes.view.client) c.args.node =
-    subst (λ (w : Watching Known). IsEntry g.row.BUCKETS (nodes_in w.view.client) c.args.node)
+    let own : IsEntry g.row.BUCKETS (nodes_in c.self.inside.nodes.view.client.known) c.args.node =
+    subst (λ (w : Watching Planned). IsEntry g.row.BUCKETS (nodes_in w.view.client.known)
+    c.args.node)
     (sym c.self.view_is) c.requires in
     let all : c.loop-word.words
-    ≡ (node_at (nodes_in c.self.inside.nodes.view.client) c.args.node).words =
+    ≡ (node_at (nodes_in c.self.inside.nodes.view.client.known) c.args.node).words =
     read_all c.loop-word.words
-    (node_at (nodes_in c.self.inside.nodes.view.client) c.args.node).words g.row.W
+    (node_at (nodes_in c.self.inside.nodes.view.client.known) c.args.node).words g.row.W
     (i.size ∙ zeros g.row.W) (sized _ _ _ _ _ c.self.invariant.map c.args.node own.live)
     (λ j low. i.told j (omega (arith, low))) in
     record {
       same =
           all
-          ∙ ap (λ (w : Watching Known). (node_at (nodes_in w.view.client) c.args.node).words)
+          ∙ ap (λ (w : Watching Planned). (node_at (nodes_in w.view.client.known)
+          c.args.node).words)
           c.self.view_is;
       whole = subst g.E.Invariant.holds (sym all)
           (entry_fits _ _ _ _ _ c.self.invariant.map c.args.node own);

@@ -7,5 +7,6 @@ abbrev pub invariant-loop-word : goal.invariant-loop-word
 invariant-loop-word g l = record {
   size : length l.words ≡ length l.initial.words;
   told : (j : ℕ) → j < l.word
-      → slice_index l.words j ≡ slice_index (node_at (nodes_in l.nodes.view.client) l.node).words j;
+      → slice_index l.words j ≡ slice_index (node_at (nodes_in l.nodes.view.client.known)
+      l.node).words j;
 }

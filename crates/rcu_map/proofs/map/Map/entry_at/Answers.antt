@@ -9,11 +9,8 @@ words_at-requires g c =
       (
         omega arith,
         (
-          omega arith,
-          (
-            omega (arith, small),
-            record { walking = r.walking; words = r.words; on = inr r.held; inside = r.inside },
-          ),
+          omega (arith, small),
+          record { walking = r.walking; words = r.words; on = inr r.held; inside = r.inside },
         ),
       ),
     )

@@ -1,7 +1,7 @@
 use Rattle.std.proofs.Common.{sym, ap, ◌∙◌, subst, inr, arith}
 use Rattle.rcu_live.specs.CpuSeat.{Seated}
 use Rattle.rcu_graph.specs.Nodes.{IsHeld}
-use Rattle.rcu_graph.specs.declared.known.Known.{Known}
+use Rattle.rcu_graph.specs.declared.known.Planned.{Planned}
 use Rattle.rcu_map.proofs.map.Map.get.Goals as goal
 
 pub returns-clause-found : goal.returns-clause-found
@@ -11,7 +11,7 @@ returns-clause-found g c =
     record {
       node = c.in_ok-node.node;
       words = f.words;
-      held = subst (λ (s : Seated Known). IsHeld s.view.client c.in_ok-node.node f.words)
+      held = subst (λ (s : Seated Planned). IsHeld s.view.client.known c.in_ok-node.node f.words)
           (sym c.words_at.ensures.same) f.held;
       whole = f.whole.entry (let is = f.is in omega (arith, is, up));
       is = f.is;

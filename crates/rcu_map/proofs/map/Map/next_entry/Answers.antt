@@ -1,6 +1,6 @@
 use Rattle.std.proofs.Common.{◌≡◌, ◌+◌, Some, refl, sym, ap, subst, arith}
 use Rattle.rcu_live.specs.CpuSeat.{Seated}
-use Rattle.rcu_graph.specs.declared.known.Known.{Known}
+use Rattle.rcu_graph.specs.declared.known.Planned.{Planned}
 use Rattle.rcu_map.specs.Cursors.{HasListed}
 use Rattle.rcu_map.specs.declared.cursor.Cursor.{Cursor}
 use Rattle.rcu_map.proofs.Stepping.{begins, is_at_end, left_less, listed_entry, on_entry, passes_on}
@@ -11,7 +11,7 @@ pub buckets-init : goal.buckets-init
 buckets-init g c = record {
   same = refl;
   may = c.requires;
-  passing = begins g.row.BUCKETS c.args.seat.now.view.client c.args.start;
+  passing = begins g.row.BUCKETS c.args.seat.now.view.client.known c.args.start;
   left = omega arith;
 }
 
@@ -21,12 +21,8 @@ entry_at-requires g c =
       omega arith,
       (
         omega arith,
-        (
-          omega arith,
-          on_entry g.E.Invariant.holds g.row.N g.row.BUCKETS g.row.W c.args.self.now c.buckets.seat
-              c.step-at.new.seat c.buckets.at c.step-at.result c.step-at.ensures
-              (omega (arith, up)),
-        ),
+        on_entry g.E.Invariant.holds g.row.N g.row.BUCKETS g.row.W c.args.self.now c.buckets.seat
+            c.step-at.new.seat c.buckets.at c.step-at.result c.step-at.ensures (omega (arith, up)),
       ),
     )
 
@@ -37,7 +33,7 @@ returns-then-at-gt0 g c =
     let up = c.if-at-gt0.true in
     let held = step_held g.E.Invariant.holds g.row.N g.row.BUCKETS g.row.W c.args.self.now
     c.buckets.seat c.step-at.new.seat c.buckets.at c.step-at.result s (omega (arith, up)) in
-    subst (λ (x : Seated Known). HasListed g.E.Invariant.holds g.E.Value.decode g.E.Value.valid
+    subst (λ (x : Seated Planned). HasListed g.E.Invariant.holds g.E.Value.decode g.E.Value.valid
     g.E.Entry.key_of g.row.N g.row.BUCKETS c.args.self.now c.args.seat.now c.args.start x
     c.step-at.result (Some c.entry_at.result))
     (sym c.entry_at.ensures.same)
@@ -71,7 +67,7 @@ buckets-preserved g c =
       may = s.may;
       passing = passes_on g.E.Invariant.holds g.row.N g.row.BUCKETS g.row.W c.args.self.now
           c.buckets.seat c.step-at.new.seat c.buckets.at c.step-at.result s
-          c.args.seat.now.view.client c.args.start i.passing none;
+          c.args.seat.now.view.client.known c.args.start i.passing none;
       left = left_less g.E.Invariant.holds g.row.N g.row.BUCKETS g.row.W c.args.self.now
           c.args.seat.now c.buckets.seat c.step-at.new.seat c.args.start c.buckets.at
           c.step-at.result s i.same i.may i.passing i.left none;
@@ -85,7 +81,8 @@ returns g c =
     record {
       same = i.same;
       may = i.may;
-      went = is_at_end g.row.BUCKETS c.args.seat.now.view.client c.buckets.seat.view.client
+      went = is_at_end g.row.BUCKETS c.args.seat.now.view.client.known
+          c.buckets.seat.view.client.known
           c.args.start c.buckets.at i.passing (omega (arith, past, within));
       keyed = tt;
       sound = tt;

@@ -9,7 +9,8 @@ abbrev pub invariant-buckets : goal.invariant-buckets
 invariant-buckets g l = record {
   same : l.seat ≡ after_word_step l.initial.seat l.seat.view.client;
   may : MayGoOn g.row.N g.row.BUCKETS l.self l.seat l.at;
-  passing : IsPassing g.row.BUCKETS l.initial.seat.view.client l.initial.at l.seat.view.client l.at;
+  passing : IsPassing g.row.BUCKETS l.initial.seat.view.client.known l.initial.at
+      l.seat.view.client.known l.at;
   left : left_from g.row.BUCKETS l.at ≤ left_from g.row.BUCKETS l.initial.at;
 }
 

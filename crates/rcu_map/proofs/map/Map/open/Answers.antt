@@ -28,16 +28,13 @@ open_graph-requires g c =
           omega arith,
           (
             omega arith,
-            (
-              omega arith,
-              record {
-                fanouts = c.requires.fanouts;
-                sizes = c.requires.sizes;
-                first = are;
-                whole = subst (All (IsWhole g.E.Invariant.holds g.row.W)) (sym are)
-                    (rows_whole g.E.Invariant.holds g.row.W g.row.BUCKETS);
-              },
-            ),
+            record {
+              fanouts = c.requires.fanouts;
+              sizes = c.requires.sizes;
+              first = are;
+              whole = subst (All (IsWhole g.E.Invariant.holds g.row.W)) (sym are)
+                  (rows_whole g.E.Invariant.holds g.row.W g.row.BUCKETS);
+            },
           ),
         ),
       ),

@@ -1,7 +1,7 @@
 use Rattle.std.proofs.Common.{◌<◌, length, sym, ◌∙◌, subst, arith, length-set}
 use Rattle.rcu_live.specs.CpuSeat.{Seated}
 use Rattle.rcu_graph.specs.Nodes.{IsOn}
-use Rattle.rcu_graph.specs.declared.known.Known.{Known}
+use Rattle.rcu_graph.specs.declared.known.Planned.{Planned}
 use Rattle.rcu_map.specs.Keys.{root_words}
 use Rattle.rcu_map.proofs.Rows.{read_all, read_more, zeros}
 use Rattle.rcu_map.proofs.map.Map.words_at.Goals as goal
@@ -18,8 +18,8 @@ loop-word-preserved g c =
           let low : c.loop-word.word < length c.loop-word.words = omega arith in
           read_more c.loop-word.words words c.loop-word.word c.read.result low (i.told words on)
           (c.read.ensures.told words
-          (subst (λ (s : Seated Known).
-          IsOn (root_words g.row.W) g.row.BUCKETS s.view.client c.args.node words)
+          (subst (λ (s : Seated Planned).
+          IsOn (root_words g.row.W) g.row.BUCKETS s.view.client.known c.args.node words)
           (sym i.same) on));
     }
 

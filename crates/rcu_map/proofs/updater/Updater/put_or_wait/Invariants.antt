@@ -2,7 +2,7 @@ use Rattle.std.proofs.Common.{◌≡◌}
 use Rattle.std.specs.Prelude.{IfErr}
 use Rattle.rcu_seq.specs.declared.fault.Fault.TheVariants.{Exhausted}
 use Rattle.rcu_live.specs.Waits.{HasRested}
-use Rattle.rcu_graph.specs.Graph.{IsSeatOf}
+use Rattle.rcu_live.specs.CpuSeat.{IsSeatOf}
 use Rattle.rcu_map.proofs.updater.Updater.put_or_wait.Given as goal
 
 abbrev pub invariant-loop : goal.invariant-loop

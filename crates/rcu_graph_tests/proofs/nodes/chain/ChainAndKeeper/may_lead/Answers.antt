@@ -9,7 +9,7 @@ use Rattle.rcu_graph_tests.proofs.nodes.chain.ChainAndKeeper.may_lead.Goals as g
 
 pub returns : goal.returns
 returns c = λ up.
-    let nodes : List Node = nodes_in c.args.self.now.keeper.view.client in
+    let nodes : List Node = nodes_in c.args.self.now.keeper.view.client.known in
     let n : ℕ = c.in-Some.node in
     let here : word_to c.args.to ≡ suc n = ap word_to c.in-Some.is in
     let few : length nodes ≡ 4 = c.tends.ensures.keeper.few in

@@ -7,7 +7,7 @@ use Rattle.rcu_graph_tests.proofs.nodes.chain.ChainAndKeeper.publish.Goals as go
 
 pub publish-requires : goal.publish-requires
 publish-requires c =
-    let nodes : List Node = nodes_in c.args.self.now.keeper.view.client in
+    let nodes : List Node = nodes_in c.args.self.now.keeper.view.client.known in
     let live : is_live (state_at nodes c.args.from) ≡ true = search rules in
     let ready : IsTrue c.is_ready.result = search rules in
     let first = c.word.ensures in
