@@ -48,22 +48,30 @@ told_first x (suc id) y e = absurd (some-ne-none y (sym e))
 
 module _ (holds : List ℕ → Slots (Unit {0}) → Views Known → Type 0) (plan : Plan)
     (cpu section : Option ℕ) (was : Planned) where
+  -- a seat knows something else of the nodes, by which the rule holds of these words
+  knows_else : (words new : List ℕ) (homes : Slots (Unit {0})) (xs : Views Planned) (id : ℕ)
+      (known : Known)
+      → IsPlanned holds plan words homes xs
+      → get_elem? xs id ≡ some (cpu, section, was)
+      → holds new homes (slice_set (map unplanned xs) id (cpu, section, known))
+      → IsPlanned holds plan new homes (slice_set xs id (cpu, section, knowing was known))
+  knows_else words new homes xs id known h at kept =
+      let after : ClientView Planned = (cpu, section, knowing was known) in
+      record {
+        told = told_after holds plan xs id after h.told (h.told id (cpu, section, was) at);
+        kept = subst (holds new homes) (sym (map-set unplanned xs id after)) kept;
+      }
+
   pub allows_word : (place : ℕ) (change : ℕ → ℕ) (tells : ℕ → Known → Type 0)
       → AllowsWord holds cpu section was.known place change tells
       → AllowsWord (IsPlanned holds plan) cpu section was place change
       (λ x now. (now.plan ≡ was.plan) × tells x now.known)
   allows_word place change tells allowed number words homes xs id h are lone at =
       let r = allowed number words homes (map unplanned xs) id h.kept (still_open number xs are)
-      (still_lone xs lone) (at_map unplanned xs id (cpu, section, was) at) in
-      let after : Planned = knowing was r.0 in (
-        after,
-        record {
-          told = told_after holds plan xs id (cpu, section, after) h.told
-              (h.told id (cpu, section, was) at);
-          kept = subst (λ (ys : Views Known).
-              holds (slice_set words place (change (slice_index words place))) homes ys)
-              (sym (map-set unplanned xs id (cpu, section, after))) r.1;
-        },
+      (still_lone xs lone) (at_map unplanned xs id (cpu, section, was) at) in (
+        knowing was r.0,
+        knows_else words (slice_set words place (change (slice_index words place))) homes xs id r.0
+            h at r.1,
         (refl, r.2),
       )
 
@@ -74,16 +82,7 @@ module _ (holds : List ℕ → Slots (Unit {0}) → Views Known → Type 0) (pla
   allows_number tells allowed number words homes xs id h are lone at =
       let r = allowed number words homes (map unplanned xs) id h.kept (still_open number xs are)
       (still_lone xs lone) (at_map unplanned xs id (cpu, section, was) at) in
-      let after : Planned = knowing was r.0 in (
-        after,
-        record {
-          told = told_after holds plan xs id (cpu, section, after) h.told
-              (h.told id (cpu, section, was) at);
-          kept = subst (λ (ys : Views Known). holds words homes ys)
-              (sym (map-set unplanned xs id (cpu, section, after))) r.1;
-        },
-        (refl, r.2),
-      )
+      (knowing was r.0, knows_else words words homes xs id r.0 h at r.1, (refl, r.2))
 
 -- what a step told by the plan, where that is known
 pub told_at : (tells : Plan → ℕ → Known → ℕ → Known → Type 0) (place : ℕ) (was : Planned) (x : ℕ)

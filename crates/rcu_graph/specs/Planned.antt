@@ -1,5 +1,5 @@
--- The plan of a graph, which each seat knows beside what it knows of the nodes: of a rule that does
--- not speak of it, the one that does.
+-- The plan of a graph, which each seat knows beside what it knows of the nodes. A rule of what the
+-- seats know of the nodes is made one of both.
 use Rattle.std.specs.Prelude.{◌≡◌, ℕ, List, [], ◌∷◌, ◌++◌, None, Some, length, map, slice_set}
 use Rattle.std.proofs.Common.{sym, ap, ◌∙◌, subst, ⊎_elim}
 use Rattle.std.proofs.lemmas.List.{map-append, map-set}
