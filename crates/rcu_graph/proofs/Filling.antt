@@ -4,7 +4,8 @@ use Rattle.std.proofs.Common.{map, set, refl, sym, ap, ◌∙◌, arith, subst, 
 use Rattle.std.specs.Prelude.{IfSome}
 use Rattle.std.proofs.lemmas.List.{get_or-set_same, set-get_or}
 use Rattle.rcu_live.specs.Board.{Object}
-use Rattle.rcu_live.specs.Watcher.{IsWatcherOf, Watching, after_word_step}
+use Rattle.rcu_live.specs.Watcher.{Watching, after_word_step}
+use Rattle.rcu_graph.specs.Graph.{IsWatcherOf}
 use Rattle.rcu_graph.specs.Graph.{word_to}
 use Rattle.rcu_graph.specs.Keeper.{after_link, after_step, after_write}
 use Rattle.rcu_graph.specs.Filling.{CanFill, CanStore, after_links, after_words, with_links}
@@ -19,6 +20,7 @@ use Rattle.rcu_graph.specs.declared.known.Known.TheVariants.{Idle, Keeper, Owner
 use Rattle.rcu_graph.specs.declared.known.Node.{Node}
 use Rattle.rcu_graph.specs.declared.node_state.NodeState.{NodeState}
 use Rattle.rcu_graph.specs.declared.node_state.NodeState.TheVariants.{Free}
+use Rattle.rcu_graph.proofs.Keeping.{watches_on}
 use Rattle.rcu_graph.proofs.Counting.{kept_at}
 use Rattle.rcu_graph.proofs.Mirrors.{made, mixed_all, mixed_more, no_words_yet, renewed_twice}
 use Rattle.rcu_graph.proofs.Mirrors.{words_all, words_more}
@@ -146,28 +148,29 @@ module _ (s : Watching Planned) (i : ℕ) where
       ∙ ap (λ (l : List Node). after_step s l) (links_all nodes i n links many size))
 
   -- what a part of the filling leaves may be stored to and filled on
-  pub can_store : (count links width row k : ℕ) (graph : Object Plan) (x : Watching Planned)
-      (f : Node → Node)
-      → CanFill count links width graph s i
+  pub can_store : (row k : ℕ) (graph : Object Plan) (x : Watching Planned) (f : Node → Node)
+      → CanFill graph s i
       → (f (node_at nodes i)).state ≡ (node_at nodes i).state
       → x ≡ after_step s (renewed nodes i f)
       → k < row
-      → CanStore count row graph x i k
-  can_store count links width row k graph x f can same e cell = record {
-    watches = subst (λ (w : Watching Planned). IsWatcherOf graph w) (sym e) can.watches;
+      → CanStore row graph x i k
+  can_store row k graph x f can same e cell = record {
+    watches = subst (λ (w : Watching Planned). IsWatcherOf graph w) (sym e)
+        (watches_on graph s _ can.watches);
     inside = can.inside;
-    free = state_stays x f Free (low_in i count (length nodes) can.few can.inside) can.free same e;
+    free = state_stays x f Free (low_in i graph.plan.nodes (length nodes) can.few can.inside)
+        can.free
+        same e;
     cell = cell;
   }
 
-  pub can_fill_on : (count links width : ℕ) (graph : Object Plan) (words : List ℕ)
-      (x : Watching Planned)
-      → CanFill count links width graph s i → length words ≡ width → x ≡ after_words s i words
-      → CanFill count links width graph x i
-  can_fill_on count links width graph words x can many e =
-      subst (λ (w : Watching Planned). CanFill count links width graph w i) (sym e)
+  pub can_fill_on : (graph : Object Plan) (words : List ℕ) (x : Watching Planned)
+      → CanFill graph s i → length words ≡ graph.plan.words → x ≡ after_words s i words
+      → CanFill graph x i
+  can_fill_on graph words x can many e =
+      subst (λ (w : Watching Planned). CanFill graph w i) (sym e)
       (record {
-        watches = can.watches;
+        watches = watches_on graph s _ can.watches;
         keeps = tt;
         few = length-set nodes i (with_words words (node_at nodes i)) ∙ can.few;
         inside = can.inside;
@@ -182,7 +185,7 @@ module _ (s : Watching Planned) (i : ℕ) where
       })
     where
       low : i < length nodes
-      low = low_in i count (length nodes) can.few can.inside
+      low = low_in i graph.plan.nodes (length nodes) can.few can.inside
 
   pub all_filled : (words : List ℕ) (links : List (Option ℕ)) (mid new : Watching Planned)
       → i < length nodes → mid ≡ after_words s i words → new ≡ after_links mid i (map word_to links)

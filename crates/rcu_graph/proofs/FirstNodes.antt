@@ -1,8 +1,7 @@
 -- The nodes at first, a root after another.
 use Rattle.std.proofs.Common.{◌≡◌, ◌≢◌, ℕ, ◌+◌, ◌<◌, ◌≤◌, Bool, true, false, List, length, get_or}
-use Rattle.std.proofs.Common.{map, replicate, set, sym, ap, ◌∙◌, arith, length-set}
+use Rattle.std.proofs.Common.{replicate, set, sym, ap, ◌∙◌, arith, length-set}
 use Rattle.std.specs.Prelude.{if◌then◌else◌, nat_lt}
-use Rattle.std.specs.List.{range_with_len}
 use Rattle.std.proofs.lemmas.Bool.Decides.{nat_tests}
 use Rattle.std.proofs.lemmas.List.{ext_get_or, get_or-replicate, get_or-set_other, get_or-set_same}
 use Rattle.std.proofs.lemmas.List.{length-replicate}
@@ -100,10 +99,3 @@ module _ (links width count : ℕ) (first : ℕ → List ℕ) where
       ∙ (ap (λ (v : Node). set old i (with_words (first i) (in_state Live v)))
       (first_at i i low ∙ is_free i i (omega arith))
       ∙ one_more i low)
-
-  -- the words of a root, where the rows have them
-  pub row_first : (rows : List (List ℕ)) (roots i : ℕ) (d : List ℕ)
-      → rows ≡ map first (range_with_len 0 roots) → i < roots → get_or rows i d ≡ first i
-  row_first rows roots i d are low =
-      ap (λ (l : List (List ℕ)). get_or l i d) are
-      ∙ get_or-map-range_with_len first 0 roots i i d low (omega arith)

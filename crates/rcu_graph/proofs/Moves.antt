@@ -25,7 +25,6 @@ use Rattle.rcu_graph.specs.declared.known.Hop.{Hop}
 use Rattle.rcu_graph.specs.declared.known.Known.{Known}
 use Rattle.rcu_graph.specs.declared.known.Known.TheVariants.{Idle, Owner, Reader, Keeper}
 use Rattle.rcu_graph.specs.declared.known.Node.{Node}
-use Rattle.rcu_graph.specs.declared.node_state.NodeState.{NodeState}
 use Rattle.rcu_graph.specs.declared.node_state.NodeState.TheVariants.{Free, Live, Left}
 use Rattle.rcu_graph.proofs.Changes.{link_stored, node_left, nodes_aged, promoted, word_stored}
 use Rattle.rcu_graph.proofs.States.{may_aged, may_follow, may_is_used, not_both}

@@ -1,17 +1,18 @@
 -- What a rule allows that does not speak of the plan, the one that does allows too.
-use Rattle.std.proofs.Common.{◌≡◌, ◌+◌, ◌<◌, ℕ, zero, suc, List, [], ◌∷◌, Option, Some, None, refl}
-use Rattle.std.proofs.Common.{sym, ap, subst, map}
+use Rattle.std.proofs.Common.{◌≡◌, ◌+◌, ◌<◌, ℕ, zero, suc, List, [], ◌∷◌, Option, Some, refl}
+use Rattle.std.proofs.Common.{sym, ap, ◌∙◌, subst, map}
 use Rattle.std.proofs.lemmas.List.{map-set}
 use Rattle.std.specs.Prelude.{slice_index, slice_set}
 use mathlib.Core.Option.{some, some-injective, some-ne-none}
 use lib.ListN.{get_elem?}
 use Rattle.atomic_table.proofs.Lists.{at_map}
 use Rattle.rcu_seq.specs.Numbers.{Number}
+use Rattle.rcu_live.specs.Board.{Object}
 use Rattle.rcu_live.specs.Client.{AllowsNumber, AllowsWord, AreLone, AreOpen, ClientView, Slots}
 use Rattle.rcu_live.specs.Client.{Views}
 use Rattle.rcu_live.proofs.ClientLemmas.{at_map_back}
 use Rattle.rcu_graph.specs.Nodes.{IsOn, place_of}
-use Rattle.rcu_graph.specs.Planned.{IsKeptBy, IsPlanned, knowing, plan_of, tells_follow, tells_word}
+use Rattle.rcu_graph.specs.Planned.{IsKeptBy, IsPlanned, knowing, tells_follow, tells_word}
 use Rattle.rcu_graph.specs.Planned.{told_after, unplanned}
 use Rattle.rcu_graph.specs.Rule.{IsKept}
 use Rattle.rcu_graph.specs.Steps.{Followed, IsFollowed}
@@ -84,6 +85,11 @@ module _ (holds : List ℕ → Slots (Unit {0}) → Views Known → Type 0) (pla
       (still_lone xs lone) (at_map unplanned xs id (cpu, section, was) at) in
       (knowing was r.0, knows_else words words homes xs id r.0 h at r.1, (refl, r.2))
 
+-- a graph is as large as its engine was told
+pub same_plan : (graph live : Object Plan) (plan : Plan)
+    → live ≡ graph → live.plan ≡ plan → graph.plan ≡ plan
+same_plan graph live plan view is = ap (λ (o : Object Plan). o.plan) (sym view) ∙ is
+
 -- what a step told by the plan, where that is known
 pub told_at : (tells : Plan → ℕ → Known → ℕ → Known → Type 0) (place : ℕ) (was : Planned) (x : ℕ)
     (now : Planned) (plan : Plan)
@@ -91,46 +97,44 @@ pub told_at : (tells : Plan → ℕ → Known → ℕ → Known → Type 0) (pla
 told_at tells place was x now plan e told =
     subst (λ (q : Plan). tells q place was.known x now.known) e told.1
 
-module _ (fits : List ℕ → Type 0) (joins : ℕ → List ℕ → List ℕ → Type 0) (first : ℕ → List ℕ)
-    (roots links width count : ℕ) (cpu section : Option ℕ) (was : Planned) (plan : Plan)
-    (known : was.plan ≡ plan_of roots links width count)
-    (is : plan ≡ plan_of roots links width count) where
+module _ (fits : Plan → List ℕ → Type 0) (joins : Plan → ℕ → List ℕ → List ℕ → Type 0)
+    (first : Plan → ℕ → List ℕ) (cpu section : Option ℕ) (was : Planned) (plan : Plan)
+    (is : was.plan ≡ plan) where
+  -- the rule of the nodes, in a graph as large as the seat knows
+  abbrev kept : List ℕ → Slots (Unit {0}) → Views Known → Type 0
+  kept = IsKept (fits was.plan) (joins was.plan) (first was.plan) was.plan.roots was.plan.links
+      was.plan.words was.plan.nodes
+
   -- a step of a seat that knows how large the graph is
-  pub word_at : (place : ℕ) (change : ℕ → ℕ) (tells : Plan → ℕ → Known → Type 0)
-      → AllowsWord (IsKept fits joins first roots links width count) cpu section was.known place
-      change (tells (plan_of roots links width count))
+  pub word_at : (place : ℕ) (change : ℕ → ℕ) (tells : ℕ → Known → Type 0)
+      → AllowsWord kept cpu section was.known place change tells
       → AllowsWord (IsKeptBy fits joins first plan) cpu section was place change
-      (λ x now. (now.plan ≡ was.plan) × tells was.plan x now.known)
+      (λ x now. (now.plan ≡ was.plan) × tells x now.known)
   word_at place change tells allowed =
-      subst (λ (q : Plan × Plan). AllowsWord (IsKeptBy fits joins first q.0) cpu section was place
-      change (λ x now. (now.plan ≡ was.plan) × tells q.1 x now.known))
-      (λ i. (sym is i, sym known i))
-      (allows_word (IsKept fits joins first roots links width count)
-      (plan_of roots links width count) cpu section was place change
-      (tells (plan_of roots links width count)) allowed)
+      subst (λ (q : Plan). AllowsWord (IsKeptBy fits joins first q) cpu section was place change
+      (λ x now. (now.plan ≡ was.plan) × tells x now.known))
+      is (allows_word kept was.plan cpu section was place change tells allowed)
 
   pub number_at : (tells : Number → Known → Type 0)
-      → AllowsNumber (IsKept fits joins first roots links width count) cpu section was.known tells
+      → AllowsNumber kept cpu section was.known tells
       → AllowsNumber (IsKeptBy fits joins first plan) cpu section was
       (λ n now. (now.plan ≡ was.plan) × tells n now.known)
   number_at tells allowed =
       subst (λ (q : Plan). AllowsNumber (IsKeptBy fits joins first q) cpu section was
       (λ n now. (now.plan ≡ was.plan) × tells n now.known))
-      (sym is)
-      (allows_number (IsKept fits joins first roots links width count)
-      (plan_of roots links width count) cpu section was tells allowed)
+      is (allows_number kept was.plan cpu section was tells allowed)
 
--- what a load of a link told, in a graph of so many roots, links, words and nodes
-pub followed_of : (fits : List ℕ → Type 0) (joins : ℕ → List ℕ → List ℕ → Type 0)
-    (first : ℕ → List ℕ) (roots links width count : ℕ) (was now : Planned) (i l place x : ℕ)
+-- what a load of a link told, in a graph of this plan
+pub followed_of : (fits : Plan → List ℕ → Type 0) (joins : Plan → ℕ → List ℕ → List ℕ → Type 0)
+    (first : Plan → ℕ → List ℕ) (plan : Plan) (was now : Planned) (i l place x : ℕ)
     (words : List ℕ)
-    → was.plan ≡ plan_of roots links width count
+    → was.plan ≡ plan
     → tells_follow fits joins first place was x now
-    → l < links
-    → place ≡ place_of (links + width) i l
-    → IsOn first roots was.known i words
-    → Followed fits (joins l words) width count was.known i l x now.known
-followed_of fits joins first roots links width count was now i l place x words planned told low at
-    on = told_at
-    (λ (p : Plan). IsFollowed fits joins first p.roots p.links p.words p.nodes) place was x now
-    (plan_of roots links width count) planned told i l words low at on
+    → l < plan.links
+    → place ≡ place_of (plan.links + plan.words) i l
+    → IsOn (first plan) plan.roots was.known i words
+    → Followed (fits plan) (joins plan l words) plan.words plan.nodes was.known i l x now.known
+followed_of fits joins first plan was now i l place x words planned told low at on = told_at
+    (λ (p : Plan).
+    IsFollowed (fits p) (joins p) (first p) p.roots p.links p.words p.nodes)
+    place was x now plan planned told i l words low at on

@@ -1,13 +1,13 @@
 -- The rule of the nodes holds at first.
 use Rattle.std.proofs.Common.{◌≡◌, ◌≢◌, ℕ, zero, suc, ◌+◌, ◌-◌, ◌*◌, ◌<◌, ◌≤◌, List, [], ◌∷◌, ◌++◌}
-use Rattle.std.proofs.Common.{None, length, get_or, map, replicate, Bool, true, false, refl, sym}
+use Rattle.std.proofs.Common.{None, length, get_or, replicate, Bool, true, false, refl, sym}
 use Rattle.std.proofs.Common.{ap, ◌∙◌, subst, arith}
 use Rattle.std.specs.Prelude.{slice_index, if◌then◌else◌, nat_lt}
-use Rattle.std.specs.List.{All, range_with_len}
+use Rattle.std.specs.List.{range_with_len}
 use Rattle.std.proofs.lemmas.Bool.Decides.{nat_tests}
 use Rattle.std.proofs.lemmas.List.{get_or_append_left, get_or-append_right, get_or-replicate}
 use Rattle.std.proofs.lemmas.List.{length-replicate}
-use Rattle.std.proofs.lemmas.List.FromFn.{get_or-map-range_with_len, get_or-range_with_len}
+use Rattle.std.proofs.lemmas.List.FromFn.{get_or-range_with_len}
 use Rattle.std.proofs.lemmas.List.FromFn.{length-range_with_len, length-map-range_with_len}
 use mathlib.Core.Option.{some, some-injective, some-ne-none}
 use mathlib.Core.Logic.{dite}
@@ -117,14 +117,14 @@ module _ (fits : List ℕ → Type 0) (joins : ℕ → List ℕ → List ℕ →
       (some-injective _ _ e) (refl, refl, refl)
   alone (suc id) x e = absurd (some-ne-none x (sym e))
 
-  pub starts : (rows : List (List ℕ)) (behind : List ℕ) (homes : Slots (Unit {0}))
+  pub starts : (behind : List ℕ) (homes : Slots (Unit {0}))
       → roots ≤ count
       → length behind ≡ first_place + (links + width) * count
-      → rows ≡ map first (range_with_len 0 roots)
-      → All fits rows
-      → AreFirst rows roots links width behind
+      → ((i : ℕ) → i < roots → length (first i) ≡ width)
+      → ((i : ℕ) → i < roots → fits (first i))
+      → AreFirst first roots links width behind
       → IsKept fits joins first roots links width count behind homes ((None, None, Owner) ∷ [])
-  starts rows behind homes many long is all h = record {
+  starts behind homes many long size whole h = record {
     nodes = first_nodes links width first roots count;
     latest = 0;
     keeper = 0;
@@ -148,7 +148,7 @@ module _ (fits : List ℕ → Type 0) (joins : ℕ → List ℕ → List ℕ →
           ≡ slice_index (row_of v) k)
           (λ i low r. row_is links width (links + width) i behind (first i) (size i r)
           (λ l small. h.no_links i l small)
-          (λ k small. h.stored i k r small ∙ ap (λ (row : List ℕ). slice_index row k) (here i r)))
+          (λ k small. h.stored i k r small))
           (λ i low r. row_is links width (links + width) i behind (replicate width 0)
           (length-replicate width 0) (λ l small. h.no_links i l small)
           (λ k small. h.rest i k r small ∙ sym (get_or-replicate width k 0 0 small)));
@@ -162,25 +162,11 @@ module _ (fits : List ℕ → Type 0) (joins : ℕ → List ℕ → List ℕ →
     };
     seats = λ id cpu section known at. alone id (cpu, section, known) at;
   }
-    where
-      here : (i : ℕ) → i < roots → get_or rows i [] ≡ first i
-      here i low =
-          ap (λ (l : List (List ℕ)). get_or l i []) is
-          ∙ get_or-map-range_with_len first 0 roots i i [] low (omega arith)
-
-      size : (i : ℕ) → i < roots → length (first i) ≡ width
-      size i low = ap length (sym (here i low)) ∙ h.sized i low
-
-      whole : (i : ℕ) → i < roots → fits (first i)
-      whole i low = subst fits (here i low)
-          (all i []
-          (let n = ap length is ∙ length-map-range_with_len first 0 roots in omega (arith, n, low)))
 
 -- nothing is stored yet
-pub none_stored : (rows : List (List ℕ)) (links width n : ℕ)
-    → AreFirst rows 0 links width (replicate n 0)
-none_stored rows links width n = record {
-  sized = λ i low. absurd (omega (arith, low));
+pub none_stored : (first : ℕ → List ℕ) (links width n : ℕ)
+    → AreFirst first 0 links width (replicate n 0)
+none_stored first links width n = record {
   no_links = λ i l low. zeros n (place_of (links + width) i l);
   stored = λ i k low small. absurd (omega (arith, low));
   rest = λ i k low small. zeros n (place_of (links + width) i (links + k));
@@ -192,17 +178,13 @@ none_stored rows links width n = record {
     zeros (suc m) (suc p) = zeros m p
 
 -- the words of one root more
-pub one_stored : (rows : List (List ℕ)) (r links width place : ℕ) (old new : List ℕ)
-    → AreFirst rows r links width old
+pub one_stored : (first : ℕ → List ℕ) (r links width place : ℕ) (old new : List ℕ)
+    → AreFirst first r links width old
     → place ≡ place_of (links + width) r links
-    → length (get_or rows r []) ≡ width
-    → ((k : ℕ) → k < width → slice_index new (place + k) ≡ slice_index (get_or rows r []) k)
+    → ((k : ℕ) → k < width → slice_index new (place + k) ≡ slice_index (first r) k)
     → ((p : ℕ) → ((k : ℕ) → k < width → p ≢ place + k) → slice_index new p ≡ slice_index old p)
-    → AreFirst rows (r + 1) links width new
-one_stored rows r links width place old new h is size mine others = record {
-  sized = λ i low. dite (ℕ_discrete i r)
-      (λ (e : i ≡ r). ap (λ (j : ℕ). length (get_or rows j [])) e ∙ size)
-      (λ (ne : i ≢ r). h.sized i (omega (arith, low, ne)));
+    → AreFirst first (r + 1) links width new
+one_stored first r links width place old new h is mine others = record {
   no_links = λ i l low. others (place_of (links + width) i l)
       (λ k small e. link_apart i l k low small (e ∙ shifted k))
       ∙ h.no_links i l low;
@@ -210,7 +192,7 @@ one_stored rows r links width place old new h is size mine others = record {
       (λ (e : i ≡ r).
       ap (λ (j : ℕ). slice_index new (place_of (links + width) j (links + k))) e
       ∙ (ap (λ (p : ℕ). slice_index new p) (sym (shifted k))
-      ∙ (mine k small ∙ ap (λ (j : ℕ). slice_index (get_or rows j []) k) (sym e))))
+      ∙ (mine k small ∙ ap (λ (j : ℕ). slice_index (first j) k) (sym e))))
       (λ (ne : i ≢ r).
       others (place_of (links + width) i (links + k))
       (λ m little e. word_apart i k m ne small little (e ∙ shifted m))

@@ -71,34 +71,34 @@ module _ (fits joins : List ℕ → Type 0) (width count : ℕ) (graph : Object 
       walks_on graph old new same stays w
       (still_reads fits joins width count old.view.client.known i l x new.view.client.known f)
 
-  pub followed_at : (first : ℕ → List ℕ) (roots j : ℕ)
+  pub followed_at : (first : ℕ → List ℕ) (j : ℕ)
       → new ≡ after_word_step old new.view.client
       → new.view.client.plan ≡ old.view.client.plan
       → IsWalking graph old
       → Followed fits joins width count old.view.client.known i l (suc j) new.view.client.known
-      → IsAt first roots count graph new j
-  followed_at first roots j same stays w f =
+      → count ≡ graph.plan.nodes
+      → IsAt first graph new j
+  followed_at first j same stays w f few =
       let c = came_to fits joins width count old.view.client.known i l j new.view.client.known f in
       record {
         walking = followed_walks (suc j) same stays w f;
         words = f.words;
         on = inr (came_holds fits joins width count old.view.client.known i l j
             new.view.client.known f);
-        inside = c.inside;
+        inside = let low = c.inside in omega (arith, low, few);
       }
 
 -- where the section is on a node still
-pub walks_at : (first : ℕ → List ℕ) (roots count : ℕ) (graph : Object Plan)
-    (old new : Seated Planned)
-    (i : ℕ) (words : List ℕ)
+pub walks_at : (first : ℕ → List ℕ) (graph : Object Plan) (old new : Seated Planned) (i : ℕ)
+    (words : List ℕ)
     → new ≡ after_word_step old new.view.client
     → new.view.client.plan ≡ old.view.client.plan
     → IsWalking graph old
     → IsReader new.view.client.known
-    → IsOn first roots new.view.client.known i words
-    → i < count
-    → IsAt first roots count graph new i
-walks_at first roots count graph old new i words same stays w reads on low = record {
+    → IsOn first graph.plan.roots new.view.client.known i words
+    → i < graph.plan.nodes
+    → IsAt first graph new i
+walks_at first graph old new i words same stays w reads on low = record {
   walking = walks_on graph old new same stays w reads;
   words = words;
   on = on;

@@ -1,7 +1,8 @@
 -- What is left where a free node's words are written, and where its links are.
 use Rattle.std.specs.Prelude.{◌≡◌, ◌<◌, ℕ, List, length}
 use Rattle.rcu_live.specs.Board.{Object}
-use Rattle.rcu_live.specs.Watcher.{IsWatcherOf, Watching}
+use Rattle.rcu_live.specs.Watcher.{Watching}
+use Rattle.rcu_graph.specs.Graph.{IsWatcherOf}
 use Rattle.rcu_graph.specs.Keeper.{after_step}
 use Rattle.rcu_graph.specs.Mirror.{with_words}
 use Rattle.rcu_graph.specs.Nodes.{IsKeeping, node_at, nodes_in, renewed, state_at}
@@ -23,23 +24,21 @@ abbrev pub after_links : Watching Planned → ℕ → List ℕ → Watching Plan
 after_links keeper i links =
     after_step keeper (renewed (nodes_in keeper.view.client.known) i (with_links links))
 
--- a watcher of the graph may store the k-th of so many words, or links, of the node i, one of so
--- many: the node is free
-pub record CanStore (count row : ℕ) (graph : Object Plan) (keeper : Watching Planned)
+-- a watcher of the graph may store the k-th of so many words, or links, of the node i: that is free
+pub record CanStore (row : ℕ) (graph : Object Plan) (keeper : Watching Planned)
     (i k : ℕ) : Type 0 where
   pub watches : IsWatcherOf graph keeper
-  pub inside : i < count
+  pub inside : i < graph.plan.nodes
   pub free : state_at (nodes_in keeper.view.client.known) i ≡ Free
   pub cell : k < row
 
--- a watcher of the graph may fill the node i, one of the so many that it keeps: the node is free,
--- and has so many links and words
-pub record CanFill (count links width : ℕ) (graph : Object Plan) (keeper : Watching Planned)
-    (i : ℕ) : Type 0 where
+-- a watcher of the graph may fill the node i of those that it keeps: the node is free, and has all
+-- its links and words
+pub record CanFill (graph : Object Plan) (keeper : Watching Planned) (i : ℕ) : Type 0 where
   pub watches : IsWatcherOf graph keeper
   pub keeps : IsKeeping keeper.view.client.known
-  pub few : length (nodes_in keeper.view.client.known) ≡ count
-  pub inside : i < count
+  pub few : length (nodes_in keeper.view.client.known) ≡ graph.plan.nodes
+  pub inside : i < graph.plan.nodes
   pub free : state_at (nodes_in keeper.view.client.known) i ≡ Free
-  pub link_count : length (node_at (nodes_in keeper.view.client.known) i).links ≡ links
-  pub word_count : length (node_at (nodes_in keeper.view.client.known) i).words ≡ width
+  pub link_count : length (node_at (nodes_in keeper.view.client.known) i).links ≡ graph.plan.links
+  pub word_count : length (node_at (nodes_in keeper.view.client.known) i).words ≡ graph.plan.words

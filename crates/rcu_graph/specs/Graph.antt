@@ -3,7 +3,8 @@ use Rattle.std.specs.Prelude.{◌≡◌, ◌<◌, ℕ, suc, IsSome, List, Option
 use Rattle.rcu_live.specs.Board.{Object}
 use Rattle.rcu_live.specs.CpuSeat.{Seated}
 use Rattle.rcu_live.specs.CpuSeat as cpu_seat
-pub use Rattle.rcu_live.specs.Watcher.{IsWatcherOf}
+use Rattle.rcu_live.specs.Watcher.{Watching}
+use Rattle.rcu_live.specs.Watcher as watcher
 use Rattle.rcu_graph.specs.Nodes.{IsOn, IsReader}
 use Rattle.rcu_graph.specs.declared.known.Planned.{Planned}
 use Rattle.rcu_graph.specs.declared.plan.Plan.{Plan}
@@ -24,12 +25,15 @@ pub record IsWalking (graph : Object Plan) (seat : Seated Planned) : Type 0 wher
   pub is_open : IsSome seat.view.section
   pub reads : IsReader seat.view.client.known
 
--- of so many nodes, the first ones roots with their first words: the section is on this one, a root
--- or a node that it came to
-pub record IsAt (first : ℕ → List ℕ) (roots count : ℕ) (graph : Object Plan)
-    (seat : Seated Planned)
+-- the section is on this node, a root, which has its first words, or one that it came to
+pub record IsAt (first : ℕ → List ℕ) (graph : Object Plan) (seat : Seated Planned)
     (node : ℕ) : Type 0 where
   pub walking : IsWalking graph seat
   pub words : List ℕ
-  pub on : IsOn first roots seat.view.client.known node words
-  pub inside : node < count
+  pub on : IsOn first graph.plan.roots seat.view.client.known node words
+  pub inside : node < graph.plan.nodes
+
+-- a watcher's seat of the graph, which knows how large that is
+pub record IsWatcherOf (graph : Object Plan) (seat : Watching Planned) : Type 0 where
+  pub engine : watcher.IsWatcherOf graph seat
+  pub planned : seat.view.client.plan ≡ graph.plan

@@ -3,7 +3,8 @@ use Rattle.std.specs.Prelude.{◌≡◌, ◌⊎◌, ◌<◌, ℕ, suc, List, len
 use Rattle.rcu_seq.specs.Numbers.{Number}
 use Rattle.rcu_live.specs.Board.{Object}
 use Rattle.rcu_live.specs.View.{IsOfWatcher}
-use Rattle.rcu_live.specs.Watcher.{IsWatcherOf, Watching, after_number_step, after_word_step}
+use Rattle.rcu_live.specs.Watcher.{Watching, after_number_step, after_word_step}
+use Rattle.rcu_graph.specs.Graph.{IsWatcherOf}
 use Rattle.rcu_graph.specs.Nodes.{IsKeeping, IsTarget, aged, in_state, latest_in, linked_to}
 use Rattle.rcu_graph.specs.Nodes.{node_at, nodes_in, renewed, state_at, worded}
 use Rattle.rcu_graph.specs.Planned.{knowing}
@@ -13,14 +14,12 @@ use Rattle.rcu_graph.specs.declared.known.Node.{Node}
 use Rattle.rcu_graph.specs.declared.node_state.NodeState.TheVariants.{Free, Left, Live}
 use Rattle.rcu_graph.specs.declared.plan.Plan.{Plan}
 
--- a watcher of the graph that keeps its nodes, so many
-pub record IsKeeperOf (count : ℕ) (graph : Object Plan) (watcher : Watching Planned) : Type 0
-  where
-    pub watches : IsWatcherOf graph watcher
-    pub planned : watcher.view.client.plan ≡ graph.plan
-    pub role : IsOfWatcher watcher.view
-    pub keeps : IsKeeping watcher.view.client.known
-    pub few : length (nodes_in watcher.view.client.known) ≡ count
+-- a watcher of the graph that keeps its nodes
+pub record IsKeeperOf (graph : Object Plan) (watcher : Watching Planned) : Type 0 where
+  pub watches : IsWatcherOf graph watcher
+  pub role : IsOfWatcher watcher.view
+  pub keeps : IsKeeping watcher.view.client.known
+  pub few : length (nodes_in watcher.view.client.known) ≡ graph.plan.nodes
 
 -- this may be stored in a link of the node i: where it is free anything, and where it is live what
 -- leads nowhere or to a live node to which it may lead

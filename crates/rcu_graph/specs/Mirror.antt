@@ -4,6 +4,12 @@ use Rattle.rcu_seq.specs.Numbers.{Number}
 use Rattle.rcu_graph.specs.Nodes.{IsBy, node_at, state_at}
 use Rattle.rcu_graph.specs.declared.known.Node.{Node}
 use Rattle.rcu_graph.specs.declared.node_state.NodeState.{NodeState}
+use Rattle.rcu_graph.specs.declared.plan.Plan.{Plan}
+
+-- the nodes of a graph of this plan
+pub record Mirrored : Type 0 where
+  pub plan : Plan
+  pub nodes : List Node
 
 -- nodes in these states, whose links and words stand in rows one after another
 abbrev pub nodes_of : ℕ → ℕ → List NodeState → List ℕ → List ℕ → List Node

@@ -1,24 +1,41 @@
 -- The words of a graph at first.
-use Rattle.std.specs.Prelude.{◌≡◌, ℕ, ◌+◌, ◌*◌, ◌^◌, ◌<◌, ◌≤◌, List, [], length, slice_index}
-use Rattle.std.specs.Prelude.{slice_index_or}
+use Rattle.std.specs.Prelude.{◌≡◌, Err, None, Ok, Option, Result, ℕ, ◌+◌, ◌*◌, ◌^◌, ◌<◌, ◌≤◌, List}
+use Rattle.std.specs.Prelude.{length, slice_index}
+use Rattle.rcu_seq.specs.Memory.{tested_fault}
+use Rattle.rcu_seq.specs.declared.fault.Fault.{Fault}
 use Rattle.rcu_graph.specs.Nodes.{place_of}
+use Rattle.rcu_graph.specs.declared.not_opened.NotOpened.{NotOpened}
+use Rattle.rcu_graph.specs.declared.not_opened.NotOpened.TheVariants.{BadSizes}
+use Rattle.rcu_graph.specs.declared.not_opened.NotOpened.TheVariants as not_opened
+use Rattle.rcu_graph.specs.declared.plan.Plan.{Plan}
 
--- sizes of a graph: so many nodes, the first ones roots, each of so many links and words, of which
--- there are some, and all of which fit in memory
-pub record AreSizes (roots links width count : ℕ) : Type 0 where
-  pub words : 0 < width
-  pub inside : roots ≤ count
-  pub row : links + width ≤ 2 ^ 32
-  pub small : (links + width) * count ≤ 2 ^ 32
+-- a graph may be as large as that: the roots are nodes, each node has a word, and all links and
+-- words fit in memory
+pub record IsSized (plan : Plan) : Type 0 where
+  pub words : 0 < plan.words
+  pub inside : plan.roots ≤ plan.nodes
+  pub row : plan.links + plan.words ≤ 2 ^ 32
+  pub small : (plan.links + plan.words) * plan.nodes ≤ 2 ^ 32
 
--- so many first nodes have these words, one row each, and each link and each other word is 0
-pub record AreFirst (rows : List (List ℕ)) (roots links width : ℕ) (words : List ℕ) : Type 0 where
-  pub sized : (i : ℕ) → i < roots → length (slice_index_or rows i []) ≡ width
+-- the fault that the tests of an opening found that has good sizes: none where it is accepted, or
+-- where memory is refused
+abbrev pub tested_opening : {A : Type 0} → Result A NotOpened → Option Fault
+tested_opening (Ok value) = None
+tested_opening (Err BadSizes) = None
+tested_opening (Err (not_opened.Fault fault)) = tested_fault {A = Unit {0}} (Err fault)
+
+-- the first words of the roots are so many each, and whole
+pub record AreWhole (fits : List ℕ → Type 0) (first : ℕ → List ℕ) (plan : Plan) : Type 0 where
+  pub sized : (i : ℕ) → i < plan.roots → length (first i) ≡ plan.words
+  pub fit : (i : ℕ) → i < plan.roots → fits (first i)
+
+-- so many first nodes have their first words, and each link and each other word is 0
+pub record AreFirst (first : ℕ → List ℕ) (roots links width : ℕ) (words : List ℕ) : Type 0 where
   pub no_links : (i l : ℕ) → l < links → slice_index words (place_of (links + width) i l) ≡ 0
   pub stored : (i k : ℕ)
       → i < roots
       → k < width
       → slice_index words (place_of (links + width) i (links + k))
-      ≡ slice_index (slice_index_or rows i []) k
+      ≡ slice_index (first i) k
   pub rest : (i k : ℕ) → roots ≤ i → k < width
       → slice_index words (place_of (links + width) i (links + k)) ≡ 0

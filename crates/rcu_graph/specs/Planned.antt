@@ -44,11 +44,11 @@ pub record IsPlanned (holds : List ℕ → Slots (Unit {0}) → Views Known → 
   pub kept : holds words homes (map unplanned xs)
 
 -- the rule of a graph of this plan
-abbrev pub IsKeptBy : (List ℕ → Type 0)
-    → (ℕ → List ℕ → List ℕ → Type 0) → (ℕ → List ℕ) → Plan → List ℕ → Slots (Unit {0})
-    → Views Planned → Type 0
-IsKeptBy fits joins first plan =
-    IsPlanned (IsKept fits joins first plan.roots plan.links plan.words plan.nodes) plan
+abbrev pub IsKeptBy : (Plan → List ℕ → Type 0)
+    → (Plan → ℕ → List ℕ → List ℕ → Type 0) → (Plan → ℕ → List ℕ) → Plan → List ℕ
+    → Slots (Unit {0}) → Views Planned → Type 0
+IsKeptBy fits joins first plan = IsPlanned
+    (IsKept (fits plan) (joins plan) (first plan) plan.roots plan.links plan.words plan.nodes) plan
 
 -- a step on a word tells this by the plan, which stays
 abbrev pub tells_word : (Plan → ℕ → Known → ℕ → Known → Type 0) → ℕ → Planned → ℕ → Planned → Type 0
@@ -60,17 +60,18 @@ abbrev pub tells_number : (Known → ℕ → Known → Type 0) → Planned → �
 tells_number tells was n now = (now.plan ≡ was.plan) × tells was.known n now.known
 
 -- what each step tells by the plan
-abbrev pub tells_follow : (List ℕ → Type 0)
-    → (ℕ → List ℕ → List ℕ → Type 0) → (ℕ → List ℕ) → ℕ → Planned → ℕ → Planned → Type 0
-tells_follow fits joins first =
-    tells_word (λ plan. IsFollowed fits joins first plan.roots plan.links plan.words plan.nodes)
+abbrev pub tells_follow : (Plan → List ℕ → Type 0)
+    → (Plan → ℕ → List ℕ → List ℕ → Type 0) → (Plan → ℕ → List ℕ) → ℕ → Planned → ℕ → Planned
+    → Type 0
+tells_follow fits joins first = tells_word (λ plan.
+    IsFollowed (fits plan) (joins plan) (first plan) plan.roots plan.links plan.words plan.nodes)
 
-abbrev pub tells_read : (ℕ → List ℕ) → ℕ → Planned → ℕ → Planned → Type 0
-tells_read first = tells_word (λ plan. IsRead first plan.roots plan.links plan.words)
+abbrev pub tells_read : (Plan → ℕ → List ℕ) → ℕ → Planned → ℕ → Planned → Type 0
+tells_read first = tells_word (λ plan. IsRead (first plan) plan.roots plan.links plan.words)
 
-abbrev pub tells_claim : (ℕ → List ℕ) → ℕ → Planned → ℕ → Planned → Type 0
-tells_claim first = tells_word
-    (λ plan place was x now. IsClaimed first plan.roots plan.links plan.words plan.nodes now)
+abbrev pub tells_claim : (Plan → ℕ → List ℕ) → ℕ → Planned → ℕ → Planned → Type 0
+tells_claim first = tells_word (λ plan place was x now.
+    IsClaimed (first plan) plan.roots plan.links plan.words plan.nodes now)
 
 abbrev pub tells_write : ℕ → Planned → ℕ → Planned → Type 0
 tells_write = tells_word (λ plan. IsWritten plan.links plan.words)

@@ -15,14 +15,13 @@ use Rattle.rcu_graph.specs.declared.plan.Plan.{Plan}
 -- the keeper may lead this link of a live node to what the word says: nowhere, or to a live node to
 -- which it may lead
 pub record MayRelink (fits : List ℕ → Type 0) (joins : ℕ → List ℕ → List ℕ → Type 0)
-    (count roots links : ℕ) (graph : Object Plan) (keeper : Watching Planned)
-    (counts leaving : List ℕ)
+    (graph : Object Plan) (keeper : Watching Planned) (counts leaving : List ℕ)
     (from link word : ℕ) : Type 0 where
   pub watches : IsWatcherOf graph keeper
-  pub counted : IsCounted fits joins count roots links (nodes_in keeper.view.client.known) counts
-      leaving
-  pub from_inside : from < count
-  pub link_inside : link < links
+  pub counted : IsCounted fits joins graph.plan.nodes graph.plan.roots graph.plan.links
+      (nodes_in keeper.view.client.known) counts leaving
+  pub from_inside : from < graph.plan.nodes
+  pub link_inside : link < graph.plan.links
   pub live : state_at (nodes_in keeper.view.client.known) from ≡ Live
   pub target : IsTarget (joins link) (node_at (nodes_in keeper.view.client.known) from).words
       (nodes_in keeper.view.client.known) word
@@ -30,40 +29,37 @@ pub record MayRelink (fits : List ℕ → Type 0) (joins : ℕ → List ℕ → 
 -- the keeper's seat may lead this link of a live node to a free one that is ready, and to which it
 -- may lead
 pub record CanPublish (fits : List ℕ → Type 0) (joins : ℕ → List ℕ → List ℕ → Type 0)
-    (count links : ℕ) (graph : Object Plan) (keeper : Watching Planned) (from link to : ℕ) :
-    Type 0 where
+    (graph : Object Plan) (keeper : Watching Planned) (from link to : ℕ) : Type 0 where
   pub watches : IsWatcherOf graph keeper
-  pub from_inside : from < count
-  pub to_inside : to < count
-  pub link_inside : link < links
+  pub from_inside : from < graph.plan.nodes
+  pub to_inside : to < graph.plan.nodes
+  pub link_inside : link < graph.plan.links
   pub live : state_at (nodes_in keeper.view.client.known) from ≡ Live
-  pub ready : IsReady fits joins links (nodes_in keeper.view.client.known) to
+  pub ready : IsReady fits joins graph.plan.links (nodes_in keeper.view.client.known) to
   pub joined : joins link (node_at (nodes_in keeper.view.client.known) from).words
       (node_at (nodes_in keeper.view.client.known) to).words
 
 -- the same of a keeper that counts its nodes
 pub record MayPublish (fits : List ℕ → Type 0) (joins : ℕ → List ℕ → List ℕ → Type 0)
-    (count roots links : ℕ) (graph : Object Plan) (keeper : Watching Planned)
-    (counts leaving : List ℕ)
+    (graph : Object Plan) (keeper : Watching Planned) (counts leaving : List ℕ)
     (from link to : ℕ) : Type 0 where
   pub watches : IsWatcherOf graph keeper
-  pub counted : IsCounted fits joins count roots links (nodes_in keeper.view.client.known) counts
-      leaving
-  pub from_inside : from < count
-  pub to_inside : to < count
-  pub link_inside : link < links
+  pub counted : IsCounted fits joins graph.plan.nodes graph.plan.roots graph.plan.links
+      (nodes_in keeper.view.client.known) counts leaving
+  pub from_inside : from < graph.plan.nodes
+  pub to_inside : to < graph.plan.nodes
+  pub link_inside : link < graph.plan.links
   pub live : state_at (nodes_in keeper.view.client.known) from ≡ Live
-  pub ready : IsReady fits joins links (nodes_in keeper.view.client.known) to
+  pub ready : IsReady fits joins graph.plan.links (nodes_in keeper.view.client.known) to
   pub joined : joins link (node_at (nodes_in keeper.view.client.known) from).words
       (node_at (nodes_in keeper.view.client.known) to).words
 
 -- the keeper has the nodes as they were stored, less those that were left; it counts them still
 pub record HasTrimmed (fits : List ℕ → Type 0) (joins : ℕ → List ℕ → List ℕ → Type 0)
-    (count roots links : ℕ) (graph : Object Plan) (before now : Watching Planned)
-    (counts leaving : List ℕ)
+    (graph : Object Plan) (before now : Watching Planned) (counts leaving : List ℕ)
     (stored : List Node) : Type 0 where
   pub watches : IsWatcherOf graph now
   pub state : now ≡ after_step before (nodes_in now.view.client.known)
-  pub counted : IsCounted fits joins count roots links (nodes_in now.view.client.known) counts
-      leaving
-  pub trimmed : AreTrimmed roots links stored (nodes_in now.view.client.known)
+  pub counted : IsCounted fits joins graph.plan.nodes graph.plan.roots graph.plan.links
+      (nodes_in now.view.client.known) counts leaving
+  pub trimmed : AreTrimmed graph.plan.roots graph.plan.links stored (nodes_in now.view.client.known)

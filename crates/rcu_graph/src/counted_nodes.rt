@@ -1,12 +1,12 @@
 //! The nodes that a keeper knows, each with a count of the links that lead to it: what a change
 //! leaves, without a walk of the graph.
 ghost use Rattle.std.specs.Prelude.{◌≡◌, ◌≤◌, ◌<◌, ◌+◌, ◌∷◌, ◌^◌, ℕ, [], All, IfOk, List, length};
-ghost use Rattle.std.specs.Prelude.{map, replicate, slice_index, suc};
-ghost use Rattle.std.specs.List.{range_with_len};
+ghost use Rattle.std.specs.Prelude.{replicate, slice_index, suc};
 ghost use Rattle.rcu_graph.specs.Counts.{counted_up, times_in};
 ghost use Rattle.rcu_graph.specs.Graph.{IsWatcherOf, word_to};
 ghost use Rattle.rcu_graph.specs.Keeper.{IsKeeperOf, after_step};
 ghost use Rattle.rcu_graph.specs.Nodes.{node_at, nodes_in};
+ghost use Rattle.rcu_graph.specs.Opening.{AreWhole};
 ghost use Rattle.rcu_graph.specs.Steps.{IsClaimed};
 ghost use Rattle.rcu_graph.specs.Tended.{published, relinked};
 ghost use Rattle.rcu_graph.specs.Trimming.{IsInside, IsTrimming};
@@ -20,43 +20,35 @@ use std::alloc::{AllocError, Global};
 
 /// Nodes, and how many links of live nodes lead to each.
 #[derive(Drop)]
-pub(crate) struct CountedNodes<
-    F: Shape,
-    const K: usize,
-    const L: usize,
-    const W: usize,
-    const N: usize,
-> {
-    pub(crate) nodes: KnownNodes<F, K, L, W, N>,
+pub(crate) struct CountedNodes<F: Shape> {
+    pub(crate) nodes: KnownNodes<F>,
     pub(crate) counts: Vec<usize>,
     /// The nodes that a change leaves, in order: room for all.
     pub(crate) leaving: Vec<usize>,
 }
 
-impl<F: Shape, const K: usize, const L: usize, const W: usize, const N: usize> CountedNodes<
-    F,
-    K,
-    L,
-    W,
-    N,
-> {
+impl<F: Shape> CountedNodes<F> {
     /// The nodes of a seat, which are as at first.
     pub(crate) fn new<const LEAF: u32, const FAN: u32, T: Drop>(
         alloc: Global,
-        graph: &Graph<LEAF, FAN, T, F, K, L, W, N>,
+        graph: &Graph<LEAF, FAN, T, F>,
         seat: GraphWatcher<F>,
-        roots: &[[u64; W]; K],
     ) -> Result<Self, AllocError>
-        requires keeper { IsKeeperOf N graph.now seat }
-        requires first { IsClaimed F.first K L W N seat.view.client.known }
-        requires roots { roots.now ≡ map F.first (range_with_len 0 K) }
+        requires keeper { IsKeeperOf graph.now seat }
+        requires nodes { IsClaimed (F.first graph.now.plan) graph.now.plan.roots
+            graph.now.plan.links graph.now.plan.words graph.now.plan.nodes seat.view.client.known }
+        requires first { AreWhole (F.fits graph.now.plan) (F.first graph.now.plan)
+            graph.now.plan }
         ensures nodes { IfOk result (λ counted. counted.nodes ≡ seat) }
-        ensures counts { IfOk result (λ counted. counted.counts.items ≡ replicate N 0) }
-        ensures leaving { IfOk result (λ counted. length counted.leaving.items ≡ N) }
+        ensures counts { IfOk result (λ counted. counted.counts.items ≡ replicate
+            graph.now.plan.nodes 0) }
+        ensures leaving { IfOk result (λ counted. length counted.leaving.items ≡
+            graph.now.plan.nodes) }
     {
-        let nodes = KnownNodes::new(alloc, graph, seat, roots)?;
-        let counts = vec![in alloc; 0usize; N]?;
-        let leaving = vec![in alloc; 0usize; N]?;
+        let count = graph.plan().nodes;
+        let nodes = KnownNodes::new(alloc, graph, seat)?;
+        let counts = vec![in alloc; 0usize; count]?;
+        let leaving = vec![in alloc; 0usize; count]?;
         Ok(CountedNodes {
             nodes,
             counts,
@@ -82,24 +74,27 @@ impl<F: Shape, const K: usize, const L: usize, const W: usize, const N: usize> C
     /// Returns how many are left.
     fn let_go<const LEAF: u32, const FAN: u32, T: Drop>(
         &mut self,
-        graph: &Graph<LEAF, FAN, T, F, K, L, W, N>,
+        graph: &Graph<LEAF, FAN, T, F>,
         word: u64,
         left: usize,
     ) -> usize
         requires graph { IsWatcherOf graph.now self.old.nodes }
         requires trimming { (stored : List Node) × (from : ℕ) × (words : List ℕ)
-            × IsTrimming N K L stored (nodes_in self.old.nodes.view.client.known)
+            × IsTrimming graph.now.plan.nodes graph.now.plan.roots graph.now.plan.links stored
+            (nodes_in self.old.nodes.view.client.known)
             self.old.counts.items self.old.leaving.items from left (word ∷ words) }
         ensures graph { IsWatcherOf graph.now self.new.nodes }
         ensures state { self.new.nodes
             ≡ after_step self.old.nodes (nodes_in self.new.nodes.view.client.known) }
         ensures trimming { (stored : List Node) (from : ℕ) (words : List ℕ) →
-            IsTrimming N K L stored (nodes_in self.old.nodes.view.client.known)
+            IsTrimming graph.now.plan.nodes graph.now.plan.roots graph.now.plan.links stored
+            (nodes_in self.old.nodes.view.client.known)
             self.old.counts.items self.old.leaving.items from left (word ∷ words) →
-            IsTrimming N K L stored (nodes_in self.new.nodes.view.client.known)
+            IsTrimming graph.now.plan.nodes graph.now.plan.roots graph.now.plan.links stored
+            (nodes_in self.new.nodes.view.client.known)
             self.new.counts.items self.new.leaving.items from result words }
     {
-        self.nodes.sizes();
+        let plan = self.nodes.plan(graph);
         let Some(node) = node_of(word) else {
             return left;
         };
@@ -108,7 +103,7 @@ impl<F: Shape, const K: usize, const L: usize, const W: usize, const N: usize> C
         if count > 0 {
             return left;
         }
-        if node < K {
+        if node < plan.roots {
             return left;
         }
         if !self.nodes.state(node).is_live() {
@@ -122,27 +117,30 @@ impl<F: Shape, const K: usize, const L: usize, const W: usize, const N: usize> C
     /// Lets go of the links of a node that was left.
     fn let_go_of<const LEAF: u32, const FAN: u32, T: Drop>(
         &mut self,
-        graph: &Graph<LEAF, FAN, T, F, K, L, W, N>,
+        graph: &Graph<LEAF, FAN, T, F>,
         node: usize,
         left: usize,
     ) -> usize
         requires graph { IsWatcherOf graph.now self.old.nodes }
-        requires node { node < N }
+        requires node { node < graph.now.plan.nodes }
         requires trimming { (stored : List Node) × (from : ℕ)
-            × IsTrimming N K L stored (nodes_in self.old.nodes.view.client.known)
+            × IsTrimming graph.now.plan.nodes graph.now.plan.roots graph.now.plan.links stored
+            (nodes_in self.old.nodes.view.client.known)
             self.old.counts.items self.old.leaving.items from left (node_at stored node).links }
         ensures graph { IsWatcherOf graph.now self.new.nodes }
         ensures state { self.new.nodes
             ≡ after_step self.old.nodes (nodes_in self.new.nodes.view.client.known) }
         ensures trimming { (stored : List Node) (from : ℕ) →
-            IsTrimming N K L stored (nodes_in self.old.nodes.view.client.known)
+            IsTrimming graph.now.plan.nodes graph.now.plan.roots graph.now.plan.links stored
+            (nodes_in self.old.nodes.view.client.known)
             self.old.counts.items self.old.leaving.items from left (node_at stored node).links →
-            IsTrimming N K L stored (nodes_in self.new.nodes.view.client.known)
+            IsTrimming graph.now.plan.nodes graph.now.plan.roots graph.now.plan.links stored
+            (nodes_in self.new.nodes.view.client.known)
             self.new.counts.items self.new.leaving.items from result [] }
     {
-        self.nodes.sizes();
+        let plan = self.nodes.plan(graph);
         let mut gone = left;
-        for link in 0..L {
+        for link in 0..plan.links {
             let word = self.nodes.link_word(node, link);
             gone = self.let_go(graph, word, gone);
         }
@@ -152,17 +150,19 @@ impl<F: Shape, const K: usize, const L: usize, const W: usize, const N: usize> C
     /// Lets go of a link that led there, and leaves what no live node leads to any more.
     fn trim<const LEAF: u32, const FAN: u32, T: Drop>(
         &mut self,
-        graph: &Graph<LEAF, FAN, T, F, K, L, W, N>,
+        graph: &Graph<LEAF, FAN, T, F>,
         word: u64,
     )
         requires graph { IsWatcherOf graph.now self.old.nodes }
-        requires trimming { IsTrimming N K L (nodes_in self.old.nodes.view.client.known)
+        requires trimming { IsTrimming graph.now.plan.nodes graph.now.plan.roots
+            graph.now.plan.links (nodes_in self.old.nodes.view.client.known)
             (nodes_in self.old.nodes.view.client.known) self.old.counts.items self.old.leaving.items
             0 0 (word ∷ []) }
         ensures graph { IsWatcherOf graph.now self.new.nodes }
         ensures state { self.new.nodes
             ≡ after_step self.old.nodes (nodes_in self.new.nodes.view.client.known) }
-        ensures trimming { (to : ℕ) × IsTrimming N K L (nodes_in self.old.nodes.view.client.known)
+        ensures trimming { (to : ℕ) × IsTrimming graph.now.plan.nodes graph.now.plan.roots
+            graph.now.plan.links (nodes_in self.old.nodes.view.client.known)
             (nodes_in self.new.nodes.view.client.known) self.new.counts.items self.new.leaving.items
             to to [] }
     {
@@ -178,18 +178,20 @@ impl<F: Shape, const K: usize, const L: usize, const W: usize, const N: usize> C
     /// Leads a link of a live node elsewhere.
     pub(crate) fn link<const LEAF: u32, const FAN: u32, T: Drop>(
         &mut self,
-        graph: &Graph<LEAF, FAN, T, F, K, L, W, N>,
+        graph: &Graph<LEAF, FAN, T, F>,
         from: usize,
         link: usize,
         to: Option<usize>,
     )
-        requires { MayRelink F.fits F.joins N K L graph.now self.old.nodes
+        requires { MayRelink (F.fits graph.now.plan) (F.joins graph.now.plan) graph.now
+            self.old.nodes
             self.old.counts.items self.old.leaving.items from link (word_to to) }
-        ensures { HasTrimmed F.fits F.joins N K L graph.now self.old.nodes self.new.nodes
+        ensures { HasTrimmed (F.fits graph.now.plan) (F.joins graph.now.plan) graph.now
+            self.old.nodes self.new.nodes
             self.new.counts.items self.new.leaving.items
             (relinked (nodes_in self.old.nodes.view.client.known) from link to) }
     {
-        self.nodes.sizes();
+        self.nodes.plan(graph);
         let word = word_of(to);
         let before = self.nodes.link_word(from, link);
         self.nodes.link(graph, from, link, word);
@@ -198,23 +200,28 @@ impl<F: Shape, const K: usize, const L: usize, const W: usize, const N: usize> C
     }
 
     /// Counts the links of a node that becomes live.
-    fn count_links_of(&mut self, node: usize)
-        requires node { node < N }
-        requires many { length self.old.counts.items ≡ N }
-        requires inside { All (IsInside N)
+    fn count_links_of<const LEAF: u32, const FAN: u32, T: Drop>(
+        &mut self,
+        graph: &Graph<LEAF, FAN, T, F>,
+        node: usize,
+    )
+        requires graph { IsWatcherOf graph.now self.old.nodes }
+        requires node { node < graph.now.plan.nodes }
+        requires many { length self.old.counts.items ≡ graph.now.plan.nodes }
+        requires inside { All (IsInside graph.now.plan.nodes)
             (node_at (nodes_in self.old.nodes.view.client.known) node).links }
-        requires few { (k : ℕ) → k < N → slice_index self.old.counts.items k
+        requires few { (k : ℕ) → k < graph.now.plan.nodes → slice_index self.old.counts.items k
             + times_in (node_at (nodes_in self.old.nodes.view.client.known) node).links (suc k)
             < 2 ^ 64 }
         ensures nodes { self.new.nodes ≡ self.old.nodes }
         ensures leaving { self.new.leaving ≡ self.old.leaving }
-        ensures many { length self.new.counts.items ≡ N }
-        ensures counts { (k : ℕ) → k < N → slice_index self.new.counts.items k
+        ensures many { length self.new.counts.items ≡ graph.now.plan.nodes }
+        ensures counts { (k : ℕ) → k < graph.now.plan.nodes → slice_index self.new.counts.items k
             ≡ slice_index self.old.counts.items k
             + times_in (node_at (nodes_in self.old.nodes.view.client.known) node).links (suc k) }
     {
-        self.nodes.sizes();
-        for link in 0..L {
+        let plan = self.nodes.plan(graph);
+        for link in 0..plan.links {
             let word = self.nodes.link_word(node, link);
             self.count(word);
         }
@@ -223,20 +230,22 @@ impl<F: Shape, const K: usize, const L: usize, const W: usize, const N: usize> C
     /// Links a live node to a free one.
     pub(crate) fn publish<const LEAF: u32, const FAN: u32, T: Drop>(
         &mut self,
-        graph: &Graph<LEAF, FAN, T, F, K, L, W, N>,
+        graph: &Graph<LEAF, FAN, T, F>,
         from: usize,
         link: usize,
         to: usize,
     )
-        requires { MayPublish F.fits F.joins N K L graph.now self.old.nodes
+        requires { MayPublish (F.fits graph.now.plan) (F.joins graph.now.plan) graph.now
+            self.old.nodes
             self.old.counts.items self.old.leaving.items from link to }
-        ensures { HasTrimmed F.fits F.joins N K L graph.now self.old.nodes self.new.nodes
+        ensures { HasTrimmed (F.fits graph.now.plan) (F.joins graph.now.plan) graph.now
+            self.old.nodes self.new.nodes
             self.new.counts.items self.new.leaving.items
             (published (nodes_in self.old.nodes.view.client.known) from link to) }
     {
-        self.nodes.sizes();
+        self.nodes.plan(graph);
         let before = self.nodes.link_word(from, link);
-        self.count_links_of(to);
+        self.count_links_of(graph, to);
         self.nodes.publish(graph, from, link, to);
         self.count(word_of(Some(to)));
         self.trim(graph, before);

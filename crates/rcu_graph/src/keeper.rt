@@ -1,12 +1,12 @@
 //! The keeper of a graph at run time: it publishes and unlinks nodes by single stores, leaves by
 //! itself what no live node leads to, and knows which nodes are free.
 ghost use Rattle.std.specs.Prelude.{◌≡◌, ◌≤◌, ◌<◌, ◌^◌, All, IfOk, IfSome, None, OnErr, length};
-ghost use Rattle.std.specs.Prelude.{map, slice_index};
-ghost use Rattle.std.specs.List.{range_with_len};
+ghost use Rattle.std.specs.Prelude.{slice_index};
 ghost use Rattle.rcu_graph.specs.Graph.{IsWatcherOf, word_to};
 ghost use Rattle.rcu_graph.specs.Keeper.{IsKeeperOf, IsReady, after_look, after_step};
 ghost use Rattle.rcu_graph.specs.Nodes.{IsTarget, is_free, is_live, node_at};
 ghost use Rattle.rcu_graph.specs.Nodes.{nodes_in, state_at};
+ghost use Rattle.rcu_graph.specs.Opening.{AreWhole};
 ghost use Rattle.rcu_graph.specs.Steps.{IsClaimed};
 ghost use Rattle.rcu_graph.specs.Tended.{AreAllUsed, AreTended, AreTrimmed, after_fill};
 ghost use Rattle.rcu_graph.specs.Tended.{published, relinked};
@@ -15,6 +15,7 @@ ghost use Rattle.rcu_graph.specs.declared.node_state.NodeState.TheVariants.{Free
 use crate::counted_nodes::CountedNodes;
 use crate::graph::Graph;
 use crate::known_nodes::node_of;
+use crate::plan::Plan;
 use crate::rule::{GraphWatcher, Shape};
 use std::alloc::{AllocError, Global};
 use std::marker::Model;
@@ -29,12 +30,11 @@ pub struct Full;
 /// is left by itself (as by the counts of `Rc`), and what only that led to, and so on. Nodes that
 /// lead to one another in a ring stay live: unlink one of them first.
 #[derive(Drop)]
-pub struct Keeper<F: Shape, const K: usize, const L: usize, const W: usize, const N: usize> {
-    counted: CountedNodes<F, K, L, W, N>,
+pub struct Keeper<F: Shape> {
+    counted: CountedNodes<F>,
 }
 
-impl<F: Shape, const K: usize, const L: usize, const W: usize, const N: usize> Model
-    for Keeper<F, K, L, W, N> {
+impl<F: Shape> Model for Keeper<F> {
     ghost use Rattle.rcu_live.specs.Watcher.{Watching};
     ghost use Rattle.rcu_graph.specs.Nodes.{nodes_in};
     ghost use Rattle.rcu_graph.specs.Trimming.{IsCounted};
@@ -44,53 +44,53 @@ impl<F: Shape, const K: usize, const L: usize, const W: usize, const N: usize> M
 
     ghost view = { λ k. k.counted.nodes };
 
-    ghost invariant = { λ k. IsCounted F.fits F.joins N K L
+    ghost invariant = { λ k. IsCounted (F.fits k.counted.nodes.view.client.plan)
+        (F.joins k.counted.nodes.view.client.plan) k.counted.nodes.view.client.plan.nodes
+        k.counted.nodes.view.client.plan.roots k.counted.nodes.view.client.plan.links
         (nodes_in k.counted.nodes.view.client.known)
         k.counted.counts.items k.counted.leaving.items };
 }
 
-impl<F: Shape, const K: usize, const L: usize, const W: usize, const N: usize> Keeper<
-    F,
-    K,
-    L,
-    W,
-    N,
-> {
-    /// The keeper of a graph whose nodes are as at first: the roots have these words. It takes all
-    /// the memory that it will ever have.
+impl<F: Shape> Keeper<F> {
+    /// The keeper of a graph whose nodes are as at first. It takes all the memory that it will ever
+    /// have.
     pub fn new<const LEAF: u32, const FAN: u32, T: Drop>(
         alloc: Global,
-        graph: &Graph<LEAF, FAN, T, F, K, L, W, N>,
+        graph: &Graph<LEAF, FAN, T, F>,
         seat: GraphWatcher<F>,
-        roots: &[[u64; W]; K],
     ) -> Result<Self, AllocError>
-        requires keeper { IsKeeperOf N graph.now seat }
-        requires nodes { IsClaimed F.first K L W N seat.view.client.known }
-        requires first { roots.now ≡ map F.first (range_with_len 0 K) }
-        requires whole { All F.fits roots.now }
+        requires keeper { IsKeeperOf graph.now seat }
+        requires nodes { IsClaimed (F.first graph.now.plan) graph.now.plan.roots
+            graph.now.plan.links graph.now.plan.words graph.now.plan.nodes seat.view.client.known }
+        requires first { AreWhole (F.fits graph.now.plan) (F.first graph.now.plan)
+            graph.now.plan }
         ensures { IfOk result (λ keeper. keeper ≡ seat) }
     {
-        // A borrow of a field shows the prover what the type keeps.
-        let _ = &graph.live;
-        let counted = CountedNodes::new(alloc, graph, seat, roots)?;
+        graph.plan();
+        let counted = CountedNodes::new(alloc, graph, seat)?;
         Ok(Keeper { counted })
     }
 
     /// What a keeper of this graph keeps: nothing is done. A caller learns the clauses by the call.
-    pub fn tends<const LEAF: u32, const FAN: u32, T: Drop>(
-        &self,
-        graph: &Graph<LEAF, FAN, T, F, K, L, W, N>,
-    )
+    pub fn tends<const LEAF: u32, const FAN: u32, T: Drop>(&self, graph: &Graph<LEAF, FAN, T, F>)
         requires graph { IsWatcherOf graph.now self.now }
-        ensures keeper { IsKeeperOf N graph.now self.now }
-        ensures tended { AreTended F.fits F.joins K L (nodes_in self.now.view.client.known) }
+        ensures keeper { IsKeeperOf graph.now self.now }
+        ensures tended { AreTended (F.fits graph.now.plan) (F.joins graph.now.plan)
+            graph.now.plan.roots graph.now.plan.links (nodes_in self.now.view.client.known) }
     {
         self.counted.nodes.keeps(graph);
     }
 
+    /// How large its graph is.
+    pub fn plan(&self) -> Plan
+        ensures { result ≡ self.now.view.client.plan }
+    {
+        self.counted.nodes.seat_plan()
+    }
+
     /// Whether a node is free.
     pub fn is_free(&self, node: usize) -> bool
-        requires { node < N }
+        requires { node < self.now.view.client.plan.nodes }
         ensures { result ≡ is_free (state_at (nodes_in self.now.view.client.known) node) }
     {
         self.counted.nodes.state(node).is_free()
@@ -98,7 +98,7 @@ impl<F: Shape, const K: usize, const L: usize, const W: usize, const N: usize> K
 
     /// Whether a node is live.
     pub fn is_live(&self, node: usize) -> bool
-        requires { node < N }
+        requires { node < self.now.view.client.plan.nodes }
         ensures { result ≡ is_live (state_at (nodes_in self.now.view.client.known) node) }
     {
         self.counted.nodes.state(node).is_live()
@@ -106,8 +106,8 @@ impl<F: Shape, const K: usize, const L: usize, const W: usize, const N: usize> K
 
     /// The node to which a link of a node leads.
     pub fn link_of(&self, node: usize, link: usize) -> Option<usize>
-        requires node { node < N }
-        requires link { link < L }
+        requires node { node < self.now.view.client.plan.nodes }
+        requires link { link < self.now.view.client.plan.links }
         ensures { word_to result
             ≡ slice_index (node_at (nodes_in self.now.view.client.known) node).links link }
     {
@@ -116,8 +116,8 @@ impl<F: Shape, const K: usize, const L: usize, const W: usize, const N: usize> K
 
     /// A word of a node.
     pub fn word(&self, node: usize, word: usize) -> u64
-        requires node { node < N }
-        requires word { word < W }
+        requires node { node < self.now.view.client.plan.nodes }
+        requires word { word < self.now.view.client.plan.words }
         ensures { result ≡ slice_index (node_at (nodes_in self.now.view.client.known) node).words
             word }
     {
@@ -128,7 +128,7 @@ impl<F: Shape, const K: usize, const L: usize, const W: usize, const N: usize> K
     /// last, which the cache may still have. It is free until it is published, and may be told
     /// again. `Full` tells that none is free.
     pub fn free_node(&self) -> Result<usize, Full>
-        ensures inside { IfOk result (λ node. node < N) }
+        ensures inside { IfOk result (λ node. node < self.now.view.client.plan.nodes) }
         ensures free { IfOk result (λ node.
             state_at (nodes_in self.now.view.client.known) node ≡ Free) }
         ensures full { OnErr result (AreAllUsed (nodes_in self.now.view.client.known)) }
@@ -139,19 +139,21 @@ impl<F: Shape, const K: usize, const L: usize, const W: usize, const N: usize> K
     /// Stores all words and all links of a free node. No section sees them: it is free still.
     pub fn fill<const LEAF: u32, const FAN: u32, T: Drop>(
         &mut self,
-        graph: &Graph<LEAF, FAN, T, F, K, L, W, N>,
+        graph: &Graph<LEAF, FAN, T, F>,
         node: usize,
-        words: &[u64; W],
-        links: &[Option<usize>; L],
+        words: &[u64],
+        links: &[Option<usize>],
     )
         requires graph { IsWatcherOf graph.now self.old }
-        requires node { node < N }
+        requires node { node < graph.now.plan.nodes }
         requires free { state_at (nodes_in self.old.view.client.known) node ≡ Free }
-        requires inside { All (λ to. IfSome to (λ other. other < N)) links.now }
+        requires inside { All (λ to. IfSome to (λ other. other < graph.now.plan.nodes)) links.now }
+        requires words { length words.now ≡ graph.now.plan.words }
+        requires links { length links.now ≡ graph.now.plan.links }
         ensures graph { IsWatcherOf graph.now self.new }
         ensures state { self.new ≡ after_fill self.old node words.now links.now }
     {
-        self.counted.nodes.sizes();
+        self.counted.nodes.plan(graph);
         self.counted.nodes.fill(graph, node, words, links);
     }
 
@@ -159,22 +161,25 @@ impl<F: Shape, const K: usize, const L: usize, const W: usize, const N: usize> K
     /// live (Linux's `rcu_assign_pointer`). What no live node leads to any more is left.
     pub fn publish<const LEAF: u32, const FAN: u32, T: Drop>(
         &mut self,
-        graph: &Graph<LEAF, FAN, T, F, K, L, W, N>,
+        graph: &Graph<LEAF, FAN, T, F>,
         from: usize,
         link: usize,
         to: usize,
     )
         requires graph { IsWatcherOf graph.now self.old }
-        requires from { from < N }
-        requires to { to < N }
-        requires link { link < L }
+        requires from { from < graph.now.plan.nodes }
+        requires to { to < graph.now.plan.nodes }
+        requires link { link < graph.now.plan.links }
         requires live { state_at (nodes_in self.old.view.client.known) from ≡ Live }
-        requires ready { IsReady F.fits F.joins L (nodes_in self.old.view.client.known) to }
-        requires joined { F.joins link (node_at (nodes_in self.old.view.client.known) from).words
+        requires ready { IsReady (F.fits graph.now.plan) (F.joins graph.now.plan)
+            graph.now.plan.links (nodes_in self.old.view.client.known) to }
+        requires joined { F.joins graph.now.plan link
+            (node_at (nodes_in self.old.view.client.known) from).words
             (node_at (nodes_in self.old.view.client.known) to).words }
         ensures graph { IsWatcherOf graph.now self.new }
         ensures state { self.new ≡ after_step self.old (nodes_in self.new.view.client.known) }
-        ensures trimmed { AreTrimmed K L (published (nodes_in self.old.view.client.known) from link
+        ensures trimmed { AreTrimmed graph.now.plan.roots graph.now.plan.links
+            (published (nodes_in self.old.view.client.known) from link
             to)
             (nodes_in self.new.view.client.known) }
     {
@@ -185,21 +190,22 @@ impl<F: Shape, const K: usize, const L: usize, const W: usize, const N: usize> K
     /// to any more is left.
     pub fn link<const LEAF: u32, const FAN: u32, T: Drop>(
         &mut self,
-        graph: &Graph<LEAF, FAN, T, F, K, L, W, N>,
+        graph: &Graph<LEAF, FAN, T, F>,
         from: usize,
         link: usize,
         to: Option<usize>,
     )
         requires graph { IsWatcherOf graph.now self.old }
-        requires from { from < N }
-        requires link { link < L }
+        requires from { from < graph.now.plan.nodes }
+        requires link { link < graph.now.plan.links }
         requires live { state_at (nodes_in self.old.view.client.known) from ≡ Live }
-        requires target { IsTarget (F.joins link)
+        requires target { IsTarget (F.joins graph.now.plan link)
             (node_at (nodes_in self.old.view.client.known) from).words
             (nodes_in self.old.view.client.known) (word_to to) }
         ensures graph { IsWatcherOf graph.now self.new }
         ensures state { self.new ≡ after_step self.old (nodes_in self.new.view.client.known) }
-        ensures trimmed { AreTrimmed K L (relinked (nodes_in self.old.view.client.known) from link
+        ensures trimmed { AreTrimmed graph.now.plan.roots graph.now.plan.links
+            (relinked (nodes_in self.old.view.client.known) from link
             to)
             (nodes_in self.new.view.client.known) }
     {
@@ -210,17 +216,18 @@ impl<F: Shape, const K: usize, const L: usize, const W: usize, const N: usize> K
     /// left.
     pub fn unlink<const LEAF: u32, const FAN: u32, T: Drop>(
         &mut self,
-        graph: &Graph<LEAF, FAN, T, F, K, L, W, N>,
+        graph: &Graph<LEAF, FAN, T, F>,
         from: usize,
         link: usize,
     )
         requires graph { IsWatcherOf graph.now self.old }
-        requires from { from < N }
-        requires link { link < L }
+        requires from { from < graph.now.plan.nodes }
+        requires link { link < graph.now.plan.links }
         requires live { state_at (nodes_in self.old.view.client.known) from ≡ Live }
         ensures graph { IsWatcherOf graph.now self.new }
         ensures state { self.new ≡ after_step self.old (nodes_in self.new.view.client.known) }
-        ensures trimmed { AreTrimmed K L (relinked (nodes_in self.old.view.client.known) from link
+        ensures trimmed { AreTrimmed graph.now.plan.roots graph.now.plan.links
+            (relinked (nodes_in self.old.view.client.known) from link
             None)
             (nodes_in self.new.view.client.known) }
     {
@@ -231,7 +238,7 @@ impl<F: Shape, const K: usize, const L: usize, const W: usize, const N: usize> K
     /// was retired a full grace period ago is free. It costs what it retires and frees.
     pub fn age<const LEAF: u32, const FAN: u32, T: Drop>(
         &mut self,
-        graph: &Graph<LEAF, FAN, T, F, K, L, W, N>,
+        graph: &Graph<LEAF, FAN, T, F>,
     ) -> u64
         requires { IsWatcherOf graph.now self.old }
         ensures graph { IsWatcherOf graph.now self.new }

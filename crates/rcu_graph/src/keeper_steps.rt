@@ -1,7 +1,8 @@
 //! The steps of who keeps a graph, by a watcher's seat.
 ghost use Rattle.std.specs.Prelude.{◌≡◌, ◌≤◌, ◌<◌, ◌+◌, true};
 ghost use Rattle.rcu_live.specs.Numbers.{is_number_word};
-ghost use Rattle.rcu_live.specs.Watcher.{IsWatcherOf, after_word_step};
+ghost use Rattle.rcu_live.specs.Watcher.{after_word_step};
+ghost use Rattle.rcu_graph.specs.Graph.{IsWatcherOf};
 ghost use Rattle.rcu_graph.specs.Keeper.{CanLink, IsKeeperOf, IsReady, after_leave, after_link};
 ghost use Rattle.rcu_graph.specs.Keeper.{after_look, after_publish, after_write};
 ghost use Rattle.rcu_graph.specs.Nodes.{IsUnlinked, first_nodes, node_at, nodes_in, state_at};
@@ -14,118 +15,113 @@ use crate::allowed::{
     write_is_allowed,
 };
 use crate::graph::Graph;
-use crate::places::place_of;
 use crate::rule::{Age, Claim, GraphWatcher, Leave, Link, Publish, Shape, Write};
 
-impl<
-    const LEAF: u32,
-    const FAN: u32,
-    T: Drop,
-    F: Shape,
-    const K: usize,
-    const L: usize,
-    const W: usize,
-    const N: usize,
-> Graph<LEAF, FAN, T, F, K, L, W, N> {
+impl<const LEAF: u32, const FAN: u32, T: Drop, F: Shape> Graph<LEAF, FAN, T, F> {
     /// Loads a word: the seat keeps the nodes from now on.
     pub(crate) fn claim(&self, seat: &mut GraphWatcher<F>)
         requires seat { IsWatcherOf self.now seat.old }
-        requires planned { seat.old.view.client.plan ≡ self.now.plan }
         requires owner { seat.old.view.client.known ≡ Owner }
         ensures { seat.new ≡ after_word_step seat.old
-            (knowing seat.old.view.client (Keeper 0 (first_nodes L W F.first K N))) }
+            (knowing seat.old.view.client (Keeper 0 (first_nodes self.now.plan.links
+            self.now.plan.words
+            (F.first self.now.plan) self.now.plan.roots self.now.plan.nodes))) }
     {
         // A borrow of a field shows the prover what the type keeps: how large the graph is.
         let live = &self.live;
-        claim_is_allowed::<F, K, L, W, N>(seat);
+        claim_is_allowed(seat);
         seat.load_word::<_, Claim<F>>(live, 0);
     }
 
     /// Stores a word of a free node.
     pub fn write(&self, seat: &mut GraphWatcher<F>, node: usize, word: usize, value: u64)
-        requires keeper { IsKeeperOf N self.now seat.old }
-        requires node { node < N }
+        requires keeper { IsKeeperOf self.now seat.old }
+        requires node { node < self.now.plan.nodes }
         requires free { state_at (nodes_in seat.old.view.client.known) node ≡ Free }
-        requires word { word < W }
-        ensures keeper { IsKeeperOf N self.now seat.new }
+        requires word { word < self.now.plan.words }
+        ensures keeper { IsKeeperOf self.now seat.new }
         ensures state { seat.new ≡ after_write seat.old node word value }
     {
         // A borrow of a field shows the prover what the type keeps: that the words fit in memory.
         let live = &self.live;
-        let place = place_of(L + W, N, node, L + word);
-        write_is_allowed::<F, K, L, W, N>(seat, node, word, place, value);
+        let place = self.place(node, self.plan.links + word);
+        write_is_allowed(seat, node, word, place, value);
         seat.store_word::<_, Write>(live, place, value);
     }
 
     /// Stores a link: in a free node any, in a live one 0, which leads nowhere, or one more than a
     /// live node to which it may lead.
     pub fn link(&self, seat: &mut GraphWatcher<F>, node: usize, link: usize, value: u64)
-        requires keeper { IsKeeperOf N self.now seat.old }
-        requires node { node < N }
-        requires link { link < L }
-        requires can { CanLink (F.joins link) (nodes_in seat.old.view.client.known) node value }
-        ensures keeper { IsKeeperOf N self.now seat.new }
+        requires keeper { IsKeeperOf self.now seat.old }
+        requires node { node < self.now.plan.nodes }
+        requires link { link < self.now.plan.links }
+        requires can { CanLink (F.joins self.now.plan link) (nodes_in seat.old.view.client.known)
+            node value }
+        ensures keeper { IsKeeperOf self.now seat.new }
         ensures state { seat.new ≡ after_link seat.old node link value }
     {
         // A borrow of a field shows the prover what the type keeps: that the words fit in memory.
         let live = &self.live;
-        let place = place_of(L + W, N, node, link);
-        link_is_allowed::<F, K, L, W, N>(seat, node, link, place, value);
+        let place = self.place(node, link);
+        link_is_allowed(seat, node, link, place, value);
         seat.store_word::<_, Link>(live, place, value);
     }
 
     /// Links a live node to a free one, which is whole and leads to live nodes: it is live then
     /// (Linux's `rcu_assign_pointer`).
     pub fn publish(&self, seat: &mut GraphWatcher<F>, from: usize, link: usize, to: usize)
-        requires keeper { IsKeeperOf N self.now seat.old }
-        requires from { from < N }
-        requires to { to < N }
-        requires link { link < L }
+        requires keeper { IsKeeperOf self.now seat.old }
+        requires from { from < self.now.plan.nodes }
+        requires to { to < self.now.plan.nodes }
+        requires link { link < self.now.plan.links }
         requires live { state_at (nodes_in seat.old.view.client.known) from ≡ Live }
-        requires ready { IsReady F.fits F.joins L (nodes_in seat.old.view.client.known) to }
-        requires joined { F.joins link (node_at (nodes_in seat.old.view.client.known) from).words
+        requires ready { IsReady (F.fits self.now.plan) (F.joins self.now.plan)
+            self.now.plan.links (nodes_in seat.old.view.client.known) to }
+        requires joined { F.joins self.now.plan link
+            (node_at (nodes_in seat.old.view.client.known) from).words
             (node_at (nodes_in seat.old.view.client.known) to).words }
-        ensures keeper { IsKeeperOf N self.now seat.new }
+        ensures keeper { IsKeeperOf self.now seat.new }
         ensures state { seat.new ≡ after_publish seat.old from link to }
     {
         // A borrow of a field shows the prover what the type keeps: that the words fit in memory.
         let live = &self.live;
-        let place = place_of(L + W, N, from, link);
+        let place = self.place(from, link);
         let value = to as u64 + 1;
-        publish_is_allowed::<F, K, L, W, N>(seat, from, link, to, place, value);
+        publish_is_allowed(seat, from, link, to, place, value);
         seat.store_word::<_, Publish>(live, place, value);
     }
 
     /// Leaves a live node to which no live one leads: sections that are on it may stay, and no new
     /// one comes (what crossbeam-epoch's `defer_destroy` takes on trust).
     pub fn leave(&self, seat: &mut GraphWatcher<F>, node: usize)
-        requires keeper { IsKeeperOf N self.now seat.old }
-        requires node { node < N }
-        requires no_root { K ≤ node }
+        requires keeper { IsKeeperOf self.now seat.old }
+        requires node { node < self.now.plan.nodes }
+        requires no_root { self.now.plan.roots ≤ node }
         requires live { state_at (nodes_in seat.old.view.client.known) node ≡ Live }
-        requires unlinked { IsUnlinked L (nodes_in seat.old.view.client.known) node }
-        ensures keeper { IsKeeperOf N self.now seat.new }
+        requires unlinked { IsUnlinked self.now.plan.links (nodes_in seat.old.view.client.known)
+            node }
+        ensures keeper { IsKeeperOf self.now seat.new }
         ensures state { seat.new ≡ after_leave seat.old node }
     {
         // A borrow of a field shows the prover what the type keeps: that the words fit in memory.
         let live = &self.live;
-        let place = place_of(L + W, N, node, 0);
-        leave_is_allowed::<F, K, L, W, N>(seat, node, place);
+        let place = self.place(node, 0);
+        leave_is_allowed(seat, node, place);
         seat.load_word::<_, Leave>(live, place);
     }
 
     /// Loads the number: what was left is so no later than now, and what was left a full grace
     /// period ago is free.
     pub fn look(&self, seat: &mut GraphWatcher<F>) -> u64
-        requires { IsKeeperOf N self.now seat.old }
-        ensures keeper { IsKeeperOf N self.now seat.new }
+        requires { IsKeeperOf self.now seat.old }
+        ensures keeper { IsKeeperOf self.now seat.new }
         ensures state { seat.new ≡ after_look seat.old result }
         ensures later { seat.old.view.seen ≤ result }
         ensures number { is_number_word result ≡ true }
     {
         // A borrow of a field shows the prover what the type keeps: how large the graph is.
         let live = &self.live;
-        age_is_allowed::<F, K, L, W, N>(seat);
+        age_is_allowed(seat);
         seat.load_number::<_, Age>(live)
     }
 }

@@ -1,13 +1,13 @@
 //! The seat that keeps the nodes, and beside it what it knows of them at run time.
 ghost use Rattle.std.specs.Prelude.{◌≡◌, ◌≤◌, ◌<◌, ◌+◌, ◌-◌, ◌*◌, ◌^◌, All, IfNone, IfOk, IfSome};
 ghost use Rattle.std.specs.Prelude.{length, map, slice_index};
-ghost use Rattle.std.specs.List.{range_with_len};
 ghost use Rattle.rcu_graph.specs.Filling.{CanFill, CanStore, after_links, after_words};
 ghost use Rattle.rcu_graph.specs.Graph.{IsWatcherOf, word_to};
 ghost use Rattle.rcu_graph.specs.Keeper.{CanLink, IsKeeperOf, after_leave, after_link};
 ghost use Rattle.rcu_graph.specs.Keeper.{after_look, after_publish, after_write};
 ghost use Rattle.rcu_graph.specs.Mirror.{AreSized};
 ghost use Rattle.rcu_graph.specs.Nodes.{IsKeeping, IsUnlinked, node_at, nodes_in, state_at};
+ghost use Rattle.rcu_graph.specs.Opening.{AreWhole};
 ghost use Rattle.rcu_graph.specs.Steps.{IsClaimed};
 ghost use Rattle.rcu_graph.specs.Tended.{AreAllUsed, after_fill};
 ghost use Rattle.rcu_graph.specs.Updates.{CanPublish};
@@ -16,31 +16,24 @@ ghost use Rattle.rcu_graph.specs.declared.node_state.NodeState.TheVariants.{Free
 use crate::graph::Graph;
 use crate::mirror::Mirror;
 use crate::node_state::NodeState;
+use crate::plan::Plan;
 use crate::rule::{GraphWatcher, Shape};
 use std::alloc::{AllocError, Global};
 use std::marker::Model;
 
-/// The seat that keeps `N` nodes, with their states, links and words.
+/// The seat that keeps the nodes, with their states, links and words.
 #[derive(Drop)]
-pub(crate) struct KnownNodes<
-    F: Shape,
-    const K: usize,
-    const L: usize,
-    const W: usize,
-    const N: usize,
-> {
+pub(crate) struct KnownNodes<F: Shape> {
     seat: GraphWatcher<F>,
-    mirror: Mirror<L, W, N>,
+    mirror: Mirror,
 }
 
-impl<F: Shape, const K: usize, const L: usize, const W: usize, const N: usize> Model
-    for KnownNodes<F, K, L, W, N> {
+impl<F: Shape> Model for KnownNodes<F> {
     ghost use Rattle.std.specs.Prelude.{◌≡◌, ◌≤◌, length};
     ghost use Rattle.rcu_live.specs.View.{IsOfWatcher};
     ghost use Rattle.rcu_live.specs.Watcher.{Watching};
     ghost use Rattle.rcu_graph.specs.Mirror.{AreBy};
     ghost use Rattle.rcu_graph.specs.Nodes.{IsKeeping, latest_in, nodes_in};
-    ghost use Rattle.rcu_graph.specs.Planned.{plan_of};
     ghost use Rattle.rcu_graph.specs.declared.known.Planned.{Planned};
 
     ghost Value = { Watching Planned };
@@ -48,68 +41,73 @@ impl<F: Shape, const K: usize, const L: usize, const W: usize, const N: usize> M
     ghost view = { λ k. k.seat };
 
     ghost invariant = { λ k. record {
-      planned : k.seat.view.client.plan ≡ plan_of K L W N;
+      planned : k.seat.view.client.plan ≡ k.mirror.plan;
       role : IsOfWatcher k.seat.view;
       keeps : IsKeeping k.seat.view.client.known;
-      few : length (nodes_in k.seat.view.client.known) ≡ N;
+      few : length (nodes_in k.seat.view.client.known) ≡ k.mirror.plan.nodes;
       late : latest_in k.seat.view.client.known ≤ k.seat.view.seen;
-      same : nodes_in k.seat.view.client.known ≡ k.mirror;
-      by : AreBy (latest_in k.seat.view.client.known) k.mirror;
+      same : nodes_in k.seat.view.client.known ≡ k.mirror.nodes;
+      by : AreBy (latest_in k.seat.view.client.known) k.mirror.nodes;
     } };
 }
 
-impl<F: Shape, const K: usize, const L: usize, const W: usize, const N: usize> KnownNodes<
-    F,
-    K,
-    L,
-    W,
-    N,
-> {
+impl<F: Shape> KnownNodes<F> {
     /// The seat, whose nodes are as at first.
     pub(crate) fn new<const LEAF: u32, const FAN: u32, T: Drop>(
         alloc: Global,
-        graph: &Graph<LEAF, FAN, T, F, K, L, W, N>,
+        graph: &Graph<LEAF, FAN, T, F>,
         seat: GraphWatcher<F>,
-        roots: &[[u64; W]; K],
     ) -> Result<Self, AllocError>
-        requires keeper { IsKeeperOf N graph.now seat }
-        requires first { IsClaimed F.first K L W N seat.view.client.known }
-        requires roots { roots.now ≡ map F.first (range_with_len 0 K) }
+        requires keeper { IsKeeperOf graph.now seat }
+        requires nodes { IsClaimed (F.first graph.now.plan) graph.now.plan.roots
+            graph.now.plan.links graph.now.plan.words graph.now.plan.nodes seat.view.client.known }
+        requires first { AreWhole (F.fits graph.now.plan) (F.first graph.now.plan)
+            graph.now.plan }
         ensures { IfOk result (λ nodes. nodes ≡ seat) }
     {
-        // A borrow of a field shows the prover what the type keeps: that the words fit in memory.
-        let _ = &graph.live;
-        graph.sizes();
-        let mirror = Mirror::new::<F, K>(alloc, roots)?;
+        let mirror = Mirror::new::<F>(alloc, graph.plan())?;
         Ok(KnownNodes { seat, mirror })
     }
 
     /// What the type keeps: nothing is done.
     pub(crate) fn keeps<const LEAF: u32, const FAN: u32, T: Drop>(
         &self,
-        graph: &Graph<LEAF, FAN, T, F, K, L, W, N>,
+        graph: &Graph<LEAF, FAN, T, F>,
     )
         requires { IsWatcherOf graph.now self.now }
-        ensures { IsKeeperOf N graph.now self.now }
+        ensures { IsKeeperOf graph.now self.now }
     {
-        graph.sizes();
         // A borrow of a field shows the prover what the type keeps.
         let _ = &self.mirror;
     }
 
-    /// How many nodes there are, and how many links and words each has: nothing is done.
-    pub(crate) fn sizes(&self)
+    /// How large the graph is.
+    pub(crate) fn plan<const LEAF: u32, const FAN: u32, T: Drop>(
+        &self,
+        graph: &Graph<LEAF, FAN, T, F>,
+    ) -> Plan
+        requires { IsWatcherOf graph.now self.now }
+        ensures plan { result ≡ graph.now.plan }
         ensures keeps { IsKeeping self.now.view.client.known }
-        ensures few { length (nodes_in self.now.view.client.known) ≡ N }
-        ensures sized { AreSized N L W (nodes_in self.now.view.client.known) }
-        ensures fit { L * N + 1 < 2 ^ 64 }
+        ensures few { length (nodes_in self.now.view.client.known) ≡ graph.now.plan.nodes }
+        ensures sized { AreSized graph.now.plan.nodes graph.now.plan.links graph.now.plan.words
+            (nodes_in self.now.view.client.known) }
+        ensures links_fit { graph.now.plan.links * graph.now.plan.nodes + 1 < 2 ^ 64 }
+        ensures nodes_fit { graph.now.plan.nodes < 2 ^ 64 - 1 }
     {
-        self.mirror.sizes();
+        self.mirror.plan()
+    }
+
+    /// How large the graph is, as the seat knows.
+    pub(crate) fn seat_plan(&self) -> Plan
+        ensures { result ≡ self.now.view.client.plan }
+    {
+        self.mirror.plan()
     }
 
     /// The state of a node.
     pub(crate) fn state(&self, node: usize) -> NodeState
-        requires { node < N }
+        requires { node < self.now.view.client.plan.nodes }
         ensures { result ≡ state_at (nodes_in self.now.view.client.known) node }
     {
         self.mirror.state(node)
@@ -117,7 +115,7 @@ impl<F: Shape, const K: usize, const L: usize, const W: usize, const N: usize> K
 
     /// A free node, where there is one.
     pub(crate) fn free_node(&self) -> Option<usize>
-        ensures inside { IfSome result (λ node. node < N) }
+        ensures inside { IfSome result (λ node. node < self.now.view.client.plan.nodes) }
         ensures free { IfSome result (λ node.
             state_at (nodes_in self.now.view.client.known) node ≡ Free) }
         ensures none { IfNone result (AreAllUsed (nodes_in self.now.view.client.known)) }
@@ -127,8 +125,8 @@ impl<F: Shape, const K: usize, const L: usize, const W: usize, const N: usize> K
 
     /// The word of a link of a node.
     pub(crate) fn link_word(&self, node: usize, link: usize) -> u64
-        requires node { node < N }
-        requires link { link < L }
+        requires node { node < self.now.view.client.plan.nodes }
+        requires link { link < self.now.view.client.plan.links }
         ensures { result ≡ slice_index (node_at (nodes_in self.now.view.client.known) node).links
             link }
     {
@@ -137,8 +135,8 @@ impl<F: Shape, const K: usize, const L: usize, const W: usize, const N: usize> K
 
     /// A word of a node.
     pub(crate) fn word(&self, node: usize, word: usize) -> u64
-        requires node { node < N }
-        requires word { word < W }
+        requires node { node < self.now.view.client.plan.nodes }
+        requires word { word < self.now.view.client.plan.words }
         ensures { result ≡ slice_index (node_at (nodes_in self.now.view.client.known) node).words
             word }
     {
@@ -148,15 +146,14 @@ impl<F: Shape, const K: usize, const L: usize, const W: usize, const N: usize> K
     /// Stores a word of a free node.
     fn write<const LEAF: u32, const FAN: u32, T: Drop>(
         &mut self,
-        graph: &Graph<LEAF, FAN, T, F, K, L, W, N>,
+        graph: &Graph<LEAF, FAN, T, F>,
         node: usize,
         word: usize,
         value: u64,
     )
-        requires { CanStore N W graph.now self.old node word }
+        requires { CanStore graph.now.plan.words graph.now self.old node word }
         ensures { self.new ≡ after_write self.old node word value }
     {
-        graph.sizes();
         graph.write(&mut self.seat, node, word, value);
         self.mirror.set_word(node, word, value);
     }
@@ -164,12 +161,12 @@ impl<F: Shape, const K: usize, const L: usize, const W: usize, const N: usize> K
     /// Stores a link of a free node.
     fn lead<const LEAF: u32, const FAN: u32, T: Drop>(
         &mut self,
-        graph: &Graph<LEAF, FAN, T, F, K, L, W, N>,
+        graph: &Graph<LEAF, FAN, T, F>,
         node: usize,
         link: usize,
         value: u64,
     )
-        requires { CanStore N L graph.now self.old node link }
+        requires { CanStore graph.now.plan.links graph.now self.old node link }
         ensures { self.new ≡ after_link self.old node link value }
     {
         self.link(graph, node, link, value);
@@ -178,19 +175,19 @@ impl<F: Shape, const K: usize, const L: usize, const W: usize, const N: usize> K
     /// Stores a link, as [`Graph::link`] does.
     pub(crate) fn link<const LEAF: u32, const FAN: u32, T: Drop>(
         &mut self,
-        graph: &Graph<LEAF, FAN, T, F, K, L, W, N>,
+        graph: &Graph<LEAF, FAN, T, F>,
         node: usize,
         link: usize,
         value: u64,
     )
         requires graph { IsWatcherOf graph.now self.old }
-        requires node { node < N }
-        requires link { link < L }
-        requires can { CanLink (F.joins link) (nodes_in self.old.view.client.known) node value }
+        requires node { node < graph.now.plan.nodes }
+        requires link { link < graph.now.plan.links }
+        requires can { CanLink (F.joins graph.now.plan link)
+            (nodes_in self.old.view.client.known) node value }
         ensures graph { IsWatcherOf graph.now self.new }
         ensures state { self.new ≡ after_link self.old node link value }
     {
-        graph.sizes();
         graph.link(&mut self.seat, node, link, value);
         self.mirror.set_link(node, link, value);
     }
@@ -198,19 +195,21 @@ impl<F: Shape, const K: usize, const L: usize, const W: usize, const N: usize> K
     /// Stores all words and links of a free node.
     pub(crate) fn fill<const LEAF: u32, const FAN: u32, T: Drop>(
         &mut self,
-        graph: &Graph<LEAF, FAN, T, F, K, L, W, N>,
+        graph: &Graph<LEAF, FAN, T, F>,
         node: usize,
-        words: &[u64; W],
-        links: &[Option<usize>; L],
+        words: &[u64],
+        links: &[Option<usize>],
     )
         requires graph { IsWatcherOf graph.now self.old }
-        requires node { node < N }
+        requires node { node < graph.now.plan.nodes }
         requires free { state_at (nodes_in self.old.view.client.known) node ≡ Free }
-        requires inside { All (λ to. IfSome to (λ other. other < N)) links.now }
+        requires inside { All (λ to. IfSome to (λ other. other < graph.now.plan.nodes)) links.now }
+        requires words { length words.now ≡ graph.now.plan.words }
+        requires links { length links.now ≡ graph.now.plan.links }
         ensures graph { IsWatcherOf graph.now self.new }
         ensures state { self.new ≡ after_fill self.old node words.now links.now }
     {
-        self.sizes();
+        self.plan(graph);
         self.fill_words(graph, node, words);
         self.fill_links(graph, node, links);
     }
@@ -218,14 +217,15 @@ impl<F: Shape, const K: usize, const L: usize, const W: usize, const N: usize> K
     /// Stores all words of a free node.
     fn fill_words<const LEAF: u32, const FAN: u32, T: Drop>(
         &mut self,
-        graph: &Graph<LEAF, FAN, T, F, K, L, W, N>,
+        graph: &Graph<LEAF, FAN, T, F>,
         node: usize,
-        words: &[u64; W],
+        words: &[u64],
     )
-        requires { CanFill N L W graph.now self.old node }
+        requires free { CanFill graph.now self.old node }
+        requires words { length words.now ≡ graph.now.plan.words }
         ensures { self.new ≡ after_words self.old node words.now }
     {
-        for word in 0..W {
+        for word in 0..words.len() {
             self.write(graph, node, word, words[word]);
         }
     }
@@ -233,15 +233,17 @@ impl<F: Shape, const K: usize, const L: usize, const W: usize, const N: usize> K
     /// Stores all links of a free node.
     fn fill_links<const LEAF: u32, const FAN: u32, T: Drop>(
         &mut self,
-        graph: &Graph<LEAF, FAN, T, F, K, L, W, N>,
+        graph: &Graph<LEAF, FAN, T, F>,
         node: usize,
-        links: &[Option<usize>; L],
+        links: &[Option<usize>],
     )
-        requires free { CanFill N L W graph.now self.old node }
-        requires inside { All (λ to. IfSome to (λ other. other < N)) links.now }
+        requires free { CanFill graph.now self.old node }
+        requires inside { All (λ to. IfSome to (λ other. other < graph.now.plan.nodes)) links.now }
+        requires links { length links.now ≡ graph.now.plan.links }
         ensures { self.new ≡ after_links self.old node (map word_to links.now) }
     {
-        for link in 0..L {
+        self.plan(graph);
+        for link in 0..links.len() {
             self.lead(graph, node, link, word_of(links[link]));
         }
     }
@@ -249,16 +251,17 @@ impl<F: Shape, const K: usize, const L: usize, const W: usize, const N: usize> K
     /// Links a live node to a free one, as [`Graph::publish`] does.
     pub(crate) fn publish<const LEAF: u32, const FAN: u32, T: Drop>(
         &mut self,
-        graph: &Graph<LEAF, FAN, T, F, K, L, W, N>,
+        graph: &Graph<LEAF, FAN, T, F>,
         from: usize,
         link: usize,
         to: usize,
     )
-        requires { CanPublish F.fits F.joins N L graph.now self.old from link to }
+        requires { CanPublish (F.fits graph.now.plan) (F.joins graph.now.plan) graph.now self.old
+            from link to }
         ensures graph { IsWatcherOf graph.now self.new }
         ensures state { self.new ≡ after_publish self.old from link to }
     {
-        graph.sizes();
+        self.plan(graph);
         graph.publish(&mut self.seat, from, link, to);
         self.mirror.publish(to);
         self.mirror.set_link(from, link, word_of(Some(to)));
@@ -267,18 +270,18 @@ impl<F: Shape, const K: usize, const L: usize, const W: usize, const N: usize> K
     /// Leaves a live node to which no live one leads.
     pub(crate) fn leave<const LEAF: u32, const FAN: u32, T: Drop>(
         &mut self,
-        graph: &Graph<LEAF, FAN, T, F, K, L, W, N>,
+        graph: &Graph<LEAF, FAN, T, F>,
         node: usize,
     )
         requires graph { IsWatcherOf graph.now self.old }
-        requires node { node < N }
-        requires no_root { K ≤ node }
+        requires node { node < graph.now.plan.nodes }
+        requires no_root { graph.now.plan.roots ≤ node }
         requires live { state_at (nodes_in self.old.view.client.known) node ≡ Live }
-        requires unlinked { IsUnlinked L (nodes_in self.old.view.client.known) node }
+        requires unlinked { IsUnlinked graph.now.plan.links
+            (nodes_in self.old.view.client.known) node }
         ensures graph { IsWatcherOf graph.now self.new }
         ensures state { self.new ≡ after_leave self.old node }
     {
-        graph.sizes();
         graph.leave(&mut self.seat, node);
         self.mirror.leave(node);
     }
@@ -286,7 +289,7 @@ impl<F: Shape, const K: usize, const L: usize, const W: usize, const N: usize> K
     /// Looks at the number, by which the nodes age. It costs what becomes free or retired by it.
     pub(crate) fn look<const LEAF: u32, const FAN: u32, T: Drop>(
         &mut self,
-        graph: &Graph<LEAF, FAN, T, F, K, L, W, N>,
+        graph: &Graph<LEAF, FAN, T, F>,
     ) -> u64
         requires { IsWatcherOf graph.now self.old }
         ensures graph { IsWatcherOf graph.now self.new }
@@ -294,7 +297,6 @@ impl<F: Shape, const K: usize, const L: usize, const W: usize, const N: usize> K
         ensures later { self.old.view.seen ≤ result }
         ensures bounded { result ≤ 2 ^ 62 }
     {
-        graph.sizes();
         let number = graph.look(&mut self.seat);
         self.mirror.age(number);
         number

@@ -61,7 +61,7 @@ pub fn live_nodes_lead_to_live_nodes<F: Shape>()
         get_elem? nodes node ≡ some v → v.state ≡ Live → link < plan.links →
         slice_index table (place_of (plan.links + plan.words) node link) ≡ suc next →
         (to : Node) × (get_elem? nodes next ≡ some to) × (to.state ≡ Live)
-        × F.joins link v.words to.words }
+        × F.joins plan link v.words to.words }
 {}
 
 /// A hop tells where its link led at the load: the word that it found is that of the link, as the
@@ -75,7 +75,7 @@ pub fn hops_are_true_of_the_nodes<F: Shape>()
         IsKeptBy F.fits F.joins F.first plan table homes (slice_set xs seat (cpu, section, now)) →
         get_elem? xs keeper ≡ some (who, own, of_plan plan (Keeper latest nodes)) →
         get_elem? xs seat ≡ some (cpu, section, was) → IsReader was.known →
-        IsOn F.first plan.roots was.known node words → link < plan.links →
+        IsOn (F.first plan) plan.roots was.known node words → link < plan.links →
         tells_follow F.fits F.joins F.first (place_of (plan.links + plan.words) node link) was
         (slice_index table (place_of (plan.links + plan.words) node link)) now →
         (hop : Hop) × (hops_in now.known ≡ hop ∷ hops_in was.known) × (hop.from ≡ node)
@@ -90,9 +90,9 @@ pub fn chains_go_up<F: Shape>()
         (nodes : List Node) →
         IsKeptBy F.fits F.joins F.first plan table homes xs →
         get_elem? xs keeper ≡ some (who, own, of_plan plan (Keeper latest nodes)) →
-        Ascends F.joins 0 →
-        ((from to : List ℕ) → F.joins 0 from to → IsTrue (ours from) → IsTrue (ours to)) →
-        root < plan.roots → 0 < plan.links → IsTrue (ours (F.first root)) →
+        Ascends (F.joins plan) 0 →
+        ((from to : List ℕ) → F.joins plan 0 from to → IsTrue (ours from) → IsTrue (ours to)) →
+        root < plan.roots → 0 < plan.links → IsTrue (ours (F.first plan root)) →
         IsChained ours root nodes }
 {}
 

@@ -1,7 +1,6 @@
 //! The nodes at run time, beside the shared words: states, links and words, row by row.
-ghost use Rattle.std.specs.Prelude.{◌≡◌, ◌≤◌, ◌<◌, ◌+◌, ◌*◌, ◌^◌, IfNone, IfOk, IfSome, map};
+ghost use Rattle.std.specs.Prelude.{◌≡◌, ◌≤◌, ◌<◌, ◌+◌, ◌-◌, ◌*◌, ◌^◌, ℕ, IfNone, IfOk, IfSome};
 ghost use Rattle.std.specs.Prelude.{length, replicate, slice_index};
-ghost use Rattle.std.specs.List.{range_with_len};
 ghost use Rattle.rcu_graph.specs.Mirror.{AreBy, AreSized, with_words};
 ghost use Rattle.rcu_graph.specs.Nodes.{aged, first_nodes, free_node, in_state, linked_to, node_at};
 ghost use Rattle.rcu_graph.specs.Nodes.{renewed, state_at, worded};
@@ -10,33 +9,38 @@ ghost use Rattle.rcu_graph.specs.declared.node_state.NodeState.TheVariants.{Free
 
 use crate::cycle::Cycle;
 use crate::node_state::NodeState;
+use crate::plan::Plan;
 use crate::rule::Shape;
 use std::alloc::{AllocError, Global};
 use std::marker::Model;
 
-/// `N` nodes of `L` links and `W` words.
+/// The nodes of a graph of a plan.
 #[derive(Drop)]
-pub(crate) struct Mirror<const L: usize, const W: usize, const N: usize> {
+pub(crate) struct Mirror {
+    plan: Plan,
     states: Cycle,
     links: Vec<u64>,
     words: Vec<u64>,
 }
 
-impl<const L: usize, const W: usize, const N: usize> Model for Mirror<L, W, N> {
-    ghost use Rattle.std.specs.Prelude.{◌≡◌, ◌<◌, ◌+◌, ◌*◌, ◌^◌, List, length};
-    ghost use Rattle.rcu_graph.specs.Mirror.{nodes_of};
-    ghost use Rattle.rcu_graph.specs.declared.known.Node.{Node};
+impl Model for Mirror {
+    ghost use Rattle.std.specs.Prelude.{◌≡◌, ◌<◌, ◌+◌, ◌-◌, ◌*◌, ◌^◌, length};
+    ghost use Rattle.rcu_graph.specs.Mirror.{Mirrored, nodes_of};
 
-    ghost Value = { List Node };
+    ghost Value = { Mirrored };
 
-    ghost view = { λ m. nodes_of L W m.states m.links.items m.words.items };
+    ghost view = { λ m. record {
+      plan = m.plan;
+      nodes = nodes_of m.plan.links m.plan.words m.states m.links.items m.words.items;
+    } };
 
     ghost invariant = { λ m. record {
-      count : length m.states ≡ N;
-      links : length m.links.items ≡ L * N;
-      words : length m.words.items ≡ W * N;
-      links_fit : L * N + 1 < 2 ^ 64;
-      words_fit : W * N < 2 ^ 64;
+      count : length m.states ≡ m.plan.nodes;
+      links : length m.links.items ≡ m.plan.links * m.plan.nodes;
+      words : length m.words.items ≡ m.plan.words * m.plan.nodes;
+      links_fit : m.plan.links * m.plan.nodes + 1 < 2 ^ 64;
+      words_fit : m.plan.words * m.plan.nodes < 2 ^ 64;
+      nodes_fit : m.plan.nodes < 2 ^ 64 - 1;
     } };
 }
 
@@ -51,141 +55,158 @@ fn cell_of(row: usize, count: usize, node: usize, k: usize) -> usize
     row * node + k
 }
 
-impl<const L: usize, const W: usize, const N: usize> Mirror<L, W, N> {
-    /// The nodes at first: the roots have these words.
-    pub(crate) fn new<F: Shape, const K: usize>(
-        alloc: Global,
-        roots: &[[u64; W]; K],
-    ) -> Result<Self, AllocError>
-        requires roots { K ≤ N }
-        requires links { L * N + 1 < 2 ^ 64 }
-        requires words { W * N < 2 ^ 64 }
-        requires first { roots.now ≡ map F.first (range_with_len 0 K) }
-        ensures { IfOk result (λ mirror. mirror ≡ first_nodes L W F.first K N) }
+impl Mirror {
+    /// The nodes at first.
+    pub(crate) fn new<F: Shape>(alloc: Global, plan: Plan) -> Result<Self, AllocError>
+        requires roots { plan.roots ≤ plan.nodes }
+        requires links { plan.links * plan.nodes + 1 < 2 ^ 64 }
+        requires words { plan.words * plan.nodes < 2 ^ 64 }
+        requires nodes { plan.nodes < 2 ^ 64 - 1 }
+        requires first { (i : ℕ) → i < plan.roots → length (F.first plan i) ≡ plan.words }
+        ensures plan { IfOk result (λ mirror. mirror.plan ≡ plan) }
+        ensures nodes { IfOk result (λ mirror. mirror.nodes
+            ≡ first_nodes plan.links plan.words (F.first plan) plan.roots plan.nodes) }
     {
-        let mut mirror = Self::free_nodes(alloc)?;
-        for root in 0..K {
+        let mut mirror = Self::free_nodes(alloc, plan)?;
+        for root in 0..plan.roots {
             mirror.publish(root);
-            mirror.set_words(root, &roots[root]);
+            mirror.set_first_words::<F>(root);
         }
         Ok(mirror)
     }
 
     /// Free nodes, whose links and words are 0.
-    fn free_nodes(alloc: Global) -> Result<Self, AllocError>
-        requires links { L * N + 1 < 2 ^ 64 }
-        requires words { W * N < 2 ^ 64 }
-        ensures { IfOk result (λ mirror. mirror ≡ replicate N (free_node L W)) }
+    fn free_nodes(alloc: Global, plan: Plan) -> Result<Self, AllocError>
+        requires links { plan.links * plan.nodes + 1 < 2 ^ 64 }
+        requires words { plan.words * plan.nodes < 2 ^ 64 }
+        requires nodes { plan.nodes < 2 ^ 64 - 1 }
+        ensures plan { IfOk result (λ mirror. mirror.plan ≡ plan) }
+        ensures nodes { IfOk result (λ mirror. mirror.nodes
+            ≡ replicate plan.nodes (free_node plan.links plan.words)) }
     {
-        let states = Cycle::new(alloc, N)?;
-        let links = vec![in alloc; 0u64; L * N]?;
-        let words = vec![in alloc; 0u64; W * N]?;
+        let states = Cycle::new(alloc, plan.nodes)?;
+        let links = vec![in alloc; 0u64; plan.links * plan.nodes]?;
+        let words = vec![in alloc; 0u64; plan.words * plan.nodes]?;
         Ok(Mirror {
+            plan,
             states,
             links,
             words,
         })
     }
 
-    /// What the type keeps: nothing is done.
-    pub(crate) fn sizes(&self)
-        ensures few { length self.now ≡ N }
-        ensures sized { AreSized N L W self.now }
-        ensures fit { L * N + 1 < 2 ^ 64 }
+    /// How large the graph is.
+    pub(crate) fn plan(&self) -> Plan
+        ensures plan { result ≡ self.now.plan }
+        ensures few { length self.now.nodes ≡ self.now.plan.nodes }
+        ensures sized { AreSized self.now.plan.nodes self.now.plan.links self.now.plan.words
+            self.now.nodes }
+        ensures links_fit { self.now.plan.links * self.now.plan.nodes + 1 < 2 ^ 64 }
+        ensures nodes_fit { self.now.plan.nodes < 2 ^ 64 - 1 }
     {
         // A borrow of a field shows the prover what the type keeps.
         let _ = &self.states;
+        self.plan
     }
 
     /// The state of a node.
     pub(crate) fn state(&self, node: usize) -> NodeState
-        requires { node < N }
-        ensures { result ≡ state_at self.now node }
+        requires { node < self.now.plan.nodes }
+        ensures { result ≡ state_at self.now.nodes node }
     {
         self.states.state(node)
     }
 
     /// A free node, where there is one.
     pub(crate) fn free_node(&self) -> Option<usize>
-        ensures inside { IfSome result (λ node. node < N) }
-        ensures free { IfSome result (λ node. state_at self.now node ≡ Free) }
-        ensures none { IfNone result (AreAllUsed self.now) }
+        ensures inside { IfSome result (λ node. node < self.now.plan.nodes) }
+        ensures free { IfSome result (λ node. state_at self.now.nodes node ≡ Free) }
+        ensures none { IfNone result (AreAllUsed self.now.nodes) }
     {
         self.states.free_node()
     }
 
     /// Where a link of a node leads.
     pub(crate) fn link(&self, node: usize, link: usize) -> u64
-        requires node { node < N }
-        requires link { link < L }
-        ensures { result ≡ slice_index (node_at self.now node).links link }
+        requires node { node < self.now.plan.nodes }
+        requires link { link < self.now.plan.links }
+        ensures { result ≡ slice_index (node_at self.now.nodes node).links link }
     {
-        self.links[cell_of(L, N, node, link)]
+        self.links[cell_of(self.plan.links, self.plan.nodes, node, link)]
     }
 
     /// A word of a node.
     pub(crate) fn word(&self, node: usize, word: usize) -> u64
-        requires node { node < N }
-        requires word { word < W }
-        ensures { result ≡ slice_index (node_at self.now node).words word }
+        requires node { node < self.now.plan.nodes }
+        requires word { word < self.now.plan.words }
+        ensures { result ≡ slice_index (node_at self.now.nodes node).words word }
     {
-        self.words[cell_of(W, N, node, word)]
+        self.words[cell_of(self.plan.words, self.plan.nodes, node, word)]
     }
 
     /// Makes a free node live.
     pub(crate) fn publish(&mut self, node: usize)
-        requires node { node < N }
-        requires free { state_at self.old node ≡ Free }
-        ensures { self.new ≡ renewed self.old node (in_state Live) }
+        requires node { node < self.old.plan.nodes }
+        requires free { state_at self.old.nodes node ≡ Free }
+        ensures plan { self.new.plan ≡ self.old.plan }
+        ensures nodes { self.new.nodes ≡ renewed self.old.nodes node (in_state Live) }
     {
         self.states.publish(node);
     }
 
     /// Leaves a live node.
     pub(crate) fn leave(&mut self, node: usize)
-        requires node { node < N }
-        requires live { state_at self.old node ≡ Live }
-        ensures { self.new ≡ renewed self.old node (in_state Left) }
+        requires node { node < self.old.plan.nodes }
+        requires live { state_at self.old.nodes node ≡ Live }
+        ensures plan { self.new.plan ≡ self.old.plan }
+        ensures nodes { self.new.nodes ≡ renewed self.old.nodes node (in_state Left) }
     {
         self.states.leave(node);
     }
 
     /// Leads a link of a node elsewhere.
     pub(crate) fn set_link(&mut self, node: usize, link: usize, value: u64)
-        requires node { node < N }
-        requires link { link < L }
-        ensures { self.new ≡ renewed self.old node (linked_to link value) }
+        requires node { node < self.old.plan.nodes }
+        requires link { link < self.old.plan.links }
+        ensures plan { self.new.plan ≡ self.old.plan }
+        ensures nodes { self.new.nodes ≡ renewed self.old.nodes node (linked_to link value) }
     {
-        let links = &mut self.links;
-        links[cell_of(L, N, node, link)] = value;
+        let cell = cell_of(self.plan.links, self.plan.nodes, node, link);
+        self.links[cell] = value;
     }
 
     /// Puts a word of a node in place of the one that it has.
     pub(crate) fn set_word(&mut self, node: usize, word: usize, value: u64)
-        requires node { node < N }
-        requires word { word < W }
-        ensures { self.new ≡ renewed self.old node (worded word value) }
+        requires node { node < self.old.plan.nodes }
+        requires word { word < self.old.plan.words }
+        ensures plan { self.new.plan ≡ self.old.plan }
+        ensures nodes { self.new.nodes ≡ renewed self.old.nodes node (worded word value) }
     {
-        let words = &mut self.words;
-        words[cell_of(W, N, node, word)] = value;
+        let cell = cell_of(self.plan.words, self.plan.nodes, node, word);
+        self.words[cell] = value;
     }
 
-    /// Puts these words in place of those that a node has.
-    fn set_words(&mut self, node: usize, words: &[u64; W])
-        requires { node < N }
-        ensures { self.new ≡ renewed self.old node (with_words words.now) }
+    /// Gives a root its first words.
+    fn set_first_words<F: Shape>(&mut self, root: usize)
+        requires root { root < self.old.plan.roots }
+        requires node { root < self.old.plan.nodes }
+        requires sized { length (F.first self.old.plan root) ≡ self.old.plan.words }
+        ensures plan { self.new.plan ≡ self.old.plan }
+        ensures nodes { self.new.nodes
+            ≡ renewed self.old.nodes root (with_words (F.first self.old.plan root)) }
     {
-        self.sizes();
-        for word in 0..W {
-            self.set_word(node, word, words[word]);
+        let plan = self.plan();
+        for word in 0..plan.words {
+            self.set_word(root, word, F::first_word(plan, root, word));
         }
     }
 
     /// The nodes after a look that saw this number. It costs what becomes free or retired by it.
     pub(crate) fn age(&mut self, number: u64)
         requires small { number ≤ 2 ^ 62 }
-        requires late { AreBy number self.old }
-        ensures { self.new ≡ aged number number self.old }
+        requires late { AreBy number self.old.nodes }
+        ensures plan { self.new.plan ≡ self.old.plan }
+        ensures nodes { self.new.nodes ≡ aged number number self.old.nodes }
     {
         self.states.age(number);
     }

@@ -12,3 +12,28 @@ pub struct Plan {
     /// How many nodes there are, with the roots.
     pub nodes: usize,
 }
+
+/// How many links and words a graph has at most.
+const MOST: usize = 1 << 32;
+
+impl Plan {
+    ghost use Rattle.std.specs.Prelude.{◌↔◌, IsTrue};
+    ghost use Rattle.rcu_graph.specs.Opening.{IsSized};
+
+    /// Whether a graph may be as large as that: its roots are nodes, each node has a word, and all
+    /// links and words are no more than 2^32.
+    pub fn is_sized(self) -> bool
+        ensures { IsTrue result ↔ IsSized self }
+    {
+        if self.words == 0 || self.roots > self.nodes {
+            return false;
+        }
+        let Some(row) = self.links.checked_add(self.words) else {
+            return false;
+        };
+        if row > MOST {
+            return false;
+        }
+        matches!(row.checked_mul(self.nodes), Some(cells) if cells <= MOST)
+    }
+}

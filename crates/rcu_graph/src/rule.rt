@@ -6,15 +6,24 @@ use crate::plan::Plan;
 use rcu_live::{Client, CpuSeat, NumberStep, Watcher, WordStep};
 use std::marker::PhantomData;
 
-/// A user's facts on nodes: what the words of one in use satisfy, which nodes a link may join (as
-/// that the keys go up), and which words the roots have.
+/// A user's facts on the nodes of a graph of a plan: what the words of one in use satisfy, which
+/// nodes a link may join (as that the keys go up), and which words the roots have.
 pub trait Shape {
-    ghost fits: { List ℕ → Type 0 };
+    ghost use Rattle.std.specs.Prelude.{◌≡◌, ◌<◌, slice_index};
+    ghost use Rattle.rcu_graph.specs.declared.plan.Plan.{Plan};
+
+    ghost fits: { Plan → List ℕ → Type 0 };
 
     // Of the link's number, the words of the node that it leads from, and of that it leads to.
-    ghost joins: { ℕ → List ℕ → List ℕ → Type 0 };
+    ghost joins: { Plan → ℕ → List ℕ → List ℕ → Type 0 };
 
-    ghost first: { ℕ → List ℕ };
+    ghost first: { Plan → ℕ → List ℕ };
+
+    /// A word of a root.
+    fn first_word(plan: Plan, root: usize, word: usize) -> u64
+        requires root { root < plan.roots }
+        requires word { word < plan.words }
+        ensures { result ≡ slice_index (first plan root) word };
 }
 
 /// The rule of a graph of a plan, whose nodes in use meet `F`.
@@ -46,7 +55,8 @@ impl<F: Shape> Client for GraphRule<F> {
     fn mark() {}
 
     ghost stable = { λ plan. planned_is_stable _ plan (λ _. Idle) closed
-        (is_stable F.fits F.joins F.first plan.roots plan.links plan.words plan.nodes) };
+        (is_stable (F.fits plan) (F.joins plan) (F.first plan) plan.roots plan.links plan.words
+        plan.nodes) };
 }
 
 /// A processor's seat of a graph's engine.

@@ -9,25 +9,16 @@ ghost use Rattle.rcu_graph.specs.Search.{Ascends, IsFound, IsSearched};
 use crate::graph::Graph;
 use crate::rule::{GraphSeat, Shape};
 
-impl<
-    const LEAF: u32,
-    const FAN: u32,
-    T: Drop,
-    F: Shape,
-    const K: usize,
-    const L: usize,
-    const W: usize,
-    const N: usize,
-> Graph<LEAF, FAN, T, F, K, L, W, N> {
+impl<const LEAF: u32, const FAN: u32, T: Drop, F: Shape> Graph<LEAF, FAN, T, F> {
     /// The key of a node on which the section is.
     fn key_of(&self, seat: &mut GraphSeat<F>, node: usize) -> u64
-        requires at { IsAt F.first K N self.now seat.old node }
+        requires at { IsAt (F.first self.now.plan) self.now seat.old node }
         ensures same { seat.new ≡ seat.old }
-        ensures told { (words : List ℕ) → IsOn F.first K seat.old.view.client.known node words →
+        ensures told { (words : List ℕ) → IsOn (F.first self.now.plan) self.now.plan.roots
+            seat.old.view.client.known node words →
             result ≡ slice_index words 0 }
     {
-        // A borrow of a field shows the prover what the type keeps: that a node has a word.
-        let _ = &self.live;
+        self.plan();
         self.read(seat, node, 0)
     }
 
@@ -36,18 +27,18 @@ impl<
     /// none only where a hop led nowhere, or to a greater key.
     pub fn find(&self, seat: &mut GraphSeat<F>, root: usize, key: u64) -> Option<usize>
         requires walking { IsWalking self.now seat.old }
-        requires root { root < K }
-        requires link { 0 < L }
-        requires ascends { Ascends F.joins 0 }
+        requires root { root < self.now.plan.roots }
+        requires link { 0 < self.now.plan.links }
+        requires ascends { Ascends (F.joins self.now.plan) 0 }
         ensures same { seat.new ≡ after_word_step seat.old seat.new.view.client }
         ensures walking { IsWalking self.now seat.new }
         ensures searched { IsSearched root key seat.old.view.client.known result
             seat.new.view.client.known }
-        ensures found { IfSome result (λ node. IsFound F.fits key seat.new.view.client.known node) }
-        ensures on { IfSome result (λ node. IsAt F.first K N self.now seat.new node) }
+        ensures found { IfSome result (λ node. IsFound (F.fits self.now.plan) key
+            seat.new.view.client.known node) }
+        ensures on { IfSome result (λ node. IsAt (F.first self.now.plan) self.now seat.new node) }
     {
-        // A borrow of a field shows the prover what the type keeps: that the roots are nodes.
-        let _ = &self.live;
+        self.plan();
         let mut on = root;
         let mut least = self.key_of(seat, root);
         'chain: loop {

@@ -10,19 +10,10 @@ use crate::graph::Graph;
 use crate::rule::{GraphSeat, Shape};
 use crate::walk::Walk;
 
-impl<
-    const LEAF: u32,
-    const FAN: u32,
-    T: Drop,
-    F: Shape,
-    const K: usize,
-    const L: usize,
-    const W: usize,
-    const N: usize,
-> Graph<LEAF, FAN, T, F, K, L, W, N> {
+impl<const LEAF: u32, const FAN: u32, T: Drop, F: Shape> Graph<LEAF, FAN, T, F> {
     /// Lends the seat to a walk of its open section, which goes on from the hops that it has made.
     /// Nothing is loaded.
-    pub fn walk<'a>(&'a self, seat: &'a mut GraphSeat<F>) -> Walk<'a, LEAF, FAN, T, F, K, L, W, N>
+    pub fn walk<'a>(&'a self, seat: &'a mut GraphSeat<F>) -> Walk<'a, LEAF, FAN, T, F>
         requires { IsWalking self.now seat.old }
         ensures graph { (walked result).graph ≡ self.now }
         ensures seat { (walked result).seat ≡ seat.old }
@@ -32,39 +23,36 @@ impl<
     }
 }
 
-impl<
-    'a,
-    const LEAF: u32,
-    const FAN: u32,
-    T: Drop,
-    F: Shape,
-    const K: usize,
-    const L: usize,
-    const W: usize,
-    const N: usize,
-> Walk<'a, LEAF, FAN, T, F, K, L, W, N> {
+impl<'a, const LEAF: u32, const FAN: u32, T: Drop, F: Shape> Walk<'a, LEAF, FAN, T, F> {
     /// Loads a link of a node that the section is on, as [`Graph::follow`] does.
     pub fn follow(&mut self, from: usize, link: usize) -> Option<usize>
-        requires at { IsAt F.first K N (walked self.old).graph (walked self.old).seat from }
-        requires link { link < L }
+        requires at { IsAt (F.first (walked self.old).graph.plan) (walked self.old).graph
+            (walked self.old).seat from }
+        requires link { link < (walked self.old).graph.plan.links }
         ensures same { walked self.new ≡ after_walk (walked self.old)
             (known_in (walked self.new)) }
         ensures walking { IsWalking (walked self.new).graph (walked self.new).seat }
-        ensures came { (words : List ℕ) → IsOn F.first K (known_in (walked self.old)) from words →
-            Followed F.fits (F.joins link words) W N (known_in (walked self.old)) from link
+        ensures came { (words : List ℕ) → IsOn (F.first (walked self.old).graph.plan)
+            (walked self.old).graph.plan.roots (known_in (walked self.old)) from words →
+            Followed (F.fits (walked self.old).graph.plan)
+            (F.joins (walked self.old).graph.plan link words) (walked self.old).graph.plan.words
+            (walked self.old).graph.plan.nodes (known_in (walked self.old)) from link
             (word_to result) (known_in (walked self.new)) }
         ensures on { IfSome result (λ node.
-            IsAt F.first K N (walked self.new).graph (walked self.new).seat node) }
+            IsAt (F.first (walked self.old).graph.plan) (walked self.new).graph
+            (walked self.new).seat node) }
     {
         self.graph.follow(self.seat, from, link)
     }
 
     /// Loads a word of a node that the section is on, as [`Graph::read`] does.
     pub fn read(&mut self, node: usize, word: usize) -> u64
-        requires at { IsAt F.first K N (walked self.old).graph (walked self.old).seat node }
-        requires word { word < W }
+        requires at { IsAt (F.first (walked self.old).graph.plan) (walked self.old).graph
+            (walked self.old).seat node }
+        requires word { word < (walked self.old).graph.plan.words }
         ensures same { walked self.new ≡ walked self.old }
-        ensures told { (words : List ℕ) → IsOn F.first K (known_in (walked self.old)) node words →
+        ensures told { (words : List ℕ) → IsOn (F.first (walked self.old).graph.plan)
+            (walked self.old).graph.plan.roots (known_in (walked self.old)) node words →
             result ≡ slice_index words word }
     {
         self.graph.read(self.seat, node, word)
@@ -72,18 +60,19 @@ impl<
 
     /// Searches the chain of a root for a key, as [`Graph::find`] does.
     pub fn find(&mut self, root: usize, key: u64) -> Option<usize>
-        requires root { root < K }
-        requires link { 0 < L }
-        requires ascends { Ascends F.joins 0 }
+        requires root { root < (walked self.old).graph.plan.roots }
+        requires link { 0 < (walked self.old).graph.plan.links }
+        requires ascends { Ascends (F.joins (walked self.old).graph.plan) 0 }
         ensures same { walked self.new ≡ after_walk (walked self.old)
             (known_in (walked self.new)) }
         ensures walking { IsWalking (walked self.new).graph (walked self.new).seat }
         ensures searched { IsSearched root key (known_in (walked self.old)) result
             (known_in (walked self.new)) }
         ensures found { IfSome result (λ node.
-            IsFound F.fits key (known_in (walked self.new)) node) }
+            IsFound (F.fits (walked self.old).graph.plan) key (known_in (walked self.new)) node) }
         ensures on { IfSome result (λ node.
-            IsAt F.first K N (walked self.new).graph (walked self.new).seat node) }
+            IsAt (F.first (walked self.old).graph.plan) (walked self.new).graph
+            (walked self.new).seat node) }
     {
         self.graph.find(self.seat, root, key)
     }

@@ -1,12 +1,12 @@
 //! Two readers search a chain beside who keeps it, each on a thread of its own: a node that they
 //! find is whole, whatever is linked meanwhile.
-ghost use Rattle.std.specs.Prelude.{◌≡◌, [], ◌∷◌};
+ghost use Rattle.std.specs.Prelude.{◌≡◌, replicate};
 ghost use Rattle.std.specs.Thread.{IsSync};
 ghost use Rattle.rcu_live.specs.CpuSeat.{IsSeatOf, after_word_step};
 ghost use Rattle.rcu_graph.specs.Graph.{IsWalking};
 ghost use Rattle.rcu_graph.specs.Keeper.{IsKeeperOf};
 ghost use Rattle.rcu_graph.specs.Nodes.{first_nodes, nodes_in};
-ghost use Rattle.rcu_graph.specs.Planned.{of_plan};
+ghost use Rattle.rcu_graph.specs.Planned.{of_plan, plan_of};
 ghost use Rattle.rcu_graph.specs.declared.known.Known.TheVariants.{Idle};
 
 mod chain;
@@ -15,7 +15,7 @@ mod parts;
 mod turnover;
 
 use crate::nodes::parts::next_online;
-use rcu_graph::{Graph, GraphSeat, GraphWatcher, Shape};
+use rcu_graph::{Graph, GraphSeat, GraphWatcher, Plan, Shape};
 use std::sync::Wait;
 use std::thread;
 use std::thread::Threads;
@@ -24,25 +24,38 @@ use std::thread::Threads;
 pub(crate) struct Sorted;
 
 impl Shape for Sorted {
-    ghost use Rattle.std.specs.Prelude.{◌<◌, [], ◌∷◌, slice_index};
+    ghost use Rattle.std.specs.Prelude.{◌<◌, replicate, slice_index};
 
-    ghost fits = { λ _. Unit {0} };
+    ghost fits = { λ _ _. Unit {0} };
 
-    ghost joins = { λ _ from to. slice_index from 0 < slice_index to 0 };
+    ghost joins = { λ _ _ from to. slice_index from 0 < slice_index to 0 };
 
-    ghost first = { λ _. 0 ∷ 0 ∷ [] };
+    ghost first = { λ plan _. replicate plan.words 0 };
+
+    fn first_word(_plan: Plan, _root: usize, _word: usize) -> u64 {
+        0
+    }
 }
 
-type Chain = Graph<4, 4, u64, Sorted, 1, 1, 2, 2>;
+type Chain = Graph<4, 4, u64, Sorted>;
 
 type Seat = GraphSeat<Sorted>;
+
+/// A root, and a node with a key and a value.
+const PLAN: Plan = Plan {
+    roots: 1,
+    links: 1,
+    words: 2,
+    nodes: 2,
+};
 
 /// How often each reader searches.
 const SEARCHES: u32 = 200_000;
 
 /// Searches the chain for the key 5. Returns whether a node that was found has both its words.
 fn finds_it_whole(chain: &Chain, seat: &mut Seat) -> bool
-    requires { IsWalking chain.now seat.old }
+    requires sized { chain.now.plan ≡ plan_of 1 1 2 2 }
+    requires walking { IsWalking chain.now seat.old }
     ensures state { seat.new ≡ after_word_step seat.old seat.new.view.client }
     ensures walking { IsWalking chain.now seat.new }
 {
@@ -56,6 +69,7 @@ fn finds_it_whole(chain: &Chain, seat: &mut Seat) -> bool
 /// Searches the chain for the key 5 in a section of its own. Returns whether a node that was found
 /// has both its words.
 fn search(chain: &Chain, seat: &mut Seat) -> bool
+    requires sized { chain.now.plan ≡ plan_of 1 1 2 2 }
     requires seat { IsSeatOf chain.now seat.old }
     requires outside { seat.old.depth ≡ 0 }
     requires idle { seat.old.view.client ≡ of_plan chain.now.plan Idle }
@@ -78,6 +92,7 @@ fn search(chain: &Chain, seat: &mut Seat) -> bool
 struct Reader<'a> {
     chain: &'a Chain,
     seat: Seat,
+    ghost sized: { chain.now.plan ≡ plan_of 1 1 2 2 },
     ghost seat_of: { IsSeatOf chain.now seat },
     ghost outside: { seat.depth ≡ 0 },
     ghost idle: { seat.view.client ≡ of_plan chain.now.plan Idle },
@@ -109,8 +124,10 @@ impl<'a> Reader<'a> {
 
 /// Publishes a node with the key 5, unlinks it, leaves it, and looks at the number.
 fn publish_and_leave(chain: &Chain, keeper: &mut GraphWatcher<Sorted>)
-    requires keeper { IsKeeperOf 2 chain.now keeper.old }
-    requires first { nodes_in keeper.old.view.client.known ≡ first_nodes 1 2 (λ _. 0 ∷ 0 ∷ []) 1 2 }
+    requires sized { chain.now.plan ≡ plan_of 1 1 2 2 }
+    requires keeper { IsKeeperOf chain.now keeper.old }
+    requires first { nodes_in keeper.old.view.client.known
+        ≡ first_nodes 1 2 (λ _. replicate 2 0) 1 2 }
 {
     chain.write(keeper, 1, 0, 5);
     chain.write(keeper, 1, 1, 7);
@@ -128,8 +145,10 @@ fn run_beside<R: Threads + Wait + Sync>(
     a: Reader<'_>,
     b: Reader<'_>,
 ) -> (bool, bool)
-    requires keeper { IsKeeperOf 2 chain.now keeper }
-    requires first { nodes_in keeper.view.client.known ≡ first_nodes 1 2 (λ _. 0 ∷ 0 ∷ []) 1 2 }
+    requires sized { chain.now.plan ≡ plan_of 1 1 2 2 }
+    requires keeper { IsKeeperOf chain.now keeper }
+    requires first { nodes_in keeper.view.client.known
+        ≡ first_nodes 1 2 (λ _. replicate 2 0) 1 2 }
 {
     let readers = move || -> (bool, bool)
         requires { IsSync R.row }
@@ -140,7 +159,7 @@ fn run_beside<R: Threads + Wait + Sync>(
 
 #[test]
 fn readers_beside_a_published_node(rt: HostRuntime) {
-    let opened = Chain::open(rt.alloc(), 3, 4_000_000, &[[0, 0]]);
+    let opened = Chain::open(rt.alloc(), 3, 4_000_000, PLAN);
     let Ok((chain, mut seats, _, keeper)) = opened else {
         return;
     };

@@ -10,7 +10,7 @@ use Rattle.rcu_graph.specs.declared.known.Planned.{Planned}
 use Rattle.rcu_graph.specs.declared.known.Node.{Node}
 use Rattle.rcu_graph.specs.declared.node_state.NodeState.TheVariants.{Live}
 use Rattle.rcu_graph.specs.declared.plan.Plan.{Plan}
-use Rattle.rcu_map.specs.Chains.{IsMap}
+use Rattle.rcu_map.specs.Chains.{IsMap, buckets_in}
 use Rattle.rcu_map.specs.Keys.{GoesUp, IsWhole, key_in}
 use Rattle.rcu_map.specs.Splices.{CanPass, CanPut, IsPlace}
 use Rattle.rcu_map.proofs.Buckets.{entry_bucket}
@@ -18,20 +18,32 @@ use Rattle.rcu_map.proofs.Chains.{inside, led}
 use Rattle.rcu_map.proofs.Puts.{target_of}
 
 -- the same place, of the same key in the same nodes
-pub placed : (buckets : ℕ) (w v : Watching Planned) (key k previous : ℕ) (was o : Option ℕ)
-    → IsPlace buckets key (nodes_in w.view.client.known) previous was → v ≡ w → key ≡ k → was ≡ o
-    → IsPlace buckets k (nodes_in v.view.client.known) previous o
-placed buckets w v key k previous was o place e f h =
-    subst (λ (x : Watching Planned). IsPlace buckets k (nodes_in x.view.client.known) previous o)
+pub placed : (w v : Watching Planned) (key k previous : ℕ) (was o : Option ℕ)
+    → IsPlace (buckets_in w) key (nodes_in w.view.client.known) previous was
+    → v ≡ w → key ≡ k → was ≡ o
+    → IsPlace (buckets_in v) k (nodes_in v.view.client.known) previous o
+placed w v key k previous was o place e f h =
+    subst (λ (x : Watching Planned).
+    IsPlace (buckets_in x) k (nodes_in x.view.client.known) previous o)
     (sym e)
-    (subst (λ (n : ℕ). IsPlace buckets n (nodes_in w.view.client.known) previous o) f
-    (subst (λ (n : Option ℕ). IsPlace buckets key (nodes_in w.view.client.known) previous n) h
-    place))
+    (subst (λ (n : ℕ). IsPlace (buckets_in w) n (nodes_in w.view.client.known) previous o) f
+    (subst (λ (n : Option ℕ). IsPlace (buckets_in w) key (nodes_in w.view.client.known) previous n)
+    h place))
 
-module _ (holds : List ℕ → Type 0) (buckets width count : ℕ) (graph : Object Plan)
-    (keeper : Watching Planned) (m : IsMap holds buckets width count
-    (nodes_in keeper.view.client.known))
+module _ (holds : List ℕ → Type 0) (graph : Object Plan) (keeper : Watching Planned)
+    (one : keeper.view.client.plan.links ≡ 1)
+    (m : IsMap holds keeper.view.client.plan.roots keeper.view.client.plan.words
+    keeper.view.client.plan.nodes (nodes_in keeper.view.client.known))
     (watches : IsWatcherOf graph keeper) where
+  abbrev buckets : ℕ
+  buckets = keeper.view.client.plan.roots
+
+  abbrev width : ℕ
+  width = keeper.view.client.plan.words
+
+  abbrev count : ℕ
+  count = keeper.view.client.plan.nodes
+
   abbrev A : List Node
   A = nodes_in keeper.view.client.known
 
@@ -48,11 +60,13 @@ module _ (holds : List ℕ → Type 0) (buckets width count : ℕ) (graph : Obje
         → IsPlace buckets (key_in words) A previous there
         → ((j : ℕ) → word_to next ≡ suc j → (state_at A j ≡ Live)
         × GoesUp buckets words (node_at A j).words)
-        → CanPut (IsWhole holds width) (λ _ from to. GoesUp buckets from to) count graph keeper
+        → CanPut (IsWhole holds width) (λ _ from to. GoesUp buckets from to) graph keeper
         previous words next
     can_put there next place onward = record {
       watches = watches;
+      one = one;
       few = m.few;
+      sized = whole.sized;
       live = place.live;
       whole = whole;
       joined = joined there place;
@@ -62,7 +76,7 @@ module _ (holds : List ℕ → Type 0) (buckets width count : ℕ) (graph : Obje
     pub can_insert : (next : Option ℕ)
         → IsPlace buckets (key_in words) A previous None
         → word_to next ≡ next_of A previous
-        → CanPut (IsWhole holds width) (λ _ from to. GoesUp buckets from to) count graph keeper
+        → CanPut (IsWhole holds width) (λ _ from to. GoesUp buckets from to) graph keeper
         previous words next
     can_insert next place to = can_put None next place (λ j e.
         let leads : next_of A previous ≡ suc j = sym to ∙ e in
@@ -72,7 +86,7 @@ module _ (holds : List ℕ → Type 0) (buckets width count : ℕ) (graph : Obje
     pub can_replace : (old : ℕ) (next : Option ℕ)
         → IsPlace buckets (key_in words) A previous (Some old)
         → word_to next ≡ next_of A old
-        → CanPut (IsWhole holds width) (λ _ from to. GoesUp buckets from to) count graph keeper
+        → CanPut (IsWhole holds width) (λ _ from to. GoesUp buckets from to) graph keeper
         previous words next
     can_replace old next place to = can_put (Some old) next place (λ j e.
         let first = led holds buckets width count A m previous old place.live place.leads.0 in
@@ -91,9 +105,10 @@ module _ (holds : List ℕ → Type 0) (buckets width count : ℕ) (graph : Obje
       (led holds buckets width count A m previous old place.live place.leads.0).0
 
   pub can_remove : (key previous old : ℕ) → IsPlace buckets key A previous (Some old)
-      → CanPass (λ _ from to. GoesUp buckets from to) count graph keeper previous old
+      → CanPass (λ _ from to. GoesUp buckets from to) graph keeper previous old
   can_remove key previous old place = record {
     watches = watches;
+    one = one;
     few = m.few;
     live = place.live;
     inside = old_inside key previous old place;

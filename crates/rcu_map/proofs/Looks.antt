@@ -1,6 +1,6 @@
 -- Looks at the number while no node is free, one after another, and where there is nothing to wait
 -- for.
-use Rattle.std.proofs.Common.{◌≡◌, ℕ, suc, ◌+◌, ◌-◌, ◌<◌, ◌≤◌, ⊎_elim, true, false, List}
+use Rattle.std.proofs.Common.{◌≡◌, ℕ, zero, suc, ◌+◌, ◌-◌, ◌<◌, ◌≤◌, ⊎_elim, true, false, List}
 use Rattle.std.proofs.Common.{length, refl, sym, ap, ◌∙◌, arith, Err, IfOk, Ok, OnErr, Result}
 use Rattle.std.specs.Result.{is_ok}
 use Rattle.std.proofs.lemmas.Bool.{cases_lt}
@@ -17,7 +17,7 @@ use Rattle.rcu_graph.proofs.Counting.{live_inside, live_test, test_live}
 use Rattle.rcu_map.specs.Chains.{IsMap}
 use Rattle.rcu_map.specs.Entries.{AreSameEntries, HasKey, entries_in}
 use Rattle.rcu_map.specs.Keys.{key_in}
-use Rattle.rcu_map.specs.Waits.{AreAllLive, HasAged, IsLook, WaitedFor}
+use Rattle.rcu_map.specs.Waits.{AreAllLive, AreLooks, HasAged, IsLook, WaitedFor}
 use Rattle.rcu_map.specs.declared.put.NotPut.{NotPut}
 use Rattle.rcu_map.specs.declared.put.NotPut.TheVariants.{Fault, Full}
 use Rattle.rcu_map.proofs.Counted.{all_behind_live, entries_and_roots, many_behind}
@@ -56,6 +56,18 @@ aged_more buckets k l m n r full later new same = record {
   looks = (l, r.looks, look l m n full later new);
   entries = λ w. (λ h. (r.entries w).0 ((same w).0 h), λ h. (same w).1 ((r.entries w).1 h));
 }
+
+-- a keeper's map stays as large
+looks_keep_plan : (looks : ℕ) (k m : Watching Planned) → AreLooks looks k m
+    → m.view.client.plan ≡ k.view.client.plan
+looks_keep_plan zero k m same = ap (λ (w : Watching Planned). w.view.client.plan) same
+looks_keep_plan (suc looks) k m (last, before, one) =
+    ap (λ (w : Watching Planned). w.view.client.plan) one.state
+    ∙ looks_keep_plan looks k last before
+
+pub aged_plan : (buckets : ℕ) (k m : Watching Planned) → HasAged buckets k m
+    → m.view.client.plan ≡ k.view.client.plan
+aged_plan buckets k m aged = looks_keep_plan (suc aged.more) k m aged.looks
 
 -- a key that an entry has is one of the same entries
 pub key_kept : (buckets : ℕ) (A B : List Node) (key : ℕ)

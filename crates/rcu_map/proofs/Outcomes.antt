@@ -10,7 +10,7 @@ use Rattle.rcu_graph.specs.Nodes.{nodes_in}
 use Rattle.rcu_graph.specs.declared.keeper.Full.{Full}
 use Rattle.rcu_graph.specs.declared.known.Planned.{Planned}
 use Rattle.rcu_graph.specs.declared.plan.Plan.{Plan}
-use Rattle.rcu_map.specs.Chains.{IsMap}
+use Rattle.rcu_map.specs.Chains.{IsMap, buckets_in}
 use Rattle.rcu_map.specs.Entries.{entries_in}
 use Rattle.rcu_map.specs.Keys.{GoesUp, IsWhole, key_in}
 use Rattle.rcu_map.specs.Puts.{HasChanged, IsPutIn}
@@ -18,17 +18,31 @@ use Rattle.rcu_map.specs.Splices.{HasPut, IsFull, IsPlace}
 use Rattle.rcu_map.proofs.Replacements.{replaced, replaced_count, replaced_map}
 
 -- an entry was put in the place of another one, or no node was free
-module _ (holds : List ℕ → Type 0) (buckets width count : ℕ) (graph : Object Plan)
-    (before now : Watching Planned)
-    (m : IsMap holds buckets width count (nodes_in before.view.client.known)) (previous old : ℕ)
+module _ (holds : List ℕ → Type 0) (graph : Object Plan) (before now : Watching Planned)
+    (m : IsMap holds before.view.client.plan.roots before.view.client.plan.words
+    before.view.client.plan.nodes (nodes_in before.view.client.known)) (previous old : ℕ)
     (words : List ℕ) (next : Option ℕ) (some : 0 < key_in words)
-    (place : IsPlace buckets (key_in words) (nodes_in before.view.client.known) previous (Some old))
-    (to : word_to next ≡ next_of (nodes_in before.view.client.known) old) where
+    (place : IsPlace (buckets_in before) (key_in words) (nodes_in before.view.client.known) previous
+    (Some old)) (to : word_to next ≡ next_of (nodes_in before.view.client.known) old) where
+  abbrev buckets : ℕ
+  buckets = before.view.client.plan.roots
+
+  abbrev width : ℕ
+  width = before.view.client.plan.words
+
+  abbrev count : ℕ
+  count = before.view.client.plan.nodes
+
   abbrev Ends : Result (Unit {0}) Full → Type 0
   Ends result = MatchResult result
-      (λ _. HasPut (IsWhole holds width) (λ _ from to. GoesUp buckets from to) buckets count graph
-      before now previous words next)
+      (λ _. HasPut (IsWhole holds width) (λ _ from to. GoesUp buckets from to) graph before now
+      previous words next)
       (λ _. IsFull before now)
+
+  pub over_plan : (result : Result (Unit {0}) Full) → Ends result
+      → now.view.client.plan ≡ before.view.client.plan
+  over_plan (Ok _) done = ap (λ (w : Watching Planned). w.view.client.plan) done.state
+  over_plan (Err _) full = ap (λ (w : Watching Planned). w.view.client.plan) full.unchanged
 
   pub over_map : (result : Result (Unit {0}) Full) → Ends result
       → IsMap holds buckets width count (nodes_in now.view.client.known)

@@ -46,10 +46,11 @@ target_of joins words nodes x there j e =
     let r = there j e in
     (node_at nodes j, here_at nodes j (live_inside nodes j r.0), r.0, r.1)
 
-module _ (fits : List ℕ → Type 0) (joins : ℕ → List ℕ → List ℕ → Type 0) (count : ℕ)
-    (graph : Object Plan) (keeper : Watching Planned) (previous : ℕ) (words : List ℕ)
+module _ (fits : List ℕ → Type 0) (joins : ℕ → List ℕ → List ℕ → Type 0) (graph : Object Plan)
+    (keeper : Watching Planned) (previous : ℕ) (words : List ℕ)
     (next : Option ℕ)
-    (can : CanPut fits joins count graph keeper previous words next) (node : ℕ) (low : node < count)
+    (can : CanPut fits joins graph keeper previous words next) (node : ℕ)
+    (low : node < keeper.view.client.plan.nodes)
     (free : state_at (nodes_in keeper.view.client.known) node ≡ Free) where
   abbrev A : List Node
   A = nodes_in keeper.view.client.known
@@ -99,11 +100,11 @@ module _ (fits : List ℕ → Type 0) (joins : ℕ → List ℕ → List ℕ →
         (sym first) target);
   }
 
-  pub previous_inside : previous < count
+  pub previous_inside : previous < keeper.view.client.plan.nodes
   previous_inside =
       let bound = live_inside A previous can.live in let few = can.few in omega (arith, bound, few)
 
-  pub next_inside : (j : ℕ) → word_to next ≡ suc j → j < count
+  pub next_inside : (j : ℕ) → word_to next ≡ suc j → j < keeper.view.client.plan.nodes
   next_inside j e =
       let r = target_there (joins 0) words A (word_to next) j can.target e in
       let bound = live_inside A j r.0 in let few = can.few in omega (arith, bound, few)

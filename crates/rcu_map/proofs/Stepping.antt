@@ -93,16 +93,24 @@ module _ (count buckets width : ℕ) (known : Known) (at : Cursor) where
             ∙ (ap (bucket_of buckets) is ∙ c.same up);
       })
 
-module _ (holds : List ℕ → Type 0) (count buckets width : ℕ) (map : Object Plan)
-    (old new : Seated Planned)
-    (start : Cursor) (inside : start.bucket < buckets)
-    (o : IsOnWords count buckets width old.view.client.known start)
+module _ (holds : List ℕ → Type 0) (map : Object Plan) (old new : Seated Planned)
+    (start : Cursor) (inside : start.bucket < map.plan.roots)
+    (o : IsOnWords map.plan.nodes map.plan.roots map.plan.words old.view.client.known start)
     (same : new ≡ after_word_step old new.view.client) (walking : IsWalking map new) where
+  abbrev count : ℕ
+  count = map.plan.nodes
+
+  abbrev buckets : ℕ
+  buckets = map.plan.roots
+
+  abbrev width : ℕ
+  width = map.plan.words
+
   -- the link led nowhere
   pub stepped_over : buckets ≤ count
       → Followed (IsWhole holds width) (GoesUp buckets o.words) width count old.view.client.known
       start.node 0 0 new.view.client.known
-      → HasStepped holds count buckets width map old start new (at_root (start.bucket + 1))
+      → HasStepped holds map old start new (at_root (start.bucket + 1))
   stepped_over few f = record {
     same = same;
     hop = record { from = start.node; link = 0; to = 0; words = f.words };
@@ -138,7 +146,7 @@ module _ (holds : List ℕ → Type 0) (count buckets width : ℕ) (map : Object
       → ((words : List ℕ) → IsOn (root_words width) buckets new.view.client.known node words → key
       ≡ slice_index words 0)
       → key < 2 ^ 64
-      → HasStepped holds count buckets width map old start new
+      → HasStepped holds map old start new
       (record { bucket = start.bucket; node = node; key = key })
   stepped_on node key f is small =
       let c = came_to (IsWhole holds width) (GoesUp buckets o.words) width count
@@ -178,9 +186,8 @@ module _ (holds : List ℕ → Type 0) (count buckets width : ℕ) (map : Object
         whole = λ more. c.whole;
       }
 
-module _ (holds : List ℕ → Type 0) (count buckets width : ℕ) (map : Object Plan)
-    (old new : Seated Planned)
-    (start at : Cursor) (s : HasStepped holds count buckets width map old start new at) where
+module _ (holds : List ℕ → Type 0) (map : Object Plan) (old new : Seated Planned)
+    (start at : Cursor) (s : HasStepped holds map old start new at) where
   led_to : (to : ℕ) → s.hop.to ≡ to → at ≡ led_from start to (key_after s.hop)
   led_to to e = s.led ∙ ap (λ (n : ℕ). led_from start n (key_after s.hop)) e
 
@@ -229,7 +236,7 @@ module _ (holds : List ℕ → Type 0) (count buckets width : ℕ) (map : Object
       × (h.words ≡ s.hop.words))
       (sym s.are) (0, s.hop, refl, w.to, refl)
 
-  pub on_entry : 0 < at.key → IsOnEntry holds count width map new at.node
+  pub on_entry : 0 < at.key → IsOnEntry holds map new at.node
   on_entry keyed =
       let w = went_on keyed in
       let k = w.key in
@@ -252,26 +259,25 @@ pub record IsPassing (buckets : ℕ) (was : Known) (start : Cursor) (now : Known
   pub nowhere : LedNowhere over
   pub goes : GoOn buckets start over at
 
-pub begins : (buckets : ℕ) (was : Known) (start : Cursor) → IsPassing buckets was start was start
-begins buckets was start = record { over = []; are = refl; nowhere = tt; goes = refl }
+pub begins : (n : ℕ) (was : Known) (start : Cursor) → IsPassing n was start was start
+begins n was start = record { over = []; are = refl; nowhere = tt; goes = refl }
 
-module _ (holds : List ℕ → Type 0) (count buckets width : ℕ) (map : Object Plan)
-    (old new : Seated Planned)
-    (mid at : Cursor) (s : HasStepped holds count buckets width map old mid new at) (was : Known)
-    (start : Cursor) (p : IsPassing buckets was start old.view.client.known mid) where
-  pub passes_on : at.key ≡ 0 → IsPassing buckets was start new.view.client.known at
+module _ (holds : List ℕ → Type 0) (map : Object Plan) (old new : Seated Planned)
+    (mid at : Cursor) (s : HasStepped holds map old mid new at) (was : Known)
+    (start : Cursor) (p : IsPassing map.plan.roots was start old.view.client.known mid) where
+  pub passes_on : at.key ≡ 0 → IsPassing map.plan.roots was start new.view.client.known at
   passes_on none = record {
     over = s.hop ∷ p.over;
     are = s.are ∙ ap (λ (hops : List Hop). s.hop ∷ hops) p.are;
-    nowhere = ((went_over holds count buckets width map old new mid at s none).0, p.nowhere);
+    nowhere = ((went_over holds map old new mid at s none).0, p.nowhere);
     goes = (mid, p.goes, s.goes, s.led);
   }
 
   pub comes_to : {E : Type 0} (decode : List ℕ → E) (entry : E) (keyed : 0 < at.key)
       → entry ≡ decode s.hop.words
-      → IsNextEntry holds decode buckets was start new.view.client.known at entry
+      → IsNextEntry holds decode map.plan.roots was start new.view.client.known at entry
   comes_to decode entry keyed told =
-      let w = went_on holds count buckets width map old new mid at s keyed in
+      let w = went_on holds map old new mid at s keyed in
       let k = w.key in record {
         over = p.over;
         last = s.hop;
@@ -284,9 +290,9 @@ module _ (holds : List ℕ → Type 0) (count buckets width : ℕ) (map : Object
         told = told;
       }
 
-pub is_at_end : (buckets : ℕ) (was now : Known) (start at : Cursor)
-    → IsPassing buckets was start now at → at.bucket ≡ buckets → IsAtEnd buckets was start now at
-is_at_end buckets was now start at p ended =
+pub is_at_end : (n : ℕ) (was now : Known) (start at : Cursor)
+    → IsPassing n was start now at → at.bucket ≡ n → IsAtEnd n was start now at
+is_at_end n was now start at p ended =
     record { over = p.over; are = p.are; nowhere = p.nowhere; goes = p.goes; ended = ended }
 
 -- fewer keys are left after a step
@@ -305,21 +311,23 @@ at_most a b c low high = omega (arith, low, high)
 below : (a b c : ℕ) → a < b → b ≤ c → a < c
 below a b c low high = omega (arith, low, high)
 
-module _ (holds : List ℕ → Type 0) (count buckets width : ℕ) (map : Object Plan)
-    (begun old new : Seated Planned) (start mid at : Cursor)
-    (s : HasStepped holds count buckets width map old mid new at)
-    (same : old ≡ after_word_step begun old.view.client) (may : MayGoOn count buckets map old mid)
-    (p : IsPassing buckets begun.view.client.known start old.view.client.known mid)
-    (left : left_from buckets mid ≤ left_from buckets start) where
+module _ (holds : List ℕ → Type 0) (map : Object Plan) (begun old new : Seated Planned)
+    (start mid at : Cursor) (s : HasStepped holds map old mid new at)
+    (same : old ≡ after_word_step begun old.view.client) (may : MayGoOn map old mid)
+    (p : IsPassing map.plan.roots begun.view.client.known start old.view.client.known mid)
+    (left : left_from map.plan.roots mid ≤ left_from map.plan.roots start) where
+  abbrev all : ℕ
+  all = map.plan.roots
+
   pub same_on : new ≡ after_word_step begun new.view.client
   same_on = s.same ∙ ap (λ (x : Seated Planned). after_word_step x new.view.client) same
 
-  pub left_less : at.key ≡ 0 → left_from buckets at ≤ left_from buckets start
+  pub left_less : at.key ≡ 0 → left_from all at ≤ left_from all start
   left_less none =
-      let over = went_over holds count buckets width map old new mid at s none in
-      subst (λ (c : Cursor). left_from buckets c ≤ left_from buckets start) (sym over.1)
-      (at_most (left_from buckets (at_root (mid.bucket + 1))) (left_from buckets mid)
-      (left_from buckets start) (left_over buckets mid s.goes.inside may.small) left)
+      let over = went_over holds map old new mid at s none in
+      subst (λ (c : Cursor). left_from all c ≤ left_from all start) (sym over.1)
+      (at_most (left_from all (at_root (mid.bucket + 1))) (left_from all mid)
+      (left_from all start) (left_over all mid s.goes.inside may.small) left)
 
   pub listed_entry : {E : Type 0} (decode : List ℕ → E) (valid : E → Type 0) (key_of : E → ℕ)
       (entry : E)
@@ -327,19 +335,19 @@ module _ (holds : List ℕ → Type 0) (count buckets width : ℕ) (map : Object
       → 0 < at.key
       → entry ≡ decode s.hop.words
       → valid entry
-      → HasListed holds decode valid key_of count buckets map begun start new at (Some entry)
+      → HasListed holds decode valid key_of map begun start new at (Some entry)
   listed_entry decode valid key_of entry tells keyed told sound =
-      let w = went_on holds count buckets width map old new mid at s keyed in
+      let w = went_on holds map old new mid at s keyed in
       let k = w.key in
       let whole = (s.whole keyed).entry (omega (arith, k, keyed)) in
       record {
         same = same_on;
         may = s.may;
-        went = comes_to holds count buckets width map old new mid at s begun.view.client.known start
+        went = comes_to holds map old new mid at s begun.view.client.known start
             p
             decode entry keyed told;
         keyed = ap key_of told ∙ (tells s.hop.words whole ∙ k);
         sound = sound;
-        nearer = below (left_from buckets at) (left_from buckets mid) (left_from buckets start)
-            (left_on buckets mid at s.goes.inside may.small w.bucket w.up) left;
+        nearer = below (left_from all at) (left_from all mid) (left_from all start)
+            (left_on all mid at s.goes.inside may.small w.bucket w.up) left;
       }

@@ -11,6 +11,7 @@ use Rattle.rcu_graph.specs.declared.keeper.Full.{Full}
 use Rattle.rcu_graph.specs.declared.known.Planned.{Planned}
 use Rattle.rcu_graph.specs.declared.known.Node.{Node}
 use Rattle.rcu_graph.specs.declared.plan.Plan.{Plan}
+use Rattle.rcu_map.specs.Chains.{buckets_in}
 use Rattle.rcu_map.specs.Entries.{AreSameEntries, HasKey, IsEntryOf}
 use Rattle.rcu_map.specs.Keys.{key_in}
 use Rattle.rcu_map.specs.Puts.{HasAnswered, HasPutIn, Holds, IsPutIn, IsWanted, is_put}
@@ -91,24 +92,26 @@ module _ {E : Type 0} (decode : List ℕ → E) (valid : E → Type 0) (key_of :
     sound = one.sound;
   }
 
-  module _ (map : Object Plan) (how : Put) (words : List ℕ) (before after : Watching Planned)
-      (result : Result (Option E) Full)
-      (a : HasAnswered decode valid key_of buckets map how key words before result after) where
-    -- no node was free
-    pub when_full : (full : Full) → result ≡ Err full
-        → IsWanted how buckets (nodes_in before.view.client.known) key × IsFull before after
-    when_full full e =
-        let b = subst (λ (r : Result (Option E) Full).
-        HasAnswered decode valid key_of buckets map how key words before r after)
-        e a in
-        (b.wanted, b.full)
+module _ {E : Type 0} (decode : List ℕ → E) (valid : E → Type 0) (key_of : E → ℕ) (key : ℕ)
+    (map : Object Plan) (how : Put) (words : List ℕ) (before after : Watching Planned)
+    (result : Result (Option E) Full)
+    (a : HasAnswered decode valid key_of map how key words before result after) where
+  -- no node was free
+  pub when_full : (full : Full) → result ≡ Err full
+      → IsWanted how (buckets_in before) (nodes_in before.view.client.known) key × IsFull before
+      after
+  when_full full e =
+      let b = subst (λ (r : Result (Option E) Full).
+      HasAnswered decode valid key_of map how key words before r after)
+      e a in
+      (b.wanted, b.full)
 
-    -- it was answered
-    pub when_told : (old : Option E) → result ≡ Ok old
-        → Holds decode valid key_of buckets (nodes_in before.view.client.known) key old
-        × HasPutIn buckets words (is_some old) (is_put how (is_some old)) before after
-    when_told old e =
-        let b = subst (λ (r : Result (Option E) Full).
-        HasAnswered decode valid key_of buckets map how key words before r after)
-        e a in
-        (b.old, b.put)
+  -- it was answered
+  pub when_told : (old : Option E) → result ≡ Ok old
+      → Holds decode valid key_of (buckets_in before) (nodes_in before.view.client.known) key old
+      × HasPutIn (buckets_in before) words (is_some old) (is_put how (is_some old)) before after
+  when_told old e =
+      let b = subst (λ (r : Result (Option E) Full).
+      HasAnswered decode valid key_of map how key words before r after)
+      e a in
+      (b.old, b.put)

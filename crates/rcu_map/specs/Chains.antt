@@ -1,16 +1,26 @@
 -- The chains of a map, as its keeper knows them.
-use Rattle.std.specs.Prelude.{◌≡◌, ◌<◌, ◌≤◌, ℕ, suc, List, length, map}
-use Rattle.std.specs.List.{range_with_len}
+use Rattle.std.specs.Prelude.{◌≡◌, ◌<◌, ◌≤◌, ℕ, suc, List, length}
+use Rattle.rcu_live.specs.Watcher.{Watching}
 use Rattle.rcu_graph.specs.Absence.{key_at, next_of}
 use Rattle.rcu_graph.specs.Nodes.{node_at, state_at}
+use Rattle.rcu_graph.specs.Opening.{IsSized}
+use Rattle.rcu_graph.specs.Planned.{plan_of}
 use Rattle.rcu_graph.specs.Tended.{AreTended}
+use Rattle.rcu_graph.specs.declared.known.Planned.{Planned}
 use Rattle.rcu_graph.specs.declared.known.Node.{Node}
 use Rattle.rcu_graph.specs.declared.node_state.NodeState.TheVariants.{Live}
+use Rattle.rcu_graph.specs.declared.plan.Plan.{Plan}
+use Rattle.rcu_map.specs.Entries.{entries_in}
 use Rattle.rcu_map.specs.Keys.{GoesUp, IsWhole, bucket_in, root_words}
 
--- the words of the roots, bucket by bucket
-abbrev pub words_of_roots : ℕ → ℕ → List (List ℕ)
-words_of_roots width buckets = map (root_words width) (range_with_len 0 buckets)
+-- how many buckets the map of a keeper has
+abbrev pub buckets_in : Watching Planned → ℕ
+buckets_in keeper = keeper.view.client.plan.roots
+
+-- a map may have so many buckets, words an entry and nodes
+pub record HasSizes (buckets width count : ℕ) : Type 0 where
+  pub some : 0 < buckets
+  pub graph : IsSized (plan_of buckets 1 width count)
 
 -- both nodes are live, and of one bucket
 pub record AreOfOneBucket (buckets : ℕ) (nodes : List Node) (i j : ℕ) : Type 0 where
@@ -36,3 +46,13 @@ pub record IsMap (holds : List ℕ → Type 0) (buckets width count : ℕ)
   pub next : (i j : ℕ) → AreOfOneBucket buckets nodes i j → key_at nodes i < key_at nodes j
       → LeadsTowards nodes i j
   pub apart : (i j : ℕ) → AreOfOneBucket buckets nodes i j → key_at nodes i ≡ key_at nodes j → i ≡ j
+
+-- of this plan, whose roots are those of the buckets, the nodes are those of a map with so many
+-- entries, of so many words each
+pub record IsKept (holds : List ℕ → Type 0) (width : ℕ) (plan : Plan) (nodes : List Node)
+    (len : ℕ) : Type 0 where
+  pub some : 0 < plan.roots
+  pub one : plan.links ≡ 1
+  pub words : plan.words ≡ width
+  pub map : IsMap holds plan.roots plan.words plan.nodes nodes
+  pub count : len ≡ entries_in plan.roots nodes

@@ -32,45 +32,45 @@ pub record IsOnCursor (count buckets : ℕ) (known : Known) (at : Cursor) : Type
   pub same : 0 < at.key → bucket_of buckets at.key ≡ at.bucket
 
 -- an open section may go on from a cursor, which is on a node or at the end
-pub record MayGoOn (count buckets : ℕ) (map : Object Plan) (seat : Seated Planned)
-    (at : Cursor) : Type 0 where
+pub record MayGoOn (map : Object Plan) (seat : Seated Planned) (at : Cursor) : Type 0 where
   pub walking : IsWalking map seat
-  pub within : at.bucket ≤ buckets
+  pub within : at.bucket ≤ map.plan.roots
   pub small : at.key < 2 ^ 64
-  pub on : at.bucket < buckets → IsOnCursor count buckets seat.view.client.known at
+  pub on : at.bucket < map.plan.roots
+      → IsOnCursor map.plan.nodes map.plan.roots seat.view.client.known at
 
 -- an open section is on a node that has the words of an entry
-pub record IsOnEntry (holds : List ℕ → Type 0) (count width : ℕ) (map : Object Plan)
-    (seat : Seated Planned) (node : ℕ) : Type 0 where
+pub record IsOnEntry (holds : List ℕ → Type 0) (map : Object Plan) (seat : Seated Planned)
+    (node : ℕ) : Type 0 where
   pub walking : IsWalking map seat
-  pub inside : node < count
+  pub inside : node < map.plan.nodes
   pub words : List ℕ
   pub held : IsHeld seat.view.client.known node words
-  pub whole : IsWhole holds width words
+  pub whole : IsWhole holds map.plan.words words
   pub keyed : 0 < key_in words
 
 -- an open section went on from a cursor by one hop, and is where that led
-pub record HasStepped (holds : List ℕ → Type 0) (count buckets width : ℕ) (map : Object Plan)
-    (old : Seated Planned) (start : Cursor) (new : Seated Planned) (at : Cursor) : Type 0 where
+pub record HasStepped (holds : List ℕ → Type 0) (map : Object Plan) (old : Seated Planned)
+    (start : Cursor) (new : Seated Planned) (at : Cursor) : Type 0 where
   pub same : new ≡ after_word_step old new.view.client
   pub hop : Hop
   pub are : hops_in new.view.client.known ≡ hop ∷ hops_in old.view.client.known
-  pub goes : GoesOn buckets start hop
+  pub goes : GoesOn map.plan.roots start hop
   pub led : at ≡ cursor_after start hop
-  pub may : MayGoOn count buckets map new at
-  pub whole : 0 < at.key → IsWhole holds width hop.words
+  pub may : MayGoOn map new at
+  pub whole : 0 < at.key → IsWhole holds map.plan.words hop.words
 
 -- an open section went on from a cursor to the next entry, or to the end where there is none
 pub record HasListed {E : Type 0} (holds : List ℕ → Type 0) (decode : List ℕ → E)
-    (valid : E → Type 0) (key_of : E → ℕ) (count buckets : ℕ) (map : Object Plan)
-    (old : Seated Planned)
+    (valid : E → Type 0) (key_of : E → ℕ) (map : Object Plan) (old : Seated Planned)
     (start : Cursor) (new : Seated Planned) (at : Cursor) (result : Option E) : Type 0 where
   pub same : new ≡ after_word_step old new.view.client
-  pub may : MayGoOn count buckets map new at
-  pub went : MatchOption result (IsAtEnd buckets old.view.client.known start new.view.client.known
-      at)
-      (λ entry. IsNextEntry holds decode buckets old.view.client.known start new.view.client.known
+  pub may : MayGoOn map new at
+  pub went : MatchOption result (IsAtEnd map.plan.roots old.view.client.known start
+      new.view.client.known at)
+      (λ entry. IsNextEntry holds decode map.plan.roots old.view.client.known start
+      new.view.client.known
       at entry)
   pub keyed : IfSome result (λ entry. key_of entry ≡ at.key)
   pub sound : IfSome result valid
-  pub nearer : IfSome result (λ _. left_from buckets at < left_from buckets start)
+  pub nearer : IfSome result (λ _. left_from map.plan.roots at < left_from map.plan.roots start)

@@ -5,7 +5,6 @@ pub mod Found
 pub mod Keys
 pub mod Listed
 pub mod Listing
-pub mod Opening
 pub mod Puts
 pub mod Sections
 pub mod Splices

@@ -28,17 +28,18 @@ after_hops s known at =
 abbrev pub known_in : Listing → Known
 known_in s = s.seat.view.client.known
 
-module _ {LEAF FAN : ℕ} {T E : Type 0} {BUCKETS W N : ℕ} where
-  abbrev pub listing : Entries LEAF FAN T E BUCKETS W N → Listing
+module _ {LEAF FAN : ℕ} {T E : Type 0} {W : ℕ} where
+  abbrev pub listing : Entries LEAF FAN T E W → Listing
   listing s = record { map = s.map.now; seat = s.seat.now; name = s.seat.ghost_name; at = s.at }
 
 -- a call went on to the next entry, of which the user's fact holds, or to the end where it returned
 -- none. Nothing changes but what the section knows and where it stands
 pub record Listed {E : Type 0} (holds : List ℕ → Type 0) (decode : List ℕ → E) (valid : E → Type 0)
-    (key_of : E → ℕ) (buckets : ℕ) (old : Listing) (result : Option E)
-    (new : Listing) : Type 0 where
+    (key_of : E → ℕ) (old : Listing) (result : Option E) (new : Listing) : Type 0 where
   pub same : new ≡ after_hops old (known_in new) new.at
-  pub went : MatchOption result (IsAtEnd buckets (known_in old) old.at (known_in new) new.at)
-      (λ entry. IsNextEntry holds decode buckets (known_in old) old.at (known_in new) new.at entry)
+  pub went : MatchOption result (IsAtEnd old.map.plan.roots (known_in old) old.at
+      (known_in new) new.at)
+      (λ entry. IsNextEntry holds decode old.map.plan.roots (known_in old) old.at (known_in new)
+      new.at entry)
   pub keyed : IfSome result (λ entry. key_of entry ≡ new.at.key)
   pub sound : IfSome result valid

@@ -10,6 +10,7 @@ use Rattle.rcu_graph.specs.declared.keeper.Full.{Full}
 use Rattle.rcu_graph.specs.declared.known.Planned.{Planned}
 use Rattle.rcu_graph.specs.declared.known.Node.{Node}
 use Rattle.rcu_graph.specs.declared.plan.Plan.{Plan}
+use Rattle.rcu_map.specs.Chains.{buckets_in}
 use Rattle.rcu_map.specs.Entries.{HasKey, IsEntryOf, IsInserted, IsReplaced}
 use Rattle.rcu_map.specs.Splices.{IsFull}
 use Rattle.rcu_map.specs.declared.put.Put.{Put}
@@ -67,14 +68,16 @@ HasPutIn buckets words there false before after = after ≡ before
 -- the keeper was to put an entry of this key and these words in: it returned the one that had the
 -- key, and put the new one in where that was wanted; or it needed a node, and none was free
 pub record HasAnswered {E : Type 0} (decode : List ℕ → E) (valid : E → Type 0) (key_of : E → ℕ)
-    (buckets : ℕ) (map : Object Plan) (how : Put) (key : ℕ) (words : List ℕ)
+    (map : Object Plan) (how : Put) (key : ℕ) (words : List ℕ)
     (before : Watching Planned) (result : Result (Option E) Full) (after : Watching Planned) : Type
     0
   where
     pub of_map : IsWatcherOf map after
     pub old : IfOk result (λ old.
-        Holds decode valid key_of buckets (nodes_in before.view.client.known) key old)
+        Holds decode valid key_of (buckets_in before) (nodes_in before.view.client.known) key
+        old)
     pub put : IfOk result (λ old.
-        HasPutIn buckets words (is_some old) (is_put how (is_some old)) before after)
-    pub wanted : OnErr result (IsWanted how buckets (nodes_in before.view.client.known) key)
+        HasPutIn (buckets_in before) words (is_some old) (is_put how (is_some old)) before after)
+    pub wanted : OnErr result (IsWanted how (buckets_in before) (nodes_in before.view.client.known)
+        key)
     pub full : OnErr result (IsFull before after)

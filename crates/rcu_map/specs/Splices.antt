@@ -1,12 +1,12 @@
 -- What it takes to put a node into a chain or to take one out of it, and what that leaves.
-use Rattle.std.specs.Prelude.{◌≡◌, ◌<◌, ℕ, suc, List, [], ◌∷◌, Option, Some, None, All, length, map}
-use Rattle.std.specs.List.{range_with_len}
+use Rattle.std.specs.Prelude.{◌≡◌, ◌<◌, ℕ, suc, List, [], ◌∷◌, Option, Some, None, length, map}
 use Rattle.rcu_live.specs.Board.{Object}
 use Rattle.rcu_live.specs.Watcher.{Watching}
 use Rattle.rcu_graph.specs.Absence.{key_at, next_of}
 use Rattle.rcu_graph.specs.Graph.{IsWatcherOf, word_to}
 use Rattle.rcu_graph.specs.Keeper.{IsKeeperOf, after_step}
 use Rattle.rcu_graph.specs.Nodes.{IsTarget, node_at, nodes_in, renewed, state_at}
+use Rattle.rcu_graph.specs.Opening.{AreWhole}
 use Rattle.rcu_graph.specs.Steps.{IsClaimed}
 use Rattle.rcu_graph.specs.Tended.{AreAllUsed, AreTended, AreTrimmed, filled_with, published}
 use Rattle.rcu_graph.specs.Tended.{relinked}
@@ -37,22 +37,24 @@ pub record AreKept (fits : List ℕ → Type 0) (joins : ℕ → List ℕ → Li
   pub few : length nodes ≡ count
   pub tended : AreTended fits joins roots 1 nodes
 
--- the seat may keep the graph's nodes, which are as at first, and of which the roots have these
--- words
-pub record CanKeep (fits : List ℕ → Type 0) (first : ℕ → List ℕ) (roots width count : ℕ)
-    (graph : Object Plan) (seat : Watching Planned) (words : List (List ℕ)) : Type 0 where
-  pub keeper : IsKeeperOf count graph seat
-  pub nodes : IsClaimed first roots 1 width count seat.view.client.known
-  pub rows : words ≡ map first (range_with_len 0 roots)
-  pub whole : All fits words
+-- the seat may keep the graph's nodes, which are as at first
+pub record CanKeep (fits : List ℕ → Type 0) (first : ℕ → List ℕ) (graph : Object Plan)
+    (seat : Watching Planned) : Type 0 where
+  pub one : graph.plan.links ≡ 1
+  pub keeper : IsKeeperOf graph seat
+  pub nodes : IsClaimed first graph.plan.roots graph.plan.links graph.plan.words graph.plan.nodes
+      seat.view.client.known
+  pub whole : AreWhole fits first graph.plan
 
 -- the keeper may put a node of these words behind this one, which may lead to it, as it may to the
 -- next one
-pub record CanPut (fits : List ℕ → Type 0) (joins : ℕ → List ℕ → List ℕ → Type 0) (count : ℕ)
+pub record CanPut (fits : List ℕ → Type 0) (joins : ℕ → List ℕ → List ℕ → Type 0)
     (graph : Object Plan) (keeper : Watching Planned) (previous : ℕ) (words : List ℕ)
     (next : Option ℕ) : Type 0 where
   pub watches : IsWatcherOf graph keeper
-  pub few : length (nodes_in keeper.view.client.known) ≡ count
+  pub one : keeper.view.client.plan.links ≡ 1
+  pub few : length (nodes_in keeper.view.client.known) ≡ keeper.view.client.plan.nodes
+  pub sized : length words ≡ keeper.view.client.plan.words
   pub live : state_at (nodes_in keeper.view.client.known) previous ≡ Live
   pub whole : fits words
   pub joined : joins 0 (node_at (nodes_in keeper.view.client.known) previous).words words
@@ -66,17 +68,18 @@ put nodes previous node words next =
 
 -- a node that was free was put behind the previous one by one store, and what no live node leads to
 -- any more was left
-pub record HasPut (fits : List ℕ → Type 0) (joins : ℕ → List ℕ → List ℕ → Type 0) (roots count : ℕ)
+pub record HasPut (fits : List ℕ → Type 0) (joins : ℕ → List ℕ → List ℕ → Type 0)
     (graph : Object Plan) (before now : Watching Planned) (previous : ℕ) (words : List ℕ)
     (next : Option ℕ) : Type 0 where
   pub node : ℕ
-  pub inside : node < count
+  pub inside : node < before.view.client.plan.nodes
   pub free : state_at (nodes_in before.view.client.known) node ≡ Free
   pub watches : IsWatcherOf graph now
   pub state : now ≡ after_step before (nodes_in now.view.client.known)
-  pub kept : AreKept fits joins roots count (nodes_in now.view.client.known)
-  pub trimmed : AreTrimmed roots 1 (put (nodes_in before.view.client.known) previous node words
-      next)
+  pub kept : AreKept fits joins before.view.client.plan.roots before.view.client.plan.nodes
+      (nodes_in now.view.client.known)
+  pub trimmed : AreTrimmed before.view.client.plan.roots 1
+      (put (nodes_in before.view.client.known) previous node words next)
       (nodes_in now.view.client.known)
 
 -- no node was free, and nothing changed
@@ -85,30 +88,33 @@ pub record IsFull (before now : Watching Planned) : Type 0 where
   pub unchanged : now ≡ before
 
 -- the keeper may lead the one node to where the other one leads
-pub record CanPass (joins : ℕ → List ℕ → List ℕ → Type 0) (count : ℕ) (graph : Object Plan)
+pub record CanPass (joins : ℕ → List ℕ → List ℕ → Type 0) (graph : Object Plan)
     (keeper : Watching Planned) (previous old : ℕ) : Type 0 where
   pub watches : IsWatcherOf graph keeper
-  pub few : length (nodes_in keeper.view.client.known) ≡ count
+  pub one : keeper.view.client.plan.links ≡ 1
+  pub few : length (nodes_in keeper.view.client.known) ≡ keeper.view.client.plan.nodes
   pub live : state_at (nodes_in keeper.view.client.known) previous ≡ Live
-  pub inside : old < count
+  pub inside : old < keeper.view.client.plan.nodes
   pub target : IsTarget (joins 0) (node_at (nodes_in keeper.view.client.known) previous).words
       (nodes_in keeper.view.client.known) (next_of (nodes_in keeper.view.client.known) old)
 
 -- the previous node was led to where the old one leads, by one store, and what no live node leads
 -- to any more was left
 pub record HasPassed (fits : List ℕ → Type 0) (joins : ℕ → List ℕ → List ℕ → Type 0)
-    (roots count : ℕ) (graph : Object Plan) (before now : Watching Planned)
-    (previous old : ℕ) : Type 0 where
+    (graph : Object Plan) (before now : Watching Planned) (previous old : ℕ) : Type 0 where
   pub next : Option ℕ
   pub leads : word_to next ≡ next_of (nodes_in before.view.client.known) old
   pub watches : IsWatcherOf graph now
   pub state : now ≡ after_step before (nodes_in now.view.client.known)
-  pub kept : AreKept fits joins roots count (nodes_in now.view.client.known)
-  pub trimmed : AreTrimmed roots 1 (relinked (nodes_in before.view.client.known) previous 0 next)
+  pub kept : AreKept fits joins before.view.client.plan.roots before.view.client.plan.nodes
+      (nodes_in now.view.client.known)
+  pub trimmed : AreTrimmed before.view.client.plan.roots 1
+      (relinked (nodes_in before.view.client.known) previous 0 next)
       (nodes_in now.view.client.known)
 
 -- the keeper has the graph's nodes as its seat had them
-pub record HasKept (fits : List ℕ → Type 0) (joins : ℕ → List ℕ → List ℕ → Type 0) (roots count : ℕ)
-    (seat keeper : Watching Planned) : Type 0 where
+pub record HasKept (fits : List ℕ → Type 0) (joins : ℕ → List ℕ → List ℕ → Type 0)
+    (graph : Object Plan) (seat keeper : Watching Planned) : Type 0 where
   pub same : keeper ≡ seat
-  pub kept : AreKept fits joins roots count (nodes_in keeper.view.client.known)
+  pub kept : AreKept fits joins graph.plan.roots graph.plan.nodes
+      (nodes_in keeper.view.client.known)

@@ -11,18 +11,9 @@ use crate::shape::MapSeat;
 /// An iterator over the entries of a map, bucket by bucket, by an open section. It borrows the
 /// processor's seat, so that the section can neither close nor read otherwise meanwhile.
 #[derive(Drop)]
-pub struct Entries<
-    'a,
-    const LEAF: u32,
-    const FAN: u32,
-    T: Drop,
-    E: Entry<W>,
-    const BUCKETS: usize,
-    const W: usize,
-    const N: usize,
-> {
-    pub(crate) map: &'a Map<LEAF, FAN, T, E, BUCKETS, W, N>,
-    pub(crate) seat: &'a mut MapSeat<E, BUCKETS, W>,
+pub struct Entries<'a, const LEAF: u32, const FAN: u32, T: Drop, E: Entry<W>, const W: usize> {
+    pub(crate) map: &'a Map<LEAF, FAN, T, E, W>,
+    pub(crate) seat: &'a mut MapSeat<E, W>,
     pub(crate) at: Cursor,
-    ghost may: { MayGoOn N BUCKETS map.now seat.now at } by { Prim.hlevel (props, reader_once) },
+    ghost may: { MayGoOn map.now seat.now at } by { Prim.hlevel (props, reader_once) },
 }

@@ -5,7 +5,7 @@ ghost use Rattle.rcu_graph.specs.Graph.{IsWatcherOf};
 ghost use Rattle.rcu_graph.specs.Keeper.{IsKeeperOf, after_look};
 ghost use Rattle.rcu_graph.specs.Nodes.{node_at, nodes_in};
 ghost use Rattle.rcu_graph.specs.Steps.{IsClaimed};
-ghost use Rattle.rcu_map.specs.Chains.{IsMap, words_of_roots};
+ghost use Rattle.rcu_map.specs.Chains.{IsMap, buckets_in};
 ghost use Rattle.rcu_map.specs.Entries.{AreSameEntries, HasKey, IsEntry, IsEntryOf};
 ghost use Rattle.rcu_map.specs.Entries.{IsNodeOf, entries_in};
 ghost use Rattle.rcu_map.specs.Keys.{root_words};
@@ -21,29 +21,23 @@ use std::marker::Model;
 
 /// The keeper of a map, for one thread. A map has one.
 #[derive(Drop)]
-pub struct MapKeeper<E: Entry<W>, const BUCKETS: usize, const W: usize, const N: usize> {
-    pub(crate) nodes: Keeper<MapShape<E, BUCKETS, W>, BUCKETS, 1, W, N>,
+pub struct MapKeeper<E: Entry<W>, const W: usize> {
+    pub(crate) nodes: Keeper<MapShape<E, W>>,
     pub(crate) len: usize,
 }
 
-impl<E: Entry<W>, const BUCKETS: usize, const W: usize, const N: usize> Model
-    for MapKeeper<E, BUCKETS, W, N> {
-    ghost use Rattle.std.specs.Prelude.{◌≡◌, ◌<◌};
+impl<E: Entry<W>, const W: usize> Model for MapKeeper<E, W> {
     ghost use Rattle.rcu_live.specs.Watcher.{Watching};
     ghost use Rattle.rcu_graph.specs.Nodes.{nodes_in};
     ghost use Rattle.rcu_graph.specs.declared.known.Planned.{Planned};
-    ghost use Rattle.rcu_map.specs.Chains.{IsMap};
-    ghost use Rattle.rcu_map.specs.Entries.{IsNodeOf, entries_in};
+    ghost use Rattle.rcu_map.specs.Chains.{IsKept};
 
     ghost Value = { Watching Planned };
 
     ghost view = { λ k. k.nodes };
 
-    ghost invariant = { λ k. record {
-      some : 0 < BUCKETS;
-      map : IsMap E.holds BUCKETS W N (nodes_in k.nodes.view.client.known);
-      count : k.len ≡ entries_in BUCKETS (nodes_in k.nodes.view.client.known);
-    } };
+    ghost invariant = { λ k. IsKept E.holds W k.nodes.view.client.plan
+        (nodes_in k.nodes.view.client.known) k.len };
 }
 
 /// Where a key belongs in the chain of its bucket.
@@ -55,46 +49,39 @@ pub(crate) struct Place {
     pub(crate) node: Option<usize>,
 }
 
-impl<E: Entry<W>, const BUCKETS: usize, const W: usize, const N: usize> MapKeeper<
-    E,
-    BUCKETS,
-    W,
-    N,
-> {
-    /// The keeper of a map that has no entry yet: the nodes of its graph are as at first, and its
-    /// roots have these words. It takes all the memory that it will ever have.
+impl<E: Entry<W>, const W: usize> MapKeeper<E, W> {
+    /// The keeper of a map that has no entry yet: the nodes of its graph are as at first. It takes
+    /// all the memory that it will ever have.
     pub fn new<const LEAF: u32, const FAN: u32, T: Drop>(
         alloc: Global,
-        map: &Map<LEAF, FAN, T, E, BUCKETS, W, N>,
-        seat: MapWatcher<E, BUCKETS, W>,
-        roots: &[[u64; W]; BUCKETS],
+        map: &Map<LEAF, FAN, T, E, W>,
+        seat: MapWatcher<E, W>,
     ) -> Result<Self, AllocError>
-        requires keeper { IsKeeperOf N map.now seat }
-        requires nodes { IsClaimed (root_words W) BUCKETS 1 W N seat.view.client.known }
-        requires first { roots.now ≡ words_of_roots W BUCKETS }
+        requires keeper { IsKeeperOf map.now seat }
+        requires nodes { IsClaimed (root_words map.now.plan.words) map.now.plan.roots
+            map.now.plan.links map.now.plan.words map.now.plan.nodes seat.view.client.known }
         ensures { IfOk result (λ keeper. keeper ≡ seat) }
     {
         // A borrow of a field shows the prover what the type keeps: that there is a bucket.
         let graph = &map.graph;
-        let nodes = keep(alloc, graph, seat, roots)?;
+        let nodes = keep(alloc, graph, seat)?;
         Ok(MapKeeper { nodes, len: 0 })
     }
 
     /// What a keeper of this map keeps: nothing is done. A caller learns the clauses by the call.
-    pub fn tends<const LEAF: u32, const FAN: u32, T: Drop>(
-        &self,
-        map: &Map<LEAF, FAN, T, E, BUCKETS, W, N>,
-    )
+    pub fn tends<const LEAF: u32, const FAN: u32, T: Drop>(&self, map: &Map<LEAF, FAN, T, E, W>)
         requires graph { IsWatcherOf map.now self.now }
-        ensures keeper { IsKeeperOf N map.now self.now }
-        ensures map { IsMap E.holds BUCKETS W N (nodes_in self.now.view.client.known) }
+        ensures keeper { IsKeeperOf map.now self.now }
+        ensures map { IsMap E.holds self.now.view.client.plan.roots
+            self.now.view.client.plan.words self.now.view.client.plan.nodes
+            (nodes_in self.now.view.client.known) }
     {
         self.nodes.tends(map.graph());
     }
 
     /// How many entries there are.
     pub fn len(&self) -> usize
-        ensures { result ≡ entries_in BUCKETS (nodes_in self.now.view.client.known) }
+        ensures { result ≡ entries_in (buckets_in self.now) (nodes_in self.now.view.client.known) }
     {
         self.len
     }
@@ -102,15 +89,17 @@ impl<E: Entry<W>, const BUCKETS: usize, const W: usize, const N: usize> MapKeepe
     /// Where a key belongs.
     pub(crate) fn place_of(&self, key: u64) -> Place
         requires { 0 < key }
-        ensures place { IsPlace BUCKETS key (nodes_in self.now.view.client.known)
+        ensures place { IsPlace (buckets_in self.now) key (nodes_in self.now.view.client.known)
             result.previous result.node }
         ensures told { MatchOption result.node
-            (¬ HasKey BUCKETS (nodes_in self.now.view.client.known) key)
-            (λ node. IsNodeOf BUCKETS (nodes_in self.now.view.client.known) key node) }
+            (¬ HasKey (buckets_in self.now) (nodes_in self.now.view.client.known) key)
+            (λ node.
+            IsNodeOf (buckets_in self.now) (nodes_in self.now.view.client.known) key node) }
     {
         // A borrow of a field shows the prover what the type keeps: that there is a bucket.
         let nodes = &self.nodes;
-        let mut previous = (key % BUCKETS as u64) as usize;
+        let buckets = nodes.plan().roots as u64;
+        let mut previous = (key % buckets) as usize;
         'chain: loop {
             let Some(next) = nodes.link_of(previous, 0) else {
                 return Place {
@@ -137,8 +126,10 @@ impl<E: Entry<W>, const BUCKETS: usize, const W: usize, const N: usize> MapKeepe
 
     /// The node that has the entry of this key. No entry has the key 0.
     fn find(&self, key: u64) -> Option<usize>
-        ensures { MatchOption result (¬ HasKey BUCKETS (nodes_in self.now.view.client.known) key)
-            (λ node. IsNodeOf BUCKETS (nodes_in self.now.view.client.known) key node) }
+        ensures { MatchOption result (¬ HasKey (buckets_in self.now)
+            (nodes_in self.now.view.client.known) key)
+            (λ node.
+            IsNodeOf (buckets_in self.now) (nodes_in self.now.view.client.known) key node) }
     {
         // A borrow of a field shows the prover what the type keeps: that an entry has a key.
         let _ = &self.nodes;
@@ -150,7 +141,7 @@ impl<E: Entry<W>, const BUCKETS: usize, const W: usize, const N: usize> MapKeepe
 
     /// The words of the entry of a node.
     pub(crate) fn words_of(&self, node: usize) -> [u64; W]
-        requires { IsEntry BUCKETS (nodes_in self.now.view.client.known) node }
+        requires { IsEntry (buckets_in self.now) (nodes_in self.now.view.client.known) node }
         ensures same { result ≡ (node_at (nodes_in self.now.view.client.known) node).words }
         ensures whole { E.holds result }
     {
@@ -165,9 +156,11 @@ impl<E: Entry<W>, const BUCKETS: usize, const W: usize, const N: usize> MapKeepe
     /// The entry of this key, if there is one: no shared word is read. No entry has the key 0.
     /// Costs a step for each node of its bucket up to there.
     pub fn get(&self, key: u64) -> Option<E>
-        ensures there { IsSome result ↔ HasKey BUCKETS (nodes_in self.now.view.client.known) key }
+        ensures there { IsSome result ↔ HasKey (buckets_in self.now)
+            (nodes_in self.now.view.client.known) key }
         ensures found { IfSome result (λ entry.
-            IsEntryOf E.decode BUCKETS (nodes_in self.now.view.client.known) key entry) }
+            IsEntryOf E.decode (buckets_in self.now) (nodes_in self.now.view.client.known) key
+            entry) }
         ensures keyed { IfSome result (λ entry. E.key_of entry ≡ key) }
         ensures sound { IfSome result (λ entry. E.valid entry) }
     {
@@ -177,7 +170,8 @@ impl<E: Entry<W>, const BUCKETS: usize, const W: usize, const N: usize> MapKeepe
 
     /// Whether there is an entry of this key.
     pub fn contains(&self, key: u64) -> bool
-        ensures { IsTrue result ↔ HasKey BUCKETS (nodes_in self.now.view.client.known) key }
+        ensures { IsTrue result ↔ HasKey (buckets_in self.now) (nodes_in self.now.view.client.known)
+            key }
     {
         self.find(key).is_some()
     }
@@ -187,14 +181,14 @@ impl<E: Entry<W>, const BUCKETS: usize, const W: usize, const N: usize> MapKeepe
     /// it retires and frees.
     pub fn age<const LEAF: u32, const FAN: u32, T: Drop>(
         &mut self,
-        map: &Map<LEAF, FAN, T, E, BUCKETS, W, N>,
+        map: &Map<LEAF, FAN, T, E, W>,
     ) -> u64
         requires { IsWatcherOf map.now self.old }
         ensures graph { IsWatcherOf map.now self.new }
         ensures state { self.new ≡ after_look self.old result }
         ensures later { self.old.view.seen ≤ result }
         ensures bounded { result ≤ 2 ^ 62 }
-        ensures entries { AreSameEntries BUCKETS (nodes_in self.old.view.client.known)
+        ensures entries { AreSameEntries (buckets_in self.old) (nodes_in self.old.view.client.known)
             (nodes_in self.new.view.client.known) }
     {
         let graph = map.graph();

@@ -4,6 +4,7 @@ ghost use Rattle.std.specs.Prelude.{OnErr, OnOk, is_some};
 ghost use Rattle.rcu_seq.specs.declared.fault.Fault.{Fault};
 ghost use Rattle.rcu_live.specs.Waits.{HasRested, wait_fault};
 ghost use Rattle.rcu_graph.specs.Nodes.{nodes_in};
+ghost use Rattle.rcu_map.specs.Chains.{buckets_in};
 ghost use Rattle.rcu_map.specs.Puts.{Holds, IsWanted, is_put};
 ghost use Rattle.rcu_map.specs.Waits.{AreAllLive, AreOf, CanWait, HasGivenUp, HasMadeRoom};
 ghost use Rattle.rcu_map.specs.Waits.{HasPutInTime, HasStayed, WaitedFor};
@@ -18,9 +19,7 @@ use rcu_seq::{Cookie, Fault, Tag};
 use std::sync::Wait;
 
 /// Refuses a seat with an open section, which its caller would wait for.
-pub(crate) fn check_outside<E: Entry<W>, const BUCKETS: usize, const W: usize>(
-    seat: &MapSeat<E, BUCKETS, W>,
-) -> Result<(), Fault>
+pub(crate) fn check_outside<E: Entry<W>, const W: usize>(seat: &MapSeat<E, W>) -> Result<(), Fault>
     ensures { MatchResult result (λ _. seat.now.depth ≡ 0)
         (λ fault. (fault ≡ Fault.InSection) × (0 < seat.now.depth)) }
 {
@@ -30,33 +29,30 @@ pub(crate) fn check_outside<E: Entry<W>, const BUCKETS: usize, const W: usize>(
     Ok(())
 }
 
-impl<E: Entry<W>, const BUCKETS: usize, const W: usize, const N: usize> MapKeeper<
-    E,
-    BUCKETS,
-    W,
-    N,
-> {
+impl<E: Entry<W>, const W: usize> MapKeeper<E, W> {
     /// Whether each node is live: the root of a bucket, or an entry's.
     pub(crate) fn is_all_live(&self) -> bool
         ensures { IsTrue result ↔ AreAllLive (nodes_in self.now.view.client.known) }
     {
-        self.len + BUCKETS == N
+        let plan = self.nodes.plan();
+        self.len + plan.roots == plan.nodes
     }
 
     /// Looks at the number, and drives the engine, until a node is free.
     fn wait_until_free<const LEAF: u32, const FAN: u32, T: Drop>(
         &mut self,
         rt: &impl Wait,
-        map: &Map<LEAF, FAN, T, E, BUCKETS, W, N>,
-        seat: &mut MapSeat<E, BUCKETS, W>,
+        map: &Map<LEAF, FAN, T, E, W>,
+        seat: &mut MapSeat<E, W>,
     ) -> Result<(), Fault>
         requires { CanWait map.now seat.old self.old }
         ensures of_map { AreOf map.now self.new seat.new }
         ensures rested { HasRested seat.old seat.new }
-        ensures waited { OnOk result (HasMadeRoom BUCKETS seat.old seat.new self.old self.new) }
+        ensures waited { OnOk result (HasMadeRoom (buckets_in self.old) seat.old seat.new self.old
+            self.new) }
         ensures fault { IfErr result (λ fault. fault ≡ Fault.Exhausted) }
         ensures given_up { OnErr result
-            (HasGivenUp BUCKETS seat.old seat.new self.old self.new) }
+            (HasGivenUp (buckets_in self.old) seat.old seat.new self.old self.new) }
     {
         let cookie = Cookie::of(Tag::of_first_epoch(self.age(map)));
         let mut waited = Ok(());
@@ -77,13 +73,13 @@ impl<E: Entry<W>, const BUCKETS: usize, const W: usize, const N: usize> MapKeepe
     fn wait_for_node<const LEAF: u32, const FAN: u32, T: Drop>(
         &mut self,
         rt: &impl Wait,
-        map: &Map<LEAF, FAN, T, E, BUCKETS, W, N>,
-        seat: &mut MapSeat<E, BUCKETS, W>,
+        map: &Map<LEAF, FAN, T, E, W>,
+        seat: &mut MapSeat<E, W>,
     ) -> Result<(), NotPut>
         requires { CanWait map.now seat.old self.old }
         ensures of_map { AreOf map.now self.new seat.new }
         ensures rested { HasRested seat.old seat.new }
-        ensures end { WaitedFor BUCKETS seat.old seat.new self.old result self.new }
+        ensures end { WaitedFor (buckets_in self.old) seat.old seat.new self.old result self.new }
     {
         if self.is_all_live() {
             return Err(NotPut::Full);
@@ -107,8 +103,8 @@ impl<E: Entry<W>, const BUCKETS: usize, const W: usize, const N: usize> MapKeepe
     pub fn put_or_wait<const LEAF: u32, const FAN: u32, T: Drop>(
         &mut self,
         rt: &impl Wait,
-        map: &Map<LEAF, FAN, T, E, BUCKETS, W, N>,
-        seat: &mut MapSeat<E, BUCKETS, W>,
+        map: &Map<LEAF, FAN, T, E, W>,
+        seat: &mut MapSeat<E, W>,
         how: Put,
         entry: E,
     ) -> Result<Option<E>, NotPut>
@@ -116,18 +112,21 @@ impl<E: Entry<W>, const BUCKETS: usize, const W: usize, const N: usize> MapKeepe
         requires sound { E.valid entry }
         ensures of_map { AreOf map.now self.new seat.new }
         ensures rested { HasRested seat.old seat.new }
-        ensures old { IfOk result (λ old. Holds E.decode E.valid E.key_of BUCKETS
+        ensures old { IfOk result (λ old. Holds E.decode E.valid E.key_of (buckets_in self.old)
             (nodes_in self.old.view.client.known) (E.key_of entry) old) }
-        ensures put { IfOk result (λ old. HasPutInTime BUCKETS (E.in_words entry) (is_some old)
+        ensures put { IfOk result (λ old. HasPutInTime (buckets_in self.old) (E.in_words entry)
+            (is_some old)
             (is_put how (is_some old)) seat.old seat.new self.old self.new) }
         ensures full { (result ≡ Err NotPut.Full) ↔ ((seat.old.depth ≡ 0)
-            × IsWanted how BUCKETS (nodes_in self.old.view.client.known) (E.key_of entry)
+            × IsWanted how (buckets_in self.old) (nodes_in self.old.view.client.known)
+            (E.key_of entry)
             × AreAllLive (nodes_in self.old.view.client.known)) }
         ensures fault { (fault : Fault) → result ≡ Err (NotPut.Fault fault) →
             fault ≡ wait_fault seat.old.depth }
         ensures given_up { result ≡ Err (NotPut.Fault Fault.Exhausted) →
-            IsWanted how BUCKETS (nodes_in self.old.view.client.known) (E.key_of entry)
-            × HasGivenUp BUCKETS seat.old seat.new self.old self.new }
+            IsWanted how (buckets_in self.old) (nodes_in self.old.view.client.known)
+            (E.key_of entry)
+            × HasGivenUp (buckets_in self.old) seat.old seat.new self.old self.new }
         ensures unchanged { OnErr result (result ≢ Err (NotPut.Fault Fault.Exhausted) →
             HasStayed seat.old seat.new self.old self.new) }
     {

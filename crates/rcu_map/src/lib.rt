@@ -21,7 +21,7 @@ mod updates;
 pub use entries::Entries;
 pub use entry::Entry;
 pub use keeper::MapKeeper;
-pub use map::{List, Map};
+pub use map::Map;
 pub use put::{NotPut, Put};
 pub use shape::{MapSeat, MapShape, MapWatcher};
 pub use updater::{MapAndKeeper, Updater};

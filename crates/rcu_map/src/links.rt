@@ -7,48 +7,34 @@ use rcu_graph::{Full, Graph, GraphWatcher, Keeper, Shape};
 use std::alloc::{AllocError, Global};
 
 /// The keeper of a graph whose nodes are as at first.
-pub(crate) fn keep<
-    const LEAF: u32,
-    const FAN: u32,
-    T: Drop,
-    F: Shape,
-    const K: usize,
-    const W: usize,
-    const N: usize,
->(
+pub(crate) fn keep<const LEAF: u32, const FAN: u32, T: Drop, F: Shape>(
     alloc: Global,
-    graph: &Graph<LEAF, FAN, T, F, K, 1, W, N>,
+    graph: &Graph<LEAF, FAN, T, F>,
     seat: GraphWatcher<F>,
-    roots: &[[u64; W]; K],
-) -> Result<Keeper<F, K, 1, W, N>, AllocError>
-    requires { CanKeep F.fits F.first K W N graph.now seat roots.now }
-    ensures { IfOk result (λ keeper. HasKept F.fits F.joins K N seat keeper) }
+) -> Result<Keeper<F>, AllocError>
+    requires { CanKeep (F.fits graph.now.plan) (F.first graph.now.plan) graph.now seat }
+    ensures { IfOk result (λ keeper.
+        HasKept (F.fits graph.now.plan) (F.joins graph.now.plan) graph.now seat keeper) }
 {
-    let keeper = Keeper::new(alloc, graph, seat, roots)?;
+    let keeper = Keeper::new(alloc, graph, seat)?;
     keeper.tends(graph);
     Ok(keeper)
 }
 
 /// Writes these words to a free node, which leads to the next one, and leads the previous one to it
 /// by one store. What no live node leads to any more is left.
-pub(crate) fn put<
-    const LEAF: u32,
-    const FAN: u32,
-    T: Drop,
-    F: Shape,
-    const K: usize,
-    const W: usize,
-    const N: usize,
->(
-    keeper: &mut Keeper<F, K, 1, W, N>,
-    graph: &Graph<LEAF, FAN, T, F, K, 1, W, N>,
+pub(crate) fn put<const LEAF: u32, const FAN: u32, T: Drop, F: Shape>(
+    keeper: &mut Keeper<F>,
+    graph: &Graph<LEAF, FAN, T, F>,
     previous: usize,
-    words: &[u64; W],
+    words: &[u64],
     next: Option<usize>,
 ) -> Result<(), Full>
-    requires { CanPut F.fits F.joins N graph.now keeper.old previous words.now next }
+    requires { CanPut (F.fits keeper.old.view.client.plan) (F.joins keeper.old.view.client.plan)
+        graph.now keeper.old previous words.now next }
     ensures { MatchResult result
-        (λ _. HasPut F.fits F.joins K N graph.now keeper.old keeper.new previous words.now next)
+        (λ _. HasPut (F.fits keeper.old.view.client.plan) (F.joins keeper.old.view.client.plan)
+        graph.now keeper.old keeper.new previous words.now next)
         (λ _. IsFull keeper.old keeper.new) }
 {
     let node = keeper.free_node()?;
@@ -60,22 +46,15 @@ pub(crate) fn put<
 
 /// Leads the previous node to where the old one leads, by one store. What no live node leads to any
 /// more is left.
-pub(crate) fn pass<
-    const LEAF: u32,
-    const FAN: u32,
-    T: Drop,
-    F: Shape,
-    const K: usize,
-    const W: usize,
-    const N: usize,
->(
-    keeper: &mut Keeper<F, K, 1, W, N>,
-    graph: &Graph<LEAF, FAN, T, F, K, 1, W, N>,
+pub(crate) fn pass<const LEAF: u32, const FAN: u32, T: Drop, F: Shape>(
+    keeper: &mut Keeper<F>,
+    graph: &Graph<LEAF, FAN, T, F>,
     previous: usize,
     old: usize,
 )
-    requires { CanPass F.joins N graph.now keeper.old previous old }
-    ensures { HasPassed F.fits F.joins K N graph.now keeper.old keeper.new previous old }
+    requires { CanPass (F.joins keeper.old.view.client.plan) graph.now keeper.old previous old }
+    ensures { HasPassed (F.fits keeper.old.view.client.plan) (F.joins keeper.old.view.client.plan)
+        graph.now keeper.old keeper.new previous old }
 {
     let next = keeper.link_of(old, 0);
     keeper.link(graph, previous, 0, next);

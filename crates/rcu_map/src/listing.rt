@@ -13,25 +13,22 @@ use crate::entry::{Entry, words_are_two};
 use crate::map::Map;
 use crate::shape::MapSeat;
 
-impl<
-    const LEAF: u32,
-    const FAN: u32,
-    T: Drop,
-    E: Entry<W>,
-    const BUCKETS: usize,
-    const W: usize,
-    const N: usize,
-> Map<LEAF, FAN, T, E, BUCKETS, W, N> {
+impl<const LEAF: u32, const FAN: u32, T: Drop, E: Entry<W>, const W: usize> Map<
+    LEAF,
+    FAN,
+    T,
+    E,
+    W,
+> {
     /// Goes on from a cursor by one hop, and returns where that led: to a node, or to the root of
     /// the next bucket, where it led nowhere.
-    fn step(&self, seat: &mut MapSeat<E, BUCKETS, W>, at: Cursor) -> Cursor
-        requires may { MayGoOn N BUCKETS self.now seat.old at }
-        requires inside { at.bucket < BUCKETS }
-        ensures { HasStepped E.holds N BUCKETS W self.now seat.old at seat.new result }
+    fn step(&self, seat: &mut MapSeat<E, W>, at: Cursor) -> Cursor
+        requires may { MayGoOn self.now seat.old at }
+        requires inside { at.bucket < self.now.plan.roots }
+        ensures { HasStepped E.holds self.now seat.old at seat.new result }
     {
         words_are_two::<E, W>();
-        // Shows the prover that the next bucket's root is a node.
-        self.graph.sizes();
+        self.plan();
         let Some(node) = self.graph.follow(seat, at.node, 0) else {
             return Cursor::at_root(at.bucket + 1);
         };
@@ -44,24 +41,25 @@ impl<
     }
 
     /// The entry that a node has, by a load a word.
-    fn entry_at(&self, seat: &mut MapSeat<E, BUCKETS, W>, node: usize) -> E
-        requires { IsOnEntry E.holds N W self.now seat.old node }
+    fn entry_at(&self, seat: &mut MapSeat<E, W>, node: usize) -> E
+        requires { IsOnEntry E.holds self.now seat.old node }
         ensures same { seat.new ≡ seat.old }
         ensures told { (words : List ℕ) → IsHeld seat.old.view.client.known node words →
-            IsWhole E.holds W words → result ≡ E.decode words }
+            IsWhole E.holds self.now.plan.words words → result ≡ E.decode words }
         ensures sound { E.valid result }
     {
         E::of_words(&self.words_at(seat, node))
     }
 
     /// Goes on from a cursor to the next entry. None tells that no bucket has a further one.
-    fn next_entry(&self, seat: &mut MapSeat<E, BUCKETS, W>, start: Cursor) -> (Cursor, Option<E>)
-        requires { MayGoOn N BUCKETS self.now seat.old start }
-        ensures { HasListed E.holds E.decode E.valid E.key_of N BUCKETS self.now seat.old start
+    fn next_entry(&self, seat: &mut MapSeat<E, W>, start: Cursor) -> (Cursor, Option<E>)
+        requires { MayGoOn self.now seat.old start }
+        ensures { HasListed E.holds E.decode E.valid E.key_of self.now seat.old start
             seat.new result.0 result.1 }
     {
         let mut at = start;
-        'buckets: while at.bucket < BUCKETS {
+        let buckets = self.plan().roots;
+        'buckets: while at.bucket < buckets {
             at = self.step(seat, at);
             if at.key > 0 {
                 return (at, Some(self.entry_at(seat, at.node)));
@@ -71,18 +69,14 @@ impl<
     }
 
     /// Lends the seat to an iterator over all entries, in an open section. Nothing is loaded yet.
-    pub fn entries<'a>(
-        &'a self,
-        seat: &'a mut MapSeat<E, BUCKETS, W>,
-    ) -> Entries<'a, LEAF, FAN, T, E, BUCKETS, W, N>
+    pub fn entries<'a>(&'a self, seat: &'a mut MapSeat<E, W>) -> Entries<'a, LEAF, FAN, T, E, W>
         requires { IsWalking self.now seat.old }
         ensures map { (listing result).map ≡ self.now }
         ensures seat { (listing result).seat ≡ seat.old }
         ensures name { (listing result).name ≡ seat.entry.ghost_name }
         ensures first { (listing result).at ≡ at_root 0 }
     {
-        // Shows the prover that the first bucket's root is a node.
-        self.graph.sizes();
+        self.plan();
         Entries {
             map: self,
             seat,
@@ -91,24 +85,16 @@ impl<
     }
 }
 
-impl<
-    'a,
-    const LEAF: u32,
-    const FAN: u32,
-    T: Drop,
-    E: Entry<W>,
-    const BUCKETS: usize,
-    const W: usize,
-    const N: usize,
-> Iterator for Entries<'a, LEAF, FAN, T, E, BUCKETS, W, N> {
+impl<'a, const LEAF: u32, const FAN: u32, T: Drop, E: Entry<W>, const W: usize> Iterator
+    for Entries<'a, LEAF, FAN, T, E, W> {
     ghost use Rattle.std.specs.Iterator.{at_most};
 
     type Item = E;
 
     ghost next_gives = { λ old result new.
-        Listed E.holds E.decode E.valid E.key_of BUCKETS (listing old) result (listing new) };
+        Listed E.holds E.decode E.valid E.key_of (listing old) result (listing new) };
 
-    ghost remaining = { λ s. at_most (left_from BUCKETS (listing s).at) };
+    ghost remaining = { λ s. at_most (left_from (listing s).map.plan.roots (listing s).at) };
 
     /// The next entry, by two loads for each node of the chains from here up to there, and one a
     /// word.

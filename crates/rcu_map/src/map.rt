@@ -9,47 +9,21 @@ ghost use Rattle.rcu_map.specs.Keys.{IsWhole, bucket_of, root_words};
 
 use crate::entry::Entry;
 use crate::shape::{MapSeat, MapShape};
-use rcu_graph::Graph;
 use rcu_graph::rule::GraphRule;
+use rcu_graph::{Graph, Plan};
 use rcu_live::Live;
 use std::marker::Model;
 
-/// Entries in up to `N` less `BUCKETS` nodes beside a running engine: a chain a bucket, whose keys
-/// go up.
+/// Entries beside a running engine: a chain a bucket, whose keys go up. With one bucket it is a
+/// sorted list.
 #[derive(Drop)]
-pub struct Map<
-    const LEAF: u32,
-    const FAN: u32,
-    T: Drop,
-    E: Entry<W>,
-    const BUCKETS: usize,
-    const W: usize,
-    const N: usize,
-> {
-    pub(crate) graph: Graph<LEAF, FAN, T, MapShape<E, BUCKETS, W>, BUCKETS, 1, W, N>,
+pub struct Map<const LEAF: u32, const FAN: u32, T: Drop, E: Entry<W>, const W: usize> {
+    pub(crate) graph: Graph<LEAF, FAN, T, MapShape<E, W>>,
 }
 
-/// A map of one bucket: a sorted list.
-pub type List<const LEAF: u32, const FAN: u32, T, E, const W: usize, const N: usize> = Map<
-    LEAF,
-    FAN,
-    T,
-    E,
-    1,
-    W,
-    N,
->;
-
-impl<
-    const LEAF: u32,
-    const FAN: u32,
-    T: Drop,
-    E: Entry<W>,
-    const BUCKETS: usize,
-    const W: usize,
-    const N: usize,
-> Model for Map<LEAF, FAN, T, E, BUCKETS, W, N> {
-    ghost use Rattle.std.specs.Prelude.{◌<◌};
+impl<const LEAF: u32, const FAN: u32, T: Drop, E: Entry<W>, const W: usize> Model
+    for Map<LEAF, FAN, T, E, W> {
+    ghost use Rattle.std.specs.Prelude.{◌≡◌, ◌<◌};
     ghost use Rattle.rcu_live.specs.Board.{Object};
     ghost use Rattle.rcu_graph.specs.declared.plan.Plan.{Plan};
 
@@ -57,50 +31,67 @@ impl<
 
     ghost view = { λ map. map.graph };
 
-    ghost invariant = { λ _. 0 < BUCKETS };
+    ghost invariant = { λ map. record {
+      some : 0 < map.graph.plan.roots;
+      one : map.graph.plan.links ≡ 1;
+      words : map.graph.plan.words ≡ W;
+    } };
 }
 
-impl<
-    const LEAF: u32,
-    const FAN: u32,
-    T: Drop,
-    E: Entry<W>,
-    const BUCKETS: usize,
-    const W: usize,
-    const N: usize,
-> Map<LEAF, FAN, T, E, BUCKETS, W, N> {
-    /// A map over a graph, as `Graph::open` opens it with the words of the roots of all buckets.
-    pub fn over(
-        graph: Graph<LEAF, FAN, T, MapShape<E, BUCKETS, W>, BUCKETS, 1, W, N>,
-    ) -> Map<LEAF, FAN, T, E, BUCKETS, W, N>
-        requires { 0 < BUCKETS }
+impl<const LEAF: u32, const FAN: u32, T: Drop, E: Entry<W>, const W: usize> Map<
+    LEAF,
+    FAN,
+    T,
+    E,
+    W,
+> {
+    /// A map over a graph of one link a node, whose roots are those of the buckets.
+    pub fn over(graph: Graph<LEAF, FAN, T, MapShape<E, W>>) -> Map<LEAF, FAN, T, E, W>
+        requires some { 0 < graph.plan.roots }
+        requires one { graph.plan.links ≡ 1 }
+        requires words { graph.plan.words ≡ W }
         ensures { result ≡ graph }
     {
         Map { graph }
     }
 
     /// The running engine.
-    pub fn live(&self) -> &Live<LEAF, FAN, T, GraphRule<MapShape<E, BUCKETS, W>>>
+    pub fn live(&self) -> &Live<LEAF, FAN, T, GraphRule<MapShape<E, W>>>
         ensures { result.now ≡ self.now }
     {
         self.graph.live()
     }
 
+    /// How large it is: it has as many buckets as roots.
+    pub fn plan(&self) -> Plan
+        ensures plan { result ≡ self.now.plan }
+        ensures some { 0 < self.now.plan.roots }
+        ensures roots { self.now.plan.roots ≤ self.now.plan.nodes }
+        ensures one { self.now.plan.links ≡ 1 }
+        ensures words { self.now.plan.words ≡ W }
+    {
+        // A borrow of a field shows the prover what the type keeps.
+        let graph = &self.graph;
+        graph.plan()
+    }
+
     /// The nodes, for who keeps them.
-    pub fn graph(&self) -> &Graph<LEAF, FAN, T, MapShape<E, BUCKETS, W>, BUCKETS, 1, W, N>
+    pub fn graph(&self) -> &Graph<LEAF, FAN, T, MapShape<E, W>>
         ensures { result.now ≡ self.now }
     {
         &self.graph
     }
 
     /// The words of the node that the section is on, by a load each.
-    pub(crate) fn words_at(&self, seat: &mut MapSeat<E, BUCKETS, W>, node: usize) -> [u64; W]
-        requires at { IsAt (root_words W) BUCKETS N self.now seat.old node }
+    pub(crate) fn words_at(&self, seat: &mut MapSeat<E, W>, node: usize) -> [u64; W]
+        requires at { IsAt (root_words self.now.plan.words) self.now seat.old node }
         ensures same { seat.new ≡ seat.old }
         ensures told { (words : List ℕ) →
-            IsOn (root_words W) BUCKETS seat.old.view.client.known node words →
-            IsWhole E.holds W words → result ≡ words }
+            IsOn (root_words self.now.plan.words) self.now.plan.roots
+            seat.old.view.client.known node words →
+            IsWhole E.holds self.now.plan.words words → result ≡ words }
     {
+        self.plan();
         let mut words = [0u64; W];
         for word in 0..W {
             words[word] = self.graph.read(seat, node, word);
@@ -109,35 +100,34 @@ impl<
     }
 
     /// The node that has the entry of this key. No entry has the key 0.
-    fn find(&self, seat: &mut MapSeat<E, BUCKETS, W>, key: u64) -> Option<usize>
+    fn find(&self, seat: &mut MapSeat<E, W>, key: u64) -> Option<usize>
         requires walking { IsWalking self.now seat.old }
         ensures same { seat.new ≡ after_word_step seat.old seat.new.view.client }
         ensures walking { IsWalking self.now seat.new }
-        ensures searched { 0 < key → IsSearched (bucket_of BUCKETS key) key
+        ensures searched { 0 < key → IsSearched (bucket_of self.now.plan.roots key) key
             seat.old.view.client.known
             result seat.new.view.client.known }
         ensures none { key ≡ 0 → result ≡ None }
         ensures found { IfSome result (λ node.
-            IsFound (IsWhole E.holds W) key seat.new.view.client.known node) }
+            IsFound (IsWhole E.holds self.now.plan.words) key seat.new.view.client.known node) }
         ensures keyed { IfSome result (λ _. 0 < key) }
         ensures on { IfSome result (λ node.
-            IsAt (root_words W) BUCKETS N self.now seat.new node) }
+            IsAt (root_words self.now.plan.words) self.now seat.new node) }
     {
         if key == 0 {
             return None;
         }
-        // A borrow of a field shows the prover what the type keeps: that there is a bucket.
-        let graph = &self.graph;
-        graph.find(seat, (key % BUCKETS as u64) as usize, key)
+        let buckets = self.plan().roots as u64;
+        self.graph.find(seat, (key % buckets) as usize, key)
     }
 
     /// The entry of this key, by two loads for each node of its bucket up to there, and one a word.
     /// It ends, whatever the keeper does meanwhile. No entry has the key 0.
-    pub fn get(&self, seat: &mut MapSeat<E, BUCKETS, W>, key: u64) -> Option<E>
+    pub fn get(&self, seat: &mut MapSeat<E, W>, key: u64) -> Option<E>
         requires walking { IsWalking self.now seat.old }
         ensures same { seat.new ≡ after_word_step seat.old seat.new.view.client }
         ensures walking { IsWalking self.now seat.new }
-        ensures searched { 0 < key → IsLookedUp BUCKETS key seat.old.view.client.known
+        ensures searched { 0 < key → IsLookedUp self.now.plan.roots key seat.old.view.client.known
             (is_some result)
             seat.new.view.client.known }
         ensures none { key ≡ 0 → is_some result ≡ false }
@@ -151,11 +141,12 @@ impl<
     }
 
     /// Whether the section finds an entry of this key, as [`get`](Self::get) does.
-    pub fn contains(&self, seat: &mut MapSeat<E, BUCKETS, W>, key: u64) -> bool
+    pub fn contains(&self, seat: &mut MapSeat<E, W>, key: u64) -> bool
         requires walking { IsWalking self.now seat.old }
         ensures same { seat.new ≡ after_word_step seat.old seat.new.view.client }
         ensures walking { IsWalking self.now seat.new }
-        ensures searched { 0 < key → IsLookedUp BUCKETS key seat.old.view.client.known result
+        ensures searched { 0 < key → IsLookedUp self.now.plan.roots key seat.old.view.client.known
+            result
             seat.new.view.client.known }
         ensures none { key ≡ 0 → result ≡ false }
     {

@@ -11,23 +11,17 @@ use crate::map::Map;
 use crate::shape::MapSeat;
 use rcu_seq::Fault;
 
-impl<
-    const LEAF: u32,
-    const FAN: u32,
-    T: Drop,
-    E: Entry<W>,
-    const BUCKETS: usize,
-    const W: usize,
-    const N: usize,
-> Map<LEAF, FAN, T, E, BUCKETS, W, N> {
+impl<const LEAF: u32, const FAN: u32, T: Drop, E: Entry<W>, const W: usize> Map<
+    LEAF,
+    FAN,
+    T,
+    E,
+    W,
+> {
     /// Reads the entry of a key in a section of its own. It takes no lock and waits for nobody.
     ///
     /// Faults: `Offline` (2) where the processor is offline; `CpuIdle` (23) where it is idle.
-    pub fn get_section(
-        &self,
-        seat: &mut MapSeat<E, BUCKETS, W>,
-        key: u64,
-    ) -> Result<Option<E>, Fault>
+    pub fn get_section(&self, seat: &mut MapSeat<E, W>, key: u64) -> Result<Option<E>, Fault>
         requires seat { IsSeatOf self.now seat.old }
         requires outside { seat.old.depth ≡ 0 }
         requires reader { IsReader seat.old.view.client.known }

@@ -1,28 +1,33 @@
 //! The facts that the nodes of a map meet, and the seats of its engine.
 use crate::entry::Entry;
-use rcu_graph::{GraphSeat, GraphWatcher, Shape};
+use rcu_graph::{GraphSeat, GraphWatcher, Plan, Shape};
 use std::marker::PhantomData;
 
-/// The facts of a map of so many buckets: a node in use is a bucket's root, or has an entry's
+/// The facts of a map whose buckets' roots are the roots: a node in use is one, or has an entry's
 /// words. A link leads to a node of the same bucket with a greater key.
-pub struct MapShape<E, const BUCKETS: usize, const W: usize> {
+pub struct MapShape<E, const W: usize> {
     entry: PhantomData<E>,
 }
 
-impl<E: Entry<W>, const BUCKETS: usize, const W: usize> Shape for MapShape<E, BUCKETS, W> {
+impl<E: Entry<W>, const W: usize> Shape for MapShape<E, W> {
     ghost use Rattle.rcu_map.specs.Keys.{GoesUp, IsWhole, root_words};
 
-    ghost fits = { IsWhole E.holds W };
+    ghost fits = { λ plan. IsWhole E.holds plan.words };
 
-    ghost joins = { λ _ from to. GoesUp BUCKETS from to };
+    ghost joins = { λ plan _ from to. GoesUp plan.roots from to };
 
-    ghost first = { root_words W };
+    ghost first = { λ plan. root_words plan.words };
+
+    fn first_word(_plan: Plan, root: usize, word: usize) -> u64 {
+        if word == 1 {
+            return root as u64;
+        }
+        0
+    }
 }
 
 /// A processor's seat of a map's engine.
-pub type MapSeat<E, const BUCKETS: usize, const W: usize> = GraphSeat<MapShape<E, BUCKETS, W>>;
+pub type MapSeat<E, const W: usize> = GraphSeat<MapShape<E, W>>;
 
 /// A watcher's seat of a map's engine.
-pub type MapWatcher<E, const BUCKETS: usize, const W: usize> = GraphWatcher<
-    MapShape<E, BUCKETS, W>,
->;
+pub type MapWatcher<E, const W: usize> = GraphWatcher<MapShape<E, W>>;

@@ -13,18 +13,9 @@ use std::sync::{Mutex, MutexGuard, Wait};
 
 /// A map and its keeper, which belong together, as [`Updater::lock`] lends them.
 #[derive(Drop)]
-pub struct MapAndKeeper<
-    'a,
-    const LEAF: u32,
-    const FAN: u32,
-    T: Drop,
-    E: Entry<W>,
-    const BUCKETS: usize,
-    const W: usize,
-    const N: usize,
-> {
-    pub map: &'a Map<LEAF, FAN, T, E, BUCKETS, W, N>,
-    pub keeper: MapKeeper<E, BUCKETS, W, N>,
+pub struct MapAndKeeper<'a, const LEAF: u32, const FAN: u32, T: Drop, E: Entry<W>, const W: usize> {
+    pub map: &'a Map<LEAF, FAN, T, E, W>,
+    pub keeper: MapKeeper<E, W>,
     pub ghost keeper_of: { IsWatcherOf map.now keeper },
 }
 
@@ -32,30 +23,13 @@ pub struct MapAndKeeper<
 /// What each call does to the map is said at [`MapKeeper`]. None holds the lock while it waits for
 /// a reader.
 #[derive(Drop)]
-pub struct Updater<
-    'a,
-    const LEAF: u32,
-    const FAN: u32,
-    T: Drop,
-    E: Entry<W>,
-    const BUCKETS: usize,
-    const W: usize,
-    const N: usize,
-> {
-    pub(crate) map: &'a Map<LEAF, FAN, T, E, BUCKETS, W, N>,
-    held: Mutex<MapAndKeeper<'a, LEAF, FAN, T, E, BUCKETS, W, N>>,
+pub struct Updater<'a, const LEAF: u32, const FAN: u32, T: Drop, E: Entry<W>, const W: usize> {
+    pub(crate) map: &'a Map<LEAF, FAN, T, E, W>,
+    held: Mutex<MapAndKeeper<'a, LEAF, FAN, T, E, W>>,
 }
 
-impl<
-    'a,
-    const LEAF: u32,
-    const FAN: u32,
-    T: Drop,
-    E: Entry<W>,
-    const BUCKETS: usize,
-    const W: usize,
-    const N: usize,
-> Model for Updater<'a, LEAF, FAN, T, E, BUCKETS, W, N> {
+impl<'a, const LEAF: u32, const FAN: u32, T: Drop, E: Entry<W>, const W: usize> Model
+    for Updater<'a, LEAF, FAN, T, E, W> {
     ghost use Rattle.rcu_live.specs.Board.{Object};
     ghost use Rattle.rcu_graph.specs.declared.plan.Plan.{Plan};
 
@@ -64,21 +38,16 @@ impl<
     ghost view = { λ updater. updater.map.now };
 }
 
-impl<
+impl<'a, const LEAF: u32, const FAN: u32, T: Drop, E: Entry<W>, const W: usize> Updater<
     'a,
-    const LEAF: u32,
-    const FAN: u32,
-    T: Drop,
-    E: Entry<W>,
-    const BUCKETS: usize,
-    const W: usize,
-    const N: usize,
-> Updater<'a, LEAF, FAN, T, E, BUCKETS, W, N> {
+    LEAF,
+    FAN,
+    T,
+    E,
+    W,
+> {
     /// Puts the keeper of a map under a lock.
-    pub fn new(
-        map: &'a Map<LEAF, FAN, T, E, BUCKETS, W, N>,
-        keeper: MapKeeper<E, BUCKETS, W, N>,
-    ) -> Self
+    pub fn new(map: &'a Map<LEAF, FAN, T, E, W>, keeper: MapKeeper<E, W>) -> Self
         requires { IsWatcherOf map.now keeper }
         ensures { result ≡ map.now }
     {
@@ -89,10 +58,7 @@ impl<
     }
 
     /// Lends the map and its keeper, for several steps between which no other thread's comes.
-    pub fn lock(
-        &self,
-        rt: &impl Wait,
-    ) -> MutexGuard<'_, MapAndKeeper<'a, LEAF, FAN, T, E, BUCKETS, W, N>> {
+    pub fn lock(&self, rt: &impl Wait) -> MutexGuard<'_, MapAndKeeper<'a, LEAF, FAN, T, E, W>> {
         self.held.lock(rt)
     }
 

@@ -15,16 +15,14 @@ use rcu_graph::Full;
 use rcu_seq::{Cookie, Tag};
 use std::sync::Wait;
 
-impl<
+impl<'a, const LEAF: u32, const FAN: u32, T: Drop, E: Entry<W>, const W: usize> Updater<
     'a,
-    const LEAF: u32,
-    const FAN: u32,
-    T: Drop,
-    E: Entry<W>,
-    const BUCKETS: usize,
-    const W: usize,
-    const N: usize,
-> Updater<'a, LEAF, FAN, T, E, BUCKETS, W, N> {
+    LEAF,
+    FAN,
+    T,
+    E,
+    W,
+> {
     /// Looks at the number, and puts an entry in, if that needs no node or one is free. Where a
     /// later number may free one, `Err` is the number.
     fn look_and_put(
@@ -60,7 +58,7 @@ impl<
     pub fn put_or_wait(
         &self,
         rt: &impl Wait,
-        seat: &mut MapSeat<E, BUCKETS, W>,
+        seat: &mut MapSeat<E, W>,
         how: Put,
         entry: E,
     ) -> Result<Option<E>, NotPut>

@@ -2,6 +2,7 @@
 ghost use Rattle.std.specs.Prelude.{◌≡◌, IfNone, IsSome, MatchResult, None, Some, false, true};
 ghost use Rattle.rcu_graph.specs.Graph.{IsWatcherOf};
 ghost use Rattle.rcu_graph.specs.Nodes.{nodes_in};
+ghost use Rattle.rcu_map.specs.Chains.{buckets_in};
 ghost use Rattle.rcu_map.specs.Entries.{IsRemoved};
 ghost use Rattle.rcu_map.specs.Keys.{key_in};
 ghost use Rattle.rcu_map.specs.Puts.{HasAnswered, HasChanged, Holds, IsPutIn};
@@ -15,28 +16,25 @@ use crate::map::Map;
 use crate::put::Put;
 use rcu_graph::Full;
 
-impl<E: Entry<W>, const BUCKETS: usize, const W: usize, const N: usize> MapKeeper<
-    E,
-    BUCKETS,
-    W,
-    N,
-> {
+impl<E: Entry<W>, const W: usize> MapKeeper<E, W> {
     /// Puts an entry of these words behind the node where its key belongs, which no entry has.
     fn put_behind<const LEAF: u32, const FAN: u32, T: Drop>(
         &mut self,
-        map: &Map<LEAF, FAN, T, E, BUCKETS, W, N>,
+        map: &Map<LEAF, FAN, T, E, W>,
         previous: usize,
         words: &[u64; W],
     ) -> Result<(), Full>
         requires graph { IsWatcherOf map.now self.old }
         requires whole { E.holds words.now }
-        requires place { IsPlace BUCKETS (key_in words.now) (nodes_in self.old.view.client.known)
+        requires place { IsPlace (buckets_in self.old) (key_in words.now)
+            (nodes_in self.old.view.client.known)
             previous None }
         ensures graph { IsWatcherOf map.now self.new }
         ensures put { MatchResult result
-            (λ _. HasChanged (IsPutIn BUCKETS words.now false) self.old self.new)
+            (λ _. HasChanged (IsPutIn (buckets_in self.old) words.now false) self.old self.new)
             (λ _. IsFull self.old self.new) }
     {
+        self.nodes.plan();
         let next = self.nodes.link_of(previous, 0);
         put(&mut self.nodes, map.graph(), previous, words, next)?;
         self.len += 1;
@@ -46,18 +44,19 @@ impl<E: Entry<W>, const BUCKETS: usize, const W: usize, const N: usize> MapKeepe
     /// Puts an entry of these words in the place of the old one that has its key, behind this node.
     fn put_over<const LEAF: u32, const FAN: u32, T: Drop>(
         &mut self,
-        map: &Map<LEAF, FAN, T, E, BUCKETS, W, N>,
+        map: &Map<LEAF, FAN, T, E, W>,
         previous: usize,
         old: usize,
         words: &[u64; W],
     ) -> Result<(), Full>
         requires graph { IsWatcherOf map.now self.old }
         requires whole { E.holds words.now }
-        requires place { IsPlace BUCKETS (key_in words.now) (nodes_in self.old.view.client.known)
+        requires place { IsPlace (buckets_in self.old) (key_in words.now)
+            (nodes_in self.old.view.client.known)
             previous (Some old) }
         ensures graph { IsWatcherOf map.now self.new }
         ensures put { MatchResult result
-            (λ _. HasChanged (IsPutIn BUCKETS words.now true) self.old self.new)
+            (λ _. HasChanged (IsPutIn (buckets_in self.old) words.now true) self.old self.new)
             (λ _. IsFull self.old self.new) }
     {
         let next = self.nodes.link_of(old, 0);
@@ -69,13 +68,13 @@ impl<E: Entry<W>, const BUCKETS: usize, const W: usize, const N: usize> MapKeepe
     /// to there.
     pub(crate) fn put<const LEAF: u32, const FAN: u32, T: Drop>(
         &mut self,
-        map: &Map<LEAF, FAN, T, E, BUCKETS, W, N>,
+        map: &Map<LEAF, FAN, T, E, W>,
         how: Put,
         entry: E,
     ) -> Result<Option<E>, Full>
         requires graph { IsWatcherOf map.now self.old }
         requires sound { E.valid entry }
-        ensures { HasAnswered E.decode E.valid E.key_of BUCKETS map.now how (E.key_of entry)
+        ensures { HasAnswered E.decode E.valid E.key_of map.now how (E.key_of entry)
             (E.in_words entry) self.old result self.new }
     {
         let words = entry.to_words();
@@ -98,12 +97,12 @@ impl<E: Entry<W>, const BUCKETS: usize, const W: usize, const N: usize> MapKeepe
     /// each node of its bucket up to there.
     pub fn insert<const LEAF: u32, const FAN: u32, T: Drop>(
         &mut self,
-        map: &Map<LEAF, FAN, T, E, BUCKETS, W, N>,
+        map: &Map<LEAF, FAN, T, E, W>,
         entry: E,
     ) -> Result<Option<E>, Full>
         requires graph { IsWatcherOf map.now self.old }
         requires sound { E.valid entry }
-        ensures { HasAnswered E.decode E.valid E.key_of BUCKETS map.now Put.Insert
+        ensures { HasAnswered E.decode E.valid E.key_of map.now Put.Insert
             (E.key_of entry) (E.in_words entry) self.old result self.new }
     {
         self.put(map, Put::Insert, entry)
@@ -114,12 +113,12 @@ impl<E: Entry<W>, const BUCKETS: usize, const W: usize, const N: usize> MapKeepe
     /// tells that one has it, and that no node is free. Costs as [`insert`](Self::insert).
     pub fn replace<const LEAF: u32, const FAN: u32, T: Drop>(
         &mut self,
-        map: &Map<LEAF, FAN, T, E, BUCKETS, W, N>,
+        map: &Map<LEAF, FAN, T, E, W>,
         entry: E,
     ) -> Result<Option<E>, Full>
         requires graph { IsWatcherOf map.now self.old }
         requires sound { E.valid entry }
-        ensures { HasAnswered E.decode E.valid E.key_of BUCKETS map.now Put.Replace
+        ensures { HasAnswered E.decode E.valid E.key_of map.now Put.Replace
             (E.key_of entry) (E.in_words entry) self.old result self.new }
     {
         self.put(map, Put::Replace, entry)
@@ -130,12 +129,12 @@ impl<E: Entry<W>, const BUCKETS: usize, const W: usize, const N: usize> MapKeepe
     /// [`insert`](Self::insert).
     pub fn upsert<const LEAF: u32, const FAN: u32, T: Drop>(
         &mut self,
-        map: &Map<LEAF, FAN, T, E, BUCKETS, W, N>,
+        map: &Map<LEAF, FAN, T, E, W>,
         entry: E,
     ) -> Result<Option<E>, Full>
         requires graph { IsWatcherOf map.now self.old }
         requires sound { E.valid entry }
-        ensures { HasAnswered E.decode E.valid E.key_of BUCKETS map.now Put.Upsert
+        ensures { HasAnswered E.decode E.valid E.key_of map.now Put.Upsert
             (E.key_of entry) (E.in_words entry) self.old result self.new }
     {
         self.put(map, Put::Upsert, entry)
@@ -144,15 +143,17 @@ impl<E: Entry<W>, const BUCKETS: usize, const W: usize, const N: usize> MapKeepe
     /// Takes the entry of this key out, by one store, and returns it, if there is one.
     pub fn remove<const LEAF: u32, const FAN: u32, T: Drop>(
         &mut self,
-        map: &Map<LEAF, FAN, T, E, BUCKETS, W, N>,
+        map: &Map<LEAF, FAN, T, E, W>,
         key: u64,
     ) -> Option<E>
         requires { IsWatcherOf map.now self.old }
         ensures graph { IsWatcherOf map.now self.new }
-        ensures old { Holds E.decode E.valid E.key_of BUCKETS (nodes_in self.old.view.client.known)
+        ensures old { Holds E.decode E.valid E.key_of (buckets_in self.old)
+            (nodes_in self.old.view.client.known)
             key result }
         ensures removed { IsSome result →
-            HasChanged (λ before after. IsRemoved BUCKETS before key after) self.old self.new }
+            HasChanged (λ before after. IsRemoved (buckets_in self.old) before key after) self.old
+            self.new }
         ensures unchanged { IfNone result (self.new ≡ self.old) }
     {
         // A borrow of a field shows the prover what the type keeps: that an entry has a key.

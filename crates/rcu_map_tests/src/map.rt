@@ -14,16 +14,16 @@ ghost use Rattle.rcu_graph.specs.Planned.{of_plan};
 ghost use Rattle.rcu_graph.specs.declared.known.Known.TheVariants.{Idle};
 
 use crate::map::route::Route;
-use rcu_map::{List, Map, MapSeat};
+use rcu_graph::NotOpened;
+use rcu_map::{Map, MapSeat};
 use rcu_seq::Fault;
 use std::alloc::Global;
 use std::process::Abort;
 
-/// Up to 12 routes in 4 buckets.
-type Routes = Map<4, 4, u64, Route, 4, 2, 16>;
+type Routes = Map<4, 4, u64, Route, 2>;
 
 /// Looks a route up, and goes over all of them: there is none.
-fn finds_none<R: Abort>(rt: &R, map: &Routes, seat: &mut MapSeat<Route, 4, 2>)
+fn finds_none<R: Abort>(rt: &R, map: &Routes, seat: &mut MapSeat<Route, 2>)
     requires seat { IsSeatOf map.now seat.old }
     requires outside { seat.old.depth ≡ 0 }
     requires idle { seat.old.view.client ≡ of_plan map.now.plan Idle }
@@ -38,7 +38,7 @@ fn finds_none<R: Abort>(rt: &R, map: &Routes, seat: &mut MapSeat<Route, 4, 2>)
 
 #[test]
 fn map_opens_with_no_entry(rt: HostRuntime) {
-    let Ok((map, mut seats, watchers, _)) = Routes::open(rt.alloc(), 1, 8) else {
+    let Ok((map, mut seats, watchers, _)) = Routes::open(rt.alloc(), 1, 8, 4, 16) else {
         return;
     };
     assert_eq!(rt; (seats.len(), watchers.len()), (1, 1));
@@ -46,30 +46,52 @@ fn map_opens_with_no_entry(rt: HostRuntime) {
     finds_none(&rt, &map, &mut seat);
 }
 
-/// Opens a list of so many processors. Returns for how many it deals seats, by a second call where
-/// the first is refused a growth.
-fn opens(alloc: Global, cpus: u32, last: u64) -> Result<usize, Fault> {
-    let mut opened = List::<64, 64, u64, Route, 2, 3>::open(alloc, cpus, last);
-    if matches!(opened, Err(Fault::NoMemory)) {
-        opened = List::open(alloc, cpus, last);
+/// Opens a map of so many processors, buckets and nodes. Returns for how many processors it deals
+/// seats, by a second call where the first is refused a growth.
+fn opens(alloc: Global, engine: (u32, u64), sizes: (usize, usize)) -> Result<usize, NotOpened> {
+    let ((cpus, last), (buckets, nodes)) = (engine, sizes);
+    let mut opened = Map::<64, 64, u64, Route, 2>::open(alloc, cpus, last, buckets, nodes);
+    if matches!(opened, Err(NotOpened::Fault(Fault::NoMemory))) {
+        opened = Map::open(alloc, cpus, last, buckets, nodes);
     }
     let (_, seats, _, _) = opened?;
     Ok(seats.len())
 }
 
-/// Numbers of processors and last numbers, and what comes of opening a list of them.
-static SIZES: [(u32, u64, Result<usize, Fault>); 5] = [
-    (1, 4, Ok(1)),
-    (4096, 1 << 62, Ok(4096)),
-    (0, 6, Err(Fault::TooManyCpus)),
-    (4097, 4, Err(Fault::TooManyCpus)),
-    (4096, 6, Err(Fault::BadLast)),
+/// Numbers of processors and last numbers, and what comes of opening a map of them.
+static ENGINES: [((u32, u64), Result<usize, NotOpened>); 5] = [
+    ((1, 4), Ok(1)),
+    ((4096, 1 << 62), Ok(4096)),
+    ((0, 6), Err(NotOpened::Fault(Fault::TooManyCpus))),
+    ((4097, 4), Err(NotOpened::Fault(Fault::TooManyCpus))),
+    ((4096, 6), Err(NotOpened::Fault(Fault::BadLast))),
 ];
 
 #[test]
-fn list_sizes(rt: HostRuntime) {
-    for (cpus, last, wanted) in &SIZES {
-        let found = opens(rt.alloc(), *cpus, *last);
-        assert_eq!(rt; (*cpus, *last, found), (*cpus, *last, *wanted));
+fn map_opens_with_its_engine(rt: HostRuntime) {
+    for (engine, wanted) in &ENGINES {
+        let found = opens(rt.alloc(), *engine, (1, 3));
+        assert_eq!(rt; (*engine, found), (*engine, *wanted));
     }
+}
+
+/// Numbers of buckets and nodes that no map has: no bucket, fewer nodes than buckets, and more than
+/// 2^32 words.
+static NO_SIZES: [(usize, usize); 6] = [
+    (0, 3),
+    (4, 3),
+    (1, 1_431_655_766),
+    (1, 1 << 62),
+    (1, usize::MAX),
+    (usize::MAX, usize::MAX),
+];
+
+#[test]
+fn map_is_refused_bad_sizes(rt: HostRuntime) {
+    assert_eq!(rt; opens(rt.alloc(), (1, 4), (3, 3)), Ok(1));
+    for sizes in &NO_SIZES {
+        let found = opens(rt.alloc(), (1, 4), *sizes);
+        assert_eq!(rt; (*sizes, found), (*sizes, Err(NotOpened::BadSizes)));
+    }
+    assert_eq!(rt; opens(rt.alloc(), (0, 4), (0, 3)), Err(NotOpened::BadSizes));
 }

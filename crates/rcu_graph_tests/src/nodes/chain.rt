@@ -1,17 +1,24 @@
 //! A chain with its keeper: what a call asks for is tested first, by what the keeper knows.
-ghost use Rattle.std.specs.Prelude.{◌≡◌, ◌<◌, [], ◌∷◌, ℕ, IfOk, IfSome, IsTrue, slice_index};
-ghost use Rattle.rcu_live.specs.Watcher.{IsWatcherOf};
-ghost use Rattle.rcu_graph.specs.Graph.{word_to};
+ghost use Rattle.std.specs.Prelude.{◌≡◌, ◌<◌, ℕ, IfOk, IfSome, IsTrue, replicate, slice_index};
+ghost use Rattle.rcu_graph.specs.Graph.{IsWatcherOf, word_to};
 ghost use Rattle.rcu_graph.specs.Keeper.{IsKeeperOf, IsReady};
 ghost use Rattle.rcu_graph.specs.Nodes.{IsTarget, node_at, nodes_in, state_at};
+ghost use Rattle.rcu_graph.specs.Planned.{plan_of};
 ghost use Rattle.rcu_graph.specs.Steps.{IsClaimed};
 
 use crate::nodes::Sorted;
-use rcu_graph::{Full, Graph, GraphSeat, GraphWatcher, Keeper};
+use rcu_graph::{Full, Graph, GraphSeat, GraphWatcher, Keeper, Plan};
 use std::alloc::{AllocError, Global};
 
+pub(crate) type Chain = Graph<4, 4, u64, Sorted>;
+
 /// A root, and three nodes with a key and a value.
-pub(crate) type Chain = Graph<4, 4, u64, Sorted, 1, 1, 2, 4>;
+pub(crate) const PLAN: Plan = Plan {
+    roots: 1,
+    links: 1,
+    words: 2,
+    nodes: 4,
+};
 
 pub(crate) type Seat = GraphSeat<Sorted>;
 
@@ -19,7 +26,8 @@ pub(crate) type Seat = GraphSeat<Sorted>;
 #[derive(Drop)]
 pub(crate) struct ChainAndKeeper<'a> {
     pub(crate) chain: &'a Chain,
-    pub(crate) keeper: Keeper<Sorted, 1, 1, 2, 4>,
+    pub(crate) keeper: Keeper<Sorted>,
+    ghost sized: { chain.now.plan ≡ plan_of 1 1 2 4 },
     ghost keeper_of: { IsWatcherOf chain.now keeper },
 }
 
@@ -29,10 +37,11 @@ impl<'a> ChainAndKeeper<'a> {
         chain: &'a Chain,
         own: GraphWatcher<Sorted>,
     ) -> Result<Self, AllocError>
-        requires keeper { IsKeeperOf 4 chain.now own }
-        requires first { IsClaimed (λ _. 0 ∷ 0 ∷ []) 1 1 2 4 own.view.client.known }
+        requires sized { chain.now.plan ≡ plan_of 1 1 2 4 }
+        requires keeper { IsKeeperOf chain.now own }
+        requires first { IsClaimed (λ _. replicate 2 0) 1 1 2 4 own.view.client.known }
     {
-        let keeper = Keeper::new(alloc, chain, own, &[[0, 0]])?;
+        let keeper = Keeper::new(alloc, chain, own)?;
         Ok(ChainAndKeeper { chain, keeper })
     }
 

@@ -3,7 +3,7 @@
 ghost use Rattle.std.specs.Prelude.{◌≡◌, ◌<◌, All};
 ghost use Rattle.rcu_live.specs.CpuSeat.{IsSeatOf};
 
-use crate::nodes::chain::{Chain, ChainAndKeeper, Seat};
+use crate::nodes::chain::{Chain, ChainAndKeeper, PLAN, Seat};
 use rcu_graph::Full;
 use rcu_seq::Cookie;
 use rcu_state::Turned;
@@ -166,7 +166,7 @@ fn leave_during_a_period<R: Abort + Wait>(
 
 #[test]
 fn nodes_come_back_after_a_full_period(rt: HostRuntime) {
-    let Ok((chain, seats, _, own)) = Chain::open(rt.alloc(), 1, 4_000_000, &[[0, 0]]) else {
+    let Ok((chain, seats, _, own)) = Chain::open(rt.alloc(), 1, 4_000_000, PLAN) else {
         return;
     };
     let Ok(mut kept) = ChainAndKeeper::new(rt.alloc(), &chain, own) else {
@@ -194,7 +194,7 @@ fn replace<R: Abort + Wait>(
 
 #[test]
 fn steady_turnover_uses_the_same_two_nodes(rt: HostRuntime) {
-    let Ok((chain, seats, _, own)) = Chain::open(rt.alloc(), 1, 4_000_000, &[[0, 0]]) else {
+    let Ok((chain, seats, _, own)) = Chain::open(rt.alloc(), 1, 4_000_000, PLAN) else {
         return;
     };
     let Ok(mut kept) = ChainAndKeeper::new(rt.alloc(), &chain, own) else {

@@ -10,9 +10,9 @@ use std::process::Abort;
 use std::sync::Wait;
 
 /// The seat of the last processor that is left.
-pub(crate) fn next_seat<R: Abort, const N: usize>(
+pub(crate) fn next_seat<R: Abort>(
     rt: &R,
-    chain: &Graph<4, 4, u64, Sorted, 1, 1, 2, N>,
+    chain: &Graph<4, 4, u64, Sorted>,
     seats: &mut Vec<GraphSeat<Sorted>>,
 ) -> GraphSeat<Sorted>
     requires seats { All (IsSeatOf chain.now) seats.old.items }
@@ -29,9 +29,9 @@ pub(crate) fn next_seat<R: Abort, const N: usize>(
 }
 
 /// The same, of a processor that is online from now on.
-pub(crate) fn next_online<R: Abort + Wait, const N: usize>(
+pub(crate) fn next_online<R: Abort + Wait>(
     rt: &R,
-    chain: &Graph<4, 4, u64, Sorted, 1, 1, 2, N>,
+    chain: &Graph<4, 4, u64, Sorted>,
     seats: &mut Vec<GraphSeat<Sorted>>,
 ) -> GraphSeat<Sorted>
     requires seats { All (IsSeatOf chain.now) seats.old.items }

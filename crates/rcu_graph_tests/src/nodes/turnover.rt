@@ -5,10 +5,10 @@ ghost use Rattle.std.specs.Prelude.{◌≡◌};
 ghost use Rattle.std.specs.Thread.{IsSync};
 ghost use Rattle.rcu_live.specs.CpuSeat.{IsSeatOf, after_word_step};
 ghost use Rattle.rcu_graph.specs.Graph.{IsWalking};
-ghost use Rattle.rcu_graph.specs.Planned.{of_plan};
+ghost use Rattle.rcu_graph.specs.Planned.{of_plan, plan_of};
 ghost use Rattle.rcu_graph.specs.declared.known.Known.TheVariants.{Idle};
 
-use crate::nodes::chain::{Chain, ChainAndKeeper, Seat};
+use crate::nodes::chain::{Chain, ChainAndKeeper, PLAN, Seat};
 use crate::nodes::parts::{next_online, next_seat};
 use rcu_seq::Cookie;
 use std::sync::Wait;
@@ -27,7 +27,8 @@ const SEARCHES: u32 = 400_000;
 /// Searches the chain twice. Returns the value of the entry that was found first, 0 where there was
 /// none, and whether it stayed the same, and the second one was none before it.
 fn look_twice(chain: &Chain, seat: &mut Seat) -> (u64, bool)
-    requires { IsWalking chain.now seat.old }
+    requires sized { chain.now.plan ≡ plan_of 1 1 2 4 }
+    requires walking { IsWalking chain.now seat.old }
     ensures state { seat.new ≡ after_word_step seat.old seat.new.view.client }
     ensures walking { IsWalking chain.now seat.new }
 {
@@ -45,6 +46,7 @@ fn look_twice(chain: &Chain, seat: &mut Seat) -> (u64, bool)
 
 /// The same in a section of its own.
 fn look_in_a_section(chain: &Chain, seat: &mut Seat) -> (u64, bool)
+    requires sized { chain.now.plan ≡ plan_of 1 1 2 4 }
     requires seat { IsSeatOf chain.now seat.old }
     requires outside { seat.old.depth ≡ 0 }
     requires idle { seat.old.view.client ≡ of_plan chain.now.plan Idle }
@@ -68,6 +70,7 @@ struct Reader<'a> {
     chain: &'a Chain,
     seat: Seat,
     newest: u64,
+    ghost sized: { chain.now.plan ≡ plan_of 1 1 2 4 },
     ghost seat_of: { IsSeatOf chain.now seat },
     ghost outside: { seat.depth ≡ 0 },
     ghost idle: { seat.view.client ≡ of_plan chain.now.plan Idle },
@@ -169,7 +172,7 @@ fn run_beside<R: Threads + Wait + Sync>(
 
 #[test]
 fn readers_beside_a_turnover_of_nodes(rt: HostRuntime) {
-    let Ok((chain, mut seats, _, own)) = Chain::open(rt.alloc(), 3, 4_000_000, &[[0, 0]]) else {
+    let Ok((chain, mut seats, _, own)) = Chain::open(rt.alloc(), 3, 4_000_000, PLAN) else {
         return;
     };
     let a = Reader {

@@ -8,18 +8,22 @@ ghost use Rattle.rcu_graph.specs.declared.known.Known.TheVariants.{Idle};
 use crate::map::route::Route;
 use rcu_map::{Map, MapKeeper, MapSeat};
 
+type Routes = Map<4, 4, u64, Route, 2>;
+
 /// 40,000 nodes of a link and two words: 120,000 cells.
-type Routes = Map<4, 4, u64, Route, 4096, 2, 40_000>;
+const NODES: u32 = 40_000;
+
+const BUCKETS: u32 = 4096;
 
 /// How many routes are put in: one for each node but the roots.
-const ROUTES: u32 = 40_000 - 4096;
+const ROUTES: u32 = NODES - BUCKETS;
 
 /// A map of one processor, and its keeper.
 #[derive(Drop)]
 struct Scene<'a> {
     map: &'a Routes,
-    keeper: MapKeeper<Route, 4096, 2, 40_000>,
-    seat: MapSeat<Route, 4096, 2>,
+    keeper: MapKeeper<Route, 2>,
+    seat: MapSeat<Route, 2>,
     ghost keeper_of: { IsWatcherOf map.now keeper },
     ghost seat_of: { IsSeatOf map.now seat },
     ghost outside: { seat.depth ≡ 0 },
@@ -49,7 +53,8 @@ impl<'a> Scene<'a> {
 
 #[test]
 fn each_of_35_904_routes_is_found(rt: HostRuntime) {
-    let Ok((map, mut seats, _, keeper)) = Routes::open(rt.alloc(), 1, 4_000_000) else {
+    let opened = Routes::open(rt.alloc(), 1, 4_000_000, BUCKETS as usize, NODES as usize);
+    let Ok((map, mut seats, _, keeper)) = opened else {
         return;
     };
     let mut scene = Scene {

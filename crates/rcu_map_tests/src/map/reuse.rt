@@ -7,8 +7,7 @@ use crate::map::route::Route;
 use rcu_map::{Map, MapKeeper, MapSeat, Put};
 use std::sync::Wait;
 
-/// 256 nodes, 16 of them the roots of buckets.
-type Routes = Map<4, 4, u64, Route, 16, 2, 256>;
+type Routes = Map<4, 4, u64, Route, 2>;
 
 /// How many routes are put in and taken out again.
 const REMOVALS: u32 = 1_000_000;
@@ -17,8 +16,8 @@ const REMOVALS: u32 = 1_000_000;
 #[derive(Drop)]
 struct Scene<'a> {
     map: &'a Routes,
-    keeper: MapKeeper<Route, 16, 2, 256>,
-    seat: MapSeat<Route, 16, 2>,
+    keeper: MapKeeper<Route, 2>,
+    seat: MapSeat<Route, 2>,
     ghost keeper_of: { IsWatcherOf map.now keeper },
     ghost seat_of: { IsSeatOf map.now seat },
 }
@@ -38,7 +37,7 @@ impl<'a> Scene<'a> {
 
 #[test]
 fn a_million_removals_through_256_nodes(rt: HostRuntime) {
-    let Ok((map, mut seats, _, keeper)) = Routes::open(rt.alloc(), 1, 1 << 62) else {
+    let Ok((map, mut seats, _, keeper)) = Routes::open(rt.alloc(), 1, 1 << 62, 16, 256) else {
         return;
     };
     let mut scene = Scene {

@@ -19,14 +19,14 @@ use std::process::Abort;
 use std::sync::Wait;
 
 /// Up to 4 routes, in 2 buckets.
-pub(crate) type Routes = Map<4, 4, u64, Route, 2, 2, 6>;
+pub(crate) type Routes = Map<4, 4, u64, Route, 2>;
 
-type Seat = MapSeat<Route, 2, 2>;
+type Seat = MapSeat<Route, 2>;
 
-type Watcher = MapWatcher<Route, 2, 2>;
+type Watcher = MapWatcher<Route, 2>;
 
 /// The entries of a map that a section goes over.
-type Listing<'a> = Entries<'a, 4, 4, u64, Route, 2, 2, 6>;
+type Listing<'a> = Entries<'a, 4, 4, u64, Route, 2>;
 
 /// A call, with the network and the port that it is given, and which port it returns.
 #[derive(Clone, Copy)]
@@ -221,7 +221,8 @@ impl<'a, C: Caller + Drop> Scene<'a, C> {
 
 #[test]
 fn map_is_as_its_script_says(rt: HostRuntime) {
-    let Ok((map, mut seats, mut watchers, keeper)) = Routes::open(rt.alloc(), 1, 4_000_000) else {
+    let Ok((map, mut seats, mut watchers, keeper)) = Routes::open(rt.alloc(), 1, 4_000_000, 2, 6)
+    else {
         return;
     };
     let mut scene = Scene {
@@ -236,7 +237,8 @@ fn map_is_as_its_script_says(rt: HostRuntime) {
 
 #[test]
 fn updater_does_as_the_script_says(rt: HostRuntime) {
-    let Ok((map, mut seats, mut watchers, keeper)) = Routes::open(rt.alloc(), 1, 4_000_000) else {
+    let Ok((map, mut seats, mut watchers, keeper)) = Routes::open(rt.alloc(), 1, 4_000_000, 2, 6)
+    else {
         return;
     };
     let mut scene = Scene {

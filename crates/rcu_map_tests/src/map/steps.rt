@@ -7,10 +7,9 @@ use std::sync::Wait;
 use std::thread;
 use std::thread::Threads;
 
-/// One bucket, and a node for each move.
-type Roomy = Map<4, 4, u64, Route, 1, 2, 1024>;
+type Roomy = Map<4, 4, u64, Route, 2>;
 
-type Control<'a> = Updater<'a, 4, 4, u64, Route, 1, 2, 1024>;
+type Control<'a> = Updater<'a, 4, 4, u64, Route, 2>;
 
 /// How often a thread moves the one route.
 const MOVES: u32 = 200;
@@ -49,7 +48,8 @@ fn work_both<R: Threads + Wait + Sync>(rt: &R, control: &Control<'_>) -> (u32, u
 
 #[test]
 fn route_is_moved_under_one_lock(rt: HostRuntime) {
-    let Ok((map, _, _, keeper)) = Roomy::open(rt.alloc(), 1, 4_000) else {
+    // One bucket, and a node for each move.
+    let Ok((map, _, _, keeper)) = Roomy::open(rt.alloc(), 1, 4_000, 1, 1024) else {
         return;
     };
     let control = Updater::new(&map, keeper);

@@ -24,13 +24,13 @@ use std::thread::Threads;
 pub(crate) const BUCKETS: usize = 4;
 
 /// Up to 28 routes, in 4 buckets.
-pub(crate) type Routes = Map<4, 4, u64, Route, BUCKETS, 2, 32>;
+pub(crate) type Routes = Map<4, 4, u64, Route, 2>;
 
-pub(crate) type Control<'a> = Updater<'a, 4, 4, u64, Route, BUCKETS, 2, 32>;
+pub(crate) type Control<'a> = Updater<'a, 4, 4, u64, Route, 2>;
 
-pub(crate) type Seat = MapSeat<Route, BUCKETS, 2>;
+pub(crate) type Seat = MapSeat<Route, 2>;
 
-pub(crate) type Watcher = MapWatcher<Route, BUCKETS, 2>;
+pub(crate) type Watcher = MapWatcher<Route, 2>;
 
 /// The seats and the watchers that no thread has yet.
 #[derive(Drop)]
@@ -142,7 +142,8 @@ fn is_as_told<R: Abort + Wait>(rt: &R, control: &Control<'_>, history: &History)
 
 #[test]
 fn readers_beside_updates_by_two_threads(rt: HostRuntime) {
-    let Ok((map, seats, watchers, keeper)) = Routes::open(rt.alloc(), 7, 4_000_000) else {
+    let Ok((map, seats, watchers, keeper)) = Routes::open(rt.alloc(), 7, 4_000_000, BUCKETS, 32)
+    else {
         return;
     };
     let history = History::new(4, 2);

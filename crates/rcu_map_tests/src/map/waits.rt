@@ -13,7 +13,7 @@ use std::process::Abort;
 use std::sync::Wait;
 
 /// Two routes at most, in one bucket.
-type Two = Map<4, 4, u64, Route, 1, 2, 3>;
+type Two = Map<4, 4, u64, Route, 2>;
 
 /// A call, with the network and the port that it is given, and which port it returns.
 #[derive(Clone, Copy)]
@@ -28,8 +28,8 @@ enum Call {
 #[derive(Drop)]
 struct Scene<'a> {
     map: &'a Two,
-    keeper: MapKeeper<Route, 1, 2, 3>,
-    seat: MapSeat<Route, 1, 2>,
+    keeper: MapKeeper<Route, 2>,
+    seat: MapSeat<Route, 2>,
     ghost keeper_of: { IsWatcherOf map.now keeper },
     ghost seat_of: { IsSeatOf map.now seat },
 }
@@ -72,7 +72,7 @@ impl<'a> Scene<'a> {
 /// Makes the calls in their order, up to this last number. Compares the routes to the networks 1 to
 /// 4 in the end: a port of 0 is none.
 fn makes<R: Abort + Wait>(rt: &R, alloc: Global, last: u64, calls: &[Call], ports: [u32; 4]) {
-    let Ok((map, mut seats, _, keeper)) = Two::open(alloc, 1, last) else {
+    let Ok((map, mut seats, _, keeper)) = Two::open(alloc, 1, last, 1, 3) else {
         return;
     };
     let mut scene = Scene {

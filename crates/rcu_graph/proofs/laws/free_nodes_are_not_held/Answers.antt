@@ -8,7 +8,8 @@ use Rattle.rcu_graph.proofs.laws.free_nodes_are_not_held.Goals as goal
 pub returns : goal.returns
 returns g c = λ plan table homes xs keeper seat node latest who own cpu section nodes known words v
     h kept at.
-    not_held g.F.Shape.fits g.F.Shape.joins g.F.Shape.first plan.roots plan.links
+    not_held (g.F.Shape.fits plan) (g.F.Shape.joins plan) (g.F.Shape.first plan) plan.roots
+    plan.links
     plan.words plan.nodes table homes (map unplanned xs) keeper seat node latest who own cpu section
     nodes known.known words
     v h.kept (at_map unplanned xs keeper (who, own, of_plan plan (Keeper latest nodes)) kept)

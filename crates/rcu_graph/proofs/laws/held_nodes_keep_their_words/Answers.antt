@@ -7,7 +7,8 @@ use Rattle.rcu_graph.proofs.laws.held_nodes_keep_their_words.Goals as goal
 pub returns : goal.returns
 returns g c = λ plan before after old new xs ys seat node word cpu section here later was now words
     h k at later_at.
-    words_kept g.F.Shape.fits g.F.Shape.joins g.F.Shape.first plan.roots plan.links
+    words_kept (g.F.Shape.fits plan) (g.F.Shape.joins plan) (g.F.Shape.first plan) plan.roots
+    plan.links
     plan.words plan.nodes before after old new (map unplanned xs) (map unplanned ys) seat node word
     cpu section here later
     was.known now.known words h.kept k.kept (at_map unplanned xs seat (cpu, section, was) at)

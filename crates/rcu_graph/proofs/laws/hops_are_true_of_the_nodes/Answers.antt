@@ -15,14 +15,17 @@ pub returns : goal.returns
 returns g c = λ plan table homes xs keeper seat node link latest who own cpu section nodes was now
     words h k kept
     at reads on low told.
-    hop_true g.F.Shape.fits g.F.Shape.joins g.F.Shape.first plan.roots plan.links
+    hop_true (g.F.Shape.fits plan) (g.F.Shape.joins plan) (g.F.Shape.first plan) plan.roots
+    plan.links
     plan.words plan.nodes table homes (map unplanned xs) keeper seat node link latest who own cpu
     section nodes was.known
     now.known words h.kept
-    (subst (IsKept g.F.Shape.fits g.F.Shape.joins g.F.Shape.first plan.roots plan.links plan.words
+    (subst (IsKept (g.F.Shape.fits plan) (g.F.Shape.joins plan) (g.F.Shape.first plan) plan.roots
+    plan.links plan.words
     plan.nodes table homes) (map-set unplanned xs seat (cpu, section, now)) k.kept)
     (at_map unplanned xs keeper (who, own, of_plan plan (Keeper latest nodes)) kept)
     (at_map unplanned xs seat (cpu, section, was) at) reads on low
-    (told_at (λ (p : Plan). IsFollowed g.F.Shape.fits g.F.Shape.joins g.F.Shape.first p.roots
+    (told_at (λ (p : Plan). IsFollowed (g.F.Shape.fits p) (g.F.Shape.joins p) (g.F.Shape.first p)
+    p.roots
     p.links
     p.words p.nodes) _ was _ now plan (h.told seat (cpu, section, was) at) told)

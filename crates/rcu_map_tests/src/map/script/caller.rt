@@ -30,7 +30,7 @@ pub(crate) trait Caller {
 #[derive(Drop)]
 pub(crate) struct MapAndKeeper<'a> {
     pub(crate) map: &'a Routes,
-    pub(crate) keeper: MapKeeper<Route, 2, 2, 6>,
+    pub(crate) keeper: MapKeeper<Route, 2>,
     pub(crate) ghost keeper_of: { IsWatcherOf map.now keeper },
 }
 
@@ -67,7 +67,7 @@ impl<'a> Caller for MapAndKeeper<'a> {
 /// A map's keeper behind a lock.
 #[derive(Drop)]
 pub(crate) struct Shared<'a> {
-    pub(crate) updater: Updater<'a, 4, 4, u64, Route, 2, 2, 6>,
+    pub(crate) updater: Updater<'a, 4, 4, u64, Route, 2>,
 }
 
 impl<'a> Caller for Shared<'a> {

@@ -14,7 +14,7 @@ use std::process::Abort;
 use std::sync::Wait;
 
 /// The entries of a map that a section goes over.
-type Listing<'a> = Entries<'a, 4, 4, u64, Route, BUCKETS, 2, 32>;
+type Listing<'a> = Entries<'a, 4, 4, u64, Route, 2>;
 
 /// What a section found that went over all routes.
 #[derive(Drop)]

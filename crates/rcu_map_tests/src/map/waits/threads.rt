@@ -11,7 +11,7 @@ use std::thread;
 use std::thread::Threads;
 
 /// Two routes at most, which move on through three nodes, in one bucket. Ports tell the network.
-type Moving = Map<4, 4, u64, Route, 1, 2, 4>;
+type Moving = Map<4, 4, u64, Route, 2>;
 
 /// How often a route is put in, each time to the next network.
 const CHANGES: u32 = 200;
@@ -23,7 +23,7 @@ const READS: u32 = 2_000;
 #[derive(Drop)]
 struct Reader<'a> {
     map: &'a Moving,
-    seat: MapSeat<Route, 1, 2>,
+    seat: MapSeat<Route, 2>,
     ghost seat_of: { IsSeatOf map.now seat },
     ghost outside: { seat.depth ≡ 0 },
     ghost idle: { seat.view.client ≡ of_plan map.now.plan Idle },
@@ -60,8 +60,8 @@ impl<'a> Reader<'a> {
 #[derive(Drop)]
 struct Control<'a> {
     map: &'a Moving,
-    keeper: MapKeeper<Route, 1, 2, 4>,
-    seat: MapSeat<Route, 1, 2>,
+    keeper: MapKeeper<Route, 2>,
+    seat: MapSeat<Route, 2>,
     ghost keeper_of: { IsWatcherOf map.now keeper },
     ghost seat_of: { IsSeatOf map.now seat },
 }
@@ -113,7 +113,7 @@ fn run_beside<R: Threads + Wait + Sync>(
 
 #[test]
 fn routes_move_on_through_three_nodes(rt: HostRuntime) {
-    let Ok((map, mut seats, _, keeper)) = Moving::open(rt.alloc(), 2, 4_000_000) else {
+    let Ok((map, mut seats, _, keeper)) = Moving::open(rt.alloc(), 2, 4_000_000, 1, 4) else {
         return;
     };
     let mut seat = seats.pop().unwrap();
@@ -132,8 +132,8 @@ fn routes_move_on_through_three_nodes(rt: HostRuntime) {
 #[derive(Drop)]
 struct Worker<'a, 'b> {
     map: &'a Moving,
-    updater: &'b Updater<'a, 4, 4, u64, Route, 1, 2, 4>,
-    seat: MapSeat<Route, 1, 2>,
+    updater: &'b Updater<'a, 4, 4, u64, Route, 2>,
+    seat: MapSeat<Route, 2>,
     network: u32,
     ghost of_updater: { IsSeatOf updater.now seat },
     ghost of_map: { seat.table ≡ map.now.table },
@@ -190,7 +190,7 @@ fn run_both<R: Threads + Wait + Sync>(
 /// Processor 0 never goes offline. No thread has it here: it is idle, and nobody waits for it.
 #[test]
 fn two_threads_share_three_nodes(rt: HostRuntime) {
-    let Ok((map, mut seats, _, keeper)) = Moving::open(rt.alloc(), 3, 4_000_000) else {
+    let Ok((map, mut seats, _, keeper)) = Moving::open(rt.alloc(), 3, 4_000_000, 1, 4) else {
         return;
     };
     let updater = Updater::new(&map, keeper);

@@ -5,6 +5,7 @@ use Rattle.rcu_live.specs.Watcher.{Watching}
 use Rattle.rcu_graph.specs.Counts.{one_if}
 use Rattle.rcu_graph.specs.Nodes.{node_at, nodes_in}
 use Rattle.rcu_graph.specs.declared.known.Planned.{Planned}
+use Rattle.rcu_graph.specs.declared.plan.Plan.{Plan}
 use Rattle.rcu_graph.proofs.Cascade.{times_all, times_le, times_more}
 use Rattle.rcu_graph.proofs.Counting.{one_same}
 use Rattle.rcu_graph.proofs.Tending.{counted_up_at}
@@ -18,39 +19,51 @@ loop-link-init g c = record {
   counts = λ k low. omega arith;
 }
 
-pub link_word-word-requires : goal.link_word-word-requires
-link_word-word-requires g c = (omega arith, (c.requires.node, c.loop-link-test.true))
-
-pub count-requires : goal.count-requires
-count-requires g c =
+pub count-requires-clause-inside : goal.count-requires-clause-inside
+count-requires-clause-inside g c =
     let i = c.loop-link.invariant in
     let l = c.loop-link.link in
     let links : List ℕ = (node_at (nodes_in c.args.self.now.nodes.view.client.known)
     c.args.node).links in
-    let long : length links ≡ g.row.L = (c.sizes.ensures.sized c.args.node c.requires.node).0 in
-    let here : l < length links = omega (arith, long, c.loop-link-test.true) in
+    let long = (c.plan-plan.ensures.sized c.args.node c.requires.node).0 in
+    let row = ap (λ (q : Plan). q.links) c.plan-plan.ensures.plan in
+    let here : l < length links = omega (arith, long, row, c.loop-link-test.true) in
     let word_is : c.link_word-word.result ≡ get_or links l 0 =
     c.link_word-word.ensures
     ∙ ap
     (λ (w : Watching Planned). slice_index (node_at (nodes_in w.view.client.known)
     c.args.node).links l)
     i.nodes in
-    let inside : (k : ℕ) → c.link_word-word.result ≡ suc k → k < g.row.N =
-    λ k is. c.requires.inside l 0 here k (sym word_is ∙ is) in (
-      omega arith,
-      (
-        (λ k is. let a = inside k is in omega (arith, a, i.many)),
-        (λ k is.
-            let low = inside k is in
-            let a = i.counts k low in
-            let b = times_more links l (suc k) here in
-            let d = times_le links (l + 1) (suc k) in
-            let one : one_if (nat_eq (get_or links l 0) (suc k)) ≡ 1 =
-            one_same (get_or links l 0) (suc k) (sym word_is ∙ is) in
-            let few = c.requires.few k low in
-            omega (arith, a, b, d, one, few)),
-      ),
-    )
+    let inside : (k : ℕ) → c.link_word-word.result ≡ suc k → k < c.args.graph.now.plan.nodes =
+    λ k is. c.requires.inside l 0 here k (sym word_is ∙ is) in
+    λ k is. let a = inside k is in omega (arith, a, i.many)
+
+pub count-requires-clause-few : goal.count-requires-clause-few
+count-requires-clause-few g c =
+    let i = c.loop-link.invariant in
+    let l = c.loop-link.link in
+    let links : List ℕ = (node_at (nodes_in c.args.self.now.nodes.view.client.known)
+    c.args.node).links in
+    let long = (c.plan-plan.ensures.sized c.args.node c.requires.node).0 in
+    let row = ap (λ (q : Plan). q.links) c.plan-plan.ensures.plan in
+    let here : l < length links = omega (arith, long, row, c.loop-link-test.true) in
+    let word_is : c.link_word-word.result ≡ get_or links l 0 =
+    c.link_word-word.ensures
+    ∙ ap
+    (λ (w : Watching Planned). slice_index (node_at (nodes_in w.view.client.known)
+    c.args.node).links l)
+    i.nodes in
+    let inside : (k : ℕ) → c.link_word-word.result ≡ suc k → k < c.args.graph.now.plan.nodes =
+    λ k is. c.requires.inside l 0 here k (sym word_is ∙ is) in
+    λ k is.
+    let low = inside k is in
+    let a = i.counts k low in
+    let b = times_more links l (suc k) here in
+    let d = times_le links (l + 1) (suc k) in
+    let one : one_if (nat_eq (get_or links l 0) (suc k)) ≡ 1 =
+    one_same (get_or links l 0) (suc k) (sym word_is ∙ is) in
+    let few = c.requires.few k low in
+    omega (arith, a, b, d, one, few)
 
 pub loop-link-preserved : goal.loop-link-preserved
 loop-link-preserved g c =
@@ -60,8 +73,9 @@ loop-link-preserved g c =
     let word = c.link_word-word.result in
     let links : List ℕ = (node_at (nodes_in c.args.self.now.nodes.view.client.known)
     c.args.node).links in
-    let long : length links ≡ g.row.L = (c.sizes.ensures.sized c.args.node c.requires.node).0 in
-    let here : l < length links = omega (arith, long, c.loop-link-test.true) in
+    let long = (c.plan-plan.ensures.sized c.args.node c.requires.node).0 in
+    let row = ap (λ (q : Plan). q.links) c.plan-plan.ensures.plan in
+    let here : l < length links = omega (arith, long, row, c.loop-link-test.true) in
     let word_is : word ≡ get_or links l 0 =
     c.link_word-word.ensures
     ∙ ap
@@ -102,8 +116,9 @@ returns-clause-counts g c = λ k low.
     let a = c.loop-link.invariant.counts k low in
     let links : List ℕ = (node_at (nodes_in c.args.self.now.nodes.view.client.known)
     c.args.node).links in
-    let long : length links ≡ g.row.L = (c.sizes.ensures.sized c.args.node c.requires.node).0 in
+    let long = (c.plan-plan.ensures.sized c.args.node c.requires.node).0 in
+    let row = ap (λ (q : Plan). q.links) c.plan-plan.ensures.plan in
     let end : length links ≡ c.loop-link.link =
-    omega (arith, long, c.loop-link-test.false, c.loop-link.auto.link-end) in
+    omega (arith, long, row, c.loop-link-test.false, c.loop-link.auto.link-end) in
     let b = times_all links c.loop-link.link (suc k) end in
     omega (arith, a, b)

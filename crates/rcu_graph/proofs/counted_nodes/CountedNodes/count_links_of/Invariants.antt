@@ -8,9 +8,9 @@ abbrev pub invariant-loop-link : goal.invariant-loop-link
 invariant-loop-link g l = record {
   nodes : l.self.nodes ≡ l.initial.self.nodes;
   leaving : l.self.leaving ≡ l.initial.self.leaving;
-  many : length l.self.counts.items ≡ g.row.N;
+  many : length l.self.counts.items ≡ l.graph.plan.nodes;
   counts : (k : ℕ)
-      → k < g.row.N
+      → k < l.graph.plan.nodes
       → slice_index l.self.counts.items k
       ≡ slice_index l.initial.self.counts.items k
       + times_in (take l.link (node_at (nodes_in l.initial.self.nodes.view.client.known)

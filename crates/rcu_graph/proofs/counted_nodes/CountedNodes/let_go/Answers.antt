@@ -1,10 +1,12 @@
-use Rattle.std.proofs.Common.{◌≡◌, ◌∙◌, ◌+◌, ◌-◌, ◌∷◌, ℕ, List, ap, arith, get_or, set, subst, sym}
+use Rattle.std.proofs.Common.{◌≡◌, ◌∙◌, ◌+◌, ◌-◌, ◌<◌, ◌∷◌, ℕ, List, ap, arith, get_or, set, subst}
+use Rattle.std.proofs.Common.{sym}
 use Rattle.std.proofs.lemmas.Bool.{false≢true}
 use Rattle.std.proofs.lemmas.List.{get_or_read}
 use Rattle.rcu_graph.specs.Graph.{word_to}
 use Rattle.rcu_graph.specs.Nodes.{in_state, is_live, nodes_in, renewed, state_at}
 use Rattle.rcu_graph.specs.Trimming.{IsTrimming}
 use Rattle.rcu_graph.specs.declared.known.Node.{Node}
+use Rattle.rcu_graph.specs.declared.plan.Plan.{Plan}
 use Rattle.rcu_graph.specs.declared.node_state.NodeState.TheVariants.{Left, Live}
 use Rattle.rcu_graph.proofs.Cascade.{led_counted, led_inside, led_within, let_go_kept, let_go_left}
 use Rattle.rcu_graph.proofs.Cascade.{let_go_nowhere, let_go_unlinked, nodes_are, room_left}
@@ -13,14 +15,16 @@ use Rattle.rcu_graph.proofs.counted_nodes.CountedNodes.let_go.Goals as goal
 
 pub returns-in_default-clause-trimming : goal.returns-in_default-clause-trimming
 returns-in_default-clause-trimming g c = λ stored from words t.
-    let_go_nowhere g.row.N g.row.K g.row.L stored (nodes_in c.args.self.now.nodes.view.client.known)
+    let_go_nowhere c.args.graph.now.plan.nodes c.args.graph.now.plan.roots
+    c.args.graph.now.plan.links stored (nodes_in c.args.self.now.nodes.view.client.known)
     c.args.self.now.counts.items c.args.self.now.leaving.items from c.args.left words c.args.word
     (sym c.node_of.ensures ∙ ap word_to c.in_default.is) t
 
 pub index-requires : goal.index-requires
 index-requires g c =
     let r = c.requires.trimming in
-    let low = led_within g.row.N g.row.K g.row.L r.0
+    let low = led_within c.args.graph.now.plan.nodes c.args.graph.now.plan.roots
+    c.args.graph.now.plan.links r.0
     (nodes_in c.args.self.now.nodes.view.client.known)
     c.args.self.now.counts.items c.args.self.now.leaving.items r.1 c.args.left r.2 c.in-Some.node
     c.args.word c.in-Some.ensures r.3 in
@@ -29,7 +33,8 @@ index-requires g c =
 pub index_mut-requires : goal.index_mut-requires
 index_mut-requires g c =
     let r = c.requires.trimming in
-    let low = led_within g.row.N g.row.K g.row.L r.0
+    let low = led_within c.args.graph.now.plan.nodes c.args.graph.now.plan.roots
+    c.args.graph.now.plan.links r.0
     (nodes_in c.args.self.now.nodes.view.client.known)
     c.args.self.now.counts.items c.args.self.now.leaving.items r.1 c.args.left r.2 c.in-Some.node
     c.args.word c.in-Some.ensures r.3 in
@@ -41,9 +46,11 @@ overflow_sub-count g c =
     let nodes : List Node = nodes_in c.args.self.now.nodes.view.client.known in
     let counts : List ℕ = c.args.self.now.counts.items in
     let leaving : List ℕ = c.args.self.now.leaving.items in
-    let low = led_within g.row.N g.row.K g.row.L r.0 nodes counts leaving r.1 c.args.left r.2
+    let low = led_within c.args.graph.now.plan.nodes c.args.graph.now.plan.roots
+    c.args.graph.now.plan.links r.0 nodes counts leaving r.1 c.args.left r.2
     c.in-Some.node c.args.word c.in-Some.ensures r.3 in
-    let some = led_counted g.row.N g.row.K g.row.L r.0 nodes counts leaving r.1 c.args.left r.2
+    let some = led_counted c.args.graph.now.plan.nodes c.args.graph.now.plan.roots
+    c.args.graph.now.plan.links r.0 nodes counts leaving r.1 c.args.left r.2
     c.in-Some.node c.args.word c.in-Some.ensures r.3 in
     let value : c.index.result.now ≡ get_or counts c.in-Some.node 0 =
     get_or_read counts c.in-Some.node _ low c.index.ensures 0 in
@@ -54,52 +61,65 @@ returns-then-count-gt0-clause-trimming g c = λ stored from words t.
     let nodes : List Node = nodes_in c.args.self.now.nodes.view.client.known in
     let counts : List ℕ = c.args.self.now.counts.items in
     let leaving : List ℕ = c.args.self.now.leaving.items in
-    let low = led_within g.row.N g.row.K g.row.L stored nodes counts leaving from c.args.left words
+    let low = led_within c.args.graph.now.plan.nodes c.args.graph.now.plan.roots
+    c.args.graph.now.plan.links stored nodes counts leaving from c.args.left words
     c.in-Some.node c.args.word c.in-Some.ensures t in
-    let some = led_counted g.row.N g.row.K g.row.L stored nodes counts leaving from c.args.left
+    let some = led_counted c.args.graph.now.plan.nodes c.args.graph.now.plan.roots
+    c.args.graph.now.plan.links stored nodes counts leaving from c.args.left
     words c.in-Some.node c.args.word c.in-Some.ensures t in
     let value : c.index.result.now ≡ get_or counts c.in-Some.node 0 =
     get_or_read counts c.in-Some.node _ low c.index.ensures 0 in
-    let_go_kept g.row.N g.row.K g.row.L stored nodes counts leaving from c.args.left words
+    let_go_kept c.args.graph.now.plan.nodes c.args.graph.now.plan.roots c.args.graph.now.plan.links
+    stored nodes counts leaving from c.args.left words
     c.in-Some.node c.args.word c.in-Some.ensures t (c.index.result.now - 1)
     (omega (arith, some, value)) (λ live past. c.if-count-gt0.true)
 
-pub returns-then-node-clause-trimming : goal.returns-then-node-clause-trimming
-returns-then-node-clause-trimming g c = λ stored from words t.
+pub returns-then-node-plan-clause-trimming : goal.returns-then-node-plan-clause-trimming
+returns-then-node-plan-clause-trimming g c = λ stored from words t.
     let nodes : List Node = nodes_in c.args.self.now.nodes.view.client.known in
     let counts : List ℕ = c.args.self.now.counts.items in
     let leaving : List ℕ = c.args.self.now.leaving.items in
-    let low = led_within g.row.N g.row.K g.row.L stored nodes counts leaving from c.args.left words
+    let low = led_within c.args.graph.now.plan.nodes c.args.graph.now.plan.roots
+    c.args.graph.now.plan.links stored nodes counts leaving from c.args.left words
     c.in-Some.node c.args.word c.in-Some.ensures t in
-    let some = led_counted g.row.N g.row.K g.row.L stored nodes counts leaving from c.args.left
+    let some = led_counted c.args.graph.now.plan.nodes c.args.graph.now.plan.roots
+    c.args.graph.now.plan.links stored nodes counts leaving from c.args.left
     words c.in-Some.node c.args.word c.in-Some.ensures t in
     let value : c.index.result.now ≡ get_or counts c.in-Some.node 0 =
     get_or_read counts c.in-Some.node _ low c.index.ensures 0 in
-    let_go_kept g.row.N g.row.K g.row.L stored nodes counts leaving from c.args.left words
+    let_go_kept c.args.graph.now.plan.nodes c.args.graph.now.plan.roots c.args.graph.now.plan.links
+    stored nodes counts leaving from c.args.left words
     c.in-Some.node c.args.word c.in-Some.ensures t (c.index.result.now - 1)
-    (omega (arith, some, value)) (λ live past. absurd (omega (arith, past, c.if-node.true)))
+    (omega (arith, some, value)) (λ live past.
+    absurd (let roots = ap (λ (q : Plan). q.roots) c.plan-plan.ensures.plan in
+    omega (arith, past, roots, c.if-node-plan.true)))
 
 pub state-requires : goal.state-requires
 state-requires g c =
-    let r = c.requires.trimming in (
-      omega arith,
-      led_inside g.row.N g.row.K g.row.L r.0 (nodes_in c.args.self.now.nodes.view.client.known)
-          c.args.self.now.counts.items c.args.self.now.leaving.items r.1 c.args.left r.2
-          c.in-Some.node c.args.word c.in-Some.ensures r.3,
-    )
+    let r = c.requires.trimming in
+    let p : Plan = c.args.graph.now.plan in
+    let nodes : List Node = nodes_in c.args.self.now.nodes.view.client.known in
+    let counts : List ℕ = c.args.self.now.counts.items in
+    let leaving : List ℕ = c.args.self.now.leaving.items in
+    let low = led_inside p.nodes p.roots p.links r.0 nodes counts leaving r.1 c.args.left r.2
+    c.in-Some.node c.args.word c.in-Some.ensures r.3 in
+    subst (λ (q : Plan). c.in-Some.node < q.nodes) (sym c.requires.graph.planned) low
 
 pub returns-then-not-is_live-clause-trimming : goal.returns-then-not-is_live-clause-trimming
 returns-then-not-is_live-clause-trimming g c = λ stored from words t.
     let nodes : List Node = nodes_in c.args.self.now.nodes.view.client.known in
     let counts : List ℕ = c.args.self.now.counts.items in
     let leaving : List ℕ = c.args.self.now.leaving.items in
-    let low = led_within g.row.N g.row.K g.row.L stored nodes counts leaving from c.args.left words
+    let low = led_within c.args.graph.now.plan.nodes c.args.graph.now.plan.roots
+    c.args.graph.now.plan.links stored nodes counts leaving from c.args.left words
     c.in-Some.node c.args.word c.in-Some.ensures t in
-    let some = led_counted g.row.N g.row.K g.row.L stored nodes counts leaving from c.args.left
+    let some = led_counted c.args.graph.now.plan.nodes c.args.graph.now.plan.roots
+    c.args.graph.now.plan.links stored nodes counts leaving from c.args.left
     words c.in-Some.node c.args.word c.in-Some.ensures t in
     let value : c.index.result.now ≡ get_or counts c.in-Some.node 0 =
     get_or_read counts c.in-Some.node _ low c.index.ensures 0 in
-    let_go_kept g.row.N g.row.K g.row.L stored nodes counts leaving from c.args.left words
+    let_go_kept c.args.graph.now.plan.nodes c.args.graph.now.plan.roots c.args.graph.now.plan.links
+    stored nodes counts leaving from c.args.left words
     c.in-Some.node c.args.word c.in-Some.ensures t (c.index.result.now - 1)
     (omega (arith, some, value))
     (λ live past. absurd (false≢true
@@ -108,12 +128,13 @@ returns-then-not-is_live-clause-trimming g c = λ stored from words t.
 pub leave-requires : goal.leave-requires
 leave-requires g c =
     let r = c.requires.trimming in
+    let p : Plan = c.args.graph.now.plan in
     let nodes : List Node = nodes_in c.args.self.now.nodes.view.client.known in
     let counts : List ℕ = c.args.self.now.counts.items in
     let leaving : List ℕ = c.args.self.now.leaving.items in
-    let low = led_within g.row.N g.row.K g.row.L r.0 nodes counts leaving r.1 c.args.left r.2
+    let low = led_within p.nodes p.roots p.links r.0 nodes counts leaving r.1 c.args.left r.2
     c.in-Some.node c.args.word c.in-Some.ensures r.3 in
-    let some = led_counted g.row.N g.row.K g.row.L r.0 nodes counts leaving r.1 c.args.left r.2
+    let some = led_counted p.nodes p.roots p.links r.0 nodes counts leaving r.1 c.args.left r.2
     c.in-Some.node c.args.word c.in-Some.ensures r.3 in
     let value : c.index.result.now ≡ get_or counts c.in-Some.node 0 =
     get_or_read counts c.in-Some.node _ low c.index.ensures 0 in
@@ -122,21 +143,21 @@ leave-requires g c =
     (sym (c.is_live.ensures ∙ ap is_live c.state.ensures) ∙ c.if-not-is_live.false) in (
       omega arith,
       (
-        omega arith,
+        c.requires.graph,
         (
-          c.requires.graph,
+          led_inside p.nodes p.roots p.links r.0 nodes counts leaving r.1 c.args.left r.2
+              c.in-Some.node c.args.word c.in-Some.ensures r.3,
           (
-            led_inside g.row.N g.row.K g.row.L r.0 nodes counts leaving r.1 c.args.left r.2
-                c.in-Some.node c.args.word c.in-Some.ensures r.3,
+            (let roots = ap (λ (q : Plan). q.roots) c.plan-plan.ensures.plan in
+                omega (arith, roots, c.if-node-plan.false)),
             (
-              c.if-node.false,
-              (
-                live,
-                let_go_unlinked g.row.N g.row.K g.row.L r.0 nodes counts leaving r.1 c.args.left r.2
-                    c.in-Some.node c.args.word c.in-Some.ensures r.3 (c.index.result.now - 1)
-                    (omega (arith, some, value)) live c.if-node.false
-                    (omega (arith, c.if-count-gt0.false)),
-              ),
+              live,
+              let_go_unlinked p.nodes p.roots p.links r.0 nodes counts leaving r.1 c.args.left r.2
+                  c.in-Some.node c.args.word c.in-Some.ensures r.3 (c.index.result.now - 1)
+                  (omega (arith, some, value)) live (let roots = ap (λ (q : Plan). q.roots)
+                  c.plan-plan.ensures.plan in
+                  omega (arith, roots, c.if-node-plan.false))
+                  (omega (arith, c.if-count-gt0.false)),
             ),
           ),
         ),
@@ -150,7 +171,8 @@ index_mut-requires-2 g c =
     let live : state_at nodes c.in-Some.node ≡ Live =
     test_live (state_at nodes c.in-Some.node)
     (sym (c.is_live.ensures ∙ ap is_live c.state.ensures) ∙ c.if-not-is_live.false) in
-    let room = room_left g.row.N g.row.K g.row.L r.0 nodes c.args.self.now.counts.items
+    let room = room_left c.args.graph.now.plan.nodes c.args.graph.now.plan.roots
+    c.args.graph.now.plan.links r.0 nodes c.args.self.now.counts.items
     c.args.self.now.leaving.items r.1 c.args.left (c.args.word ∷ r.2) c.in-Some.node r.3 live in
     omega (arith, room, c.args.self.now.leaving.ok.0)
 
@@ -161,30 +183,37 @@ overflow_add-result g c =
     let live : state_at nodes c.in-Some.node ≡ Live =
     test_live (state_at nodes c.in-Some.node)
     (sym (c.is_live.ensures ∙ ap is_live c.state.ensures) ∙ c.if-not-is_live.false) in
-    let room = room_left g.row.N g.row.K g.row.L r.0 nodes c.args.self.now.counts.items
+    let room = room_left c.args.graph.now.plan.nodes c.args.graph.now.plan.roots
+    c.args.graph.now.plan.links r.0 nodes c.args.self.now.counts.items
     c.args.self.now.leaving.items r.1 c.args.left (c.args.word ∷ r.2) c.in-Some.node r.3 live in
     let many = r.3.room in
-    omega (arith, room, many, g.N.fits)
+    omega (arith, room, many, c.plan-plan.ensures.nodes_fit)
 
 pub returns-clause-trimming : goal.returns-clause-trimming
 returns-clause-trimming g c = λ stored from words t.
     let nodes : List Node = nodes_in c.args.self.now.nodes.view.client.known in
     let counts : List ℕ = c.args.self.now.counts.items in
     let leaving : List ℕ = c.args.self.now.leaving.items in
-    let low = led_within g.row.N g.row.K g.row.L stored nodes counts leaving from c.args.left words
+    let low = led_within c.args.graph.now.plan.nodes c.args.graph.now.plan.roots
+    c.args.graph.now.plan.links stored nodes counts leaving from c.args.left words
     c.in-Some.node c.args.word c.in-Some.ensures t in
-    let some = led_counted g.row.N g.row.K g.row.L stored nodes counts leaving from c.args.left
+    let some = led_counted c.args.graph.now.plan.nodes c.args.graph.now.plan.roots
+    c.args.graph.now.plan.links stored nodes counts leaving from c.args.left
     words c.in-Some.node c.args.word c.in-Some.ensures t in
     let value : c.index.result.now ≡ get_or counts c.in-Some.node 0 =
     get_or_read counts c.in-Some.node _ low c.index.ensures 0 in
     let live : state_at nodes c.in-Some.node ≡ Live =
     test_live (state_at nodes c.in-Some.node)
     (sym (c.is_live.ensures ∙ ap is_live c.state.ensures) ∙ c.if-not-is_live.false) in
-    subst (λ (l : List Node). IsTrimming g.row.N g.row.K g.row.L stored l
+    subst (λ (l : List Node). IsTrimming c.args.graph.now.plan.nodes c.args.graph.now.plan.roots
+    c.args.graph.now.plan.links stored l
     (set counts c.in-Some.node (c.index.result.now - 1)) (set leaving c.args.left c.in-Some.node)
     from (c.args.left + 1) words)
     (sym (nodes_are c.args.self.now.nodes c.leave.new.self
     (renewed nodes c.in-Some.node (in_state Left)) c.leave.ensures.state))
-    (let_go_left g.row.N g.row.K g.row.L stored nodes counts leaving from c.args.left words
+    (let_go_left c.args.graph.now.plan.nodes c.args.graph.now.plan.roots c.args.graph.now.plan.links
+    stored nodes counts leaving from c.args.left words
     c.in-Some.node c.args.word c.in-Some.ensures t (c.index.result.now - 1)
-    (omega (arith, some, value)) live c.if-node.false (omega (arith, c.if-count-gt0.false)))
+    (omega (arith, some, value)) live (let roots = ap (λ (q : Plan). q.roots)
+    c.plan-plan.ensures.plan in
+    omega (arith, roots, c.if-node-plan.false)) (omega (arith, c.if-count-gt0.false)))

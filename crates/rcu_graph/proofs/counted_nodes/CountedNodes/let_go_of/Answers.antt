@@ -1,44 +1,42 @@
-use Rattle.std.proofs.Common.{◌≡◌, ◌+◌, ◌∷◌, ℕ, List, arith, drop, subst, sym}
+use Rattle.std.proofs.Common.{◌≡◌, ◌+◌, ◌<◌, ◌∷◌, ℕ, List, ap, arith, drop, subst, sym}
 use Rattle.rcu_graph.specs.Nodes.{node_at, nodes_in}
 use Rattle.rcu_graph.specs.Trimming.{IsTrimming}
 use Rattle.rcu_graph.specs.declared.known.Node.{Node}
+use Rattle.rcu_graph.specs.declared.plan.Plan.{Plan}
 use Rattle.rcu_graph.proofs.Cascade.{next_link, no_link_more, no_step, step_on}
 use Rattle.rcu_graph.proofs.counted_nodes.CountedNodes.let_go_of.Goals as goal
 
 pub loop-link-init : goal.loop-link-init
 loop-link-init g c = record {
   graph = c.requires.graph;
-  state = no_step c.args.self.now.nodes c.sizes.ensures.keeps;
+  state = no_step c.args.self.now.nodes c.plan-plan.ensures.keeps;
   trimming = λ stored from t. t;
 }
-
-pub link_word-word-requires : goal.link_word-word-requires
-link_word-word-requires g c = (omega arith, (c.requires.node, c.loop-link-test.true))
 
 pub let_go-gone-requires : goal.let_go-gone-requires
 let_go-gone-requires g c =
     let i = c.loop-link.invariant in
     let t = c.requires.trimming in
     let l = c.loop-link.link in
+    let p : Plan = c.args.graph.now.plan in
+    let low : l < p.links =
+    subst (λ (q : Plan). l < q.links) c.plan-plan.ensures.plan c.loop-link-test.true in
     let nodes : List Node = nodes_in c.loop-link.self.nodes.view.client.known in
     let rest : List ℕ = drop (l + 1) (node_at t.0 c.args.node).links in (
       omega arith,
       (
-        omega arith,
+        i.graph,
         (
-          i.graph,
-          (
-            t.0,
-            t.1,
-            rest,
-            subst (λ (w : ℕ). IsTrimming g.row.N g.row.K g.row.L t.0 nodes
-                c.loop-link.self.counts.items c.loop-link.self.leaving.items t.1 c.loop-link.gone
-                (w ∷ rest))
-                (sym c.link_word-word.ensures)
-                (next_link g.row.N g.row.K g.row.L t.0 nodes c.loop-link.self.counts.items
-                c.loop-link.self.leaving.items t.1 c.loop-link.gone c.args.node c.requires.node l
-                c.loop-link-test.true (i.trimming t.0 t.1 t.2)),
-          ),
+          t.0,
+          t.1,
+          rest,
+          subst (λ (w : ℕ). IsTrimming p.nodes p.roots p.links t.0 nodes
+              c.loop-link.self.counts.items c.loop-link.self.leaving.items t.1 c.loop-link.gone
+              (w ∷ rest))
+              (sym c.link_word-word.ensures)
+              (next_link p.nodes p.roots p.links t.0 nodes c.loop-link.self.counts.items
+              c.loop-link.self.leaving.items t.1 c.loop-link.gone c.args.node c.requires.node l low
+              (i.trimming t.0 t.1 t.2)),
         ),
       ),
     )
@@ -55,13 +53,16 @@ loop-link-preserved g c =
       trimming = λ stored from t.
           let rest : List ℕ = drop (l + 1) (node_at stored c.args.node).links in
           c.let_go-gone.ensures.trimming stored from rest
-          (subst (λ (w : ℕ). IsTrimming g.row.N g.row.K g.row.L stored nodes
+          (subst (λ (w : ℕ). IsTrimming c.args.graph.now.plan.nodes c.args.graph.now.plan.roots
+          c.args.graph.now.plan.links stored nodes
           c.loop-link.self.counts.items c.loop-link.self.leaving.items from c.loop-link.gone
           (w ∷ rest))
           (sym c.link_word-word.ensures)
-          (next_link g.row.N g.row.K g.row.L stored nodes c.loop-link.self.counts.items
+          (next_link c.args.graph.now.plan.nodes c.args.graph.now.plan.roots
+          c.args.graph.now.plan.links stored nodes c.loop-link.self.counts.items
           c.loop-link.self.leaving.items from c.loop-link.gone c.args.node c.requires.node l
-          c.loop-link-test.true (i.trimming stored from t)));
+          (subst (λ (q : Plan). l < q.links) c.plan-plan.ensures.plan c.loop-link-test.true)
+          (i.trimming stored from t)));
     }
 
 pub returns-clause-graph : goal.returns-clause-graph
@@ -73,11 +74,14 @@ returns-clause-state g c = c.loop-link.invariant.state
 pub returns-clause-trimming : goal.returns-clause-trimming
 returns-clause-trimming g c = λ stored from t.
     let nodes : List Node = nodes_in c.loop-link.self.nodes.view.client.known in
-    let end : c.loop-link.link ≡ g.row.L =
-    omega (arith, c.loop-link-test.false, c.loop-link.auto.link-end) in
-    no_link_more g.row.N g.row.K g.row.L stored nodes c.loop-link.self.counts.items
+    let end : c.loop-link.link ≡ c.args.graph.now.plan.links =
+    (let links = ap (λ (q : Plan). q.links) c.plan-plan.ensures.plan in
+    omega (arith, links, c.loop-link-test.false, c.loop-link.auto.link-end)) in
+    no_link_more c.args.graph.now.plan.nodes c.args.graph.now.plan.roots c.args.graph.now.plan.links
+    stored nodes c.loop-link.self.counts.items
     c.loop-link.self.leaving.items from c.loop-link.gone c.args.node c.requires.node
-    (subst (λ (n : ℕ). IsTrimming g.row.N g.row.K g.row.L stored nodes c.loop-link.self.counts.items
+    (subst (λ (n : ℕ). IsTrimming c.args.graph.now.plan.nodes c.args.graph.now.plan.roots
+    c.args.graph.now.plan.links stored nodes c.loop-link.self.counts.items
     c.loop-link.self.leaving.items from c.loop-link.gone
     (drop n (node_at stored c.args.node).links))
     end (c.loop-link.invariant.trimming stored from t))

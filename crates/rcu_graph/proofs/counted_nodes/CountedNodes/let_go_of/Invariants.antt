@@ -11,10 +11,12 @@ invariant-loop-link g l = record {
   graph : IsWatcherOf l.graph l.self.nodes;
   state : l.self.nodes ≡ after_step l.initial.self.nodes (nodes_in l.self.nodes.view.client.known);
   trimming : (stored : List Node) (from : ℕ)
-      → IsTrimming g.row.N g.row.K g.row.L stored (nodes_in l.initial.self.nodes.view.client.known)
+      → IsTrimming l.graph.plan.nodes l.graph.plan.roots l.graph.plan.links stored
+      (nodes_in l.initial.self.nodes.view.client.known)
       l.initial.self.counts.items l.initial.self.leaving.items from l.left
       (node_at stored l.node).links
-      → IsTrimming g.row.N g.row.K g.row.L stored (nodes_in l.self.nodes.view.client.known)
+      → IsTrimming l.graph.plan.nodes l.graph.plan.roots l.graph.plan.links stored
+      (nodes_in l.self.nodes.view.client.known)
       l.self.counts.items l.self.leaving.items from l.gone
       (drop l.link (node_at stored l.node).links);
 }

@@ -8,6 +8,7 @@ use Rattle.rcu_graph.specs.Nodes.{linked_to, node_at, nodes_in, renewed}
 use Rattle.rcu_graph.specs.Trimming.{IsTrimming}
 use Rattle.rcu_graph.specs.declared.known.Planned.{Planned}
 use Rattle.rcu_graph.specs.declared.known.Node.{Node}
+use Rattle.rcu_graph.specs.declared.plan.Plan.{Plan}
 use Rattle.rcu_graph.proofs.Cascade.{count_fits, counted_after, nodes_are, one_step}
 use Rattle.rcu_graph.proofs.Cascade.{relinked_starts, relinked_whole, same_trimming, step_on}
 use Rattle.rcu_graph.proofs.Cascade.{target_inside, word_fits}
@@ -16,58 +17,61 @@ use Rattle.rcu_graph.proofs.counted_nodes.CountedNodes.link.Goals as goal
 
 pub word_of-word-requires : goal.word_of-word-requires
 word_of-word-requires g c =
-    let s = c.sizes.ensures in
-    word_fits c.args.to g.row.N _
-    (target_inside g.F.Shape.fits g.F.Shape.joins g.row.N g.row.K g.row.L
+    let s = c.plan.ensures in
+    word_fits c.args.to c.args.graph.now.plan.nodes _
+    (target_inside (g.F.Shape.fits c.args.graph.now.plan) (g.F.Shape.joins c.args.graph.now.plan)
+    c.args.graph.now.plan.nodes c.args.graph.now.plan.roots c.args.graph.now.plan.links
     (nodes_in c.args.self.now.nodes.view.client.known) c.args.link _ (word_to c.args.to) s.few
     c.requires.target)
-    (omega (arith, g.N.fits))
-
-pub link_word-before-requires : goal.link_word-before-requires
-link_word-before-requires g c = (omega arith, (c.requires.from_inside, c.requires.link_inside))
+    (omega (arith, c.plan.ensures.nodes_fit))
 
 pub link-requires : goal.link-requires
 link-requires g c = (
   omega arith,
   (
-    omega arith,
+    c.requires.watches,
     (
-      c.requires.watches,
+      c.requires.from_inside,
       (
-        c.requires.from_inside,
-        (
-          c.requires.link_inside,
-          subst (λ (x : ℕ). CanLink (g.F.Shape.joins c.args.link)
-              (nodes_in c.args.self.now.nodes.view.client.known) c.args.from x)
-              (sym c.word_of-word.ensures) (inr (c.requires.live, c.requires.target)),
-        ),
+        c.requires.link_inside,
+        subst (λ (x : ℕ).
+            CanLink (g.F.Shape.joins c.args.graph.now.plan c.args.link)
+            (nodes_in c.args.self.now.nodes.view.client.known) c.args.from x)
+            (sym c.word_of-word.ensures) (inr (c.requires.live, c.requires.target)),
       ),
     ),
   ),
 )
 
-pub count-requires : goal.count-requires
-count-requires g c =
-    let s = c.sizes.ensures in
+pub count-requires-clause-inside : goal.count-requires-clause-inside
+count-requires-clause-inside g c =
+    let s = c.plan.ensures in
+    let p : Plan = c.args.graph.now.plan in
     let nodes : List Node = nodes_in c.args.self.now.nodes.view.client.known in
-    let inside : (k : ℕ) → c.word_of-word.result ≡ suc k → k < g.row.N =
-    λ k is. target_inside g.F.Shape.fits g.F.Shape.joins g.row.N g.row.K g.row.L nodes c.args.link _
-    (word_to c.args.to) s.few c.requires.target k (sym c.word_of-word.ensures ∙ is) in (
-      omega arith,
-      (
-        (λ k is. let low = inside k is in omega (arith, low, c.requires.counted.many)),
-        (λ k is.
-            let low = inside k is in
-            let a = count_fits g.F.Shape.fits g.F.Shape.joins g.row.N g.row.K g.row.L g.row.W nodes
-            c.args.self.now.counts.items c.args.self.now.leaving.items s.few s.sized
-            c.requires.counted k low in
-            omega (arith, a, s.fit)),
-      ),
-    )
+    let inside : (k : ℕ) → c.word_of-word.result ≡ suc k → k < p.nodes =
+    λ k is. target_inside (g.F.Shape.fits p) (g.F.Shape.joins p) p.nodes p.roots p.links nodes
+    c.args.link _ (word_to c.args.to) s.few c.requires.target k (sym c.word_of-word.ensures ∙ is) in
+    λ k is. let low = inside k is in omega (arith, low, c.requires.counted.many)
+
+pub count-requires-clause-few : goal.count-requires-clause-few
+count-requires-clause-few g c =
+    let s = c.plan.ensures in
+    let p : Plan = c.args.graph.now.plan in
+    let nodes : List Node = nodes_in c.args.self.now.nodes.view.client.known in
+    let inside : (k : ℕ) → c.word_of-word.result ≡ suc k → k < p.nodes =
+    λ k is. target_inside (g.F.Shape.fits p) (g.F.Shape.joins p) p.nodes p.roots p.links nodes
+    c.args.link _ (word_to c.args.to) s.few c.requires.target k (sym c.word_of-word.ensures ∙ is) in
+    λ k is.
+    let low = inside k is in
+    let a = count_fits (g.F.Shape.fits p) (g.F.Shape.joins p) p.nodes p.roots p.links p.words
+    nodes c.args.self.now.counts.items c.args.self.now.leaving.items s.few s.sized
+    c.requires.counted k low in
+    let fit = s.links_fit in
+    omega (arith, a, fit)
 
 pub trim-requires : goal.trim-requires
 trim-requires g c =
-    let s = c.sizes.ensures in
+    let s = c.plan.ensures in
     let nodes : List Node = nodes_in c.args.self.now.nodes.view.client.known in
     let counts : List ℕ = c.args.self.now.counts.items in
     let leaving : List ℕ = c.args.self.now.leaving.items in
@@ -85,27 +89,27 @@ trim-requires g c =
     ap (λ v. v.items) c.count.ensures.leaving in (
       omega arith,
       (
-        omega arith,
-        (
-          subst (λ (w : Watching Planned). IsWatcherOf c.args.graph.now w)
-              (sym c.count.ensures.nodes)
-              c.link.ensures.graph,
-          same_trimming g.row.N g.row.K g.row.L (nodes_in now.view.client.known) stored
-              (nodes_in now.view.client.known) stored c.count.new.self.counts.items
-              (counted_up counts x)
-              c.count.new.self.leaving.items leaving 0 0 (c.link_word-before.result ∷ [])
-              (slice_index (node_at nodes c.args.from).links c.args.link ∷ []) nodes_is nodes_is
-              counts_is leaving_is (ap (λ (w : ℕ). w ∷ []) c.link_word-before.ensures)
-              (relinked_starts g.F.Shape.fits g.F.Shape.joins g.row.N g.row.K g.row.L g.row.W nodes
-              counts leaving s.few s.sized c.requires.counted c.args.from c.args.link x
-              c.requires.live c.requires.link_inside c.requires.target),
-        ),
+        subst (λ (w : Watching Planned). IsWatcherOf c.args.graph.now w) (sym c.count.ensures.nodes)
+            c.link.ensures.graph,
+        same_trimming c.args.graph.now.plan.nodes c.args.graph.now.plan.roots
+            c.args.graph.now.plan.links (nodes_in now.view.client.known) stored
+            (nodes_in now.view.client.known) stored c.count.new.self.counts.items
+            (counted_up counts x)
+            c.count.new.self.leaving.items leaving 0 0 (c.link_word-before.result ∷ [])
+            (slice_index (node_at nodes c.args.from).links c.args.link ∷ []) nodes_is nodes_is
+            counts_is leaving_is (ap (λ (w : ℕ). w ∷ []) c.link_word-before.ensures)
+            (relinked_starts (g.F.Shape.fits c.args.graph.now.plan)
+            (g.F.Shape.joins c.args.graph.now.plan) c.args.graph.now.plan.nodes
+            c.args.graph.now.plan.roots c.args.graph.now.plan.links c.args.graph.now.plan.words
+            nodes
+            counts leaving s.few s.sized c.requires.counted c.args.from c.args.link x
+            c.requires.live c.requires.link_inside c.requires.target),
       ),
     )
 
 pub returns : goal.returns
 returns g c =
-    let s = c.sizes.ensures in
+    let s = c.plan.ensures in
     let nodes : List Node = nodes_in c.args.self.now.nodes.view.client.known in
     let counts : List ℕ = c.args.self.now.counts.items in
     let leaving : List ℕ = c.args.self.now.leaving.items in
@@ -125,24 +129,34 @@ returns g c =
           (c.count.ensures.nodes ∙ c.link.ensures.state))
           c.trim.ensures.state;
       counted =
-          counted_after g.F.Shape.fits g.F.Shape.joins g.row.N g.row.K g.row.L g.row.W stored
+          counted_after (g.F.Shape.fits c.args.graph.now.plan)
+          (g.F.Shape.joins c.args.graph.now.plan) c.args.graph.now.plan.nodes
+          c.args.graph.now.plan.roots c.args.graph.now.plan.links c.args.graph.now.plan.words stored
           (nodes_in c.trim.new.self.nodes.view.client.known) c.trim.new.self.counts.items
           c.trim.new.self.leaving.items t.0
-          (relinked_whole g.F.Shape.fits g.F.Shape.joins g.row.N g.row.K g.row.L g.row.W nodes
+          (relinked_whole (g.F.Shape.fits c.args.graph.now.plan)
+          (g.F.Shape.joins c.args.graph.now.plan) c.args.graph.now.plan.nodes
+          c.args.graph.now.plan.roots c.args.graph.now.plan.links c.args.graph.now.plan.words nodes
           counts leaving s.few s.sized c.requires.counted c.args.from c.args.link x c.requires.live
           c.requires.link_inside c.requires.target)
-          (subst (λ (l : List Node). IsTrimming g.row.N g.row.K g.row.L l
+          (subst (λ (l : List Node). IsTrimming c.args.graph.now.plan.nodes
+          c.args.graph.now.plan.roots c.args.graph.now.plan.links l
           (nodes_in c.trim.new.self.nodes.view.client.known) c.trim.new.self.counts.items
           c.trim.new.self.leaving.items t.0 t.0 [])
           nodes_is t.1);
       trimmed =
-          trimmed g.F.Shape.fits g.F.Shape.joins g.row.N g.row.K g.row.L g.row.W stored
+          trimmed (g.F.Shape.fits c.args.graph.now.plan) (g.F.Shape.joins c.args.graph.now.plan)
+          c.args.graph.now.plan.nodes c.args.graph.now.plan.roots c.args.graph.now.plan.links
+          c.args.graph.now.plan.words stored
           (nodes_in c.trim.new.self.nodes.view.client.known) c.trim.new.self.counts.items
           c.trim.new.self.leaving.items t.0
-          (relinked_whole g.F.Shape.fits g.F.Shape.joins g.row.N g.row.K g.row.L g.row.W nodes
+          (relinked_whole (g.F.Shape.fits c.args.graph.now.plan)
+          (g.F.Shape.joins c.args.graph.now.plan) c.args.graph.now.plan.nodes
+          c.args.graph.now.plan.roots c.args.graph.now.plan.links c.args.graph.now.plan.words nodes
           counts leaving s.few s.sized c.requires.counted c.args.from c.args.link x c.requires.live
           c.requires.link_inside c.requires.target)
-          (subst (λ (l : List Node). IsTrimming g.row.N g.row.K g.row.L l
+          (subst (λ (l : List Node). IsTrimming c.args.graph.now.plan.nodes
+          c.args.graph.now.plan.roots c.args.graph.now.plan.links l
           (nodes_in c.trim.new.self.nodes.view.client.known) c.trim.new.self.counts.items
           c.trim.new.self.leaving.items t.0 t.0 [])
           nodes_is t.1);

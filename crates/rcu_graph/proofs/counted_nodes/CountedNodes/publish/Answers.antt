@@ -9,6 +9,7 @@ use Rattle.rcu_graph.specs.Tended.{published}
 use Rattle.rcu_graph.specs.Trimming.{IsTrimming}
 use Rattle.rcu_graph.specs.declared.known.Planned.{Planned}
 use Rattle.rcu_graph.specs.declared.known.Node.{Node}
+use Rattle.rcu_graph.specs.declared.plan.Plan.{Plan}
 use Rattle.rcu_graph.specs.declared.node_state.NodeState.TheVariants.{Live}
 use Rattle.rcu_graph.proofs.Cascade.{counted_after, counts_fit, new_fits, one_step}
 use Rattle.rcu_graph.proofs.Cascade.{published_starts, published_whole, ready_inside, same_trimming}
@@ -16,29 +17,34 @@ use Rattle.rcu_graph.proofs.Cascade.{step_on}
 use Rattle.rcu_graph.proofs.Tending.{trimmed}
 use Rattle.rcu_graph.proofs.counted_nodes.CountedNodes.publish.Goals as goal
 
-pub link_word-before-requires : goal.link_word-before-requires
-link_word-before-requires g c = (omega arith, (c.requires.from_inside, c.requires.link_inside))
-
 pub count_links_of-requires : goal.count_links_of-requires
 count_links_of-requires g c =
-    let s = c.sizes.ensures in
+    let s = c.plan.ensures in
+    let p : Plan = c.args.graph.now.plan in
     let nodes : List Node = nodes_in c.args.self.now.nodes.view.client.known in
     let counts : List ℕ = c.args.self.now.counts.items in
     let leaving : List ℕ = c.args.self.now.leaving.items in (
       omega arith,
       (
-        c.requires.to_inside,
+        c.requires.watches,
         (
-          c.requires.counted.many,
+          c.requires.to_inside,
           (
-            ready_inside g.F.Shape.fits g.F.Shape.joins g.row.N g.row.K g.row.L g.row.W nodes counts
-                leaving s.few s.sized c.requires.counted c.args.from c.args.link c.args.to
-                c.requires.to_inside c.requires.ready,
-            (λ k low.
-                let a = counts_fit g.F.Shape.fits g.F.Shape.joins g.row.N g.row.K g.row.L g.row.W
-                nodes counts leaving s.few s.sized c.requires.counted c.args.from c.args.link
-                c.args.to c.requires.to_inside c.requires.ready k low in
-                omega (arith, a, s.fit)),
+            c.requires.counted.many,
+            (
+              ready_inside (g.F.Shape.fits p) (g.F.Shape.joins p) p.nodes p.roots p.links p.words
+                  nodes counts
+                  leaving s.few s.sized c.requires.counted c.args.from c.args.link c.args.to
+                  c.requires.to_inside c.requires.ready,
+              (λ k low.
+                  let a = counts_fit (g.F.Shape.fits p) (g.F.Shape.joins p) p.nodes p.roots p.links
+                  p.words
+                  nodes counts leaving s.few s.sized c.requires.counted c.args.from c.args.link
+                  c.args.to
+                  c.requires.to_inside c.requires.ready k low in
+                  let fit = s.links_fit in
+                  omega (arith, a, fit)),
+            ),
           ),
         ),
       ),
@@ -48,59 +54,69 @@ pub publish-requires : goal.publish-requires
 publish-requires g c =
     let e = c.count_links_of.ensures.nodes in (
       omega arith,
-      (
-        omega arith,
-        record {
-          watches = subst (λ (w : Watching Planned). IsWatcherOf c.args.graph.now w) (sym e)
-              c.requires.watches;
-          from_inside = c.requires.from_inside;
-          to_inside = c.requires.to_inside;
-          link_inside = c.requires.link_inside;
-          live =
-              subst (λ (w : Watching Planned). state_at (nodes_in w.view.client.known) c.args.from ≡
-              Live)
-              (sym e) c.requires.live;
-          ready = subst (λ (w : Watching Planned).
-              IsReady g.F.Shape.fits g.F.Shape.joins g.row.L (nodes_in w.view.client.known)
-              c.args.to)
-              (sym e) c.requires.ready;
-          joined = subst (λ (w : Watching Planned).
-              g.F.Shape.joins c.args.link (node_at (nodes_in w.view.client.known) c.args.from).words
-              (node_at (nodes_in w.view.client.known) c.args.to).words)
-              (sym e) c.requires.joined;
-        },
-      ),
+      record {
+        watches = subst (λ (w : Watching Planned). IsWatcherOf c.args.graph.now w) (sym e)
+            c.requires.watches;
+        from_inside = c.requires.from_inside;
+        to_inside = c.requires.to_inside;
+        link_inside = c.requires.link_inside;
+        live =
+            subst (λ (w : Watching Planned). state_at (nodes_in w.view.client.known) c.args.from ≡
+            Live)
+            (sym e) c.requires.live;
+        ready = subst (λ (w : Watching Planned).
+            IsReady (g.F.Shape.fits c.args.graph.now.plan) (g.F.Shape.joins c.args.graph.now.plan)
+            c.args.graph.now.plan.links (nodes_in w.view.client.known)
+            c.args.to)
+            (sym e) c.requires.ready;
+        joined = subst (λ (w : Watching Planned).
+            g.F.Shape.joins c.args.graph.now.plan c.args.link
+            (node_at (nodes_in w.view.client.known) c.args.from).words
+            (node_at (nodes_in w.view.client.known) c.args.to).words)
+            (sym e) c.requires.joined;
+      },
     )
 
 pub word_of-requires : goal.word_of-requires
-word_of-requires g c = omega (arith, c.requires.to_inside, g.N.fits)
+word_of-requires g c = omega (arith, c.requires.to_inside, c.plan.ensures.nodes_fit)
 
-pub count-requires : goal.count-requires
-count-requires g c =
-    let s = c.sizes.ensures in
+pub count-requires-clause-inside : goal.count-requires-clause-inside
+count-requires-clause-inside g c =
+    let s = c.plan.ensures in
     let n = c.count_links_of.ensures in
+    let p : Plan = c.args.graph.now.plan in
     let nodes : List Node = nodes_in c.args.self.now.nodes.view.client.known in
     let counts : List ℕ = c.args.self.now.counts.items in
     let leaving : List ℕ = c.args.self.now.leaving.items in
-    let inside : (k : ℕ) → c.word_of.result ≡ suc k → k < g.row.N =
+    let inside : (k : ℕ) → c.word_of.result ≡ suc k → k < p.nodes =
     λ k is.
     let e : suc c.args.to ≡ suc k = sym c.word_of.ensures ∙ is in
-    omega (arith, e, c.requires.to_inside) in (
-      omega arith,
-      (
-        (λ k is. let low = inside k is in omega (arith, low, n.many)),
-        (λ k is.
-            let a = new_fits g.F.Shape.fits g.F.Shape.joins g.row.N g.row.K g.row.L g.row.W nodes
-            counts leaving s.few s.sized c.requires.counted c.args.from c.args.link c.args.to
-            c.requires.to_inside c.requires.ready c.count_links_of.new.self.counts.items n.many
-            n.counts c.requires.live c.requires.link_inside c.requires.joined k (inside k is) in
-            omega (arith, a, s.fit)),
-      ),
-    )
+    omega (arith, e, c.requires.to_inside) in
+    λ k is. let low = inside k is in omega (arith, low, n.many)
+
+pub count-requires-clause-few : goal.count-requires-clause-few
+count-requires-clause-few g c =
+    let s = c.plan.ensures in
+    let n = c.count_links_of.ensures in
+    let p : Plan = c.args.graph.now.plan in
+    let nodes : List Node = nodes_in c.args.self.now.nodes.view.client.known in
+    let counts : List ℕ = c.args.self.now.counts.items in
+    let leaving : List ℕ = c.args.self.now.leaving.items in
+    let inside : (k : ℕ) → c.word_of.result ≡ suc k → k < p.nodes =
+    λ k is.
+    let e : suc c.args.to ≡ suc k = sym c.word_of.ensures ∙ is in
+    omega (arith, e, c.requires.to_inside) in
+    λ k is.
+    let a = new_fits (g.F.Shape.fits p) (g.F.Shape.joins p) p.nodes p.roots p.links p.words
+    nodes counts leaving s.few s.sized c.requires.counted c.args.from c.args.link c.args.to
+    c.requires.to_inside c.requires.ready c.count_links_of.new.self.counts.items n.many n.counts
+    c.requires.live c.requires.link_inside c.requires.joined k (inside k is) in
+    let fit = s.links_fit in
+    omega (arith, a, fit)
 
 pub trim-requires : goal.trim-requires
 trim-requires g c =
-    let s = c.sizes.ensures in
+    let s = c.plan.ensures in
     let n = c.count_links_of.ensures in
     let nodes : List Node = nodes_in c.args.self.now.nodes.view.client.known in
     let counts : List ℕ = c.args.self.now.counts.items in
@@ -121,28 +137,28 @@ trim-requires g c =
     ap (λ v. v.items) c.count.ensures.leaving ∙ ap (λ v. v.items) n.leaving in (
       omega arith,
       (
-        omega arith,
-        (
-          subst (λ (w : Watching Planned). IsWatcherOf c.args.graph.now w)
-              (sym c.count.ensures.nodes)
-              c.publish.ensures.graph,
-          same_trimming g.row.N g.row.K g.row.L (nodes_in now.view.client.known) stored
-              (nodes_in now.view.client.known) stored c.count.new.self.counts.items
-              (counted_up new (suc c.args.to)) c.count.new.self.leaving.items leaving 0 0
-              (c.link_word-before.result ∷ [])
-              (slice_index (node_at nodes c.args.from).links c.args.link ∷ []) nodes_is nodes_is
-              counts_is leaving_is (ap (λ (w : ℕ). w ∷ []) c.link_word-before.ensures)
-              (published_starts g.F.Shape.fits g.F.Shape.joins g.row.N g.row.K g.row.L g.row.W nodes
-              counts leaving s.few s.sized c.requires.counted c.args.from c.args.link c.args.to
-              c.requires.to_inside c.requires.ready new n.many n.counts c.requires.live
-              c.requires.link_inside c.requires.joined),
-        ),
+        subst (λ (w : Watching Planned). IsWatcherOf c.args.graph.now w) (sym c.count.ensures.nodes)
+            c.publish.ensures.graph,
+        same_trimming c.args.graph.now.plan.nodes c.args.graph.now.plan.roots
+            c.args.graph.now.plan.links (nodes_in now.view.client.known) stored
+            (nodes_in now.view.client.known) stored c.count.new.self.counts.items
+            (counted_up new (suc c.args.to)) c.count.new.self.leaving.items leaving 0 0
+            (c.link_word-before.result ∷ [])
+            (slice_index (node_at nodes c.args.from).links c.args.link ∷ []) nodes_is nodes_is
+            counts_is leaving_is (ap (λ (w : ℕ). w ∷ []) c.link_word-before.ensures)
+            (published_starts (g.F.Shape.fits c.args.graph.now.plan)
+            (g.F.Shape.joins c.args.graph.now.plan) c.args.graph.now.plan.nodes
+            c.args.graph.now.plan.roots c.args.graph.now.plan.links c.args.graph.now.plan.words
+            nodes
+            counts leaving s.few s.sized c.requires.counted c.args.from c.args.link c.args.to
+            c.requires.to_inside c.requires.ready new n.many n.counts c.requires.live
+            c.requires.link_inside c.requires.joined),
       ),
     )
 
 pub returns : goal.returns
 returns g c =
-    let s = c.sizes.ensures in
+    let s = c.plan.ensures in
     let n = c.count_links_of.ensures in
     let nodes : List Node = nodes_in c.args.self.now.nodes.view.client.known in
     let counts : List ℕ = c.args.self.now.counts.items in
@@ -168,26 +184,36 @@ returns g c =
           c.count_links_of.ensures.nodes)))
           c.trim.ensures.state;
       counted =
-          counted_after g.F.Shape.fits g.F.Shape.joins g.row.N g.row.K g.row.L g.row.W stored
+          counted_after (g.F.Shape.fits c.args.graph.now.plan)
+          (g.F.Shape.joins c.args.graph.now.plan) c.args.graph.now.plan.nodes
+          c.args.graph.now.plan.roots c.args.graph.now.plan.links c.args.graph.now.plan.words stored
           (nodes_in c.trim.new.self.nodes.view.client.known) c.trim.new.self.counts.items
           c.trim.new.self.leaving.items t.0
-          (published_whole g.F.Shape.fits g.F.Shape.joins g.row.N g.row.K g.row.L g.row.W nodes
+          (published_whole (g.F.Shape.fits c.args.graph.now.plan)
+          (g.F.Shape.joins c.args.graph.now.plan) c.args.graph.now.plan.nodes
+          c.args.graph.now.plan.roots c.args.graph.now.plan.links c.args.graph.now.plan.words nodes
           counts leaving s.few s.sized c.requires.counted c.args.from c.args.link c.args.to
           c.requires.to_inside c.requires.ready new n.many n.counts c.requires.live
           c.requires.link_inside c.requires.joined)
-          (subst (λ (l : List Node). IsTrimming g.row.N g.row.K g.row.L l
+          (subst (λ (l : List Node). IsTrimming c.args.graph.now.plan.nodes
+          c.args.graph.now.plan.roots c.args.graph.now.plan.links l
           (nodes_in c.trim.new.self.nodes.view.client.known) c.trim.new.self.counts.items
           c.trim.new.self.leaving.items t.0 t.0 [])
           nodes_is t.1);
       trimmed =
-          trimmed g.F.Shape.fits g.F.Shape.joins g.row.N g.row.K g.row.L g.row.W stored
+          trimmed (g.F.Shape.fits c.args.graph.now.plan) (g.F.Shape.joins c.args.graph.now.plan)
+          c.args.graph.now.plan.nodes c.args.graph.now.plan.roots c.args.graph.now.plan.links
+          c.args.graph.now.plan.words stored
           (nodes_in c.trim.new.self.nodes.view.client.known) c.trim.new.self.counts.items
           c.trim.new.self.leaving.items t.0
-          (published_whole g.F.Shape.fits g.F.Shape.joins g.row.N g.row.K g.row.L g.row.W nodes
+          (published_whole (g.F.Shape.fits c.args.graph.now.plan)
+          (g.F.Shape.joins c.args.graph.now.plan) c.args.graph.now.plan.nodes
+          c.args.graph.now.plan.roots c.args.graph.now.plan.links c.args.graph.now.plan.words nodes
           counts leaving s.few s.sized c.requires.counted c.args.from c.args.link c.args.to
           c.requires.to_inside c.requires.ready new n.many n.counts c.requires.live
           c.requires.link_inside c.requires.joined)
-          (subst (λ (l : List Node). IsTrimming g.row.N g.row.K g.row.L l
+          (subst (λ (l : List Node). IsTrimming c.args.graph.now.plan.nodes
+          c.args.graph.now.plan.roots c.args.graph.now.plan.links l
           (nodes_in c.trim.new.self.nodes.view.client.known) c.trim.new.self.counts.items
           c.trim.new.self.leaving.items t.0 t.0 [])
           nodes_is t.1);

@@ -3,6 +3,7 @@ use Rattle.std.proofs.lemmas.List.{get_or_read}
 use Rattle.rcu_graph.specs.Nodes.{node_at, nodes_in}
 use Rattle.rcu_graph.specs.Trimming.{IsTrimming}
 use Rattle.rcu_graph.specs.declared.known.Node.{Node}
+use Rattle.rcu_graph.specs.declared.plan.Plan.{Plan}
 use Rattle.rcu_graph.proofs.Cascade.{in_room, step_on}
 use Rattle.rcu_graph.proofs.Tending.{take_next}
 use Rattle.rcu_graph.proofs.counted_nodes.CountedNodes.trim.Goals as goal
@@ -11,16 +12,8 @@ pub let_go-left-requires : goal.let_go-left-requires
 let_go-left-requires g c = (
   omega arith,
   (
-    omega arith,
-    (
-      c.requires.graph,
-      (
-        nodes_in c.args.self.now.nodes.view.client.known,
-        0,
-        [],
-        c.requires.trimming,
-      ),
-    ),
+    c.requires.graph,
+    (nodes_in c.args.self.now.nodes.view.client.known, 0, [], c.requires.trimming),
   ),
 )
 
@@ -36,7 +29,8 @@ index-node-requires g c =
     let t = c.leaving.invariant.trimming (nodes_in c.args.self.now.nodes.view.client.known)
     (c.let_go-left.ensures.trimming (nodes_in c.args.self.now.nodes.view.client.known) 0 []
     c.requires.trimming) in
-    let a = in_room g.row.N g.row.K g.row.L (nodes_in c.args.self.now.nodes.view.client.known)
+    let a = in_room c.args.graph.now.plan.nodes c.args.graph.now.plan.roots
+    c.args.graph.now.plan.links (nodes_in c.args.self.now.nodes.view.client.known)
     (nodes_in c.leaving.self.nodes.view.client.known) c.leaving.self.counts.items
     c.leaving.self.leaving.items c.leaving.done c.leaving.left [] t in
     omega (arith, a, c.leaving-test.true, c.leaving.self.leaving.ok.0)
@@ -50,22 +44,23 @@ let_go_of-left-requires g c =
     let nodes : List Node = nodes_in c.leaving.self.nodes.view.client.known in
     let counts : List ℕ = c.leaving.self.counts.items in
     let leaving : List ℕ = c.leaving.self.leaving.items in
-    let room = in_room g.row.N g.row.K g.row.L stored nodes counts leaving n c.leaving.left [] t in
+    let p : Plan = c.args.graph.now.plan in
+    let room = in_room p.nodes p.roots p.links stored nodes counts leaving n c.leaving.left [] t in
     let node_is : c.index-node.result.now ≡ get_or leaving n 0 =
-    get_or_read leaving n _ (omega (arith, room, c.leaving-test.true)) c.index-node.ensures 0 in
-    let next = subst (λ (x : ℕ). IsTrimming g.row.N g.row.K g.row.L stored nodes counts leaving
-    (n + 1) c.leaving.left (node_at stored x).links)
-    (sym node_is)
-    (take_next g.row.N g.row.K g.row.L stored nodes counts leaving n c.leaving.left
-    c.leaving-test.true t) in (
+    get_or_read leaving n _ (omega (arith, room, c.leaving-test.true)) c.index-node.ensures 0 in (
       omega arith,
       (
-        omega arith,
+        i.graph,
         (
-          i.graph,
+          subst (λ (x : ℕ). x < p.nodes) (sym node_is) (t.ordered n c.leaving-test.true),
           (
-            subst (λ (x : ℕ). x < g.row.N) (sym node_is) (t.ordered n c.leaving-test.true),
-            (stored, n + 1, next),
+            stored,
+            n + 1,
+            subst (λ (x : ℕ). IsTrimming p.nodes p.roots p.links stored nodes counts leaving (n + 1)
+                c.leaving.left (node_at stored x).links)
+                (sym node_is)
+                (take_next p.nodes p.roots p.links stored nodes counts leaving n c.leaving.left
+                c.leaving-test.true t),
           ),
         ),
       ),
@@ -77,7 +72,7 @@ overflow_add-done g c =
     (c.let_go-left.ensures.trimming (nodes_in c.args.self.now.nodes.view.client.known) 0 []
     c.requires.trimming) in
     let a = t.enough in
-    omega (arith, a, c.leaving-test.true, g.N.fits)
+    omega (arith, a, c.leaving-test.true, c.leaving.self.leaving.ok.0, t.room)
 
 pub leaving-smaller : goal.leaving-smaller
 leaving-smaller g c =
@@ -101,15 +96,18 @@ leaving-preserved g c =
       trimming = λ stored first.
           let t = i.trimming stored first in
           let room =
-          in_room g.row.N g.row.K g.row.L stored nodes counts leaving n c.leaving.left [] t in
+          in_room c.args.graph.now.plan.nodes c.args.graph.now.plan.roots
+          c.args.graph.now.plan.links stored nodes counts leaving n c.leaving.left [] t in
           let node_is : c.index-node.result.now ≡ get_or leaving n 0 =
           get_or_read leaving n _ (omega (arith, room, c.leaving-test.true)) c.index-node.ensures
           0 in
           c.let_go_of-left.ensures.trimming stored (n + 1)
-          (subst (λ (x : ℕ). IsTrimming g.row.N g.row.K g.row.L stored nodes counts leaving (n + 1)
+          (subst (λ (x : ℕ). IsTrimming c.args.graph.now.plan.nodes c.args.graph.now.plan.roots
+          c.args.graph.now.plan.links stored nodes counts leaving (n + 1)
           c.leaving.left (node_at stored x).links)
           (sym node_is)
-          (take_next g.row.N g.row.K g.row.L stored nodes counts leaving n c.leaving.left
+          (take_next c.args.graph.now.plan.nodes c.args.graph.now.plan.roots
+          c.args.graph.now.plan.links stored nodes counts leaving n c.leaving.left
           c.leaving-test.true t));
     }
 
@@ -128,7 +126,8 @@ returns-clause-trimming g c =
     let going = t.going in
     let end : c.leaving.left ≡ c.leaving.done = omega (arith, going, c.leaving-test.false) in (
       c.leaving.done,
-      subst (λ (n : ℕ). IsTrimming g.row.N g.row.K g.row.L
+      subst (λ (n : ℕ). IsTrimming c.args.graph.now.plan.nodes c.args.graph.now.plan.roots
+          c.args.graph.now.plan.links
           (nodes_in c.args.self.now.nodes.view.client.known)
           (nodes_in c.leaving.self.nodes.view.client.known)
           c.leaving.self.counts.items c.leaving.self.leaving.items c.leaving.done n [])

@@ -15,11 +15,13 @@ invariant-leaving g l = record {
       → l.initial.self.nodes ≡ after_step before (nodes_in l.initial.self.nodes.view.client.known)
       → l.self.nodes ≡ after_step before (nodes_in l.self.nodes.view.client.known);
   trimming : (stored : List Node)
-      → IsTrimming g.row.N g.row.K g.row.L stored (nodes_in l.initial.self.nodes.view.client.known)
+      → IsTrimming l.graph.plan.nodes l.graph.plan.roots l.graph.plan.links stored
+      (nodes_in l.initial.self.nodes.view.client.known)
       l.initial.self.counts.items l.initial.self.leaving.items 0 l.initial.left []
-      → IsTrimming g.row.N g.row.K g.row.L stored (nodes_in l.self.nodes.view.client.known)
+      → IsTrimming l.graph.plan.nodes l.graph.plan.roots l.graph.plan.links stored
+      (nodes_in l.self.nodes.view.client.known)
       l.self.counts.items l.self.leaving.items l.done l.left [];
 }
 
 abbrev pub decreases-leaving : goal.decreases-leaving
-decreases-leaving g l = g.row.N - l.done
+decreases-leaving g l = l.graph.plan.nodes - l.done

@@ -15,9 +15,9 @@ key_of-least-requires g c = (
   omega arith,
   record {
     walking = c.requires.walking;
-    words = g.F.Shape.first c.args.root;
+    words = (g.F.Shape.first c.args.self.now.plan) c.args.root;
     on = inl (c.requires.root, refl);
-    inside = omega (arith, c.requires.root, c.self.invariant.roots);
+    inside = omega (arith, c.requires.root, c.plan.ensures.roots);
   },
 )
 
@@ -28,11 +28,12 @@ chain-init g c = record {
   reader = subst (λ (s : Seated Planned). IsReader s.view.client.known)
       (sym c.key_of-least.ensures.same)
       c.requires.walking.reads;
-  inside = omega (arith, c.requires.root, c.self.invariant.roots);
+  inside = omega (arith, c.requires.root, c.plan.ensures.roots);
   on = (
-    g.F.Shape.first c.args.root,
+    (g.F.Shape.first c.args.self.now.plan) c.args.root,
     inl (c.requires.root, refl),
-    sym (c.key_of-least.ensures.told (g.F.Shape.first c.args.root) (inl (c.requires.root, refl))),
+    sym (c.key_of-least.ensures.told ((g.F.Shape.first c.args.self.now.plan) c.args.root)
+        (inl (c.requires.root, refl))),
   );
   path = sets_out c.args.root c.args.key c.key_of-least.new.seat.view.client.known;
 }
@@ -43,7 +44,7 @@ follow-requires g c =
     let first = subst (IsWalking _) (sym c.key_of-least.ensures.same) c.requires.walking in (
       omega arith,
       (
-        walks_at _ _ _ _ _ c.chain.seat _ i.on.0 i.same i.planned first i.reader i.on.1 i.inside,
+        walks_at _ _ _ c.chain.seat _ i.on.0 i.same i.planned first i.reader i.on.1 i.inside,
         c.requires.link,
       ),
     )
@@ -58,7 +59,8 @@ returns-then-found-key-clause-walking g c =
 pub returns-then-found-key-clause-on : goal.returns-then-found-key-clause-on
 returns-then-found-key-clause-on g c =
     subst
-    (λ (s : Seated Planned). IsAt g.F.Shape.first g.row.K g.row.N c.args.self.now s c.in-Some.next)
+    (λ (s : Seated Planned). IsAt (g.F.Shape.first c.args.self.now.plan) c.args.self.now s
+    c.in-Some.next)
     (sym c.key_of-found.ensures.same) c.in-Some.ensures.on
 
 pub returns-then-found-key-clause-found : goal.returns-then-found-key-clause-found
@@ -66,7 +68,8 @@ returns-then-found-key-clause-found g c =
     let on = c.chain.invariant.on in
     let f = c.in-Some.ensures.came on.0 on.1 in
     let held = came_holds _ _ _ _ _ _ _ _ _ f in
-    subst (λ (s : Seated Planned). IsFound g.F.Shape.fits c.args.key s.view.client.known
+    subst (λ (s : Seated Planned). IsFound (g.F.Shape.fits c.args.self.now.plan) c.args.key
+    s.view.client.known
     c.in-Some.next)
     (sym c.key_of-found.ensures.same)
     (found_it _ _ _ _ _ _ _ _ _ _ _ f (c.key_of-found.ensures.told f.words (inr held))
@@ -139,7 +142,8 @@ chain-preserved g c =
       inside = came.inside;
       on = subst (λ (s : Seated Planned).
           (words : List ℕ)
-          × IsOn g.F.Shape.first g.row.K s.view.client.known c.in-Some.next words
+          × IsOn (g.F.Shape.first c.args.self.now.plan) c.args.self.now.plan.roots
+          s.view.client.known c.in-Some.next words
           × (slice_index words 0 ≡ c.key_of-found.result))
           (sym c.key_of-found.ensures.same) (f.words, inr held, sym told);
       path = subst (λ (s : Seated Planned). IsOnPath c.args.root c.args.key

@@ -10,9 +10,9 @@ invariant-chain g l = record {
   same : l.seat ≡ after_word_step l.initial.seat l.seat.view.client;
   planned : l.seat.view.client.plan ≡ l.initial.seat.view.client.plan;
   reader : IsReader l.seat.view.client.known;
-  inside : l.on < g.row.N;
+  inside : l.on < l.self.plan.nodes;
   on : (words : List ℕ)
-      × IsOn g.F.Shape.first g.row.K l.seat.view.client.known l.on words
+      × IsOn (g.F.Shape.first l.self.plan) l.self.plan.roots l.seat.view.client.known l.on words
       × (slice_index words 0 ≡ l.least);
   path : IsOnPath l.root l.key l.initial.seat.view.client.known l.seat.view.client.known l.on;
 }

@@ -1,4 +1,4 @@
-use Rattle.std.proofs.Common.{◌≡◌, ◌∙◌, ℕ, ◌-◌, suc, ap, subst, sym, arith}
+use Rattle.std.proofs.Common.{◌≡◌, ◌∙◌, ℕ, ◌-◌, suc, ap, refl, subst, sym, arith}
 use Rattle.rcu_live.specs.Board.{Object}
 use Rattle.rcu_graph.specs.Steps.{Followed}
 use Rattle.rcu_graph.specs.declared.plan.Plan.{Plan}
@@ -7,78 +7,75 @@ use Rattle.rcu_graph.proofs.Walking.{followed_at, followed_walks}
 use Rattle.rcu_graph.proofs.graph.Graph.follow.Goals as goal
 
 pub load_word-word-requires-clause-allowed : goal.load_word-word-requires-clause-allowed
-load_word-word-requires-clause-allowed g c =
-    c.follow_is_allowed.ensures c.self.inside.live.plan c.self.invariant.planned
+load_word-word-requires-clause-allowed g c = c.follow_is_allowed.ensures c.self.inside.live.plan
+    (c.requires.at.walking.seat_of.planned
+    ∙ ap (λ (o : Object Plan). o.plan) (sym c.self.view_is))
 
 pub returns-then-word-eq0-clause-came : goal.returns-then-word-eq0-clause-came
 returns-then-word-eq0-clause-came g c = λ words on.
     let at = c.requires.at in
-    let planned = at.walking.seat_of.planned
-    ∙ (sym (ap (λ (o : Object Plan). o.plan) c.self.view_is) ∙ c.self.invariant.planned) in
     let is : c.load_word-word.result ≡ 0 = omega (arith, c.if-word-eq0.true) in
-    subst (λ (x : ℕ). Followed g.F.Shape.fits (g.F.Shape.joins c.args.link words) g.row.W g.row.N
-    c.args.seat.now.view.client.known c.args.from c.args.link x
+    subst (λ (x : ℕ). Followed (g.F.Shape.fits c.args.self.now.plan)
+    (g.F.Shape.joins c.args.self.now.plan c.args.link words) c.args.self.now.plan.words
+    c.args.self.now.plan.nodes c.args.seat.now.view.client.known c.args.from c.args.link x
     c.load_word-word.new.self.view.client.known)
     is
-    (followed_of g.F.Shape.fits g.F.Shape.joins g.F.Shape.first g.row.K g.row.L g.row.W g.row.N
+    (followed_of g.F.Shape.fits g.F.Shape.joins g.F.Shape.first c.args.self.now.plan
     c.args.seat.now.view.client c.load_word-word.new.self.view.client c.args.from c.args.link _ _
-    words planned c.load_word-word.ensures.told c.requires.link c.place_of-place.ensures.place
-    on)
+    words at.walking.seat_of.planned c.load_word-word.ensures.told c.requires.link
+    c.place-place.ensures.place on)
 
 pub returns-then-word-eq0-clause-walking : goal.returns-then-word-eq0-clause-walking
 returns-then-word-eq0-clause-walking g c =
     let at = c.requires.at in
-    let planned = at.walking.seat_of.planned
-    ∙ (sym (ap (λ (o : Object Plan). o.plan) c.self.view_is) ∙ c.self.invariant.planned) in
     followed_walks _ _ _ _ _ _ _ _ _ _ c.load_word-word.ensures.state
     c.load_word-word.ensures.told.0 at.walking
-    (followed_of g.F.Shape.fits g.F.Shape.joins g.F.Shape.first g.row.K g.row.L g.row.W g.row.N
+    (followed_of g.F.Shape.fits g.F.Shape.joins g.F.Shape.first c.args.self.now.plan
     c.args.seat.now.view.client c.load_word-word.new.self.view.client c.args.from c.args.link _ _
-    at.words planned c.load_word-word.ensures.told c.requires.link c.place_of-place.ensures.place
-    at.on)
+    at.words at.walking.seat_of.planned c.load_word-word.ensures.told c.requires.link
+    c.place-place.ensures.place at.on)
 
 pub returns-clause-came : goal.returns-clause-came
 returns-clause-came g c = λ words on.
     let at = c.requires.at in
-    let planned = at.walking.seat_of.planned
-    ∙ (sym (ap (λ (o : Object Plan). o.plan) c.self.view_is) ∙ c.self.invariant.planned) in
-    let is : c.load_word-word.result ≡ suc (c.load_word-word.result - 1) = omega
-    (arith, c.if-word-eq0.false) in
-    subst (λ (x : ℕ). Followed g.F.Shape.fits (g.F.Shape.joins c.args.link words) g.row.W g.row.N
-    c.args.seat.now.view.client.known c.args.from c.args.link x
+    let is : c.load_word-word.result ≡ suc (c.load_word-word.result - 1) =
+    omega (arith, c.if-word-eq0.false) in
+    subst (λ (x : ℕ). Followed (g.F.Shape.fits c.args.self.now.plan)
+    (g.F.Shape.joins c.args.self.now.plan c.args.link words) c.args.self.now.plan.words
+    c.args.self.now.plan.nodes c.args.seat.now.view.client.known c.args.from c.args.link x
     c.load_word-word.new.self.view.client.known)
     is
-    (followed_of g.F.Shape.fits g.F.Shape.joins g.F.Shape.first g.row.K g.row.L g.row.W g.row.N
+    (followed_of g.F.Shape.fits g.F.Shape.joins g.F.Shape.first c.args.self.now.plan
     c.args.seat.now.view.client c.load_word-word.new.self.view.client c.args.from c.args.link _ _
-    words planned c.load_word-word.ensures.told c.requires.link c.place_of-place.ensures.place
-    on)
+    words at.walking.seat_of.planned c.load_word-word.ensures.told c.requires.link
+    c.place-place.ensures.place on)
 
 pub returns-clause-walking : goal.returns-clause-walking
 returns-clause-walking g c =
     let at = c.requires.at in
-    let planned = at.walking.seat_of.planned
-    ∙ (sym (ap (λ (o : Object Plan). o.plan) c.self.view_is) ∙ c.self.invariant.planned) in
     followed_walks _ _ _ _ _ _ _ _ _ _ c.load_word-word.ensures.state
     c.load_word-word.ensures.told.0 at.walking
-    (followed_of g.F.Shape.fits g.F.Shape.joins g.F.Shape.first g.row.K g.row.L g.row.W g.row.N
+    (followed_of g.F.Shape.fits g.F.Shape.joins g.F.Shape.first c.args.self.now.plan
     c.args.seat.now.view.client c.load_word-word.new.self.view.client c.args.from c.args.link _ _
-    at.words planned c.load_word-word.ensures.told c.requires.link c.place_of-place.ensures.place
-    at.on)
+    at.words at.walking.seat_of.planned c.load_word-word.ensures.told c.requires.link
+    c.place-place.ensures.place at.on)
 
 pub returns-clause-on : goal.returns-clause-on
 returns-clause-on g c =
     let at = c.requires.at in
-    let planned = at.walking.seat_of.planned
-    ∙ (sym (ap (λ (o : Object Plan). o.plan) c.self.view_is) ∙ c.self.invariant.planned) in
     let some : c.load_word-word.result ≡ suc (c.load_word-word.result - 1) =
     omega (arith, c.if-word-eq0.false) in
-    followed_at g.F.Shape.fits (g.F.Shape.joins c.args.link at.words) g.row.W g.row.N _ _ _ _ _ _ _
-    _ c.load_word-word.ensures.state c.load_word-word.ensures.told.0 at.walking
-    (subst (λ (x : ℕ). Followed g.F.Shape.fits (g.F.Shape.joins c.args.link at.words) g.row.W
-    g.row.N c.args.seat.now.view.client.known c.args.from c.args.link x
+    followed_at (g.F.Shape.fits c.args.self.now.plan)
+    (g.F.Shape.joins c.args.self.now.plan c.args.link at.words) c.args.self.now.plan.words
+    c.args.self.now.plan.nodes _ _ _ _ _ _ _ c.load_word-word.ensures.state
+    c.load_word-word.ensures.told.0 at.walking
+    (subst (λ (x : ℕ). Followed (g.F.Shape.fits c.args.self.now.plan)
+    (g.F.Shape.joins c.args.self.now.plan c.args.link at.words) c.args.self.now.plan.words
+    c.args.self.now.plan.nodes c.args.seat.now.view.client.known c.args.from c.args.link x
     c.load_word-word.new.self.view.client.known)
     some
-    (followed_of g.F.Shape.fits g.F.Shape.joins g.F.Shape.first g.row.K g.row.L g.row.W g.row.N
+    (followed_of g.F.Shape.fits g.F.Shape.joins g.F.Shape.first c.args.self.now.plan
     c.args.seat.now.view.client c.load_word-word.new.self.view.client c.args.from c.args.link _ _
-    at.words planned c.load_word-word.ensures.told c.requires.link c.place_of-place.ensures.place
-    at.on))
+    at.words at.walking.seat_of.planned c.load_word-word.ensures.told c.requires.link
+    c.place-place.ensures.place at.on))
+    refl

@@ -1,6 +1,5 @@
 use Rattle.std.proofs.Common.{◌∙◌, ap, arith, length-set, sym}
 use Rattle.rcu_live.specs.Board.{Object}
-use Rattle.rcu_graph.specs.Planned.{plan_of}
 use Rattle.rcu_graph.specs.Steps.{IsPublished}
 use Rattle.rcu_graph.specs.declared.plan.Plan.{Plan}
 use Rattle.rcu_graph.proofs.Keeping.{keeps_on}
@@ -8,19 +7,17 @@ use Rattle.rcu_graph.proofs.Planned.{told_at}
 use Rattle.rcu_graph.proofs.graph.Graph.publish.Goals as goal
 
 pub store_word-requires-clause-allowed : goal.store_word-requires-clause-allowed
-store_word-requires-clause-allowed g c =
-    c.publish_is_allowed.ensures c.self.inside.live.plan c.self.invariant.planned
+store_word-requires-clause-allowed g c = c.publish_is_allowed.ensures c.self.inside.live.plan
+    (c.requires.keeper.watches.planned ∙ ap (λ (o : Object Plan). o.plan) (sym c.self.view_is))
 
 pub returns-clause-keeper : goal.returns-clause-keeper
 returns-clause-keeper g c =
     let e = c.store_word.ensures in
     let k = c.requires.keeper in
-    let planned =
-    k.planned ∙ (sym (ap (λ (o : Object Plan). o.plan) c.self.view_is) ∙ c.self.invariant.planned)
-    in
-    keeps_on _ _ _ _ _ _ e.state e.told.0
-    (told_at (λ (p : Plan). IsPublished p.links p.words) c.place_of-place.result
-    c.args.seat.now.view.client _ c.store_word.new.self.view.client
-    (plan_of g.row.K g.row.L g.row.W g.row.N) planned e.told c.args.from c.args.link c.args.to
-    c.requires.link c.place_of-place.ensures.place (omega arith))
+    keeps_on _ _ _ _ _ e.state e.told.0
+    (told_at (λ (p : Plan). IsPublished p.links p.words) c.place-place.result
+    c.args.seat.now.view.client _ c.store_word.new.self.view.client c.args.self.now.plan
+    k.watches.planned e.told c.args.from c.args.link c.args.to c.requires.link
+    c.place-place.ensures.place
+    (omega arith))
     (length-set _ _ _ ∙ (length-set _ _ _ ∙ k.few)) k

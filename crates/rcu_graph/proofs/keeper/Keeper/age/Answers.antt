@@ -1,11 +1,11 @@
-use Rattle.std.proofs.Common.{◌∙◌, List, ap, subst, sym}
+use Rattle.std.proofs.Common.{◌∙◌, ap, subst, sym}
 use Rattle.std.specs.Prelude.{max}
 use Rattle.rcu_live.specs.Watcher.{Watching}
 use Rattle.rcu_graph.specs.Keeper.{after_look}
 use Rattle.rcu_graph.specs.Nodes.{latest_in, nodes_in}
 use Rattle.rcu_graph.specs.Trimming.{IsCounted}
 use Rattle.rcu_graph.specs.declared.known.Planned.{Planned}
-use Rattle.rcu_graph.specs.declared.known.Node.{Node}
+use Rattle.rcu_graph.specs.declared.plan.Plan.{Plan}
 use Rattle.rcu_graph.proofs.Keeps.{counted_aged}
 use Rattle.rcu_graph.proofs.keeper.Keeper.age.Goals as goal
 
@@ -13,13 +13,15 @@ pub invariant_of-self : goal.invariant_of-self
 invariant_of-self g c =
     let s : Watching Planned = c.self.inside.counted.nodes in
     let counted = c.self.inside.counted in
-    subst (λ (l : List Node). IsCounted g.F.Shape.fits g.F.Shape.joins g.row.N g.row.K g.row.L l
-    counted.counts.items counted.leaving.items)
-    (sym (ap (λ (w : Watching Planned). nodes_in w.view.client.known) c.look.ensures.state))
-    (counted_aged g.F.Shape.fits g.F.Shape.joins g.row.N g.row.K g.row.L
-    (nodes_in s.view.client.known)
-    counted.counts.items counted.leaving.items c.self.invariant c.look.result
-    (max c.look.result (latest_in s.view.client.known)))
+    let p : Plan = s.view.client.plan in
+    subst (λ (w : Watching Planned). IsCounted (g.F.Shape.fits w.view.client.plan)
+    (g.F.Shape.joins w.view.client.plan) w.view.client.plan.nodes w.view.client.plan.roots
+    w.view.client.plan.links (nodes_in w.view.client.known) counted.counts.items
+    counted.leaving.items)
+    (sym c.look.ensures.state)
+    (counted_aged (g.F.Shape.fits p) (g.F.Shape.joins p) p.nodes p.roots p.links
+    (nodes_in s.view.client.known) counted.counts.items counted.leaving.items c.self.invariant
+    c.look.result (max c.look.result (latest_in s.view.client.known)))
 
 pub returns-clause-graph : goal.returns-clause-graph
 returns-clause-graph g c = c.look.ensures.graph

@@ -4,38 +4,48 @@ use Rattle.rcu_graph.specs.Graph.{IsWatcherOf, word_to}
 use Rattle.rcu_graph.specs.Keeper.{after_step}
 use Rattle.rcu_graph.specs.Nodes.{IsTarget, node_at, nodes_in, state_at}
 use Rattle.rcu_graph.specs.Tended.{AreTrimmed, relinked}
+use Rattle.rcu_graph.specs.Trimming.{IsCounted}
 use Rattle.rcu_graph.specs.declared.known.Planned.{Planned}
 use Rattle.rcu_graph.specs.declared.node_state.NodeState.TheVariants.{Live}
+use Rattle.rcu_graph.specs.declared.plan.Plan.{Plan}
 use Rattle.rcu_graph.proofs.keeper.Keeper.link.Goals as goal
 
 pub link-requires : goal.link-requires
 link-requires g c =
-    let e = sym c.self.view_is in (
+    let e = sym c.self.view_is in
+    let counted = c.self.inside.counted in (
       omega arith,
-      (
-        omega arith,
-        record {
-          watches =
-              subst (λ (w : Watching Planned). IsWatcherOf c.args.graph.now w) e c.requires.graph;
-          counted = c.self.invariant;
-          from_inside = c.requires.from;
-          link_inside = c.requires.link;
-          live =
-              subst (λ (w : Watching Planned). state_at (nodes_in w.view.client.known) c.args.from ≡
-              Live) e
-              c.requires.live;
-          target = subst (λ (w : Watching Planned).
-              IsTarget (g.F.Shape.joins c.args.link)
-              (node_at (nodes_in w.view.client.known) c.args.from).words
-              (nodes_in w.view.client.known)
-              (word_to c.args.to))
-              e c.requires.target;
-        },
-      ),
+      record {
+        watches =
+            subst (λ (w : Watching Planned). IsWatcherOf c.args.graph.now w) e c.requires.graph;
+        counted = subst (λ (q : Plan). IsCounted (g.F.Shape.fits q) (g.F.Shape.joins q) q.nodes
+            q.roots
+            q.links (nodes_in counted.nodes.view.client.known) counted.counts.items
+            counted.leaving.items)
+            (subst (λ (w : Watching Planned). IsWatcherOf c.args.graph.now w) e
+            c.requires.graph).planned
+            c.self.invariant;
+        from_inside = c.requires.from;
+        link_inside = c.requires.link;
+        live =
+            subst (λ (w : Watching Planned). state_at (nodes_in w.view.client.known) c.args.from ≡
+            Live) e
+            c.requires.live;
+        target = subst (λ (w : Watching Planned).
+            IsTarget (g.F.Shape.joins c.args.graph.now.plan c.args.link)
+            (node_at (nodes_in w.view.client.known) c.args.from).words
+            (nodes_in w.view.client.known)
+            (word_to c.args.to))
+            e c.requires.target;
+      },
     )
 
 pub invariant_of-self : goal.invariant_of-self
-invariant_of-self g c = c.link.ensures.counted
+invariant_of-self g c =
+    let now = c.link.new.self in
+    subst (λ (q : Plan). IsCounted (g.F.Shape.fits q) (g.F.Shape.joins q) q.nodes q.roots q.links
+    (nodes_in now.nodes.view.client.known) now.counts.items now.leaving.items)
+    (sym c.link.ensures.watches.planned) c.link.ensures.counted
 
 pub returns-clause-graph : goal.returns-clause-graph
 returns-clause-graph g c = c.link.ensures.watches
@@ -48,7 +58,8 @@ returns-clause-state g c =
 
 pub returns-clause-trimmed : goal.returns-clause-trimmed
 returns-clause-trimmed g c =
-    subst (λ (w : Watching Planned). AreTrimmed g.row.K g.row.L
+    subst (λ (w : Watching Planned). AreTrimmed c.args.graph.now.plan.roots
+    c.args.graph.now.plan.links
     (relinked (nodes_in w.view.client.known) c.args.from c.args.link c.args.to)
     (nodes_in c.link.new.self.nodes.view.client.known))
     c.self.view_is c.link.ensures.trimmed

@@ -5,10 +5,7 @@ pub link-requires : goal.link-requires
 link-requires g c = (
   omega arith,
   (
-    omega arith,
-    (
-      c.requires.graph,
-      (c.requires.from, (c.requires.link, (c.requires.live, (λ j is. absurd (omega (arith, is)))))),
-    ),
+    c.requires.graph,
+    (c.requires.from, (c.requires.link, (c.requires.live, (λ j is. absurd (omega (arith, is)))))),
   ),
 )

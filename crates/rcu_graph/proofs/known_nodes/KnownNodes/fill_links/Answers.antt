@@ -5,7 +5,7 @@ use Rattle.std.proofs.Math.ListN.{get_or-map}
 use lib.ListN.{length-map}
 use Rattle.rcu_graph.specs.Graph.{word_to}
 use Rattle.rcu_graph.specs.Mirror.{with_links_to}
-use Rattle.rcu_graph.proofs.Filling.{at_end, below_more, can_store, link_filled, links_filled}
+use Rattle.rcu_graph.proofs.Filling.{below_more, can_store, link_filled, links_filled}
 use Rattle.rcu_graph.proofs.Filling.{low_in, no_link_filled}
 use Rattle.rcu_graph.proofs.known_nodes.KnownNodes.fill_links.Goals as goal
 
@@ -18,10 +18,12 @@ loop-link-preserved g c =
     let l = c.loop-link.link in
     let links = c.args.links.now in
     let can = c.requires.free in
-    let low = low_in c.args.node g.row.N _ can.few can.inside in
-    let inside = low_in l g.row.L _ can.link_count c.loop-link-test.true in
+    let low = low_in c.args.node c.args.graph.now.plan.nodes _ can.few can.inside in
+    let inside = low_in l c.args.graph.now.plan.links _ can.link_count
+    (omega (arith, c.loop-link-test.true, c.requires.links)) in
     let small =
-    low_in l g.row.L _ (length-map links word_to ∙ c.told-links) c.loop-link-test.true in
+    low_in l c.args.graph.now.plan.links _ (length-map links word_to ∙ c.requires.links)
+    (omega (arith, c.loop-link-test.true, c.requires.links)) in
     let x : c.word_of.result ≡ get_or (map word_to links) l 0 =
     c.word_of.ensures ∙ sym (get_or-map word_to links l None) in
     link_filled c.args.self.now c.args.node l c.word_of.result (map word_to links) c.loop-link.self
@@ -31,27 +33,29 @@ pub word_of-requires : goal.word_of-requires
 word_of-requires g c =
     let l = c.loop-link.link in
     let links = c.args.links.now in
-    let small = low_in l g.row.L _ c.told-links c.loop-link-test.true in
-    below_more (get_or links l None) g.row.N 18446744073709551615 (omega (arith, g.N.fits))
-    (All-get_or (λ (to : Option ℕ). IfSome to (λ other. other < g.row.N)) links l None small
+    let small = low_in l c.args.graph.now.plan.links _ c.requires.links
+    (omega (arith, c.loop-link-test.true, c.requires.links)) in
+    below_more (get_or links l None) c.args.graph.now.plan.nodes 18446744073709551615
+    (omega (arith, c.plan.ensures.nodes_fit))
+    (All-get_or (λ (to : Option ℕ). IfSome to (λ other. other < c.args.graph.now.plan.nodes)) links
+    l None small
     c.requires.inside)
 
 pub lead-requires : goal.lead-requires
 lead-requires g c = (
   omega arith,
-  (
-    omega arith,
-    can_store c.args.self.now c.args.node g.row.N g.row.L g.row.W g.row.L c.loop-link.link
-        c.args.graph.now c.loop-link.self
-        (with_links_to c.loop-link.link (map word_to c.args.links.now)) c.requires.free refl
-        c.loop-link.invariant c.loop-link-test.true,
-  ),
+  can_store c.args.self.now c.args.node c.args.graph.now.plan.links c.loop-link.link
+      c.args.graph.now c.loop-link.self
+      (with_links_to c.loop-link.link (map word_to c.args.links.now)) c.requires.free refl
+      c.loop-link.invariant
+      (omega (arith, c.loop-link-test.true, c.requires.links)),
 )
 
 pub returns : goal.returns
 returns g c =
     let links = c.args.links.now in
-    links_filled c.args.self.now c.args.node g.row.L c.loop-link.link (map word_to links)
+    links_filled c.args.self.now c.args.node c.args.graph.now.plan.links c.loop-link.link
+    (map word_to links)
     c.loop-link.self
-    (at_end c.loop-link.link g.row.L c.loop-link-test.false c.loop-link.auto.link-end)
-    (length-map links word_to ∙ c.told-links) c.requires.free.link_count c.loop-link.invariant
+    (omega (arith, c.loop-link-test.false, c.loop-link.auto.link-end, c.requires.links))
+    (length-map links word_to ∙ c.requires.links) c.requires.free.link_count c.loop-link.invariant

@@ -1,27 +1,31 @@
 use Rattle.std.proofs.Common.{List, ◌∙◌, ap, arith}
-use Rattle.rcu_graph.specs.Mirror.{nodes_of}
+use Rattle.rcu_graph.specs.Mirror.{Mirrored, nodes_of}
 use Rattle.rcu_graph.specs.Nodes.{in_state, renewed}
-use Rattle.rcu_graph.specs.declared.known.Node.{Node}
 use Rattle.rcu_graph.specs.declared.node_state.NodeState.{NodeState}
 use Rattle.rcu_graph.specs.declared.node_state.NodeState.TheVariants.{Left}
+use Rattle.rcu_graph.specs.declared.plan.Plan.{Plan}
 use Rattle.rcu_graph.proofs.Mirrors.{state_set}
 use Rattle.rcu_graph.proofs.Standings.{state_is}
 use Rattle.rcu_graph.proofs.mirror.Mirror.leave.Goals as goal
 
-pub returns : goal.returns
-returns g c =
+pub returns-clause-nodes : goal.returns-clause-nodes
+returns-clause-nodes c =
+    let p : Plan = c.self.inside.plan in
     let i = c.self.inside in
-    ap (λ (s : List NodeState). nodes_of g.row.L g.row.W s i.links.items i.words.items)
+    ap (λ (s : List NodeState). nodes_of p.links p.words s i.links.items i.words.items)
     c.leave.ensures
-    ∙ (state_set g.row.L g.row.W i.states i.links.items i.words.items c.args.node Left
-    ∙ ap (λ (l : List Node). renewed l c.args.node (in_state Left)) c.self.view_is)
+    ∙ (state_set p.links p.words i.states i.links.items i.words.items c.args.node Left
+    ∙ ap (λ (m : Mirrored). renewed m.nodes c.args.node (in_state Left)) c.self.view_is)
 
 pub leave-requires : goal.leave-requires
-leave-requires g c =
+leave-requires c =
+    let p : Plan = c.self.inside.plan in
     let i = c.self.inside in
     record {
-      node = let count = c.self.invariant.count in omega (arith, count, c.requires.node);
-      live = state_is g.row.L g.row.W i.states i.links.items i.words.items c.args.self.now
-          c.self.view_is c.args.node
+      node = let count = c.self.invariant.count in
+          let same = ap (λ (m : Mirrored). m.plan.nodes) c.self.view_is in omega
+          (arith, count, c.requires.node, same);
+      live = state_is p.links p.words i.states i.links.items i.words.items c.args.self.now.nodes
+          (ap (λ (m : Mirrored). m.nodes) c.self.view_is) c.args.node
           ∙ c.requires.live;
     }

@@ -1,12 +1,14 @@
-use Rattle.std.proofs.Common.{List, ◌∙◌, ap, sym}
+use Rattle.std.proofs.Common.{◌∙◌, ap, sym}
 use Rattle.rcu_graph.specs.Nodes.{state_at}
-use Rattle.rcu_graph.specs.declared.known.Node.{Node}
+use Rattle.rcu_graph.specs.Mirror.{Mirrored}
+use Rattle.rcu_graph.specs.declared.plan.Plan.{Plan}
 use Rattle.rcu_graph.proofs.Mirrors.{state_of}
 use Rattle.rcu_graph.proofs.mirror.Mirror.state.Goals as goal
 
 pub returns : goal.returns
-returns g c =
+returns c =
+    let p : Plan = c.self.inside.plan in
     c.state.ensures
-    ∙ (sym (state_of g.row.L g.row.W c.self.inside.states c.self.inside.links.items
+    ∙ (sym (state_of p.links p.words c.self.inside.states c.self.inside.links.items
     c.self.inside.words.items c.args.node)
-    ∙ ap (λ (l : List Node). state_at l c.args.node) c.self.view_is)
+    ∙ ap (λ (m : Mirrored). state_at m.nodes c.args.node) c.self.view_is)

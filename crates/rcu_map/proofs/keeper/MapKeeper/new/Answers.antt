@@ -1,48 +1,54 @@
-use Rattle.std.proofs.Common.{◌∙◌, ap, arith, subst, sym}
+use Rattle.std.proofs.Common.{◌∙◌, ℕ, List, ap, arith, subst, sym}
 use Rattle.rcu_live.specs.Board.{Object}
 use Rattle.rcu_live.specs.Watcher.{Watching}
 use Rattle.rcu_graph.specs.Keeper.{IsKeeperOf}
-use Rattle.rcu_graph.specs.Nodes.{nodes_in}
+use Rattle.rcu_graph.specs.Nodes.{first_nodes, nodes_in}
+use Rattle.rcu_graph.specs.Steps.{IsClaimed}
 use Rattle.rcu_graph.specs.declared.known.Planned.{Planned}
+use Rattle.rcu_graph.specs.declared.known.Node.{Node}
 use Rattle.rcu_graph.specs.declared.plan.Plan.{Plan}
+use Rattle.rcu_map.specs.Chains.{IsKept}
+use Rattle.rcu_map.specs.Keys.{root_words}
 use Rattle.rcu_map.proofs.Ages.{is_map_first, none_first}
-use Rattle.rcu_map.proofs.Buckets.{roots_are_whole}
+use Rattle.rcu_map.proofs.Openings.{roots_are_whole}
 use Rattle.rcu_map.proofs.keeper.MapKeeper.new.Goals as goal
 
 pub keep-requires : goal.keep-requires
-keep-requires g c =
-    let small = g.met.E.Value.small in (
-      omega (arith, small),
-      (
-        omega (arith, small),
-        (
-          omega (arith, small),
-          (
-            omega (arith, small),
-            record {
-              keeper = subst (λ (o : Object Plan). IsKeeperOf g.row.N o c.args.seat)
-                  (sym c.map.view_is) c.requires.keeper;
-              nodes = c.requires.nodes;
-              rows = c.requires.first;
-              whole = roots_are_whole g.E.Invariant.holds g.row.W g.row.BUCKETS c.args.roots.now
-                  c.requires.first;
-            },
-          ),
-        ),
-      ),
-    )
+keep-requires g c = (
+  omega arith,
+  record {
+    one = c.map.invariant.one;
+    keeper = subst (λ (o : Object Plan). IsKeeperOf o c.args.seat) (sym c.map.view_is)
+        c.requires.keeper;
+    nodes = subst (λ (o : Object Plan). IsClaimed (root_words o.plan.words) o.plan.roots
+        o.plan.links o.plan.words o.plan.nodes c.args.seat.view.client.known)
+        (sym c.map.view_is) c.requires.nodes;
+    whole = roots_are_whole g.E.Invariant.holds c.map.inside.graph.plan;
+  },
+)
 
 pub invariant_of-result : goal.invariant_of-result
 invariant_of-result g c =
+    let back = sym c.map.view_is in
+    let k = c.map.invariant in
     let room = g.met.E.Entry.roomy in
     let kept = c.in_ok-nodes.ensures in
-    let e =
-    ap (λ (w : Watching Planned). nodes_in w.view.client.known) kept.same ∙ ap nodes_in
-    c.requires.nodes in
-    record {
-      some = c.map.invariant;
-      map = is_map_first g.E.Invariant.holds g.row.BUCKETS g.row.W g.row.N
-          (nodes_in c.in_ok-nodes.nodes.view.client.known) e kept.kept (omega (arith, room));
-      count = sym (none_first g.E.Invariant.holds g.row.BUCKETS g.row.W g.row.N
-          (nodes_in c.in_ok-nodes.nodes.view.client.known) e kept.kept);
-    }
+    let p : Plan = c.map.inside.graph.plan in
+    let nodes : List Node = nodes_in c.in_ok-nodes.nodes.view.client.known in
+    let keeper = subst (λ (o : Object Plan). IsKeeperOf o c.args.seat) back c.requires.keeper in
+    let planned = ap (λ (w : Watching Planned). w.view.client.plan) kept.same
+    ∙ keeper.watches.planned in
+    let claimed = subst (λ (o : Object Plan). IsClaimed (root_words o.plan.words) o.plan.roots
+    o.plan.links o.plan.words o.plan.nodes c.args.seat.view.client.known) back c.requires.nodes in
+    let e = ap (λ (w : Watching Planned). nodes_in w.view.client.known) kept.same
+    ∙ (ap nodes_in claimed
+    ∙ ap (λ (links : ℕ). first_nodes links p.words (root_words p.words) p.roots p.nodes) k.one) in
+    let words = k.words in
+    subst (λ (q : Plan). IsKept g.E.Invariant.holds g.row.W q nodes 0) (sym planned) (record {
+      some = k.some;
+      one = k.one;
+      words = k.words;
+      map = is_map_first g.E.Invariant.holds p.roots p.words p.nodes nodes e kept.kept
+          (omega (arith, room, words));
+      count = sym (none_first g.E.Invariant.holds p.roots p.words p.nodes nodes e kept.kept);
+    })

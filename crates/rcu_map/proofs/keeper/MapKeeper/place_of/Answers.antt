@@ -1,10 +1,15 @@
-use Rattle.std.proofs.Common.{◌≡◌, ◌<◌, ◌∙◌, ℕ, Some, None, arith, subst, sym}
+use Rattle.std.proofs.Common.{◌≡◌, ◌<◌, ◌∙◌, ℕ, List, Some, None, arith, subst, sym}
 use Rattle.std.specs.Prelude.{MatchOption}
 use Rattle.rcu_live.specs.Watcher.{Watching}
 use Rattle.rcu_graph.specs.Absence.{key_at}
-use Rattle.rcu_graph.specs.Nodes.{nodes_in}
+use Rattle.rcu_graph.specs.Nodes.{node_at, nodes_in, state_at}
 use Rattle.rcu_graph.specs.declared.known.Planned.{Planned}
+use Rattle.rcu_graph.specs.declared.known.Node.{Node}
+use Rattle.rcu_graph.specs.declared.node_state.NodeState.TheVariants.{Live}
+use Rattle.rcu_graph.specs.declared.plan.Plan.{Plan}
+use Rattle.rcu_map.specs.Chains.{buckets_in}
 use Rattle.rcu_map.specs.Entries.{HasKey, IsNodeOf}
+use Rattle.rcu_map.specs.Keys.{bucket_in, bucket_of}
 use Rattle.rcu_map.specs.Splices.{IsPlace}
 use Rattle.rcu_map.proofs.Chains.{begins, inside, led, told}
 use Rattle.rcu_map.proofs.keeper.MapKeeper.place_of.Goals as goal
@@ -12,24 +17,31 @@ use Rattle.rcu_map.proofs.keeper.MapKeeper.place_of.Goals as goal
 pub chain-init : goal.chain-init
 chain-init g c =
     let room = g.met.E.Entry.roomy in
+    let words = c.self.invariant.words in
     let b = begins _ _ _ _ _ c.self.invariant.map c.args.key c.self.invariant.some
-    (omega (arith, room)) c.requires in
-    record { live = b.0; bucket = b.1; less = b.2 }
+    (omega (arith, room, words)) c.requires in
+    let nodes : List Node = nodes_in c.self.inside.nodes.view.client.known in
+    let same = sym c.plan-buckets.ensures in
+    record {
+      live = subst (λ (p : Plan). state_at nodes (bucket_of p.roots c.args.key) ≡ Live) same b.0;
+      bucket = subst (λ (p : Plan).
+          bucket_in (buckets_in c.self.inside.nodes)
+          (node_at nodes (bucket_of p.roots c.args.key)).words
+          ≡ bucket_of (buckets_in c.self.inside.nodes) c.args.key)
+          same b.1;
+      less = subst (λ (p : Plan). key_at nodes (bucket_of p.roots c.args.key) < c.args.key) same
+          b.2;
+    }
 
-pub link_of-requires : goal.link_of-requires
-link_of-requires g c = (
-  omega arith,
-  (inside _ _ _ _ _ c.self.invariant.map c.chain.previous c.chain.invariant.live, omega arith),
-)
+pub link_of-requires-clause-node : goal.link_of-requires-clause-node
+link_of-requires-clause-node g c =
+    inside _ _ _ _ _ c.self.invariant.map c.chain.previous c.chain.invariant.live
 
-pub word-found-requires : goal.word-found-requires
-word-found-requires g c =
+pub word-found-requires-clause-node : goal.word-found-requires-clause-node
+word-found-requires-clause-node g c =
     let next = led _ _ _ _ _ c.self.invariant.map c.chain.previous c.in-Some.next
     c.chain.invariant.live (sym c.in-Some.ensures) in
-    let room = g.met.E.Entry.roomy in (
-      omega arith,
-      (inside _ _ _ _ _ c.self.invariant.map c.in-Some.next next.0, omega (arith, room)),
-    )
+    inside _ _ _ _ _ c.self.invariant.map c.in-Some.next next.0
 
 pub chain-smaller : goal.chain-smaller
 chain-smaller g c =
@@ -51,7 +63,8 @@ chain-preserved g c =
 pub returns-in_default-clause-place : goal.returns-in_default-clause-place
 returns-in_default-clause-place g c =
     let i = c.chain.invariant in
-    let at : IsPlace g.row.BUCKETS c.args.key (nodes_in c.self.inside.nodes.view.client.known)
+    let at : IsPlace (buckets_in c.self.inside.nodes) c.args.key
+    (nodes_in c.self.inside.nodes.view.client.known)
     c.chain.previous None = record {
       live = i.live;
       bucket = i.bucket;
@@ -59,13 +72,14 @@ returns-in_default-clause-place g c =
       leads = λ to leads. let e = c.in_default.ensures in absurd (omega (arith, e, leads));
     } in
     subst (λ (w : Watching Planned).
-    IsPlace g.row.BUCKETS c.args.key (nodes_in w.view.client.known) c.chain.previous None)
+    IsPlace (buckets_in w) c.args.key (nodes_in w.view.client.known) c.chain.previous None)
     c.self.view_is at
 
 pub returns-in_default-clause-told : goal.returns-in_default-clause-told
 returns-in_default-clause-told g c =
     let i = c.chain.invariant in
-    let at : IsPlace g.row.BUCKETS c.args.key (nodes_in c.self.inside.nodes.view.client.known)
+    let at : IsPlace (buckets_in c.self.inside.nodes) c.args.key
+    (nodes_in c.self.inside.nodes.view.client.known)
     c.chain.previous None = record {
       live = i.live;
       bucket = i.bucket;
@@ -73,15 +87,16 @@ returns-in_default-clause-told g c =
       leads = λ to leads. let e = c.in_default.ensures in absurd (omega (arith, e, leads));
     } in
     subst (λ (w : Watching Planned). MatchOption None
-    (HasKey g.row.BUCKETS (nodes_in w.view.client.known) c.args.key → ⊥)
-    (λ node. IsNodeOf g.row.BUCKETS (nodes_in w.view.client.known) c.args.key node))
+    (HasKey (buckets_in w) (nodes_in w.view.client.known) c.args.key → ⊥)
+    (λ node. IsNodeOf (buckets_in w) (nodes_in w.view.client.known) c.args.key node))
     c.self.view_is
     (told _ _ _ _ _ c.self.invariant.map c.args.key c.chain.previous None c.requires at)
 
 pub returns-then-found-key-clause-place : goal.returns-then-found-key-clause-place
 returns-then-found-key-clause-place g c =
     let i = c.chain.invariant in
-    let at : IsPlace g.row.BUCKETS c.args.key (nodes_in c.self.inside.nodes.view.client.known)
+    let at : IsPlace (buckets_in c.self.inside.nodes) c.args.key
+    (nodes_in c.self.inside.nodes.view.client.known)
     c.chain.previous (Some c.in-Some.next) = record {
       live = i.live;
       bucket = i.bucket;
@@ -91,14 +106,16 @@ returns-then-found-key-clause-place g c =
         let key = c.word-found.ensures in omega (arith, key, c.if-found-key.true),
       );
     } in
-    subst (λ (w : Watching Planned). IsPlace g.row.BUCKETS c.args.key (nodes_in w.view.client.known)
+    subst (λ (w : Watching Planned). IsPlace (buckets_in w) c.args.key
+    (nodes_in w.view.client.known)
     c.chain.previous (Some c.in-Some.next))
     c.self.view_is at
 
 pub returns-then-found-key-clause-told : goal.returns-then-found-key-clause-told
 returns-then-found-key-clause-told g c =
     let i = c.chain.invariant in
-    let at : IsPlace g.row.BUCKETS c.args.key (nodes_in c.self.inside.nodes.view.client.known)
+    let at : IsPlace (buckets_in c.self.inside.nodes) c.args.key
+    (nodes_in c.self.inside.nodes.view.client.known)
     c.chain.previous (Some c.in-Some.next) = record {
       live = i.live;
       bucket = i.bucket;
@@ -109,8 +126,8 @@ returns-then-found-key-clause-told g c =
       );
     } in
     subst (λ (w : Watching Planned). MatchOption (Some c.in-Some.next)
-    (HasKey g.row.BUCKETS (nodes_in w.view.client.known) c.args.key → ⊥)
-    (λ node. IsNodeOf g.row.BUCKETS (nodes_in w.view.client.known) c.args.key node))
+    (HasKey (buckets_in w) (nodes_in w.view.client.known) c.args.key → ⊥)
+    (λ node. IsNodeOf (buckets_in w) (nodes_in w.view.client.known) c.args.key node))
     c.self.view_is
     (told _ _ _ _ _ c.self.invariant.map c.args.key c.chain.previous (Some c.in-Some.next)
     c.requires at)
@@ -118,7 +135,8 @@ returns-then-found-key-clause-told g c =
 pub returns-then-found-key-2-clause-place : goal.returns-then-found-key-2-clause-place
 returns-then-found-key-2-clause-place g c =
     let i = c.chain.invariant in
-    let at : IsPlace g.row.BUCKETS c.args.key (nodes_in c.self.inside.nodes.view.client.known)
+    let at : IsPlace (buckets_in c.self.inside.nodes) c.args.key
+    (nodes_in c.self.inside.nodes.view.client.known)
     c.chain.previous None = record {
       live = i.live;
       bucket = i.bucket;
@@ -132,13 +150,14 @@ returns-then-found-key-2-clause-place g c =
           (omega (arith, key, c.if-found-key-2.true));
     } in
     subst (λ (w : Watching Planned).
-    IsPlace g.row.BUCKETS c.args.key (nodes_in w.view.client.known) c.chain.previous None)
+    IsPlace (buckets_in w) c.args.key (nodes_in w.view.client.known) c.chain.previous None)
     c.self.view_is at
 
 pub returns-then-found-key-2-clause-told : goal.returns-then-found-key-2-clause-told
 returns-then-found-key-2-clause-told g c =
     let i = c.chain.invariant in
-    let at : IsPlace g.row.BUCKETS c.args.key (nodes_in c.self.inside.nodes.view.client.known)
+    let at : IsPlace (buckets_in c.self.inside.nodes) c.args.key
+    (nodes_in c.self.inside.nodes.view.client.known)
     c.chain.previous None = record {
       live = i.live;
       bucket = i.bucket;
@@ -152,7 +171,7 @@ returns-then-found-key-2-clause-told g c =
           (omega (arith, key, c.if-found-key-2.true));
     } in
     subst (λ (w : Watching Planned). MatchOption None
-    (HasKey g.row.BUCKETS (nodes_in w.view.client.known) c.args.key → ⊥)
-    (λ node. IsNodeOf g.row.BUCKETS (nodes_in w.view.client.known) c.args.key node))
+    (HasKey (buckets_in w) (nodes_in w.view.client.known) c.args.key → ⊥)
+    (λ node. IsNodeOf (buckets_in w) (nodes_in w.view.client.known) c.args.key node))
     c.self.view_is
     (told _ _ _ _ _ c.self.invariant.map c.args.key c.chain.previous None c.requires at)

@@ -8,8 +8,9 @@ use Rattle.rcu_map.proofs.keeper.MapKeeper.place_of.Given as goal
 abbrev pub invariant-chain : goal.invariant-chain
 invariant-chain g l = record {
   live : state_at (nodes_in l.nodes.view.client.known) l.previous ≡ Live;
-  bucket : bucket_in g.row.BUCKETS (node_at (nodes_in l.nodes.view.client.known) l.previous).words
-      ≡ bucket_of g.row.BUCKETS l.key;
+  bucket : bucket_in l.nodes.view.client.plan.roots (node_at (nodes_in l.nodes.view.client.known)
+      l.previous).words
+      ≡ bucket_of l.nodes.view.client.plan.roots l.key;
   less : key_at (nodes_in l.nodes.view.client.known) l.previous < l.key;
 }
 

@@ -1,94 +1,93 @@
-use Rattle.std.proofs.Common.{◌<◌, Some, arith, refl, subst, sym, true}
+use Rattle.std.proofs.Common.{◌<◌, ◌∙◌, Some, arith, refl, subst, sym, true}
 use Rattle.std.specs.Prelude.{MatchResult}
 use Rattle.rcu_live.specs.Board.{Object}
 use Rattle.rcu_live.specs.Watcher.{Watching}
 use Rattle.rcu_graph.specs.Graph.{IsWatcherOf}
+use Rattle.rcu_graph.specs.Nodes.{nodes_in}
 use Rattle.rcu_graph.specs.declared.known.Planned.{Planned}
 use Rattle.rcu_graph.specs.declared.plan.Plan.{Plan}
+use Rattle.rcu_map.specs.Chains.{IsKept, buckets_in}
 use Rattle.rcu_map.specs.Keys.{GoesUp, IsWhole, key_in}
 use Rattle.rcu_map.specs.Puts.{HasChanged, IsPutIn}
 use Rattle.rcu_map.specs.Splices.{CanPut, IsFull}
 use Rattle.rcu_map.proofs.Allowed.{can_replace, old_inside, placed}
-use Rattle.rcu_map.proofs.Outcomes.{over_count, over_map, over_put}
+use Rattle.rcu_map.proofs.Outcomes.{over_count, over_map, over_plan, over_put}
 use Rattle.rcu_map.proofs.keeper.MapKeeper.put_over.Goals as goal
 
-pub link_of-next-requires : goal.link_of-next-requires
-link_of-next-requires g c =
+pub link_of-next-requires-clause-node : goal.link_of-next-requires-clause-node
+link_of-next-requires-clause-node g c =
     let words = c.args.words.now in
-    let place = placed g.row.BUCKETS c.args.self.now c.self.inside.nodes (key_in words)
-    (key_in words) c.args.previous (Some c.args.old) (Some c.args.old) c.requires.place
-    c.self.view_is refl refl in
+    let some : 0 < key_in words = g.met.E.Entry.keyed words c.requires.whole in
+    let place = placed c.args.self.now c.self.inside.nodes (key_in words) (key_in words)
+    c.args.previous (Some c.args.old) (Some c.args.old) c.requires.place c.self.view_is refl refl in
+    let k = c.self.invariant in
+    let p : Plan = c.self.inside.nodes.view.client.plan in
     let watches = subst (λ (w : Watching Planned). IsWatcherOf c.args.map.now w)
-    (sym c.self.view_is)
-    c.requires.graph in (
-      omega arith,
-      (
-        old_inside g.E.Invariant.holds g.row.BUCKETS g.row.W g.row.N c.args.map.now
-            c.self.inside.nodes c.self.invariant.map watches (key_in words) c.args.previous
-            c.args.old place,
-        omega arith,
-      ),
-    )
+    (sym c.self.view_is) c.requires.graph in
+    old_inside g.E.Invariant.holds c.args.map.now c.self.inside.nodes k.one k.map watches
+    (key_in words) c.args.previous c.args.old place
 
 pub put-requires : goal.put-requires
 put-requires g c =
-    let small = g.met.E.Value.small in
     let words = c.args.words.now in
     let some : 0 < key_in words = g.met.E.Entry.keyed words c.requires.whole in
-    let place = placed g.row.BUCKETS c.args.self.now c.self.inside.nodes (key_in words)
-    (key_in words) c.args.previous (Some c.args.old) (Some c.args.old) c.requires.place
-    c.self.view_is refl refl in
+    let place = placed c.args.self.now c.self.inside.nodes (key_in words) (key_in words)
+    c.args.previous (Some c.args.old) (Some c.args.old) c.requires.place c.self.view_is refl refl in
+    let k = c.self.invariant in
+    let p : Plan = c.self.inside.nodes.view.client.plan in
     let watches = subst (λ (w : Watching Planned). IsWatcherOf c.args.map.now w)
-    (sym c.self.view_is)
-    c.requires.graph in (
+    (sym c.self.view_is) c.requires.graph in (
       omega arith,
-      (
-        omega arith,
-        (
-          omega (arith, small),
-          subst (λ (o : Object Plan). CanPut (IsWhole g.E.Invariant.holds g.row.W)
-              (λ _ from to. GoesUp g.row.BUCKETS from to) g.row.N o c.self.inside.nodes
-              c.args.previous words c.link_of-next.result)
-              (sym c.graph.ensures)
-              (can_replace g.E.Invariant.holds g.row.BUCKETS g.row.W g.row.N c.args.map.now
-              c.self.inside.nodes c.self.invariant.map watches c.args.previous words some
-              (record { sized = c.told-words; entry = λ up. c.requires.whole }) c.args.old
-              c.link_of-next.result place c.link_of-next.ensures),
-        ),
-      ),
+      subst (λ (o : Object Plan). CanPut (IsWhole g.E.Invariant.holds p.words)
+          (λ _ from to. GoesUp p.roots from to) o c.self.inside.nodes c.args.previous words
+          c.link_of-next.result)
+          (sym c.graph.ensures)
+          (can_replace g.E.Invariant.holds c.args.map.now c.self.inside.nodes k.one k.map watches
+          c.args.previous words some
+          (record { sized = c.told-words ∙ sym k.words; entry = λ up. c.requires.whole }) c.args.old
+          c.link_of-next.result place c.link_of-next.ensures),
     )
 
 pub invariant_of-self : goal.invariant_of-self
 invariant_of-self g c =
     let words = c.args.words.now in
     let some : 0 < key_in words = g.met.E.Entry.keyed words c.requires.whole in
-    let place = placed g.row.BUCKETS c.args.self.now c.self.inside.nodes (key_in words)
-    (key_in words) c.args.previous (Some c.args.old) (Some c.args.old) c.requires.place
-    c.self.view_is refl refl in
-    record {
-      some = c.self.invariant.some;
-      map = over_map g.E.Invariant.holds g.row.BUCKETS g.row.W g.row.N _ c.self.inside.nodes
-          c.put.new.keeper c.self.invariant.map c.args.previous c.args.old words
-          c.link_of-next.result some place c.link_of-next.ensures c.put.result c.put.ensures;
+    let place = placed c.args.self.now c.self.inside.nodes (key_in words) (key_in words)
+    c.args.previous (Some c.args.old) (Some c.args.old) c.requires.place c.self.view_is refl refl in
+    let k = c.self.invariant in
+    let p : Plan = c.self.inside.nodes.view.client.plan in
+    subst (λ (q : Plan). IsKept g.E.Invariant.holds g.row.W q
+    (nodes_in c.put.new.keeper.view.client.known) c.self.inside.len)
+    (sym (over_plan g.E.Invariant.holds _ c.self.inside.nodes c.put.new.keeper k.map c.args.previous
+    c.args.old words c.link_of-next.result some place c.link_of-next.ensures c.put.result
+    c.put.ensures))
+    (record {
+      some = k.some;
+      one = k.one;
+      words = k.words;
+      map = over_map g.E.Invariant.holds _ c.self.inside.nodes c.put.new.keeper k.map
+          c.args.previous c.args.old words c.link_of-next.result some place c.link_of-next.ensures
+          c.put.result c.put.ensures;
       count =
-          let now = c.self.invariant.count in
-          let same = over_count g.E.Invariant.holds g.row.BUCKETS g.row.W g.row.N _
-          c.self.inside.nodes c.put.new.keeper c.self.invariant.map c.args.previous c.args.old words
-          c.link_of-next.result some place c.link_of-next.ensures c.put.result c.put.ensures in
+          let now = k.count in
+          let same = over_count g.E.Invariant.holds _ c.self.inside.nodes c.put.new.keeper k.map
+          c.args.previous c.args.old words c.link_of-next.result some place c.link_of-next.ensures
+          c.put.result c.put.ensures in
           omega (arith, now, same);
-    }
+    })
 
 pub returns-clause-put : goal.returns-clause-put
 returns-clause-put g c =
     let words = c.args.words.now in
     let some : 0 < key_in words = g.met.E.Entry.keyed words c.requires.whole in
-    let place = placed g.row.BUCKETS c.args.self.now c.self.inside.nodes (key_in words)
-    (key_in words) c.args.previous (Some c.args.old) (Some c.args.old) c.requires.place
-    c.self.view_is refl refl in
+    let place = placed c.args.self.now c.self.inside.nodes (key_in words) (key_in words)
+    c.args.previous (Some c.args.old) (Some c.args.old) c.requires.place c.self.view_is refl refl in
+    let k = c.self.invariant in
+    let p : Plan = c.self.inside.nodes.view.client.plan in
     subst (λ (w : Watching Planned). MatchResult c.put.result
-    (λ _. HasChanged (IsPutIn g.row.BUCKETS words true) w c.put.new.keeper)
+    (λ _. HasChanged (IsPutIn (buckets_in w) words true) w c.put.new.keeper)
     (λ _. IsFull w c.put.new.keeper))
     c.self.view_is
-    (over_put g.E.Invariant.holds g.row.BUCKETS g.row.W g.row.N _ c.self.inside.nodes
-    c.put.new.keeper c.self.invariant.map c.args.previous c.args.old words c.link_of-next.result
-    some place c.link_of-next.ensures c.put.result c.put.ensures)
+    (over_put g.E.Invariant.holds _ c.self.inside.nodes c.put.new.keeper k.map c.args.previous
+    c.args.old words c.link_of-next.result some place c.link_of-next.ensures c.put.result
+    c.put.ensures)

@@ -1,10 +1,12 @@
-use Rattle.std.proofs.Common.{◌<◌, ℕ, Some, arith, refl, subst, sym}
+use Rattle.std.proofs.Common.{◌<◌, ◌-◌, ℕ, List, Some, ap, arith, refl, subst, sym}
 use Rattle.rcu_live.specs.Board.{Object}
 use Rattle.rcu_live.specs.Watcher.{Watching}
 use Rattle.rcu_graph.specs.Graph.{IsWatcherOf}
 use Rattle.rcu_graph.specs.Nodes.{nodes_in}
 use Rattle.rcu_graph.specs.declared.known.Planned.{Planned}
+use Rattle.rcu_graph.specs.declared.known.Node.{Node}
 use Rattle.rcu_graph.specs.declared.plan.Plan.{Plan}
+use Rattle.rcu_map.specs.Chains.{IsKept, buckets_in}
 use Rattle.rcu_map.specs.Entries.{HasKey, IsRemoved}
 use Rattle.rcu_map.specs.Keys.{GoesUp}
 use Rattle.rcu_map.specs.Puts.{HasChanged}
@@ -16,84 +18,94 @@ use Rattle.rcu_map.proofs.keeper.MapKeeper.remove.Goals as goal
 
 pub returns-then-key-eq0-clause-old : goal.returns-then-key-eq0-clause-old
 returns-then-key-eq0-clause-old g c = λ has. no_entry_of_0 _ _ _ _ _ c.self.invariant.map
-    (subst (λ (w : Watching Planned). HasKey g.row.BUCKETS (nodes_in w.view.client.known) 0)
+    (subst (λ (w : Watching Planned). HasKey (buckets_in w) (nodes_in w.view.client.known) 0)
     (sym c.self.view_is)
-    (subst (λ (n : ℕ). HasKey g.row.BUCKETS (nodes_in c.args.self.now.view.client.known) n)
+    (subst (λ (n : ℕ). HasKey (buckets_in c.args.self.now) (nodes_in
+    c.args.self.now.view.client.known) n)
     c.if-key-eq0.true has))
 
 pub pass-requires : goal.pass-requires
 pass-requires g c =
     let some : 0 < c.args.key = omega arith in
-    let place = placed g.row.BUCKETS c.args.self.now c.self.inside.nodes c.args.key c.args.key
-    c.place_of-place.result.previous c.place_of-place.result.node (Some c.in-Some.old)
-    c.place_of-place.ensures.place c.self.view_is refl c.in-Some.is in
+    let previous = c.place_of-place.result.previous in
+    let place = placed c.args.self.now c.self.inside.nodes c.args.key c.args.key previous
+    c.place_of-place.result.node (Some c.in-Some.old) c.place_of-place.ensures.place c.self.view_is
+    refl c.in-Some.is in
+    let k = c.self.invariant in
+    let p : Plan = c.self.inside.nodes.view.client.plan in
     let watches = subst (λ (w : Watching Planned). IsWatcherOf c.args.map.now w)
-    (sym c.self.view_is)
-    c.requires in (
+    (sym c.self.view_is) c.requires in (
       omega arith,
-      (
-        omega arith,
-        subst (λ (o : Object Plan). CanPass (λ _ from to. GoesUp g.row.BUCKETS from to)
-            g.row.N o
-            c.self.inside.nodes c.place_of-place.result.previous c.in-Some.old)
-            (sym c.graph.ensures)
-            (can_remove g.E.Invariant.holds g.row.BUCKETS g.row.W g.row.N c.args.map.now
-            c.self.inside.nodes c.self.invariant.map watches c.args.key
-            c.place_of-place.result.previous c.in-Some.old place),
-      ),
+      subst (λ (o : Object Plan). CanPass (λ _ from to. GoesUp p.roots from to) o
+          c.self.inside.nodes previous c.in-Some.old)
+          (sym c.graph.ensures)
+          (can_remove g.E.Invariant.holds c.args.map.now c.self.inside.nodes k.one k.map watches
+          c.args.key previous c.in-Some.old place),
     )
 
 pub overflow_sub-self : goal.overflow_sub-self
 overflow_sub-self g c =
     let some : 0 < c.args.key = omega arith in
-    let place = placed g.row.BUCKETS c.args.self.now c.self.inside.nodes c.args.key c.args.key
-    c.place_of-place.result.previous c.place_of-place.result.node (Some c.in-Some.old)
-    c.place_of-place.ensures.place c.self.view_is refl c.in-Some.is in
+    let previous = c.place_of-place.result.previous in
+    let place = placed c.args.self.now c.self.inside.nodes c.args.key c.args.key previous
+    c.place_of-place.result.node (Some c.in-Some.old) c.place_of-place.ensures.place c.self.view_is
+    refl c.in-Some.is in
+    let k = c.self.invariant in
+    let p : Plan = c.self.inside.nodes.view.client.plan in
+    let before : List Node = nodes_in c.self.inside.nodes.view.client.known in
+    let after : List Node = nodes_in c.pass.new.keeper.view.client.known in
     let done = c.pass.ensures in
-    let now = c.self.invariant.count in
-    let less = removed_count g.E.Invariant.holds g.row.BUCKETS g.row.W g.row.N
-    (nodes_in c.self.inside.nodes.view.client.known) c.self.invariant.map c.args.key
-    c.place_of-place.result.previous c.in-Some.old some place done.next
-    (nodes_in c.pass.new.keeper.view.client.known) done.leads done.trimmed done.kept.few in
+    let now = k.count in
+    let less = removed_count g.E.Invariant.holds p.roots p.words p.nodes before k.map c.args.key
+    previous c.in-Some.old some place done.next after done.leads done.trimmed done.kept.few in
     omega (arith, now, less)
 
 pub invariant_of-self : goal.invariant_of-self
 invariant_of-self g c =
     let some : 0 < c.args.key = omega arith in
-    let place = placed g.row.BUCKETS c.args.self.now c.self.inside.nodes c.args.key c.args.key
-    c.place_of-place.result.previous c.place_of-place.result.node (Some c.in-Some.old)
-    c.place_of-place.ensures.place c.self.view_is refl c.in-Some.is in
+    let previous = c.place_of-place.result.previous in
+    let place = placed c.args.self.now c.self.inside.nodes c.args.key c.args.key previous
+    c.place_of-place.result.node (Some c.in-Some.old) c.place_of-place.ensures.place c.self.view_is
+    refl c.in-Some.is in
+    let k = c.self.invariant in
+    let p : Plan = c.self.inside.nodes.view.client.plan in
+    let before : List Node = nodes_in c.self.inside.nodes.view.client.known in
+    let after : List Node = nodes_in c.pass.new.keeper.view.client.known in
     let done = c.pass.ensures in
-    record {
-      some = c.self.invariant.some;
-      map = removed_map g.E.Invariant.holds g.row.BUCKETS g.row.W g.row.N
-          (nodes_in c.self.inside.nodes.view.client.known) c.self.invariant.map c.args.key
-          c.place_of-place.result.previous c.in-Some.old some place done.next
-          (nodes_in c.pass.new.keeper.view.client.known) done.leads done.trimmed done.kept.few
+    subst (λ (q : Plan). IsKept g.E.Invariant.holds g.row.W q after (c.self.inside.len - 1))
+    (sym (ap (λ (w : Watching Planned). w.view.client.plan) done.state))
+    (record {
+      some = k.some;
+      one = k.one;
+      words = k.words;
+      map = removed_map g.E.Invariant.holds p.roots p.words p.nodes before k.map c.args.key previous
+          c.in-Some.old some place done.next after done.leads done.trimmed done.kept.few
           done.kept.tended;
       count =
-          let now = c.self.invariant.count in
-          let less = removed_count g.E.Invariant.holds g.row.BUCKETS g.row.W g.row.N
-          (nodes_in c.self.inside.nodes.view.client.known) c.self.invariant.map c.args.key
-          c.place_of-place.result.previous c.in-Some.old some place done.next
-          (nodes_in c.pass.new.keeper.view.client.known) done.leads done.trimmed done.kept.few in
+          let now = k.count in
+          let less = removed_count g.E.Invariant.holds p.roots p.words p.nodes before k.map
+          c.args.key previous c.in-Some.old some place done.next after done.leads done.trimmed
+          done.kept.few in
           omega (arith, now, less);
-    }
+    })
 
 pub returns-clause-removed : goal.returns-clause-removed
 returns-clause-removed g c = λ e.
     let some : 0 < c.args.key = omega arith in
-    let place = placed g.row.BUCKETS c.args.self.now c.self.inside.nodes c.args.key c.args.key
-    c.place_of-place.result.previous c.place_of-place.result.node (Some c.in-Some.old)
-    c.place_of-place.ensures.place c.self.view_is refl c.in-Some.is in
+    let previous = c.place_of-place.result.previous in
+    let place = placed c.args.self.now c.self.inside.nodes c.args.key c.args.key previous
+    c.place_of-place.result.node (Some c.in-Some.old) c.place_of-place.ensures.place c.self.view_is
+    refl c.in-Some.is in
+    let k = c.self.invariant in
+    let p : Plan = c.self.inside.nodes.view.client.plan in
+    let before : List Node = nodes_in c.self.inside.nodes.view.client.known in
+    let after : List Node = nodes_in c.pass.new.keeper.view.client.known in
     let done = c.pass.ensures in
     subst (λ (w : Watching Planned). HasChanged
-    (λ before after. IsRemoved g.row.BUCKETS before c.args.key after) w c.pass.new.keeper)
+    (λ before after. IsRemoved (buckets_in w) before c.args.key after) w c.pass.new.keeper)
     c.self.view_is
     (record {
       state = done.state;
-      nodes = removed g.E.Invariant.holds g.row.BUCKETS g.row.W g.row.N
-          (nodes_in c.self.inside.nodes.view.client.known) c.self.invariant.map c.args.key
-          c.place_of-place.result.previous c.in-Some.old some place done.next
-          (nodes_in c.pass.new.keeper.view.client.known) done.leads done.trimmed;
+      nodes = removed g.E.Invariant.holds p.roots p.words p.nodes before k.map c.args.key previous
+          c.in-Some.old some place done.next after done.leads done.trimmed;
     })

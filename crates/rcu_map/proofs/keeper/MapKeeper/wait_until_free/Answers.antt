@@ -7,8 +7,11 @@ use Rattle.rcu_live.proofs.WaitLemmas.{rounds_round, rounds_then_look}
 use Rattle.rcu_graph.specs.Nodes.{nodes_in}
 use Rattle.rcu_graph.specs.Tended.{AreAllUsed}
 use Rattle.rcu_graph.specs.declared.known.Planned.{Planned}
+use Rattle.rcu_graph.specs.declared.plan.Plan.{Plan}
+use Rattle.rcu_map.specs.Chains.{buckets_in}
+use Rattle.rcu_map.specs.Entries.{AreSameEntries}
 use Rattle.rcu_map.specs.Waits.{HasGivenUp}
-use Rattle.rcu_map.proofs.Looks.{aged_more, aged_once, found_one, on_err, refused}
+use Rattle.rcu_map.proofs.Looks.{aged_more, aged_once, aged_plan, found_one, on_err, refused}
 use Rattle.rcu_map.proofs.keeper.MapKeeper.wait_until_free.Goals as goal
 
 pub loop-init : goal.loop-init
@@ -18,7 +21,8 @@ loop-init g c =
       of_map = record { keeper_of = a.graph; seat_of = c.requires.of_map.seat_of };
       depth = c.requires.outside;
       rested = rested_none c.args.seat.now;
-      aged = aged_once g.row.BUCKETS c.args.self.now c.age.new.self c.age.result c.requires.full
+      aged = aged_once (buckets_in c.args.self.now) c.args.self.now c.age.new.self c.age.result
+          c.requires.full
           a.later a.state a.entries;
       waited = tt;
       rounds =
@@ -37,7 +41,9 @@ returns-then-is_ok-clause-waited g c =
       free =
           subst (λ (w : Watching Planned). AreAllUsed (nodes_in w.view.client.known) → ⊥)
           c.self.view_is
-          (found_one (nodes_in c.self.inside.nodes.view.client.known) g.row.N c.free_node.result
+          (found_one (nodes_in c.self.inside.nodes.view.client.known)
+          c.self.inside.nodes.view.client.plan.nodes
+          c.free_node.result
           (sym c.is_ok.ensures.value ∙ c.if-is_ok.true) c.self.invariant.map.few f.inside f.free);
       rounds = rounds_at_end c.loop.waited c.args.seat.now c.loop.seat c.args.self.now c.loop.self
           c.loop.self i.rounds i.last refl;
@@ -46,7 +52,8 @@ returns-then-is_ok-clause-waited g c =
 pub returns-in_err-waited-clause-given_up : goal.returns-in_err-waited-clause-given_up
 returns-in_err-waited-clause-given_up g c =
     let i = c.loop.invariant in
-    let given_up : HasGivenUp g.row.BUCKETS c.args.seat.now c.loop.seat c.args.self.now
+    let given_up : HasGivenUp (buckets_in c.args.self.now) c.args.seat.now c.loop.seat
+    c.args.self.now
     c.loop.self = record {
       looked = i.aged;
       full =
@@ -83,8 +90,13 @@ loop-preserved g c =
       depth = w.depth ∙ i.depth;
       rested = rested_round r c.args.seat.now c.loop.seat c.wait_once-waited.new.seat i.rested
           w.state w.unchanged;
-      aged = aged_more g.row.BUCKETS c.args.self.now c.loop.self a.new.self a.result i.aged full
-          a.ensures.later a.ensures.state a.ensures.entries;
+      aged = aged_more (buckets_in c.args.self.now) c.args.self.now c.loop.self a.new.self a.result
+          i.aged full a.ensures.later a.ensures.state
+          (subst (λ (b : ℕ). AreSameEntries b (nodes_in c.loop.self.view.client.known)
+          (nodes_in a.new.self.view.client.known))
+          (ap (λ (p : Plan). p.roots)
+          (aged_plan (buckets_in c.args.self.now) c.args.self.now c.loop.self i.aged))
+          a.ensures.entries);
       waited = subst (λ (d : ℕ). IfErr r (λ (fault : Fault). fault ≡ wait_fault d)) i.depth w.fault;
       rounds = next.0;
       last = next.1;

@@ -2,6 +2,7 @@ use Rattle.std.proofs.Common.{◌≡◌}
 use Rattle.std.specs.Prelude.{IfErr, OnErr, OnOk}
 use Rattle.rcu_seq.specs.declared.fault.Fault.TheVariants.{Exhausted}
 use Rattle.rcu_live.specs.Waits.{AreRounds, HasRested}
+use Rattle.rcu_map.specs.Chains.{buckets_in}
 use Rattle.rcu_map.specs.Waits.{AreOf, HasAged}
 use Rattle.rcu_map.proofs.keeper.MapKeeper.wait_until_free.Given as goal
 
@@ -10,7 +11,7 @@ invariant-loop g l = record {
   of_map : AreOf l.map l.self l.seat;
   depth : l.seat.depth ≡ 0;
   rested : HasRested l.fn.seat l.seat;
-  aged : HasAged g.row.BUCKETS l.fn.self l.self;
+  aged : HasAged (buckets_in l.fn.self) l.fn.self l.self;
   waited : IfErr l.waited (λ fault. fault ≡ Exhausted);
   rounds : OnOk l.waited (AreRounds 1 l.fn.seat l.seat l.fn.self l.self);
   last : OnErr l.waited (AreRounds 2 l.fn.seat l.seat l.fn.self l.self);

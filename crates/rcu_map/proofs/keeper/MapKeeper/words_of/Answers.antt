@@ -2,18 +2,20 @@ use Rattle.std.proofs.Common.{◌≡◌, ◌<◌, ◌∙◌, ap, length, subst, 
 use Rattle.rcu_live.specs.Watcher.{Watching}
 use Rattle.rcu_graph.specs.Nodes.{node_at, nodes_in}
 use Rattle.rcu_graph.specs.declared.known.Planned.{Planned}
+use Rattle.rcu_map.specs.Chains.{buckets_in}
 use Rattle.rcu_map.specs.Entries.{IsEntry}
 use Rattle.rcu_map.proofs.Chains.{entry_fits, inside, sized}
 use Rattle.rcu_map.proofs.Rows.{read_all, read_more, zeros}
 use Rattle.rcu_map.proofs.keeper.MapKeeper.words_of.Goals as goal
 
-pub word-requires : goal.word-requires
-word-requires g c =
-    let own : IsEntry g.row.BUCKETS (nodes_in c.self.inside.nodes.view.client.known) c.args.node =
-    subst (λ (w : Watching Planned). IsEntry g.row.BUCKETS (nodes_in w.view.client.known)
+pub word-requires-clause-node : goal.word-requires-clause-node
+word-requires-clause-node g c =
+    let own : IsEntry (buckets_in c.self.inside.nodes)
+    (nodes_in c.self.inside.nodes.view.client.known) c.args.node =
+    subst (λ (w : Watching Planned). IsEntry (buckets_in w) (nodes_in w.view.client.known)
     c.args.node)
     (sym c.self.view_is) c.requires in
-    (omega arith, (inside _ _ _ _ _ c.self.invariant.map c.args.node own.live, omega arith))
+    inside _ _ _ _ _ c.self.invariant.map c.args.node own.live
 
 pub loop-word-preserved : goal.loop-word-preserved
 loop-word-preserved g c =
@@ -33,15 +35,17 @@ loop-word-preserved g c =
 pub returns : goal.returns
 returns g c =
     let i = c.loop-word.invariant in
-    let own : IsEntry g.row.BUCKETS (nodes_in c.self.inside.nodes.view.client.known) c.args.node =
-    subst (λ (w : Watching Planned). IsEntry g.row.BUCKETS (nodes_in w.view.client.known)
+    let own : IsEntry (buckets_in c.self.inside.nodes) (nodes_in
+    c.self.inside.nodes.view.client.known) c.args.node =
+    subst (λ (w : Watching Planned). IsEntry (buckets_in w) (nodes_in w.view.client.known)
     c.args.node)
     (sym c.self.view_is) c.requires in
     let all : c.loop-word.words
     ≡ (node_at (nodes_in c.self.inside.nodes.view.client.known) c.args.node).words =
     read_all c.loop-word.words
     (node_at (nodes_in c.self.inside.nodes.view.client.known) c.args.node).words g.row.W
-    (i.size ∙ zeros g.row.W) (sized _ _ _ _ _ c.self.invariant.map c.args.node own.live)
+    (i.size ∙ zeros g.row.W)
+    (sized _ _ _ _ _ c.self.invariant.map c.args.node own.live ∙ c.self.invariant.words)
     (λ j low. i.told j (omega (arith, low))) in
     record {
       same =

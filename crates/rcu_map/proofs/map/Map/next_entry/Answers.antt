@@ -1,6 +1,7 @@
 use Rattle.std.proofs.Common.{◌≡◌, ◌+◌, Some, refl, sym, ap, subst, arith}
 use Rattle.rcu_live.specs.CpuSeat.{Seated}
 use Rattle.rcu_graph.specs.declared.known.Planned.{Planned}
+use Rattle.rcu_graph.specs.declared.plan.Plan.{Plan}
 use Rattle.rcu_map.specs.Cursors.{HasListed}
 use Rattle.rcu_map.specs.declared.cursor.Cursor.{Cursor}
 use Rattle.rcu_map.proofs.Stepping.{begins, is_at_end, left_less, listed_entry, on_entry, passes_on}
@@ -11,7 +12,7 @@ pub buckets-init : goal.buckets-init
 buckets-init g c = record {
   same = refl;
   may = c.requires;
-  passing = begins g.row.BUCKETS c.args.seat.now.view.client.known c.args.start;
+  passing = begins c.args.self.now.plan.roots c.args.seat.now.view.client.known c.args.start;
   left = omega arith;
 }
 
@@ -21,8 +22,8 @@ entry_at-requires g c =
       omega arith,
       (
         omega arith,
-        on_entry g.E.Invariant.holds g.row.N g.row.BUCKETS g.row.W c.args.self.now c.buckets.seat
-            c.step-at.new.seat c.buckets.at c.step-at.result c.step-at.ensures (omega (arith, up)),
+        on_entry g.E.Invariant.holds c.args.self.now c.buckets.seat c.step-at.new.seat c.buckets.at
+            c.step-at.result c.step-at.ensures (omega (arith, up)),
       ),
     )
 
@@ -31,13 +32,13 @@ returns-then-at-gt0 g c =
     let s = c.step-at.ensures in
     let i = c.buckets.invariant in
     let up = c.if-at-gt0.true in
-    let held = step_held g.E.Invariant.holds g.row.N g.row.BUCKETS g.row.W c.args.self.now
+    let held = step_held g.E.Invariant.holds c.args.self.now
     c.buckets.seat c.step-at.new.seat c.buckets.at c.step-at.result s (omega (arith, up)) in
     subst (λ (x : Seated Planned). HasListed g.E.Invariant.holds g.E.Value.decode g.E.Value.valid
-    g.E.Entry.key_of g.row.N g.row.BUCKETS c.args.self.now c.args.seat.now c.args.start x
+    g.E.Entry.key_of c.args.self.now c.args.seat.now c.args.start x
     c.step-at.result (Some c.entry_at.result))
     (sym c.entry_at.ensures.same)
-    (listed_entry g.E.Invariant.holds g.row.N g.row.BUCKETS g.row.W c.args.self.now c.args.seat.now
+    (listed_entry g.E.Invariant.holds c.args.self.now c.args.seat.now
     c.buckets.seat c.step-at.new.seat c.args.start c.buckets.at c.step-at.result s i.same i.may
     i.passing i.left g.E.Value.decode g.E.Value.valid g.E.Entry.key_of c.entry_at.result
     g.met.E.Entry.tells (omega (arith, up))
@@ -48,7 +49,7 @@ pub buckets-smaller : goal.buckets-smaller
 buckets-smaller g c =
     let s = c.step-at.ensures in
     let not_up = c.if-at-gt0.false in
-    let over = went_over g.E.Invariant.holds g.row.N g.row.BUCKETS g.row.W c.args.self.now
+    let over = went_over g.E.Invariant.holds c.args.self.now
     c.buckets.seat c.step-at.new.seat c.buckets.at c.step-at.result s (omega (arith, not_up)) in
     let next : c.step-at.result.bucket ≡ c.buckets.at.bucket + 1 =
     ap (λ (at : Cursor). at.bucket) over.1 in
@@ -61,14 +62,14 @@ buckets-preserved g c =
     let not_up = c.if-at-gt0.false in
     let none : c.step-at.result.key ≡ 0 = omega (arith, not_up) in
     record {
-      same = same_on g.E.Invariant.holds g.row.N g.row.BUCKETS g.row.W c.args.self.now
+      same = same_on g.E.Invariant.holds c.args.self.now
           c.args.seat.now c.buckets.seat c.step-at.new.seat c.args.start c.buckets.at
           c.step-at.result s i.same i.may i.passing i.left;
       may = s.may;
-      passing = passes_on g.E.Invariant.holds g.row.N g.row.BUCKETS g.row.W c.args.self.now
+      passing = passes_on g.E.Invariant.holds c.args.self.now
           c.buckets.seat c.step-at.new.seat c.buckets.at c.step-at.result s
           c.args.seat.now.view.client.known c.args.start i.passing none;
-      left = left_less g.E.Invariant.holds g.row.N g.row.BUCKETS g.row.W c.args.self.now
+      left = left_less g.E.Invariant.holds c.args.self.now
           c.args.seat.now c.buckets.seat c.step-at.new.seat c.args.start c.buckets.at
           c.step-at.result s i.same i.may i.passing i.left none;
     }
@@ -78,12 +79,13 @@ returns g c =
     let i = c.buckets.invariant in
     let past = c.buckets-test.false in
     let within = i.may.within in
+    let roots = ap (λ (p : Plan). p.roots) c.plan-buckets.ensures.plan in
     record {
       same = i.same;
       may = i.may;
-      went = is_at_end g.row.BUCKETS c.args.seat.now.view.client.known
+      went = is_at_end c.args.self.now.plan.roots c.args.seat.now.view.client.known
           c.buckets.seat.view.client.known
-          c.args.start c.buckets.at i.passing (omega (arith, past, within));
+          c.args.start c.buckets.at i.passing (omega (arith, past, within, roots));
       keyed = tt;
       sound = tt;
       nearer = tt;

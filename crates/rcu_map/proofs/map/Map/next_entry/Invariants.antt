@@ -8,11 +8,11 @@ use Rattle.rcu_map.proofs.map.Map.next_entry.Given as goal
 abbrev pub invariant-buckets : goal.invariant-buckets
 invariant-buckets g l = record {
   same : l.seat ≡ after_word_step l.initial.seat l.seat.view.client;
-  may : MayGoOn g.row.N g.row.BUCKETS l.self l.seat l.at;
-  passing : IsPassing g.row.BUCKETS l.initial.seat.view.client.known l.initial.at
+  may : MayGoOn l.self l.seat l.at;
+  passing : IsPassing l.self.plan.roots l.initial.seat.view.client.known l.initial.at
       l.seat.view.client.known l.at;
-  left : left_from g.row.BUCKETS l.at ≤ left_from g.row.BUCKETS l.initial.at;
+  left : left_from l.self.plan.roots l.at ≤ left_from l.self.plan.roots l.initial.at;
 }
 
 abbrev pub decreases-buckets : goal.decreases-buckets
-decreases-buckets g l = g.row.BUCKETS - l.at.bucket
+decreases-buckets g l = l.self.plan.roots - l.at.bucket

@@ -1,7 +1,9 @@
 use Rattle.std.proofs.Common.{◌<◌, length, sym, ◌∙◌, subst, arith, length-set}
+use Rattle.rcu_live.specs.Board.{Object}
 use Rattle.rcu_live.specs.CpuSeat.{Seated}
 use Rattle.rcu_graph.specs.Nodes.{IsOn}
 use Rattle.rcu_graph.specs.declared.known.Planned.{Planned}
+use Rattle.rcu_graph.specs.declared.plan.Plan.{Plan}
 use Rattle.rcu_map.specs.Keys.{root_words}
 use Rattle.rcu_map.proofs.Rows.{read_all, read_more, zeros}
 use Rattle.rcu_map.proofs.map.Map.words_at.Goals as goal
@@ -18,12 +20,16 @@ loop-word-preserved g c =
           let low : c.loop-word.word < length c.loop-word.words = omega arith in
           read_more c.loop-word.words words c.loop-word.word c.read.result low (i.told words on)
           (c.read.ensures.told words
-          (subst (λ (s : Seated Planned).
-          IsOn (root_words g.row.W) g.row.BUCKETS s.view.client.known c.args.node words)
-          (sym i.same) on));
+          (subst (λ (map : Object Plan). IsOn (root_words map.plan.words) map.plan.roots
+          c.loop-word.seat.view.client.known c.args.node words)
+          (sym c.self.view_is)
+          (subst (λ (s : Seated Planned). IsOn (root_words c.args.self.now.plan.words)
+          c.args.self.now.plan.roots s.view.client.known c.args.node words)
+          (sym i.same) on)));
     }
 
 pub returns-clause-told : goal.returns-clause-told
 returns-clause-told g c = λ words on whole. let i = c.loop-word.invariant in
-    read_all c.loop-word.words words g.row.W (i.size ∙ zeros g.row.W) whole.sized
+    read_all c.loop-word.words words g.row.W (i.size ∙ zeros g.row.W)
+    (whole.sized ∙ c.plan.ensures.words)
     (λ j low. i.told words on j (omega (arith, low)))

@@ -9,7 +9,8 @@ invariant-loop-word g l = record {
   same : l.seat ≡ l.initial.seat;
   size : length l.words ≡ length l.initial.words;
   told : (words : List ℕ)
-      → IsOn (root_words g.row.W) g.row.BUCKETS l.initial.seat.view.client.known l.node words
+      → IsOn (root_words l.self.plan.words) l.self.plan.roots l.initial.seat.view.client.known
+      l.node words
       → (j : ℕ) → j < l.word
       → slice_index l.words j ≡ slice_index words j;
 }
