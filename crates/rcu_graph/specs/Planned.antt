@@ -16,13 +16,14 @@ use Rattle.rcu_graph.specs.declared.known.Known.{Known}
 use Rattle.rcu_graph.specs.declared.known.Planned.{Planned}
 use Rattle.rcu_graph.specs.declared.plan.Plan.{Plan}
 
--- so many roots, links, words and nodes
-abbrev pub plan_of : ℕ → ℕ → ℕ → ℕ → Plan
-plan_of roots links width count = record {
+-- so many roots, links, words and nodes, and this seed
+abbrev pub plan_of : ℕ → ℕ → ℕ → ℕ → ℕ → Plan
+plan_of roots links width count seed = record {
   roots = roots;
   links = links;
   words = width;
   nodes = count;
+  seed = seed;
 }
 
 -- of a graph of this plan it knows this

@@ -1,6 +1,6 @@
 //! How large a graph is.
 
-/// How large a graph is. It is told once, at the opening.
+/// How large a graph is, and a number of the user's. It is told once, at the opening.
 #[derive(Clone, Copy, Debug, PartialEq, Eq)]
 pub struct Plan {
     /// How many of the nodes are roots, the first ones.
@@ -11,6 +11,8 @@ pub struct Plan {
     pub words: usize,
     /// How many nodes there are, with the roots.
     pub nodes: usize,
+    /// A number that the user's facts may speak of, as the seed of a hash.
+    pub seed: u64,
 }
 
 /// How many links and words a graph has at most.

@@ -47,6 +47,7 @@ const PLAN: Plan = Plan {
     links: 1,
     words: 2,
     nodes: 2,
+    seed: 0,
 };
 
 /// How often each reader searches.
@@ -54,7 +55,7 @@ const SEARCHES: u32 = 200_000;
 
 /// Searches the chain for the key 5. Returns whether a node that was found has both its words.
 fn finds_it_whole(chain: &Chain, seat: &mut Seat) -> bool
-    requires sized { chain.now.plan ≡ plan_of 1 1 2 2 }
+    requires sized { chain.now.plan ≡ plan_of 1 1 2 2 0 }
     requires walking { IsWalking chain.now seat.old }
     ensures state { seat.new ≡ after_word_step seat.old seat.new.view.client }
     ensures walking { IsWalking chain.now seat.new }
@@ -69,7 +70,7 @@ fn finds_it_whole(chain: &Chain, seat: &mut Seat) -> bool
 /// Searches the chain for the key 5 in a section of its own. Returns whether a node that was found
 /// has both its words.
 fn search(chain: &Chain, seat: &mut Seat) -> bool
-    requires sized { chain.now.plan ≡ plan_of 1 1 2 2 }
+    requires sized { chain.now.plan ≡ plan_of 1 1 2 2 0 }
     requires seat { IsSeatOf chain.now seat.old }
     requires outside { seat.old.depth ≡ 0 }
     requires idle { seat.old.view.client ≡ of_plan chain.now.plan Idle }
@@ -92,7 +93,7 @@ fn search(chain: &Chain, seat: &mut Seat) -> bool
 struct Reader<'a> {
     chain: &'a Chain,
     seat: Seat,
-    ghost sized: { chain.now.plan ≡ plan_of 1 1 2 2 },
+    ghost sized: { chain.now.plan ≡ plan_of 1 1 2 2 0 },
     ghost seat_of: { IsSeatOf chain.now seat },
     ghost outside: { seat.depth ≡ 0 },
     ghost idle: { seat.view.client ≡ of_plan chain.now.plan Idle },
@@ -124,7 +125,7 @@ impl<'a> Reader<'a> {
 
 /// Publishes a node with the key 5, unlinks it, leaves it, and looks at the number.
 fn publish_and_leave(chain: &Chain, keeper: &mut GraphWatcher<Sorted>)
-    requires sized { chain.now.plan ≡ plan_of 1 1 2 2 }
+    requires sized { chain.now.plan ≡ plan_of 1 1 2 2 0 }
     requires keeper { IsKeeperOf chain.now keeper.old }
     requires first { nodes_in keeper.old.view.client.known
         ≡ first_nodes 1 2 (λ _. replicate 2 0) 1 2 }
@@ -145,7 +146,7 @@ fn run_beside<R: Threads + Wait + Sync>(
     a: Reader<'_>,
     b: Reader<'_>,
 ) -> (bool, bool)
-    requires sized { chain.now.plan ≡ plan_of 1 1 2 2 }
+    requires sized { chain.now.plan ≡ plan_of 1 1 2 2 0 }
     requires keeper { IsKeeperOf chain.now keeper }
     requires first { nodes_in keeper.view.client.known
         ≡ first_nodes 1 2 (λ _. replicate 2 0) 1 2 }

@@ -35,9 +35,9 @@ is_live_aged n latest (Retired a) = past _
     past true = refl
     past false = refl
 
-module _ (holds : List ℕ → Type 0) (buckets width count : ℕ) where
+module _ (holds : List ℕ → Type 0) (buckets seed width count : ℕ) where
   -- a look at the number
-  module _ (A : List Node) (m : IsMap holds buckets width count A) (n latest : ℕ) where
+  module _ (A : List Node) (m : IsMap holds buckets seed width count A) (n latest : ℕ) where
     at : (i : ℕ) → node_at (aged n latest A) i ≡ aged_node n latest (node_at A i)
     at i = get_or-map (aged_node n latest) A i no_node
 
@@ -57,19 +57,20 @@ module _ (holds : List ℕ → Type 0) (buckets width count : ℕ) where
     live_after : (i : ℕ) → state_at A i ≡ Live → state_at (aged n latest A) i ≡ Live
     live_after i live = ap (λ (v : Node). v.state) (at i) ∙ ap (aged_state n latest) live
 
-    before : (i j : ℕ) → AreOfOneBucket buckets (aged n latest A) i j → AreOfOneBucket buckets A i j
+    before : (i j : ℕ) → AreOfOneBucket buckets seed (aged n latest A) i j
+        → AreOfOneBucket buckets seed A i j
     before i j one = record {
       first = live_before i one.first;
       second = live_before j one.second;
       same =
-          ap (λ (w : List ℕ). bucket_in buckets w) (sym (words_at i))
-          ∙ (one.same ∙ ap (λ (w : List ℕ). bucket_in buckets w) (words_at j));
+          ap (λ (w : List ℕ). bucket_in buckets seed w) (sym (words_at i))
+          ∙ (one.same ∙ ap (λ (w : List ℕ). bucket_in buckets seed w) (words_at j));
     }
 
     pub aged_map : length (aged n latest A) ≡ count
-        → AreTended (IsWhole holds width) (λ _ from to. GoesUp buckets from to) buckets 1
+        → AreTended (IsWhole holds width) (λ _ from to. GoesUp buckets seed from to) buckets 1
         (aged n latest A)
-        → IsMap holds buckets width count (aged n latest A)
+        → IsMap holds buckets seed width count (aged n latest A)
     aged_map few tended = record {
       few = few;
       tended = tended;
@@ -112,7 +113,7 @@ module _ (holds : List ℕ → Type 0) (buckets width count : ℕ) where
   firsts = first_nodes 1 width (root_words width) buckets count
 
   module _ (few : length firsts ≡ count)
-      (tended : AreTended (IsWhole holds width) (λ _ from to. GoesUp buckets from to) buckets 1
+      (tended : AreTended (IsWhole holds width) (λ _ from to. GoesUp buckets seed from to) buckets 1
       firsts) where
     at_root : (i : ℕ) → i < buckets → (node_at firsts i).words ≡ root_words width i
     at_root i low =
@@ -146,12 +147,12 @@ module _ (holds : List ℕ → Type 0) (buckets width count : ℕ) where
     no_key i live = ap key_in (at_root i (live_roots i live)) ∙ root_key width i
 
     own_bucket : (i : ℕ) → 1 < width → state_at firsts i ≡ Live
-        → bucket_in buckets (node_at firsts i).words ≡ i
+        → bucket_in buckets seed (node_at firsts i).words ≡ i
     own_bucket i room live =
-        ap (λ (w : List ℕ). bucket_in buckets w) (at_root i (live_roots i live))
-        ∙ root_bucket buckets width i room
+        ap (λ (w : List ℕ). bucket_in buckets seed w) (at_root i (live_roots i live))
+        ∙ root_bucket buckets seed width i room
 
-    pub first_map : 1 < width → IsMap holds buckets width count firsts
+    pub first_map : 1 < width → IsMap holds buckets seed width count firsts
     first_map room = record {
       few = few;
       tended = tended;
@@ -170,19 +171,19 @@ module _ (holds : List ℕ → Type 0) (buckets width count : ℕ) where
 
   -- of nodes that are as at first
   module _ (nodes : List Node) (e : nodes ≡ firsts)
-      (kept : AreKept (IsWhole holds width) (λ _ from to. GoesUp buckets from to) buckets count
+      (kept : AreKept (IsWhole holds width) (λ _ from to. GoesUp buckets seed from to) buckets count
       nodes) where
     few_first : length firsts ≡ count
     few_first = ap (λ (l : List Node). length l) (sym e) ∙ kept.few
 
-    tended_first : AreTended (IsWhole holds width) (λ _ from to. GoesUp buckets from to) buckets 1
-        firsts
+    tended_first : AreTended (IsWhole holds width) (λ _ from to. GoesUp buckets seed from to)
+        buckets 1 firsts
     tended_first = subst (λ (l : List Node).
-        AreTended (IsWhole holds width) (λ _ from to. GoesUp buckets from to) buckets 1 l)
+        AreTended (IsWhole holds width) (λ _ from to. GoesUp buckets seed from to) buckets 1 l)
         e kept.tended
 
-    pub is_map_first : 1 < width → IsMap holds buckets width count nodes
-    is_map_first room = subst (λ (l : List Node). IsMap holds buckets width count l) (sym e)
+    pub is_map_first : 1 < width → IsMap holds buckets seed width count nodes
+    is_map_first room = subst (λ (l : List Node). IsMap holds buckets seed width count l) (sym e)
         (first_map few_first tended_first room)
 
     pub none_first : entries_in buckets nodes ≡ 0

@@ -13,19 +13,20 @@ use Rattle.rcu_map.specs.Chains.{AreOfOneBucket, IsMap}
 use Rattle.rcu_map.specs.Entries.{HasKey, IsEntry, IsNodeOf}
 use Rattle.rcu_map.specs.Keys.{GoesUp, IsWhole, bucket_in, bucket_of, key_in}
 use Rattle.rcu_map.specs.Splices.{IsPlace}
-use Rattle.rcu_map.proofs.Buckets.{entry_bucket, root_bucket, root_key}
+use Rattle.rcu_map.proofs.Buckets.{bucket_inside, entry_bucket, root_bucket, root_key}
 
 -- the bucket of the node i
-abbrev pub bucket_at : ℕ → List Node → ℕ → ℕ
-bucket_at buckets nodes i = bucket_in buckets (node_at nodes i).words
+abbrev pub bucket_at : ℕ → ℕ → List Node → ℕ → ℕ
+bucket_at buckets seed nodes i = bucket_in buckets seed (node_at nodes i).words
 
-module _ (holds : List ℕ → Type 0) (buckets width count : ℕ) (A : List Node)
-    (m : IsMap holds buckets width count A) where
+module _ (holds : List ℕ → Type 0) (buckets seed width count : ℕ) (A : List Node)
+    (m : IsMap holds buckets seed width count A) where
   -- where a live node leads
   pub led : (i j : ℕ) → state_at A i ≡ Live → next_of A i ≡ suc j
-      → (state_at A j ≡ Live) × GoesUp buckets (node_at A i).words (node_at A j).words
+      → (state_at A j ≡ Live) × GoesUp buckets seed (node_at A i).words (node_at A j).words
   led i j live leads =
-      led_there (IsWhole holds width) (λ _ from to. GoesUp buckets from to) count buckets 1 width
+      led_there (IsWhole holds width) (λ _ from to. GoesUp buckets seed from to) count buckets 1
+      width
       A 0 (node_at A i).words (next_of A i) j (m.tended.led i 0 live (omega arith)) leads
 
   pub inside : (i : ℕ) → state_at A i ≡ Live → i < count
@@ -36,7 +37,7 @@ module _ (holds : List ℕ → Type 0) (buckets width count : ℕ) (A : List Nod
 
   -- a live node does not lead past a live one of its bucket
   not_past : (i j k : ℕ)
-      → AreOfOneBucket buckets A i j
+      → AreOfOneBucket buckets seed A i j
       → key_at A i < key_at A j
       → next_of A i ≡ suc k
       → key_at A j < key_at A k
@@ -55,9 +56,10 @@ module _ (holds : List ℕ → Type 0) (buckets width count : ℕ) (A : List Nod
   one_way i j k a b p q =
       let f = led i k a p in
       let g = led j k b q in
-      let same : bucket_at buckets A i ≡ bucket_at buckets A j = f.1.same ∙ sym g.1.same in
-      let one : AreOfOneBucket buckets A i j = record { first = a; second = b; same = same } in
-      let other : AreOfOneBucket buckets A j i = record {
+      let same : bucket_at buckets seed A i ≡ bucket_at buckets seed A j = f.1.same ∙ sym g.1.same
+      in
+      let one : AreOfOneBucket buckets seed A i j = record { first = a; second = b; same = same } in
+      let other : AreOfOneBucket buckets seed A j i = record {
         first = b;
         second = a;
         same = sym same;
@@ -98,8 +100,8 @@ module _ (holds : List ℕ → Type 0) (buckets width count : ℕ) (A : List Nod
       (cases_lt i buckets)
 
   pub of_its_bucket : (key node : ℕ) → 0 < key → IsNodeOf buckets A key node
-      → bucket_at buckets A node ≡ bucket_of buckets key
-  of_its_bucket key node some is = entry_bucket buckets key (node_at A node).words some is.is
+      → bucket_at buckets seed A node ≡ bucket_of buckets seed key
+  of_its_bucket key node some is = entry_bucket buckets seed key (node_at A node).words some is.is
 
   -- no two entries have one key
   pub one_entry : (key i j : ℕ) → 0 < key → IsNodeOf buckets A key i → IsNodeOf buckets A key j
@@ -114,11 +116,11 @@ module _ (holds : List ℕ → Type 0) (buckets width count : ℕ) (A : List Nod
 
   -- where a key belongs
   module _ (key previous : ℕ) (some : 0 < key) where
-    pub absent : IsPlace buckets key A previous None → HasKey buckets A key → ⊥
+    pub absent : IsPlace buckets seed key A previous None → HasKey buckets A key → ⊥
     absent place has =
         let is = has.1.is in
         let low = place.less in
-        let one : AreOfOneBucket buckets A previous has.0 = record {
+        let one : AreOfOneBucket buckets seed A previous has.0 = record {
           first = place.live;
           second = has.1.entry.live;
           same = place.bucket ∙ sym (of_its_bucket key has.0 some has.1);
@@ -128,7 +130,7 @@ module _ (holds : List ℕ → Type 0) (buckets width count : ℕ) (A : List Nod
         let near = t.near in
         omega (arith, far, near, is)
 
-    pub there : (node : ℕ) → IsPlace buckets key A previous (Some node)
+    pub there : (node : ℕ) → IsPlace buckets seed key A previous (Some node)
         → IsNodeOf buckets A key node
     there node place =
         let is : key_at A node ≡ key = place.leads.1 in record {
@@ -150,7 +152,8 @@ module _ (holds : List ℕ → Type 0) (buckets width count : ℕ) (A : List Nod
       let up = has_key has.0 has.1.entry.live has.1.entry.behind in omega (arith, is, up)
 
   -- whether there is an entry is told by the place of its key
-  pub told : (key previous : ℕ) (node : Option ℕ) → 0 < key → IsPlace buckets key A previous node
+  pub told : (key previous : ℕ) (node : Option ℕ) → 0 < key → IsPlace buckets seed key A previous
+      node
       → MatchOption node (HasKey buckets A key → ⊥) (λ n. IsNodeOf buckets A key n)
   told key previous None some place = absent key previous some place
   told key previous (Some node) some place = there key previous some node place
@@ -160,14 +163,15 @@ module _ (holds : List ℕ → Type 0) (buckets width count : ℕ) (A : List Nod
       → 0 < buckets
       → 1 < width
       → 0 < key
-      → (state_at A (bucket_of buckets key) ≡ Live)
-      × (bucket_at buckets A (bucket_of buckets key) ≡ bucket_of buckets key)
-      × (key_at A (bucket_of buckets key) < key)
+      → (state_at A (bucket_of buckets seed key) ≡ Live)
+      × (bucket_at buckets seed A (bucket_of buckets seed key) ≡ bucket_of buckets seed key)
+      × (key_at A (bucket_of buckets seed key) < key)
   begins key some room up =
-      let low : bucket_of buckets key < buckets = omega (arith, some) in
-      let none = root_key_at (bucket_of buckets key) low in (
-        m.tended.rooted (bucket_of buckets key) low,
-        ap (λ (words : List ℕ). bucket_in buckets words) (m.roots (bucket_of buckets key) low)
-            ∙ root_bucket buckets width (bucket_of buckets key) room,
+      let low = bucket_inside buckets seed key some in
+      let none = root_key_at (bucket_of buckets seed key) low in (
+        m.tended.rooted (bucket_of buckets seed key) low,
+        ap (λ (words : List ℕ). bucket_in buckets seed words)
+            (m.roots (bucket_of buckets seed key) low)
+            ∙ root_bucket buckets seed width (bucket_of buckets seed key) room,
         omega (arith, none, up),
       )

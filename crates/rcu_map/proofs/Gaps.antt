@@ -47,31 +47,32 @@ other_but old i ne = go (nat_eq i old) refl
     go false e = refl
 
 -- of these nodes those that stay are in order, as in a map of so many buckets
-pub record AreOrdered (buckets width : ℕ) (nodes : List Node) (stays : ℕ → Bool) : Type 0 where
+pub record AreOrdered (buckets seed width : ℕ) (nodes : List Node) (stays : ℕ → Bool) : Type 0 where
   pub roots : (i : ℕ) → i < buckets → (node_at nodes i).words ≡ root_words width i
   pub linked : (i : ℕ) → state_at nodes i ≡ Live → length (node_at nodes i).links ≡ 1
   pub next : (i j : ℕ)
-      → AreOfOneBucket buckets nodes i j
+      → AreOfOneBucket buckets seed nodes i j
       → stays i ≡ true
       → stays j ≡ true
       → key_at nodes i < key_at nodes j
       → LeadsTowards nodes i j
   pub apart : (i j : ℕ)
-      → AreOfOneBucket buckets nodes i j
+      → AreOfOneBucket buckets seed nodes i j
       → stays i ≡ true
       → stays j ≡ true
       → key_at nodes i ≡ key_at nodes j
       → i ≡ j
 
 -- a node of this key that has this link fits behind the previous one
-pub record IsGap (buckets : ℕ) (A : List Node) (stays : ℕ → Bool)
+pub record IsGap (buckets seed : ℕ) (A : List Node) (stays : ℕ → Bool)
     (previous key word : ℕ) : Type 0 where
   pub live : state_at A previous ≡ Live
   pub less : key_at A previous < key
-  pub onward : (j : ℕ) → AreOfOneBucket buckets A previous j → stays j ≡ true → key < key_at A j
+  pub onward : (j : ℕ) → AreOfOneBucket buckets seed A previous j → stays j ≡ true → key < key_at A
+      j
       → (to : ℕ) × (word ≡ suc to) × (state_at A to ≡ Live) × (key_at A to ≤ key_at A j)
   pub upward : (j : ℕ)
-      → AreOfOneBucket buckets A previous j → stays j ≡ true → key_at A previous < key_at A j
+      → AreOfOneBucket buckets seed A previous j → stays j ≡ true → key_at A previous < key_at A j
       → key < key_at A j
 
 -- a free node became live, behind the previous one, with these words and this link
@@ -94,11 +95,11 @@ pub record IsPassed (A S : List Node) (previous word : ℕ) : Type 0 where
   pub leads : (i : ℕ) → i ≢ previous → next_of S i ≡ next_of A i
   pub linked : (i : ℕ) → length (node_at S i).links ≡ length (node_at A i).links
 
-module _ (holds : List ℕ → Type 0) (buckets width count : ℕ) (A : List Node)
-    (m : IsMap holds buckets width count A) where
+module _ (holds : List ℕ → Type 0) (buckets seed width count : ℕ) (A : List Node)
+    (m : IsMap holds buckets seed width count A) where
   -- where no node has the key
-  pub insertion_gap : (key previous : ℕ) → IsPlace buckets key A previous None
-      → IsGap buckets A all previous key (next_of A previous)
+  pub insertion_gap : (key previous : ℕ) → IsPlace buckets seed key A previous None
+      → IsGap buckets seed A all previous key (next_of A previous)
   insertion_gap key previous place = record {
     live = place.live;
     less = place.less;
@@ -107,7 +108,7 @@ module _ (holds : List ℕ → Type 0) (buckets width count : ℕ) (A : List Nod
         let t = m.next previous j one (omega (arith, low, more)) in (
           t.to,
           t.leads,
-          (led holds buckets width count A m previous t.to place.live t.leads).0,
+          (led holds buckets seed width count A m previous t.to place.live t.leads).0,
           t.near,
         );
     upward = λ j one stays more.
@@ -118,13 +119,15 @@ module _ (holds : List ℕ → Type 0) (buckets width count : ℕ) (A : List Nod
   }
 
   -- where an old node has the key, and is left out
-  module _ (key previous old : ℕ) (place : IsPlace buckets key A previous (Some old)) where
-    pub old_led : (state_at A old ≡ Live) × (bucket_at buckets A previous ≡ bucket_at buckets A old)
+  module _ (key previous old : ℕ) (place : IsPlace buckets seed key A previous (Some old)) where
+    pub old_led : (state_at A old ≡ Live) × (bucket_at buckets seed A previous ≡ bucket_at buckets
+        seed A old)
     old_led =
-        let r = led holds buckets width count A m previous old place.live place.leads.0 in
+        let r = led holds buckets seed width count A m previous old place.live place.leads.0 in
         (r.0, r.1.same)
 
-    with_old : (j : ℕ) → AreOfOneBucket buckets A previous j → AreOfOneBucket buckets A old j
+    with_old : (j : ℕ) → AreOfOneBucket buckets seed A previous j
+        → AreOfOneBucket buckets seed A old j
     with_old j one = record {
       first = old_led.0;
       second = one.second;
@@ -133,7 +136,8 @@ module _ (holds : List ℕ → Type 0) (buckets width count : ℕ) (A : List Nod
 
     -- behind the previous node comes the old one
     pub past_old : (j : ℕ)
-        → AreOfOneBucket buckets A previous j → but old j ≡ true → key_at A previous < key_at A j
+        → AreOfOneBucket buckets seed A previous j → but old j ≡ true → key_at A previous < key_at A
+            j
         → key_at A old < key_at A j
     past_old j one stays more =
         let t = m.next previous j one more in
@@ -148,14 +152,15 @@ module _ (holds : List ℕ → Type 0) (buckets width count : ℕ) (A : List Nod
         (sym (m.apart old j (with_old j one) (omega (arith, near, most))))))
         (cases_lt (key_at A old) (key_at A j))
 
-    pub replacement_gap : IsGap buckets A (but old) previous key (next_of A old)
+    pub replacement_gap : IsGap buckets seed A (but old) previous key (next_of A old)
     replacement_gap = record {
       live = place.live;
       less = place.less;
       onward = λ j one stays more.
           let is = place.leads.1 in
           let t = m.next old j (with_old j one) (omega (arith, is, more)) in
-          (t.to, t.leads, (led holds buckets width count A m old t.to old_led.0 t.leads).0, t.near);
+          (t.to, t.leads, (led holds buckets seed width count A m old t.to old_led.0 t.leads).0,
+          t.near);
       upward = λ j one stays more.
           let is = place.leads.1 in let past = past_old j one stays more in omega (arith, is, past);
     }
@@ -165,22 +170,22 @@ module _ (holds : List ℕ → Type 0) (buckets width count : ℕ) (A : List Nod
       key_same : (i : ℕ) → key_at S i ≡ key_at A i
       key_same i = ap key_in (p.same i)
 
-      as_before : (i j : ℕ) → AreOfOneBucket buckets S i j → AreOfOneBucket buckets A i j
+      as_before : (i j : ℕ) → AreOfOneBucket buckets seed S i j → AreOfOneBucket buckets seed A i j
       as_before i j one = record {
         first = sym (p.states i) ∙ one.first;
         second = sym (p.states j) ∙ one.second;
         same =
-            ap (λ (w : List ℕ). bucket_in buckets w) (sym (p.same i))
-            ∙ (one.same ∙ ap (λ (w : List ℕ). bucket_in buckets w) (p.same j));
+            ap (λ (w : List ℕ). bucket_in buckets seed w) (sym (p.same i))
+            ∙ (one.same ∙ ap (λ (w : List ℕ). bucket_in buckets seed w) (p.same j));
       }
 
       towards : (i j : ℕ)
-          → AreOfOneBucket buckets A i j → but old j ≡ true → key_at A i < key_at A j
+          → AreOfOneBucket buckets seed A i j → but old j ≡ true → key_at A i < key_at A j
           → LeadsTowards S i j
       towards i j one stays less = dite (ℕ_discrete i previous)
           (λ (is : i ≡ previous).
-          let from : AreOfOneBucket buckets A previous j =
-          subst (λ (n : ℕ). AreOfOneBucket buckets A n j) is one in
+          let from : AreOfOneBucket buckets seed A previous j =
+          subst (λ (n : ℕ). AreOfOneBucket buckets seed A n j) is one in
           let t = m.next old j (with_old j from)
           (past_old j from stays (subst (λ (n : ℕ). key_at A n < key_at A j) is less)) in
           let near = t.near in let a = key_same t.to in let b = key_same j in record {
@@ -196,7 +201,7 @@ module _ (holds : List ℕ → Type 0) (buckets width count : ℕ) (A : List Nod
             near = omega (arith, near, a, b);
           })
 
-      pub ordered_past : AreOrdered buckets width S (but old)
+      pub ordered_past : AreOrdered buckets seed width S (but old)
       ordered_past = record {
         roots = λ i low. p.same i ∙ m.roots i low;
         linked = λ i live. p.linked i ∙ m.linked i (sym (p.states i) ∙ live);
@@ -208,26 +213,26 @@ module _ (holds : List ℕ → Type 0) (buckets width count : ℕ) (A : List Nod
 
   -- a node is put in
   module _ (stays : ℕ → Bool) (S : List Node) (previous node word : ℕ) (words : List ℕ)
-      (gap : IsGap buckets A stays previous (key_in words) word)
+      (gap : IsGap buckets seed A stays previous (key_in words) word)
       (p : IsPut A S previous node words word) (free : state_at A node ≡ Free)
-      (same_bucket : bucket_at buckets A previous ≡ bucket_in buckets words) where
+      (same_bucket : bucket_at buckets seed A previous ≡ bucket_in buckets seed words) where
     key_here : key_at S node ≡ key_in words
     key_here = ap key_in p.is
 
     key_there : (i : ℕ) → i ≢ node → key_at S i ≡ key_at A i
     key_there i ne = ap key_in (p.same i ne)
 
-    bucket_here : bucket_at buckets A previous ≡ bucket_at buckets S node
-    bucket_here = same_bucket ∙ ap (λ (w : List ℕ). bucket_in buckets w) (sym p.is)
+    bucket_here : bucket_at buckets seed A previous ≡ bucket_at buckets seed S node
+    bucket_here = same_bucket ∙ ap (λ (w : List ℕ). bucket_in buckets seed w) (sym p.is)
 
-    bucket_there : (i : ℕ) → i ≢ node → bucket_at buckets S i ≡ bucket_at buckets A i
-    bucket_there i ne = ap (λ (w : List ℕ). bucket_in buckets w) (p.same i ne)
+    bucket_there : (i : ℕ) → i ≢ node → bucket_at buckets seed S i ≡ bucket_at buckets seed A i
+    bucket_there i ne = ap (λ (w : List ℕ). bucket_in buckets seed w) (p.same i ne)
 
     not_node : (i : ℕ) → state_at A i ≡ Live → i ≢ node
     not_node i live = not_free A node i free live
 
-    before : (i j : ℕ) → i ≢ node → j ≢ node → AreOfOneBucket buckets S i j
-        → AreOfOneBucket buckets A i j
+    before : (i j : ℕ) → i ≢ node → j ≢ node → AreOfOneBucket buckets seed S i j
+        → AreOfOneBucket buckets seed A i j
     before i j ni nj one = record {
       first = sym (p.states i ni) ∙ one.first;
       second = sym (p.states j nj) ∙ one.second;
@@ -236,8 +241,9 @@ module _ (holds : List ℕ → Type 0) (buckets width count : ℕ) (A : List Nod
 
     -- a node of the new one's bucket
     beside : (j : ℕ)
-        → j ≢ node → state_at S j ≡ Live → bucket_at buckets S node ≡ bucket_at buckets S j
-        → AreOfOneBucket buckets A previous j
+        → j ≢ node → state_at S j ≡ Live → bucket_at buckets seed S node ≡ bucket_at buckets seed S
+            j
+        → AreOfOneBucket buckets seed A previous j
     beside j nj live same = record {
       first = gap.live;
       second = sym (p.states j nj) ∙ live;
@@ -245,7 +251,7 @@ module _ (holds : List ℕ → Type 0) (buckets width count : ℕ) (A : List Nod
     }
 
     from_node : (j : ℕ)
-        → AreOfOneBucket buckets S node j → stays j ≡ true → key_at S node < key_at S j
+        → AreOfOneBucket buckets seed S node j → stays j ≡ true → key_at S node < key_at S j
         → LeadsTowards S node j
     from_node j one kept less = dite (ℕ_discrete j node)
         (λ (is : j ≡ node). absurd (let e : key_at S j ≡ key_at S node =
@@ -261,7 +267,7 @@ module _ (holds : List ℕ → Type 0) (buckets width count : ℕ) (A : List Nod
         })
 
     from_previous : (j : ℕ)
-        → AreOfOneBucket buckets S previous j → stays j ≡ true → key_at S previous < key_at S j
+        → AreOfOneBucket buckets seed S previous j → stays j ≡ true → key_at S previous < key_at S j
         → LeadsTowards S previous j
     from_previous j one kept less = record {
       to = node;
@@ -279,7 +285,7 @@ module _ (holds : List ℕ → Type 0) (buckets width count : ℕ) (A : List Nod
     -- a node of the bucket that is not the previous one, and has a lesser key, has it below the
     -- previous one
     below : (i : ℕ)
-        → AreOfOneBucket buckets A previous i
+        → AreOfOneBucket buckets seed A previous i
         → stays i ≡ true
         → i ≢ previous
         → key_at A i < key_in words
@@ -297,16 +303,16 @@ module _ (holds : List ℕ → Type 0) (buckets width count : ℕ) (A : List Nod
     from_other : (i j : ℕ)
         → i ≢ node
         → i ≢ previous
-        → AreOfOneBucket buckets S i j
+        → AreOfOneBucket buckets seed S i j
         → stays i ≡ true
         → key_at S i < key_at S j
         → LeadsTowards S i j
     from_other i j ni np one kept less = dite (ℕ_discrete j node)
         (λ (is : j ≡ node).
-        let here : AreOfOneBucket buckets S i node =
-        subst (λ (n : ℕ). AreOfOneBucket buckets S i n) is one in
+        let here : AreOfOneBucket buckets seed S i node =
+        subst (λ (n : ℕ). AreOfOneBucket buckets seed S i n) is one in
         let side = beside i ni one.first (sym here.same) in
-        let turned : AreOfOneBucket buckets A i previous = record {
+        let turned : AreOfOneBucket buckets seed A i previous = record {
           first = side.second;
           second = side.first;
           same = sym side.same;
@@ -315,7 +321,7 @@ module _ (holds : List ℕ → Type 0) (buckets width count : ℕ) (A : List Nod
         let a = key_here in let b = key_there i ni in
         let low = below i side kept np (omega (arith, less, e, a, b)) in
         let t = m.next i previous turned low in
-        let live = (led holds buckets width count A m i t.to side.second t.leads).0 in
+        let live = (led holds buckets seed width count A m i t.to side.second t.leads).0 in
         let d = key_there t.to (not_node t.to live) in
         let near = t.near in
         let up = gap.less in
@@ -328,7 +334,8 @@ module _ (holds : List ℕ → Type 0) (buckets width count : ℕ) (A : List Nod
         let a = key_there i ni in let b = key_there j nj in
         let t = m.next i j (before i j ni nj one) (omega (arith, less, a, b)) in
         let live =
-        (led holds buckets width count A m i t.to (sym (p.states i ni) ∙ one.first) t.leads).0 in
+        (led holds buckets seed width count A m i t.to (sym (p.states i ni) ∙ one.first) t.leads).0
+        in
         let d = key_there t.to (not_node t.to live) in let near = t.near in record {
           to = t.to;
           leads = p.leads i ni np ∙ t.leads;
@@ -336,7 +343,8 @@ module _ (holds : List ℕ → Type 0) (buckets width count : ℕ) (A : List Nod
         })
 
     -- no other node has the new one's key
-    alone : (j : ℕ) → AreOfOneBucket buckets S node j → stays j ≡ true → key_at S node ≡ key_at S j
+    alone : (j : ℕ) → AreOfOneBucket buckets seed S node j → stays j ≡ true
+        → key_at S node ≡ key_at S j
         → node ≡ j
     alone j one kept same = dite (ℕ_discrete j node) (λ (is : j ≡ node). sym is)
         (λ (ne : j ≢ node).
@@ -345,10 +353,10 @@ module _ (holds : List ℕ → Type 0) (buckets width count : ℕ) (A : List Nod
         gap.upward j (beside j ne one.second one.same) kept (omega (arith, same, a, b, low)) in
         absurd (omega (arith, up, same, a, b)))
 
-    turn : (i j : ℕ) → AreOfOneBucket buckets S i j → AreOfOneBucket buckets S j i
+    turn : (i j : ℕ) → AreOfOneBucket buckets seed S i j → AreOfOneBucket buckets seed S j i
     turn i j one = record { first = one.second; second = one.first; same = sym one.same }
 
-    pub ordered_with : AreOrdered buckets width S stays
+    pub ordered_with : AreOrdered buckets seed width S stays
     ordered_with = record {
       roots = λ i low. p.same i (not_node i (m.tended.rooted i low)) ∙ m.roots i low;
       linked = λ i live. dite (ℕ_discrete i node)
@@ -356,22 +364,22 @@ module _ (holds : List ℕ → Type 0) (buckets width count : ℕ) (A : List Nod
           (λ (ne : i ≢ node). p.linked i ne ∙ m.linked i (sym (p.states i ne) ∙ live));
       next = λ i j one ki kj less. dite (ℕ_discrete i node)
           (λ (is : i ≡ node). subst (λ (n : ℕ). LeadsTowards S n j) (sym is)
-          (from_node j (subst (λ (n : ℕ). AreOfOneBucket buckets S n j) is one) kj
+          (from_node j (subst (λ (n : ℕ). AreOfOneBucket buckets seed S n j) is one) kj
           (subst (λ (n : ℕ). key_at S n < key_at S j) is less)))
           (λ (ni : i ≢ node). dite (ℕ_discrete i previous)
           (λ (is : i ≡ previous).
           subst (λ (n : ℕ). LeadsTowards S n j) (sym is)
-          (from_previous j (subst (λ (n : ℕ). AreOfOneBucket buckets S n j) is one) kj
+          (from_previous j (subst (λ (n : ℕ). AreOfOneBucket buckets seed S n j) is one) kj
           (subst (λ (n : ℕ). key_at S n < key_at S j) is less)))
           (λ (np : i ≢ previous). from_other i j ni np one ki less));
       apart = λ i j one ki kj same. dite (ℕ_discrete i node)
           (λ (is : i ≡ node).
           is
-          ∙ alone j (subst (λ (n : ℕ). AreOfOneBucket buckets S n j) is one) kj
+          ∙ alone j (subst (λ (n : ℕ). AreOfOneBucket buckets seed S n j) is one) kj
           (subst (λ (n : ℕ). key_at S n ≡ key_at S j) is same))
           (λ (ni : i ≢ node). dite (ℕ_discrete j node)
           (λ (js : j ≡ node). sym (js
-          ∙ alone i (subst (λ (n : ℕ). AreOfOneBucket buckets S n i) js (turn i j one)) ki
+          ∙ alone i (subst (λ (n : ℕ). AreOfOneBucket buckets seed S n i) js (turn i j one)) ki
           (subst (λ (n : ℕ). key_at S n ≡ key_at S i) js (sym same))))
           (λ (nj : j ≢ node). let a = key_there i ni in let b = key_there j nj in
           m.apart i j (before i j ni nj one) (omega (arith, same, a, b))));

@@ -28,8 +28,8 @@ still_there buckets A B w i past live is = record {
   is = is;
 }
 
-module _ (holds : List ℕ → Type 0) (buckets width count : ℕ) (A : List Node)
-    (m : IsMap holds buckets width count A) where
+module _ (holds : List ℕ → Type 0) (buckets seed width count : ℕ) (A : List Node)
+    (m : IsMap holds buckets seed width count A) where
   pub node_behind : (node : ℕ) → state_at A node ≡ Free → buckets ≤ node
   node_behind node free = ⊎_elim
       (λ (low : node < buckets). absurd (not_free A node node free (m.tended.rooted node low) refl))
@@ -57,7 +57,7 @@ module _ (holds : List ℕ → Type 0) (buckets width count : ℕ) (A : List Nod
           p.led ∙ ap suc (sym is),
         ))
         (λ (ne : i ≢ node).
-        let r = reached holds buckets width count A m i (sym (p.states i ne) ∙ on) past in
+        let r = reached holds buckets seed width count A m i (sym (p.states i ne) ∙ on) past in
         let nj = not_free A node r.0 free r.1 in
         ⊎_elim (λ (here : word ≡ suc i). (node, p.live, new, p.onward ∙ here))
         (λ (q : (r.0 ≢ previous) × (stays r.0 ≡ true)). (
@@ -76,7 +76,7 @@ module _ (holds : List ℕ → Type 0) (buckets width count : ℕ) (A : List Nod
     held_past S p live keeps i on kept =
         ⊎_elim (λ (low : i < buckets). inl low)
         (λ (past : buckets ≤ i).
-        let r = reached holds buckets width count A m i (sym (p.states i) ∙ on) past in
+        let r = reached holds buckets seed width count A m i (sym (p.states i) ∙ on) past in
         inr (⊎_elim
         (λ (here : word ≡ suc i). (previous, p.states previous ∙ live, keeps, p.led ∙ here))
         (λ (q : (r.0 ≢ previous) × (stays r.0 ≡ true)). (

@@ -22,11 +22,11 @@ use Rattle.rcu_map.proofs.Held.{held_with, node_behind, still_there}
 use Rattle.rcu_map.proofs.Stored.{few_put, is_put}
 use Rattle.rcu_map.proofs.Trimmed.{AreHeld, map_after, same_state}
 
-module _ (holds : List ℕ → Type 0) (buckets width count : ℕ) (A : List Node)
-    (m : IsMap holds buckets width count A) where
+module _ (holds : List ℕ → Type 0) (buckets seed width count : ℕ) (A : List Node)
+    (m : IsMap holds buckets seed width count A) where
   -- an entry is put in
   module _ (previous node : ℕ) (words : List ℕ) (next : Option ℕ) (B : List Node)
-      (some : 0 < key_in words) (place : IsPlace buckets (key_in words) A previous None)
+      (some : 0 < key_in words) (place : IsPlace buckets seed (key_in words) A previous None)
       (to : word_to next ≡ next_of A previous) (inside : node < count)
       (free : state_at A node ≡ Free)
       (t : AreTrimmed buckets 1 (put A previous node words next) B) where
@@ -43,15 +43,15 @@ module _ (holds : List ℕ → Type 0) (buckets width count : ℕ) (A : List Nod
     p = is_put A previous (live_inside A previous place.live) (m.linked previous place.live) node
         words next low apart
 
-    gap : IsGap buckets A all previous (key_in words) (word_to next)
-    gap = subst (λ (w : ℕ). IsGap buckets A all previous (key_in words) w) (sym to)
-        (insertion_gap holds buckets width count A m (key_in words) previous place)
+    gap : IsGap buckets seed A all previous (key_in words) (word_to next)
+    gap = subst (λ (w : ℕ). IsGap buckets seed A all previous (key_in words) w) (sym to)
+        (insertion_gap holds buckets seed width count A m (key_in words) previous place)
 
-    bucket : bucket_at buckets A previous ≡ bucket_in buckets words
-    bucket = place.bucket ∙ sym (entry_bucket buckets (key_in words) words some refl)
+    bucket : bucket_at buckets seed A previous ≡ bucket_in buckets seed words
+    bucket = place.bucket ∙ sym (entry_bucket buckets seed (key_in words) words some refl)
 
     held : AreHeld buckets S all
-    held = held_with holds buckets width count A m all previous (word_to next)
+    held = held_with holds buckets seed width count A m all previous (word_to next)
         (λ i j on leads kept. dite (ℕ_discrete j previous)
         (λ (is : j ≡ previous). inl (to ∙ (ap (λ (n : ℕ). next_of A n) (sym is) ∙ leads)))
         (λ (ne : j ≢ previous). inr (ne, refl)))
@@ -70,10 +70,11 @@ module _ (holds : List ℕ → Type 0) (buckets width count : ℕ) (A : List Nod
     state_there i ne = states i ∙ p.states i ne
 
     pub inserted_map : length B ≡ count
-        → AreTended (IsWhole holds width) (λ _ from to. GoesUp buckets from to) buckets 1 B
-        → IsMap holds buckets width count B
-    inserted_map few tended = map_after buckets S B t all holds width count
-        (ordered_with holds buckets width count A m all S previous node (word_to next) words gap p
+        → AreTended (IsWhole holds width) (λ _ from to. GoesUp buckets seed from to) buckets 1 B
+        → IsMap holds buckets seed width count B
+    inserted_map few tended = map_after buckets S B t all holds seed width count
+        (ordered_with holds buckets seed width count A m all S previous node (word_to next) words
+        gap p
         free bucket)
         (λ i live. refl) few tended
 
@@ -83,7 +84,7 @@ module _ (holds : List ℕ → Type 0) (buckets width count : ℕ) (A : List Nod
         (t.few
         ∙ few_put A previous (live_inside A previous place.live) (m.linked previous place.live) node
         words next low apart)
-        (node_behind holds buckets width count A m node free) low (ap is_live free)
+        (node_behind holds buckets seed width count A m node free) low (ap is_live free)
         (ap is_live (states node ∙ p.live)) (λ j ne. ap is_live (state_there j ne))
 
     pub inserted : IsInserted buckets A words B
@@ -101,7 +102,7 @@ module _ (holds : List ℕ → Type 0) (buckets width count : ℕ) (A : List Nod
             still_there buckets A B w h.node h.entry.behind (state_there h.node ne ∙ h.entry.live)
             (words_there h.node ne ∙ h.is))
             (λ (is : w ≡ words). still_there buckets A B w node
-            (node_behind holds buckets width count A m node free) (states node ∙ p.live)
+            (node_behind holds buckets seed width count A m node free) (states node ∙ p.live)
             (words_here ∙ sym is))
             s),
       );

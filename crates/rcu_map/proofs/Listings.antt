@@ -14,13 +14,13 @@ use Rattle.rcu_map.specs.Keys.{bucket_of}
 use Rattle.rcu_map.specs.Listing.{GoOn, GoesOn, IsListed, at_root, led_from}
 use Rattle.rcu_map.specs.declared.cursor.Cursor.{Cursor}
 
-pub go_on_further : (buckets : ℕ) (start mid at : Cursor) (before after : List Hop)
-    → GoOn buckets start before mid → GoOn buckets mid after at
-    → GoOn buckets start (after ++ before) at
-go_on_further buckets start mid at before [] first none =
-    subst (GoOn buckets start before) (sym none) first
-go_on_further buckets start mid at before (hop ∷ after) first more =
-    (more.0, go_on_further buckets start mid more.0 before after first more.1, more.2, more.3)
+pub go_on_further : (buckets seed : ℕ) (start mid at : Cursor) (before after : List Hop)
+    → GoOn buckets seed start before mid → GoOn buckets seed mid after at
+    → GoOn buckets seed start (after ++ before) at
+go_on_further buckets seed start mid at before [] first none =
+    subst (GoOn buckets seed start before) (sym none) first
+go_on_further buckets seed start mid at before (hop ∷ after) first more =
+    (more.0, go_on_further buckets seed start mid more.0 before after first more.1, more.2, more.3)
 
 -- hops that were made by a moment, less the latest ones, and less the first ones
 made_before : (nodes : ℕ → List Node) (newer hops : List Hop) (t last : ℕ)
@@ -93,8 +93,8 @@ module _ (root key : ℕ) where
   }
 
   -- a hop that led nowhere, and one that led to a node
-  module _ (buckets : ℕ) (hop : Hop) (hops : List Hop) (last : Cursor)
-      (goes : GoesOn buckets last hop) where
+  module _ (buckets seed : ℕ) (hop : Hop) (hops : List Hop) (last : Cursor)
+      (goes : GoesOn buckets seed last hop) where
     nowhere : 0 < key → hop.to ≡ 0 → Progress hops last
         → Progress (hop ∷ hops) (at_root (last.bucket + 1))
     nowhere keyed none (before low) = dite (ℕ_discrete (last.bucket + 1) root)
@@ -166,9 +166,9 @@ module _ (root key : ℕ) where
     steps zero led keyed p = nowhere keyed led p
     steps (suc node) led keyed p = to_node node led p
 
-  progress : (buckets : ℕ) (hops : List Hop) (at : Cursor)
-      → 0 < key → GoOn buckets (at_root 0) hops at → Progress hops at
-  progress buckets [] at keyed none = subst (Progress []) (sym none) (dite (ℕ_discrete 0 root)
+  progress : (buckets seed : ℕ) (hops : List Hop) (at : Cursor)
+      → 0 < key → GoOn buckets seed (at_root 0) hops at → Progress hops at
+  progress buckets seed [] at keyed none = subst (Progress []) (sym none) (dite (ℕ_discrete 0 root)
       (λ (e : 0 ≡ root). on_way (record {
         here = e;
         low = keyed;
@@ -178,9 +178,10 @@ module _ (root key : ℕ) where
         is_path = e;
       }))
       (λ (ne : 0 ≡ root → ⊥). before (omega (arith, ne))))
-  progress buckets (hop ∷ hops) at keyed g =
+  progress buckets seed (hop ∷ hops) at keyed g =
       subst (Progress (hop ∷ hops)) (sym g.3)
-      (steps buckets hop hops g.0 g.2 hop.to refl keyed (progress buckets hops g.0 keyed g.1))
+      (steps buckets seed hop hops g.0 g.2 hop.to refl keyed
+      (progress buckets seed hops g.0 keyed g.1))
 
 nothing : IsSome {T = ℕ} None → ⊥
 nothing e = cc
@@ -192,21 +193,22 @@ module _
     → ((t : ℕ) → t ≤ last → IsLinkedKey root key (nodes t))
     → AreMadeBy nodes last (search.last ∷ search.path)
     → IsSome found) where
-  pub are_listed : (ours : List ℕ → Bool) (opened buckets key last : ℕ) (nodes : ℕ → List Node)
+  pub are_listed : (ours : List ℕ → Bool) (opened buckets seed key last : ℕ) (nodes : ℕ → List Node)
       (hops : List Hop) (at : Cursor)
-      → bucket_of buckets key < buckets
+      → bucket_of buckets seed key < buckets
       → 0 < key
-      → GoOn buckets (at_root 0) hops at
+      → GoOn buckets seed (at_root 0) hops at
       → at.bucket ≡ buckets
-      → IsHistory ours opened (bucket_of buckets key) last nodes
-      → ((t : ℕ) → t ≤ last → IsLinkedKey (bucket_of buckets key) key (nodes t))
+      → IsHistory ours opened (bucket_of buckets seed key) last nodes
+      → ((t : ℕ) → t ≤ last → IsLinkedKey (bucket_of buckets seed key) key (nodes t))
       → AreMadeBy nodes last hops
       → IsListed key hops
-  are_listed ours opened buckets key last nodes hops at low keyed goes ended history linked made =
-      by (progress (bucket_of buckets key) key buckets hops at keyed goes)
+  are_listed ours opened buckets seed key last nodes hops at low keyed goes ended history linked
+    made =
+      by (progress (bucket_of buckets seed key) key buckets seed hops at keyed goes)
     where
       root : ℕ
-      root = bucket_of buckets key
+      root = bucket_of buckets seed key
 
       by : Progress root key hops at → IsListed key hops
       by (before early) = absurd (omega (arith, early, ended, low))

@@ -111,8 +111,8 @@ why_full buckets seat now before (Fault fault) after end = (
 pub same_err : {T E : Type 0} (x y : E) → ◌≡◌ {A = Result T E} (Err x) (Err y) → x ≡ y
 same_err x y e = cc
 
-module _ (holds : List ℕ → Type 0) (buckets width count : ℕ) (A : List Node)
-    (m : IsMap holds buckets width count A) (some : 0 < buckets) where
+module _ (holds : List ℕ → Type 0) (buckets seed width count : ℕ) (A : List Node)
+    (m : IsMap holds buckets seed width count A) (some : 0 < buckets) where
   roots_fit : buckets ≤ length A
   roots_fit =
       let root =

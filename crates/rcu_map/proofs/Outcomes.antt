@@ -10,7 +10,7 @@ use Rattle.rcu_graph.specs.Nodes.{nodes_in}
 use Rattle.rcu_graph.specs.declared.keeper.Full.{Full}
 use Rattle.rcu_graph.specs.declared.known.Planned.{Planned}
 use Rattle.rcu_graph.specs.declared.plan.Plan.{Plan}
-use Rattle.rcu_map.specs.Chains.{IsMap, buckets_in}
+use Rattle.rcu_map.specs.Chains.{IsMap, buckets_in, seed_in}
 use Rattle.rcu_map.specs.Entries.{entries_in}
 use Rattle.rcu_map.specs.Keys.{GoesUp, IsWhole, key_in}
 use Rattle.rcu_map.specs.Puts.{HasChanged, IsPutIn}
@@ -19,13 +19,18 @@ use Rattle.rcu_map.proofs.Replacements.{replaced, replaced_count, replaced_map}
 
 -- an entry was put in the place of another one, or no node was free
 module _ (holds : List ℕ → Type 0) (graph : Object Plan) (before now : Watching Planned)
-    (m : IsMap holds before.view.client.plan.roots before.view.client.plan.words
+    (m : IsMap holds before.view.client.plan.roots before.view.client.plan.seed
+    before.view.client.plan.words
     before.view.client.plan.nodes (nodes_in before.view.client.known)) (previous old : ℕ)
     (words : List ℕ) (next : Option ℕ) (some : 0 < key_in words)
-    (place : IsPlace (buckets_in before) (key_in words) (nodes_in before.view.client.known) previous
+    (place : IsPlace (buckets_in before) (seed_in before) (key_in words)
+    (nodes_in before.view.client.known) previous
     (Some old)) (to : word_to next ≡ next_of (nodes_in before.view.client.known) old) where
   abbrev buckets : ℕ
   buckets = before.view.client.plan.roots
+
+  abbrev seed : ℕ
+  seed = before.view.client.plan.seed
 
   abbrev width : ℕ
   width = before.view.client.plan.words
@@ -35,7 +40,7 @@ module _ (holds : List ℕ → Type 0) (graph : Object Plan) (before now : Watch
 
   abbrev Ends : Result (Unit {0}) Full → Type 0
   Ends result = MatchResult result
-      (λ _. HasPut (IsWhole holds width) (λ _ from to. GoesUp buckets from to) graph before now
+      (λ _. HasPut (IsWhole holds width) (λ _ from to. GoesUp buckets seed from to) graph before now
       previous words next)
       (λ _. IsFull before now)
 
@@ -45,19 +50,20 @@ module _ (holds : List ℕ → Type 0) (graph : Object Plan) (before now : Watch
   over_plan (Err _) full = ap (λ (w : Watching Planned). w.view.client.plan) full.unchanged
 
   pub over_map : (result : Result (Unit {0}) Full) → Ends result
-      → IsMap holds buckets width count (nodes_in now.view.client.known)
-  over_map (Ok _) done = replaced_map holds buckets width count (nodes_in before.view.client.known)
-      m previous done.node old words next (nodes_in now.view.client.known) some place to done.inside
-      done.free done.trimmed done.kept.few done.kept.tended
+      → IsMap holds buckets seed width count (nodes_in now.view.client.known)
+  over_map (Ok _) done = replaced_map holds buckets seed width count
+      (nodes_in before.view.client.known) m previous done.node old words next
+      (nodes_in now.view.client.known) some place to done.inside done.free done.trimmed
+      done.kept.few done.kept.tended
   over_map (Err _) full =
-      subst (λ (w : Watching Planned). IsMap holds buckets width count
+      subst (λ (w : Watching Planned). IsMap holds buckets seed width count
       (nodes_in w.view.client.known))
       (sym full.unchanged) m
 
   pub over_count : (result : Result (Unit {0}) Full) → Ends result
       → entries_in buckets (nodes_in now.view.client.known)
       ≡ entries_in buckets (nodes_in before.view.client.known)
-  over_count (Ok _) done = replaced_count holds buckets width count
+  over_count (Ok _) done = replaced_count holds buckets seed width count
       (nodes_in before.view.client.known) m
       previous done.node old words next (nodes_in now.view.client.known) some place to done.inside
       done.free done.trimmed
@@ -70,7 +76,7 @@ module _ (holds : List ℕ → Type 0) (graph : Object Plan) (before now : Watch
       (λ _. IsFull before now)
   over_put (Ok _) done = record {
     state = done.state;
-    nodes = replaced holds buckets width count (nodes_in before.view.client.known) m previous
+    nodes = replaced holds buckets seed width count (nodes_in before.view.client.known) m previous
         done.node
         old words next (nodes_in now.view.client.known) some place to done.inside done.free
         done.trimmed;

@@ -21,13 +21,13 @@ use Rattle.rcu_map.proofs.Held.{held_past, left_or_live, still_there}
 use Rattle.rcu_map.proofs.Stored.{is_passed}
 use Rattle.rcu_map.proofs.Trimmed.{AreHeld, is_left, map_after, same_state}
 
-module _ (holds : List ℕ → Type 0) (buckets width count : ℕ) (A : List Node)
-    (m : IsMap holds buckets width count A) where
+module _ (holds : List ℕ → Type 0) (buckets seed width count : ℕ) (A : List Node)
+    (m : IsMap holds buckets seed width count A) where
   -- of an old entry, which is passed
   module _ (key previous old : ℕ) (some : 0 < key)
-      (place : IsPlace buckets key A previous (Some old)) where
+      (place : IsPlace buckets seed key A previous (Some old)) where
     pub had : IsNodeOf buckets A key old
-    had = there holds buckets width count A m key previous some old place
+    had = there holds buckets seed width count A m key previous some old place
 
     pub previous_stays : but old previous ≡ true
     previous_stays = other_but old previous (λ is.
@@ -38,7 +38,7 @@ module _ (holds : List ℕ → Type 0) (buckets width count : ℕ) (A : List Nod
     -- the old node does not lead to itself
     pub no_ring : next_of A old ≡ suc old → ⊥
     no_ring leads =
-        let up = (led holds buckets width count A m old old had.entry.live leads).1.up in
+        let up = (led holds buckets seed width count A m old old had.entry.live leads).1.up in
         omega (arith, up)
 
     -- who led to a node that stays is led to it still
@@ -61,7 +61,8 @@ module _ (holds : List ℕ → Type 0) (buckets width count : ℕ) (A : List Nod
     -- an entry of another node has another key
     pub other_key : (w : List ℕ) (i : ℕ)
         → buckets ≤ i → state_at A i ≡ Live → (node_at A i).words ≡ w → i ≢ old → key_in w ≢ key
-    other_key w i past live is ne e = ne (one_entry holds buckets width count A m key i old some
+    other_key w i past live is ne e = ne
+        (one_entry holds buckets seed width count A m key i old some
         (record { entry = record { behind = past; live = live }; is = ap key_in is ∙ e }) had)
 
     pub not_old : (w : List ℕ) (i : ℕ) → (node_at A i).words ≡ w → key_in w ≢ key → i ≢ old
@@ -78,7 +79,7 @@ module _ (holds : List ℕ → Type 0) (buckets width count : ℕ) (A : List Nod
           next
 
       held : AreHeld buckets S (but old)
-      held = held_past holds buckets width count A m (but old) previous (word_to next)
+      held = held_past holds buckets seed width count A m (but old) previous (word_to next)
           (passes (word_to next) to) S p place.live previous_stays
 
       pub out : state_at B old ≡ Left
@@ -86,7 +87,7 @@ module _ (holds : List ℕ → Type 0) (buckets width count : ℕ) (A : List Nod
           (λ j on leads. dite (ℕ_discrete j previous)
           (λ (is : j ≡ previous).
           no_ring (sym to ∙ (sym p.led ∙ (ap (λ (n : ℕ). next_of S n) (sym is) ∙ leads))))
-          (λ (ne : j ≢ previous). ne (one_way holds buckets width count A m j previous old
+          (λ (ne : j ≢ previous). ne (one_way holds buckets seed width count A m j previous old
           (sym (p.states j) ∙ on) place.live (sym (p.leads j ne) ∙ leads) place.leads.0)))
 
       kept : (i : ℕ) → state_at B i ≡ Live → but old i ≡ true
@@ -100,10 +101,10 @@ module _ (holds : List ℕ → Type 0) (buckets width count : ℕ) (A : List Nod
       state_there i ne = same_state buckets S B t (but old) held i (other_but old i ne) ∙ p.states i
 
       pub removed_map : length B ≡ count
-          → AreTended (IsWhole holds width) (λ _ from to. GoesUp buckets from to) buckets 1 B
-          → IsMap holds buckets width count B
-      removed_map few tended = map_after buckets S B t (but old) holds width count
-          (ordered_past holds buckets width count A m key previous old place S
+          → AreTended (IsWhole holds width) (λ _ from to. GoesUp buckets seed from to) buckets 1 B
+          → IsMap holds buckets seed width count B
+      removed_map few tended = map_after buckets S B t (but old) holds seed width count
+          (ordered_past holds buckets seed width count A m key previous old place S
           (subst (λ (w : ℕ). IsPassed A S previous w) to p)) kept few tended
 
       pub removed_count : length B ≡ count → entries_in buckets A ≡ entries_in buckets B + 1

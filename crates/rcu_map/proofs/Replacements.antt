@@ -24,11 +24,11 @@ use Rattle.rcu_map.proofs.Removals.{had, no_ring, not_old, other_key, passes, pr
 use Rattle.rcu_map.proofs.Stored.{few_put, is_put}
 use Rattle.rcu_map.proofs.Trimmed.{AreHeld, is_left, map_after, same_state}
 
-module _ (holds : List ℕ → Type 0) (buckets width count : ℕ) (A : List Node)
-    (m : IsMap holds buckets width count A) where
+module _ (holds : List ℕ → Type 0) (buckets seed width count : ℕ) (A : List Node)
+    (m : IsMap holds buckets seed width count A) where
   -- an entry is put in the place of an old one
   module _ (previous node old : ℕ) (words : List ℕ) (next : Option ℕ) (B : List Node)
-      (some : 0 < key_in words) (place : IsPlace buckets (key_in words) A previous (Some old))
+      (some : 0 < key_in words) (place : IsPlace buckets seed (key_in words) A previous (Some old))
       (to : word_to next ≡ next_of A old) (inside : node < count) (free : state_at A node ≡ Free)
       (t : AreTrimmed buckets 1 (put A previous node words next) B) where
     abbrev S : List Node
@@ -45,7 +45,7 @@ module _ (holds : List ℕ → Type 0) (buckets width count : ℕ) (A : List Nod
         words next low apart
 
     old_is : IsNodeOf buckets A (key_in words) old
-    old_is = had holds buckets width count A m (key_in words) previous old some place
+    old_is = had holds buckets seed width count A m (key_in words) previous old some place
 
     old_is_not : old ≢ node
     old_is_not = not_free A node old free old_is.entry.live
@@ -53,33 +53,35 @@ module _ (holds : List ℕ → Type 0) (buckets width count : ℕ) (A : List Nod
     new_stays : but old node ≡ true
     new_stays = other_but old node (λ is. old_is_not (sym is))
 
-    gap : IsGap buckets A (but old) previous (key_in words) (word_to next)
-    gap = subst (λ (w : ℕ). IsGap buckets A (but old) previous (key_in words) w) (sym to)
-        (replacement_gap holds buckets width count A m (key_in words) previous old place)
+    gap : IsGap buckets seed A (but old) previous (key_in words) (word_to next)
+    gap = subst (λ (w : ℕ). IsGap buckets seed A (but old) previous (key_in words) w) (sym to)
+        (replacement_gap holds buckets seed width count A m (key_in words) previous old place)
 
-    bucket : bucket_at buckets A previous ≡ bucket_in buckets words
-    bucket = place.bucket ∙ sym (entry_bucket buckets (key_in words) words some refl)
+    bucket : bucket_at buckets seed A previous ≡ bucket_in buckets seed words
+    bucket = place.bucket ∙ sym (entry_bucket buckets seed (key_in words) words some refl)
 
     held : AreHeld buckets S (but old)
-    held = held_with holds buckets width count A m (but old) previous (word_to next)
-        (passes holds buckets width count A m (key_in words) previous old some place (word_to next)
+    held = held_with holds buckets seed width count A m (but old) previous (word_to next)
+        (passes holds buckets seed width count A m (key_in words) previous old some place
+        (word_to next)
         to)
         S node words p free place.live
-        (previous_stays holds buckets width count A m (key_in words) previous old some place)
+        (previous_stays holds buckets seed width count A m (key_in words) previous old some place)
         new_stays
 
     pub passed_out : state_at B old ≡ Left
     passed_out = is_left buckets S B t old (p.states old old_is_not ∙ old_is.entry.live)
         old_is.entry.behind
         (λ j on leads. dite (ℕ_discrete j node)
-        (λ (is : j ≡ node). no_ring holds buckets width count A m (key_in words) previous old some
+        (λ (is : j ≡ node). no_ring holds buckets seed width count A m (key_in words) previous old
+        some
         place (sym to ∙ (sym p.onward ∙ (ap (λ (n : ℕ). next_of S n) (sym is) ∙ leads))))
         (λ (nj : j ≢ node). dite (ℕ_discrete j previous)
         (λ (is : j ≡ previous).
         let e : next_of S j ≡ next_of S previous = ap (λ (n : ℕ). next_of S n) is in
         let here = p.led in
         old_is_not (omega (arith, e, here, leads)))
-        (λ (np : j ≢ previous). np (one_way holds buckets width count A m j previous old
+        (λ (np : j ≢ previous). np (one_way holds buckets seed width count A m j previous old
         (sym (p.states j nj) ∙ on) place.live (sym (p.leads j nj np) ∙ leads) place.leads.0))))
 
     kept : (i : ℕ) → state_at B i ≡ Live → but old i ≡ true
@@ -102,10 +104,11 @@ module _ (holds : List ℕ → Type 0) (buckets width count : ℕ) (A : List Nod
     state_there i ne apart_old = states i apart_old ∙ p.states i ne
 
     pub replaced_map : length B ≡ count
-        → AreTended (IsWhole holds width) (λ _ from to. GoesUp buckets from to) buckets 1 B
-        → IsMap holds buckets width count B
-    replaced_map few tended = map_after buckets S B t (but old) holds width count
-        (ordered_with holds buckets width count A m (but old) S previous node (word_to next) words
+        → AreTended (IsWhole holds width) (λ _ from to. GoesUp buckets seed from to) buckets 1 B
+        → IsMap holds buckets seed width count B
+    replaced_map few tended = map_after buckets S B t (but old) holds seed width count
+        (ordered_with holds buckets seed width count A m (but old) S previous node (word_to next)
+        words
         gap p free bucket)
         kept few tended
 
@@ -114,7 +117,7 @@ module _ (holds : List ℕ → Type 0) (buckets width count : ℕ) (A : List Nod
         let many = few_put A previous (live_inside A previous place.live)
         (m.linked previous place.live) node words next low apart in
         let more = one_entry_more buckets A S node many
-        (node_behind holds buckets width count A m node free) low (ap is_live free)
+        (node_behind holds buckets seed width count A m node free) low (ap is_live free)
         (ap is_live p.live) (λ j ne. ap is_live (p.states j ne)) in
         let less = one_entry_more buckets B S old (sym t.few) old_is.entry.behind
         (let bound = live_inside A old old_is.entry.live in
@@ -136,19 +139,21 @@ module _ (holds : List ℕ → Type 0) (buckets width count : ℕ) (A : List Nod
             let is = sym (words_there h.node ne) ∙ h.is in
             inl (
               still_there buckets B A w h.node h.entry.behind live is,
-              other_key holds buckets width count A m (key_in words) previous old some place w
+              other_key holds buckets seed width count A m (key_in words) previous old some place w
                   h.node h.entry.behind live is other,
             ))),
         (λ s.
             ⊎_elim
             (λ (q : HasEntry buckets A w × (key_in w ≢ key_in words)).
             let ne = not_free A node q.0.node free q.0.entry.live in
-            let other = not_old holds buckets width count A m (key_in words) previous old some place
+            let other = not_old holds buckets seed width count A m (key_in words) previous old some
+            place
             w q.0.node q.0.is q.1 in
             still_there buckets A B w q.0.node q.0.entry.behind
             (state_there q.0.node ne other ∙ q.0.entry.live) (words_there q.0.node ne ∙ q.0.is))
             (λ (is : w ≡ words). still_there buckets A B w node
-            (node_behind holds buckets width count A m node free) live_here (words_here ∙ sym is))
+            (node_behind holds buckets seed width count A m node free) live_here
+            (words_here ∙ sym is))
             s),
       );
       node = node;

@@ -29,24 +29,25 @@ use Rattle.rcu_map.specs.declared.cursor.Cursor.{Cursor}
 use Rattle.rcu_map.proofs.Rows.{root_key, zeros}
 
 -- of the words of a node: of a root, and of one that has a key
-bucket_at_root : (buckets bucket width : ℕ) → 2 ≤ width
-    → bucket_in buckets (root_words width bucket) ≡ bucket
-bucket_at_root buckets bucket width keyed =
+bucket_at_root : (buckets seed bucket width : ℕ) → 2 ≤ width
+    → bucket_in buckets seed (root_words width bucket) ≡ bucket
+bucket_at_root buckets seed bucket width keyed =
     let many = zeros width in
     let none : (key_in (root_words width bucket) == 0) ≡ true =
     let k = root_key width bucket in grind (arith, nat_tests) in
     ap (λ (b : Bool).
     if b
     then slice_index (root_words width bucket) 1
-    else bucket_of buckets (key_in (root_words width bucket)))
+    else bucket_of buckets seed (key_in (root_words width bucket)))
     none
     ∙ get_or-set_same (replicate width 0) 1 bucket 0 (omega (arith, many, keyed))
 
-bucket_keyed : (buckets : ℕ) (words : List ℕ) → 0 < key_in words
-    → bucket_in buckets words ≡ bucket_of buckets (key_in words)
-bucket_keyed buckets words keyed =
+bucket_keyed : (buckets seed : ℕ) (words : List ℕ) → 0 < key_in words
+    → bucket_in buckets seed words ≡ bucket_of buckets seed (key_in words)
+bucket_keyed buckets seed words keyed =
     let not_none : (key_in words == 0) ≡ false = grind (arith, nat_tests) in
-    ap (λ (b : Bool). if b then slice_index words 1 else bucket_of buckets (key_in words)) not_none
+    ap (λ (b : Bool). if b then slice_index words 1 else bucket_of buckets seed (key_in words))
+    not_none
 
 -- the node to which the latest hop led is held, with its words
 latest_held : (known : Known) (node : ℕ) → latest_to (hops_in known) ≡ suc node
@@ -64,22 +65,23 @@ latest_held known node led = by (hops_in known) refl led
         × (h.words ≡ latest_words hops))
         (sym are) (0, hop, refl, led, refl)
 
-module _ (count buckets width : ℕ) (known : Known) (at : Cursor) where
+module _ (count buckets seed width : ℕ) (known : Known) (at : Cursor) where
   -- the words of the cursor's node
   pub record IsOnWords : Type 0 where
     pub words : List ℕ
     pub on : IsOn (root_words width) buckets known at.node words
     pub key : key_in words ≡ at.key
-    pub bucket : bucket_in buckets words ≡ at.bucket
+    pub bucket : bucket_in buckets seed words ≡ at.bucket
 
-  pub on_words : 2 ≤ width → at.bucket < buckets → IsOnCursor count buckets known at → IsOnWords
+  pub on_words : 2 ≤ width → at.bucket < buckets → IsOnCursor count buckets seed known at →
+      IsOnWords
   on_words keyed inside c = dite (ℕ_discrete at.key 0)
       (λ (none : at.key ≡ 0).
       let root : at.node ≡ at.bucket = c.root none in record {
         words = root_words width at.node;
         on = inl (omega (arith, root, inside), refl);
         key = root_key width at.node ∙ sym none;
-        bucket = bucket_at_root buckets at.node width keyed ∙ root;
+        bucket = bucket_at_root buckets seed at.node width keyed ∙ root;
       })
       (λ (ne : at.key ≡ 0 → ⊥).
       let up : 0 < at.key = omega (arith, ne) in
@@ -89,13 +91,14 @@ module _ (count buckets width : ℕ) (known : Known) (at : Cursor) where
         on = inr (latest_held known at.node (c.led up));
         key = is;
         bucket =
-            bucket_keyed buckets (latest_words (hops_in known)) (omega (arith, is, up))
-            ∙ (ap (bucket_of buckets) is ∙ c.same up);
+            bucket_keyed buckets seed (latest_words (hops_in known)) (omega (arith, is, up))
+            ∙ (ap (bucket_of buckets seed) is ∙ c.same up);
       })
 
 module _ (holds : List ℕ → Type 0) (map : Object Plan) (old new : Seated Planned)
     (start : Cursor) (inside : start.bucket < map.plan.roots)
-    (o : IsOnWords map.plan.nodes map.plan.roots map.plan.words old.view.client.known start)
+    (o : IsOnWords map.plan.nodes map.plan.roots map.plan.seed map.plan.words old.view.client.known
+    start)
     (same : new ≡ after_word_step old new.view.client) (walking : IsWalking map new) where
   abbrev count : ℕ
   count = map.plan.nodes
@@ -106,9 +109,13 @@ module _ (holds : List ℕ → Type 0) (map : Object Plan) (old new : Seated Pla
   abbrev width : ℕ
   width = map.plan.words
 
+  abbrev seed : ℕ
+  seed = map.plan.seed
+
   -- the link led nowhere
   pub stepped_over : buckets ≤ count
-      → Followed (IsWhole holds width) (GoesUp buckets o.words) width count old.view.client.known
+      → Followed (IsWhole holds width) (GoesUp buckets seed o.words) width count
+      old.view.client.known
       start.node 0 0 new.view.client.known
       → HasStepped holds map old start new (at_root (start.bucket + 1))
   stepped_over few f = record {
@@ -140,7 +147,7 @@ module _ (holds : List ℕ → Type 0) (map : Object Plan) (old new : Seated Pla
 
   -- it led to a node
   pub stepped_on : (node key : ℕ)
-      → (f : Followed (IsWhole holds width) (GoesUp buckets o.words) width count
+      → (f : Followed (IsWhole holds width) (GoesUp buckets seed o.words) width count
       old.view.client.known
       start.node 0 (suc node) new.view.client.known)
       → ((words : List ℕ) → IsOn (root_words width) buckets new.view.client.known node words → key
@@ -149,17 +156,17 @@ module _ (holds : List ℕ → Type 0) (map : Object Plan) (old new : Seated Pla
       → HasStepped holds map old start new
       (record { bucket = start.bucket; node = node; key = key })
   stepped_on node key f is small =
-      let c = came_to (IsWhole holds width) (GoesUp buckets o.words) width count
+      let c = came_to (IsWhole holds width) (GoesUp buckets seed o.words) width count
       old.view.client.known
       start.node 0 node new.view.client.known f in
-      let held = came_holds (IsWhole holds width) (GoesUp buckets o.words) width count
+      let held = came_holds (IsWhole holds width) (GoesUp buckets seed o.words) width count
       old.view.client.known start.node 0 node new.view.client.known f in
       let told : key ≡ key_in f.words = is f.words (inr held) in
       let here = o.key in
       let up : start.key < key_in f.words = let u = c.joined.up in omega (arith, u, here) in
       let keyed : 0 < key_in f.words = omega (arith, up) in
-      let stays : bucket_of buckets (key_in f.words) ≡ start.bucket =
-      sym (bucket_keyed buckets f.words keyed) ∙ (sym c.joined.same ∙ o.bucket) in record {
+      let stays : bucket_of buckets seed (key_in f.words) ≡ start.bucket =
+      sym (bucket_keyed buckets seed f.words keyed) ∙ (sym c.joined.same ∙ o.bucket) in record {
         same = same;
         hop = record { from = start.node; link = 0; to = suc node; words = f.words };
         are = ap hops_in f.is;
@@ -180,7 +187,7 @@ module _ (holds : List ℕ → Type 0) (map : Object Plan) (old new : Seated Pla
             root = λ none. absurd (omega (arith, none, told, keyed));
             led = λ more. ap (λ (k : Known). latest_to (hops_in k)) f.is;
             key = λ more. ap (λ (k : Known). key_in (latest_words (hops_in k))) f.is ∙ sym told;
-            same = λ more. ap (bucket_of buckets) told ∙ stays;
+            same = λ more. ap (bucket_of buckets seed) told ∙ stays;
           };
         };
         whole = λ more. c.whole;
@@ -252,20 +259,22 @@ module _ (holds : List ℕ → Type 0) (map : Object Plan) (old new : Seated Pla
       }
 
 -- a section that goes over chains, and came to no entry yet
-pub record IsPassing (buckets : ℕ) (was : Known) (start : Cursor) (now : Known)
+pub record IsPassing (buckets seed : ℕ) (was : Known) (start : Cursor) (now : Known)
     (at : Cursor) : Type 0 where
   pub over : List Hop
   pub are : hops_in now ≡ over ++ hops_in was
   pub nowhere : LedNowhere over
-  pub goes : GoOn buckets start over at
+  pub goes : GoOn buckets seed start over at
 
-pub begins : (n : ℕ) (was : Known) (start : Cursor) → IsPassing n was start was start
-begins n was start = record { over = []; are = refl; nowhere = tt; goes = refl }
+pub begins : (n m : ℕ) (was : Known) (start : Cursor) → IsPassing n m was start was start
+begins n m was start = record { over = []; are = refl; nowhere = tt; goes = refl }
 
 module _ (holds : List ℕ → Type 0) (map : Object Plan) (old new : Seated Planned)
     (mid at : Cursor) (s : HasStepped holds map old mid new at) (was : Known)
-    (start : Cursor) (p : IsPassing map.plan.roots was start old.view.client.known mid) where
-  pub passes_on : at.key ≡ 0 → IsPassing map.plan.roots was start new.view.client.known at
+    (start : Cursor) (p : IsPassing map.plan.roots map.plan.seed was start old.view.client.known
+    mid) where
+  pub passes_on : at.key ≡ 0 → IsPassing map.plan.roots map.plan.seed was start
+      new.view.client.known at
   passes_on none = record {
     over = s.hop ∷ p.over;
     are = s.are ∙ ap (λ (hops : List Hop). s.hop ∷ hops) p.are;
@@ -275,7 +284,8 @@ module _ (holds : List ℕ → Type 0) (map : Object Plan) (old new : Seated Pla
 
   pub comes_to : {E : Type 0} (decode : List ℕ → E) (entry : E) (keyed : 0 < at.key)
       → entry ≡ decode s.hop.words
-      → IsNextEntry holds decode map.plan.roots was start new.view.client.known at entry
+      → IsNextEntry holds decode map.plan.roots map.plan.seed was start new.view.client.known at
+      entry
   comes_to decode entry keyed told =
       let w = went_on holds map old new mid at s keyed in
       let k = w.key in record {
@@ -290,9 +300,9 @@ module _ (holds : List ℕ → Type 0) (map : Object Plan) (old new : Seated Pla
         told = told;
       }
 
-pub is_at_end : (n : ℕ) (was now : Known) (start at : Cursor)
-    → IsPassing n was start now at → at.bucket ≡ n → IsAtEnd n was start now at
-is_at_end n was now start at p ended =
+pub is_at_end : (n m : ℕ) (was now : Known) (start at : Cursor)
+    → IsPassing n m was start now at → at.bucket ≡ n → IsAtEnd n m was start now at
+is_at_end n m was now start at p ended =
     record { over = p.over; are = p.are; nowhere = p.nowhere; goes = p.goes; ended = ended }
 
 -- fewer keys are left after a step
@@ -314,7 +324,8 @@ below a b c low high = omega (arith, low, high)
 module _ (holds : List ℕ → Type 0) (map : Object Plan) (begun old new : Seated Planned)
     (start mid at : Cursor) (s : HasStepped holds map old mid new at)
     (same : old ≡ after_word_step begun old.view.client) (may : MayGoOn map old mid)
-    (p : IsPassing map.plan.roots begun.view.client.known start old.view.client.known mid)
+    (p : IsPassing map.plan.roots map.plan.seed begun.view.client.known start old.view.client.known
+    mid)
     (left : left_from map.plan.roots mid ≤ left_from map.plan.roots start) where
   abbrev all : ℕ
   all = map.plan.roots

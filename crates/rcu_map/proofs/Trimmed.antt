@@ -96,13 +96,13 @@ module _ (buckets : ℕ) (S B : List Node) (t : AreTrimmed buckets 1 S B) where
         still_live held i q.1 kept ∙ sym q.1)
         (t.states i)
 
-    pub map_after : (holds : List ℕ → Type 0) (width count : ℕ)
-        → AreOrdered buckets width S stays
+    pub map_after : (holds : List ℕ → Type 0) (seed width count : ℕ)
+        → AreOrdered buckets seed width S stays
         → ((i : ℕ) → state_at B i ≡ Live → stays i ≡ true)
         → length B ≡ count
-        → AreTended (IsWhole holds width) (λ _ from to. GoesUp buckets from to) buckets 1 B
-        → IsMap holds buckets width count B
-    map_after holds width count o kept few tended = record {
+        → AreTended (IsWhole holds width) (λ _ from to. GoesUp buckets seed from to) buckets 1 B
+        → IsMap holds buckets seed width count B
+    map_after holds seed width count o kept few tended = record {
       few = few;
       tended = tended;
       roots = λ i low. t.words_stay i ∙ o.roots i low;
@@ -123,11 +123,11 @@ module _ (buckets : ℕ) (S B : List Node) (t : AreTrimmed buckets 1 S B) where
           (omega (arith, same, a, b));
     }
       where
-        before : (i j : ℕ) → AreOfOneBucket buckets B i j → AreOfOneBucket buckets S i j
+        before : (i j : ℕ) → AreOfOneBucket buckets seed B i j → AreOfOneBucket buckets seed S i j
         before i j one = record {
           first = was_live i one.first;
           second = was_live j one.second;
           same =
-              ap (λ (w : List ℕ). bucket_in buckets w) (sym (t.words_stay i))
-              ∙ (one.same ∙ ap (λ (w : List ℕ). bucket_in buckets w) (t.words_stay j));
+              ap (λ (w : List ℕ). bucket_in buckets seed w) (sym (t.words_stay i))
+              ∙ (one.same ∙ ap (λ (w : List ℕ). bucket_in buckets seed w) (t.words_stay j));
         }

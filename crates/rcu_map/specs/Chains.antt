@@ -11,22 +11,30 @@ use Rattle.rcu_graph.specs.declared.known.Node.{Node}
 use Rattle.rcu_graph.specs.declared.node_state.NodeState.TheVariants.{Live}
 use Rattle.rcu_graph.specs.declared.plan.Plan.{Plan}
 use Rattle.rcu_map.specs.Entries.{entries_in}
-use Rattle.rcu_map.specs.Keys.{GoesUp, IsWhole, bucket_in, root_words}
+use Rattle.rcu_map.specs.Keys.{GoesUp, IsWhole, bucket_in, multiplier_of, root_words}
 
--- how many buckets the map of a keeper has
+-- how many buckets the map of a keeper has, and by which number it multiplies its keys
 abbrev pub buckets_in : Watching Planned → ℕ
 buckets_in keeper = keeper.view.client.plan.roots
+
+abbrev pub seed_in : Watching Planned → ℕ
+seed_in keeper = keeper.view.client.plan.seed
+
+-- the plan of a map of so many buckets, words an entry and nodes, and of this seed
+abbrev pub plan_of_map : ℕ → ℕ → ℕ → ℕ → Plan
+plan_of_map buckets width count seed = plan_of buckets 1 width count (multiplier_of seed)
 
 -- a map may have so many buckets, words an entry and nodes
 pub record HasSizes (buckets width count : ℕ) : Type 0 where
   pub some : 0 < buckets
-  pub graph : IsSized (plan_of buckets 1 width count)
+  pub graph : IsSized (plan_of_map buckets width count 0)
 
 -- both nodes are live, and of one bucket
-pub record AreOfOneBucket (buckets : ℕ) (nodes : List Node) (i j : ℕ) : Type 0 where
+pub record AreOfOneBucket (buckets seed : ℕ) (nodes : List Node) (i j : ℕ) : Type 0 where
   pub first : state_at nodes i ≡ Live
   pub second : state_at nodes j ≡ Live
-  pub same : bucket_in buckets (node_at nodes i).words ≡ bucket_in buckets (node_at nodes j).words
+  pub same : bucket_in buckets seed (node_at nodes i).words ≡ bucket_in buckets seed
+      (node_at nodes j).words
 
 -- the node i leads to a node whose key is no greater than that of the node j
 pub record LeadsTowards (nodes : List Node) (i j : ℕ) : Type 0 where
@@ -37,15 +45,17 @@ pub record LeadsTowards (nodes : List Node) (i j : ℕ) : Type 0 where
 -- so many nodes are those of a map of so many buckets. The live ones are tended, and have a link
 -- each; the roots have their words. The live nodes of a bucket are one chain, in the order of their
 -- keys: each leads to the one with the next greater key. No two have one key
-pub record IsMap (holds : List ℕ → Type 0) (buckets width count : ℕ)
+pub record IsMap (holds : List ℕ → Type 0) (buckets seed width count : ℕ)
     (nodes : List Node) : Type 0 where
   pub few : length nodes ≡ count
-  pub tended : AreTended (IsWhole holds width) (λ _ from to. GoesUp buckets from to) buckets 1 nodes
+  pub tended : AreTended (IsWhole holds width) (λ _ from to. GoesUp buckets seed from to) buckets 1
+      nodes
   pub roots : (i : ℕ) → i < buckets → (node_at nodes i).words ≡ root_words width i
   pub linked : (i : ℕ) → state_at nodes i ≡ Live → length (node_at nodes i).links ≡ 1
-  pub next : (i j : ℕ) → AreOfOneBucket buckets nodes i j → key_at nodes i < key_at nodes j
+  pub next : (i j : ℕ) → AreOfOneBucket buckets seed nodes i j → key_at nodes i < key_at nodes j
       → LeadsTowards nodes i j
-  pub apart : (i j : ℕ) → AreOfOneBucket buckets nodes i j → key_at nodes i ≡ key_at nodes j → i ≡ j
+  pub apart : (i j : ℕ) → AreOfOneBucket buckets seed nodes i j → key_at nodes i ≡ key_at nodes j →
+      i ≡ j
 
 -- of this plan, whose roots are those of the buckets, the nodes are those of a map with so many
 -- entries, of so many words each
@@ -54,5 +64,5 @@ pub record IsKept (holds : List ℕ → Type 0) (width : ℕ) (plan : Plan) (nod
   pub some : 0 < plan.roots
   pub one : plan.links ≡ 1
   pub words : plan.words ≡ width
-  pub map : IsMap holds plan.roots plan.words plan.nodes nodes
+  pub map : IsMap holds plan.roots plan.seed plan.words plan.nodes nodes
   pub count : len ≡ entries_in plan.roots nodes

@@ -24,12 +24,12 @@ latest_words (hop ∷ before) = hop.words
 
 -- of so many nodes and buckets: the section is on the cursor's node, the root of its bucket where
 -- there is no key, else the node of this key and bucket to which its latest hop led
-pub record IsOnCursor (count buckets : ℕ) (known : Known) (at : Cursor) : Type 0 where
+pub record IsOnCursor (count buckets seed : ℕ) (known : Known) (at : Cursor) : Type 0 where
   pub inside : at.node < count
   pub root : at.key ≡ 0 → at.node ≡ at.bucket
   pub led : 0 < at.key → latest_to (hops_in known) ≡ suc at.node
   pub key : 0 < at.key → key_in (latest_words (hops_in known)) ≡ at.key
-  pub same : 0 < at.key → bucket_of buckets at.key ≡ at.bucket
+  pub same : 0 < at.key → bucket_of buckets seed at.key ≡ at.bucket
 
 -- an open section may go on from a cursor, which is on a node or at the end
 pub record MayGoOn (map : Object Plan) (seat : Seated Planned) (at : Cursor) : Type 0 where
@@ -37,7 +37,7 @@ pub record MayGoOn (map : Object Plan) (seat : Seated Planned) (at : Cursor) : T
   pub within : at.bucket ≤ map.plan.roots
   pub small : at.key < 2 ^ 64
   pub on : at.bucket < map.plan.roots
-      → IsOnCursor map.plan.nodes map.plan.roots seat.view.client.known at
+      → IsOnCursor map.plan.nodes map.plan.roots map.plan.seed seat.view.client.known at
 
 -- an open section is on a node that has the words of an entry
 pub record IsOnEntry (holds : List ℕ → Type 0) (map : Object Plan) (seat : Seated Planned)
@@ -55,7 +55,7 @@ pub record HasStepped (holds : List ℕ → Type 0) (map : Object Plan) (old : S
   pub same : new ≡ after_word_step old new.view.client
   pub hop : Hop
   pub are : hops_in new.view.client.known ≡ hop ∷ hops_in old.view.client.known
-  pub goes : GoesOn map.plan.roots start hop
+  pub goes : GoesOn map.plan.roots map.plan.seed start hop
   pub led : at ≡ cursor_after start hop
   pub may : MayGoOn map new at
   pub whole : 0 < at.key → IsWhole holds map.plan.words hop.words
@@ -66,9 +66,9 @@ pub record HasListed {E : Type 0} (holds : List ℕ → Type 0) (decode : List �
     (start : Cursor) (new : Seated Planned) (at : Cursor) (result : Option E) : Type 0 where
   pub same : new ≡ after_word_step old new.view.client
   pub may : MayGoOn map new at
-  pub went : MatchOption result (IsAtEnd map.plan.roots old.view.client.known start
+  pub went : MatchOption result (IsAtEnd map.plan.roots map.plan.seed old.view.client.known start
       new.view.client.known at)
-      (λ entry. IsNextEntry holds decode map.plan.roots old.view.client.known start
+      (λ entry. IsNextEntry holds decode map.plan.roots map.plan.seed old.view.client.known start
       new.view.client.known
       at entry)
   pub keyed : IfSome result (λ entry. key_of entry ≡ at.key)

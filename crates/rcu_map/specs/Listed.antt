@@ -37,9 +37,10 @@ module _ {LEAF FAN : ℕ} {T E : Type 0} {W : ℕ} where
 pub record Listed {E : Type 0} (holds : List ℕ → Type 0) (decode : List ℕ → E) (valid : E → Type 0)
     (key_of : E → ℕ) (old : Listing) (result : Option E) (new : Listing) : Type 0 where
   pub same : new ≡ after_hops old (known_in new) new.at
-  pub went : MatchOption result (IsAtEnd old.map.plan.roots (known_in old) old.at
+  pub went : MatchOption result (IsAtEnd old.map.plan.roots old.map.plan.seed (known_in old) old.at
       (known_in new) new.at)
-      (λ entry. IsNextEntry holds decode old.map.plan.roots (known_in old) old.at (known_in new)
+      (λ entry. IsNextEntry holds decode old.map.plan.roots old.map.plan.seed (known_in old) old.at
+      (known_in new)
       new.at entry)
   pub keyed : IfSome result (λ entry. key_of entry ≡ new.at.key)
   pub sound : IfSome result valid

@@ -25,21 +25,21 @@ cursor_after at hop = led_from at hop.to (key_after hop)
 
 -- a hop goes on from a cursor in one of so many buckets: along the link 0 of its node, which led
 -- nowhere, or to a node with a greater key of the same bucket
-pub record GoesOn (buckets : ℕ) (at : Cursor) (hop : Hop) : Type 0 where
+pub record GoesOn (buckets seed : ℕ) (at : Cursor) (hop : Hop) : Type 0 where
   pub inside : at.bucket < buckets
   pub here : hop.from ≡ at.node
   pub along : hop.link ≡ 0
   pub up : (node : ℕ) → hop.to ≡ suc node → at.key < key_after hop
-  pub same : (node : ℕ) → hop.to ≡ suc node → bucket_of buckets (key_after hop) ≡ at.bucket
+  pub same : (node : ℕ) → hop.to ≡ suc node → bucket_of buckets seed (key_after hop) ≡ at.bucket
 
 -- these hops, the latest one first, go on from one cursor to another, each from where the one
 -- before it led
-abbrev pub GoOn : ℕ → Cursor → List Hop → Cursor → Type 0
-GoOn buckets start [] at = at ≡ start
-GoOn buckets start (hop ∷ before) at =
+abbrev pub GoOn : ℕ → ℕ → Cursor → List Hop → Cursor → Type 0
+GoOn buckets seed start [] at = at ≡ start
+GoOn buckets seed start (hop ∷ before) at =
     (last : Cursor)
-    × GoOn buckets start before last
-    × GoesOn buckets last hop
+    × GoOn buckets seed start before last
+    × GoesOn buckets seed last hop
     × (at ≡ cursor_after last hop)
 
 -- each of these hops led nowhere: they passed over no entry
@@ -49,13 +49,14 @@ LedNowhere (hop ∷ before) = (hop.to ≡ 0) × LedNowhere before
 
 -- a section went on from a cursor to the next entry: its hops are those before, some to the ends of
 -- chains, and one to a node that has the key of the cursor now and the entry's words
-pub record IsNextEntry {E : Type 0} (holds : List ℕ → Type 0) (decode : List ℕ → E) (buckets : ℕ)
+pub record IsNextEntry {E : Type 0} (holds : List ℕ → Type 0) (decode : List ℕ → E)
+    (buckets seed : ℕ)
     (was : Known) (start : Cursor) (now : Known) (at : Cursor) (entry : E) : Type 0 where
   pub over : List Hop
   pub last : Hop
   pub are : hops_in now ≡ last ∷ (over ++ hops_in was)
   pub nowhere : LedNowhere over
-  pub goes : GoOn buckets start (last ∷ over) at
+  pub goes : GoOn buckets seed start (last ∷ over) at
   pub led : last.to ≡ suc at.node
   pub key : key_after last ≡ at.key
   pub whole : holds last.words
@@ -63,12 +64,12 @@ pub record IsNextEntry {E : Type 0} (holds : List ℕ → Type 0) (decode : List
 
 -- a section went on from a cursor and came to no entry any more: its hops are those before, and
 -- some to the ends of all chains from there on, up to the last bucket's
-pub record IsAtEnd (buckets : ℕ) (was : Known) (start : Cursor) (now : Known)
+pub record IsAtEnd (buckets seed : ℕ) (was : Known) (start : Cursor) (now : Known)
     (at : Cursor) : Type 0 where
   pub over : List Hop
   pub are : hops_in now ≡ over ++ hops_in was
   pub nowhere : LedNowhere over
-  pub goes : GoOn buckets start over at
+  pub goes : GoOn buckets seed start over at
   pub ended : at.bucket ≡ buckets
 
 -- more than the entries to which a section may come from a cursor: so many buckets, each with fewer

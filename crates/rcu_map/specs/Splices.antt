@@ -24,10 +24,10 @@ LeadsToKey key nodes i None = (to : ℕ) → next_of nodes i ≡ suc to → key 
 
 -- a key belongs behind this node of its bucket, whose key is less: it leads to the node that has
 -- the key, or to none
-pub record IsPlace (buckets key : ℕ) (nodes : List Node) (previous : ℕ)
+pub record IsPlace (buckets seed key : ℕ) (nodes : List Node) (previous : ℕ)
     (node : Option ℕ) : Type 0 where
   pub live : state_at nodes previous ≡ Live
-  pub bucket : bucket_in buckets (node_at nodes previous).words ≡ bucket_of buckets key
+  pub bucket : bucket_in buckets seed (node_at nodes previous).words ≡ bucket_of buckets seed key
   pub less : key_at nodes previous < key
   pub leads : LeadsToKey key nodes previous node
 

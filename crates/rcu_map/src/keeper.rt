@@ -5,12 +5,13 @@ ghost use Rattle.rcu_graph.specs.Graph.{IsWatcherOf};
 ghost use Rattle.rcu_graph.specs.Keeper.{IsKeeperOf, after_look};
 ghost use Rattle.rcu_graph.specs.Nodes.{node_at, nodes_in};
 ghost use Rattle.rcu_graph.specs.Steps.{IsClaimed};
-ghost use Rattle.rcu_map.specs.Chains.{IsMap, buckets_in};
+ghost use Rattle.rcu_map.specs.Chains.{IsMap, buckets_in, seed_in};
 ghost use Rattle.rcu_map.specs.Entries.{AreSameEntries, HasKey, IsEntry, IsEntryOf};
 ghost use Rattle.rcu_map.specs.Entries.{IsNodeOf, entries_in};
 ghost use Rattle.rcu_map.specs.Keys.{root_words};
 ghost use Rattle.rcu_map.specs.Splices.{IsPlace};
 
+use crate::bucket::bucket_of;
 use crate::entry::Entry;
 use crate::links::keep;
 use crate::map::Map;
@@ -72,7 +73,7 @@ impl<E: Entry<W>, const W: usize> MapKeeper<E, W> {
     pub fn tends<const LEAF: u32, const FAN: u32, T: Drop>(&self, map: &Map<LEAF, FAN, T, E, W>)
         requires graph { IsWatcherOf map.now self.now }
         ensures keeper { IsKeeperOf map.now self.now }
-        ensures map { IsMap E.holds self.now.view.client.plan.roots
+        ensures map { IsMap E.holds self.now.view.client.plan.roots self.now.view.client.plan.seed
             self.now.view.client.plan.words self.now.view.client.plan.nodes
             (nodes_in self.now.view.client.known) }
     {
@@ -89,7 +90,8 @@ impl<E: Entry<W>, const W: usize> MapKeeper<E, W> {
     /// Where a key belongs.
     pub(crate) fn place_of(&self, key: u64) -> Place
         requires { 0 < key }
-        ensures place { IsPlace (buckets_in self.now) key (nodes_in self.now.view.client.known)
+        ensures place { IsPlace (buckets_in self.now) (seed_in self.now) key
+            (nodes_in self.now.view.client.known)
             result.previous result.node }
         ensures told { MatchOption result.node
             (¬ HasKey (buckets_in self.now) (nodes_in self.now.view.client.known) key)
@@ -98,8 +100,7 @@ impl<E: Entry<W>, const W: usize> MapKeeper<E, W> {
     {
         // A borrow of a field shows the prover what the type keeps: that there is a bucket.
         let nodes = &self.nodes;
-        let buckets = nodes.plan().roots as u64;
-        let mut previous = (key % buckets) as usize;
+        let mut previous = bucket_of(nodes.plan(), key);
         'chain: loop {
             let Some(next) = nodes.link_of(previous, 0) else {
                 return Place {

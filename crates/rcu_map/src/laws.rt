@@ -12,20 +12,20 @@ use rcu_graph::laws::linked_keys_are_found;
 /// Calls of `next` one after another go on like one: from the cursor before the first one to that
 /// after the last one, by the hops of all.
 pub fn calls_go_on()
-    ensures { (buckets : ℕ) (start mid at : Cursor) (before after : List Hop) →
-        GoOn buckets start before mid → GoOn buckets mid after at →
-        GoOn buckets start (after ++ before) at }
+    ensures { (buckets seed : ℕ) (start mid at : Cursor) (before after : List Hop) →
+        GoOn buckets seed start before mid → GoOn buckets seed mid after at →
+        GoOn buckets seed start (after ++ before) at }
 {}
 
 /// A key that is linked at each moment from the section's beginning to the end of the last bucket
 /// is among the entries that the hops came to. Meanwhile each step of the keeper is as
 /// `IsKeeperStep` says: it stores no link of a node that it took off the chain.
 pub fn linked_keys_are_listed()
-    ensures { (ours : List ℕ → Bool) (opened buckets key last : ℕ) (nodes : ℕ → List Node)
+    ensures { (ours : List ℕ → Bool) (opened buckets seed key last : ℕ) (nodes : ℕ → List Node)
         (hops : List Hop) (at : Cursor) → 0 < buckets → 0 < key →
-        GoOn buckets (at_root 0) hops at → at.bucket ≡ buckets →
-        IsHistory ours opened (bucket_of buckets key) last nodes →
-        ((t : ℕ) → t ≤ last → IsLinkedKey (bucket_of buckets key) key (nodes t)) →
+        GoOn buckets seed (at_root 0) hops at → at.bucket ≡ buckets →
+        IsHistory ours opened (bucket_of buckets seed key) last nodes →
+        ((t : ℕ) → t ≤ last → IsLinkedKey (bucket_of buckets seed key) key (nodes t)) →
         AreMadeBy nodes last hops → IsListed key hops }
 {
     linked_keys_are_found();

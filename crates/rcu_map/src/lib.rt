@@ -1,6 +1,7 @@
 //! A hash map of sorted chains, and a sorted list, over nodes that sections walk without a lock.
 #![tactic(auto)]
 
+mod bucket;
 pub mod cursor;
 pub mod entries;
 pub mod entry;

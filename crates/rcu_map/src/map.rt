@@ -4,9 +4,10 @@ ghost use Rattle.rcu_live.specs.CpuSeat.{after_word_step};
 ghost use Rattle.rcu_graph.specs.Graph.{IsAt, IsWalking};
 ghost use Rattle.rcu_graph.specs.Nodes.{IsOn};
 ghost use Rattle.rcu_graph.specs.Search.{IsFound, IsSearched};
-ghost use Rattle.rcu_map.specs.Found.{IsEntryFound, IsLookedUp};
+ghost use Rattle.rcu_map.specs.Found.{IsGot, IsLookedUp};
 ghost use Rattle.rcu_map.specs.Keys.{IsWhole, bucket_of, root_words};
 
+use crate::bucket::bucket_of;
 use crate::entry::Entry;
 use crate::shape::{MapSeat, MapShape};
 use rcu_graph::rule::GraphRule;
@@ -104,9 +105,9 @@ impl<const LEAF: u32, const FAN: u32, T: Drop, E: Entry<W>, const W: usize> Map<
         requires walking { IsWalking self.now seat.old }
         ensures same { seat.new ≡ after_word_step seat.old seat.new.view.client }
         ensures walking { IsWalking self.now seat.new }
-        ensures searched { 0 < key → IsSearched (bucket_of self.now.plan.roots key) key
-            seat.old.view.client.known
-            result seat.new.view.client.known }
+        ensures searched { 0 < key →
+            IsSearched (bucket_of self.now.plan.roots self.now.plan.seed key) key
+            seat.old.view.client.known result seat.new.view.client.known }
         ensures none { key ≡ 0 → result ≡ None }
         ensures found { IfSome result (λ node.
             IsFound (IsWhole E.holds self.now.plan.words) key seat.new.view.client.known node) }
@@ -117,8 +118,8 @@ impl<const LEAF: u32, const FAN: u32, T: Drop, E: Entry<W>, const W: usize> Map<
         if key == 0 {
             return None;
         }
-        let buckets = self.plan().roots as u64;
-        self.graph.find(seat, (key % buckets) as usize, key)
+        let bucket = bucket_of(self.plan(), key);
+        self.graph.find(seat, bucket, key)
     }
 
     /// The entry of this key, by two loads for each node of its bucket up to there, and one a word.
@@ -127,12 +128,9 @@ impl<const LEAF: u32, const FAN: u32, T: Drop, E: Entry<W>, const W: usize> Map<
         requires walking { IsWalking self.now seat.old }
         ensures same { seat.new ≡ after_word_step seat.old seat.new.view.client }
         ensures walking { IsWalking self.now seat.new }
-        ensures searched { 0 < key → IsLookedUp self.now.plan.roots key seat.old.view.client.known
-            (is_some result)
-            seat.new.view.client.known }
+        ensures got { 0 < key → IsGot E.holds E.decode self.now.plan.roots self.now.plan.seed key
+            seat.old.view.client.known result seat.new.view.client.known }
         ensures none { key ≡ 0 → is_some result ≡ false }
-        ensures found { IfSome result (λ entry.
-            IsEntryFound E.holds E.decode key seat.new.view.client.known entry) }
         ensures keyed { IfSome result (λ entry. E.key_of entry ≡ key) }
         ensures sound { IfSome result (λ entry. E.valid entry) }
     {
@@ -145,9 +143,8 @@ impl<const LEAF: u32, const FAN: u32, T: Drop, E: Entry<W>, const W: usize> Map<
         requires walking { IsWalking self.now seat.old }
         ensures same { seat.new ≡ after_word_step seat.old seat.new.view.client }
         ensures walking { IsWalking self.now seat.new }
-        ensures searched { 0 < key → IsLookedUp self.now.plan.roots key seat.old.view.client.known
-            result
-            seat.new.view.client.known }
+        ensures searched { 0 < key → IsLookedUp self.now.plan.roots self.now.plan.seed key
+            seat.old.view.client.known result seat.new.view.client.known }
         ensures none { key ≡ 0 → result ≡ false }
     {
         self.find(seat, key).is_some()

@@ -14,7 +14,7 @@ impl<E: Entry<W>, const W: usize> Shape for MapShape<E, W> {
 
     ghost fits = { λ plan. IsWhole E.holds plan.words };
 
-    ghost joins = { λ plan _ from to. GoesUp plan.roots from to };
+    ghost joins = { λ plan _ from to. GoesUp plan.roots plan.seed from to };
 
     ghost first = { λ plan. root_words plan.words };
 

@@ -2,7 +2,7 @@
 ghost use Rattle.std.specs.Prelude.{◌≡◌, IfNone, IsSome, MatchResult, None, Some, false, true};
 ghost use Rattle.rcu_graph.specs.Graph.{IsWatcherOf};
 ghost use Rattle.rcu_graph.specs.Nodes.{nodes_in};
-ghost use Rattle.rcu_map.specs.Chains.{buckets_in};
+ghost use Rattle.rcu_map.specs.Chains.{buckets_in, seed_in};
 ghost use Rattle.rcu_map.specs.Entries.{IsRemoved};
 ghost use Rattle.rcu_map.specs.Keys.{key_in};
 ghost use Rattle.rcu_map.specs.Puts.{HasAnswered, HasChanged, Holds, IsPutIn};
@@ -26,7 +26,7 @@ impl<E: Entry<W>, const W: usize> MapKeeper<E, W> {
     ) -> Result<(), Full>
         requires graph { IsWatcherOf map.now self.old }
         requires whole { E.holds words.now }
-        requires place { IsPlace (buckets_in self.old) (key_in words.now)
+        requires place { IsPlace (buckets_in self.old) (seed_in self.old) (key_in words.now)
             (nodes_in self.old.view.client.known)
             previous None }
         ensures graph { IsWatcherOf map.now self.new }
@@ -51,7 +51,7 @@ impl<E: Entry<W>, const W: usize> MapKeeper<E, W> {
     ) -> Result<(), Full>
         requires graph { IsWatcherOf map.now self.old }
         requires whole { E.holds words.now }
-        requires place { IsPlace (buckets_in self.old) (key_in words.now)
+        requires place { IsPlace (buckets_in self.old) (seed_in self.old) (key_in words.now)
             (nodes_in self.old.view.client.known)
             previous (Some old) }
         ensures graph { IsWatcherOf map.now self.new }

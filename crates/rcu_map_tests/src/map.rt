@@ -22,6 +22,13 @@ use std::process::Abort;
 
 type Routes = Map<4, 4, u64, Route, 2>;
 
+/// The bucket of a network, of so many, in a map of the seed 0: 2^64 over the golden ratio, times
+/// the network, without what runs over, as a share of 2^64.
+pub(crate) fn bucket_of(network: u64, buckets: u64) -> u64 {
+    let mixed = network.wrapping_mul(11_400_714_819_323_198_485);
+    ((u128::from(mixed) * u128::from(buckets)) >> 64) as u64
+}
+
 /// Looks a route up, and goes over all of them: there is none.
 fn finds_none<R: Abort>(rt: &R, map: &Routes, seat: &mut MapSeat<Route, 2>)
     requires seat { IsSeatOf map.now seat.old }
@@ -38,7 +45,7 @@ fn finds_none<R: Abort>(rt: &R, map: &Routes, seat: &mut MapSeat<Route, 2>)
 
 #[test]
 fn map_opens_with_no_entry(rt: HostRuntime) {
-    let Ok((map, mut seats, watchers, _)) = Routes::open(rt.alloc(), 1, 8, 4, 16) else {
+    let Ok((map, mut seats, watchers, _)) = Routes::open(rt.alloc(), 1, 8, 4, 16, 0) else {
         return;
     };
     assert_eq!(rt; (seats.len(), watchers.len()), (1, 1));
@@ -50,9 +57,9 @@ fn map_opens_with_no_entry(rt: HostRuntime) {
 /// seats, by a second call where the first is refused a growth.
 fn opens(alloc: Global, engine: (u32, u64), sizes: (usize, usize)) -> Result<usize, NotOpened> {
     let ((cpus, last), (buckets, nodes)) = (engine, sizes);
-    let mut opened = Map::<64, 64, u64, Route, 2>::open(alloc, cpus, last, buckets, nodes);
+    let mut opened = Map::<64, 64, u64, Route, 2>::open(alloc, cpus, last, buckets, nodes, 0);
     if matches!(opened, Err(NotOpened::Fault(Fault::NoMemory))) {
-        opened = Map::open(alloc, cpus, last, buckets, nodes);
+        opened = Map::open(alloc, cpus, last, buckets, nodes, 0);
     }
     let (_, seats, _, _) = opened?;
     Ok(seats.len())

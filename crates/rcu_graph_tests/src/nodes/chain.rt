@@ -18,6 +18,7 @@ pub(crate) const PLAN: Plan = Plan {
     links: 1,
     words: 2,
     nodes: 4,
+    seed: 0,
 };
 
 pub(crate) type Seat = GraphSeat<Sorted>;
@@ -27,7 +28,7 @@ pub(crate) type Seat = GraphSeat<Sorted>;
 pub(crate) struct ChainAndKeeper<'a> {
     pub(crate) chain: &'a Chain,
     pub(crate) keeper: Keeper<Sorted>,
-    ghost sized: { chain.now.plan ≡ plan_of 1 1 2 4 },
+    ghost sized: { chain.now.plan ≡ plan_of 1 1 2 4 0 },
     ghost keeper_of: { IsWatcherOf chain.now keeper },
 }
 
@@ -37,7 +38,7 @@ impl<'a> ChainAndKeeper<'a> {
         chain: &'a Chain,
         own: GraphWatcher<Sorted>,
     ) -> Result<Self, AllocError>
-        requires sized { chain.now.plan ≡ plan_of 1 1 2 4 }
+        requires sized { chain.now.plan ≡ plan_of 1 1 2 4 0 }
         requires keeper { IsKeeperOf chain.now own }
         requires first { IsClaimed (λ _. replicate 2 0) 1 1 2 4 own.view.client.known }
     {

@@ -27,7 +27,7 @@ const SEARCHES: u32 = 400_000;
 /// Searches the chain twice. Returns the value of the entry that was found first, 0 where there was
 /// none, and whether it stayed the same, and the second one was none before it.
 fn look_twice(chain: &Chain, seat: &mut Seat) -> (u64, bool)
-    requires sized { chain.now.plan ≡ plan_of 1 1 2 4 }
+    requires sized { chain.now.plan ≡ plan_of 1 1 2 4 0 }
     requires walking { IsWalking chain.now seat.old }
     ensures state { seat.new ≡ after_word_step seat.old seat.new.view.client }
     ensures walking { IsWalking chain.now seat.new }
@@ -46,7 +46,7 @@ fn look_twice(chain: &Chain, seat: &mut Seat) -> (u64, bool)
 
 /// The same in a section of its own.
 fn look_in_a_section(chain: &Chain, seat: &mut Seat) -> (u64, bool)
-    requires sized { chain.now.plan ≡ plan_of 1 1 2 4 }
+    requires sized { chain.now.plan ≡ plan_of 1 1 2 4 0 }
     requires seat { IsSeatOf chain.now seat.old }
     requires outside { seat.old.depth ≡ 0 }
     requires idle { seat.old.view.client ≡ of_plan chain.now.plan Idle }
@@ -70,7 +70,7 @@ struct Reader<'a> {
     chain: &'a Chain,
     seat: Seat,
     newest: u64,
-    ghost sized: { chain.now.plan ≡ plan_of 1 1 2 4 },
+    ghost sized: { chain.now.plan ≡ plan_of 1 1 2 4 0 },
     ghost seat_of: { IsSeatOf chain.now seat },
     ghost outside: { seat.depth ≡ 0 },
     ghost idle: { seat.view.client ≡ of_plan chain.now.plan Idle },

@@ -53,7 +53,14 @@ impl<'a> Scene<'a> {
 
 #[test]
 fn each_of_35_904_routes_is_found(rt: HostRuntime) {
-    let opened = Routes::open(rt.alloc(), 1, 4_000_000, BUCKETS as usize, NODES as usize);
+    let opened = Routes::open(
+        rt.alloc(),
+        1,
+        4_000_000,
+        BUCKETS as usize,
+        NODES as usize,
+        0,
+    );
     let Ok((map, mut seats, _, keeper)) = opened else {
         return;
     };

@@ -37,7 +37,7 @@ impl<'a> Scene<'a> {
 
 #[test]
 fn a_million_removals_through_256_nodes(rt: HostRuntime) {
-    let Ok((map, mut seats, _, keeper)) = Routes::open(rt.alloc(), 1, 1 << 62, 16, 256) else {
+    let Ok((map, mut seats, _, keeper)) = Routes::open(rt.alloc(), 1, 1 << 62, 16, 256, 0) else {
         return;
     };
     let mut scene = Scene {

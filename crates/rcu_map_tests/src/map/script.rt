@@ -40,8 +40,12 @@ enum Call {
 /// How many networks there are. A network with the port 0 has no route.
 const NETWORKS: usize = 10;
 
-/// The networks as the buckets have them.
-static ORDER: [usize; NETWORKS] = [0, 2, 4, 6, 8, 1, 3, 5, 7, 9];
+/// The networks as the buckets of a map of this seed have them.
+type Order = (u64, [u32; NETWORKS]);
+
+static ORDER: Order = (0, [0, 2, 4, 5, 7, 1, 3, 6, 8, 9]);
+
+static OTHER_ORDER: Order = (0x6A09_E667_F3BC_C908, [0, 1, 3, 5, 7, 9, 2, 4, 6, 8]);
 
 /// Entries in front of others, behind them and between them; each call where the key is there, and
 /// where it is not; all nodes used, and some free again.
@@ -100,6 +104,7 @@ struct Scene<'a, C: Caller + Drop> {
     seat: Seat,
     watcher: Watcher,
     ports: [u32; NETWORKS],
+    order: [u32; NETWORKS],
     ghost seat_of: { IsSeatOf map.now seat },
     ghost watcher_of: { IsWatcherOf map.now watcher },
     ghost outside: { seat.depth ≡ 0 },
@@ -114,18 +119,16 @@ fn goes_on_to<'a, R: Abort>(rt: &R, entries: &mut Listing<'a>, wanted: Option<Ro
     assert_eq!(rt; entries.next(), wanted);
 }
 
-/// Compares the entries that a section goes over with the table, in the order of the buckets.
-fn lists<R: Abort>(rt: &R, map: &Routes, seat: &mut Seat, ports: &[u32; NETWORKS])
+/// Compares the entries that a section goes over with these routes.
+fn lists<R: Abort>(rt: &R, map: &Routes, seat: &mut Seat, routes: &[Option<Route>; NETWORKS])
     requires { IsWalking map.now seat.old }
     ensures state { seat.new ≡ after_word_step seat.old seat.new.view.client }
     ensures walking { IsWalking map.now seat.new }
 {
     let mut entries = map.entries(seat);
-    for network in ORDER {
-        if let Some(wanted) = Route::to(network as u32, ports[network])
-            && wanted.port > 0
-        {
-            goes_on_to(rt, &mut entries, Some(wanted));
+    for route in routes {
+        if route.is_some() {
+            goes_on_to(rt, &mut entries, *route);
         }
     }
     goes_on_to(rt, &mut entries, None);
@@ -138,6 +141,15 @@ impl<'a, C: Caller + Drop> Scene<'a, C> {
         let port = *self.ports.get(network as usize)?;
         let route = Route::to(network, port)?;
         (port > 0).then_some(route)
+    }
+
+    /// What the table has of each network, in the order of the buckets.
+    fn in_order(&self) -> [Option<Route>; NETWORKS] {
+        let mut routes = [None; NETWORKS];
+        for (route, network) in routes.iter_mut().zip(&self.order) {
+            *route = self.route_to(*network);
+        }
+        routes
     }
 
     /// One step of a grace period for this cookie, and a quiescent state.
@@ -201,8 +213,9 @@ impl<'a, C: Caller + Drop> Scene<'a, C> {
     fn counts<R: Abort + Wait>(&mut self, rt: &R) {
         let count = self.ports.iter().filter(|port| **port > 0).count();
         assert_eq!(rt; self.caller.len(rt), count);
+        let wanted = self.in_order();
         assert_eq!(rt; self.seat.enter(self.map.live()), Ok(1));
-        lists(rt, self.map, &mut self.seat, &self.ports);
+        lists(rt, self.map, &mut self.seat, &wanted);
         assert_eq!(rt; self.seat.exit(self.map.live()), Ok(0));
     }
 
@@ -221,8 +234,9 @@ impl<'a, C: Caller + Drop> Scene<'a, C> {
 
 #[test]
 fn map_is_as_its_script_says(rt: HostRuntime) {
-    let Ok((map, mut seats, mut watchers, keeper)) = Routes::open(rt.alloc(), 1, 4_000_000, 2, 6)
-    else {
+    let (seed, order) = ORDER;
+    let opened = Routes::open(rt.alloc(), 1, 4_000_000, 2, 6, seed);
+    let Ok((map, mut seats, mut watchers, keeper)) = opened else {
         return;
     };
     let mut scene = Scene {
@@ -231,14 +245,16 @@ fn map_is_as_its_script_says(rt: HostRuntime) {
         seat: seats.pop().unwrap(),
         watcher: watchers.pop().unwrap(),
         ports: [0; NETWORKS],
+        order,
     };
     scene.make_all(&rt);
 }
 
 #[test]
 fn updater_does_as_the_script_says(rt: HostRuntime) {
-    let Ok((map, mut seats, mut watchers, keeper)) = Routes::open(rt.alloc(), 1, 4_000_000, 2, 6)
-    else {
+    let (seed, order) = OTHER_ORDER;
+    let opened = Routes::open(rt.alloc(), 1, 4_000_000, 2, 6, seed);
+    let Ok((map, mut seats, mut watchers, keeper)) = opened else {
         return;
     };
     let mut scene = Scene {
@@ -249,6 +265,7 @@ fn updater_does_as_the_script_says(rt: HostRuntime) {
         seat: seats.pop().unwrap(),
         watcher: watchers.pop().unwrap(),
         ports: [0; NETWORKS],
+        order,
     };
     scene.make_all(&rt);
 }

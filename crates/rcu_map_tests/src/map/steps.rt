@@ -49,7 +49,7 @@ fn work_both<R: Threads + Wait + Sync>(rt: &R, control: &Control<'_>) -> (u32, u
 #[test]
 fn route_is_moved_under_one_lock(rt: HostRuntime) {
     // One bucket, and a node for each move.
-    let Ok((map, _, _, keeper)) = Roomy::open(rt.alloc(), 1, 4_000, 1, 1024) else {
+    let Ok((map, _, _, keeper)) = Roomy::open(rt.alloc(), 1, 4_000, 1, 1024, 0) else {
         return;
     };
     let control = Updater::new(&map, keeper);

@@ -142,7 +142,7 @@ fn is_as_told<R: Abort + Wait>(rt: &R, control: &Control<'_>, history: &History)
 
 #[test]
 fn readers_beside_updates_by_two_threads(rt: HostRuntime) {
-    let Ok((map, seats, watchers, keeper)) = Routes::open(rt.alloc(), 7, 4_000_000, BUCKETS, 32)
+    let Ok((map, seats, watchers, keeper)) = Routes::open(rt.alloc(), 7, 4_000_000, BUCKETS, 32, 0)
     else {
         return;
     };

@@ -72,7 +72,7 @@ impl<'a> Scene<'a> {
 /// Makes the calls in their order, up to this last number. Compares the routes to the networks 1 to
 /// 4 in the end: a port of 0 is none.
 fn makes<R: Abort + Wait>(rt: &R, alloc: Global, last: u64, calls: &[Call], ports: [u32; 4]) {
-    let Ok((map, mut seats, _, keeper)) = Two::open(alloc, 1, last, 1, 3) else {
+    let Ok((map, mut seats, _, keeper)) = Two::open(alloc, 1, last, 1, 3, 0) else {
         return;
     };
     let mut scene = Scene {

@@ -6,6 +6,7 @@ ghost use Rattle.rcu_graph.specs.Graph.{IsWalking};
 ghost use Rattle.rcu_graph.specs.Planned.{of_plan};
 ghost use Rattle.rcu_graph.specs.declared.known.Known.TheVariants.{Idle};
 
+use crate::map::bucket_of;
 use crate::map::route::Route;
 use crate::map::threads::history::{History, NETWORKS, Seen};
 use crate::map::threads::{BUCKETS, Routes, Seat};
@@ -44,7 +45,7 @@ impl Listed {
             self.is_whole = true;
             return;
         };
-        let place = (route.network % BUCKETS as u64, route.network);
+        let place = (bucket_of(route.network, BUCKETS as u64), route.network);
         self.is_sorted = self.is_sorted && self.last < place;
         self.last = place;
         match self.routes.get_mut(route.network as usize) {

@@ -113,7 +113,7 @@ fn run_beside<R: Threads + Wait + Sync>(
 
 #[test]
 fn routes_move_on_through_three_nodes(rt: HostRuntime) {
-    let Ok((map, mut seats, _, keeper)) = Moving::open(rt.alloc(), 2, 4_000_000, 1, 4) else {
+    let Ok((map, mut seats, _, keeper)) = Moving::open(rt.alloc(), 2, 4_000_000, 1, 4, 0) else {
         return;
     };
     let mut seat = seats.pop().unwrap();
@@ -190,7 +190,7 @@ fn run_both<R: Threads + Wait + Sync>(
 /// Processor 0 never goes offline. No thread has it here: it is idle, and nobody waits for it.
 #[test]
 fn two_threads_share_three_nodes(rt: HostRuntime) {
-    let Ok((map, mut seats, _, keeper)) = Moving::open(rt.alloc(), 3, 4_000_000, 1, 4) else {
+    let Ok((map, mut seats, _, keeper)) = Moving::open(rt.alloc(), 3, 4_000_000, 1, 4, 0) else {
         return;
     };
     let updater = Updater::new(&map, keeper);

@@ -23,14 +23,14 @@ invariant_of-self g c =
     let few = subst (λ (w : Watching Planned). length (nodes_in w.view.client.known) ≡ p.nodes) e
     (t.keeper.few ∙ ap (λ (q : Plan). q.nodes) planned) in
     let tended = subst (λ (w : Watching Planned). AreTended (IsWhole g.E.Invariant.holds p.words)
-    (λ _ from to. GoesUp p.roots from to) p.roots 1 (nodes_in w.view.client.known))
+    (λ _ from to. GoesUp p.roots p.seed from to) p.roots 1 (nodes_in w.view.client.known))
     e
     (subst (λ (links : _). AreTended (IsWhole g.E.Invariant.holds p.words)
-    (λ _ from to. GoesUp p.roots from to) p.roots links
+    (λ _ from to. GoesUp p.roots p.seed from to) p.roots links
     (nodes_in c.age-number.new.self.view.client.known))
     k.one
     (subst (λ (q : Plan). AreTended (IsWhole g.E.Invariant.holds q.words)
-    (λ _ from to. GoesUp q.roots from to) q.roots q.links
+    (λ _ from to. GoesUp q.roots q.seed from to) q.roots q.links
     (nodes_in c.age-number.new.self.view.client.known))
     planned t.tended)) in
     subst (λ (w : Watching Planned). IsKept g.E.Invariant.holds g.row.W w.view.client.plan
@@ -40,12 +40,12 @@ invariant_of-self g c =
       some = k.some;
       one = k.one;
       words = k.words;
-      map = aged_map g.E.Invariant.holds p.roots p.words p.nodes
+      map = aged_map g.E.Invariant.holds p.roots p.seed p.words p.nodes
           (nodes_in c.self.inside.nodes.view.client.known) k.map c.age-number.result latest few
           tended;
       count =
           k.count
-          ∙ sym (aged_count g.E.Invariant.holds p.roots p.words p.nodes
+          ∙ sym (aged_count g.E.Invariant.holds p.roots p.seed p.words p.nodes
           (nodes_in c.self.inside.nodes.view.client.known) k.map c.age-number.result latest);
     })
 
@@ -60,6 +60,6 @@ returns-clause-entries g c =
     (subst (λ (w : Watching Planned). AreSameEntries p.roots
     (nodes_in c.self.inside.nodes.view.client.known) (nodes_in w.view.client.known))
     (sym e)
-    (aged_entries g.E.Invariant.holds p.roots p.words p.nodes
+    (aged_entries g.E.Invariant.holds p.roots p.seed p.words p.nodes
     (nodes_in c.self.inside.nodes.view.client.known) c.self.invariant.map c.age-number.result
     latest))

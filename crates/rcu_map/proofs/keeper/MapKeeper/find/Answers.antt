@@ -8,7 +8,7 @@ use Rattle.rcu_map.proofs.Chains.{no_entry_of_0}
 use Rattle.rcu_map.proofs.keeper.MapKeeper.find.Goals as goal
 
 pub returns-then-key-eq0 : goal.returns-then-key-eq0
-returns-then-key-eq0 g c = λ has. no_entry_of_0 _ _ _ _ _ c.self.invariant.map
+returns-then-key-eq0 g c = λ has. no_entry_of_0 _ _ _ _ _ _ c.self.invariant.map
     (subst (λ (w : Watching Planned). HasKey (buckets_in w) (nodes_in w.view.client.known) 0)
     (sym c.self.view_is)
     (subst (λ (n : ℕ). HasKey (buckets_in c.args.self.now) (nodes_in

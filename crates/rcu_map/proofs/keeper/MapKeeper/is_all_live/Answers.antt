@@ -14,7 +14,7 @@ overflow_add-result g c =
     let p : Plan = c.self.inside.nodes.view.client.plan in
     let roots = ap (λ (q : Plan). q.roots) c.plan-plan.ensures in
     let nodes = ap (λ (q : Plan). q.nodes) c.plan-plan.ensures in
-    let most = no_more_than_nodes g.E.Invariant.holds p.roots p.words p.nodes
+    let most = no_more_than_nodes g.E.Invariant.holds p.roots p.seed p.words p.nodes
     (nodes_in c.self.inside.nodes.view.client.known) k.map k.some in
     let count = k.count in
     let fits = c.plan-plan.type_inv in
@@ -31,11 +31,11 @@ returns g c =
           let same = eqb-true (c.self.inside.len + c.plan-plan.result.roots)
           c.plan-plan.result.nodes e in
           subst (λ (w : Watching Planned). AreAllLive (nodes_in w.view.client.known)) c.self.view_is
-          (all_are_live g.E.Invariant.holds p.roots p.words p.nodes
+          (all_are_live g.E.Invariant.holds p.roots p.seed p.words p.nodes
           (nodes_in c.self.inside.nodes.view.client.known) k.map k.some
           (omega (arith, same, count, roots, nodes))),
       λ all.
-          let many = as_many_as_nodes g.E.Invariant.holds p.roots p.words p.nodes
+          let many = as_many_as_nodes g.E.Invariant.holds p.roots p.seed p.words p.nodes
           (nodes_in c.self.inside.nodes.view.client.known) k.map k.some
           (subst (λ (w : Watching Planned). AreAllLive (nodes_in w.view.client.known))
           (sym c.self.view_is)

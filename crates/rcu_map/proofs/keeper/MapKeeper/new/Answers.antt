@@ -48,7 +48,7 @@ invariant_of-result g c =
       some = k.some;
       one = k.one;
       words = k.words;
-      map = is_map_first g.E.Invariant.holds p.roots p.words p.nodes nodes e kept.kept
+      map = is_map_first g.E.Invariant.holds p.roots p.seed p.words p.nodes nodes e kept.kept
           (omega (arith, room, words));
-      count = sym (none_first g.E.Invariant.holds p.roots p.words p.nodes nodes e kept.kept);
+      count = sym (none_first g.E.Invariant.holds p.roots p.seed p.words p.nodes nodes e kept.kept);
     })

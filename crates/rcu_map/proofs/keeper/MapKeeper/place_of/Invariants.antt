@@ -8,9 +8,10 @@ use Rattle.rcu_map.proofs.keeper.MapKeeper.place_of.Given as goal
 abbrev pub invariant-chain : goal.invariant-chain
 invariant-chain g l = record {
   live : state_at (nodes_in l.nodes.view.client.known) l.previous ≡ Live;
-  bucket : bucket_in l.nodes.view.client.plan.roots (node_at (nodes_in l.nodes.view.client.known)
+  bucket : bucket_in l.nodes.view.client.plan.roots l.nodes.view.client.plan.seed
+      (node_at (nodes_in l.nodes.view.client.known)
       l.previous).words
-      ≡ bucket_of l.nodes.view.client.plan.roots l.key;
+      ≡ bucket_of l.nodes.view.client.plan.roots l.nodes.view.client.plan.seed l.key;
   less : key_at (nodes_in l.nodes.view.client.known) l.previous < l.key;
 }
 

@@ -28,7 +28,7 @@ put-requires g c =
     (sym c.self.view_is) c.requires.graph in (
       omega arith,
       subst (λ (o : Object Plan). CanPut (IsWhole g.E.Invariant.holds p.words)
-          (λ _ from to. GoesUp p.roots from to) o c.self.inside.nodes c.args.previous words
+          (λ _ from to. GoesUp p.roots p.seed from to) o c.self.inside.nodes c.args.previous words
           c.link_of-next.result)
           (sym c.graph.ensures)
           (can_insert g.E.Invariant.holds c.args.map.now c.self.inside.nodes k.one k.map watches
@@ -49,7 +49,7 @@ overflow_add-self g c =
     let after : List Node = nodes_in c.put.new.keeper.view.client.known in
     let done = c.in_ok-put.ensures in
     let now = k.count in
-    let more = inserted_count g.E.Invariant.holds p.roots p.words p.nodes before k.map
+    let more = inserted_count g.E.Invariant.holds p.roots p.seed p.words p.nodes before k.map
     c.args.previous done.node words c.link_of-next.result after some place c.link_of-next.ensures
     done.inside done.free done.trimmed in
     let most = entries_few p.roots after in
@@ -74,12 +74,13 @@ invariant_of-self-2 g c =
       some = k.some;
       one = k.one;
       words = k.words;
-      map = inserted_map g.E.Invariant.holds p.roots p.words p.nodes before k.map c.args.previous
+      map = inserted_map g.E.Invariant.holds p.roots p.seed p.words p.nodes before k.map
+          c.args.previous
           done.node words c.link_of-next.result after some place c.link_of-next.ensures done.inside
           done.free done.trimmed done.kept.few done.kept.tended;
       count =
           let now = k.count in
-          let more = inserted_count g.E.Invariant.holds p.roots p.words p.nodes before k.map
+          let more = inserted_count g.E.Invariant.holds p.roots p.seed p.words p.nodes before k.map
           c.args.previous done.node words c.link_of-next.result after some place
           c.link_of-next.ensures done.inside done.free done.trimmed in
           omega (arith, now, more);
@@ -101,7 +102,8 @@ returns-clause-put g c =
     c.self.view_is
     (record {
       state = done.state;
-      nodes = inserted g.E.Invariant.holds p.roots p.words p.nodes before k.map c.args.previous
+      nodes = inserted g.E.Invariant.holds p.roots p.seed p.words p.nodes before k.map
+          c.args.previous
           done.node words c.link_of-next.result after some place c.link_of-next.ensures done.inside
           done.free done.trimmed;
     })

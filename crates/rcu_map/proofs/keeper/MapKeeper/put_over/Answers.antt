@@ -39,7 +39,7 @@ put-requires g c =
     (sym c.self.view_is) c.requires.graph in (
       omega arith,
       subst (λ (o : Object Plan). CanPut (IsWhole g.E.Invariant.holds p.words)
-          (λ _ from to. GoesUp p.roots from to) o c.self.inside.nodes c.args.previous words
+          (λ _ from to. GoesUp p.roots p.seed from to) o c.self.inside.nodes c.args.previous words
           c.link_of-next.result)
           (sym c.graph.ensures)
           (can_replace g.E.Invariant.holds c.args.map.now c.self.inside.nodes k.one k.map watches

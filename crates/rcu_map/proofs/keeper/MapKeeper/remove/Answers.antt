@@ -17,7 +17,7 @@ use Rattle.rcu_map.proofs.Allowed.{can_remove, placed}
 use Rattle.rcu_map.proofs.keeper.MapKeeper.remove.Goals as goal
 
 pub returns-then-key-eq0-clause-old : goal.returns-then-key-eq0-clause-old
-returns-then-key-eq0-clause-old g c = λ has. no_entry_of_0 _ _ _ _ _ c.self.invariant.map
+returns-then-key-eq0-clause-old g c = λ has. no_entry_of_0 _ _ _ _ _ _ c.self.invariant.map
     (subst (λ (w : Watching Planned). HasKey (buckets_in w) (nodes_in w.view.client.known) 0)
     (sym c.self.view_is)
     (subst (λ (n : ℕ). HasKey (buckets_in c.args.self.now) (nodes_in
@@ -36,7 +36,7 @@ pass-requires g c =
     let watches = subst (λ (w : Watching Planned). IsWatcherOf c.args.map.now w)
     (sym c.self.view_is) c.requires in (
       omega arith,
-      subst (λ (o : Object Plan). CanPass (λ _ from to. GoesUp p.roots from to) o
+      subst (λ (o : Object Plan). CanPass (λ _ from to. GoesUp p.roots p.seed from to) o
           c.self.inside.nodes previous c.in-Some.old)
           (sym c.graph.ensures)
           (can_remove g.E.Invariant.holds c.args.map.now c.self.inside.nodes k.one k.map watches
@@ -56,7 +56,8 @@ overflow_sub-self g c =
     let after : List Node = nodes_in c.pass.new.keeper.view.client.known in
     let done = c.pass.ensures in
     let now = k.count in
-    let less = removed_count g.E.Invariant.holds p.roots p.words p.nodes before k.map c.args.key
+    let less = removed_count g.E.Invariant.holds p.roots p.seed p.words p.nodes before k.map
+    c.args.key
     previous c.in-Some.old some place done.next after done.leads done.trimmed done.kept.few in
     omega (arith, now, less)
 
@@ -78,12 +79,12 @@ invariant_of-self g c =
       some = k.some;
       one = k.one;
       words = k.words;
-      map = removed_map g.E.Invariant.holds p.roots p.words p.nodes before k.map c.args.key previous
-          c.in-Some.old some place done.next after done.leads done.trimmed done.kept.few
+      map = removed_map g.E.Invariant.holds p.roots p.seed p.words p.nodes before k.map c.args.key
+          previous c.in-Some.old some place done.next after done.leads done.trimmed done.kept.few
           done.kept.tended;
       count =
           let now = k.count in
-          let less = removed_count g.E.Invariant.holds p.roots p.words p.nodes before k.map
+          let less = removed_count g.E.Invariant.holds p.roots p.seed p.words p.nodes before k.map
           c.args.key previous c.in-Some.old some place done.next after done.leads done.trimmed
           done.kept.few in
           omega (arith, now, less);
@@ -106,6 +107,6 @@ returns-clause-removed g c = λ e.
     c.self.view_is
     (record {
       state = done.state;
-      nodes = removed g.E.Invariant.holds p.roots p.words p.nodes before k.map c.args.key previous
-          c.in-Some.old some place done.next after done.leads done.trimmed;
+      nodes = removed g.E.Invariant.holds p.roots p.seed p.words p.nodes before k.map c.args.key
+          previous c.in-Some.old some place done.next after done.leads done.trimmed;
     })

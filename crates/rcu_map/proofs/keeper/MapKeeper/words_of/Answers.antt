@@ -15,7 +15,7 @@ word-requires-clause-node g c =
     subst (λ (w : Watching Planned). IsEntry (buckets_in w) (nodes_in w.view.client.known)
     c.args.node)
     (sym c.self.view_is) c.requires in
-    inside _ _ _ _ _ c.self.invariant.map c.args.node own.live
+    inside _ _ _ _ _ _ c.self.invariant.map c.args.node own.live
 
 pub loop-word-preserved : goal.loop-word-preserved
 loop-word-preserved g c =
@@ -45,7 +45,7 @@ returns g c =
     read_all c.loop-word.words
     (node_at (nodes_in c.self.inside.nodes.view.client.known) c.args.node).words g.row.W
     (i.size ∙ zeros g.row.W)
-    (sized _ _ _ _ _ c.self.invariant.map c.args.node own.live ∙ c.self.invariant.words)
+    (sized _ _ _ _ _ _ c.self.invariant.map c.args.node own.live ∙ c.self.invariant.words)
     (λ j low. i.told j (omega (arith, low))) in
     record {
       same =
@@ -54,5 +54,5 @@ returns g c =
           c.args.node).words)
           c.self.view_is;
       whole = subst g.E.Invariant.holds (sym all)
-          (entry_fits _ _ _ _ _ c.self.invariant.map c.args.node own);
+          (entry_fits _ _ _ _ _ _ c.self.invariant.map c.args.node own);
     }

@@ -1,21 +1,29 @@
-use Rattle.std.proofs.Common.{sym, ap, ◌∙◌, subst, inr, arith}
+use Rattle.std.proofs.Common.{◌∙◌, Some, ap, arith, inr, subst, sym, ℕ}
 use Rattle.rcu_live.specs.CpuSeat.{Seated}
 use Rattle.rcu_graph.specs.Nodes.{IsHeld}
+use Rattle.rcu_graph.specs.Search.{IsSearched}
 use Rattle.rcu_graph.specs.declared.known.Planned.{Planned}
+use Rattle.rcu_map.specs.Keys.{bucket_of}
 use Rattle.rcu_map.proofs.map.Map.get.Goals as goal
 
-pub returns-clause-found : goal.returns-clause-found
-returns-clause-found g c =
+pub returns-clause-got : goal.returns-clause-got
+returns-clause-got g c = λ up.
     let f = c.in_ok-node.ensures.found in
-    let up = c.in_ok-node.ensures.keyed in
+    let node : ℕ = c.in_ok-node.node in
+    let back = sym c.words_at.ensures.same in
+    let bucket : ℕ = bucket_of c.args.self.now.plan.roots c.args.self.now.plan.seed c.args.key in
     record {
-      node = c.in_ok-node.node;
-      words = f.words;
-      held = subst (λ (s : Seated Planned). IsHeld s.view.client.known c.in_ok-node.node f.words)
-          (sym c.words_at.ensures.same) f.held;
-      whole = f.whole.entry (let is = f.is in omega (arith, is, up));
-      is = f.is;
-      told =
-          c.of_words.ensures.told
-          ∙ ap g.E.Value.decode (c.words_at.ensures.told f.words (inr f.held) f.whole);
+      node = Some node;
+      searched = subst (λ (s : Seated Planned). IsSearched bucket c.args.key
+          c.args.seat.now.view.client.known (Some node) s.view.client.known)
+          back (c.in_ok-node.ensures.searched up);
+      told = record {
+        words = f.words;
+        held = subst (λ (s : Seated Planned). IsHeld s.view.client.known node f.words) back f.held;
+        whole = f.whole.entry (let is = f.is in omega (arith, is, up));
+        is = f.is;
+        told =
+            c.of_words.ensures.told
+            ∙ ap g.E.Value.decode (c.words_at.ensures.told f.words (inr f.held) f.whole);
+      };
     }

@@ -12,7 +12,8 @@ pub buckets-init : goal.buckets-init
 buckets-init g c = record {
   same = refl;
   may = c.requires;
-  passing = begins c.args.self.now.plan.roots c.args.seat.now.view.client.known c.args.start;
+  passing = begins c.args.self.now.plan.roots c.args.self.now.plan.seed
+      c.args.seat.now.view.client.known c.args.start;
   left = omega arith;
 }
 
@@ -83,7 +84,8 @@ returns g c =
     record {
       same = i.same;
       may = i.may;
-      went = is_at_end c.args.self.now.plan.roots c.args.seat.now.view.client.known
+      went = is_at_end c.args.self.now.plan.roots c.args.self.now.plan.seed
+          c.args.seat.now.view.client.known
           c.buckets.seat.view.client.known
           c.args.start c.buckets.at i.passing (omega (arith, past, within, roots));
       keyed = tt;

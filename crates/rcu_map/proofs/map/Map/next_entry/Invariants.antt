@@ -9,8 +9,8 @@ abbrev pub invariant-buckets : goal.invariant-buckets
 invariant-buckets g l = record {
   same : l.seat ≡ after_word_step l.initial.seat l.seat.view.client;
   may : MayGoOn l.self l.seat l.at;
-  passing : IsPassing l.self.plan.roots l.initial.seat.view.client.known l.initial.at
-      l.seat.view.client.known l.at;
+  passing : IsPassing l.self.plan.roots l.self.plan.seed l.initial.seat.view.client.known
+      l.initial.at l.seat.view.client.known l.at;
   left : left_from l.self.plan.roots l.at ≤ left_from l.self.plan.roots l.initial.at;
 }
 

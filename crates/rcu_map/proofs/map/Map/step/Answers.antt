@@ -17,7 +17,7 @@ follow-requires g c =
     let inside = subst (λ (map : Object Plan). c.args.at.bucket < map.plan.roots) back
     c.requires.inside in
     let p : Plan = c.self.inside.graph.plan in
-    let o = on_words p.nodes p.roots p.words c.args.seat.now.view.client.known c.args.at
+    let o = on_words p.nodes p.roots p.seed p.words c.args.seat.now.view.client.known c.args.at
     (let words = c.self.invariant.words in omega (arith, c.words_are_two.ensures, words)) inside
     (may.on inside) in (
       omega arith,
@@ -40,7 +40,7 @@ returns-in_default g c =
     let inside = subst (λ (map : Object Plan). c.args.at.bucket < map.plan.roots) back
     c.requires.inside in
     let p : Plan = c.self.inside.graph.plan in
-    let o = on_words p.nodes p.roots p.words c.args.seat.now.view.client.known c.args.at
+    let o = on_words p.nodes p.roots p.seed p.words c.args.seat.now.view.client.known c.args.at
     (let words = c.self.invariant.words in omega (arith, c.words_are_two.ensures, words)) inside
     (may.on inside) in
     let e = c.in_default.ensures in
@@ -63,7 +63,7 @@ returns g c =
     let inside = subst (λ (map : Object Plan). c.args.at.bucket < map.plan.roots) back
     c.requires.inside in
     let p : Plan = c.self.inside.graph.plan in
-    let o = on_words p.nodes p.roots p.words c.args.seat.now.view.client.known c.args.at
+    let o = on_words p.nodes p.roots p.seed p.words c.args.seat.now.view.client.known c.args.at
     (let words = c.self.invariant.words in omega (arith, c.words_are_two.ensures, words)) inside
     (may.on inside) in
     let e = c.in-Some.ensures in

@@ -5,8 +5,8 @@ use Rattle.rcu_map.specs.Listed.{known_in, listing}
 use Rattle.rcu_map_tests.proofs.map.script.lists.Given as goal
 
 -- the seat is lent still, and only what its section knows changes
-abbrev pub invariant-loop-network : goal.invariant-loop-network
-invariant-loop-network g l = record {
+abbrev pub invariant-loop-route : goal.invariant-loop-route
+invariant-loop-route g l = record {
   map : (listing l.entries).map ≡ (listing l.initial.entries).map;
   name : (listing l.entries).name ≡ (listing l.initial.entries).name;
   seat : (listing l.entries).seat
