@@ -8,6 +8,7 @@ pub mod Keeping
 pub mod Walking
 pub mod Starts
 pub mod Searching
+pub mod SmallRuns
 pub mod Chains
 pub mod Hindsight
 pub mod Counting

@@ -10,6 +10,7 @@ pub mod Opening
 pub mod Planned
 pub mod Rule
 pub mod Search
+pub mod SmallRun
 pub mod Stability
 pub mod Steps
 pub mod Walks

@@ -5,6 +5,7 @@
 mod allowed;
 mod counted_nodes;
 mod cycle;
+pub mod definition_laws;
 pub mod graph;
 pub mod keeper;
 mod keeper_steps;

@@ -1,13 +1,24 @@
-//! What going over the entries of a map tells, over the definitions alone.
-ghost use Rattle.std.specs.Prelude.{◌≡◌, ◌<◌, ◌≤◌, ◌++◌, Bool, List, ℕ};
+//! What is said of the keys of a map, and of going over its entries, over the definitions alone.
+ghost use Rattle.std.specs.Prelude.{◌≡◌, ◌↔◌, ◌<◌, ◌≤◌, ◌++◌, Bool, List, ℕ};
 ghost use Rattle.rcu_graph.specs.Absence.{AreMadeBy, IsHistory, IsLinkedKey};
 ghost use Rattle.rcu_graph.specs.declared.known.Hop.{Hop};
 ghost use Rattle.rcu_graph.specs.declared.known.Node.{Node};
+ghost use Rattle.rcu_map.specs.Chains.{IsMap};
+ghost use Rattle.rcu_map.specs.Entries.{HasKey};
 ghost use Rattle.rcu_map.specs.Keys.{bucket_of};
 ghost use Rattle.rcu_map.specs.Listing.{GoOn, IsListed, at_root};
 ghost use Rattle.rcu_map.specs.declared.cursor.Cursor.{Cursor};
 
+use crate::entry::Entry;
 use rcu_graph::laws::linked_keys_are_found;
+
+/// A key is in a map exactly where the chain of its bucket leads to it. So what is said of keys
+/// that are linked, as that a section finds them, is said of the keys of entries.
+pub fn keys_of_a_map_are_linked<E: Entry<W>, const W: usize>()
+    ensures { (buckets seed key count : ℕ) (nodes : List Node) → 0 < buckets → 0 < key →
+        IsMap E.holds buckets seed W count nodes →
+        HasKey buckets nodes key ↔ IsLinkedKey (bucket_of buckets seed key) key nodes }
+{}
 
 /// Calls of `next` one after another go on like one: from the cursor before the first one to that
 /// after the last one, by the hops of all.

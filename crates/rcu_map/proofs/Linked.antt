@@ -1,0 +1,96 @@
+-- A key that is in a map is linked, and no other one is.
+use Rattle.std.proofs.Common.{◌≡◌, ◌+◌, ◌<◌, ◌≤◌, ◌∙◌, ℕ, zero, suc, ⊎_elim, List, arith, subst}
+use Rattle.std.proofs.Common.{sym}
+use Rattle.std.proofs.lemmas.Bool.{cases_lt}
+use Rattle.rcu_graph.specs.Absence.{IsLinkedKey, Reaches, arrived, key_at, next_of, onwards}
+use Rattle.rcu_graph.specs.Nodes.{state_at}
+use Rattle.rcu_graph.specs.declared.known.Node.{Node}
+use Rattle.rcu_graph.specs.declared.node_state.NodeState.TheVariants.{Live}
+use Rattle.rcu_map.specs.Chains.{AreOfOneBucket, IsMap}
+use Rattle.rcu_map.specs.Entries.{HasKey}
+use Rattle.rcu_map.specs.Keys.{bucket_of}
+use Rattle.rcu_map.proofs.Chains.{begins, behind_roots, led, of_its_bucket}
+
+-- the link of a node leads on to this one
+record LeadsOn (nodes : List Node) (from to : ℕ) : Type 0 where
+  begin : ℕ
+  begins : next_of nodes from ≡ suc begin
+  reached : Reaches nodes to begin
+
+module _ (holds : List ℕ → Type 0) (buckets seed width count : ℕ) (A : List Node)
+    (m : IsMap holds buckets seed width count A) where
+  -- from a live node the chain leads to each one of its bucket with a greater key
+  leads_on : (fuel i j : ℕ)
+      → AreOfOneBucket buckets seed A i j
+      → key_at A i < key_at A j
+      → key_at A j ≤ key_at A i + fuel
+      → LeadsOn A i j
+  leads_on zero i j one up near = absurd (omega (arith, up, near))
+  leads_on (suc fuel) i j one up near =
+      let t = m.next i j one up in
+      let on = led holds buckets seed width count A m i t.to one.first t.leads in
+      let higher = on.1.up in
+      let rest : AreOfOneBucket buckets seed A t.to j = record {
+        first = on.0;
+        second = one.second;
+        same = sym on.1.same ∙ one.same;
+      } in
+      ⊎_elim
+      (λ (less : key_at A t.to < key_at A j).
+      let further = leads_on fuel t.to j rest less (omega (arith, near, higher)) in record {
+        begin = t.to;
+        begins = t.leads;
+        reached = onwards t.to further.begin further.begins further.reached;
+      })
+      (λ (past : key_at A j ≤ key_at A t.to).
+      let close = t.near in record {
+        begin = t.to;
+        begins = t.leads;
+        reached = arrived t.to (m.apart t.to j rest (omega (arith, past, close)));
+      })
+      (cases_lt (key_at A t.to) (key_at A j))
+
+  -- what the links of a live node lead to is live
+  live_all : (to from : ℕ) → state_at A from ≡ Live → Reaches A to from → state_at A to ≡ Live
+  live_all to from live (arrived at is) = subst (λ (n : ℕ). state_at A n ≡ Live) is live
+  live_all to from live (onwards at next leads further) =
+      live_all to next (led holds buckets seed width count A m from next live leads).0 further
+
+  module _ (key : ℕ) (some : 0 < buckets) (room : 1 < width) (up : 0 < key) where
+    pub is_linked : HasKey buckets A key → IsLinkedKey (bucket_of buckets seed key) key A
+    is_linked has =
+        let b = begins holds buckets seed width count A m key some room up in
+        let is = has.1.is in
+        let low = b.2 in
+        let one : AreOfOneBucket buckets seed A (bucket_of buckets seed key) has.0 = record {
+          first = b.0;
+          second = has.1.entry.live;
+          same = b.1
+              ∙ sym (of_its_bucket holds buckets seed width count A m key has.0 up has.1);
+        } in
+        let on = leads_on key (bucket_of buckets seed key) has.0 one (omega (arith, is, low))
+        (omega (arith, is)) in
+        record {
+          begin = on.begin;
+          holder = has.0;
+          begins = on.begins;
+          reached = on.reached;
+          has = is;
+        }
+
+    pub has_linked : IsLinkedKey (bucket_of buckets seed key) key A → HasKey buckets A key
+    has_linked linked =
+        let b = begins holds buckets seed width count A m key some room up in
+        let first = led holds buckets seed width count A m (bucket_of buckets seed key)
+        linked.begin b.0 linked.begins in
+        let is = linked.has in (
+          linked.holder,
+          record {
+            entry = record {
+              behind = behind_roots holds buckets seed width count A m linked.holder
+                  (omega (arith, is, up));
+              live = live_all linked.holder linked.begin first.0 linked.reached;
+            };
+            is = is;
+          },
+        )
