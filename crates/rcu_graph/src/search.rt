@@ -40,7 +40,7 @@ impl<const LEAF: u32, const FAN: u32, T: Drop, F: Shape> Graph<LEAF, FAN, T, F> 
     {
         self.plan();
         let mut on = root;
-        let mut least = self.key_of(seat, root);
+        let mut least = 0;
         'chain: loop {
             let Some(next) = self.follow(seat, on, 0) else {
                 return None;

@@ -137,7 +137,7 @@ module _ (holds : List ℕ → Type 0) (buckets seed width count : ℕ) (A : Lis
     -- behind the previous node comes the old one
     pub past_old : (j : ℕ)
         → AreOfOneBucket buckets seed A previous j → but old j ≡ true → key_at A previous < key_at A
-            j
+        j
         → key_at A old < key_at A j
     past_old j one stays more =
         let t = m.next previous j one more in
@@ -158,9 +158,12 @@ module _ (holds : List ℕ → Type 0) (buckets seed width count : ℕ) (A : Lis
       less = place.less;
       onward = λ j one stays more.
           let is = place.leads.1 in
-          let t = m.next old j (with_old j one) (omega (arith, is, more)) in
-          (t.to, t.leads, (led holds buckets seed width count A m old t.to old_led.0 t.leads).0,
-          t.near);
+          let t = m.next old j (with_old j one) (omega (arith, is, more)) in (
+            t.to,
+            t.leads,
+            (led holds buckets seed width count A m old t.to old_led.0 t.leads).0,
+            t.near,
+          );
       upward = λ j one stays more.
           let is = place.leads.1 in let past = past_old j one stays more in omega (arith, is, past);
     }
@@ -242,7 +245,7 @@ module _ (holds : List ℕ → Type 0) (buckets seed width count : ℕ) (A : Lis
     -- a node of the new one's bucket
     beside : (j : ℕ)
         → j ≢ node → state_at S j ≡ Live → bucket_at buckets seed S node ≡ bucket_at buckets seed S
-            j
+        j
         → AreOfOneBucket buckets seed A previous j
     beside j nj live same = record {
       first = gap.live;

@@ -204,7 +204,7 @@ module _
       → AreMadeBy nodes last hops
       → IsListed key hops
   are_listed ours opened buckets seed key last nodes hops at low keyed goes ended history linked
-    made =
+      made =
       by (progress (bucket_of buckets seed key) key buckets seed hops at keyed goes)
     where
       root : ℕ

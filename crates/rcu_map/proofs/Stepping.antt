@@ -243,7 +243,7 @@ module _ (holds : List ℕ → Type 0) (map : Object Plan) (old new : Seated Pla
       × (h.words ≡ s.hop.words))
       (sym s.are) (0, s.hop, refl, w.to, refl)
 
-  pub on_entry : 0 < at.key → IsOnEntry holds map new at.node
+  pub on_entry : 0 < at.key → IsOnEntry holds map new at.node at.key
   on_entry keyed =
       let w = went_on keyed in
       let k = w.key in
@@ -255,7 +255,8 @@ module _ (holds : List ℕ → Type 0) (map : Object Plan) (old new : Seated Pla
         words = s.hop.words;
         held = step_held keyed;
         whole = s.whole keyed;
-        keyed = omega (arith, k, keyed);
+        keyed = keyed;
+        is = k;
       }
 
 -- a section that goes over chains, and came to no entry yet

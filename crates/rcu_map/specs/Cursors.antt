@@ -39,15 +39,16 @@ pub record MayGoOn (map : Object Plan) (seat : Seated Planned) (at : Cursor) : T
   pub on : at.bucket < map.plan.roots
       → IsOnCursor map.plan.nodes map.plan.roots map.plan.seed seat.view.client.known at
 
--- an open section is on a node that has the words of an entry
+-- an open section is on a node that has the words of an entry, and this key
 pub record IsOnEntry (holds : List ℕ → Type 0) (map : Object Plan) (seat : Seated Planned)
-    (node : ℕ) : Type 0 where
+    (node key : ℕ) : Type 0 where
   pub walking : IsWalking map seat
   pub inside : node < map.plan.nodes
   pub words : List ℕ
   pub held : IsHeld seat.view.client.known node words
   pub whole : IsWhole holds map.plan.words words
-  pub keyed : 0 < key_in words
+  pub keyed : 0 < key
+  pub is : key_in words ≡ key
 
 -- an open section went on from a cursor by one hop, and is where that led
 pub record HasStepped (holds : List ℕ → Type 0) (map : Object Plan) (old : Seated Planned)

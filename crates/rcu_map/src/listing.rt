@@ -3,7 +3,7 @@ ghost use Rattle.std.specs.Prelude.{◌≡◌, ◌<◌, List, ℕ};
 ghost use Rattle.rcu_graph.specs.Graph.{IsWalking};
 ghost use Rattle.rcu_graph.specs.Nodes.{IsHeld};
 ghost use Rattle.rcu_map.specs.Cursors.{HasListed, HasStepped, IsOnEntry, MayGoOn};
-ghost use Rattle.rcu_map.specs.Keys.{IsWhole};
+ghost use Rattle.rcu_map.specs.Keys.{IsWhole, key_in};
 ghost use Rattle.rcu_map.specs.Listing.{at_root, left_from};
 ghost use Rattle.rcu_map.specs.Listed.{Listed, listing};
 
@@ -41,14 +41,15 @@ impl<const LEAF: u32, const FAN: u32, T: Drop, E: Entry<W>, const W: usize> Map<
     }
 
     /// The entry that a node has, by a load a word.
-    fn entry_at(&self, seat: &mut MapSeat<E, W>, node: usize) -> E
-        requires { IsOnEntry E.holds self.now seat.old node }
+    fn entry_at(&self, seat: &mut MapSeat<E, W>, node: usize, key: u64) -> E
+        requires { IsOnEntry E.holds self.now seat.old node key }
         ensures same { seat.new ≡ seat.old }
         ensures told { (words : List ℕ) → IsHeld seat.old.view.client.known node words →
-            IsWhole E.holds self.now.plan.words words → result ≡ E.decode words }
+            IsWhole E.holds self.now.plan.words words → key_in words ≡ key →
+            result ≡ E.decode words }
         ensures sound { E.valid result }
     {
-        E::of_words(&self.words_at(seat, node))
+        E::of_words(&self.words_at(seat, node, key))
     }
 
     /// Goes on from a cursor to the next entry. None tells that no bucket has a further one.
@@ -62,7 +63,7 @@ impl<const LEAF: u32, const FAN: u32, T: Drop, E: Entry<W>, const W: usize> Map<
         'buckets: while at.bucket < buckets {
             at = self.step(seat, at);
             if at.key > 0 {
-                return (at, Some(self.entry_at(seat, at.node)));
+                return (at, Some(self.entry_at(seat, at.node, at.key)));
             }
         }
         (at, None)
@@ -96,8 +97,8 @@ impl<'a, const LEAF: u32, const FAN: u32, T: Drop, E: Entry<W>, const W: usize> 
 
     ghost remaining = { λ s. at_most (left_from (listing s).map.plan.roots (listing s).at) };
 
-    /// The next entry, by two loads for each node of the chains from here up to there, and one a
-    /// word.
+    /// The next entry, by two loads for each node of the chains from here up to there, and one for
+    /// each word of it but the key.
     fn next(&mut self) -> Option<E> {
         let (at, entry) = self.map.next_entry(self.seat, self.at);
         self.at = at;

@@ -5,7 +5,7 @@ ghost use Rattle.rcu_graph.specs.Graph.{IsAt, IsWalking};
 ghost use Rattle.rcu_graph.specs.Nodes.{IsOn};
 ghost use Rattle.rcu_graph.specs.Search.{IsFound, IsSearched};
 ghost use Rattle.rcu_map.specs.Found.{IsGot, IsLookedUp};
-ghost use Rattle.rcu_map.specs.Keys.{IsWhole, bucket_of, root_words};
+ghost use Rattle.rcu_map.specs.Keys.{IsWhole, bucket_of, key_in, root_words};
 
 use crate::bucket::bucket_of;
 use crate::entry::Entry;
@@ -83,18 +83,19 @@ impl<const LEAF: u32, const FAN: u32, T: Drop, E: Entry<W>, const W: usize> Map<
         &self.graph
     }
 
-    /// The words of the node that the section is on, by a load each.
-    pub(crate) fn words_at(&self, seat: &mut MapSeat<E, W>, node: usize) -> [u64; W]
+    /// The words of the node that the section is on, whose key was read: by a load each of the
+    /// others.
+    pub(crate) fn words_at(&self, seat: &mut MapSeat<E, W>, node: usize, key: u64) -> [u64; W]
         requires at { IsAt (root_words self.now.plan.words) self.now seat.old node }
         ensures same { seat.new ≡ seat.old }
         ensures told { (words : List ℕ) →
             IsOn (root_words self.now.plan.words) self.now.plan.roots
             seat.old.view.client.known node words →
-            IsWhole E.holds self.now.plan.words words → result ≡ words }
+            IsWhole E.holds self.now.plan.words words → key_in words ≡ key → result ≡ words }
     {
         self.plan();
-        let mut words = [0u64; W];
-        for word in 0..W {
+        let mut words = [key; W];
+        for word in 1..W {
             words[word] = self.graph.read(seat, node, word);
         }
         words
@@ -122,8 +123,9 @@ impl<const LEAF: u32, const FAN: u32, T: Drop, E: Entry<W>, const W: usize> Map<
         self.graph.find(seat, bucket, key)
     }
 
-    /// The entry of this key, by two loads for each node of its bucket up to there, and one a word.
-    /// It ends, whatever the keeper does meanwhile. No entry has the key 0.
+    /// The entry of this key, by two loads for each node of its bucket up to there, and one for
+    /// each word of it but the key. It ends, whatever the keeper does meanwhile. No entry has the
+    /// key 0.
     pub fn get(&self, seat: &mut MapSeat<E, W>, key: u64) -> Option<E>
         requires walking { IsWalking self.now seat.old }
         ensures same { seat.new ≡ after_word_step seat.old seat.new.view.client }
@@ -135,7 +137,7 @@ impl<const LEAF: u32, const FAN: u32, T: Drop, E: Entry<W>, const W: usize> Map<
         ensures sound { IfSome result (λ entry. E.valid entry) }
     {
         let node = self.find(seat, key)?;
-        Some(E::of_words(&self.words_at(seat, node)))
+        Some(E::of_words(&self.words_at(seat, node, key)))
     }
 
     /// Whether the section finds an entry of this key, as [`get`](Self::get) does.

@@ -6,7 +6,7 @@ pub returns : goal.returns
 returns g c = λ buckets seed key count nodes some up map.
     let room = g.met.E.Entry.roomy in (
       is_linked g.E.Invariant.holds buckets seed g.row.W count nodes map key some
-      (omega (arith, room)) up,
+          (omega (arith, room)) up,
       has_linked g.E.Invariant.holds buckets seed g.row.W count nodes map key some
-      (omega (arith, room)) up,
+          (omega (arith, room)) up,
     )

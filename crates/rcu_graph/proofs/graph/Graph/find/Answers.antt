@@ -1,5 +1,5 @@
-use Rattle.std.proofs.Common.{◌≡◌, ℕ, ◌<◌, List, Some, None, refl, sym, subst, inl, inr, arith, ap}
-use Rattle.std.proofs.Common.{◌∙◌}
+use Rattle.std.proofs.Common.{◌≡◌, ◌∙◌, ℕ, ◌<◌, ◌≤◌, List, Some, None, refl, sym, subst, inl, inr}
+use Rattle.std.proofs.Common.{ap, arith}
 use Rattle.std.specs.Prelude.{slice_index}
 use Rattle.rcu_live.specs.CpuSeat.{Seated}
 use Rattle.rcu_graph.specs.Graph.{IsAt, IsWalking}
@@ -10,41 +10,27 @@ use Rattle.rcu_graph.proofs.Searching.{IsOnPath, arrives, goes_on, sets_out}
 use Rattle.rcu_graph.proofs.Walking.{came_holds, came_to, found_it, hops_on, walks_at}
 use Rattle.rcu_graph.proofs.graph.Graph.find.Goals as goal
 
-pub key_of-least-requires : goal.key_of-least-requires
-key_of-least-requires g c = (
-  omega arith,
-  record {
-    walking = c.requires.walking;
-    words = (g.F.Shape.first c.args.self.now.plan) c.args.root;
-    on = inl (c.requires.root, refl);
-    inside = omega (arith, c.requires.root, c.plan.ensures.roots);
-  },
-)
-
 pub chain-init : goal.chain-init
 chain-init g c = record {
   same = refl;
   planned = refl;
-  reader = subst (λ (s : Seated Planned). IsReader s.view.client.known)
-      (sym c.key_of-least.ensures.same)
-      c.requires.walking.reads;
+  reader = c.requires.walking.reads;
   inside = omega (arith, c.requires.root, c.plan.ensures.roots);
   on = (
     (g.F.Shape.first c.args.self.now.plan) c.args.root,
     inl (c.requires.root, refl),
-    sym (c.key_of-least.ensures.told ((g.F.Shape.first c.args.self.now.plan) c.args.root)
-        (inl (c.requires.root, refl))),
+    omega arith,
   );
-  path = sets_out c.args.root c.args.key c.key_of-least.new.seat.view.client.known;
+  path = sets_out c.args.root c.args.key c.args.seat.now.view.client.known;
 }
 
 pub follow-requires : goal.follow-requires
 follow-requires g c =
-    let i = c.chain.invariant in
-    let first = subst (IsWalking _) (sym c.key_of-least.ensures.same) c.requires.walking in (
+    let i = c.chain.invariant in (
       omega arith,
       (
-        walks_at _ _ _ c.chain.seat _ i.on.0 i.same i.planned first i.reader i.on.1 i.inside,
+        walks_at _ _ _ c.chain.seat _ i.on.0 i.same i.planned c.requires.walking i.reader i.on.1
+            i.inside,
         c.requires.link,
       ),
     )
@@ -81,10 +67,10 @@ returns-then-found-key-clause-searched g c =
     let f = c.in-Some.ensures.came i.on.0 i.on.1 in
     let held = came_holds _ _ _ _ _ _ _ _ _ f in
     let told = c.key_of-found.ensures.told f.words (inr held) in
-    subst (λ (s : Seated Planned × Seated Planned).
-    IsSearched c.args.root c.args.key s.0.view.client.known (Some c.in-Some.next)
-    s.1.view.client.known)
-    (λ z. (c.key_of-least.ensures.same z, sym c.key_of-found.ensures.same z))
+    subst (λ (s : Seated Planned).
+    IsSearched c.args.root c.args.key c.args.seat.now.view.client.known (Some c.in-Some.next)
+    s.view.client.known)
+    (sym c.key_of-found.ensures.same)
     (arrives _ _ _ _ _ _ _ _ _ _ _ (Some c.in-Some.next) i.path f
     (refl, omega (arith, told, c.if-found-key.true)))
 
@@ -94,18 +80,16 @@ returns-then-found-key-2-clause-searched g c =
     let f = c.in-Some.ensures.came i.on.0 i.on.1 in
     let held = came_holds _ _ _ _ _ _ _ _ _ f in
     let told = c.key_of-found.ensures.told f.words (inr held) in
-    subst (λ (s : Seated Planned × Seated Planned).
-    IsSearched c.args.root c.args.key s.0.view.client.known None s.1.view.client.known)
-    (λ z. (c.key_of-least.ensures.same z, sym c.key_of-found.ensures.same z))
+    subst (λ (s : Seated Planned).
+    IsSearched c.args.root c.args.key c.args.seat.now.view.client.known None s.view.client.known)
+    (sym c.key_of-found.ensures.same)
     (arrives _ _ _ _ _ _ _ _ _ _ _ None i.path f (inr (omega (arith, told, c.if-found-key-2.true))))
 
 pub returns-in_default-clause-searched : goal.returns-in_default-clause-searched
 returns-in_default-clause-searched g c =
     let i = c.chain.invariant in
     let f = c.in_default.ensures.came i.on.0 i.on.1 in
-    subst (λ (s : Seated Planned).
-    IsSearched c.args.root c.args.key s.view.client.known None c.follow.new.seat.view.client.known)
-    c.key_of-least.ensures.same (arrives _ _ _ _ _ _ _ _ _ _ _ None i.path f (inl refl))
+    arrives _ _ _ _ _ _ _ _ _ _ _ None i.path f (inl refl)
 
 pub returns-then-found-key-2-clause-walking : goal.returns-then-found-key-2-clause-walking
 returns-then-found-key-2-clause-walking g c =
@@ -130,13 +114,12 @@ chain-preserved g c =
     let held = came_holds _ _ _ _ _ _ _ _ _ f in
     let told = c.key_of-found.ensures.told f.words (inr held) in
     record {
-      same = hops_on c.key_of-least.new.seat c.chain.seat c.follow.new.seat c.key_of-found.new.seat
+      same = hops_on c.args.seat.now c.chain.seat c.follow.new.seat c.key_of-found.new.seat
           i.same c.in-Some.ensures.same c.key_of-found.ensures.same;
       planned =
           ap (λ (s : Seated Planned). s.view.client.plan) c.key_of-found.ensures.same
           ∙ (c.in-Some.ensures.walking.seat_of.planned
-          ∙ sym (subst (IsWalking _) (sym c.key_of-least.ensures.same)
-          c.requires.walking).seat_of.planned);
+          ∙ sym c.requires.walking.seat_of.planned);
       reader = subst (λ (s : Seated Planned). IsReader s.view.client.known)
           (sym c.key_of-found.ensures.same) c.in-Some.ensures.walking.reads;
       inside = came.inside;
@@ -144,10 +127,10 @@ chain-preserved g c =
           (words : List ℕ)
           × IsOn (g.F.Shape.first c.args.self.now.plan) c.args.self.now.plan.roots
           s.view.client.known c.in-Some.next words
-          × (slice_index words 0 ≡ c.key_of-found.result))
-          (sym c.key_of-found.ensures.same) (f.words, inr held, sym told);
+          × (c.key_of-found.result ≤ slice_index words 0))
+          (sym c.key_of-found.ensures.same) (f.words, inr held, omega (arith, told));
       path = subst (λ (s : Seated Planned). IsOnPath c.args.root c.args.key
-          c.key_of-least.new.seat.view.client.known s.view.client.known c.in-Some.next)
+          c.args.seat.now.view.client.known s.view.client.known c.in-Some.next)
           (sym c.key_of-found.ensures.same)
           (goes_on _ _ _ _ _ _ _ _ _ _ _ i.path f
           (omega (arith, told, c.if-found-key.false, c.if-found-key-2.false)));

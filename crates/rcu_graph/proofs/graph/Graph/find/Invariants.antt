@@ -1,4 +1,4 @@
-use Rattle.std.proofs.Common.{◌≡◌, ◌<◌, ◌-◌, ℕ, List}
+use Rattle.std.proofs.Common.{◌≡◌, ◌<◌, ◌≤◌, ◌-◌, ℕ, List}
 use Rattle.std.specs.Prelude.{slice_index}
 use Rattle.rcu_live.specs.CpuSeat.{after_word_step}
 use Rattle.rcu_graph.specs.Nodes.{IsOn, IsReader}
@@ -13,7 +13,7 @@ invariant-chain g l = record {
   inside : l.on < l.self.plan.nodes;
   on : (words : List ℕ)
       × IsOn (g.F.Shape.first l.self.plan) l.self.plan.roots l.seat.view.client.known l.on words
-      × (slice_index words 0 ≡ l.least);
+      × (l.least ≤ slice_index words 0);
   path : IsOnPath l.root l.key l.initial.seat.view.client.known l.seat.view.client.known l.on;
 }
 

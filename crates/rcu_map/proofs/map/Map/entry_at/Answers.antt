@@ -20,10 +20,11 @@ of_words-requires g c =
     let r = c.requires in
     let small = g.met.E.Value.small in (
       omega (arith, small),
-      subst g.E.Invariant.holds (sym (c.words_at.ensures.told r.words (inr r.held) r.whole))
-          (r.whole.entry r.keyed),
+      subst g.E.Invariant.holds (sym (c.words_at.ensures.told r.words (inr r.held) r.whole r.is))
+          (r.whole.entry (let is = r.is in omega (arith, is, r.keyed))),
     )
 
 pub returns-clause-told : goal.returns-clause-told
-returns-clause-told g c = λ words held whole.
-    c.of_words.ensures.told ∙ ap g.E.Value.decode (c.words_at.ensures.told words (inr held) whole)
+returns-clause-told g c = λ words held whole is.
+    c.of_words.ensures.told
+    ∙ ap g.E.Value.decode (c.words_at.ensures.told words (inr held) whole is)

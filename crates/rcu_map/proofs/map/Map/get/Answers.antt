@@ -24,6 +24,6 @@ returns-clause-got g c = λ up.
         is = f.is;
         told =
             c.of_words.ensures.told
-            ∙ ap g.E.Value.decode (c.words_at.ensures.told f.words (inr f.held) f.whole);
+            ∙ ap g.E.Value.decode (c.words_at.ensures.told f.words (inr f.held) f.whole f.is);
       };
     }

@@ -5,7 +5,7 @@ use Rattle.rcu_graph.specs.declared.plan.Plan.{Plan}
 use Rattle.rcu_map.specs.Cursors.{HasListed}
 use Rattle.rcu_map.specs.declared.cursor.Cursor.{Cursor}
 use Rattle.rcu_map.proofs.Stepping.{begins, is_at_end, left_less, listed_entry, on_entry, passes_on}
-use Rattle.rcu_map.proofs.Stepping.{same_on, step_held, went_over}
+use Rattle.rcu_map.proofs.Stepping.{same_on, step_held, went_on, went_over}
 use Rattle.rcu_map.proofs.map.Map.next_entry.Goals as goal
 
 pub buckets-init : goal.buckets-init
@@ -43,7 +43,9 @@ returns-then-at-gt0 g c =
     c.buckets.seat c.step-at.new.seat c.args.start c.buckets.at c.step-at.result s i.same i.may
     i.passing i.left g.E.Value.decode g.E.Value.valid g.E.Entry.key_of c.entry_at.result
     g.met.E.Entry.tells (omega (arith, up))
-    (c.entry_at.ensures.told s.hop.words held (s.whole (omega (arith, up))))
+    (c.entry_at.ensures.told s.hop.words held (s.whole (omega (arith, up)))
+    (went_on g.E.Invariant.holds c.args.self.now c.buckets.seat c.step-at.new.seat c.buckets.at
+    c.step-at.result s (omega (arith, up))).key)
     c.entry_at.ensures.sound)
 
 pub buckets-smaller : goal.buckets-smaller

@@ -1,11 +1,12 @@
 use Rattle.std.proofs.Common.{◌<◌, length, sym, ◌∙◌, subst, arith, length-set}
+use Rattle.std.proofs.lemmas.List.{length-replicate}
 use Rattle.rcu_live.specs.Board.{Object}
 use Rattle.rcu_live.specs.CpuSeat.{Seated}
 use Rattle.rcu_graph.specs.Nodes.{IsOn}
 use Rattle.rcu_graph.specs.declared.known.Planned.{Planned}
 use Rattle.rcu_graph.specs.declared.plan.Plan.{Plan}
 use Rattle.rcu_map.specs.Keys.{root_words}
-use Rattle.rcu_map.proofs.Rows.{read_all, read_more, zeros}
+use Rattle.rcu_map.proofs.Rows.{read_all, read_more}
 use Rattle.rcu_map.proofs.map.Map.words_at.Goals as goal
 
 pub loop-word-preserved : goal.loop-word-preserved
@@ -14,11 +15,11 @@ loop-word-preserved g c =
     record {
       same = c.read.ensures.same ∙ i.same;
       size = length-set c.loop-word.words c.loop-word.word c.read.result ∙ i.size;
-      told = λ words on.
-          let many = zeros g.row.W in
+      told = λ words on is.
+          let many = length-replicate g.row.W c.args.key in
           let size = i.size in
           let low : c.loop-word.word < length c.loop-word.words = omega arith in
-          read_more c.loop-word.words words c.loop-word.word c.read.result low (i.told words on)
+          read_more c.loop-word.words words c.loop-word.word c.read.result low (i.told words on is)
           (c.read.ensures.told words
           (subst (λ (map : Object Plan). IsOn (root_words map.plan.words) map.plan.roots
           c.loop-word.seat.view.client.known c.args.node words)
@@ -29,7 +30,8 @@ loop-word-preserved g c =
     }
 
 pub returns-clause-told : goal.returns-clause-told
-returns-clause-told g c = λ words on whole. let i = c.loop-word.invariant in
-    read_all c.loop-word.words words g.row.W (i.size ∙ zeros g.row.W)
+returns-clause-told g c = λ words on whole is. let i = c.loop-word.invariant in
+    let room = g.met.E.Entry.roomy in
+    read_all c.loop-word.words words g.row.W (i.size ∙ length-replicate g.row.W c.args.key)
     (whole.sized ∙ c.plan.ensures.words)
-    (λ j low. i.told words on j (omega (arith, low)))
+    (λ j low. i.told words on is j (omega (arith, low, room)))

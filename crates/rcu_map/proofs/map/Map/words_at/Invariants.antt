@@ -1,7 +1,7 @@
 use Rattle.std.proofs.Common.{◌≡◌, ◌<◌, ℕ, List, length}
 use Rattle.std.specs.Prelude.{slice_index}
 use Rattle.rcu_graph.specs.Nodes.{IsOn}
-use Rattle.rcu_map.specs.Keys.{root_words}
+use Rattle.rcu_map.specs.Keys.{key_in, root_words}
 use Rattle.rcu_map.proofs.map.Map.words_at.Given as goal
 
 abbrev pub invariant-loop-word : goal.invariant-loop-word
@@ -11,6 +11,7 @@ invariant-loop-word g l = record {
   told : (words : List ℕ)
       → IsOn (root_words l.self.plan.words) l.self.plan.roots l.initial.seat.view.client.known
       l.node words
+      → key_in words ≡ l.key
       → (j : ℕ) → j < l.word
       → slice_index l.words j ≡ slice_index words j;
 }
