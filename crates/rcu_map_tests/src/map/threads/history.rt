@@ -17,7 +17,7 @@ const MOST_CHANGES: u32 = 10_000;
 
 /// How often an administrator looks whether the readers have arrived. It goes on also where no
 /// thread can be made for them.
-const LOOKS: u32 = 50_000;
+const LOOKS: u32 = 2_000;
 
 /// Whether a network has one route from the beginning to the end.
 pub(crate) fn is_kept(network: u32) -> bool {
