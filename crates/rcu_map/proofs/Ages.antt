@@ -21,9 +21,7 @@ use Rattle.rcu_map.specs.Keys.{GoesUp, IsWhole, bucket_in, key_in, root_words}
 use Rattle.rcu_map.specs.Splices.{AreKept}
 use Rattle.rcu_map.proofs.Buckets.{root_bucket, root_key}
 use Rattle.rcu_map.proofs.Counted.{as_many_entries, no_entries}
-
-free_and_live : (s : NodeState) → s ≡ Free → s ≡ Live → ⊥
-free_and_live s a b = cc
+use Rattle.rcu_map.proofs.Gaps.{free_or_live}
 
 is_live_aged : (n latest : ℕ) (s : NodeState) → is_live (aged_state n latest s) ≡ is_live s
 is_live_aged n latest Free = refl
@@ -139,7 +137,7 @@ module _ (holds : List ℕ → Type 0) (buckets seed width count : ℕ) where
     live_roots i live = ⊎_elim (λ (low : i < buckets). low)
         (λ (past : buckets ≤ i).
         let bound = live_inside firsts i live in
-        absurd (free_and_live (state_at firsts i)
+        absurd (free_or_live (state_at firsts i)
         (is_free_behind i past (omega (arith, bound, few))) live))
         (cases_lt i buckets)
 

@@ -16,7 +16,7 @@ use Rattle.rcu_map.specs.Keys.{bucket_in, key_in, root_words}
 use Rattle.rcu_map.specs.Splices.{IsPlace}
 use Rattle.rcu_map.proofs.Chains.{bucket_at, led}
 
-free_or_live : (s : NodeState) → s ≡ Free → s ≡ Live → ⊥
+pub free_or_live : (s : NodeState) → s ≡ Free → s ≡ Live → ⊥
 free_or_live s a b = cc
 
 -- a live node is not a free one

@@ -1,5 +1,5 @@
 //! A map's keeper behind a lock, for updates by several threads.
-ghost use Rattle.std.specs.Prelude.{◌≡◌, IfOk, IfSome};
+ghost use Rattle.std.specs.Prelude.{◌≡◌, ◌≤◌, ◌^◌, IfOk, IfSome};
 ghost use Rattle.rcu_graph.specs.Graph.{IsWatcherOf};
 ghost use Rattle.rcu_map.specs.Puts.{IsOfKey};
 
@@ -106,7 +106,9 @@ impl<'a, const LEAF: u32, const FAN: u32, T: Drop, E: Entry<W>, const W: usize> 
     }
 
     /// Looks at the number, and returns it, as [`MapKeeper::age`].
-    pub fn age(&self, rt: &impl Wait) -> u64 {
+    pub fn age(&self, rt: &impl Wait) -> u64
+        ensures { result ≤ 2 ^ 62 }
+    {
         let mut held = self.lock(rt);
         let MapAndKeeper { map, keeper } = &mut *held;
         keeper.age(map)
